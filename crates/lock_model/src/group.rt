@@ -1,0 +1,201 @@
+//! Ships that are served together, and the line of groups of a chamber.
+ghost use Rattle.std.specs.Prelude.{◌≡◌, ◌<◌, ◌≤◌, [], ◌∷◌, ◌++◌, length, All, insert, slice_set};
+ghost use Rattle.std.specs.List.Sorted.{IsStrictlyIncreasing};
+
+use crate::way::Way;
+use arrayvec::ArrayVec;
+use std::marker::Model;
+
+/// Up to eight ship numbers, rising.
+#[derive(Debug, PartialEq, Eq, Drop)]
+pub struct Ships {
+    items: ArrayVec<u8, 8>,
+}
+
+impl Model for Ships {
+    ghost use Rattle.std.specs.Prelude.{ℕ, List};
+    ghost use Rattle.std.specs.List.Sorted.{IsStrictlyIncreasing};
+
+    ghost Value = { List ℕ };
+
+    ghost view = { λ a. a.items.items };
+
+    ghost invariant = { λ a. IsStrictlyIncreasing a.items.items };
+
+    ghost inverse = { λ xs. record { items = record { items = xs } } };
+}
+
+impl Ships {
+    /// No ships.
+    pub fn new() -> Ships
+        ensures { result ≡ [] }
+    {
+        Ships {
+            items: ArrayVec::new(),
+        }
+    }
+
+    /// One ship.
+    pub fn single(ship: u8) -> Ships
+        ensures { result ≡ ship ∷ [] }
+    {
+        let mut items = ArrayVec::new();
+        items.push(ship);
+        Ships { items }
+    }
+
+    /// How many ships there are.
+    pub fn len(&self) -> usize
+        ensures value { result ≡ length self.now }
+        ensures fits { result ≤ 8 }
+    {
+        self.items.len()
+    }
+
+    /// The ships in rising order.
+    pub fn as_slice(&self) -> &[u8]
+        ensures value { result.now ≡ self.now }
+        ensures fits { length result.now ≤ 8 }
+        ensures rising { IsStrictlyIncreasing result.now }
+    {
+        self.items.as_slice()
+    }
+
+    /// Appends a ship that is greater than those before.
+    pub fn push(&mut self, ship: u8)
+        requires room { length self.old < 8 }
+        requires rising { All (λ s. s < ship) self.old }
+        ensures { self.new ≡ self.old ++ ship ∷ [] }
+    {
+        self.items.push(ship);
+    }
+
+    /// The same ships.
+    pub fn copy(&self) -> Ships
+        ensures { result ≡ self.now }
+    {
+        let mut items = ArrayVec::new();
+        for &ship in self.items.as_slice() {
+            items.push(ship);
+        }
+        Ships { items }
+    }
+}
+
+impl Default for Ships {
+    fn default() -> Ships
+        ensures { result ≡ [] }
+    {
+        Ships::new()
+    }
+}
+
+/// Ships of one way that share a lockage, by their numbers in the instance.
+#[derive(Debug, PartialEq, Eq, Drop)]
+pub struct Group {
+    pub way: Way,
+    pub ships: Ships,
+}
+
+impl Group {
+    /// The same group.
+    pub fn copy(&self) -> Group
+        ensures { result ≡ self.now }
+    {
+        Group {
+            way: self.way,
+            ships: self.ships.copy(),
+        }
+    }
+}
+
+impl Default for Group {
+    fn default() -> Group
+        ensures { result ≡ record { way = Way.Up; ships = [] } }
+    {
+        Group {
+            way: Way::Up,
+            ships: Ships::new(),
+        }
+    }
+}
+
+/// Up to 24 groups of one chamber in order of service.
+#[derive(Debug, PartialEq, Eq, Drop)]
+pub struct Line {
+    items: ArrayVec<Group, 24>,
+}
+
+impl Model for Line {
+    ghost use Rattle.std.specs.Prelude.{List};
+    ghost use Rattle.lock_model.specs.declared.group.Group.{Group};
+
+    ghost Value = { List Group };
+
+    ghost view = { λ a. a.items.items };
+
+    ghost inverse = { λ xs. record { items = record { items = xs } } };
+}
+
+impl Line {
+    /// No groups.
+    pub fn new() -> Line
+        ensures { result ≡ [] }
+    {
+        Line {
+            items: ArrayVec::new(),
+        }
+    }
+
+    /// The groups in order of service.
+    pub fn as_slice(&self) -> &[Group]
+        ensures value { result.now ≡ self.now }
+        ensures fits { length result.now ≤ 24 }
+    {
+        self.items.as_slice()
+    }
+
+    /// Appends a group.
+    pub fn push(&mut self, group: Group)
+        requires { length self.old < 24 }
+        ensures { self.new ≡ self.old ++ group ∷ [] }
+    {
+        self.items.push(group);
+    }
+
+    /// Puts a group before group `i`, or behind the last one where `i` is their number.
+    pub fn insert(&mut self, i: usize, group: Group)
+        requires place { i ≤ length self.old }
+        requires room { length self.old < 24 }
+        ensures { self.new ≡ insert self.old i group }
+    {
+        self.items.insert(i, group);
+    }
+
+    /// Puts a group in the place of group `i`.
+    pub fn set(&mut self, i: usize, group: Group)
+        requires { i < length self.old }
+        ensures { self.new ≡ slice_set self.old i group }
+    {
+        self.items[i] = group;
+    }
+
+    /// The same line.
+    pub fn copy(&self) -> Line
+        ensures { result ≡ self.now }
+    {
+        let mut items = ArrayVec::new();
+        for group in self.items.as_slice() {
+            items.push(group.copy());
+        }
+        Line { items }
+    }
+}
+
+impl Default for Line {
+    fn default() -> Line
+        ensures { result ≡ [] }
+    {
+        Line::new()
+    }
+}
