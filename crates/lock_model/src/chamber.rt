@@ -1,7 +1,9 @@
 //! Chambers, and the chambers of an instance.
 ghost use Rattle.std.specs.Prelude.{◌≡◌, ◌<◌, ◌≤◌, [], ◌∷◌, ◌++◌, length, slice_set};
+ghost use Rattle.lock_model.specs.Measures.{measures_of};
 
 use crate::closure::Closures;
+use crate::deck::Measures;
 use crate::name::Name;
 use crate::way::Stand;
 use arrayvec::ArrayVec;
@@ -28,6 +30,19 @@ pub struct Chamber {
 }
 
 impl Chamber {
+    /// Its five measures.
+    pub fn measures(&self) -> Measures
+        ensures { result ≡ measures_of self.now }
+    {
+        Measures {
+            length: self.length,
+            width: self.width,
+            end: self.end,
+            gap: self.gap,
+            side: self.side,
+        }
+    }
+
     /// The same chamber.
     pub fn copy(&self) -> Chamber
         ensures { result ≡ self.now }
