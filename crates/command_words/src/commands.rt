@@ -1,0 +1,76 @@
+//! The commands, each with its options.
+
+/// Options of `solve` and `resume`.
+#[derive(Clone, Copy, Debug, PartialEq, Eq)]
+pub struct SolveOptions {
+    /// How many nodes the search may use, 1 to 1,000,000; 100,000 where it isn't given.
+    pub nodes: u32,
+    /// How many cases of one deck a placer may try, 1 to 200,000; else 20,000.
+    pub turns: u32,
+    /// How many workers search, 1 to 8; else 2.
+    pub workers: u8,
+    /// Print a dossier where the plan is optimal.
+    pub dossier: bool,
+    /// Print an open dossier where the search ends open.
+    pub keep: bool,
+}
+
+/// Options of `lot`, which makes an instance from a number.
+#[derive(Clone, Copy, Debug, PartialEq, Eq)]
+pub struct LotOptions {
+    /// The number that the instance is made from, 0 to 4,294,967,295; 1 where it isn't given.
+    pub number: u32,
+    /// How many ships it has, 1 to 24; else 12.
+    pub ships: u8,
+    /// How many chambers it has, 1 to 4; else 2.
+    pub chambers: u8,
+}
+
+/// Options of `trial`, which solves a made instance.
+#[derive(Clone, Copy, Debug, PartialEq, Eq)]
+pub struct TrialOptions {
+    /// The instance.
+    pub lot: LotOptions,
+    /// How many nodes the search may use, 1 to 1,000,000; 100,000 where it isn't given.
+    pub nodes: u32,
+    /// How many cases of one deck a placer may try, 1 to 200,000; else 20,000.
+    pub turns: u32,
+}
+
+/// Options of `replan`.
+#[derive(Clone, Copy, Debug, PartialEq, Eq)]
+pub struct ReplanOptions {
+    /// The minute from which lockages are planned anew, 0 to 1,000,000; it is always given.
+    pub from: u32,
+    /// How many nodes the search may use, 1 to 1,000,000; 100,000 where it isn't given.
+    pub nodes: u32,
+    /// How many cases of one deck a placer may try, 1 to 200,000; else 20,000.
+    pub turns: u32,
+    /// How many workers search, 1 to 8; else 2.
+    pub workers: u8,
+    /// Print a dossier of the rest where it is optimal.
+    pub dossier: bool,
+}
+
+/// What the program is asked to do.
+#[derive(Clone, Copy, Debug, PartialEq, Eq)]
+pub enum Command {
+    /// Plan an instance.
+    Solve(SolveOptions),
+    /// Check a dossier.
+    Check,
+    /// Make an instance from a number.
+    Lot(LotOptions),
+    /// Make an instance and solve it.
+    Trial(TrialOptions),
+    /// Judge a plan.
+    Judge,
+    /// Tell the day of a plan.
+    Play,
+    /// Plan anew from a minute on.
+    Replan(ReplanOptions),
+    /// Check an open dossier and print what it proves.
+    Lower,
+    /// Go on from an open dossier.
+    Resume(SolveOptions),
+}

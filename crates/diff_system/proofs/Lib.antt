@@ -1,0 +1,6 @@
+pub mod DistinctLemmas
+pub mod TreeLemmas
+pub mod RaiseLemmas
+pub mod CycleLemmas
+pub mod RoundLemmas
+pub mod BeginLemmas

@@ -1,0 +1,88 @@
+//! Worked singles plans.
+
+use super::*;
+use lock_model::{Chamber, Chambers, Closures, Instance, Name, Ship, ShipList, Stand, Way};
+use std::test::Fail;
+
+fn named(letter: u8) -> Name {
+    let mut name = Name::new();
+    name.push(letter);
+    name
+}
+
+fn chamber(letter: u8, length: u32, stands: Stand) -> Chamber {
+    Chamber {
+        name: named(letter),
+        length,
+        width: 240,
+        end: 10,
+        gap: 20,
+        side: 5,
+        most: 4,
+        pass: 30,
+        turn: 15,
+        stands,
+        opens: 0,
+        closures: Closures::new(),
+    }
+}
+
+fn ship(letter: u8, way: Way, length: u32, arrival: u32) -> Ship {
+    Ship {
+        name: named(letter),
+        way,
+        length,
+        width: 114,
+        arrival,
+        handling: 5,
+        cargo: 0,
+    }
+}
+
+// The starts are worked out by hand: 30 minutes of passage, 5 of handling, and 15 of
+// an empty turn where the chamber stands on the other side.
+#[test]
+fn ships_are_served_alone_by_the_chamber_that_ends_first(rt: HostRuntime) -> Result<(), Fail> {
+    for (low, second, way, arrival, chambers, starts) in [
+        (Stand::Low, Stand::Low, Way::Down, 0, [0, 1], [0, 15]),
+        (Stand::Low, Stand::High, Way::Down, 0, [0, 1], [0, 0]),
+        (Stand::Low, Stand::High, Way::Up, 0, [0, 1], [0, 15]),
+        (Stand::High, Stand::High, Way::Up, 0, [0, 1], [15, 15]),
+        (Stand::Low, Stand::Low, Way::Up, 90, [0, 0], [0, 90]),
+    ] {
+        let mut fleet = ShipList::new();
+        fleet.push(ship(b's', Way::Up, 1100, 0));
+        fleet.push(ship(b't', way, 1100, arrival));
+        let mut locks = Chambers::new();
+        locks.push(chamber(b'a', 2000, low));
+        locks.push(chamber(b'b', 1500, second));
+        let instance = Instance::new(locks, fleet).ok_or("no instance")?;
+        assert_eq!(rt; first_unfit(&instance), None);
+        let plan = singles_plan(&instance);
+        let lockages = plan.lockages.as_slice();
+        assert_eq!(rt; lockages.len(), 2);
+        assert_eq!(rt; [lockages[0].chamber, lockages[1].chamber], chambers);
+        assert_eq!(rt; [lockages[0].start, lockages[1].start], starts);
+    }
+    Ok(())
+}
+
+#[test]
+fn the_first_ship_that_fits_no_chamber_is_named(rt: HostRuntime) -> Result<(), Fail> {
+    for (first, second, unfit) in [
+        (1980, 1480, None),
+        (1981, 1480, Some(0)),
+        (1480, 1981, Some(1)),
+        (1981, 1981, Some(0)),
+    ] {
+        let mut fleet = ShipList::new();
+        fleet.push(ship(b's', Way::Up, first, 0));
+        fleet.push(ship(b't', Way::Up, second, 0));
+        let mut locks = Chambers::new();
+        locks.push(chamber(b'a', 1500, Stand::Low));
+        locks.push(chamber(b'b', 2000, Stand::Low));
+        let instance = Instance::new(locks, fleet).ok_or("no instance")?;
+        assert_eq!(rt; first_unfit(&instance), unfit, "{first} and {second}");
+    }
+    Ok(())
+}

@@ -1,0 +1,14 @@
+pub mod Rows
+pub mod SplitLemmas
+pub mod WordLemmas
+pub mod NameLemmas
+pub mod ClosureLemmas
+pub mod ClosingLemmas
+pub mod DraftLemmas
+pub mod EnoughLemmas
+pub mod InstanceLemmas
+pub mod Utf8Lemmas
+pub mod ReadingLemmas
+pub mod PartLemmas
+pub mod PrintLemmas
+pub mod LotLemmas

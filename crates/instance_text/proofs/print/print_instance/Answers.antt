@@ -1,0 +1,7 @@
+use Rattle.instance_text.proofs.PrintLemmas.{printed}
+use Rattle.instance_text.proofs.print.print_instance.Goals as goal
+
+pub returns : goal.returns
+returns c =
+    printed c.args.instance.now c.as_slice-chambers.result.now c.as_slice.result.now c.is_plain.result c.new-out.result.items c.put_header.new.out.items c.put_chambers.new.out.items c.put_closings.new.out.items c.put_ships.new.out.items c.put.new.out.items
+    c.as_slice-chambers.ensures.value c.as_slice.ensures.value c.is_plain.ensures c.new-out.ensures.items c.in_ok-put_header.ensures c.in_ok-put_chambers.ensures c.in_ok-put_closings.ensures c.in_ok-put_ships.ensures c.in_ok-put.ensures

@@ -1,0 +1,14 @@
+use Rattle.std.proofs.Common.{◌≡◌, ◌+◌, length}
+use Rattle.instance_text.specs.Lines.{lines}
+use Rattle.instance_text.specs.Parts.{parts_left, room_left}
+use Rattle.instance_text.specs.Reading.{length_of_part}
+use Rattle.instance_text.proofs.read.length_of_part.Given as goal
+
+abbrev pub invariant-loop-line : goal.invariant-loop-line
+invariant-loop-line l = record {
+  counted : l.taken + room_left l.parts.left ≡ length l.text + 1;
+  rest : l.taken + length_of_part (parts_left l.parts.left l.parts.separator) ≡ length_of_part (lines l.text);
+}
+
+abbrev pub decreases-loop-line : goal.decreases-loop-line
+decreases-loop-line l = room_left l.parts.left

@@ -1,0 +1,13 @@
+use Rattle.std.proofs.Common.{◌≡◌, map}
+use Rattle.instance_text.specs.Draft.{Draft, no_draft}
+use Rattle.instance_text.specs.Left.{lines_left}
+use Rattle.instance_text.specs.Lines.{words}
+use Rattle.instance_text.specs.Parts.{room_left}
+use Rattle.instance_text.specs.Reading.{read_lines, read_body, read_rest}
+use Rattle.instance_text.proofs.read.read_body.Given as goal
+
+abbrev pub invariant-loop-line : goal.invariant-loop-line
+invariant-loop-line l = read_body l.format l.initial.lines.number no_draft (map words (lines_left l.initial.lines)) ≡ read_body l.format l.lines.number l.draft (map words (lines_left l.lines))
+
+abbrev pub decreases-loop-line : goal.decreases-loop-line
+decreases-loop-line l = room_left l.lines.parts.left

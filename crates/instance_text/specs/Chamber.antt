@@ -1,0 +1,30 @@
+-- The words of a chamber line.
+use Rattle.std.specs.Prelude.{ℕ, ◌==◌, List, [], length, map, nat_le, nat_lt, slice_index_or, Result, Ok}
+use Rattle.lock_model.specs.declared.chamber.Chamber.{Chamber}
+use Rattle.instance_text.specs.declared.bad.Kind.{Kind}
+use Rattle.instance_text.specs.declared.bad.Kind.TheVariants.{Count, Range, TurnOverPass}
+use Rattle.instance_text.specs.Steps.{◌>>=◌, ◌>>◌, check}
+use Rattle.instance_text.specs.Words.{number, new_name, stand}
+
+-- word i of a line, from 0
+abbrev pub word_at : List (List ℕ) → ℕ → List ℕ
+word_at words i = slice_index_or words i []
+
+-- chamber <name> <length> <width> <end> <gap> <side> <most> <pass> <turn> <low|high> <opens>
+unfoldable pub read_chamber : List Chamber → List (List ℕ) → Result Chamber Kind
+read_chamber earlier words = do
+  check (length words == 12) Count
+  check (nat_lt (length earlier) 4) Range
+  name ← new_name (map (λ c. c.name) earlier) (word_at words 1)
+  length ← number 1 100000 (word_at words 2)
+  width ← number 1 100000 (word_at words 3)
+  end ← number 0 10000 (word_at words 4)
+  gap ← number 0 10000 (word_at words 5)
+  side ← number 0 10000 (word_at words 6)
+  most ← number 1 8 (word_at words 7)
+  pass ← number 1 1000000 (word_at words 8)
+  turn ← number 0 1000000 (word_at words 9)
+  stands ← stand (word_at words 10)
+  opens ← number 0 1000000 (word_at words 11)
+  check (nat_le turn pass) TurnOverPass
+  Ok (record { name = name; length = length; width = width; end = end; gap = gap; side = side; most = most; pass = pass; turn = turn; stands = stands; opens = opens; closures = [] })

@@ -1,0 +1,22 @@
+-- What has been read of an instance so far.
+use Rattle.std.specs.Prelude.{◌≢◌, ◌≤◌, List, [], length, All, AllPairs}
+use Rattle.lock_model.specs.Instance.{IsChamber, IsShip}
+use Rattle.lock_model.specs.declared.chamber.Chamber.{Chamber}
+use Rattle.lock_model.specs.declared.ship.Ship.{Ship}
+
+-- the chambers and ships of the lines so far, in order
+pub record Draft : Type 0 where
+  pub chambers : List Chamber
+  pub ships : List Ship
+
+abbrev pub no_draft : Draft
+no_draft = record { chambers = []; ships = [] }
+
+-- what an instance keeps, but for at least one chamber and one ship
+pub record IsDraft (chambers : List Chamber) (ships : List Ship) : Type 0 where
+  pub few_chambers : length chambers ≤ 4
+  pub few_ships : length ships ≤ 24
+  pub chamber : All IsChamber chambers
+  pub ship : All IsShip ships
+  pub chamber_names : AllPairs (λ a b. a.name ≢ b.name) chambers
+  pub ship_names : AllPairs (λ a b. a.name ≢ b.name) ships

@@ -1,0 +1,33 @@
+-- The words of a ship line.
+use Rattle.std.specs.Prelude.{ℕ, ◌==◌, ◌||◌, Bool, List, length, map, nat_lt, Result, Ok, if◌then◌else◌}
+use Rattle.lock_model.specs.declared.ship.Ship.{Ship}
+use Rattle.instance_text.specs.declared.bad.Kind.{Kind}
+use Rattle.instance_text.specs.declared.bad.Kind.TheVariants.{Count, Range}
+use Rattle.instance_text.specs.declared.format.Format.{Format}
+use Rattle.instance_text.specs.declared.format.Format.TheVariants.{First, Second}
+use Rattle.instance_text.specs.Steps.{◌>>=◌, ◌>>◌, check}
+use Rattle.instance_text.specs.Words.{number, new_name, way}
+use Rattle.instance_text.specs.Chamber.{word_at}
+
+-- how many words a ship line may have: 7, and in the second format also 8
+abbrev pub is_ship_count : Format → ℕ → Bool
+is_ship_count First n = n == 7
+is_ship_count Second n = n == 7 || n == 8
+
+-- the cargo class, the eighth word, or 0 where there is none
+unfoldable pub cargo : List (List ℕ) → Result ℕ Kind
+cargo words = if length words == 8 then number 0 9 (word_at words 7) else Ok 0
+
+-- ship <name> <up|down> <length> <width> <arrival> <handling>, and in the second format a <class>
+unfoldable pub read_ship : Format → List Ship → List (List ℕ) → Result Ship Kind
+read_ship format earlier words = do
+  check (is_ship_count format (length words)) Count
+  check (nat_lt (length earlier) 24) Range
+  name ← new_name (map (λ s. s.name) earlier) (word_at words 1)
+  way ← way (word_at words 2)
+  length ← number 1 100000 (word_at words 3)
+  width ← number 1 100000 (word_at words 4)
+  arrival ← number 0 1000000 (word_at words 5)
+  handling ← number 0 1000000 (word_at words 6)
+  cargo ← cargo words
+  Ok (record { name = name; way = way; length = length; width = width; arrival = arrival; handling = handling; cargo = cargo })

@@ -1,0 +1,52 @@
+//! The line of a chamber.
+ghost use Rattle.std.specs.Prelude.{◌≡◌, ◌≢◌, ◌<◌, ◌≤◌, All, length, IfOk};
+ghost use Rattle.lock_model.specs.Instance.{IsChamber};
+ghost use Rattle.instance_text.specs.Texts.{texts};
+ghost use Rattle.instance_text.specs.Chamber.{read_chamber};
+
+use crate::bad::Kind;
+use crate::check::check;
+use crate::name::new_chamber_name;
+use crate::number::number;
+use crate::side::stand;
+use crate::words::word_at;
+use lock_model::{Chamber, Closures};
+
+/// The chamber of a line that comes after these chambers. The first defect is, in this order:
+/// `Count`, `Range` for a fifth chamber, that of a word from left to right, `TurnOverPass`.
+#[tactic(auto, unfolding(crate::specs::Chamber::read_chamber))]
+pub fn read_chamber(earlier: &[Chamber], words: &[&[u8]]) -> Result<Chamber, Kind>
+    ensures value { result ≡ read_chamber earlier.now (texts words.now) }
+    ensures room { IfOk result (λ c. length earlier.now < 4) }
+    ensures good { IfOk result IsChamber }
+    ensures new { IfOk result (λ n. All (λ c. c.name ≢ n.name) earlier.now) }
+{
+    check(words.len() == 12, Kind::Count)?;
+    check(earlier.len() < 4, Kind::Range)?;
+    let name = new_chamber_name(earlier, word_at(words, 1))?;
+    let length = number(word_at(words, 2), 1, 100_000)?;
+    let width = number(word_at(words, 3), 1, 100_000)?;
+    let end = number(word_at(words, 4), 0, 10_000)?;
+    let gap = number(word_at(words, 5), 0, 10_000)?;
+    let side = number(word_at(words, 6), 0, 10_000)?;
+    let most = number(word_at(words, 7), 1, 8)?;
+    let pass = number(word_at(words, 8), 1, 1_000_000)?;
+    let turn = number(word_at(words, 9), 0, 1_000_000)?;
+    let stands = stand(word_at(words, 10))?;
+    let opens = number(word_at(words, 11), 0, 1_000_000)?;
+    check(turn <= pass, Kind::TurnOverPass)?;
+    Ok(Chamber {
+        name,
+        length,
+        width,
+        end,
+        gap,
+        side,
+        most: most as u8,
+        pass,
+        turn,
+        stands,
+        opens,
+        closures: Closures::new(),
+    })
+}

@@ -1,0 +1,154 @@
+//! Reading instance texts.
+ghost use Rattle.std.specs.Prelude.{◌≡◌, ◌≤◌, List, ℕ, min, length, map, Ok, Err, IfOk, IfErr, IfSome, IfNone};
+ghost use Rattle.instance_text.specs.Draft.{Draft as AnyDraft, no_draft};
+ghost use Rattle.instance_text.specs.Left.{lines_left};
+ghost use Rattle.instance_text.specs.Lines.{lines, words};
+ghost use Rattle.instance_text.specs.Reading.{read_lines, read_after, format_of, read_line, read_body, read_rest, reading, Means, Defect, bad, length_of_part, instance_part};
+ghost use Rattle.instance_text.specs.declared.bad.Kind.{Kind as AnyKind};
+ghost use Rattle.lock_model.specs.declared.instance.Instance.{Instance as AnyInstance};
+
+use crate::bad::{Bad, Kind};
+use crate::draft::Draft;
+use crate::format::Format;
+use crate::line::read_line;
+use crate::lines::{Lines, format_of, is_blank, is_end};
+use crate::parts::{Parts, Separator};
+use crate::progress::Progress;
+use crate::utf8::check_utf8;
+use crate::words::words_of;
+use lock_model::Instance;
+
+/// The defect of the last line that was taken.
+fn bad(lines: &Lines<'_>, kind: Kind) -> Bad
+    ensures { result ≡ bad lines.now.number kind }
+{
+    Bad {
+        line: lines.number,
+        kind,
+    }
+}
+
+/// The first line that has words.
+fn first_filled<'a>(lines: &mut Lines<'a>) -> Option<&'a [u8]>
+    ensures some { IfSome result (λ line. read_lines lines.old.number (map words (lines_left lines.old)) ≡ read_after (format_of (words line.now)) lines.new.number (map words (lines_left lines.new))) }
+    ensures none { IfNone result (read_lines lines.old.number (map words (lines_left lines.old)) ≡ Err (bad lines.new.number Kind.NoHeader)) }
+{
+    while let Some(line) = lines.next() {
+        if !is_blank(line) {
+            return Some(line);
+        }
+    }
+    None
+}
+
+/// The format of the text, from its first line with words.
+fn read_header(lines: &mut Lines<'_>) -> Result<Format, Bad>
+    ensures read { IfOk result (λ format. read_lines lines.old.number (map words (lines_left lines.old)) ≡ read_body format lines.new.number no_draft (map words (lines_left lines.new))) }
+    ensures bad { IfErr result (λ b. read_lines lines.old.number (map words (lines_left lines.old)) ≡ Err b) }
+{
+    let Some(line) = first_filled(lines) else {
+        return Err(bad(lines, Kind::NoHeader));
+    };
+    match format_of(line) {
+        Some(format) => Ok(format),
+        None => Err(bad(lines, Kind::NoHeader)),
+    }
+}
+
+/// Reads one line into the draft.
+fn read_words(format: Format, draft: &mut Draft, line: &[u8]) -> Result<Progress, Kind>
+    ensures read { IfOk result (λ p. read_line format draft.old (words line.now) ≡ Ok (p, draft.new)) }
+    ensures chamber { IfOk result (λ p. p ≡ Progress.Ended → 1 ≤ length draft.new.chambers) }
+    ensures ship { IfOk result (λ p. p ≡ Progress.Ended → 1 ≤ length draft.new.ships) }
+    ensures bad { IfErr result (λ kind. read_line format draft.old (words line.now) ≡ Err kind) }
+{
+    read_line(format, draft, words_of(line).as_slice())
+}
+
+/// What stands in the lines from the header up to `end`.
+fn read_body(format: Format, lines: &mut Lines<'_>) -> Result<Draft, Bad>
+    ensures read { IfOk result (λ draft. read_body format lines.old.number no_draft (map words (lines_left lines.old)) ≡ read_rest lines.new.number draft (map words (lines_left lines.new))) }
+    ensures chamber { IfOk result (λ draft. 1 ≤ length draft.chambers) }
+    ensures ship { IfOk result (λ draft. 1 ≤ length draft.ships) }
+    ensures bad { IfErr result (λ b. read_body format lines.old.number no_draft (map words (lines_left lines.old)) ≡ Err b) }
+{
+    let mut draft = Draft::new();
+    while let Some(line) = lines.next() {
+        match read_words(format, &mut draft, line) {
+            Ok(Progress::More) => {}
+            Ok(Progress::Ended) => return Ok(draft),
+            Err(kind) => return Err(bad(lines, kind)),
+        }
+    }
+    Err(bad(lines, Kind::NoEnd))
+}
+
+/// Refuses a line with words after `end`.
+fn read_rest(lines: &mut Lines<'_>) -> Result<(), Bad>
+    ensures read { IfOk result (λ _. (draft : AnyDraft) → read_rest lines.old.number draft (map words (lines_left lines.old)) ≡ Ok draft) }
+    ensures bad { IfErr result (λ b. (draft : AnyDraft) → read_rest lines.old.number draft (map words (lines_left lines.old)) ≡ Err b) }
+{
+    while let Some(line) = lines.next() {
+        if !is_blank(line) {
+            return Err(bad(lines, Kind::Word));
+        }
+    }
+    Ok(())
+}
+
+/// What a text means. Answers the first defect exactly where it means no instance.
+#[tactic(auto, unfolding(crate::specs::Reading::reading))]
+fn read_text(bytes: &[u8]) -> Result<Instance, Bad>
+    ensures read { IfOk result (λ i. reading bytes.now ≡ Ok (record { chambers = i.chambers; ships = i.ships })) }
+    ensures bad { IfErr result (λ b. reading bytes.now ≡ Err b) }
+{
+    check_utf8(bytes)?;
+    let mut lines = Lines::new(bytes);
+    let format = read_header(&mut lines)?;
+    let draft = read_body(format, &mut lines)?;
+    read_rest(&mut lines)?;
+    Ok(draft.into_instance())
+}
+
+/// The instance of an instance text of either format. Answers the first defect exactly where the
+/// bytes mean no instance. Takes no memory.
+pub fn read_instance(bytes: &[u8]) -> Result<Instance, Bad>
+    ensures read { IfOk result (Means bytes.now) }
+    ensures bad { IfErr result (λ b. Defect bytes.now b.line b.kind) }
+    ensures each { (i : AnyInstance) → Means bytes.now i → result ≡ Ok i }
+    ensures each_bad { (line : ℕ) (kind : AnyKind) → Defect bytes.now line kind → result ≡ Err (bad line kind) }
+{
+    read_text(bytes)
+}
+
+/// How many bytes the instance part of a text has.
+fn length_of_part(text: &[u8]) -> usize
+    ensures { result ≡ min (length_of_part (lines text.now)) (length text.now) }
+{
+    let mut parts = Parts::new(text, Separator::LineFeed);
+    let mut taken: usize = 0;
+    while let Some(line) = parts.next() {
+        taken += line.len() + 1;
+        if is_end(line) {
+            return taken.min(text.len());
+        }
+    }
+    text.len()
+}
+
+/// The instance of the instance part of a text, which ends with its first line `end`, and how many
+/// bytes the part has with that line's line feed. Without such a line the part is the whole text.
+/// Answers the first defect of the part exactly where the part means no instance. Nothing after
+/// the part is looked at. Takes no memory.
+#[tactic(auto, unfolding(crate::specs::Reading::instance_part))]
+pub fn read_instance_part(bytes: &[u8]) -> Result<(Instance, usize), Bad>
+    ensures read { IfOk result (λ r. Means (instance_part bytes.now) r.0) }
+    ensures taken { IfOk result (λ r. r.1 ≡ length (instance_part bytes.now)) }
+    ensures bad { IfErr result (λ b. Defect (instance_part bytes.now) b.line b.kind) }
+    ensures each { (i : AnyInstance) → Means (instance_part bytes.now) i → result ≡ Ok (i, length (instance_part bytes.now)) }
+    ensures each_bad { (line : ℕ) (kind : AnyKind) → Defect (instance_part bytes.now) line kind → result ≡ Err (bad line kind) }
+{
+    let taken = length_of_part(bytes);
+    let instance = read_instance(&bytes[..taken])?;
+    Ok((instance, taken))
+}

@@ -1,0 +1,7 @@
+pub mod Faults
+pub mod Sources
+pub mod Sinks
+pub mod WholeReads
+pub mod WholeWrites
+pub mod InMemory
+pub mod Standard

@@ -1,0 +1,28 @@
+//! Gates, which workers call as they go.
+
+/// Where a worker calls the gate.
+#[derive(Clone, Copy, Debug, PartialEq, Eq)]
+pub enum Point {
+    /// It took a node of this depth, and has done no work on it.
+    Took(u8),
+    /// It read this number from the shared best cost.
+    Read(u64),
+    /// It closed, split or parked its node.
+    Closed,
+    /// It has nothing to do, and begins to wait.
+    Idle,
+}
+
+/// What workers call as they go, so that a test can hold one of them. No claim rests on it.
+pub trait Gate {
+    /// Lets this worker pass, at once or after a time.
+    fn at(&self, worker: u8, point: Point);
+}
+
+/// A gate that lets all pass at once.
+#[derive(Clone, Copy, Debug, PartialEq, Eq)]
+pub struct OpenGate;
+
+impl Gate for OpenGate {
+    fn at(&self, _worker: u8, _point: Point) {}
+}

@@ -1,0 +1,59 @@
+//! The program `glock`: the words of its command line, standard input and standard output, and the
+//! status's number as its exit status. All that it does is done by `lock_top::run`.
+#![tactic(auto)]
+
+use lock_io::{OpenGate, StdSink, StdSource};
+use lock_top::{Status, run};
+use std::process::ExitCode;
+use std::{env, io};
+
+// Why the system gave no words.
+#[derive(Clone, Copy)]
+enum NoWords {
+    NoMemory,
+    Other,
+}
+
+// The words after the program's name.
+fn words_of(rt: &HostRuntime) -> Result<Vec<String>, NoWords> {
+    let given = env::args(rt).map_err(|error| match error.kind() {
+        io::ErrorKind::OutOfMemory => NoWords::NoMemory,
+        _ => NoWords::Other,
+    })?;
+    let mut words = Vec::new(rt.alloc());
+    for word in given.skip(1) {
+        words.push(word).map_err(|_| NoWords::NoMemory)?;
+    }
+    Ok(words)
+}
+
+// One word that means nothing.
+fn bad_word(rt: &HostRuntime) -> Result<Vec<String>, NoWords> {
+    let mut words = Vec::new(rt.alloc());
+    let word = String::from_str(rt.alloc(), "?").map_err(|_| NoWords::NoMemory)?;
+    words.push(word).map_err(|_| NoWords::NoMemory)?;
+    Ok(words)
+}
+
+fn main(rt: HostRuntime) -> ExitCode {
+    let words = match words_of(&rt) {
+        Err(NoWords::Other) => bad_word(&rt),
+        words => words,
+    };
+    let status = match words {
+        Ok(words) => {
+            let mut source = StdSource::new(rt.stdin());
+            let mut sink = StdSink::new(rt.stdout());
+            run(
+                &rt,
+                rt.alloc(),
+                words.as_slice(),
+                &mut source,
+                &mut sink,
+                &OpenGate,
+            )
+        }
+        Err(_) => Status::NoMemory,
+    };
+    ExitCode::from(status.code())
+}

@@ -1,0 +1,5 @@
+pub mod Statuses
+pub mod Texts
+pub mod Solving
+pub mod Answers
+pub mod Written

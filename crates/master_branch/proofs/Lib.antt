@@ -1,0 +1,5 @@
+pub mod OrderLemmas
+pub mod StepLemmas
+pub mod JoinLemmas
+pub mod ChildSteps
+pub mod LawLemmas

@@ -1,0 +1,251 @@
+//! Worked trees.
+ghost use Rattle.std.specs.Prelude.{◌≡◌, ◌<◌, ◌+◌, length, IfSome};
+ghost use Rattle.master_branch.specs.Node.{IsNodeOf};
+
+use super::*;
+use lock_model::{Chamber, Chambers, Closures, Instance, Name, Ship, ShipList, Stand, Way};
+use std::alloc::{AllocError, Global};
+use std::test::Fail;
+
+fn named(letter: u8) -> Name {
+    let mut name = Name::new();
+    name.push(letter);
+    name
+}
+
+fn chamber(number: u8, most: u8) -> Chamber {
+    Chamber {
+        name: named(b'A' + number % 26),
+        length: 2000,
+        width: 240,
+        end: 10,
+        gap: 20,
+        side: 5,
+        most,
+        pass: 30,
+        turn: 15,
+        stands: Stand::Low,
+        opens: 0,
+        closures: Closures::new(),
+    }
+}
+
+fn ship(number: u8, way: Way, arrival: u32) -> Ship {
+    Ship {
+        name: named(b'a' + number % 26),
+        way,
+        length: 1100,
+        width: 114,
+        arrival,
+        handling: 5,
+        cargo: 0,
+    }
+}
+
+// The instance of these ships, 24 at most, and of chambers with these greatest numbers of ships, 4
+// at most.
+fn instance(most: &[u8], ships: &[(Way, u32)]) -> Result<Instance, Fail> {
+    let mut chambers = Chambers::new();
+    for (number, &most) in most.iter().enumerate() {
+        if number < 4 {
+            chambers.push(chamber(number as u8, most));
+        }
+    }
+    let mut list = ShipList::new();
+    for (number, &(way, arrival)) in ships.iter().enumerate() {
+        if number < 24 {
+            list.push(ship(number as u8, way, arrival));
+        }
+    }
+    Ok(Instance::new(chambers, list).ok_or("no instance")?)
+}
+
+// Child number `i` of a node, if it has so many.
+fn child_at(instance: &Instance, node: &Node, i: u32) -> Option<Node>
+    requires { IsNodeOf instance.now node.now }
+    ensures { IfSome result (λ child. IsNodeOf instance.now child) }
+{
+    if node.depth() as usize >= instance.ships.as_slice().len() {
+        return None;
+    }
+    if i >= child_count(instance, node) {
+        return None;
+    }
+    Some(child(instance, node, i))
+}
+
+// The node at the end of a path of children from the root.
+fn node_at(instance: &Instance, path: &[u32]) -> Option<Node>
+    ensures { IfSome result (λ node. IsNodeOf instance.now node) }
+{
+    let mut node = root(instance);
+    for &i in path {
+        node = child_at(instance, &node, i)?;
+    }
+    Some(node)
+}
+
+// The lines of a node: `^02 v1 / ^3` for ships 0 and 2 up and then ship 1 down in the first
+// chamber, and ship 3 up in the second.
+fn drawn(alloc: Global, instance: &Instance, node: &Node) -> Result<String, AllocError> {
+    let mut text = String::new(alloc);
+    for number in 0..instance.chambers.as_slice().len() as u8 {
+        if number > 0 {
+            text.push_str("/ ")?;
+        }
+        for group in node.line(number).as_slice() {
+            text.push(if group.way == Way::Up { '^' } else { 'v' })?;
+            for ship in group.ships.as_slice() {
+                text = format!(in alloc; "{text}{ship}")?;
+            }
+            text.push(' ')?;
+        }
+    }
+    Ok(text)
+}
+
+#[test]
+fn ships_enter_by_arrival_and_then_by_number(rt: HostRuntime) -> Result<(), Fail> {
+    for (arrivals, order) in [
+        ([5, 5, 3], [2, 0, 1]),
+        ([1, 2, 3], [0, 1, 2]),
+        ([3, 2, 1], [2, 1, 0]),
+        ([7, 7, 7], [0, 1, 2]),
+        ([9, 0, 9], [1, 0, 2]),
+    ] {
+        let [a, b, c] = arrivals;
+        let instance = instance(&[1], &[(Way::Up, a), (Way::Up, b), (Way::Down, c)])?;
+        assert_eq!(rt; arrival_order(&instance).as_slice(), &order[..]);
+        assert_eq!(rt; next_ship(&instance, 0), order[0]);
+    }
+    Ok(())
+}
+
+#[test]
+fn the_next_ship_joins_groups_in_order_and_then_stands_alone(rt: HostRuntime) -> Result<(), Fail> {
+    let ships = [(Way::Up, 30), (Way::Down, 10), (Way::Up, 10), (Way::Up, 20)];
+    let instance = instance(&[2, 4], &ships)?;
+    for (path, children) in [
+        (&[][..], &["v1 / ", "/ v1 "][..]),
+        (&[0], &["^2 v1 / ", "v1 ^2 / ", "v1 / ^2 "]),
+        (
+            &[0, 1],
+            &[
+                "v1 ^23 / ",
+                "^3 v1 ^2 / ",
+                "v1 ^3 ^2 / ",
+                "v1 ^2 ^3 / ",
+                "v1 ^2 / ^3 ",
+            ],
+        ),
+        (
+            &[0, 1, 3],
+            &[
+                "v1 ^02 ^3 / ",
+                "v1 ^2 ^03 / ",
+                "^0 v1 ^2 ^3 / ",
+                "v1 ^0 ^2 ^3 / ",
+                "v1 ^2 ^0 ^3 / ",
+                "v1 ^2 ^3 ^0 / ",
+                "v1 ^2 ^3 / ^0 ",
+            ],
+        ),
+        (
+            &[0, 1, 0],
+            &[
+                "^0 v1 ^23 / ",
+                "v1 ^0 ^23 / ",
+                "v1 ^23 ^0 / ",
+                "v1 ^23 / ^0 ",
+            ],
+        ),
+        (&[0, 1, 3, 1], &[]),
+    ] {
+        let node = node_at(&instance, path).ok_or("no node")?;
+        for (i, &wanted) in children.iter().enumerate() {
+            let child = child_at(&instance, &node, i as u32).ok_or("no child")?;
+            assert_eq!(rt; drawn(rt.alloc(), &instance, &child)?.as_str(), wanted);
+            assert_eq!(rt; child.depth() as usize, path.len() + 1);
+        }
+        assert!(rt; child_at(&instance, &node, children.len() as u32).is_none());
+    }
+    Ok(())
+}
+
+// How many nodes the tree has from a node on.
+fn tree_size(instance: &Instance, node: &Node) -> u32
+    requires { IsNodeOf instance.now node.now }
+{
+    if node.depth() as usize >= instance.ships.as_slice().len() {
+        return 1;
+    }
+    let mut size: u32 = 1;
+    for i in 0..child_count(instance, node) {
+        size = size.saturating_add(tree_size(instance, &child(instance, node, i)));
+    }
+    size
+}
+
+#[test]
+fn a_tree_has_no_more_nodes_than_its_law_allows(rt: HostRuntime) -> Result<(), Fail> {
+    let up = [(Way::Up, 0), (Way::Up, 0), (Way::Up, 0)];
+    for (most, ships, size, limit) in [
+        (&[8][..], &up[..1], 2, 2),
+        (&[8], &up[..2], 5, 5),
+        (&[1], &up[..2], 4, 5),
+        (&[8], &up[..], 18, 20),
+        (&[8, 8], &up[..2], 11, 11),
+    ] {
+        let instance = instance(most, ships)?;
+        assert_eq!(rt; tree_size(&instance, &root(&instance)), size);
+        assert_eq!(rt; node_limit(&instance), limit);
+    }
+    Ok(())
+}
+
+#[test]
+fn the_greatest_nodes_have_fifty_children(rt: HostRuntime) -> Result<(), Fail> {
+    let instance = instance(&[8, 8, 8, 8], &[(Way::Down, 1_000_000); 24])?;
+    assert_eq!(rt;
+        node_limit(&instance),
+        265_550_463_043_319_039_980_173_626_674_781
+    );
+    let mut node = root(&instance);
+    for depth in 0..24 {
+        let count = 2 * depth + 4;
+        assert!(rt; child_at(&instance, &node, count).is_none());
+        node = child_at(&instance, &node, count - 1).ok_or("no child")?;
+    }
+    assert_eq!(rt; node.line(3).as_slice().len(), 24);
+    assert_eq!(rt; node.line(0).as_slice().len(), 0);
+    assert!(rt; child_at(&instance, &node, 0).is_none());
+    assert_eq!(rt; node.copy(), node);
+    Ok(())
+}
+
+#[test]
+fn a_node_becomes_its_child_in_place(rt: HostRuntime) -> Result<(), Fail> {
+    let instance = instance(&[8], &[(Way::Up, 0), (Way::Up, 1)])?;
+    let mut node = root(&instance);
+    children_split_plans(&instance, &node);
+    let first = next_ship(&instance, 0);
+    let steps = steps_by(&instance, &node, first);
+    let [step] = *steps.as_slice() else {
+        return Err("not one step".into());
+    };
+    take_step(&instance, &mut node, first, step);
+    assert_eq!(rt;
+        step,
+        Step::Open {
+            chamber: 0,
+            place: 0
+        }
+    );
+    if (node.depth() as usize) < instance.ships.as_slice().len() {
+        if child_count(&instance, &node) > 0 {
+            descend(&instance, &mut node, 0);
+        }
+    }
+    assert_eq!(rt; drawn(rt.alloc(), &instance, &node)?.as_str(), "^01 ");
+    Ok(())
+}
