@@ -1,5 +1,5 @@
 -- Closures that stand by rising minute, and one more put among them.
-use Rattle.std.proofs.Common.{◌≡◌, ℕ, suc, ◌+◌, ◌-◌, ◌<◌, ◌≤◌, Bool, true, false, ◌&&◌, ◌||◌, not, nat_lt, List, [], ◌∷◌, ◌++◌, length, take, drop, get_or, All, AllPairs, sym, ap, refl, subst, ◌∙◌, inl, inr, ⊎_elim, arith}
+use Rattle.std.proofs.Common.{◌≡◌, ℕ, suc, ◌+◌, ◌-◌, ◌<◌, ◌≤◌, Bool, true, false, ◌||◌, not, nat_lt, List, [], ◌∷◌, ◌++◌, length, take, drop, get_or, All, AllPairs, sym, ap, refl, subst, ◌∙◌, ⊎_elim, arith}
 use Rattle.std.specs.List.{insert, list_any, position_or_len}
 use Rattle.std.proofs.lemmas.Bool.{cases_lt}
 use Rattle.std.proofs.lemmas.Bool.Decides.{nat_tests}
@@ -19,10 +19,10 @@ closures_at xs y ys h =
     let inside : length xs < length (xs ++ y ∷ ys) = omega arith in
     let each : IsClosure y = subst IsClosure (get_or_at xs y ys y (length xs) refl) (h.each (length xs) y inside) in
     let later : All (λ k. k.to ≤ y.from) xs = λ k d low.
-        let rises : (get_or (xs ++ y ∷ ys) k d).to ≤ (get_or (xs ++ y ∷ ys) (length xs) d).from = h.rising k (length xs) d low inside in
-        let earlier = ap (λ (c : Closure). c.to) (get_or_append_left xs (y ∷ ys) d k low) in
-        let here = ap (λ (c : Closure). c.from) (get_or_at xs y ys d (length xs) refl) in
-        omega arith in
+    let rises : (get_or (xs ++ y ∷ ys) k d).to ≤ (get_or (xs ++ y ∷ ys) (length xs) d).from = h.rising k (length xs) d low inside in
+    let earlier = ap (λ (c : Closure). c.to) (get_or_append_left xs (y ∷ ys) d k low) in
+    let here = ap (λ (c : Closure). c.from) (get_or_at xs y ys d (length xs) refl) in
+    omega arith in
     (omega arith, each, later)
 
 -- a front of closures
@@ -44,32 +44,34 @@ closures_front xs ys h =
 pub closures_next : (old more all : List Closure) (i : ℕ) (d : Closure) → i < length more → AreClosures (old ++ more) → all ≡ old ++ take i more → (length all < 8) × IsClosure (get_or more i d) × All (λ k. k.to ≤ (get_or more i d).from) all
 closures_next old more all i d low h is =
     let whole : old ++ more ≡ all ++ get_or more i d ∷ drop (i + 1) more =
-        ap (λ xs. old ++ xs) (sym (take-append-drop i more) ∙ ap (λ xs. take i more ++ xs) (drop_more more i d low))
-        ∙ sym (append_assoc old (take i more) (get_or more i d ∷ drop (i + 1) more))
-        ∙ ap (λ xs. xs ++ get_or more i d ∷ drop (i + 1) more) (sym is) in
+    ap (λ xs. old ++ xs) (sym (take-append-drop i more) ∙ ap (λ xs. take i more ++ xs) (drop_more more i d low))
+    ∙ sym (append_assoc old (take i more) (get_or more i d ∷ drop (i + 1) more))
+    ∙ ap (λ xs. xs ++ get_or more i d ∷ drop (i + 1) more) (sym is) in
     closures_at all (get_or more i d) (drop (i + 1) more) (subst AreClosures whole h)
 
 -- pairs of a list with one more element
 pub AllPairs-insert : {X : Type 0} (R : X → X → Type 0) (xs : List X) (p : ℕ) (x : X) → p ≤ length xs → AllPairs R xs → ((i : ℕ) (d : X) → i < p → R (get_or xs i d) x) → ((j : ℕ) (d : X) → p ≤ j → j < length xs → R x (get_or xs j d)) → AllPairs R (insert xs p x)
 AllPairs-insert {X} R xs p x fits pairs before after i j d lt low =
     ⊎_elim
-      (λ (j_below : j < p). both (sym (get_or-insert_below xs p x d i (omega arith) fits)) (sym (get_or-insert_below xs p x d j j_below fits)) (pairs i j d lt (omega arith)))
-      (λ (j_above : p ≤ j). ⊎_elim
-        (λ (i_below : i < p). ⊎_elim
-          (λ (over : p < j). both (sym (get_or-insert_below xs p x d i i_below fits)) (above j over) (pairs i (j - 1) d (omega arith) (omega (arith, length-insert xs p x fits))))
-          (λ (not_over : j ≤ p). both (sym (get_or-insert_below xs p x d i i_below fits)) (at j (omega arith)) (before i d i_below))
-          (cases_lt p j))
-        (λ (i_above : p ≤ i). ⊎_elim
-          (λ (over : p < i). both (above i over) (above j (omega arith)) (pairs (i - 1) (j - 1) d (omega arith) (omega (arith, length-insert xs p x fits))))
-          (λ (not_over : i ≤ p). both (at i (omega arith)) (above j (omega arith)) (after (j - 1) d (omega arith) (omega (arith, length-insert xs p x fits))))
-          (cases_lt p i))
-        (cases_lt i p))
-      (cases_lt j p)
-    where
+    (λ (j_below : j < p). both (sym (get_or-insert_below xs p x d i (omega arith) fits)) (sym (get_or-insert_below xs p x d j j_below fits)) (pairs i j d lt (omega arith)))
+    (λ (j_above : p ≤ j). ⊎_elim
+    (λ (i_below : i < p). ⊎_elim
+    (λ (over : p < j). both (sym (get_or-insert_below xs p x d i i_below fits)) (above j over) (pairs i (j - 1) d (omega arith) (omega (arith, length-insert xs p x fits))))
+    (λ (not_over : j ≤ p). both (sym (get_or-insert_below xs p x d i i_below fits)) (at j (omega arith)) (before i d i_below))
+    (cases_lt p j))
+    (λ (i_above : p ≤ i). ⊎_elim
+    (λ (over : p < i). both (above i over) (above j (omega arith)) (pairs (i - 1) (j - 1) d (omega arith) (omega (arith, length-insert xs p x fits))))
+    (λ (not_over : i ≤ p). both (at i (omega arith)) (above j (omega arith)) (after (j - 1) d (omega arith) (omega (arith, length-insert xs p x fits))))
+    (cases_lt p i))
+    (cases_lt i p))
+    (cases_lt j p)
+  where
     both : {a b a' b' : X} → a ≡ a' → b ≡ b' → R a b → R a' b'
     both {a = a} {b' = b'} e f r = subst (λ v. R v b') e (subst (λ v. R a v) f r)
+
     at : (k : ℕ) → k ≡ p → x ≡ get_or (insert xs p x) k d
     at k same = sym (ap (λ n. get_or (insert xs p x) n d) same ∙ get_or-insert_at xs p x d fits)
+
     above : (k : ℕ) → p < k → get_or xs (k - 1) d ≡ get_or (insert xs p x) k d
     above k over =
         let one_more : (k - 1) + 1 ≡ k = omega arith in
@@ -79,7 +81,7 @@ AllPairs-insert {X} R xs p x fits pairs before after i j d lt low =
 pub none_pass : {X : Type 0} (test : X → Bool) (xs : List X) → list_any test xs ≡ false → All (λ x. test x ≡ false) xs
 none_pass test [] none = All-nil (λ x. test x ≡ false)
 none_pass test (x ∷ xs) none = by_test (test x) refl (none_pass test xs) none
-    where
+  where
     by_test : (b : Bool) → test x ≡ b → (list_any test xs ≡ false → All (λ y. test y ≡ false) xs) → (b || list_any test xs) ≡ false → All (λ y. test y ≡ false) (x ∷ xs)
     by_test true is rest off = cc
     by_test false is rest off = All-cons (λ y. test y ≡ false) x xs is (rest off)
@@ -104,7 +106,7 @@ put_closure-kept k ks are room good off =
           (λ i d low. apart_before k (get_or ks i d) (apart i d (omega arith)) (fails_before_first (λ other. nat_lt k.from other.from) ks i d low) good)
           (λ j d high low. apart_after k (get_or ks j d) (apart j d low) (begins_before j d high low));
     }
-    where
+  where
     begins_before : (j : ℕ) (d : Closure) → position_or_len (λ (other : Closure). nat_lt k.from other.from) ks ≤ j → j < length ks → k.from < (get_or ks j d).to
     begins_before j d high low =
         let p = position_or_len (λ (other : Closure). nat_lt k.from other.from) ks in
@@ -112,9 +114,9 @@ put_closure-kept k ks are room good off =
         let span = (are.each j d low).span in
         let first = (are.each p d (omega arith)).span in
         ⊎_elim
-          (λ (later : p < j). let rises : (get_or ks p d).to ≤ (get_or ks j d).from = are.rising p j d later low in grind (arith, nat_tests))
-          (λ (not_later : j ≤ p). let same : j ≡ p = omega arith in let here = ap (λ n. (get_or ks n d).to) same in grind (arith, nat_tests))
-          (cases_lt p j)
+        (λ (later : p < j). let rises : (get_or ks p d).to ≤ (get_or ks j d).from = are.rising p j d later low in grind (arith, nat_tests))
+        (λ (not_later : j ≤ p). let same : j ≡ p = omega arith in let here = ap (λ n. (get_or ks n d).to) same in grind (arith, nat_tests))
+        (cases_lt p j)
 
 -- the three steps by which `put_closure` is made
 pub put_front : (k : Closure) (ks all : List Closure) (p : ℕ) → AreClosures (take p ks ++ k ∷ drop p ks) → all ≡ [] → AreClosures (all ++ take p ks)

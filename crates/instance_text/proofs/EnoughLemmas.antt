@@ -1,8 +1,8 @@
 -- The first thirteen words of a line tell as much as all of them.
-use Rattle.std.proofs.Common.{◌≡◌, ℕ, ◌<◌, ◌≤◌, ◌==◌, min, Bool, true, false, List, [], length, take, sym, ap, refl, ◌∙◌, subst, ⊎_elim, arith, Result, Ok, Err, IfOk, IfErr, lit<}
+use Rattle.std.proofs.Common.{◌≡◌, ℕ, ◌<◌, ◌≤◌, ◌==◌, min, false, List, [], length, take, sym, ap, ◌∙◌, ⊎_elim, arith, Result, Ok, Err, IfOk, IfErr, lit<}
 use Rattle.std.proofs.lemmas.Bool.{cases_lt}
 use Rattle.std.proofs.lemmas.Bool.Decides.{nat_tests}
-use Rattle.std.proofs.lemmas.List.{get_or-take, length-take, take_all}
+use Rattle.std.proofs.lemmas.List.{get_or-take, length-take}
 use Rattle.lock_model.specs.declared.chamber.Chamber.{Chamber}
 use Rattle.lock_model.specs.declared.ship.Ship.{Ship}
 use Rattle.instance_text.specs.declared.bad.Kind.{Kind}

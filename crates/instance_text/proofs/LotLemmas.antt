@@ -1,10 +1,10 @@
 -- A lot is within the limits of an instance.
-use Rattle.std.proofs.Common.{◌≡◌, ◌≢◌, ℕ, zero, suc, ◌+◌, ◌-◌, ◌*◌, ◌/◌, ◌%◌, ◌<◌, ◌≤◌, ◌^◌, min, Bool, true, false, ◌&&◌, ◌||◌, nat_eq, List, [], ◌∷◌, ◌++◌, length, take, get_or, All, AllPairs, codes, decimal, sym, ap, refl, subst, ◌∙◌, arith, lit≤, lit<}
+use Rattle.std.proofs.Common.{◌≡◌, ◌≢◌, ℕ, zero, suc, ◌+◌, ◌-◌, ◌*◌, ◌%◌, ◌<◌, ◌≤◌, ◌^◌, min, Bool, true, false, ◌&&◌, ◌||◌, nat_eq, List, [], ◌∷◌, ◌++◌, length, take, get_or, All, AllPairs, codes, decimal, sym, ap, refl, subst, ◌∙◌, arith, lit≤, lit<}
 use Rattle.std.specs.List.{list_all}
 use Rattle.std.proofs.lemmas.List.{length-take, get_or-take, append_cancel_left, append_assoc, take_more, length-append}
 use Rattle.std.proofs.lemmas.List.Elements.{All-nil, All-cons, All-take, All-push, All-append}
 use Rattle.std.proofs.lemmas.Bool.Decides.{nat_tests}
-use Rattle.std.proofs.lemmas.Fmt.{decimal_injective, length-decimal-le, decimal_nonempty, decimal_by_steps}
+use Rattle.std.proofs.lemmas.Fmt.{decimal_injective, length-decimal-le, decimal_by_steps}
 use Rattle.lock_model.specs.Limits.{IsName, is_name_byte, is_between}
 use Rattle.lock_model.specs.Fleet.{no_chamber}
 use Rattle.lock_model.specs.Instance.{IsChamber, IsShip, IsInstance}
@@ -13,7 +13,7 @@ use Rattle.lock_model.specs.declared.chamber.Chamber.{Chamber}
 use Rattle.lock_model.specs.declared.ship.Ship.{Ship}
 use Rattle.lock_model.specs.declared.way.Stand.{Stand}
 use Rattle.lock_model.specs.declared.way.Stand.TheVariants.{Low, High}
-use Rattle.instance_text.specs.Lot.{draw, next_state, after_draws, lot_ship, lot_ships, lot_chamber, lot_chambers}
+use Rattle.instance_text.specs.Lot.{draw, after_draws, lot_ship, lot_ships, lot_chamber, lot_chambers}
 
 pub limits_of : (cs cs' : List Chamber) (ss ss' : List Ship) → cs ≡ cs' → ss ≡ ss' → IsInstance cs' ss' → IsInstance cs ss
 limits_of cs cs' ss ss' p q limits = subst (λ xs. IsInstance xs ss) (sym p) (subst (λ ys. IsInstance cs' ys) (sym q) limits)
@@ -42,7 +42,7 @@ one_more_ship so_far new all ship n i state state' arrival low whole is later ne
 all_from_test : (test : ℕ → Bool) (xs : List ℕ) → list_all test xs ≡ true → All (λ x. test x ≡ true) xs
 all_from_test test [] h = All-nil (λ x. test x ≡ true)
 all_from_test test (x ∷ xs) h = by_test (test x) refl (all_from_test test xs) h
-    where
+  where
     by_test : (b : Bool) → test x ≡ b → (list_all test xs ≡ true → All (λ y. test y ≡ true) xs) → (b && list_all test xs) ≡ true → All (λ y. test y ≡ true) (x ∷ xs)
     by_test true is rest both = All-cons (λ y. test y ≡ true) x xs is (rest both)
     by_test false is rest both = cc
@@ -164,15 +164,15 @@ later_names : (n i j state arrival : ℕ) (name : List ℕ) → name ≡ codes "
 later_names zero i j state arrival name is low few = All-nil (λ s. name ≢ s.name)
 later_names (suc n) i j state arrival name is low few =
     All-cons (λ s. name ≢ s.name) (lot_ship i state arrival) (lot_ships n (i + 1) (after_draws 5 state) (lot_ship i state arrival).arrival)
-      (λ same. let number : j ≡ i = decimal_injective j i (omega arith) (omega arith) (append_cancel_left (codes "s") (decimal j) (decimal i) (sym is ∙ same ∙ lot_ship_name i state arrival)) in omega arith)
-      (later_names n (i + 1) j (after_draws 5 state) (lot_ship i state arrival).arrival name is (omega arith) (omega arith))
+    (λ same. let number : j ≡ i = decimal_injective j i (omega arith) (omega arith) (append_cancel_left (codes "s") (decimal j) (decimal i) (sym is ∙ same ∙ lot_ship_name i state arrival)) in omega arith)
+    (later_names n (i + 1) j (after_draws 5 state) (lot_ship i state arrival).arrival name is (omega arith) (omega arith))
 
 lot_ship_names : (n i state arrival : ℕ) → i + n ≤ 25 → AllPairs ShipsDiffer (lot_ships n i state arrival)
 lot_ship_names zero i state arrival few = λ a b d lt low. absurd (omega arith)
 lot_ship_names (suc n) i state arrival few =
     AllPairs-cons ShipsDiffer (lot_ship i state arrival) (lot_ships n (i + 1) (after_draws 5 state) (lot_ship i state arrival).arrival)
-      (later_names n (i + 1) i (after_draws 5 state) (lot_ship i state arrival).arrival (lot_ship i state arrival).name (lot_ship_name i state arrival) (omega arith) (omega arith))
-      (lot_ship_names n (i + 1) (after_draws 5 state) (lot_ship i state arrival).arrival (omega arith))
+    (later_names n (i + 1) i (after_draws 5 state) (lot_ship i state arrival).arrival (lot_ship i state arrival).name (lot_ship_name i state arrival) (omega arith) (omega arith))
+    (lot_ship_names n (i + 1) (after_draws 5 state) (lot_ship i state arrival).arrival (omega arith))
 
 pub lot_limits : (number ships chambers : ℕ) → 1 ≤ ships → ships ≤ 24 → 1 ≤ chambers → chambers ≤ 4 → IsInstance (take chambers lot_chambers) (lot_ships ships 1 number 0)
 lot_limits number ships chambers some_ships few_ships some_chambers few_chambers =

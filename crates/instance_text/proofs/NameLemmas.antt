@@ -1,5 +1,5 @@
 -- Names that differ from all earlier ones.
-use Rattle.std.proofs.Common.{◌≡◌, ◌≢◌, Bool, true, false, not, ◌||◌, ℕ, subst, List, [], ◌∷◌, map, All, Result, Ok, Err, sym, refl, ◌∙◌}
+use Rattle.std.proofs.Common.{◌≡◌, ◌≢◌, Bool, true, false, not, ◌||◌, ℕ, subst, List, [], ◌∷◌, map, All, Ok, sym, refl}
 use Rattle.std.proofs.lemmas.List.Elements.{All-cons, All-nil}
 use Rattle.std.proofs.lemmas.Slice.Eq.{bytes_eq-Decides}
 use Rattle.std.specs.List.{list_any}
@@ -16,7 +16,7 @@ check_passed false kind u h = cc
 pub new_among : {X : Type 0} (name_of : X → List ℕ) (xs : List X) (word : List ℕ) → list_any (bytes_eq word) (map name_of xs) ≡ false → All (λ x. name_of x ≢ word) xs
 new_among name_of [] word h = All-nil (λ x. name_of x ≢ word)
 new_among name_of (x ∷ xs) word h = by_test (bytes_eq word (name_of x)) (bytes_eq-Decides word (name_of x)).1 (new_among name_of xs word) h
-    where
+  where
     by_test : (b : Bool) → (word ≡ name_of x → b ≡ true) → (list_any (bytes_eq word) (map name_of xs) ≡ false → All (λ x. name_of x ≢ word) xs) → (b || list_any (bytes_eq word) (map name_of xs)) ≡ false → All (λ x. name_of x ≢ word) (x ∷ xs)
     by_test true decides rest none = cc
     by_test false decides rest none = All-cons (λ x. name_of x ≢ word) x xs (λ same. let hit = decides (sym same) in cc) (rest none)

@@ -1,5 +1,5 @@
 -- How long the instance part of a text is.
-use Rattle.std.proofs.Common.{◌≡◌, ℕ, ◌+◌, ◌≤◌, Bool, true, false, cond, min, List, [], ◌∷◌, length, sym, ap, ◌∙◌, arith, refl}
+use Rattle.std.proofs.Common.{◌≡◌, ℕ, ◌+◌, Bool, true, false, cond, min, List, [], ◌∷◌, length, ap, ◌∙◌, arith}
 use Rattle.instance_text.specs.Lines.{words}
 use Rattle.instance_text.specs.Reading.{length_of_part, is_end}
 

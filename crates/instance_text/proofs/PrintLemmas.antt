@@ -36,7 +36,7 @@ chamber_line o n a b c d e f g h s i = fifteen o (codes "chamber ") n (32 ∷ a)
 pub canonical_is : (I : Instance) → canonical I ≡ line (header_words (is_plain I)) ++ flat_map line (map chamber_words I.chambers) ++ flat_map line (flat_map closings I.chambers) ++ flat_map line (map ship_words I.ships) ++ codes "end\n"
 unfolding canonical canonical_words
 canonical_is I = parts (header_words (is_plain I)) (map chamber_words I.chambers) (flat_map closings I.chambers) (map ship_words I.ships)
-    where
+  where
     parts : (header : List (List ℕ)) (a b c : List (List (List ℕ))) → flat_map line (header ∷ a ++ b ++ c ++ (codes "end" ∷ []) ∷ []) ≡ line header ++ flat_map line a ++ flat_map line b ++ flat_map line c ++ codes "end\n"
     parts header a b c = simp flat_map-append
 

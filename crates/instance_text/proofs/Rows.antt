@@ -1,17 +1,16 @@
 -- Worked texts, computed by the definitions.
-use Rattle.std.proofs.Common.{◌≡◌, ℕ, List, [], ◌∷◌, ◌++◌, map, codes, refl, Result, Ok, Err, decimal}
+use Rattle.std.proofs.Common.{◌≡◌, [], ◌∷◌, map, codes, refl, Ok, Err}
 use Rattle.lock_model.specs.declared.chamber.Chamber.{Chamber}
 use Rattle.lock_model.specs.declared.ship.Ship.{Ship}
 use Rattle.lock_model.specs.declared.way.Way.TheVariants.{Up}
 use Rattle.lock_model.specs.declared.way.Stand.TheVariants.{Low}
-use Rattle.instance_text.specs.declared.bad.Kind.TheVariants.{NoHeader, NoEnd, NoShip, Unknown, Overlap, Word, Range}
-use Rattle.instance_text.specs.Draft.{Draft, no_draft}
+use Rattle.instance_text.specs.declared.bad.Kind.TheVariants.{NoHeader}
 use Rattle.instance_text.specs.Lines.{lines, words, content}
 use Rattle.instance_text.specs.Words.{number, name, new_name, way, stand}
 use Rattle.instance_text.specs.Chamber.{read_chamber}
 use Rattle.instance_text.specs.Ship.{read_ship, cargo}
 use Rattle.instance_text.specs.Closing.{read_closing, chamber_named}
-use Rattle.instance_text.specs.Reading.{read_end, add_chamber, add_ship, add_closure, read_line, format_of, bad, read_lines, read_body}
+use Rattle.instance_text.specs.Reading.{read_end, add_chamber, add_ship, add_closure, read_line, format_of, bad, read_lines}
 
 pub chamber : Chamber
 chamber = record { name = codes "c1"; length = 2000; width = 240; end = 10; gap = 20; side = 5; most = 4; pass = 30; turn = 15; stands = Low; opens = 0; closures = [] }

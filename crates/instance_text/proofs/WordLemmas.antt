@@ -1,5 +1,5 @@
 -- The words of a line, one after the other.
-use Rattle.std.proofs.Common.{◌≡◌, ◌≢◌, ℕ, zero, suc, ◌+◌, ◌<◌, ◌≤◌, Bool, true, false, List, [], ◌∷◌, ◌++◌, length, take, filter, map, get_or, sym, ap, refl, ◌∙◌, arith, eq-eqb}
+use Rattle.std.proofs.Common.{◌≡◌, ◌≢◌, ℕ, zero, suc, ◌<◌, ◌≤◌, false, List, [], ◌∷◌, ◌++◌, length, take, filter, get_or, sym, ap, refl, ◌∙◌, arith, eq-eqb}
 use Rattle.std.proofs.lemmas.List.{take_all, take_at, append_assoc, append-nil, length_push}
 use Rattle.std.proofs.lemmas.List.Sums.{position_or_len_is}
 use Rattle.std.specs.List.{before_first}

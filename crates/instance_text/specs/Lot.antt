@@ -26,14 +26,14 @@ lot_way n = if n == 0 then Up else Down
 -- ship i, from 1, from a state and the arrival of the ship before it
 unfoldable pub lot_ship : ℕ → ℕ → ℕ → Ship
 lot_ship i state arrival = record {
-    name = codes "s" ++ decimal i;
-    way = lot_way (draw state 1 2);
-    length = 380 + 10 * draw state 2 73;
-    width = 50 + draw state 3 65;
-    arrival = arrival + draw state 4 40;
-    handling = 3 + draw state 5 6;
-    cargo = 0;
-  }
+  name = codes "s" ++ decimal i;
+  way = lot_way (draw state 1 2);
+  length = 380 + 10 * draw state 2 73;
+  width = 50 + draw state 3 65;
+  arrival = arrival + draw state 4 40;
+  handling = 3 + draw state 5 6;
+  cargo = 0;
+}
 
 -- n ships from ship i on
 abbrev pub lot_ships : ℕ → ℕ → ℕ → ℕ → List Ship

@@ -1,29 +1,12 @@
-//! What a text is made of.
+//! A field of a line.
 ghost use Rattle.std.specs.Prelude.{◌≡◌, ◌++◌, ◌∷◌, OnOk, decimal};
 
-use crate::no_memory::NoMemory;
-use itoa::Buffer;
-
-/// Appends bytes, or answers want of memory.
-pub fn put(out: &mut Vec<u8>, bytes: &[u8]) -> Result<(), NoMemory>
-    ensures { OnOk result (out.new.items ≡ out.old.items ++ bytes.now) }
-{
-    out.extend_from_slice(bytes)?;
-    Ok(())
-}
-
-/// Appends a number in decimal, or answers want of memory.
-pub fn put_number(out: &mut Vec<u8>, number: u32) -> Result<(), NoMemory>
-    ensures { OnOk result (out.new.items ≡ out.old.items ++ decimal number) }
-{
-    let mut buffer = Buffer::new();
-    put(out, buffer.format(number).as_bytes())
-}
+use plain_text::{NoMemory, put, put_number};
 
 /// Appends a space and a number, or answers want of memory.
-pub fn put_field(out: &mut Vec<u8>, number: u32) -> Result<(), NoMemory>
+pub(crate) fn put_field(out: &mut Vec<u8>, number: u32) -> Result<(), NoMemory>
     ensures { OnOk result (out.new.items ≡ out.old.items ++ 32 ∷ decimal number) }
 {
     put(out, b" ")?;
-    put_number(out, number)
+    put_number(out, number as u64)
 }

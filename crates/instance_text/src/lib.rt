@@ -1,4 +1,12 @@
-//! Reads and prints instance texts.
+//! Instance texts: `read_instance` and `read_instance_part` read them in either format,
+//! `print_instance` prints the canonical one, and `make_lot` makes an instance from a number.
+//!
+//! Reading takes no memory and answers for all bytes: the instance that they mean, or their first
+//! defect with its line and kind, exactly where they mean none.
+//!
+//! Definitions: `specs/Lines` (lines and words), `Words` (numbers and names), `Chamber`, `Ship` and
+//! `Closing` (the words of a line), `Reading` (what a text means, its first defect, its instance
+//! part), `Canonical` (the text that is printed), `Lot` (the generator).
 #![tactic(auto)]
 
 mod append;
@@ -12,7 +20,6 @@ mod line;
 mod lines;
 mod lot;
 mod name;
-mod no_memory;
 mod number;
 mod parts;
 mod print;
@@ -25,7 +32,7 @@ mod words;
 
 pub use bad::{Bad, Kind};
 pub use lot::make_lot;
-pub use no_memory::NoMemory;
+pub use plain_text::NoMemory;
 pub use print::print_instance;
 pub use read::{read_instance, read_instance_part};
 

@@ -5,9 +5,9 @@ ghost use Rattle.instance_text.specs.Canonical.{line, way_word, stand_word, cham
 ghost use Rattle.lock_model.specs.declared.chamber.Chamber.{Chamber as AnyChamber};
 ghost use Rattle.lock_model.specs.declared.ship.Ship.{Ship as AnyShip};
 
-use crate::append::{put, put_field};
-use crate::no_memory::NoMemory;
+use crate::append::put_field;
 use lock_model::{Chamber, Closure, Instance, Ship, Stand, Way};
+use plain_text::{NoMemory, put};
 use std::alloc::Global;
 
 /// The word for a way.
@@ -133,7 +133,9 @@ fn put_ships(out: &mut Vec<u8>, ships: &[Ship]) -> Result<(), NoMemory>
 fn is_open(chambers: &[Chamber]) -> bool
     ensures { result ≡ list_all (λ (c : AnyChamber). length c.closures == 0) chambers.now }
 {
-    chambers.iter().all(|chamber| chamber.closures.as_slice().is_empty())
+    chambers
+        .iter()
+        .all(|chamber| chamber.closures.as_slice().is_empty())
 }
 
 /// Whether all cargo is harmless.

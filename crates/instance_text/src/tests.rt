@@ -3,7 +3,8 @@
 use super::*;
 use std::test::Fail;
 
-const ONE_SHIP: &[u8] = b"glock 1\nchamber c1 2000 240 10 20 5 4 30 15 low 0\nship s1 up 1100 114 0 5\nend\n";
+const ONE_SHIP: &[u8] =
+    b"glock 1\nchamber c1 2000 240 10 20 5 4 30 15 low 0\nship s1 up 1100 114 0 5\nend\n";
 
 /// A text, and the line and the kind of its first defect.
 type Refused = (&'static [u8], u64, Kind);
@@ -20,59 +21,152 @@ fn expect_refused(rt: &impl std::process::Abort, rows: &[Refused]) {
 
 #[test]
 fn a_text_without_its_frame_is_refused(rt: HostRuntime) {
-    expect_refused(&rt, &[
-        (b"", 1, Kind::NoHeader),
-        (b"\n# evening\n", 3, Kind::NoHeader),
-        (b"glock 3\n", 1, Kind::NoHeader),
-        (b"\nglock 01\n", 2, Kind::NoHeader),
-        (b"glock 1 x\n", 1, Kind::NoHeader),
-        (b"glock 1\nchamber c1 2000 240 10 20 5 4 30 15 low 0\nship s1 up 1100 114 0 5\n", 4, Kind::NoEnd),
-        (b"glock 1\nship s1 up 1100 114 0 5\nend\n", 3, Kind::NoChamber),
-        (b"glock 1\nchamber c1 2000 240 10 20 5 4 30 15 low 0\nend\n", 3, Kind::NoShip),
-        (b"glock 1\nend x\n", 2, Kind::Count),
-        (b"glock 1\nchamber c1 2000 240 10 20 5 4 30 15 low 0\nship s1 up 1100 114 0 5\nend\n\nend\n", 6, Kind::Word),
-        (b"glock 1\nchamber c1 2000 240 10 20 5 4 30 15 low 0\nship \xff1 up 1100 114 0 5\nend\n", 3, Kind::NotUtf8),
-        (b"glock 3\n\xff", 2, Kind::NotUtf8),
-    ]);
+    expect_refused(
+        &rt,
+        &[
+            (b"", 1, Kind::NoHeader),
+            (b"\n# evening\n", 3, Kind::NoHeader),
+            (b"glock 3\n", 1, Kind::NoHeader),
+            (b"\nglock 01\n", 2, Kind::NoHeader),
+            (b"glock 1 x\n", 1, Kind::NoHeader),
+            (
+                b"glock 1\nchamber c1 2000 240 10 20 5 4 30 15 low 0\nship s1 up 1100 114 0 5\n",
+                4,
+                Kind::NoEnd,
+            ),
+            (
+                b"glock 1\nship s1 up 1100 114 0 5\nend\n",
+                3,
+                Kind::NoChamber,
+            ),
+            (
+                b"glock 1\nchamber c1 2000 240 10 20 5 4 30 15 low 0\nend\n",
+                3,
+                Kind::NoShip,
+            ),
+            (b"glock 1\nend x\n", 2, Kind::Count),
+            (
+                b"glock 1\nchamber c1 2000 240 10 20 5 4 30 15 low 0\nship s1 up 1100 114 0 5\nend\n\nend\n",
+                6,
+                Kind::Word,
+            ),
+            (
+                b"glock 1\nchamber c1 2000 240 10 20 5 4 30 15 low 0\nship \xff1 up 1100 114 0 5\nend\n",
+                3,
+                Kind::NotUtf8,
+            ),
+            (b"glock 3\n\xff", 2, Kind::NotUtf8),
+        ],
+    );
 }
 
 #[test]
 fn a_faulty_ship_line_is_refused_by_its_first_fault(rt: HostRuntime) {
-    expect_refused(&rt, &[
-        (b"glock 1\nboat s1 up 1100 114 0 5\n", 2, Kind::Word),
-        (b"glock 1\nship s1 north 1100 114 0 5\n", 2, Kind::Word),
-        (b"glock 1\nship s.1 up 1100 114 0\n", 2, Kind::Count),
-        (b"glock 1\nship s1 up 1100 114 0 5 1\n", 2, Kind::Count),
-        (b"glock 2\nship s1 up 1100 114 0 5 1 0\n", 2, Kind::Count),
-        (b"glock 1\nship s1 up -1100 114 0 5\n", 2, Kind::Number),
-        (b"glock 1\nship s1 up 0 114 0 5\n", 2, Kind::Range),
-        (b"glock 1\nship s1 up 100001 100000 1000000 1000000\n", 2, Kind::Range),
-        (b"glock 1\nship s1 up 4294967396 114 0 5\n", 2, Kind::Range),
-        (b"glock 2\nship s1 up 1100 114 0 5 10\n", 2, Kind::Range),
-        (b"glock 1\nship s.1 north x 0 0 5\n", 2, Kind::Name),
-        (b"glock 1\nship abcdefghijklm up 1100 114 0 5\n", 2, Kind::Name),
-        (b"glock 1\nship s1 up 1100 114 0 5\nship s1 north 1100 114 0 5\n", 3, Kind::Twice),
-        (b"glock 1\nship s1\r up 1100 114 0 5\r\r\n", 2, Kind::Name),
-    ]);
+    expect_refused(
+        &rt,
+        &[
+            (b"glock 1\nboat s1 up 1100 114 0 5\n", 2, Kind::Word),
+            (b"glock 1\nship s1 north 1100 114 0 5\n", 2, Kind::Word),
+            (b"glock 1\nship s.1 up 1100 114 0\n", 2, Kind::Count),
+            (b"glock 1\nship s1 up 1100 114 0 5 1\n", 2, Kind::Count),
+            (b"glock 2\nship s1 up 1100 114 0 5 1 0\n", 2, Kind::Count),
+            (b"glock 1\nship s1 up -1100 114 0 5\n", 2, Kind::Number),
+            (b"glock 1\nship s1 up 0 114 0 5\n", 2, Kind::Range),
+            (
+                b"glock 1\nship s1 up 100001 100000 1000000 1000000\n",
+                2,
+                Kind::Range,
+            ),
+            (b"glock 1\nship s1 up 4294967396 114 0 5\n", 2, Kind::Range),
+            (b"glock 2\nship s1 up 1100 114 0 5 10\n", 2, Kind::Range),
+            (b"glock 1\nship s.1 north x 0 0 5\n", 2, Kind::Name),
+            (
+                b"glock 1\nship abcdefghijklm up 1100 114 0 5\n",
+                2,
+                Kind::Name,
+            ),
+            (
+                b"glock 1\nship s1 up 1100 114 0 5\nship s1 north 1100 114 0 5\n",
+                3,
+                Kind::Twice,
+            ),
+            (b"glock 1\nship s1\r up 1100 114 0 5\r\r\n", 2, Kind::Name),
+        ],
+    );
 }
 
 #[test]
 fn a_faulty_chamber_or_close_line_is_refused_by_its_first_fault(rt: HostRuntime) {
-    expect_refused(&rt, &[
-        (b"glock 1\nchamber c1 2000 240 10 20 5 4 30 15 mid 0\n", 2, Kind::Word),
-        (b"glock 1\nchamber c1 2000 240 10 20 5 4 14 15 low 0\n", 2, Kind::TurnOverPass),
-        (b"glock 1\nchamber c1 2000 240 10 20 5 4 14 15 low x\n", 2, Kind::Number),
-        (b"glock 1\nchamber c1 2000 240 10 20 5 9 30 15 low 0\n", 2, Kind::Range),
-        (b"glock 1\nchamber c1 2000 240 10 20 5 4 30 15 low 0\nclose c1 0 20\n", 3, Kind::Word),
-        (b"glock 2\nchamber c1 2000 240 10 20 5 4 30 15 low 0\nclose c2 0 20\n", 3, Kind::Unknown),
-        (b"glock 2\nchamber c1 2000 240 10 20 5 4 30 15 low 0\nclose c1 20 20\n", 3, Kind::Overlap),
-        (b"glock 2\nchamber c1 2000 240 10 20 5 4 30 15 low 0\nclose c1 0 20\nclose c1 19 30\n", 4, Kind::Overlap),
-        (b"glock 2\nchamber c1 2000 240 10 20 5 4 30 15 low 0\nclose c1 0\n", 3, Kind::Count),
-        (b"glock 2\nchamber c1 2000 240 10 20 5 4 30 15 low 0\nclose c1 0 x\n", 3, Kind::Number),
-        (b"glock 2\nchamber c1 2000 240 10 20 5 4 30 15 low 0\nclose c1 0 1000001\n", 3, Kind::Range),
-        (b"glock 2\nchamber c1 2000 240 10 20 5 4 30 15 low 0\nclose c1 0 1\nclose c1 1 2\nclose c1 2 3\nclose c1 3 4\nclose c1 4 5\nclose c1 5 6\nclose c1 6 7\nclose c1 7 8\nclose c1 x 9\n", 11, Kind::Range),
-        (b"glock 1\nchamber a 9 9 0 0 0 1 1 0 low 0\nchamber b 9 9 0 0 0 1 1 0 low 0\nchamber c 9 9 0 0 0 1 1 0 low 0\nchamber d 9 9 0 0 0 1 1 0 low 0\nchamber a 9 9 0 0 0 1 1 0 low 0\n", 6, Kind::Range),
-    ]);
+    expect_refused(
+        &rt,
+        &[
+            (
+                b"glock 1\nchamber c1 2000 240 10 20 5 4 30 15 mid 0\n",
+                2,
+                Kind::Word,
+            ),
+            (
+                b"glock 1\nchamber c1 2000 240 10 20 5 4 14 15 low 0\n",
+                2,
+                Kind::TurnOverPass,
+            ),
+            (
+                b"glock 1\nchamber c1 2000 240 10 20 5 4 14 15 low x\n",
+                2,
+                Kind::Number,
+            ),
+            (
+                b"glock 1\nchamber c1 2000 240 10 20 5 9 30 15 low 0\n",
+                2,
+                Kind::Range,
+            ),
+            (
+                b"glock 1\nchamber c1 2000 240 10 20 5 4 30 15 low 0\nclose c1 0 20\n",
+                3,
+                Kind::Word,
+            ),
+            (
+                b"glock 2\nchamber c1 2000 240 10 20 5 4 30 15 low 0\nclose c2 0 20\n",
+                3,
+                Kind::Unknown,
+            ),
+            (
+                b"glock 2\nchamber c1 2000 240 10 20 5 4 30 15 low 0\nclose c1 20 20\n",
+                3,
+                Kind::Overlap,
+            ),
+            (
+                b"glock 2\nchamber c1 2000 240 10 20 5 4 30 15 low 0\nclose c1 0 20\nclose c1 19 30\n",
+                4,
+                Kind::Overlap,
+            ),
+            (
+                b"glock 2\nchamber c1 2000 240 10 20 5 4 30 15 low 0\nclose c1 0\n",
+                3,
+                Kind::Count,
+            ),
+            (
+                b"glock 2\nchamber c1 2000 240 10 20 5 4 30 15 low 0\nclose c1 0 x\n",
+                3,
+                Kind::Number,
+            ),
+            (
+                b"glock 2\nchamber c1 2000 240 10 20 5 4 30 15 low 0\nclose c1 0 1000001\n",
+                3,
+                Kind::Range,
+            ),
+            (
+                b"glock 2\nchamber c1 2000 240 10 20 5 4 30 15 low 0\nclose c1 0 1\nclose c1 1 2\nclose c1 2 3\nclose c1 3 4\nclose c1 4 5\nclose c1 5 6\nclose c1 6 7\nclose c1 7 8\nclose c1 x 9\n",
+                11,
+                Kind::Range,
+            ),
+            (
+                b"glock 1\nchamber a 9 9 0 0 0 1 1 0 low 0\nchamber b 9 9 0 0 0 1 1 0 low 0\nchamber c 9 9 0 0 0 1 1 0 low 0\nchamber d 9 9 0 0 0 1 1 0 low 0\nchamber a 9 9 0 0 0 1 1 0 low 0\n",
+                6,
+                Kind::Range,
+            ),
+        ],
+    );
 }
 
 /// What is printed of the instance of a text, or nothing where it is refused.
@@ -125,7 +219,8 @@ fn a_text_cut_short_is_refused(rt: HostRuntime) {
 
 #[test]
 fn nothing_after_the_part_is_looked_at(rt: HostRuntime) {
-    let text = b"glock 1\nchamber c1 2000 240 10 20 5 4 30 15 low 0\nship s1 up 1100 114 0 5\nend\nplan \xff\nend\n";
+    let text =
+        b"glock 1\nchamber c1 2000 240 10 20 5 4 30 15 low 0\nship s1 up 1100 114 0 5\nend\nplan \xff\nend\n";
     match read_instance_part(text) {
         Ok((instance, taken)) => {
             assert_eq!(rt; taken, 78);

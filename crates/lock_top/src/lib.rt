@@ -11,6 +11,8 @@
 mod answer;
 mod solving;
 mod status;
+#[cfg(test)]
+mod tests;
 mod texts;
 mod top;
 

@@ -1,8 +1,7 @@
 //! The children of a node.
-ghost use Rattle.std.specs.Prelude.{◌≡◌, ◌+◌, ◌<◌, ◌≤◌, ℕ, List, length, slice_get, Some, Contains};
+ghost use Rattle.std.specs.Prelude.{◌≡◌, ◌+◌, ◌<◌, ℕ, length, slice_get, Contains};
 ghost use Rattle.lock_rules.specs.Arrival.{next_ship};
 ghost use Rattle.lock_rules.specs.Node.{times_on, line_at};
-ghost use Rattle.lock_rules.specs.Children.{children_of};
 ghost use Rattle.master_branch.specs.Node.{IsNodeOf, children};
 ghost use Rattle.master_branch.specs.Steps.{steps_by, lines_after, IsStep};
 

@@ -4,7 +4,7 @@ ghost use Rattle.lock_model.specs.declared.plan.Plan.{Plan as AnyPlan};
 ghost use Rattle.lock_rules.specs.Plan.{IsLegal};
 ghost use Rattle.lock_rules.specs.Node.{IsNode, root_lines};
 ghost use Rattle.lock_rules.specs.Trace.{IsUnder};
-ghost use Rattle.lock_rules.specs.Size.{node_limit, nodes_from, width_at};
+ghost use Rattle.lock_rules.specs.Size.{node_limit, nodes_from};
 ghost use Rattle.master_branch.specs.Node.{IsNodeOf, children};
 ghost use Rattle.master_branch.specs.Split.{IsUnderOneChild};
 

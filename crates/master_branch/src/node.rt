@@ -1,5 +1,5 @@
 //! Nodes of the search tree.
-ghost use Rattle.std.specs.Prelude.{◌≡◌, ◌<◌, ◌≤◌};
+ghost use Rattle.std.specs.Prelude.{◌≡◌, ◌<◌};
 ghost use Rattle.lock_model.specs.declared.plan.Plan.{Plan as AnyPlan};
 ghost use Rattle.lock_rules.specs.Node.{KeepsNode, line_at};
 ghost use Rattle.lock_rules.specs.Trace.{IsUnder};

@@ -1,8 +1,6 @@
 //! The steps by which a ship enters a node: one for each child, in the order of children.
-ghost use Rattle.std.specs.Prelude.{◌≡◌, ◌+◌, ◌*◌, ◌<◌, ◌≤◌, [], ◌∷◌, ◌++◌, suc, length, map, All, IsTrue};
-ghost use Rattle.lock_model.specs.Fleet.{chamber_at, ship_at};
-ghost use Rattle.lock_rules.specs.Node.{line_at};
-ghost use Rattle.lock_rules.specs.Children.{same_way, children_by};
+ghost use Rattle.std.specs.Prelude.{◌≡◌, ◌+◌, ◌*◌, ◌<◌, ◌≤◌, [], ◌∷◌, ◌++◌, length, map, All};
+ghost use Rattle.lock_rules.specs.Children.{children_by};
 ghost use Rattle.master_branch.specs.Node.{IsNodeOf};
 ghost use Rattle.master_branch.specs.Steps.{may_join, joins_at, opens_at, steps_at, steps_by, lines_after, IsStep};
 

@@ -4,9 +4,9 @@ ghost use Rattle.std.specs.List.{range_with_len};
 ghost use Rattle.plan_print.specs.Words.{letter};
 ghost use Rattle.plan_print.specs.Drawing.{cell_length, cell_width, columns_of, rows_of, covers, ship_over, mark_of, cell_at, row_line, drawing};
 
-use crate::no_memory::NoMemory;
-use crate::text::{letter, put};
+use crate::text::letter;
 use lock_model::{Deck, Size, Spot, Spots};
+use plain_text::{NoMemory, put};
 
 /// The most cells of a row.
 const MOST_COLUMNS: usize = 200;

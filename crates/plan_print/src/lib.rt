@@ -12,13 +12,12 @@
 
 mod drawing;
 mod lockage;
-mod no_memory;
 mod order;
 mod report;
 mod text;
 mod verdict;
 
-pub use no_memory::NoMemory;
+pub use plain_text::NoMemory;
 pub use report::{print_lockages, print_report, print_verdict_line};
 
 #[cfg(test)]

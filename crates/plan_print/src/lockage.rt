@@ -8,10 +8,10 @@ ghost use Rattle.plan_print.specs.Words.{moor_words};
 ghost use Rattle.plan_print.specs.Report.{lockage_line, ship_line, ship_lines, lockage_text};
 
 use crate::drawing::put_drawing;
-use crate::no_memory::NoMemory;
-use crate::text::{letter, put, put_number, rank_word, way_word};
+use crate::text::{letter, rank_word, way_word};
 use chamber_times::lockage_end;
 use lock_model::{Instance, Lockage, Moor, Ship, Spot, deck_of};
+use plain_text::{NoMemory, put, put_number};
 
 /// Appends what a ship is moored to.
 fn put_moor(out: &mut Vec<u8>, moor: Moor) -> Result<(), NoMemory>

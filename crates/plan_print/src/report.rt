@@ -6,11 +6,10 @@ ghost use Rattle.plan_print.specs.Drawing.{IsDrawnAlone};
 ghost use Rattle.plan_print.specs.Report.{IsOfInstance, verdict_line, lockages_text, report};
 
 use crate::lockage::put_lockage;
-use crate::no_memory::NoMemory;
 use crate::order::order_of;
-use crate::text::put;
 use crate::verdict::put_verdict_line;
 use lock_model::{Instance, Plan, Verdict};
+use plain_text::{NoMemory, put};
 use std::alloc::Global;
 
 /// Appends what follows the first line of a report.

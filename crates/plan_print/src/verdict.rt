@@ -6,10 +6,9 @@ ghost use Rattle.lock_model.specs.declared.verdict.Verdict.TheVariants.{OpenTurn
 ghost use Rattle.lock_rules.specs.Plan.{IsLegal};
 ghost use Rattle.plan_print.specs.Report.{IsOfInstance, verdict_text, verdict_line};
 
-use crate::no_memory::NoMemory;
-use crate::text::{put, put_number};
 use chamber_times::cost;
 use lock_model::{Instance, Plan, Ships, Verdict};
+use plain_text::{NoMemory, put, put_number};
 
 /// Appends the names of ships, each after a space.
 fn put_names(out: &mut Vec<u8>, instance: &Instance, ships: &Ships) -> Result<(), NoMemory>

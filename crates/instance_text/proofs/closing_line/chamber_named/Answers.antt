@@ -1,11 +1,8 @@
 use Rattle.std.proofs.Common.{◌≡◌, get_or, sym, ap, ◌∙◌}
 use Rattle.std.proofs.lemmas.List.{get_or_read}
 use Rattle.std.specs.Str.{bytes_eq}
-use Rattle.std.proofs.lemmas.Bool.Decides.{nat_tests}
-use Rattle.std.proofs.lemmas.List.Sums.{position_or_len_is}
 use Rattle.lock_model.specs.Fleet.{no_chamber}
 use Rattle.lock_model.specs.declared.chamber.Chamber.{Chamber}
-use Rattle.instance_text.specs.Closing.{chamber_named}
 use Rattle.instance_text.proofs.ClosingLemmas.{named_at, named_nowhere}
 use Rattle.instance_text.proofs.closing_line.chamber_named.Goals as goal
 

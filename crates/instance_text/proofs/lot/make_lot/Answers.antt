@@ -1,4 +1,3 @@
-use Rattle.std.proofs.Common.{sym, subst}
 use Rattle.instance_text.proofs.LotLemmas.{lot_limits, limits_of}
 use Rattle.instance_text.proofs.lot.make_lot.Goals as goal
 

@@ -1,4 +1,4 @@
-use Rattle.std.proofs.Common.{◌∙◌, sym, arith}
+use Rattle.std.proofs.Common.{◌∙◌, sym}
 use Rattle.instance_text.specs.Parts.{separates}
 use Rattle.instance_text.proofs.SplitLemmas.{split_found, before_more, split_one}
 use Rattle.instance_text.proofs.parts.first.Goals as goal

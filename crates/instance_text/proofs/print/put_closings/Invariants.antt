@@ -1,6 +1,6 @@
-use Rattle.std.proofs.Common.{◌≡◌, ◌++◌, map, take}
+use Rattle.std.proofs.Common.{◌≡◌, ◌++◌, take}
 use Rattle.std.specs.List.{flat_map}
-use Rattle.instance_text.specs.Canonical.{line, chamber_words, closing_words, closings, ship_words}
+use Rattle.instance_text.specs.Canonical.{line, closings}
 use Rattle.instance_text.proofs.print.put_closings.Given as goal
 
 abbrev pub invariant-loop-chamber : goal.invariant-loop-chamber

@@ -2,7 +2,6 @@ use Rattle.std.proofs.Common.{◌==◌, decimal}
 use Rattle.std.proofs.lemmas.Result.{IfOk-equal}
 use Rattle.instance_text.specs.Canonical.{ship_words, way_word}
 use Rattle.instance_text.proofs.PrintLemmas.{ship_line}
-
 use Rattle.instance_text.proofs.print.put_ship.Goals as goal
 
 pub returns : goal.returns

@@ -1,7 +1,6 @@
-use Rattle.std.proofs.Common.{◌≡◌, ◌+◌, length, min, sym, ap, ◌∙◌, arith}
+use Rattle.std.proofs.Common.{length, min, sym, ap, ◌∙◌, arith}
 use Rattle.instance_text.specs.Lines.{lines}
 use Rattle.instance_text.specs.Parts.{parts_left, room_left}
-use Rattle.instance_text.specs.Reading.{length_of_part}
 use Rattle.instance_text.proofs.PartLemmas.{begun, ended, goes_on, whole}
 use Rattle.instance_text.proofs.read.length_of_part.Goals as goal
 

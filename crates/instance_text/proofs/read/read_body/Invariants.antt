@@ -1,9 +1,9 @@
 use Rattle.std.proofs.Common.{◌≡◌, map}
-use Rattle.instance_text.specs.Draft.{Draft, no_draft}
+use Rattle.instance_text.specs.Draft.{no_draft}
 use Rattle.instance_text.specs.Left.{lines_left}
 use Rattle.instance_text.specs.Lines.{words}
 use Rattle.instance_text.specs.Parts.{room_left}
-use Rattle.instance_text.specs.Reading.{read_lines, read_body, read_rest}
+use Rattle.instance_text.specs.Reading.{read_body}
 use Rattle.instance_text.proofs.read.read_body.Given as goal
 
 abbrev pub invariant-loop-line : goal.invariant-loop-line

@@ -1,4 +1,4 @@
-use Rattle.std.proofs.Common.{sym, ap, ◌∙◌}
+use Rattle.std.proofs.Common.{ap, ◌∙◌}
 use Rattle.instance_text.specs.Lines.{words}
 use Rattle.instance_text.specs.Texts.{texts}
 use Rattle.instance_text.proofs.EnoughLemmas.{line_enough, line_enough_bad}

@@ -1,6 +1,4 @@
-use Rattle.std.proofs.Common.{subst}
-use Rattle.std.proofs.lemmas.Str.{is_utf8-from_IsUtf8, IsUtf8-from_is_utf8}
-use Rattle.std.specs.Str.{is_utf8}
+use Rattle.std.proofs.lemmas.Str.{is_utf8-from_IsUtf8}
 use Rattle.instance_text.proofs.Utf8Lemmas.{not_utf8}
 use Rattle.instance_text.proofs.utf8.check_utf8.Goals as goal
 

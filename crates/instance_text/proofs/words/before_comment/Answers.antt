@@ -1,6 +1,3 @@
-use Rattle.std.proofs.Common.{take, sym, ap, refl, ◌∙◌, arith, eq-eqb}
-use Rattle.std.proofs.lemmas.List.{take_all}
-use Rattle.instance_text.specs.Lines.{is_hash}
 use Rattle.instance_text.proofs.WordLemmas.{before_hash, before_end}
 use Rattle.instance_text.proofs.words.before_comment.Goals as goal
 

@@ -1,4 +1,4 @@
-use Rattle.std.proofs.Common.{◌≡◌, [], ◌∷◌, ◌++◌, ℕ, List, map, filter, length, sym, ap, subst, ◌∙◌, arith, rules}
+use Rattle.std.proofs.Common.{[], ◌∷◌, map, filter, ap, ◌∙◌, arith}
 use Rattle.std.proofs.lemmas.List.{length-map, map_push}
 use Rattle.std.proofs.lemmas.Bool.Decides.{nat_tests}
 use Rattle.instance_text.specs.Lines.{is_word}

@@ -1,15 +1,16 @@
-use Rattle.std.proofs.Common.{◌≡◌, ◌++◌, [], ◌∷◌, List, ℕ, map, take, filter, length, sym, ap, subst, ◌∙◌, arith, rules}
-use Rattle.std.proofs.lemmas.List.{append-nil, take_all, length-map}
+use Rattle.std.proofs.Common.{◌++◌, map, take, filter, sym, ap, ◌∙◌}
+use Rattle.std.proofs.lemmas.List.{length-map}
 use Rattle.instance_text.specs.Lines.{is_word, words}
 use Rattle.instance_text.specs.Parts.{parts_left}
 use Rattle.instance_text.proofs.WordLemmas.{more_words, all_words}
 use Rattle.instance_text.proofs.words.words_of.Goals as goal
 
 pub loop-piece-preserved : goal.loop-piece-preserved
-loop-piece-preserved c =
-    (c.push_word.ensures.fits,
-    more_words 13 (map (λ w. w.now) c.loop-piece.found.items) (map (λ w. w.now) c.push_word.new.words.items) c.in-Some.piece.now (parts_left c.next.new.self.left c.next.new.self.separator) (take 13 (words c.args.line.now)) c.push_word.ensures.value
-    (ap (λ parts. take 13 (map (λ w. w.now) c.loop-piece.found.items ++ filter is_word parts)) (sym c.in-Some.ensures.some) ∙ c.loop-piece.invariant.1))
+loop-piece-preserved c = (
+  c.push_word.ensures.fits,
+  more_words 13 (map (λ w. w.now) c.loop-piece.found.items) (map (λ w. w.now) c.push_word.new.words.items) c.in-Some.piece.now (parts_left c.next.new.self.left c.next.new.self.separator) (take 13 (words c.args.line.now)) c.push_word.ensures.value
+      (ap (λ parts. take 13 (map (λ w. w.now) c.loop-piece.found.items ++ filter is_word parts)) (sym c.in-Some.ensures.some) ∙ c.loop-piece.invariant.1),
+)
 
 pub returns : goal.returns
 returns c =
