@@ -1,1 +1,6 @@
 pub mod PassageLemmas
+pub mod WalkLemmas
+pub mod NodeLemmas
+pub mod WholeLemmas
+pub mod PlacesLemmas
+pub mod ProbeLemmas

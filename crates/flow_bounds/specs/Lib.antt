@@ -1,1 +1,5 @@
 pub mod Least
+pub mod Walk
+pub mod Whole
+pub mod Places
+pub mod Missing

@@ -1,13 +1,29 @@
 //! Lower bounds on the cost of plans.
 //!
-//! `least_passage` is the least that a ship can take, served first and alone, and
-//! `least_passages` adds it over all ships: no legal plan costs less. No call takes memory.
+//! Every legal plan under a node costs at least `bound` of the node and at least `probe` of it and
+//! a ship that it lacks (`is_missing`), and every legal plan at least `throughput`. At a node that
+//! holds all ships `bound` is the cost of its earliest plan. `child_bounds` gives the bounds of all
+//! children of a node at once. `least_passage` is the least that a ship can take, served first and
+//! alone, and `least_passages` adds it over all ships. No call takes memory.
 //!
-//! Definitions: `lock_rules` says what a least passage is (`specs/Bound`).
+//! Definitions: `lock_rules` says what these numbers are and what a lower bound is (`specs/Bound`,
+//! `Throughput`). Here `specs/Walk` walks along a line, `Places` has the minutes of the
+//! throughput, `Whole` the earliest plan of a node, `Missing` a ship that a node lacks.
 #![tactic(auto)]
 
+mod capacity;
+mod joining;
+mod least;
+mod line_walks;
+mod node_bound;
 mod passage;
+mod places;
+mod probing;
 #[cfg(test)]
 mod tests;
+mod walk;
 
+pub use capacity::throughput;
+pub use node_bound::bound;
 pub use passage::{least_passage, least_passages};
+pub use probing::{Bounds, child_bounds, is_missing, probe};

@@ -1,6 +1,6 @@
 //! What each ship takes at the least.
 ghost use Rattle.std.specs.Prelude.{◌≡◌, ◌+◌, ◌<◌, ◌≤◌, ◌∷◌, ℕ, List, length, sum_by, IfSome};
-ghost use Rattle.lock_rules.specs.Arrival.{order_of};
+ghost use Rattle.lock_rules.specs.Arrival.{order_of, missing_ships};
 ghost use Rattle.lock_rules.specs.Bound.{fits_alone, passage_on, least_passage};
 ghost use Rattle.lock_rules.specs.Plan.{IsLegal, cost_of};
 ghost use Rattle.lock_rules.specs.Children.{single};
@@ -8,12 +8,13 @@ ghost use Rattle.lock_model.specs.Fleet.{ship_at};
 ghost use Rattle.flow_bounds.specs.Least.{first_end, passages_from, least_told};
 ghost use Rattle.lock_model.specs.declared.plan.Plan.{Plan as AnyPlan};
 
+use crate::least::less;
 use chamber_times::group_times;
 use lock_model::{Group, Instance, Ships, fits_alone};
 use master_branch::arrival_order;
 
 // The ship as a group of its own.
-fn alone(instance: &Instance, ship: u8) -> Group
+pub(crate) fn alone(instance: &Instance, ship: u8) -> Group
     requires { ship < length instance.now.ships }
     ensures { result ≡ single (ship_at instance.now ship).way ship }
 {
@@ -62,17 +63,6 @@ fn fits(instance: &Instance, ship: u8, chamber: u8) -> bool
     )
 }
 
-// The less of a number and what is told.
-fn less(own: u64, told: Option<u64>) -> Option<u64>
-    ensures value { (ns : List ℕ) → told ≡ least_told ns → result ≡ least_told (own ∷ ns) }
-    ensures own { IfSome result (λ least. least ≤ own) }
-{
-    match told {
-        Some(other) => Some(own.min(other)),
-        None => Some(own),
-    }
-}
-
 // What is told of the chambers from this one on, by what is told of those after it.
 fn told_from(instance: &Instance, ship: u8, chamber: u8, told: Option<u64>) -> Option<u64>
     requires ship_in { ship < length instance.now.ships }
@@ -105,16 +95,26 @@ pub fn least_passage(instance: &Instance, ship: u8) -> u64
     told.unwrap_or(0)
 }
 
+// The least passages of the ships that a node of this depth lacks, added.
+pub(crate) fn passages_from(instance: &Instance, depth: u8) -> u64
+    requires { depth ≤ length instance.now.ships }
+    ensures value { result ≡ sum_by (least_passage instance.now) (missing_ships instance.now depth) }
+    ensures small { result ≤ 312000000 }
+{
+    let order = arrival_order(instance);
+    let missing = &order.as_slice()[depth as usize..];
+    let mut sum = 0;
+    for &ship in missing {
+        sum += least_passage(instance, ship);
+    }
+    sum
+}
+
 /// The least passages of all ships, added: no legal plan costs less. It is the bound of the node
 /// that holds no ship.
 pub fn least_passages(instance: &Instance) -> u64
     ensures value { result ≡ sum_by (least_passage instance.now) (order_of instance.now) }
     ensures bound { (P : AnyPlan) → IsLegal instance.now P → result ≤ cost_of instance.now P }
 {
-    let order = arrival_order(instance);
-    let mut sum = 0;
-    for &ship in order.as_slice() {
-        sum += least_passage(instance, ship);
-    }
-    sum
+    passages_from(instance, 0)
 }

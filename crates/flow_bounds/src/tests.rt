@@ -1,5 +1,7 @@
 //! Worked bounds.
 
+mod rows;
+
 use super::*;
 use lock_model::{
     Chamber, Chambers, Closure, Closures, Instance, Name, Ship, ShipList, Stand, Way,

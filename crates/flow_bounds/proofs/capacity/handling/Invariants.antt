@@ -1,0 +1,5 @@
+use Rattle.std.proofs.Common.{◌≡◌, ◌≤◌, ◌*◌, take, sum_by}
+use Rattle.flow_bounds.proofs.capacity.handling.Given as goal
+
+abbrev pub invariant-loop-ship : goal.invariant-loop-ship
+invariant-loop-ship l = (l.sum ≡ sum_by (λ s. s.handling) (take l.ship-index l.ship-items)) × (l.sum ≤ 1000000 * l.ship-index)

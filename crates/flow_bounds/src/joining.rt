@@ -1,0 +1,52 @@
+//! Groups with one ship more.
+ghost use Rattle.std.specs.Prelude.{◌≡◌, ◌<◌, ◌≤◌, length, slice_index, insert};
+ghost use Rattle.lock_rules.specs.Plan.{times_in};
+ghost use Rattle.lock_rules.specs.Children.{insert_number, with_ship};
+
+use lock_model::{Group, Ships};
+
+// The place of a ship among rising numbers: before the first that is greater.
+fn place_among(ships: &[u8], ship: u8) -> usize
+    ensures within { result ≤ length ships.now }
+    ensures value { insert ships.now result ship ≡ insert_number ship ships.now }
+{
+    for (place, &other) in ships.iter().enumerate() {
+        if ship < other {
+            return place;
+        }
+    }
+    ships.len()
+}
+
+// Number `i` of the ships once another ship has been put at a place.
+fn ship_after(ships: &[u8], place: usize, ship: u8, i: usize) -> u8
+    requires place { place ≤ length ships.now }
+    requires within { i ≤ length ships.now }
+    ensures { result ≡ slice_index (insert ships.now place ship) i }
+{
+    if i < place {
+        ships[i]
+    } else if i == place {
+        ship
+    } else {
+        ships[i - 1]
+    }
+}
+
+// The group with a ship more, its ships in rising number.
+pub(crate) fn with_ship(group: &Group, ship: u8) -> Group
+    requires room { length group.now.ships < 8 }
+    requires absent { times_in group.now.ships ship ≡ 0 }
+    ensures { result ≡ with_ship ship group.now }
+{
+    let old = group.ships.as_slice();
+    let place = place_among(old, ship);
+    let mut ships = Ships::new();
+    for i in 0..old.len() + 1 {
+        ships.push(ship_after(old, place, ship, i));
+    }
+    Group {
+        way: group.way,
+        ships,
+    }
+}

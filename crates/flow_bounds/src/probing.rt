@@ -1,0 +1,247 @@
+//! What a node's ships take once one more ship has entered it.
+ghost use Rattle.std.specs.Prelude.{◌≡◌, ◌+◌, ◌<◌, ◌≤◌, ◌∷◌, ◌++◌, [], length, map, All, slice_set, insert};
+ghost use Rattle.std.specs.Bool.{OnTrue, OnFalse};
+ghost use Rattle.lock_model.specs.Fleet.{ship_at};
+ghost use Rattle.lock_rules.specs.Plan.{times_in};
+ghost use Rattle.lock_rules.specs.Arrival.{next_ship};
+ghost use Rattle.lock_rules.specs.Node.{line_at, times_held};
+ghost use Rattle.lock_rules.specs.Children.{with_ship, single, children_by};
+ghost use Rattle.lock_rules.specs.Bound.{line_flow, node_flow, bound_of, probe_of, least_number, IsLowerBound};
+ghost use Rattle.master_branch.specs.Node.{IsNodeOf, children};
+ghost use Rattle.master_branch.specs.Steps.{group_at, lines_after, IsStep};
+ghost use Rattle.flow_bounds.specs.Missing.{IsMissing};
+ghost use Rattle.flow_bounds.specs.Walk.{AreWalks, AreAllWalks};
+
+use crate::joining::with_ship;
+use crate::least::least_number;
+use crate::line_walks::{LineWalks, finish, line_walks};
+use crate::node_bound::node_flow;
+use crate::passage::{alone, least_passage, passages_from};
+use crate::walk::{Walk, serve};
+use arrayvec::ArrayVec;
+use lock_model::{Group, Instance};
+use master_branch::{Node, Step, arrival_order, next_ship, steps_by};
+use std::marker::Model;
+
+/// Up to 50 bounds: as many as a node of an instance can have children.
+#[derive(Debug, PartialEq, Eq, Drop)]
+pub struct Bounds {
+    items: ArrayVec<u64, 50>,
+}
+
+impl Model for Bounds {
+    ghost use Rattle.std.specs.Prelude.{ℕ, List};
+
+    ghost Value = { List ℕ };
+
+    ghost view = { λ a. a.items.items };
+
+    ghost inverse = { λ xs. record { items = record { items = xs } } };
+}
+
+impl Bounds {
+    // No bounds.
+    fn new() -> Bounds
+        ensures { result ≡ [] }
+    {
+        Bounds {
+            items: ArrayVec::new(),
+        }
+    }
+
+    /// The bounds in the order of the children.
+    pub fn as_slice(&self) -> &[u64]
+        ensures value { result.now ≡ self.now }
+        ensures fits { length result.now ≤ 50 }
+    {
+        self.items.as_slice()
+    }
+
+    // Appends a bound.
+    fn push(&mut self, bound: u64)
+        requires { length self.old < 50 }
+        ensures { self.new ≡ self.old ++ bound ∷ [] }
+    {
+        self.items.push(bound);
+    }
+}
+
+// The walks along the lines of a node.
+fn all_walks(instance: &Instance, node: &Node) -> ArrayVec<LineWalks, 4>
+    requires { IsNodeOf instance.now node.now }
+    ensures { AreAllWalks instance.now node.now.lines result.items }
+{
+    let mut all = ArrayVec::new();
+    for chamber in 0..instance.chambers.as_slice().len() as u8 {
+        all.push(line_walks(instance, chamber, node.line(chamber).as_slice()));
+    }
+    all
+}
+
+// The flow times of a line in which a ship has joined the group at this place.
+fn join_flow(
+    instance: &Instance,
+    chamber: u8,
+    line: &[Group],
+    walks: &[Walk],
+    ship: u8,
+    place: u8,
+) -> u64
+    requires ship_in { ship < length instance.now.ships }
+    requires chamber_in { chamber < length instance.now.chambers }
+    requires ships_in { All (λ g. All (λ s. s < length instance.now.ships) g.ships) line.now }
+    requires few { length line.now ≤ 24 }
+    requires walks { AreWalks instance.now chamber line.now walks.now }
+    requires place { place < length line.now }
+    requires room { length (group_at line.now place).ships < 8 }
+    requires absent { times_in (group_at line.now place).ships ship ≡ 0 }
+    ensures value { result ≡ line_flow instance.now chamber (slice_set line.now place (with_ship ship (group_at line.now place))) }
+    ensures small { result ≤ 160000000000 }
+{
+    let place = place as usize;
+    let group = with_ship(&line[place], ship);
+    let walk = serve(instance, chamber, walks[place], &group);
+    finish(instance, chamber, line, walks, place + 1, walk)
+}
+
+// The flow times of a line in which a ship stands alone in a new group at this place.
+fn open_flow(
+    instance: &Instance,
+    chamber: u8,
+    line: &[Group],
+    walks: &[Walk],
+    ship: u8,
+    place: u8,
+) -> u64
+    requires ship_in { ship < length instance.now.ships }
+    requires chamber_in { chamber < length instance.now.chambers }
+    requires ships_in { All (λ g. All (λ s. s < length instance.now.ships) g.ships) line.now }
+    requires few { length line.now ≤ 24 }
+    requires walks { AreWalks instance.now chamber line.now walks.now }
+    requires place { place ≤ length line.now }
+    ensures value { result ≡ line_flow instance.now chamber (insert line.now place (single (ship_at instance.now ship).way ship)) }
+    ensures small { result ≤ 160000000000 }
+{
+    let place = place as usize;
+    let group = alone(instance, ship);
+    let walk = serve(instance, chamber, walks[place], &group);
+    finish(instance, chamber, line, walks, place, walk)
+}
+
+// The flow times of a node's ships in the other chambers' lines; `total` are those in all lines.
+fn other_flows(
+    instance: &Instance,
+    node: &Node,
+    walks: &[LineWalks],
+    total: u64,
+    chamber: u8,
+) -> u64
+    requires chamber_in { chamber < length instance.now.chambers }
+    requires walks { AreAllWalks instance.now node.now.lines walks.now }
+    requires total { total ≡ node_flow instance.now node.now.lines }
+    ensures { result + line_flow instance.now chamber (line_at node.now.lines chamber) ≡ total }
+{
+    let _ = instance;
+    let groups = node.line(chamber).as_slice().len();
+    total - walks[chamber as usize].as_slice()[groups].flow
+}
+
+// The flow times of a node's ships once a ship that it lacks has entered it by a step; `total` are
+// those of the node.
+fn flow_after(
+    instance: &Instance,
+    node: &Node,
+    walks: &[LineWalks],
+    total: u64,
+    ship: u8,
+    step: Step,
+) -> u64
+    requires node { IsNodeOf instance.now node.now }
+    requires ship_in { ship < length instance.now.ships }
+    requires absent { times_held ship node.now.lines ≡ 0 }
+    requires step { IsStep instance.now ship node.now.lines step }
+    requires walks { AreAllWalks instance.now node.now.lines walks.now }
+    requires total { total ≡ node_flow instance.now node.now.lines }
+    requires total_small { total ≤ 240000000000 }
+    ensures value { result ≡ node_flow instance.now (lines_after instance.now ship node.now.lines step) }
+    ensures small { result ≤ 400000000000 }
+{
+    match step {
+        Step::Join { chamber, place } => {
+            let line = node.line(chamber).as_slice();
+            let own = walks[chamber as usize].as_slice();
+            other_flows(instance, node, walks, total, chamber)
+                + join_flow(instance, chamber, line, own, ship, place)
+        }
+        Step::Open { chamber, place } => {
+            let line = node.line(chamber).as_slice();
+            let own = walks[chamber as usize].as_slice();
+            other_flows(instance, node, walks, total, chamber)
+                + open_flow(instance, chamber, line, own, ship, place)
+        }
+    }
+}
+
+// For each way in which a ship that a node lacks may enter it, the flow times of the node's ships
+// and the ship, and `rest`, added.
+fn bounds_by(instance: &Instance, node: &Node, ship: u8, rest: u64) -> Bounds
+    requires node { IsNodeOf instance.now node.now }
+    requires ship_in { ship < length instance.now.ships }
+    requires absent { times_held ship node.now.lines ≡ 0 }
+    requires rest { rest ≤ 312000000 }
+    ensures value { result ≡ map (λ lines. node_flow instance.now lines + rest) (children_by instance.now ship node.now.lines) }
+    ensures small { All (λ b. b ≤ 500000000000) result }
+{
+    let walks = all_walks(instance, node);
+    let total = node_flow(instance, node);
+    let mut bounds = Bounds::new();
+    let steps = steps_by(instance, node, ship);
+    for &step in steps.as_slice() {
+        bounds.push(rest + flow_after(instance, node, walks.as_slice(), total, ship, step));
+    }
+    bounds
+}
+
+/// The bounds of all children of a node that lacks a ship, in the order of the children. Takes no
+/// memory.
+pub fn child_bounds(instance: &Instance, node: &Node) -> Bounds
+    requires node { IsNodeOf instance.now node.now }
+    requires lacks { node.now.depth < length instance.now.ships }
+    ensures value { result ≡ map (bound_of instance.now (node.now.depth + 1)) (children instance.now node.now) }
+    ensures small { All (λ b. b ≤ 500000000000) result }
+{
+    let ship = next_ship(instance, node.depth());
+    let rest = passages_from(instance, node.depth() + 1);
+    bounds_by(instance, node, ship, rest)
+}
+
+/// Whether the node lacks this ship of the instance, so that it may be probed. Takes no memory.
+pub fn is_missing(instance: &Instance, node: &Node, ship: u8) -> bool
+    requires { IsNodeOf instance.now node.now }
+    ensures missing { OnTrue result (IsMissing instance.now node.now.lines ship) }
+    ensures other { OnFalse result (¬ IsMissing instance.now node.now.lines ship) }
+{
+    let order = arrival_order(instance);
+    let missing = &order.as_slice()[node.depth() as usize..];
+    for &other in missing {
+        if other == ship {
+            return true;
+        }
+    }
+    false
+}
+
+/// The probe of a ship that the node lacks: the least flow times, over all ways to put the ship
+/// alone into the node's lines, of the node's ships and the ship in the earliest timetables, and
+/// the least passages of the other missing ships, in minutes, added. Every legal plan under the
+/// node costs at least this. Takes no memory.
+pub fn probe(instance: &Instance, node: &Node, ship: u8) -> u64
+    requires node { IsNodeOf instance.now node.now }
+    requires missing { IsMissing instance.now node.now.lines ship }
+    ensures value { result ≡ probe_of instance.now node.now.depth node.now.lines ship }
+    ensures holds { IsLowerBound instance.now node.now.depth node.now.lines result }
+{
+    let flows = bounds_by(instance, node, ship, 0);
+    let others = passages_from(instance, node.depth()) - least_passage(instance, ship);
+    least_number(flows.as_slice()) + others
+}

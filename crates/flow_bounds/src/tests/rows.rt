@@ -1,0 +1,164 @@
+//! Worked bounds, throughputs and probes of two ships.
+ghost use Rattle.std.specs.Prelude.{◌≡◌, IfSome};
+ghost use Rattle.master_branch.specs.Node.{IsNodeOf};
+
+use super::named;
+use crate::{bound, child_bounds, is_missing, probe, throughput};
+use lock_model::{Chamber, Chambers, Closures, Instance, Name, Ship, ShipList, Stand, Way};
+use master_branch::{Node, child, child_count, root};
+use std::test::Fail;
+
+// What differs from one lock of two equal ships to the next.
+#[derive(Clone, Copy)]
+struct Lock {
+    most: u8,
+    turn: u32,
+    handling: u32,
+    second: Way,
+}
+
+const UP: Lock = Lock {
+    most: 4,
+    turn: 15,
+    handling: 5,
+    second: Way::Up,
+};
+
+const UP_AND_DOWN: Lock = Lock {
+    most: 1,
+    turn: 0,
+    handling: 0,
+    second: Way::Down,
+};
+
+fn ship(letter: u8, way: Way, handling: u32) -> Ship {
+    Ship {
+        name: named(letter),
+        way,
+        length: 1100,
+        width: 114,
+        arrival: 0,
+        handling,
+        cargo: 0,
+    }
+}
+
+// A chamber that stands low and passes in 30 minutes, and two ships that arrive at minute 0.
+fn instance(lock: Lock) -> Option<Instance> {
+    let mut chambers = Chambers::new();
+    chambers.push(Chamber {
+        name: named(b'c'),
+        length: 2000,
+        width: 240,
+        end: 10,
+        gap: 20,
+        side: 5,
+        most: lock.most,
+        pass: 30,
+        turn: lock.turn,
+        stands: Stand::Low,
+        opens: 0,
+        closures: Closures::new(),
+    });
+    let mut ships = ShipList::new();
+    ships.push(ship(b's', Way::Up, lock.handling));
+    ships.push(ship(b't', lock.second, lock.handling));
+    Instance::new(chambers, ships)
+}
+
+// Child number `i` of a node, if it has so many.
+fn child_at(instance: &Instance, node: &Node, i: u32) -> Option<Node>
+    requires { IsNodeOf instance.now node.now }
+    ensures { IfSome result (λ child. IsNodeOf instance.now child) }
+{
+    if node.depth() as usize >= instance.ships.as_slice().len() {
+        return None;
+    }
+    if i >= child_count(instance, node) {
+        return None;
+    }
+    Some(child(instance, node, i))
+}
+
+// The node at the end of a path of children from the root.
+fn node_at(instance: &Instance, path: &[u32]) -> Option<Node>
+    ensures { IfSome result (λ node. IsNodeOf instance.now node) }
+{
+    let mut node = root(instance);
+    for &i in path {
+        node = child_at(instance, &node, i)?;
+    }
+    Some(node)
+}
+
+// The probe of a ship, if the node lacks it.
+fn probe_at(instance: &Instance, node: &Node, ship: u8) -> Option<u64>
+    requires { IsNodeOf instance.now node.now }
+{
+    if is_missing(instance, node, ship) {
+        Some(probe(instance, node, ship))
+    } else {
+        None
+    }
+}
+
+// The bounds of a node's children, if it lacks a ship.
+fn bound_of_child(instance: &Instance, node: &Node, i: usize) -> Option<u64>
+    requires { IsNodeOf instance.now node.now }
+{
+    if node.depth() as usize >= instance.ships.as_slice().len() {
+        return None;
+    }
+    child_bounds(instance, node).as_slice().get(i).copied()
+}
+
+// The bound of the node at the end of a path, and the probes of both ships there.
+type Bounded = (Lock, &'static [u32], u64, Option<u64>, Option<u64>);
+
+// Children of the first ship's node: together, the second ship first, the second ship second.
+const BOUNDED: [Bounded; 6] = [
+    (UP, &[], 70, Some(70), Some(70)),
+    (UP, &[0], 70, None, Some(80)),
+    (UP, &[0, 0], 80, None, None),
+    (UP, &[0, 1], 120, None, None),
+    (UP, &[0, 2], 120, None, None),
+    (UP_AND_DOWN, &[], 60, Some(60), Some(60)),
+];
+
+#[test]
+fn bounds_and_probes_count_what_is_certain(rt: HostRuntime) -> Result<(), Fail> {
+    for (lock, path, least, first, second) in BOUNDED {
+        let instance = instance(lock).ok_or("no instance")?;
+        let node = node_at(&instance, path).ok_or("no node")?;
+        assert_eq!(rt; bound(&instance, &node), least);
+        assert_eq!(rt; probe_at(&instance, &node, 0), first);
+        assert_eq!(rt; probe_at(&instance, &node, 1), second);
+        assert_eq!(rt; probe_at(&instance, &node, 2), None);
+    }
+    Ok(())
+}
+
+#[test]
+fn all_children_are_bounded_at_once(rt: HostRuntime) -> Result<(), Fail> {
+    let instance = instance(UP).ok_or("no instance")?;
+    let node = node_at(&instance, &[0]).ok_or("no node")?;
+    for (i, want) in [Some(80), Some(120), Some(120), None].iter().enumerate() {
+        assert_eq!(rt; bound_of_child(&instance, &node, i), *want);
+    }
+    Ok(())
+}
+
+#[test]
+fn a_throughput_counts_passages(rt: HostRuntime) -> Result<(), Fail> {
+    for (most, turn, handling, minutes) in [(1, 0, 0, 90), (2, 0, 0, 60), (4, 15, 5, 70)] {
+        let lock = Lock {
+            most,
+            turn,
+            handling,
+            ..UP_AND_DOWN
+        };
+        let instance = instance(lock).ok_or("no instance")?;
+        assert_eq!(rt; throughput(&instance), minutes);
+    }
+    Ok(())
+}
