@@ -1,0 +1,15 @@
+pub mod HostLemmas
+pub mod PlacementLemmas
+pub mod WidenLemmas
+pub mod ThinLemmas
+pub mod HeredityLemmas
+pub mod CodeLemmas
+pub mod NormalLemmas
+pub mod SlackLemmas
+pub mod RoundLemmas
+pub mod MemberLemmas
+pub mod CollectLemmas
+pub mod LeastLemmas
+pub mod ReachLemmas
+pub mod ValueLemmas
+pub mod LawRows

@@ -1,0 +1,3 @@
+pub mod PlacementLemmas
+pub mod ServiceLemmas
+pub mod PlanLemmas

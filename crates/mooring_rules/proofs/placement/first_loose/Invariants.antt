@@ -1,0 +1,6 @@
+use Rattle.std.proofs.Common.{ℕ, ◌<◌}
+use Rattle.lock_model.specs.Placement.{IsBerthed}
+use Rattle.mooring_rules.proofs.placement.first_loose.Given as goal
+
+abbrev pub invariant-loop-i : goal.invariant-loop-i
+invariant-loop-i l = (k : ℕ) → k < l.i → IsBerthed l.deck l.spots k

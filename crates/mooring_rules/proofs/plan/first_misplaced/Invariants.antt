@@ -1,0 +1,7 @@
+use Rattle.std.proofs.Common.{ℕ, ◌<◌}
+use Rattle.chamber_times.specs.Walk.{lockage_at}
+use Rattle.mooring_rules.specs.PlanBreaks.{IsPlaced}
+use Rattle.mooring_rules.proofs.plan.first_misplaced.Given as goal
+
+abbrev pub invariant-loop-p : goal.invariant-loop-p
+invariant-loop-p l = (k : ℕ) → k < l.p → IsPlaced l.instance (lockage_at l.plan k)

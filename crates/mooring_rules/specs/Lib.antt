@@ -1,0 +1,3 @@
+pub mod PlacementBreaks
+pub mod CargoBreaks
+pub mod PlanBreaks

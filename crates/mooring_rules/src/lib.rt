@@ -1,0 +1,24 @@
+//! The judges of placements and of plans.
+//!
+//! `judge_spots` names the first break of a placement of a deck, and answers None exactly where
+//! the placement is legal. `judge_plan` does the like for a plan of an instance. Neither takes
+//! memory.
+//!
+//! Definitions: `lock_model` says which placements are legal (`specs/Placement`) and which ships
+//! clash (`Cargo`), `lock_rules` which plans are legal (`specs/Plan`). Here
+//! `specs/PlacementBreaks`, `CargoBreaks` and `PlanBreaks` say which break is the first.
+#![tactic(auto)]
+
+mod berth;
+mod breaks;
+mod cargo;
+mod placement;
+mod plan;
+mod service;
+mod shape;
+#[cfg(test)]
+mod tests;
+
+pub use breaks::{Broken, BrokenPlan};
+pub use placement::judge_spots;
+pub use plan::judge_plan;

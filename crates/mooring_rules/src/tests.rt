@@ -1,0 +1,317 @@
+//! Worked breaks of placements and plans.
+ghost use Rattle.std.specs.Prelude.{◌≡◌, length};
+
+mod fixture;
+
+use super::*;
+use chamber_times::BrokenTime;
+use fixture::{LEFT, LOW, Lock, Passage, Place, QUAY, RIGHT, Who, deck, instance, plan, spots};
+use lock_model::{Measures, Moor, Stand, Way};
+use std::test::Fail;
+
+const BASE: Measures = Measures {
+    length: 2000,
+    width: 240,
+    end: 10,
+    gap: 20,
+    side: 5,
+};
+
+/// Ships by length and width, their places, and the first break.
+type Judged = (&'static [(u32, u32)], &'static [Place], Option<Broken>);
+
+const GUEST: &[(u32, u32)] = &[(600, 60), (500, 60)];
+
+const PLACEMENTS: [Judged; 18] = [
+    (
+        &[(500, 60), (600, 60)],
+        &[(10, 0, LEFT, QUAY), (10, 65, LEFT, Moor::Ship(0))],
+        Some(Broken::BadHost(1, 0)),
+    ),
+    (
+        &[(500, 60)],
+        &[(10, 50, LEFT, QUAY)],
+        Some(Broken::Adrift(0)),
+    ),
+    (
+        &[(500, 60)],
+        &[(10, 179, RIGHT, QUAY)],
+        Some(Broken::Adrift(0)),
+    ),
+    (&[(500, 60)], &[(10, 180, RIGHT, QUAY)], None),
+    (
+        &[(500, 60)],
+        &[(9, 0, LEFT, QUAY)],
+        Some(Broken::Outside(0)),
+    ),
+    (&[(500, 60)], &[(1490, 0, LEFT, QUAY)], None),
+    (
+        &[(500, 60)],
+        &[(1491, 0, LEFT, QUAY)],
+        Some(Broken::Outside(0)),
+    ),
+    (
+        &[(500, 60)],
+        &[(10, 0, LEFT, Moor::Ship(0))],
+        Some(Broken::BadHost(0, 0)),
+    ),
+    (
+        &[(500, 60)],
+        &[(10, 0, LEFT, Moor::Ship(1))],
+        Some(Broken::BadHost(0, 1)),
+    ),
+    (
+        GUEST,
+        &[(10, 0, LEFT, QUAY), (110, 65, LEFT, Moor::Ship(0))],
+        None,
+    ),
+    (
+        GUEST,
+        &[(10, 0, LEFT, QUAY), (111, 65, LEFT, Moor::Ship(0))],
+        Some(Broken::BadHost(1, 0)),
+    ),
+    (
+        GUEST,
+        &[(11, 0, LEFT, QUAY), (10, 65, LEFT, Moor::Ship(0))],
+        Some(Broken::BadHost(1, 0)),
+    ),
+    (
+        GUEST,
+        &[(10, 0, LEFT, QUAY), (10, 66, LEFT, Moor::Ship(0))],
+        Some(Broken::BadHost(1, 0)),
+    ),
+    (
+        GUEST,
+        &[(10, 180, RIGHT, QUAY), (10, 115, RIGHT, Moor::Ship(0))],
+        None,
+    ),
+    (
+        GUEST,
+        &[(10, 180, RIGHT, QUAY), (10, 115, LEFT, Moor::Ship(0))],
+        Some(Broken::BadHost(1, 0)),
+    ),
+    (
+        GUEST,
+        &[(10, 0, LEFT, QUAY), (10, 64, LEFT, QUAY)],
+        Some(Broken::Touching(0, 1)),
+    ),
+    (
+        &[(500, 60), (500, 60), (500, 60)],
+        &[
+            (10, 1, LEFT, QUAY),
+            (530, 0, LEFT, QUAY),
+            (1049, 0, LEFT, QUAY),
+        ],
+        Some(Broken::Touching(1, 2)),
+    ),
+    (
+        &[(500, 60), (500, 60), (500, 60)],
+        &[
+            (10, 1, LEFT, QUAY),
+            (529, 0, LEFT, QUAY),
+            (1491, 0, LEFT, QUAY),
+        ],
+        Some(Broken::Outside(2)),
+    ),
+];
+
+#[test]
+fn the_first_break_of_a_placement_is_named(rt: HostRuntime) -> Result<(), Fail> {
+    for (i, (ships, places, want)) in PLACEMENTS.iter().enumerate() {
+        assert!(rt; ships.len() <= 8 && ships.len() == places.len());
+        let deck = deck(BASE, ships).ok_or("over a limit")?;
+        assert_eq!(rt; judge_spots(&deck, &spots(places)), *want, "row {i}");
+    }
+    Ok(())
+}
+
+const FIRST: &[Place] = &[(10, 0, LEFT, QUAY)];
+
+const PAIR: &[Place] = &[(10, 0, LEFT, QUAY), (10, 126, RIGHT, QUAY)];
+
+const CARGO: Lock = Lock {
+    cargo: (1, 2),
+    ..LOW
+};
+
+const LATE: Lock = Lock {
+    second_arrival: 5,
+    ..LOW
+};
+
+/// A lock, the lockages of a plan, and its first break.
+type Planned = (Lock, &'static [Passage], Option<BrokenPlan>);
+
+const PLANS: [Planned; 26] = [
+    (LOW, &[(0, Who::Both, 0, PAIR)], None),
+    (
+        LOW,
+        &[(0, Who::First, 0, FIRST), (1, Who::Second, 0, FIRST)],
+        None,
+    ),
+    (
+        LOW,
+        &[(0, Who::First, 0, FIRST), (0, Who::First, 50, FIRST)],
+        Some(BrokenPlan::Double(0)),
+    ),
+    (
+        LOW,
+        &[(0, Who::Both, 0, PAIR), (0, Who::Second, 50, FIRST)],
+        Some(BrokenPlan::Double(1)),
+    ),
+    (
+        LOW,
+        &[(0, Who::First, 0, FIRST)],
+        Some(BrokenPlan::Missing(1)),
+    ),
+    (LOW, &[], Some(BrokenPlan::Missing(0))),
+    (
+        LOW,
+        &[(
+            0,
+            Who::Both,
+            0,
+            &[(9, 0, LEFT, QUAY), (10, 126, RIGHT, QUAY)],
+        )],
+        Some(BrokenPlan::Deck(0, Broken::Outside(0))),
+    ),
+    (
+        LOW,
+        &[(0, Who::Both, 0, &[(10, 0, LEFT, QUAY), (10, 0, LEFT, QUAY)])],
+        Some(BrokenPlan::Deck(0, Broken::Touching(0, 1))),
+    ),
+    (
+        LOW,
+        &[(
+            0,
+            Who::Both,
+            0,
+            &[(10, 0, LEFT, QUAY), (10, 125, RIGHT, QUAY)],
+        )],
+        Some(BrokenPlan::Deck(0, Broken::Adrift(1))),
+    ),
+    (
+        LOW,
+        &[(
+            0,
+            Who::Both,
+            0,
+            &[(10, 0, LEFT, QUAY), (11, 119, LEFT, Moor::Ship(0))],
+        )],
+        Some(BrokenPlan::Deck(0, Broken::BadHost(1, 0))),
+    ),
+    (
+        LOW,
+        &[
+            (0, Who::First, 0, FIRST),
+            (0, Who::Second, 50, &[(10, 1, LEFT, QUAY)]),
+        ],
+        Some(BrokenPlan::Deck(1, Broken::Adrift(0))),
+    ),
+    (
+        CARGO,
+        &[(0, Who::Both, 0, PAIR)],
+        Some(BrokenPlan::Clash(0, 0, 1)),
+    ),
+    (
+        Lock {
+            cargo: (2, 2),
+            ..LOW
+        },
+        &[(0, Who::Both, 0, PAIR)],
+        None,
+    ),
+    (
+        Lock {
+            cargo: (0, 2),
+            ..LOW
+        },
+        &[(0, Who::Both, 0, PAIR)],
+        None,
+    ),
+    (
+        CARGO,
+        &[(
+            0,
+            Who::Both,
+            0,
+            &[(10, 0, LEFT, QUAY), (10, 125, RIGHT, QUAY)],
+        )],
+        Some(BrokenPlan::Deck(0, Broken::Adrift(1))),
+    ),
+    (
+        Lock {
+            second_arrival: 5,
+            ..CARGO
+        },
+        &[(0, Who::Both, 0, PAIR)],
+        Some(BrokenPlan::Clash(0, 0, 1)),
+    ),
+    (
+        LATE,
+        &[(0, Who::Both, 0, PAIR)],
+        Some(BrokenPlan::Time(0, BrokenTime::Early(0))),
+    ),
+    (
+        LATE,
+        &[(0, Who::First, 0, FIRST), (1, Who::Second, 4, FIRST)],
+        Some(BrokenPlan::Time(1, BrokenTime::Early(1))),
+    ),
+    (
+        Lock {
+            stands: Stand::High,
+            second_away: true,
+            ..LOW
+        },
+        &[(0, Who::First, 14, FIRST)],
+        Some(BrokenPlan::Time(0, BrokenTime::Soon(0))),
+    ),
+    (
+        Lock {
+            closed: (30, 40),
+            second_away: true,
+            ..LOW
+        },
+        &[(0, Who::First, 0, FIRST)],
+        Some(BrokenPlan::Time(0, BrokenTime::Shut(0))),
+    ),
+    (
+        Lock {
+            second_way: Way::Down,
+            ..LOW
+        },
+        &[(0, Who::Second, 0, FIRST)],
+        Some(BrokenPlan::Shape(0)),
+    ),
+    (
+        LOW,
+        &[(0, Who::First, 0, FIRST), (2, Who::First, 0, FIRST)],
+        Some(BrokenPlan::Shape(1)),
+    ),
+    (
+        LOW,
+        &[(0, Who::Both, 0, PAIR), (0, Who::Nobody, 50, &[])],
+        Some(BrokenPlan::Shape(1)),
+    ),
+    (
+        LOW,
+        &[(0, Who::Stranger, 0, FIRST)],
+        Some(BrokenPlan::Shape(0)),
+    ),
+    (
+        Lock { most: 1, ..LOW },
+        &[(0, Who::Both, 0, PAIR)],
+        Some(BrokenPlan::Shape(0)),
+    ),
+    (LOW, &[(0, Who::Both, 0, FIRST)], Some(BrokenPlan::Shape(0))),
+];
+
+#[test]
+fn the_first_break_of_a_plan_is_named(rt: HostRuntime) -> Result<(), Fail> {
+    for (i, (lock, passages, want)) in PLANS.iter().enumerate() {
+        let instance = instance(lock).ok_or("over a limit")?;
+        let plan = plan(passages).ok_or("too many")?;
+        assert_eq!(rt; judge_plan(&instance, &plan), *want, "row {i}");
+    }
+    Ok(())
+}
