@@ -1,6 +1,7 @@
 -- Rows: what thin_spots, wide_spots and a move give.
-use Rattle.std.proofs.Common.{◌≡◌, ℕ, List, [], ◌∷◌, refl, nat_eq}
+use Rattle.std.proofs.Common.{◌≡◌, ℕ, List, [], ◌∷◌, false, refl, nat_eq}
 use Rattle.lock_model.specs.Deck.{Deck}
+use Rattle.lock_model.specs.declared.deck.Size.{Size}
 use Rattle.lock_model.specs.declared.placement.Spot.{Spot}
 use Rattle.lock_model.specs.declared.placement.Rank.{Rank}
 use Rattle.lock_model.specs.declared.placement.Rank.TheVariants.{Left, Right}
@@ -49,3 +50,31 @@ wide-left = refl
 -- all but ship 0 move by 1
 moved-but-first : shift_from (λ i. nat_eq i 0) 1 0 left_tower ≡ at 0 0 Left Quay ∷ at 0 7 Left (Ship 0) ∷ at 0 13 Left (Ship 1) ∷ []
 moved-but-first = refl
+
+-- a chamber of 2000 x 240 with clearance 10, gap 20 and side gap 5
+abbrev base_deck : ℕ → List Size → Deck
+base_deck wide ships = record { length = 2000; width = wide; end = 10; gap = 20; side = 5; ships = ships }
+
+abbrev sized : ℕ → ℕ → Size
+sized long wide = record { length = long; width = wide; cargo = 0 }
+
+abbrev three_ships : Deck
+three_ships = base_deck 240 (sized 600 60 ∷ sized 500 50 ∷ sized 400 40 ∷ [])
+
+abbrev tower : List Spot
+tower = at 10 0 Left Quay ∷ at 20 65 Left (Ship 0) ∷ at 30 120 Left (Ship 1) ∷ []
+
+-- without the lowest ship the two others come down by 60 + 5
+base-lowest : thin_spots three_ships tower 0 ≡ at 20 0 Left Quay ∷ at 30 55 Left (Ship 0) ∷ []
+base-lowest = refl
+
+base-between : thin_spots three_ships tower 1 ≡ at 10 0 Left Quay ∷ at 30 65 Left (Ship 0) ∷ []
+base-between = refl
+
+-- from width 240 to 250 the ship at the right quay moves by 10
+base-right : wide_spots (base_deck 240 (sized 1100 114 ∷ sized 1100 114 ∷ [])) (base_deck 250 (sized 1100 114 ∷ sized 1100 114 ∷ [])) (at 10 0 Left Quay ∷ at 10 126 Right Quay ∷ []) ≡ at 10 0 Left Quay ∷ at 10 136 Right Quay ∷ []
+base-right = refl
+
+-- a flush pair 30 from the near end moves by 30, both ships together
+base-flush : shift_from (λ i. false) 30 0 (at 40 0 Left Quay ∷ at 40 65 Left (Ship 0) ∷ []) ≡ at 10 0 Left Quay ∷ at 10 65 Left (Ship 0) ∷ []
+base-flush = refl

@@ -4,3 +4,4 @@ pub mod NodeLemmas
 pub mod WholeLemmas
 pub mod PlacesLemmas
 pub mod ProbeLemmas
+pub mod ChildLemmas

@@ -202,12 +202,13 @@ fn bounds_by(instance: &Instance, node: &Node, ship: u8, rest: u64) -> Bounds
     bounds
 }
 
-/// The bounds of all children of a node that lacks a ship, in the order of the children. Takes no
-/// memory.
+/// The bounds of all children of a node that lacks a ship, in the order of the children. The least
+/// of them is the probe of the next ship. Takes no memory.
 pub fn child_bounds(instance: &Instance, node: &Node) -> Bounds
     requires node { IsNodeOf instance.now node.now }
     requires lacks { node.now.depth < length instance.now.ships }
     ensures value { result ≡ map (bound_of instance.now (node.now.depth + 1)) (children instance.now node.now) }
+    ensures probe { least_number result ≡ probe_of instance.now node.now.depth node.now.lines (next_ship instance.now node.now.depth) }
     ensures small { All (λ b. b ≤ 500000000000) result }
 {
     let ship = next_ship(instance, node.depth());

@@ -1,5 +1,5 @@
 -- A plan with a break isn't legal, and a plan without one is.
-use Rattle.std.proofs.Common.{ℕ, ◌<◌, length, subst, ◌∙◌, arith}
+use Rattle.std.proofs.Common.{◌≡◌, ℕ, ◌<◌, length, subst, ◌∙◌, arith, List, get_or, below_more, ◌+◌}
 use Rattle.std.proofs.lemmas.List.{length-map, get_or_default}
 use Rattle.std.specs.List.Sorted.{IsStrictlyIncreasing}
 use Rattle.lock_model.specs.Fleet.{ship_at}
@@ -9,6 +9,7 @@ use Rattle.lock_model.specs.declared.plan.Lockage.{Lockage}
 use Rattle.lock_model.specs.declared.plan.Plan.{Plan}
 use Rattle.lock_rules.specs.Plan.{IsLegal, IsLegalLockage}
 use Rattle.chamber_times.specs.Walk.{no_lockage, lockage_at}
+use Rattle.chamber_times.proofs.WalkLemmas.{lockage_at-read}
 use Rattle.chamber_times.proofs.BreakLemmas.{IsFirstBreak-untimely}
 use Rattle.mooring_rules.specs.PlanBreaks.{HasShape, IsPlaced, IsClear, AreShaped, HasNoDouble, HasNoMissing, ArePlaced, AreClear, AreOnTime, IsFirstMisplaced, IsFirstClash, IsFirstBrokenPlan}
 use Rattle.mooring_rules.specs.declared.breaks.Broken.{Broken}
@@ -69,3 +70,8 @@ module _ (I : Instance) (P : Plan) where
         (IsLegalLockage-shaped I (lockage_at P p) (shaped.each p within) (rising p within) (placed.each p within) (clear.each p within));
     timely = timely.each;
   }
+
+-- what holds of the lockages before place p, and of the one that is read there
+pub each-more : (R : Lockage → Type 0) (P : Plan) (p : ℕ) (l : Lockage) (ls : List Lockage) → ls ≡ P.lockages → p < length ls → l ≡ get_or ls p l
+    → ((k : ℕ) → k < p → R (lockage_at P k)) → R l → (k : ℕ) → k < p + 1 → R (lockage_at P k)
+each-more R P p l ls same within read before here = below_more (λ k. R (lockage_at P k)) p before (subst R (lockage_at-read P p l ls same within read) here)

@@ -1,12 +1,13 @@
 //! Worked breaks of placements and plans.
 ghost use Rattle.std.specs.Prelude.{◌≡◌, length};
 
+mod cells;
 mod fixture;
 
 use super::*;
 use chamber_times::BrokenTime;
 use fixture::{LEFT, LOW, Lock, Passage, Place, QUAY, RIGHT, Who, deck, instance, plan, spots};
-use lock_model::{Measures, Moor, Stand, Way};
+use lock_model::{Measures, Moor, Size, Spots, Stand, Way};
 use std::test::Fail;
 
 const BASE: Measures = Measures {
@@ -16,6 +17,15 @@ const BASE: Measures = Measures {
     gap: 20,
     side: 5,
 };
+
+fn size(ship: (u32, u32)) -> Size {
+    let (length, width) = ship;
+    Size {
+        length,
+        width,
+        cargo: 0,
+    }
+}
 
 /// Ships by length and width, their places, and the first break.
 type Judged = (&'static [(u32, u32)], &'static [Place], Option<Broken>);
@@ -121,6 +131,67 @@ fn the_first_break_of_a_placement_is_named(rt: HostRuntime) -> Result<(), Fail> 
         assert!(rt; ships.len() <= 8 && ships.len() == places.len());
         let deck = deck(BASE, ships).ok_or("over a limit")?;
         assert_eq!(rt; judge_spots(&deck, &spots(places)), *want, "row {i}");
+    }
+    Ok(())
+}
+
+/// Measures of a small deck, and its two ships by length and width.
+type Small = (Measures, (u32, u32), (u32, u32));
+
+const NARROW: Measures = Measures {
+    length: 7,
+    width: 4,
+    end: 1,
+    gap: 1,
+    side: 1,
+};
+
+const SMALL: [Small; 4] = [
+    (NARROW, (2, 1), (1, 2)),
+    (NARROW, (2, 2), (2, 1)),
+    (
+        Measures {
+            gap: 0,
+            side: 0,
+            ..NARROW
+        },
+        (3, 2),
+        (2, 2),
+    ),
+    (
+        Measures {
+            end: 0,
+            gap: 2,
+            width: 5,
+            ..NARROW
+        },
+        (1, 1),
+        (3, 3),
+    ),
+];
+
+#[test]
+fn all_places_of_small_decks_are_judged_as_cell_by_cell(rt: HostRuntime) -> Result<(), Fail> {
+    for (i, &(measures, first, second)) in SMALL.iter().enumerate() {
+        let deck = deck(measures, &[first, second]).ok_or("over a limit")?;
+        let sizes = (size(first), size(second));
+        let mut legal = 0u32;
+        for a in 0..210 {
+            for b in 0..210 {
+                let (p, q) = (cells::spot(a), cells::spot(b));
+                let mut spots = Spots::new();
+                spots.push(p);
+                spots.push(q);
+                let found = judge_spots(&deck, &spots).is_none();
+                assert_eq!(rt;
+                    found,
+                    cells::is_legal(&deck, sizes, (p, q)),
+                    "{i}: {p:?}, {q:?}"
+                );
+                legal = legal.saturating_add(found as u32);
+            }
+        }
+        assert!(rt; legal > 0, "no legal placement of deck {i}");
     }
     Ok(())
 }

@@ -1,4 +1,4 @@
-use Rattle.std.proofs.Common.{◌≡◌, ◌<◌, arith, ap, ◌∙◌, sym, length, slice_index_or}
+use Rattle.std.proofs.Common.{arith, ap, ◌∙◌, sym, length, slice_index_or}
 use Rattle.lock_rules.specs.Arrival.{order_of}
 use Rattle.flow_bounds.proofs.ProbeLemmas.{among-missing, other-held, rest-is}
 use Rattle.flow_bounds.proofs.probing.is_missing.Goals as goal

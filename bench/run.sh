@@ -1,0 +1,38 @@
+#!/usr/bin/env bash
+# Times the calls that bench/README.md has figures for. Builds the program `measure` first.
+set -eu
+cd "$(dirname "$0")/.."
+program=$PWD/crates/measure/out/measure
+[ -x "$program" ] || (cd crates/measure && rt run -- none >/dev/null)
+
+text=$(mktemp)
+trap 'rm -f "$text"' EXIT
+{
+  echo "glock 1"
+  for i in $(seq 1 1072); do printf '# %058d\n' "$i"; done
+  echo "chamber c1 2000 240 10 20 5 4 30 15 low 0"
+  echo "ship s1 up 1100 114 0 5"
+  echo "end"
+} >"$text"
+
+# seconds that a run takes, as nanoseconds, less those of a run that does nothing
+timed() {
+  local start none
+  start=$(date +%s%N)
+  "$program" none </dev/null >/dev/null
+  none=$(($(date +%s%N) - start))
+  start=$(date +%s%N)
+  counted=$("$program" "$@" <"$text")
+  spent=$(($(date +%s%N) - start - none))
+}
+
+for ships in 12 16 20 24; do
+  for chambers in 2 4; do
+    timed bounds $ships $chambers 2000
+    echo "$ships ships, $chambers chambers: $((spent / counted)) nanoseconds a bounded child ($counted of them)"
+  done
+done
+timed spots 20
+echo "spot values of eight ships in a chamber of 100,000: $((spent / 20 / 1000)) microseconds ($((counted / 20)) values)"
+timed read 200
+echo "an instance text of $(wc -c <"$text") bytes: $((spent / 200 / 1000)) microseconds a reading"

@@ -1,0 +1,96 @@
+//! The calls that are repeated.
+ghost use Rattle.std.specs.Prelude.{◌<◌, ◌≤◌, length};
+
+use deck_laws::spot_values;
+use flow_bounds::child_bounds;
+use instance_text::{make_lot, read_instance};
+use lock_model::{Deck, Instance, Measures, Size, Sizes};
+use master_branch::{descend, root};
+use std::alloc::Global;
+
+// The place of the least of some numbers.
+fn place_of_least(numbers: &[u64]) -> usize
+    requires { 0 < length numbers.now }
+    ensures { result < length numbers.now }
+{
+    let mut best = 0;
+    for place in 1..numbers.len() {
+        if numbers[place] < numbers[best] {
+            best = place;
+        }
+    }
+    best
+}
+
+// How many nodes are bounded on the way from the root to a node that holds all ships.
+fn nodes_on_the_way(instance: &Instance) -> u64 {
+    let ships = instance.ships.as_slice().len();
+    let mut node = root(instance);
+    let mut nodes: u64 = 0;
+    while (node.depth() as usize) < ships {
+        let bounds = child_bounds(instance, &node);
+        let bounds = bounds.as_slice();
+        if bounds.is_empty() {
+            return nodes;
+        }
+        nodes = nodes.saturating_add(bounds.len() as u64);
+        descend(instance, &mut node, place_of_least(bounds) as u32);
+    }
+    nodes
+}
+
+/// How many nodes are bounded over so many generated instances.
+pub fn bounds(ships: u32, chambers: u32, rounds: u32) -> u64 {
+    let ships = ships.clamp(1, 24) as u8;
+    let chambers = chambers.clamp(1, 4) as u8;
+    let mut nodes: u64 = 0;
+    for number in 0..rounds {
+        nodes = nodes.saturating_add(nodes_on_the_way(&make_lot(number, ships, chambers)));
+    }
+    nodes
+}
+
+// Eight ships of different lengths in the longest and widest chamber.
+fn long_deck() -> Option<Deck> {
+    let mut sizes = Sizes::new();
+    for length in [1009, 2003, 4001, 5003, 7001, 9001, 11003, 13001] {
+        sizes.push(Size {
+            length,
+            width: 100,
+            cargo: 0,
+        });
+    }
+    let measures = Measures {
+        length: 100_000,
+        width: 100_000,
+        end: 10,
+        gap: 20,
+        side: 5,
+    };
+    Deck::new(measures, sizes)
+}
+
+/// How many spot values the deck has, added over so many rounds.
+pub fn spots(alloc: Global, rounds: u32) -> u64 {
+    let Some(deck) = long_deck() else {
+        return 0;
+    };
+    let mut values: u64 = 0;
+    for _ in 0..rounds {
+        if let Ok(list) = spot_values(alloc, &deck) {
+            values = values.saturating_add(list.as_slice().len() as u64);
+        }
+    }
+    values
+}
+
+/// How many ships the text has, added over so many readings.
+pub fn readings(bytes: &[u8], rounds: u32) -> u64 {
+    let mut ships: u64 = 0;
+    for _ in 0..rounds {
+        if let Ok(instance) = read_instance(bytes) {
+            ships = ships.saturating_add(instance.ships.as_slice().len() as u64);
+        }
+    }
+    ships
+}
