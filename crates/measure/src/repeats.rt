@@ -40,7 +40,7 @@ fn nodes_on_the_way(instance: &Instance) -> u64 {
 }
 
 /// How many nodes are bounded over so many generated instances.
-pub fn bounds(ships: u32, chambers: u32, rounds: u32) -> u64 {
+pub(crate) fn bounds(ships: u32, chambers: u32, rounds: u32) -> u64 {
     let ships = ships.clamp(1, 24) as u8;
     let chambers = chambers.clamp(1, 4) as u8;
     let mut nodes: u64 = 0;
@@ -71,7 +71,7 @@ fn long_deck() -> Option<Deck> {
 }
 
 /// How many spot values the deck has, added over so many rounds.
-pub fn spots(alloc: Global, rounds: u32) -> u64 {
+pub(crate) fn spots(alloc: Global, rounds: u32) -> u64 {
     let Some(deck) = long_deck() else {
         return 0;
     };
@@ -85,7 +85,7 @@ pub fn spots(alloc: Global, rounds: u32) -> u64 {
 }
 
 /// How many ships the text has, added over so many readings.
-pub fn readings(bytes: &[u8], rounds: u32) -> u64 {
+pub(crate) fn readings(bytes: &[u8], rounds: u32) -> u64 {
     let mut ships: u64 = 0;
     for _ in 0..rounds {
         if let Ok(instance) = read_instance(bytes) {
