@@ -11,4 +11,9 @@ pub mod Utf8Lemmas
 pub mod ReadingLemmas
 pub mod PartLemmas
 pub mod PrintLemmas
+pub mod TestLemmas
 pub mod LotLemmas
+pub mod LayoutLemmas
+pub mod WordBackLemmas
+pub mod LineBackLemmas
+pub mod TextBackLemmas

@@ -1,6 +1,5 @@
 -- A lot is within the limits of an instance.
 use Rattle.std.proofs.Common.{◌≡◌, ◌≢◌, ℕ, zero, suc, ◌+◌, ◌-◌, ◌*◌, ◌%◌, ◌<◌, ◌≤◌, ◌^◌, min, Bool, true, false, ◌&&◌, ◌||◌, nat_eq, List, [], ◌∷◌, ◌++◌, length, take, get_or, All, AllPairs, codes, decimal, sym, ap, refl, subst, ◌∙◌, arith, lit≤, lit<}
-use Rattle.std.specs.List.{list_all}
 use Rattle.std.proofs.lemmas.List.{length-take, get_or-take, append_cancel_left, append_assoc, take_more, length-append}
 use Rattle.std.proofs.lemmas.List.Elements.{All-nil, All-cons, All-take, All-push, All-append}
 use Rattle.std.proofs.lemmas.Bool.Decides.{nat_tests}
@@ -13,6 +12,7 @@ use Rattle.lock_model.specs.declared.chamber.Chamber.{Chamber}
 use Rattle.lock_model.specs.declared.ship.Ship.{Ship}
 use Rattle.lock_model.specs.declared.way.Stand.{Stand}
 use Rattle.lock_model.specs.declared.way.Stand.TheVariants.{Low, High}
+use Rattle.instance_text.proofs.TestLemmas.{all_from_test}
 use Rattle.instance_text.specs.Lot.{draw, after_draws, lot_ship, lot_ships, lot_chamber, lot_chambers}
 
 pub limits_of : (cs cs' : List Chamber) (ss ss' : List Ship) → cs ≡ cs' → ss ≡ ss' → IsInstance cs' ss' → IsInstance cs ss
@@ -37,15 +37,6 @@ one_more_ship so_far new all ship n i state state' arrival low whole is later ne
     ∙ ap (λ (s : Ship). so_far ++ s ∷ lot_ships (n - (i + 1)) (i + 1 + 1) (after_draws 5 state) s.arrival) is
     ∙ ap (λ k. so_far ++ lot_ships k (i + 1) state arrival) (sym left)
     ∙ whole
-
--- what a test of each element says
-all_from_test : (test : ℕ → Bool) (xs : List ℕ) → list_all test xs ≡ true → All (λ x. test x ≡ true) xs
-all_from_test test [] h = All-nil (λ x. test x ≡ true)
-all_from_test test (x ∷ xs) h = by_test (test x) refl (all_from_test test xs) h
-  where
-    by_test : (b : Bool) → test x ≡ b → (list_all test xs ≡ true → All (λ y. test y ≡ true) xs) → (b && list_all test xs) ≡ true → All (λ y. test y ≡ true) (x ∷ xs)
-    by_test true is rest both = All-cons (λ y. test y ≡ true) x xs is (rest both)
-    by_test false is rest both = cc
 
 -- the chambers
 no_closures : AreClosures []
@@ -119,7 +110,7 @@ digit_in_name b low high =
     let digit : is_between 48 57 b ≡ true = grind (arith, nat_tests) in
     ap (λ t. is_between 65 90 b || is_between 97 122 b || t || nat_eq b 45 || nat_eq b 95) digit ∙ third_of (is_between 65 90 b) (is_between 97 122 b) (nat_eq b 45) (nat_eq b 95)
 
-name_digits : (i : ℕ) → i < 2 ^ 64 → All (λ b. is_name_byte b ≡ true) (decimal i)
+pub name_digits : (i : ℕ) → i < 2 ^ 64 → All (λ b. is_name_byte b ≡ true) (decimal i)
 name_digits i small = decimal_by_steps (λ m ds. All (λ b. is_name_byte b ≡ true) ds)
     (λ m low. All-cons (λ b. is_name_byte b ≡ true) (48 + m) [] (digit_in_name (48 + m) (omega arith) (omega arith)) (All-nil (λ b. is_name_byte b ≡ true)))
     (λ m ds high all. All-push (λ b. is_name_byte b ≡ true) ds (48 + m % 10) all (digit_in_name (48 + m % 10) (omega arith) (omega arith)))

@@ -2,6 +2,7 @@
 ghost use Rattle.std.specs.Prelude.{◌≡◌, ◌==◌, ◌++◌, ◌∷◌, ◌&&◌, [], List, length, map, IfOk, OnOk, codes};
 ghost use Rattle.std.specs.List.{flat_map, list_all};
 ghost use Rattle.instance_text.specs.Canonical.{line, way_word, stand_word, chamber_words, closing_words, closings, ship_words, cargo_field, is_plain, header_words, canonical};
+ghost use Rattle.instance_text.specs.Reading.{Means};
 ghost use Rattle.lock_model.specs.declared.chamber.Chamber.{Chamber as AnyChamber};
 ghost use Rattle.lock_model.specs.declared.ship.Ship.{Ship as AnyShip};
 
@@ -166,7 +167,8 @@ fn put_header(out: &mut Vec<u8>, plain: bool) -> Result<(), NoMemory>
 /// The canonical text of an instance, which reads back as the same instance. Its only refusal is
 /// want of memory.
 pub fn print_instance(alloc: Global, instance: &Instance) -> Result<Vec<u8>, NoMemory>
-    ensures { IfOk result (λ text. text.items ≡ canonical instance.now) }
+    ensures text { IfOk result (λ text. text.items ≡ canonical instance.now) }
+    ensures reads_back { IfOk result (λ text. Means text.items instance.now) }
 {
     let chambers = instance.chambers.as_slice();
     let mut out = Vec::new(alloc);
