@@ -22,7 +22,7 @@ use Rattle.search_rules.specs.Workers.{KeepsWorkers}
 use Rattle.search_rules.specs.History.{KeepsRoom}
 use Rattle.search_rules.proofs.SlotLemmas.{IsAt}
 use Rattle.search_rules.proofs.MoveLemmas.{IsMove, Stays, TakesBack, TakesFresh, Splits, Closes, Parks, Posts, Replaces, Ends, GivesBack, MayClose, FromHeld, FromParked, IsClosed, ByBound, ByCut, ByThroughput, ByProbe, turned, is_growing, each-move}
-use Rattle.search_rules.proofs.TallyLemmas.{one, count-turned, count-append, count-children, count-outdone_same, count-outdone, open-whole, open-not_held, length-children, length-append, count_false-set}
+use Rattle.search_rules.proofs.TallyLemmas.{one, count-turned, count-append, count-children, count-weaker, count-outdone_same, count-outdone, open-whole, open-not_held, length-children, length-append, count_false-set}
 
 -- ---- the budget of nodes
 
@@ -102,3 +102,9 @@ module _ {Break : Type 0} (broken : Instance → Plan → Option Break) (b : Boo
         | Ends w runs none same ↦ subst KeepsBudget (sym same) (record { used = keeps.used; taken = keeps.taken; few = keeps.few })
         | GivesBack w id runs at same ↦ subst KeepsBudget (sym same) (turned-budget b id (slot.Held w) slot.Back b.used (slice_set b.ended w true) _ keeps at refl refl (omega arith) keeps.used)
       ]
+
+-- a book has at most one slot and 50 more for each node used
+pub slots-few : (b : Book) → KeepsBudget b → length b.slots ≤ 1 + 50 * b.used
+slots-few b keeps =
+    let split = count-weaker is_split is_taken (λ s e. ap (λ t. t || is_held s || is_back s || is_parked s) e) b.slots in
+    omega (arith, keeps.few, keeps.taken, split)

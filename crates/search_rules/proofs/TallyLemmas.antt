@@ -55,6 +55,17 @@ pub length-append : {X : Type 0} (xs ys : List X) → length (xs ++ ys) ≡ leng
 length-append [] ys = omega arith
 length-append (x ∷ xs) ys = let rest = length-append xs ys in omega (arith, rest)
 
+-- a weaker test passes no fewer slots
+pub count-weaker : (test other : SlotState → Bool) → ((s : SlotState) → test s ≡ true → other s ≡ true) → (xs : List Slot) → count_slots test xs ≤ count_slots other xs
+count-weaker test other weaker [] = omega arith
+count-weaker test other weaker (x ∷ xs) =
+    let rest = count-weaker test other weaker xs in
+    let here = by_test (test x.state) refl in omega (arith, rest, here)
+  where
+    by_test : (t : Bool) → test x.state ≡ t → one t ≤ one (other x.state)
+    by_test true e = let passes = ap one (weaker x.state e) in omega (arith, passes)
+    by_test false e = omega arith
+
 -- ---- a new best plan
 
 -- an outdone slot is as it was, or it was open or parked, its bound is at least the cost, and now it is ByBound
