@@ -35,11 +35,11 @@ turned-budget b id old new used ended e keeps at whole still paid room = record 
   few = omega (arith, keeps.few, count-turned is_split b id old new at, ap one whole, ap one still, length-set b.slots id (record (slot_at b id) { state = new }));
 }
 
-closing-whole : (old : SlotState) → MayClose old → (is_split old ≡ false) × (is_taken old ≡ true)
+pub closing-whole : (old : SlotState) → MayClose old → (is_split old ≡ false) × (is_taken old ≡ true)
 closing-whole old (FromHeld w) = (refl, refl)
 closing-whole old (FromParked c p) = (refl, refl)
 
-closed-whole : (new : SlotState) → IsClosed new → (is_split new ≡ false) × (is_taken new ≡ false)
+pub closed-whole : (new : SlotState) → IsClosed new → (is_split new ≡ false) × (is_taken new ≡ false)
 closed-whole new ByBound = (refl, refl)
 closed-whole new (ByCut number) = (refl, refl)
 closed-whole new ByThroughput = (refl, refl)

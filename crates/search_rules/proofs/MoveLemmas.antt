@@ -85,7 +85,7 @@ clash e = cc
 none-some : {X : Type 0} (x : X) → None ≡ Some x → ⊥
 none-some x e = cc
 
-state-known : (b : Book) (id : ℕ) (state : SlotState) → (slot_at b id).state ≡ state → (state ≡ slot.ByBound → ⊥) → id < length b.slots
+pub state-known : (b : Book) (id : ℕ) (state : SlotState) → (slot_at b id).state ≡ state → (state ≡ slot.ByBound → ⊥) → id < length b.slots
 state-known b id state is other = in_list b.slots id is
   where
     in_list : (xs : List Slot) (id : ℕ) → (slice_index_or xs id no_slot).state ≡ state → id < length xs
