@@ -85,8 +85,8 @@ module _ {Break : Type 0} (broken : Instance → Plan → Option Break) (b : Boo
   budget-step keeps e owed =
       elim (each-move broken b e owed) [
         | Stays refused same ↦ subst KeepsBudget (sym same) keeps
-        | TakesBack w id runs none at same ↦ subst KeepsBudget (sym same) (turned-budget b id slot.Back (slot.Held w) b.used b.ended _ keeps at refl refl (omega arith) keeps.used)
-        | TakesFresh w id runs none at left same ↦ subst KeepsBudget (sym same) (turned-budget b id slot.Fresh (slot.Held w) (suc b.used) b.ended _ keeps at refl refl (omega arith) (omega (arith, keeps.used, left)))
+        | TakesBack w id runs none first at same ↦ subst KeepsBudget (sym same) (turned-budget b id slot.Back (slot.Held w) b.used b.ended _ keeps at refl refl (omega arith) keeps.used)
+        | TakesFresh w id runs none no_back next at left same ↦ subst KeepsBudget (sym same) (turned-budget b id slot.Fresh (slot.Held w) (suc b.used) b.ended _ keeps at refl refl (omega arith) (omega (arith, keeps.used, left)))
         | Splits w id at lacks same ↦ subst KeepsBudget (sym same) (split-budget b w id book keeps at lacks _)
         | Closes old new id x from to at tells same ↦
             let was = closing-whole old from in

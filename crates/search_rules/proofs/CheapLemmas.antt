@@ -188,8 +188,8 @@ module _ {Break : Type 0} (broken : Instance → Plan → Option Break) (b : Boo
   cheap-step keeps e owed =
       elim (each-move broken b e owed) [
         | Stays refused same ↦ subst KeepsCheap (sym same) keeps
-        | TakesBack w id runs none at same ↦ subst KeepsCheap (sym same) (turned-cheap b id slot.Back (slot.Held w) b.used b.ended (entry.Take w) keeps at refl refl (omega arith))
-        | TakesFresh w id runs none at left same ↦ subst KeepsCheap (sym same) (turned-cheap b id slot.Fresh (slot.Held w) (suc b.used) b.ended (entry.Take w) keeps at refl refl (omega arith))
+        | TakesBack w id runs none first at same ↦ subst KeepsCheap (sym same) (turned-cheap b id slot.Back (slot.Held w) b.used b.ended (entry.Take w) keeps at refl refl (omega arith))
+        | TakesFresh w id runs none no_back next at left same ↦ subst KeepsCheap (sym same) (turned-cheap b id slot.Fresh (slot.Held w) (suc b.used) b.ended (entry.Take w) keeps at refl refl (omega arith))
         | Splits w id at lacks same ↦ subst KeepsCheap (sym same) (split-cheap b w id book keeps at lacks)
         | Closes old new id x from to at tells same ↦
             subst KeepsCheap (sym same)

@@ -299,8 +299,8 @@ module _ {Break : Type 0} (broken : Instance → Plan → Option Break) (b : Boo
   family-step keeps e owed =
       elim (each-move broken b e owed) [
         | Stays refused same ↦ subst KeepsFamily (sym same) keeps
-        | TakesBack w id runs none at same ↦ subst KeepsFamily (sym same) (turned-family id slot.Back (slot.Held w) b.used b.ended (entry.Take w) keeps at refl refl)
-        | TakesFresh w id runs none at left same ↦ subst KeepsFamily (sym same) (turned-family id slot.Fresh (slot.Held w) (suc b.used) b.ended (entry.Take w) keeps at refl refl)
+        | TakesBack w id runs none first at same ↦ subst KeepsFamily (sym same) (turned-family id slot.Back (slot.Held w) b.used b.ended (entry.Take w) keeps at refl refl)
+        | TakesFresh w id runs none no_back next at left same ↦ subst KeepsFamily (sym same) (turned-family id slot.Fresh (slot.Held w) (suc b.used) b.ended (entry.Take w) keeps at refl refl)
         | Splits w id at lacks same ↦ subst KeepsFamily (sym same) (split-family b w id at (entry.Split id) keeps lacks)
         | Closes old new id x from to at tells same ↦ subst KeepsFamily (sym same) (turned-family id old new b.used b.ended x keeps at (closing-whole old from).0 (closed-whole new to).0)
         | Parks w id c p at tells same ↦ subst KeepsFamily (sym same) (turned-family id (slot.Held w) (slot.Parked c p) b.used b.ended (entry.Park id c p) keeps at refl refl)

@@ -69,8 +69,8 @@ is_growing _ = false
 
 pub data IsMove {Break : Type 0} (b : Book) (e : Event) (out : Book × Reply Break) : Type 0 where
   Stays : is_accepted out.1 ≡ false → out.0 ≡ b → IsMove b e out
-  TakesBack : (w id : ℕ) → IsRunning b w → HoldsNone b w → IsAt b id slot.Back → out.0 ≡ turned b id (slot.Held w) b.used b.ended (entry.Take w) → IsMove b e out
-  TakesFresh : (w id : ℕ) → IsRunning b w → HoldsNone b w → IsAt b id slot.Fresh → b.used ≢ b.case.nodes → out.0 ≡ turned b id (slot.Held w) (suc b.used) b.ended (entry.Take w) → IsMove b e out
+  TakesBack : (w id : ℕ) → IsRunning b w → HoldsNone b w → first_slot b is_back ≡ Some id → IsAt b id slot.Back → out.0 ≡ turned b id (slot.Held w) b.used b.ended (entry.Take w) → IsMove b e out
+  TakesFresh : (w id : ℕ) → IsRunning b w → HoldsNone b w → first_slot b is_back ≡ None → next_fresh b ≡ Some id → IsAt b id slot.Fresh → b.used ≢ b.case.nodes → out.0 ≡ turned b id (slot.Held w) (suc b.used) b.ended (entry.Take w) → IsMove b e out
   Splits : (w id : ℕ) → IsAt b id (slot.Held w) → (slot_at b id).node.depth < length b.case.instance.ships → out.0 ≡ Step.noted (Step.with_children b id) (entry.Split id) → IsMove b e out
   Closes : (old new : SlotState) (id : ℕ) (x : Entry) → MayClose old → IsClosed new → IsAt b id old → TellsAt b id new → out.0 ≡ turned b id new b.used b.ended x → IsMove b e out
   Parks : (w id c p : ℕ) → IsAt b id (slot.Held w) → TellsAt b id (slot.Parked c p) → out.0 ≡ turned b id (slot.Parked c p) b.used b.ended (entry.Park id c p) → IsMove b e out
@@ -122,11 +122,11 @@ module _ {Break : Type 0} (broken : Instance → Plan → Option Break) (b : Boo
   idle-move w true = Stays refl refl
   idle-move w false = Stays refl refl
 
-  take_fresh-move : (w : ℕ) → IsRunning b w → HoldsNone b w → (o : Option ℕ) → next_fresh b ≡ o → Is (take w) (Step.take_fresh b w o)
-  take_fresh-move w runs none None e = idle-move w (has_slot b is_held)
-  take_fresh-move w runs none (Some id) e =
+  take_fresh-move : (w : ℕ) → IsRunning b w → HoldsNone b w → first_slot b is_back ≡ None → (o : Option ℕ) → next_fresh b ≡ o → Is (take w) (Step.take_fresh b w o)
+  take_fresh-move w runs none back None e = idle-move w (has_slot b is_held)
+  take_fresh-move w runs none back (Some id) e =
       refuse_or (take w) (nat_eq b.used b.case.nodes) (NodesSpent b.used) (Step.given b w id (suc b.used)) refl (λ f.
-      TakesFresh w id runs none (next_fresh-at b id e) (differ f) refl)
+      TakesFresh w id runs none back e (next_fresh-at b id e) (differ f) refl)
     where
       differ : nat_eq b.used b.case.nodes ≡ false → b.used ≢ b.case.nodes
       differ f = elim (eqb_tells b.used b.case.nodes) [ inl y ↦ absurd (clash (sym y.0 ∙ f)) | inr n ↦ n.1 ]
@@ -134,8 +134,8 @@ module _ {Break : Type 0} (broken : Instance → Plan → Option Break) (b : Boo
   take_slot-move : (w : ℕ) → IsRunning b w → HoldsNone b w → (o : Option ℕ) → first_slot b is_back ≡ o → Is (take w) (Step.take_slot b w o)
   take_slot-move w runs none (Some id) e =
       let at = first_slot-at b is_back id e in
-      TakesBack w id runs none (record { known = at.0; is = back-is (slot_at b id).state at.1 }) refl
-  take_slot-move w runs none None e = take_fresh-move w runs none (next_fresh b) refl
+      TakesBack w id runs none e (record { known = at.0; is = back-is (slot_at b id).state at.1 }) refl
+  take_slot-move w runs none None e = take_fresh-move w runs none e (next_fresh b) refl
 
   take_free-move : (w : ℕ) → IsRunning b w → (o : Option ℕ) → first_slot b (is_held_by w) ≡ o → Is (take w) (Step.take_free b w o)
   take_free-move w runs (Some id) e = Stays refl refl

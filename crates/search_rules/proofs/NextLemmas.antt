@@ -59,7 +59,7 @@ first_slot-empty b test before =
 
 -- ---- the numbers of the slots that pass a test
 
-where-rises : (test : Slot → Bool) (low : ℕ) (xs : List Slot) → RisesFrom low (numbers_where test low xs)
+pub where-rises : (test : Slot → Bool) (low : ℕ) (xs : List Slot) → RisesFrom low (numbers_where test low xs)
 where-rises test low [] = tt
 where-rises test low (x ∷ xs) =
     let rest = where-rises test (suc low) xs in
@@ -68,7 +68,7 @@ where-rises test low (x ∷ xs) =
       | false ↦ RisesFrom-less low (suc low) (numbers_where test (suc low) xs) (omega arith) rest
     ]
 
-where-among : (test : Slot → Bool) (low : ℕ) (xs : List Slot) (k : ℕ) → k < length xs → test (slice_index_or xs k no_slot) ≡ true → IsAmong (numbers_where test low xs) (low + k)
+pub where-among : (test : Slot → Bool) (low : ℕ) (xs : List Slot) (k : ℕ) → k < length xs → test (slice_index_or xs k no_slot) ≡ true → IsAmong (numbers_where test low xs) (low + k)
 where-among test low [] k known pass = absurd (omega (arith, known))
 where-among test low (x ∷ xs) zero known pass =
     let same : low ≡ low + 0 = omega arith in
@@ -91,11 +91,11 @@ among-where-step test low x xs id true e rest (inl same) = (0, omega (arith, sam
 among-where-step test low x xs id true e rest (inr h) = let r = rest h in (suc r.0, omega (arith, r.1), omega (arith, r.2), r.3)
 among-where-step test low x xs id false e rest h = let r = rest h in (suc r.0, omega (arith, r.1), omega (arith, r.2), r.3)
 
-among-where : (test : Slot → Bool) (low : ℕ) (xs : List Slot) (id : ℕ) → IsAmong (numbers_where test low xs) id → Passes test low xs id
+pub among-where : (test : Slot → Bool) (low : ℕ) (xs : List Slot) (id : ℕ) → IsAmong (numbers_where test low xs) id → Passes test low xs id
 among-where test low [] id h = absurd h
 among-where test low (x ∷ xs) id h = among-where-step test low x xs id (test x) refl (λ g. among-where test (suc low) xs id g) h
 
-among-filter : (p : ℕ → Bool) (ns : List ℕ) (n : ℕ) → IsAmong (filter p ns) n → IsAmong ns n × (p n ≡ true)
+pub among-filter : (p : ℕ → Bool) (ns : List ℕ) (n : ℕ) → IsAmong (filter p ns) n → IsAmong ns n × (p n ≡ true)
 among-filter p [] n h = absurd h
 among-filter p (m ∷ ms) n h = by_test (p m) refl h (λ g. among-filter p ms n g)
   where
@@ -106,7 +106,7 @@ among-filter p (m ∷ ms) n h = by_test (p m) refl h (λ g. among-filter p ms n 
 
 -- ---- the first that no other beats
 
-above-low : (low : ℕ) (ns : List ℕ) (n : ℕ) → RisesFrom low ns → IsAmong ns n → low ≤ n
+pub above-low : (low : ℕ) (ns : List ℕ) (n : ℕ) → RisesFrom low ns → IsAmong ns n → low ≤ n
 above-low low [] n rises h = absurd h
 above-low low (m ∷ ms) n rises (inl same) = omega (arith, rises.0, same)
 above-low low (m ∷ ms) n rises (inr h) = let rest = above-low (suc m) ms n rises.1 h in omega (arith, rest, rises.0)
@@ -142,10 +142,10 @@ first_best-is beats low (a ∷ ns) n rises (inr among) smaller none =
 
 -- ---- the next Fresh slot
 
-beats-true : (m n : ℕ) → m < n → nat_lt m n ≡ true
+pub beats-true : (m n : ℕ) → m < n → nat_lt m n ≡ true
 beats-true m n h = elim (leb_tells (suc m) n) [ inl y ↦ y.0 | inr k ↦ absurd (omega (arith, h, k.1)) ]
 
-beats-false : (m n : ℕ) → n ≤ m → nat_lt m n ≡ false
+pub beats-false : (m n : ℕ) → n ≤ m → nat_lt m n ≡ false
 beats-false m n h = elim (leb_tells (suc m) n) [ inl y ↦ absurd (omega (arith, h, y.1)) | inr k ↦ k.0 ]
 
 -- a split that has a Fresh child

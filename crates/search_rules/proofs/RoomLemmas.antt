@@ -75,10 +75,10 @@ module _ {Break : Type 0} (broken : Instance → Plan → Option Break) (b : Boo
   room-left e owed =
       elim (each-move broken b e owed) [
         | Stays refused same ↦ Refusal refused same
-        | TakesBack w id runs none at same ↦
+        | TakesBack w id runs none first at same ↦
             let slots = slots_room-turned b id slot.Back (slot.Held w) at in
             Less (subst (λ (u : Book). suc (room_of u) ≤ room_of b) (sym same) (omega (arith, slots)))
-        | TakesFresh w id runs none at left same ↦
+        | TakesFresh w id runs none no_back next at left same ↦
             let slots = slots_room-turned b id slot.Fresh (slot.Held w) at in
             Less (subst (λ (u : Book). suc (room_of u) ≤ room_of b) (sym same) (omega (arith, slots, left, budget.used)))
         | Splits w id at lacks same ↦ Less (subst (λ (u : Book). suc (room_of u) ≤ room_of b) (sym same) (split-room b w id at (entry.Split id)))

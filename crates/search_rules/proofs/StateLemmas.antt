@@ -116,8 +116,8 @@ module _ {Break : Type 0} (broken : Instance → Plan → Option Break) (b : Boo
   states-step keeps e owed =
       elim (each-move broken b e owed) [
         | Stays refused same ↦ subst KeepsStates (sym same) keeps
-        | TakesBack w id runs none at same ↦ subst KeepsStates (sym same) (turned-states id (slot.Held w) b.used b.ended (entry.Take w) keeps tt)
-        | TakesFresh w id runs none at left same ↦ subst KeepsStates (sym same) (turned-states id (slot.Held w) (suc b.used) b.ended (entry.Take w) keeps tt)
+        | TakesBack w id runs none first at same ↦ subst KeepsStates (sym same) (turned-states id (slot.Held w) b.used b.ended (entry.Take w) keeps tt)
+        | TakesFresh w id runs none no_back next at left same ↦ subst KeepsStates (sym same) (turned-states id (slot.Held w) (suc b.used) b.ended (entry.Take w) keeps tt)
         | Splits w id at lacks same ↦ subst KeepsStates (sym same) (split-states id keeps)
         | Closes old new id x from to at tells same ↦ subst KeepsStates (sym same) (turned-states id new b.used b.ended x keeps tells)
         | Parks w id c p at tells same ↦ subst KeepsStates (sym same) (turned-states id (slot.Parked c p) b.used b.ended (entry.Park id c p) keeps tells)

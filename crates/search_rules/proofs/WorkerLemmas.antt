@@ -118,8 +118,8 @@ module _ {Break : Type 0} (broken : Instance → Plan → Option Break) (b : Boo
   workers-step keeps e owed =
       elim (each-move broken b e owed) [
         | Stays refused same ↦ subst KeepsWorkers (sym same) keeps
-        | TakesBack w id runs none at same ↦ subst KeepsWorkers (sym same) (taken-workers b w id b.used (entry.Take w) keeps at.known runs none)
-        | TakesFresh w id runs none at left same ↦ subst KeepsWorkers (sym same) (taken-workers b w id (suc b.used) (entry.Take w) keeps at.known runs none)
+        | TakesBack w id runs none first at same ↦ subst KeepsWorkers (sym same) (taken-workers b w id b.used (entry.Take w) keeps at.known runs none)
+        | TakesFresh w id runs none no_back next at left same ↦ subst KeepsWorkers (sym same) (taken-workers b w id (suc b.used) (entry.Take w) keeps at.known runs none)
         | Splits w id at lacks same ↦ subst KeepsWorkers (sym same) (same-workers b (Step.noted (Step.with_children b id) (entry.Split id)) keeps refl (split-holds b id at.known))
         | Closes old new id x from to at tells same ↦
             subst KeepsWorkers (sym same) (same-workers b (turned b id new b.used b.ended x) keeps refl (λ other v h. (turned-holds b id new at.known (closed-free new to) other v h).0))

@@ -1,8 +1,9 @@
 -- The slots that wait to be taken, in order.
-use Rattle.std.specs.Prelude.{ℕ, ◌≡◌, ◌≢◌, ◌<◌, ◌≤◌, ◌⊎◌, Bool, List, [], ◌∷◌, length}
+use Rattle.std.specs.Prelude.{ℕ, ◌≡◌, ◌≢◌, ◌+◌, ◌<◌, ◌≤◌, ◌⊎◌, Bool, List, [], ◌∷◌, length}
 use Rattle.search_rules.specs.declared.book.SlotState.TheVariants as slot
 use Rattle.search_rules.specs.Book.{Book, slot_at, is_back}
 use Rattle.search_rules.specs.NextSlot.{numbers_where}
+use Rattle.search_rules.specs.Room.{count_slots, count_false}
 
 -- slot id is Fresh, and a child of this parent
 pub record IsFreshChild (b : Book) (parent id : ℕ) : Type 0 where
@@ -25,3 +26,7 @@ pub record IsLastSplit (b : Book) (parent first : ℕ) : Type 0 where
 -- the Back slots by rising number
 abbrev pub back_slots : Book → List ℕ
 back_slots b = numbers_where (λ s. is_back s.state) 0 b.slots
+
+-- No more slots are Back than workers have ended.
+pub record KeepsBack (b : Book) : Type 0 where
+  pub few : count_slots is_back b.slots + count_false b.ended ≤ 9
