@@ -262,6 +262,16 @@ module _ (b : Book) (family : KeepsFamily b) where
       ∙ ap (least_fresh b) (last-split shut parent first id last least.child known)
       ∙ least_fresh-is shut parent id least
 
+  -- and what is next is its child
+  pub next_fresh-child : is_fresh (slot_at b 0).state ≡ false → (parent first other : ℕ) → IsLastSplit b parent first → IsFreshChild b parent other → (id : ℕ) → next_fresh b ≡ Some id → IsFreshChild b parent id
+  next_fresh-child shut parent first other last child id next =
+      let known : parent < length b.slots = state-known b parent (slot.Split first) last.split (λ f. clash (ap is_split f)) in
+      let best : first_best (λ c a. nat_lt (slot_at b c).bound (slot_at b a).bound) (fresh_children b parent) ≡ Some id =
+          sym (ap (least_fresh b) (last-split shut parent first other last child known))
+          ∙ sym (ap (λ t. cond t (Some 0) (least_fresh b (first_best (λ c a. nat_lt (first_child (slot_at b a).state) (first_child (slot_at b c).state)) (waiting_splits b)))) shut)
+          ∙ next in
+      among-child shut parent id (best-among (λ c a. nat_lt (slot_at b c).bound (slot_at b a).bound) (fresh_children b parent) id best)
+
   -- where a slot is Fresh, one is next
   pub next_fresh-some : (id : ℕ) → IsAt b id slot.Fresh → next_fresh b ≡ None → ⊥
   next_fresh-some id at none = by_root (is_fresh (slot_at b 0).state) refl none
@@ -290,6 +300,7 @@ module _ (b : Book) (family : KeepsFamily b) where
           let least = best-some (λ c a. nat_lt (slot_at b c).bound (slot_at b a).bound) (fresh_children b split.0) one.id (child-among split.0 one.id one.child) in
           some-none least.0 (sym least.1 ∙ sym (ap (least_fresh b) split.1) ∙ h)
 
+-- the root comes first
 pub next_fresh-root : (b : Book) → is_fresh (slot_at b 0).state ≡ true → next_fresh b ≡ Some 0
 next_fresh-root b e = ap (λ t. cond t (Some 0) (least_fresh b (first_best (λ c a. nat_lt (first_child (slot_at b a).state) (first_child (slot_at b c).state)) (waiting_splits b)))) e
 

@@ -22,7 +22,8 @@ use Rattle.search_rules.specs.Family.{KeepsFamily}
 use Rattle.search_rules.specs.Waiting.{IsFreshChild, IsLastSplit, IsWaitingSplit, FallBelow, AreWaiting}
 use Rattle.search_rules.proofs.SlotLemmas.{IsAt}
 use Rattle.search_rules.proofs.NextLemmas.{among-where, among-filter}
-use Rattle.search_rules.proofs.MoveLemmas.{state-known}
+use Rattle.search_rules.proofs.MoveLemmas.{state-known, turned}
+use Rattle.search_rules.proofs.TallyLemmas.{Kept, Closed, outdone-is, open-whole}
 use Rattle.search_rules.proofs.TurnLemmas.{Turned, Untouched, turned-at, Parent, Old, Child, Past, split-at, kid, kid-at, length-split, outdone-at}
 
 clash : true ≡ false → ⊥
@@ -128,11 +129,11 @@ waiting-fewer b new splits test settles tests waiting = record {
       among-number (filter test splits) p (IsAmong-filter test splits p (tests.finds p id child) (number-among splits p (waiting.all p id (settles.child p id child))));
 }
 
--- the same children are Fresh
-pub waiting-same : (b new : Book) (splits : List ℕ) → Settles b new → ((p id : ℕ) → IsFreshChild b p id → IsFreshChild new p id) → AreWaiting b splits → AreWaiting new splits
-waiting-same b new splits settles stay waiting = record {
+-- each split of the list still has a Fresh child
+pub waiting-same : (b new : Book) (splits : List ℕ) → Settles b new → ((p : ℕ) → IsWaitingSplit b p → (id : ℕ) × IsFreshChild new p id) → AreWaiting b splits → AreWaiting new splits
+waiting-same b new splits settles still waiting = record {
   falling = falls-same b new settles (length b.slots) (length new.slots) settles.long splits (λ q h. waiting.each q (among-number splits q h)) waiting.falling;
-  each = λ p e. let old = waiting.each p e in record { first = old.first; split = settles.split p old.first old.split; id = old.id; child = stay p old.id old.child };
+  each = λ p e. let old = waiting.each p e in let one = still p old in record { first = old.first; split = settles.split p old.first old.split; id = one.0; child = one.1 };
   all = λ p id child. waiting.all p id (settles.child p id child);
 }
 
@@ -179,3 +180,186 @@ waiting-more b new splits p first id low high split child was stay splits_stay w
     by_place : (q : ℕ) → IsAmong (p ∷ splits) q → IsWaitingSplit new q
     by_place q (inl same) = subst (IsWaitingSplit new) same (record { first = first; split = split; id = id; child = child })
     by_place q (inr h) = let old = waiting.each q (among-number splits q h) in record { first = old.first; split = splits_stay q old.first old.split; id = old.id; child = stay q old.id old.child }
+
+-- ---- what an event makes Fresh, and what not
+
+-- the first number below n that is so, if any
+search-below : (P : ℕ → Type 0) → ((k : ℕ) → P k ⊎ (P k → ⊥)) → (n : ℕ) → ((k : ℕ) × P k) ⊎ ((k : ℕ) → k < n → P k → ⊥)
+search-below P tells zero = inr (λ k less. absurd (omega (arith, less)))
+search-below P tells (suc n) =
+    elim (tells n) [
+      | inl here ↦ inl (n, here)
+      | inr not_here ↦
+          elim (search-below P tells n) [
+            | inl found ↦ inl found
+            | inr none ↦ inr (λ k less h. elim (eqb_tells k n) [ inl y ↦ not_here (subst P y.1 h) | inr differ ↦ none k (omega (arith, less, differ.1)) h ])
+          ]
+    ]
+
+fresh-tells : (s : SlotState) → (s ≡ slot.Fresh) ⊎ (s ≡ slot.Fresh → ⊥)
+fresh-tells slot.Fresh = inl refl
+fresh-tells _ = inr (λ e. clash (sym (ap is_fresh e)))
+
+-- slot id is a Fresh child of the parent, or it isn't
+child-tells : (b : Book) (parent id : ℕ) → IsFreshChild b parent id ⊎ (IsFreshChild b parent id → ⊥)
+child-tells b parent id =
+    elim (fresh-tells (slot_at b id).state) [
+      | inr off ↦ inr (λ c. off c.fresh)
+      | inl fresh ↦
+          elim (eqb_tells (slot_at b id).parent parent) [
+            | inr other ↦ inr (λ c. other.1 c.below)
+            | inl below ↦
+                elim (eqb_tells id 0) [
+                  | inl root ↦ inr (λ c. c.some root.1)
+                  | inr some ↦ inl (record { known = state-known b id slot.Fresh fresh (λ e. clash (ap is_fresh e)); some = some.1; fresh = fresh; below = below.1 })
+                ]
+          ]
+    ]
+
+not-fresh : (s : SlotState) → is_fresh s ≡ false → s ≡ slot.Fresh → ⊥
+not-fresh s off e = clash (sym (ap is_fresh e) ∙ off)
+
+-- slot id turns to a state that isn't Fresh, from one that isn't Split
+turned-settles : (b : Book) (id : ℕ) (old state : SlotState) (used : ℕ) (ended : List Bool) (e : Entry) → IsAt b id old → is_split old ≡ false → is_fresh state ≡ false → Settles b (turned b id state used ended e)
+turned-settles b id old state used ended e at whole off = record {
+  long = omega (arith, length-set b.slots id (record (slot_at b id) { state = state }));
+  child = λ p k c.
+      elim (turned-at b id state at.known k) [
+        | Turned is s ↦ absurd (not-fresh state off (sym (ap (λ (u : Slot). u.state) s) ∙ c.fresh))
+        | Untouched not_id s ↦ record {
+          known = omega (arith, c.known, length-set b.slots id (record (slot_at b id) { state = state }));
+          some = c.some;
+          fresh = sym (ap (λ (u : Slot). u.state) s) ∙ c.fresh;
+          below = sym (ap (λ (u : Slot). u.parent) s) ∙ c.below;
+        }
+      ];
+  split = λ p first h.
+      elim (turned-at b id state at.known p) [
+        | Turned is s ↦ absurd (clash (sym (ap is_split (ap (λ k. (slot_at b k).state) (sym is) ∙ h)) ∙ ap is_split at.is ∙ whole))
+        | Untouched not_id s ↦ ap (λ (u : Slot). u.state) s ∙ h
+      ];
+}
+
+-- another Fresh child stays so
+turned-stays : (b : Book) (id : ℕ) (state : SlotState) (used : ℕ) (ended : List Bool) (e : Entry) → id < length b.slots → (p k : ℕ) → k ≢ id → IsFreshChild b p k → IsFreshChild (turned b id state used ended e) p k
+turned-stays b id state used ended e known p k differ c =
+    elim (turned-at b id state known k) [
+      | Turned is s ↦ absurd (differ is)
+      | Untouched not_id s ↦ record {
+        known = omega (arith, c.known, length-set b.slots id (record (slot_at b id) { state = state }));
+        some = c.some;
+        fresh = ap (λ (u : Slot). u.state) s ∙ c.fresh;
+        below = ap (λ (u : Slot). u.parent) s ∙ c.below;
+      }
+    ]
+
+-- where the old state wasn't Fresh, the list stays
+turned-waiting : (b : Book) (id : ℕ) (old state : SlotState) (used : ℕ) (ended : List Bool) (e : Entry) (splits : List ℕ) → IsAt b id old → is_split old ≡ false → is_fresh old ≡ false → is_fresh state ≡ false → AreWaiting b splits → AreWaiting (turned b id state used ended e) splits
+turned-waiting b id old state used ended e splits at whole stale off waiting =
+    waiting-same b (turned b id state used ended e) splits (turned-settles b id old state used ended e at whole off)
+    (λ p old_split. (old_split.id, turned-stays b id state used ended e at.known p old_split.id (λ same. not-fresh old stale (sym at.is ∙ ap (λ k. (slot_at b k).state) (sym same) ∙ old_split.child.fresh)) old_split.child)) waiting
+
+replaced-settles : (b : Book) (plan : Plan) → Settles b (Step.replaced b plan)
+replaced-settles b plan = record {
+  long = omega (arith, length-map b.slots (Step.outdone cost));
+  child = λ p k c.
+      elim (outdone-is cost (slot_at b k)) [
+        | Kept e s ↦
+            let at = outdone-at cost b.slots k ∙ s in
+            record {
+              known = omega (arith, c.known, length-map b.slots (Step.outdone cost));
+              some = c.some;
+              fresh = sym (ap (λ (u : Slot). u.state) at) ∙ c.fresh;
+              below = sym (ap (λ (u : Slot). u.parent) at) ∙ c.below;
+            }
+        | Closed e high s ↦ absurd (not-fresh slot.ByBound refl (sym (ap (λ (u : Slot). u.state) (outdone-at cost b.slots k ∙ s)) ∙ c.fresh))
+      ];
+  split = λ p first h.
+      elim (outdone-is cost (slot_at b p)) [
+        | Kept e s ↦ ap (λ (u : Slot). u.state) (outdone-at cost b.slots p ∙ s) ∙ h
+        | Closed e high s ↦ absurd (clash (sym (ap is_split h) ∙ open-whole (slot_at b p).state e))
+      ];
+}
+  where
+    cost : ℕ
+    cost = cost_of b.case.instance plan
+
+-- ---- splitting
+
+module _ (b : Book) (family : KeepsFamily b) (w id : ℕ) (at : IsAt b id (slot.Held w)) (e : Entry) where
+  abbrev split_book : Book
+  split_book = Step.noted (Step.with_children b id) e
+
+  held-off : (slot_at b id).state ≡ slot.Fresh → ⊥
+  held-off h = not-fresh (slot.Held w) refl (sym at.is ∙ h)
+
+  held-whole : (first : ℕ) → (slot_at b id).state ≡ slot.Split first → ⊥
+  held-whole first h = clash (sym (ap is_split h) ∙ ap is_split at.is)
+
+  -- an old Fresh child, or a child of the slot that was split
+  split-was : (q other : ℕ) → IsFreshChild split_book q other → (q ≡ id) ⊎ IsFreshChild b q other
+  split-was q other c =
+      elim (split-at b id at.known other) [
+        | Parent is s ↦ absurd (not-fresh (slot.Split (length b.slots)) refl (sym (ap (λ (u : Slot). u.state) s) ∙ c.fresh))
+        | Old not_id known s ↦ inr (record { known = known; some = c.some; fresh = sym (ap (λ (u : Slot). u.state) s) ∙ c.fresh; below = sym (ap (λ (u : Slot). u.parent) s) ∙ c.below })
+        | Child k is known s ↦ inl (sym c.below ∙ ap (λ (u : Slot). u.parent) s)
+        | Past past s ↦ absurd (omega (arith, c.known, past))
+      ]
+
+  split-stays : (q other : ℕ) → IsFreshChild b q other → IsFreshChild split_book q other
+  split-stays q other c =
+      elim (split-at b id at.known other) [
+        | Parent is s ↦ absurd (held-off (ap (λ k. (slot_at b k).state) (sym is) ∙ c.fresh))
+        | Old not_id known s ↦ record { known = omega (arith, known, length-split b id); some = c.some; fresh = ap (λ (u : Slot). u.state) s ∙ c.fresh; below = ap (λ (u : Slot). u.parent) s ∙ c.below }
+        | Child k is known s ↦ absurd (omega (arith, c.known, is))
+        | Past past s ↦ absurd (omega (arith, c.known, past, length-split b id))
+      ]
+
+  splits-stay : (q f : ℕ) → (slot_at b q).state ≡ slot.Split f → (slot_at split_book q).state ≡ slot.Split f
+  splits-stay q f h =
+      let here : q < length b.slots = state-known b q (slot.Split f) h (λ g. clash (ap is_split g)) in
+      elim (split-at b id at.known q) [
+        | Parent is s ↦ absurd (held-whole f (ap (λ k. (slot_at b k).state) (sym is) ∙ h))
+        | Old not_id known s ↦ ap (λ (u : Slot). u.state) s ∙ h
+        | Child k is known s ↦ absurd (omega (arith, here, is))
+        | Past past s ↦ absurd (omega (arith, here, past, length-split b id))
+      ]
+
+  own-split : (slot_at split_book id).state ≡ slot.Split (length b.slots)
+  own-split =
+      elim (split-at b id at.known id) [
+        | Parent is s ↦ ap (λ (u : Slot). u.state) s
+        | Old not_id known s ↦ absurd (not_id refl)
+        | Child k is known s ↦ absurd (omega (arith, at.known, is))
+        | Past past s ↦ absurd (omega (arith, at.known, past, length-split b id))
+      ]
+
+  -- a held slot has no children
+  no-children : (other : ℕ) → IsFreshChild b id other → ⊥
+  no-children other c =
+      let born = family.born other (omega (arith, c.some)) c.known in
+      held-whole born.first (subst (λ p. (slot_at b p).state ≡ slot.Split born.first) c.below born.split)
+
+  gains : (splits : List ℕ) (other : ℕ) → IsFreshChild split_book id other → AreWaiting b splits → AreWaiting split_book (id ∷ splits)
+  gains splits other c waiting =
+      let high : length b.slots < length split_book.slots = old-or-new in
+      waiting-more b split_book splits id (length b.slots) other (omega arith) high own-split c split-was split-stays splits-stay waiting
+    where
+      old-or-new : length b.slots < length split_book.slots
+      old-or-new =
+          elim (split-at b id at.known other) [
+            | Parent is s ↦ absurd (not-fresh (slot.Split (length b.slots)) refl (sym (ap (λ (u : Slot). u.state) s) ∙ c.fresh))
+            | Old not_id known s ↦ absurd (no-children other (record { known = known; some = c.some; fresh = sym (ap (λ (u : Slot). u.state) s) ∙ c.fresh; below = sym (ap (λ (u : Slot). u.parent) s) ∙ c.below }))
+            | Child k is known s ↦ omega (arith, known, length-split b id)
+            | Past past s ↦ absurd (omega (arith, c.known, past))
+          ]
+
+  keeps-list : (splits : List ℕ) → ((other : ℕ) → IsFreshChild split_book id other → ⊥) → AreWaiting b splits → AreWaiting split_book splits
+  keeps-list splits none waiting = waiting-same b split_book splits settled (λ p old. (old.id, split-stays p old.id old.child)) waiting
+    where
+      settled : Settles b split_book
+      settled = record {
+        long = omega (arith, length-split b id);
+        child = λ p k c. elim (split-was p k c) [ inl same ↦ absurd (none k (subst (λ q. IsFreshChild split_book q k) same c)) | inr old ↦ old ];
+        split = splits-stay;
+      }
