@@ -173,11 +173,11 @@ replaced-cheap b plan keeps cheaper =
       all = keeps.all ∙ sym (shares-outdone I c cost b.slots);
     }
 
-closing-fresh : (old : SlotState) → MayClose old → is_fresh old ≡ false
+pub closing-fresh : (old : SlotState) → MayClose old → is_fresh old ≡ false
 closing-fresh old (FromHeld w) = refl
 closing-fresh old (FromParked c p) = refl
 
-closed-fresh : (new : SlotState) → IsClosed new → is_fresh new ≡ false
+pub closed-fresh : (new : SlotState) → IsClosed new → is_fresh new ≡ false
 closed-fresh new ByBound = refl
 closed-fresh new (ByCut number) = refl
 closed-fresh new ByThroughput = refl

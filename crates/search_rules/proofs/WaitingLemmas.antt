@@ -31,7 +31,7 @@ clash e = cc
 
 -- ---- one of some numbers
 
-number-among : (ns : List ℕ) (n : ℕ) → has_number ns n ≡ true → IsAmong ns n
+pub number-among : (ns : List ℕ) (n : ℕ) → has_number ns n ≡ true → IsAmong ns n
 number-among [] n e = absurd (clash (sym e))
 number-among (m ∷ ms) n e =
     elim (eqb_tells m n) [
@@ -39,7 +39,7 @@ number-among (m ∷ ms) n e =
       | inr k ↦ inr (number-among ms n (sym (ap (λ t. t || has_number ms n) k.0) ∙ e))
     ]
 
-among-number : (ns : List ℕ) (n : ℕ) → IsAmong ns n → has_number ns n ≡ true
+pub among-number : (ns : List ℕ) (n : ℕ) → IsAmong ns n → has_number ns n ≡ true
 among-number [] n h = absurd h
 among-number (m ∷ ms) n (inl same) =
     elim (eqb_tells m n) [
@@ -184,7 +184,7 @@ waiting-more b new splits p first id low high split child was stay splits_stay w
 -- ---- what an event makes Fresh, and what not
 
 -- the first number below n that is so, if any
-search-below : (P : ℕ → Type 0) → ((k : ℕ) → P k ⊎ (P k → ⊥)) → (n : ℕ) → ((k : ℕ) × P k) ⊎ ((k : ℕ) → k < n → P k → ⊥)
+pub search-below : (P : ℕ → Type 0) → ((k : ℕ) → P k ⊎ (P k → ⊥)) → (n : ℕ) → ((k : ℕ) × P k) ⊎ ((k : ℕ) → k < n → P k → ⊥)
 search-below P tells zero = inr (λ k less. absurd (omega (arith, less)))
 search-below P tells (suc n) =
     elim (tells n) [
@@ -201,7 +201,7 @@ fresh-tells slot.Fresh = inl refl
 fresh-tells _ = inr (λ e. clash (sym (ap is_fresh e)))
 
 -- slot id is a Fresh child of the parent, or it isn't
-child-tells : (b : Book) (parent id : ℕ) → IsFreshChild b parent id ⊎ (IsFreshChild b parent id → ⊥)
+pub child-tells : (b : Book) (parent id : ℕ) → IsFreshChild b parent id ⊎ (IsFreshChild b parent id → ⊥)
 child-tells b parent id =
     elim (fresh-tells (slot_at b id).state) [
       | inr off ↦ inr (λ c. off c.fresh)
@@ -220,7 +220,7 @@ not-fresh : (s : SlotState) → is_fresh s ≡ false → s ≡ slot.Fresh → �
 not-fresh s off e = clash (sym (ap is_fresh e) ∙ off)
 
 -- slot id turns to a state that isn't Fresh, from one that isn't Split
-turned-settles : (b : Book) (id : ℕ) (old state : SlotState) (used : ℕ) (ended : List Bool) (e : Entry) → IsAt b id old → is_split old ≡ false → is_fresh state ≡ false → Settles b (turned b id state used ended e)
+pub turned-settles : (b : Book) (id : ℕ) (old state : SlotState) (used : ℕ) (ended : List Bool) (e : Entry) → IsAt b id old → is_split old ≡ false → is_fresh state ≡ false → Settles b (turned b id state used ended e)
 turned-settles b id old state used ended e at whole off = record {
   long = omega (arith, length-set b.slots id (record (slot_at b id) { state = state }));
   child = λ p k c.
@@ -241,7 +241,7 @@ turned-settles b id old state used ended e at whole off = record {
 }
 
 -- another Fresh child stays so
-turned-stays : (b : Book) (id : ℕ) (state : SlotState) (used : ℕ) (ended : List Bool) (e : Entry) → id < length b.slots → (p k : ℕ) → k ≢ id → IsFreshChild b p k → IsFreshChild (turned b id state used ended e) p k
+pub turned-stays : (b : Book) (id : ℕ) (state : SlotState) (used : ℕ) (ended : List Bool) (e : Entry) → id < length b.slots → (p k : ℕ) → k ≢ id → IsFreshChild b p k → IsFreshChild (turned b id state used ended e) p k
 turned-stays b id state used ended e known p k differ c =
     elim (turned-at b id state known k) [
       | Turned is s ↦ absurd (differ is)
@@ -254,12 +254,12 @@ turned-stays b id state used ended e known p k differ c =
     ]
 
 -- where the old state wasn't Fresh, the list stays
-turned-waiting : (b : Book) (id : ℕ) (old state : SlotState) (used : ℕ) (ended : List Bool) (e : Entry) (splits : List ℕ) → IsAt b id old → is_split old ≡ false → is_fresh old ≡ false → is_fresh state ≡ false → AreWaiting b splits → AreWaiting (turned b id state used ended e) splits
+pub turned-waiting : (b : Book) (id : ℕ) (old state : SlotState) (used : ℕ) (ended : List Bool) (e : Entry) (splits : List ℕ) → IsAt b id old → is_split old ≡ false → is_fresh old ≡ false → is_fresh state ≡ false → AreWaiting b splits → AreWaiting (turned b id state used ended e) splits
 turned-waiting b id old state used ended e splits at whole stale off waiting =
     waiting-same b (turned b id state used ended e) splits (turned-settles b id old state used ended e at whole off)
     (λ p old_split. (old_split.id, turned-stays b id state used ended e at.known p old_split.id (λ same. not-fresh old stale (sym at.is ∙ ap (λ k. (slot_at b k).state) (sym same) ∙ old_split.child.fresh)) old_split.child)) waiting
 
-replaced-settles : (b : Book) (plan : Plan) → Settles b (Step.replaced b plan)
+pub replaced-settles : (b : Book) (plan : Plan) → Settles b (Step.replaced b plan)
 replaced-settles b plan = record {
   long = omega (arith, length-map b.slots (Step.outdone cost));
   child = λ p k c.
@@ -340,7 +340,7 @@ module _ (b : Book) (family : KeepsFamily b) (w id : ℕ) (at : IsAt b id (slot.
       let born = family.born other (omega (arith, c.some)) c.known in
       held-whole born.first (subst (λ p. (slot_at b p).state ≡ slot.Split born.first) c.below born.split)
 
-  gains : (splits : List ℕ) (other : ℕ) → IsFreshChild split_book id other → AreWaiting b splits → AreWaiting split_book (id ∷ splits)
+  pub gains : (splits : List ℕ) (other : ℕ) → IsFreshChild split_book id other → AreWaiting b splits → AreWaiting split_book (id ∷ splits)
   gains splits other c waiting =
       let high : length b.slots < length split_book.slots = old-or-new in
       waiting-more b split_book splits id (length b.slots) other (omega arith) high own-split c split-was split-stays splits-stay waiting
@@ -354,7 +354,7 @@ module _ (b : Book) (family : KeepsFamily b) (w id : ℕ) (at : IsAt b id (slot.
             | Past past s ↦ absurd (omega (arith, c.known, past))
           ]
 
-  keeps-list : (splits : List ℕ) → ((other : ℕ) → IsFreshChild split_book id other → ⊥) → AreWaiting b splits → AreWaiting split_book splits
+  pub keeps-list : (splits : List ℕ) → ((other : ℕ) → IsFreshChild split_book id other → ⊥) → AreWaiting b splits → AreWaiting split_book splits
   keeps-list splits none waiting = waiting-same b split_book splits settled (λ p old. (old.id, split-stays p old.id old.child)) waiting
     where
       settled : Settles b split_book
