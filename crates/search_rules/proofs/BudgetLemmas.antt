@@ -54,11 +54,11 @@ split-budget b w id book keeps at lacks e =
     let slots = (Step.with_state b id new).slots in
     let few : length kids ≤ 2 * node.depth + length I.chambers = children-few I node.depth node.lines (book.slots id no_slot at.known).node in
     let taken : count_slots is_taken (slots ++ Step.children_in b id) ≡ count_slots is_taken b.slots =
-        let old = count-turned is_taken b id (slot.Held w) new at in
-        omega (arith, old, count-append is_taken slots (Step.children_in b id), count-children is_taken refl refl I (best_cost b) id (suc node.depth) 0 kids) in
+    let old = count-turned is_taken b id (slot.Held w) new at in
+    omega (arith, old, count-append is_taken slots (Step.children_in b id), count-children is_taken refl refl I (best_cost b) id (suc node.depth) 0 kids) in
     let split : count_slots is_split (slots ++ Step.children_in b id) ≡ count_slots is_split b.slots + 1 =
-        let old = count-turned is_split b id (slot.Held w) new at in
-        omega (arith, old, count-append is_split slots (Step.children_in b id), count-children is_split refl refl I (best_cost b) id (suc node.depth) 0 kids) in
+    let old = count-turned is_split b id (slot.Held w) new at in
+    omega (arith, old, count-append is_split slots (Step.children_in b id), count-children is_split refl refl I (best_cost b) id (suc node.depth) 0 kids) in
     record {
       used = keeps.used;
       taken = omega (arith, keeps.taken, taken);

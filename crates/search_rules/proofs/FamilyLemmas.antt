@@ -329,3 +329,20 @@ opening-family case plan = record {
     none : (id first : ℕ) → (slot_at (opening_book case plan) id).state ≡ slot.Split first → ⊥
     none zero first h = not-split (new_slot case.instance (cost_of case.instance plan) 0 0 root).state first (new-whole' (nat_le (cost_of case.instance plan) (bound_at case.instance root))) h
     none (suc id) first h = not-split slot.ByBound first refl h
+
+-- ---- one slot and its parent
+
+-- a slot that isn't the root is the child of its parent that its number tells
+pub own-child : (b : Book) → KeepsFamily b → (id : ℕ) → 0 < id → id < length b.slots → IsChildSlot b (slot_at b id).parent (slot_at b id).number id
+own-child b keeps id low known =
+    let born = keeps.born id low known in
+    subst (IsChildSlot b (slot_at b id).parent (slot_at b id).number) born.place ((keeps.children (slot_at b id).parent born.first born.split).child (slot_at b id).number born.number)
+
+pub parent-before : (b : Book) → KeepsFamily b → (id : ℕ) → 0 < id → id < length b.slots → (slot_at b id).parent < id
+parent-before b keeps id low known =
+    let born = keeps.born id low known in
+    let kids = keeps.children (slot_at b id).parent born.first born.split in
+    omega (arith, kids.later, born.place)
+
+pub parent-lacks : (b : Book) → KeepsFamily b → (id : ℕ) → 0 < id → id < length b.slots → (slot_at b (slot_at b id).parent).node.depth < length b.case.instance.ships
+parent-lacks b keeps id low known = let born = keeps.born id low known in (keeps.children (slot_at b id).parent born.first born.split).lacks

@@ -267,9 +267,9 @@ module _ (b : Book) (family : KeepsFamily b) where
   next_fresh-child shut parent first other last child id next =
       let known : parent < length b.slots = state-known b parent (slot.Split first) last.split (λ f. clash (ap is_split f)) in
       let best : first_best (λ c a. nat_lt (slot_at b c).bound (slot_at b a).bound) (fresh_children b parent) ≡ Some id =
-          sym (ap (least_fresh b) (last-split shut parent first other last child known))
-          ∙ sym (ap (λ t. cond t (Some 0) (least_fresh b (first_best (λ c a. nat_lt (first_child (slot_at b a).state) (first_child (slot_at b c).state)) (waiting_splits b)))) shut)
-          ∙ next in
+      sym (ap (least_fresh b) (last-split shut parent first other last child known))
+      ∙ sym (ap (λ t. cond t (Some 0) (least_fresh b (first_best (λ c a. nat_lt (first_child (slot_at b a).state) (first_child (slot_at b c).state)) (waiting_splits b)))) shut)
+      ∙ next in
       among-child shut parent id (best-among (λ c a. nat_lt (slot_at b c).bound (slot_at b a).bound) (fresh_children b parent) id best)
 
   -- where a slot is Fresh, one is next

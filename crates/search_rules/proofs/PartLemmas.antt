@@ -17,13 +17,14 @@ use Rattle.search_rules.specs.Parts.{KeepsParts}
 use Rattle.search_rules.proofs.StepLemmas.{Refused, Accepted, each-step}
 use Rattle.search_rules.proofs.ReplayLemmas.{after_all}
 use Rattle.search_rules.proofs.CoverLemmas.{event-keeps, opening-keeps}
-use Rattle.search_rules.proofs.BookLemmas.{all-keep}
+use Rattle.search_rules.proofs.BookLemmas.{all-keep, IsSound, every_list}
 use Rattle.search_rules.proofs.FamilyLemmas.{family-step, opening-family}
 use Rattle.search_rules.proofs.StateLemmas.{states-step, opening-states}
 use Rattle.search_rules.proofs.WorkerLemmas.{workers-step, opening-workers}
 use Rattle.search_rules.proofs.BudgetLemmas.{budget-step}
 use Rattle.search_rules.proofs.RoomLemmas.{room-step, opening-room, opening-budget}
 use Rattle.search_rules.proofs.CheapLemmas.{cheap-step, opening-cheap, spent-cheap}
+use Rattle.search_rules.proofs.BackLemmas.{back-step, opening-back}
 
 pub opening-parts : (case : Case) (plan : Plan) → KeepsParts (opening_book case plan)
 opening-parts case plan = record {
@@ -33,6 +34,7 @@ opening-parts case plan = record {
   budget = opening-budget case plan;
   room = opening-room case plan;
   cheap = opening-cheap case plan;
+  back = opening-back case plan;
 }
 
 module _ {Break : Type 0} (broken : Instance → Plan → Option Break) where
@@ -45,6 +47,7 @@ module _ {Break : Type 0} (broken : Instance → Plan → Option Break) where
     budget = budget-step broken b book keeps.budget e owed;
     room = room-step broken b keeps.budget keeps.workers.nine keeps.room e owed;
     cheap = cheap-step broken b book keeps.cheap e owed;
+    back = back-step broken b keeps.workers.nine keeps.back e owed;
   }
 
   same-case : (b : Book) (e : Event) → (Step.step broken b e).0.case ≡ b.case
@@ -71,6 +74,14 @@ module _ {Break : Type 0} (broken : Instance → Plan → Option Break) where
     -- the parts after the opening and any list of owed events
     pub every_list-parts : (case : Case) (plan : Plan) (es : List Event) → TreeLaws case.instance → IsLegal case.instance plan → AllByRecursion IsOwed es → KeepsParts (after_all broken (opening_book case plan) es)
     every_list-parts case plan es laws legal owed = all-parts (opening_book case plan) es laws owed (opening-keeps case plan laws legal) (opening-parts case plan)
+
+    -- what a book keeps after its opening and any list of events: the replay, the cover and the parts
+    pub record KeepsAll (b : Book) : Type 0 where
+      pub cover : IsSound broken sound b
+      pub parts : KeepsParts b
+
+    pub every_list-all : (case : Case) (plan : Plan) (es : List Event) → TreeLaws case.instance → IsLegal case.instance plan → AllByRecursion IsOwed es → KeepsAll (after_all broken (opening_book case plan) es)
+    every_list-all case plan es laws legal owed = record { cover = every_list broken sound case plan es laws legal owed; parts = every_list-parts case plan es laws legal owed }
 
     -- where the budget is spent after any list of owed events, more nodes than it allows have a bound below the opening plan's cost
     pub every_list-spent : (case : Case) (plan : Plan) (es : List Event) → TreeLaws case.instance → IsLegal case.instance plan → AllByRecursion IsOwed es

@@ -6,6 +6,7 @@ use Rattle.search_rules.specs.Workers.{KeepsWorkers}
 use Rattle.search_rules.specs.Budget.{KeepsBudget}
 use Rattle.search_rules.specs.History.{KeepsRoom}
 use Rattle.search_rules.specs.Cheap.{KeepsCheap}
+use Rattle.search_rules.specs.Waiting.{KeepsBack}
 
 -- The slots make a tree, their states are true, and workers, nodes, entries and cheap nodes are counted.
 pub record KeepsParts (b : Book) : Type 0 where
@@ -15,3 +16,4 @@ pub record KeepsParts (b : Book) : Type 0 where
   pub budget : KeepsBudget b
   pub room : KeepsRoom b
   pub cheap : KeepsCheap b
+  pub back : KeepsBack b
