@@ -1,8 +1,8 @@
 -- The list of Back slots: what each event changes of it, and that it stays short.
-use Rattle.std.proofs.Common.{◌≡◌, ◌≢◌, ℕ, zero, suc, ◌+◌, ◌<◌, ◌≤◌, List, [], ◌∷◌, ◌++◌, length, map, inl, inr, ◌⊎◌, refl, sym, ap, ◌∙◌, subst, arith, Bool, true, false, not, cond, ◌&&◌, ◌||◌, Some, None, slice_index_or, slice_set, nat_eq, nat_le, nat_lt}
+use Rattle.std.proofs.Common.{◌≡◌, ℕ, zero, suc, ◌+◌, ◌<◌, ◌≤◌, List, [], ◌∷◌, ◌++◌, length, map, inl, inr, refl, sym, ap, ◌∙◌, subst, arith, Bool, true, false, cond, ◌&&◌, ◌||◌, Some, None, slice_index_or, slice_set, nat_le, nat_lt}
 use Rattle.std.specs.declared.option.Option.{Option}
 use Rattle.std.specs.List.{filter}
-use Rattle.std.proofs.lemmas.Bool.Decides.{leb_tells, eqb_tells}
+use Rattle.std.proofs.lemmas.Bool.Decides.{leb_tells}
 use Rattle.lock_model.specs.Ships.{RisesFrom}
 use Rattle.lock_model.specs.declared.instance.Instance.{Instance}
 use Rattle.lock_model.specs.declared.group.Group.{Group}
@@ -10,8 +10,6 @@ use Rattle.lock_model.specs.declared.plan.Plan.{Plan}
 use Rattle.lock_rules.specs.Plan.{cost_of}
 use Rattle.lock_rules.specs.Children.{insert_number, children_of}
 use Rattle.lock_rules.proofs.TreeLemmas.{IsAmong}
-use Rattle.search_rules.specs.declared.book.Entry.{Entry}
-use Rattle.search_rules.specs.declared.book.Entry.TheVariants as entry
 use Rattle.search_rules.specs.declared.book.SlotState.{SlotState}
 use Rattle.search_rules.specs.declared.book.SlotState.TheVariants as slot
 use Rattle.search_rules.specs.Book.{Case, Slot, Book, Node as TreeNode, no_slot, slot_at, best_cost, bound_at, root, new_slot, opening_book, first_slot, is_fresh, is_back, is_parked}
@@ -22,7 +20,7 @@ use Rattle.search_rules.specs.Room.{count_slots, count_false}
 use Rattle.search_rules.specs.Waiting.{back_slots, KeepsBack}
 use Rattle.search_rules.proofs.SlotLemmas.{IsAt, first_slot-at, first_slot-before}
 use Rattle.search_rules.proofs.NextLemmas.{where-rises, where-among, among-where, above-low, first_slot-is, first_slot-empty}
-use Rattle.search_rules.proofs.MoveLemmas.{IsMove, Stays, TakesBack, TakesFresh, Splits, Closes, Parks, Posts, Replaces, Ends, GivesBack, IsRunning, MayClose, FromHeld, FromParked, IsClosed, ByBound, ByCut, ByThroughput, ByProbe, turned, each-move}
+use Rattle.search_rules.proofs.MoveLemmas.{Stays, TakesBack, TakesFresh, Splits, Closes, Parks, Posts, Replaces, Ends, GivesBack, IsRunning, MayClose, FromHeld, FromParked, IsClosed, ByBound, ByCut, ByThroughput, ByProbe, each-move}
 use Rattle.search_rules.proofs.TallyLemmas.{one, count-turned, count-append, count-children, count-outdone, Kept, Closed, outdone-is, count_false-set}
 
 clash : true ≡ false → ⊥

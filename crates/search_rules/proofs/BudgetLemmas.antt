@@ -1,8 +1,7 @@
 -- Every event keeps the budget, the workers and the room of the history.
-use Rattle.std.proofs.Common.{◌≡◌, ◌≢◌, ℕ, zero, suc, ◌+◌, ◌-◌, ◌*◌, ◌<◌, ◌≤◌, List, [], ◌∷◌, ◌++◌, length, map, refl, sym, ap, ◌∙◌, subst, arith, Bool, true, false, not, cond, ◌&&◌, ◌||◌, slice_index_or, slice_set, inl, inr}
+use Rattle.std.proofs.Common.{◌≡◌, ℕ, suc, ◌+◌, ◌*◌, ◌<◌, ◌≤◌, List, ◌++◌, length, refl, sym, ap, subst, arith, Bool, true, false, ◌||◌, slice_set}
 use Rattle.std.specs.declared.option.Option.{Option}
 use Rattle.std.proofs.lemmas.List.{length-map, length-set}
-use Rattle.std.proofs.lemmas.List.{get_or-set_same, get_or-set_other}
 use Rattle.lock_model.specs.declared.instance.Instance.{Instance}
 use Rattle.lock_model.specs.declared.plan.Plan.{Plan}
 use Rattle.lock_rules.specs.Plan.{cost_of}
@@ -11,18 +10,16 @@ use Rattle.lock_rules.proofs.SizeLemmas.{children-few}
 use Rattle.search_rules.specs.declared.book.Entry.{Entry}
 use Rattle.search_rules.specs.declared.book.SlotState.{SlotState}
 use Rattle.search_rules.specs.declared.book.SlotState.TheVariants as slot
-use Rattle.search_rules.specs.Book.{Case, Slot, Book, no_slot, slot_at, best_cost, opening_book, is_fresh, is_back, is_held, is_parked}
-use Rattle.search_rules.specs.Events.{Event, IsOwed, is_accepted}
+use Rattle.search_rules.specs.Book.{Book, no_slot, slot_at, best_cost, is_back, is_held, is_parked}
+use Rattle.search_rules.specs.Events.{Event, IsOwed}
 use Rattle.search_rules.specs.NextSlot.{is_split}
 use Rattle.search_rules.specs.Step
-use Rattle.search_rules.specs.Cover.{IsGoodSlot, KeepsBook}
-use Rattle.search_rules.specs.Room.{count_slots, count_false, room_of}
+use Rattle.search_rules.specs.Cover.{KeepsBook}
+use Rattle.search_rules.specs.Room.{count_slots}
 use Rattle.search_rules.specs.Budget.{is_taken, KeepsBudget}
-use Rattle.search_rules.specs.Workers.{KeepsWorkers}
-use Rattle.search_rules.specs.History.{KeepsRoom}
 use Rattle.search_rules.proofs.SlotLemmas.{IsAt}
-use Rattle.search_rules.proofs.MoveLemmas.{IsMove, Stays, TakesBack, TakesFresh, Splits, Closes, Parks, Posts, Replaces, Ends, GivesBack, MayClose, FromHeld, FromParked, IsClosed, ByBound, ByCut, ByThroughput, ByProbe, turned, is_growing, each-move}
-use Rattle.search_rules.proofs.TallyLemmas.{one, count-turned, count-append, count-children, count-weaker, count-outdone_same, count-outdone, open-whole, open-not_held, length-children, length-append, count_false-set}
+use Rattle.search_rules.proofs.MoveLemmas.{Stays, TakesBack, TakesFresh, Splits, Closes, Parks, Posts, Replaces, Ends, GivesBack, MayClose, FromHeld, FromParked, IsClosed, ByBound, ByCut, ByThroughput, ByProbe, turned, each-move}
+use Rattle.search_rules.proofs.TallyLemmas.{one, count-turned, count-append, count-children, count-weaker, count-outdone_same, count-outdone, open-whole, length-children, length-append}
 
 -- ---- the budget of nodes
 

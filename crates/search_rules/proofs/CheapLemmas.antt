@@ -1,5 +1,5 @@
 -- Every event keeps the count of cheap nodes; where the budget is spent, there are more of them than it allows.
-use Rattle.std.proofs.Common.{◌≡◌, ◌≢◌, ℕ, zero, suc, ◌+◌, ◌-◌, ◌<◌, ◌≤◌, List, [], ◌∷◌, ◌++◌, length, map, refl, sym, ap, ◌∙◌, subst, arith, Bool, true, false, not, cond, ◌&&◌, ◌||◌, slice_index_or, slice_set, nat_eq, nat_le, nat_lt, All, sum_by, Some, None, inl, inr}
+use Rattle.std.proofs.Common.{◌≡◌, ℕ, zero, suc, ◌+◌, ◌-◌, ◌<◌, ◌≤◌, List, [], ◌∷◌, ◌++◌, length, map, refl, sym, ap, ◌∙◌, subst, arith, Bool, true, false, cond, slice_index_or, slice_set, nat_eq, nat_le, nat_lt, All, sum_by, Some, None, inl, inr}
 use Rattle.std.specs.declared.option.Option.{Option}
 use Rattle.std.proofs.lemmas.Bool.Decides.{leb_tells, eqb_tells}
 use Rattle.std.proofs.lemmas.List.Elements.{All-head, All-tail}
@@ -9,22 +9,21 @@ use Rattle.lock_model.specs.declared.group.Group.{Group}
 use Rattle.lock_model.specs.declared.plan.Plan.{Plan}
 use Rattle.lock_rules.specs.Plan.{cost_of}
 use Rattle.lock_rules.specs.Node.{root_lines}
-use Rattle.lock_rules.specs.Bound.{bound_of}
 use Rattle.lock_rules.specs.Children.{children_of}
 use Rattle.lock_rules.specs.Cheap.{is_cheap, cheap_from, cheap_nodes}
 use Rattle.search_rules.specs.declared.book.Entry.{Entry}
 use Rattle.search_rules.specs.declared.book.Entry.TheVariants as entry
 use Rattle.search_rules.specs.declared.book.SlotState.{SlotState}
 use Rattle.search_rules.specs.declared.book.SlotState.TheVariants as slot
-use Rattle.search_rules.specs.Book.{Case, Slot, Book, Node as TreeNode, no_slot, slot_at, best_cost, bound_at, root, new_slot, opening_book, first_slot, has_slot, is_fresh, is_back, is_held, is_held_by, is_parked}
-use Rattle.search_rules.specs.Events.{Event, Reply, IsOwed, take, Ended, Holds, NodesSpent, Idle, Done, Node}
+use Rattle.search_rules.specs.Book.{Case, Slot, Book, Node as TreeNode, no_slot, slot_at, best_cost, bound_at, root, new_slot, opening_book, first_slot, has_slot, is_fresh, is_back, is_held, is_held_by}
+use Rattle.search_rules.specs.Events.{Event, Reply, IsOwed, take, Ended, NodesSpent, Idle, Done}
 use Rattle.search_rules.specs.NextSlot.{is_split, next_fresh}
 use Rattle.search_rules.specs.Step
 use Rattle.search_rules.specs.Room.{count_slots}
 use Rattle.search_rules.specs.Cover.{IsGoodSlot, KeepsBook}
 use Rattle.search_rules.specs.Cheap.{opening_cost, count_cheap, share_of, sum_shares, KeepsCheap}
 use Rattle.search_rules.proofs.SlotLemmas.{IsAt, next_fresh-at}
-use Rattle.search_rules.proofs.MoveLemmas.{IsMove, Stays, TakesBack, TakesFresh, Splits, Closes, Parks, Posts, Replaces, Ends, GivesBack, MayClose, FromHeld, FromParked, IsClosed, ByBound, ByCut, ByThroughput, ByProbe, turned, each-move}
+use Rattle.search_rules.proofs.MoveLemmas.{Stays, TakesBack, TakesFresh, Splits, Closes, Parks, Posts, Replaces, Ends, GivesBack, MayClose, FromHeld, FromParked, IsClosed, ByBound, ByCut, ByThroughput, ByProbe, turned, each-move}
 use Rattle.search_rules.proofs.BudgetLemmas.{closing-whole, closed-whole}
 use Rattle.search_rules.proofs.TallyLemmas.{one, count-turned, count-append, count-outdone, open-whole, Kept, Closed, outdone-is}
 

@@ -1,5 +1,5 @@
 -- Every event keeps the tree that the slots make.
-use Rattle.std.proofs.Common.{◌≡◌, ◌≢◌, ℕ, zero, suc, ◌+◌, ◌<◌, ◌≤◌, List, [], ◌∷◌, ◌++◌, length, map, refl, sym, ap, ◌∙◌, subst, arith, Bool, true, false, cond, slice_index_or, slice_set, nat_le}
+use Rattle.std.proofs.Common.{◌≡◌, ℕ, zero, suc, ◌+◌, ◌<◌, List, [], ◌∷◌, ◌++◌, length, refl, sym, ap, ◌∙◌, subst, arith, Bool, true, false, cond, slice_index_or, slice_set, nat_le}
 use Rattle.std.specs.declared.option.Option.{Option}
 use Rattle.std.proofs.lemmas.List.{length-map, length-set}
 use Rattle.lock_model.specs.declared.instance.Instance.{Instance}
@@ -9,13 +9,13 @@ use Rattle.search_rules.specs.declared.book.Entry.{Entry}
 use Rattle.search_rules.specs.declared.book.Entry.TheVariants as entry
 use Rattle.search_rules.specs.declared.book.SlotState.{SlotState}
 use Rattle.search_rules.specs.declared.book.SlotState.TheVariants as slot
-use Rattle.search_rules.specs.Book.{Case, Slot, Book, Node as TreeNode, no_slot, slot_at, best_cost, bound_at, root, new_slot, opening_book, is_held}
+use Rattle.search_rules.specs.Book.{Case, Slot, Book, Node as TreeNode, no_slot, slot_at, best_cost, bound_at, root, new_slot, opening_book}
 use Rattle.search_rules.specs.Events.{Event, IsOwed}
 use Rattle.search_rules.specs.NextSlot.{is_split, first_child}
 use Rattle.search_rules.specs.Step
 use Rattle.search_rules.specs.Family.{child_count, child_node, IsChildSlot, HasChildren, IsBorn, KeepsFamily}
 use Rattle.search_rules.proofs.SlotLemmas.{IsAt}
-use Rattle.search_rules.proofs.MoveLemmas.{IsMove, Stays, TakesBack, TakesFresh, Splits, Closes, Parks, Posts, Replaces, Ends, GivesBack, turned, state-known, each-move}
+use Rattle.search_rules.proofs.MoveLemmas.{Stays, TakesBack, TakesFresh, Splits, Closes, Parks, Posts, Replaces, Ends, GivesBack, turned, state-known, each-move}
 use Rattle.search_rules.proofs.BudgetLemmas.{closing-whole, closed-whole}
 use Rattle.search_rules.proofs.TallyLemmas.{Kept, Closed, outdone-is, open-whole}
 use Rattle.search_rules.proofs.TurnLemmas.{Turned, Untouched, turned-at, Parent, Old, Child, Past, split-at, kid, kid-at, length-split, outdone-at}

@@ -1,5 +1,5 @@
 -- What an event does to a book: a refusal leaves it, and each accepted event is one of nine moves.
-use Rattle.std.proofs.Common.{◌≡◌, ◌≢◌, ℕ, zero, suc, ◌+◌, ◌<◌, ◌≤◌, List, [], ◌∷◌, ◌++◌, length, inl, inr, refl, sym, ap, ◌∙◌, subst, arith, Bool, true, false, not, cond, ◌&&◌, ◌||◌, Some, None, slice_index_or, slice_get, slice_set, nat_eq, nat_le, nat_lt, Contains}
+use Rattle.std.proofs.Common.{◌≡◌, ◌≢◌, ℕ, zero, suc, ◌<◌, ◌≤◌, List, [], ◌∷◌, ◌++◌, length, inl, inr, refl, sym, ap, ◌∙◌, subst, arith, Bool, true, false, not, cond, ◌&&◌, ◌||◌, Some, None, slice_index_or, slice_get, slice_set, nat_eq, nat_le, nat_lt}
 use Rattle.std.specs.declared.option.Option.{Option}
 use Rattle.std.proofs.lemmas.Bool.Decides.{eqb_tells, leb_tells}
 use Rattle.lock_model.specs.Deck.{Deck}
@@ -20,13 +20,13 @@ use Rattle.search_rules.specs.declared.book.Entry.{Entry}
 use Rattle.search_rules.specs.declared.book.Entry.TheVariants as entry
 use Rattle.search_rules.specs.declared.book.SlotState.{SlotState}
 use Rattle.search_rules.specs.declared.book.SlotState.TheVariants as slot
-use Rattle.search_rules.specs.Tests.{same_deck, has_clash, is_own_cut, is_node_hit}
-use Rattle.search_rules.specs.Book.{Case, Node as TreeNode, Slot, Book, no_slot, slot_at, best_cost, first_slot, has_slot, is_fresh, is_back, is_held, is_held_by, is_parked, group_at, ships_at, no_group}
+use Rattle.search_rules.specs.Tests.{same_deck, has_clash, is_own_cut}
+use Rattle.search_rules.specs.Book.{Slot, Book, no_slot, slot_at, best_cost, first_slot, has_slot, is_back, is_held, is_held_by, is_parked, group_at, ships_at, no_group}
 use Rattle.search_rules.specs.Events.{Event, Reply, IsOwed, is_accepted, take, split, close_bound, close_cut, close_throughput, close_probe, post, park, replace, release}
-use Rattle.search_rules.specs.Events.{Node, Made, Closed, Parked, Replaced, Released, Ended, NodesSpent, Idle, Done, Holds, NotHeld, Whole, Cheaper, NoHit, OtherDeck, NotCheaper, Absent, Clashes}
-use Rattle.search_rules.specs.NextSlot.{next_fresh, is_split}
+use Rattle.search_rules.specs.Events.{Replaced, Ended, NodesSpent, Idle, Done, NotHeld, Whole, Cheaper, NoHit, OtherDeck, NotCheaper, Absent, Clashes}
+use Rattle.search_rules.specs.NextSlot.{next_fresh}
 use Rattle.search_rules.specs.Step
-use Rattle.search_rules.specs.States.{IsHitBy, IsProbedBy, IsSpentGroup, Tells}
+use Rattle.search_rules.specs.States.{Tells}
 use Rattle.search_rules.proofs.CoverLemmas.{held-known, not-not, not-below, not-le}
 use Rattle.search_rules.proofs.LawLemmas.{contains-times}
 use Rattle.search_rules.proofs.TestLemmas.{same_deck-decides, HasNoClash-test, has_number-decides, is_node_hit-decides, is_own_cut-decides}

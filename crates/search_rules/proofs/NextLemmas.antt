@@ -1,7 +1,7 @@
 -- Which slot is the first in a state, and which Fresh slot is next.
-use Rattle.std.proofs.Common.{◌≡◌, ◌≢◌, ℕ, zero, suc, ◌+◌, ◌<◌, ◌≤◌, List, [], ◌∷◌, ◌++◌, length, inl, inr, ◌⊎◌, refl, sym, ap, ◌∙◌, subst, arith, Bool, true, false, not, cond, ◌&&◌, ◌||◌, Some, None, slice_index_or, nat_eq, nat_lt}
+use Rattle.std.proofs.Common.{◌≡◌, ◌≢◌, ℕ, zero, suc, ◌+◌, ◌<◌, ◌≤◌, List, [], ◌∷◌, length, inl, inr, refl, sym, ap, ◌∙◌, subst, arith, Bool, true, false, not, cond, ◌&&◌, Some, None, slice_index_or, nat_eq, nat_lt}
 use Rattle.std.specs.declared.option.Option.{Option}
-use Rattle.std.specs.List.{position, position_or_len, filter}
+use Rattle.std.specs.List.{position_or_len, filter}
 use Rattle.std.proofs.lemmas.Bool.Decides.{leb_tells, eqb_tells}
 use Rattle.lock_model.specs.Ships.{RisesFrom}
 use Rattle.lock_rules.proofs.TreeLemmas.{IsAmong, RisesFrom-less, RisesFrom-filter}
@@ -13,7 +13,7 @@ use Rattle.search_rules.specs.NextSlot.{keep_better, first_best, numbers_where, 
 use Rattle.search_rules.specs.Family.{child_count, KeepsFamily}
 use Rattle.search_rules.specs.Waiting.{IsFreshChild, IsLeastFresh, IsLastSplit}
 use Rattle.search_rules.proofs.MoveLemmas.{state-known}
-use Rattle.search_rules.proofs.SlotLemmas.{IsAt, fresh-known, fresh-is, next_fresh-at}
+use Rattle.search_rules.proofs.SlotLemmas.{IsAt, fresh-is, next_fresh-at}
 
 clash : true ≡ false → ⊥
 clash e = cc

@@ -11,7 +11,6 @@ use Rattle.search_rules.specs.Book.{Case, Book, opening_book}
 use Rattle.search_rules.specs.Events.{Event, IsOwed, take, NodesSpent}
 use Rattle.search_rules.specs.Step
 use Rattle.search_rules.specs.Cover.{KeepsBook}
-use Rattle.search_rules.specs.Cheap.{opening_cost}
 use Rattle.search_rules.specs.Laws.{TreeLaws}
 use Rattle.search_rules.specs.Parts.{KeepsParts}
 use Rattle.search_rules.proofs.StepLemmas.{Refused, Accepted, each-step}

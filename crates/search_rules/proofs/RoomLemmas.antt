@@ -1,5 +1,5 @@
 -- Every event keeps the room of the history: each accepted event but post and replace uses one entry of it.
-use Rattle.std.proofs.Common.{◌≡◌, ◌≢◌, ℕ, zero, suc, ◌+◌, ◌-◌, ◌*◌, ◌<◌, ◌≤◌, List, [], ◌∷◌, ◌++◌, length, map, refl, sym, ap, ◌∙◌, subst, arith, Bool, true, false, not, cond, ◌&&◌, ◌||◌, nat_le, slice_index_or, slice_set, inl, inr, ◌⊎◌}
+use Rattle.std.proofs.Common.{◌≡◌, ℕ, suc, ◌+◌, ◌-◌, ◌*◌, ◌≤◌, List, [], ◌∷◌, length, refl, sym, ap, ◌∙◌, subst, arith, Bool, true, false, cond, nat_le, slice_set}
 use Rattle.std.specs.declared.option.Option.{Option}
 use Rattle.lock_model.specs.declared.instance.Instance.{Instance}
 use Rattle.lock_model.specs.declared.plan.Plan.{Plan}
@@ -9,7 +9,7 @@ use Rattle.search_rules.specs.declared.book.Entry.{Entry}
 use Rattle.search_rules.specs.declared.book.Entry.TheVariants as entry
 use Rattle.search_rules.specs.declared.book.SlotState.{SlotState}
 use Rattle.search_rules.specs.declared.book.SlotState.TheVariants as slot
-use Rattle.search_rules.specs.Book.{Case, Slot, Book, no_slot, slot_at, best_cost, bound_at, root, opening_book, is_fresh, is_back, is_held, is_parked}
+use Rattle.search_rules.specs.Book.{Case, Slot, Book, slot_at, best_cost, bound_at, root, opening_book, is_back, is_held, is_parked}
 use Rattle.search_rules.specs.Events.{Event, Reply, IsOwed, is_accepted, post, replace}
 use Rattle.search_rules.specs.Step
 use Rattle.search_rules.specs.Room.{count_slots, count_false, room_of}
@@ -17,8 +17,8 @@ use Rattle.search_rules.specs.Budget.{is_taken, KeepsBudget}
 use Rattle.search_rules.specs.History.{KeepsRoom}
 use Rattle.search_rules.proofs.SlotLemmas.{IsAt}
 use Rattle.search_rules.proofs.StepLemmas.{Refused, Accepted, each-step, entry_of, cuts_of, plans_of}
-use Rattle.search_rules.proofs.MoveLemmas.{IsMove, Stays, TakesBack, TakesFresh, Splits, Closes, Parks, Posts, Replaces, Ends, GivesBack, IsRunning, MayClose, FromHeld, FromParked, IsClosed, ByBound, ByCut, ByThroughput, ByProbe, turned, is_growing, each-move}
-use Rattle.search_rules.proofs.TallyLemmas.{one, count-turned, count-append, count-children, count-outdone_same, count-outdone, open-not_held, length-append, count_false-set}
+use Rattle.search_rules.proofs.MoveLemmas.{Stays, TakesBack, TakesFresh, Splits, Closes, Parks, Posts, Replaces, Ends, GivesBack, IsRunning, MayClose, FromHeld, FromParked, IsClosed, ByBound, ByCut, ByThroughput, ByProbe, is_growing, each-move}
+use Rattle.search_rules.proofs.TallyLemmas.{one, count-turned, count-append, count-children, count-outdone, length-append, count_false-set}
 
 clash : true ≡ false → ⊥
 clash e = cc

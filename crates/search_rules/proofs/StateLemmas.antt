@@ -1,5 +1,5 @@
 -- Every event keeps the state of each slot true of its node.
-use Rattle.std.proofs.Common.{◌≡◌, ◌≢◌, ℕ, zero, suc, ◌+◌, ◌<◌, ◌≤◌, List, [], ◌∷◌, ◌++◌, length, map, refl, sym, ap, ◌∙◌, subst, arith, Bool, true, false, cond, ◌&&◌, ◌||◌, slice_index_or, slice_get, slice_set, nat_le, All, Some, None, inl, inr}
+use Rattle.std.proofs.Common.{◌≡◌, ℕ, zero, suc, ◌<◌, ◌≤◌, List, [], ◌∷◌, ◌++◌, length, refl, sym, ◌∙◌, subst, arith, Bool, true, false, cond, ◌&&◌, ◌||◌, slice_get, slice_set, nat_le, All, Some, None, inl, inr}
 use Rattle.std.specs.declared.option.Option.{Option}
 use Rattle.std.proofs.lemmas.Bool.Decides.{leb_tells}
 use Rattle.std.proofs.lemmas.List.Elements.{All-append, All-cons, All-nil, All-map, All-weaker}
@@ -17,10 +17,10 @@ use Rattle.search_rules.specs.Book.{Case, Slot, Book, Node as TreeNode, no_slot,
 use Rattle.search_rules.specs.Events.{Event, IsOwed}
 use Rattle.search_rules.specs.Step
 use Rattle.search_rules.specs.Cover.{IsParkedWell}
-use Rattle.search_rules.specs.States.{IsHitBy, IsProbedBy, IsSpentGroup, Tells, IsTrueSlot, KeepsStates}
+use Rattle.search_rules.specs.States.{Tells, IsTrueSlot, KeepsStates}
 use Rattle.search_rules.proofs.CoverLemmas.{all-set, not-le}
 use Rattle.search_rules.proofs.SlotLemmas.{IsAt}
-use Rattle.search_rules.proofs.MoveLemmas.{IsMove, Stays, TakesBack, TakesFresh, Splits, Closes, Parks, Posts, Replaces, Ends, GivesBack, TellsAt, turned, state-known, each-move}
+use Rattle.search_rules.proofs.MoveLemmas.{Stays, TakesBack, TakesFresh, Splits, Closes, Parks, Posts, Replaces, Ends, GivesBack, TellsAt, turned, each-move}
 use Rattle.search_rules.proofs.TallyLemmas.{Kept, Closed, outdone-is}
 
 clash : true ≡ false → ⊥

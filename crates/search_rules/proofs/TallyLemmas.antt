@@ -1,10 +1,10 @@
 -- How the counts of slots change.
-use Rattle.std.proofs.Common.{◌≡◌, ℕ, zero, suc, ◌+◌, ◌*◌, ◌<◌, ◌≤◌, List, [], ◌∷◌, ◌++◌, length, map, refl, sym, ap, ◌∙◌, subst, arith, Bool, true, false, cond, ◌&&◌, ◌||◌, slice_index_or, slice_set, nat_le}
+use Rattle.std.proofs.Common.{◌≡◌, ℕ, zero, suc, ◌+◌, ◌<◌, ◌≤◌, List, [], ◌∷◌, ◌++◌, length, map, refl, sym, ap, subst, arith, Bool, true, false, cond, ◌&&◌, ◌||◌, slice_index_or, slice_set, nat_le}
 use Rattle.lock_model.specs.declared.instance.Instance.{Instance}
 use Rattle.lock_model.specs.declared.group.Group.{Group}
 use Rattle.search_rules.specs.declared.book.SlotState.{SlotState}
 use Rattle.search_rules.specs.declared.book.SlotState.TheVariants as slot
-use Rattle.search_rules.specs.Book.{Slot, Book, Node as TreeNode, no_slot, slot_at, new_slot, bound_at, is_fresh, is_back, is_held, is_parked}
+use Rattle.search_rules.specs.Book.{Slot, Book, no_slot, slot_at, bound_at, is_fresh, is_back, is_held, is_parked}
 use Rattle.search_rules.specs.NextSlot.{is_split}
 use Rattle.search_rules.specs.Step
 use Rattle.search_rules.specs.Room.{count_slots, count_false}

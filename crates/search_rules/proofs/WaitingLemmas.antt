@@ -1,30 +1,26 @@
 -- The list of splits that have a Fresh child: its first one is next, and what each event changes of it.
-use Rattle.std.proofs.Common.{◌≡◌, ◌≢◌, ℕ, zero, suc, ◌+◌, ◌<◌, ◌≤◌, List, [], ◌∷◌, ◌++◌, length, map, inl, inr, ◌⊎◌, refl, sym, ap, ◌∙◌, subst, arith, Bool, true, false, not, cond, ◌&&◌, ◌||◌, Some, None, slice_index_or, slice_set, nat_eq, nat_le, nat_lt, Contains}
-use Rattle.std.specs.declared.option.Option.{Option}
+use Rattle.std.proofs.Common.{◌≡◌, ◌≢◌, ℕ, zero, suc, ◌<◌, ◌≤◌, List, [], ◌∷◌, length, inl, inr, ◌⊎◌, refl, sym, ap, ◌∙◌, subst, arith, Bool, true, false, cond, ◌||◌, nat_eq}
 use Rattle.std.specs.List.{filter}
-use Rattle.std.proofs.lemmas.Bool.Decides.{leb_tells, eqb_tells}
+use Rattle.std.proofs.lemmas.Bool.Decides.{eqb_tells}
 use Rattle.std.proofs.lemmas.List.{length-map, length-set}
-use Rattle.lock_model.specs.declared.instance.Instance.{Instance}
 use Rattle.lock_model.specs.declared.plan.Plan.{Plan}
 use Rattle.lock_rules.specs.Plan.{cost_of}
 use Rattle.lock_rules.specs.Trace.{has_number}
 use Rattle.lock_rules.proofs.TreeLemmas.{IsAmong}
 use Rattle.lock_rules.proofs.BoundLemmas.{IsAmong-filter}
 use Rattle.search_rules.specs.declared.book.Entry.{Entry}
-use Rattle.search_rules.specs.declared.book.Entry.TheVariants as entry
 use Rattle.search_rules.specs.declared.book.SlotState.{SlotState}
 use Rattle.search_rules.specs.declared.book.SlotState.TheVariants as slot
-use Rattle.search_rules.specs.Book.{Case, Slot, Book, no_slot, slot_at, best_cost, bound_at, root, new_slot, opening_book, is_fresh, is_back, is_parked}
-use Rattle.search_rules.specs.Events.{Event, IsOwed}
-use Rattle.search_rules.specs.NextSlot.{is_split, first_child, is_some_number, fresh_children}
+use Rattle.search_rules.specs.Book.{Slot, Book, slot_at, root, is_fresh}
+use Rattle.search_rules.specs.NextSlot.{is_split, first_child}
 use Rattle.search_rules.specs.Step
 use Rattle.search_rules.specs.Family.{KeepsFamily}
 use Rattle.search_rules.specs.Waiting.{IsFreshChild, IsLastSplit, IsWaitingSplit, FallBelow, AreWaiting}
 use Rattle.search_rules.proofs.SlotLemmas.{IsAt}
-use Rattle.search_rules.proofs.NextLemmas.{among-where, among-filter}
+use Rattle.search_rules.proofs.NextLemmas.{among-filter}
 use Rattle.search_rules.proofs.MoveLemmas.{state-known, turned}
 use Rattle.search_rules.proofs.TallyLemmas.{Kept, Closed, outdone-is, open-whole}
-use Rattle.search_rules.proofs.TurnLemmas.{Turned, Untouched, turned-at, Parent, Old, Child, Past, split-at, kid, kid-at, length-split, outdone-at}
+use Rattle.search_rules.proofs.TurnLemmas.{Turned, Untouched, turned-at, Parent, Old, Child, Past, split-at, length-split, outdone-at}
 
 clash : true ≡ false → ⊥
 clash e = cc

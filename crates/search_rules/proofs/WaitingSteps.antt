@@ -1,26 +1,23 @@
 -- What each event changes of the list of splits that have a Fresh child.
-use Rattle.std.proofs.Common.{◌≡◌, ◌≢◌, ℕ, zero, suc, ◌+◌, ◌<◌, ◌≤◌, List, [], ◌∷◌, ◌++◌, length, map, inl, inr, ◌⊎◌, refl, sym, ap, ◌∙◌, subst, arith, Bool, true, false, cond, Some, None, slice_index_or, slice_set, nat_le}
+use Rattle.std.proofs.Common.{◌≡◌, ◌≢◌, ℕ, suc, ◌<◌, List, [], ◌∷◌, ◌++◌, length, inl, inr, ◌⊎◌, refl, sym, ap, ◌∙◌, subst, arith, Bool, true, false, Some, slice_index_or, slice_set}
 use Rattle.std.specs.declared.option.Option.{Option}
 use Rattle.std.specs.List.{filter}
 use Rattle.std.proofs.lemmas.Bool.Decides.{eqb_tells}
 use Rattle.lock_model.specs.declared.instance.Instance.{Instance}
 use Rattle.lock_model.specs.declared.plan.Plan.{Plan}
-use Rattle.lock_rules.specs.Plan.{cost_of}
-use Rattle.search_rules.specs.declared.book.Entry.{Entry}
 use Rattle.search_rules.specs.declared.book.Entry.TheVariants as entry
-use Rattle.search_rules.specs.declared.book.SlotState.{SlotState}
 use Rattle.search_rules.specs.declared.book.SlotState.TheVariants as slot
 use Rattle.search_rules.specs.Book.{Case, Slot, Book, no_slot, slot_at, opening_book, is_fresh}
 use Rattle.search_rules.specs.Events.{Event, IsOwed}
-use Rattle.search_rules.specs.NextSlot.{is_split, first_child, next_fresh}
+use Rattle.search_rules.specs.NextSlot.{first_child, next_fresh}
 use Rattle.search_rules.specs.Step
 use Rattle.search_rules.specs.Family.{KeepsFamily}
 use Rattle.search_rules.specs.Waiting.{IsFreshChild, IsWaitingSplit, AreWaiting}
 use Rattle.search_rules.proofs.SlotLemmas.{IsAt}
 use Rattle.search_rules.proofs.NextLemmas.{next_fresh-root, next_fresh-child}
-use Rattle.search_rules.proofs.MoveLemmas.{IsMove, Stays, TakesBack, TakesFresh, Splits, Closes, Parks, Posts, Replaces, Ends, GivesBack, MayClose, IsClosed, turned, each-move}
+use Rattle.search_rules.proofs.MoveLemmas.{Stays, TakesBack, TakesFresh, Splits, Closes, Parks, Posts, Replaces, Ends, GivesBack, turned, each-move}
 use Rattle.search_rules.proofs.TurnLemmas.{Turned, Untouched, turned-at}
-use Rattle.search_rules.proofs.BudgetLemmas.{closing-whole, closed-whole}
+use Rattle.search_rules.proofs.BudgetLemmas.{closing-whole}
 use Rattle.search_rules.proofs.CheapLemmas.{closing-fresh, closed-fresh}
 use Rattle.search_rules.proofs.WaitingLemmas.{among-number, Settles, IsFreshTest, waiting-last, waiting-none, waiting-same, waiting-less, waiting-fewer, search-below, child-tells, turned-settles, turned-stays, turned-waiting, replaced-settles, gains, keeps-list}
 

@@ -1,8 +1,7 @@
 -- Every event keeps what a book knows of its workers.
-use Rattle.std.proofs.Common.{◌≡◌, ◌≢◌, ℕ, zero, suc, ◌+◌, ◌<◌, ◌≤◌, List, [], ◌∷◌, ◌++◌, length, map, refl, sym, ap, ◌∙◌, subst, arith, Bool, true, false, cond, slice_index_or, slice_set, inl, inr, ◌⊎◌, nat_le, None}
+use Rattle.std.proofs.Common.{◌≡◌, ◌≢◌, ℕ, zero, suc, ◌<◌, ◌≤◌, List, [], ◌∷◌, ◌++◌, length, map, refl, sym, ap, ◌∙◌, subst, Bool, true, false, cond, slice_index_or, slice_set, inl, inr, ◌⊎◌, nat_le}
 use Rattle.std.specs.declared.option.Option.{Option}
-use Rattle.std.proofs.lemmas.Bool.Decides.{eqb_tells}
-use Rattle.std.proofs.lemmas.List.{length-set, get_or-set_same, get_or-set_other}
+use Rattle.std.proofs.lemmas.List.{length-set, get_or-set_other}
 use Rattle.lock_model.specs.declared.instance.Instance.{Instance}
 use Rattle.lock_model.specs.declared.plan.Plan.{Plan}
 use Rattle.lock_rules.specs.Plan.{cost_of}
@@ -10,12 +9,11 @@ use Rattle.search_rules.specs.declared.book.Entry.{Entry}
 use Rattle.search_rules.specs.declared.book.Entry.TheVariants as entry
 use Rattle.search_rules.specs.declared.book.SlotState.{SlotState}
 use Rattle.search_rules.specs.declared.book.SlotState.TheVariants as slot
-use Rattle.search_rules.specs.Book.{Case, Slot, Book, no_slot, slot_at, best_cost, bound_at, root, new_slot, opening_book, is_held}
+use Rattle.search_rules.specs.Book.{Case, Slot, Book, no_slot, best_cost, bound_at, root, new_slot, opening_book, is_held}
 use Rattle.search_rules.specs.Events.{Event, IsOwed}
 use Rattle.search_rules.specs.Step
 use Rattle.search_rules.specs.Workers.{KeepsWorkers}
-use Rattle.search_rules.proofs.SlotLemmas.{IsAt}
-use Rattle.search_rules.proofs.MoveLemmas.{IsMove, Stays, TakesBack, TakesFresh, Splits, Closes, Parks, Posts, Replaces, Ends, GivesBack, IsRunning, HoldsNone, IsClosed, ByBound, ByCut, ByThroughput, ByProbe, turned, each-move}
+use Rattle.search_rules.proofs.MoveLemmas.{Stays, TakesBack, TakesFresh, Splits, Closes, Parks, Posts, Replaces, Ends, GivesBack, IsRunning, HoldsNone, IsClosed, ByBound, ByCut, ByThroughput, ByProbe, turned, each-move}
 use Rattle.search_rules.proofs.TallyLemmas.{Kept, Closed, outdone-is}
 use Rattle.search_rules.proofs.TurnLemmas.{Turned, Untouched, turned-at, Parent, Old, Child, Past, split-at, kid, outdone-at}
 

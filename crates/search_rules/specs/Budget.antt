@@ -1,5 +1,5 @@
 -- How many slots a book has.
-use Rattle.std.specs.Prelude.{ℕ, ◌+◌, ◌*◌, ◌≤◌, Bool, ◌||◌, length}
+use Rattle.std.specs.Prelude.{◌+◌, ◌*◌, ◌≤◌, Bool, ◌||◌, length}
 use Rattle.search_rules.specs.declared.book.SlotState.{SlotState}
 use Rattle.search_rules.specs.Book.{Book, is_back, is_held, is_parked}
 use Rattle.search_rules.specs.NextSlot.{is_split}

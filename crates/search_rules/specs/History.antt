@@ -1,5 +1,5 @@
 -- The free room of a book's history.
-use Rattle.std.specs.Prelude.{ℕ, ◌+◌, ◌*◌, ◌≤◌, length}
+use Rattle.std.specs.Prelude.{◌+◌, ◌*◌, ◌≤◌, length}
 use Rattle.search_rules.specs.Book.{Book}
 use Rattle.search_rules.specs.Room.{room_of}
 
