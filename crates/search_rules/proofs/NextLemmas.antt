@@ -148,6 +148,30 @@ beats-true m n h = elim (leb_tells (suc m) n) [ inl y ↦ y.0 | inr k ↦ absurd
 pub beats-false : (m n : ℕ) → n ≤ m → nat_lt m n ≡ false
 beats-false m n h = elim (leb_tells (suc m) n) [ inl y ↦ absurd (omega (arith, h, y.1)) | inr k ↦ k.0 ]
 
+-- a slot of a lower bound beats another, and so does a split of a later first child
+abbrev lower : Book → ℕ → ℕ → Bool
+lower b c a = nat_lt (slot_at b c).bound (slot_at b a).bound
+
+abbrev later : Book → ℕ → ℕ → Bool
+later b c a = nat_lt (first_child (slot_at b a).state) (first_child (slot_at b c).state)
+
+-- the next Fresh slot where the root isn't Fresh
+abbrev below_root : Book → Option ℕ
+below_root b = least_fresh b (first_best (later b) (waiting_splits b))
+
+-- one of some numbers isn't beaten
+best-some : (beats : ℕ → ℕ → Bool) (ns : List ℕ) (n : ℕ) → IsAmong ns n → (m : ℕ) × (first_best beats ns ≡ Some m)
+best-some beats [] n h = absurd h
+best-some beats (a ∷ ns) n h = keep (first_best beats ns)
+  where
+    keep : (o : Option ℕ) → (m : ℕ) × (keep_better beats a o ≡ Some m)
+    keep None = (a, refl)
+    keep (Some c) = elim (beats c a) as (λ t. (m : ℕ) × (cond t (Some c) (Some a) ≡ Some m)) [ true ↦ (c, refl) | false ↦ (a, refl) ]
+
+some-none : (o : Option ℕ) (n : ℕ) → o ≡ Some n → o ≡ None → ⊥
+some-none None n e h = cc
+some-none (Some m) n e h = cc
+
 -- a split that has a Fresh child
 record Waits (b : Book) (parent : ℕ) : Type 0 where
   id : ℕ
@@ -186,7 +210,7 @@ module _ (b : Book) (family : KeepsFamily b) where
 
   least_fresh-is : is_fresh (slot_at b 0).state ≡ false → (parent id : ℕ) → IsLeastFresh b parent id → least_fresh b (Some parent) ≡ Some id
   least_fresh-is shut parent id h =
-      first_best-is (λ c a. nat_lt (slot_at b c).bound (slot_at b a).bound) 0 (fresh_children b parent) id (where-rises (λ s. is_fresh s.state && nat_eq s.parent parent) 0 b.slots) (child-among parent id h.child)
+      first_best-is (lower b) 0 (fresh_children b parent) id (where-rises (λ s. is_fresh s.state && nat_eq s.parent parent) 0 b.slots) (child-among parent id h.child)
       (λ m among less. beats-true (slot_at b id).bound (slot_at b m).bound (h.tie m (among-child shut parent m among) less))
       (λ m among. beats-false (slot_at b m).bound (slot_at b id).bound (h.least m (among-child shut parent m among)))
 
@@ -235,10 +259,10 @@ module _ (b : Book) (family : KeepsFamily b) where
       few h = omega (arith, h)
 
   last-split : is_fresh (slot_at b 0).state ≡ false → (parent first id : ℕ) → IsLastSplit b parent first → IsFreshChild b parent id → parent < length b.slots
-      → first_best (λ c a. nat_lt (first_child (slot_at b a).state) (first_child (slot_at b c).state)) (waiting_splits b) ≡ Some parent
+      → first_best (later b) (waiting_splits b) ≡ Some parent
   last-split shut parent first id last child known =
       let own : first_child (slot_at b parent).state ≡ first = ap first_child last.split in
-      first_best-is (λ c a. nat_lt (first_child (slot_at b a).state) (first_child (slot_at b c).state)) 0 (waiting_splits b) parent
+      first_best-is (later b) 0 (waiting_splits b) parent
       (RisesFrom-filter (λ id. is_some_number (fresh_children b id)) 0 (numbers_where (λ s. is_split s.state) 0 b.slots) (where-rises (λ s. is_split s.state) 0 b.slots))
       (split-waits parent first id last.split known child)
       (λ m among less.
@@ -258,7 +282,7 @@ module _ (b : Book) (family : KeepsFamily b) where
   pub next_fresh-is : is_fresh (slot_at b 0).state ≡ false → (parent first id : ℕ) → IsLastSplit b parent first → IsLeastFresh b parent id → next_fresh b ≡ Some id
   next_fresh-is shut parent first id last least =
       let known : parent < length b.slots = state-known b parent (slot.Split first) last.split (λ f. clash (ap is_split f)) in
-      ap (λ t. cond t (Some 0) (least_fresh b (first_best (λ c a. nat_lt (first_child (slot_at b a).state) (first_child (slot_at b c).state)) (waiting_splits b)))) shut
+      ap (λ t. cond t (Some 0) (below_root b)) shut
       ∙ ap (least_fresh b) (last-split shut parent first id last least.child known)
       ∙ least_fresh-is shut parent id least
 
@@ -266,43 +290,44 @@ module _ (b : Book) (family : KeepsFamily b) where
   pub next_fresh-child : is_fresh (slot_at b 0).state ≡ false → (parent first other : ℕ) → IsLastSplit b parent first → IsFreshChild b parent other → (id : ℕ) → next_fresh b ≡ Some id → IsFreshChild b parent id
   next_fresh-child shut parent first other last child id next =
       let known : parent < length b.slots = state-known b parent (slot.Split first) last.split (λ f. clash (ap is_split f)) in
-      let best : first_best (λ c a. nat_lt (slot_at b c).bound (slot_at b a).bound) (fresh_children b parent) ≡ Some id =
+      let best : first_best (lower b) (fresh_children b parent) ≡ Some id =
       sym (ap (least_fresh b) (last-split shut parent first other last child known))
-      ∙ sym (ap (λ t. cond t (Some 0) (least_fresh b (first_best (λ c a. nat_lt (first_child (slot_at b a).state) (first_child (slot_at b c).state)) (waiting_splits b)))) shut)
+      ∙ sym (ap (λ t. cond t (Some 0) (below_root b)) shut)
       ∙ next in
-      among-child shut parent id (best-among (λ c a. nat_lt (slot_at b c).bound (slot_at b a).bound) (fresh_children b parent) id best)
+      among-child shut parent id (best-among (lower b) (fresh_children b parent) id best)
+
+  least-some : is_fresh (slot_at b 0).state ≡ false → (parent : ℕ) → IsAmong (waiting_splits b) parent → (m : ℕ) × (least_fresh b (Some parent) ≡ Some m)
+  least-some shut parent among = let waits = waits-split shut parent among in best-some (lower b) (fresh_children b parent) waits.id (child-among parent waits.id waits.child)
+
+  below-some : is_fresh (slot_at b 0).state ≡ false → (o : Option ℕ) (parent : ℕ) → o ≡ Some parent → IsAmong (waiting_splits b) parent → least_fresh b o ≡ None → ⊥
+  below-some shut None parent e among h = some-none None parent e refl
+  below-some shut (Some p) parent e among h =
+      let here : IsAmong (waiting_splits b) p = subst (IsAmong (waiting_splits b)) (sym (some-same p parent e)) among in
+      let least = least-some shut p here in
+      some-none (least_fresh b (Some p)) least.0 least.1 h
+
+  -- a Fresh slot that isn't the root waits below its parent
+  parent-waits : (id : ℕ) → id ≢ 0 → IsAt b id slot.Fresh → IsAmong (waiting_splits b) (slot_at b id).parent
+  parent-waits id not_root at =
+      let born = family.born id (omega (arith, not_root)) at.known in
+      let parent = (slot_at b id).parent in
+      let known : parent < length b.slots = state-known b parent (slot.Split born.first) born.split (λ f. clash (ap is_split f)) in
+      split-waits parent born.first id born.split known (record { known = at.known; some = not_root; fresh = at.is; below = refl })
 
   -- where a slot is Fresh, one is next
   pub next_fresh-some : (id : ℕ) → IsAt b id slot.Fresh → next_fresh b ≡ None → ⊥
   next_fresh-some id at none = by_root (is_fresh (slot_at b 0).state) refl none
     where
-      best-some : (beats : ℕ → ℕ → Bool) (ns : List ℕ) (n : ℕ) → IsAmong ns n → (m : ℕ) × (first_best beats ns ≡ Some m)
-      best-some beats [] n h = absurd h
-      best-some beats (a ∷ ns) n h = keep (first_best beats ns)
-        where
-          keep : (o : Option ℕ) → (m : ℕ) × (keep_better beats a o ≡ Some m)
-          keep None = (a, refl)
-          keep (Some c) = elim (beats c a) as (λ t. (m : ℕ) × (cond t (Some c) (Some a) ≡ Some m)) [ true ↦ (c, refl) | false ↦ (a, refl) ]
-
-      some-none : (n : ℕ) → Some n ≡ None → ⊥
-      some-none n e = cc
-
-      by_root : (t : Bool) → is_fresh (slot_at b 0).state ≡ t → cond t (Some 0) (least_fresh b (first_best (λ c a. nat_lt (first_child (slot_at b a).state) (first_child (slot_at b c).state)) (waiting_splits b))) ≡ None → ⊥
-      by_root true e h = some-none 0 h
+      by_root : (t : Bool) → is_fresh (slot_at b 0).state ≡ t → cond t (Some 0) (below_root b) ≡ None → ⊥
+      by_root true e h = some-none (Some 0) 0 refl h
       by_root false e h =
           let not_root : id ≢ 0 = λ f. clash (sym (ap is_fresh at.is) ∙ ap (λ k. is_fresh (slot_at b k).state) f ∙ e) in
-          let born = family.born id (omega (arith, not_root)) at.known in
-          let parent = (slot_at b id).parent in
-          let known : parent < length b.slots = state-known b parent (slot.Split born.first) born.split (λ f. clash (ap is_split f)) in
-          let child : IsFreshChild b parent id = record { known = at.known; some = not_root; fresh = at.is; below = refl } in
-          let split = best-some (λ c a. nat_lt (first_child (slot_at b a).state) (first_child (slot_at b c).state)) (waiting_splits b) parent (split-waits parent born.first id born.split known child) in
-          let one = waits-split e split.0 (best-among (λ c a. nat_lt (first_child (slot_at b a).state) (first_child (slot_at b c).state)) (waiting_splits b) split.0 split.1) in
-          let least = best-some (λ c a. nat_lt (slot_at b c).bound (slot_at b a).bound) (fresh_children b split.0) one.id (child-among split.0 one.id one.child) in
-          some-none least.0 (sym least.1 ∙ sym (ap (least_fresh b) split.1) ∙ h)
+          let best = best-some (later b) (waiting_splits b) (slot_at b id).parent (parent-waits id not_root at) in
+          below-some e (first_best (later b) (waiting_splits b)) best.0 best.1 (best-among (later b) (waiting_splits b) best.0 best.1) h
 
 -- the root comes first
 pub next_fresh-root : (b : Book) → is_fresh (slot_at b 0).state ≡ true → next_fresh b ≡ Some 0
-next_fresh-root b e = ap (λ t. cond t (Some 0) (least_fresh b (first_best (λ c a. nat_lt (first_child (slot_at b a).state) (first_child (slot_at b c).state)) (waiting_splits b)))) e
+next_fresh-root b e = ap (λ t. cond t (Some 0) (below_root b)) e
 
 -- where no slot is Fresh, none is next
 pub next_fresh-none : (b : Book) → ((id : ℕ) → id < length b.slots → is_fresh (slot_at b id).state ≡ false) → next_fresh b ≡ None
