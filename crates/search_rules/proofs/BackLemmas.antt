@@ -18,8 +18,8 @@ use Rattle.search_rules.specs.NextSlot.{numbers_where}
 use Rattle.search_rules.specs.Step
 use Rattle.search_rules.specs.Room.{count_slots, count_false}
 use Rattle.search_rules.specs.Waiting.{back_slots, KeepsBack}
-use Rattle.search_rules.proofs.SlotLemmas.{IsAt, first_slot-at, first_slot-before}
-use Rattle.search_rules.proofs.NextLemmas.{where-rises, where-among, among-where, above-low, first_slot-is, first_slot-empty}
+use Rattle.search_rules.proofs.SlotLemmas.{among-where, IsAt, first_slot-at, first_slot-before}
+use Rattle.search_rules.proofs.NextLemmas.{where-rises, where-among, above-low, first_slot-is, first_slot-empty}
 use Rattle.search_rules.proofs.MoveLemmas.{Stays, TakesBack, TakesFresh, Splits, Closes, Parks, Posts, Replaces, Ends, GivesBack, IsRunning, MayClose, FromHeld, FromParked, IsClosed, ByBound, ByCut, ByThroughput, ByProbe, each-move}
 use Rattle.search_rules.proofs.TallyLemmas.{one, count-turned, count-append, count-children, count-outdone, Kept, Closed, outdone-is, count_false-set}
 

@@ -13,13 +13,10 @@ use Rattle.search_rules.specs.NextSlot.{keep_better, first_best, numbers_where, 
 use Rattle.search_rules.specs.Family.{child_count, KeepsFamily}
 use Rattle.search_rules.specs.Waiting.{IsFreshChild, IsLeastFresh, IsLastSplit}
 use Rattle.search_rules.proofs.MoveLemmas.{state-known}
-use Rattle.search_rules.proofs.SlotLemmas.{IsAt, fresh-is, next_fresh-at}
+use Rattle.search_rules.proofs.SlotLemmas.{some-same, among-where, best-among, lower, later, below_root, IsAt, fresh-is, next_fresh-at}
 
 clash : true ≡ false → ⊥
 clash e = cc
-
-some-same : {X : Type 0} (x y : X) → Some x ≡ Some y → x ≡ y
-some-same x y e = cc
 
 -- ---- the first slot in such a state
 
@@ -81,20 +78,6 @@ where-among test low (x ∷ xs) (suc k) known pass =
       | false ↦ rest
     ]
 
--- a number that passes, from `low` on
-abbrev Passes : (Slot → Bool) → ℕ → List Slot → ℕ → Type 0
-Passes test low xs id = (k : ℕ) × (id ≡ low + k) × (k < length xs) × (test (slice_index_or xs k no_slot) ≡ true)
-
-among-where-step : (test : Slot → Bool) (low : ℕ) (x : Slot) (xs : List Slot) (id : ℕ) (t : Bool) → test x ≡ t → (IsAmong (numbers_where test (suc low) xs) id → Passes test (suc low) xs id)
-    → IsAmong (cond t (low ∷ numbers_where test (suc low) xs) (numbers_where test (suc low) xs)) id → Passes test low (x ∷ xs) id
-among-where-step test low x xs id true e rest (inl same) = (0, omega (arith, same), omega arith, e)
-among-where-step test low x xs id true e rest (inr h) = let r = rest h in (suc r.0, omega (arith, r.1), omega (arith, r.2), r.3)
-among-where-step test low x xs id false e rest h = let r = rest h in (suc r.0, omega (arith, r.1), omega (arith, r.2), r.3)
-
-pub among-where : (test : Slot → Bool) (low : ℕ) (xs : List Slot) (id : ℕ) → IsAmong (numbers_where test low xs) id → Passes test low xs id
-among-where test low [] id h = absurd h
-among-where test low (x ∷ xs) id h = among-where-step test low x xs id (test x) refl (λ g. among-where test (suc low) xs id g) h
-
 pub among-filter : (p : ℕ → Bool) (ns : List ℕ) (n : ℕ) → IsAmong (filter p ns) n → IsAmong ns n × (p n ≡ true)
 among-filter p [] n h = absurd h
 among-filter p (m ∷ ms) n h = by_test (p m) refl h (λ g. among-filter p ms n g)
@@ -110,21 +93,6 @@ pub above-low : (low : ℕ) (ns : List ℕ) (n : ℕ) → RisesFrom low ns → I
 above-low low [] n rises h = absurd h
 above-low low (m ∷ ms) n rises (inl same) = omega (arith, rises.0, same)
 above-low low (m ∷ ms) n rises (inr h) = let rest = above-low (suc m) ms n rises.1 h in omega (arith, rest, rises.0)
-
-best-among : (beats : ℕ → ℕ → Bool) (ns : List ℕ) (n : ℕ) → first_best beats ns ≡ Some n → IsAmong ns n
-best-among beats [] n e = absurd (none-some e)
-  where
-    none-some : None ≡ Some n → ⊥
-    none-some h = cc
-best-among beats (a ∷ ns) n e = by_rest (first_best beats ns) (λ m f. best-among beats ns m f) e
-  where
-    by_rest : (o : Option ℕ) → ((m : ℕ) → o ≡ Some m → IsAmong ns m) → keep_better beats a o ≡ Some n → IsAmong (a ∷ ns) n
-    by_rest None rest f = inl (some-same a n f)
-    by_rest (Some c) rest f = by_test (beats c a) f
-      where
-        by_test : (t : Bool) → cond t (Some c) (Some a) ≡ Some n → IsAmong (a ∷ ns) n
-        by_test true g = inr (subst (IsAmong ns) (some-same c n g) (rest c refl))
-        by_test false g = inl (some-same a n g)
 
 -- of rising numbers, the one that no other beats and that beats each smaller one
 first_best-is : (beats : ℕ → ℕ → Bool) (low : ℕ) (ns : List ℕ) (n : ℕ) → RisesFrom low ns → IsAmong ns n → ((m : ℕ) → IsAmong ns m → m < n → beats n m ≡ true) → ((m : ℕ) → IsAmong ns m → beats m n ≡ false) → first_best beats ns ≡ Some n
@@ -147,17 +115,6 @@ beats-true m n h = elim (leb_tells (suc m) n) [ inl y ↦ y.0 | inr k ↦ absurd
 
 pub beats-false : (m n : ℕ) → n ≤ m → nat_lt m n ≡ false
 beats-false m n h = elim (leb_tells (suc m) n) [ inl y ↦ absurd (omega (arith, h, y.1)) | inr k ↦ k.0 ]
-
--- a slot of a lower bound beats another, and so does a split of a later first child
-abbrev lower : Book → ℕ → ℕ → Bool
-lower b c a = nat_lt (slot_at b c).bound (slot_at b a).bound
-
-abbrev later : Book → ℕ → ℕ → Bool
-later b c a = nat_lt (first_child (slot_at b a).state) (first_child (slot_at b c).state)
-
--- the next Fresh slot where the root isn't Fresh
-abbrev below_root : Book → Option ℕ
-below_root b = least_fresh b (first_best (later b) (waiting_splits b))
 
 -- one of some numbers isn't beaten
 best-some : (beats : ℕ → ℕ → Bool) (ns : List ℕ) (n : ℕ) → IsAmong ns n → (m : ℕ) × (first_best beats ns ≡ Some m)

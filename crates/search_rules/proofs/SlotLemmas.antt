@@ -4,6 +4,7 @@ use Rattle.std.specs.declared.option.Option.{Option}
 use Rattle.std.specs.List.{position_or_len}
 use Rattle.std.proofs.lemmas.Bool.Decides.{leb_tells, eqb_tells}
 use Rattle.std.proofs.lemmas.List.Quantifiers.{position-Some}
+use Rattle.lock_rules.proofs.TreeLemmas.{IsAmong}
 use Rattle.search_rules.specs.declared.book.SlotState.{SlotState}
 use Rattle.search_rules.specs.declared.book.SlotState.TheVariants as slot
 use Rattle.search_rules.specs.Book.{Slot, Book, no_slot, slot_at, first_slot, is_fresh, is_back, is_held, is_held_by}
@@ -15,7 +16,7 @@ clash e = cc
 none-some : {X : Type 0} (x : X) → None ≡ Some x → ⊥
 none-some x e = cc
 
-some-same : {X : Type 0} (x y : X) → Some x ≡ Some y → x ≡ y
+pub some-same : {X : Type 0} (x y : X) → Some x ≡ Some y → x ≡ y
 some-same x y e = cc
 
 -- slot id is there, and in this state
@@ -82,46 +83,52 @@ both-first : (p q : Bool) → (p && q) ≡ true → p ≡ true
 both-first true q e = refl
 both-first false q e = absurd (clash (sym e))
 
--- what passes a test from a number on
+-- a number that passes, from `low` on
 abbrev Passes : (Slot → Bool) → ℕ → List Slot → ℕ → Type 0
 Passes test low xs id = (k : ℕ) × (id ≡ low + k) × (k < length xs) × (test (slice_index_or xs k no_slot) ≡ true)
 
--- one of some numbers
-abbrev IsOneOf : List ℕ → ℕ → Type 0
-IsOneOf xs n = (k : ℕ) × (k < length xs) × (slice_index_or xs k 0 ≡ n)
+among-where-step : (test : Slot → Bool) (low : ℕ) (x : Slot) (xs : List Slot) (id : ℕ) (t : Bool) → test x ≡ t → (IsAmong (numbers_where test (suc low) xs) id → Passes test (suc low) xs id)
+    → IsAmong (cond t (low ∷ numbers_where test (suc low) xs) (numbers_where test (suc low) xs)) id → Passes test low (x ∷ xs) id
+among-where-step test low x xs id true e rest (inl same) = (0, omega (arith, same), omega arith, e)
+among-where-step test low x xs id true e rest (inr h) = let r = rest h in (suc r.0, omega (arith, r.1), omega (arith, r.2), r.3)
+among-where-step test low x xs id false e rest h = let r = rest h in (suc r.0, omega (arith, r.1), omega (arith, r.2), r.3)
 
-where-step : (test : Slot → Bool) (low : ℕ) (x : Slot) (xs : List Slot) (id : ℕ) (t : Bool) → test x ≡ t → (IsOneOf (numbers_where test (suc low) xs) id → Passes test low (x ∷ xs) id)
-    → IsOneOf (cond t (low ∷ numbers_where test (suc low) xs) (numbers_where test (suc low) xs)) id → Passes test low (x ∷ xs) id
-where-step test low x xs id false e rest among = rest among
-where-step test low x xs id true e rest (zero, known, is) = (0, omega (arith, is), omega arith, e)
-where-step test low x xs id true e rest (suc k, known, is) = rest (k, omega (arith, known), is)
+pub among-where : (test : Slot → Bool) (low : ℕ) (xs : List Slot) (id : ℕ) → IsAmong (numbers_where test low xs) id → Passes test low xs id
+among-where test low [] id h = absurd h
+among-where test low (x ∷ xs) id h = among-where-step test low x xs id (test x) refl (λ g. among-where test (suc low) xs id g) h
 
-numbers_where-passes : (test : Slot → Bool) (low : ℕ) (xs : List Slot) (id : ℕ) → IsOneOf (numbers_where test low xs) id → Passes test low xs id
-numbers_where-passes test low [] id among = absurd (omega (arith, among.1))
-numbers_where-passes test low (x ∷ xs) id among =
-    where-step test low x xs id (test x) refl (λ m.
-    let rest = numbers_where-passes test (suc low) xs id m in
-    (suc rest.0, omega (arith, rest.1), omega (arith, rest.2), rest.3)) among
-
-keep_better-one : (beats : ℕ → ℕ → Bool) (a : ℕ) (ns : List ℕ) (o : Option ℕ) (n : ℕ) → ((m : ℕ) → o ≡ Some m → IsOneOf ns m) → keep_better beats a o ≡ Some n → IsOneOf (a ∷ ns) n
-keep_better-one beats a ns None n rest e = (0, omega arith, some-same a n e)
-keep_better-one beats a ns (Some c) n rest e = by_test (beats c a) e
+-- of some numbers, the first that no other one beats is one
+pub best-among : (beats : ℕ → ℕ → Bool) (ns : List ℕ) (n : ℕ) → first_best beats ns ≡ Some n → IsAmong ns n
+best-among beats [] n e = absurd (none-some e)
   where
-    by_test : (t : Bool) → cond t (Some c) (Some a) ≡ Some n → IsOneOf (a ∷ ns) n
-    by_test false f = (0, omega arith, some-same a n f)
-    by_test true f =
-        let one = rest c refl in
-        (suc one.0, omega (arith, one.1), one.2 ∙ some-same c n f)
+    none-some : None ≡ Some n → ⊥
+    none-some h = cc
+best-among beats (a ∷ ns) n e = by_rest (first_best beats ns) (λ m f. best-among beats ns m f) e
+  where
+    by_rest : (o : Option ℕ) → ((m : ℕ) → o ≡ Some m → IsAmong ns m) → keep_better beats a o ≡ Some n → IsAmong (a ∷ ns) n
+    by_rest None rest f = inl (some-same a n f)
+    by_rest (Some c) rest f = by_test (beats c a) f
+      where
+        by_test : (t : Bool) → cond t (Some c) (Some a) ≡ Some n → IsAmong (a ∷ ns) n
+        by_test true g = inr (subst (IsAmong ns) (some-same c n g) (rest c refl))
+        by_test false g = inl (some-same a n g)
 
-first_best-one : (beats : ℕ → ℕ → Bool) (ns : List ℕ) (n : ℕ) → first_best beats ns ≡ Some n → IsOneOf ns n
-first_best-one beats [] n e = absurd (none-some n e)
-first_best-one beats (a ∷ ns) n e = keep_better-one beats a ns (first_best beats ns) n (λ m f. first_best-one beats ns m f) e
+-- a slot of a lower bound beats another, and so does a split of a later first child
+abbrev pub lower : Book → ℕ → ℕ → Bool
+lower b c a = nat_lt (slot_at b c).bound (slot_at b a).bound
 
+abbrev pub later : Book → ℕ → ℕ → Bool
+later b c a = nat_lt (first_child (slot_at b a).state) (first_child (slot_at b c).state)
+
+-- the next Fresh slot where the root isn't Fresh
+abbrev pub below_root : Book → Option ℕ
+below_root b = least_fresh b (first_best (later b) (waiting_splits b))
+
+-- what is the least Fresh child of some split is there and Fresh
 least_fresh-at : (b : Book) (o : Option ℕ) (id : ℕ) → least_fresh b o ≡ Some id → IsAt b id slot.Fresh
 least_fresh-at b None id e = absurd (none-some id e)
 least_fresh-at b (Some split) id e =
-    let one = first_best-one (λ c a. nat_lt (slot_at b c).bound (slot_at b a).bound) (fresh_children b split) id e in
-    let at = numbers_where-passes (λ s. is_fresh s.state && nat_eq s.parent split) 0 b.slots id one in
+    let at = among-where (λ s. is_fresh s.state && nat_eq s.parent split) 0 b.slots id (best-among (lower b) (fresh_children b split) id e) in
     let same : at.0 ≡ id = omega (arith, at.1) in
     record {
       known = omega (arith, at.1, at.2);
@@ -133,10 +140,6 @@ fresh-known [] id e = absurd (clash (sym e))
 fresh-known (x ∷ xs) zero e = omega arith
 fresh-known (x ∷ xs) (suc id) e = let rest = fresh-known xs id e in omega (arith, rest)
 
--- the Fresh slot where the root isn't Fresh
-abbrev below_root : Book → Option ℕ
-below_root b = least_fresh b (first_best (λ c a. nat_lt (first_child (slot_at b a).state) (first_child (slot_at b c).state)) (waiting_splits b))
-
 -- the next Fresh slot is there and Fresh
 pub next_fresh-at : (b : Book) (id : ℕ) → next_fresh b ≡ Some id → IsAt b id slot.Fresh
 next_fresh-at b id e = by_root (is_fresh (slot_at b 0).state) refl e
@@ -145,4 +148,4 @@ next_fresh-at b id e = by_root (is_fresh (slot_at b 0).state) refl e
     by_root true f g =
         let here : IsAt b 0 slot.Fresh = record { known = fresh-known b.slots 0 f; is = fresh-is (slot_at b 0).state f } in
         subst (λ k. IsAt b k slot.Fresh) (some-same 0 id g) here
-    by_root false f g = least_fresh-at b (first_best (λ c a. nat_lt (first_child (slot_at b a).state) (first_child (slot_at b c).state)) (waiting_splits b)) id g
+    by_root false f g = least_fresh-at b (first_best (later b) (waiting_splits b)) id g
