@@ -154,7 +154,7 @@ module _ (b : Book) (w id : ℕ) (at : IsAt b id (slot.Held w)) (e : Entry) wher
   abbrev first_kid : ℕ
   first_kid = length b.slots
 
-  held-whole : (first : ℕ) → (slot_at b id).state ≡ slot.Split first → ⊥
+  pub held-whole : (first : ℕ) → (slot_at b id).state ≡ slot.Split first → ⊥
   held-whole first h = not-split (slot.Held w) first refl (sym at.is ∙ h)
 
   -- the old slots hold the same nodes
@@ -171,7 +171,8 @@ module _ (b : Book) (w id : ℕ) (at : IsAt b id (slot.Held w)) (e : Entry) wher
         | Past past s ↦ absurd (omega (arith, here, past, length-split b id))
       ]
 
-  stays-split : (other first : ℕ) → (slot_at b other).state ≡ slot.Split first → (slot_at new other).state ≡ slot.Split first
+  -- what is split stays so, and so is this slot
+  pub stays-split : (other first : ℕ) → (slot_at b other).state ≡ slot.Split first → (slot_at new other).state ≡ slot.Split first
   stays-split other first h =
       let here : other < length b.slots = state-known b other (slot.Split first) h (λ f. clash (ap is_split f)) in
       elim (split-at b id at.known other) [
@@ -253,29 +254,28 @@ module _ (b : Book) (w id : ℕ) (at : IsAt b id (slot.Held w)) (e : Entry) wher
         place = ap (λ n. old.first + n) same.number_same ∙ old.place;
       }
 
+  pub parent-split : (slot_at new id).state ≡ slot.Split first_kid
+  parent-split =
+      elim (split-at b id at.known id) [
+        | Parent is s ↦ ap (λ (u : Slot). u.state) s
+        | Old not_id known s ↦ absurd (not_id refl)
+        | Child k is known s ↦ absurd (omega (arith, at.known, is))
+        | Past past s ↦ absurd (omega (arith, at.known, past, length-split b id))
+      ]
+
   kid-born : (k : ℕ) → k < child_count b.case.instance (slot_at b id).node → (other : ℕ) → other ≡ first_kid + k → IsBorn new other
   kid-born k known other is =
       let s : slot_at new other ≡ kid b id k = ap (slot_at new) is ∙ kid-at b id k known in
       let up : (slot_at new other).parent ≡ id = ap (λ (u : Slot). u.parent) s in
       let number : (slot_at new other).number ≡ k = ap (λ (u : Slot). u.number) s in
-      let split : (slot_at new id).state ≡ slot.Split first_kid = parent-split in
       record {
         first = first_kid;
-        split = subst (λ p. (slot_at new p).state ≡ slot.Split first_kid) (sym up) split;
+        split = subst (λ p. (slot_at new p).state ≡ slot.Split first_kid) (sym up) parent-split;
         number =
             subst (λ p. (slot_at new other).number < child_count b.case.instance (slot_at new p).node) (sym up)
             (subst (λ n. (slot_at new other).number < child_count b.case.instance n) (sym (old-same id at.known).node_same) (subst (λ n. n < child_count b.case.instance (slot_at b id).node) (sym number) known));
         place = ap (λ n. first_kid + n) number ∙ sym is;
       }
-    where
-      parent-split : (slot_at new id).state ≡ slot.Split first_kid
-      parent-split =
-          elim (split-at b id at.known id) [
-            | Parent is s ↦ ap (λ (u : Slot). u.state) s
-            | Old not_id known s ↦ absurd (not_id refl)
-            | Child k is known s ↦ absurd (omega (arith, at.known, is))
-            | Past past s ↦ absurd (omega (arith, at.known, past, length-split b id))
-          ]
 
   split-family : KeepsFamily b → (slot_at b id).node.depth < length b.case.instance.ships → KeepsFamily new
   split-family keeps lacks = record {

@@ -20,6 +20,7 @@ use Rattle.search_rules.proofs.SlotLemmas.{IsAt}
 use Rattle.search_rules.proofs.NextLemmas.{among-filter}
 use Rattle.search_rules.proofs.MoveLemmas.{state-known, turned}
 use Rattle.search_rules.proofs.TallyLemmas.{Kept, Closed, outdone-is, open-whole}
+use Rattle.search_rules.proofs.FamilyLemmas.{held-whole, stays-split, parent-split}
 use Rattle.search_rules.proofs.TurnLemmas.{Turned, Untouched, turned-at, Parent, Old, Child, Past, split-at, length-split, outdone-at}
 
 clash : true ≡ false → ⊥
@@ -289,9 +290,6 @@ module _ (b : Book) (family : KeepsFamily b) (w id : ℕ) (at : IsAt b id (slot.
   held-off : (slot_at b id).state ≡ slot.Fresh → ⊥
   held-off h = not-fresh (slot.Held w) refl (sym at.is ∙ h)
 
-  held-whole : (first : ℕ) → (slot_at b id).state ≡ slot.Split first → ⊥
-  held-whole first h = clash (sym (ap is_split h) ∙ ap is_split at.is)
-
   -- an old Fresh child, or a child of the slot that was split
   split-was : (q other : ℕ) → IsFreshChild split_book q other → (q ≡ id) ⊎ IsFreshChild b q other
   split-was q other c =
@@ -311,35 +309,16 @@ module _ (b : Book) (family : KeepsFamily b) (w id : ℕ) (at : IsAt b id (slot.
         | Past past s ↦ absurd (omega (arith, c.known, past, length-split b id))
       ]
 
-  splits-stay : (q f : ℕ) → (slot_at b q).state ≡ slot.Split f → (slot_at split_book q).state ≡ slot.Split f
-  splits-stay q f h =
-      let here : q < length b.slots = state-known b q (slot.Split f) h (λ g. clash (ap is_split g)) in
-      elim (split-at b id at.known q) [
-        | Parent is s ↦ absurd (held-whole f (ap (λ k. (slot_at b k).state) (sym is) ∙ h))
-        | Old not_id known s ↦ ap (λ (u : Slot). u.state) s ∙ h
-        | Child k is known s ↦ absurd (omega (arith, here, is))
-        | Past past s ↦ absurd (omega (arith, here, past, length-split b id))
-      ]
-
-  own-split : (slot_at split_book id).state ≡ slot.Split (length b.slots)
-  own-split =
-      elim (split-at b id at.known id) [
-        | Parent is s ↦ ap (λ (u : Slot). u.state) s
-        | Old not_id known s ↦ absurd (not_id refl)
-        | Child k is known s ↦ absurd (omega (arith, at.known, is))
-        | Past past s ↦ absurd (omega (arith, at.known, past, length-split b id))
-      ]
-
   -- a held slot has no children
   no-children : (other : ℕ) → IsFreshChild b id other → ⊥
   no-children other c =
       let born = family.born other (omega (arith, c.some)) c.known in
-      held-whole born.first (subst (λ p. (slot_at b p).state ≡ slot.Split born.first) c.below born.split)
+      held-whole b w id at e born.first (subst (λ p. (slot_at b p).state ≡ slot.Split born.first) c.below born.split)
 
   pub gains : (splits : List ℕ) (other : ℕ) → IsFreshChild split_book id other → AreWaiting b splits → AreWaiting split_book (id ∷ splits)
   gains splits other c waiting =
       let high : length b.slots < length split_book.slots = old-or-new in
-      waiting-more b split_book splits id (length b.slots) other (omega arith) high own-split c split-was split-stays splits-stay waiting
+      waiting-more b split_book splits id (length b.slots) other (omega arith) high (parent-split b w id at e) c split-was split-stays (stays-split b w id at e) waiting
     where
       old-or-new : length b.slots < length split_book.slots
       old-or-new =
@@ -357,5 +336,5 @@ module _ (b : Book) (family : KeepsFamily b) (w id : ℕ) (at : IsAt b id (slot.
       settled = record {
         long = omega (arith, length-split b id);
         child = λ p k c. elim (split-was p k c) [ inl same ↦ absurd (none k (subst (λ q. IsFreshChild split_book q k) same c)) | inr old ↦ old ];
-        split = splits-stay;
+        split = stays-split b w id at e;
       }
