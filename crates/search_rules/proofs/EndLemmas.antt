@@ -19,7 +19,7 @@ use Rattle.search_rules.specs.Cover.{KeepsBook}
 use Rattle.search_rules.specs.Cheap.{opening_cost}
 use Rattle.search_rules.specs.Parts.{KeepsParts}
 use Rattle.search_rules.specs.Laws.{TreeLaws}
-use Rattle.search_rules.specs.Ends.{is_open, HasNothingOpen, HasSpentNodes, EndsWell, IsOpenLow, IsOpenNodes, IsSpentIn, IsUnderSpent, IsOpenTurns, IsEnd}
+use Rattle.search_rules.specs.Ends.{HasNothingOpen, HasSpentNodes, EndsWell, IsOpenLow, IsOpenNodes, IsSpentIn, IsUnderSpent, IsOpenTurns, IsEnd}
 use Rattle.search_rules.proofs.SlotLemmas.{first_slot-at, first_slot-none}
 use Rattle.search_rules.proofs.CoverLemmas.{nothing_live-cheapest}
 use Rattle.search_rules.proofs.StateLemmas.{state-tells, fresh-low}
