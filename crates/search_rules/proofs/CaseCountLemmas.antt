@@ -93,7 +93,7 @@ widths-suc : (d : Deck) (n : ℕ) → widths_of d (decisions (suc n)) ≡ widths
 widths-suc d n = map-append (λ x. length (options_of d x)) (decisions n) (BerthOf n ∷ map (λ i. PairOf i n) (numbers_from 0 n))
 
 -- 0 + 1 + .. + (n - 1)
-abbrev pairs_below : ℕ → ℕ
+abbrev pub pairs_below : ℕ → ℕ
 pairs_below zero = 0
 pairs_below (suc n) = pairs_below n + n
 
@@ -133,7 +133,7 @@ pairs-twice (suc (suc n)) =
     let more : suc (suc n) - 1 ≡ suc n = omega arith in
     omega (arith, rest, ap (λ k. suc n * k) one_less, ap (λ k. suc (suc n) * k) more)
 
-pairs-half : (n : ℕ) → n * (n - 1) / 2 ≡ pairs_below n
+pub pairs-half : (n : ℕ) → n * (n - 1) / 2 ≡ pairs_below n
 pairs-half n = ap (λ k. k / 2) (pairs-twice n) ∙ mul-div_cancel_left (pairs_below n) (omega arith)
 
 -- a deck has fewer cases than the law allows

@@ -1,5 +1,5 @@
 -- How a search ends, and what its verdict means.
-use Rattle.std.specs.Prelude.{ℕ, ◌≡◌, ◌<◌, ◌≤◌, ◌⊎◌, Bool, false, ◌||◌, List, length, Contains}
+use Rattle.std.specs.Prelude.{ℕ, ◌≡◌, ◌<◌, ◌≤◌, ◌⊎◌, Bool, false, ◌||◌, List, length, All, Contains}
 use Rattle.lock_model.specs.Fitting.{deck_of}
 use Rattle.lock_model.specs.Cargo.{HasNoClash}
 use Rattle.lock_model.specs.declared.instance.Instance.{Instance}
@@ -12,6 +12,7 @@ use Rattle.lock_rules.specs.Node.{IsNode, root_lines, line_at}
 use Rattle.lock_rules.specs.Trace.{IsUnder}
 use Rattle.lock_rules.specs.Bound.{bound_of}
 use Rattle.lock_rules.specs.Cheap.{cheap_nodes}
+use Rattle.lock_rules.specs.Size.{node_limit, turn_limit}
 use Rattle.refute_rules.specs.Spots.{IsSpent}
 use Rattle.search_rules.specs.declared.book.SlotState.{SlotState}
 use Rattle.search_rules.specs.declared.book.SlotState.TheVariants as slot
@@ -115,3 +116,14 @@ abbrev pub IsEnd : Instance → ℕ → ℕ → ℕ → Plan → Verdict → Typ
 IsEnd I nodes turns limit P verdict.Optimal = IsOptimal I limit P
 IsEnd I nodes turns limit P (verdict.OpenNodes used low) = IsOpenNodes I nodes limit P used low
 IsEnd I nodes turns limit P (verdict.OpenTurns chamber ships given low) = IsOpenTurns I turns limit P chamber ships given low
+
+-- no group has more than k ships, as there are no more or no chamber takes more
+abbrev pub GroupsAtMost : Instance → ℕ → Type 0
+GroupsAtMost I k = (length I.ships ≤ k) ⊎ All (λ c. c.most ≤ k) I.chambers
+
+-- So many nodes and turns are never spent: as many as the tree has nodes, and a deck has cases.
+pub record AreEnough (I : Instance) (nodes turns : ℕ) : Type 0 where
+  pub nodes_are : node_limit (length I.ships) (length I.chambers) ≤ nodes
+  pub size : ℕ
+  pub groups : GroupsAtMost I size
+  pub turns_are : turn_limit size ≤ turns
