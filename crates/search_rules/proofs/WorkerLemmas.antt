@@ -21,13 +21,13 @@ clash : true ≡ false → ⊥
 clash e = cc
 
 -- slot id of the slots is held by worker w
-abbrev Holds : List Slot → ℕ → ℕ → Type 0
+abbrev pub Holds : List Slot → ℕ → ℕ → Type 0
 Holds slots id w = (slice_index_or slots id no_slot).state ≡ slot.Held w
 
-not-held : (s : SlotState) (w : ℕ) → is_held s ≡ false → s ≡ slot.Held w → ⊥
+pub not-held : (s : SlotState) (w : ℕ) → is_held s ≡ false → s ≡ slot.Held w → ⊥
 not-held s w e f = clash (sym (ap is_held f) ∙ e)
 
-same-worker : (v w : ℕ) → slot.Held v ≡ slot.Held w → v ≡ w
+pub same-worker : (v w : ℕ) → slot.Held v ≡ slot.Held w → v ≡ w
 same-worker v w e = cc
 
 -- what is held was held before, by a worker that goes on
@@ -54,7 +54,7 @@ ended-workers b new w keeps same before =
     (old.0, ap (λ ended. slice_index_or ended v false) same ∙ get_or-set_other b.ended w v true false old.1 ∙ keeps.running id v old.0))
 
 -- where slot id turns to a state that isn't held
-turned-holds : (b : Book) (id : ℕ) (new : SlotState) → id < length b.slots → is_held new ≡ false → (other w : ℕ) → Holds (Step.with_state b id new).slots other w → Holds b.slots other w × (other ≢ id)
+pub turned-holds : (b : Book) (id : ℕ) (new : SlotState) → id < length b.slots → is_held new ≡ false → (other w : ℕ) → Holds (Step.with_state b id new).slots other w → Holds b.slots other w × (other ≢ id)
 turned-holds b id new known free other w h =
     elim (turned-at b id new known other) [
       | Turned is e ↦ absurd (not-held new w free (sym (ap (λ (s : Slot). s.state) e) ∙ h))
@@ -87,7 +87,7 @@ new-free : (t : Bool) → is_held (cond t slot.ByBound slot.Fresh) ≡ false
 new-free true = refl
 new-free false = refl
 
-split-holds : (b : Book) (id : ℕ) → id < length b.slots → (other w : ℕ) → Holds (Step.with_children b id).slots other w → Holds b.slots other w
+pub split-holds : (b : Book) (id : ℕ) → id < length b.slots → (other w : ℕ) → Holds (Step.with_children b id).slots other w → Holds b.slots other w
 split-holds b id known other w h =
     elim (split-at b id known other) [
       | Parent is e ↦ absurd (not-held (slot.Split (length b.slots)) w refl (sym (ap (λ (s : Slot). s.state) e) ∙ h))
@@ -96,7 +96,7 @@ split-holds b id known other w h =
       | Past past e ↦ absurd (not-held slot.ByBound w refl (sym (ap (λ (s : Slot). s.state) e) ∙ h))
     ]
 
-outdone-holds : (cost : ℕ) (slots : List Slot) (id w : ℕ) → Holds (map (Step.outdone cost) slots) id w → Holds slots id w
+pub outdone-holds : (cost : ℕ) (slots : List Slot) (id w : ℕ) → Holds (map (Step.outdone cost) slots) id w → Holds slots id w
 outdone-holds cost slots id w h =
     let s = slice_index_or slots id no_slot in
     let at = outdone-at cost slots id in

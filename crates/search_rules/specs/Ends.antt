@@ -40,9 +40,12 @@ pub record HasSpentNodes (b : Book) : Type 0 where
   pub known : id < length b.slots
   pub fresh : (slot_at b id).state ≡ slot.Fresh
 
--- each parked slot's bound is below the best cost
-pub record ParksCheap (b : Book) : Type 0 where
-  pub low : (id c p : ℕ) → id < length b.slots → (slot_at b id).state ≡ slot.Parked c p → (slot_at b id).bound < best_cost b
+-- each parked slot before slot k has a bound below the best cost
+pub record ParksCheapBefore (k : ℕ) (b : Book) : Type 0 where
+  pub low : (id c p : ℕ) → id < k → (slot_at b id).state ≡ slot.Parked c p → (slot_at b id).bound < best_cost b
+
+abbrev pub ParksCheap : Book → Type 0
+ParksCheap b = ParksCheapBefore (length b.slots) b
 
 -- Nothing is held, the opening plan costs at most `limit`, parked slots are cheap, and nothing is open or the nodes are spent.
 pub record EndsWell (limit : ℕ) (b : Book) : Type 0 where
