@@ -12,7 +12,6 @@
 #![tactic(auto)]
 
 mod capacity;
-mod joining;
 mod least;
 mod line_walks;
 mod node_bound;
