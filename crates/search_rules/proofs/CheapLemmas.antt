@@ -210,7 +210,7 @@ opening-cheap case plan =
 
 -- ---- where the budget is spent
 
-count-some : (test : SlotState → Bool) (xs : List Slot) (id : ℕ) → id < length xs → test (slice_index_or xs id no_slot).state ≡ true → 1 ≤ count_slots test xs
+pub count-some : (test : SlotState → Bool) (xs : List Slot) (id : ℕ) → id < length xs → test (slice_index_or xs id no_slot).state ≡ true → 1 ≤ count_slots test xs
 count-some test [] id known e = absurd (omega (arith, known))
 count-some test (x ∷ xs) zero known e = let here = ap one e in omega (arith, here)
 count-some test (x ∷ xs) (suc id) known e = let rest = count-some test xs id (omega (arith, known)) e in omega (arith, rest)
@@ -229,7 +229,7 @@ share-least I c s good = by_split (is_split s.state)
         let own : one (nat_lt s.bound c) ≡ is_cheap I c s.node.depth s.node.lines = ap (λ n. one (nat_lt n c)) good.bound in
         omega (arith, own, cheap-least I c (length I.ships - s.node.depth) s.node.depth s.node.lines)
 
-cheap-shares : (I : Instance) (c : ℕ) (xs : List Slot) → All (IsGoodSlot I) xs → count_cheap c xs ≤ sum_shares I c xs
+pub cheap-shares : (I : Instance) (c : ℕ) (xs : List Slot) → All (IsGoodSlot I) xs → count_cheap c xs ≤ sum_shares I c xs
 cheap-shares I c [] good = omega arith
 cheap-shares I c (x ∷ xs) good =
     let here = share-least I c x (All-head (IsGoodSlot I) x xs good) in
