@@ -10,10 +10,10 @@ use Rattle.lock_model.specs.declared.plan.Plan.{Plan}
 use Rattle.lock_model.specs.declared.way.Stand.{Stand}
 use Rattle.lock_rules.specs.Lawful.{IsFree, IsLawfulStart, AreLawfulFrom, duration_of, stand_after}
 use Rattle.lock_rules.specs.Timetable.{ready_at}
-use Rattle.lock_rules.specs.Lines.{group_of, line_of}
+use Rattle.lock_rules.specs.Lines.{group_of, line_of, lockage_at}
 use Rattle.lock_rules.specs.Plan.{IsTimely}
 use Rattle.lock_rules.proofs.TimetableLemmas.{ready_at-from, ready_at-least, ready_at-turned, closures_kept}
-use Rattle.chamber_times.specs.Walk.{lockage_at, lockages_at, line_places}
+use Rattle.chamber_times.specs.Walk.{lockages_at, line_places}
 use Rattle.chamber_times.specs.FirstBreak.{IsEarly, IsNotEarly, IsSoon, IsShut, Breaks, AreTimely, IsFirstBreak, stand_after_all, done_after_all}
 use Rattle.chamber_times.specs.declared.breaks.BrokenTime.{BrokenTime}
 use Rattle.chamber_times.specs.declared.breaks.BrokenTime.TheVariants.{Early, Soon, Shut}

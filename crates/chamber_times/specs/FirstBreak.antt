@@ -6,8 +6,8 @@ use Rattle.lock_model.specs.declared.plan.Lockage.{Lockage}
 use Rattle.lock_model.specs.declared.plan.Plan.{Plan}
 use Rattle.lock_model.specs.declared.way.Stand.{Stand}
 use Rattle.lock_rules.specs.Lawful.{AreLawful, HasTurned, IsFree, duration_of, stand_after}
-use Rattle.lock_rules.specs.Lines.{group_of}
-use Rattle.chamber_times.specs.Walk.{lockage_at, lockages_at, line_places}
+use Rattle.lock_rules.specs.Lines.{group_of, lockage_at}
+use Rattle.chamber_times.specs.Walk.{lockages_at, line_places}
 use Rattle.chamber_times.specs.declared.breaks.BrokenTime.{BrokenTime}
 use Rattle.chamber_times.specs.declared.breaks.BrokenTime.TheVariants.{Early, Soon, Shut}
 

@@ -4,7 +4,8 @@ use Rattle.std.specs.List.Sorted.{IsStrictlyIncreasing}
 use Rattle.std.proofs.lemmas.List.Elements.{filter-append}
 use Rattle.lock_rules.specs.Arrival.{numbers_from}
 use Rattle.deck_laws.specs.Reach.{round_at, reached_of}
-use Rattle.deck_laws.proofs.MemberLemmas.{filter-rises, rises-increasing}
+use Rattle.lock_rules.proofs.NodeLemmas.{increasing-RisesFrom}
+use Rattle.deck_laws.proofs.MemberLemmas.{filter-rises}
 
 numbers-more : (low n : ℕ) → numbers_from low (suc n) ≡ numbers_from low n ++ (low + n) ∷ []
 numbers-more low zero = let e : low ≡ low + 0 = omega arith in ap (λ k. k ∷ []) e
@@ -21,4 +22,4 @@ reached_more rounds n items longer reached is by more =
     last = omega arith
 
 pub reached_rises : (rounds : List (Option ℕ)) (n : ℕ) (items : List ℕ) → items ≡ reached_of rounds n → IsStrictlyIncreasing items
-reached_rises rounds n items is = subst IsStrictlyIncreasing (sym is) (rises-increasing 0 (reached_of rounds n) (filter-rises (λ t. is_some (round_at rounds t)) 0 n))
+reached_rises rounds n items is = subst IsStrictlyIncreasing (sym is) (increasing-RisesFrom 0 (reached_of rounds n) (filter-rises (λ t. is_some (round_at rounds t)) 0 n))

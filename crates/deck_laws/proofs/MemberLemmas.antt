@@ -1,18 +1,12 @@
 -- Where the elements of a list come from, and rising lists with the same elements.
-use Rattle.std.proofs.Common.{◌≡◌, ℕ, zero, suc, ◌+◌, ◌<◌, ◌≤◌, List, [], ◌∷◌, ◌++◌, filter, flat_map, cond, Bool, true, false, ◌⊎◌, inl, inr, refl, sym, ap, ◌∙◌, subst, arith, nat_eq, nat_lt}
-use Rattle.std.specs.Prelude.{Contains, slice_index}
-use Rattle.std.specs.List.Sorted.{IsStrictlyIncreasing}
+use Rattle.std.proofs.Common.{◌≡◌, ℕ, zero, suc, ◌+◌, ◌<◌, ◌≤◌, List, [], ◌∷◌, filter, flat_map, cond, Bool, true, false, ◌⊎◌, inl, inr, refl, sym, ap, ◌∙◌, subst, arith, nat_eq, nat_lt}
 use Rattle.std.proofs.lemmas.Bool.Decides.{eqb_tells}
 use Rattle.lock_model.specs.Ships.{RisesFrom}
 use Rattle.lock_rules.specs.Arrival.{numbers_from}
 use Rattle.refute_rules.specs.Values.{put_number, rising_of}
-use Rattle.refute_rules.proofs.Among.{IsAmong}
+use Rattle.lock_rules.proofs.TreeLemmas.{RisesFrom-less}
+use Rattle.refute_rules.proofs.Among.{IsAmong, among-append}
 use Rattle.deck_laws.proofs.ThinLemmas.{ltb_tells}
-
-pub among-append : {X : Type 0} (xs ys : List X) (x : X) → IsAmong (xs ++ ys) x → IsAmong xs x ⊎ IsAmong ys x
-among-append [] ys x h = inr h
-among-append (z ∷ xs) ys x (inl e) = inl (inl e)
-among-append (z ∷ xs) ys x (inr h) = elim (among-append xs ys x h) [ inl g ↦ inl (inr g) | inr g ↦ inr g ]
 
 pub among-filter : {X : Type 0} (p : X → Bool) (xs : List X) (x : X) → IsAmong (filter p xs) x → IsAmong xs x × (p x ≡ true)
 among-filter p [] x h = absurd h
@@ -39,11 +33,6 @@ among-numbers low zero k h = absurd h
 among-numbers low (suc n) k (inl e) = (omega (arith, e), omega (arith, e))
 among-numbers low (suc n) k (inr h) = let rest = among-numbers (suc low) n k h in (omega (arith, rest), omega (arith, rest))
 
-pub contains-among : {X : Type 0} (xs : List X) (x : X) → IsAmong xs x → Contains xs x
-contains-among [] x h = absurd h
-contains-among (y ∷ ys) x (inl e) = (0, omega arith, e)
-contains-among (y ∷ ys) x (inr h) = let rest = contains-among ys x h in (suc rest.0, (let less = rest.1 in omega (arith, less)), rest.2)
-
 -- ---- one number put into rising numbers
 pub among-put : (t : ℕ) (vs : List ℕ) (u : ℕ) → IsAmong (put_number t vs) u → (t ≡ u) ⊎ IsAmong vs u
 among-put t [] u (inl e) = inl e
@@ -61,35 +50,9 @@ among-put t (v ∷ vs) u h = go (λ g. among-put t vs u g) (nat_lt t v) (nat_eq 
     go rest false false (inl e) = inr (inl e)
     go rest false false (inr g) = deeper (rest g)
 
-pub put-among : (t : ℕ) (vs : List ℕ) (u : ℕ) → (t ≡ u) ⊎ IsAmong vs u → IsAmong (put_number t vs) u
-put-among t [] u h = h
-put-among t (v ∷ vs) u h =
-    elim (ltb_tells t v) [
-      | inl y ↦ subst (λ b. IsAmong (cond b (t ∷ v ∷ vs) (cond (nat_eq t v) (v ∷ vs) (v ∷ put_number t vs))) u) (sym y.0) h
-      | inr n ↦ subst (λ b. IsAmong (cond b (t ∷ v ∷ vs) (cond (nat_eq t v) (v ∷ vs) (v ∷ put_number t vs))) u) (sym n.0)
-          (elim (eqb_tells t v) [
-            | inl y ↦ subst (λ b. IsAmong (cond b (v ∷ vs) (v ∷ put_number t vs)) u) (sym y.0) (same y.1 h)
-            | inr d ↦ subst (λ b. IsAmong (cond b (v ∷ vs) (v ∷ put_number t vs)) u) (sym d.0) (after (λ g. put-among t vs u g) h)
-          ])
-    ]
-  where
-    same : t ≡ v → (t ≡ u) ⊎ IsAmong (v ∷ vs) u → IsAmong (v ∷ vs) u
-    same e (inl g) = inl (sym e ∙ g)
-    same e (inr g) = g
-
-    after : ((t ≡ u) ⊎ IsAmong vs u → IsAmong (put_number t vs) u) → (t ≡ u) ⊎ IsAmong (v ∷ vs) u → IsAmong (v ∷ put_number t vs) u
-    after rest (inl g) = inr (rest (inl g))
-    after rest (inr (inl e)) = inl e
-    after rest (inr (inr g)) = inr (rest (inr g))
-
 pub among-rising : (ts : List ℕ) (u : ℕ) → IsAmong (rising_of ts) u → IsAmong ts u
 among-rising [] u h = h
 among-rising (t ∷ ts) u h = elim (among-put t (rising_of ts) u h) [ inl e ↦ inl e | inr g ↦ inr (among-rising ts u g) ]
-
-pub rising-among : (ts : List ℕ) (u : ℕ) → IsAmong ts u → IsAmong (rising_of ts) u
-rising-among [] u h = h
-rising-among (t ∷ ts) u (inl e) = put-among t (rising_of ts) u (inl e)
-rising-among (t ∷ ts) u (inr g) = put-among t (rising_of ts) u (inr (rising-among ts u g))
 
 -- ---- rising
 put-rises : (low t : ℕ) (vs : List ℕ) → low ≤ t → RisesFrom low vs → RisesFrom low (put_number t vs)
@@ -109,32 +72,19 @@ pub rising-rises : (ts : List ℕ) → RisesFrom 0 (rising_of ts)
 rising-rises [] = tt
 rising-rises (t ∷ ts) = put-rises 0 t (rising_of ts) (omega arith) (rising-rises ts)
 
-rises-lower : (low high : ℕ) (xs : List ℕ) → low ≤ high → RisesFrom high xs → RisesFrom low xs
-rises-lower low high [] h rises = tt
-rises-lower low high (x ∷ xs) h rises = let first = rises.0 in (omega (arith, h, first), rises.1)
-
 pub filter-rises : (p : ℕ → Bool) (low n : ℕ) → RisesFrom low (filter p (numbers_from low n))
 filter-rises p low zero = tt
 filter-rises p low (suc n) =
     let rest = filter-rises p (suc low) n in
     elim (p low) as (λ b. RisesFrom low (cond b (low ∷ filter p (numbers_from (suc low) n)) (filter p (numbers_from (suc low) n)))) [
       | true ↦ (omega arith, rest)
-      | false ↦ rises-lower low (suc low) (filter p (numbers_from (suc low) n)) (omega arith) rest
+      | false ↦ RisesFrom-less low (suc low) (filter p (numbers_from (suc low) n)) (omega arith) rest
     ]
 
 rises-past : (low : ℕ) (xs : List ℕ) (u : ℕ) → RisesFrom low xs → IsAmong xs u → low ≤ u
 rises-past low [] u rises h = absurd h
 rises-past low (x ∷ xs) u rises (inl e) = let first = rises.0 in omega (arith, first, e)
 rises-past low (x ∷ xs) u rises (inr h) = let rest = rises-past (suc x) xs u rises.1 h in let first = rises.0 in omega (arith, first, rest)
-
-pub rises-increasing : (low : ℕ) (xs : List ℕ) → RisesFrom low xs → IsStrictlyIncreasing xs
-rises-increasing low [] rises k h = absurd (omega (arith, h))
-rises-increasing low (x ∷ []) rises k h = absurd (omega (arith, h))
-rises-increasing low (x ∷ y ∷ ys) rises zero h = rises.1.0
-rises-increasing low (x ∷ y ∷ ys) rises (suc k) h =
-    let rest = rises-increasing (suc x) (y ∷ ys) rises.1 k (omega (arith, h)) in
-    let e : suc (k + 1) ≡ suc k + 1 = omega arith in
-    subst (λ m. slice_index (y ∷ ys) k < slice_index (x ∷ y ∷ ys) m) e rest
 
 -- rising lists with the same elements are the same
 pub same-rising : (low : ℕ) (xs ys : List ℕ) → RisesFrom low xs → RisesFrom low ys → ((u : ℕ) → IsAmong xs u → IsAmong ys u) → ((u : ℕ) → IsAmong ys u → IsAmong xs u) → xs ≡ ys

@@ -12,6 +12,7 @@ use Rattle.lock_model.specs.declared.placement.Rank.{Rank}
 use Rattle.lock_model.specs.declared.placement.Rank.TheVariants.{Left, Right}
 use Rattle.lock_model.specs.declared.placement.Moor.{Moor}
 use Rattle.lock_model.specs.declared.placement.Moor.TheVariants.{Quay, Ship}
+use Rattle.refute_rules.proofs.FitLemmas.{rank-tells}
 use Rattle.deck_laws.specs.Thin.{fallen, fallen_moor, moor_without, leads_to, nearer, thin_spot, thin_deck, thin_spots, IsMooredThrough}
 use Rattle.deck_laws.proofs.HostLemmas.{above, thin-apart, thin-host, thin-guest, host-stays}
 use Rattle.deck_laws.proofs.PlacementLemmas.{length_of, width_of, x_at, rank_at, moor_at, depth_of, is-wide, is-moored, apart-by, quay-by, host-by}
@@ -303,9 +304,6 @@ module _ (d : Deck) (spots : List Spot) (legal : IsLegalPlacement d spots) (limi
 
   -- ---- moorings
 
-  left-right : Left ≡ Right → ⊥
-  left-right e = cc
-
   still-quay : (i : ℕ) → moor i ≡ Quay → moves i ≡ false
   still-quay i e = ap (λ m. leads_to spots b m d.width) e
 
@@ -324,12 +322,6 @@ module _ (d : Deck) (spots : List Spot) (legal : IsLegalPlacement d spots) (limi
   deep-side : (r : Rank) (i k : ℕ) → rank b ≡ r → i < length d.ships → k < length d.ships → depth r i ≡ depth r k + (size_at d k).width + d.side → IsAtSide (thin_deck d b) (size_at d i) (put i) (size_at d k) (put k) r
   deep-side Left i k bare ki kk h = let yi = left-depth i bare ki in let yk = left-depth k bare kk in omega (arith, yi, yk, h)
   deep-side Right i k bare ki kk h = let yi = right-depth i bare ki in let yk = right-depth k bare kk in omega (arith, yi, yk, h)
-
-  rank-tells : (r s : Rank) → (r ≡ s) ⊎ (r ≢ s)
-  rank-tells Left Left = inl refl
-  rank-tells Left Right = inr (λ e. left-right e)
-  rank-tells Right Left = inr (λ e. left-right (sym e))
-  rank-tells Right Right = inl refl
 
   still-other : (i : ℕ) → i < length d.ships → rank i ≢ rank b → moves i ≡ false
   still-other i ki other = go (moves i) refl

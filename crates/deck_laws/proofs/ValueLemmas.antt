@@ -1,24 +1,21 @@
 -- The rounds of the search give the spot values.
 use Rattle.std.proofs.Common.{◌≡◌, ◌≢◌, ℕ, zero, suc, ◌+◌, ◌-◌, ◌<◌, ◌≤◌, List, [], ◌∷◌, ◌++◌, length, filter, flat_map, cond, Bool, true, false, not, ◌&&◌, Option, Some, None, IsSome, is_some, Result, Ok, Err, IfOk, ◌⊎◌, inl, inr, refl, sym, ap, ◌∙◌, subst, arith, nat_eq, nat_le, replicate, slice_set}
-use Rattle.std.proofs.lemmas.Bool.Decides.{eqb_tells, leb_tells}
+use Rattle.std.proofs.lemmas.Bool.{le-leb, leb-true}
+use Rattle.std.proofs.lemmas.Bool.Decides.{eqb_tells}
 use Rattle.std.proofs.lemmas.List.{get_or-set_same, get_or-set_other, get_or-replicate, length-set, length-replicate}
 use Rattle.lock_model.specs.Deck.{Deck, IsDeck, no_size}
 use Rattle.lock_model.specs.Ships.{RisesFrom}
 use Rattle.lock_rules.specs.Arrival.{numbers_from}
 use Rattle.refute_rules.specs.Reasons.{length_at}
 use Rattle.refute_rules.specs.Values.{others, is_kept, shifts_by, shifts_of, values_after, spot_values}
-use Rattle.refute_rules.proofs.Among.{IsAmong, IsAmong-left, IsAmong-right, IsAmong-filter, IsAmong-flat_map, IsAmong-numbers}
-use Rattle.refute_rules.proofs.AnchorLemmas.{anchored-spot_value}
+use Rattle.lock_rules.proofs.TreeLemmas.{contains-among}
+use Rattle.refute_rules.proofs.Among.{IsAmong, IsAmong-right, IsAmong-filter, IsAmong-flat_map, IsAmong-numbers, among-append}
+use Rattle.refute_rules.proofs.CaseLemmas.{others-among}
+use Rattle.refute_rules.proofs.AnchorLemmas.{rising-among, values-later, anchored-spot_value}
 use Rattle.deck_laws.specs.Laws.{HoldNormalPlaces}
 use Rattle.deck_laws.specs.Reach.{round_at, least_length, IsStepBy, IsStepOf, IsNextOf, Reaches, HasReached, reached_of}
-use Rattle.deck_laws.proofs.MemberLemmas.{among-append, among-filter, among-flat_map, among-numbers, among-rising, rising-among, rising-rises, filter-rises, same-rising, contains-among}
+use Rattle.deck_laws.proofs.MemberLemmas.{among-filter, among-flat_map, among-numbers, among-rising, rising-rises, filter-rises, same-rising}
 use Rattle.deck_laws.proofs.ReachLemmas.{some-by, still-some}
-
-le-true : (a b : ℕ) → a ≤ b → nat_le a b ≡ true
-le-true a b h = elim (leb_tells a b) [ inl y ↦ y.0 | inr n ↦ absurd (omega (arith, h, n.1)) ]
-
-true-le : (a b : ℕ) → nat_le a b ≡ true → a ≤ b
-true-le a b e = elim (leb_tells a b) [ inl y ↦ y.1 | inr n ↦ (let bad : true ≡ false = sym e ∙ n.0 in cc) ]
 
 both-true : (a b : Bool) → (a && b) ≡ true → (a ≡ true) × (b ≡ true)
 both-true true b e = (refl, e)
@@ -37,19 +34,14 @@ inside (o ∷ rounds) (suc t) r e = let rest = inside rounds t r e in omega (ari
 
 -- ---- kept numbers
 kept-by : (d : Deck) (t : ℕ) → d.end ≤ t → t + least_length d + d.end ≤ d.length → is_kept d t ≡ true
-kept-by d t near far = ap (λ b. b && nat_le (t + least_length d + d.end) d.length) (le-true d.end t near) ∙ le-true (t + least_length d + d.end) d.length far
+kept-by d t near far = ap (λ b. b && nat_le (t + least_length d + d.end) d.length) (le-leb d.end t near) ∙ le-leb (t + least_length d + d.end) d.length far
 
 by-kept : (d : Deck) (t : ℕ) → is_kept d t ≡ true → (d.end ≤ t) × (t + least_length d + d.end ≤ d.length)
 by-kept d t e =
     let both = both-true (nat_le d.end t) (nat_le (t + least_length d + d.end) d.length) e in
-    (true-le d.end t both.0, true-le (t + least_length d + d.end) d.length both.1)
+    (leb-true d.end t both.0, leb-true (t + least_length d + d.end) d.length both.1)
 
 -- ---- steps
-others-of : (n i k : ℕ) → k < n → k ≢ i → IsAmong (others n i) k
-others-of n i k known differ =
-    let test : not (nat_eq k i) ≡ true = elim (eqb_tells k i) [ inl y ↦ absurd (differ y.1) | inr n ↦ ap not n.0 ] in
-    IsAmong-filter (λ u. not (nat_eq u i)) (numbers_from 0 n) k (IsAmong-numbers 0 n k (omega arith) (omega (arith, known))) test
-
 of-others : (n i k : ℕ) → IsAmong (others n i) k → (k < n) × (k ≢ i)
 of-others n i k h =
     let both = among-filter (λ u. not (nat_eq u i)) (numbers_from 0 n) k h in
@@ -65,11 +57,11 @@ of-others n i k h =
 shift-among : (d : Deck) (v i j t : ℕ) → i < length d.ships → j < length d.ships → j ≢ i → IsAmong (shifts_by d v i j) t → IsAmong (shifts_of d v) t
 shift-among d v i j t ki kj differ h =
     IsAmong-flat_map (λ i. flat_map (shifts_by d v i) (others (length d.ships) i)) (numbers_from 0 (length d.ships)) i t (IsAmong-numbers 0 (length d.ships) i (omega arith) (omega (arith, ki)))
-    (IsAmong-flat_map (shifts_by d v i) (others (length d.ships) i) j t (others-of (length d.ships) i j kj differ) h)
+    (IsAmong-flat_map (shifts_by d v i) (others (length d.ships) i) j t (others-among (length d.ships) i j kj differ) h)
 
 flush-among : (d : Deck) (v i j t : ℕ) → t + length_at d i ≡ v + length_at d j → IsAmong (shifts_by d v i j) t
 flush-among d v i j t flush =
-    let room : nat_le (length_at d i) (v + length_at d j) ≡ true = le-true (length_at d i) (v + length_at d j) (omega (arith, flush)) in
+    let room : nat_le (length_at d i) (v + length_at d j) ≡ true = le-leb (length_at d i) (v + length_at d j) (omega (arith, flush)) in
     let is : v + length_at d j - length_at d i ≡ t = omega (arith, flush) in
     inr (subst (λ b. IsAmong (cond b ((v + length_at d j - length_at d i) ∷ []) []) t) (sym room) (inl is))
 
@@ -102,7 +94,7 @@ among-step d v t near h =
   where
     flush : (i j : ℕ) → i < length d.ships → j ≢ i → (b : Bool) → nat_le (length_at d i) (v + length_at d j) ≡ b → IsAmong (cond b ((v + length_at d j - length_at d i) ∷ []) []) t → IsStepBy d v j t
     flush i j ki differ true room (inl e) =
-        let less = true-le (length_at d i) (v + length_at d j) room in
+        let less = leb-true (length_at d i) (v + length_at d j) room in
         inr (i, ki, record { differ = λ s. differ (sym s); near = near; flush = omega (arith, less, e) })
     flush i j ki differ true room (inr bad) = absurd bad
     flush i j ki differ false room bad = absurd bad
@@ -112,24 +104,11 @@ among-step d v t near h =
     go i j ki differ (inr g) = flush i j ki differ (nat_le (length_at d i) (v + length_at d j)) refl g
 
 -- ---- values
-values-keep : (d : Deck) (k t : ℕ) → IsAmong (values_after d k) t → IsAmong (values_after d (suc k)) t
-values-keep d k t h =
-    rising-among (values_after d k ++ filter (is_kept d) (flat_map (shifts_of d) (values_after d k))) t
-    (IsAmong-left (values_after d k) (filter (is_kept d) (flat_map (shifts_of d) (values_after d k))) t h)
-
 values-step : (d : Deck) (k v t : ℕ) → IsAmong (values_after d k) v → IsAmong (shifts_of d v) t → is_kept d t ≡ true → IsAmong (values_after d (suc k)) t
 values-step d k v t h step kept =
     rising-among (values_after d k ++ filter (is_kept d) (flat_map (shifts_of d) (values_after d k))) t
     (IsAmong-right (values_after d k) (filter (is_kept d) (flat_map (shifts_of d) (values_after d k))) t
     (IsAmong-filter (is_kept d) (flat_map (shifts_of d) (values_after d k)) t (IsAmong-flat_map (shifts_of d) (values_after d k) v t h step) kept))
-
-values-later : (d : Deck) (r k t : ℕ) → r ≤ k → IsAmong (values_after d r) t → IsAmong (values_after d k) t
-values-later d r zero t h old = let same : r ≡ 0 = omega (arith, h) in subst (λ m. IsAmong (values_after d m) t) same old
-values-later d r (suc k) t h old =
-    elim (leb_tells r k) [
-      | inl y ↦ values-keep d k t (values-later d r k t y.1 old)
-      | inr n ↦ (let past = n.1 in let same : r ≡ suc k = omega (arith, h, past) in subst (λ m. IsAmong (values_after d m) t) same old)
-    ]
 
 -- a value of the next round, and where it comes from
 pub record IsStepped (d : Deck) (k t : ℕ) : Type 0 where

@@ -1,6 +1,5 @@
 pub mod PassageLemmas
 pub mod WalkLemmas
-pub mod NodeLemmas
 pub mod WholeLemmas
 pub mod PlacesLemmas
 pub mod ProbeLemmas

@@ -4,15 +4,17 @@
 //! a ship that it lacks (`is_missing`), and every legal plan at least `throughput`. At a node that
 //! holds all ships `bound` is the cost of its earliest plan. `child_bounds` gives the bounds of all
 //! children of a node at once. `least_passage` is the least that a ship can take, served first and
-//! alone, and `least_passages` adds it over all ships. No call takes memory.
+//! alone, and `least_passages` adds it over all ships. `least_bound_is_cheapest` is the law that a
+//! search rests on: the least bound of the nodes that hold all ships and whose groups all fit is
+//! the cost of a cheapest plan. No call takes memory.
 //!
 //! Definitions: `lock_rules` says what these numbers are and what a lower bound is (`specs/Bound`,
-//! `Throughput`). Here `specs/Walk` walks along a line, `Places` has the minutes of the
+//! `Throughput`), and what the search of the whole tree comes to (`Search`). Here `specs/Walk` walks along a line, `Places` has the minutes of the
 //! throughput, `Whole` the earliest plan of a node, `Missing` a ship that a node lacks.
 #![tactic(auto)]
 
 mod capacity;
-mod joining;
+mod laws;
 mod least;
 mod line_walks;
 mod node_bound;
@@ -24,6 +26,7 @@ mod tests;
 mod walk;
 
 pub use capacity::throughput;
+pub use laws::least_bound_is_cheapest;
 pub use node_bound::bound;
 pub use passage::{least_passage, least_passages};
 pub use probing::{Bounds, child_bounds, is_missing, probe};

@@ -12,7 +12,6 @@ ghost use Rattle.master_branch.specs.Steps.{group_at, lines_after, IsStep};
 ghost use Rattle.flow_bounds.specs.Missing.{IsMissing};
 ghost use Rattle.flow_bounds.specs.Walk.{AreWalks, AreAllWalks};
 
-use crate::joining::with_ship;
 use crate::least::least_number;
 use crate::line_walks::{LineWalks, finish, line_walks};
 use crate::node_bound::node_flow;
@@ -20,7 +19,7 @@ use crate::passage::{alone, least_passage, passages_from};
 use crate::walk::{Walk, serve};
 use arrayvec::ArrayVec;
 use lock_model::{Group, Instance};
-use master_branch::{Node, Step, arrival_order, next_ship, steps_by};
+use master_branch::{Node, Step, arrival_order, next_ship, steps_by, with_ship};
 use std::marker::Model;
 
 /// Up to 50 bounds: as many as a node of an instance can have children.

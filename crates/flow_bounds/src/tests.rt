@@ -1,6 +1,7 @@
 //! Worked bounds.
 
 mod rows;
+mod whole_tree;
 
 use super::*;
 use lock_model::{

@@ -1,5 +1,5 @@
 -- What `solve` answers to an instance, and to the bytes of a text: a status and what is written.
-use Rattle.std.specs.Prelude.{ℕ, ◌≡◌, ◌≤◌, ◌<◌, ◌⊎◌, List, length, sum_by}
+use Rattle.std.specs.Prelude.{ℕ, ◌≡◌, ◌<◌, List, sum_by}
 use Rattle.lock_model.specs.declared.instance.Instance.{Instance}
 use Rattle.lock_model.specs.declared.plan.Plan.{Plan}
 use Rattle.lock_model.specs.declared.verdict.Verdict.TheVariants.{Optimal}

@@ -1,25 +1,21 @@
 -- The steps of a ship make the children, and how many there are.
-use Rattle.std.proofs.Common.{◌≡◌, ℕ, zero, suc, ◌+◌, ◌*◌, ◌<◌, ◌≤◌, List, [], ◌∷◌, ◌++◌, length, map, filter, All, sum_by, cond, Bool, true, false, inl, inr, refl, sym, ap, ◌∙◌, arith, slice_set, slice_index_or}
+use Rattle.std.proofs.Common.{◌≡◌, ℕ, zero, suc, ◌+◌, ◌*◌, ◌<◌, ◌≤◌, List, [], ◌∷◌, ◌++◌, length, map, filter, All, cond, Bool, true, false, inl, inr, refl, sym, ap, ◌∙◌, arith, slice_set, slice_index_or}
 use Rattle.std.specs.List.{flat_map, insert}
-use Rattle.std.proofs.lemmas.Bool.Decides.{eqb_tells}
+use Rattle.std.proofs.lemmas.Bool.Decides.{eqb_tells, leb_tells}
 use Rattle.std.proofs.lemmas.Simd.{map-map}
 use Rattle.std.proofs.lemmas.Grind.{flat_map-append}
 use Rattle.std.proofs.lemmas.List.{get_or_default, length-append, length-map, map-append, map_push, append-nil}
-use Rattle.std.proofs.lemmas.List.Concat.{length-flat_map}
-use Rattle.std.proofs.lemmas.List.Sums.{sum_by-cons}
-use Rattle.std.proofs.lemmas.List.Elements.{All-head, All-tail, All-append, All-map, All-filter, filter-append, filter_passes}
+use Rattle.std.proofs.lemmas.List.Elements.{All-weaker, All-append, All-map, All-filter, filter-append, filter_passes}
 use Rattle.lock_model.specs.Fleet.{ship_at, chamber_at}
 use Rattle.lock_model.specs.declared.instance.Instance.{Instance}
 use Rattle.lock_model.specs.declared.group.Group.{Group}
 use Rattle.lock_model.specs.declared.way.Way.{Way}
 use Rattle.lock_rules.specs.Arrival.{numbers_from}
-use Rattle.lock_rules.specs.Node.{line_at, size_on, size_held, IsNode}
+use Rattle.lock_rules.specs.Node.{line_at, size_on, IsNode, IsNodeGroup}
 use Rattle.lock_rules.specs.Children.{with_ship, single, joined, added, children_at, children_by}
-use Rattle.lock_rules.proofs.TreeLemmas.{length-filter-le}
-use Rattle.lock_rules.proofs.LineLemmas.{numbers_more, numbers-below, sum_by-each, sum_by-plus, sum_by-zero, sum_by-numbers_more}
-use Rattle.lock_rules.proofs.ThroughputLemmas.{sum_by-shifted}
+use Rattle.lock_rules.proofs.LineLemmas.{length-numbers, numbers_more, numbers-below, sum_by-numbers_more}
 use Rattle.lock_rules.proofs.ChildLemmas.{All-flat_map}
-use Rattle.lock_rules.proofs.SizeLemmas.{node-size, node-kept}
+use Rattle.lock_rules.proofs.SizeLemmas.{node-size, groups-few, sizes-sum, children-few}
 use Rattle.master_branch.specs.declared.step.Step.{Step}
 use Rattle.master_branch.specs.declared.step.Step.TheVariants.{Join, Open}
 use Rattle.master_branch.specs.Steps.{group_at, may_join, places_to_join, joins_at, opens_at, steps_at, steps_by, lines_after, IsStep}
@@ -27,10 +23,6 @@ use Rattle.master_branch.specs.Steps.{group_at, may_join, places_to_join, joins_
 -- what stands at a place of a list stands there in an equal one
 pub read_as : {X : Type 0} (xs ys : List X) (i : ℕ) (d e : X) → xs ≡ ys → i < length ys → slice_index_or xs i d ≡ slice_index_or ys i e
 read_as xs ys i d e same less = ap (λ zs. slice_index_or zs i d) same ∙ get_or_default ys i d e less
-
-length-numbers : (low n : ℕ) → length (numbers_from low n) ≡ n
-length-numbers low zero = refl
-length-numbers low (suc n) = ap suc (length-numbers (suc low) n)
 
 -- what grows by w at each number is no less later
 grows : (f w : ℕ → ℕ) → ((n : ℕ) → f (n + 1) ≡ f n + w n) → (n m : ℕ) → n < m → f n + w n ≤ f m
@@ -191,71 +183,23 @@ module _ (I : Instance) (s : ℕ) (lines : List (List Group)) where
       All-flat_map (IsStep I s lines) (steps_at I s lines) (numbers_from 0 (length I.chambers))
       (λ j d here. steps_at-each _ (omega (arith, numbers-below 0 (length I.chambers) j d here)))
 
-  length-steps_at : (c : ℕ) → length (steps_at I s lines c) ≤ length (line_at lines c) + length (line_at lines c) + 1
-  length-steps_at c =
-      let gs = line_at lines c in
-      let most = (chamber_at I c).most in
-      let way = (ship_at I s).way in
-      let q : ℕ → Bool = λ place. may_join most way (group_at gs place) in
-      omega (
-        arith,
-        length-append (joins_at most way c gs) (opens_at c (suc (length gs))),
-        length-map (filter q (numbers_from 0 (length gs))) (λ place. Join c place),
-        length-filter-le q (numbers_from 0 (length gs)),
-        length-numbers 0 (length gs),
-        length-opens c (suc (length gs)),
-      )
-
--- there are no more groups than ships
-groups_on : (gs : List Group) → All (λ g. 1 ≤ length g.ships) gs → length gs ≤ size_on gs
-groups_on [] some = omega arith
-groups_on (g ∷ gs) some =
-    let own : 1 ≤ length g.ships = All-head (λ (g : Group). 1 ≤ length g.ships) g gs some in
-    omega (arith, own, groups_on gs (All-tail (λ (g : Group). 1 ≤ length g.ships) g gs some))
-
-pub groups-held : (lines : List (List Group)) (m : ℕ) → All (All (λ g. 1 ≤ length g.ships)) lines → sum_by (λ c. length (line_at lines c)) (numbers_from 0 m) ≤ size_held lines
-groups-held [] m some = omega (arith, sum_by-zero (numbers_from 0 m))
-groups-held (line ∷ lines) zero some = omega arith
-groups-held (line ∷ lines) (suc m) some =
-    let HasShips : List Group → Type 0 = All (λ g. 1 ≤ length g.ships) in
-    omega (
-      arith,
-      groups_on line (All-head HasShips line lines some),
-      groups-held lines m (All-tail HasShips line lines some),
-      sum_by-cons (λ c. length (line_at (line ∷ lines) c)) 0 (numbers_from 1 m),
-      sum_by-shifted (λ c. length (line_at (line ∷ lines) c)) 0 m,
-    )
-
-sum_by-ones : (low m : ℕ) → sum_by (λ (c : ℕ). 1) (numbers_from low m) ≡ m
-sum_by-ones low zero = refl
-sum_by-ones low (suc m) = omega (arith, sum_by-ones (suc low) m, sum_by-cons (λ (c : ℕ). 1) low (numbers_from (suc low) m))
-
 -- a ship has at most 2 k + m steps into a node of depth k
 pub steps-few : (I : Instance) (s k : ℕ) (lines : List (List Group)) → IsNode I k lines → length (steps_by I s lines) ≤ 2 * k + length I.chambers
-steps-few I s k lines node =
-    let m = length I.chambers in
-    let numbers = numbers_from 0 m in
-    let groups : ℕ → ℕ = λ c. length (line_at lines c) in
-    omega (
-      arith,
-      length-flat_map (steps_at I s lines) numbers,
-      sum_by-each (λ c. length (steps_at I s lines c)) (λ c. groups c + groups c + 1) numbers (λ j d here. length-steps_at I s lines _),
-      sum_by-plus (λ c. groups c + groups c) (λ c. 1) numbers,
-      sum_by-plus groups groups numbers,
-      sum_by-ones 0 m,
-      groups-held lines m (node-kept I k lines node).some,
-      node-size I k lines node,
-    )
+steps-few I s k lines node = omega (arith, length-map (steps_by I s lines) (lines_after I s lines), ap length (steps-children I s lines), children-few I s k lines node)
 
 -- a line of a node of depth k has at most k groups
 pub line-few : (I : Instance) (k : ℕ) (lines : List (List Group)) → IsNode I k lines → (c : ℕ) → length (line_at lines c) ≤ k
 line-few I k lines node c =
-    omega (
-      arith,
-      grows (λ n. sum_by (λ c. length (line_at lines c)) (numbers_from 0 n)) (λ c. length (line_at lines c)) (sum_by-numbers_more (λ c. length (line_at lines c))) c (suc c) (omega arith),
-      groups-held lines (suc c) (node-kept I k lines node).some,
-      node-size I k lines node,
-    )
+    elim (leb_tells (length I.chambers) c) [
+      | inl past ↦ omega (arith, ap length (node.past c past.1))
+      | inr less ↦ omega (
+        arith,
+        groups-few (line_at lines c) (All-weaker (IsNodeGroup I c) (λ g. 1 ≤ length g.ships) (λ g h. h.count.0) (line_at lines c) (node.groups c less.1)),
+        sum_by-numbers_more (λ c. size_on (line_at lines c)) c,
+        sizes-sum lines (c + 1),
+        node-size I k lines node,
+      )
+    ]
 
 -- what a chamber's joins and new groups make together
 pub steps_at-is : (I : Instance) (s : ℕ) (lines : List (List Group)) (c most : ℕ) (way : Way) (line : List Group) → most ≡ (chamber_at I c).most → way ≡ (ship_at I s).way → line ≡ line_at lines c

@@ -8,8 +8,8 @@ use Rattle.lock_model.specs.declared.instance.Instance.{Instance}
 use Rattle.lock_model.specs.declared.plan.Lockage.{Lockage}
 use Rattle.lock_model.specs.declared.plan.Plan.{Plan}
 use Rattle.lock_rules.specs.Plan.{IsLegal, IsLegalLockage}
-use Rattle.chamber_times.specs.Walk.{no_lockage, lockage_at}
-use Rattle.chamber_times.proofs.WalkLemmas.{lockage_at-read}
+use Rattle.lock_rules.specs.Lines.{no_lockage, lockage_at}
+use Rattle.lock_rules.proofs.LineLemmas.{lockage_at-read}
 use Rattle.chamber_times.proofs.BreakLemmas.{IsFirstBreak-untimely}
 use Rattle.mooring_rules.specs.PlanBreaks.{HasShape, IsPlaced, IsClear, AreShaped, HasNoDouble, HasNoMissing, ArePlaced, AreClear, AreOnTime, IsFirstMisplaced, IsFirstClash, IsFirstBrokenPlan}
 use Rattle.mooring_rules.specs.declared.breaks.Broken.{Broken}

@@ -10,7 +10,7 @@ use Rattle.lock_model.specs.declared.plan.Lockage.{Lockage}
 use Rattle.lock_model.specs.declared.plan.Plan.{Plan}
 use Rattle.lock_model.specs.declared.way.Way.{Way}
 use Rattle.lock_rules.specs.Plan.{served_in, IsTimely}
-use Rattle.chamber_times.specs.Walk.{lockage_at}
+use Rattle.lock_rules.specs.Lines.{lockage_at}
 use Rattle.chamber_times.specs.FirstBreak.{IsFirstBreak}
 use Rattle.chamber_times.specs.declared.breaks.BrokenTime.{BrokenTime}
 use Rattle.mooring_rules.specs.PlacementBreaks.{IsFirstBroken}

@@ -30,8 +30,8 @@ fn first_clash_after(deck: &Deck, i: u8) -> Option<u8>
     None
 }
 
-/// The first two ships of a deck that clash.
-pub(crate) fn first_clash(deck: &Deck) -> Option<(u8, u8)>
+/// The first two ships of a deck that clash, none where no two do. Takes no memory.
+pub fn first_clash(deck: &Deck) -> Option<(u8, u8)>
     ensures none { IfNone result (HasNoClash deck.now) }
     ensures some { IfSome result (λ p. AreFirstClashing deck.now p.0 p.1) }
 {

@@ -1,7 +1,8 @@
 //! The judges of placements and of plans.
 //!
 //! `judge_spots` names the first break of a placement of a deck, and answers None exactly where
-//! the placement is legal. `judge_plan` does the like for a plan of an instance. Neither takes
+//! the placement is legal. `judge_plan` does the like for a plan of an instance. `first_clash` names
+//! the first two ships of a deck whose cargo clashes. None of them takes
 //! memory.
 //!
 //! Definitions: `lock_model` says which placements are legal (`specs/Placement`) and which ships
@@ -20,5 +21,6 @@ mod shape;
 mod tests;
 
 pub use breaks::{Broken, BrokenPlan};
+pub use cargo::first_clash;
 pub use placement::judge_spots;
 pub use plan::judge_plan;

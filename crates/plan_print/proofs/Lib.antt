@@ -1,5 +1,4 @@
 pub mod TextLemmas
-pub mod LegalLemmas
 pub mod OrderLemmas
 pub mod CellLemmas
 pub mod ShipLemmas

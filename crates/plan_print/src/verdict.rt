@@ -81,7 +81,7 @@ fn put_verdict(out: &mut Vec<u8>, instance: &Instance, verdict: &Verdict) -> Res
 }
 
 /// Appends the first line of a report.
-#[tactic(auto, unfolding(crate::specs::Report::verdict_line), using(crate::proofs::LegalLemmas::of_legal_plans))]
+#[tactic(auto, unfolding(crate::specs::Report::verdict_line), using(lock_rules::proofs::LegalLemmas::of_legal_plans))]
 pub(crate) fn put_verdict_line(
     out: &mut Vec<u8>,
     instance: &Instance,

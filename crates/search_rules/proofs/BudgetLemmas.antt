@@ -6,6 +6,7 @@ use Rattle.lock_model.specs.declared.instance.Instance.{Instance}
 use Rattle.lock_model.specs.declared.plan.Plan.{Plan}
 use Rattle.lock_rules.specs.Plan.{cost_of}
 use Rattle.lock_rules.specs.Children.{children_of}
+use Rattle.lock_rules.specs.Arrival.{next_ship}
 use Rattle.lock_rules.proofs.SizeLemmas.{children-few}
 use Rattle.search_rules.specs.declared.book.Entry.{Entry}
 use Rattle.search_rules.specs.declared.book.SlotState.{SlotState}
@@ -49,7 +50,7 @@ split-budget b w id book keeps at lacks e =
     let kids = children_of I node.depth node.lines in
     let new = slot.Split (length b.slots) in
     let slots = (Step.with_state b id new).slots in
-    let few : length kids ≤ 2 * node.depth + length I.chambers = children-few I node.depth node.lines (book.slots id no_slot at.known).node in
+    let few : length kids ≤ 2 * node.depth + length I.chambers = children-few I (next_ship I node.depth) node.depth node.lines (book.slots id no_slot at.known).node in
     let taken : count_slots is_taken (slots ++ Step.children_in b id) ≡ count_slots is_taken b.slots =
     let old = count-turned is_taken b id (slot.Held w) new at in
     omega (arith, old, count-append is_taken slots (Step.children_in b id), count-children is_taken refl refl I (best_cost b) id (suc node.depth) 0 kids) in

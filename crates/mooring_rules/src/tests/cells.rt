@@ -64,7 +64,7 @@ fn is_berthed(deck: &Deck, own: u8, size: &Size, spot: &Spot, other: &Size, besi
 }
 
 /// Whether the placement of the two ships is legal; a host is ship 0 or ship 1.
-pub fn is_legal(deck: &Deck, sizes: (Size, Size), spots: (Spot, Spot)) -> bool {
+pub(crate) fn is_legal(deck: &Deck, sizes: (Size, Size), spots: (Spot, Spot)) -> bool {
     let (s, t) = sizes;
     let (p, q) = spots;
     is_inside(deck, &s, &p)
@@ -75,7 +75,7 @@ pub fn is_legal(deck: &Deck, sizes: (Size, Size), spots: (Spot, Spot)) -> bool {
 }
 
 /// Spot `n` of 210: x is below 7 and y below 5, in either rank, at the quay, ship 0 or ship 1.
-pub fn spot(n: u32) -> Spot {
+pub(crate) fn spot(n: u32) -> Spot {
     Spot {
         x: n % 7,
         y: n / 7 % 5,

@@ -4,16 +4,16 @@ ghost use Rattle.std.specs.Prelude.{◌≡◌, ◌≤◌, length, IfSome};
 use lock_model::*;
 
 /// Where a ship lies: its x and y, its rank, and what it is moored to.
-pub type Place = (u32, u32, Rank, Moor);
+pub(crate) type Place = (u32, u32, Rank, Moor);
 
-pub const QUAY: Moor = Moor::Quay;
+pub(crate) const QUAY: Moor = Moor::Quay;
 
-pub const LEFT: Rank = Rank::Left;
+pub(crate) const LEFT: Rank = Rank::Left;
 
-pub const RIGHT: Rank = Rank::Right;
+pub(crate) const RIGHT: Rank = Rank::Right;
 
 /// The spots of these places.
-pub fn spots(places: &[Place]) -> Spots
+pub(crate) fn spots(places: &[Place]) -> Spots
     requires { length places.now ≤ 8 }
     ensures { length result ≡ length places.now }
 {
@@ -26,7 +26,7 @@ pub fn spots(places: &[Place]) -> Spots
 
 /// A deck of these measures and of ships without cargo, by length and width; None where a limit
 /// fails.
-pub fn deck(measures: Measures, ships: &[(u32, u32)]) -> Option<Deck>
+pub(crate) fn deck(measures: Measures, ships: &[(u32, u32)]) -> Option<Deck>
     requires { length ships.now ≤ 8 }
     ensures { IfSome result (λ d. length d.ships ≡ length ships.now) }
 {
@@ -44,19 +44,19 @@ pub fn deck(measures: Measures, ships: &[(u32, u32)]) -> Option<Deck>
 /// A lock: where its two equal chambers stand, their closure and `most`, and its two ships, of
 /// which the second may be away.
 #[derive(Clone, Copy)]
-pub struct Lock {
-    pub stands: Stand,
-    pub closed: (u32, u32),
-    pub most: u8,
-    pub cargo: (u8, u8),
-    pub second_way: Way,
-    pub second_arrival: u32,
-    pub second_away: bool,
+pub(crate) struct Lock {
+    pub(crate) stands: Stand,
+    pub(crate) closed: (u32, u32),
+    pub(crate) most: u8,
+    pub(crate) cargo: (u8, u8),
+    pub(crate) second_way: Way,
+    pub(crate) second_arrival: u32,
+    pub(crate) second_away: bool,
 }
 
 /// Chambers of base measures at their low side, without closures, and two harmless ships of
 /// 1100 x 114 that go up from minute 0.
-pub const LOW: Lock = Lock {
+pub(crate) const LOW: Lock = Lock {
     stands: Stand::Low,
     closed: (0, 0),
     most: 4,
@@ -108,7 +108,7 @@ fn ship(digit: u8, way: Way, arrival: u32, cargo: u8) -> Ship {
 }
 
 /// The instance of a lock; None where a limit fails.
-pub fn instance(lock: &Lock) -> Option<Instance> {
+pub(crate) fn instance(lock: &Lock) -> Option<Instance> {
     let mut chambers = Chambers::new();
     chambers.push(chamber(lock, b'1'));
     chambers.push(chamber(lock, b'2'));
@@ -123,7 +123,7 @@ pub fn instance(lock: &Lock) -> Option<Instance> {
 
 /// Which ships share a lockage; the stranger isn't in the instance.
 #[derive(Clone, Copy)]
-pub enum Who {
+pub(crate) enum Who {
     Nobody,
     First,
     Second,
@@ -146,10 +146,10 @@ fn ships(who: Who) -> Ships {
 }
 
 /// A lockage upwards: its chamber, its ships, its start and its places.
-pub type Passage = (u8, Who, u32, &'static [Place]);
+pub(crate) type Passage = (u8, Who, u32, &'static [Place]);
 
 /// The plan of these lockages; None where they are too many for a plan or a lockage.
-pub fn plan(passages: &[Passage]) -> Option<Plan> {
+pub(crate) fn plan(passages: &[Passage]) -> Option<Plan> {
     let mut lockages = Lockages::new();
     if 24 < passages.len() {
         return None;

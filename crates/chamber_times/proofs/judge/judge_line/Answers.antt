@@ -1,6 +1,7 @@
 use Rattle.std.proofs.Common.{◌≡◌, ◌+◌, length, take, get_or, ap, refl, ◌∙◌, arith}
 use Rattle.std.proofs.lemmas.List.{take_all}
-use Rattle.chamber_times.specs.Walk.{lockage_at, line_places}
+use Rattle.lock_rules.specs.Lines.{lockage_at}
+use Rattle.chamber_times.specs.Walk.{line_places}
 use Rattle.chamber_times.specs.FirstBreak.{IsFirstBreak}
 use Rattle.chamber_times.proofs.WalkLemmas.{line_places-within, line_lockage, line_lockage-ships}
 use Rattle.chamber_times.proofs.BreakLemmas.{IsFirstBreak-untimely, IsFirstBreak-at, IsTimely-walked, AreTimely-more, stand_after-more, done_after-more}

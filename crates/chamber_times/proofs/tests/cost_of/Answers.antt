@@ -2,7 +2,7 @@ use Rattle.std.proofs.Common.{◌<◌, ◌≤◌, length, All, get_or, ap, subst
 use Rattle.std.proofs.lemmas.List.{get_or_default}
 use Rattle.lock_model.specs.Fleet.{ship_at}
 use Rattle.lock_model.specs.declared.plan.Lockage.{Lockage}
-use Rattle.chamber_times.specs.Walk.{no_lockage}
+use Rattle.lock_rules.specs.Lines.{no_lockage}
 use Rattle.chamber_times.proofs.tests.cost_of.Goals as goal
 
 pub cost-requires-clause-arrived : goal.cost-requires-clause-arrived

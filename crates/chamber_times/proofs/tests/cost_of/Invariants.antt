@@ -1,6 +1,6 @@
 use Rattle.std.proofs.Common.{ℕ, ◌<◌, ◌≤◌, All, slice_index_or}
 use Rattle.lock_model.specs.Fleet.{ship_at}
-use Rattle.chamber_times.specs.Walk.{no_lockage}
+use Rattle.lock_rules.specs.Lines.{no_lockage}
 use Rattle.chamber_times.proofs.tests.cost_of.Given as goal
 
 abbrev pub invariant-loop-lockage : goal.invariant-loop-lockage

@@ -1,5 +1,5 @@
 use Rattle.std.proofs.Common.{◌<◌, ◌∙◌, All, length, sym, subst}
-use Rattle.flow_bounds.proofs.NodeLemmas.{line-known}
+use Rattle.lock_rules.proofs.NodeLemmas.{line-known}
 use Rattle.lock_model.specs.declared.group.Group.{Group}
 use Rattle.flow_bounds.proofs.probing.all_walks.Goals as goal
 

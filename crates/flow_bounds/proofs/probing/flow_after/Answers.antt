@@ -9,7 +9,7 @@ use Rattle.lock_rules.proofs.ChildLemmas.{times_on-held}
 use Rattle.master_branch.specs.declared.step.Step.TheVariants.{Join, Open}
 use Rattle.master_branch.specs.Steps.{group_at, lines_after, IsStep}
 use Rattle.master_branch.proofs.JoinLemmas.{group-absent}
-use Rattle.flow_bounds.proofs.NodeLemmas.{line-known}
+use Rattle.lock_rules.proofs.NodeLemmas.{line-known}
 use Rattle.flow_bounds.proofs.ProbeLemmas.{flow-set}
 use Rattle.flow_bounds.proofs.probing.flow_after.Goals as goal
 

@@ -1,4 +1,4 @@
-use Rattle.plan_print.proofs.LegalLemmas.{legal-arrived}
+use Rattle.lock_rules.proofs.LegalLemmas.{legal-arrived}
 use Rattle.lock_top.proofs.solving.plan_answer.Goals as goal
 
 pub cost-requires-clause-arrived : goal.cost-requires-clause-arrived

@@ -1,5 +1,5 @@
 use Rattle.std.proofs.Common.{ℕ, ◌<◌}
-use Rattle.chamber_times.specs.Walk.{lockage_at}
+use Rattle.lock_rules.specs.Lines.{lockage_at}
 use Rattle.mooring_rules.specs.PlanBreaks.{IsPlaced}
 use Rattle.mooring_rules.proofs.plan.first_misplaced.Given as goal
 

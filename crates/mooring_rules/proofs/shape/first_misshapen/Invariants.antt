@@ -1,6 +1,6 @@
 use Rattle.std.proofs.Common.{ℕ, ◌<◌}
 use Rattle.std.specs.List.Sorted.{IsStrictlyIncreasing}
-use Rattle.chamber_times.specs.Walk.{lockage_at}
+use Rattle.lock_rules.specs.Lines.{lockage_at}
 use Rattle.mooring_rules.specs.PlanBreaks.{HasShape}
 use Rattle.mooring_rules.proofs.shape.first_misshapen.Given as goal
 

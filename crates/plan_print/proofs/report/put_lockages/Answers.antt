@@ -1,10 +1,11 @@
 use Rattle.std.proofs.Common.{◌++◌, ap, ◌∙◌, codes, get_or, append_assoc, arith, rules}
 use Rattle.std.specs.List.{flat_map, enumerate_from}
 use Rattle.std.proofs.lemmas.Result.{IfOk-equal}
-use Rattle.plan_print.specs.Order.{in_order, no_lockage}
+use Rattle.lock_rules.specs.Lines.{no_lockage}
+use Rattle.lock_rules.proofs.LegalLemmas.{HasArrived, legal-arrived}
+use Rattle.plan_print.specs.Order.{in_order}
 use Rattle.plan_print.specs.Report.{lockage_text, lockages_text}
-use Rattle.plan_print.proofs.LegalLemmas.{HasArrived, legal-arrived, All-read}
-use Rattle.plan_print.proofs.OrderLemmas.{lockage-numbered, length-numbered, lockages-all}
+use Rattle.plan_print.proofs.OrderLemmas.{lockage-numbered, length-numbered, lockages-all, All-read}
 use Rattle.plan_print.proofs.TextLemmas.{flat_map_take_more}
 use Rattle.plan_print.proofs.report.put_lockages.Goals as goal
 

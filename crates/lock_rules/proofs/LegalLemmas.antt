@@ -1,6 +1,6 @@
 -- What a legal plan says of each of its lockages.
-use Rattle.std.proofs.Common.{◌≡◌, ℕ, ◌+◌, ◌<◌, ◌≤◌, List, [], ◌∷◌, length, get_or, map, filter, All, cond, true, false, nat_eq, nat_le, eq-eqb, subst, sym, refl}
-use Rattle.std.proofs.lemmas.List.Elements.{All-head, All-tail, All-cons, All-nil, All-weaker, All-get_or}
+use Rattle.std.proofs.Common.{ℕ, ◌+◌, ◌<◌, ◌≤◌, List, [], ◌∷◌, length, map, filter, All, cond, true, false, nat_eq, nat_le, eq-eqb, subst, refl}
+use Rattle.std.proofs.lemmas.List.Elements.{All-head, All-tail, All-cons, All-nil, All-weaker}
 use Rattle.lock_model.specs.Fleet.{ship_at, chamber_at}
 use Rattle.lock_model.specs.declared.way.Stand.{Stand}
 use Rattle.lock_model.specs.declared.instance.Instance.{Instance}
@@ -64,7 +64,3 @@ legal-arrived I P legal =
     (λ c less. All-before_sort (HasArrived I) (filter (λ l. nat_eq l.chamber c) P.lockages) (lawful-arrived I c (line_of P c) (chamber_at I c).stands (chamber_at I c).opens (legal.timely c less).lawful))
 
 pub ruleset of_legal_plans = (legal-chambers, legal-ships, legal-arrived)
-
--- what holds of all lockages holds of one that is read
-pub All-read : (Q : Lockage → Type 0) (ls seen : List Lockage) (i : ℕ) (l : Lockage) → seen ≡ ls → i < length seen → l ≡ get_or seen i l → All Q ls → Q l
-All-read Q ls seen i l same less read all = subst Q (sym read) (All-get_or Q seen i l less (subst (λ xs. All Q xs) (sym same) all))
