@@ -1,13 +1,17 @@
-//! The opening plan: each ship alone, as early as a chamber that takes it can serve it.
+//! The opening plan: each ship alone, as early as a chamber that takes it can serve it, and then
+//! lockages merged as long as that lowers the cost.
 //!
-//! `first_unfit` names the first ship that fits no chamber. Where there is none, `singles_plan`
-//! gives the singles plan, which is legal. Neither takes memory.
+//! `first_plan` is legal, and costs at most what the singles plan costs. `singles_plan` is the plan
+//! before the merges, and `first_unfit` names the first ship that fits no chamber; these two take no
+//! memory.
 //!
 //! Definitions: `lock_rules` says which ship is the first unfit one (`specs/Unfit`) and what the
-//! singles plan and its cost are (`specs/Singles`).
+//! singles plan and its cost are (`specs/Singles`); here `specs/Merging` (plans that cost less).
 #![tactic(auto)]
 
 mod choice;
+mod joined;
+mod merging;
 mod opening;
 mod singles;
 mod standing;
@@ -15,5 +19,5 @@ mod standing;
 mod tests;
 mod unfit;
 
-pub use opening::singles_plan;
+pub use opening::{FirstError, first_plan, singles_plan};
 pub use unfit::first_unfit;

@@ -1,6 +1,7 @@
 //! Worked singles plans.
 
 use super::*;
+use chamber_times::cost;
 use lock_model::{Chamber, Chambers, Closures, Instance, Name, Ship, ShipList, Stand, Way};
 use std::test::Fail;
 
@@ -83,6 +84,26 @@ fn the_first_ship_that_fits_no_chamber_is_named(rt: HostRuntime) -> Result<(), F
         locks.push(chamber(b'b', 2000, Stand::Low));
         let instance = Instance::new(locks, fleet).ok_or("no instance")?;
         assert_eq!(rt; first_unfit(&instance), unfit, "{first} and {second}");
+    }
+    Ok(())
+}
+
+// Two ships of 114 lie side by side in a width of 240, and in one of 232 they don't.
+#[tactic(auto, using(lock_rules::proofs::LegalLemmas::of_legal_plans))]
+#[test]
+fn lockages_are_merged_where_their_ships_fit_together(rt: HostRuntime) -> Result<(), Fail> {
+    for (width, lockages, minutes) in [(240, 1, 80), (232, 2, 120)] {
+        let mut fleet = ShipList::new();
+        fleet.push(ship(b's', Way::Up, 1100, 0));
+        fleet.push(ship(b't', Way::Up, 1100, 0));
+        let mut lock = chamber(b'a', 2000, Stand::Low);
+        lock.width = width;
+        let mut locks = Chambers::new();
+        locks.push(lock);
+        let instance = Instance::new(locks, fleet).ok_or("no instance")?;
+        let plan = first_plan(rt.alloc(), &instance, 128).map_err(|_| "no plan")?;
+        assert_eq!(rt; plan.lockages.as_slice().len(), lockages);
+        assert_eq!(rt; cost(&instance, &plan), minutes);
     }
     Ok(())
 }

@@ -1,0 +1,138 @@
+-- What take and release answer.
+use Rattle.std.proofs.Common.{◌≡◌, ◌≢◌, ℕ, suc, ◌<◌, ◌≤◌, List, refl, sym, ap, ◌∙◌, subst, arith, Bool, true, false, not, cond, nat_eq, slice_index_or, inl, inr, Some, None}
+use Rattle.std.specs.declared.option.Option.{Option}
+use Rattle.std.proofs.lemmas.Bool.Decides.{eqb_tells}
+use Rattle.mooring_rules.specs.declared.breaks.BrokenPlan.{BrokenPlan}
+use Rattle.search_rules.specs.declared.book.SlotState.TheVariants as slot
+use Rattle.search_rules.specs.Book.{Book, Node as TreeNode, slot_at, first_slot, has_slot, is_back, is_held, is_held_by}
+use Rattle.search_rules.specs.Events as machine
+use Rattle.search_rules.specs.Events.{Event, take, release}
+use Rattle.search_rules.specs.NextSlot.{next_fresh}
+use Rattle.search_rules.specs.Step.{step, given, take_free, take_slot, take_fresh, release_slot}
+use Rattle.search_rules.proofs.SlotLemmas.{next_fresh-at}
+use Rattle.master_branch.specs.Node.{Node}
+use Rattle.book_core.specs.declared.reply.Reply.TheVariants as reply
+use Rattle.book_core.specs.Nodes.{tree_node}
+use Rattle.book_core.specs.Changes.{IsFree, IsReturned, IsNew, handed, returned, finished}
+use Rattle.book_core.specs.Keeps.{IsSound}
+use Rattle.book_core.specs.Replies.{Answers}
+use Rattle.book_core.proofs.CloseLemmas.{Out, none, pick-true, pick-false}
+use Rattle.book_core.proofs.SoundLemmas.{step-sound}
+
+module _ (b : Book) (w : ℕ) where
+  abbrev has_ended : Bool
+  has_ended = slice_index_or b.ended w false
+
+  -- ---- take
+
+  pub take-ended : has_ended ≡ true → Answers b (take w) (reply.Ended w) b
+  take-ended e = record { found = None; judged = tt; answer = machine.Ended w; said = refl; same = pick-true has_ended (b, machine.Ended w) (take_free b w (first_slot b (is_held_by w))) e }
+
+  way-free : has_ended ≡ false → step (λ _ _. none) b (take w) ≡ take_free b w (first_slot b (is_held_by w))
+  way-free e = pick-false has_ended (b, machine.Ended w) (take_free b w (first_slot b (is_held_by w))) e
+
+  pub take-holds : (id : ℕ) → has_ended ≡ false → first_slot b (is_held_by w) ≡ Some id → Answers b (take w) (reply.Holds id) b
+  take-holds id e held = record { found = None; judged = tt; answer = machine.Holds id; said = refl; same = way-free e ∙ ap (take_free b w) held }
+
+  way-slot : has_ended ≡ false → first_slot b (is_held_by w) ≡ None → step (λ _ _. none) b (take w) ≡ take_slot b w (first_slot b is_back)
+  way-slot e empty = way-free e ∙ ap (take_free b w) empty
+
+  way-fresh : has_ended ≡ false → first_slot b (is_held_by w) ≡ None → first_slot b is_back ≡ None → step (λ _ _. none) b (take w) ≡ take_fresh b w (next_fresh b)
+  way-fresh e empty back = way-slot e empty ∙ ap (take_slot b w) back
+
+  -- nothing is open
+  pub take-idle : has_ended ≡ false → first_slot b (is_held_by w) ≡ None → first_slot b is_back ≡ None → next_fresh b ≡ None → has_slot b is_held ≡ true → Answers b (take w) reply.Idle b
+  take-idle e empty back next held = record {
+    found = None;
+    judged = tt;
+    answer = machine.Idle;
+    said = refl;
+    same = way-fresh e empty back ∙ ap (take_fresh b w) next ∙ ap (λ t. (b, cond t machine.Idle machine.Done)) held;
+  }
+
+  pub take-done : has_ended ≡ false → first_slot b (is_held_by w) ≡ None → first_slot b is_back ≡ None → next_fresh b ≡ None → has_slot b is_held ≡ false → Answers b (take w) reply.Done b
+  take-done e empty back next held = record {
+    found = None;
+    judged = tt;
+    answer = machine.Done;
+    said = refl;
+    same = way-fresh e empty back ∙ ap (take_fresh b w) next ∙ ap (λ t. (b, cond t machine.Idle machine.Done)) held;
+  }
+
+  -- a returned slot
+  pub back-given : (id : ℕ) → has_ended ≡ false → first_slot b (is_held_by w) ≡ None → first_slot b is_back ≡ Some id → step (λ _ _. none) b (take w) ≡ given b w id b.used
+  back-given id e empty back = way-slot e empty ∙ ap (take_slot b w) back
+
+  -- a fresh one, if the budget isn't spent
+  same-number : (m n : ℕ) → m ≡ n → nat_eq m n ≡ true
+  same-number m n e = elim (eqb_tells m n) [ inl y ↦ y.0 | inr h ↦ absurd (h.1 e) ]
+
+  other-number : (m n : ℕ) → m ≢ n → nat_eq m n ≡ false
+  other-number m n e = elim (eqb_tells m n) [ inl y ↦ absurd (e y.1) | inr h ↦ h.0 ]
+
+  pub take-spent : (id used : ℕ) → used ≡ b.used → has_ended ≡ false → first_slot b (is_held_by w) ≡ None → first_slot b is_back ≡ None → next_fresh b ≡ Some id → used ≡ b.case.nodes → Answers b (take w) (reply.NodesSpent used) b
+  take-spent id used is e empty back next spent = record {
+    found = None;
+    judged = tt;
+    answer = machine.NodesSpent used;
+    said = refl;
+    same =
+        way-fresh e empty back ∙ ap (take_fresh b w) next
+        ∙ pick-true (nat_eq b.used b.case.nodes) (b, machine.NodesSpent b.used) (given b w id (suc b.used)) (same-number b.used b.case.nodes (sym is ∙ spent))
+        ∙ ap (λ n. (b, machine.NodesSpent n)) (sym is);
+  }
+
+  pub fresh-given : (id used : ℕ) → used ≡ b.used → has_ended ≡ false → first_slot b (is_held_by w) ≡ None → first_slot b is_back ≡ None → next_fresh b ≡ Some id → used ≢ b.case.nodes → (n : ℕ) → n ≡ suc used → step (λ _ _. none) b (take w) ≡ given b w id n
+  fresh-given id used is e empty back next left n more =
+      way-fresh e empty back ∙ ap (take_fresh b w) next
+      ∙ pick-false (nat_eq b.used b.case.nodes) (b, machine.NodesSpent b.used) (given b w id (suc b.used)) (other-number b.used b.case.nodes (λ h. left (is ∙ h)))
+      ∙ ap (given b w id) (ap suc (sym is) ∙ sym more)
+
+  pub is-new : (id : ℕ) → first_slot b is_back ≡ None → next_fresh b ≡ Some id → IsFree b id
+  is-new id back next = IsNew back (next_fresh-at b id next).is
+
+  module _ (sound : IsSound b) (known : w ≤ 8) (id used : ℕ) (same : step (λ _ _. none) b (take w) ≡ given b w id used) where
+    pub given-sound : IsSound (handed b id w used)
+    given-sound = subst IsSound (ap (λ (o : Out). o.0) same) (step-sound b (take w) None sound known tt)
+
+    pub given-answers : (node : Node) (new : Book) → tree_node node ≡ (slot_at b id).node → new ≡ handed b id w used → Answers b (take w) (reply.Node id node) new
+    given-answers node new node_is new_is = record {
+      found = None;
+      judged = tt;
+      answer = machine.Node id (tree_node node);
+      said = refl;
+      same = same ∙ (λ i. (sym new_is i, machine.Node id (sym node_is i)));
+    }
+
+  -- ---- release
+
+  pub release-ended : has_ended ≡ true → Answers b (release w) (reply.Ended w) b
+  release-ended e = record { found = None; judged = tt; answer = machine.Ended w; said = refl; same = pick-true has_ended (b, machine.Ended w) (release_slot b w (first_slot b (is_held_by w))) e }
+
+  way-release : has_ended ≡ false → step (λ _ _. none) b (release w) ≡ release_slot b w (first_slot b (is_held_by w))
+  way-release e = pick-false has_ended (b, machine.Ended w) (release_slot b w (first_slot b (is_held_by w))) e
+
+  module _ (sound : IsSound b) (known : w ≤ 8) (running : has_ended ≡ false) where
+    pub returned-sound : (id : ℕ) → first_slot b (is_held_by w) ≡ Some id → IsSound (returned b id w)
+    returned-sound id held = subst IsSound (ap (λ (o : Out). o.0) (way-release running ∙ ap (release_slot b w) held)) (step-sound b (release w) None sound known tt)
+
+    pub returned-answers : (id : ℕ) (new : Book) → first_slot b (is_held_by w) ≡ Some id → new ≡ returned b id w → Answers b (release w) (reply.Released 1) new
+    returned-answers id new held is = record {
+      found = None;
+      judged = tt;
+      answer = machine.Released 1;
+      said = refl;
+      same = way-release running ∙ ap (release_slot b w) held ∙ ap (λ u. (u, machine.Released 1)) (sym is);
+    }
+
+    pub finished-sound : first_slot b (is_held_by w) ≡ None → IsSound (finished b w)
+    finished-sound empty = subst IsSound (ap (λ (o : Out). o.0) (way-release running ∙ ap (release_slot b w) empty)) (step-sound b (release w) None sound known tt)
+
+    pub finished-answers : (new : Book) → first_slot b (is_held_by w) ≡ None → new ≡ finished b w → Answers b (release w) (reply.Released 0) new
+    finished-answers new empty is = record {
+      found = None;
+      judged = tt;
+      answer = machine.Released 0;
+      said = refl;
+      same = way-release running ∙ ap (release_slot b w) empty ∙ ap (λ u. (u, machine.Released 0)) (sym is);
+    }

@@ -1,0 +1,81 @@
+-- The node of a slot is a child of its parent's.
+use Rattle.std.proofs.Common.{◌≡◌, ℕ, zero, suc, ◌+◌, ◌<◌, ◌≤◌, List, [], ◌∷◌, length, refl, sym, ap, ◌∙◌, subst, arith, slice_index_or, slice_get, Some, None}
+use Rattle.lock_model.specs.declared.instance.Instance.{Instance}
+use Rattle.lock_model.specs.declared.group.Group.{Group}
+use Rattle.lock_rules.specs.Node.{IsNode, root_lines}
+use Rattle.lock_rules.specs.Children.{children_of}
+use Rattle.search_rules.specs.Book.{Book, Node as TreeNode, Slot, no_slot, slot_at}
+use Rattle.search_rules.specs.Cover.{IsGoodSlot}
+use Rattle.search_rules.specs.Family.{child_node, child_count, IsBorn, HasChildren}
+use Rattle.master_branch.specs.Node.{Node, IsNodeOf, children}
+use Rattle.book_core.specs.Keeps.{IsSound}
+use Rattle.book_core.specs.declared.stored_slot.StoredSlot.{StoredSlot}
+use Rattle.book_core.specs.Stored.{IsStoredAs}
+use Rattle.book_core.specs.Nodes.{tree_node}
+
+got-or : {X : Type 0} (xs : List X) (k : ℕ) (x d : X) → slice_get xs k ≡ Some x → slice_index_or xs k d ≡ x
+got-or [] k x d e = absurd (none-some e)
+  where
+    none-some : None ≡ Some x → ⊥
+    none-some h = cc
+got-or (y ∷ ys) zero x d e = some-same e
+  where
+    some-same : Some y ≡ Some x → y ≡ x
+    some-same h = cc
+got-or (y ∷ ys) (suc k) x d e = got-or ys k x d e
+
+module _ (b : Book) (sound : IsSound b) (id : ℕ) (known : id < length b.slots) where
+  -- the slot's node is one of the instance
+  pub slot-node : IsNode b.case.instance (slot_at b id).node.depth (slot_at b id).node.lines
+  slot-node = (sound.keeps.slots id no_slot known).node
+
+  pub slot-bound : (slot_at b id).bound ≡ Rattle.search_rules.specs.Book.bound_at b.case.instance (slot_at b id).node
+  slot-bound = (sound.keeps.slots id no_slot known).bound
+
+  module _ (some : 0 < id) where
+    born : IsBorn b id
+    born = sound.parts.family.born id some known
+
+    family : HasChildren b (slot_at b id).parent born.first
+    family = sound.parts.family.children (slot_at b id).parent born.first born.split
+
+    pub parent-before : (slot_at b id).parent < id
+    parent-before = let place = born.place in let later = family.later in omega (arith, place, later)
+
+    pub parent-lacks : (slot_at b (slot_at b id).parent).node.depth < length b.case.instance.ships
+    parent-lacks = family.lacks
+
+    pub number-within : (slot_at b id).number < child_count b.case.instance (slot_at b (slot_at b id).parent).node
+    number-within = born.number
+
+    pub node-born : (slot_at b id).node ≡ child_node b.case.instance (slot_at b (slot_at b id).parent).node (slot_at b id).number
+    node-born = sym (ap (λ k. (slot_at b k).node) born.place) ∙ (family.child (slot_at b id).number born.number).node_is
+
+-- a child that is found by its number
+pub child-is : (I : Instance) (old new : Node) (k : ℕ) → new.depth ≡ old.depth + 1 → slice_get (children I old) k ≡ Some new.lines → tree_node new ≡ child_node I (tree_node old) k
+child-is I old new k depth lines =
+    let is : slice_index_or (children I old) k root_lines ≡ new.lines = got-or (children I old) k new.lines root_lines lines in
+    let deep : new.depth ≡ suc old.depth = omega (arith, depth) in
+    (λ i. record { depth = deep i; lines = sym is i })
+
+-- one step from the parent's node to a slot's
+module _ (b : Book) (sound : IsSound b) (id : ℕ) (known : id < length b.slots) (some : 0 < id) (r : StoredSlot) (is : IsStoredAs r (slot_at b id)) where
+  pub up-before : r.parent < id
+  up-before = let before = parent-before b sound id known some in let parent = is.parent in omega (arith, before, parent)
+
+  module _ (node : Node) (same : tree_node node ≡ (slot_at b r.parent).node) where
+    parent-is : tree_node node ≡ (slot_at b (slot_at b id).parent).node
+    parent-is = same ∙ ap (λ p. (slot_at b p).node) (sym is.parent)
+
+    pub up-lacks : node.depth < length b.case.instance.ships
+    up-lacks = let lacks = parent-lacks b sound id known some in let depth = ap (λ (n : TreeNode). n.depth) parent-is in omega (arith, lacks, depth)
+
+    pub up-within : r.number < length (children b.case.instance node)
+    up-within =
+        let within = number-within b sound id known some in
+        let count = ap (child_count b.case.instance) parent-is in
+        let number = is.number in
+        omega (arith, within, count, number)
+
+    pub up-is : child_node b.case.instance (tree_node node) r.number ≡ (slot_at b id).node
+    up-is = (λ i. child_node b.case.instance (parent-is i) (sym is.number i)) ∙ sym (node-born b sound id known some)

@@ -1,0 +1,61 @@
+-- The tables of a book that is opened.
+use Rattle.std.proofs.Common.{◌≡◌, ◌≢◌, ℕ, zero, suc, ◌<◌, List, [], ◌∷◌, refl, sym, ap, ◌∙◌, subst, arith, Bool, true, false, cond, nat_le, replicate, Some, None}
+use Rattle.std.specs.declared.option.Option.{Option}
+use Rattle.search_rules.specs.declared.book.SlotState.{SlotState}
+use Rattle.search_rules.specs.declared.book.SlotState.TheVariants as slot
+use Rattle.search_rules.specs.Book.{Slot}
+use Rattle.book_core.specs.Tables.{state_in, hand_at}
+use Rattle.book_core.specs.Keeps.{AreTables}
+
+no-hand : (n w : ℕ) → hand_at (replicate n None) w ≡ None
+no-hand zero w = refl
+no-hand (suc n) zero = refl
+no-hand (suc n) (suc w) = no-hand n w
+
+none-some : (id : ℕ) → None ≡ Some id → ⊥
+none-some id e = cc
+
+module _ (s : Slot) (t : Bool) (is : s.state ≡ cond t slot.ByBound slot.Fresh) where
+  -- the one slot is closed or Fresh, and behind it there is none
+  at : (P : SlotState → Type 0) → P slot.ByBound → P slot.Fresh → (id : ℕ) → P (state_in (s ∷ []) id)
+  at P closed fresh zero = by_test t is
+    where
+      by_test : (u : Bool) → s.state ≡ cond u slot.ByBound slot.Fresh → P s.state
+      by_test true e = subst P (sym e) closed
+      by_test false e = subst P (sym e) fresh
+  at P closed fresh (suc id) = closed
+
+  pub opening-tables : AreTables (s ∷ []) (replicate 9 false) (replicate 9 None) [] []
+  opening-tables = record {
+      hands_are = record {
+        nine = refl;
+        held = λ w id e. absurd (none-some id (sym (no-hand 9 w) ∙ e));
+        hand = λ w id e. absurd (at (λ state. state ≢ slot.Held w) (closed-held w) (fresh-held w) id e);
+      };
+      back_are = record { rising = tt; each = λ id among. absurd among; all = λ id e. absurd (at (λ state. state ≢ slot.Back) closed-back fresh-back id e) };
+      few = omega arith;
+      waiting_are = record {
+        each = λ k known. absurd (omega (arith, known));
+        rising = λ k l less known. absurd (omega (arith, known));
+        all = λ id some e. absurd (behind id some e);
+      };
+    }
+    where
+      closed-held : (w : ℕ) → slot.ByBound ≢ slot.Held w
+      closed-held w e = cc
+
+      fresh-held : (w : ℕ) → slot.Fresh ≢ slot.Held w
+      fresh-held w e = cc
+
+      closed-back : slot.ByBound ≢ slot.Back
+      closed-back e = cc
+
+      fresh-back : slot.Fresh ≢ slot.Back
+      fresh-back e = cc
+
+      closed-fresh : slot.ByBound ≢ slot.Fresh
+      closed-fresh e = cc
+
+      behind : (id : ℕ) → 0 < id → state_in (s ∷ []) id ≡ slot.Fresh → ⊥
+      behind zero some e = absurd (omega (arith, some))
+      behind (suc id) some e = closed-fresh e

@@ -1,0 +1,118 @@
+-- What every event keeps.
+use Rattle.std.proofs.Common.{◌≡◌, ℕ, zero, suc, ◌<◌, ◌≤◌, List, [], ◌∷◌, ◌++◌, length, refl, sym, ap, ◌∙◌, subst, arith, Bool, true, false, not, cond, ◌&&◌, ◌||◌, Some, None, slice_index_or, slice_get, slice_set, nat_eq, nat_le, nat_lt, inl, inr}
+use Rattle.std.specs.declared.option.Option.{Option}
+use Rattle.std.proofs.lemmas.Bool.Decides.{leb_tells, eqb_tells}
+use Rattle.std.proofs.lemmas.List.{length-set, get_or-set_same, get_or-set_other}
+use Rattle.lock_model.specs.Deck.{Deck, IsDeck}
+use Rattle.lock_model.specs.Fitting.{deck_of}
+use Rattle.lock_model.specs.declared.instance.Instance.{Instance}
+use Rattle.lock_model.specs.declared.group.Group.{Group}
+use Rattle.lock_model.specs.declared.plan.Plan.{Plan}
+use Rattle.lock_rules.specs.Plan.{IsLegal, cost_of}
+use Rattle.refute_rules.specs.Spots.{IsSpent}
+use Rattle.mooring_rules.specs.declared.breaks.BrokenPlan.{BrokenPlan}
+use Rattle.mooring_rules.specs.declared.breaks.BrokenPlan.TheVariants.{Double}
+use Rattle.search_rules.specs.declared.book.SlotState.{SlotState}
+use Rattle.search_rules.specs.declared.book.SlotState.TheVariants as slot
+use Rattle.search_rules.specs.Book.{Case, Book, Slot, no_slot, slot_at, best_cost, opening_book, is_held, group_at, ships_at}
+use Rattle.search_rules.specs.Events as machine
+use Rattle.search_rules.specs.Events.{Event, IsOwed, take, split, close_bound, close_cut, close_throughput, close_probe, post, park, replace, release}
+use Rattle.search_rules.specs.Step
+use Rattle.search_rules.specs.Step.{step}
+use Rattle.search_rules.specs.Laws.{TreeLaws}
+use Rattle.search_rules.specs.Cover.{KeepsBook, IsParkedWell}
+use Rattle.search_rules.proofs.CoverLemmas.{event-keeps, replaced-keeps, opening-keeps}
+use Rattle.search_rules.proofs.ReplayLemmas.{IsReplayed, event-replayed, opening-replayed}
+use Rattle.search_rules.proofs.LawLemmas.{tree-laws}
+use Rattle.deck_laws.proofs.HeredityLemmas.{hereditary}
+use Rattle.deck_laws.proofs.NormalLemmas.{has-normal}
+use Rattle.search_rules.proofs.StepLemmas.{Refused, Accepted, each-step}
+use Rattle.search_rules.proofs.PartLemmas.{parts-step, opening-parts}
+use Rattle.book_core.specs.Case.{IsCase}
+use Rattle.book_core.specs.Replies.{IsJudged, IsFirstOf}
+use Rattle.book_core.specs.Keeps.{PassesLegal, Replays, IsSound}
+
+pub laws : (I : Instance) → TreeLaws I
+laws I = tree-laws hereditary has-normal I
+
+-- ---- the cover
+
+abbrev always : Instance → Plan → Option BrokenPlan
+always I P = Some (Double 0)
+
+always-sound : (I : Instance) (P : Plan) → always I P ≡ None → IsLegal I P
+always-sound I P e = absurd (clash e)
+  where
+    clash : Some (Double 0) ≡ None → ⊥
+    clash h = cc
+
+above : (a b : ℕ) → nat_le a b ≡ false → b < a
+above a b e = elim (leb_tells a b) [ inl y ↦ absurd (clash (sym y.0 ∙ e)) | inr n ↦ n.1 ]
+  where
+    clash : true ≡ false → ⊥
+    clash h = cc
+
+by_test : (t : Bool) (a c : Book × machine.Reply BrokenPlan) → KeepsBook a.0 → (t ≡ false → KeepsBook c.0) → KeepsBook (cond t a c).0
+by_test true a c kept otherwise = kept
+by_test false a c kept otherwise = otherwise refl
+
+replace-keeps : (b : Book) (plan : Plan) (found : Option BrokenPlan) → KeepsBook b → IsJudged b.case.instance plan found → KeepsBook (Step.replace_by b plan found).0
+replace-keeps b plan (Some broken) keeps judged = keeps
+replace-keeps b plan None keeps judged =
+    by_test (nat_le (best_cost b) (cost_of b.case.instance plan)) (b, machine.NotCheaper (cost_of b.case.instance plan) (best_cost b)) (Step.replaced b plan, machine.Replaced (cost_of b.case.instance plan)) keeps
+    (λ e. replaced-keeps always always-sound b (laws b.case.instance) keeps plan (judged.none.0 refl) (above (best_cost b) (cost_of b.case.instance plan) e))
+
+pub step-keeps : (b : Book) (e : Event) (found : Option BrokenPlan) → KeepsBook b → IsOwed e → IsFirstOf b.case.instance e found → KeepsBook (step (λ _ _. found) b e).0
+step-keeps b (take w) found keeps owed judged = event-keeps always always-sound b (laws b.case.instance) keeps (take w) owed
+step-keeps b (split id) found keeps owed judged = event-keeps always always-sound b (laws b.case.instance) keeps (split id) owed
+step-keeps b (close_bound id) found keeps owed judged = event-keeps always always-sound b (laws b.case.instance) keeps (close_bound id) owed
+step-keeps b (close_cut id number) found keeps owed judged = event-keeps always always-sound b (laws b.case.instance) keeps (close_cut id number) owed
+step-keeps b (close_throughput id) found keeps owed judged = event-keeps always always-sound b (laws b.case.instance) keeps (close_throughput id) owed
+step-keeps b (close_probe id s) found keeps owed judged = event-keeps always always-sound b (laws b.case.instance) keeps (close_probe id s) owed
+step-keeps b (post cut) found keeps owed judged = event-keeps always always-sound b (laws b.case.instance) keeps (post cut) owed
+step-keeps b (park id c p deck turns) found keeps owed judged = event-keeps always always-sound b (laws b.case.instance) keeps (park id c p deck turns) owed
+step-keeps b (replace plan) found keeps owed judged = replace-keeps b plan found keeps judged
+step-keeps b (release w) found keeps owed judged = event-keeps always always-sound b (laws b.case.instance) keeps (release w) owed
+
+same-case : (b : Book) (e : Event) (found : Option BrokenPlan) → (step (λ _ _. found) b e).0.case ≡ b.case
+same-case b e found = elim (each-step (λ _ _. found) b e) [ Refused r same ↦ ap (λ (u : Book). u.case) same | Accepted new ↦ new.case ]
+
+-- ---- the replay
+
+-- a step by a function that finds no break of a legal plan
+same-found : (f : Instance → Plan → Option BrokenPlan) → PassesLegal f → (b : Book) (plan : Plan) (found : Option BrokenPlan) → IsJudged b.case.instance plan found → IsReplayed f b → IsReplayed f (Step.replace_by b plan found).0
+same-found f passes b plan (Some broken) judged old = old
+same-found f passes b plan None judged old =
+    let legal : IsLegal b.case.instance plan = judged.none.0 refl in
+    subst (λ (o : Option BrokenPlan). IsReplayed f (Step.replace_by b plan o).0) (passes.passes b.case.instance plan legal) (event-replayed f b (replace plan) old)
+
+pub step-replays : (b : Book) (e : Event) (found : Option BrokenPlan) → Replays b → IsFirstOf b.case.instance e found → Replays (step (λ _ _. found) b e).0
+step-replays b (take w) found old judged = record { replay = λ f passes. event-replayed f b (take w) (old.replay f passes) }
+step-replays b (split id) found old judged = record { replay = λ f passes. event-replayed f b (split id) (old.replay f passes) }
+step-replays b (close_bound id) found old judged = record { replay = λ f passes. event-replayed f b (close_bound id) (old.replay f passes) }
+step-replays b (close_cut id number) found old judged = record { replay = λ f passes. event-replayed f b (close_cut id number) (old.replay f passes) }
+step-replays b (close_throughput id) found old judged = record { replay = λ f passes. event-replayed f b (close_throughput id) (old.replay f passes) }
+step-replays b (close_probe id s) found old judged = record { replay = λ f passes. event-replayed f b (close_probe id s) (old.replay f passes) }
+step-replays b (post cut) found old judged = record { replay = λ f passes. event-replayed f b (post cut) (old.replay f passes) }
+step-replays b (park id c p deck turns) found old judged = record { replay = λ f passes. event-replayed f b (park id c p deck turns) (old.replay f passes) }
+step-replays b (replace plan) found old judged = record { replay = λ f passes. same-found f passes b plan found judged (old.replay f passes) }
+step-replays b (release w) found old judged = record { replay = λ f passes. event-replayed f b (release w) (old.replay f passes) }
+
+pub opening-replays : (case : Case) (plan : Plan) → Replays (opening_book case plan)
+opening-replays case plan = record { replay = λ f passes. opening-replayed f case plan }
+
+pub step-sound : (b : Book) (e : Event) (found : Option BrokenPlan) → IsSound b → IsOwed e → IsFirstOf b.case.instance e found → IsSound (step (λ _ _. found) b e).0
+step-sound b e found old owed judged = record {
+  case = subst IsCase (sym (same-case b e found)) old.case;
+  keeps = step-keeps b e found old.keeps owed judged;
+  replays = step-replays b e found old.replays judged;
+  parts = parts-step (λ _ _. found) b old.keeps old.parts e owed;
+}
+
+pub opening-sound : (case : Case) (plan : Plan) → IsCase case → IsLegal case.instance plan → IsSound (opening_book case plan)
+opening-sound case plan good legal = record {
+  case = good;
+  keeps = opening-keeps case plan (laws case.instance) legal;
+  replays = opening-replays case plan;
+  parts = opening-parts case plan;
+}

@@ -1,0 +1,87 @@
+-- What is stored of slots, and the slots.
+use Rattle.std.proofs.Common.{◌≡◌, ℕ, zero, suc, ◌+◌, ◌<◌, ◌≤◌, List, [], ◌∷◌, ◌++◌, length, map, refl, sym, ap, ◌∙◌, subst, arith, Bool, true, false, cond, ◌&&◌, ◌||◌, nat_le, slice_index_or, slice_set}
+use Rattle.std.proofs.Math.ListN.{get_or-append}
+use Rattle.std.proofs.lemmas.List.{get_or-append-add}
+use Rattle.lock_model.specs.declared.instance.Instance.{Instance}
+use Rattle.lock_model.specs.declared.group.Group.{Group}
+use Rattle.lock_rules.specs.Node.{root_lines}
+use Rattle.lock_rules.specs.Children.{children_of}
+use Rattle.search_rules.specs.declared.book.SlotState.{SlotState}
+use Rattle.search_rules.specs.declared.book.SlotState.TheVariants as slot
+use Rattle.search_rules.specs.Book.{Node, Slot, root, no_slot, new_slot, bound_at, is_fresh, is_back, is_parked}
+use Rattle.search_rules.specs.Step.{child_slots, outdone}
+use Rattle.book_core.specs.declared.stored_slot.StoredSlot.{StoredSlot}
+use Rattle.book_core.specs.Stored.{child_node, node_after, slot_with, slots_after, slots_of, IsStoredAs}
+
+append-three : {X : Type 0} (xs : List X) (y : X) (zs : List X) → (xs ++ y ∷ []) ++ zs ≡ xs ++ (y ∷ zs)
+append-three [] y zs = refl
+append-three (x ∷ xs) y zs = ap (λ l. x ∷ l) (append-three xs y zs)
+
+append-nil : {X : Type 0} (xs : List X) → xs ++ [] ≡ xs
+append-nil [] = refl
+append-nil (x ∷ xs) = ap (λ l. x ∷ l) (append-nil xs)
+
+length-both : {X : Type 0} (xs ys : List X) → length (xs ++ ys) ≡ length xs + length ys
+length-both [] ys = omega arith
+length-both (x ∷ xs) ys = let rest = length-both xs ys in omega (arith, rest)
+
+-- the nodes of slots
+abbrev pub nodes_in : List Slot → List Node
+nodes_in [] = []
+nodes_in (s ∷ ss) = s.node ∷ nodes_in ss
+
+pub length-slots_after : (I : Instance) (done : List Node) (ss : List StoredSlot) → length (slots_after I done ss) ≡ length ss
+length-slots_after I done [] = refl
+length-slots_after I done (s ∷ ss) = ap suc (length-slots_after I (done ++ node_after I done s ∷ []) ss)
+
+pub stored-at : (I : Instance) (done : List Node) (ss : List StoredSlot) (i : ℕ) (d : StoredSlot) → i < length ss → IsStoredAs (slice_index_or ss i d) (slice_index_or (slots_after I done ss) i no_slot)
+stored-at I done [] i d known = absurd (omega (arith, known))
+stored-at I done (s ∷ ss) zero d known = record { parent = refl; number = refl; bound = refl; state = refl }
+stored-at I done (s ∷ ss) (suc i) d known = stored-at I (done ++ node_after I done s ∷ []) ss i d (omega (arith, known))
+
+-- a state that is set in a stored slot is set in the slot
+pub stored-set : (I : Instance) (done : List Node) (ss : List StoredSlot) (i : ℕ) (d : StoredSlot) (state : SlotState) → i < length ss
+    → slots_after I done (slice_set ss i (record (slice_index_or ss i d) { state = state })) ≡ slice_set (slots_after I done ss) i (record (slice_index_or (slots_after I done ss) i no_slot) { state = state })
+stored-set I done [] i d state known = absurd (omega (arith, known))
+stored-set I [] (s ∷ ss) zero d state known = refl
+stored-set I (n ∷ ns) (s ∷ ss) zero d state known = refl
+stored-set I done (s ∷ ss) (suc i) d state known =
+    ap (λ l. slot_with s (node_after I done s) ∷ l) (stored-set I (done ++ node_after I done s ∷ []) ss i d state (omega (arith, known)))
+
+-- stored slots behind others
+pub stored-append : (I : Instance) (done : List Node) (ss ts : List StoredSlot) → slots_after I done (ss ++ ts) ≡ slots_after I done ss ++ slots_after I (done ++ nodes_in (slots_after I done ss)) ts
+stored-append I done [] ts = ap (λ l. slots_after I l ts) (sym (append-nil done))
+stored-append I done (s ∷ ss) ts =
+    let n = node_after I done s in
+    ap (λ l. slot_with s n ∷ l) (stored-append I (done ++ n ∷ []) ss ts
+    ∙ ap (λ l. slots_after I (done ++ n ∷ []) ss ++ slots_after I l ts) (append-three done n (nodes_in (slots_after I (done ++ n ∷ []) ss))))
+
+-- the node of slot i is a child of its parent's, which comes before it
+pub node-at : (slots : List Slot) (i : ℕ) → slice_index_or (nodes_in slots) i root ≡ (slice_index_or slots i no_slot).node
+node-at [] i = refl
+node-at (s ∷ ss) zero = refl
+node-at (s ∷ ss) (suc i) = node-at ss i
+
+-- what node follows nodes of which there is one at least
+after-some : (I : Instance) (done : List Node) (s : StoredSlot) → 0 < length done → node_after I done s ≡ child_node I (slice_index_or done s.parent root) s.number
+after-some I [] s some = absurd (omega (arith, some))
+after-some I (n ∷ ns) s some = refl
+
+node-after-at : (I : Instance) (done : List Node) (ss : List StoredSlot) (i : ℕ) (d : StoredSlot) → i < length ss → 0 < length done + i → (slice_index_or ss i d).parent < length done + i
+    → (slice_index_or (slots_after I done ss) i no_slot).node ≡ child_node I (slice_index_or (done ++ nodes_in (slots_after I done ss)) (slice_index_or ss i d).parent root) (slice_index_or ss i d).number
+node-after-at I done [] i d known some before = absurd (omega (arith, known))
+node-after-at I done (s ∷ ss) zero d known some before =
+    let within : s.parent < length done = omega (arith, before) in
+    after-some I done s (omega (arith, some))
+    ∙ ap (λ n. child_node I n s.number) (sym (get_or-append done (node_after I done s ∷ nodes_in (slots_after I (done ++ node_after I done s ∷ []) ss)) root s.parent within))
+node-after-at I done (s ∷ ss) (suc i) d known some before =
+    let n = node_after I done s in
+    let long = length-both done (n ∷ []) in
+    node-after-at I (done ++ n ∷ []) ss i d (omega (arith, known)) (omega (arith, long)) (omega (arith, before, long))
+    ∙ ap (λ l. child_node I (slice_index_or l (slice_index_or ss i d).parent root) (slice_index_or ss i d).number) (append-three done n (nodes_in (slots_after I (done ++ n ∷ []) ss)))
+
+pub child-at : (I : Instance) (ss : List StoredSlot) (i : ℕ) (d : StoredSlot) → 0 < i → i < length ss → (slice_index_or ss i d).parent < i
+    → (slice_index_or (slots_of I ss) i no_slot).node ≡ child_node I (slice_index_or (slots_of I ss) (slice_index_or ss i d).parent no_slot).node (slice_index_or ss i d).number
+child-at I ss i d some known before =
+    node-after-at I [] ss i d known (omega (arith, some)) (omega (arith, before))
+    ∙ ap (λ n. child_node I n (slice_index_or ss i d).number) (node-at (slots_of I ss) (slice_index_or ss i d).parent)

@@ -1,0 +1,23 @@
+use Rattle.std.proofs.Common.{◌≡◌, ◌≢◌, ℕ, ◌+◌, ◌*◌, ◌<◌, ◌≤◌, List, [], length, refl, sym, ap, ◌∙◌, subst, arith, slice_index_or, slice_set, slice_get, true, false}
+use Rattle.search_rules.specs.Book.{Book, slot_at, first_slot, is_back, is_held_by}
+use Rattle.search_rules.specs.declared.book.SlotState.TheVariants as slot
+use Rattle.book_core.specs.Stored.{slots_of}
+use Rattle.book_core.specs.Changes.{finished}
+use Rattle.book_core.specs.Keeps.{IsSound, AreTables}
+use Rattle.book_core.specs.Seen.{seen}
+use Rattle.book_core.proofs.HandOverLemmas.{tables-ended}
+use Rattle.book_core.proofs.book.Book.end.Goals as goal
+
+pub invariant_of-self : goal.invariant_of-self
+invariant_of-self c =
+    let a = c.self.inside in
+    let old = c.self.invariant in
+    let same : record (seen a) { ended = slice_set a.ended c.args.worker true; history = c.push_reserved.new.self.items } ≡ finished c.args.self.now c.args.worker =
+        (λ i. record (seen a) { ended = slice_set a.ended c.args.worker true; history = c.push_reserved.ensures.items i }) ∙ ap (λ u. finished u c.args.worker) c.self.view_is in
+    let running = ap (λ (b : Book). slice_index_or b.ended c.args.worker false) c.self.view_is ∙ c.requires.running in
+    record {
+      sound = subst IsSound (sym same) c.requires.sound;
+      tables = tables-ended (seen a) a.ended a.hands a.back a.waiting.items old.tables (slots_of a.case.instance a.slots.items) 0 c.args.worker (omega (arith, c.requires.known, old.sound.parts.workers.nine)) running;
+      costs = record { best_is = old.costs.best_is; opening_is = old.costs.opening_is; throughput_is = old.costs.throughput_is };
+      room = record { enough = omega (arith, old.room.enough, c.push_reserved.ensures.capacity) };
+    }

@@ -1,0 +1,57 @@
+use Rattle.std.proofs.Common.{◌≡◌, ◌≢◌, ℕ, ◌+◌, ◌*◌, ◌<◌, ◌≤◌, List, [], length, refl, sym, ap, ◌∙◌, subst, arith, slice_index_or, slice_set, slice_get, Some, None}
+use Rattle.search_rules.specs.Book.{Book, slot_at, first_slot, is_back, is_held_by}
+use Rattle.search_rules.specs.declared.book.SlotState.TheVariants as slot
+use Rattle.book_core.specs.Stored.{slots_of}
+use Rattle.book_core.specs.Changes.{IsFree, leave_back}
+use Rattle.book_core.specs.Keeps.{IsSound, AreTables}
+use Rattle.book_core.specs.Seen.{seen}
+use Rattle.book_core.specs.Tables.{state_in}
+use Rattle.book_core.proofs.SettleLemmas.{restated, slots-known, state-is, restated-changes}
+use Rattle.book_core.proofs.BackLemmas.{first-back}
+use Rattle.book_core.proofs.HandOverLemmas.{free-known, tables-given, handed-is, not-empty}
+use Rattle.book_core.proofs.book.Book.give.Goals as goal
+
+pub index-requires : goal.index-requires
+index-requires c =
+    let known = slots-known c.self.inside c.args.self.now c.self.view_is c.args.id (free-known c.args.self.now c.args.id c.requires.open) in
+    omega (arith, known, c.self.inside.slots.ok.0)
+
+pub index_mut-requires : goal.index_mut-requires
+index_mut-requires c =
+    let known = slots-known c.self.inside c.args.self.now c.self.view_is c.args.id (free-known c.args.self.now c.args.id c.requires.open) in
+    omega (arith, known, c.self.inside.slots.ok.0)
+
+pub leave_back-requires : goal.leave_back-requires
+leave_back-requires c = λ is none.
+    let a = c.self.inside in
+    let known = slots-known a c.args.self.now c.self.view_is c.args.id (free-known c.args.self.now c.args.id c.requires.open) in
+    let state = state-is a c.args.self.now c.self.view_is c.args.id c.index.result.now c.index.ensures slot.Back known in
+    not-empty (seen a) a.back c.self.invariant.tables.back_are c.args.id (state ∙ is) none
+
+pub returns : goal.returns
+returns c =
+    let a = c.self.inside in
+    let known = slots-known a c.args.self.now c.self.view_is c.args.id (free-known c.args.self.now c.args.id c.requires.open) in
+    handed-is a c.args.self.now c.self.view_is c.args.id c.args.worker c.index_mut.result.now c.index_mut.ensures.value known c.push_reserved.new.self.items c.args.used c.push_reserved.ensures.items
+
+pub invariant_of-self : goal.invariant_of-self
+invariant_of-self c =
+    let a = c.self.inside in
+    let b = c.args.self.now in
+    let old = c.self.invariant in
+    let r = c.index_mut.result.now in
+    let known = slots-known a b c.self.view_is c.args.id (free-known b c.args.id c.requires.open) in
+    let same = handed-is a b c.self.view_is c.args.id c.args.worker r c.index_mut.ensures.value known c.push_reserved.new.self.items c.args.used c.push_reserved.ensures.items in
+    let state = state-is a b c.self.view_is c.args.id c.index.result.now c.index.ensures slot.Back known in
+    let back = ap (λ s. leave_back s a.back) state ∙ sym c.leave_back.ensures in
+    let new = slots_of a.case.instance (slice_set a.slots.items c.args.id (restated r (slot.Held c.args.worker))) in
+    record {
+      sound = subst IsSound (sym same) c.requires.sound;
+      tables = subst (λ l. AreTables new a.ended (slice_set a.hands c.args.worker (Some c.args.id)) l a.waiting.items) back
+          (tables-given (seen a) a.ended a.hands a.back a.waiting.items old.tables new c.args.id c.args.worker
+          (restated-changes a b c.self.view_is c.args.id r c.index_mut.ensures.value (slot.Held c.args.worker) known)
+          (subst (λ u. IsFree u c.args.id) (sym c.self.view_is) c.requires.open) c.requires.known
+          (ap (λ u. first_slot u (is_held_by c.args.worker)) c.self.view_is ∙ c.requires.empty));
+      costs = record { best_is = old.costs.best_is; opening_is = old.costs.opening_is; throughput_is = old.costs.throughput_is };
+      room = record { enough = omega (arith, old.room.enough, c.push_reserved.ensures.capacity) };
+    }

@@ -1,0 +1,18 @@
+use Rattle.std.proofs.Common.{◌≡◌, sym, ap, ◌∙◌, subst}
+use Rattle.std.specs.Bool.{one_answer}
+use Rattle.lock_model.specs.declared.instance.Instance.{Instance}
+use Rattle.search_rules.specs.Book.{Node as TreeNode, slot_at}
+use Rattle.search_rules.specs.Step.{hits_in}
+use Rattle.search_rules.specs.Tests.{is_node_hit}
+use Rattle.search_rules.proofs.TestLemmas.{is_node_hit-decides}
+use Rattle.book_core.proofs.book.Book.hits.Goals as goal
+
+pub returns-in-Some : goal.returns-in-Some
+returns-in-Some c =
+    let b = c.args.self.now in
+    let I = c.instance.result.now in
+    let lines = c.node_of.result.lines in
+    one_answer c.hits_node.result (is_node_hit I c.in-Some.cut.now lines) c.hits_node.ensures (is_node_hit-decides I c.in-Some.cut.now lines)
+    ∙ ap (λ (J : Instance). is_node_hit J c.in-Some.cut.now lines) c.instance.ensures
+    ∙ ap (λ (n : TreeNode). is_node_hit b.case.instance c.in-Some.cut.now n.lines) c.node_of.ensures.value
+    ∙ ap (hits_in b c.args.id) (sym c.in-Some.ensures.some)

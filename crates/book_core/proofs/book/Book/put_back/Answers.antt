@@ -1,0 +1,50 @@
+use Rattle.std.proofs.Common.{◌≡◌, ◌≢◌, ℕ, ◌+◌, ◌*◌, ◌<◌, ◌≤◌, List, [], length, refl, sym, ap, ◌∙◌, subst, arith, slice_index_or, slice_set, slice_get, Some, None, true, false}
+use Rattle.search_rules.specs.Book.{Book, slot_at, first_slot, is_back, is_held_by}
+use Rattle.search_rules.specs.declared.book.SlotState.TheVariants as slot
+use Rattle.book_core.specs.Stored.{slots_of}
+use Rattle.book_core.specs.Changes.{returned}
+use Rattle.book_core.specs.Keeps.{IsSound, AreTables}
+use Rattle.book_core.specs.Seen.{seen}
+use Rattle.lock_rules.specs.Children.{insert_number}
+use Rattle.book_core.proofs.SettleLemmas.{restated, slots-known, restated-changes}
+use Rattle.book_core.proofs.HandOverLemmas.{holder-at, tables-returned, returned-is, room-back}
+use Rattle.book_core.proofs.book.Book.put_back.Goals as goal
+
+pub index_mut-requires : goal.index_mut-requires
+index_mut-requires c =
+    let known = slots-known c.self.inside c.args.self.now c.self.view_is c.args.id (holder-at c.args.self.now c.args.id c.args.worker c.requires.held) in
+    omega (arith, known, c.self.inside.slots.ok.0)
+
+pub insert-requires : goal.insert-requires
+insert-requires c =
+    let a = c.self.inside in
+    let old = c.self.invariant in
+    let running = ap (λ (b : Book). slice_index_or b.ended c.args.worker false) c.self.view_is ∙ c.requires.running in
+    room-back (seen a) a.ended a.hands a.back a.waiting.items old.tables (seen a).slots 0 c.args.worker (omega (arith, c.requires.known, old.sound.parts.workers.nine)) running
+
+pub returns : goal.returns
+returns c =
+    let a = c.self.inside in
+    let known = slots-known a c.args.self.now c.self.view_is c.args.id (holder-at c.args.self.now c.args.id c.args.worker c.requires.held) in
+    returned-is a c.args.self.now c.self.view_is c.args.id c.args.worker c.index_mut.result.now c.index_mut.ensures.value known c.push_reserved.new.self.items c.push_reserved.ensures.items
+
+pub invariant_of-self : goal.invariant_of-self
+invariant_of-self c =
+    let a = c.self.inside in
+    let b = c.args.self.now in
+    let old = c.self.invariant in
+    let r = c.index_mut.result.now in
+    let known = slots-known a b c.self.view_is c.args.id (holder-at b c.args.id c.args.worker c.requires.held) in
+    let same = returned-is a b c.self.view_is c.args.id c.args.worker r c.index_mut.ensures.value known c.push_reserved.new.self.items c.push_reserved.ensures.items in
+    let running = ap (λ (b : Book). slice_index_or b.ended c.args.worker false) c.self.view_is ∙ c.requires.running in
+    let new = slots_of a.case.instance (slice_set a.slots.items c.args.id (restated r slot.Back)) in
+    record {
+      sound = subst IsSound (sym same) c.requires.sound;
+      tables = subst (λ l. AreTables new (slice_set a.ended c.args.worker true) (slice_set a.hands c.args.worker None) l a.waiting.items) (sym c.insert.ensures)
+          (tables-returned (seen a) a.ended a.hands a.back a.waiting.items old.tables new c.args.id c.args.worker
+          (restated-changes a b c.self.view_is c.args.id r c.index_mut.ensures.value slot.Back known)
+          (ap (λ u. first_slot u (is_held_by c.args.worker)) c.self.view_is ∙ c.requires.held)
+          (omega (arith, c.requires.known, old.sound.parts.workers.nine)) running);
+      costs = record { best_is = old.costs.best_is; opening_is = old.costs.opening_is; throughput_is = old.costs.throughput_is };
+      room = record { enough = omega (arith, old.room.enough, c.push_reserved.ensures.capacity) };
+    }

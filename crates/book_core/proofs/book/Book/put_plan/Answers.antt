@@ -1,0 +1,59 @@
+use Rattle.std.proofs.Common.{◌≡◌, ℕ, suc, ◌+◌, ◌*◌, ◌<◌, ◌≤◌, List, [], ◌∷◌, ◌++◌, length, map, filter, take, drop, refl, sym, ap, ◌∙◌, subst, arith}
+use Rattle.std.proofs.lemmas.List.{length-map}
+use Rattle.lock_model.specs.declared.plan.Plan.{Plan}
+use Rattle.search_rules.specs.Book.{Book}
+use Rattle.search_rules.specs.declared.book.Entry.TheVariants as entry
+use Rattle.book_core.specs.Keeps.{IsSound}
+use Rattle.book_core.specs.Outdone.{outdone_stored, is_back_in}
+use Rattle.book_core.specs.Seen.{seen}
+use Rattle.book_core.proofs.OutdoneLemmas.{refill, cost-here, replaced-is, replaced-tables}
+use Rattle.book_core.proofs.book.Book.put_plan.Goals as goal
+
+length-one-more : (xs : List Plan) (x : Plan) → length (xs ++ x ∷ []) ≡ suc (length xs)
+length-one-more [] x = refl
+length-one-more (y ∷ ys) x = ap suc (length-one-more ys x)
+
+pub returns-clause-some : goal.returns-clause-some
+returns-clause-some c =
+    let a = c.self.inside in
+    let b = c.args.self.now in
+    let f = outdone_stored c.args.cost in
+    let written : c.outdo.new.slots ≡ map f a.slots.items = c.outdo.ensures ∙ ap (map f) c.as_mut_slice.ensures.value in
+    let count : length c.outdo.new.slots ≡ length a.slots.items = ap length written ∙ length-map a.slots.items f in
+    let all = ap (λ n. take n (c.outdo.new.slots ++ drop (length c.outdo.new.slots) a.slots.items)) a.slots.ok.0 ∙ refill c.outdo.new.slots a.slots.items count ∙ written in
+    let plans = c.push_reserved.ensures.items ∙ (λ i. c.make_room.ensures.list i ++ c.copy.ensures i ∷ []) in
+    let history = c.push_reserved-2.ensures.items ∙ ap (λ l. l ++ entry.Replace ∷ []) c.make_room.ensures.history in
+    replaced-is a b c.self.view_is c.args.cost c.args.plan c.requires.cost (take a.slots.len (c.outdo.new.slots ++ drop (length c.outdo.new.slots) a.slots.items)) all c.push_reserved.new.self.items plans c.push_reserved-2.new.self.items history
+
+pub invariant_of-self-2 : goal.invariant_of-self-2
+invariant_of-self-2 c =
+    let a = c.self.inside in
+    let b = c.args.self.now in
+    let f = outdone_stored c.args.cost in
+    let written : c.outdo.new.slots ≡ map f a.slots.items = c.outdo.ensures ∙ ap (map f) c.as_mut_slice.ensures.value in
+    let count : length c.outdo.new.slots ≡ length a.slots.items = ap length written ∙ length-map a.slots.items f in
+    let all = ap (λ n. take n (c.outdo.new.slots ++ drop (length c.outdo.new.slots) a.slots.items)) a.slots.ok.0 ∙ refill c.outdo.new.slots a.slots.items count ∙ written in
+    let plans = c.push_reserved.ensures.items ∙ (λ i. c.make_room.ensures.list i ++ c.copy.ensures i ∷ []) in
+    let history = c.push_reserved-2.ensures.items ∙ ap (λ l. l ++ entry.Replace ∷ []) c.make_room.ensures.history in
+    let old = c.self.invariant in
+    let ss = take a.slots.len (c.outdo.new.slots ++ drop (length c.outdo.new.slots) a.slots.items) in
+    let same = replaced-is a b c.self.view_is c.args.cost c.args.plan c.requires.cost ss all c.push_reserved.new.self.items plans c.push_reserved-2.new.self.items history in
+    let back = c.still_back-self-inside.ensures ∙ ap (λ l. filter (is_back_in l) a.back) c.deref.ensures.value in
+    record {
+      sound = subst IsSound (sym same) c.requires.sound;
+      tables = replaced-tables a b c.self.view_is c.args.cost c.args.plan c.requires.cost ss all c.still_back-self-inside.result back old.tables;
+      costs = record { best_is = cost-here a b c.self.view_is c.args.cost c.args.plan c.requires.cost ss all; opening_is = old.costs.opening_is; throughput_is = old.costs.throughput_is };
+      room = record {
+        enough = omega (
+          arith,
+          c.in_ok-needed.ensures.count,
+          c.in_ok-make_room.ensures.entries,
+          c.push_reserved-2.ensures.capacity,
+          ap (λ (u : Book). u.case.nodes) c.self.view_is,
+          ap (λ (u : Book). length u.cuts) c.self.view_is,
+          ap (λ (u : Book). length u.plans) c.self.view_is,
+          ap length plans,
+          length-one-more a.plans.items c.args.plan,
+        );
+      };
+    }

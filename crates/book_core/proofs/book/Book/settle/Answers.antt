@@ -1,0 +1,39 @@
+use Rattle.std.proofs.Common.{◌≡◌, ℕ, ◌+◌, ◌*◌, ◌<◌, ◌≤◌, length, sym, ap, ◌∙◌, subst, arith, slice_index_or, slice_set}
+use Rattle.book_core.specs.Keeps.{IsSound, AreTables}
+use Rattle.book_core.specs.Seen.{seen}
+use Rattle.book_core.specs.Stored.{slots_of}
+use Rattle.book_core.specs.Changes.{let_go}
+use Rattle.book_core.proofs.SettleLemmas.{restated, restated-is, state-is, settled-known, holder-known, settled-tables}
+use Rattle.book_core.proofs.book.Book.settle.Goals as goal
+
+pub index-requires : goal.index-requires
+index-requires c = let known = settled-known c.self.inside c.self.invariant c.args.self.now c.self.view_is c.args.id c.requires.from in omega (arith, known, c.self.inside.slots.ok.0)
+
+pub index_mut-requires : goal.index_mut-requires
+index_mut-requires c = let known = settled-known c.self.inside c.self.invariant c.args.self.now c.self.view_is c.args.id c.requires.from in omega (arith, known, c.self.inside.slots.ok.0)
+
+pub let_go-requires : goal.let_go-requires
+let_go-requires c = holder-known c.self.inside c.self.invariant c.args.self.now c.self.view_is c.args.id c.requires.from c.index.result.now c.index.ensures
+
+pub returns : goal.returns
+returns c =
+    let a = c.self.inside in
+    restated-is a c.args.self.now c.self.view_is c.args.id c.index_mut.result.now c.index_mut.ensures.value c.args.state c.push_reserved.new.self.items c.args.entry
+    (settled-known a c.self.invariant c.args.self.now c.self.view_is c.args.id c.requires.from) c.push_reserved.ensures.items
+
+pub invariant_of-self : goal.invariant_of-self
+invariant_of-self c =
+    let a = c.self.inside in
+    let old = c.self.invariant in
+    let known = settled-known a old c.args.self.now c.self.view_is c.args.id c.requires.from in
+    let same = restated-is a c.args.self.now c.self.view_is c.args.id c.index_mut.result.now c.index_mut.ensures.value c.args.state c.push_reserved.new.self.items c.args.entry known c.push_reserved.ensures.items in
+    let r = c.index_mut.result.now in
+    let state = sym (state-is a c.args.self.now c.self.view_is c.args.id r c.index_mut.ensures.value c.args.state known) ∙ state-is a c.args.self.now c.self.view_is c.args.id c.index.result.now c.index.ensures c.args.state known in
+    let hands = ap (λ s. let_go s a.hands) state ∙ sym c.let_go.ensures in
+    record {
+      sound = subst IsSound (sym same) c.requires.sound;
+      tables = subst (λ h. AreTables (slots_of a.case.instance (slice_set a.slots.items c.args.id (restated r c.args.state))) a.ended h a.back a.waiting.items) hands
+          (settled-tables a old c.args.self.now c.self.view_is c.args.id c.requires.from r c.index_mut.ensures.value c.args.state c.requires.to);
+      costs = record { best_is = old.costs.best_is; opening_is = old.costs.opening_is; throughput_is = old.costs.throughput_is };
+      room = record { enough = omega (arith, old.room.enough, c.push_reserved.ensures.capacity) };
+    }

@@ -1,0 +1,20 @@
+use Rattle.std.proofs.Common.{◌≡◌, ◌≢◌, ℕ, ◌+◌, ◌*◌, ◌<◌, ◌≤◌, List, [], ◌∷◌, ◌++◌, length, refl, sym, ap, ◌∙◌, subst, arith, rules, Bool, true, false, slice_index_or, slice_set, Some, None}
+use Rattle.search_rules.specs.Book.{Book, Slot, slot_at, no_slot}
+use Rattle.book_core.specs.Changes.{slot_in}
+use Rattle.book_core.specs.Seen.{seen}
+use Rattle.book_core.proofs.KeptLemmas.{length-slots, is-stored, slot-past, few-slots}
+use Rattle.book_core.proofs.book.Book.slot_state.Goals as goal
+
+pub returns-then-id-len-clause-some : goal.returns-then-id-len-clause-some
+returns-then-id-len-clause-some c =
+    let a = c.self.inside in
+    let known : c.args.id < length a.slots.items = omega (arith, a.slots.ok.0) in
+    let same = ap (λ (b : Book). length b.slots) c.self.view_is in
+    (omega (arith, known, same, length-slots a.case.instance a.slots.items),
+    sym (ap (λ b. (slot_at b c.args.id).state) c.self.view_is) ∙ (is-stored a.case.instance a.slots.items c.args.id c.index.result.now known c.index.ensures).state)
+
+pub returns-else-id-len-clause-none : goal.returns-else-id-len-clause-none
+returns-else-id-len-clause-none c =
+    let a = c.self.inside in
+    let same = ap (λ (b : Book). length b.slots) c.self.view_is in
+    omega (arith, same, a.slots.ok.0, length-slots a.case.instance a.slots.items)

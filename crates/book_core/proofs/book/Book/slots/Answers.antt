@@ -1,0 +1,21 @@
+use Rattle.std.proofs.Common.{◌≡◌, ◌≢◌, ℕ, ◌+◌, ◌*◌, ◌<◌, ◌≤◌, List, [], ◌∷◌, ◌++◌, length, refl, sym, ap, ◌∙◌, subst, arith, rules, Bool, true, false, slice_index_or, slice_set, Some, None}
+use Rattle.search_rules.specs.Book.{Book, Slot, slot_at, no_slot}
+use Rattle.book_core.specs.Changes.{slot_in}
+use Rattle.book_core.specs.Seen.{seen}
+use Rattle.book_core.proofs.KeptLemmas.{length-slots, is-stored, slot-past, few-slots}
+use Rattle.book_core.proofs.book.Book.slots.Goals as goal
+
+pub overflow_cast-result : goal.overflow_cast-result
+overflow_cast-result c =
+    let a = c.self.inside in
+    omega (arith, few-slots (seen a) c.self.invariant.sound, length-slots a.case.instance a.slots.items, a.slots.ok.0)
+
+pub returns-clause-value : goal.returns-clause-value
+returns-clause-value c =
+    let a = c.self.inside in
+    c.len.ensures ∙ a.slots.ok.0 ∙ sym (length-slots a.case.instance a.slots.items) ∙ ap (λ (b : Book). length b.slots) c.self.view_is
+
+pub returns-clause-small : goal.returns-clause-small
+returns-clause-small c =
+    let a = c.self.inside in
+    omega (arith, few-slots (seen a) c.self.invariant.sound, length-slots a.case.instance a.slots.items, a.slots.ok.0)

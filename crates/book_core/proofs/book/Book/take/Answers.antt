@@ -1,0 +1,10 @@
+use Rattle.std.proofs.Common.{◌≡◌, ◌≢◌, ℕ, suc, ◌+◌, ◌<◌, ◌≤◌, sym, ap, ◌∙◌, subst, arith, Some, None}
+use Rattle.book_core.proofs.EventLemmas.{take-ended, take-holds, take-idle, take-done, take-spent, back-given, fresh-given, is-new, given-sound, given-answers, release-ended, returned-sound, returned-answers, finished-sound, finished-answers}
+use Rattle.book_core.proofs.HandOverLemmas.{free-known}
+use Rattle.book_core.proofs.book.Book.take.Goals as goal
+
+pub returns-then-ended : goal.returns-then-ended
+returns-then-ended c = take-ended c.args.self.now c.args.worker (sym c.ended.ensures ∙ c.if-ended.true)
+
+pub returns-in-Some : goal.returns-in-Some
+returns-in-Some c = take-holds c.args.self.now c.args.worker c.in-Some.id (sym c.ended.ensures ∙ c.if-ended.false) (sym c.held_by.ensures ∙ c.in-Some.is)

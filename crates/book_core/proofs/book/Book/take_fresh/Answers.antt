@@ -1,0 +1,28 @@
+use Rattle.std.proofs.Common.{◌≡◌, ◌≢◌, ℕ, suc, ◌+◌, ◌<◌, ◌≤◌, sym, ap, ◌∙◌, subst, arith, Some, None}
+use Rattle.book_core.proofs.EventLemmas.{take-ended, take-holds, take-idle, take-done, take-spent, back-given, fresh-given, is-new, given-sound, given-answers, release-ended, returned-sound, returned-answers, finished-sound, finished-answers}
+use Rattle.book_core.proofs.HandOverLemmas.{free-known}
+use Rattle.book_core.proofs.book.Book.take_fresh.Goals as goal
+
+pub returns-then-used-nodes : goal.returns-then-used-nodes
+returns-then-used-nodes c =
+    take-spent c.args.self.now c.args.worker c.args.id c.used-used.result c.used-used.ensures c.requires.running c.requires.empty c.requires.back c.requires.next (c.if-used-nodes.true ∙ c.nodes.ensures)
+
+pub node_of-node-requires : goal.node_of-node-requires
+node_of-node-requires c = free-known c.args.self.now c.args.id (is-new c.args.self.now c.args.worker c.args.id c.requires.back c.requires.next)
+
+pub give-requires-clause-open : goal.give-requires-clause-open
+give-requires-clause-open c = is-new c.args.self.now c.args.worker c.args.id c.requires.back c.requires.next
+
+pub give-requires-clause-sound : goal.give-requires-clause-sound
+give-requires-clause-sound c =
+    let b = c.args.self.now in
+    let used = c.used-used.ensures in
+    let same = fresh-given b c.args.worker c.args.id c.used-used.result used c.requires.running c.requires.empty c.requires.back c.requires.next (λ e. c.if-used-nodes.false (e ∙ sym c.nodes.ensures)) (c.used-used.result + 1) (omega arith) in
+    given-sound b c.args.worker c.requires.sound c.requires.known c.args.id (c.used-used.result + 1) same
+
+pub returns : goal.returns
+returns c =
+    let b = c.args.self.now in
+    let used = c.used-used.ensures in
+    let same = fresh-given b c.args.worker c.args.id c.used-used.result used c.requires.running c.requires.empty c.requires.back c.requires.next (λ e. c.if-used-nodes.false (e ∙ sym c.nodes.ensures)) (c.used-used.result + 1) (omega arith) in
+    given-answers b c.args.worker c.requires.sound c.requires.known c.args.id (c.used-used.result + 1) same c.node_of-node.result c.give.new.self c.node_of-node.ensures.value c.give.ensures

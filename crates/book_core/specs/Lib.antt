@@ -1,0 +1,13 @@
+pub mod Case
+pub mod Stored
+pub mod Nodes
+pub mod Replies
+pub mod Tables
+pub mod Keeps
+pub mod Seen
+pub mod Changes
+pub mod Hitting
+pub mod Next
+pub mod Parking
+pub mod Growing
+pub mod Outdone

@@ -1,0 +1,67 @@
+-- What a method of the book does: the step of the book machine for its event, or nothing for want of memory.
+use Rattle.std.specs.Prelude.{ℕ, ◌≡◌, ◌↔◌, ⊤, Some, None, IsNone, IfSome}
+use Rattle.std.specs.declared.option.Option.{Option}
+use Rattle.lock_model.specs.declared.instance.Instance.{Instance}
+use Rattle.lock_model.specs.declared.plan.Plan.{Plan}
+use Rattle.lock_rules.specs.Plan.{IsLegal}
+use Rattle.mooring_rules.specs.declared.breaks.BrokenPlan.{BrokenPlan}
+use Rattle.mooring_rules.specs.PlanBreaks.{IsFirstBrokenPlan}
+use Rattle.search_rules.specs.Book.{Book}
+use Rattle.search_rules.specs.Events as machine
+use Rattle.search_rules.specs.Events.{Event, replace}
+use Rattle.search_rules.specs.Step.{step}
+use Rattle.book_core.specs.declared.reply.Reply.{Reply}
+use Rattle.book_core.specs.declared.reply.Reply.TheVariants as reply
+
+-- the machine's reply; none for want of memory
+abbrev pub told : Reply → Option (machine.Reply BrokenPlan)
+told (reply.Node id node) = Some (machine.Node id (record { depth = node.depth; lines = node.lines }))
+told (reply.Made count) = Some (machine.Made count)
+told reply.Closed = Some machine.Closed
+told (reply.Posted number) = Some (machine.Posted number)
+told reply.Parked = Some machine.Parked
+told (reply.Replaced cost) = Some (machine.Replaced cost)
+told (reply.Released count) = Some (machine.Released count)
+told (reply.Ended worker) = Some (machine.Ended worker)
+told (reply.Holds id) = Some (machine.Holds id)
+told (reply.NodesSpent used) = Some (machine.NodesSpent used)
+told reply.Idle = Some machine.Idle
+told reply.Done = Some machine.Done
+told (reply.NotHeld id) = Some (machine.NotHeld id)
+told (reply.Whole id) = Some (machine.Whole id)
+told (reply.Cheaper bound best) = Some (machine.Cheaper bound best)
+told (reply.NoHit number) = Some (machine.NoHit number)
+told reply.OtherDeck = Some machine.OtherDeck
+told (reply.NotLegal found) = Some (machine.NotLegal found)
+told (reply.NotCheaper cost best) = Some (machine.NotCheaper cost best)
+told reply.NoMemory = None
+told (reply.Absent ship) = Some (machine.Absent ship)
+told (reply.Clashes id) = Some (machine.Clashes id)
+
+-- what `judge_plan` says of a plan: nothing of a legal one, else its first break
+pub record IsJudged (I : Instance) (P : Plan) (found : Option BrokenPlan) : Type 0 where
+  pub none : IsNone found ↔ IsLegal I P
+  pub some : IfSome found (IsFirstBrokenPlan I P)
+
+-- what is said of the plan of an event, if it has one
+abbrev pub IsFirstOf : Instance → Event → Option BrokenPlan → Type 0
+IsFirstOf I (replace plan) found = IsJudged I plan found
+IsFirstOf I _ found = ⊤
+
+-- The reply and the book after it are those of the machine's step, where `found` is the first break of the event's plan.
+pub record Answers (old : Book) (e : Event) (r : Reply) (new : Book) : Type 0 where
+  pub found : Option BrokenPlan
+  pub judged : IsFirstOf old.case.instance e found
+  pub answer : machine.Reply BrokenPlan
+  pub said : told r ≡ Some answer
+  pub same : step (λ _ _. found) old e ≡ (new, answer)
+
+-- there was no memory, and the book is as it was
+pub record Wants (old : Book) (r : Reply) (new : Book) : Type 0 where
+  pub want : r ≡ reply.NoMemory
+  pub same : new ≡ old
+
+-- an event that takes memory: a step of the machine, or none for want of memory
+pub data Does (old : Book) (e : Event) (r : Reply) (new : Book) : Type 0 where
+  Steps : Answers old e r new → Does old e r new
+  Stays : Wants old r new → Does old e r new

@@ -1,0 +1,26 @@
+-- A book by its fields.
+use Rattle.std.specs.Prelude.{length, vec_capacity}
+use Rattle.search_rules.specs.Book.{Book as Told}
+use Rattle.book_core.specs.declared.book.Book.TheInside.{Inside}
+use Rattle.book_core.specs.Stored.{slots_of}
+use Rattle.book_core.specs.Keeps.{IsSound, AreTables, AreCosts, HasRoom}
+
+abbrev pub seen : Inside → Told
+seen a = record {
+  case = a.case;
+  opening = a.opening;
+  slots = slots_of a.case.instance a.slots.items;
+  cuts = a.cuts.items;
+  plans = a.plans.items;
+  best = a.best;
+  used = a.used;
+  ended = a.ended;
+  history = a.history.items;
+}
+
+-- what its fields keep
+pub record IsKept (a : Inside) : Type 0 where
+  pub sound : IsSound (seen a)
+  pub tables : AreTables (slots_of a.case.instance a.slots.items) a.ended a.hands a.back a.waiting.items
+  pub costs : AreCosts (seen a) a.best_cost a.opening_cost a.throughput
+  pub room : HasRoom a.case.nodes (length a.cuts.items) (length a.plans.items) (vec_capacity a.history)

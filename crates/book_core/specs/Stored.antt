@@ -1,0 +1,34 @@
+-- The slots of a book, from what is stored of them.
+use Rattle.std.specs.Prelude.{ℕ, suc, ◌≡◌, List, [], ◌∷◌, ◌++◌, slice_index_or}
+use Rattle.lock_model.specs.declared.instance.Instance.{Instance}
+use Rattle.lock_rules.specs.Node.{root_lines}
+use Rattle.lock_rules.specs.Children.{children_of}
+use Rattle.search_rules.specs.Book.{Node, Slot, root}
+use Rattle.book_core.specs.declared.stored_slot.StoredSlot.{StoredSlot}
+
+-- child i of a node
+abbrev pub child_node : Instance → Node → ℕ → Node
+child_node I node i = record { depth = suc node.depth; lines = slice_index_or (children_of I node.depth node.lines) i root_lines }
+
+-- the node of a slot, after the nodes of the slots before it; the first slot holds the root
+abbrev pub node_after : Instance → List Node → StoredSlot → Node
+node_after I [] s = root
+node_after I (n ∷ ns) s = child_node I (slice_index_or (n ∷ ns) s.parent root) s.number
+
+abbrev pub slot_with : StoredSlot → Node → Slot
+slot_with s node = record { parent = s.parent; number = s.number; node = node; bound = s.bound; state = s.state }
+
+-- the slots, after the nodes of the slots before them
+abbrev pub slots_after : Instance → List Node → List StoredSlot → List Slot
+slots_after I done [] = []
+slots_after I done (s ∷ ss) = slot_with s (node_after I done s) ∷ slots_after I (done ++ node_after I done s ∷ []) ss
+
+abbrev pub slots_of : Instance → List StoredSlot → List Slot
+slots_of I stored = slots_after I [] stored
+
+-- what is stored of a slot
+pub record IsStoredAs (s : StoredSlot) (t : Slot) : Type 0 where
+  pub parent : t.parent ≡ s.parent
+  pub number : t.number ≡ s.number
+  pub bound : t.bound ≡ s.bound
+  pub state : t.state ≡ s.state

@@ -1,0 +1,126 @@
+//! The book: its fields, its opening and its readers.
+ghost use Rattle.std.specs.Prelude.{◌≡◌, ◌<◌, ◌≤◌, false, length, slice_index_or, slice_get, IfSome, IfNone};
+ghost use Rattle.lock_rules.specs.Plan.{IsLegal};
+ghost use Rattle.search_rules.specs.Book.{best_cost, slot_at};
+ghost use Rattle.search_rules.specs.Cheap.{opening_cost};
+
+use crate::back_list::BackList;
+use crate::case::Case;
+use crate::stored_slot::StoredSlot;
+use crate::waiting::Waiting;
+use lock_model::Plan;
+use place_refute::Cut;
+use search_rules::{Entry, SlotState};
+use std::marker::Model;
+
+/// A book.
+#[derive(Debug, Drop)]
+pub struct Book {
+    pub(crate) case: Case,
+    pub(crate) opening: Plan,
+    pub(crate) opening_cost: u64,
+    pub(crate) throughput: u64,
+    pub(crate) slots: Vec<StoredSlot>,
+    pub(crate) cuts: Vec<Cut>,
+    pub(crate) plans: Vec<Plan>,
+    pub(crate) best: Plan,
+    pub(crate) best_cost: u64,
+    pub(crate) used: u32,
+    pub(crate) ended: [bool; 9],
+    pub(crate) history: Vec<Entry>,
+    pub(crate) hands: [Option<u32>; 9],
+    pub(crate) back: BackList,
+    pub(crate) waiting: Vec<Waiting>,
+}
+
+impl Model for Book {
+    ghost use Rattle.search_rules.specs.Book.{Book as Told};
+
+    ghost Value = { Told };
+
+    ghost use Rattle.book_core.specs.Seen.{seen, IsKept};
+
+    ghost view = { seen };
+
+    ghost invariant = { IsKept };
+}
+
+impl Book {
+    /// The case of the book.
+    pub fn case(&self) -> &Case
+        ensures { result.now ≡ self.now.case }
+    {
+        &self.case
+    }
+
+    /// The best plan.
+    pub fn best(&self) -> &Plan
+        ensures value { result.now ≡ self.now.best }
+        ensures legal { IsLegal self.now.case.instance self.now.best }
+    {
+        &self.best
+    }
+
+    /// The cost of the best plan in minutes.
+    pub fn best_cost(&self) -> u64
+        ensures { result ≡ best_cost self.now }
+    {
+        self.best_cost
+    }
+
+    /// The cost of the opening plan in minutes.
+    pub fn opening_cost(&self) -> u64
+        ensures { result ≡ opening_cost self.now }
+    {
+        self.opening_cost
+    }
+
+    /// How many nodes were used.
+    pub fn used(&self) -> u32
+        ensures { result ≡ self.now.used }
+    {
+        self.used
+    }
+
+    /// How many events were accepted.
+    pub fn history_len(&self) -> u64
+        ensures { result ≡ length self.now.history }
+    {
+        self.history.len() as u64
+    }
+
+    /// How many slots there are: at most 50,000,001.
+    pub fn slots(&self) -> u32
+        ensures value { result ≡ length self.now.slots }
+        ensures small { result ≤ 50000001 }
+    {
+        self.slots.len() as u32
+    }
+
+    /// The state of a slot; None exactly where there is no such slot.
+    pub fn slot_state(&self, id: u32) -> Option<SlotState>
+        ensures some { IfSome result (λ state. (id < length self.now.slots) × ((slot_at self.now id).state ≡ state)) }
+        ensures none { IfNone result (length self.now.slots ≤ id) }
+    {
+        if (id as usize) < self.slots.len() {
+            Some(self.slots[id as usize].state)
+        } else {
+            None
+        }
+    }
+
+    /// Whether the worker has released.
+    pub fn ended(&self, worker: u8) -> bool
+        ensures { result ≡ slice_index_or self.now.ended worker false }
+    {
+        worker <= 8 && self.ended[worker as usize]
+    }
+
+    /// The cut of this number; None exactly where there is none.
+    pub fn cut(&self, number: u64) -> Option<&Cut>
+        ensures some { IfSome result (λ cut. slice_get self.now.cuts number ≡ Some cut.now) }
+        ensures none { IfNone result (slice_get self.now.cuts number ≡ None) }
+    {
+        self.cuts.get(number as usize)
+    }
+}

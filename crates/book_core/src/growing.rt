@@ -1,0 +1,39 @@
+//! Memory for what grows.
+ghost use Rattle.std.specs.Prelude.{◌≡◌, ◌+◌, ◌*◌, ◌≤◌, ◌<◌, length, IfOk, vec_len, vec_capacity};
+
+use crate::book::Book;
+use plain_text::NoMemory;
+use search_rules::Entry;
+
+// Room for so many entries of the history, and for one more of a list.
+pub(crate) fn make_room<T>(
+    history: &mut Vec<Entry>,
+    needed: usize,
+    list: &mut Vec<T>,
+) -> Result<(), NoMemory>
+    requires { vec_len history.old ≤ needed }
+    ensures history { history.new.items ≡ history.old.items }
+    ensures list { list.new.items ≡ list.old.items }
+    ensures wider { vec_capacity history.old ≤ vec_capacity history.new }
+    ensures entries { IfOk result (λ _. needed ≤ vec_capacity history.new) }
+    ensures one { IfOk result (λ _. vec_len list.new < vec_capacity list.new) }
+{
+    let more = needed - history.len();
+    history.try_reserve(more)?;
+    list.try_reserve(1)?;
+    Ok(())
+}
+
+impl Book {
+    // How many entries the history needs room for once a cut or a plan is kept.
+    pub(crate) fn entries_needed(&self) -> Result<usize, NoMemory>
+        ensures count { IfOk result (λ n. n ≡ 3 * self.now.case.nodes + 33 + length self.now.cuts + length self.now.plans) }
+        ensures more { IfOk result (λ n. length self.now.history < n) }
+    {
+        let most = u32::MAX as usize;
+        if self.cuts.len() >= most || self.plans.len() >= most {
+            return Err(NoMemory);
+        }
+        Ok(3 * self.nodes() as usize + 33 + self.cuts.len() + self.plans.len())
+    }
+}

@@ -1,0 +1,55 @@
+//! The event that parks a slot.
+ghost use Rattle.std.specs.Prelude.{◌≡◌, ◌<◌, length};
+ghost use Rattle.refute_rules.specs.Spots.{IsSpotHard};
+ghost use Rattle.search_rules.specs.Events.{park};
+ghost use Rattle.book_core.specs.Parking.{names_lent};
+ghost use Rattle.book_core.specs.Replies.{Answers};
+
+use crate::book::Book;
+use crate::decks::{deck_clashes, same_deck};
+use crate::reply::Reply;
+use lock_model::deck_of;
+use place_refute::Hard;
+use search_rules::{Entry, SlotState};
+
+impl Book {
+    // Whether the deck of the named group of the slot's node is the lent value's, and its turns are
+    // at least the case's.
+    fn names_lent(&self, id: u32, chamber: u8, place: u8, hard: &Hard) -> bool
+        requires { id < length self.now.slots }
+        ensures { result ≡ names_lent self.now id chamber place hard.now.deck hard.now.turns }
+    {
+        let node = self.node_of(id);
+        if chamber as usize >= self.instance().chambers.as_slice().len() {
+            return false;
+        }
+        let line = node.line(chamber).as_slice();
+        if place as usize >= line.len() {
+            return false;
+        }
+        let deck = deck_of(self.instance(), chamber, &line[place as usize].ships);
+        same_deck(&deck, &hard.deck) && self.turns() <= hard.turns
+    }
+
+    /// Parks a held slot whose group `place` of this chamber spent its turns: the lent value's deck
+    /// is hard and spot-hard for its turns. Refuses `NotHeld`, then `OtherDeck` where there is no
+    /// such group, its deck is another one or the lent turns are below the case's, then `Clashes`
+    /// where two of its ships clash. Takes no memory.
+    pub fn park(&mut self, id: u32, chamber: u8, place: u8, hard: &Hard) -> Reply
+        requires { IsSpotHard hard.now.deck hard.now.turns }
+        ensures { Answers self.old (park id chamber place hard.now.deck hard.now.turns) result self.new }
+    {
+        if !self.is_held(id) {
+            return Reply::NotHeld(id);
+        }
+        if !self.names_lent(id, chamber, place, hard) {
+            return Reply::OtherDeck;
+        }
+        if deck_clashes(&hard.deck) {
+            return Reply::Clashes(id);
+        }
+        let parked = SlotState::Parked(chamber, place);
+        self.settle(id, parked, Entry::Park(id, chamber, place));
+        Reply::Parked
+    }
+}

@@ -1,0 +1,54 @@
+//! What a book answers to an event.
+
+use master_branch::Node;
+use mooring_rules::BrokenPlan;
+
+/// The reply to an event. The first seven are accepted; the others are refusals, and leave the book
+/// as it was.
+#[derive(Debug, PartialEq, Eq, Drop)]
+pub enum Reply {
+    /// The slot that was taken, and its node.
+    Node(u32, Node),
+    /// The slot was split into so many children, those closed by their bound included.
+    Made(u32),
+    /// The slot was closed.
+    Closed,
+    /// The cut was kept under this number.
+    Posted(u64),
+    /// The slot was parked.
+    Parked,
+    /// The plan is the best one; this is its cost in minutes.
+    Replaced(u64),
+    /// The worker has ended: 1 where it gave a slot back, else 0.
+    Released(u32),
+    /// The worker has released before.
+    Ended(u8),
+    /// The worker holds this slot.
+    Holds(u32),
+    /// No slot is returned, one is fresh, and so many nodes were used: the whole budget.
+    NodesSpent(u32),
+    /// Nothing is open, and a slot is held.
+    Idle,
+    /// Nothing is open or held.
+    Done,
+    /// The slot isn't held, or, for closing, neither held nor parked.
+    NotHeld(u32),
+    /// The slot's node holds all ships.
+    Whole(u32),
+    /// The bound, which is below the best cost, and the best cost, in minutes.
+    Cheaper(u64, u64),
+    /// No cut has this number, or it hits no group of the node.
+    NoHit(u64),
+    /// The deck isn't that of the chamber and ships of the instance, or the turns are too few.
+    OtherDeck,
+    /// The plan isn't legal; this is its first break.
+    NotLegal(BrokenPlan),
+    /// The plan's cost, which is at least the best cost, and the best cost, in minutes.
+    NotCheaper(u64, u64),
+    /// There was no memory; the event may be tried again.
+    NoMemory,
+    /// The ship isn't in the instance, or is among the node's ships.
+    Absent(u8),
+    /// Two ships of the named group of this slot clash.
+    Clashes(u32),
+}

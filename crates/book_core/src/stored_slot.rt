@@ -1,0 +1,14 @@
+//! Slots as a book stores them.
+
+use search_rules::SlotState;
+
+// A slot of a book: the child of this number of its parent's node, 0 and 0 for the root, with its
+// bound in minutes and its state. It takes 32 bytes. Its node isn't stored: it is found again from
+// the parents.
+#[derive(Clone, Copy, Debug, PartialEq, Eq)]
+pub(crate) struct StoredSlot {
+    pub(crate) bound: u64,
+    pub(crate) state: SlotState,
+    pub(crate) parent: u32,
+    pub(crate) number: u8,
+}

@@ -1,0 +1,100 @@
+//! The event that gives a slot to a worker.
+ghost use Rattle.std.specs.Prelude.{◌≡◌, ◌≤◌, ◌+◌, false, None, Some, slice_index_or};
+ghost use Rattle.search_rules.specs.declared.book.SlotState.TheVariants as slot;
+ghost use Rattle.search_rules.specs.Book.{slot_at, first_slot, is_back, is_held_by};
+ghost use Rattle.search_rules.specs.Events.{take};
+ghost use Rattle.search_rules.specs.NextSlot.{next_fresh};
+ghost use Rattle.search_rules.specs.Step.{given};
+ghost use Rattle.book_core.specs.Changes.{IsFree};
+ghost use Rattle.book_core.specs.Keeps.{IsSound};
+ghost use Rattle.book_core.specs.Replies.{Answers};
+
+use crate::book::Book;
+use crate::reply::Reply;
+
+impl Book {
+    // Gives a returned slot, the first, to a worker.
+    fn take_back(&mut self, worker: u8, id: u32) -> Reply
+        requires known { worker ≤ 8 }
+        requires running { slice_index_or self.old.ended worker false ≡ false }
+        requires empty { first_slot self.old (is_held_by worker) ≡ None }
+        requires first { first_slot self.old is_back ≡ Some id }
+        requires sound { IsSound self.old }
+        ensures { Answers self.old (take worker) result self.new }
+    {
+        let used = self.used();
+        let node = self.node_of(id);
+        self.give(id, worker, used);
+        Reply::Node(id, node)
+    }
+
+    // Gives a fresh slot, the next, to a worker, unless the budget is spent.
+    fn take_fresh(&mut self, worker: u8, id: u32) -> Reply
+        requires known { worker ≤ 8 }
+        requires running { slice_index_or self.old.ended worker false ≡ false }
+        requires empty { first_slot self.old (is_held_by worker) ≡ None }
+        requires back { first_slot self.old is_back ≡ None }
+        requires next { next_fresh self.old ≡ Some id }
+        requires sound { IsSound self.old }
+        ensures { Answers self.old (take worker) result self.new }
+    {
+        let used = self.used();
+        if used == self.nodes() {
+            return Reply::NodesSpent(used);
+        }
+        let node = self.node_of(id);
+        self.give(id, worker, used + 1);
+        Reply::Node(id, node)
+    }
+
+    // Nothing is open.
+    fn take_none(&self, worker: u8) -> Reply
+        requires running { slice_index_or self.now.ended worker false ≡ false }
+        requires empty { first_slot self.now (is_held_by worker) ≡ None }
+        requires back { first_slot self.now is_back ≡ None }
+        requires next { next_fresh self.now ≡ None }
+        ensures { Answers self.now (take worker) result self.now }
+    {
+        let _ = worker;
+        if self.has_held() {
+            Reply::Idle
+        } else {
+            Reply::Done
+        }
+    }
+
+    // Gives a slot to a worker who holds none and hasn't ended.
+    fn take_open(&mut self, worker: u8) -> Reply
+        requires known { worker ≤ 8 }
+        requires running { slice_index_or self.old.ended worker false ≡ false }
+        requires empty { first_slot self.old (is_held_by worker) ≡ None }
+        requires sound { IsSound self.old }
+        ensures { Answers self.old (take worker) result self.new }
+    {
+        if let Some(id) = self.first_back() {
+            return self.take_back(worker, id);
+        }
+        match self.next_fresh() {
+            Some(id) => self.take_fresh(worker, id),
+            None => self.take_none(worker),
+        }
+    }
+
+    /// Gives a worker of 0 to 8 a slot to work on, with its node: the returned one of the smallest
+    /// number, else the root, else, of the fresh children of the split of the greatest first child,
+    /// the one of the least bound. Refuses `Ended`, then `Holds`, `NodesSpent`, `Idle` and `Done`.
+    /// Takes no memory.
+    pub fn take(&mut self, worker: u8) -> Reply
+        requires { worker ≤ 8 }
+        ensures { Answers self.old (take worker) result self.new }
+    {
+        self.keeps();
+        if self.ended(worker) {
+            return Reply::Ended(worker);
+        }
+        match self.held_by(worker) {
+            Some(id) => Reply::Holds(id),
+            None => self.take_open(worker),
+        }
+    }
+}

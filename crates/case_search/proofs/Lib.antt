@@ -1,0 +1,7 @@
+pub mod BerthLemmas
+pub mod ListLemmas
+pub mod CountLemmas
+pub mod TurnLemmas
+pub mod VisitLemmas
+pub mod FoundLemmas
+pub mod TreeLemmas

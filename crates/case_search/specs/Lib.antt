@@ -1,0 +1,5 @@
+pub mod Berths
+pub mod Rules
+pub mod Counts
+pub mod Visits
+pub mod Found

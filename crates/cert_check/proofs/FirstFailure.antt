@@ -1,0 +1,127 @@
+-- A certificate has one first failure at most.
+use Rattle.std.proofs.Common.{◌≡◌, ℕ, zero, suc, ◌<◌, ◌-◌, List, [], ◌∷◌, refl, sym, ap, ◌∙◌, subst, length, take, ◌⊎◌, inl, inr, slice_index_or, arith, get_or-take}
+use Rattle.std.proofs.lemmas.Bool.Decides.{leb_tells}
+use Rattle.std.proofs.lemmas.List.{get_or_default, length-take}
+use Rattle.lock_model.specs.declared.instance.Instance.{Instance}
+use Rattle.lock_model.specs.declared.group.Group.{Group}
+use Rattle.lock_rules.specs.Node.{root_lines}
+use Rattle.lock_rules.specs.Children.{children_of}
+use Rattle.search_rules.specs.declared.certificate.Mark.{Mark}
+use Rattle.search_rules.specs.declared.certificate.Mark.TheVariants as mark
+use Rattle.search_rules.specs.declared.certificate.Spot2.{Spot2}
+use Rattle.search_rules.specs.declared.certificate.Spot2.TheVariants as place
+use Rattle.search_rules.specs.declared.certificate.Reason.{Reason}
+use Rattle.search_rules.specs.declared.certificate.Reason.TheVariants as reason
+use Rattle.search_rules.specs.Certificates.{CertCut, Certificate, IsShaped, IsProved, Closes, IsMarkTree}
+use Rattle.search_rules.specs.Failures.{FailInOrder, FailsHere, TreeFails, MarksFail, CutFails, reason_of, Fails}
+use Rattle.search_rules.proofs.FailLemmas.{heads, tails, tree-unique, tree-not_fails}
+use Rattle.cert_check.specs.FirstFailure.{AreSameFailure}
+
+-- the same marks are left, and the reason is the same
+record AreSame {M : Type 0} (s t : List M) (p q : Reason) : Type 0 where
+  left : s ≡ t
+  why : p ≡ q
+
+in_order-same : {X M : Type 0} (Tree : X → List M → List M → Type 0) (Failing : X → List M → List M → Reason → Type 0)
+    → ((x : X) (m r s : List M) → Tree x m r → Tree x m s → r ≡ s)
+    → ((x : X) (m r stuck : List M) (why : Reason) → Tree x m r → Failing x m stuck why → ⊥)
+    → ((x : X) (m s t : List M) (p q : Reason) → Failing x m s p → Failing x m t q → AreSame s t p q)
+    → (xs : List X) (m s t : List M) (p q : Reason) → FailInOrder Tree Failing xs m s p → FailInOrder Tree Failing xs m t q → AreSame s t p q
+in_order-same Tree Failing one never same [] m s t p q a b = absurd a
+in_order-same Tree Failing one never same (x ∷ xs) m s t p q (inl a) (inl b) = same x m s t p q a b
+in_order-same Tree Failing one never same (x ∷ xs) m s t p q (inl a) (inr b) = absurd (never x m b.0 s p b.1 a)
+in_order-same Tree Failing one never same (x ∷ xs) m s t p q (inr a) (inl b) = absurd (never x m a.0 t q a.1 b)
+in_order-same Tree Failing one never same (x ∷ xs) m s t p q (inr a) (inr b) =
+    in_order-same Tree Failing one never same xs b.0 s t p q (subst (λ u. FailInOrder Tree Failing xs u s p) (one x m a.0 b.0 a.1 b.1) a.2) b.2
+
+here-same : {M : Type 0} (Closing : M → Type 0) (reason_by : M → Reason) (marks s t : List M) (p q : Reason) → FailsHere Closing reason_by marks s p → FailsHere Closing reason_by marks t q → AreSame s t p q
+here-same Closing reason_by [] s t p q a b = record { left = a.0 ∙ sym b.0; why = a.1 ∙ sym b.1 }
+here-same Closing reason_by (m ∷ ms) s t p q a b = record { left = a.0 ∙ sym b.0; why = a.2 ∙ sym b.2 }
+
+module _ (I : Instance) (cost : ℕ) (cuts : List CertCut) where
+  abbrev Closing : ℕ → List (List Group) → Mark → Type 0
+  Closing = Closes I cost cuts
+
+  abbrev Failing : ℕ → ℕ → List (List Group) → List Mark → List Mark → Reason → Type 0
+  Failing = TreeFails I mark.Split Closing reason_of
+
+  here-not_split : (k : ℕ) (lines : List (List Group)) (marks s inner : List Mark) (p : Reason) → FailsHere (λ m. Closing k lines m ⊎ (m ≡ mark.Split)) reason_of marks s p → marks ≡ mark.Split ∷ inner → ⊥
+  here-not_split k lines [] s inner p f e = absurd cc
+  here-not_split k lines (m ∷ ms) s inner p f e = f.1 (inr (heads m mark.Split ms inner e))
+
+  tree-same : (lacking k : ℕ) (lines : List (List Group)) (marks s t : List Mark) (p q : Reason) → Failing lacking k lines marks s p → Failing lacking k lines marks t q → AreSame s t p q
+  tree-same zero k lines marks s t p q a b = here-same (Closing k lines) reason_of marks s t p q a b
+  tree-same (suc lacking) k lines marks s t p q (inl a) (inl b) = here-same (λ m. Closing k lines m ⊎ (m ≡ mark.Split)) reason_of marks s t p q a b
+  tree-same (suc lacking) k lines marks s t p q (inl a) (inr b) = absurd (here-not_split k lines marks s b.0 p a b.1)
+  tree-same (suc lacking) k lines marks s t p q (inr a) (inl b) = absurd (here-not_split k lines marks t a.0 q b a.1)
+  tree-same (suc lacking) k lines marks s t p q (inr a) (inr b) =
+      let same : a.0 ≡ b.0 = tails mark.Split mark.Split a.0 b.0 (sym a.1 ∙ b.1) in
+      let Tree = IsMarkTree I mark.Split Closing lacking (suc k) in
+      in_order-same Tree (Failing lacking (suc k))
+      (λ x m r u. tree-unique I mark.Split Closing reason_of (λ k lines h. h) lacking (suc k) x m r u)
+      (λ x m r u why. tree-not_fails I mark.Split Closing reason_of (λ k lines h. h) lacking (suc k) x m r u why)
+      (λ x m u v p q. tree-same lacking (suc k) x m u v p q) (children_of I k lines) b.0 s t p q
+      (subst (λ u. FailInOrder Tree (Failing lacking (suc k)) (children_of I k lines) u s p) same a.2) b.2
+
+  marks-same : (marks s t : List Mark) (p q : Reason) → MarksFail I mark.Split Closing reason_of marks s p → MarksFail I mark.Split Closing reason_of marks t q → AreSame s t p q
+  marks-same marks s t p q (inl a) (inl b) = tree-same (length I.ships) 0 root_lines marks s t p q a b
+  marks-same marks s t p q (inl a) (inr b) = absurd (tree-not_fails I mark.Split Closing reason_of (λ k lines h. h) (length I.ships) 0 root_lines marks t s p b.2 a)
+  marks-same marks s t p q (inr a) (inl b) = absurd (tree-not_fails I mark.Split Closing reason_of (λ k lines h. h) (length I.ships) 0 root_lines marks s t q a.2 b)
+  marks-same marks s t p q (inr a) (inr b) = record {
+    left = tree-unique I mark.Split Closing reason_of (λ k lines h. h) (length I.ships) 0 root_lines marks s t a.2 b.2;
+    why = a.1 ∙ sym b.1;
+  }
+
+unproved-is : (I : Instance) (cuts : List CertCut) (c : ℕ) (r : Reason) → (f : CutFails I cuts c r) → IsProved I f.cut → ⊥
+unproved-is I cuts c r f good = elim f.unproved [ inl u ↦ u.0 good.shaped | inr u ↦ u.1 good ]
+
+-- no cut before the first that isn't proved is another one
+cut-earlier : (I : Instance) (cuts : List CertCut) (c d : ℕ) (p q : Reason) → CutFails I cuts c p → CutFails I cuts d q → c < d → ⊥
+cut-earlier I cuts c d p q a b less =
+    let here : c < length (take d cuts) = omega (arith, length-take d cuts, less, a.known) in
+    let read : slice_index_or (take d cuts) c a.cut ≡ a.cut = get_or-take d cuts c a.cut less ∙ a.is in
+    unproved-is I cuts c p a (subst (IsProved I) read (b.before c a.cut here))
+
+cut-why : (I : Instance) (c d : CertCut) (p q : Reason) → c ≡ d
+    → ((IsShaped I c → ⊥) × (p ≡ reason.CutShape)) ⊎ (IsShaped I c × (IsProved I c → ⊥) × (p ≡ reason.CutUnproved))
+    → ((IsShaped I d → ⊥) × (q ≡ reason.CutShape)) ⊎ (IsShaped I d × (IsProved I d → ⊥) × (q ≡ reason.CutUnproved)) → p ≡ q
+cut-why I c d p q same (inl a) (inl b) = a.1 ∙ sym b.1
+cut-why I c d p q same (inl a) (inr b) = absurd (a.0 (subst (IsShaped I) (sym same) b.0))
+cut-why I c d p q same (inr a) (inl b) = absurd (b.0 (subst (IsShaped I) same a.0))
+cut-why I c d p q same (inr a) (inr b) = a.2 ∙ sym b.2
+
+cut-same : (I : Instance) (cuts : List CertCut) (c d : ℕ) (p q : Reason) → CutFails I cuts c p → CutFails I cuts d q → (c ≡ d) × (p ≡ q)
+cut-same I cuts c d p q a b =
+    elim (leb_tells (suc c) d) [
+      | inl earlier ↦ absurd (cut-earlier I cuts c d p q a b (omega (arith, earlier.1)))
+      | inr later ↦ elim (leb_tells (suc d) c) [
+        | inl earlier ↦ absurd (cut-earlier I cuts d c q p b a (omega (arith, earlier.1)))
+        | inr same ↦
+            let at : c ≡ d = omega (arith, later.1, same.1) in
+            let one : a.cut ≡ b.cut = sym a.is ∙ get_or_default cuts c a.cut b.cut a.known ∙ ap (λ n. slice_index_or cuts n b.cut) at ∙ b.is in
+            (at, cut-why I a.cut b.cut p q one a.unproved b.unproved)
+      ]
+    ]
+
+-- two first failures of a certificate are the same
+pub fails-same : (I : Instance) (C : Certificate) (p q : Spot2) (r s : Reason) → Fails I C p r → Fails I C q s → AreSameFailure p q r s
+fails-same I C place.Plan place.Plan r s a b = record { place = refl; reason = a.1 ∙ sym b.1 }
+fails-same I C place.Plan place.Cost r s a b = absurd (a.0 b.0)
+fails-same I C place.Plan (place.Cut d) r s a b = absurd (a.0 b.0)
+fails-same I C place.Plan (place.Tree n) r s a b = absurd (a.0 b.0)
+fails-same I C place.Cost place.Plan r s a b = absurd (b.0 a.0)
+fails-same I C place.Cost place.Cost r s a b = record { place = refl; reason = a.2 ∙ sym b.2 }
+fails-same I C place.Cost (place.Cut d) r s a b = absurd (a.1 b.1)
+fails-same I C place.Cost (place.Tree n) r s a b = absurd (a.1 b.1)
+fails-same I C (place.Cut c) place.Plan r s a b = absurd (b.0 a.0)
+fails-same I C (place.Cut c) place.Cost r s a b = absurd (b.1 a.1)
+fails-same I C (place.Cut c) (place.Cut d) r s a b =
+    let same = cut-same I C.cuts c d r s a.2 b.2 in
+    record { place = ap place.Cut same.0; reason = same.1 }
+fails-same I C (place.Cut c) (place.Tree n) r s a b = absurd (unproved-is I C.cuts c r a.2 (subst (IsProved I) a.2.is (b.2 c a.2.cut a.2.known)))
+fails-same I C (place.Tree m) place.Plan r s a b = absurd (b.0 a.0)
+fails-same I C (place.Tree m) place.Cost r s a b = absurd (b.1 a.1)
+fails-same I C (place.Tree m) (place.Cut d) r s a b = absurd (unproved-is I C.cuts d s b.2 (subst (IsProved I) b.2.is (a.2 d b.2.cut b.2.known)))
+fails-same I C (place.Tree m) (place.Tree n) r s a b =
+    let same = marks-same I C.cost C.cuts C.tree a.3 b.3 r s a.5 b.5 in
+    record { place = ap place.Tree (a.4 ∙ ap (λ u. length C.tree - length u) same.left ∙ sym b.4); reason = same.why }

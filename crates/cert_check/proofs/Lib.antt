@@ -1,0 +1,8 @@
+pub mod HitLemmas
+pub mod MissingLemmas
+pub mod TreeLemmas
+pub mod ReadLemmas
+pub mod FirstFailure
+pub mod PlanLemmas
+pub mod AnswerLemmas
+pub mod SomeFailure

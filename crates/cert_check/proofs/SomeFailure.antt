@@ -1,0 +1,145 @@
+-- A certificate that isn't accepted fails somewhere: it can't be that it neither is accepted nor fails.
+use Rattle.std.proofs.Common.{◌≡◌, ℕ, zero, suc, ◌-◌, List, [], ◌∷◌, ◌++◌, refl, subst, length, take, append_assoc, length-append, ◌⊎◌, inl, inr, All, arith}
+use Rattle.std.proofs.Math.Seq.{take-append_seam, get_or-append_seam}
+use Rattle.std.proofs.lemmas.List.{append-nil}
+use Rattle.std.proofs.lemmas.List.Elements.{All-nil, All-push, All-same}
+use Rattle.lock_model.specs.declared.instance.Instance.{Instance}
+use Rattle.lock_model.specs.declared.group.Group.{Group}
+use Rattle.lock_rules.specs.Node.{root_lines}
+use Rattle.lock_rules.specs.Children.{children_of}
+use Rattle.lock_rules.specs.Plan.{IsLegal, cost_of}
+use Rattle.refute_rules.specs.Trees.{AreInOrder}
+use Rattle.search_rules.specs.declared.certificate.Mark.{Mark}
+use Rattle.search_rules.specs.declared.certificate.Mark.TheVariants as mark
+use Rattle.search_rules.specs.declared.certificate.Spot2.{Spot2}
+use Rattle.search_rules.specs.declared.certificate.Spot2.TheVariants as place
+use Rattle.search_rules.specs.declared.certificate.Reason.{Reason}
+use Rattle.search_rules.specs.declared.certificate.Reason.TheVariants as reason
+use Rattle.search_rules.specs.Certificates.{CertCut, Certificate, IsShaped, IsProved, Closes, IsMarkTree, Accepts}
+use Rattle.search_rules.specs.Failures.{FailInOrder, FailsHere, TreeFails, MarksFail, CutFails, reason_of, Fails}
+
+-- it can't be otherwise
+abbrev Must : Type 0 → Type 0
+Must A = (A → ⊥) → ⊥
+
+must : {A : Type 0} → A → Must A
+must a none = none a
+
+next : {A B : Type 0} → Must A → (A → Must B) → Must B
+next h f none = h (λ a. f a none)
+
+one-way : (A : Type 0) → Must (A ⊎ (A → ⊥))
+one-way A none = none (inr (λ a. none (inl a)))
+
+-- reading ends behind what is read, or sticks
+abbrev Ends : {M : Type 0} → (List M → Type 0) → (List M → Reason → Type 0) → Type 0
+Ends {M} Read Sticks = ((rest : List M) × Read rest) ⊎ ((stuck : List M) × (r : Reason) × Sticks stuck r)
+
+in_order-ends : {X M : Type 0} (Tree : X → List M → List M → Type 0) (Failing : X → List M → List M → Reason → Type 0)
+    → ((x : X) (m : List M) → Must (Ends (Tree x m) (Failing x m))) → (xs : List X) (m : List M) → Must (Ends (AreInOrder Tree xs m) (FailInOrder Tree Failing xs m))
+in_order-ends Tree Failing each [] m = must (inl (m, refl))
+in_order-ends Tree Failing each (x ∷ xs) m =
+    next (each x m) (λ own. elim own [
+      | inl a ↦ next (in_order-ends Tree Failing each xs a.0) (λ later. elim later [
+        | inl b ↦ must (inl (b.0, (a.0, a.1, b.1)))
+        | inr b ↦ must (inr (b.0, b.1, inr (a.0, a.1, b.2)))
+      ])
+      | inr a ↦ must (inr (a.0, a.1, inl a.2))
+    ])
+
+-- the first mark closes, or reading ends there
+here-ends : {M : Type 0} (Closing : M → Type 0) (reason_by : M → Reason) (marks : List M)
+    → Must (((m : M) × (rest : List M) × Closing m × (marks ≡ m ∷ rest)) ⊎ ((stuck : List M) × (r : Reason) × FailsHere Closing reason_by marks stuck r))
+here-ends Closing reason_by [] = must (inr ([], reason.TreeShort, (refl, refl)))
+here-ends Closing reason_by (m ∷ ms) =
+    next (one-way (Closing m)) (λ own. elim own [
+      | inl closes ↦ must (inl (m, ms, closes, refl))
+      | inr open' ↦ must (inr (m ∷ ms, reason_by m, (refl, open', refl)))
+    ])
+
+module _ (I : Instance) (cost : ℕ) (cuts : List CertCut) where
+  abbrev Tree : ℕ → ℕ → List (List Group) → List Mark → List Mark → Type 0
+  Tree = IsMarkTree I mark.Split (Closes I cost cuts)
+
+  abbrev Failing : ℕ → ℕ → List (List Group) → List Mark → List Mark → Reason → Type 0
+  Failing = TreeFails I mark.Split (Closes I cost cuts) reason_of
+
+  tree-ends : (lacking k : ℕ) (lines : List (List Group)) (marks : List Mark) → Must (Ends (Tree lacking k lines marks) (Failing lacking k lines marks))
+  tree-ends zero k lines marks =
+      next (here-ends (Closes I cost cuts k lines) reason_of marks) (λ first. elim first [
+        | inl a ↦ must (inl (a.1, (a.0, a.2, a.3)))
+        | inr f ↦ must (inr (f.0, f.1, f.2))
+      ])
+  tree-ends (suc lacking) k lines marks =
+      next (here-ends (λ m. Closes I cost cuts k lines m ⊎ (m ≡ mark.Split)) reason_of marks) (λ first. elim first [
+        | inl a ↦ elim a.2 [
+          | inl closes ↦ must (inl (a.1, inl (a.0, closes, a.3)))
+          | inr split ↦
+              let front : marks ≡ mark.Split ∷ a.1 = subst (λ m. marks ≡ m ∷ a.1) split a.3 in
+              next (in_order-ends (Tree lacking (suc k)) (Failing lacking (suc k)) (λ x m. tree-ends lacking (suc k) x m) (children_of I k lines) a.1) (λ inner. elim inner [
+                | inl b ↦ must (inl (b.0, inr (a.1, front, b.1)))
+                | inr b ↦ must (inr (b.0, b.1, inr (a.1, front, b.2)))
+              ])
+        ]
+        | inr f ↦ must (inr (f.0, f.1, inl f.2))
+      ])
+
+  left-over : (marks rest : List Mark) → Tree (length I.ships) 0 root_lines marks rest → Tree (length I.ships) 0 root_lines marks [] ⊎ ((stuck : List Mark) × (r : Reason) × MarksFail I mark.Split (Closes I cost cuts) reason_of marks stuck r)
+  left-over marks [] tree = inl tree
+  left-over marks (m ∷ ms) tree = inr (m ∷ ms, reason.TreeLong, inr ((λ e. absurd cc), refl, tree))
+
+  marks-end : (marks : List Mark) → Must (Tree (length I.ships) 0 root_lines marks [] ⊎ ((stuck : List Mark) × (r : Reason) × MarksFail I mark.Split (Closes I cost cuts) reason_of marks stuck r))
+  marks-end marks =
+      next (tree-ends (length I.ships) 0 root_lines marks) (λ read. elim read [
+        | inl a ↦ must (left-over marks a.0 a.1)
+        | inr f ↦ must (inr (f.0, f.1, inl f.2))
+      ])
+
+-- the first cut behind these that isn't proved
+cut-fails : (I : Instance) (before after : List CertCut) (c : CertCut) (r : Reason) → All (IsProved I) before
+    → ((IsShaped I c → ⊥) × (r ≡ reason.CutShape)) ⊎ (IsShaped I c × (IsProved I c → ⊥) × (r ≡ reason.CutUnproved)) → CutFails I (before ++ c ∷ after) (length before) r
+cut-fails I before after c r proved why = record {
+  cut = c;
+  known = omega (arith, length-append before (c ∷ after));
+  is = get_or-append_seam before c after c;
+  before = All-same (IsProved I) (take (length before) (before ++ c ∷ after)) before (take-append_seam before (c ∷ after)) proved;
+  unproved = why;
+}
+
+cuts-end : (I : Instance) (before after : List CertCut) → All (IsProved I) before → Must (All (IsProved I) (before ++ after) ⊎ ((c : ℕ) × (r : Reason) × CutFails I (before ++ after) c r))
+cuts-end I before [] proved = must (inl (All-same (IsProved I) (before ++ []) before (append-nil before) proved))
+cuts-end I before (c ∷ cs) proved =
+    next (one-way (IsProved I c)) (λ own. elim own [
+      | inl good ↦
+          let whole : (before ++ c ∷ []) ++ cs ≡ before ++ c ∷ cs = append_assoc before (c ∷ []) cs in
+          subst (λ cuts. Must (All (IsProved I) cuts ⊎ ((c : ℕ) × (r : Reason) × CutFails I cuts c r))) whole
+          (cuts-end I (before ++ c ∷ []) cs (All-push (IsProved I) before c proved good))
+      | inr bad ↦ next (one-way (IsShaped I c)) (λ shape. elim shape [
+        | inl shaped ↦ must (inr (length before, reason.CutUnproved, cut-fails I before cs c reason.CutUnproved proved (inr (shaped, bad, refl))))
+        | inr other ↦ must (inr (length before, reason.CutShape, cut-fails I before cs c reason.CutShape proved (inl (other, refl))))
+      ])
+    ])
+
+accepted-or_fails : (I : Instance) (C : Certificate) → Must (Accepts I C ⊎ ((p : Spot2) × (r : Reason) × Fails I C p r))
+accepted-or_fails I C =
+    next (one-way (IsLegal I C.plan)) (λ plan. elim plan [
+      | inr broken ↦ must (inr (place.Plan, reason.PlanIllegal, (broken, refl)))
+      | inl legal ↦ next (one-way (cost_of I C.plan ≡ C.cost)) (λ price. elim price [
+        | inr wrong ↦ must (inr (place.Cost, reason.CostWrong, (legal, wrong, refl)))
+        | inl cost ↦ next (cuts-end I [] C.cuts (All-nil (IsProved I))) (λ cuts. elim cuts [
+          | inr f ↦ must (inr (place.Cut f.0, f.1, (legal, cost, f.2)))
+          | inl proved ↦ next (marks-end I C.cost C.cuts C.tree) (λ marks. elim marks [
+            | inl tree ↦ must (inl (record { legal = legal; cost = cost; cuts = proved; tree = tree }))
+            | inr f ↦ must (inr (place.Tree (length C.tree - length f.0), f.1, (legal, cost, proved, f.0, refl, f.2)))
+          ])
+        ])
+      ])
+    ])
+
+-- a certificate that isn't accepted fails
+pub fails-somewhere : (I : Instance) (C : Certificate) → (Accepts I C → ⊥) → ((p : Spot2) (r : Reason) → Fails I C p r → ⊥) → ⊥
+fails-somewhere I C other never =
+    accepted-or_fails I C (λ one. elim one [
+      | inl good ↦ other good
+      | inr f ↦ never f.0 f.1 f.2
+    ])

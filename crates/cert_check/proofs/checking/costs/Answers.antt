@@ -1,0 +1,5 @@
+use Rattle.cert_check.proofs.PlanLemmas.{legal-arrived}
+use Rattle.cert_check.proofs.checking.costs.Goals as goal
+
+pub cost-requires-clause-arrived : goal.cost-requires-clause-arrived
+cost-requires-clause-arrived c = legal-arrived c.args.instance.now c.args.plan.now c.requires

@@ -1,0 +1,6 @@
+use Rattle.std.proofs.Common.{All, take}
+use Rattle.search_rules.specs.Certificates.{IsProved}
+use Rattle.cert_check.proofs.cuts.first_unproved.Given as goal
+
+abbrev pub invariant-loop-number : goal.invariant-loop-number
+invariant-loop-number l = All (IsProved l.instance) (take l.number l.cuts)

@@ -1,0 +1,7 @@
+use Rattle.search_rules.proofs.FailLemmas.{fails-not_accepted}
+use Rattle.cert_check.proofs.FirstFailure.{fails-same}
+use Rattle.cert_check.proofs.SomeFailure.{fails-somewhere}
+use Rattle.cert_check.proofs.laws.one_first_failure.Goals as goal
+
+pub returns : goal.returns
+returns c = record { same = fails-same; none = λ I C p r good f. fails-not_accepted I C p r f good; some = fails-somewhere }

@@ -1,0 +1,26 @@
+-- The first failure of the marks, and that a certificate that isn't accepted has one first failure.
+use Rattle.std.specs.Prelude.{ℕ, ◌≡◌, ◌-◌, List, length}
+use Rattle.lock_model.specs.declared.instance.Instance.{Instance}
+use Rattle.search_rules.specs.declared.certificate.Spot2.{Spot2}
+use Rattle.search_rules.specs.declared.certificate.Reason.{Reason}
+use Rattle.search_rules.specs.declared.certificate.Mark.{Mark}
+use Rattle.search_rules.specs.declared.certificate.Mark.TheVariants as mark
+use Rattle.search_rules.specs.Certificates.{CertCut, Certificate, Closes, Accepts}
+use Rattle.search_rules.specs.Failures.{MarksFail, reason_of, Fails}
+
+-- the same place and the same reason
+pub record AreSameFailure (p q : Spot2) (r s : Reason) : Type 0 where
+  pub place : p ≡ q
+  pub reason : r ≡ s
+
+-- No certificate fails first in two ways, none that is accepted fails, and none is neither accepted nor fails.
+pub record HaveOneFailure : Type 0 where
+  pub same : (I : Instance) (C : Certificate) (p q : Spot2) (r s : Reason) → Fails I C p r → Fails I C q s → AreSameFailure p q r s
+  pub none : (I : Instance) (C : Certificate) (p : Spot2) (r : Reason) → Accepts I C → Fails I C p r → ⊥
+  pub some : (I : Instance) (C : Certificate) → (Accepts I C → ⊥) → ((p : Spot2) (r : Reason) → Fails I C p r → ⊥) → ⊥
+
+-- the marks fail first at mark p
+pub record FailAtMark (I : Instance) (cost : ℕ) (cuts : List CertCut) (marks : List Mark) (p : ℕ) (r : Reason) : Type 0 where
+  pub stuck : List Mark
+  pub place : p ≡ length marks - length stuck
+  pub fails : MarksFail I mark.Split (Closes I cost cuts) reason_of marks stuck r

@@ -1,0 +1,4 @@
+pub mod Reading
+pub mod Hitting
+pub mod Cuts
+pub mod FirstFailure

@@ -1,0 +1,50 @@
+-- Reading the marks of a certificate: what is read of a node and of its children, and where reading sticks.
+use Rattle.std.specs.Prelude.{ℕ, suc, ◌-◌, ◌+◌, ◌≡◌, List, length, take, map, IfSome}
+use Rattle.std.specs.declared.option.Option.{Option}
+use Rattle.lock_model.specs.declared.instance.Instance.{Instance}
+use Rattle.lock_model.specs.declared.group.Group.{Group}
+use Rattle.lock_rules.specs.Bound.{bound_of}
+use Rattle.refute_rules.specs.Trees.{AreInOrder}
+use Rattle.search_rules.specs.declared.certificate.Mark.{Mark}
+use Rattle.search_rules.specs.declared.certificate.Mark.TheVariants as mark
+use Rattle.search_rules.specs.declared.certificate.Reason.{Reason}
+use Rattle.search_rules.specs.Certificates.{Closes, IsMarkTree}
+use Rattle.search_rules.specs.Failures.{FailInOrder, TreeFails, reason_of}
+use Rattle.master_branch.specs.Node.{Node, children, child_lines}
+use Rattle.cert_check.specs.declared.closing.Claim.{Claim}
+
+module _ (claim : Claim) where
+  -- the marks begin with a tree of a node of this depth, and the rest follows
+  abbrev pub IsTreeOf : ℕ → List (List Group) → List Mark → List Mark → Type 0
+  IsTreeOf k lines = IsMarkTree claim.instance.now mark.Split (Closes claim.instance.now claim.cost claim.cuts.now) (length claim.instance.now.ships - k) k lines
+
+  -- reading a tree of a node of this depth ends at `stuck`
+  abbrev pub TreeSticks : ℕ → List (List Group) → List Mark → List Mark → Reason → Type 0
+  TreeSticks k lines = TreeFails claim.instance.now mark.Split (Closes claim.instance.now claim.cost claim.cuts.now) reason_of (length claim.instance.now.ships - k) k lines
+
+  -- the marks begin with a tree of the node, and the rest follows
+  pub record IsRead (node : Node) (marks rest : List Mark) : Type 0 where
+    pub tree : IsTreeOf node.depth node.lines marks rest
+
+  -- reading a tree of the node ends at `stuck` for a reason
+  pub record IsStuck (node : Node) (marks stuck : List Mark) (r : Reason) : Type 0 where
+    pub sticks : TreeSticks node.depth node.lines marks stuck r
+
+  -- the same of child i of a node
+  pub record IsChildRead (node : Node) (i : ℕ) (marks rest : List Mark) : Type 0 where
+    pub tree : IsTreeOf (suc node.depth) (child_lines claim.instance.now node i) marks rest
+
+  pub record IsChildStuck (node : Node) (i : ℕ) (marks stuck : List Mark) (r : Reason) : Type 0 where
+    pub sticks : TreeSticks (suc node.depth) (child_lines claim.instance.now node i) marks stuck r
+
+  -- the marks begin with trees of the first n children of a node, and the rest follows
+  pub record AreRead (node : Node) (n : ℕ) (marks rest : List Mark) : Type 0 where
+    pub trees : AreInOrder (IsTreeOf (suc node.depth)) (take n (children claim.instance.now node)) marks rest
+
+  -- reading trees of all children of a node ends at `stuck` for a reason
+  pub record AreStuck (node : Node) (marks stuck : List Mark) (r : Reason) : Type 0 where
+    pub stick : FailInOrder (IsTreeOf (suc node.depth)) (TreeSticks (suc node.depth)) (children claim.instance.now node) marks stuck r
+
+-- the bounds of a node's children, where they are told
+pub record AreTold (I : Instance) (node : Node) (told : Option (List ℕ)) : Type 0 where
+  pub bounds : IfSome told (λ bs. bs ≡ map (bound_of I (node.depth + 1)) (children I node))

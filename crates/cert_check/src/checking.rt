@@ -1,0 +1,114 @@
+//! The checker: the first failure of a certificate, if it has one.
+ghost use Rattle.std.specs.Prelude.{◌≡◌, ◌↔◌, ℕ, [], length, All, IsTrue, IfOk, IfNone, IfSome};
+ghost use Rattle.lock_rules.specs.Plan.{IsLegal, IsCheapest, cost_of};
+ghost use Rattle.lock_rules.specs.Node.{root_lines};
+ghost use Rattle.lock_rules.specs.Throughput.{throughput_of};
+ghost use Rattle.search_rules.specs.Certificates.{IsShaped, IsProved, Closes, IsMarkTree, Accepts};
+ghost use Rattle.search_rules.specs.Failures.{Fails};
+ghost use Rattle.search_rules.specs.declared.certificate.Spot2.{Spot2 as Place};
+ghost use Rattle.search_rules.specs.declared.certificate.Reason.{Reason as Why};
+ghost use Rattle.cert_check.specs.FirstFailure.{FailAtMark};
+
+use crate::certificate::{Answer, Certificate};
+use crate::closing::Claim;
+use crate::cuts::first_unproved;
+use crate::reading::read_tree;
+use chamber_times::cost;
+use deck_laws::{heredity, normal_form};
+use flow_bounds::throughput;
+use lock_model::{Instance, Plan};
+use master_branch::root;
+use mooring_rules::judge_plan;
+use plain_text::NoMemory;
+use search_rules::{Mark, Reason, Spot2};
+use std::alloc::Global;
+
+// Whether the plan is legal.
+fn is_legal(instance: &Instance, plan: &Plan) -> bool
+    ensures { IsTrue result ↔ IsLegal instance.now plan.now }
+{
+    judge_plan(instance, plan).is_none()
+}
+
+// Whether a legal plan costs so much.
+fn costs(instance: &Instance, plan: &Plan, wanted: u64) -> bool
+    requires { IsLegal instance.now plan.now }
+    ensures { IsTrue result ↔ (cost_of instance.now plan.now ≡ wanted) }
+{
+    cost(instance, plan) == wanted
+}
+
+// The first failure of the marks, by the number of the mark where it comes. None where they are
+// one tree of the root.
+fn first_wrong_mark(claim: &Claim, marks: &[Mark]) -> Option<(u64, Reason)>
+    ensures none { IfNone result (IsMarkTree claim.now.instance.now Mark.Split (Closes claim.now.instance.now claim.now.cost claim.now.cuts.now) (length claim.now.instance.now.ships) 0 root_lines marks.now []) }
+    ensures some { IfSome result (λ f. FailAtMark claim.now.instance.now claim.now.cost claim.now.cuts.now marks.now f.0 f.1) }
+{
+    match read_tree(claim, &root(claim.instance), marks) {
+        Ok([]) => None,
+        Ok(rest) => Some(((marks.len() - rest.len()) as u64, Reason::TreeLong)),
+        Err(stuck) => Some(((marks.len() - stuck.marks.len()) as u64, stuck.reason)),
+    }
+}
+
+// The first failure of the marks of a certificate whose cuts are proved.
+fn first_wrong_mark_of(instance: &Instance, certificate: &Certificate) -> Option<(u64, Reason)>
+    requires { All (IsProved instance.now) certificate.now.cuts }
+    ensures none { IfNone result (IsMarkTree instance.now Mark.Split (Closes instance.now certificate.now.cost certificate.now.cuts) (length instance.now.ships) 0 root_lines certificate.now.tree []) }
+    ensures some { IfSome result (λ f. FailAtMark instance.now certificate.now.cost certificate.now.cuts certificate.now.tree f.0 f.1) }
+{
+    let claim = Claim {
+        instance,
+        throughput: throughput(instance),
+        cost: certificate.cost,
+        cuts: certificate.cuts.as_slice(),
+    };
+    first_wrong_mark(&claim, certificate.tree.as_slice())
+}
+
+// The first failure of a certificate. None where it is accepted.
+fn first_failure(
+    alloc: Global,
+    instance: &Instance,
+    certificate: &Certificate,
+) -> Result<Option<(Spot2, Reason)>, NoMemory>
+    ensures none { IfOk result (λ first. IfNone first (Accepts instance.now certificate.now)) }
+    ensures some { IfOk result (λ first. IfSome first (λ f. Fails instance.now certificate.now f.0 f.1)) }
+{
+    if !is_legal(instance, &certificate.plan) {
+        return Ok(Some((Spot2::Plan, Reason::PlanIllegal)));
+    }
+    if !costs(instance, &certificate.plan, certificate.cost) {
+        return Ok(Some((Spot2::Cost, Reason::CostWrong)));
+    }
+    if let Some((number, reason)) = first_unproved(alloc, instance, certificate.cuts.as_slice())? {
+        return Ok(Some((Spot2::Cut(number), reason)));
+    }
+    if let Some((number, reason)) = first_wrong_mark_of(instance, certificate) {
+        return Ok(Some((Spot2::Tree(number), reason)));
+    }
+    Ok(None)
+}
+
+/// Checks a certificate of an instance without any search: its plan, then its cost, then its cuts
+/// in order, then its marks in order, each mark once.
+///
+/// `Accepted` exactly where the certificate is accepted; then its plan is legal, costs as much, and
+/// no legal plan costs less. `Rejected` exactly with the first place and reason at which it fails.
+/// Places are numbered from 0. Refuses want of memory alone.
+pub fn check(
+    alloc: Global,
+    instance: &Instance,
+    certificate: &Certificate,
+) -> Result<Answer, NoMemory>
+    ensures accepted { IfOk result (λ answer. (cost : ℕ) → (answer ≡ Answer.Accepted cost) ↔ (Accepts instance.now certificate.now × (cost ≡ certificate.now.cost))) }
+    ensures rejected { IfOk result (λ answer. (place : Place) (why : Why) → (answer ≡ Answer.Rejected place why) ↔ Fails instance.now certificate.now place why) }
+    ensures cheapest { IfOk result (λ answer. (cost : ℕ) → answer ≡ Answer.Accepted cost → IsCheapest instance.now certificate.now.plan × (cost_of instance.now certificate.now.plan ≡ cost)) }
+{
+    heredity();
+    normal_form();
+    match first_failure(alloc, instance, certificate)? {
+        None => Ok(Answer::Accepted(certificate.cost)),
+        Some((place, reason)) => Ok(Answer::Rejected(place, reason)),
+    }
+}

@@ -1,0 +1,68 @@
+//! Which marks close a node.
+ghost use Rattle.std.specs.Prelude.{◌≡◌, ◌↔◌, All, IsTrue};
+ghost use Rattle.lock_rules.specs.Throughput.{throughput_of};
+ghost use Rattle.master_branch.specs.Node.{IsNodeOf};
+ghost use Rattle.search_rules.specs.Certificates.{IsShaped, IsCutBy, Closes};
+ghost use Rattle.search_rules.specs.Failures.{reason_of};
+
+use crate::certificate::CertCut;
+use crate::hitting::hits_node;
+use flow_bounds::{bound, is_missing, probe};
+use lock_model::Instance;
+use master_branch::Node;
+use search_rules::{Mark, Reason};
+
+// What the marks of a certificate are held against: the instance, its throughput, and the cost and
+// the cuts of the certificate.
+#[derive(Drop)]
+pub(crate) struct Claim<'c> {
+    pub(crate) instance: &'c Instance,
+    pub(crate) throughput: u64,
+    pub(crate) cost: u64,
+    pub(crate) cuts: &'c [CertCut],
+    pub(crate) ghost told: { throughput ≡ throughput_of instance.now },
+    pub(crate) ghost shaped: { All (IsShaped instance.now) cuts.now },
+}
+
+// Whether there is a cut of this number, and it hits a group of the node.
+fn is_cut_by(claim: &Claim, node: &Node, number: u64) -> bool
+    ensures { IsTrue result ↔ IsCutBy claim.now.instance.now claim.now.cuts.now number node.now.lines }
+{
+    number < claim.cuts.len() as u64
+        && hits_node(claim.instance, &claim.cuts[number as usize], node)
+}
+
+// Whether the node lacks this ship, and its probe reaches the cost.
+fn is_probed(claim: &Claim, node: &Node, ship: u8) -> bool
+    requires { IsNodeOf claim.now.instance.now node.now }
+    ensures { IsTrue result ↔ Closes claim.now.instance.now claim.now.cost claim.now.cuts.now node.now.depth node.now.lines (Mark.Probe ship) }
+{
+    is_missing(claim.instance, node, ship) && probe(claim.instance, node, ship) >= claim.cost
+}
+
+// Whether a mark closes the node.
+pub(crate) fn closes(claim: &Claim, node: &Node, mark: Mark) -> bool
+    requires { IsNodeOf claim.now.instance.now node.now }
+    ensures { IsTrue result ↔ Closes claim.now.instance.now claim.now.cost claim.now.cuts.now node.now.depth node.now.lines mark }
+{
+    match mark {
+        Mark::Split => false,
+        Mark::Bound => bound(claim.instance, node) >= claim.cost,
+        Mark::Cut(number) => is_cut_by(claim, node, number),
+        Mark::Throughput => claim.throughput >= claim.cost,
+        Mark::Probe(ship) => is_probed(claim, node, ship),
+    }
+}
+
+// Why a mark that should close a node doesn't; a split is wrong where no ship is lacking.
+pub(crate) fn reason_against(mark: Mark) -> Reason
+    ensures { result ≡ reason_of mark }
+{
+    match mark {
+        Mark::Split => Reason::SplitFull,
+        Mark::Bound => Reason::BoundLow,
+        Mark::Cut(_) => Reason::CutMisses,
+        Mark::Throughput => Reason::ThroughputLow,
+        Mark::Probe(_) => Reason::ProbeWrong,
+    }
+}

@@ -1,0 +1,68 @@
+//! The cuts of a certificate: whether each is proved.
+ghost use Rattle.std.specs.Prelude.{◌≡◌, ◌↔◌, ◌<◌, length, All, IsTrue, IfOk, IfNone, IfSome};
+ghost use Rattle.search_rules.specs.Certificates.{IsShaped, IsProved};
+ghost use Rattle.search_rules.specs.Failures.{CutFails};
+ghost use Rattle.cert_check.specs.Cuts.{IsUnproved};
+
+use crate::certificate::CertCut;
+use lock_model::{Instance, deck_of};
+use place_refute::check_refutation;
+use plain_text::NoMemory;
+use search_rules::Reason;
+use std::alloc::Global;
+
+// Whether all these ships are in the instance.
+fn are_known(instance: &Instance, ships: &[u8]) -> bool
+    ensures { IsTrue result ↔ All (λ s. s < length instance.now.ships) ships.now }
+{
+    let count = instance.ships.as_slice().len();
+    for &ship in ships {
+        if ship as usize >= count {
+            return false;
+        }
+    }
+    true
+}
+
+// Whether the cut names a chamber and one or more ships of the instance.
+fn is_shaped(instance: &Instance, cut: &CertCut) -> bool
+    ensures { IsTrue result ↔ IsShaped instance.now cut.now }
+{
+    let ships = cut.ships.as_slice();
+    (cut.chamber as usize) < instance.chambers.as_slice().len()
+        && !ships.is_empty()
+        && are_known(instance, ships)
+}
+
+// Why the cut isn't proved, if it isn't.
+fn judge_cut(alloc: Global, instance: &Instance, cut: &CertCut) -> Result<Option<Reason>, NoMemory>
+    ensures none { IfOk result (λ why. IfNone why (IsProved instance.now cut.now)) }
+    ensures some { IfOk result (λ why. IfSome why (IsUnproved instance.now cut.now)) }
+{
+    if !is_shaped(instance, cut) {
+        return Ok(Some(Reason::CutShape));
+    }
+    let deck = deck_of(instance, cut.chamber, &cut.ships);
+    if check_refutation(alloc, &deck, &cut.refutation)? {
+        Ok(None)
+    } else {
+        Ok(Some(Reason::CutUnproved))
+    }
+}
+
+// The first cut that isn't proved, by its number, and why. None where all cuts are proved.
+pub(crate) fn first_unproved(
+    alloc: Global,
+    instance: &Instance,
+    cuts: &[CertCut],
+) -> Result<Option<(u64, Reason)>, NoMemory>
+    ensures none { IfOk result (λ first. IfNone first (All (IsProved instance.now) cuts.now)) }
+    ensures some { IfOk result (λ first. IfSome first (λ f. CutFails instance.now cuts.now f.0 f.1)) }
+{
+    for (number, cut) in cuts.iter().enumerate() {
+        if let Some(reason) = judge_cut(alloc, instance, cut)? {
+            return Ok(Some((number as u64, reason)));
+        }
+    }
+    Ok(None)
+}

@@ -1,0 +1,30 @@
+//! The checker of certificates: whether a plan is cheapest, told without any search.
+//!
+//! A `Certificate` is a cost, cuts with their refutations, a plan, and one mark for each node of a
+//! search tree. `check` answers `Accepted` exactly where the certificate is accepted; then its plan
+//! is legal, has this cost, and no legal plan costs less. Else it answers `Rejected` with the first
+//! place and reason at which the certificate fails, and only want of memory keeps it from an
+//! answer. `one_first_failure` is the law that a certificate that isn't accepted fails first at one
+//! place for one reason. The marks are read once along their tree, and the code shares nothing with
+//! the search but definitions.
+//!
+//! Definitions: `search_rules` says which certificates are accepted (`specs/Certificates`) and
+//! where one fails first (`Failures`). Here `specs/Cuts` says what is wrong with a cut, `Hitting`
+//! what a cut hits line by line, `Reading` what is read of a node and of its children, and
+//! `FirstFailure` what the law is.
+#![tactic(auto)]
+
+mod certificate;
+mod checking;
+mod closing;
+mod cuts;
+mod hitting;
+mod laws;
+mod reading;
+#[cfg(test)]
+mod tests;
+
+pub use certificate::{Answer, CertCut, CertCuts, Certificate, MarkList};
+pub use checking::check;
+pub use laws::one_first_failure;
+pub use search_rules::{Mark, Reason, Spot2};

@@ -1,0 +1,142 @@
+//! The marks of a certificate, read once along its tree.
+ghost use Rattle.std.specs.Prelude.{◌≡◌, ◌+◌, ◌<◌, ◌↔◌, [], ◌∷◌, length, All, IsTrue, IfOk, IfErr, IfNone, IfSome};
+ghost use Rattle.lock_rules.specs.Throughput.{throughput_of};
+ghost use Rattle.lock_rules.specs.Bound.{bound_of};
+ghost use Rattle.master_branch.specs.Node.{IsNodeOf, children, child_lines};
+ghost use Rattle.search_rules.specs.Certificates.{IsShaped};
+ghost use Rattle.cert_check.specs.Reading.{IsRead, IsStuck, IsChildRead, IsChildStuck, AreRead, AreStuck, AreTold};
+
+use crate::closing::{Claim, closes, reason_against};
+use flow_bounds::{Bounds, child_bounds};
+use lock_model::Instance;
+use master_branch::{Node, child, child_count};
+use search_rules::{Mark, Reason};
+
+// Where reading ends before its time: the marks that are left there, and why.
+#[derive(Drop)]
+pub(crate) struct Stuck<'m> {
+    pub(crate) marks: &'m [Mark],
+    pub(crate) reason: Reason,
+}
+
+// The first mark and those behind it.
+fn first_mark(marks: &[Mark]) -> Option<(Mark, &[Mark])>
+    ensures none { IfNone result (marks.now ≡ []) }
+    ensures some { IfSome result (λ first. marks.now ≡ first.0 ∷ first.1.now) }
+{
+    match marks {
+        [mark, rest @ ..] => Some((*mark, rest)),
+        [] => None,
+    }
+}
+
+// The marks behind a bound mark, where the first one is a bound mark.
+fn behind_bound(marks: &[Mark]) -> Option<&[Mark]>
+    ensures { IfSome result (λ rest. marks.now ≡ Mark.Bound ∷ rest.now) }
+{
+    match first_mark(marks) {
+        Some((Mark::Bound, rest)) => Some(rest),
+        _ => None,
+    }
+}
+
+// Whether a mark splits the node: a split mark, where the node lacks a ship.
+fn splits(instance: &Instance, node: &Node, mark: Mark) -> bool
+    ensures { IsTrue result ↔ (mark ≡ Mark.Split) × (node.now.depth < length instance.now.ships) }
+{
+    mark == Mark::Split && (node.depth() as usize) < instance.ships.as_slice().len()
+}
+
+// The bound of child `i` of a node. The bounds of all children are worked out together, where the
+// first of them is asked for.
+fn child_bound(instance: &Instance, node: &Node, told: &mut Option<Bounds>, i: u32) -> u64
+    requires node { IsNodeOf instance.now node.now }
+    requires lacks { node.now.depth < length instance.now.ships }
+    requires within { i < length (children instance.now node.now) }
+    requires told { AreTold instance.now node.now told.old }
+    ensures value { result ≡ bound_of instance.now (node.now.depth + 1) (child_lines instance.now node.now i) }
+    ensures told { AreTold instance.now node.now told.new }
+{
+    let bounds = match told.take() {
+        Some(bounds) => bounds,
+        None => child_bounds(instance, node),
+    };
+    let bound = bounds.as_slice()[i as usize];
+    *told = Some(bounds);
+    bound
+}
+
+// Reads a tree of child `i` of a node: the marks behind it.
+#[cycle(tree)]
+fn read_child<'m>(
+    claim: &Claim,
+    node: &Node,
+    told: &mut Option<Bounds>,
+    i: u32,
+    marks: &'m [Mark],
+) -> Result<&'m [Mark], Stuck<'m>>
+    requires node { IsNodeOf claim.now.instance.now node.now }
+    requires lacks { node.now.depth < length claim.now.instance.now.ships }
+    requires within { i < length (children claim.now.instance.now node.now) }
+    requires told { AreTold claim.now.instance.now node.now told.old }
+    ensures ok { IfOk result (λ rest. IsChildRead claim.now node.now i marks.now rest.now) }
+    ensures err { IfErr result (λ stuck. IsChildStuck claim.now node.now i marks.now stuck.marks.now stuck.reason) }
+    ensures told { AreTold claim.now.instance.now node.now told.new }
+{
+    if let Some(rest) = behind_bound(marks) {
+        if child_bound(claim.instance, node, told, i) >= claim.cost {
+            return Ok(rest);
+        }
+        return Err(Stuck {
+            marks,
+            reason: Reason::BoundLow,
+        });
+    }
+    read_tree(claim, &child(claim.instance, node, i), marks)
+}
+
+// Reads trees of all children of a node: the marks behind them.
+#[cycle(tree)]
+fn read_children<'m>(claim: &Claim, node: &Node, marks: &'m [Mark]) -> Result<&'m [Mark], Stuck<'m>>
+    requires node { IsNodeOf claim.now.instance.now node.now }
+    requires lacks { node.now.depth < length claim.now.instance.now.ships }
+    ensures ok { IfOk result (λ rest. AreRead claim.now node.now (length (children claim.now.instance.now node.now)) marks.now rest.now) }
+    ensures err { IfErr result (λ stuck. AreStuck claim.now node.now marks.now stuck.marks.now stuck.reason) }
+{
+    let mut told = None;
+    let mut rest = marks;
+    for i in 0..child_count(claim.instance, node) {
+        rest = read_child(claim, node, &mut told, i, rest)?;
+    }
+    Ok(rest)
+}
+
+// Reads a tree of a node: the marks behind it. It calls itself no deeper than the instance has
+// ships.
+#[cycle(tree)]
+pub(crate) fn read_tree<'m>(
+    claim: &Claim,
+    node: &Node,
+    marks: &'m [Mark],
+) -> Result<&'m [Mark], Stuck<'m>>
+    requires { IsNodeOf claim.now.instance.now node.now }
+    ensures ok { IfOk result (λ rest. IsRead claim.now node.now marks.now rest.now) }
+    ensures err { IfErr result (λ stuck. IsStuck claim.now node.now marks.now stuck.marks.now stuck.reason) }
+{
+    let Some((mark, rest)) = first_mark(marks) else {
+        return Err(Stuck {
+            marks,
+            reason: Reason::TreeShort,
+        });
+    };
+    if splits(claim.instance, node, mark) {
+        return read_children(claim, node, rest);
+    }
+    if closes(claim, node, mark) {
+        return Ok(rest);
+    }
+    Err(Stuck {
+        marks,
+        reason: reason_against(mark),
+    })
+}

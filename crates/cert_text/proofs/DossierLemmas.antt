@@ -1,0 +1,102 @@
+-- The canonical dossier is read back, and a text has one meaning.
+use Rattle.std.proofs.Common.{◌≡◌, ◌∙◌, ◌++◌, ℕ, Bool, true, false, List, [], ◌∷◌, Some, Result, Ok, Err, IfOk, IfErr, refl, sym, ap, ap₂, append_assoc, arith, length, take, drop, ◌≤◌, ◌-◌, take_all, length-take, length-drop}
+use Rattle.lock_model.specs.declared.instance.Instance.{Instance}
+use Rattle.search_rules.specs.Certificates.{Certificate}
+use Rattle.instance_text.specs.Steps.{◌>>=◌}
+use Rattle.instance_text.specs.Draft.{Draft}
+use Rattle.instance_text.specs.declared.bad.Bad.{Bad}
+use Rattle.instance_text.specs.Lines.{lines}
+use Rattle.instance_text.specs.Reading.{reading, Means, Defect, instance_part, length_of_part}
+use Rattle.instance_text.specs.Canonical.{canonical}
+use Rattle.instance_text.proofs.TextBackLemmas.{canonical_means}
+use Rattle.instance_text.proofs.InstanceLemmas.{same_instance}
+use Rattle.cert_text.specs.Answers.{IsFault, IsAnswer, IsFaultAnswer}
+use Rattle.cert_text.specs.Steps.{fault_under}
+use Rattle.cert_text.specs.declared.bad.DossierError.{DossierError}
+use Rattle.cert_text.specs.declared.bad.DossierError.TheVariants.{Fault, NoMemory}
+use Rattle.cert_text.specs.Cuts.{has_clash}
+use Rattle.cert_text.specs.Certificates.{certificate_data, certificate_text, certificate_in}
+use Rattle.cert_text.specs.Dossier.{heading_line, dossier, takes_clashes, json_of, rest_in, dossier_in, Reads, DossierFault, IsFirstFault, after_instance}
+use Rattle.cert_text.specs.declared.bad.BadDossier.{BadDossier}
+use Rattle.cert_text.specs.declared.bad.BadDossier.TheVariants as fault
+use Rattle.cert_text.proofs.HeadingLemmas.{heading_for, heading_back}
+use Rattle.cert_text.proofs.PartLemmas.{canonical_part, canonical_rest}
+
+-- what is printed step by step
+pub printed : (I : Instance) (C : Certificate) (clashes : Bool) (a b c d json : List ℕ) → a ≡ canonical I → clashes ≡ has_clash C.cuts → b ≡ a ++ heading_line clashes → json ≡ certificate_text C → c ≡ b ++ json → d ≡ c ++ 10 ∷ [] → d ≡ dossier I C
+unfolding dossier
+printed I C clashes a b c d json first clash second text third last =
+    last ∙ ap (λ l. l ++ 10 ∷ []) (third ∙ ap (λ l. l ++ json) (second ∙ ap (λ l. l ++ heading_line clashes) first) ∙ ap (λ l. (canonical I ++ heading_line clashes) ++ l) text)
+    ∙ append_assoc (canonical I ++ heading_line clashes) (certificate_text C) (10 ∷ []) ∙ append_assoc (canonical I) (heading_line clashes) (certificate_text C ++ 10 ∷ [])
+    ∙ ap (λ b. canonical I ++ (heading_line b ++ (certificate_text C ++ 10 ∷ []))) clash
+
+taken : (clashes : Bool) → takes_clashes (heading_for clashes) ≡ Some clashes
+taken true = refl
+taken false = refl
+
+rest_back : (C : Certificate) (clashes : Bool) (json : List ℕ) → json_of json ≡ Some (certificate_data C) → certificate_in clashes (certificate_data C) ≡ Ok C → rest_in (heading_line clashes ++ json) ≡ Ok C
+unfolding rest_in
+rest_back C clashes json value certificate = rw (heading_back clashes json, taken clashes, value, certificate) refl
+
+abbrev made : Result Draft Bad → Result Certificate BadDossier → Result (Draft × Certificate) BadDossier
+made r s = fault_under fault.Instance r >>= λ d. s >>= λ c. Ok (d, c)
+
+-- the canonical dossier is read as the pair
+pub dossier_back : (I : Instance) (C : Certificate) → json_of (certificate_text C ++ 10 ∷ []) ≡ Some (certificate_data C) → certificate_in (has_clash C.cuts) (certificate_data C) ≡ Ok C → Reads (dossier I C) I C
+unfolding Reads dossier_in dossier Means
+dossier_back I C value certificate =
+    let more = heading_line (has_clash C.cuts) ++ (certificate_text C ++ 10 ∷ []) in
+    ap₂ made (ap reading (canonical_part I more) ∙ canonical_means I) (ap rest_in (canonical_rest I more) ∙ rest_back C (has_clash C.cuts) (certificate_text C ++ 10 ∷ []) value certificate)
+
+-- ---- one meaning, or one first fault
+
+abbrev draft_of : Instance → Draft
+draft_of I = record { chambers = I.chambers; ships = I.ships }
+
+pub Reads-one : (text : List ℕ) (I J : Instance) (C D : Certificate) → Reads text I C → Reads text J D → (I ≡ J) × (C ≡ D)
+unfolding Reads
+Reads-one text I J C D first second =
+    let same : ◌≡◌ {A = Result (Draft × Certificate) BadDossier} (Ok (draft_of I, C)) (Ok (draft_of J, D)) = sym first ∙ second in
+    let pair : ◌≡◌ {A = Draft × Certificate} (draft_of I, C) (draft_of J, D) = cc in
+    (same_instance I J (ap (λ (p : Draft × Certificate). p.0.chambers) pair) (ap (λ (p : Draft × Certificate). p.0.ships) pair), ap (λ (p : Draft × Certificate). p.1) pair)
+
+pub Reads-no_fault : (text : List ℕ) (I : Instance) (C : Certificate) (f : BadDossier) → Reads text I C → DossierFault text f → ⊥
+unfolding Reads DossierFault
+Reads-no_fault text I C f first second = let same : ◌≡◌ {A = Result (Draft × Certificate) BadDossier} (Ok (draft_of I, C)) (Err f) = sym first ∙ second in cc
+
+pub DossierFault-one : (text : List ℕ) (f g : BadDossier) → DossierFault text f → DossierFault text g → f ≡ g
+unfolding DossierFault
+DossierFault-one text f g first second = let same : ◌≡◌ {A = Result (Draft × Certificate) BadDossier} (Err f) (Err g) = sym first ∙ second in cc
+
+-- a reader that is right where it answers, answers all that is so or wants memory
+pub reads_each : (text : List ℕ) (r : Result (Instance × Certificate) DossierError) → IfOk r (λ p. Reads text p.0 p.1) → IfErr r (IsFirstFault text) → (I : Instance) (C : Certificate) → Reads text I C → IsAnswer (I, C) r
+reads_each text (Ok p) ok err I C reads = let same = Reads-one text p.0 I p.1 C ok reads in ap₂ (λ J D. (J, D)) same.0 same.1
+reads_each text (Err NoMemory) ok err I C reads = tt
+reads_each text (Err (Fault f)) ok err I C reads = Reads-no_fault text I C f reads err
+
+pub faults_each : (text : List ℕ) (r : Result (Instance × Certificate) DossierError) → IfOk r (λ p. Reads text p.0 p.1) → IfErr r (IsFirstFault text) → (f : BadDossier) → DossierFault text f → IsFaultAnswer f r
+faults_each text (Ok p) ok err f fault = Reads-no_fault text p.0 p.1 f ok fault
+faults_each text (Err NoMemory) ok err f fault = tt
+faults_each text (Err (Fault g)) ok err f fault = DossierFault-one text g f err fault
+
+-- ---- reading part by part
+
+pub part_fits : (text : List ℕ) (taken : ℕ) → taken ≡ length (instance_part text) → taken ≤ length text
+unfolding instance_part
+part_fits text taken is = let short = length-take (length_of_part (lines text)) text in omega arith
+
+pub rest_is : (text : List ℕ) (taken : ℕ) → taken ≡ length (instance_part text) → take (length text - taken) (drop taken text) ≡ after_instance text
+rest_is text taken is = take_all (length text - taken) (drop taken text) (let size = length-drop taken text in omega arith) ∙ ap (λ n. drop n text) is
+
+pub instance_fault : (text : List ℕ) (b : Bad) → Defect (instance_part text) b.line b.kind → DossierFault text (fault.Instance b)
+unfolding Defect DossierFault dossier_in
+instance_fault text b defect = ap (λ r. made r (rest_in (after_instance text))) defect
+
+pub rest_read : (text : List ℕ) (I : Instance) (rest : List ℕ) (C : Certificate) → Means (instance_part text) I → rest ≡ after_instance text → rest_in rest ≡ Ok C → Reads text I C
+unfolding Means Reads dossier_in
+rest_read text I rest C means is reads = ap₂ made means (ap rest_in (sym is) ∙ reads)
+
+pub rest_fault : (text : List ℕ) (I : Instance) (rest : List ℕ) (e : DossierError) → Means (instance_part text) I → rest ≡ after_instance text → IsFault (rest_in rest) e → IsFirstFault text e
+unfolding Means DossierFault dossier_in
+rest_fault text I rest NoMemory means is bad = tt
+rest_fault text I rest (Fault f) means is bad = ap₂ made means (ap rest_in (sym is) ∙ bad)

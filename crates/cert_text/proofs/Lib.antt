@@ -1,0 +1,16 @@
+pub mod ListLemmas
+pub mod FieldLemmas
+pub mod CrewLemmas
+pub mod WhyLemmas
+pub mod CutLemmas
+pub mod SpotLemmas
+pub mod PlanLemmas
+pub mod CertificateLemmas
+pub mod HeadingLemmas
+pub mod JsonLemmas
+pub mod ShapeLemmas
+pub mod CanonicalLemmas
+pub mod PartLemmas
+pub mod WrittenLemmas
+pub mod DossierLemmas
+pub mod FixtureLemmas

@@ -1,0 +1,42 @@
+-- The JSON text of a certificate.
+use Rattle.std.proofs.Common.{◌≡◌, ◌∙◌, ◌++◌, ◌≤◌, ℕ, Bool, true, false, cond, List, [], ◌∷◌, Some, None, refl, sym, ap, subst}
+use Rattle.std.specs.Str.{IsUtf8, is_utf8}
+use Rattle.std.proofs.lemmas.Str.{IsUtf8-append, is_utf8-from_IsUtf8, IsUtf8-from_is_utf8}
+use Rattle.json.proofs.Printed.Utf8.{IsUtf8-are_ascii}
+use Rattle.json.specs.Lex.{tokens}
+use Rattle.json.specs.Print.{print}
+use Rattle.search_rules.specs.Certificates.{Certificate}
+use Rattle.serde_json.specs.Data.{Data, depth}
+use Rattle.serde_json.specs.Read.{read, max_depth}
+use Rattle.serde_json.specs.Written.{has_float, compact_text, IsInOrder}
+use Rattle.cert_text.specs.Certificates.{certificate_data, certificate_text}
+use Rattle.cert_text.specs.Dossier.{json_of}
+use Rattle.cert_text.proofs.JsonLemmas.{read_line}
+use Rattle.cert_text.proofs.ShapeLemmas.{no_float, shallow}
+
+pub written : (C : Certificate) (d : Data) (text : List ℕ) → d ≡ certificate_data C → (has_float d ≡ false → text ≡ compact_text d) → text ≡ certificate_text C
+unfolding certificate_text
+written C d text is text_is = text_is (ap has_float is ∙ no_float C) ∙ ap compact_text is
+
+feed : IsUtf8 (10 ∷ [])
+feed = IsUtf8-are_ascii (10 ∷ []) refl
+
+pub written_back : (C : Certificate) (d : Data) (text : List ℕ) → d ≡ certificate_data C → text ≡ print (tokens text) → IsUtf8 text → IsInOrder text d → (depth d ≤ max_depth → read text ≡ Some d) → json_of (text ++ 10 ∷ []) ≡ Some (certificate_data C)
+unfolding json_of
+written_back C d text is compact utf8 order reads =
+    let flat = subst (λ e. depth e ≤ max_depth) (sym is) (shallow C) in
+    let line = read_line text d compact order (ap has_float is ∙ no_float C) flat (reads flat) in
+    let valid = is_utf8-from_IsUtf8 (text ++ 10 ∷ []) (IsUtf8-append text (10 ∷ []) utf8 feed) in
+    ap (λ b. cond b (read (text ++ 10 ∷ [])) None) valid ∙ line ∙ ap Some is
+
+pub json_found : (bytes : List ℕ) (d : Data) → IsUtf8 bytes → read bytes ≡ Some d → json_of bytes ≡ Some d
+unfolding json_of
+json_found bytes d utf8 is = ap (λ b. cond b (read bytes) None) (is_utf8-from_IsUtf8 bytes utf8) ∙ is
+
+pub json_none : (bytes : List ℕ) → (IsUtf8 bytes → read bytes ≡ None) → json_of bytes ≡ None
+unfolding json_of
+json_none bytes none = go (is_utf8 bytes) refl
+  where
+    go : (b : Bool) → is_utf8 bytes ≡ b → cond (is_utf8 bytes) (read bytes) None ≡ None
+    go true is = ap (λ b. cond b (read bytes) None) is ∙ none (IsUtf8-from_is_utf8 bytes is)
+    go false is = ap (λ b. cond b (read bytes) None) is

@@ -1,0 +1,27 @@
+-- What is known of a refusal.
+use Rattle.std.specs.Prelude.{◌≡◌, ⊤, Result, Ok, Err}
+use Rattle.cert_text.specs.declared.bad.BadDossier.{BadDossier}
+use Rattle.cert_text.specs.declared.bad.DossierError.{DossierError}
+use Rattle.cert_text.specs.declared.bad.DossierError.TheVariants.{Fault, NoMemory}
+
+-- want of memory, or this fault and its cause
+abbrev pub IsRefusal : BadDossier → Type 0 → DossierError → Type 0
+IsRefusal f Cause NoMemory = ⊤
+IsRefusal f Cause (Fault g) = (g ≡ f) × Cause
+
+-- want of memory, or the fault that a reading ends with
+abbrev pub IsFault : {A : Type 0} → Result A BadDossier → DossierError → Type 0
+IsFault r NoMemory = ⊤
+IsFault r (Fault f) = r ≡ Err f
+
+-- the answer is this value, or want of memory
+abbrev pub IsAnswer : {A : Type 0} → A → Result A DossierError → Type 0
+IsAnswer x (Ok y) = y ≡ x
+IsAnswer x (Err NoMemory) = ⊤
+IsAnswer x (Err (Fault f)) = ⊥
+
+-- the answer is this fault, or want of memory
+abbrev pub IsFaultAnswer : {A : Type 0} → BadDossier → Result A DossierError → Type 0
+IsFaultAnswer f (Ok x) = ⊥
+IsFaultAnswer f (Err NoMemory) = ⊤
+IsFaultAnswer f (Err (Fault g)) = g ≡ f

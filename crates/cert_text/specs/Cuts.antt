@@ -1,0 +1,87 @@
+-- Cuts as JSON values.
+use Rattle.std.specs.Prelude.{◌||◌, not, ℕ, zero, suc, Bool, true, false, List, [], ◌∷◌, nat_lt, Option, None, Some, codes}
+use Rattle.std.specs.List.{list_any}
+use Rattle.serde_json.specs.Data.{Data, Items, no_items, item}
+use Rattle.serde_json.specs.Find.{as_array}
+use Rattle.refute_rules.specs.Why.{why_of}
+use Rattle.refute_rules.specs.declared.refutation.Quick.TheVariants.{Area, Row, Column}
+use Rattle.refute_rules.specs.declared.refutation.Refutation.{Refutation}
+use Rattle.refute_rules.specs.declared.refutation.Refutation.TheVariants as refutation
+use Rattle.search_rules.specs.Certificates.{CertCut}
+use Rattle.cert_text.specs.Steps.{◌>>=◌, ◌>>◌, when}
+use Rattle.cert_text.specs.Fields.{number_data, list_data, numbers_data, object_data, number_in, byte_in, word_in, all_in, list_in, value_at, has_members}
+use Rattle.cert_text.specs.Crew.{crew_in, ships_in}
+
+abbrev pub cut_data : CertCut → Data
+cut_data c = object_data ((codes "chamber", number_data c.chamber) ∷ (codes "ships", numbers_data c.ships) ∷ (codes "why", numbers_data (why_of c.refutation)) ∷ [])
+
+abbrev pub cuts_data : List CertCut → Data
+cuts_data = list_data cut_data
+
+-- the clash of two places in the deck, the lower one first
+abbrev pub clash_of : List ℕ → Option Refutation
+clash_of (i ∷ j ∷ []) = do
+  when (nat_lt i j)
+  Some (refutation.Clash i j)
+clash_of _ = None
+
+-- the refutation of this first number, with the numbers after it
+abbrev pub refutation_in : ℕ → Items → Option Refutation
+refutation_in zero no_items = Some (refutation.Quick Area)
+refutation_in zero (item d more) = None
+refutation_in (suc zero) rest = do
+  ships ← crew_in rest
+  Some (refutation.Quick (Row ships))
+refutation_in (suc (suc zero)) rest = do
+  ships ← crew_in rest
+  Some (refutation.Quick (Column ships))
+refutation_in (suc (suc (suc zero))) rest = do
+  marks ← all_in word_in rest
+  Some (refutation.Cases marks)
+refutation_in (suc (suc (suc (suc zero)))) rest = do
+  marks ← all_in word_in rest
+  Some (refutation.Spots marks)
+refutation_in (suc (suc (suc (suc (suc zero))))) rest = do
+  places ← all_in byte_in rest
+  clash_of places
+refutation_in _ rest = None
+
+-- a list of numbers, the first of which tells the kind of refutation
+abbrev pub why_items : Items → Option Refutation
+why_items no_items = None
+why_items (item first rest) = do
+  kind ← number_in first
+  refutation_in kind rest
+
+abbrev pub why_in : Data → Option Refutation
+why_in d = do
+  items ← as_array d
+  why_items items
+
+unfoldable pub cut_in : Data → Option CertCut
+cut_in d = do
+  when (has_members 3 d)
+  chamber ← value_at (codes "chamber") byte_in d
+  ships ← value_at (codes "ships") ships_in d
+  refutation ← value_at (codes "why") why_in d
+  Some (record { chamber = chamber; ships = ships; refutation = refutation })
+
+abbrev pub cuts_in : Data → Option (List CertCut)
+cuts_in = list_in cut_in
+
+-- its `why` begins with 5
+abbrev pub is_clash : Refutation → Bool
+is_clash (refutation.Quick q) = false
+is_clash (refutation.Cases marks) = false
+is_clash (refutation.Spots marks) = false
+is_clash (refutation.Clash i j) = true
+
+abbrev pub has_clash : List CertCut → Bool
+has_clash = list_any (λ c. is_clash c.refutation)
+
+-- the cuts, none of them refuted by a clash where clashes aren't taken
+abbrev pub cuts_under : Bool → Data → Option (List CertCut)
+cuts_under clashes d = do
+  cuts ← cuts_in d
+  when (clashes || not (has_clash cuts))
+  Some cuts

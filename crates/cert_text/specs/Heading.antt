@@ -1,0 +1,28 @@
+-- The line between an instance and its certificate.
+use Rattle.std.specs.Prelude.{ℕ, ◌==◌, List, [], ◌∷◌, length, Option, None, Some, option_map, codes, if◌then◌else◌}
+use Rattle.std.specs.Str.{bytes_eq}
+use Rattle.std.specs.List.{join_with_byte}
+use Rattle.instance_text.specs.Lines.{lines, words}
+use Rattle.instance_text.specs.Chamber.{word_at}
+use Rattle.cert_text.specs.declared.heading.Heading.{Heading}
+use Rattle.cert_text.specs.declared.heading.Heading.TheVariants.{First, Second, Open}
+
+-- what a second word says
+abbrev pub second_word : List ℕ → Option Heading
+second_word word = if bytes_eq word (codes "2") then Some Second else (if bytes_eq word (codes "open") then Some Open else None)
+
+-- `certificate`, `certificate 2` or `certificate open`
+unfoldable pub heading_of : List (List ℕ) → Option Heading
+heading_of words =
+    if bytes_eq (word_at words 0) (codes "certificate")
+    then (if length words == 1 then Some First else (if length words == 2 then second_word (word_at words 1) else None))
+    else None
+
+-- the first line with words, which is a heading, and the lines after it
+abbrev pub after_heading : List (List ℕ) → Option (Heading × List (List ℕ))
+after_heading [] = None
+after_heading (line ∷ more) = if length (words line) == 0 then after_heading more else option_map (λ h. (h, more)) (heading_of (words line))
+
+-- the heading of a text, and all bytes after the heading's line
+unfoldable pub headed : List ℕ → Option (Heading × List ℕ)
+headed text = option_map (λ found. (found.0, join_with_byte 10 found.1)) (after_heading (lines text))

@@ -1,0 +1,12 @@
+pub mod Steps
+pub mod Fields
+pub mod Answers
+pub mod Crew
+pub mod Cost
+pub mod Cuts
+pub mod Plans
+pub mod Marks
+pub mod Certificates
+pub mod Heading
+pub mod Dossier
+pub mod Parts

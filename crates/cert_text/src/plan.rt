@@ -1,0 +1,166 @@
+//! Plans as JSON values.
+ghost use Rattle.std.specs.Prelude.{◌≡◌, ◌≤◌, All, length, IfOk, IfErr, Some, None, map, codes};
+ghost use Rattle.search_rules.specs.WellFormed.{IsFormedLockage};
+ghost use Rattle.serde_json.specs.View.{view, items_of, items_view};
+ghost use Rattle.cert_text.specs.Fields.{word_in, all_in, value_at};
+ghost use Rattle.cert_text.specs.Plans.{way_number, way_of, way_in, spots_in, lockage_data, plan_data, lockage_in, plan_items, plan_in};
+ghost use Rattle.cert_text.specs.declared.bad.BadDossier.TheVariants.{Shape};
+
+use crate::bad::BadDossier;
+use crate::crew::{put_ships, ships_at};
+use crate::spots::{put_spots, spots_in};
+use crate::value::{chamber_at, has_members, put_byte, put_word, word_in};
+use lock_model::{Lockage, Lockages, Plan, Spots, Way};
+use plain_text::NoMemory;
+use serde_json::{Map, Value};
+use std::alloc::{AllocError, Global};
+
+/// The number of a way.
+fn way_number(way: Way) -> u8
+    ensures value { result ≡ way_number way }
+    ensures reads_back { way_of (way_number way) ≡ Some way }
+{
+    match way {
+        Way::Up => 0,
+        Way::Down => 1,
+    }
+}
+
+/// A lockage as a value.
+#[tactic(auto, unfolding(serde_json::proofs::OnLiterals::serde_json_on_literals))]
+fn put_lockage(alloc: Global, lockage: &Lockage) -> Result<Value, AllocError>
+    requires { IsFormedLockage lockage.now }
+    ensures value { IfOk result (λ v. view v ≡ lockage_data lockage.now) }
+    ensures reads_back { IfOk result (λ _. lockage_in (lockage_data lockage.now) ≡ Some lockage.now) }
+{
+    let chamber = put_byte(lockage.chamber);
+    let ships = put_ships(alloc, &lockage.ships)?;
+    let spots = put_spots(alloc, &lockage.spots)?;
+    let start = put_word(lockage.start);
+    let way = put_byte(way_number(lockage.way));
+    let mut map = Map::new(alloc);
+    serde_json::put(&mut map, alloc, "chamber", chamber)?;
+    serde_json::put(&mut map, alloc, "ships", ships)?;
+    serde_json::put(&mut map, alloc, "spots", spots)?;
+    serde_json::put(&mut map, alloc, "start", start)?;
+    serde_json::put(&mut map, alloc, "way", way)?;
+    Ok(Value::Object(map))
+}
+
+/// The values of lockages in order.
+fn put_all(alloc: Global, lockages: &[Lockage]) -> Result<Vec<Value>, AllocError>
+    requires { All IsFormedLockage lockages.now }
+    ensures values { IfOk result (λ list. map view list.items ≡ map lockage_data lockages.now) }
+    ensures reads_back { IfOk result (λ _. all_in lockage_in (items_of (map lockage_data lockages.now)) ≡ Some lockages.now) }
+{
+    let mut list = Vec::new(alloc);
+    for lockage in lockages {
+        list.push(put_lockage(alloc, lockage)?)?;
+    }
+    Ok(list)
+}
+
+/// The plan as a value that `plan_of` reads back. `specs/Plans` says which value it is. Its only
+/// refusal is want of memory.
+pub fn put_plan(alloc: Global, plan: &Plan) -> Result<Value, NoMemory>
+    requires { All IsFormedLockage plan.now.lockages }
+    ensures value { IfOk result (λ v. view v ≡ plan_data plan.now) }
+    ensures reads_back { IfOk result (λ v. plan_in (view v) ≡ Some plan.now) }
+{
+    let list = put_all(alloc, plan.lockages.as_slice())?;
+    Ok(Value::Array(list))
+}
+
+/// The spots at the key `spots`, if they are so many.
+fn spots_at(value: &Value, count: usize) -> Option<Spots>
+    requires { count ≤ 8 }
+    ensures { result ≡ value_at (codes "spots") (spots_in count) (view value.now) }
+{
+    spots_in(value.get("spots")?, count)
+}
+
+/// The minute at the key `start`.
+fn start_at(value: &Value) -> Option<u32>
+    ensures { result ≡ value_at (codes "start") word_in (view value.now) }
+{
+    word_in(value.get("start")?)
+}
+
+/// The way that a value writes.
+fn way_in(value: &Value) -> Option<Way>
+    ensures { result ≡ way_in (view value.now) }
+{
+    match value.as_u64()? {
+        0 => Some(Way::Up),
+        1 => Some(Way::Down),
+        _ => None,
+    }
+}
+
+/// The way at the key `way`.
+fn way_at(value: &Value) -> Option<Way>
+    ensures { result ≡ value_at (codes "way") way_in (view value.now) }
+{
+    way_in(value.get("way")?)
+}
+
+/// The lockage that a value writes.
+#[tactic(auto, unfolding(crate::specs::Plans::lockage_in))]
+fn lockage_in(value: &Value) -> Option<Lockage>
+    ensures { result ≡ lockage_in (view value.now) }
+{
+    if !has_members(value, 5) {
+        return None;
+    }
+    let chamber = chamber_at(value)?;
+    let ships = ships_at(value)?;
+    let spots = spots_at(value, ships.len())?;
+    let start = start_at(value)?;
+    let way = way_at(value)?;
+    Some(Lockage {
+        chamber,
+        way,
+        ships,
+        start,
+        spots,
+    })
+}
+
+/// The lockages that up to 24 values write.
+fn all_in(list: &[Value]) -> Option<Lockages>
+    requires { length list.now ≤ 24 }
+    ensures { result ≡ all_in lockage_in (items_view list.now) }
+{
+    let mut lockages = Lockages::new();
+    for value in list {
+        lockages.push(lockage_in(value)?);
+    }
+    Some(lockages)
+}
+
+/// The plan of up to 24 lockages that values write.
+fn plan_items(list: &[Value]) -> Option<Plan>
+    ensures { result ≡ plan_items (items_view list.now) }
+{
+    if list.len() > 24 {
+        return None;
+    }
+    let lockages = all_in(list)?;
+    Some(Plan { lockages })
+}
+
+/// The plan that a value lists.
+fn plan_in(value: &Value) -> Option<Plan>
+    ensures { result ≡ plan_in (view value.now) }
+{
+    plan_items(value.as_array()?.as_slice())
+}
+
+/// The plan that a value lists, each lockage with its chamber, its ships, as many spots, its start
+/// and its way. Answers `Shape(4)` exactly where the value is no plan. Takes no memory.
+pub fn plan_of(value: &Value) -> Result<Plan, BadDossier>
+    ensures read { IfOk result (λ plan. plan_in (view value.now) ≡ Some plan) }
+    ensures shape { IfErr result (λ f. (f ≡ Shape 4) × (plan_in (view value.now) ≡ None)) }
+{
+    plan_in(value).ok_or(BadDossier::Shape(4))
+}

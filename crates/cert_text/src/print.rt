@@ -1,0 +1,56 @@
+//! Printing dossiers.
+ghost use Rattle.std.specs.Prelude.{◌≡◌, ◌++◌, ◌∷◌, [], Some, Ok, IfOk, OnOk};
+ghost use Rattle.search_rules.specs.WellFormed.{IsWellFormed};
+ghost use Rattle.cert_text.specs.Certificates.{certificate_data, certificate_text, certificate_in};
+ghost use Rattle.cert_text.specs.Cuts.{has_clash};
+ghost use Rattle.cert_text.specs.Dossier.{heading_line, dossier, json_of, Reads};
+
+use crate::certificate::{has_clash, put_certificate};
+use cert_check::Certificate;
+use instance_text::print_instance;
+use lock_model::Instance;
+use plain_text::{NoMemory, put};
+use std::alloc::Global;
+
+/// Appends the heading.
+fn put_heading(out: &mut Vec<u8>, clashes: bool) -> Result<(), NoMemory>
+    ensures { OnOk result (out.new.items ≡ out.old.items ++ heading_line clashes) }
+{
+    if clashes {
+        put(out, b"certificate 2\n")
+    } else {
+        put(out, b"certificate\n")
+    }
+}
+
+/// The JSON text of a certificate, without a line feed.
+fn json_text(alloc: Global, certificate: &Certificate) -> Result<Vec<u8>, NoMemory>
+    requires { IsWellFormed certificate.now }
+    ensures text { IfOk result (λ text. text.items ≡ certificate_text certificate.now) }
+    ensures json { IfOk result (λ text. json_of (text.items ++ 10 ∷ []) ≡ Some (certificate_data certificate.now)) }
+    ensures reads_back { IfOk result (λ _. certificate_in (has_clash certificate.now.cuts) (certificate_data certificate.now) ≡ Ok certificate.now) }
+{
+    let value = put_certificate(alloc, certificate)?;
+    let text = value.to_vec(alloc)?;
+    Ok(text)
+}
+
+/// The canonical dossier of an instance and a certificate, which is read back as the same two. The
+/// heading is `certificate 2` exactly where some cut is refuted by a clash. Its only refusal is
+/// want of memory.
+pub fn print_dossier(
+    alloc: Global,
+    instance: &Instance,
+    certificate: &Certificate,
+) -> Result<Vec<u8>, NoMemory>
+    requires { IsWellFormed certificate.now }
+    ensures text { IfOk result (λ text. text.items ≡ dossier instance.now certificate.now) }
+    ensures reads_back { IfOk result (λ text. Reads text.items instance.now certificate.now) }
+{
+    let mut out = print_instance(alloc, instance)?;
+    put_heading(&mut out, has_clash(&certificate.cuts))?;
+    let text = json_text(alloc, certificate)?;
+    put(&mut out, text.as_slice())?;
+    put(&mut out, b"\n")?;
+    Ok(out)
+}

@@ -1,0 +1,104 @@
+//! Reading dossiers.
+ghost use Rattle.std.specs.Prelude.{◌≡◌, List, ℕ, Some, None, Ok, IfOk, IfErr};
+ghost use Rattle.lock_model.specs.declared.instance.Instance.{Instance as AnyInstance};
+ghost use Rattle.search_rules.specs.Certificates.{Certificate as AnyCertificate};
+ghost use Rattle.instance_text.specs.Reading.{Means, Defect, instance_part};
+ghost use Rattle.serde_json.specs.View.{view};
+ghost use Rattle.cert_text.specs.Answers.{IsRefusal, IsFault, IsAnswer, IsFaultAnswer};
+ghost use Rattle.cert_text.specs.Dossier.{takes_clashes, json_of, rest_in, after_instance, Reads, DossierFault, IsFirstFault};
+ghost use Rattle.cert_text.specs.declared.bad.BadDossier.{BadDossier as AnyFault};
+ghost use Rattle.cert_text.specs.declared.bad.BadDossier.TheVariants.{Json};
+
+use crate::bad::{BadDossier, DossierError};
+use crate::certificate::certificate_in;
+use crate::heading::{Heading, headed};
+use cert_check::Certificate;
+use instance_text::{Bad, read_instance_part};
+use lock_model::Instance;
+use serde_json::Value;
+use std::alloc::Global;
+
+/// Whether a dossier of this heading may have cuts that are refuted by a clash. None where an open
+/// certificate follows, which is no dossier.
+fn takes_clashes(heading: Heading) -> Option<bool>
+    ensures { result ≡ takes_clashes heading }
+{
+    match heading {
+        Heading::First => Some(false),
+        Heading::Second => Some(true),
+        Heading::Open => None,
+    }
+}
+
+/// The value of a JSON text. Answers `Json` exactly where the bytes are not one JSON text that
+/// `serde_json` reads, or else want of memory.
+#[tactic(auto, using(crate::proofs::WrittenLemmas::json_found, crate::proofs::WrittenLemmas::json_none))]
+pub fn json_of(alloc: Global, bytes: &[u8]) -> Result<Value, DossierError>
+    ensures read { IfOk result (λ v. json_of bytes.now ≡ Some (view v)) }
+    ensures refused { IfErr result (IsRefusal Json (json_of bytes.now ≡ None)) }
+{
+    match Value::from_slice(alloc, bytes) {
+        Ok(value) => Ok(value),
+        Err(error) => {
+            if error.is_memory() {
+                Err(DossierError::NoMemory)
+            } else {
+                Err(DossierError::Fault(BadDossier::Json))
+            }
+        }
+    }
+}
+
+/// The certificate of the bytes after the instance part.
+#[tactic(auto, unfolding(crate::specs::Dossier::rest_in))]
+fn rest_in(alloc: Global, bytes: &[u8]) -> Result<Certificate, DossierError>
+    ensures read { IfOk result (λ c. rest_in bytes.now ≡ Ok c) }
+    ensures fault { IfErr result (IsFault (rest_in bytes.now)) }
+{
+    let Some((heading, rest)) = headed(bytes) else {
+        return Err(DossierError::Fault(BadDossier::NoMark));
+    };
+    let Some(clashes) = takes_clashes(heading) else {
+        return Err(DossierError::Fault(BadDossier::NoMark));
+    };
+    let value = json_of(alloc, rest)?;
+    certificate_in(alloc, clashes, &value)
+}
+
+/// The instance of the instance part, which ends with the first line `end`, and the bytes after that
+/// part. Answers the part's first defect exactly where the part means no instance. Takes no memory.
+#[tactic(auto, using(crate::proofs::DossierLemmas::part_fits, crate::proofs::DossierLemmas::rest_is))]
+pub fn split_instance(bytes: &[u8]) -> Result<(Instance, &[u8]), Bad>
+    ensures read { IfOk result (λ r. Means (instance_part bytes.now) r.0) }
+    ensures rest { IfOk result (λ r. r.1.now ≡ after_instance bytes.now) }
+    ensures bad { IfErr result (λ b. Defect (instance_part bytes.now) b.line b.kind) }
+{
+    let (instance, taken) = read_instance_part(bytes)?;
+    Ok((instance, &bytes[taken..]))
+}
+
+/// The instance and the certificate of a text.
+#[tactic(auto, using(crate::proofs::DossierLemmas::instance_fault, crate::proofs::DossierLemmas::rest_fault, crate::proofs::DossierLemmas::rest_read))]
+fn read_text(alloc: Global, bytes: &[u8]) -> Result<(Instance, Certificate), DossierError>
+    ensures read { IfOk result (λ r. Reads bytes.now r.0 r.1) }
+    ensures fault { IfErr result (IsFirstFault bytes.now) }
+{
+    let (instance, rest) = match split_instance(bytes) {
+        Ok(parts) => parts,
+        Err(bad) => return Err(DossierError::Fault(BadDossier::Instance(bad))),
+    };
+    let certificate = rest_in(alloc, rest)?;
+    Ok((instance, certificate))
+}
+
+/// The instance and the certificate of a dossier of either heading, `certificate` or
+/// `certificate 2`. Answers the first fault exactly where the bytes are no dossier, or else want of
+/// memory. JSON may nest 127 deep, so no input needs a deeper stack.
+pub fn read_dossier(alloc: Global, bytes: &[u8]) -> Result<(Instance, Certificate), DossierError>
+    ensures read { IfOk result (λ r. Reads bytes.now r.0 r.1) }
+    ensures fault { IfErr result (IsFirstFault bytes.now) }
+    ensures each { (i : AnyInstance) (c : AnyCertificate) → Reads bytes.now i c → IsAnswer (i, c) result }
+    ensures each_fault { (f : AnyFault) → DossierFault bytes.now f → IsFaultAnswer f result }
+{
+    read_text(alloc, bytes)
+}

@@ -1,0 +1,82 @@
+//! The words of a line.
+ghost use Rattle.std.specs.Prelude.{◌≡◌, ◌<◌, ◌≤◌, [], ◌∷◌, ◌++◌, length, take, filter};
+ghost use Rattle.std.specs.List.{before_first};
+ghost use Rattle.std.specs.Str.Lines.{strip_carriage_return};
+ghost use Rattle.instance_text.specs.Lines.{is_hash, is_word, content, words};
+ghost use Rattle.instance_text.specs.Texts.{texts};
+ghost use Rattle.instance_text.specs.Chamber.{word_at};
+
+use crate::parts::{Parts, Separator};
+use arrayvec::ArrayVec;
+
+/// One word more than any heading has.
+pub const ENOUGH: usize = 3;
+
+/// The first words of a line. A line with more than two is no heading whatever they are, so
+/// `ENOUGH` of them tell.
+pub type Words<'a> = ArrayVec<&'a [u8], ENOUGH>;
+
+/// A line without the one carriage return that may end it.
+fn without_return(line: &[u8]) -> &[u8]
+    ensures { result.now ≡ strip_carriage_return line.now }
+{
+    match line {
+        [front @ .., b'\r'] => front,
+        _ => line,
+    }
+}
+
+/// What stands before the comment.
+fn before_comment(line: &[u8]) -> &[u8]
+    ensures { result.now ≡ before_first is_hash line.now }
+{
+    for (i, byte) in line.iter().enumerate() {
+        if *byte == b'#' {
+            return &line[..i];
+        }
+    }
+    line
+}
+
+/// What a line says.
+#[tactic(auto, unfolding(instance_text::specs::Lines::content))]
+fn content(line: &[u8]) -> &[u8]
+    ensures { result.now ≡ content line.now }
+{
+    before_comment(without_return(line))
+}
+
+/// Appends a piece that is not empty, where there is room.
+fn push_word<'a>(words: &mut Words<'a>, piece: &'a [u8])
+    ensures fits { length words.new.items ≤ 3 }
+    ensures value { texts words.new.items ≡ take 3 (texts words.old.items ++ filter is_word (piece.now ∷ [])) }
+{
+    if words.is_full() {
+        return;
+    }
+    if piece.is_empty() {
+        return;
+    }
+    words.push(piece);
+}
+
+/// The first words of a line.
+#[tactic(auto, unfolding(instance_text::specs::Lines::words))]
+pub fn words_of(line: &[u8]) -> Words<'_>
+    ensures { texts result.items ≡ take 3 (words line.now) }
+{
+    let mut found = ArrayVec::new();
+    let mut pieces = Parts::new(content(line), Separator::Blank);
+    while let Some(piece) = pieces.next() {
+        push_word(&mut found, piece);
+    }
+    found
+}
+
+/// Word `i` of a line, from 0.
+pub fn word_at<'a>(words: &[&'a [u8]], i: usize) -> &'a [u8]
+    requires { i < length words.now }
+    ensures { result.now ≡ word_at (texts words.now) i }
+{
+    words[i]
+}

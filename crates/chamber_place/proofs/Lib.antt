@@ -1,0 +1,7 @@
+pub mod OptionLemmas
+pub mod RankLemmas
+pub mod EdgeLemmas
+pub mod WayLemmas
+pub mod EnterLemmas
+pub mod PlaceLemmas
+pub mod PartLemmas

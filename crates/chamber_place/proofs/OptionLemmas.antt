@@ -1,0 +1,110 @@
+-- Decisions and options by their numbers.
+use Rattle.std.proofs.Common.{◌≡◌, ◌≢◌, ℕ, zero, suc, ◌+◌, ◌-◌, ◌*◌, ◌/◌, ◌<◌, ◌≤◌, List, [], ◌∷◌, ◌++◌, length, map, cond, nat_lt, slice_index_or, inl, inr, refl, sym, ap, ◌∙◌, subst, arith}
+use Rattle.std.proofs.lemmas.Bool.Decides.{leb_tells}
+use Rattle.lock_model.specs.Deck.{Deck}
+use Rattle.lock_rules.specs.Arrival.{numbers_from}
+use Rattle.refute_rules.specs.Choices.{BerthOf, PairOf, Lies as LiesAt, Before as IsBefore, berths_of, options_of, decisions}
+use Rattle.case_search.specs.Berths.{first_berth}
+use Rattle.case_search.proofs.BerthLemmas.{berths-length, quay-at, host-at}
+use Rattle.case_search.proofs.ListLemmas.{append-assoc, length-append}
+use Rattle.chamber_place.specs.Picks.{IsKnownMoor, decision_of}
+use Rattle.chamber_place.specs.declared.decisions.Decision.{Decision}
+
+pub length-map : {X Y : Type 0} (f : X → Y) (xs : List X) → length (map f xs) ≡ length xs
+length-map f [] = refl
+length-map f (x ∷ xs) = ap suc (length-map f xs)
+
+pub map-append : {X Y : Type 0} (f : X → Y) (xs ys : List X) → map f (xs ++ ys) ≡ map f xs ++ map f ys
+map-append f [] ys = refl
+map-append f (x ∷ xs) ys = ap (λ l. f x ∷ l) (map-append f xs ys)
+
+pub map-at : {X Y : Type 0} (f : X → Y) (xs : List X) (k : ℕ) (d : X) (e : Y) → k < length xs → slice_index_or (map f xs) k e ≡ f (slice_index_or xs k d)
+map-at f [] k d e h = absurd (omega (arith, h))
+map-at f (x ∷ xs) zero d e h = refl
+map-at f (x ∷ xs) (suc k) d e h = map-at f xs k d e (omega (arith, h))
+
+pub numbers-push : (low n : ℕ) → numbers_from low (n + 1) ≡ numbers_from low n ++ (low + n) ∷ []
+numbers-push low n = ap (numbers_from low) (more n) ∙ push low n
+  where
+    more : (n : ℕ) → n + 1 ≡ suc n
+    more n = omega arith
+
+    push : (low n : ℕ) → numbers_from low (suc n) ≡ numbers_from low n ++ (low + n) ∷ []
+    push low zero = ap (λ k. k ∷ []) (let e : low ≡ low + 0 = omega arith in e)
+    push low (suc n) = ap (λ l. low ∷ l) (push (suc low) n ∙ ap (λ k. numbers_from (suc low) n ++ k ∷ []) (let e : suc low + n ≡ low + suc n = omega arith in e))
+
+pub numbers-length : (low n : ℕ) → length (numbers_from low n) ≡ n
+numbers-length low zero = refl
+numbers-length low (suc n) = ap suc (numbers-length (suc low) n)
+
+-- ---- how many decisions there are
+pub decisions-length : (n : ℕ) → length (decisions (suc n)) ≡ length (decisions n) + 1 + n
+decisions-length n =
+    let a = length-append (decisions n) (BerthOf n ∷ map (λ i. PairOf i n) (numbers_from 0 n)) in
+    let m = length-map (λ i. PairOf i n) (numbers_from 0 n) in
+    let l = numbers-length 0 n in
+    omega (arith, a, m, l)
+
+pub decisions-few : (n : ℕ) → n ≤ 8 → length (decisions n) ≤ 36
+decisions-few zero h = omega arith
+decisions-few (suc n) h =
+    let l = decisions-length n in
+    let rest = below n (omega (arith, h)) in
+    omega (arith, l, rest)
+  where
+    below : (n : ℕ) → n ≤ 7 → length (decisions n) + n ≤ 35
+    below zero h = omega arith
+    below (suc zero) h = omega arith
+    below (suc (suc zero)) h = omega arith
+    below (suc (suc (suc zero))) h = omega arith
+    below (suc (suc (suc (suc zero)))) h = omega arith
+    below (suc (suc (suc (suc (suc zero))))) h = omega arith
+    below (suc (suc (suc (suc (suc (suc zero)))))) h = omega arith
+    below (suc (suc (suc (suc (suc (suc (suc zero))))))) h = omega arith
+    below (suc (suc (suc (suc (suc (suc (suc (suc n)))))))) h = absurd (omega (arith, h))
+
+-- ---- one ship's decisions
+pub ship-begun : (decided new : List Decision) (ship : ℕ) → map decision_of decided ≡ decisions ship → (d : Decision) → decision_of d ≡ BerthOf ship → new ≡ decided ++ d ∷ [] → map decision_of new ≡ decisions ship ++ BerthOf ship ∷ map (λ i. PairOf i ship) (numbers_from 0 0)
+ship-begun decided new ship e d is n = ap (map decision_of) n ∙ map-append decision_of decided (d ∷ []) ∙ ap (λ l. l ++ decision_of d ∷ []) e ∙ ap (λ c. decisions ship ++ c ∷ []) is
+
+pub ship-more : (decided new : List Decision) (ship lower : ℕ) → map decision_of decided ≡ decisions ship ++ BerthOf ship ∷ map (λ i. PairOf i ship) (numbers_from 0 lower) → (d : Decision) → decision_of d ≡ PairOf lower ship → new ≡ decided ++ d ∷ [] → map decision_of new ≡ decisions ship ++ BerthOf ship ∷ map (λ i. PairOf i ship) (numbers_from 0 (lower + 1))
+ship-more decided new ship lower e d is n =
+    ap (map decision_of) n ∙ map-append decision_of decided (d ∷ []) ∙ ap (λ l. l ++ decision_of d ∷ []) e
+    ∙ ap (λ c. (decisions ship ++ BerthOf ship ∷ map (λ i. PairOf i ship) (numbers_from 0 lower)) ++ c ∷ []) is
+    ∙ append-assoc (decisions ship) (BerthOf ship ∷ map (λ i. PairOf i ship) (numbers_from 0 lower)) (PairOf lower ship ∷ [])
+    ∙ ap (λ l. decisions ship ++ BerthOf ship ∷ l) (sym (map-append (λ i. PairOf i ship) (numbers_from 0 lower) (lower ∷ [])) ∙ ap (map (λ i. PairOf i ship)) (sym (numbers-push 0 lower ∙ ap (λ k. numbers_from 0 lower ++ k ∷ []) (let z : 0 + lower ≡ lower = omega arith in z))))
+
+pub ship-room : (decided : List Decision) (ship lower : ℕ) → ship < 8 → lower < ship → map decision_of decided ≡ decisions ship ++ BerthOf ship ∷ map (λ i. PairOf i ship) (numbers_from 0 lower) → length decided < 36
+ship-room decided ship lower few less e =
+    let l = sym (length-map decision_of decided) ∙ ap length e ∙ length-append (decisions ship) (BerthOf ship ∷ map (λ i. PairOf i ship) (numbers_from 0 lower)) in
+    let m = length-map (λ i. PairOf i ship) (numbers_from 0 lower) in
+    let n = numbers-length 0 lower in
+    let all = decisions-length ship in
+    let most = decisions-few (suc ship) (omega (arith, few)) in
+    omega (arith, l, m, n, all, most, less)
+
+pub begin-room : (decided : List Decision) (ship : ℕ) → ship < 8 → map decision_of decided ≡ decisions ship → length decided < 36
+begin-room decided ship few e =
+    let l = sym (length-map decision_of decided) ∙ ap length e in
+    let all = decisions-length ship in
+    let most = decisions-few (suc ship) (omega (arith, few)) in
+    omega (arith, l, all, most)
+
+-- ---- options
+pub berth-options : (d : Deck) (i : ℕ) → i < length d.ships → length (options_of d (BerthOf i)) ≡ 2 * length d.ships
+berth-options d i h = length-map (LiesAt i) (berths_of (length d.ships) i) ∙ berths-length (length d.ships) i h
+
+pub berth-choice : (d : Deck) (i option : ℕ) → i < length d.ships → option < 2 * length d.ships → slice_index_or (options_of d (BerthOf i)) option (IsBefore 0 0) ≡ LiesAt i (slice_index_or (berths_of (length d.ships) i) option first_berth)
+berth-choice d i option h l = let n = berths-length (length d.ships) i h in map-at (LiesAt i) (berths_of (length d.ships) i) option first_berth (IsBefore 0 0) (omega (arith, n, l))
+
+pub moor-known : (d : Deck) (i option : ℕ) → i < length d.ships → option < 2 * length d.ships → IsKnownMoor d i (slice_index_or (berths_of (length d.ships) i) option first_berth).moor
+moor-known d i option h l = elim (leb_tells 2 option) [
+  | inl y ↦ subst (λ b. IsKnownMoor d i b.moor) (sym (host-at (length d.ships) i option h y.1 l)) (other y.1)
+  | inr n ↦ subst (λ b. IsKnownMoor d i b.moor) (sym (quay-at (length d.ships) i option (let few = n.1 in omega (arith, few)))) tt
+]
+  where
+    other : 2 ≤ option → (cond (nat_lt (option / 2 - 1) i) (option / 2 - 1) (option / 2 - 1 + 1) < length d.ships) × (cond (nat_lt (option / 2 - 1) i) (option / 2 - 1) (option / 2 - 1 + 1) ≢ i)
+    other two = elim (leb_tells (suc (option / 2 - 1)) i) [
+      | inl y ↦ subst (λ b. (cond b (option / 2 - 1) (option / 2 - 1 + 1) < length d.ships) × (cond b (option / 2 - 1) (option / 2 - 1 + 1) ≢ i)) (sym y.0) (let less = y.1 in (omega (arith, less, h), omega (arith, less)))
+      | inr n ↦ subst (λ b. (cond b (option / 2 - 1) (option / 2 - 1 + 1) < length d.ships) × (cond b (option / 2 - 1) (option / 2 - 1 + 1) ≢ i)) (sym n.0) (let more = n.1 in (omega (arith, two, l), omega (arith, more)))
+    ]

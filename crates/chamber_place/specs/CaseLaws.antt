@@ -1,0 +1,74 @@
+-- What the search rests on: a fault leaves a case inconsistent, and a beginning of a consistent case is consistent.
+use Rattle.std.proofs.Common.{◌≡◌, ℕ, List, [], ◌∷◌, ◌++◌, length, flat_map, Bool, cond, true, false, nat_eq, sym, ap, ◌∙◌, subst, Some, None}
+use Rattle.std.specs.declared.option.Option.{Option}
+use Rattle.std.proofs.lemmas.List.Elements.{All-from_recursion, recursion_from_All}
+use Rattle.std.specs.List.{AllByRecursion}
+use Rattle.lock_model.specs.Deck.{Deck}
+use Rattle.lock_rules.specs.Arrival.{numbers_from}
+use Rattle.diff_rules.specs.Differences.{Obeys}
+use Rattle.diff_rules.proofs.CycleLemmas.{no_solution}
+use Rattle.refute_rules.specs.Choices.{Choice, Lies, Before, Below, Stands, Berth}
+use Rattle.refute_rules.specs.Edges.{case_edges, choice_edges, ship_edges}
+use Rattle.refute_rules.specs.Decided.{berth_in}
+use Rattle.refute_rules.specs.Cases.{IsConsistent, CaseFault, OtherRank, Walk, IsCaseFault, vars_of}
+use Rattle.case_search.specs.Rules.{AreLawful}
+use Rattle.case_search.proofs.ListLemmas.{append-assoc, flat_map-append}
+use Rattle.chamber_place.specs.Faults.{fault_of}
+use Rattle.chamber_place.specs.OnItsWay.{case_rules}
+
+all-first : {X : Type 0} (P : X → Type 0) (xs ys : List X) → AllByRecursion P (xs ++ ys) → AllByRecursion P xs
+all-first P [] ys a = tt
+all-first P (x ∷ xs) ys a = (a.0, all-first P xs ys a.1)
+
+IsAbsent : {X : Type 0} → Option X → Type 0
+IsAbsent None = Unit {0}
+IsAbsent (Some x) = ⊥
+
+some-none : {X : Type 0} (b : X) → None ≡ Some b → ⊥
+unfolding IsAbsent
+some-none b e = subst IsAbsent e tt
+
+berth-kept : (case more : List Choice) (i : ℕ) (b : Berth) → berth_in case i ≡ Some b → berth_in (case ++ more) i ≡ Some b
+berth-kept [] more i b e = absurd (some-none b e)
+berth-kept (Lies j c ∷ cs) more i b e = (elim (nat_eq j i) as (λ t. cond t (Some c) (berth_in cs i) ≡ Some b → cond t (Some c) (berth_in (cs ++ more) i) ≡ Some b) [
+  | true ↦ λ h. h
+  | false ↦ λ h. berth-kept cs more i b h
+]) e
+berth-kept (Before j k ∷ cs) more i b e = berth-kept cs more i b e
+berth-kept (Below j k ∷ cs) more i b e = berth-kept cs more i b e
+berth-kept (Stands j v ∷ cs) more i b e = berth-kept cs more i b e
+
+IsFalse : Bool → Type 0
+IsFalse false = Unit {0}
+IsFalse true = ⊥
+
+true-false : false ≡ true → ⊥
+unfolding IsFalse
+true-false e = subst IsFalse e tt
+
+module _ (d : Deck) where
+  pub consistent-shorter : (case more : List Choice) → IsConsistent d (case ++ more) → IsConsistent d case
+  consistent-shorter case more is = record {
+    values = is.values;
+    solution = record { count = is.solution.count; origin = is.solution.origin; obeyed = All-from_recursion (Obeys is.values) (case_edges d case) kept };
+    ranks = λ i h. is.ranks i (record { host = h.host; own = h.own; berth = h.berth; lies = berth-kept case more i _ h.lies; decided = berth-kept case more h.host h.berth h.decided; differ = h.differ });
+  }
+    where
+      split : case_edges d (case ++ more) ≡ case_edges d case ++ flat_map (choice_edges d) more
+      split = ap (λ l. flat_map (ship_edges d) (numbers_from 0 (length d.ships)) ++ l) (flat_map-append (choice_edges d) case more) ∙ sym (append-assoc (flat_map (ship_edges d) (numbers_from 0 (length d.ships))) (flat_map (choice_edges d) case) (flat_map (choice_edges d) more))
+
+      kept : AllByRecursion (Obeys is.values) (case_edges d case)
+      kept = all-first (Obeys is.values) (case_edges d case) (flat_map (choice_edges d) more) (subst (AllByRecursion (Obeys is.values)) split (recursion_from_All (Obeys is.values) (case_edges d (case ++ more)) is.solution.obeyed))
+
+  pub fault-inconsistent : (case : List Choice) (fault : CaseFault) → IsCaseFault d case fault → IsConsistent d case → ⊥
+  fault-inconsistent case (OtherRank i) h is = is.ranks i h
+  fault-inconsistent case (Walk numbers) h is = no_solution (case_edges d case) (vars_of d) is.values numbers is.solution h.1
+
+  pub case_laws : AreLawful (case_rules d)
+  case_laws = record {
+    faulty = λ case fault h is. fault-inconsistent case (fault_of fault) h is;
+    shorter = λ e case more is. consistent-shorter case more is;
+    ends = λ case is whole. whole;
+    complete = λ case whole. whole;
+    good_end = λ e. absurd (true-false e);
+  }

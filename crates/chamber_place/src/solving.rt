@@ -1,0 +1,121 @@
+//! The edges of a case, and its longest paths or a fault.
+ghost use Rattle.std.specs.Prelude.{ℕ, ◌≡◌, ◌≤◌, ◌<◌, ◌+◌, ◌*◌, ◌++◌, [], ◌∷◌, length, take, IfOk, IfErr, IfSome, IfNone};
+ghost use Rattle.lock_model.specs.Deck.{IsDeck};
+ghost use Rattle.diff_system.specs.PathTree.{AreLongest};
+ghost use Rattle.lock_rules.specs.Arrival.{numbers_from};
+ghost use Rattle.refute_rules.specs.Choices.{decisions};
+ghost use Rattle.refute_rules.specs.Edges.{case_edges, ship_edges};
+ghost use Rattle.refute_rules.specs.Decided.{HasOtherRank};
+ghost use Rattle.refute_rules.specs.Cases.{IsCaseFault, vars_of};
+ghost use Rattle.chamber_place.specs.Picks.{choices_of};
+ghost use Rattle.chamber_place.specs.Faults.{fault_of};
+ghost use Rattle.chamber_place.specs.OnItsWay.{AreChosen, IsSettled};
+
+use crate::faults::CaseFault;
+use crate::names::{back_across, back_along, least_along, x_var, y_var};
+use crate::picks::{Pick, add_four};
+use crate::ranks::first_other_rank;
+use diff_system::{Edge, Edges, LongestPaths};
+use lock_model::Deck;
+
+// How many variables a deck has: the origin, and x and y of each ship.
+fn var_count(deck: &Deck) -> u8
+    ensures count { result ≡ vars_of deck.now }
+    ensures limits { IsDeck deck.now }
+{
+    1 + 2 * deck.ships.as_slice().len() as u8
+}
+
+// The first ship whose host has the other rank, once the last option is taken. Only a berth can
+// bring this about.
+fn new_other_rank(deck: &Deck, picks: &[Pick], last: Pick) -> Option<u8>
+    requires chosen { AreChosen deck.now (decisions (length deck.now.ships)) picks.now }
+    requires last { (before : _) × (picks.now ≡ before ++ last ∷ []) × ((i : ℕ) → HasOtherRank (choices_of before) i → ⊥) }
+    ensures some { IfSome result (HasOtherRank (choices_of picks.now)) }
+    ensures none { IfNone result ((i : ℕ) → HasOtherRank (choices_of picks.now) i → ⊥) }
+{
+    match last {
+        Pick::Lies(_, _) => first_other_rank(picks, deck.ships.as_slice().len() as u8),
+        Pick::Before(_, _) => None,
+        Pick::Below(_, _) => None,
+    }
+}
+
+/// Goes on from the longest paths of a case without its last option, or finds a fault.
+pub(crate) fn solve(
+    deck: &Deck,
+    picks: &[Pick],
+    last: Pick,
+    edges: &Edges,
+    known: usize,
+    before: &LongestPaths,
+) -> Result<LongestPaths, CaseFault>
+    requires chosen { AreChosen deck.now (decisions (length deck.now.ships)) picks.now }
+    requires last { (before : _) × (picks.now ≡ before ++ last ∷ []) × ((i : ℕ) → HasOtherRank (choices_of before) i → ⊥) }
+    requires edges { edges.now ≡ case_edges deck.now (choices_of picks.now) }
+    requires known { known ≤ length edges.now }
+    requires longest { AreLongest (take known edges.now) (vars_of deck.now) before.now }
+    ensures settled { IfOk result (IsSettled deck.now (choices_of picks.now)) }
+    ensures fault { IfErr result (λ fault. IsCaseFault deck.now (choices_of picks.now) (fault_of fault)) }
+{
+    if let Some(ship) = new_other_rank(deck, picks, last) {
+        return Err(CaseFault::OtherRank(ship));
+    }
+    match before.extended(edges, var_count(deck), known) {
+        Ok(paths) => Ok(paths),
+        Err(numbers) => Err(CaseFault::Walk(numbers)),
+    }
+}
+
+// Appends the edges that keep a ship inside.
+fn add_ship(deck: &Deck, ship: u8, edges: &mut Edges)
+    requires ship { ship < length deck.now.ships }
+    requires few { ship < 8 }
+    requires room { length edges.old ≤ 92 }
+    ensures { edges.new ≡ edges.old ++ ship_edges deck.now ship }
+{
+    let near = Edge {
+        from: 0,
+        to: x_var(ship),
+        weight: least_along(deck),
+    };
+    let far = Edge {
+        from: x_var(ship),
+        to: 0,
+        weight: back_along(deck, ship),
+    };
+    let left = Edge {
+        from: 0,
+        to: y_var(ship),
+        weight: 0,
+    };
+    let right = Edge {
+        from: y_var(ship),
+        to: 0,
+        weight: back_across(deck, ship),
+    };
+    add_four(edges, near, far, left, right);
+}
+
+/// The edges of the empty case.
+pub(crate) fn first_edges(deck: &Deck) -> Edges
+    ensures { result ≡ case_edges deck.now [] }
+{
+    let mut edges = Edges::new();
+    for ship in 0..deck.ships.as_slice().len() as u8 {
+        add_ship(deck, ship, &mut edges);
+    }
+    edges
+}
+
+/// The longest paths of the empty case, or a fault.
+pub(crate) fn solve_first(deck: &Deck, edges: &Edges) -> Result<LongestPaths, CaseFault>
+    requires { edges.now ≡ case_edges deck.now [] }
+    ensures settled { IfOk result (IsSettled deck.now []) }
+    ensures fault { IfErr result (λ fault. IsCaseFault deck.now [] (fault_of fault)) }
+{
+    match LongestPaths::of(edges, var_count(deck)) {
+        Ok(paths) => Ok(paths),
+        Err(numbers) => Err(CaseFault::Walk(numbers)),
+    }
+}

@@ -1,0 +1,54 @@
+//! The spots of a whole case.
+ghost use Rattle.std.specs.Prelude.{ℕ, ◌≡◌, ◌≤◌, ◌<◌, ◌+◌, ◌*◌, pos, length};
+ghost use Rattle.diff_rules.specs.Differences.{value_at};
+ghost use Rattle.diff_system.specs.PathTree.{IsSmall};
+ghost use Rattle.chamber_place.specs.Picks.{choices_of};
+ghost use Rattle.chamber_place.specs.Spotting.{IsBerthDecided, IsSpotOf, AreFirstSpots};
+
+use crate::names::{x_var, y_var};
+use crate::picks::Pick;
+use crate::ranks::decided_berth;
+use lock_model::{Spot, Spots};
+
+// A value that is known to be small.
+fn small(values: &[i64], variable: u8) -> u32
+    requires known { variable < length values.now }
+    requires small { (v : ℕ) → v < length values.now → IsSmall values.now v }
+    ensures { value_at values.now variable ≡ pos result }
+{
+    values[variable as usize] as u32
+}
+
+// The spot of a ship whose berth is decided.
+fn spot_of(picks: &[Pick], values: &[i64], ship: u8) -> Spot
+    requires few { ship < 8 }
+    requires known { 2 + 2 * ship < length values.now }
+    requires decided { IsBerthDecided (choices_of picks.now) ship }
+    requires small { (v : ℕ) → v < length values.now → IsSmall values.now v }
+    ensures { IsSpotOf (choices_of picks.now) values.now ship result }
+{
+    match decided_berth(picks, ship) {
+        Some(berth) => Spot {
+            x: small(values, x_var(ship)),
+            y: small(values, y_var(ship)),
+            rank: berth.rank,
+            moor: berth.moor,
+        },
+        None => unreachable!(),
+    }
+}
+
+/// The spots of so many ships whose berths are decided, where the values put them.
+pub(crate) fn spots_of(picks: &[Pick], values: &[i64], ships: u8) -> Spots
+    requires few { ships ≤ 8 }
+    requires known { length values.now ≡ 1 + 2 * ships }
+    requires decided { (i : ℕ) → i < ships → IsBerthDecided (choices_of picks.now) i }
+    requires small { (v : ℕ) → v < length values.now → IsSmall values.now v }
+    ensures { AreFirstSpots (choices_of picks.now) values.now ships result }
+{
+    let mut spots = Spots::new();
+    for ship in 0..ships {
+        spots.push(spot_of(picks, values, ship));
+    }
+    spots
+}

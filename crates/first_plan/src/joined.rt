@@ -1,0 +1,107 @@
+//! Two lockages of a chamber served as one.
+ghost use Rattle.std.specs.Prelude.{ℕ, ◌≡◌, ◌+◌, ◌^◌, ◌<◌, ◌≤◌, length, All, IfSome};
+
+use lock_model::{Group, Instance, Line, Lockage, Lockages, Plan, Ships, Spots};
+
+// The ships of both lists in rising number, of `count` ships in all; none where they are more than
+// `most`.
+pub(crate) fn joined_ships(first: &Ships, second: &Ships, most: u8, count: u8) -> Option<Ships>
+    requires { most ≤ 8 }
+    ensures { IfSome result (All (λ s. s < count)) }
+{
+    let mut ships = Ships::new();
+    for ship in 0..count {
+        if first.as_slice().contains(&ship) || second.as_slice().contains(&ship) {
+            if ships.len() >= most as usize {
+                return None;
+            }
+            ships.push(ship);
+        }
+    }
+    Some(ships)
+}
+
+/// Lockage number `into` of a plan with further ships, in the place of it and of lockage number
+/// `gone`; both are of one chamber and one way.
+#[derive(Debug, Drop)]
+pub(crate) struct Joined {
+    pub(crate) into: usize,
+    pub(crate) gone: usize,
+    pub(crate) ships: Ships,
+}
+
+impl Joined {
+    // The ships of lockage number `i` after the joining.
+    fn ships_of(&self, i: usize, lockage: &Lockage) -> Ships
+        ensures { (n : ℕ) → All (λ s. s < n) self.now.ships → All (λ s. s < n) lockage.now.ships → All (λ s. s < n) result }
+    {
+        if i == self.into {
+            self.ships.copy()
+        } else {
+            lockage.ships.copy()
+        }
+    }
+
+    // The spots of lockage number `i` after the joining.
+    fn spots_of(&self, i: usize, lockage: &Lockage, spots: &Spots) -> Spots {
+        if i == self.into {
+            spots.copy()
+        } else {
+            lockage.spots.copy()
+        }
+    }
+
+    /// The line of a chamber after the joining, in the order of the plan's lockages.
+    pub(crate) fn line(&self, instance: &Instance, plan: &Plan, chamber: u8) -> Line
+        requires plan { All (λ l. All (λ s. s < length instance.now.ships) l.ships) plan.now.lockages }
+        requires joined { All (λ s. s < length instance.now.ships) self.now.ships }
+        ensures { All (λ g. All (λ s. s < length instance.now.ships) g.ships) result }
+    {
+        let lockages = plan.lockages.as_slice();
+        let mut line = Line::new();
+        for i in 0..lockages.len() {
+            let lockage = &lockages[i];
+            if lockage.chamber == chamber && i != self.gone {
+                line.push(Group {
+                    way: lockage.way,
+                    ships: self.ships_of(i, lockage),
+                });
+            }
+        }
+        line
+    }
+
+    // Lockage number `i` after the joining, at its start.
+    fn lockage(&self, i: usize, lockage: &Lockage, spots: &Spots, start: u32) -> Lockage {
+        Lockage {
+            chamber: lockage.chamber,
+            way: lockage.way,
+            ships: self.ships_of(i, lockage),
+            start,
+            spots: self.spots_of(i, lockage, spots),
+        }
+    }
+
+    /// The plan after the joining: the joined ships lie at these spots, and the lockages of their
+    /// chamber start at these times, one after the other.
+    pub(crate) fn plan(&self, plan: &Plan, chamber: u8, spots: &Spots, times: &[(u64, u64)]) -> Plan
+        requires { All (λ t. (t.0 < 2 ^ 32) × (t.1 < 2 ^ 32)) times.now }
+    {
+        let old = plan.lockages.as_slice();
+        let mut lockages = Lockages::new();
+        let mut served = 0;
+        for i in 0..old.len() {
+            let lockage = &old[i];
+            if i != self.gone {
+                let start = if lockage.chamber == chamber && served < times.len() {
+                    times[served].0 as u32
+                } else {
+                    lockage.start
+                };
+                served += (lockage.chamber == chamber) as usize;
+                lockages.push(self.lockage(i, lockage, spots, start));
+            }
+        }
+        Plan { lockages }
+    }
+}

@@ -1,0 +1,3 @@
+pub mod MooringLemmas
+pub mod LineLemmas
+pub mod WholeLemmas

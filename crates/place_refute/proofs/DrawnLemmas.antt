@@ -1,0 +1,77 @@
+-- The edges of a case as it grows and shrinks.
+use Rattle.std.proofs.Common.{◌≡◌, ℕ, zero, suc, ◌+◌, ◌*◌, ◌<◌, ◌≤◌, List, [], ◌∷◌, ◌++◌, length, flat_map, map, take, refl, sym, ap, ◌∙◌, arith}
+use Rattle.std.proofs.lemmas.List.{append_assoc, append-nil, length-append, take_at, take-map}
+use Rattle.std.proofs.lemmas.Grind.{flat_map-append}
+use Rattle.lock_model.specs.Deck.{Deck}
+use Rattle.lock_model.specs.declared.placement.Rank.{Rank}
+use Rattle.lock_model.specs.declared.placement.Rank.TheVariants.{Left, Right}
+use Rattle.lock_model.specs.declared.placement.Moor.{Moor}
+use Rattle.lock_model.specs.declared.placement.Moor.TheVariants.{Quay, Ship}
+use Rattle.diff_rules.specs.declared.edges.Edge.{Edge}
+use Rattle.lock_rules.specs.Arrival.{numbers_from}
+use Rattle.lock_rules.proofs.LineLemmas.{numbers_more}
+use Rattle.refute_rules.specs.Choices.{Choice, Lies, Before, Below, Stands}
+use Rattle.refute_rules.specs.Edges.{ship_edges, berth_edges, choice_edges}
+use Rattle.place_refute.specs.declared.decision.Pick.{Pick}
+use Rattle.place_refute.specs.Picks.{choice_of}
+use Rattle.place_refute.specs.Drawn.{Drawn, IsDrawn, deck_edges}
+
+pub edges_more : (d : Deck) (es : List Edge) (n : ℕ) → es ≡ deck_edges d n → es ++ ship_edges d n ≡ deck_edges d (n + 1)
+edges_more d es n e =
+    let here : 0 + n ≡ n = omega arith in
+    ap (λ u. u ++ ship_edges d n) e
+    ∙ ap (λ u. deck_edges d n ++ u) (sym (append-nil (ship_edges d n)))
+    ∙ sym (flat_map-append (ship_edges d) (numbers_from 0 n) (n ∷ []))
+    ∙ ap (flat_map (ship_edges d)) (sym (numbers_more 0 n ∙ ap (λ k. numbers_from 0 n ++ k ∷ []) here))
+
+ships-length : (d : Deck) (low n : ℕ) → length (flat_map (ship_edges d) (numbers_from low n)) ≡ 4 * n
+ships-length d low zero = refl
+ships-length d low (suc n) = omega (arith, ships-length d (suc low) n)
+
+pub edges_room : (d : Deck) (es : List Edge) (n : ℕ) → es ≡ deck_edges d n → n < 8 → length es ≤ 172
+edges_room d es n e less = omega (arith, ap length e, ships-length d 0 n)
+
+berth-few : (d : Deck) (i : ℕ) (rank : Rank) (moor : Moor) → length (berth_edges d i rank moor) ≤ 4
+berth-few d i Left Quay = omega arith
+berth-few d i Right Quay = omega arith
+berth-few d i Left (Ship k) = omega arith
+berth-few d i Right (Ship k) = omega arith
+
+choice-few : (d : Deck) (c : Choice) → length (choice_edges d c) ≤ 4
+choice-few d (Lies i b) = berth-few d i b.rank b.moor
+choice-few d (Before i j) = omega arith
+choice-few d (Below i j) = omega arith
+choice-few d (Stands i v) = omega arith
+
+choices-few : (d : Deck) (cs : List Choice) → length (flat_map (choice_edges d) cs) ≤ 4 * length cs
+choices-few d [] = omega arith
+choices-few d (c ∷ cs) = omega (arith, length-append (choice_edges d c) (flat_map (choice_edges d) cs), choice-few d c, choices-few d cs)
+
+-- a case of fewer than 36 options of a deck of at most eight ships has room for the edges of one more
+pub drawn_room : (d : Deck) (case : Drawn) → IsDrawn d case → length d.ships ≤ 8 → length case.choices < 36 → length case.edges ≤ 172
+drawn_room d case is few less =
+    omega (arith, ap length is.drawn, length-append (deck_edges d (length d.ships)) (flat_map (choice_edges d) case.choices), ships-length d 0 (length d.ships), choices-few d case.choices)
+
+-- the case with one more option
+abbrev pub grown : Deck → Drawn → Choice → Drawn
+grown d case c = record { choices = case.choices ++ c ∷ []; edges = case.edges ++ choice_edges d c }
+
+pub grown_drawn : (d : Deck) (case : Drawn) (c : Choice) → IsDrawn d case → IsDrawn d (grown d case c)
+grown_drawn d case c is = record {
+  drawn =
+      ap (λ u. u ++ choice_edges d c) is.drawn
+      ∙ append_assoc (deck_edges d (length d.ships)) (flat_map (choice_edges d) case.choices) (choice_edges d c)
+      ∙ ap (λ u. deck_edges d (length d.ships) ++ u) (ap (λ u. flat_map (choice_edges d) case.choices ++ u) (sym (append-nil (choice_edges d c))) ∙ sym (flat_map-append (choice_edges d) case.choices (c ∷ [])));
+}
+
+pub grown_back : (d : Deck) (case back : Drawn) (c : Choice) → back.choices ≡ take (length case.choices) (grown d case c).choices → back.edges ≡ take (length case.edges) (grown d case c).edges → back ≡ case
+grown_back d case back c choices edges =
+    let first = choices ∙ take_at case.choices (c ∷ []) (length case.choices) refl in
+    let second = edges ∙ take_at case.edges (choice_edges d c) (length case.edges) refl in
+    ap (λ u. record { choices = u; edges = back.edges }) first ∙ ap (λ u. record { choices = case.choices; edges = u }) second
+
+pub back_choices : (ps qs : List Pick) (n : ℕ) → qs ≡ take n ps → map choice_of qs ≡ take n (map choice_of ps)
+back_choices ps qs n e = ap (map choice_of) e ∙ sym (take-map choice_of n ps)
+
+pub empty_drawn : (d : Deck) → IsDrawn d (record { choices = []; edges = deck_edges d (length d.ships) })
+empty_drawn d = record { drawn = sym (append-nil (deck_edges d (length d.ships))) }

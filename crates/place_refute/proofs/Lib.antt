@@ -1,0 +1,9 @@
+pub mod HitLemmas
+pub mod DecisionLemmas
+pub mod OptionLemmas
+pub mod DrawnLemmas
+pub mod LookupLemmas
+pub mod SpotLemmas
+pub mod WalkLemmas
+pub mod LeafLemmas
+pub mod ReadLemmas

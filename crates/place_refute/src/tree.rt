@@ -1,0 +1,89 @@
+//! Walks over the marks of a case tree or of a spot tree. No call goes deeper than the decisions
+//! of the deck.
+ghost use Rattle.std.specs.Prelude.{◌≡◌, ◌<◌, ◌≤◌, length, drop, slice_index_or, IfSome, IfNone};
+ghost use Rattle.refute_rules.specs.Choices.{BerthOf, options_of};
+ghost use Rattle.place_refute.specs.Picks.{choice_of, IsKnownPick};
+ghost use Rattle.place_refute.specs.Drawn.{IsDrawn};
+ghost use Rattle.place_refute.specs.Reading.{IsTreeAt, HasNoTreeAt};
+ghost use Rattle.place_refute.specs.Walking.{IsReading, AreChildrenAt, HasNoChildrenAt, IsChildAt, HasNoChildAt};
+
+use crate::case::Case;
+use crate::decision::{Decisions, Pick};
+use crate::leaf::{Trees, leaf_end};
+use crate::options::{option_at, option_count};
+use lock_model::Deck;
+
+/// What a tree is read for: its deck and decisions, the values of an x, and the marks.
+#[derive(Drop)]
+pub(crate) struct Reading<'a> {
+    pub(crate) deck: &'a Deck,
+    pub(crate) trees: Trees,
+    pub(crate) decisions: &'a Decisions,
+    pub(crate) values: &'a [u32],
+    pub(crate) marks: &'a [u32],
+}
+
+/// Where the tree of a case ends that stands at a place of the marks, if one stands there.
+#[cycle(tree)]
+pub(crate) fn tree_end(reading: &Reading, case: &mut Case, at: usize) -> Option<usize>
+    requires reading { IsReading reading.now.deck.now reading.now.trees reading.now.decisions.now reading.now.values.now }
+    requires drawn { IsDrawn reading.now.deck.now case.old }
+    requires room { length case.old.choices ≤ length reading.now.decisions.now }
+    ensures kept { case.new ≡ case.old }
+    ensures some { IfSome result (IsTreeAt reading.now.deck.now reading.now.trees (drop (length case.old.choices) reading.now.decisions.now) case.old.choices reading.now.marks.now at) }
+    ensures none { IfNone result (HasNoTreeAt reading.now.deck.now reading.now.trees (drop (length case.old.choices) reading.now.decisions.now) case.old.choices reading.now.marks.now at) }
+{
+    if at >= reading.marks.len() {
+        return None;
+    }
+    if reading.marks[at] != 0 {
+        return leaf_end(reading.deck, case, reading.trees, reading.marks, at);
+    }
+    if case.len() >= reading.decisions.len() {
+        return None;
+    }
+    children_end(reading, case, at + 1)
+}
+
+// Where the trees of all extensions by the options of the next decision end, in order.
+#[cycle(tree)]
+fn children_end(reading: &Reading, case: &mut Case, first: usize) -> Option<usize>
+    requires reading { IsReading reading.now.deck.now reading.now.trees reading.now.decisions.now reading.now.values.now }
+    requires drawn { IsDrawn reading.now.deck.now case.old }
+    requires room { length case.old.choices < length reading.now.decisions.now }
+    requires first { first ≤ length reading.now.marks.now }
+    ensures kept { case.new ≡ case.old }
+    ensures some { IfSome result (AreChildrenAt reading.now.deck.now reading.now.trees reading.now.decisions.now case.old.choices reading.now.marks.now first (length (options_of reading.now.deck.now (slice_index_or reading.now.decisions.now (length case.old.choices) (BerthOf 0))))) }
+    ensures none { IfNone result (HasNoChildrenAt reading.now.deck.now reading.now.trees reading.now.decisions.now case.old.choices reading.now.marks.now first) }
+{
+    let decision = reading.decisions.at(case.len());
+    let count = option_count(reading.deck, reading.values, decision);
+    let mut end = first;
+    for number in 0..count {
+        let pick = option_at(reading.deck, reading.values, decision, number);
+        match child_end(reading, case, pick, end) {
+            None => return None,
+            Some(next) => end = next,
+        }
+    }
+    Some(end)
+}
+
+// Where the tree of the extension by an option ends.
+#[cycle(tree)]
+fn child_end(reading: &Reading, case: &mut Case, pick: Pick, at: usize) -> Option<usize>
+    requires reading { IsReading reading.now.deck.now reading.now.trees reading.now.decisions.now reading.now.values.now }
+    requires drawn { IsDrawn reading.now.deck.now case.old }
+    requires room { length case.old.choices < length reading.now.decisions.now }
+    requires known { IsKnownPick reading.now.deck.now pick }
+    ensures kept { case.new ≡ case.old }
+    ensures some { IfSome result (IsChildAt reading.now.deck.now reading.now.trees reading.now.decisions.now case.old.choices reading.now.marks.now (choice_of pick) at) }
+    ensures none { IfNone result (HasNoChildAt reading.now.deck.now reading.now.trees reading.now.decisions.now case.old.choices reading.now.marks.now (choice_of pick) at) }
+{
+    let picks = case.len();
+    let edges = case.edges().len();
+    case.push(reading.deck, pick);
+    let end = tree_end(reading, case, at);
+    case.back(picks, edges);
+    end
+}

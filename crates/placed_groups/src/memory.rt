@@ -1,0 +1,52 @@
+//! Answers of the placers by chamber and ships.
+ghost use Rattle.std.specs.Prelude.{OnErr, IfSome};
+ghost use Rattle.std.specs.HashMap.{values, IsUnchanged};
+ghost use Rattle.std.specs.List.{IsAmong};
+
+use crate::group_key::GroupKey;
+use lock_model::{Ships, Spots};
+use place_refute::{Hard, HardSpots};
+use plain_text::NoMemory;
+use std::alloc::Global;
+use std::collections::HashMap;
+
+/// What the placers said of the ships of a chamber.
+#[derive(Debug, Drop)]
+pub enum Said {
+    /// The ships fit; these are legal spots.
+    Fits(Spots),
+    /// Neither placer came to an end within the turns.
+    Spent(Hard, HardSpots),
+}
+
+/// What was said, by chamber and ships.
+#[derive(Debug, Drop)]
+pub struct Memory {
+    said: HashMap<GroupKey, Said>,
+}
+
+impl Memory {
+    /// Nothing was said yet.
+    pub fn new(alloc: Global) -> Memory {
+        Memory {
+            said: HashMap::new(alloc),
+        }
+    }
+
+    /// What was said of these ships of this chamber.
+    pub fn find(&self, chamber: u8, ships: &Ships) -> Option<&Said>
+        ensures { IfSome result (λ said. IsAmong (values self.now.said) said.now) }
+    {
+        self.said.get(&GroupKey::of(chamber, ships))
+    }
+
+    /// Keeps what was said of these ships of this chamber. After want of memory all is as before.
+    pub fn keep(&mut self, chamber: u8, ships: &Ships, said: Said) -> Result<(), NoMemory>
+        ensures err { OnErr result (IsUnchanged self.old.said self.new.said) }
+    {
+        match self.said.insert(GroupKey::of(chamber, ships), said) {
+            Ok(_) => Ok(()),
+            Err(_) => Err(NoMemory),
+        }
+    }
+}

@@ -1,0 +1,5 @@
+pub mod SetLemmas
+pub mod JamLemmas
+pub mod LaneLemmas
+pub mod FirstLemmas
+pub mod PairLemmas

@@ -1,0 +1,14 @@
+pub mod CaseLemmas
+pub mod StepLemmas
+pub mod OptionLemmas
+pub mod CountLemmas
+pub mod KnownLemmas
+pub mod HeightLemmas
+pub mod KeptLemmas
+pub mod FaultLemmas
+pub mod JudgeLemmas
+pub mod TakeLemmas
+pub mod SpotTreeLemmas
+pub mod SpotLemmas
+pub mod PlacingLemmas
+pub mod WholeLemmas

@@ -1,0 +1,4 @@
+use Rattle.spot_place.proofs.berths.+leads_to.Given as goal
+
+abbrev pub decreases-leads_to : goal.decreases-leads_to
+decreases-leads_to l = l.steps

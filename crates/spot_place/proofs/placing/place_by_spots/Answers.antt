@@ -1,0 +1,27 @@
+use Rattle.std.proofs.Common.{refl, sym, ap, ◌∙◌, subst, ◌≡◌}
+use Rattle.lock_model.specs.Deck.{Deck, IsDeck}
+use Rattle.refute_rules.specs.Spots.{IsWholeSpots}
+use Rattle.spot_place.specs.SpotCase.{OnWay, case_on}
+use Rattle.spot_place.proofs.PlacingLemmas.{first-whole, fitting, refuting, spent}
+use Rattle.spot_place.proofs.placing.place_by_spots.Goals as goal
+
+pub spots-requires : goal.spots-requires
+spots-requires c =
+    let s = c.search.new.track in
+    subst (λ (d : Deck). IsWholeSpots d (case_on s)) (sym c.search.ensures.deck)
+    (first-whole c.new-case.result.deck c.new-case.result.deck refl c.args.turns s c.in_ok-search.field-0 c.in_ok-search.ensures.found c.in-Whole.is).is
+
+pub returns-in-Whole : goal.returns-in-Whole
+returns-in-Whole c =
+    fitting c.args.deck.now c.new-case.result.deck (ap (λ (s : OnWay). s.deck) c.new-case.ensures ∙ c.copy.ensures) c.args.turns c.search.new.track c.in_ok-search.field-0 c.in_ok-search.ensures.found c.in-Whole.is
+    c.search.ensures.deck c.spots.result c.spots.ensures.spots c.spots.ensures.legal
+
+pub returns-in-Refuted : goal.returns-in-Refuted
+returns-in-Refuted c =
+    let same : c.new-case.result.deck ≡ c.args.deck.now = ap (λ (s : OnWay). s.deck) c.new-case.ensures ∙ c.copy.ensures in
+    let shown : c.case.inside.deck ≡ c.args.deck.now = ap (λ (s : OnWay). s.deck) c.case.view_is ∙ c.search.ensures.deck ∙ same in
+    refuting c.args.deck.now c.new-case.result.deck same c.args.turns c.search.new.track c.in_ok-search.field-0 c.in_ok-search.ensures.found c.in-Refuted.marks c.in-Refuted.is (subst (λ (d : Deck). IsDeck d) shown c.case.invariant.limits)
+
+pub hard_spots-requires : goal.hard_spots-requires
+hard_spots-requires c =
+    spent c.copy-in-Spent.result c.new-case.result.deck (ap (λ (s : OnWay). s.deck) c.new-case.ensures ∙ c.copy.ensures ∙ sym c.copy-in-Spent.ensures) c.args.turns c.search.new.track c.in_ok-search.field-0 c.in_ok-search.ensures.found c.in-Spent.is

@@ -1,0 +1,8 @@
+use Rattle.std.proofs.Common.{ℕ, ◌<◌}
+use Rattle.refute_rules.specs.SpotFaults.{AreTouching}
+use Rattle.spot_place.specs.OnWay.{NoneBelow}
+use Rattle.spot_place.specs.SpotCase.{case_on}
+use Rattle.spot_place.proofs.spot_case.SpotCase.two_touching.Given as goal
+
+abbrev pub invariant-loop-ship : goal.invariant-loop-ship
+invariant-loop-ship l = (i : ℕ) → i < l.ship → NoneBelow (AreTouching l.self.deck (case_on l.self) i) i

@@ -1,0 +1,53 @@
+-- Spot cases as they are kept on their way: the berths of the first ships, and the x of these, or of all of them but the last.
+use Rattle.std.specs.Prelude.{ℕ, suc, ◌≡◌, ◌<◌, List, [], ◌∷◌, length, slice_index_or, Some, Contains}
+use Rattle.lock_model.specs.Deck.{Deck}
+use Rattle.lock_model.specs.declared.placement.Rank.TheVariants.{Left}
+use Rattle.lock_model.specs.declared.placement.Moor.{Moor}
+use Rattle.lock_model.specs.declared.placement.Moor.TheVariants.{Quay, Ship}
+use Rattle.refute_rules.specs.Choices.{Choice, Lies, Stands}
+use Rattle.refute_rules.specs.Decided.{berth_in}
+use Rattle.refute_rules.specs.Known.{host_of, hosts_within}
+use Rattle.case_search.specs.Berths.{berth_of}
+use Rattle.case_search.specs.declared.berths.Berth.{Berth as Mooring}
+
+-- the berth of ship i
+abbrev pub berth_at : List Mooring → ℕ → Mooring
+berth_at berths i = slice_index_or berths i (record { rank = Left; moor = Quay })
+
+-- the spot case of these berths and places, from ship i on
+abbrev pub case_from : ℕ → List Mooring → List ℕ → List Choice
+case_from i [] places = []
+case_from i (m ∷ ms) [] = Lies i (berth_of m) ∷ case_from (suc i) ms []
+case_from i (m ∷ ms) (x ∷ xs) = Lies i (berth_of m) ∷ Stands i x ∷ case_from (suc i) ms xs
+
+abbrev pub case_of : List Mooring → List ℕ → List Choice
+case_of berths places = case_from 0 berths places
+
+-- the berths alone
+abbrev pub lying : List Mooring → List Choice
+lying berths = case_of berths []
+
+-- the host of the berth, if it has one, is a ship of the deck
+abbrev pub IsKnownMoor : Deck → Moor → Type 0
+IsKnownMoor d Quay = Unit {0}
+IsKnownMoor d (Ship k) = k < length d.ships
+
+-- each host is a ship of the deck
+pub record AreKnown (d : Deck) (berths : List Mooring) : Type 0 where
+  pub each : (i : ℕ) → i < length berths → IsKnownMoor d (berth_at berths i).moor
+
+-- each decided host of a ship of the deck is a ship of the deck
+pub record HasKnownHosts (d : Deck) (case : List Choice) : Type 0 where
+  pub each : (i k : ℕ) → i < length d.ships → host_of (berth_in case i) ≡ Some k → k < length d.ships
+
+-- ship x is among the first hosts of ship i, counted towards the quay, at most so many
+pub record LeadsTo (case : List Choice) (steps i x : ℕ) : Type 0 where
+  pub among : Contains (hosts_within case steps i) x
+
+-- the hosts of ship i, at most so many, lead back to it
+pub record IsBack (case : List Choice) (steps i : ℕ) : Type 0 where
+  pub round : LeadsTo case steps i i
+
+-- none of the first n numbers has the property
+pub record NoneBelow (P : ℕ → Type 0) (n : ℕ) : Type 0 where
+  pub each : (i : ℕ) → i < n → P i → ⊥

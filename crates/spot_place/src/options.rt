@@ -1,0 +1,43 @@
+//! The options of the next spot decision.
+ghost use Rattle.std.specs.Prelude.{◌≡◌, ◌*◌, ◌<◌, ◌++◌, ◌∷◌, [], length, suc, slice_index_or};
+ghost use Rattle.refute_rules.specs.Choices.{Before, BerthOf, PlaceOf, options_of};
+ghost use Rattle.refute_rules.specs.SpotFaults.{IsFaultless};
+ghost use Rattle.refute_rules.specs.Values.{spot_values};
+ghost use Rattle.spot_place.specs.SpotCase.{case_on};
+
+use crate::spot_case::SpotCase;
+use case_search::berth_option;
+
+impl SpotCase {
+    /// How many spot values the deck has.
+    pub(crate) fn value_count(&self) -> u32
+        ensures { result ≡ length (spot_values self.now.deck) }
+    {
+        self.values.as_slice().len() as u32
+    }
+
+    /// Takes an option of the berth of the next ship.
+    pub(crate) fn take_berth(&mut self, option: u32)
+        requires room { length self.old.berths < length self.old.deck.ships }
+        requires step { length self.old.berths ≡ length self.old.places }
+        requires good { IsFaultless self.old.deck (case_on self.old) }
+        requires option { option < 2 * length self.old.deck.ships }
+        ensures deck { self.new.deck ≡ self.old.deck }
+        ensures case { case_on self.new ≡ case_on self.old ++ slice_index_or (options_of self.old.deck (BerthOf (length self.old.berths))) option (Before 0 0) ∷ [] }
+    {
+        let ship = self.berths.len() as u8;
+        self.moor(berth_option(self.ships(), ship, option));
+    }
+
+    /// Takes an option of the x of the ship that was moored last.
+    pub(crate) fn take_place(&mut self, option: u32)
+        requires step { length self.old.berths ≡ suc (length self.old.places) }
+        requires good { IsFaultless self.old.deck (case_on self.old) }
+        requires option { option < length (spot_values self.old.deck) }
+        ensures deck { self.new.deck ≡ self.old.deck }
+        ensures case { case_on self.new ≡ case_on self.old ++ slice_index_or (options_of self.old.deck (PlaceOf (length self.old.places))) option (Before 0 0) ∷ [] }
+    {
+        let x = self.values.as_slice()[option as usize];
+        self.place(x);
+    }
+}
