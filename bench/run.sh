@@ -34,5 +34,9 @@ for ships in 12 16 20 24; do
 done
 timed spots 20
 echo "spot values of eight ships in a chamber of 100,000: $((spent / 20 / 1000)) microseconds ($((counted / 20)) values)"
+timed cases 20
+echo "placing eight crowded ships by berths and relations: $((spent / counted)) nanoseconds a turn ($counted of them)"
+timed spotcases 20
+echo "the same by spots: $((spent / counted)) nanoseconds a turn ($counted of them)"
 timed read 200
 echo "an instance text of $(wc -c <"$text") bytes: $((spent / 200 / 1000)) microseconds a reading"

@@ -17,3 +17,4 @@ pub mod SplitLemmas
 pub mod LegalLemmas
 pub mod OutdoneLemmas
 pub mod OpeningLemmas
+pub mod SummingLemmas

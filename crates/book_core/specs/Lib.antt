@@ -11,3 +11,5 @@ pub mod Next
 pub mod Parking
 pub mod Growing
 pub mod Outdone
+pub mod Summing
+pub mod Laws

@@ -6,6 +6,7 @@ use Rattle.lock_model.specs.declared.plan.Plan.{Plan}
 use Rattle.lock_rules.specs.Plan.{IsLegal}
 use Rattle.mooring_rules.specs.declared.breaks.BrokenPlan.{BrokenPlan}
 use Rattle.mooring_rules.specs.PlanBreaks.{IsFirstBrokenPlan}
+use Rattle.master_branch.specs.Node.{IsNodeOf}
 use Rattle.search_rules.specs.Book.{Book}
 use Rattle.search_rules.specs.Events as machine
 use Rattle.search_rules.specs.Events.{Event, replace}
@@ -65,3 +66,8 @@ pub record Wants (old : Book) (r : Reply) (new : Book) : Type 0 where
 pub data Does (old : Book) (e : Event) (r : Reply) (new : Book) : Type 0 where
   Steps : Answers old e r new → Does old e r new
   Stays : Wants old r new → Does old e r new
+
+-- a node that is given is one of the instance
+abbrev pub HasNode : Instance → Reply → Type 0
+HasNode I (reply.Node id node) = IsNodeOf I node
+HasNode I _ = ⊤

@@ -20,10 +20,12 @@ mod replacing;
 mod reply;
 mod splitting;
 mod stored_slot;
+mod summing;
 mod taking;
 mod waiting;
 
 pub use book::Book;
 pub use case::Case;
+pub use laws::every_list_keeps;
 pub use opening::open_book;
 pub use reply::Reply;

@@ -7,7 +7,7 @@ ghost use Rattle.search_rules.specs.NextSlot.{next_fresh};
 ghost use Rattle.search_rules.specs.Step.{given};
 ghost use Rattle.book_core.specs.Changes.{IsFree};
 ghost use Rattle.book_core.specs.Keeps.{IsSound};
-ghost use Rattle.book_core.specs.Replies.{Answers};
+ghost use Rattle.book_core.specs.Replies.{Answers, HasNode};
 
 use crate::book::Book;
 use crate::reply::Reply;
@@ -20,7 +20,8 @@ impl Book {
         requires empty { first_slot self.old (is_held_by worker) ≡ None }
         requires first { first_slot self.old is_back ≡ Some id }
         requires sound { IsSound self.old }
-        ensures { Answers self.old (take worker) result self.new }
+        ensures step { Answers self.old (take worker) result self.new }
+        ensures node { HasNode self.old.case.instance result }
     {
         let used = self.used();
         let node = self.node_of(id);
@@ -36,7 +37,8 @@ impl Book {
         requires back { first_slot self.old is_back ≡ None }
         requires next { next_fresh self.old ≡ Some id }
         requires sound { IsSound self.old }
-        ensures { Answers self.old (take worker) result self.new }
+        ensures step { Answers self.old (take worker) result self.new }
+        ensures node { HasNode self.old.case.instance result }
     {
         let used = self.used();
         if used == self.nodes() {
@@ -53,7 +55,8 @@ impl Book {
         requires empty { first_slot self.now (is_held_by worker) ≡ None }
         requires back { first_slot self.now is_back ≡ None }
         requires next { next_fresh self.now ≡ None }
-        ensures { Answers self.now (take worker) result self.now }
+        ensures step { Answers self.now (take worker) result self.now }
+        ensures node { HasNode self.now.case.instance result }
     {
         let _ = worker;
         if self.has_held() {
@@ -69,7 +72,8 @@ impl Book {
         requires running { slice_index_or self.old.ended worker false ≡ false }
         requires empty { first_slot self.old (is_held_by worker) ≡ None }
         requires sound { IsSound self.old }
-        ensures { Answers self.old (take worker) result self.new }
+        ensures step { Answers self.old (take worker) result self.new }
+        ensures node { HasNode self.old.case.instance result }
     {
         if let Some(id) = self.first_back() {
             return self.take_back(worker, id);
@@ -86,7 +90,8 @@ impl Book {
     /// Takes no memory.
     pub fn take(&mut self, worker: u8) -> Reply
         requires { worker ≤ 8 }
-        ensures { Answers self.old (take worker) result self.new }
+        ensures step { Answers self.old (take worker) result self.new }
+        ensures node { HasNode self.old.case.instance result }
     {
         self.keeps();
         if self.ended(worker) {

@@ -93,8 +93,8 @@ none-each P options left case (c ∷ cs) each = those-append P (cases_from optio
 pub none-listed : (P : List Choice → Type 0) (options : Decision → List Choice) (left : List Decision) (case : List Choice) → ((more : List Choice) → P (case ++ more) → ⊥) → AreThose P (cases_from options left case) []
 none-listed P options [] case n = (λ h. n [] (subst P (sym (append-nil case)) h), refl)
 none-listed P options (next ∷ left) case n = (
-    λ h. n [] (subst P (sym (append-nil case)) h),
-    none-each P options left case (options next) (λ c. none-listed P options left (case ++ c ∷ []) (λ more h. n (c ∷ more) (subst P (append-assoc case (c ∷ []) more) h))),
+  λ h. n [] (subst P (sym (append-nil case)) h),
+  none-each P options left case (options next) (λ c. none-listed P options left (case ++ c ∷ []) (λ more h. n (c ∷ more) (subst P (append-assoc case (c ∷ []) more) h))),
 )
 
 -- and so do the proper extensions alone

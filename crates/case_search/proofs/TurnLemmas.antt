@@ -1,13 +1,13 @@
 -- Which cases take a turn.
-use Rattle.std.proofs.Common.{◌≡◌, ℕ, ◌+◌, ◌≤◌, ◌<◌, Bool, true, false, List, [], ◌∷◌, ◌++◌, length, take, flat_map, cond, inl, inr, refl, sym, ap, ◌∙◌, subst, arith}
+use Rattle.std.proofs.Common.{◌≡◌, ℕ, ◌+◌, ◌<◌, Bool, true, false, List, [], ◌∷◌, ◌++◌, length, take, flat_map, cond, inl, inr, refl, sym, ap, ◌∙◌, subst, arith}
 use Rattle.std.proofs.lemmas.Bool.Decides.{leb_tells}
 use Rattle.refute_rules.specs.Choices.{Decision, Choice}
 use Rattle.refute_rules.specs.Listing.{AreThose, cases_from}
-use Rattle.case_search.specs.Rules.{Rules, AreLawful, IsReached, TakesTurn, IsTurn, left_of, options_first, options_at, cases_under}
+use Rattle.case_search.specs.Rules.{Rules, AreLawful, IsReached, TakesTurn, left_of, options_first, options_at, cases_under}
 use Rattle.case_search.specs.Visits.{after_first, cases_below}
-use Rattle.case_search.specs.Counts.{NoneIn, MoreIn}
+use Rattle.case_search.specs.Counts.{NoneIn}
 use Rattle.case_search.proofs.ListLemmas.{take-front, take-append, length-push}
-use Rattle.case_search.proofs.CountLemmas.{none-nil, none-listed, none-below}
+use Rattle.case_search.proofs.CountLemmas.{none-listed, none-below}
 
 -- a good case that is reached takes a turn
 pub good-turn : (counts : Bool) (IsGood : List Choice → Type 0) (case : List Choice) → IsReached IsGood case → IsGood case → TakesTurn counts IsGood case

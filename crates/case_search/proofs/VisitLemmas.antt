@@ -6,7 +6,7 @@ use Rattle.refute_rules.specs.Listing.{cases_from}
 use Rattle.refute_rules.specs.Trees.{AreInOrder, IsLeaf, IsTree}
 use Rattle.case_search.specs.Rules.{Rules, AreLawful, IsReached, TakesTurn, IsTurn, left_of, options_first, options_at, with_option, cases_under}
 use Rattle.case_search.specs.Counts.{NoneIn, FirstIn, MoreIn}
-use Rattle.case_search.specs.Visits.{GrewByTree, after_first, IsTreeBelow, cases_below, IsPassed, IsRefuted, IsVisit}
+use Rattle.case_search.specs.Visits.{after_first, IsTreeBelow, cases_below, IsPassed, IsRefuted, IsVisit}
 use Rattle.case_search.specs.declared.visits.Visit.{Visit}
 use Rattle.case_search.specs.declared.visits.Visit.TheVariants.{Refuted, Whole, Spent}
 use Rattle.case_search.proofs.ListLemmas.{append-assoc, length-push, flat_map-append, flat_map-one, take-more, take-all, split-at, drop-more, drop-all, drop-length, in_order-more}

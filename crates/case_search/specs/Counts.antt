@@ -1,5 +1,5 @@
 -- How far a search has come in a list of cases: `a` cases with property P were counted before it, `b` after it.
-use Rattle.std.specs.Prelude.{ℕ, ◌≡◌, ◌+◌, List, [], ◌∷◌, ◌++◌, length}
+use Rattle.std.specs.Prelude.{ℕ, ◌≡◌, ◌+◌, List, ◌∷◌, ◌++◌, length}
 use Rattle.std.specs.List.{AllByRecursion}
 use Rattle.refute_rules.specs.Listing.{AreThose}
 

@@ -6,11 +6,14 @@
 //! - `Track` is a case on its way through the decisions. Its `Rules` say what the decisions, faults
 //!   and ends are, and whether a faulty case takes a turn: `specs/Rules.antt`.
 //! - What `search` answers: `specs/Found.antt`, by the lists and trees of `refute_rules`.
+//! - `berth_option` gives the berths of a ship by their numbers, as both placers list them.
 //! - `specs/Counts.antt` and `Visits.antt` say what the visit of one case does.
 #![tactic(auto)]
 
 mod berths;
 mod searching;
+#[cfg(test)]
+mod tests;
 mod tracks;
 mod visits;
 

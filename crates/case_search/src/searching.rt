@@ -2,8 +2,8 @@
 ghost use Rattle.std.specs.Prelude.{◌≡◌, [], IfOk};
 ghost use Rattle.case_search.specs.Found.{IsFound};
 
-use crate::visits::{Visit, explore};
 use crate::tracks::Track;
+use crate::visits::{Visit, explore};
 use plain_text::NoMemory;
 use refute_rules::Marks;
 use std::alloc::Global;

@@ -1,6 +1,7 @@
 //! Repeats a call so often that a script can time it: `bounds SHIPS CHAMBERS ROUNDS` walks down the
 //! search tree of generated instances by the least bound and bounds all children on the way, `spots
-//! ROUNDS` lists the spot values of eight ships in the longest chamber, and `read ROUNDS` reads the
+//! ROUNDS` lists the spot values of eight ships in the longest chamber, `cases ROUNDS` and `spotcases
+//! ROUNDS` let the two placers spend their turns on a crowded deck, and `read ROUNDS` reads the
 //! instance text on standard input. It prints what it counted, and never a time.
 #![tactic(auto)]
 
@@ -28,6 +29,8 @@ fn main(rt: HostRuntime) -> io::Result<()> {
             number_of(words.get(3)),
         ),
         Some("spots") => repeats::spots(alloc, number_of(words.get(1))),
+        Some("cases") => repeats::cases(alloc, number_of(words.get(1))),
+        Some("spotcases") => repeats::spot_cases(alloc, number_of(words.get(1))),
         Some("read") => {
             let mut source = StdSource::new(rt.stdin());
             match read_all(alloc, &mut source, 65_536) {

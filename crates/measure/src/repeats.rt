@@ -1,11 +1,13 @@
 //! The calls that are repeated.
 ghost use Rattle.std.specs.Prelude.{◌<◌, ◌≤◌, length};
 
+use chamber_place::{Placed, place};
 use deck_laws::spot_values;
 use flow_bounds::child_bounds;
 use instance_text::{make_lot, read_instance};
 use lock_model::{Deck, Instance, Measures, Size, Sizes};
 use master_branch::{descend, root};
+use spot_place::{SpotPlaced, place_by_spots};
 use std::alloc::Global;
 
 // The place of the least of some numbers.
@@ -82,6 +84,58 @@ pub(crate) fn spots(alloc: Global, rounds: u32) -> u64 {
         }
     }
     values
+}
+
+// The turns that the placers get.
+const TURNS: u32 = 20_000;
+
+// Eight equal ships, of which only six lie side by side and one after the other; no quick reason
+// says so.
+fn crowded_deck() -> Option<Deck> {
+    let mut sizes = Sizes::new();
+    for _ in 0..8 {
+        sizes.push(Size {
+            length: 640,
+            width: 77,
+            cargo: 0,
+        });
+    }
+    let measures = Measures {
+        length: 2_000,
+        width: 240,
+        end: 10,
+        gap: 20,
+        side: 5,
+    };
+    Deck::new(measures, sizes)
+}
+
+/// How many turns the placer by berths and relations spends on a crowded deck in so many rounds.
+pub(crate) fn cases(alloc: Global, rounds: u32) -> u64 {
+    let Some(deck) = crowded_deck() else {
+        return 0;
+    };
+    let mut turns: u64 = 0;
+    for _ in 0..rounds {
+        if let Ok(Placed::Spent(hard)) = place(alloc, &deck, TURNS) {
+            turns = turns.saturating_add(hard.turns as u64);
+        }
+    }
+    turns
+}
+
+/// How many turns the placer by spots spends on it.
+pub(crate) fn spot_cases(alloc: Global, rounds: u32) -> u64 {
+    let Some(deck) = crowded_deck() else {
+        return 0;
+    };
+    let mut turns: u64 = 0;
+    for _ in 0..rounds {
+        if let Ok(SpotPlaced::Spent(hard)) = place_by_spots(alloc, &deck, TURNS) {
+            turns = turns.saturating_add(hard.turns as u64);
+        }
+    }
+    turns
 }
 
 /// How many ships the text has, added over so many readings.

@@ -1,7 +1,5 @@
-use Rattle.std.proofs.Common.{rules, ◌≡◌, ◌≤◌, ◌<◌, ◌-◌, ◌+◌, ◌/◌, ◌%◌, ℕ, sym, ap, ◌∙◌, arith}
+use Rattle.std.proofs.Common.{sym, ◌∙◌}
 use Rattle.lock_model.specs.declared.placement.Moor.TheVariants.{Ship}
-use Rattle.lock_model.specs.declared.placement.Rank.{Rank}
-use Rattle.refute_rules.specs.Choices.{Berth}
 use Rattle.case_search.proofs.BerthLemmas.{host-at}
 use Rattle.case_search.proofs.berths.berth_option.Goals as goal
 

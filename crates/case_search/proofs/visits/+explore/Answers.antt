@@ -1,5 +1,4 @@
-use Rattle.std.proofs.Common.{rules, ◌≡◌, ◌≢◌, ◌<◌, ◌≤◌, ◌++◌, ◌∷◌, [], length, slice_index_or, refl, arith, ◌∙◌, subst}
-use Rattle.std.proofs.lemmas.Grind.{common_steps}
+use Rattle.std.proofs.Common.{rules, ◌≡◌, ◌<◌, ◌≤◌, length, slice_index_or, refl, arith, ◌∙◌, subst}
 use Rattle.case_search.specs.declared.visits.Visit.TheVariants.{Refuted}
 use Rattle.case_search.specs.Rules.{options_at, with_option}
 use Rattle.case_search.specs.Visits.{IsVisit, IsRefuted}
@@ -22,10 +21,10 @@ pub loop-option-init : goal.loop-option-init
 loop-option-init g t c =
     let unfinished : length (g.T.Track.case c.args.track.now) ≡ length (g.T.Track.rules (g.T.Track.deck c.args.track.now)).decisions → ⊥ = search rules in
     record {
-  deck = refl;
-  case = refl;
-  passed = passed-begin (g.T.Track.rules (g.T.Track.deck c.args.track.now)) (g.T.Track.case c.args.track.now) (g.met.T.Track.lawful (g.T.Track.deck c.args.track.now)) c.requires.reached c.in_default.ensures unfinished c.args.used.now c.args.turns c.if-used-turns.false c.args.marks.now c.push.new.self c.in_ok-push.ensures.ok;
-}
+      deck = refl;
+      case = refl;
+      passed = passed-begin (g.T.Track.rules (g.T.Track.deck c.args.track.now)) (g.T.Track.case c.args.track.now) (g.met.T.Track.lawful (g.T.Track.deck c.args.track.now)) c.requires.reached c.in_default.ensures unfinished c.args.used.now c.args.turns c.if-used-turns.false c.args.marks.now c.push.new.self c.in_ok-push.ensures.ok;
+    }
 
 pub returns-then-ne-clause-visit : goal.returns-then-ne-clause-visit
 returns-then-ne-clause-visit g t c =
@@ -36,7 +35,7 @@ returns-then-ne-clause-visit g t c =
     let less : k < length (options_at r case) = search rules in
     let other : c.in_ok-inner.inner ≡ Refuted → ⊥ = search rules in
     let inner : IsVisit r (with_option r case k) c.args.turns c.loop-option.used c.explore.new.used c.loop-option.marks c.explore.new.marks end c.in_ok-inner.inner =
-        entered-visit g.T.Track.rules (g.T.Track.deck c.args.track.now) (g.T.Track.deck c.loop-option.track) (g.T.Track.deck c.enter.new.self) case (g.T.Track.case c.loop-option.track) (g.T.Track.case c.enter.new.self) c.args.turns k c.loop-option.used c.explore.new.used c.loop-option.marks c.explore.new.marks end c.in_ok-inner.inner c.loop-option.invariant.deck c.loop-option.invariant.case c.enter.ensures.deck c.enter.ensures.case c.in_ok-inner.ensures.visit in
+    entered-visit g.T.Track.rules (g.T.Track.deck c.args.track.now) (g.T.Track.deck c.loop-option.track) (g.T.Track.deck c.enter.new.self) case (g.T.Track.case c.loop-option.track) (g.T.Track.case c.enter.new.self) c.args.turns k c.loop-option.used c.explore.new.used c.loop-option.marks c.explore.new.marks end c.in_ok-inner.inner c.loop-option.invariant.deck c.loop-option.invariant.case c.enter.ensures.deck c.enter.ensures.case c.in_ok-inner.ensures.visit in
     visit-below r case c.args.used.now c.loop-option.used c.explore.new.used c.args.turns k c.args.marks.now c.loop-option.marks c.explore.new.marks c.explore.new.marks end c.in_ok-inner.inner less other c.loop-option.invariant.passed inner
 
 pub loop-option-preserved : goal.loop-option-preserved
@@ -48,9 +47,9 @@ loop-option-preserved g t c =
     let less : k < length (options_at r case) = search rules in
     let refuted : c.in_ok-inner.inner ≡ Refuted = search rules in
     let inner : IsVisit r (with_option r case k) c.args.turns c.loop-option.used c.explore.new.used c.loop-option.marks c.explore.new.marks end c.in_ok-inner.inner =
-        entered-visit g.T.Track.rules (g.T.Track.deck c.args.track.now) (g.T.Track.deck c.loop-option.track) (g.T.Track.deck c.enter.new.self) case (g.T.Track.case c.loop-option.track) (g.T.Track.case c.enter.new.self) c.args.turns k c.loop-option.used c.explore.new.used c.loop-option.marks c.explore.new.marks end c.in_ok-inner.inner c.loop-option.invariant.deck c.loop-option.invariant.case c.enter.ensures.deck c.enter.ensures.case c.in_ok-inner.ensures.visit in
+    entered-visit g.T.Track.rules (g.T.Track.deck c.args.track.now) (g.T.Track.deck c.loop-option.track) (g.T.Track.deck c.enter.new.self) case (g.T.Track.case c.loop-option.track) (g.T.Track.case c.enter.new.self) c.args.turns k c.loop-option.used c.explore.new.used c.loop-option.marks c.explore.new.marks end c.in_ok-inner.inner c.loop-option.invariant.deck c.loop-option.invariant.case c.enter.ensures.deck c.enter.ensures.case c.in_ok-inner.ensures.visit in
     let below : IsRefuted r (with_option r case k) c.loop-option.used c.explore.new.used c.loop-option.marks c.explore.new.marks end =
-        subst (IsVisit r (with_option r case k) c.args.turns c.loop-option.used c.explore.new.used c.loop-option.marks c.explore.new.marks end) refuted inner in
+    subst (IsVisit r (with_option r case k) c.args.turns c.loop-option.used c.explore.new.used c.loop-option.marks c.explore.new.marks end) refuted inner in
     record {
       deck = c.leave.ensures.deck ∙ c.in_ok-inner.ensures.deck ∙ c.enter.ensures.deck ∙ c.loop-option.invariant.deck;
       case = c.leave.ensures.case case (slice_index_or (options_at r case) k (Before 0 0)) below.back;

@@ -1,4 +1,4 @@
-use Rattle.std.proofs.Common.{◌≡◌, ℕ, ◌+◌, ◌-◌, ◌<◌, Bool, true, false, cond, refl, ap, ◌∙◌, subst}
+use Rattle.std.proofs.Common.{◌≡◌, ◌+◌, ◌-◌, ◌<◌, Bool, true, false, cond, refl, ap, ◌∙◌, subst}
 use mir.Val.{bool_byte}
 use Rattle.case_search.proofs.VisitLemmas.{fault-refuted, fault-spent}
 use Rattle.case_search.proofs.visits.end_faulty.Goals as goal

@@ -3,8 +3,8 @@ use Rattle.book_core.proofs.EventLemmas.{take-ended, take-holds, take-idle, take
 use Rattle.book_core.proofs.HandOverLemmas.{free-known}
 use Rattle.book_core.proofs.book.Book.take.Goals as goal
 
-pub returns-then-ended : goal.returns-then-ended
-returns-then-ended c = take-ended c.args.self.now c.args.worker (sym c.ended.ensures ∙ c.if-ended.true)
+pub returns-then-ended-clause-step : goal.returns-then-ended-clause-step
+returns-then-ended-clause-step c = take-ended c.args.self.now c.args.worker (sym c.ended.ensures ∙ c.if-ended.true)
 
-pub returns-in-Some : goal.returns-in-Some
-returns-in-Some c = take-holds c.args.self.now c.args.worker c.in-Some.id (sym c.ended.ensures ∙ c.if-ended.false) (sym c.held_by.ensures ∙ c.in-Some.is)
+pub returns-in-Some-clause-step : goal.returns-in-Some-clause-step
+returns-in-Some-clause-step c = take-holds c.args.self.now c.args.worker c.in-Some.id (sym c.ended.ensures ∙ c.if-ended.false) (sym c.held_by.ensures ∙ c.in-Some.is)

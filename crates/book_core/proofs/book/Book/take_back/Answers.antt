@@ -12,8 +12,8 @@ give-requires-clause-sound c =
     given-sound b c.args.worker c.requires.sound c.requires.known c.args.id c.used-used.result
     (back-given b c.args.worker c.args.id c.requires.running c.requires.empty c.requires.first ∙ ap (given b c.args.worker c.args.id) (sym c.used-used.ensures))
 
-pub returns : goal.returns
-returns c =
+pub returns-clause-step : goal.returns-clause-step
+returns-clause-step c =
     let b = c.args.self.now in
     given-answers b c.args.worker c.requires.sound c.requires.known c.args.id c.used-used.result
     (back-given b c.args.worker c.args.id c.requires.running c.requires.empty c.requires.first ∙ ap (given b c.args.worker c.args.id) (sym c.used-used.ensures))

@@ -3,8 +3,8 @@ use Rattle.book_core.proofs.EventLemmas.{take-ended, take-holds, take-idle, take
 use Rattle.book_core.proofs.HandOverLemmas.{free-known}
 use Rattle.book_core.proofs.book.Book.take_fresh.Goals as goal
 
-pub returns-then-used-nodes : goal.returns-then-used-nodes
-returns-then-used-nodes c =
+pub returns-then-used-nodes-clause-step : goal.returns-then-used-nodes-clause-step
+returns-then-used-nodes-clause-step c =
     take-spent c.args.self.now c.args.worker c.args.id c.used-used.result c.used-used.ensures c.requires.running c.requires.empty c.requires.back c.requires.next (c.if-used-nodes.true ∙ c.nodes.ensures)
 
 pub node_of-node-requires : goal.node_of-node-requires
@@ -20,8 +20,8 @@ give-requires-clause-sound c =
     let same = fresh-given b c.args.worker c.args.id c.used-used.result used c.requires.running c.requires.empty c.requires.back c.requires.next (λ e. c.if-used-nodes.false (e ∙ sym c.nodes.ensures)) (c.used-used.result + 1) (omega arith) in
     given-sound b c.args.worker c.requires.sound c.requires.known c.args.id (c.used-used.result + 1) same
 
-pub returns : goal.returns
-returns c =
+pub returns-clause-step : goal.returns-clause-step
+returns-clause-step c =
     let b = c.args.self.now in
     let used = c.used-used.ensures in
     let same = fresh-given b c.args.worker c.args.id c.used-used.result used c.requires.running c.requires.empty c.requires.back c.requires.next (λ e. c.if-used-nodes.false (e ∙ sym c.nodes.ensures)) (c.used-used.result + 1) (omega arith) in

@@ -5,8 +5,8 @@ use Rattle.book_core.proofs.EventLemmas.{take-ended, take-holds, take-idle, take
 use Rattle.book_core.proofs.HandOverLemmas.{free-known}
 use Rattle.book_core.proofs.book.Book.take_none.Goals as goal
 
-pub returns-then-has_held : goal.returns-then-has_held
-returns-then-has_held c = take-idle c.args.self.now c.args.worker c.requires.running c.requires.empty c.requires.back c.requires.next (sym c.has_held.ensures ∙ c.if-has_held.true)
+pub returns-then-has_held-clause-step : goal.returns-then-has_held-clause-step
+returns-then-has_held-clause-step c = take-idle c.args.self.now c.args.worker c.requires.running c.requires.empty c.requires.back c.requires.next (sym c.has_held.ensures ∙ c.if-has_held.true)
 
-pub returns-else-has_held : goal.returns-else-has_held
-returns-else-has_held c = take-done c.args.self.now c.args.worker c.requires.running c.requires.empty c.requires.back c.requires.next (sym c.has_held.ensures ∙ c.if-has_held.false)
+pub returns-else-has_held-clause-step : goal.returns-else-has_held-clause-step
+returns-else-has_held-clause-step c = take-done c.args.self.now c.args.worker c.requires.running c.requires.empty c.requires.back c.requires.next (sym c.has_held.ensures ∙ c.if-has_held.false)

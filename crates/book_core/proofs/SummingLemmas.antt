@@ -1,0 +1,80 @@
+-- What is read off the stored slots is what the slots say.
+use Rattle.std.proofs.Common.{◌≡◌, ◌≢◌, ℕ, zero, suc, ◌+◌, ◌<◌, ◌≤◌, List, [], ◌∷◌, ◌++◌, length, map, filter, refl, sym, ap, ◌∙◌, subst, arith, Bool, true, false, not, cond, ◌||◌, slice_index_or, Some, None, nat_lt, min}
+use Rattle.std.specs.declared.option.Option.{Option}
+use Rattle.std.specs.List.{list_any, position, position_or_len}
+use Rattle.lock_model.specs.declared.instance.Instance.{Instance}
+use Rattle.lock_model.specs.declared.group.Group.{Group}
+use Rattle.lock_rules.specs.Node.{IsNode, line_at}
+use Rattle.lock_rules.specs.Bound.{least_number}
+use Rattle.flow_bounds.specs.Least.{least_told}
+use Rattle.search_rules.specs.declared.book.SlotState.{SlotState}
+use Rattle.search_rules.specs.declared.book.SlotState.TheVariants as slot
+use Rattle.search_rules.specs.Book.{Book, Node, Slot, no_slot, slot_at, is_live, is_parked, first_slot}
+use Rattle.search_rules.specs.States.{Tells, IsTrueSlot, IsSpentGroup}
+use Rattle.search_rules.proofs.SlotLemmas.{first_slot-at}
+use Rattle.book_core.specs.declared.stored_slot.StoredSlot.{StoredSlot}
+use Rattle.book_core.specs.Stored.{node_after, slot_with, slots_after, slots_of}
+use Rattle.book_core.specs.Summing.{live_bounds}
+use Rattle.book_core.specs.Keeps.{IsSound}
+use Rattle.book_core.proofs.NodeLemmas.{slot-node}
+
+module _ (I : Instance) where
+  any-after : (test : SlotState → Bool) (done : List Node) (ss : List StoredSlot) → list_any (λ (s : StoredSlot). test s.state) ss ≡ list_any (λ (s : Slot). test s.state) (slots_after I done ss)
+  any-after test done [] = refl
+  any-after test done (s ∷ ss) = ap (λ t. test s.state || t) (any-after test (done ++ node_after I done s ∷ []) ss)
+
+  pub any-stored : (test : SlotState → Bool) (ss : List StoredSlot) → list_any (λ (s : StoredSlot). test s.state) ss ≡ list_any (λ (s : Slot). test s.state) (slots_of I ss)
+  any-stored test ss = any-after test [] ss
+
+  place-after : (test : SlotState → Bool) (done : List Node) (ss : List StoredSlot) → position_or_len (λ (s : StoredSlot). test s.state) ss ≡ position_or_len (λ (s : Slot). test s.state) (slots_after I done ss)
+  place-after test done [] = refl
+  place-after test done (s ∷ ss) = ap (λ n. cond (not (test s.state)) (1 + n) 0) (place-after test (done ++ node_after I done s ∷ []) ss)
+
+  length-after : (done : List Node) (ss : List StoredSlot) → length ss ≡ length (slots_after I done ss)
+  length-after done [] = refl
+  length-after done (s ∷ ss) = ap suc (length-after (done ++ node_after I done s ∷ []) ss)
+
+  pub position-stored : (test : SlotState → Bool) (ss : List StoredSlot) → position (λ (s : StoredSlot). test s.state) ss ≡ position (λ (s : Slot). test s.state) (slots_of I ss)
+  position-stored test ss = λ i. cond (nat_lt (place-after test [] ss i) (length-after [] ss i)) (Some (place-after test [] ss i)) None
+
+  live-one : (s : StoredSlot) (n : Node) (t : Bool) (ss : List StoredSlot) (rest : List Slot) → map (λ (s : StoredSlot). s.bound) (filter (λ (s : StoredSlot). is_live s.state) ss) ≡ map (λ (s : Slot). s.bound) (filter (λ (s : Slot). is_live s.state) rest)
+      → map (λ (s : StoredSlot). s.bound) (cond t (s ∷ filter (λ (s : StoredSlot). is_live s.state) ss) (filter (λ (s : StoredSlot). is_live s.state) ss))
+        ≡ map (λ (s : Slot). s.bound) (cond t (slot_with s n ∷ filter (λ (s : Slot). is_live s.state) rest) (filter (λ (s : Slot). is_live s.state) rest))
+  live-one s n true ss rest same = ap (λ l. s.bound ∷ l) same
+  live-one s n false ss rest same = same
+
+  live-after : (done : List Node) (ss : List StoredSlot) → live_bounds ss ≡ map (λ (s : Slot). s.bound) (filter (λ (s : Slot). is_live s.state) (slots_after I done ss))
+  live-after done [] = refl
+  live-after done (s ∷ ss) = live-one s (node_after I done s) (is_live s.state) ss (slots_after I (done ++ node_after I done s ∷ []) ss) (live-after (done ++ node_after I done s ∷ []) ss)
+
+  pub live-stored : (ss : List StoredSlot) → live_bounds ss ≡ map (λ (s : Slot). s.bound) (filter (λ (s : Slot). is_live s.state) (slots_of I ss))
+  live-stored ss = live-after [] ss
+
+-- ---- the parked group
+
+pub parked-group : (b : Book) → IsSound b → (id c p : ℕ) → id < length b.slots → (slot_at b id).state ≡ slot.Parked c p → IsSpentGroup b.case (slot_at b id).node c p
+parked-group b sound id c p known is = subst (Tells b.case b.cuts (Rattle.search_rules.specs.Book.best_cost b) (slot_at b id).node (slot_at b id).bound) is (sound.parts.states.states id no_slot known)
+
+line-past : (lines : List (List Group)) (c : ℕ) → length lines ≤ c → length (line_at lines c) ≡ 0
+line-past [] c past = refl
+line-past (l ∷ ls) zero past = absurd (omega (arith, past))
+line-past (l ∷ ls) (suc c) past = line-past ls c (omega (arith, past))
+
+pub parked-chamber : (b : Book) → IsSound b → (id c p : ℕ) → id < length b.slots → (slot_at b id).state ≡ slot.Parked c p → c < 4
+parked-chamber b sound id c p known is =
+    let node = slot-node b sound id known in
+    let there = (parked-group b sound id c p known is).there in
+    by-length (slot_at b id).node.lines c p node.four there
+  where
+    by-length : (lines : List (List Group)) (c p : ℕ) → length lines ≡ 4 → p < length (line_at lines c) → c < 4
+    by-length lines zero p four there = omega arith
+    by-length [] (suc c) p four there = absurd (omega (arith, four))
+    by-length (l ∷ ls) (suc c) p four there = let rest = within ls c p there in omega (arith, four, rest)
+      where
+        within : (ls : List (List Group)) (c p : ℕ) → p < length (line_at ls c) → c < length ls
+        within [] c p there = absurd (omega (arith, there))
+        within (l ∷ ls) zero p there = omega arith
+        within (l ∷ ls) (suc c) p there = let rest = within ls c p there in omega (arith, rest)
+
+pub parked-at : (b : Book) (id : ℕ) → first_slot b is_parked ≡ Some id → id < length b.slots
+parked-at b id first = (first_slot-at b is_parked id first).0
