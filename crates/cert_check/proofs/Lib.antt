@@ -3,6 +3,5 @@ pub mod MissingLemmas
 pub mod TreeLemmas
 pub mod ReadLemmas
 pub mod FirstFailure
-pub mod PlanLemmas
 pub mod AnswerLemmas
 pub mod SomeFailure

@@ -1,4 +1,4 @@
-use Rattle.cert_check.proofs.PlanLemmas.{legal-arrived}
+use Rattle.lock_rules.proofs.LegalLemmas.{legal-arrived}
 use Rattle.cert_check.proofs.checking.costs.Goals as goal
 
 pub cost-requires-clause-arrived : goal.cost-requires-clause-arrived
