@@ -71,11 +71,11 @@ kids-slots I cost id node (l ∷ ls) before n done count all known is =
     let own : Node = record { depth = suc node.depth; lines = l } in
     let lines : slice_index_or (children_of I node.depth node.lines) n root_lines ≡ l = (λ i. slice_index_or (all i) (count i) root_lines) ∙ at-middle before l ls root_lines in
     let here : node_after I done s ≡ own =
-        after-some I done s (omega (arith, known)) ∙ ap (λ m. child_node I m n) is ∙ ap (λ x. record { depth = suc node.depth; lines = x }) lines in
+    after-some I done s (omega (arith, known)) ∙ ap (λ m. child_node I m n) is ∙ ap (λ x. record { depth = suc node.depth; lines = x }) lines in
     let kid : Node → Slot = λ m. record { parent = id; number = n; node = m; bound = bound_of I (suc node.depth) l; state = cond (nat_le cost (bound_of I (suc node.depth) l)) slot.ByBound slot.Fresh } in
     let long = length-both done (node_after I done s ∷ []) in
     let rest = kids-slots I cost id node ls (before ++ l ∷ []) (suc n) (done ++ node_after I done s ∷ []) (omega (arith, count, length-both before (l ∷ []))) (all ∙ sym (append-three before (l ∷ []) ls))
-        (omega (arith, known, long)) (get_or-append done (node_after I done s ∷ []) root id known ∙ is) in
+    (omega (arith, known, long)) (get_or-append done (node_after I done s ∷ []) root id known ∙ is) in
     (λ i. kid (here i) ∷ rest i)
 
 -- ---- the slots of a book that is split
@@ -194,7 +194,7 @@ pub grown-is : (I : Instance) (ss : List StoredSlot) (id : ℕ) (r : StoredSlot)
     → (node : Node) → (slot_in (slots_of I ss) id).node ≡ node → bounds ≡ map (bound_of I (suc node.depth)) (children_of I node.depth node.lines)
     → (n : ℕ) → n ≡ length (slots_of I ss)
     → slots_of I (slice_set ss id (restated r (slot.Split n)) ++ stored_children cost id 0 bounds)
-      ≡ set_state (slots_of I ss) id (slot.Split (length (slots_of I ss))) ++ child_slots I cost id (suc node.depth) 0 (children_of I node.depth node.lines)
+    ≡ set_state (slots_of I ss) id (slot.Split (length (slots_of I ss))) ++ child_slots I cost id (suc node.depth) 0 (children_of I node.depth node.lines)
 grown-is I ss id r cost bounds known is node node_is bounds_are n count =
     let S = slots_of I ss in
     let mid = slice_set ss id (restated r (slot.Split n)) in

@@ -66,18 +66,18 @@ module _ (I : Instance) (ss : List StoredSlot) (ws : List Waiting) (good : AreWa
   -- where the last split has no Fresh child it leaves the list
   pub waiting-popped : HasNoFresh ss last.first last.end → (ws' : List Waiting) → ws' ≡ take n ws → AreWaiting slots ws'
   waiting-popped none ws' shorter = subst (AreWaiting slots) (sym shorter) (record {
-      each = λ k known.
-          let less : k < n = omega (arith, known, length-take-le n ws (omega (arith, count))) in
-          subst (IsWaiting slots) (sym (get_or-take n ws k (record { split = 0; first = 0; end = 0 }) less)) (good.each k (omega (arith, less, count)));
-      rising = λ k l less known.
-          let far : l < n = omega (arith, known, length-take-le n ws (omega (arith, count))) in
-          let near : k < n = omega (arith, less, far) in
-          let at_k = ap (λ (w : Waiting). w.first) (get_or-take n ws k (record { split = 0; first = 0; end = 0 }) near) in
-          let at_l = ap (λ (w : Waiting). w.first) (get_or-take n ws l (record { split = 0; first = 0; end = 0 }) far) in
-          let old = good.rising k l less (omega (arith, far, count)) in
-          omega (arith, at_k, at_l, old);
-      all = λ id some e. let found = good.all id some e in (found.0, stays id e found.0 found.1);
-    })
+    each = λ k known.
+        let less : k < n = omega (arith, known, length-take-le n ws (omega (arith, count))) in
+        subst (IsWaiting slots) (sym (get_or-take n ws k (record { split = 0; first = 0; end = 0 }) less)) (good.each k (omega (arith, less, count)));
+    rising = λ k l less known.
+        let far : l < n = omega (arith, known, length-take-le n ws (omega (arith, count))) in
+        let near : k < n = omega (arith, less, far) in
+        let at_k = ap (λ (w : Waiting). w.first) (get_or-take n ws k (record { split = 0; first = 0; end = 0 }) near) in
+        let at_l = ap (λ (w : Waiting). w.first) (get_or-take n ws l (record { split = 0; first = 0; end = 0 }) far) in
+        let old = good.rising k l less (omega (arith, far, count)) in
+        omega (arith, at_k, at_l, old);
+    all = λ id some e. let found = good.all id some e in (found.0, stays id e found.0 found.1);
+  })
     where
       stays : (id : ℕ) → state_in slots id ≡ slot.Fresh → (place : ℕ) → IsInEntry ws id place → IsInEntry (take n ws) id place
       stays id e place h = elim (eqb_tells place n) [
@@ -100,24 +100,24 @@ module _ (I : Instance) (ss : List StoredSlot) (ws : List Waiting) (good : AreWa
   -- its best Fresh child is next
   pub least-next : (id : ℕ) → IsLeastIn ss last.first last.end id → IsNext slots id
   least-next id h = record {
-      entry = last;
-      waits = last-waits;
-      from = h.from;
-      before = h.before;
-      fresh = (stored-any I ss id).state ∙ h.fresh;
-      least = λ other from before e. let best = (h.best other from before (state-stored other e)).least in omega (arith, best, (stored-any I ss id).bound, (stored-any I ss other).bound);
-      tie = λ other from before e less. let best = (h.best other from before (state-stored other e)).tie less in omega (arith, best, (stored-any I ss id).bound, (stored-any I ss other).bound);
-      last = λ other some e. let found = good.all other some e in stands other found.0 found.1;
-    }
+    entry = last;
+    waits = last-waits;
+    from = h.from;
+    before = h.before;
+    fresh = (stored-any I ss id).state ∙ h.fresh;
+    least = λ other from before e. let best = (h.best other from before (state-stored other e)).least in omega (arith, best, (stored-any I ss id).bound, (stored-any I ss other).bound);
+    tie = λ other from before e less. let best = (h.best other from before (state-stored other e)).tie less in omega (arith, best, (stored-any I ss id).bound, (stored-any I ss other).bound);
+    last = λ other some e. let found = good.all other some e in stands other found.0 found.1;
+  }
     where
       stands : (other place : ℕ) → IsInEntry ws other place → StandsBefore slots last.first other
       stands other place h = record {
-          entry = waiting_at ws place;
-          waits = good.each place h.known;
-          from = h.from;
-          before = h.before;
-          least = at_most;
-        }
+        entry = waiting_at ws place;
+        waits = good.each place h.known;
+        from = h.from;
+        before = h.before;
+        least = at_most;
+      }
         where
           at_most : (waiting_at ws place).first ≤ last.first
           at_most = elim (eqb_tells place n) [

@@ -27,19 +27,19 @@ module _ (s : Slot) (t : Bool) (is : s.state ≡ cond t slot.ByBound slot.Fresh)
 
   pub opening-tables : AreTables (s ∷ []) (replicate 9 false) (replicate 9 None) [] []
   opening-tables = record {
-      hands_are = record {
-        nine = refl;
-        held = λ w id e. absurd (none-some id (sym (no-hand 9 w) ∙ e));
-        hand = λ w id e. absurd (at (λ state. state ≢ slot.Held w) (closed-held w) (fresh-held w) id e);
-      };
-      back_are = record { rising = tt; each = λ id among. absurd among; all = λ id e. absurd (at (λ state. state ≢ slot.Back) closed-back fresh-back id e) };
-      few = omega arith;
-      waiting_are = record {
-        each = λ k known. absurd (omega (arith, known));
-        rising = λ k l less known. absurd (omega (arith, known));
-        all = λ id some e. absurd (behind id some e);
-      };
-    }
+    hands_are = record {
+      nine = refl;
+      held = λ w id e. absurd (none-some id (sym (no-hand 9 w) ∙ e));
+      hand = λ w id e. absurd (at (λ state. state ≢ slot.Held w) (closed-held w) (fresh-held w) id e);
+    };
+    back_are = record { rising = tt; each = λ id among. absurd among; all = λ id e. absurd (at (λ state. state ≢ slot.Back) closed-back fresh-back id e) };
+    few = omega arith;
+    waiting_are = record {
+      each = λ k known. absurd (omega (arith, known));
+      rising = λ k l less known. absurd (omega (arith, known));
+      all = λ id some e. absurd (behind id some e);
+    };
+  }
     where
       closed-held : (w : ℕ) → slot.ByBound ≢ slot.Held w
       closed-held w e = cc

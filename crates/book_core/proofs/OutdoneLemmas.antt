@@ -49,7 +49,7 @@ each-outdone cost (s ∷ ss) (n ∷ ns) count each =
 
 one-outdone : (I : Instance) (cost : ℕ) (s : StoredSlot) (ss : List StoredSlot) (done : List Node) (t : Bool) → ((more : List Node) → slots_after I more (map (outdone_stored cost) ss) ≡ map (outdone cost) (slots_after I more ss))
     → slots_after I done (cond t (record s { state = slot.ByBound }) s ∷ map (outdone_stored cost) ss)
-      ≡ cond t (record (slot_with s (node_after I done s)) { state = slot.ByBound }) (slot_with s (node_after I done s)) ∷ map (outdone cost) (slots_after I (done ++ node_after I done s ∷ []) ss)
+    ≡ cond t (record (slot_with s (node_after I done s)) { state = slot.ByBound }) (slot_with s (node_after I done s)) ∷ map (outdone cost) (slots_after I (done ++ node_after I done s ∷ []) ss)
 one-outdone I cost s ss [] true rest = ap (λ l. record (slot_with s (node_after I [] s)) { state = slot.ByBound } ∷ l) (rest (node_after I [] s ∷ []))
 one-outdone I cost s ss (n ∷ ns) true rest = ap (λ l. record (slot_with s (node_after I (n ∷ ns) s)) { state = slot.ByBound } ∷ l) (rest ((n ∷ ns) ++ node_after I (n ∷ ns) s ∷ []))
 one-outdone I cost s ss done false rest = ap (λ l. slot_with s (node_after I done s) ∷ l) (rest (done ++ node_after I done s ∷ []))

@@ -110,15 +110,15 @@ module _ (a : Inside) (kept : IsKept a) (b : Book) (same : seen a ≡ b) (id : �
           let first : n ≡ length S = count ∙ ap length all ∙ sym (length-slots a.case.instance a.slots.items) in
           let many : length bounds ≡ length kids = ap length kids_are ∙ length-map kids (bound_of a.case.instance (suc node.depth)) in
           let last : end ≡ length G =
-              omega (
-                arith,
-                end_is,
-                first,
-                many,
-                length-both (set_state S id (slot.Split (length S))) (children_in (seen a) id),
-                length-set S id (record (slot_in S id) { state = slot.Split (length S) }),
-                length-kids (seen a) id a.case.instance (best_cost (seen a)) id (suc node.depth) 0 kids,
-              ) in
+          omega (
+            arith,
+            end_is,
+            first,
+            many,
+            length-both (set_state S id (slot.Split (length S))) (children_in (seen a) id),
+            length-set S id (record (slot_in S id) { state = slot.Split (length S) }),
+            length-kids (seen a) id a.case.instance (best_cost (seen a)) id (suc node.depth) 0 kids,
+          ) in
           let entry_is : record { split = id; first = n; end = end } ≡ record { split = id; first = length S; end = length G } = (λ i. record { split = id; first = first i; end = last i }) in
           let now : hands ≡ let_go (slot.Held holder.0) a.hands = hands_are ∙ ap (λ s. let_go s a.hands) held-state in
           let then : waiting ≡ a.waiting.items ++ record { split = id; first = n; end = end } ∷ [] = waiting_are ∙ ap (λ l. l ++ record { split = id; first = n; end = end } ∷ []) old_is in

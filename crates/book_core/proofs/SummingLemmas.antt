@@ -39,7 +39,7 @@ module _ (I : Instance) where
 
   live-one : (s : StoredSlot) (n : Node) (t : Bool) (ss : List StoredSlot) (rest : List Slot) → map (λ (s : StoredSlot). s.bound) (filter (λ (s : StoredSlot). is_live s.state) ss) ≡ map (λ (s : Slot). s.bound) (filter (λ (s : Slot). is_live s.state) rest)
       → map (λ (s : StoredSlot). s.bound) (cond t (s ∷ filter (λ (s : StoredSlot). is_live s.state) ss) (filter (λ (s : StoredSlot). is_live s.state) ss))
-        ≡ map (λ (s : Slot). s.bound) (cond t (slot_with s n ∷ filter (λ (s : Slot). is_live s.state) rest) (filter (λ (s : Slot). is_live s.state) rest))
+      ≡ map (λ (s : Slot). s.bound) (cond t (slot_with s n ∷ filter (λ (s : Slot). is_live s.state) rest) (filter (λ (s : Slot). is_live s.state) rest))
   live-one s n true ss rest same = ap (λ l. s.bound ∷ l) same
   live-one s n false ss rest same = same
 

@@ -27,10 +27,10 @@ fresh-known (s ∷ ss) (suc k) e = let rest = fresh-known ss k e in omega (arith
 
 pub waiting-kept : (old new : List Slot) → Settles old new → (waiting : List Waiting) → AreWaiting old waiting → AreWaiting new waiting
 waiting-kept old new settle waiting good = record {
-    each = λ k known. entry (waiting_at waiting k) (good.each k known);
-    rising = good.rising;
-    all = λ id some e. good.all id some (settle.fresh id e);
-  }
+  each = λ k known. entry (waiting_at waiting k) (good.each k known);
+  rising = good.rising;
+  all = λ id some e. good.all id some (settle.fresh id e);
+}
   where
     entry : (w : Waiting) → IsWaiting old w → IsWaiting new w
     entry w h = record {
@@ -43,17 +43,17 @@ waiting-kept old new settle waiting good = record {
 
 pub settles : (old new : List Slot) (id : ℕ) (state : SlotState) → Changes old id state new → is_fresh state ≡ false → is_split (state_in old id) ≡ false → Settles old new
 settles old new id state change after before = record {
-    count = omega (arith, change.count);
-    parent = λ k known. ap (λ (s : Slot). s.parent) (change.rest k);
-    fresh = λ k e. elim (eqb_tells k id) [
-      | inl y ↦ absurd (clash (sym (ap is_fresh (sym change.here ∙ ap (state_in new) (sym y.1) ∙ e)) ∙ after))
-      | inr n ↦ sym (change.others k n.1) ∙ e
-    ];
-    split = λ k first e. elim (eqb_tells k id) [
-      | inl y ↦ absurd (clash (sym (ap is_split (ap (state_in old) (sym y.1) ∙ e)) ∙ before))
-      | inr n ↦ change.others k n.1 ∙ e
-    ];
-  }
+  count = omega (arith, change.count);
+  parent = λ k known. ap (λ (s : Slot). s.parent) (change.rest k);
+  fresh = λ k e. elim (eqb_tells k id) [
+    | inl y ↦ absurd (clash (sym (ap is_fresh (sym change.here ∙ ap (state_in new) (sym y.1) ∙ e)) ∙ after))
+    | inr n ↦ sym (change.others k n.1) ∙ e
+  ];
+  split = λ k first e. elim (eqb_tells k id) [
+    | inl y ↦ absurd (clash (sym (ap is_split (ap (state_in old) (sym y.1) ∙ e)) ∙ before))
+    | inr n ↦ change.others k n.1 ∙ e
+  ];
+}
   where
     clash : true ≡ false → ⊥
     clash h = cc
@@ -83,38 +83,38 @@ pub record Grows (old : List Slot) (id : ℕ) (new : List Slot) : Type 0 where
 
 pub waiting-grown : (old new : List Slot) (id : ℕ) → Grows old id new → (ws : List Waiting) → AreWaiting old ws → (w : Waiting) → w ≡ record { split = id; first = length old; end = length new } → AreWaiting new (ws ++ w ∷ [])
 waiting-grown old new id grow ws good w is = record {
-    each = λ k known. elim (leb_tells (suc k) (length ws)) [
-      | inl y ↦ subst (IsWaiting new) (sym (first-at ws w k y.1)) (entry (waiting_at ws k) (good.each k y.1))
-      | inr n ↦
-          let same : k ≡ length ws = omega (arith, known, n.1, length-one-more ws w) in
-          subst (IsWaiting new) (sym (ap (waiting_at (ws ++ w ∷ [])) same ∙ last-at ws w ∙ is)) own
-    ];
-    rising = λ k l less known. elim (leb_tells (suc l) (length ws)) [
-      | inl y ↦
-          let near : k < length ws = omega (arith, less, y.1) in
-          let at_k = ap (λ (v : Waiting). v.first) (first-at ws w k near) in
-          let at_l = ap (λ (v : Waiting). v.first) (first-at ws w l y.1) in
-          let rises = good.rising k l less y.1 in
-          omega (arith, at_k, at_l, rises)
-      | inr n ↦
-          let same : l ≡ length ws = omega (arith, known, n.1, length-one-more ws w) in
-          let near : k < length ws = omega (arith, less, same) in
-          let at_k = ap (λ (v : Waiting). v.first) (first-at ws w k near) in
-          let at_l = ap (λ (v : Waiting). v.first) (ap (waiting_at (ws ++ w ∷ [])) same ∙ last-at ws w ∙ is) in
-          let order = (good.each k near).order in
-          let within = (good.each k near).within in
-          omega (arith, at_k, at_l, order, within)
-    ];
-    all = λ k some e. elim (leb_tells (suc k) (length old)) [
-      | inl y ↦ let found = good.all k some (was-fresh k y.1 e) in (found.0, kept k found.0 found.1)
-      | inr n ↦
-          let last : waiting_at (ws ++ w ∷ []) (length ws) ≡ record { split = id; first = length old; end = length new } = last-at ws w ∙ is in
-          let from = ap (λ (v : Waiting). v.first) last in
-          let before = ap (λ (v : Waiting). v.end) last in
-          let known = fresh-known new k e in
-          (length ws, record { known = omega (arith, length-one-more ws w); from = omega (arith, from, n.1); before = omega (arith, before, known) })
-    ];
-  }
+  each = λ k known. elim (leb_tells (suc k) (length ws)) [
+    | inl y ↦ subst (IsWaiting new) (sym (first-at ws w k y.1)) (entry (waiting_at ws k) (good.each k y.1))
+    | inr n ↦
+        let same : k ≡ length ws = omega (arith, known, n.1, length-one-more ws w) in
+        subst (IsWaiting new) (sym (ap (waiting_at (ws ++ w ∷ [])) same ∙ last-at ws w ∙ is)) own
+  ];
+  rising = λ k l less known. elim (leb_tells (suc l) (length ws)) [
+    | inl y ↦
+        let near : k < length ws = omega (arith, less, y.1) in
+        let at_k = ap (λ (v : Waiting). v.first) (first-at ws w k near) in
+        let at_l = ap (λ (v : Waiting). v.first) (first-at ws w l y.1) in
+        let rises = good.rising k l less y.1 in
+        omega (arith, at_k, at_l, rises)
+    | inr n ↦
+        let same : l ≡ length ws = omega (arith, known, n.1, length-one-more ws w) in
+        let near : k < length ws = omega (arith, less, same) in
+        let at_k = ap (λ (v : Waiting). v.first) (first-at ws w k near) in
+        let at_l = ap (λ (v : Waiting). v.first) (ap (waiting_at (ws ++ w ∷ [])) same ∙ last-at ws w ∙ is) in
+        let order = (good.each k near).order in
+        let within = (good.each k near).within in
+        omega (arith, at_k, at_l, order, within)
+  ];
+  all = λ k some e. elim (leb_tells (suc k) (length old)) [
+    | inl y ↦ let found = good.all k some (was-fresh k y.1 e) in (found.0, kept k found.0 found.1)
+    | inr n ↦
+        let last : waiting_at (ws ++ w ∷ []) (length ws) ≡ record { split = id; first = length old; end = length new } = last-at ws w ∙ is in
+        let from = ap (λ (v : Waiting). v.first) last in
+        let before = ap (λ (v : Waiting). v.end) last in
+        let known = fresh-known new k e in
+        (length ws, record { known = omega (arith, length-one-more ws w); from = omega (arith, from, n.1); before = omega (arith, before, known) })
+  ];
+}
   where
     clash : true ≡ false → ⊥
     clash h = cc

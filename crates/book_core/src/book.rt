@@ -13,7 +13,9 @@ use place_refute::Cut;
 use search_rules::{Entry, SlotState};
 use std::marker::Model;
 
-/// A book.
+/// The case, the opening plan, the slots, the cuts, the plans that replaced the opening one, the best
+/// plan, the number of nodes used, which of nine workers ended, and the history of accepted events.
+/// It keeps all that `specs/Keeps` names. Slots are numbered from 0, the root; they store no nodes.
 #[derive(Debug, Drop)]
 pub struct Book {
     pub(crate) case: Case,

@@ -124,11 +124,7 @@ impl Book {
         ensures { result ≡ first_slot self.now is_back }
     {
         let back = self.back.as_slice();
-        if back.is_empty() {
-            None
-        } else {
-            Some(back[0])
-        }
+        if back.is_empty() { None } else { Some(back[0]) }
     }
 
     // Whether a slot is held.

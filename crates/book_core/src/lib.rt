@@ -1,4 +1,25 @@
-//! The book of a search.
+//! The book of a search: the search tree with its open, held and closed slots, the cuts, the best
+//! plan, and the history of what was accepted.
+//!
+//! `open_book` opens a book with a legal plan. Its ten events are methods: each answers exactly what
+//! the step of the book machine answers for its event, and leaves the book that the step leaves; a
+//! refusal leaves the book as it was. `split`, `post` and `replace` take memory, and take it all
+//! before they change anything; the other events take none. `verdict` says what the book has shown.
+//! The type keeps what every event keeps (`Book::keeps`): the book is the replay of its history, the
+//! best plan is legal, and every legal plan cheaper than it lies under a slot that is open, held or
+//! parked. `every_list_keeps` is that law over every list of events.
+//!
+//! - Fields, opening and readers: `book`, `opening`, `finding`, `summing` (the verdict).
+//! - Events: `taking`, `splitting`, `closing`, `parking`, `posting`, `replacing`, `releasing`. What
+//!   they change together: `moves`, `growing`.
+//! - Tables by which no event walks all slots but `replace`: `hands` (which slot each worker holds),
+//!   `back_list` (the returned slots, nine at most, by rising number), `waiting` (the splits that may
+//!   have a fresh child, by rising first child).
+//!
+//! Definitions: `search_rules` has the machine (`specs/Book`, `Events`, `Step`), the replay, the
+//! cover and the counts. Here `specs/Replies` says what it is that a method is a step, `Keeps` what
+//! every book keeps, `Stored` which slots the stored ones are, `Tables` and `Next` what the tables
+//! say, `Laws` the law.
 #![tactic(auto)]
 
 mod back_list;
@@ -22,6 +43,8 @@ mod splitting;
 mod stored_slot;
 mod summing;
 mod taking;
+#[cfg(test)]
+mod tests;
 mod waiting;
 
 pub use book::Book;

@@ -1,5 +1,5 @@
 -- Lists of a few cuts, lockages and marks that may be written down.
-use Rattle.std.proofs.Common.{◌<◌, ◌^◌, [], ◌∷◌, All, arith}
+use Rattle.std.proofs.Common.{[], ◌∷◌, All, arith}
 use Rattle.std.proofs.lemmas.List.Elements.{All-nil, All-cons}
 use Rattle.lock_model.specs.declared.plan.Lockage.{Lockage}
 use Rattle.search_rules.specs.Certificates.{CertCut}

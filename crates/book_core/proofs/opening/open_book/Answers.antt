@@ -16,9 +16,9 @@ invariant_of-result c =
     let plan = c.args.plan in
     let cost = c.cost_of_legal-best_cost.result in
     let stored : c.push_reserved.new.self.items ≡ stored_root case.instance (cost_of case.instance plan) ∷ [] =
-        c.push_reserved.ensures.items ∙ (λ i. c.in_ok-slots.ensures.items i ++ c.stored_root.ensures i ∷ [])
-        ∙ ap (λ n. stored_root c.case.inside.instance n ∷ []) c.cost_of_legal-best_cost.ensures
-        ∙ ap (λ (k : Case). stored_root k.instance (cost_of k.instance plan) ∷ []) c.case.view_is in
+    c.push_reserved.ensures.items ∙ (λ i. c.in_ok-slots.ensures.items i ++ c.stored_root.ensures i ∷ [])
+    ∙ ap (λ n. stored_root c.case.inside.instance n ∷ []) c.cost_of_legal-best_cost.ensures
+    ∙ ap (λ (k : Case). stored_root k.instance (cost_of k.instance plan) ∷ []) c.case.view_is in
     let first = new_slot case.instance (cost_of case.instance plan) 0 0 root in
     let slots : slots_of c.copy.result.instance c.push_reserved.new.self.items ≡ first ∷ [] = (λ i. slots_of (c.copy.ensures i).instance (stored i)) in
     let cost_is : cost ≡ cost_of case.instance plan = c.cost_of_legal-best_cost.ensures ∙ ap (λ (k : Case). cost_of k.instance plan) c.case.view_is in
@@ -33,17 +33,17 @@ invariant_of-result c =
       ended = replicate 9 false;
       history = c.in_ok-history.history.items;
     } ≡ opening_book case plan =
-        (λ i. record {
-          case = c.copy.ensures i;
-          opening = c.copy-2.ensures i;
-          slots = slots i;
-          cuts = c.new.ensures.items i;
-          plans = c.new-2.ensures.items i;
-          best = plan;
-          used = 0;
-          ended = replicate 9 false;
-          history = c.in_ok-history.ensures.items i;
-        }) in
+    (λ i. record {
+      case = c.copy.ensures i;
+      opening = c.copy-2.ensures i;
+      slots = slots i;
+      cuts = c.new.ensures.items i;
+      plans = c.new-2.ensures.items i;
+      best = plan;
+      used = 0;
+      ended = replicate 9 false;
+      history = c.in_ok-history.ensures.items i;
+    }) in
     let good : IsCase case = subst IsCase c.case.view_is c.case.invariant in
     record {
       sound = subst IsSound (sym same) (opening-sound case plan good c.requires);

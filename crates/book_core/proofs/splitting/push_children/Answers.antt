@@ -13,7 +13,7 @@ loop-number-preserved c =
     let more = take_more xs i 0 c.loop-number-test.true in
     let long = length-take-le i xs (omega arith) in
     let child : c.stored_child.result ≡ stored_child c.args.cost c.args.parent (0 + length (take i xs)) x =
-        c.stored_child.ensures ∙ ap (λ n. stored_child c.args.cost c.args.parent n x) (omega (arith, long)) in
+    c.stored_child.ensures ∙ ap (λ n. stored_child c.args.cost c.args.parent n x) (omega (arith, long)) in
     let old = c.args.slots.now.items in
     record {
       items =

@@ -13,7 +13,7 @@ invariant_of-self c =
     let a = c.self.inside in
     let old = c.self.invariant in
     let same : record (seen a) { ended = slice_set a.ended c.args.worker true; history = c.push_reserved.new.self.items } ≡ finished c.args.self.now c.args.worker =
-        (λ i. record (seen a) { ended = slice_set a.ended c.args.worker true; history = c.push_reserved.ensures.items i }) ∙ ap (λ u. finished u c.args.worker) c.self.view_is in
+    (λ i. record (seen a) { ended = slice_set a.ended c.args.worker true; history = c.push_reserved.ensures.items i }) ∙ ap (λ u. finished u c.args.worker) c.self.view_is in
     let running = ap (λ (b : Book). slice_index_or b.ended c.args.worker false) c.self.view_is ∙ c.requires.running in
     record {
       sound = subst IsSound (sym same) c.requires.sound;

@@ -55,7 +55,7 @@ invariant_of-self-2 c =
     let count : n ≡ length ss = c.len-first.ensures ∙ c.make_space.new.slots.ok.0 in
     let old = c.self.invariant in
     let same = split-is a old b c.self.view_is c.args.id c.requires.held ss c.make_space.ensures.slots r c.index_mut.ensures.value c.args.bounds.now c.requires.bounds n count
-        c.push_children.new.slots.items c.push_children.ensures c.push_reserved-2.new.self.items c.push_reserved-2.ensures.items in
+    c.push_children.new.slots.items c.push_children.ensures c.push_reserved-2.new.self.items c.push_reserved-2.ensures.items in
     let state = held-state a old b c.self.view_is c.args.id c.requires.held ss c.make_space.ensures.slots c.index.result.now c.index.ensures ∙ sym (held-state a old b c.self.view_is c.args.id c.requires.held ss c.make_space.ensures.slots r c.index_mut.ensures.value) in
     record {
       sound = subst IsSound (sym same) c.requires.sound;

@@ -9,9 +9,10 @@ pub returns-then-id-len-clause-some : goal.returns-then-id-len-clause-some
 returns-then-id-len-clause-some c =
     let a = c.self.inside in
     let known : c.args.id < length a.slots.items = omega (arith, a.slots.ok.0) in
-    let same = ap (λ (b : Book). length b.slots) c.self.view_is in
-    (omega (arith, known, same, length-slots a.case.instance a.slots.items),
-    sym (ap (λ b. (slot_at b c.args.id).state) c.self.view_is) ∙ (is-stored a.case.instance a.slots.items c.args.id c.index.result.now known c.index.ensures).state)
+    let same = ap (λ (b : Book). length b.slots) c.self.view_is in (
+      omega (arith, known, same, length-slots a.case.instance a.slots.items),
+      sym (ap (λ b. (slot_at b c.args.id).state) c.self.view_is) ∙ (is-stored a.case.instance a.slots.items c.args.id c.index.result.now known c.index.ensures).state,
+    )
 
 pub returns-else-id-len-clause-none : goal.returns-else-id-len-clause-none
 returns-else-id-len-clause-none c =

@@ -36,7 +36,7 @@ returns-in-Ok c =
     let bounds = c.as_slice-2.ensures.value ∙ c.child_bounds-bounds.ensures.value in
     let n = c.node_of-node.result in
     let many : length c.as_slice-2.result.now ≡ length (children_of b.case.instance (slot_at b c.args.id).node.depth (slot_at b c.args.id).node.lines) =
-        ap length bounds ∙ length-map (children_of c.instance-2.result.now n.depth n.lines) (bound_of c.instance-2.result.now (n.depth + 1))
-        ∙ ap (λ (I : Instance). length (children_of I n.depth n.lines)) c.instance-2.ensures
-        ∙ ap (λ (m : TreeNode). length (children_of b.case.instance m.depth m.lines)) c.node_of-node.ensures.value in
+    ap length bounds ∙ length-map (children_of c.instance-2.result.now n.depth n.lines) (bound_of c.instance-2.result.now (n.depth + 1))
+    ∙ ap (λ (I : Instance). length (children_of I n.depth n.lines)) c.instance-2.ensures
+    ∙ ap (λ (m : TreeNode). length (children_of b.case.instance m.depth m.lines)) c.node_of-node.ensures.value in
     split-done b c.args.id e (omega (arith, depth, ships, c.depth.ensures.value, ap length c.as_slice.ensures.value, c.if-depth-as_slice.false)) (length c.as_slice-2.result.now) c.grow.new.self many c.in-Ok.ensures.some
