@@ -1,5 +1,5 @@
 -- The events that close a slot.
-use Rattle.std.proofs.Common.{◌≡◌, ℕ, suc, ◌<◌, ◌≤◌, refl, sym, ap, ◌∙◌, subst, arith, Bool, true, false, not, cond, nat_lt, inl, inr, Some, None, slice_get, Contains}
+use Rattle.std.proofs.Common.{◌≡◌, ℕ, suc, ◌<◌, ◌≤◌, refl, sym, ap, ◌∙◌, subst, arith, Bool, true, false, not, cond, nat_lt, inl, inr, None, slice_get}
 use Rattle.std.specs.declared.option.Option.{Option}
 use Rattle.std.proofs.lemmas.Bool.Decides.{leb_tells}
 use Rattle.lock_rules.specs.Throughput.{throughput_of}

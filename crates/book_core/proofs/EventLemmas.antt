@@ -1,10 +1,7 @@
 -- What take and release answer.
-use Rattle.std.proofs.Common.{◌≡◌, ◌≢◌, ℕ, suc, ◌<◌, ◌≤◌, List, refl, sym, ap, ◌∙◌, subst, arith, Bool, true, false, not, cond, nat_eq, slice_index_or, inl, inr, Some, None}
-use Rattle.std.specs.declared.option.Option.{Option}
+use Rattle.std.proofs.Common.{◌≡◌, ◌≢◌, ℕ, suc, ◌≤◌, refl, sym, ap, ◌∙◌, subst, Bool, true, false, cond, nat_eq, slice_index_or, inl, inr, Some, None}
 use Rattle.std.proofs.lemmas.Bool.Decides.{eqb_tells}
-use Rattle.mooring_rules.specs.declared.breaks.BrokenPlan.{BrokenPlan}
-use Rattle.search_rules.specs.declared.book.SlotState.TheVariants as slot
-use Rattle.search_rules.specs.Book.{Book, Node as TreeNode, slot_at, first_slot, has_slot, is_back, is_held, is_held_by}
+use Rattle.search_rules.specs.Book.{Book, slot_at, first_slot, has_slot, is_back, is_held, is_held_by}
 use Rattle.search_rules.specs.Events as machine
 use Rattle.search_rules.specs.Events.{Event, take, release}
 use Rattle.search_rules.specs.NextSlot.{next_fresh}
@@ -13,7 +10,7 @@ use Rattle.search_rules.proofs.SlotLemmas.{next_fresh-at}
 use Rattle.master_branch.specs.Node.{Node}
 use Rattle.book_core.specs.declared.reply.Reply.TheVariants as reply
 use Rattle.book_core.specs.Nodes.{tree_node}
-use Rattle.book_core.specs.Changes.{IsFree, IsReturned, IsNew, handed, returned, finished}
+use Rattle.book_core.specs.Changes.{IsFree, IsNew, handed, returned, finished}
 use Rattle.book_core.specs.Keeps.{IsSound}
 use Rattle.book_core.specs.Replies.{Answers}
 use Rattle.book_core.proofs.CloseLemmas.{Out, none, pick-true, pick-false}

@@ -1,7 +1,7 @@
 -- A slot is split: its children stand behind the slots.
-use Rattle.std.proofs.Common.{◌≡◌, ◌≢◌, ℕ, zero, suc, ◌+◌, ◌-◌, ◌<◌, ◌≤◌, List, [], ◌∷◌, ◌++◌, length, map, refl, sym, ap, ◌∙◌, subst, arith, Bool, true, false, not, cond, nat_le, slice_index_or, slice_set, inl, inr, Some, None}
+use Rattle.std.proofs.Common.{◌≡◌, ◌≢◌, ℕ, zero, suc, ◌+◌, ◌-◌, ◌<◌, ◌≤◌, List, [], ◌∷◌, ◌++◌, length, map, refl, sym, ap, ◌∙◌, subst, arith, Bool, true, false, not, cond, nat_le, slice_index_or, slice_set, inl, inr, None}
 use Rattle.std.specs.declared.option.Option.{Option}
-use Rattle.std.proofs.lemmas.Bool.Decides.{eqb_tells, leb_tells}
+use Rattle.std.proofs.lemmas.Bool.Decides.{leb_tells}
 use Rattle.std.proofs.lemmas.List.{get_or-append-add}
 use Rattle.std.proofs.Math.ListN.{get_or-append}
 use Rattle.lock_model.specs.declared.instance.Instance.{Instance}
@@ -10,27 +10,22 @@ use Rattle.lock_rules.specs.Node.{root_lines}
 use Rattle.lock_rules.specs.Bound.{bound_of}
 use Rattle.lock_rules.specs.Children.{children_of}
 use Rattle.mooring_rules.specs.declared.breaks.BrokenPlan.{BrokenPlan}
-use Rattle.search_rules.specs.declared.book.Entry.{Entry}
-use Rattle.search_rules.specs.declared.book.Entry.TheVariants as entry
 use Rattle.search_rules.specs.declared.book.SlotState.{SlotState}
 use Rattle.search_rules.specs.declared.book.SlotState.TheVariants as slot
-use Rattle.search_rules.specs.Book.{Book, Node, Slot, root, no_slot, slot_at, best_cost, is_fresh, is_back, is_held}
+use Rattle.search_rules.specs.Book.{Book, Node, Slot, root, no_slot, slot_at, best_cost, is_back, is_held}
 use Rattle.search_rules.specs.NextSlot.{is_split}
 use Rattle.search_rules.specs.Events as machine
 use Rattle.search_rules.specs.Events.{Event, split}
 use Rattle.search_rules.specs.Step.{step, child_slots, children_in, split_slot}
-use Rattle.search_rules.proofs.SlotLemmas.{held-is}
 use Rattle.book_core.specs.declared.reply.Reply.TheVariants as reply
-use Rattle.book_core.specs.declared.book.Book.TheInside.{Inside}
 use Rattle.book_core.specs.declared.stored_slot.StoredSlot.{StoredSlot}
 use Rattle.book_core.specs.declared.waiting.Waiting.{Waiting}
 use Rattle.book_core.specs.Stored.{child_node, node_after, slots_after, slots_of}
-use Rattle.book_core.specs.Tables.{state_in, AreHands, AreBack, AreWaiting}
-use Rattle.book_core.specs.Changes.{slot_in, stateless, set_state, Changes, let_go}
+use Rattle.book_core.specs.Tables.{state_in, AreHands, AreBack}
+use Rattle.book_core.specs.Changes.{slot_in, set_state, Changes, let_go}
 use Rattle.book_core.specs.Growing.{stored_child, stored_children, with_kids}
 use Rattle.book_core.specs.Keeps.{IsSound, AreTables}
 use Rattle.book_core.specs.Replies.{Does, Steps}
-use Rattle.book_core.specs.Seen.{seen}
 use Rattle.book_core.proofs.StoredLemmas.{stored-append, node-at, nodes_in}
 use Rattle.book_core.proofs.HandLemmas.{set-changes, hands-let_go, hands-same, state-known}
 use Rattle.book_core.proofs.BackLemmas.{back-kept}

@@ -1,13 +1,12 @@
 -- One slot takes another state; the table of hands.
-use Rattle.std.proofs.Common.{◌≡◌, ◌≢◌, ℕ, zero, suc, ◌+◌, ◌<◌, ◌≤◌, List, [], ◌∷◌, ◌++◌, length, map, refl, sym, ap, ◌∙◌, subst, arith, Bool, true, false, not, cond, ◌&&◌, ◌||◌, Some, None, slice_index_or, slice_set, nat_eq, nat_le, inl, inr}
+use Rattle.std.proofs.Common.{◌≡◌, ◌≢◌, ℕ, zero, suc, ◌<◌, ◌≤◌, List, [], ◌∷◌, length, refl, sym, ap, ◌∙◌, arith, Bool, true, false, Some, None, slice_index_or, slice_set, inl, inr}
 use Rattle.std.specs.declared.option.Option.{Option}
 use Rattle.std.proofs.lemmas.Bool.Decides.{eqb_tells}
 use Rattle.std.proofs.lemmas.List.{length-set, get_or-set_same, get_or-set_other}
 use Rattle.search_rules.specs.declared.book.SlotState.{SlotState}
 use Rattle.search_rules.specs.declared.book.SlotState.TheVariants as slot
-use Rattle.search_rules.specs.Book.{Slot, no_slot, is_fresh, is_back, is_held, is_parked}
+use Rattle.search_rules.specs.Book.{Slot, no_slot, is_held}
 use Rattle.search_rules.specs.Book.{Book, first_slot, has_slot, is_held_by, slot_at}
-use Rattle.std.specs.List.{list_any}
 use Rattle.std.proofs.lemmas.List.Folds.{Any-from_list_any, list_any_at}
 use Rattle.search_rules.proofs.SlotLemmas.{held-is, held_by-is, held_by-itself, first_slot-at, first_slot-none}
 use Rattle.book_core.specs.Tables.{state_in, hand_at, AreHands}

@@ -1,25 +1,23 @@
 -- A slot goes to a worker, or comes back from one.
-use Rattle.std.proofs.Common.{◌≡◌, ◌≢◌, ℕ, zero, suc, ◌+◌, ◌<◌, ◌≤◌, List, [], ◌∷◌, ◌++◌, length, refl, sym, ap, ◌∙◌, subst, arith, Bool, true, false, slice_index_or, slice_set, slice_get, drop, inl, inr, Some, None}
+use Rattle.std.proofs.Common.{◌≡◌, ◌≢◌, ℕ, ◌<◌, ◌≤◌, List, [], ◌∷◌, ◌++◌, length, refl, sym, ap, ◌∙◌, subst, arith, Bool, true, false, slice_index_or, slice_set, Some, None}
 use Rattle.std.specs.declared.option.Option.{Option}
-use Rattle.std.proofs.lemmas.List.{length-set}
 use Rattle.lock_rules.specs.Children.{insert_number}
 use Rattle.search_rules.specs.declared.book.Entry.{Entry}
 use Rattle.search_rules.specs.declared.book.Entry.TheVariants as entry
 use Rattle.search_rules.specs.declared.book.SlotState.{SlotState}
 use Rattle.search_rules.specs.declared.book.SlotState.TheVariants as slot
-use Rattle.search_rules.specs.Book.{Book, Slot, slot_at, first_slot, is_fresh, is_back, is_held, is_held_by}
+use Rattle.search_rules.specs.Book.{Book, Slot, slot_at, first_slot, is_back, is_held, is_held_by}
 use Rattle.search_rules.specs.NextSlot.{is_split}
-use Rattle.search_rules.specs.Room.{count_false}
 use Rattle.search_rules.proofs.SlotLemmas.{back-is, held_by-is, first_slot-at}
 use Rattle.search_rules.proofs.TallyLemmas.{count_false-set}
 use Rattle.book_core.specs.declared.book.Book.TheInside.{Inside}
 use Rattle.book_core.specs.declared.stored_slot.StoredSlot.{StoredSlot}
 use Rattle.book_core.specs.declared.waiting.Waiting.{Waiting}
 use Rattle.book_core.specs.Stored.{slots_of}
-use Rattle.book_core.specs.Tables.{state_in, hand_at, AreHands, AreBack}
-use Rattle.book_core.specs.Changes.{Changes, let_go, leave_back, IsFree, IsReturned, IsNew, handed, returned, finished}
+use Rattle.book_core.specs.Tables.{state_in, AreHands, AreBack}
+use Rattle.book_core.specs.Changes.{Changes, let_go, leave_back, IsFree, IsReturned, IsNew, handed, returned}
 use Rattle.book_core.specs.Keeps.{AreTables}
-use Rattle.book_core.specs.Seen.{seen, IsKept}
+use Rattle.book_core.specs.Seen.{seen}
 use Rattle.book_core.proofs.HandLemmas.{state-known, hands-given, hands-let_go, first-held}
 use Rattle.book_core.proofs.BackLemmas.{first-back, first-taken, fewer-back, back-kept, back-given, length-put}
 use Rattle.book_core.proofs.WaitingLemmas.{settles, waiting-kept}

@@ -1,11 +1,11 @@
 -- What the fields of a book keep.
-use Rattle.std.proofs.Common.{◌≡◌, ◌≢◌, ℕ, zero, suc, ◌+◌, ◌*◌, ◌<◌, ◌≤◌, List, [], ◌∷◌, length, refl, sym, ap, ◌∙◌, subst, arith, Bool, true, false, cond, ◌||◌, slice_index_or, slice_set, Some, None, nat_eq}
+use Rattle.std.proofs.Common.{◌≡◌, ◌≢◌, ℕ, zero, suc, ◌<◌, ◌≤◌, List, [], ◌∷◌, length, refl, sym, ap, ◌∙◌, subst, arith, Bool, true, false, ◌||◌, slice_index_or, slice_set, nat_eq}
 use Rattle.std.specs.declared.option.Option.{Option}
 use Rattle.std.proofs.lemmas.Bool.Decides.{Decides-eqb}
 use Rattle.lock_model.specs.declared.instance.Instance.{Instance}
 use Rattle.search_rules.specs.declared.book.SlotState.{SlotState}
 use Rattle.search_rules.specs.declared.book.SlotState.TheVariants as slot
-use Rattle.search_rules.specs.Book.{Book, Slot, no_slot, is_fresh, is_back, is_held, is_parked}
+use Rattle.search_rules.specs.Book.{Book, Slot, no_slot, is_back, is_held, is_parked}
 use Rattle.search_rules.specs.NextSlot.{is_split}
 use Rattle.search_rules.proofs.BudgetLemmas.{slots-few}
 use Rattle.book_core.specs.declared.stored_slot.StoredSlot.{StoredSlot}
@@ -15,7 +15,7 @@ use Rattle.book_core.specs.Tables.{state_in}
 use Rattle.book_core.specs.Changes.{slot_in, set_state, Changes, let_go, IsSettled}
 use Rattle.book_core.specs.Keeps.{IsSound, AreTables}
 use Rattle.book_core.proofs.StoredLemmas.{length-slots_after, stored-at, stored-set}
-use Rattle.book_core.proofs.HandLemmas.{set-changes, state-known, hands-let_go}
+use Rattle.book_core.proofs.HandLemmas.{state-known, hands-let_go}
 use Rattle.book_core.proofs.BackLemmas.{back-kept}
 use Rattle.book_core.proofs.WaitingLemmas.{settles, waiting-kept}
 

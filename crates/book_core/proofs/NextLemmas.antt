@@ -1,17 +1,16 @@
 -- The Fresh slot that is taken next.
-use Rattle.std.proofs.Common.{◌≡◌, ◌≢◌, ℕ, zero, suc, ◌+◌, ◌<◌, ◌≤◌, List, [], ◌∷◌, length, take, refl, sym, ap, ◌∙◌, subst, arith, Bool, true, false, slice_index_or, inl, inr, Some, None}
+use Rattle.std.proofs.Common.{◌≡◌, ◌≢◌, ℕ, zero, suc, ◌<◌, ◌≤◌, List, [], ◌∷◌, length, take, refl, sym, ap, ◌∙◌, subst, arith, Bool, true, false, slice_index_or, inl, inr, Some, None}
 use Rattle.std.specs.Prelude.{IfSome, IfNone}
 use Rattle.std.specs.declared.option.Option.{Option}
 use Rattle.std.proofs.lemmas.Bool.Decides.{eqb_tells, leb_tells}
 use Rattle.std.proofs.lemmas.List.{get_or-take, length-take-le}
 use Rattle.lock_model.specs.declared.instance.Instance.{Instance}
-use Rattle.search_rules.specs.declared.book.SlotState.{SlotState}
 use Rattle.search_rules.specs.declared.book.SlotState.TheVariants as slot
-use Rattle.search_rules.specs.Book.{Book, Slot, no_slot, slot_at, is_fresh}
+use Rattle.search_rules.specs.Book.{Book, Slot, slot_at, is_fresh}
 use Rattle.search_rules.specs.NextSlot.{next_fresh}
-use Rattle.search_rules.specs.Waiting.{IsFreshChild, IsLeastFresh, IsLastSplit}
+use Rattle.search_rules.specs.Waiting.{IsFreshChild}
 use Rattle.search_rules.proofs.SlotLemmas.{fresh-is}
-use Rattle.search_rules.proofs.NextLemmas.{next_fresh-is, next_fresh-root, next_fresh-none}
+use Rattle.search_rules.proofs.NextLemmas.{next_fresh-is, next_fresh-none}
 use Rattle.book_core.specs.declared.stored_slot.StoredSlot.{StoredSlot}
 use Rattle.book_core.specs.declared.waiting.Waiting.{Waiting}
 use Rattle.book_core.specs.Stored.{slots_of, IsStoredAs}
@@ -20,7 +19,7 @@ use Rattle.book_core.specs.Changes.{slot_in}
 use Rattle.book_core.specs.Next.{stored_at, HasNoFresh, IsLeastIn, IsLeastUpTo, StandsBefore, IsNext, HasNoneFresh}
 use Rattle.book_core.specs.Keeps.{IsSound}
 use Rattle.book_core.proofs.HandLemmas.{state-known}
-use Rattle.book_core.proofs.StoredLemmas.{length-slots_after, stored-at}
+use Rattle.book_core.proofs.StoredLemmas.{stored-at}
 use Rattle.book_core.proofs.KeptLemmas.{length-slots, slot-past}
 
 stored-past : (ss : List StoredSlot) (id : ℕ) → length ss ≤ id → stored_at ss id ≡ record { bound = 0; state = slot.ByBound; parent = 0; number = 0 }

@@ -1,13 +1,10 @@
 -- The node of a slot is a child of its parent's.
-use Rattle.std.proofs.Common.{◌≡◌, ℕ, zero, suc, ◌+◌, ◌<◌, ◌≤◌, List, [], ◌∷◌, length, refl, sym, ap, ◌∙◌, subst, arith, slice_index_or, slice_get, Some, None}
+use Rattle.std.proofs.Common.{◌≡◌, ℕ, zero, suc, ◌+◌, ◌<◌, List, [], ◌∷◌, length, sym, ap, ◌∙◌, arith, slice_index_or, slice_get, Some, None}
 use Rattle.lock_model.specs.declared.instance.Instance.{Instance}
-use Rattle.lock_model.specs.declared.group.Group.{Group}
 use Rattle.lock_rules.specs.Node.{IsNode, root_lines}
-use Rattle.lock_rules.specs.Children.{children_of}
 use Rattle.search_rules.specs.Book.{Book, Node as TreeNode, Slot, no_slot, slot_at}
-use Rattle.search_rules.specs.Cover.{IsGoodSlot}
 use Rattle.search_rules.specs.Family.{child_node, child_count, IsBorn, HasChildren}
-use Rattle.master_branch.specs.Node.{Node, IsNodeOf, children}
+use Rattle.master_branch.specs.Node.{Node, children}
 use Rattle.book_core.specs.Keeps.{IsSound}
 use Rattle.book_core.specs.declared.stored_slot.StoredSlot.{StoredSlot}
 use Rattle.book_core.specs.Stored.{IsStoredAs}

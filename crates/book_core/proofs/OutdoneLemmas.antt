@@ -1,18 +1,18 @@
 -- A cheaper plan closes slots.
-use Rattle.std.proofs.Common.{◌≡◌, ◌≢◌, ℕ, zero, suc, ◌+◌, ◌<◌, ◌≤◌, List, [], ◌∷◌, ◌++◌, length, map, filter, take, drop, refl, sym, ap, ◌∙◌, subst, arith, Bool, true, false, not, cond, ◌&&◌, ◌||◌, nat_le, slice_index_or, inl, inr, Some, None}
+use Rattle.std.proofs.Common.{◌≡◌, ◌≢◌, ℕ, suc, ◌<◌, ◌≤◌, List, [], ◌∷◌, ◌++◌, length, map, filter, take, drop, refl, sym, ap, ◌∙◌, subst, arith, Bool, true, false, cond, ◌&&◌, ◌||◌, nat_le, inl, inr, Some, None}
 use Rattle.std.specs.declared.option.Option.{Option}
 use Rattle.std.proofs.lemmas.List.{length-map}
 use Rattle.std.proofs.lemmas.Bool.Decides.{leb_tells}
 use Rattle.lock_model.specs.declared.instance.Instance.{Instance}
 use Rattle.lock_model.specs.declared.plan.Plan.{Plan}
-use Rattle.lock_rules.specs.Plan.{IsLegal, cost_of}
+use Rattle.lock_rules.specs.Plan.{cost_of}
 use Rattle.mooring_rules.specs.declared.breaks.BrokenPlan.{BrokenPlan}
 use Rattle.search_rules.specs.declared.book.SlotState.{SlotState}
 use Rattle.search_rules.specs.declared.book.SlotState.TheVariants as slot
-use Rattle.search_rules.specs.Book.{Book, Node, Slot, no_slot, best_cost, is_fresh, is_back, is_held, is_parked}
+use Rattle.search_rules.specs.Book.{Book, Node, Slot, best_cost, is_fresh, is_back, is_parked}
 use Rattle.search_rules.specs.Events as machine
 use Rattle.search_rules.specs.Events.{replace}
-use Rattle.search_rules.specs.Step.{step, outdone, replaced, replace_by}
+use Rattle.search_rules.specs.Step.{step, outdone, replaced}
 use Rattle.search_rules.proofs.CoverLemmas.{got-map}
 use Rattle.search_rules.proofs.SlotLemmas.{back-is}
 use Rattle.book_core.specs.declared.reply.Reply.TheVariants as reply
@@ -23,14 +23,14 @@ use Rattle.book_core.specs.Seen.{seen}
 use Rattle.book_core.specs.declared.stored_slot.StoredSlot.{StoredSlot}
 use Rattle.book_core.specs.declared.waiting.Waiting.{Waiting}
 use Rattle.book_core.specs.Stored.{node_after, slot_with, slots_after, slots_of}
-use Rattle.book_core.specs.Tables.{state_in, IsAmong, AreAbove, AreRising, AreHands, AreBack}
+use Rattle.book_core.specs.Tables.{state_in, IsAmong, AreAbove, AreRising}
 use Rattle.book_core.specs.Changes.{slot_in}
 use Rattle.book_core.specs.Next.{stored_at}
 use Rattle.book_core.specs.Outdone.{outdone_stored, is_back_in}
 use Rattle.book_core.specs.Keeps.{IsSound, AreTables}
 use Rattle.book_core.specs.Replies.{IsJudged, Does, Steps}
 use Rattle.book_core.proofs.HandLemmas.{state-known, hands-same}
-use Rattle.book_core.proofs.WaitingLemmas.{Settles, waiting-kept}
+use Rattle.book_core.proofs.WaitingLemmas.{waiting-kept}
 use Rattle.book_core.proofs.NextLemmas.{stored-any}
 use Rattle.book_core.proofs.CloseLemmas.{Out, pick-true, pick-false}
 use Rattle.book_core.proofs.SoundLemmas.{step-sound}

@@ -1,11 +1,9 @@
 -- Posting, and parking.
-use Rattle.std.proofs.Common.{◌≡◌, ℕ, zero, suc, ◌<◌, ◌≤◌, List, [], ◌∷◌, length, refl, sym, ap, ◌∙◌, subst, arith, Bool, true, false, not, cond, ◌&&◌, nat_lt, nat_le, slice_get, slice_index_or, Some, None, All}
+use Rattle.std.proofs.Common.{◌≡◌, ℕ, zero, suc, ◌<◌, ◌≤◌, List, [], ◌∷◌, length, refl, sym, ap, ◌∙◌, subst, arith, true, false, not, cond, nat_lt, slice_get, slice_index_or, Some, None, All}
 use Rattle.std.specs.declared.option.Option.{Option}
 use Rattle.std.specs.List.{list_all}
 use Rattle.std.proofs.lemmas.Bool.Decides.{Decides-ltb, Decides-by_and}
 use Rattle.lock_model.specs.Deck.{Deck}
-use Rattle.lock_model.specs.Fitting.{deck_of}
-use Rattle.lock_model.specs.declared.instance.Instance.{Instance}
 use Rattle.lock_model.specs.declared.group.Group.{Group}
 use Rattle.lock_rules.specs.Node.{line_at}
 use Rattle.refute_rules.specs.Cuts.{Cut, IsCut}
@@ -16,13 +14,13 @@ use Rattle.search_rules.specs.declared.book.Entry.TheVariants as entry
 use Rattle.search_rules.specs.Book.{Book, Node as TreeNode, slot_at, is_held, group_at}
 use Rattle.search_rules.specs.Events as machine
 use Rattle.search_rules.specs.Events.{Event, post, park}
-use Rattle.search_rules.specs.Tests.{has_clash, same_deck, is_own_cut}
+use Rattle.search_rules.specs.Tests.{has_clash, is_own_cut}
 use Rattle.search_rules.specs.Step.{step, noted, with_state, posted, parked, park_group, is_lent}
 use Rattle.book_core.specs.declared.reply.Reply.TheVariants as reply
 use Rattle.book_core.specs.Parking.{group_lent, names_lent}
 use Rattle.book_core.specs.Growing.{kept_cut}
 use Rattle.book_core.specs.Keeps.{IsSound}
-use Rattle.book_core.specs.Replies.{Answers, Does, Steps, Stays}
+use Rattle.book_core.specs.Replies.{Answers, Does, Steps}
 use Rattle.book_core.proofs.CloseLemmas.{Out, none, pick-true, pick-false, not-true, not-false}
 use Rattle.book_core.proofs.SoundLemmas.{step-sound}
 

@@ -1,17 +1,16 @@
 -- A held or parked slot is parked or closed.
-use Rattle.std.proofs.Common.{◌≡◌, ℕ, ◌<◌, ◌≤◌, List, [], ◌∷◌, ◌++◌, length, refl, sym, ap, ◌∙◌, subst, arith, Bool, true, ◌||◌, slice_index_or, slice_set, Some, None}
-use Rattle.std.specs.declared.option.Option.{Option}
+use Rattle.std.proofs.Common.{◌≡◌, ℕ, ◌<◌, List, [], ◌∷◌, ◌++◌, length, sym, ap, ◌∙◌, subst, arith, true, ◌||◌, slice_index_or, slice_set}
 use Rattle.search_rules.specs.declared.book.Entry.{Entry}
 use Rattle.search_rules.specs.declared.book.SlotState.{SlotState}
 use Rattle.search_rules.specs.declared.book.SlotState.TheVariants as slot
-use Rattle.search_rules.specs.Book.{Book, Slot, no_slot, slot_at, is_held, is_parked}
+use Rattle.search_rules.specs.Book.{Book, is_held, is_parked}
 use Rattle.search_rules.specs.Step.{may_close, noted, with_state}
 use Rattle.book_core.specs.declared.book.Book.TheInside.{Inside}
 use Rattle.book_core.specs.declared.stored_slot.StoredSlot.{StoredSlot}
 use Rattle.book_core.specs.Stored.{slots_of}
 use Rattle.book_core.specs.Tables.{state_in}
-use Rattle.book_core.specs.Changes.{set_state, Changes, let_go, IsSettled}
-use Rattle.book_core.specs.Keeps.{IsSound, AreTables}
+use Rattle.book_core.specs.Changes.{Changes, let_go, IsSettled}
+use Rattle.book_core.specs.Keeps.{AreTables}
 use Rattle.book_core.specs.Seen.{seen, IsKept}
 use Rattle.book_core.proofs.HandLemmas.{set-changes, hand-known}
 use Rattle.book_core.proofs.KeptLemmas.{length-slots, is-stored, stored-change, leaving-known, tables-settled}

@@ -1,26 +1,19 @@
 -- What every event keeps.
-use Rattle.std.proofs.Common.{◌≡◌, ℕ, zero, suc, ◌<◌, ◌≤◌, List, [], ◌∷◌, ◌++◌, length, refl, sym, ap, ◌∙◌, subst, arith, Bool, true, false, not, cond, ◌&&◌, ◌||◌, Some, None, slice_index_or, slice_get, slice_set, nat_eq, nat_le, nat_lt, inl, inr}
+use Rattle.std.proofs.Common.{◌≡◌, ℕ, ◌<◌, List, [], ◌∷◌, refl, sym, ap, ◌∙◌, subst, Bool, true, false, cond, Some, None, nat_le, inl, inr}
 use Rattle.std.specs.declared.option.Option.{Option}
-use Rattle.std.proofs.lemmas.Bool.Decides.{leb_tells, eqb_tells}
-use Rattle.std.proofs.lemmas.List.{length-set, get_or-set_same, get_or-set_other}
-use Rattle.lock_model.specs.Deck.{Deck, IsDeck}
-use Rattle.lock_model.specs.Fitting.{deck_of}
+use Rattle.std.proofs.lemmas.Bool.Decides.{leb_tells}
 use Rattle.lock_model.specs.declared.instance.Instance.{Instance}
-use Rattle.lock_model.specs.declared.group.Group.{Group}
 use Rattle.lock_model.specs.declared.plan.Plan.{Plan}
 use Rattle.lock_rules.specs.Plan.{IsLegal, cost_of}
-use Rattle.refute_rules.specs.Spots.{IsSpent}
 use Rattle.mooring_rules.specs.declared.breaks.BrokenPlan.{BrokenPlan}
 use Rattle.mooring_rules.specs.declared.breaks.BrokenPlan.TheVariants.{Double}
-use Rattle.search_rules.specs.declared.book.SlotState.{SlotState}
-use Rattle.search_rules.specs.declared.book.SlotState.TheVariants as slot
-use Rattle.search_rules.specs.Book.{Case, Book, Slot, no_slot, slot_at, best_cost, opening_book, is_held, group_at, ships_at}
+use Rattle.search_rules.specs.Book.{Case, Book, best_cost, opening_book}
 use Rattle.search_rules.specs.Events as machine
 use Rattle.search_rules.specs.Events.{Event, IsOwed, take, split, close_bound, close_cut, close_throughput, close_probe, post, park, replace, release}
 use Rattle.search_rules.specs.Step
 use Rattle.search_rules.specs.Step.{step}
 use Rattle.search_rules.specs.Laws.{TreeLaws}
-use Rattle.search_rules.specs.Cover.{KeepsBook, IsParkedWell}
+use Rattle.search_rules.specs.Cover.{KeepsBook}
 use Rattle.search_rules.proofs.CoverLemmas.{event-keeps, replaced-keeps, opening-keeps}
 use Rattle.search_rules.proofs.ReplayLemmas.{IsReplayed, after_all, event-replayed, opening-replayed}
 use Rattle.search_rules.proofs.LawLemmas.{tree-laws}

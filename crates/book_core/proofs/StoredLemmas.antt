@@ -1,15 +1,9 @@
 -- What is stored of slots, and the slots.
-use Rattle.std.proofs.Common.{◌≡◌, ℕ, zero, suc, ◌+◌, ◌<◌, ◌≤◌, List, [], ◌∷◌, ◌++◌, length, map, refl, sym, ap, ◌∙◌, subst, arith, Bool, true, false, cond, ◌&&◌, ◌||◌, nat_le, slice_index_or, slice_set}
+use Rattle.std.proofs.Common.{◌≡◌, ℕ, zero, suc, ◌+◌, ◌<◌, List, [], ◌∷◌, ◌++◌, length, refl, sym, ap, ◌∙◌, arith, slice_index_or, slice_set}
 use Rattle.std.proofs.Math.ListN.{get_or-append}
-use Rattle.std.proofs.lemmas.List.{get_or-append-add}
 use Rattle.lock_model.specs.declared.instance.Instance.{Instance}
-use Rattle.lock_model.specs.declared.group.Group.{Group}
-use Rattle.lock_rules.specs.Node.{root_lines}
-use Rattle.lock_rules.specs.Children.{children_of}
 use Rattle.search_rules.specs.declared.book.SlotState.{SlotState}
-use Rattle.search_rules.specs.declared.book.SlotState.TheVariants as slot
-use Rattle.search_rules.specs.Book.{Node, Slot, root, no_slot, new_slot, bound_at, is_fresh, is_back, is_parked}
-use Rattle.search_rules.specs.Step.{child_slots, outdone}
+use Rattle.search_rules.specs.Book.{Node, Slot, root, no_slot}
 use Rattle.book_core.specs.declared.stored_slot.StoredSlot.{StoredSlot}
 use Rattle.book_core.specs.Stored.{child_node, node_after, slot_with, slots_after, slots_of, IsStoredAs}
 

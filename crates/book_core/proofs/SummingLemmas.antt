@@ -1,16 +1,13 @@
 -- What is read off the stored slots is what the slots say.
-use Rattle.std.proofs.Common.{◌≡◌, ◌≢◌, ℕ, zero, suc, ◌+◌, ◌<◌, ◌≤◌, List, [], ◌∷◌, ◌++◌, length, map, filter, refl, sym, ap, ◌∙◌, subst, arith, Bool, true, false, not, cond, ◌||◌, slice_index_or, Some, None, nat_lt, min}
-use Rattle.std.specs.declared.option.Option.{Option}
+use Rattle.std.proofs.Common.{◌≡◌, ℕ, zero, suc, ◌+◌, ◌<◌, ◌≤◌, List, [], ◌∷◌, ◌++◌, length, map, filter, refl, ap, subst, arith, Bool, true, false, not, cond, ◌||◌, Some, None, nat_lt}
 use Rattle.std.specs.List.{list_any, position, position_or_len}
 use Rattle.lock_model.specs.declared.instance.Instance.{Instance}
 use Rattle.lock_model.specs.declared.group.Group.{Group}
-use Rattle.lock_rules.specs.Node.{IsNode, line_at}
-use Rattle.lock_rules.specs.Bound.{least_number}
-use Rattle.flow_bounds.specs.Least.{least_told}
+use Rattle.lock_rules.specs.Node.{line_at}
 use Rattle.search_rules.specs.declared.book.SlotState.{SlotState}
 use Rattle.search_rules.specs.declared.book.SlotState.TheVariants as slot
 use Rattle.search_rules.specs.Book.{Book, Node, Slot, no_slot, slot_at, is_live, is_parked, first_slot}
-use Rattle.search_rules.specs.States.{Tells, IsTrueSlot, IsSpentGroup}
+use Rattle.search_rules.specs.States.{Tells, IsSpentGroup}
 use Rattle.search_rules.proofs.SlotLemmas.{first_slot-at}
 use Rattle.book_core.specs.declared.stored_slot.StoredSlot.{StoredSlot}
 use Rattle.book_core.specs.Stored.{node_after, slot_with, slots_after, slots_of}

@@ -1,14 +1,14 @@
 -- The list of splits that wait with Fresh children.
-use Rattle.std.proofs.Common.{◌≡◌, ◌≢◌, ℕ, zero, suc, ◌+◌, ◌<◌, ◌≤◌, List, [], ◌∷◌, ◌++◌, length, refl, sym, ap, ◌∙◌, subst, arith, Bool, true, false, slice_index_or, inl, inr}
+use Rattle.std.proofs.Common.{◌≡◌, ◌≢◌, ℕ, zero, suc, ◌<◌, ◌≤◌, List, [], ◌∷◌, ◌++◌, length, refl, sym, ap, ◌∙◌, subst, arith, true, false, inl, inr}
 use Rattle.std.proofs.lemmas.Bool.Decides.{eqb_tells, leb_tells}
 use Rattle.std.proofs.Math.ListN.{get_or-append}
 use Rattle.search_rules.specs.declared.book.SlotState.{SlotState}
 use Rattle.search_rules.specs.declared.book.SlotState.TheVariants as slot
-use Rattle.search_rules.specs.Book.{Slot, no_slot, is_fresh}
+use Rattle.search_rules.specs.Book.{Slot, is_fresh}
 use Rattle.search_rules.specs.NextSlot.{is_split}
 use Rattle.book_core.specs.declared.waiting.Waiting.{Waiting}
 use Rattle.book_core.specs.Tables.{state_in, waiting_at, IsWaiting, IsInEntry, AreWaiting}
-use Rattle.book_core.specs.Changes.{Changes, slot_in, stateless}
+use Rattle.book_core.specs.Changes.{Changes, slot_in}
 
 -- Of new slots: their parents are the old ones, no slot becomes Fresh, and what is split stays so.
 pub record Settles (old new : List Slot) : Type 0 where

@@ -1,5 +1,5 @@
 -- What a method of the book does: the step of the book machine for its event, or nothing for want of memory.
-use Rattle.std.specs.Prelude.{ℕ, ◌≡◌, ◌↔◌, ⊤, Some, None, IsNone, IfSome}
+use Rattle.std.specs.Prelude.{◌≡◌, ◌↔◌, ⊤, Some, None, IsNone, IfSome}
 use Rattle.std.specs.declared.option.Option.{Option}
 use Rattle.lock_model.specs.declared.instance.Instance.{Instance}
 use Rattle.lock_model.specs.declared.plan.Plan.{Plan}

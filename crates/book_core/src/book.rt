@@ -111,6 +111,18 @@ impl Book {
         }
     }
 
+    /// The slot whose child a slot is; 0 of the root. None exactly where there is no such slot.
+    pub fn parent(&self, id: u32) -> Option<u32>
+        ensures some { IfSome result (λ parent. (id < length self.now.slots) × ((slot_at self.now id).parent ≡ parent)) }
+        ensures none { IfNone result (length self.now.slots ≤ id) }
+    {
+        if (id as usize) < self.slots.len() {
+            Some(self.slots[id as usize].parent)
+        } else {
+            None
+        }
+    }
+
     /// Whether the worker has released.
     pub fn ended(&self, worker: u8) -> bool
         ensures { result ≡ slice_index_or self.now.ended worker false }

@@ -1,4 +1,4 @@
-use Rattle.std.proofs.Common.{◌≡◌, ◌<◌, ◌≤◌, length, arith}
+use Rattle.std.proofs.Common.{arith}
 use Rattle.book_core.proofs.OutdoneLemmas.{each-outdone}
 use Rattle.book_core.proofs.replacing.outdo.Goals as goal
 

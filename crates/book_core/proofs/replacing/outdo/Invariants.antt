@@ -1,4 +1,4 @@
-use Rattle.std.proofs.Common.{◌≡◌, ◌<◌, ◌≤◌, ℕ, length}
+use Rattle.std.proofs.Common.{◌≡◌, ◌<◌, ◌≤◌, ℕ}
 use Rattle.book_core.specs.Next.{stored_at}
 use Rattle.book_core.specs.Outdone.{outdone_stored}
 use Rattle.book_core.proofs.replacing.outdo.Given as goal

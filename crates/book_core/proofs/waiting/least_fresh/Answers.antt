@@ -1,4 +1,3 @@
-use Rattle.std.proofs.Common.{arith}
 use Rattle.book_core.proofs.NextLemmas.{up-to-end}
 use Rattle.book_core.proofs.waiting.least_fresh.Goals as goal
 

@@ -1,4 +1,4 @@
-use Rattle.std.proofs.Common.{◌≡◌, ◌<◌, ◌≤◌}
+use Rattle.std.proofs.Common.{◌≡◌, ◌<◌}
 use Rattle.book_core.specs.Next.{IsLeastUpTo}
 use Rattle.book_core.proofs.waiting.least_fresh.Given as goal
 

@@ -1,5 +1,4 @@
-use Rattle.std.proofs.Common.{◌≡◌, ◌+◌, ◌-◌, ◌<◌, ◌≤◌, ℕ, suc, length, sym, ap, ◌∙◌, subst, arith, take, Some, None, vec_len}
-use Rattle.book_core.specs.Stored.{slots_of}
+use Rattle.std.proofs.Common.{◌≡◌, ◌-◌, suc, length, ap, ◌∙◌, arith, take, vec_len}
 use Rattle.book_core.proofs.KeptLemmas.{length-slots, some-is}
 use Rattle.book_core.proofs.NextLemmas.{last-waits, least-next, waiting-popped}
 use Rattle.book_core.proofs.waiting.next_waiting.Goals as goal

@@ -1,7 +1,7 @@
-use Rattle.std.proofs.Common.{◌≡◌, ◌<◌, ◌≤◌, sym, ap, ◌∙◌, arith}
+use Rattle.std.proofs.Common.{sym, ◌∙◌}
 use Rattle.search_rules.specs.declared.book.SlotState.TheVariants as slot
 use Rattle.search_rules.specs.declared.book.Entry.TheVariants as entry
-use Rattle.search_rules.specs.Events.{close_bound, close_cut, close_throughput, close_probe}
+use Rattle.search_rules.specs.Events.{close_bound}
 use Rattle.book_core.proofs.CloseLemmas.{bound-missed, bound-cheap, bound-shut, shut-sound, shut-answers}
 use Rattle.book_core.proofs.book.Book.close_bound.Goals as goal
 

@@ -1,7 +1,7 @@
-use Rattle.std.proofs.Common.{◌≡◌, ◌<◌, ◌≤◌, sym, ap, ◌∙◌, arith}
+use Rattle.std.proofs.Common.{sym, ◌∙◌}
 use Rattle.search_rules.specs.declared.book.SlotState.TheVariants as slot
 use Rattle.search_rules.specs.declared.book.Entry.TheVariants as entry
-use Rattle.search_rules.specs.Events.{close_bound, close_cut, close_throughput, close_probe}
+use Rattle.search_rules.specs.Events.{close_cut}
 use Rattle.book_core.proofs.CloseLemmas.{cut-missed, cut-misses, cut-shut, shut-sound, shut-answers}
 use Rattle.book_core.proofs.book.Book.close_cut.Goals as goal
 

@@ -1,7 +1,7 @@
-use Rattle.std.proofs.Common.{◌≡◌, ◌<◌, ◌≤◌, sym, ap, ◌∙◌, arith, subst, true, false}
+use Rattle.std.proofs.Common.{◌≡◌, sym, ◌∙◌, subst}
 use Rattle.search_rules.specs.declared.book.SlotState.TheVariants as slot
 use Rattle.search_rules.specs.declared.book.Entry.TheVariants as entry
-use Rattle.search_rules.specs.Events.{close_bound, close_cut, close_throughput, close_probe}
+use Rattle.search_rules.specs.Events.{close_probe}
 use Rattle.lock_model.specs.declared.instance.Instance.{Instance}
 use Rattle.master_branch.specs.Node.{Node, IsNodeOf}
 use Rattle.book_core.proofs.MissingLemmas.{is-missing, not-missing, probe-is}

@@ -1,9 +1,8 @@
-use Rattle.std.proofs.Common.{◌≡◌, ◌≢◌, ℕ, ◌+◌, ◌*◌, ◌<◌, ◌≤◌, List, [], length, refl, sym, ap, ◌∙◌, subst, arith, slice_index_or, slice_set, slice_get, true, false}
-use Rattle.search_rules.specs.Book.{Book, slot_at, first_slot, is_back, is_held_by}
-use Rattle.search_rules.specs.declared.book.SlotState.TheVariants as slot
+use Rattle.std.proofs.Common.{◌≡◌, sym, ap, ◌∙◌, subst, arith, slice_index_or, slice_set, true, false}
+use Rattle.search_rules.specs.Book.{Book}
 use Rattle.book_core.specs.Stored.{slots_of}
 use Rattle.book_core.specs.Changes.{finished}
-use Rattle.book_core.specs.Keeps.{IsSound, AreTables}
+use Rattle.book_core.specs.Keeps.{IsSound}
 use Rattle.book_core.specs.Seen.{seen}
 use Rattle.book_core.proofs.HandOverLemmas.{tables-ended}
 use Rattle.book_core.proofs.book.Book.end.Goals as goal

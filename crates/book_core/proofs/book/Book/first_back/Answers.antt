@@ -1,9 +1,5 @@
-use Rattle.std.proofs.Common.{◌≡◌, ◌≢◌, ℕ, ◌+◌, ◌*◌, ◌<◌, ◌≤◌, List, [], ◌∷◌, length, refl, sym, ap, ◌∙◌, subst, arith, slice_index_or, slice_set, slice_get, Some, None}
-use Rattle.search_rules.specs.Book.{Book, slot_at, first_slot, is_back, is_held_by}
-use Rattle.search_rules.specs.declared.book.SlotState.TheVariants as slot
-use Rattle.book_core.specs.Stored.{slots_of}
-use Rattle.book_core.specs.Changes.{IsFree, leave_back}
-use Rattle.book_core.specs.Keeps.{IsSound, AreTables}
+use Rattle.std.proofs.Common.{◌≡◌, ℕ, ◌<◌, List, [], ◌∷◌, length, refl, sym, ap, ◌∙◌, arith, slice_index_or, slice_get, Some, None}
+use Rattle.search_rules.specs.Book.{first_slot, is_back}
 use Rattle.book_core.specs.Seen.{seen}
 use Rattle.book_core.proofs.KeptLemmas.{zero-is, some-is}
 use Rattle.book_core.proofs.BackLemmas.{first-back}

@@ -1,13 +1,11 @@
-use Rattle.std.proofs.Common.{◌≡◌, ◌≢◌, ℕ, ◌+◌, ◌*◌, ◌<◌, ◌≤◌, List, [], length, refl, sym, ap, ◌∙◌, subst, arith, slice_index_or, slice_set, slice_get, Some, None}
-use Rattle.search_rules.specs.Book.{Book, slot_at, first_slot, is_back, is_held_by}
+use Rattle.std.proofs.Common.{sym, ap, ◌∙◌, subst, arith, slice_set, Some}
+use Rattle.search_rules.specs.Book.{first_slot, is_held_by}
 use Rattle.search_rules.specs.declared.book.SlotState.TheVariants as slot
 use Rattle.book_core.specs.Stored.{slots_of}
 use Rattle.book_core.specs.Changes.{IsFree, leave_back}
 use Rattle.book_core.specs.Keeps.{IsSound, AreTables}
 use Rattle.book_core.specs.Seen.{seen}
-use Rattle.book_core.specs.Tables.{state_in}
 use Rattle.book_core.proofs.SettleLemmas.{restated, slots-known, state-is, restated-changes}
-use Rattle.book_core.proofs.BackLemmas.{first-back}
 use Rattle.book_core.proofs.HandOverLemmas.{free-known, tables-given, handed-is, not-empty}
 use Rattle.book_core.proofs.book.Book.give.Goals as goal
 

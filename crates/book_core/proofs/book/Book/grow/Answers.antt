@@ -1,8 +1,7 @@
-use Rattle.std.proofs.Common.{◌≡◌, ℕ, ◌+◌, ◌*◌, ◌<◌, ◌≤◌, length, refl, sym, ap, ◌∙◌, subst, arith, slice_index_or}
+use Rattle.std.proofs.Common.{◌≡◌, ◌+◌, length, refl, sym, ap, ◌∙◌, subst, arith}
 use Rattle.search_rules.specs.Book.{Book, slot_at}
 use Rattle.book_core.specs.Changes.{let_go}
-use Rattle.book_core.specs.Keeps.{IsSound, AreTables}
-use Rattle.book_core.specs.Seen.{seen}
+use Rattle.book_core.specs.Keeps.{IsSound}
 use Rattle.book_core.proofs.KeptLemmas.{length-slots}
 use Rattle.book_core.proofs.SplitLemmas.{kids-few, held-known, held-state, held-worker, split-is, split-tables}
 use Rattle.book_core.proofs.book.Book.grow.Goals as goal

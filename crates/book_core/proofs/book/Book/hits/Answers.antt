@@ -1,7 +1,7 @@
-use Rattle.std.proofs.Common.{◌≡◌, sym, ap, ◌∙◌, subst}
+use Rattle.std.proofs.Common.{sym, ap, ◌∙◌}
 use Rattle.std.specs.Bool.{one_answer}
 use Rattle.lock_model.specs.declared.instance.Instance.{Instance}
-use Rattle.search_rules.specs.Book.{Node as TreeNode, slot_at}
+use Rattle.search_rules.specs.Book.{Node as TreeNode}
 use Rattle.search_rules.specs.Step.{hits_in}
 use Rattle.search_rules.specs.Tests.{is_node_hit}
 use Rattle.search_rules.proofs.TestLemmas.{is_node_hit-decides}

@@ -1,13 +1,11 @@
-use Rattle.std.proofs.Common.{◌≡◌, ◌<◌, ◌≤◌, ℕ, length, refl, sym, ap, ◌∙◌, subst, arith, All, Bool, true, false, ◌&&◌, nat_le, slice_index_or}
+use Rattle.std.proofs.Common.{◌≡◌, ◌<◌, length, sym, ap, ◌∙◌, subst, arith, All, true, false, ◌&&◌, nat_le, slice_index_or}
 use Rattle.lock_model.specs.Fitting.{deck_of}
 use Rattle.lock_model.specs.declared.group.Group.{Group}
 use Rattle.lock_model.specs.declared.instance.Instance.{Instance}
 use Rattle.search_rules.specs.Tests.{same_deck}
 use Rattle.lock_rules.proofs.NodeLemmas.{line-known}
-use Rattle.place_refute.specs.Tried.{Tried}
 use Rattle.book_core.specs.Nodes.{tree_node}
-use Rattle.book_core.specs.Parking.{names_lent}
-use Rattle.book_core.proofs.PostLemmas.{lent-none, lent-some}
+use Rattle.book_core.proofs.PostLemmas.{lent-some}
 use Rattle.book_core.proofs.book.Book.names_lent.Goals as goal
 
 pub deck_of-deck-requires-clause-ships_in : goal.deck_of-deck-requires-clause-ships_in

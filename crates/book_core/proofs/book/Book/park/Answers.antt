@@ -1,8 +1,6 @@
-use Rattle.std.proofs.Common.{◌≡◌, sym, ap, ◌∙◌, subst}
-use Rattle.lock_model.specs.Deck.{Deck}
+use Rattle.std.proofs.Common.{sym, ap, ◌∙◌, subst}
 use Rattle.search_rules.specs.Tests.{has_clash}
 use Rattle.refute_rules.specs.Cases.{IsHard}
-use Rattle.refute_rules.specs.Spots.{IsSpent}
 use Rattle.place_refute.specs.Tried.{Tried}
 use Rattle.book_core.proofs.PostLemmas.{park-missed, park-other, park-clashes, park-sound, park-done}
 use Rattle.book_core.proofs.book.Book.park.Goals as goal

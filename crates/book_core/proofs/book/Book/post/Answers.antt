@@ -1,6 +1,5 @@
-use Rattle.std.proofs.Common.{◌≡◌, sym, ap, ◌∙◌, subst}
+use Rattle.std.proofs.Common.{sym, ap, ◌∙◌}
 use Rattle.lock_model.specs.declared.instance.Instance.{Instance}
-use Rattle.refute_rules.specs.Cuts.{Cut, IsCut}
 use Rattle.search_rules.specs.Tests.{is_own_cut}
 use Rattle.book_core.proofs.PostLemmas.{post-other, post-sound, post-done}
 use Rattle.book_core.proofs.book.Book.post.Goals as goal

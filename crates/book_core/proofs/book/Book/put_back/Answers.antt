@@ -1,11 +1,9 @@
-use Rattle.std.proofs.Common.{◌≡◌, ◌≢◌, ℕ, ◌+◌, ◌*◌, ◌<◌, ◌≤◌, List, [], length, refl, sym, ap, ◌∙◌, subst, arith, slice_index_or, slice_set, slice_get, Some, None, true, false}
-use Rattle.search_rules.specs.Book.{Book, slot_at, first_slot, is_back, is_held_by}
+use Rattle.std.proofs.Common.{sym, ap, ◌∙◌, subst, arith, slice_index_or, slice_set, None, true, false}
+use Rattle.search_rules.specs.Book.{Book, first_slot, is_held_by}
 use Rattle.search_rules.specs.declared.book.SlotState.TheVariants as slot
 use Rattle.book_core.specs.Stored.{slots_of}
-use Rattle.book_core.specs.Changes.{returned}
 use Rattle.book_core.specs.Keeps.{IsSound, AreTables}
 use Rattle.book_core.specs.Seen.{seen}
-use Rattle.lock_rules.specs.Children.{insert_number}
 use Rattle.book_core.proofs.SettleLemmas.{restated, slots-known, restated-changes}
 use Rattle.book_core.proofs.HandOverLemmas.{holder-at, tables-returned, returned-is, room-back}
 use Rattle.book_core.proofs.book.Book.put_back.Goals as goal

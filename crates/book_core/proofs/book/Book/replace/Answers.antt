@@ -1,4 +1,4 @@
-use Rattle.std.proofs.Common.{◌≡◌, sym, ap, ◌∙◌, subst, Some, None}
+use Rattle.std.proofs.Common.{ap, ◌∙◌, subst, Some, None}
 use Rattle.lock_rules.specs.Plan.{cost_of}
 use Rattle.book_core.specs.Replies.{IsJudged}
 use Rattle.book_core.proofs.OutdoneLemmas.{replace-broken, replace-dear, replace-sound, replace-done}

@@ -1,6 +1,5 @@
-use Rattle.std.proofs.Common.{◌≡◌, ℕ, ◌+◌, ◌*◌, ◌<◌, ◌≤◌, length, sym, ap, ◌∙◌, subst, arith, slice_index_or, slice_set}
+use Rattle.std.proofs.Common.{sym, ap, ◌∙◌, subst, arith, slice_set}
 use Rattle.book_core.specs.Keeps.{IsSound, AreTables}
-use Rattle.book_core.specs.Seen.{seen}
 use Rattle.book_core.specs.Stored.{slots_of}
 use Rattle.book_core.specs.Changes.{let_go}
 use Rattle.book_core.proofs.SettleLemmas.{restated, restated-is, state-is, settled-known, holder-known, settled-tables}

@@ -1,10 +1,9 @@
-use Rattle.std.proofs.Common.{◌≡◌, ℕ, ◌+◌, ◌<◌, ◌≤◌, length, map, sym, ap, ◌∙◌, subst, arith}
+use Rattle.std.proofs.Common.{◌≡◌, ◌+◌, length, sym, ap, ◌∙◌, arith}
 use Rattle.std.proofs.lemmas.List.{length-map}
 use Rattle.lock_model.specs.declared.instance.Instance.{Instance}
 use Rattle.lock_rules.specs.Bound.{bound_of}
 use Rattle.lock_rules.specs.Children.{children_of}
 use Rattle.search_rules.specs.Book.{Node as TreeNode, slot_at}
-use Rattle.book_core.specs.Nodes.{tree_node}
 use Rattle.book_core.proofs.GrowLemmas.{split-missed, split-whole, split-sound, split-done}
 use Rattle.book_core.proofs.book.Book.split.Goals as goal
 

@@ -1,8 +1,7 @@
-use Rattle.std.proofs.Common.{◌≡◌, ◌≢◌, ℕ, ◌+◌, ◌*◌, ◌<◌, ◌≤◌, List, [], ◌∷◌, ◌++◌, length, refl, sym, ap, ◌∙◌, subst, arith, rules, Bool, true, false, slice_index_or, slice_set, Some, None}
-use Rattle.search_rules.specs.Book.{Book, Slot, slot_at, no_slot}
-use Rattle.book_core.specs.Changes.{slot_in}
+use Rattle.std.proofs.Common.{◌<◌, ◌≤◌, length, sym, ap, ◌∙◌, arith}
+use Rattle.search_rules.specs.Book.{Slot, slot_at}
 use Rattle.book_core.specs.Seen.{seen}
-use Rattle.book_core.proofs.KeptLemmas.{length-slots, is-stored, slot-past, few-slots}
+use Rattle.book_core.proofs.KeptLemmas.{length-slots, is-stored, slot-past}
 use Rattle.book_core.proofs.book.Book.state_of.Goals as goal
 
 pub returns-then-id-len-clause-state : goal.returns-then-id-len-clause-state

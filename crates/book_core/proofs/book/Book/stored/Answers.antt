@@ -1,8 +1,7 @@
-use Rattle.std.proofs.Common.{◌≡◌, ◌<◌, length, ap, subst, arith}
-use Rattle.search_rules.specs.Book.{Book, slot_at}
-use Rattle.book_core.specs.Seen.{seen}
+use Rattle.std.proofs.Common.{subst, arith}
+use Rattle.search_rules.specs.Book.{slot_at}
 use Rattle.book_core.specs.Stored.{IsStoredAs}
-use Rattle.book_core.proofs.KeptLemmas.{length-slots, is-stored}
+use Rattle.book_core.proofs.KeptLemmas.{is-stored}
 use Rattle.book_core.proofs.SettleLemmas.{slots-known}
 use Rattle.book_core.proofs.book.Book.stored.Goals as goal
 

@@ -1,6 +1,5 @@
-use Rattle.std.proofs.Common.{◌≡◌, ◌≢◌, ℕ, suc, ◌+◌, ◌<◌, ◌≤◌, sym, ap, ◌∙◌, subst, arith, Some, None}
-use Rattle.book_core.proofs.EventLemmas.{take-ended, take-holds, take-idle, take-done, take-spent, back-given, fresh-given, is-new, given-sound, given-answers, release-ended, returned-sound, returned-answers, finished-sound, finished-answers}
-use Rattle.book_core.proofs.HandOverLemmas.{free-known}
+use Rattle.std.proofs.Common.{sym, ◌∙◌}
+use Rattle.book_core.proofs.EventLemmas.{take-ended, take-holds}
 use Rattle.book_core.proofs.book.Book.take.Goals as goal
 
 pub returns-then-ended-clause-step : goal.returns-then-ended-clause-step

@@ -1,8 +1,5 @@
-use Rattle.std.proofs.Common.{◌≡◌, ◌≢◌, ℕ, suc, ◌+◌, ◌<◌, ◌≤◌, sym, ap, ◌∙◌, subst, arith, Some, None}
-use Rattle.search_rules.specs.Book.{Book, Case}
-use Rattle.book_core.specs.Changes.{IsReturned}
-use Rattle.book_core.proofs.EventLemmas.{take-ended, take-holds, take-idle, take-done, take-spent, back-given, fresh-given, is-new, given-sound, given-answers, release-ended, returned-sound, returned-answers, finished-sound, finished-answers}
-use Rattle.book_core.proofs.HandOverLemmas.{free-known}
+use Rattle.std.proofs.Common.{sym, ap, ◌∙◌}
+use Rattle.book_core.proofs.EventLemmas.{back-given, given-sound, given-answers}
 use Rattle.search_rules.specs.Step.{given}
 use Rattle.book_core.proofs.book.Book.take_back.Goals as goal
 

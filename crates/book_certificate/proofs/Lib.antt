@@ -1,0 +1,5 @@
+pub mod WritingLemmas
+pub mod ChildLemmas
+pub mod CutLemmas
+pub mod ClosingLemmas
+pub mod FormedLemmas

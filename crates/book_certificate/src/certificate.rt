@@ -1,0 +1,37 @@
+//! The certificate of a book.
+ghost use Rattle.std.specs.Prelude.{◌≡◌, ◌↔◌, IfOk, Err};
+ghost use Rattle.search_rules.specs.Certificates.{Accepts};
+ghost use Rattle.search_rules.specs.WellFormed.{IsWellFormed};
+ghost use Rattle.book_certificate.specs.Certified.{HasLive, IsCertificateOf};
+
+use crate::cuts::cuts_of;
+use crate::error::CertError;
+use crate::live::first_live;
+use crate::marks::marks_of;
+use book_core::Book;
+use cert_check::Certificate;
+use std::alloc::Global;
+
+/// The certificate of a finished book: its best plan, the plan's cost in minutes, its cuts in order,
+/// and the marks of its slots in preorder of their tree. It is well formed, and accepted for the
+/// instance of the book, so the checker never rejects it.
+///
+/// `StillOpen` exactly where a slot is open, held or parked. Else want of memory is the only
+/// refusal. `specs/Certified` says what the certificate of a book is.
+pub fn certificate_of(alloc: Global, book: &Book) -> Result<Certificate, CertError>
+    ensures certified { IfOk result (IsCertificateOf book.now) }
+    ensures accepted { IfOk result (Accepts book.now.case.instance) }
+    ensures formed { IfOk result IsWellFormed }
+    ensures open { (result ≡ Err CertError.StillOpen) ↔ HasLive book.now }
+{
+    if let Some(_) = first_live(book) {
+        return Err(CertError::StillOpen);
+    }
+    book.keeps();
+    Ok(Certificate {
+        cost: book.best_cost(),
+        cuts: cuts_of(alloc, book)?,
+        plan: book.best().copy(),
+        tree: marks_of(alloc, book)?,
+    })
+}
