@@ -1,5 +1,5 @@
 -- The marks of a book's slots are one certificate tree.
-use Rattle.std.proofs.Common.{◌≡◌, ℕ, zero, suc, ◌+◌, ◌<◌, ◌≤◌, List, [], ◌∷◌, inl, inr, length, map, refl, sym, ap, ◌∙◌, subst, arith, Some, None, slice_get, slice_index_or}
+use Rattle.std.proofs.Common.{◌≡◌, ℕ, zero, suc, ◌+◌, ◌<◌, ◌≤◌, List, [], ◌∷◌, inl, inr, length, map, refl, sym, ap, ◌∙◌, subst, arith, Some, None, slice_index_or}
 use Rattle.std.specs.List.{range_with_len}
 use Rattle.std.proofs.lemmas.List.{length-map, get_or-map}
 use Rattle.std.proofs.lemmas.Option.{slice_get_within, get_or_from_slice_get}
@@ -16,11 +16,11 @@ use Rattle.search_rules.specs.declared.book.SlotState.{SlotState}
 use Rattle.search_rules.specs.declared.book.SlotState.TheVariants as slot
 use Rattle.search_rules.specs.declared.certificate.Mark.{Mark}
 use Rattle.search_rules.specs.declared.certificate.Mark.TheVariants as mark
-use Rattle.search_rules.specs.Book.{Node, Book, slot_at, no_slot, best_cost, bound_at}
+use Rattle.search_rules.specs.Book.{Node, Book, slot_at, no_slot, best_cost}
 use Rattle.search_rules.specs.Cover.{KeepsBook}
 use Rattle.search_rules.specs.States.{KeepsStates, IsHitBy}
 use Rattle.search_rules.specs.Family.{HasChildren, KeepsFamily}
-use Rattle.search_rules.specs.Certificates.{CertCut, IsCutBy, Closes, IsMarkTree}
+use Rattle.search_rules.specs.Certificates.{IsCutBy, Closes, IsMarkTree}
 use Rattle.search_rules.proofs.SlotLemmas.{IsAt}
 use Rattle.search_rules.proofs.StateLemmas.{state-tells}
 use Rattle.book_certificate.specs.Preorder.{leaf_mark, AreMarksOf}
@@ -38,13 +38,12 @@ pub in_order-kids : {X M : Type 0} (Numbered : ℕ → List M → List M → Typ
     → (marks rest : List M) → AreInOrder Numbered (range_with_len first (length xs)) marks rest → AreInOrder Tree xs marks rest
 in_order-kids Numbered Tree d [] first each marks rest h = h
 in_order-kids {X} {M} Numbered Tree d (x ∷ xs) first each marks rest h =
-    let here : first ≡ first + 0 = omega arith in
-    (
+    let here : first ≡ first + 0 = omega arith in (
       h.0,
       each 0 (omega arith) marks h.0 (subst (λ n. Numbered n marks h.0) here h.1),
       in_order-kids Numbered Tree d xs (first + 1)
-      (λ k known m r t. let next : first + 1 + k ≡ first + suc k = omega arith in each (suc k) (omega (arith, known)) m r (subst (λ n. Numbered n m r) next t))
-      h.0 rest h.2,
+          (λ k known m r t. let next : first + 1 + k ≡ first + suc k = omega arith in each (suc k) (omega (arith, known)) m r (subst (λ n. Numbered n m r) next t))
+          h.0 rest h.2,
     )
 
 module _ (b : Book) (keeps : KeepsBook b) (family : KeepsFamily b) (states : KeepsStates b) where
@@ -99,8 +98,8 @@ module _ (b : Book) (keeps : KeepsBook b) (family : KeepsFamily b) (states : Kee
         h.2,
         h.3,
         in_order-kids (AreMarksOf b lacking) (IsMarkTree I mark.Split Closing lacking (suc node.depth)) root_lines (children_of I node.depth node.lines) h.0
-        (λ k within m r t.
+            (λ k within m r t.
             let own = kids.child k within in
             subst (λ (n : Node). IsMarkTree I mark.Split Closing lacking n.depth n.lines m r) own.node_is (slot-tree lacking (h.0 + k) own.known m r t))
-        h.2 rest h.4,
+            h.2 rest h.4,
       )

@@ -1,5 +1,5 @@
 -- Copying the cuts of a book.
-use Rattle.std.proofs.Common.{◌≡◌, ℕ, suc, ◌+◌, ◌<◌, ◌≤◌, List, [], ◌∷◌, ◌++◌, inl, inr, length, map, take, refl, sym, ap, ◌∙◌, subst, arith, Some, None, slice_get, slice_index_or}
+use Rattle.std.proofs.Common.{◌≡◌, ℕ, ◌+◌, ◌<◌, ◌≤◌, List, [], ◌∷◌, ◌++◌, inl, inr, length, map, take, sym, ap, ◌∙◌, subst, arith, Some, None, slice_get, slice_index_or}
 use Rattle.std.proofs.lemmas.List.{take_more, take_all, length-append, map-append}
 use Rattle.std.proofs.lemmas.Option.{slice_get_within, slice_get_cases, get_or_from_slice_get}
 use Rattle.refute_rules.specs.Cuts.{Cut}

@@ -1,13 +1,12 @@
 -- The certificate of a book is accepted and well formed.
-use Rattle.std.proofs.Common.{◌≡◌, ℕ, zero, suc, ◌+◌, ◌*◌, ◌^◌, ◌<◌, ◌≤◌, List, [], ◌∷◌, inl, inr, length, map, refl, sym, ap, ◌∙◌, subst, arith, Some, None, All, slice_get, slice_index_or}
+use Rattle.std.proofs.Common.{◌≡◌, ℕ, zero, suc, ◌+◌, ◌^◌, ◌<◌, List, [], inl, inr, length, map, refl, sym, ap, ◌∙◌, subst, arith, Some, None, All, slice_index_or}
 use Rattle.std.specs.List.{range_with_len}
 use Rattle.std.proofs.lemmas.List.{length-map}
 use Rattle.std.proofs.lemmas.List.Elements.{All-map, All-cons, All-nil}
 use Rattle.std.proofs.lemmas.Option.{slice_get_within}
-use Rattle.lock_model.specs.Fitting.{deck_of, size_of}
+use Rattle.lock_model.specs.Fitting.{size_of}
 use Rattle.lock_model.specs.Fleet.{ship_at}
 use Rattle.lock_model.specs.Deck.{Deck}
-use Rattle.lock_model.specs.Limits.{Within}
 use Rattle.lock_model.specs.declared.instance.Instance.{Instance}
 use Rattle.lock_model.specs.declared.plan.Lockage.{Lockage}
 use Rattle.lock_model.specs.declared.plan.Plan.{Plan}
@@ -29,7 +28,7 @@ use Rattle.search_rules.specs.Book.{Node, Book, root, slot_at, best_cost}
 use Rattle.search_rules.specs.Cover.{KeepsBook, IsOwnCut}
 use Rattle.search_rules.specs.States.{KeepsStates}
 use Rattle.search_rules.specs.Family.{KeepsFamily}
-use Rattle.search_rules.specs.Certificates.{CertCut, Certificate, IsProved, Closes, IsMarkTree, IsCertTree, Accepts}
+use Rattle.search_rules.specs.Certificates.{Certificate, IsProved, Closes, IsMarkTree, Accepts}
 use Rattle.search_rules.specs.WellFormed.{IsFormedReason, IsFormedRefutation, IsFormedCut, IsFormedLockage, IsFormedMark, IsWellFormed}
 use Rattle.search_rules.proofs.SlotLemmas.{IsAt}
 use Rattle.search_rules.proofs.StateLemmas.{state-tells}
@@ -74,8 +73,7 @@ own-proved I cut is own =
 legal-formed : (I : Instance) (l : Lockage) → IsLegalLockage I l → IsFormedLockage l
 legal-formed I l legal =
     let most = (I.limits.chamber l.chamber no_chamber legal.chamber).most in
-    let count = legal.count in
-    (
+    let count = legal.count in (
       (count.0, omega (arith, count.1, most.1)),
       legal.placed.count ∙ length-map l.ships (λ s. size_of (ship_at I s)),
     )

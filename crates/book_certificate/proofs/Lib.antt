@@ -3,3 +3,4 @@ pub mod ChildLemmas
 pub mod CutLemmas
 pub mod ClosingLemmas
 pub mod FormedLemmas
+pub mod VerdictLemmas

@@ -17,6 +17,8 @@ mod cuts;
 mod error;
 mod live;
 mod marks;
+#[cfg(test)]
+mod tests;
 
 pub use certificate::certificate_of;
 pub use error::CertError;

@@ -1,53 +1,96 @@
--- Answers to an instance, to bad words, and what was written of them.
-use Rattle.std.proofs.Common.{ℕ, ◌≡◌, List, sym, subst, Some, None}
-use Rattle.std.specs.Prelude.{IfSome}
-use Rattle.std.specs.declared.option.Option.{Option}
-use Rattle.std.specs.Io.KnownBytes.{Appends}
+-- What is answered to an instance, to the bytes that mean it, and to words.
+use Rattle.std.proofs.Common.{ℕ, ◌≡◌, List, sym, subst, false}
 use Rattle.lock_model.specs.declared.instance.Instance.{Instance}
 use Rattle.instance_text.specs.Reading.{Means}
-use Rattle.lock_top.specs.declared.status.Status.{Status}
-use Rattle.lock_top.specs.declared.status.Status.TheVariants.{Good, Open, Words, Refused, ReadFault, WriteFault, NoMemory, BadDossier, Unfit, PlanRefused, Later}
-use Rattle.command_words.specs.Meaning.{AreBad}
-use Rattle.lock_top.specs.Texts.{bad_words_text}
+use Rattle.plan_print.specs.Report.{report}
+use Rattle.command_words.specs.Meaning.{Means as WordsMean}
+use Rattle.command_words.specs.declared.commands.Command.{Command}
+use Rattle.command_words.specs.declared.commands.Command.TheVariants.{Solve, Check, Lot, Trial, Judge, Play, Replan, Lower, Resume}
+use Rattle.lock_top.specs.Asked.{is_not_yet, MeanOnly, AreRefused}
+use Rattle.lock_top.specs.Texts.{bad_words_text, no_memory_text}
+use Rattle.lock_top.specs.Searching.{AnswersSearch}
 use Rattle.lock_top.specs.Solving.{AnswersInstance, AnswersText}
-use Rattle.lock_top.specs.Answers.{Drained, Answers, IsSolved}
+use Rattle.lock_top.specs.Answers.{Drained, IsUnread, AnswersCommand, AnswersMeant, Answers}
+use Rattle.lock_top.specs.declared.status.Status.{Status}
+use Rattle.lock_top.specs.declared.status.Status.TheVariants.{Good, Open, Words, Refused, ReadFault, WriteFault, NoMemory, BadDossier, Unfit, PlanRefused}
+
+-- what is answered at the end of a search is answered to the instance
+pub search_answers : (nodes turns : ℕ) (I : Instance) (status : Status) (text : List ℕ) → AnswersSearch report I nodes turns status text → AnswersInstance nodes turns I status text
+search_answers nodes turns I Good text answer = answer
+search_answers nodes turns I Open text answer = answer
+search_answers nodes turns I Words text answer = absurd answer
+search_answers nodes turns I Refused text answer = absurd answer
+search_answers nodes turns I ReadFault text answer = absurd answer
+search_answers nodes turns I WriteFault text answer = absurd answer
+search_answers nodes turns I NoMemory text answer = answer
+search_answers nodes turns I BadDossier text answer = absurd answer
+search_answers nodes turns I Unfit text answer = absurd answer
+search_answers nodes turns I PlanRefused text answer = absurd answer
 
 -- what is answered to an instance is answered to the bytes that mean it
-pub answers_meant : (I : Instance) (bytes : List ℕ) (status : Status) (text : List ℕ) → Means bytes I → AnswersInstance I status text → AnswersText bytes status text
-answers_meant I bytes Good text means answer = record { instance = I; means = means; answer = answer }
-answers_meant I bytes Open text means answer = absurd answer
-answers_meant I bytes Words text means answer = absurd answer
-answers_meant I bytes Refused text means answer = absurd answer
-answers_meant I bytes ReadFault text means answer = absurd answer
-answers_meant I bytes WriteFault text means answer = absurd answer
-answers_meant I bytes NoMemory text means answer = answer
-answers_meant I bytes BadDossier text means answer = absurd answer
-answers_meant I bytes Unfit text means answer = record { instance = I; means = means; answer = answer }
-answers_meant I bytes PlanRefused text means answer = absurd answer
-answers_meant I bytes Later text means answer = record { instance = I; means = means; answer = answer }
+pub answers_meant : (nodes turns : ℕ) (I : Instance) (bytes : List ℕ) (status : Status) (text : List ℕ) → Means bytes I → AnswersInstance nodes turns I status text → AnswersText nodes turns bytes status text
+answers_meant nodes turns I bytes Good text means answer = record { instance = I; means = means; answer = answer }
+answers_meant nodes turns I bytes Open text means answer = record { instance = I; means = means; answer = answer }
+answers_meant nodes turns I bytes Words text means answer = absurd answer
+answers_meant nodes turns I bytes Refused text means answer = absurd answer
+answers_meant nodes turns I bytes ReadFault text means answer = absurd answer
+answers_meant nodes turns I bytes WriteFault text means answer = absurd answer
+answers_meant nodes turns I bytes NoMemory text means answer = answer
+answers_meant nodes turns I bytes BadDossier text means answer = absurd answer
+answers_meant nodes turns I bytes Unfit text means answer = record { instance = I; means = means; answer = answer }
+answers_meant nodes turns I bytes PlanRefused text means answer = absurd answer
 
--- bad words are told
-pub answers_bad_words : (words : List (List ℕ)) (source : Drained) (status : Status) (text : List ℕ) → status ≡ Words → text ≡ bad_words_text → AreBad words → Answers words source status text
-answers_bad_words words source status text is shown bad = subst (λ s. Answers words source s text) (sym is) (bad, shown)
+-- words that are refused
+pub answers_refused : (words : List (List ℕ)) (source : Drained) (status : Status) (text : List ℕ) → status ≡ Words → text ≡ bad_words_text → AreRefused words → IsUnread source → Answers words source status text
+answers_refused words source status text is shown refused unread = subst (λ s. Answers words source s text) (sym is) (record { refused = refused; unread = unread; shown = shown })
 
--- what the bytes mean is meant by what was left
-means_told : (left : Option (List ℕ)) (bytes : List ℕ) (I : Instance) → IfSome left (λ told. bytes ≡ told) → Means bytes I → IfSome left (λ told. Means told I)
-means_told None bytes I all means = tt
-means_told (Some told) bytes I all means = subst (λ b. Means b I) all means
+-- a command is never answered as bad words, and want of memory always has its text
+never_words : (command : Command) (source : Drained) (text : List ℕ) → AnswersCommand command source Words text → ⊥
+never_words (Solve options) source text answer = answer.answer.answer
+never_words (Lot options) source text answer = answer.1
+never_words (Trial options) source text answer = answer.1.answer
+never_words Check source text answer = answer
+never_words Judge source text answer = answer
+never_words Play source text answer = answer
+never_words (Replan options) source text answer = answer
+never_words Lower source text answer = answer
+never_words (Resume options) source text answer = answer
 
--- THE CLAUSE OF SOLVE, from what was answered and what was written.
-pub solved : (words : List (List ℕ)) (source : Drained) (status : Status) (text : List ℕ) (held held_after : Option (List ℕ))
-    → Answers words source status text → Appends held held_after text → status ≡ Good → IsSolved source.before source.after held held_after
-solved words source status text held held_after answer appended good =
-    let meant = subst (λ s. Answers words source s text) good answer in
-    let read = meant.answer.1 in
-    let told = read.answer in
-    let optimal = told.answer in
-    record {
-      instance = told.instance;
-      plan = optimal.plan;
-      means = means_told source.before read.bytes told.instance read.all told.means;
-      end = read.end;
-      cheapest = optimal.cheapest;
-      reported = subst (λ t. Appends held held_after t) optimal.shown appended;
-    }
+want : (command : Command) (source : Drained) (text : List ℕ) → AnswersCommand command source NoMemory text → text ≡ no_memory_text
+want (Solve options) source text answer = answer
+want (Lot options) source text answer = answer.1
+want (Trial options) source text answer = answer.1.answer
+want Check source text answer = absurd answer
+want Judge source text answer = absurd answer
+want Play source text answer = absurd answer
+want (Replan options) source text answer = absurd answer
+want Lower source text answer = absurd answer
+want (Resume options) source text answer = absurd answer
+
+-- words that mean a command that isn't still to come
+pub answers_command : (words : List (List ℕ)) (source : Drained) (command : Command) (status : Status) (text : List ℕ) → MeanOnly words command → is_not_yet command ≡ false → AnswersCommand command source status text → Answers words source status text
+answers_command words source command Good text mean there answer = record { command = command; mean = mean; there = there; answer = answer }
+answers_command words source command Open text mean there answer = record { command = command; mean = mean; there = there; answer = answer }
+answers_command words source command Words text mean there answer = absurd (never_words command source text answer)
+answers_command words source command Refused text mean there answer = record { command = command; mean = mean; there = there; answer = answer }
+answers_command words source command ReadFault text mean there answer = record { command = command; mean = mean; there = there; answer = answer }
+answers_command words source command WriteFault text mean there answer = record { command = command; mean = mean; there = there; answer = answer }
+answers_command words source command NoMemory text mean there answer = want command source text answer
+answers_command words source command BadDossier text mean there answer = record { command = command; mean = mean; there = there; answer = answer }
+answers_command words source command Unfit text mean there answer = record { command = command; mean = mean; there = there; answer = answer }
+answers_command words source command PlanRefused text mean there answer = record { command = command; mean = mean; there = there; answer = answer }
+
+-- ---- what was answered, by what was asked
+
+abbrev pub solve_of : ℕ → ℕ → ℕ → Command
+solve_of nodes turns workers = Solve (record { nodes = nodes; turns = turns; workers = workers; dossier = false; keep = false })
+
+abbrev pub lot_of : ℕ → ℕ → ℕ → Command
+lot_of number ships chambers = Lot (record { number = number; ships = ships; chambers = chambers })
+
+abbrev pub trial_of : ℕ → ℕ → ℕ → ℕ → ℕ → Command
+trial_of number ships chambers nodes turns = Trial (record { lot = record { number = number; ships = ships; chambers = chambers }; nodes = nodes; turns = turns })
+
+-- what is answered to the words is answered to a command that they mean
+pub meant_answer : (words : List (List ℕ)) (source : Drained) (status : Status) (text : List ℕ) (command : Command) → AnswersMeant words source status text → WordsMean words command → AnswersCommand command source status text
+meant_answer words source status text command meant means = subst (λ c. AnswersCommand c source status text) (sym (meant.mean.only command means)) meant.answer

@@ -1,1 +1,6 @@
+pub mod EndLemmas
+pub mod LotLemmas
+pub mod AskedLemmas
 pub mod AnswerLemmas
+pub mod ClauseLemmas
+pub mod CompleteLemmas

@@ -1,5 +1,9 @@
 pub mod Statuses
 pub mod Texts
+pub mod Asked
+pub mod Searching
 pub mod Solving
+pub mod Lots
 pub mod Answers
+pub mod Clauses
 pub mod Written

@@ -1,7 +1,9 @@
--- The numbers of the statuses.
+-- The numbers of the statuses, and the status of a verdict.
 use Rattle.std.specs.Prelude.{ℕ}
+use Rattle.lock_model.specs.declared.verdict.Verdict.{Verdict}
+use Rattle.lock_model.specs.declared.verdict.Verdict.TheVariants.{Optimal, OpenNodes, OpenTurns}
 use Rattle.lock_top.specs.declared.status.Status.{Status}
-use Rattle.lock_top.specs.declared.status.Status.TheVariants.{Good, Open, Words, Refused, ReadFault, WriteFault, NoMemory, BadDossier, Unfit, PlanRefused, Later}
+use Rattle.lock_top.specs.declared.status.Status.TheVariants.{Good, Open, Words, Refused, ReadFault, WriteFault, NoMemory, BadDossier, Unfit, PlanRefused}
 
 abbrev pub code_of : Status → ℕ
 code_of Good = 0
@@ -13,5 +15,10 @@ code_of WriteFault = 5
 code_of NoMemory = 6
 code_of BadDossier = 7
 code_of Unfit = 8
-code_of Later = 9
 code_of PlanRefused = 10
+
+-- the status of a run that ends with this verdict
+abbrev pub status_of : Verdict → Status
+status_of Optimal = Good
+status_of (OpenNodes used low) = Open
+status_of (OpenTurns chamber ships turns low) = Open

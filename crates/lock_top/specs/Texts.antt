@@ -14,9 +14,6 @@ read_fault_text = codes "read fault\n"
 abbrev pub no_memory_text : List ℕ
 no_memory_text = codes "no memory\n"
 
-abbrev pub later_text : List ℕ
-later_text = codes "later\n"
-
 -- the kinds of defect, numbered from 1
 abbrev pub number_of : Kind → ℕ
 number_of NotUtf8 = 1

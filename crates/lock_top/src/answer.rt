@@ -1,5 +1,6 @@
 //! What a run has to write.
 ghost use Rattle.std.specs.Prelude.{◌≡◌};
+ghost use Rattle.lock_top.specs.Texts.{no_memory_text};
 ghost use Rattle.lock_top.specs.Written.{bytes_in};
 
 use crate::status::Status;
@@ -39,4 +40,12 @@ pub(crate) fn fixed(status: Status, text: &'static [u8]) -> Answer
         status,
         text: Text::Fixed(text),
     }
+}
+
+/// Want of memory, written without memory.
+pub(crate) fn no_memory() -> Answer
+    ensures status { result.status ≡ Status.NoMemory }
+    ensures text { bytes_in result.text ≡ no_memory_text }
+{
+    fixed(Status::NoMemory, b"no memory\n")
 }

@@ -1,14 +1,20 @@
 //! The top call: from words and a source of bytes to a sink and a status.
 //!
-//! `run` does what the words ask and writes one text. Its contract says, for each status, what the
-//! text is and why it came: with status 0 the source was read to its end, its bytes mean an instance,
-//! and the sink got the report of a plan of it that is cheapest over all legal plans.
+//! `run` does what the words ask and writes one text. Its contract says, for each command and status,
+//! what the text is and why it came: with status 0 of `solve` the source was read to its end, its bytes
+//! mean an instance, and the sink got the report of a plan of it that is cheapest over all legal plans.
 //!
 //! Definitions: `specs/Statuses` (the numbers of the statuses), `Texts` (what is written for each),
-//! `Solving` (what `solve` answers to an instance and to a text), `Answers` (what a run answers).
+//! `Asked` (what the words ask for), `Searching` (what is answered at the end of a search), `Solving`
+//! and `Lots` (what the commands answer), `Answers` (what a run answers), `Clauses` (what a run did, by
+//! command and status, and that it does what is asked).
 #![tactic(auto)]
 
 mod answer;
+mod asked;
+mod commands;
+mod lots;
+mod searching;
 mod solving;
 mod status;
 #[cfg(test)]

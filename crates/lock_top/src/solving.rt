@@ -1,53 +1,36 @@
-//! What `solve` answers to an instance, and to the bytes of a text.
-ghost use Rattle.std.specs.Prelude.{◌≡◌, ◌≤◌, ◌<◌, sum_by, IfOk};
-ghost use Rattle.lock_rules.specs.Arrival.{order_of};
-ghost use Rattle.lock_rules.specs.Bound.{least_passage};
-ghost use Rattle.lock_rules.specs.Plan.{IsLegal, IsCheapest, cost_of};
-ghost use Rattle.lock_rules.specs.Singles.{singles_of};
+//! What `solve` answers to a source.
+ghost use Rattle.std.specs.Prelude.{◌≡◌};
 ghost use Rattle.lock_rules.specs.Unfit.{HasNoUnfit, IsFirstUnfit};
 ghost use Rattle.instance_text.specs.Reading.{Defect};
+ghost use Rattle.plan_print.specs.Report.{report};
+ghost use Rattle.lock_top.specs.Answers.{AnswersSolve, TellsTooLong, drained};
+ghost use Rattle.lock_top.specs.Asked.{AreSolveNumbers};
+ghost use Rattle.lock_top.specs.Searching.{AnswersSearch};
 ghost use Rattle.lock_top.specs.Solving.{AnswersInstance, AnswersText};
-ghost use Rattle.lock_top.specs.Texts.{defect_text, no_memory_text};
 ghost use Rattle.lock_top.specs.Written.{bytes_in};
 
-use crate::answer::{Answer, Text, fixed};
+use crate::answer::{Answer, Text, fixed, no_memory};
+use crate::searching::search_report;
 use crate::status::Status;
-use crate::texts::{defect_text, unfit_text};
-use chamber_times::cost;
-use first_plan::{first_unfit, singles_plan};
-use flow_bounds::least_passages;
+use crate::texts::{defect_text, too_long_text, unfit_text};
+use book_core::Case;
+use command_words::SolveOptions;
+use first_plan::first_unfit;
 use instance_text::{Bad, read_instance};
-use lock_model::{Instance, Plan, Verdict};
+use lock_io::{Gate, ReadError, Source, read_all};
+use lock_model::Instance;
 use plain_text::NoMemory;
-use plan_print::print_report;
 use std::alloc::Global;
+use std::sync::Wait;
+use std::thread::Threads;
 
-// Want of memory, written without memory.
-pub(crate) fn no_memory() -> Answer
-    ensures status { result.status ≡ Status.NoMemory }
-    ensures text { bytes_in result.text ≡ no_memory_text }
-{
-    fixed(Status::NoMemory, b"no memory\n")
-}
-
-// The report of a cheapest plan.
-fn report_answer(alloc: Global, instance: &Instance, plan: &Plan) -> Answer
-    requires { IsCheapest instance.now plan.now }
-    ensures { AnswersInstance instance.now result.status (bytes_in result.text) }
-{
-    match print_report(alloc, instance, plan, &Verdict::Optimal) {
-        Ok(text) => Answer {
-            status: Status::Good,
-            text: Text::Made(text),
-        },
-        Err(_) => no_memory(),
-    }
-}
+// The most bytes that are read.
+const LIMIT: u64 = 65_536;
 
 // A ship that fits no chamber.
-fn unfit_answer(alloc: Global, instance: &Instance, ship: u8) -> Answer
+fn unfit_answer(alloc: Global, instance: &Instance, ship: u8, options: &SolveOptions) -> Answer
     requires { IsFirstUnfit instance.now ship }
-    ensures { AnswersInstance instance.now result.status (bytes_in result.text) }
+    ensures { AnswersInstance options.now.nodes options.now.turns instance.now result.status (bytes_in result.text) }
 {
     match unfit_text(alloc, instance, ship) {
         Ok(text) => Answer {
@@ -58,33 +41,44 @@ fn unfit_answer(alloc: Global, instance: &Instance, ship: u8) -> Answer
     }
 }
 
-// The singles plan, where no legal plan can cost less.
-fn plan_answer(alloc: Global, instance: &Instance) -> Answer
-    requires { HasNoUnfit instance.now }
-    ensures { AnswersInstance instance.now result.status (bytes_in result.text) }
+// What a search of the instance shows.
+fn fit_answer<R: Threads + Wait + Sync, G: Gate + Sync>(
+    rt: &R,
+    alloc: Global,
+    instance: Instance,
+    options: &SolveOptions,
+    gate: &G,
+) -> Answer
+    requires fit { HasNoUnfit instance }
+    requires numbers { AreSolveNumbers options.now }
+    ensures { AnswersSearch report instance options.now.nodes options.now.turns result.status (bytes_in result.text) }
 {
-    let plan = singles_plan(instance);
-    if cost(instance, &plan) <= least_passages(instance) {
-        report_answer(alloc, instance, &plan)
-    } else {
-        fixed(Status::Later, b"later\n")
-    }
+    let case = Case::new(instance, options.nodes, options.turns);
+    search_report(rt, alloc, &case, options.workers, gate)
 }
 
 // What is answered to an instance.
-fn instance_answer(alloc: Global, instance: &Instance) -> Answer
-    ensures { AnswersInstance instance.now result.status (bytes_in result.text) }
+#[tactic(auto, using(crate::proofs::AnswerLemmas::search_answers))]
+fn instance_answer<R: Threads + Wait + Sync, G: Gate + Sync>(
+    rt: &R,
+    alloc: Global,
+    instance: Instance,
+    options: &SolveOptions,
+    gate: &G,
+) -> Answer
+    requires { AreSolveNumbers options.now }
+    ensures { AnswersInstance options.now.nodes options.now.turns instance result.status (bytes_in result.text) }
 {
-    match first_unfit(instance) {
-        Some(ship) => unfit_answer(alloc, instance, ship),
-        None => plan_answer(alloc, instance),
+    match first_unfit(&instance) {
+        Some(ship) => unfit_answer(alloc, &instance, ship, options),
+        None => fit_answer(rt, alloc, instance, options, gate),
     }
 }
 
 // The first defect of a text.
-fn defect_answer(alloc: Global, bytes: &[u8], bad: Bad) -> Answer
+fn defect_answer(alloc: Global, bytes: &[u8], bad: Bad, options: &SolveOptions) -> Answer
     requires { Defect bytes.now bad.line bad.kind }
-    ensures { AnswersText bytes.now result.status (bytes_in result.text) }
+    ensures { AnswersText options.now.nodes options.now.turns bytes.now result.status (bytes_in result.text) }
 {
     match defect_text(alloc, bad) {
         Ok(text) => Answer {
@@ -95,12 +89,54 @@ fn defect_answer(alloc: Global, bytes: &[u8], bad: Bad) -> Answer
     }
 }
 
-/// What is answered to the bytes of a text.
-pub(crate) fn text_answer(alloc: Global, bytes: &[u8]) -> Answer
-    ensures { AnswersText bytes.now result.status (bytes_in result.text) }
+// What is answered to the bytes of a text.
+#[tactic(auto, using(crate::proofs::AnswerLemmas::answers_meant))]
+fn text_answer<R: Threads + Wait + Sync, G: Gate + Sync>(
+    rt: &R,
+    alloc: Global,
+    bytes: &[u8],
+    options: &SolveOptions,
+    gate: &G,
+) -> Answer
+    requires { AreSolveNumbers options.now }
+    ensures { AnswersText options.now.nodes options.now.turns bytes.now result.status (bytes_in result.text) }
 {
     match read_instance(bytes) {
-        Ok(instance) => instance_answer(alloc, &instance),
-        Err(bad) => defect_answer(alloc, bytes, bad),
+        Ok(instance) => instance_answer(rt, alloc, instance, options, gate),
+        Err(bad) => defect_answer(alloc, bytes, bad, options),
+    }
+}
+
+// That there are too many bytes.
+fn too_long(alloc: Global) -> Answer
+    ensures { TellsTooLong result.status (bytes_in result.text) }
+{
+    match too_long_text(alloc, LIMIT) {
+        Ok(text) => Answer {
+            status: Status::Refused,
+            text: Text::Made(text),
+        },
+        Err(NoMemory) => no_memory(),
+    }
+}
+
+/// Reads an instance text to its end, searches all plans of the instance, and answers with the
+/// report of the best one, or says what is refused: too many bytes, a defect, or a ship that fits no
+/// chamber. The numbers of the options are in their ranges.
+pub(crate) fn solve_answer<R: Threads + Wait + Sync, S: Source, G: Gate + Sync>(
+    rt: &R,
+    alloc: Global,
+    options: &SolveOptions,
+    src: &mut S,
+    gate: &G,
+) -> Answer
+    requires { AreSolveNumbers options.now }
+    ensures answer { AnswersSolve options.now.nodes options.now.turns (drained (S.left src.old) (S.left src.new) (S.faults src.old) (S.faults src.new)) result.status (bytes_in result.text) }
+{
+    match read_all(alloc, src, LIMIT) {
+        Ok(bytes) => text_answer(rt, alloc, bytes.as_slice(), options, gate),
+        Err(ReadError::ReadFault) => fixed(Status::ReadFault, b"read fault\n"),
+        Err(ReadError::TooLong(_)) => too_long(alloc),
+        Err(ReadError::NoMemory) => no_memory(),
     }
 }

@@ -9,7 +9,7 @@ pub enum Status {
     Good,
     /// The search ended open.
     Open,
-    /// The words are bad.
+    /// The words are bad, or ask for what is still to come.
     Words,
     /// The instance text was refused, or there are too many bytes.
     Refused,
@@ -25,13 +25,11 @@ pub enum Status {
     Unfit,
     /// The plan text was refused, or the plan is illegal.
     PlanRefused,
-    /// What is asked can't be answered yet: the search is still to come.
-    Later,
 }
 
 impl Status {
-    /// The number that the program ends with: 0 to 8 in the order of the statuses, 10 for a refused
-    /// plan, and 9 for what can't be answered yet.
+    /// The number that the program ends with: 0 to 8 in the order of the statuses, and 10 for a refused
+    /// plan.
     pub fn code(&self) -> u8
         ensures { result ≡ code_of self.now }
     {
@@ -45,7 +43,6 @@ impl Status {
             Status::NoMemory => 6,
             Status::BadDossier => 7,
             Status::Unfit => 8,
-            Status::Later => 9,
             Status::PlanRefused => 10,
         }
     }

@@ -1,4 +1,4 @@
-use Rattle.std.proofs.Common.{◌≡◌, ◌∙◌, ◌^◌, sym, None, slice_get, rules}
+use Rattle.std.proofs.Common.{◌≡◌, ◌^◌, None, slice_get, rules}
 use Rattle.book_certificate.proofs.CutLemmas.{more-copied, all-copied, few-cuts}
 use Rattle.book_certificate.proofs.cuts.cuts_of.Goals as goal
 

@@ -1,8 +1,8 @@
-use Rattle.std.proofs.Common.{◌≡◌, ◌+◌, ◌-◌, ◌*◌, ◌<◌, ◌≤◌, suc, arith, rules}
+use Rattle.std.proofs.Common.{◌+◌, ◌-◌, ◌<◌, arith}
 use Rattle.search_rules.specs.Book.{slot_at}
 use Rattle.search_rules.specs.Family.{child_count}
 use Rattle.book_certificate.proofs.ChildLemmas.{split-lacks, child-known, child-deeper}
-use Rattle.book_certificate.proofs.WritingLemmas.{none-written, more-written, split-written}
+use Rattle.book_certificate.proofs.WritingLemmas.{more-written, split-written}
 use Rattle.book_certificate.proofs.marks.+tree.Goals as goal
 
 pub write_split-write_slot-requires : goal.write_split-write_slot-requires
@@ -11,8 +11,7 @@ write_split-write_slot-requires t c =
     let family = c.keeps.ensures.parts.family in
     let below : c.loop-child.child < c.args.first + child_count b.case.instance (slot_at b c.args.id).node = omega (arith, c.loop-child-test.true, c.children_end-child-end.ensures) in
     let deep = child-deeper b family c.args.id c.args.first c.requires.split c.loop-child.child c.loop-child.invariant.low below in
-    let lacks = split-lacks b family c.args.id c.args.first c.requires.split in
-    (
+    let lacks = split-lacks b family c.args.id c.args.first c.requires.split in (
       omega (arith, c.decreases, deep, lacks),
       (c.requires.closed, child-known b family c.args.id c.args.first c.requires.split c.loop-child.child c.loop-child.invariant.low below),
     )

@@ -1,4 +1,4 @@
-use Rattle.std.proofs.Common.{◌≡◌, ◌+◌, ◌<◌, ◌≤◌, Some, arith, rules}
+use Rattle.std.proofs.Common.{◌≡◌, Some, arith, rules}
 use Rattle.book_core.proofs.KeptLemmas.{few-slots}
 use Rattle.book_certificate.proofs.ChildLemmas.{told-before, told-end}
 use Rattle.book_certificate.proofs.marks.children_end.Goals as goal

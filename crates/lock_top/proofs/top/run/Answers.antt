@@ -1,14 +1,35 @@
-use Rattle.std.proofs.Common.{map, string_bytes, subst}
-use Rattle.std.specs.Io.KnownBytes.{Appends}
+use Rattle.std.proofs.Common.{map, string_bytes}
 use Rattle.lock_top.specs.Answers.{drained}
 use Rattle.lock_top.specs.Written.{bytes_in}
-use Rattle.lock_top.proofs.AnswerLemmas.{solved}
+use Rattle.lock_top.proofs.ClauseLemmas.{solved, left_open, drawn, tried, tried_open}
+use Rattle.lock_top.proofs.CompleteLemmas.{complete}
 use Rattle.lock_top.proofs.top.run.Goals as goal
 
 pub returns-in-Ok-clause-solved : goal.returns-in-Ok-clause-solved
-returns-in-Ok-clause-solved g c = λ good.
-    let held = g.K.Sink.held c.args.out.now in
-    let held_after = g.K.Sink.held c.write_all_of.new.out in
-    let source = drained (g.S.Source.left c.args.src.now) (g.S.Source.left c.words_answer-answer.new.src) (g.S.Source.faults c.args.src.now) (g.S.Source.faults c.words_answer-answer.new.src) in
-    let written : Appends held held_after (bytes_in c.words_answer-answer.result.text) = subst (λ t. Appends held held_after t) c.as_slice.ensures c.in-Ok.ensures.all in
-    solved (map string_bytes c.args.words.now) source c.words_answer-answer.result.status (bytes_in c.words_answer-answer.result.text) held held_after c.words_answer-answer.ensures.answer written good
+returns-in-Ok-clause-solved g c =
+    solved (map string_bytes c.args.words.now) (drained _ _ _ _) c.words_answer-answer.result.status (bytes_in c.words_answer-answer.result.text) c.as_slice.result.now (g.K.Sink.held c.args.out.now) (g.K.Sink.held c.write_all_of.new.out)
+    c.words_answer-answer.ensures.answer c.as_slice.ensures c.in-Ok.ensures.all
+
+pub returns-in-Ok-clause-left_open : goal.returns-in-Ok-clause-left_open
+returns-in-Ok-clause-left_open g c =
+    left_open (map string_bytes c.args.words.now) (drained _ _ _ _) c.words_answer-answer.result.status (bytes_in c.words_answer-answer.result.text) c.as_slice.result.now (g.K.Sink.held c.args.out.now) (g.K.Sink.held c.write_all_of.new.out)
+    c.words_answer-answer.ensures.answer c.as_slice.ensures c.in-Ok.ensures.all
+
+pub returns-in-Ok-clause-drawn : goal.returns-in-Ok-clause-drawn
+returns-in-Ok-clause-drawn g c =
+    drawn (map string_bytes c.args.words.now) (drained _ _ _ _) c.words_answer-answer.result.status (bytes_in c.words_answer-answer.result.text) c.as_slice.result.now (g.K.Sink.held c.args.out.now) (g.K.Sink.held c.write_all_of.new.out)
+    c.words_answer-answer.ensures.answer c.as_slice.ensures c.in-Ok.ensures.all
+
+pub returns-in-Ok-clause-tried : goal.returns-in-Ok-clause-tried
+returns-in-Ok-clause-tried g c =
+    tried (map string_bytes c.args.words.now) (drained _ _ _ _) c.words_answer-answer.result.status (bytes_in c.words_answer-answer.result.text) c.as_slice.result.now (g.K.Sink.held c.args.out.now) (g.K.Sink.held c.write_all_of.new.out)
+    c.words_answer-answer.ensures.answer c.as_slice.ensures c.in-Ok.ensures.all
+
+pub returns-in-Ok-clause-tried_open : goal.returns-in-Ok-clause-tried_open
+returns-in-Ok-clause-tried_open g c =
+    tried_open (map string_bytes c.args.words.now) (drained _ _ _ _) c.words_answer-answer.result.status (bytes_in c.words_answer-answer.result.text) c.as_slice.result.now (g.K.Sink.held c.args.out.now) (g.K.Sink.held c.write_all_of.new.out)
+    c.words_answer-answer.ensures.answer c.as_slice.ensures c.in-Ok.ensures.all
+
+pub returns-in-Ok-clause-complete : goal.returns-in-Ok-clause-complete
+returns-in-Ok-clause-complete g c =
+    complete (map string_bytes c.args.words.now) (drained _ _ _ _) c.words_answer-answer.result.status (bytes_in c.words_answer-answer.result.text) c.words_answer-answer.ensures.answer

@@ -1,0 +1,79 @@
+-- The clauses of a run with status 0 and 1, from what was answered and what was written.
+use Rattle.std.proofs.Common.{ℕ, ◌≡◌, List, subst, Some, None}
+use Rattle.std.specs.Prelude.{IfSome}
+use Rattle.std.specs.declared.option.Option.{Option}
+use Rattle.std.specs.Io.KnownBytes.{Appends}
+use Rattle.lock_model.specs.declared.instance.Instance.{Instance}
+use Rattle.instance_text.specs.Reading.{Means}
+use Rattle.lock_top.specs.Asked.{AskSolve, AskLot, AskTrial}
+use Rattle.lock_top.specs.Answers.{Drained, AnswersRead, AnswersMeant, Answers}
+use Rattle.lock_top.specs.Clauses.{IsSolved, IsLeftOpen, IsDrawn, IsTried, IsTriedOpen}
+use Rattle.lock_top.specs.declared.status.Status.{Status}
+use Rattle.lock_top.specs.declared.status.Status.TheVariants.{Good, Open}
+use Rattle.lock_top.proofs.AnswerLemmas.{solve_of, lot_of, trial_of, meant_answer}
+
+-- what the bytes mean is meant by what was left
+means_told : (left : Option (List ℕ)) (bytes : List ℕ) (I : Instance) → IfSome left (λ told. bytes ≡ told) → Means bytes I → IfSome left (λ told. Means told I)
+means_told None bytes I all means = tt
+means_told (Some told) bytes I all means = subst (λ b. Means b I) all means
+
+-- `bytes`, which are the text that was answered, were written
+module _ (words : List (List ℕ)) (source : Drained) (status : Status) (text bytes : List ℕ) (held held_after : Option (List ℕ)) (answer : Answers words source status text) (same : bytes ≡ text) (written : Appends held held_after bytes) where
+  appended : Appends held held_after text
+  appended = subst (Appends held held_after) same written
+
+  good : status ≡ Good → AnswersMeant words source Good text
+  good is = subst (λ s. Answers words source s text) is answer
+
+  left : status ≡ Open → AnswersMeant words source Open text
+  left is = subst (λ s. Answers words source s text) is answer
+
+  pub solved : (nodes turns workers : ℕ) → AskSolve words nodes turns workers → status ≡ Good → IsSolved source held held_after
+  solved nodes turns workers ask is =
+      let read : AnswersRead nodes turns source Good text = meant_answer words source Good text (solve_of nodes turns workers) (good is) ask.means in
+      let told = read.answer in
+      let optimal = told.answer in
+      record {
+        instance = told.instance;
+        plan = optimal.plan;
+        means = means_told source.before read.bytes told.instance read.all told.means;
+        end = read.end;
+        cheapest = optimal.cheapest;
+        reported = subst (Appends held held_after) optimal.shown appended;
+      }
+
+  pub left_open : (nodes turns workers : ℕ) → AskSolve words nodes turns workers → status ≡ Open → IsLeftOpen nodes turns source held held_after
+  left_open nodes turns workers ask is =
+      let read : AnswersRead nodes turns source Open text = meant_answer words source Open text (solve_of nodes turns workers) (left is) ask.means in
+      let told = read.answer in
+      record {
+        instance = told.instance;
+        text = text;
+        means = means_told source.before read.bytes told.instance read.all told.means;
+        end = read.end;
+        cause = told.answer;
+        reported = appended;
+      }
+
+  pub drawn : (number ships chambers : ℕ) → AskLot words number ships chambers → status ≡ Good → IsDrawn number ships chambers source held held_after
+  drawn number ships chambers ask is =
+      let told = meant_answer words source Good text (lot_of number ships chambers) (good is) ask.means in
+      record { instance = told.1.instance; lot = told.1.lot; unread = told.0; printed = subst (Appends held held_after) told.1.shown appended }
+
+  pub tried : (number ships chambers nodes turns : ℕ) → AskTrial words number ships chambers nodes turns → status ≡ Good → IsTried number ships chambers source held held_after
+  tried number ships chambers nodes turns ask is =
+      let told = meant_answer words source Good text (trial_of number ships chambers nodes turns) (good is) ask.means in
+      let optimal = told.1.answer in
+      record {
+        instance = told.1.instance;
+        plan = optimal.plan;
+        lot = told.1.lot;
+        unread = told.0;
+        cheapest = optimal.cheapest;
+        printed = subst (Appends held held_after) optimal.shown appended;
+      }
+
+  pub tried_open : (number ships chambers nodes turns : ℕ) → AskTrial words number ships chambers nodes turns → status ≡ Open → IsTriedOpen number ships chambers nodes turns source held held_after
+  tried_open number ships chambers nodes turns ask is =
+      let told = meant_answer words source Open text (trial_of number ships chambers nodes turns) (left is) ask.means in
+      record { instance = told.1.instance; text = text; lot = told.1.lot; unread = told.0; cause = told.1.answer; printed = appended }

@@ -1,0 +1,179 @@
+-- What is asked rightly is done.
+use Rattle.std.proofs.Common.{ℕ, ◌≡◌, ◌⊎◌, ◌<◌, List, length, sym, subst, ap, ◌∙◌, refl, inl, inr, true, false, arith, Ok, Err, Result}
+use Rattle.std.specs.Prelude.{IfSome}
+use Rattle.lock_model.specs.declared.instance.Instance.{Instance}
+use Rattle.lock_model.specs.declared.verdict.Verdict.TheVariants.{Optimal, OpenNodes, OpenTurns}
+use Rattle.lock_rules.specs.Singles.{singles_of}
+use Rattle.lock_rules.specs.Unfit.{IsFirstUnfit}
+use Rattle.search_rules.proofs.CompleteLemmas.{enough-optimal}
+use Rattle.instance_text.specs.Draft.{Draft}
+use Rattle.instance_text.specs.Reading.{Means, Defect, reading, bad}
+use Rattle.instance_text.specs.declared.bad.Bad.{Bad}
+use Rattle.instance_text.specs.declared.bad.Kind.{Kind}
+use Rattle.instance_text.proofs.InstanceLemmas.{same_instance}
+use Rattle.plan_print.specs.Report.{report, verdict_line}
+use Rattle.command_words.specs.Meaning.{Means as WordsMean}
+use Rattle.command_words.specs.declared.commands.Command.{Command}
+use Rattle.lock_top.specs.Asked.{is_not_yet, AreRefused}
+use Rattle.lock_top.specs.Searching.{Print, AnswersSearch}
+use Rattle.lock_top.specs.Lots.{AnswersLot}
+use Rattle.lock_top.specs.Answers.{Drained, limit, IsTooLong, AnswersRead, AnswersSolve, AnswersCommand, Answers}
+use Rattle.lock_top.specs.Clauses.{IsServed, MayEnd, MayPrint, IsComplete}
+use Rattle.lock_top.specs.declared.status.Status.{Status}
+use Rattle.lock_top.specs.declared.status.Status.TheVariants.{Good, Open, Words, Refused, ReadFault, WriteFault, NoMemory, BadDossier, Unfit, PlanRefused}
+use Rattle.lock_top.proofs.AnswerLemmas.{solve_of, lot_of, trial_of, meant_answer}
+
+-- ---- bytes mean one instance, and then have no defect
+
+abbrev draft_of : Instance → Draft
+draft_of I = record { chambers = I.chambers; ships = I.ships }
+
+reads : (bytes : List ℕ) (I : Instance) → Means bytes I → reading bytes ≡ Ok (draft_of I)
+unfolding Means
+reads bytes I means = means
+
+refuses : (bytes : List ℕ) (line : ℕ) (kind : Kind) → Defect bytes line kind → reading bytes ≡ Err (bad line kind)
+unfolding Defect
+refuses bytes line kind defect = defect
+
+one_draft : (r : Result Draft Bad) (a b : Draft) → r ≡ Ok a → r ≡ Ok b → a ≡ b
+one_draft r a b e f = cc
+
+not_both : (r : Result Draft Bad) (a : Draft) (b : Bad) → r ≡ Ok a → r ≡ Err b → ⊥
+not_both r a b e f = cc
+
+one_instance : (bytes : List ℕ) (I J : Instance) → Means bytes I → Means bytes J → I ≡ J
+one_instance bytes I J first second =
+    let same = one_draft (reading bytes) (draft_of I) (draft_of J) (reads bytes I first) (reads bytes J second) in
+    same_instance I J (ap (λ (d : Draft). d.chambers) same) (ap (λ (d : Draft). d.ships) same)
+
+-- ---- a search ends open only where its nodes or turns aren't surely enough
+
+nodes_open : (used low : ℕ) → OpenNodes used low ≡ Optimal → ⊥
+nodes_open used low e = cc
+
+turns_open : (chamber : ℕ) (ships : List ℕ) (turns low : ℕ) → OpenTurns chamber ships turns low ≡ Optimal → ⊥
+turns_open chamber ships turns low e = cc
+
+search_ends : (print : Print) (I : Instance) (nodes turns : ℕ) (status : Status) (text : List ℕ) → AnswersSearch print I nodes turns status text → MayEnd I nodes turns status
+search_ends print I nodes turns Good text answer = tt
+search_ends print I nodes turns Open text (inl n) = λ enough. nodes_open n.used n.low (enough-optimal I nodes turns (singles_of I) n.plan (OpenNodes n.used n.low) enough n.left)
+search_ends print I nodes turns Open text (inr t) = λ enough. turns_open t.chamber t.ships t.spent t.low (enough-optimal I nodes turns (singles_of I) t.plan (OpenTurns t.chamber t.ships t.spent t.low) enough t.left)
+search_ends print I nodes turns Words text answer = absurd answer
+search_ends print I nodes turns Refused text answer = absurd answer
+search_ends print I nodes turns ReadFault text answer = absurd answer
+search_ends print I nodes turns WriteFault text answer = absurd answer
+search_ends print I nodes turns NoMemory text answer = tt
+search_ends print I nodes turns BadDossier text answer = absurd answer
+search_ends print I nodes turns Unfit text answer = absurd answer
+search_ends print I nodes turns PlanRefused text answer = absurd answer
+
+-- ---- `solve` over a source that is served
+
+module _ (nodes turns : ℕ) (source : Drained) (I : Instance) (served : IsServed source I) where
+  same_bytes : (status : Status) (text : List ℕ) (read : AnswersRead nodes turns source status text) → read.bytes ≡ served.bytes
+  same_bytes status text read = subst (λ left. IfSome left (λ bytes. read.bytes ≡ bytes)) served.told read.all
+
+  read_means : (status : Status) (text : List ℕ) (read : AnswersRead nodes turns source status text) → Means read.bytes I
+  read_means status text read = subst (λ bytes. Means bytes I) (sym (same_bytes status text read)) served.means
+
+  open_ends : (text : List ℕ) → AnswersRead nodes turns source Open text → MayEnd I nodes turns Open
+  open_ends text read =
+      let told = read.answer in
+      let same = one_instance read.bytes told.instance I told.means (read_means Open text read) in
+      subst (λ J. MayEnd J nodes turns Open) same (search_ends report told.instance nodes turns Open text told.answer)
+
+  -- the named ship fits some chamber
+  not_unfit : (text : List ℕ) → AnswersRead nodes turns source Unfit text → ⊥
+  not_unfit text read =
+      let told = read.answer in
+      let same = one_instance read.bytes told.instance I told.means (read_means Unfit text read) in
+      let first : IsFirstUnfit I told.answer.ship = subst (λ J. IsFirstUnfit J told.answer.ship) same told.answer.first in
+      let fits = served.fit.fit told.answer.ship first.known in
+      first.unfit fits.chamber fits.known fits.fits
+
+  -- there are few bytes, and they have no defect
+  not_refused : (text : List ℕ) → IsTooLong source text ⊎ AnswersRead nodes turns source Refused text → ⊥
+  not_refused text (inl long) =
+      let many : limit < length served.bytes = subst (λ left. IfSome left (λ bytes. limit < length bytes)) served.told long.long in
+      let few = served.few in
+      absurd (omega (arith, many, few))
+  not_refused text (inr read) =
+      let told = read.answer in
+      not_both (reading read.bytes) (draft_of I) (bad told.line told.kind) (reads read.bytes I (read_means Refused text read)) (refuses read.bytes told.line told.kind told.defect)
+
+  pub solve_ends : (status : Status) (text : List ℕ) → AnswersSolve nodes turns source status text → MayEnd I nodes turns status
+  solve_ends Good text answer = tt
+  solve_ends Open text answer = open_ends text answer
+  solve_ends Words text answer = absurd answer.answer.answer
+  solve_ends Refused text answer = absurd (not_refused text answer)
+  solve_ends ReadFault text answer = absurd (served.calm answer.0)
+  solve_ends WriteFault text answer = tt
+  solve_ends NoMemory text answer = tt
+  solve_ends BadDossier text answer = absurd answer.answer.answer
+  solve_ends Unfit text answer = absurd (not_unfit text answer)
+  solve_ends PlanRefused text answer = absurd answer.answer.answer
+
+-- ---- `lot`
+
+lot_ends : (number ships chambers : ℕ) (status : Status) (text : List ℕ) → AnswersLot number ships chambers status text → MayPrint status
+lot_ends number ships chambers Good text answer = tt
+lot_ends number ships chambers Open text answer = absurd answer
+lot_ends number ships chambers Words text answer = absurd answer
+lot_ends number ships chambers Refused text answer = absurd answer
+lot_ends number ships chambers ReadFault text answer = absurd answer
+lot_ends number ships chambers WriteFault text answer = absurd answer
+lot_ends number ships chambers NoMemory text answer = tt
+lot_ends number ships chambers BadDossier text answer = absurd answer
+lot_ends number ships chambers Unfit text answer = absurd answer
+lot_ends number ships chambers PlanRefused text answer = absurd answer
+
+-- ---- good words are never refused
+
+true_false : true ≡ false → ⊥
+true_false e = cc
+
+not_refused_words : (words : List (List ℕ)) (command : Command) → WordsMean words command → is_not_yet command ≡ false → AreRefused words → ⊥
+not_refused_words words command means there (inl refused) = refused command means
+not_refused_words words command means there (inr coming) = true_false (sym coming.coming ∙ ap is_not_yet (sym (coming.mean.only command means)) ∙ there)
+
+-- what was answered to the words is want of memory, or answered to the command that they mean
+by_command : (words : List (List ℕ)) (source : Drained) (command : Command) (status : Status) (text : List ℕ) → WordsMean words command → is_not_yet command ≡ false → Answers words source status text → (status ≡ NoMemory) ⊎ AnswersCommand command source status text
+by_command words source command Good text means there answer = inr (meant_answer words source Good text command answer means)
+by_command words source command Open text means there answer = inr (meant_answer words source Open text command answer means)
+by_command words source command Words text means there answer = absurd (not_refused_words words command means there answer.refused)
+by_command words source command Refused text means there answer = inr (meant_answer words source Refused text command answer means)
+by_command words source command ReadFault text means there answer = inr (meant_answer words source ReadFault text command answer means)
+by_command words source command WriteFault text means there answer = inr (meant_answer words source WriteFault text command answer means)
+by_command words source command NoMemory text means there answer = inl refl
+by_command words source command BadDossier text means there answer = inr (meant_answer words source BadDossier text command answer means)
+by_command words source command Unfit text means there answer = inr (meant_answer words source Unfit text command answer means)
+by_command words source command PlanRefused text means there answer = inr (meant_answer words source PlanRefused text command answer means)
+
+-- COMPLETENESS, from what was answered,
+pub complete : (words : List (List ℕ)) (source : Drained) (status : Status) (text : List ℕ) → Answers words source status text → IsComplete words source status
+complete words source status text answer = record {
+  solve = λ nodes turns workers I ask served. elim (by_command words source (solve_of nodes turns workers) status text ask.means refl answer) [
+    | inl want ↦ subst (MayEnd I nodes turns) (sym want) tt
+    | inr told ↦ solve_ends nodes turns source I served status text told
+  ];
+  lot = λ number ships chambers ask. elim (by_command words source (lot_of number ships chambers) status text ask.means refl answer) [
+    | inl want ↦ subst MayPrint (sym want) tt
+    | inr told ↦ lot_ends number ships chambers status text told.1
+  ];
+  trial = λ number ships chambers nodes turns I ask lot. elim (by_command words source (trial_of number ships chambers nodes turns) status text ask.means refl answer) [
+    | inl want ↦ subst (MayEnd I nodes turns) (sym want) tt
+    | inr told ↦
+        let own = told.1.lot in
+        let same : told.1.instance ≡ I = same_instance told.1.instance I (own.chambers_are ∙ sym lot.chambers_are) (own.ships_are ∙ sym lot.ships_are) in
+        subst (λ J. MayEnd J nodes turns status) same (search_ends verdict_line told.1.instance nodes turns status text told.1.answer)
+  ];
+}
+
+-- and where the sink failed.
+pub cut_complete : (words : List (List ℕ)) (source : Drained) → IsComplete words source WriteFault
+cut_complete words source = record {
+  solve = λ nodes turns workers I ask served. tt;
+  lot = λ number ships chambers ask. tt;
+  trial = λ number ships chambers nodes turns I ask lot. tt;
+}

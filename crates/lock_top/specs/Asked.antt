@@ -1,0 +1,65 @@
+-- What the words ask for, and the numbers of their options.
+use Rattle.std.specs.Prelude.{ℕ, ◌≡◌, ◌⊎◌, Bool, true, false, ◌||◌, List, ⊤}
+use Rattle.command_words.specs.Meaning.{Means, AreBad}
+use Rattle.command_words.specs.declared.commands.Command.{Command}
+use Rattle.command_words.specs.declared.commands.Command.TheVariants.{Solve, Lot, Trial}
+use Rattle.command_words.specs.declared.commands.SolveOptions.{SolveOptions}
+use Rattle.command_words.specs.declared.commands.LotOptions.{LotOptions}
+use Rattle.command_words.specs.declared.commands.TrialOptions.{TrialOptions}
+use Rattle.lock_model.specs.Limits.{Within}
+
+-- The command, or one of its flags, is still to come: there are `solve` without flags, `lot` and `trial`.
+abbrev pub is_not_yet : Command → Bool
+is_not_yet (Solve options) = options.dossier || options.keep
+is_not_yet (Lot options) = false
+is_not_yet (Trial options) = false
+is_not_yet _ = true
+
+-- the words mean this command and no other
+pub record MeanOnly (words : List (List ℕ)) (command : Command) : Type 0 where
+  pub means : Means words command
+  pub only : (other : Command) → Means words other → other ≡ command
+
+-- the words mean a command that is still to come
+pub record AreNotYet (words : List (List ℕ)) : Type 0 where
+  pub command : Command
+  pub mean : MeanOnly words command
+  pub coming : is_not_yet command ≡ true
+
+-- the words are bad, or mean a command that is still to come
+abbrev pub AreRefused : List (List ℕ) → Type 0
+AreRefused words = AreBad words ⊎ AreNotYet words
+
+-- the words ask for `solve` without flags, with so many nodes, turns and workers
+pub record AskSolve (words : List (List ℕ)) (nodes turns workers : ℕ) : Type 0 where
+  pub means : Means words (Solve (record { nodes = nodes; turns = turns; workers = workers; dossier = false; keep = false }))
+
+-- the words ask for `lot` of this number, so many ships and chambers
+pub record AskLot (words : List (List ℕ)) (number ships chambers : ℕ) : Type 0 where
+  pub means : Means words (Lot (record { number = number; ships = ships; chambers = chambers }))
+
+-- the words ask for `trial` of this lot, with so many nodes and turns
+pub record AskTrial (words : List (List ℕ)) (number ships chambers nodes turns : ℕ) : Type 0 where
+  pub means : Means words (Trial (record { lot = record { number = number; ships = ships; chambers = chambers }; nodes = nodes; turns = turns }))
+
+-- ---- the numbers of good words are in their ranges
+
+pub record AreSolveNumbers (options : SolveOptions) : Type 0 where
+  pub nodes : Within 1 1000000 options.nodes
+  pub turns : Within 1 200000 options.turns
+  pub workers : Within 1 8 options.workers
+
+pub record AreLotNumbers (options : LotOptions) : Type 0 where
+  pub ships : Within 1 24 options.ships
+  pub chambers : Within 1 4 options.chambers
+
+pub record AreTrialNumbers (options : TrialOptions) : Type 0 where
+  pub lot : AreLotNumbers options.lot
+  pub nodes : Within 1 1000000 options.nodes
+  pub turns : Within 1 200000 options.turns
+
+abbrev pub HasNumbers : Command → Type 0
+HasNumbers (Solve options) = AreSolveNumbers options
+HasNumbers (Lot options) = AreLotNumbers options
+HasNumbers (Trial options) = AreTrialNumbers options
+HasNumbers _ = ⊤

@@ -1,0 +1,68 @@
+//! From words to the answer of the command that they mean.
+ghost use Rattle.std.specs.Prelude.{◌≡◌, false, map, string_bytes};
+ghost use Rattle.lock_top.specs.Answers.{Answers, AnswersCommand, drained};
+ghost use Rattle.lock_top.specs.Asked.{HasNumbers, is_not_yet};
+ghost use Rattle.lock_top.specs.Texts.{bad_words_text};
+ghost use Rattle.lock_top.specs.Written.{bytes_in};
+
+use crate::answer::{Answer, fixed, no_memory};
+use crate::asked::is_not_yet;
+use crate::lots::{lot_answer, trial_answer};
+use crate::solving::solve_answer;
+use crate::status::Status;
+use command_words::{Command, WordsError, read_words};
+use lock_io::{Gate, Source};
+use std::alloc::Global;
+use std::sync::Wait;
+use std::thread::Threads;
+
+// What is answered to a command that isn't still to come.
+fn command_answer<R: Threads + Wait + Sync, S: Source, G: Gate + Sync>(
+    rt: &R,
+    alloc: Global,
+    command: &Command,
+    src: &mut S,
+    gate: &G,
+) -> Answer
+    requires numbers { HasNumbers command.now }
+    requires there { is_not_yet command.now ≡ false }
+    ensures answer { AnswersCommand command.now (drained (S.left src.old) (S.left src.new) (S.faults src.old) (S.faults src.new)) result.status (bytes_in result.text) }
+{
+    match command {
+        Command::Solve(options) => solve_answer(rt, alloc, options, src, gate),
+        Command::Lot(options) => lot_answer(alloc, options),
+        Command::Trial(options) => trial_answer(rt, alloc, options, gate),
+        _ => refusal(),
+    }
+}
+
+// That the words are refused.
+fn refusal() -> Answer
+    ensures status { result.status ≡ Status.Words }
+    ensures text { bytes_in result.text ≡ bad_words_text }
+{
+    fixed(Status::Words, b"bad words\n")
+}
+
+/// Does what the words ask.
+pub(crate) fn words_answer<R: Threads + Wait + Sync, S: Source, G: Gate + Sync>(
+    rt: &R,
+    alloc: Global,
+    words: &[String],
+    src: &mut S,
+    gate: &G,
+) -> Answer
+    ensures answer { Answers (map string_bytes words.now) (drained (S.left src.old) (S.left src.new) (S.faults src.old) (S.faults src.new)) result.status (bytes_in result.text) }
+{
+    match read_words(alloc, words) {
+        Ok(command) => {
+            if is_not_yet(&command) {
+                refusal()
+            } else {
+                command_answer(rt, alloc, &command, src, gate)
+            }
+        }
+        Err(WordsError::Bad) => refusal(),
+        Err(WordsError::NoMemory) => no_memory(),
+    }
+}

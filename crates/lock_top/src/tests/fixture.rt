@@ -1,0 +1,113 @@
+//! Runs over a source and a sink in memory.
+ghost use Rattle.std.specs.Prelude.{◌≤◌};
+
+use crate::{Status, run};
+use lock_io::{MemorySink, MemorySource, OpenGate};
+use std::alloc::Global;
+use std::sync::Wait;
+use std::test::Fail;
+use std::thread::Threads;
+
+/// One ship, and a chamber that takes it.
+pub(super) const ONE_SHIP: &str =
+    "glock 1\nchamber c1 2000 240 10 20 5 4 30 15 low 0\nship s1 up 1100 114 0 5\nend\n";
+
+/// The number of a call that never comes.
+pub(super) const NEVER: u64 = 1_000_000;
+
+/// How a run ended.
+#[derive(Drop)]
+pub(super) struct Ran {
+    pub(super) status: Status,
+    /// What the sink got.
+    pub(super) text: Vec<u8>,
+    /// How many bytes the source had left.
+    pub(super) left: usize,
+}
+
+/// How a source and a sink in memory behave: how many bytes they move a call, and which call fails.
+#[derive(Clone, Copy)]
+pub(super) struct Calls {
+    pub(super) bite: usize,
+    pub(super) source_fault: u64,
+    pub(super) sink_fault: u64,
+}
+
+/// Runs over a source that hands out at most `bite` bytes a call, and a sink that takes as many.
+pub(super) fn run_with<R: Threads + Wait + Sync>(
+    rt: &R,
+    alloc: Global,
+    words: &[&str],
+    text: &[u8],
+    calls: Calls,
+) -> Result<Ran, Fail>
+    requires { 1 ≤ calls.bite }
+{
+    let mut list = Vec::new(alloc);
+    for word in words {
+        list.push(String::from_str(alloc, word)?)?;
+    }
+    let mut fails = Vec::new(alloc);
+    fails.push(calls.source_fault)?;
+    let mut source = MemorySource::new(text.to_vec(alloc)?, calls.bite, fails);
+    let mut fails = Vec::new(alloc);
+    fails.push(calls.sink_fault)?;
+    let mut sink = MemorySink::new(alloc, calls.bite, fails).map_err(|_| "no memory for the sink")?;
+    let status = run(
+        rt,
+        alloc,
+        list.as_slice(),
+        &mut source,
+        &mut sink,
+        &OpenGate,
+    );
+    Ok(Ran {
+        status,
+        text: sink.into_bytes(),
+        left: source.as_slice().len(),
+    })
+}
+
+/// Runs with no fault.
+pub(super) fn run_over<R: Threads + Wait + Sync>(
+    rt: &R,
+    alloc: Global,
+    words: &[&str],
+    text: &[u8],
+) -> Result<Ran, Fail> {
+    let calls = Calls {
+        bite: 4096,
+        source_fault: NEVER,
+        sink_fault: NEVER,
+    };
+    run_with(rt, alloc, words, text, calls)
+}
+
+/// The text of ships in one chamber.
+pub(super) fn text_of(alloc: Global, chamber: &str, ships: &[&str]) -> Result<Vec<u8>, Fail> {
+    let mut text = Vec::new(alloc);
+    text.extend_from_slice(b"glock 2\nchamber c1 ")?;
+    text.extend_from_slice(chamber.as_bytes())?;
+    for ship in ships {
+        text.extend_from_slice(b"\n")?;
+        text.extend_from_slice(ship.as_bytes())?;
+    }
+    text.extend_from_slice(b"\nend\n")?;
+    Ok(text)
+}
+
+pub(super) const BASE: &str = "2000 240 10 20 5 4 30 15 low 0";
+
+pub(super) const HIGH: &str = "2000 240 10 20 5 4 30 15 high 0";
+
+pub(super) const WIDE: &str = "2000 233 10 20 5 4 30 15 low 0";
+
+pub(super) const NARROW: &str = "2000 232 10 20 5 4 30 15 low 0";
+
+pub(super) const FIRST: &str = "ship s1 up 1100 114 0 5";
+
+pub(super) const SECOND: &str = "ship s2 up 1100 114 0 5";
+
+pub(super) const LATER: &str = "ship s2 up 1100 114 5 5";
+
+pub(super) const DOWN: &str = "ship s2 down 1100 114 0 5";

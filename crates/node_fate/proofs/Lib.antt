@@ -1,0 +1,4 @@
+pub mod CutLemmas
+pub mod RecallLemmas
+pub mod FateLemmas
+pub mod LineLemmas

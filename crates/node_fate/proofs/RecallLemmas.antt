@@ -1,0 +1,56 @@
+-- What was found of a deck before is so of its ships.
+use Rattle.std.proofs.Common.{◌≡◌, ℕ, List, subst, sym, ◌∙◌, Bool, true}
+use Rattle.lock_model.specs.Deck.{Deck}
+use Rattle.lock_model.specs.Fitting.{deck_of}
+use Rattle.lock_model.specs.Cargo.{HasNoClash}
+use Rattle.refute_rules.specs.Cases.{IsHard}
+use Rattle.refute_rules.specs.Spots.{IsSpent, IsSpotHard}
+use Rattle.refute_rules.specs.Trees.{IsSpotTree}
+use Rattle.search_rules.specs.Tests.{same_deck}
+use Rattle.search_rules.proofs.TestLemmas.{same_deck-decides}
+use Rattle.place_refute.specs.Tried.{Tried}
+use Rattle.spot_place.specs.declared.placing.SpotPlaced.{SpotPlaced}
+use Rattle.spot_place.specs.declared.placing.SpotPlaced.TheVariants as placed
+use Rattle.spot_place.specs.Placing.{IsSpotPlaced, IsRefutedBy, IsSpentFor}
+use Rattle.lock_model.specs.declared.placement.Spot.{Spot}
+use Rattle.lock_model.specs.declared.instance.Instance.{Instance}
+use Rattle.node_fate.specs.declared.settling.Settled.{Settled}
+use Rattle.node_fate.specs.declared.settling.Settled.TheVariants.{Fits, Refuted, Spent}
+use Rattle.node_fate.specs.Settling.{IsSettled, IsRecalled, IsTooHard, AreMooredAt}
+
+recalled : (I : Instance) (c : ℕ) (S : List ℕ) (turns : ℕ) (settled : Settled) → IsRecalled (deck_of I c S) turns settled → IsSettled I c S turns settled
+recalled I c S turns (Fits spots) is = is
+recalled I c S turns (Refuted cut) is = absurd is
+recalled I c S turns (Spent hard spots) is = is
+
+pub recalled_settles : (I : Instance) (c : ℕ) (S : List ℕ) (d : Deck) (turns : ℕ) (settled : Settled) → d ≡ deck_of I c S → IsRecalled d turns settled → IsSettled I c S turns settled
+recalled_settles I c S d turns settled is found = recalled I c S turns settled (subst (λ e. IsRecalled e turns settled) is found)
+
+-- what the placer by spots answers of a deck
+pub spots_refuted : (d e : Deck) (turns : ℕ) (p : SpotPlaced) (marks : List ℕ) → d ≡ e → p ≡ placed.Refuted marks → IsSpotPlaced d turns p → IsSpotTree e marks
+spots_refuted d e turns p marks same is answer =
+    let refuted : IsRefutedBy d turns marks = subst (IsSpotPlaced d turns) is answer in
+    subst (λ x. IsSpotTree x marks) same refuted.tree
+
+pub spots_spent : (d e : Deck) (turns : ℕ) (p : SpotPlaced) (hard spots : Tried) → d ≡ e → p ≡ placed.Spent spots → IsSpotPlaced d turns p
+    → HasNoClash e → IsHard e turns → hard ≡ record { deck = e; turns = turns } → IsTooHard e turns hard spots
+spots_spent d e turns p hard spots same is answer clear known told =
+    let spent : IsSpentFor d turns spots = subst (IsSpotPlaced d turns) is answer in
+    let own : IsSpentFor e turns spots = subst (λ x. IsSpentFor x turns spots) same spent in
+    record { hard_is = told; spots_are = own.is; spent = record { hard = known; spot_hard = own.spot_hard }; clear = clear }
+
+-- what was told of the same deck and the same turns
+equal : (d e f : Deck) (t : Bool) → t ≡ same_deck d e → t ≡ true → f ≡ e → d ≡ f
+equal d e f t tested same copy = (same_deck-decides d e).0 (sym tested ∙ same) ∙ sym copy
+
+pub hard_same : (d e f : Deck) (t u : ℕ) (test : Bool) → IsHard d t → t ≡ u → test ≡ same_deck d e → test ≡ true → f ≡ e → IsHard f u
+hard_same d e f t u test is turns tested same copy = subst (λ x. IsHard x u) (equal d e f test tested same copy) (subst (IsHard d) turns is)
+
+pub spots_same : (d e f : Deck) (t u : ℕ) (test : Bool) → IsSpotHard d t → t ≡ u → test ≡ same_deck d e → test ≡ true → f ≡ e → IsSpotHard f u
+spots_same d e f t u test is turns tested same copy = subst (λ x. IsSpotHard x u) (equal d e f test tested same copy) (subst (IsSpotHard d) turns is)
+
+pub too_hard : (d : Deck) (turns : ℕ) (hard spots : Tried) → HasNoClash d → hard ≡ record { deck = d; turns = turns } → IsHard d turns → spots ≡ record { deck = d; turns = turns } → IsSpotHard d turns → IsTooHard d turns hard spots
+too_hard d turns hard spots clear told known also spot_known = record { hard_is = told; spots_are = also; spent = record { hard = known; spot_hard = spot_known }; clear = clear }
+
+pub fits_at : (I : Instance) (c : ℕ) (S : List ℕ) (turns : ℕ) (p : Settled) (spots : List Spot) → p ≡ Fits spots → IsSettled I c S turns p → AreMooredAt (deck_of I c S) spots
+fits_at I c S turns p spots is answer = subst (IsSettled I c S turns) is answer

@@ -1,0 +1,18 @@
+use Rattle.std.proofs.Common.{◌≡◌, ◌<◌, length, arith, ap, ◌∙◌, slice_index_or, refl, List, ℕ}
+use Rattle.lock_rules.specs.Node.{line_at}
+use Rattle.node_fate.proofs.LineLemmas.{moored_more}
+use Rattle.node_fate.proofs.RecallLemmas.{fits_at}
+use Rattle.node_fate.proofs.leaf.moor_line.Goals as goal
+
+pub loop-place-preserved : goal.loop-place-preserved
+loop-place-preserved c =
+    let I = c.args.instance.now in
+    let line = line_at c.args.node.now.lines c.args.chamber in
+    let same : c.as_slice-groups.result.now ≡ line = c.as_slice-groups.ensures.value ∙ c.line.ensures in
+    let here : c.loop-place.place < length line = omega (arith, ap length same, c.loop-place-test.true) in
+    let group = c.index-groups-place.result in
+    let ships : List ℕ = (slice_index_or c.as_slice-groups.result.now c.loop-place.place group).ships in
+    moored_more I c.args.chamber line c.as_slice-groups.result.now c.loop-place.place c.args.moorings.now c.loop-place.moorings c.push.new.self group ships c.copy.result c.in-Fits.spots
+    same here refl c.copy.ensures
+    (fits_at I c.args.chamber ships c.args.turns c.in_ok-spots.field-0 c.in-Fits.spots c.in-Fits.is c.in_ok-spots.ensures)
+    c.loop-place.invariant c.push.ensures

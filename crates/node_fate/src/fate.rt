@@ -1,0 +1,67 @@
+//! What becomes of a node that lacks ships, by one of its groups.
+ghost use Rattle.std.specs.Prelude.{◌≡◌, ◌<◌, ◌≤◌, length, IfOk, IfSome};
+ghost use Rattle.lock_rules.specs.Node.{line_at};
+ghost use Rattle.master_branch.specs.Node.{IsNodeOf};
+ghost use Rattle.node_fate.specs.Fates.{IsFate, fate_by};
+
+use crate::recalling::{fitted, settle_known};
+use crate::settling::Settled;
+use leaf_plan::Moorings;
+use lock_model::Instance;
+use master_branch::Node;
+use place_refute::{Cut, Hard};
+use placed_groups::Memory;
+use plain_text::NoMemory;
+use std::alloc::Global;
+
+/// What becomes of a node.
+#[derive(Debug, Drop)]
+pub enum Fate {
+    /// It lacks a ship, and is to be split.
+    Splits,
+    /// It holds all ships, and each of its groups lies here.
+    Moored(Moorings),
+    /// This cut hits one of its groups.
+    Refuted(Cut),
+    /// The group of this chamber and place in its line is spent.
+    Spent(u8, u8, Hard),
+}
+
+// What becomes of a node that lacks a ship, by what was found of a group of it.
+fn fate_by(chamber: u8, place: u8, settled: Settled) -> Fate
+    ensures { result ≡ fate_by chamber place settled }
+{
+    match settled {
+        Settled::Fits(_) => Fate::Splits,
+        Settled::Refuted(cut) => Fate::Refuted(cut),
+        Settled::Spent(hard, _) => Fate::Spent(chamber, place, hard),
+    }
+}
+
+/// What becomes of a node that lacks a ship, by group `place` of the line of a chamber, with so
+/// many turns of each placer: it is to be split where the ships of the group fit. Its only refusal
+/// is want of memory.
+#[tactic(auto, using(crate::proofs::FateLemmas::settled_fate, crate::proofs::FateLemmas::group_known, crate::proofs::FateLemmas::group_some))]
+pub fn group_fate(
+    alloc: Global,
+    instance: &Instance,
+    node: &Node,
+    chamber: u8,
+    place: u8,
+    turns: u32,
+    memory: &mut Memory,
+) -> Result<Fate, NoMemory>
+    requires node { IsNodeOf instance.now node.now }
+    requires lacks { node.now.depth < length instance.now.ships }
+    requires chamber_in { chamber < length instance.now.chambers }
+    requires place_in { place < length (line_at node.now.lines chamber) }
+    requires turns { 1 ≤ turns }
+    ensures { IfOk result (IsFate instance.now turns node.now) }
+{
+    let ships = &node.line(chamber).as_slice()[place as usize].ships;
+    if fitted(memory, chamber, ships) {
+        return Ok(Fate::Splits);
+    }
+    let settled = settle_known(alloc, instance, chamber, ships, turns, memory)?;
+    Ok(fate_by(chamber, place, settled))
+}

@@ -1,0 +1,10 @@
+pub mod ToldLemmas
+pub mod DrivenLemmas
+pub mod FreeLemmas
+pub mod ClearLemmas
+pub mod CloseLemmas
+pub mod GrowLemmas
+pub mod TakeLemmas
+pub mod TidyLemmas
+pub mod OpeningLemmas
+pub mod HeldLemmas

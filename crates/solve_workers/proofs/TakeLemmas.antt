@@ -1,0 +1,160 @@
+-- Taking a slot while none is held.
+use Rattle.std.proofs.Common.{◌≡◌, ◌≢◌, ℕ, suc, ◌<◌, ◌≤◌, ◌⊎◌, List, length, inl, inr, refl, sym, ap, ◌∙◌, subst, arith, Bool, true, false, cond, ◌||◌, nat_eq, nat_le, slice_index_or, Some, None}
+use Rattle.std.specs.declared.option.Option.{Option}
+use Rattle.std.proofs.lemmas.Bool.Decides.{eqb_tells}
+use Rattle.lock_model.specs.declared.instance.Instance.{Instance}
+use Rattle.master_branch.specs.Node.{Node as CodeNode}
+use Rattle.mooring_rules.specs.declared.breaks.BrokenPlan.{BrokenPlan}
+use Rattle.search_rules.specs.declared.book.SlotState.{SlotState}
+use Rattle.search_rules.specs.declared.book.SlotState.TheVariants as slot
+use Rattle.search_rules.specs.declared.book.Entry.TheVariants as entry
+use Rattle.search_rules.specs.Book.{Book, Slot, Node, no_slot, slot_at, first_slot, has_slot, is_fresh, is_back, is_held, is_held_by}
+use Rattle.search_rules.specs.Cover.{IsGoodSlot}
+use Rattle.search_rules.specs.Ends.{HasNone, HoldsNothing, HasNothingOpen, HasSpentNodes, is_open}
+use Rattle.search_rules.specs.Events as machine
+use Rattle.search_rules.specs.Events.{take}
+use Rattle.search_rules.specs.NextSlot.{next_fresh}
+use Rattle.search_rules.specs.Room.{room_of}
+use Rattle.search_rules.specs.Step
+use Rattle.search_rules.proofs.NextLemmas.{first_slot-empty, next_fresh-some}
+use Rattle.search_rules.proofs.RoomLemmas.{room-falls}
+use Rattle.search_rules.proofs.SlotLemmas.{first_slot-at, first_slot-none, next_fresh-at, fresh-is, held_by-is}
+use Rattle.search_rules.proofs.TurnLemmas.{turned-at, Turned, Untouched}
+use Rattle.book_core.specs.declared.reply.Reply.{Reply}
+use Rattle.book_core.specs.Keeps.{IsSound}
+use Rattle.book_core.specs.Replies.{Answers}
+use Rattle.solve_workers.specs.Holding.{HoldsOnly, IsRunning, IsDone}
+use Rattle.solve_workers.specs.Told.{node_in}
+use Rattle.solve_workers.proofs.ToldLemmas.{Answer, tree, as_tree, given_in, told-node}
+use Rattle.solve_workers.proofs.FreeLemmas.{clash, none-at}
+
+abbrev Out : Type 0
+Out = Book × Answer
+
+none-some : {X : Type 0} (x : X) → None ≡ Some x → ⊥
+none-some x e = cc
+
+some-same : {X : Type 0} (x y : X) → Some x ≡ Some y → x ≡ y
+some-same x y e = cc
+
+-- a slot is given, or nothing is open, or the nodes are spent
+data TakeOut (b : Book) (out : Out) : Type 0 where
+  Gives : (id used : ℕ) → id < length b.slots → out ≡ Step.given b 8 id used → TakeOut b out
+  Ends : given_in out.1 ≡ None → out.0 ≡ b → IsDone b → TakeOut b out
+
+not-held-by : (state : SlotState) → is_held state ≡ false → (t : Bool) → is_held_by 8 state ≡ t → t ≡ false
+not-held-by state off true e = absurd (clash (sym (ap is_held (held_by-is 8 state e)) ∙ off))
+not-held-by state off false e = refl
+
+module _ (b : Book) (sound : IsSound b) (free : HoldsNothing b) (running : IsRunning b) where
+  holds-none : first_slot b (is_held_by 8) ≡ None
+  holds-none = first_slot-empty b (is_held_by 8) (λ k here. not-held-by (slot_at b k).state (free.none k here) _ refl)
+
+  nothing-open : first_slot b is_back ≡ None → next_fresh b ≡ None → HasNothingOpen b
+  nothing-open no_back no_next = record { none = λ id here. by_fresh id here (is_fresh (slot_at b id).state) refl }
+    where
+      by_fresh : (id : ℕ) → id < length b.slots → (t : Bool) → is_fresh (slot_at b id).state ≡ t → is_open (slot_at b id).state ≡ false
+      by_fresh id here true e = absurd (next_fresh-some b sound.parts.family id (record { known = here; is = fresh-is (slot_at b id).state e }) no_next)
+      by_fresh id here false e = let back = first_slot-none b is_back no_back id here in (λ j. e j || back j)
+
+  fresh-out : first_slot b is_back ≡ None → (o : Option ℕ) → next_fresh b ≡ o → TakeOut b (Step.take_fresh b 8 o)
+  fresh-out no_back None next = by_held (has_slot b is_held)
+    where
+      done : IsDone b
+      done = record { left = inl (nothing-open no_back next) }
+
+      by_held : (t : Bool) → TakeOut b (b, cond t machine.Idle machine.Done)
+      by_held true = Ends refl refl done
+      by_held false = Ends refl refl done
+  fresh-out no_back (Some id) next = elim (eqb_tells b.used b.case.nodes) [
+    | inl y ↦
+        let at = next_fresh-at b id next in
+        let spent : IsDone b = record { left = inr (record { used = y.1; back = record { none = first_slot-none b is_back no_back }; id = id; known = at.known; fresh = at.is }) } in
+        subst (TakeOut b) (ap (λ t. cond t (b, machine.NodesSpent b.used) (Step.given b 8 id (suc b.used))) (sym y.0)) (Ends refl refl spent)
+    | inr n ↦
+        let at = next_fresh-at b id next in
+        subst (TakeOut b) (ap (λ t. cond t (b, machine.NodesSpent b.used) (Step.given b 8 id (suc b.used))) (sym n.0)) (Gives id (suc b.used) at.known refl)
+  ]
+
+  slot-out : (o : Option ℕ) → first_slot b is_back ≡ o → TakeOut b (Step.take_slot b 8 o)
+  slot-out (Some id) e = Gives id b.used (first_slot-at b is_back id e).0 refl
+  slot-out None e = fresh-out e (next_fresh b) refl
+
+  take-out : TakeOut b (Step.take_step b 8)
+  take-out =
+      subst (TakeOut b)
+      (sym (ap (λ t. cond t (b, machine.Ended 8) (Step.take_free b 8 (first_slot b (is_held_by 8)))) running.running ∙ ap (Step.take_free b 8) holds-none))
+      (slot-out (first_slot b is_back) refl)
+
+  -- what was taken is held alone
+  given-holds : (id used : ℕ) → id < length b.slots → HoldsOnly (Step.given {Break = BrokenPlan} b 8 id used).0 id (slot_at b id).node
+  given-holds id used here = record {
+    held = elim (turned-at b id (slot.Held 8) here id) [
+      | Turned is e ↦ ap (λ (s : Slot). s.state) e
+      | Untouched other e ↦ absurd (other refl)
+    ];
+    others = λ k other. elim (turned-at b id (slot.Held 8) here k) [
+      | Turned is e ↦ absurd (other is)
+      | Untouched apart e ↦ ap (λ (s : Slot). is_held s.state) e ∙ none-at b is_held refl free k
+    ];
+    node_is = elim (turned-at b id (slot.Held 8) here id) [
+      | Turned is e ↦ ap (λ (s : Slot). s.node) e
+      | Untouched other e ↦ absurd (other refl)
+    ];
+  }
+
+  record IsTaken (id : ℕ) (node : CodeNode) (new : Book) : Type 0 where
+    holds : HoldsOnly new id (tree node)
+    node_of : (slot_at b id).node ≡ tree node
+    here : id < length b.slots
+
+  taken-by : (id : ℕ) (node : CodeNode) (out : Out) → TakeOut b out → given_in out.1 ≡ Some (id, tree node) → IsTaken id node out.0
+  taken-by id node out (Ends none same done) e = absurd (none-some (id, tree node) (sym none ∙ e))
+  taken-by id node out (Gives at used here same) e =
+      let both : (at, (slot_at b at).node) ≡ (id, tree node) = some-same _ _ (sym (ap (λ (o : Out). given_in o.1) same) ∙ e) in
+      let is : at ≡ id = ap (λ (p : ℕ × Node). p.0) both in
+      let own : (slot_at b at).node ≡ tree node = ap (λ (p : ℕ × Node). p.1) both in
+      record {
+        holds = subst (λ (u : Book). HoldsOnly u id (tree node)) (sym (ap (λ (o : Out). o.0) same)) (subst (λ n. HoldsOnly (Step.given {Break = BrokenPlan} b 8 at used).0 n (tree node)) is (subst (HoldsOnly (Step.given {Break = BrokenPlan} b 8 at used).0 at) own (given-holds at used here)));
+        node_of = ap (λ n. (slot_at b n).node) (sym is) ∙ own;
+        here = subst (λ n. n < length b.slots) is here;
+      }
+
+  module _ (r : Reply) (new : Book) (answers : Answers b (take 8) r new) where
+    out-is : TakeOut b (new, answers.answer)
+    out-is = subst (TakeOut b) answers.same take-out
+
+    is-taken : (id : ℕ) (node : CodeNode) → node_in r ≡ Some (id, node) → IsTaken id node new
+    is-taken id node e = taken-by id node (new, answers.answer) out-is (told-node r answers.answer answers.said ∙ ap as_tree e)
+
+    pub taken_holds : (id : ℕ) (node : CodeNode) → node_in r ≡ Some (id, node) → HoldsOnly new id (tree node)
+    taken_holds id node e = (is-taken id node e).holds
+
+    pub taken_falls : (id : ℕ) (node : CodeNode) → node_in r ≡ Some (id, node) → suc (room_of new) ≤ room_of b
+    taken_falls id node e =
+        subst (λ (o : Out). suc (room_of o.0) ≤ room_of b) answers.same
+        (room-falls (λ _ _. answers.found) b sound.parts.budget sound.parts.workers.nine (take 8) (omega arith) refl accepted)
+      where
+        by_answer : (a : Answer) → given_in a ≡ Some (id, tree node) → machine.is_accepted a ≡ true
+        by_answer (machine.Node n t) h = refl
+        by_answer _ h = absurd (none-some (id, tree node) h)
+
+        accepted : machine.is_accepted (Step.step (λ _ _. answers.found) b (take 8)).1 ≡ true
+        accepted = ap (λ (o : Out). machine.is_accepted o.1) answers.same ∙ by_answer answers.answer (told-node r answers.answer answers.said ∙ ap as_tree e)
+
+    pub refused_done : node_in r ≡ None → IsDone new
+    refused_done e = by_out (new, answers.answer) out-is (told-node r answers.answer answers.said ∙ ap as_tree e)
+      where
+        by_out : (out : Out) → TakeOut b out → given_in out.1 ≡ None → IsDone out.0
+        by_out out (Ends none same done) h = subst IsDone (sym same) done
+        by_out out (Gives id used here same) h = absurd (none-some (id, (slot_at b id).node) (sym h ∙ ap (λ (o : Out). given_in o.1) same))
+
+    pub refused_same : node_in r ≡ None → new ≡ b
+    refused_same e = by_out (new, answers.answer) out-is (told-node r answers.answer answers.said ∙ ap as_tree e)
+      where
+        by_out : (out : Out) → TakeOut b out → given_in out.1 ≡ None → out.0 ≡ b
+        by_out out (Ends none same done) h = same
+        by_out out (Gives id used here same) h = absurd (none-some (id, (slot_at b id).node) (sym h ∙ ap (λ (o : Out). given_in o.1) same))
+
+    pub refused_free : node_in r ≡ None → HoldsNothing new
+    refused_free e = subst HoldsNothing (sym (refused_same e)) free

@@ -1,0 +1,90 @@
+-- What a reply of the book tells is what the machine's reply tells.
+use Rattle.std.proofs.Common.{◌≡◌, ℕ, refl, sym, ap, ◌∙◌, Bool, true, false, Some, None}
+use Rattle.std.specs.declared.option.Option.{Option}
+use Rattle.mooring_rules.specs.declared.breaks.BrokenPlan.{BrokenPlan}
+use Rattle.search_rules.specs.Book.{Node as TreeNode}
+use Rattle.search_rules.specs.Events as machine
+use Rattle.book_core.specs.declared.reply.Reply.{Reply}
+use Rattle.book_core.specs.declared.reply.Reply.TheVariants as reply
+use Rattle.book_core.specs.Replies.{told}
+use Rattle.master_branch.specs.Node.{Node}
+use Rattle.solve_workers.specs.Told.{node_in, number_in, is_closed, is_made, is_parked}
+
+abbrev pub Answer : Type 0
+Answer = machine.Reply BrokenPlan
+
+abbrev pub closes : Answer → Bool
+closes machine.Closed = true
+closes _ = false
+
+abbrev pub makes : Answer → Bool
+makes (machine.Made count) = true
+makes _ = false
+
+abbrev pub parks : Answer → Bool
+parks machine.Parked = true
+parks _ = false
+
+-- of an answer that may be missing
+abbrev among : (Answer → Bool) → Option Answer → Bool
+among test None = false
+among test (Some a) = test a
+
+abbrev pub given_in : Answer → Option (ℕ × TreeNode)
+given_in (machine.Node id node) = Some (id, node)
+given_in _ = None
+
+abbrev given : Option Answer → Option (ℕ × TreeNode)
+given None = None
+given (Some a) = given_in a
+
+abbrev pub tree : Node → TreeNode
+tree n = record { depth = n.depth; lines = n.lines }
+
+abbrev pub as_tree : Option (ℕ × Node) → Option (ℕ × TreeNode)
+as_tree None = None
+as_tree (Some at) = Some (at.0, tree at.1)
+
+abbrev pub number_of : Answer → Option ℕ
+number_of (machine.Posted number) = Some number
+number_of _ = None
+
+abbrev numbered : Option Answer → Option ℕ
+numbered None = None
+numbered (Some a) = number_of a
+
+closed-by : (r : Reply) → among closes (told r) ≡ is_closed r
+closed-by reply.Closed = refl
+closed-by _ = refl
+
+made-by : (r : Reply) → among makes (told r) ≡ is_made r
+made-by (reply.Made count) = refl
+made-by _ = refl
+
+parked-by : (r : Reply) → among parks (told r) ≡ is_parked r
+parked-by reply.Parked = refl
+parked-by _ = refl
+
+node-by : (r : Reply) → given (told r) ≡ as_tree (node_in r)
+node-by (reply.Node id node) = refl
+node-by _ = refl
+
+number-by : (r : Reply) → numbered (told r) ≡ number_in r
+number-by (reply.Posted number) = refl
+number-by _ = refl
+
+module _ (r : Reply) (a : Answer) (said : told r ≡ Some a) where
+  pub told-closed : closes a ≡ is_closed r
+  told-closed = sym (ap (among closes) said) ∙ closed-by r
+
+  pub told-made : makes a ≡ is_made r
+  told-made = sym (ap (among makes) said) ∙ made-by r
+
+  pub told-parked : parks a ≡ is_parked r
+  told-parked = sym (ap (among parks) said) ∙ parked-by r
+
+  pub told-node : given_in a ≡ as_tree (node_in r)
+  told-node = sym (ap given said) ∙ node-by r
+
+  pub told-number : number_of a ≡ number_in r
+  told-number = sym (ap numbered said) ∙ number-by r

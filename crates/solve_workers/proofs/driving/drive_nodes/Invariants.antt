@@ -1,0 +1,11 @@
+use Rattle.search_rules.specs.Ends.{HoldsNothing}
+use Rattle.search_rules.specs.Room.{room_of}
+use Rattle.solve_workers.specs.Driving.{IsDriven}
+use Rattle.solve_workers.specs.Holding.{IsRunning}
+use Rattle.solve_workers.proofs.driving.drive_nodes.Given as goal
+
+abbrev pub invariant-slots : goal.invariant-slots
+invariant-slots l = HoldsNothing l.book × IsRunning l.book × IsDriven l.initial.book l.book
+
+abbrev pub decreases-slots : goal.decreases-slots
+decreases-slots l = room_of l.book

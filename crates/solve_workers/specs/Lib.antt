@@ -1,0 +1,5 @@
+pub mod Told
+pub mod Driving
+pub mod Holding
+pub mod Holds
+pub mod Cuts

@@ -1,0 +1,32 @@
+-- What a reply tells.
+use Rattle.std.specs.Prelude.{ℕ, Bool, true, false, Some, None}
+use Rattle.std.specs.declared.option.Option.{Option}
+use Rattle.master_branch.specs.Node.{Node}
+use Rattle.book_core.specs.declared.reply.Reply.{Reply}
+use Rattle.book_core.specs.declared.reply.Reply.TheVariants as reply
+
+-- the slot that was given, and its node
+abbrev pub node_in : Reply → Option (ℕ × Node)
+node_in (reply.Node id node) = Some (id, node)
+node_in _ = None
+
+-- the number of the cut that was kept
+abbrev pub number_in : Reply → Option ℕ
+number_in (reply.Posted number) = Some number
+number_in _ = None
+
+abbrev pub is_closed : Reply → Bool
+is_closed reply.Closed = true
+is_closed _ = false
+
+abbrev pub is_made : Reply → Bool
+is_made (reply.Made count) = true
+is_made _ = false
+
+abbrev pub is_parked : Reply → Bool
+is_parked reply.Parked = true
+is_parked _ = false
+
+abbrev pub is_want : Reply → Bool
+is_want reply.NoMemory = true
+is_want _ = false

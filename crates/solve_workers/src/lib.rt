@@ -1,0 +1,28 @@
+//! The search of the tree, driven to its end.
+//!
+//! `drive` works on a book as worker 8 until nothing is open or the budget of nodes is spent, and
+//! then closes the parked slots whose bound is at least the best cost: the book ends well. All that
+//! it does to the book is a list of events of worker 8, also where memory runs out. `solve` opens a
+//! book with `first_plan` and drives it. All work is done on the caller's thread for now: `solve`
+//! starts no worker and calls no gate.
+//!
+//! For each node `held` takes it, `closing` tries what needs no placer, `working` asks `node_fate`
+//! what becomes of it, and `ending` makes it so.
+//!
+//! Definitions: `search_rules` says how a search ends well (`specs/Ends`) and what events change;
+//! here `specs/Driving` (events of the driver), `Holding` and `Holds` (what it holds, and what it
+//! has tidied), `Cuts` (cuts of the book that hit a node), `Told` (what replies tell).
+#![tactic(auto)]
+
+mod closing;
+mod driving;
+mod ending;
+mod held;
+mod solving;
+#[cfg(test)]
+mod tests;
+mod told;
+mod working;
+
+pub use driving::drive;
+pub use solving::{Solved, solve};
