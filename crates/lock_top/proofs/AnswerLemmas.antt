@@ -49,7 +49,7 @@ never_words : (command : Command) (source : Drained) (text : List ℕ) → Answe
 never_words (Solve options) source text answer = answer.answer.answer
 never_words (Lot options) source text answer = answer.1
 never_words (Trial options) source text answer = answer.1.answer
-never_words Check source text answer = answer
+never_words Check source text answer = answer.answer.answer
 never_words Judge source text answer = answer
 never_words Play source text answer = answer
 never_words (Replan options) source text answer = answer
@@ -60,7 +60,7 @@ want : (command : Command) (source : Drained) (text : List ℕ) → AnswersComma
 want (Solve options) source text answer = answer
 want (Lot options) source text answer = answer.1
 want (Trial options) source text answer = answer.1.answer
-want Check source text answer = absurd answer
+want Check source text answer = answer
 want Judge source text answer = absurd answer
 want Play source text answer = absurd answer
 want (Replan options) source text answer = absurd answer

@@ -3,19 +3,20 @@ use Rattle.std.proofs.Common.{ℕ, ◌≡◌, List, subst, Some, None}
 use Rattle.std.specs.Prelude.{IfSome}
 use Rattle.std.specs.declared.option.Option.{Option}
 use Rattle.std.specs.Io.KnownBytes.{Appends}
-use Rattle.lock_model.specs.declared.instance.Instance.{Instance}
 use Rattle.instance_text.specs.Reading.{Means}
-use Rattle.lock_top.specs.Asked.{AskSolve, AskLot, AskTrial}
-use Rattle.lock_top.specs.Answers.{Drained, AnswersRead, AnswersMeant, Answers}
-use Rattle.lock_top.specs.Clauses.{IsSolved, IsLeftOpen, IsDrawn, IsTried, IsTriedOpen}
+use Rattle.cert_text.specs.Dossier.{Reads}
+use Rattle.command_words.specs.declared.commands.Command.TheVariants.{Check}
+use Rattle.lock_top.specs.Asked.{AskSolve, AskCheck, AskLot, AskTrial}
+use Rattle.lock_top.specs.Answers.{Drained, AnswersRead, AnswersDossierRead, AnswersMeant, Answers}
+use Rattle.lock_top.specs.Clauses.{IsSolved, IsLeftOpen, IsAccepted, IsDrawn, IsTried, IsTriedOpen}
 use Rattle.lock_top.specs.declared.status.Status.{Status}
 use Rattle.lock_top.specs.declared.status.Status.TheVariants.{Good, Open}
 use Rattle.lock_top.proofs.AnswerLemmas.{solve_of, lot_of, trial_of, meant_answer}
 
--- what the bytes mean is meant by what was left
-means_told : (left : Option (List ℕ)) (bytes : List ℕ) (I : Instance) → IfSome left (λ told. bytes ≡ told) → Means bytes I → IfSome left (λ told. Means told I)
-means_told None bytes I all means = tt
-means_told (Some told) bytes I all means = subst (λ b. Means b I) all means
+-- what is so of the bytes is so of what was left
+told_so : (P : List ℕ → Type 0) (left : Option (List ℕ)) (bytes : List ℕ) → IfSome left (λ told. bytes ≡ told) → P bytes → IfSome left P
+told_so P None bytes all so = tt
+told_so P (Some told) bytes all so = subst P all so
 
 -- `bytes`, which are the text that was answered, were written
 module _ (words : List (List ℕ)) (source : Drained) (status : Status) (text bytes : List ℕ) (held held_after : Option (List ℕ)) (answer : Answers words source status text) (same : bytes ≡ text) (written : Appends held held_after bytes) where
@@ -36,7 +37,7 @@ module _ (words : List (List ℕ)) (source : Drained) (status : Status) (text by
       record {
         instance = told.instance;
         plan = optimal.plan;
-        means = means_told source.before read.bytes told.instance read.all told.means;
+        means = told_so (λ bytes. Means bytes told.instance) source.before read.bytes read.all told.means;
         end = read.end;
         cheapest = optimal.cheapest;
         reported = subst (Appends held held_after) optimal.shown appended;
@@ -49,10 +50,26 @@ module _ (words : List (List ℕ)) (source : Drained) (status : Status) (text by
       record {
         instance = told.instance;
         text = text;
-        means = means_told source.before read.bytes told.instance read.all told.means;
+        means = told_so (λ bytes. Means bytes told.instance) source.before read.bytes read.all told.means;
         end = read.end;
         cause = told.answer;
         reported = appended;
+      }
+
+  pub accepted : AskCheck words → status ≡ Good → IsAccepted source held held_after
+  accepted ask is =
+      let read : AnswersDossierRead source Good text = meant_answer words source Good text Check (good is) ask.means in
+      let told = read.answer in
+      let own = told.answer in
+      record {
+        instance = told.instance;
+        certificate = told.certificate;
+        reads = told_so (λ bytes. Reads bytes told.instance told.certificate) source.before read.bytes read.all told.reads;
+        end = read.end;
+        accepts = own.accepts;
+        cheapest = own.cheapest;
+        cost = own.cost;
+        printed = subst (Appends held held_after) own.shown appended;
       }
 
   pub drawn : (number ships chambers : ℕ) → AskLot words number ships chambers → status ≡ Good → IsDrawn number ships chambers source held held_after

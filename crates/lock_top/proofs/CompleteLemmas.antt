@@ -13,12 +13,17 @@ use Rattle.instance_text.specs.declared.bad.Kind.{Kind}
 use Rattle.instance_text.proofs.InstanceLemmas.{same_instance}
 use Rattle.plan_print.specs.Report.{report, verdict_line}
 use Rattle.command_words.specs.Meaning.{Means as WordsMean}
+use Rattle.search_rules.specs.Certificates.{Certificate}
+use Rattle.cert_text.specs.Dossier.{Reads, DossierFault, dossier_in}
+use Rattle.cert_text.specs.declared.bad.BadDossier.{BadDossier as AnyFault}
 use Rattle.command_words.specs.declared.commands.Command.{Command}
+use Rattle.command_words.specs.declared.commands.Command.TheVariants.{Check}
+use Rattle.lock_top.specs.Checking.{AnswersCertificate, AnswersReads}
 use Rattle.lock_top.specs.Asked.{is_not_yet, AreRefused}
 use Rattle.lock_top.specs.Searching.{Print, AnswersSearch}
 use Rattle.lock_top.specs.Lots.{AnswersLot}
-use Rattle.lock_top.specs.Answers.{Drained, limit, IsTooLong, AnswersRead, AnswersSolve, AnswersCommand, Answers}
-use Rattle.lock_top.specs.Clauses.{IsServed, MayEnd, MayPrint, IsComplete}
+use Rattle.lock_top.specs.Answers.{Drained, limit, IsTooLong, AnswersRead, AnswersSolve, AnswersCommand, Answers, AnswersDossierRead, AnswersCheck, dossier_limit}
+use Rattle.lock_top.specs.Clauses.{IsServed, MayEnd, MayPrint, IsComplete, IsDossierServed, MayCheck}
 use Rattle.lock_top.specs.declared.status.Status.{Status}
 use Rattle.lock_top.specs.declared.status.Status.TheVariants.{Good, Open, Words, Refused, ReadFault, WriteFault, NoMemory, BadDossier, Unfit, PlanRefused}
 use Rattle.lock_top.proofs.AnswerLemmas.{solve_of, lot_of, trial_of, meant_answer}
@@ -93,7 +98,7 @@ module _ (nodes turns : ℕ) (source : Drained) (I : Instance) (served : IsServe
       first.unfit fits.chamber fits.known fits.fits
 
   -- there are few bytes, and they have no defect
-  not_refused : (text : List ℕ) → IsTooLong source text ⊎ AnswersRead nodes turns source Refused text → ⊥
+  not_refused : (text : List ℕ) → IsTooLong limit source text ⊎ AnswersRead nodes turns source Refused text → ⊥
   not_refused text (inl long) =
       let many : limit < length served.bytes = subst (λ left. IfSome left (λ bytes. limit < length bytes)) served.told long.long in
       let few = served.few in
@@ -113,6 +118,66 @@ module _ (nodes turns : ℕ) (source : Drained) (I : Instance) (served : IsServe
   solve_ends BadDossier text answer = absurd answer.answer.answer
   solve_ends Unfit text answer = absurd (not_unfit text answer)
   solve_ends PlanRefused text answer = absurd answer.answer.answer
+
+-- ---- `check` over a source that is served
+
+reads_pair : (bytes : List ℕ) (I : Instance) (C : Certificate) → Reads bytes I C → dossier_in bytes ≡ Ok (draft_of I, C)
+unfolding Reads
+reads_pair bytes I C reads = reads
+
+has_fault : (bytes : List ℕ) (fault : AnyFault) → DossierFault bytes fault → dossier_in bytes ≡ Err fault
+unfolding DossierFault
+has_fault bytes fault first = first
+
+one_pair : (r : Result (Draft × Certificate) AnyFault) (a b : Draft × Certificate) → r ≡ Ok a → r ≡ Ok b → a ≡ b
+one_pair r a b e f = cc
+
+no_pair : (r : Result (Draft × Certificate) AnyFault) (a : Draft × Certificate) (fault : AnyFault) → r ≡ Ok a → r ≡ Err fault → ⊥
+no_pair r a fault e f = cc
+
+module _ (source : Drained) (I : Instance) (C : Certificate) (served : IsDossierServed source I C) where
+  own_reads : (status : Status) (text : List ℕ) (read : AnswersDossierRead source status text) → Reads read.bytes I C
+  own_reads status text read =
+      let same : read.bytes ≡ served.bytes = subst (λ left. IfSome left (λ bytes. read.bytes ≡ bytes)) served.told read.all in
+      subst (λ bytes. Reads bytes I C) (sym same) served.reads
+
+  -- what was answered, was answered to the dossier that was served
+  own_answer : (status : Status) (text : List ℕ) (read : AnswersDossierRead source status text) → AnswersReads read.bytes status text → AnswersCertificate I C status text
+  own_answer status text read told =
+      let same = one_pair (dossier_in read.bytes) (draft_of told.instance, told.certificate) (draft_of I, C) (reads_pair read.bytes told.instance told.certificate told.reads) (reads_pair read.bytes I C (own_reads status text read)) in
+      let instance : told.instance ≡ I = same_instance told.instance I (ap (λ (p : Draft × Certificate). p.0.chambers) same) (ap (λ (p : Draft × Certificate). p.0.ships) same) in
+      let certificate : told.certificate ≡ C = ap (λ (p : Draft × Certificate). p.1) same in
+      subst (λ J. AnswersCertificate J C status text) instance (subst (λ D. AnswersCertificate told.instance D status text) certificate told.answer)
+
+  bad_ends : (text : List ℕ) → AnswersDossierRead source BadDossier text → MayCheck I C BadDossier
+  bad_ends text read = elim read.answer [
+    | inl fault ↦ absurd (no_pair (dossier_in read.bytes) (draft_of I, C) fault.fault (reads_pair read.bytes I C (own_reads BadDossier text read)) (has_fault read.bytes fault.fault fault.first))
+    | inr told ↦ let own = own_answer BadDossier text read told in (own.place, own.reason, own.fails)
+  ]
+
+  fits_some : (text : List ℕ) → AnswersDossierRead source Unfit text → ⊥
+  fits_some text read =
+      let own = own_answer Unfit text read read.answer in
+      let fits = served.fit.fit own.ship own.first.known in
+      own.first.unfit fits.chamber fits.known fits.fits
+
+  few_bytes : (text : List ℕ) → IsTooLong dossier_limit source text → ⊥
+  few_bytes text long =
+      let many : dossier_limit < length served.bytes = subst (λ left. IfSome left (λ bytes. dossier_limit < length bytes)) served.told long.long in
+      let few = served.few in
+      absurd (omega (arith, many, few))
+
+  check_ends : (status : Status) (text : List ℕ) → AnswersCheck source status text → MayCheck I C status
+  check_ends Good text answer = (own_answer Good text answer answer.answer).accepts
+  check_ends Open text answer = absurd answer.answer.answer
+  check_ends Words text answer = absurd answer.answer.answer
+  check_ends Refused text answer = absurd (few_bytes text answer)
+  check_ends ReadFault text answer = absurd (served.calm answer.0)
+  check_ends WriteFault text answer = tt
+  check_ends NoMemory text answer = tt
+  check_ends BadDossier text answer = bad_ends text answer
+  check_ends Unfit text answer = absurd (fits_some text answer)
+  check_ends PlanRefused text answer = absurd answer.answer.answer
 
 -- ---- `lot`
 
@@ -157,6 +222,10 @@ complete words source status text answer = record {
     | inl want ↦ subst (MayEnd I nodes turns) (sym want) tt
     | inr told ↦ solve_ends nodes turns source I served status text told
   ];
+  check = λ I C ask served. elim (by_command words source Check status text ask.means refl answer) [
+    | inl want ↦ subst (MayCheck I C) (sym want) tt
+    | inr told ↦ check_ends source I C served status text told
+  ];
   lot = λ number ships chambers ask. elim (by_command words source (lot_of number ships chambers) status text ask.means refl answer) [
     | inl want ↦ subst MayPrint (sym want) tt
     | inr told ↦ lot_ends number ships chambers status text told.1
@@ -174,6 +243,7 @@ complete words source status text answer = record {
 pub cut_complete : (words : List (List ℕ)) (source : Drained) → IsComplete words source WriteFault
 cut_complete words source = record {
   solve = λ nodes turns workers I ask served. tt;
+  check = λ I C ask served. tt;
   lot = λ number ships chambers ask. tt;
   trial = λ number ships chambers nodes turns I ask lot. tt;
 }

@@ -1,5 +1,6 @@
 pub mod EndLemmas
 pub mod LotLemmas
+pub mod DossierLemmas
 pub mod AskedLemmas
 pub mod AnswerLemmas
 pub mod ClauseLemmas

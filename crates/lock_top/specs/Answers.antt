@@ -3,11 +3,12 @@ use Rattle.std.specs.Prelude.{ℕ, ◌≡◌, ◌≤◌, ◌<◌, ◌⊎◌, Lis
 use Rattle.std.specs.declared.option.Option.{Option}
 use Rattle.std.specs.Io.KnownBytes.{Appends}
 use Rattle.command_words.specs.declared.commands.Command.{Command}
-use Rattle.command_words.specs.declared.commands.Command.TheVariants.{Solve, Lot, Trial}
+use Rattle.command_words.specs.declared.commands.Command.TheVariants.{Solve, Check, Lot, Trial}
 use Rattle.lock_io.specs.Faults.{Rose}
 use Rattle.lock_io.specs.WholeWrites.{AppendsProperPrefix}
 use Rattle.lock_top.specs.Asked.{is_not_yet, MeanOnly, AreRefused}
 use Rattle.lock_top.specs.Solving.{AnswersText}
+use Rattle.lock_top.specs.Checking.{AnswersDossier}
 use Rattle.lock_top.specs.Lots.{AnswersLot, AnswersTrial}
 use Rattle.lock_top.specs.Texts.{bad_words_text, read_fault_text, no_memory_text, too_long_text}
 use Rattle.lock_top.specs.declared.status.Status.{Status}
@@ -40,27 +41,47 @@ pub record AnswersRead (nodes turns : ℕ) (source : Drained) (status : Status) 
   pub few : length bytes ≤ limit
   pub answer : AnswersText nodes turns bytes status text
 
--- more bytes than `limit` were left
-pub record IsTooLong (source : Drained) (text : List ℕ) : Type 0 where
-  pub long : IfSome source.before (λ left. limit < length left)
-  pub shown : text ≡ too_long_text limit
+-- more bytes than `most` were left
+pub record IsTooLong (most : ℕ) (source : Drained) (text : List ℕ) : Type 0 where
+  pub long : IfSome source.before (λ left. most < length left)
+  pub shown : text ≡ too_long_text most
 
--- that there are too many bytes, or want of memory for saying so
-abbrev pub TellsTooLong : Status → List ℕ → Type 0
-TellsTooLong Refused text = text ≡ too_long_text limit
-TellsTooLong NoMemory text = text ≡ no_memory_text
-TellsTooLong status text = ⊥
+-- that there are more bytes than `most`, or want of memory for saying so
+abbrev pub TellsTooLong : ℕ → Status → List ℕ → Type 0
+TellsTooLong most Refused text = text ≡ too_long_text most
+TellsTooLong most NoMemory text = text ≡ no_memory_text
+TellsTooLong most status text = ⊥
 
 -- what `solve` answers to a source, with so many nodes and turns
 abbrev pub AnswersSolve : ℕ → ℕ → Drained → Status → List ℕ → Type 0
 AnswersSolve nodes turns source ReadFault text = Rose source.faults source.faults_after × (text ≡ read_fault_text)
 AnswersSolve nodes turns source NoMemory text = text ≡ no_memory_text
-AnswersSolve nodes turns source Refused text = IsTooLong source text ⊎ AnswersRead nodes turns source Refused text
+AnswersSolve nodes turns source Refused text = IsTooLong limit source text ⊎ AnswersRead nodes turns source Refused text
 AnswersSolve nodes turns source status text = AnswersRead nodes turns source status text
+
+-- the most bytes that `check` reads
+abbrev pub dossier_limit : ℕ
+dossier_limit = 9007199254740992
+
+-- The source was read to its end, at most `dossier_limit` bytes, and this is answered to them.
+pub record AnswersDossierRead (source : Drained) (status : Status) (text : List ℕ) : Type 0 where
+  pub bytes : List ℕ
+  pub all : IfSome source.before (λ left. bytes ≡ left)
+  pub end : OnSome source.before (source.after ≡ Some [])
+  pub few : length bytes ≤ dossier_limit
+  pub answer : AnswersDossier bytes status text
+
+-- what `check` answers to a source
+abbrev pub AnswersCheck : Drained → Status → List ℕ → Type 0
+AnswersCheck source ReadFault text = Rose source.faults source.faults_after × (text ≡ read_fault_text)
+AnswersCheck source NoMemory text = text ≡ no_memory_text
+AnswersCheck source Refused text = IsTooLong dossier_limit source text
+AnswersCheck source status text = AnswersDossierRead source status text
 
 -- what is answered to a command that isn't still to come
 abbrev pub AnswersCommand : Command → Drained → Status → List ℕ → Type 0
 AnswersCommand (Solve options) source status text = AnswersSolve options.nodes options.turns source status text
+AnswersCommand Check source status text = AnswersCheck source status text
 AnswersCommand (Lot options) source status text = IsUnread source × AnswersLot options.number options.ships options.chambers status text
 AnswersCommand (Trial options) source status text =
     IsUnread source × AnswersTrial options.lot.number options.lot.ships options.lot.chambers options.nodes options.turns status text

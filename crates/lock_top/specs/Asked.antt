@@ -2,15 +2,16 @@
 use Rattle.std.specs.Prelude.{ℕ, ◌≡◌, ◌⊎◌, Bool, true, false, ◌||◌, List, ⊤}
 use Rattle.command_words.specs.Meaning.{Means, AreBad}
 use Rattle.command_words.specs.declared.commands.Command.{Command}
-use Rattle.command_words.specs.declared.commands.Command.TheVariants.{Solve, Lot, Trial}
+use Rattle.command_words.specs.declared.commands.Command.TheVariants.{Solve, Check, Lot, Trial}
 use Rattle.command_words.specs.declared.commands.SolveOptions.{SolveOptions}
 use Rattle.command_words.specs.declared.commands.LotOptions.{LotOptions}
 use Rattle.command_words.specs.declared.commands.TrialOptions.{TrialOptions}
 use Rattle.lock_model.specs.Limits.{Within}
 
--- The command, or one of its flags, is still to come: there are `solve` without flags, `lot` and `trial`.
+-- The command, or one of its flags, is still to come: there are `solve` without flags, `check`, `lot` and `trial`.
 abbrev pub is_not_yet : Command → Bool
 is_not_yet (Solve options) = options.dossier || options.keep
+is_not_yet Check = false
 is_not_yet (Lot options) = false
 is_not_yet (Trial options) = false
 is_not_yet _ = true
@@ -33,6 +34,10 @@ AreRefused words = AreBad words ⊎ AreNotYet words
 -- the words ask for `solve` without flags, with so many nodes, turns and workers
 pub record AskSolve (words : List (List ℕ)) (nodes turns workers : ℕ) : Type 0 where
   pub means : Means words (Solve (record { nodes = nodes; turns = turns; workers = workers; dossier = false; keep = false }))
+
+-- the words ask for `check`
+pub record AskCheck (words : List (List ℕ)) : Type 0 where
+  pub means : Means words Check
 
 -- the words ask for `lot` of this number, so many ships and chambers
 pub record AskLot (words : List (List ℕ)) (number ships chambers : ℕ) : Type 0 where

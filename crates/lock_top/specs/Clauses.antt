@@ -6,18 +6,24 @@ use Rattle.lock_io.specs.Faults.{Rose}
 use Rattle.lock_model.specs.declared.instance.Instance.{Instance}
 use Rattle.lock_model.specs.declared.plan.Plan.{Plan}
 use Rattle.lock_model.specs.declared.verdict.Verdict.TheVariants.{Optimal}
-use Rattle.lock_rules.specs.Plan.{IsCheapest}
+use Rattle.lock_rules.specs.Plan.{IsCheapest, cost_of}
 use Rattle.lock_rules.specs.Unfit.{HasNoUnfit}
 use Rattle.search_rules.specs.Ends.{AreEnough}
+use Rattle.search_rules.specs.Failures.{Fails}
+use Rattle.search_rules.specs.declared.certificate.Spot2.{Spot2}
+use Rattle.search_rules.specs.declared.certificate.Reason.{Reason}
+use Rattle.search_rules.specs.Certificates.{Certificate, Accepts}
 use Rattle.instance_text.specs.Reading.{Means}
+use Rattle.cert_text.specs.Dossier.{Reads}
 use Rattle.instance_text.specs.Canonical.{canonical}
 use Rattle.plan_print.specs.Report.{report, verdict_line}
-use Rattle.lock_top.specs.Asked.{AskSolve, AskLot, AskTrial}
+use Rattle.lock_top.specs.Asked.{AskSolve, AskCheck, AskLot, AskTrial}
+use Rattle.lock_top.specs.DossierTexts.{accepted_text}
 use Rattle.lock_top.specs.Searching.{PrintsOpen}
 use Rattle.lock_top.specs.Lots.{IsLot}
-use Rattle.lock_top.specs.Answers.{Drained, limit, IsUnread}
+use Rattle.lock_top.specs.Answers.{Drained, limit, dossier_limit, IsUnread}
 use Rattle.lock_top.specs.declared.status.Status.{Status}
-use Rattle.lock_top.specs.declared.status.Status.TheVariants.{Good, Open, WriteFault, NoMemory}
+use Rattle.lock_top.specs.declared.status.Status.TheVariants.{Good, Open, WriteFault, NoMemory, BadDossier}
 
 -- SOLVE, OPTIMAL. The source was read to its end, its bytes mean an instance, and the sink got the report of a plan of it that is cheapest over all legal plans.
 pub record IsSolved (source : Drained) (held held_after : Option (List ℕ)) : Type 0 where
@@ -36,6 +42,17 @@ pub record IsLeftOpen (nodes turns : ℕ) (source : Drained) (held held_after : 
   pub end : OnSome source.before (source.after ≡ Some [])
   pub cause : PrintsOpen report instance nodes turns text
   pub reported : Appends held held_after text
+
+-- CHECK, ACCEPTED. The source was read to its end, and its bytes are a dossier of an instance and a certificate that is accepted; so its plan is cheapest over all legal plans and has its cost. The sink got that cost.
+pub record IsAccepted (source : Drained) (held held_after : Option (List ℕ)) : Type 0 where
+  pub instance : Instance
+  pub certificate : Certificate
+  pub reads : IfSome source.before (λ bytes. Reads bytes instance certificate)
+  pub end : OnSome source.before (source.after ≡ Some [])
+  pub accepts : Accepts instance certificate
+  pub cheapest : IsCheapest instance certificate.plan
+  pub cost : cost_of instance certificate.plan ≡ certificate.cost
+  pub printed : Appends held held_after (accepted_text certificate.cost)
 
 -- LOT. Nothing was read, and the sink got the canonical text of the generator's instance.
 pub record IsDrawn (number ships chambers : ℕ) (source : Drained) (held held_after : Option (List ℕ)) : Type 0 where
@@ -81,6 +98,23 @@ MayEnd I nodes turns NoMemory = ⊤
 MayEnd I nodes turns WriteFault = ⊤
 MayEnd I nodes turns status = ⊥
 
+-- The source tells its bytes, which are at most `dossier_limit` and a dossier of this instance, which has no unfit ship, and it counts no fault.
+pub record IsDossierServed (source : Drained) (I : Instance) (C : Certificate) : Type 0 where
+  pub bytes : List ℕ
+  pub told : source.before ≡ Some bytes
+  pub few : length bytes ≤ dossier_limit
+  pub reads : Reads bytes I C
+  pub fit : HasNoUnfit I
+  pub calm : ¬ Rose source.faults source.faults_after
+
+-- how a check may end
+abbrev pub MayCheck : Instance → Certificate → Status → Type 0
+MayCheck I C Good = Accepts I C
+MayCheck I C BadDossier = (place : Spot2) × (reason : Reason) × Fails I C place reason
+MayCheck I C NoMemory = ⊤
+MayCheck I C WriteFault = ⊤
+MayCheck I C status = ⊥
+
 -- how a lot may end
 abbrev pub MayPrint : Status → Type 0
 MayPrint Good = ⊤
@@ -91,5 +125,6 @@ MayPrint status = ⊥
 -- COMPLETENESS. What is asked rightly is done, or memory was wanting, or the sink failed.
 pub record IsComplete (words : List (List ℕ)) (source : Drained) (status : Status) : Type 0 where
   pub solve : (nodes turns workers : ℕ) (I : Instance) → AskSolve words nodes turns workers → IsServed source I → MayEnd I nodes turns status
+  pub check : (I : Instance) (C : Certificate) → AskCheck words → IsDossierServed source I C → MayCheck I C status
   pub lot : (number ships chambers : ℕ) → AskLot words number ships chambers → MayPrint status
   pub trial : (number ships chambers nodes turns : ℕ) (I : Instance) → AskTrial words number ships chambers nodes turns → IsLot number ships chambers I → MayEnd I nodes turns status

@@ -4,6 +4,8 @@ pub mod Asked
 pub mod Searching
 pub mod Solving
 pub mod Lots
+pub mod DossierTexts
+pub mod Checking
 pub mod Answers
 pub mod Clauses
 pub mod Written

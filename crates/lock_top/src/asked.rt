@@ -10,7 +10,7 @@ pub(crate) fn is_not_yet(command: &Command) -> bool
 {
     match command {
         Command::Solve(options) => options.dossier || options.keep,
-        Command::Lot(_) | Command::Trial(_) => false,
+        Command::Check | Command::Lot(_) | Command::Trial(_) => false,
         _ => true,
     }
 }

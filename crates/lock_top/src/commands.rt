@@ -7,6 +7,7 @@ ghost use Rattle.lock_top.specs.Written.{bytes_in};
 
 use crate::answer::{Answer, fixed, no_memory};
 use crate::asked::is_not_yet;
+use crate::checking::check_answer;
 use crate::lots::{lot_answer, trial_answer};
 use crate::solving::solve_answer;
 use crate::status::Status;
@@ -30,6 +31,7 @@ fn command_answer<R: Threads + Wait + Sync, S: Source, G: Gate + Sync>(
 {
     match command {
         Command::Solve(options) => solve_answer(rt, alloc, options, src, gate),
+        Command::Check => check_answer(alloc, src),
         Command::Lot(options) => lot_answer(alloc, options),
         Command::Trial(options) => trial_answer(rt, alloc, options, gate),
         _ => refusal(),

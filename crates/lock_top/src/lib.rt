@@ -5,15 +5,18 @@
 //! mean an instance, and the sink got the report of a plan of it that is cheapest over all legal plans.
 //!
 //! Definitions: `specs/Statuses` (the numbers of the statuses), `Texts` (what is written for each),
-//! `Asked` (what the words ask for), `Searching` (what is answered at the end of a search), `Solving`
-//! and `Lots` (what the commands answer), `Answers` (what a run answers), `Clauses` (what a run did, by
+//! `DossierTexts` (those of `check`), `Asked` (what the words ask for), `Searching` (what is answered
+//! at the end of a search), `Solving`, `Checking` and `Lots` (what the commands answer), `Answers` (what a run answers), `Clauses` (what a run did, by
 //! command and status, and that it does what is asked).
 #![tactic(auto)]
 
 mod answer;
 mod asked;
+mod checking;
 mod commands;
+mod dossier_texts;
 mod lots;
+mod reading;
 mod searching;
 mod solving;
 mod status;

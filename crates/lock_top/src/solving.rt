@@ -3,16 +3,17 @@ ghost use Rattle.std.specs.Prelude.{◌≡◌};
 ghost use Rattle.lock_rules.specs.Unfit.{HasNoUnfit, IsFirstUnfit};
 ghost use Rattle.instance_text.specs.Reading.{Defect};
 ghost use Rattle.plan_print.specs.Report.{report};
-ghost use Rattle.lock_top.specs.Answers.{AnswersSolve, TellsTooLong, drained};
+ghost use Rattle.lock_top.specs.Answers.{AnswersSolve, drained};
 ghost use Rattle.lock_top.specs.Asked.{AreSolveNumbers};
 ghost use Rattle.lock_top.specs.Searching.{AnswersSearch};
 ghost use Rattle.lock_top.specs.Solving.{AnswersInstance, AnswersText};
 ghost use Rattle.lock_top.specs.Written.{bytes_in};
 
 use crate::answer::{Answer, Text, fixed, no_memory};
+use crate::reading::too_long;
 use crate::searching::search_report;
 use crate::status::Status;
-use crate::texts::{defect_text, too_long_text, unfit_text};
+use crate::texts::{defect_text, unfit_text};
 use book_core::Case;
 use command_words::SolveOptions;
 use first_plan::first_unfit;
@@ -107,19 +108,6 @@ fn text_answer<R: Threads + Wait + Sync, G: Gate + Sync>(
     }
 }
 
-// That there are too many bytes.
-fn too_long(alloc: Global) -> Answer
-    ensures { TellsTooLong result.status (bytes_in result.text) }
-{
-    match too_long_text(alloc, LIMIT) {
-        Ok(text) => Answer {
-            status: Status::Refused,
-            text: Text::Made(text),
-        },
-        Err(NoMemory) => no_memory(),
-    }
-}
-
 /// Reads an instance text to its end, searches all plans of the instance, and answers with the
 /// report of the best one, or says what is refused: too many bytes, a defect, or a ship that fits no
 /// chamber. The numbers of the options are in their ranges.
@@ -136,7 +124,7 @@ pub(crate) fn solve_answer<R: Threads + Wait + Sync, S: Source, G: Gate + Sync>(
     match read_all(alloc, src, LIMIT) {
         Ok(bytes) => text_answer(rt, alloc, bytes.as_slice(), options, gate),
         Err(ReadError::ReadFault) => fixed(Status::ReadFault, b"read fault\n"),
-        Err(ReadError::TooLong(_)) => too_long(alloc),
+        Err(ReadError::TooLong(_)) => too_long(alloc, LIMIT),
         Err(ReadError::NoMemory) => no_memory(),
     }
 }

@@ -1,5 +1,6 @@
 //! Whole runs over sources and sinks in memory.
 
+mod dossiers;
 mod fixture;
 mod lots;
 mod refusals;

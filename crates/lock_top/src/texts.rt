@@ -1,5 +1,5 @@
 //! Texts that are made for a refusal.
-ghost use Rattle.std.specs.Prelude.{◌≡◌, ◌<◌, length, IfOk};
+ghost use Rattle.std.specs.Prelude.{◌≡◌, ◌<◌, ◌++◌, length, IfOk, OnOk};
 ghost use Rattle.lock_top.specs.Texts.{number_of, name_of, defect_text, too_long_text, unfit_text};
 
 use instance_text::{Bad, Kind};
@@ -36,19 +36,26 @@ fn name_of(kind: Kind) -> &'static [u8]
     }
 }
 
-/// The first defect of an instance text, with its line, its number and its name.
+/// Appends the first defect of an instance text, with its line, its number and its name.
 #[tactic(auto, unfolding(crate::specs::Texts::defect_text))]
+pub(crate) fn put_defect(out: &mut Vec<u8>, bad: Bad) -> Result<(), NoMemory>
+    ensures { OnOk result (out.new.items ≡ out.old.items ++ defect_text bad.line bad.kind) }
+{
+    put(out, b"line ")?;
+    put_number(out, bad.line)?;
+    put(out, b" fault ")?;
+    put_number(out, number_of(bad.kind) as u64)?;
+    put(out, b" ")?;
+    put(out, name_of(bad.kind))?;
+    put(out, b"\n")
+}
+
+/// The first defect of an instance text.
 pub(crate) fn defect_text(alloc: Global, bad: Bad) -> Result<Vec<u8>, NoMemory>
     ensures { IfOk result (λ text. text.items ≡ defect_text bad.line bad.kind) }
 {
     let mut out = Vec::new(alloc);
-    put(&mut out, b"line ")?;
-    put_number(&mut out, bad.line)?;
-    put(&mut out, b" fault ")?;
-    put_number(&mut out, number_of(bad.kind) as u64)?;
-    put(&mut out, b" ")?;
-    put(&mut out, name_of(bad.kind))?;
-    put(&mut out, b"\n")?;
+    put_defect(&mut out, bad)?;
     Ok(out)
 }
 

@@ -248,30 +248,8 @@ fn a_report_is_cut_off_where_the_sink_fails(rt: HostRuntime) -> Result<(), Fail>
 #[test]
 fn a_trial_prints_one_line_which_is_the_same_again(rt: HostRuntime) -> Result<(), Fail> {
     for words in [
-        [
-            "trial",
-            "--ships",
-            "24",
-            "--chambers",
-            "4",
-            "--nodes",
-            "2000",
-            "--turns",
-            "200",
-        ]
-        .as_slice(),
-        [
-            "trial",
-            "--ships",
-            "24",
-            "--chambers",
-            "4",
-            "--nodes",
-            "5000",
-            "--turns",
-            "50",
-        ]
-        .as_slice(),
+        ["trial", "--ships", "8", "--nodes", "100", "--turns", "50"].as_slice(),
+        ["trial", "--ships", "24", "--chambers", "4", "--nodes", "50"].as_slice(),
     ] {
         let ran = run_over(&rt, rt.alloc(), words, ONE_SHIP.as_bytes())?;
         let again = run_over(&rt, rt.alloc(), words, ONE_SHIP.as_bytes())?;

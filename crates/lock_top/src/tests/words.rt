@@ -40,7 +40,6 @@ fn no_words_are_refused(rt: HostRuntime) -> Result<(), Fail> {
 #[test]
 fn what_is_still_to_come_is_refused_as_bad_words(rt: HostRuntime) -> Result<(), Fail> {
     for words in [
-        ["check"].as_slice(),
         ["judge"].as_slice(),
         ["play"].as_slice(),
         ["replan", "--from", "5"].as_slice(),
