@@ -6,8 +6,9 @@
 //!
 //! Definitions: `specs/Statuses` (the numbers of the statuses), `Texts` (what is written for each),
 //! `DossierTexts` (those of `check`), `Asked` (what the words ask for), `Searching` (what is answered
-//! at the end of a search), `Solving`, `Checking` and `Lots` (what the commands answer), `Answers` (what a run answers), `Clauses` (what a run did, by
-//! command and status, and that it does what is asked).
+//! at the end of a search), `Solving`, `Checking` and `Lots` (what the commands answer), `Answers`
+//! (what a run answers), `Clauses` (what a run did, by command and status, and that it does what is
+//! asked).
 #![tactic(auto)]
 
 mod answer;
