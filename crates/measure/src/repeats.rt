@@ -93,9 +93,9 @@ const TURNS: u32 = 20_000;
 // says so.
 fn crowded_deck() -> Option<Deck> {
     let mut sizes = Sizes::new();
-    for _ in 0..8 {
+    for length in [640; 8] {
         sizes.push(Size {
-            length: 640,
+            length,
             width: 77,
             cargo: 0,
         });
@@ -110,6 +110,24 @@ fn crowded_deck() -> Option<Deck> {
     Deck::new(measures, sizes)
 }
 
+// The turns that the placer by berths and relations spent.
+fn turns_of(placed: Placed) -> u32 {
+    match placed {
+        Placed::Fits(_spots) => 0,
+        Placed::Refuted(_refutation) => 0,
+        Placed::Spent(hard) => hard.turns,
+    }
+}
+
+// The turns that the placer by spots spent.
+fn spot_turns_of(placed: SpotPlaced) -> u32 {
+    match placed {
+        SpotPlaced::Fits(_spots) => 0,
+        SpotPlaced::Refuted(_marks) => 0,
+        SpotPlaced::Spent(hard) => hard.turns,
+    }
+}
+
 /// How many turns the placer by berths and relations spends on a crowded deck in so many rounds.
 pub(crate) fn cases(alloc: Global, rounds: u32) -> u64 {
     let Some(deck) = crowded_deck() else {
@@ -117,8 +135,8 @@ pub(crate) fn cases(alloc: Global, rounds: u32) -> u64 {
     };
     let mut turns: u64 = 0;
     for _ in 0..rounds {
-        if let Ok(Placed::Spent(hard)) = place(alloc, &deck, TURNS) {
-            turns = turns.saturating_add(hard.turns as u64);
+        if let Ok(placed) = place(alloc, &deck, TURNS) {
+            turns = turns.saturating_add(turns_of(placed) as u64);
         }
     }
     turns
@@ -131,8 +149,8 @@ pub(crate) fn spot_cases(alloc: Global, rounds: u32) -> u64 {
     };
     let mut turns: u64 = 0;
     for _ in 0..rounds {
-        if let Ok(SpotPlaced::Spent(hard)) = place_by_spots(alloc, &deck, TURNS) {
-            turns = turns.saturating_add(hard.turns as u64);
+        if let Ok(placed) = place_by_spots(alloc, &deck, TURNS) {
+            turns = turns.saturating_add(spot_turns_of(placed) as u64);
         }
     }
     turns
