@@ -18,8 +18,7 @@ use Rattle.chamber_place.proofs.EdgeLemmas.{case-edges-few}
 use Rattle.chamber_place.specs.OnItsWay.{Progress, case_rules, AreChosen, no_paths, paths_at, IsSettled, IsOnItsWay}
 use Rattle.chamber_place.specs.declared.picks.Pick.{Pick}
 use Rattle.chamber_place.specs.declared.decisions.Decision.{Decision}
-use Rattle.chamber_place.proofs.OptionLemmas.{length-map}
-use Rattle.chamber_place.proofs.WayLemmas.{first-options, no-options, choices-push, less-or-most, known-decided, good-paths, good-fault, last-settled, more-chosen, more-edges, more-faulty, more-good, last-edges, back-way, back-case}
+use Rattle.chamber_place.proofs.WayLemmas.{first-options, no-options, choices-push, known-decided, good-paths, good-fault, last-settled, more-chosen, more-edges, more-faulty, more-good, last-edges, back-way, back-case}
 
 pub index-own : {X : Type 0} (xs : List X) (k : ℕ) (d : X) → k < length xs → slice_index_or xs k (slice_index_or xs k d) ≡ slice_index_or xs k d
 index-own [] k d h = absurd (omega (arith, h))
@@ -38,24 +37,24 @@ module _ (d : Deck) (decided : List Decision) (picks : List Pick) (in_order : ma
   -- the options of the next decision
   pub options-next : (x : Decision) → length picks < length decided → slice_index_or decided (length picks) x ≡ x → options_at (case_rules d) (choices_of picks) ≡ options_of d (decision_of x)
   options-next x less at =
-      ap (λ n. options_first (options_of d) (drop n (decisions (length d.ships)))) (length-map choice_of picks)
+      ap (λ n. options_first (options_of d) (drop n (decisions (length d.ships)))) (length-map picks choice_of)
       ∙ first-options d decided (decisions (length d.ships)) (length picks) x in_order less
       ∙ ap (λ y. options_of d (decision_of y)) at
 
   pub options-none : length decided ≤ length picks → options_at (case_rules d) (choices_of picks) ≡ []
   options-none most =
-      ap (λ n. options_first (options_of d) (drop n (decisions (length d.ships)))) (length-map choice_of picks)
+      ap (λ n. options_first (options_of d) (drop n (decisions (length d.ships)))) (length-map picks choice_of)
       ∙ no-options d decided (decisions (length d.ships)) (length picks) in_order most
 
   pub decisions-count : length decided ≡ length (decisions (length d.ships))
-  decisions-count = sym (length-map decision_of decided) ∙ ap length in_order
+  decisions-count = sym (length-map decided decision_of) ∙ ap length in_order
 
   module _ (v : Progress) (view : progress_of d picks ≡ v) (option : ℕ) (h : option < length (options_at (case_rules v.deck) v.case)) where
     here : option < length (options_at (case_rules d) (choices_of picks))
     here = subst (λ u. option < length (options_at (case_rules u.deck) u.case)) (sym view) h
 
     pub next-less : length picks < length decided
-    next-less = elim (less-or-most (length picks) (length decided)) [ inl l ↦ l | inr m ↦ absurd (none (ap length (options-none m))) ]
+    next-less = elim (cases_lt (length picks) (length decided)) [ inl l ↦ l | inr m ↦ absurd (none (ap length (options-none m))) ]
       where
         none : length (options_at (case_rules d) (choices_of picks)) ≡ 0 → ⊥
         none e = let l = here in omega (arith, l, e)
@@ -142,7 +141,7 @@ module _ (d : Deck) (decided : List Decision) (picks : List Pick) (edges : List 
 
   one : length picks ≡ (m - 1) + 1
   one =
-      let l = length-map choice_of picks in
+      let l = length-map picks choice_of in
       let s = subst (λ (u : Progress). 0 < length u.case) (sym view) some in
       omega (arith, m_is, l, s)
 
