@@ -10,12 +10,13 @@ use Rattle.diff_system.specs.PathTree.{PathTree}
 use Rattle.refute_rules.specs.Reasons.{HasNoReason}
 use Rattle.refute_rules.specs.Choices.{BerthOf, PairOf, Choice, Lies, Before, Below, Stands, Berth, berths_of, options_of, decisions}
 use Rattle.refute_rules.specs.Decided.{berth_in}
-use Rattle.refute_rules.specs.Listing.{AreThose, IsFirstWithin, HasNoneOf, HasMore}
-use Rattle.refute_rules.specs.Cases.{IsConsistent, IsWhole, IsCaseFault, case_fault_numbers, AreSpotsOf, cases_of}
+use Rattle.refute_rules.specs.Listing.{IsFirstWithin, HasMore}
+use Rattle.refute_rules.specs.Cases.{IsConsistent, IsWhole, IsHard, IsCaseFault, case_fault_numbers, AreSpotsOf, cases_of}
 use Rattle.refute_rules.specs.Trees.{IsCaseTree}
 use Rattle.refute_rules.proofs.Among.{IsAmong, IsAmong-left, IsAmong-right}
 use Rattle.refute_rules.proofs.FitLemmas.{case-legal, whole-chosen, decided}
 use Rattle.case_search.specs.Found.{IsRefutedBy as FoundRefuted}
+use Rattle.case_search.proofs.ExactLemmas.{none-first, none-more, first-more}
 use Rattle.case_search.proofs.TreeLemmas.{renamed-tree}
 use Rattle.chamber_place.specs.Faults.{fault_of}
 use Rattle.chamber_place.specs.OnItsWay.{IsSettled, case_rules}
@@ -78,6 +79,12 @@ module _ (d : Deck) (turns : ℕ) where
   pub more-refutes_not : HasNoReason d → HasMore (IsConsistent d) (IsWhole d) turns (cases_of d) → PlaceRefutes d turns → ⊥
   more-refutes_not reasonless more (inl q) = reasonless q.0 q.1
   more-refutes_not reasonless more (inr none) = none-more (IsConsistent d) (IsWhole d) turns (cases_of d) none more
+
+  pub first-hard_not : (case : List Choice) → IsFirstWithin (IsConsistent d) (IsWhole d) turns (cases_of d) case → IsHard d turns → ⊥
+  first-hard_not case first hard = first-more (IsConsistent d) (IsWhole d) turns (cases_of d) case first hard.more
+
+  pub none-hard_not : (marks : List ℕ) → IsRefutedBy d turns marks → IsHard d turns → ⊥
+  none-hard_not marks refuted hard = none-more (IsConsistent d) (IsWhole d) turns (cases_of d) refuted.none hard.more
 
   pub case-tree : (marks : List ℕ) → FoundRefuted (case_rules d) turns marks → IsCaseTree d marks
   case-tree marks refuted =
