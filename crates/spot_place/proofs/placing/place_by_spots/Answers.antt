@@ -38,8 +38,6 @@ returns-in-Refuted-clause-refutes c = refuted c.args.deck.now c.new-case.result.
 pub returns-in-Refuted-clause-spends : goal.returns-in-Refuted-clause-spends
 returns-in-Refuted-clause-spends c = refuted-hard_not c.args.deck.now c.new-case.result.deck (ap (λ (s : OnWay). s.deck) c.new-case.ensures ∙ c.copy.ensures) c.args.turns c.search.new.track c.in_ok-search.field-0 c.in_ok-search.ensures.found c.in-Refuted.marks c.in-Refuted.is
 
-pub returns-in-Spent-clause-refutes : goal.returns-in-Spent-clause-refutes
-returns-in-Spent-clause-refutes c = spent-refutes_not c.args.deck.now c.new-case.result.deck (ap (λ (s : OnWay). s.deck) c.new-case.ensures ∙ c.copy.ensures) c.args.turns c.search.new.track c.in_ok-search.field-0 c.in_ok-search.ensures.found c.in-Spent.is
+pub returns-clause-refutes : goal.returns-clause-refutes
+returns-clause-refutes c = spent-refutes_not c.args.deck.now c.new-case.result.deck (ap (λ (s : OnWay). s.deck) c.new-case.ensures ∙ c.copy.ensures) c.args.turns c.search.new.track c.in_ok-search.field-0 c.in_ok-search.ensures.found c.in-Spent.is
 
-pub returns-in-Spent-clause-spends : goal.returns-in-Spent-clause-spends
-returns-in-Spent-clause-spends c = spent c.args.deck.now c.new-case.result.deck (ap (λ (s : OnWay). s.deck) c.new-case.ensures ∙ c.copy.ensures) c.args.turns c.search.new.track c.in_ok-search.field-0 c.in_ok-search.ensures.found c.in-Spent.is
