@@ -47,7 +47,7 @@ fn are_reached(edges: &[Edge], vars: u8) -> bool
 }
 
 /// Whether the edges are a system of so many variables.
-pub(crate) fn is_system(edges: &[Edge], vars: u8) -> bool
+pub fn is_system(edges: &[Edge], vars: u8) -> bool
     ensures { IsTrue result → IsSystem edges.now vars }
 {
     1 <= vars && vars <= 17 && are_lawful(edges, vars) && are_reached(edges, vars)

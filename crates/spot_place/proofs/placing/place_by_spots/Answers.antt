@@ -40,4 +40,3 @@ returns-in-Refuted-clause-spends c = refuted-hard_not c.args.deck.now c.new-case
 
 pub returns-clause-refutes : goal.returns-clause-refutes
 returns-clause-refutes c = spent-refutes_not c.args.deck.now c.new-case.result.deck (ap (λ (s : OnWay). s.deck) c.new-case.ensures ∙ c.copy.ensures) c.args.turns c.search.new.track c.in_ok-search.field-0 c.in_ok-search.ensures.found c.in-Spent.is
-
