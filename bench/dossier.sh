@@ -1,5 +1,6 @@
 #!/usr/bin/env bash
-# Solves generated lots with `--dossier`, checks the dossiers, and prints a table: lot, ships, chambers, the dossier's bytes, the seconds of solving and of checking, their ratio, the greatest memory of checking in MB, and that over the dossier's bytes.
+# Solves generated lots with `--dossier` and checks the dossiers. Prints a table: lot, ships, chambers, the dossier's
+# bytes, the seconds of solving and of checking, their ratio, the greatest memory of checking, and that over the bytes.
 # A second program with the same command line may be given: it must accept the dossiers, and its own must be accepted.
 set -eu
 cd "$(dirname "$0")/.."
@@ -10,7 +11,8 @@ python3 - "$program" "$@" <<'PYTHON'
 import os, resource, subprocess, sys, tempfile, time
 program, others = sys.argv[1], sys.argv[2:]
 
-def run(words, source, room=None):
+# the status, the bytes written, the seconds and the greatest memory of a run
+def run(words, source):
     start = time.monotonic()
     with open(source) as bytes_in, tempfile.NamedTemporaryFile() as out:
         child = subprocess.Popen(words, stdin=bytes_in, stdout=out)
