@@ -1,0 +1,45 @@
+# Checks of the built program, run as its users run it. `.ci/run` reads this file.
+
+# a trial prints one line, the same at each run, and ends with the status of that line
+trial_prints_the_same_again() {
+  local first second status again
+  first=$(./glock trial "$@") && status=0 || status=$?
+  second=$(./glock trial "$@") && again=0 || again=$?
+  [ "$first" = "$second" ] && [ "$status" = "$again" ] && [ "$(wc -l <<<"$first")" = 1 ] || return 1
+  case "$first" in
+    "optimal cost "*) [ "$status" = 0 ] ;;
+    "open "*) [ "$status" = 1 ] ;;
+    *) return 1 ;;
+  esac
+}
+
+# the checker accepts the dossiers of lots, with the cost that the report names
+dossiers_are_accepted() {
+  local ships chambers text answer report
+  for ships in 6 8 10 12 14 16; do
+    for chambers in 1 2 3; do
+      text=$(./glock lot --number $ships --ships $ships --chambers $chambers) || return 1
+      report=$(./glock solve --nodes 1000000 <<<"$text" | head -n 1)
+      answer=$(./glock solve --nodes 1000000 --dossier <<<"$text" | ./glock check) || return 1
+      [ "${report/optimal/accepted}" = "$answer" ] || { echo "$ships ships, $chambers chambers: $report, $answer"; return 1; }
+    done
+  done
+}
+
+# a dossier whose cost is one less isn't accepted
+a_cheaper_claim_is_rejected() {
+  local dossier cost answer status
+  dossier=$(./glock solve --dossier <examples/evening.lock) || return 1
+  cost=$(sed -n 's/.*"cost":\([0-9]*\).*/\1/p' <<<"$dossier")
+  answer=$(sed "s/\"cost\":$cost/\"cost\":$((cost - 1))/" <<<"$dossier" | ./glock check) && status=0 || status=$?
+  [ "$status" = 7 ] && [ "$answer" = "rejected cost reason 2 CostWrong" ]
+}
+
+# each example is solved, by one worker and by two alike
+examples_are_solved() {
+  local example one two
+  for example in examples/*.lock; do
+    one=$(./glock solve --workers 1 <"$example") && two=$(./glock solve --workers 2 <"$example") || { echo "$example"; return 1; }
+    [ "$(head -n 1 <<<"$one")" = "$(head -n 1 <<<"$two")" ] || { echo "$example"; return 1; }
+  done
+}
