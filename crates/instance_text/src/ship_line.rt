@@ -8,7 +8,7 @@ use crate::bad::Kind;
 use crate::check::check;
 use crate::format::Format;
 use crate::name::new_ship_name;
-use crate::number::number;
+use crate::digits::number;
 use crate::side::way;
 use crate::words::word_at;
 use lock_model::Ship;
