@@ -1,9 +1,9 @@
 -- The lines that are left, by the parts that are left.
-use Rattle.std.proofs.Common.{◌≡◌, ℕ, List, [], ◌∷◌, length, Option, None, Some, refl, sym, ap, ◌∙◌}
+use Rattle.std.proofs.Common.{◌≡◌, ℕ, List, [], ◌∷◌, Option, None, Some, refl, sym, ap, ◌∙◌}
 use Rattle.std.specs.Borrow.{Bor}
 use Rattle.std.specs.List.{slice_split, join_with_byte}
 use Rattle.std.proofs.lemmas.List.Splits.{join_with_byte-slice_split}
-use Rattle.instance_text.specs.Lines.{lines, is_line_feed}
+use Rattle.instance_text.specs.Lines.{lines}
 use Rattle.instance_text.specs.Left.{lines_in, bytes_in, size_in}
 use Rattle.instance_text.specs.Parts.{separates, parts_left, room_left, now_left, rest_left}
 use Rattle.instance_text.specs.declared.parts.Separator.{Separator}

@@ -1,27 +1,23 @@
 -- A canonical text means its instance.
-use Rattle.std.proofs.Common.{◌≡◌, ◌≢◌, ℕ, suc, ◌+◌, ◌<◌, ◌≤◌, ◌^◌, ◌==◌, Bool, true, false, cond, ◌&&◌, List, [], ◌∷◌, ◌++◌, length, map, get_or, All, AllPairs, Result, Ok, decimal, codes, sym, ap, refl, subst, ◌∙◌, arith}
+use Rattle.std.proofs.Common.{◌≡◌, ◌≢◌, ℕ, suc, ◌+◌, ◌<◌, ◌≤◌, ◌==◌, Bool, true, false, ◌&&◌, List, [], ◌∷◌, ◌++◌, length, map, get_or, All, AllPairs, Result, Ok, codes, sym, ap, refl, subst, ◌∙◌, arith}
 use Rattle.std.specs.List.{flat_map, list_all}
 use Rattle.std.proofs.lemmas.Bool.Decides.{nat_tests}
 use Rattle.std.proofs.lemmas.List.{append_assoc, append-nil, length_push, map-append, nil_from_length}
 use Rattle.std.proofs.lemmas.List.Elements.{All-nil, All-cons, All-head, All-tail, All-push}
-use Rattle.lock_model.specs.Limits.{IsName, is_name_byte}
-use Rattle.lock_model.specs.Closures.{IsClosure, AreClosures}
+use Rattle.lock_model.specs.Limits.{IsName}
+use Rattle.lock_model.specs.Closures.{AreClosures}
 use Rattle.lock_model.specs.Instance.{IsChamber, IsShip}
 use Rattle.lock_model.specs.declared.chamber.Chamber.{Chamber}
 use Rattle.lock_model.specs.declared.closure.Closure.{Closure}
 use Rattle.lock_model.specs.declared.ship.Ship.{Ship}
 use Rattle.lock_model.specs.declared.instance.Instance.{Instance}
-use Rattle.lock_model.specs.declared.way.Way.{Way}
-use Rattle.lock_model.specs.declared.way.Way.TheVariants.{Up, Down}
-use Rattle.lock_model.specs.declared.way.Stand.{Stand}
-use Rattle.lock_model.specs.declared.way.Stand.TheVariants.{Low, High}
 use Rattle.instance_text.specs.declared.bad.Bad.{Bad}
 use Rattle.instance_text.specs.declared.format.Format.{Format}
 use Rattle.instance_text.specs.declared.format.Format.TheVariants.{First, Second}
 use Rattle.instance_text.specs.declared.progress.Progress.TheVariants.{More}
 use Rattle.instance_text.specs.Draft.{Draft, no_draft}
 use Rattle.instance_text.specs.Reading.{reading, Means, read_lines, read_body, read_line, format_of}
-use Rattle.instance_text.specs.Canonical.{chamber_words, closing_words, closings, ship_words, way_word, stand_word, is_plain, header_words, canonical, canonical_words}
+use Rattle.instance_text.specs.Canonical.{chamber_words, closing_words, closings, ship_words, is_plain, header_words, canonical, canonical_words}
 use Rattle.instance_text.proofs.ClosureLemmas.{closures_front}
 use Rattle.instance_text.proofs.TestLemmas.{all_from_test}
 use Rattle.instance_text.proofs.LayoutLemmas.{words_of_text, is_utf8-text}
