@@ -1,26 +1,25 @@
 -- The canonical dossier is read back, and a text has one meaning.
-use Rattle.std.proofs.Common.{◌≡◌, ◌∙◌, ◌++◌, ℕ, Bool, true, false, List, [], ◌∷◌, Some, Result, Ok, Err, IfOk, IfErr, refl, sym, ap, ap₂, append_assoc, arith, length, take, drop, ◌≤◌, ◌-◌, take_all, length-take, length-drop}
+use Rattle.std.proofs.Common.{◌≡◌, ◌∙◌, ◌++◌, ℕ, Bool, true, false, List, [], ◌∷◌, Some, Result, Ok, Err, IfOk, IfErr, refl, sym, ap, ap₂, append_assoc}
 use Rattle.lock_model.specs.declared.instance.Instance.{Instance}
 use Rattle.search_rules.specs.Certificates.{Certificate}
 use Rattle.instance_text.specs.Steps.{◌>>=◌}
 use Rattle.instance_text.specs.Draft.{Draft}
 use Rattle.instance_text.specs.declared.bad.Bad.{Bad}
-use Rattle.instance_text.specs.Lines.{lines}
-use Rattle.instance_text.specs.Reading.{reading, Means, Defect, instance_part, length_of_part}
+use Rattle.instance_text.specs.Reading.{reading, Means, Defect, instance_part, after_instance}
 use Rattle.instance_text.specs.Canonical.{canonical}
 use Rattle.instance_text.proofs.TextBackLemmas.{canonical_means}
 use Rattle.instance_text.proofs.InstanceLemmas.{same_instance}
+use Rattle.instance_text.proofs.PartBackLemmas.{canonical_part, canonical_rest}
 use Rattle.cert_text.specs.Answers.{IsFault, IsAnswer, IsFaultAnswer}
 use Rattle.cert_text.specs.Steps.{fault_under}
 use Rattle.cert_text.specs.declared.bad.DossierError.{DossierError}
 use Rattle.cert_text.specs.declared.bad.DossierError.TheVariants.{Fault, NoMemory}
 use Rattle.cert_text.specs.Cuts.{has_clash}
 use Rattle.cert_text.specs.Certificates.{certificate_data, certificate_text, certificate_in}
-use Rattle.cert_text.specs.Dossier.{heading_line, dossier, takes_clashes, json_of, rest_in, dossier_in, Reads, DossierFault, IsFirstFault, after_instance}
+use Rattle.cert_text.specs.Dossier.{heading_line, dossier, takes_clashes, json_of, rest_in, dossier_in, Reads, DossierFault, IsFirstFault}
 use Rattle.cert_text.specs.declared.bad.BadDossier.{BadDossier}
 use Rattle.cert_text.specs.declared.bad.BadDossier.TheVariants as fault
 use Rattle.cert_text.proofs.HeadingLemmas.{heading_for, heading_back}
-use Rattle.cert_text.proofs.PartLemmas.{canonical_part, canonical_rest}
 
 -- what is printed step by step
 pub printed : (I : Instance) (C : Certificate) (clashes : Bool) (a b c d json : List ℕ) → a ≡ canonical I → clashes ≡ has_clash C.cuts → b ≡ a ++ heading_line clashes → json ≡ certificate_text C → c ≡ b ++ json → d ≡ c ++ 10 ∷ [] → d ≡ dossier I C
@@ -80,13 +79,6 @@ faults_each text (Err NoMemory) ok err f fault = tt
 faults_each text (Err (Fault g)) ok err f fault = DossierFault-one text g f err fault
 
 -- ---- reading part by part
-
-pub part_fits : (text : List ℕ) (taken : ℕ) → taken ≡ length (instance_part text) → taken ≤ length text
-unfolding instance_part
-part_fits text taken is = let short = length-take (length_of_part (lines text)) text in omega arith
-
-pub rest_is : (text : List ℕ) (taken : ℕ) → taken ≡ length (instance_part text) → take (length text - taken) (drop taken text) ≡ after_instance text
-rest_is text taken is = take_all (length text - taken) (drop taken text) (let size = length-drop taken text in omega arith) ∙ ap (λ n. drop n text) is
 
 pub instance_fault : (text : List ℕ) (b : Bad) → Defect (instance_part text) b.line b.kind → DossierFault text (fault.Instance b)
 unfolding Defect DossierFault dossier_in

@@ -1,22 +1,15 @@
 -- The first line with words, and the bytes after it.
-use Rattle.std.proofs.Common.{◌≡◌, ◌∙◌, ℕ, Bool, true, false, cond, List, [], ◌∷◌, ◌++◌, codes, length, Option, None, Some, option_map, refl, sym, ap}
+use Rattle.std.proofs.Common.{◌≡◌, ◌∙◌, ℕ, Bool, true, false, cond, List, [], ◌∷◌, ◌++◌, codes, length, Some, option_map, refl, sym, ap}
 use Rattle.std.specs.Prelude.{◌==◌}
-use Rattle.std.specs.Borrow.{Bor}
 use Rattle.std.specs.List.{join_with_byte}
-use Rattle.std.proofs.lemmas.List.Splits.{join_with_byte-slice_split}
+use Rattle.instance_text.specs.Left.{Left, lines_left, bytes_left}
 use Rattle.instance_text.specs.Lines.{lines, words, content}
+use Rattle.instance_text.proofs.LeftLemmas.{joined}
+use Rattle.instance_text.proofs.PartBackLemmas.{lines-append, join-lines}
 use Rattle.cert_text.specs.Heading.{after_heading, heading_of, headed}
-use Rattle.cert_text.specs.Parts.{parts_left, bytes_left}
 use Rattle.cert_text.specs.Dossier.{heading_line}
 use Rattle.cert_text.specs.declared.heading.Heading.{Heading}
 use Rattle.cert_text.specs.declared.heading.Heading.TheVariants.{First, Second}
-use Rattle.cert_text.specs.declared.parts.Separator.{Separator}
-use Rattle.cert_text.specs.declared.parts.Separator.TheVariants.{LineFeed}
-use Rattle.cert_text.proofs.PartLemmas.{lines-append, join-lines}
-
-joined : (left : Option (Bor (List ℕ))) (kind : Separator) → kind ≡ LineFeed → join_with_byte 10 (parts_left left kind) ≡ bytes_left left
-joined None kind is = refl
-joined (Some bytes) kind is = ap (λ k. join_with_byte 10 (parts_left (Some bytes) k)) is ∙ join_with_byte-slice_split 10 bytes.now
 
 on_line : (line : List ℕ) (more : List (List ℕ)) (b : Bool) → (length (words line) == 0) ≡ b → after_heading (line ∷ more) ≡ cond b (after_heading more) (option_map (λ h. (h, more)) (heading_of (words line)))
 on_line line more b is = ap (λ t. cond t (after_heading more) (option_map (λ h. (h, more)) (heading_of (words line)))) is
@@ -26,11 +19,11 @@ pub passed : (text : List ℕ) (left more : List (List ℕ)) (line : List ℕ) �
 passed text left more line so_far next blank = so_far ∙ ap after_heading next ∙ on_line line more true blank
 
 -- the first line with words is a heading
-pub found : (text rest line : List ℕ) (left : List (List ℕ)) (more : Option (Bor (List ℕ))) (kind : Separator) (h : Heading) → after_heading (lines text) ≡ after_heading left → left ≡ line ∷ parts_left more kind → kind ≡ LineFeed → (length (words line) == 0) ≡ false → Some h ≡ heading_of (words line) → rest ≡ bytes_left more → Some (h, rest) ≡ headed text
+pub found : (text rest line : List ℕ) (left : List (List ℕ)) (more : Left) (h : Heading) → after_heading (lines text) ≡ after_heading left → left ≡ line ∷ lines_left more → (length (words line) == 0) ≡ false → Some h ≡ heading_of (words line) → rest ≡ bytes_left more → Some (h, rest) ≡ headed text
 unfolding headed
-found text rest line left more kind h so_far next feed filled heading is =
-    ap (λ r. Some (h, r)) (is ∙ sym (joined more kind feed))
-    ∙ ap (option_map (λ f. (f.0, join_with_byte 10 f.1))) (ap (option_map (λ g. (g, parts_left more kind))) heading ∙ sym (so_far ∙ ap after_heading next ∙ on_line line (parts_left more kind) false filled))
+found text rest line left more h so_far next filled heading is =
+    ap (λ r. Some (h, r)) (is ∙ sym (joined more.bytes))
+    ∙ ap (option_map (λ f. (f.0, join_with_byte 10 f.1))) (ap (option_map (λ g. (g, lines_left more))) heading ∙ sym (so_far ∙ ap after_heading next ∙ on_line line (lines_left more) false filled))
 
 certificate_words : words (codes "certificate") ≡ codes "certificate" ∷ []
 unfolding words content

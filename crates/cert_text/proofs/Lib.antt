@@ -9,8 +9,6 @@ pub mod CertificateLemmas
 pub mod HeadingLemmas
 pub mod JsonLemmas
 pub mod ShapeLemmas
-pub mod CanonicalLemmas
-pub mod PartLemmas
 pub mod WrittenLemmas
 pub mod DossierLemmas
 pub mod FixtureLemmas

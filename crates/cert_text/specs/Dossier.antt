@@ -1,11 +1,11 @@
 -- Dossiers: the canonical one, what one means, and its first fault.
-use Rattle.std.specs.Prelude.{ℕ, ◌≡◌, ◌++◌, Bool, true, false, List, [], ◌∷◌, length, drop, Option, None, Some, Result, Ok, Err, codes, if◌then◌else◌, ⊤}
+use Rattle.std.specs.Prelude.{ℕ, ◌≡◌, ◌++◌, Bool, true, false, List, [], ◌∷◌, Option, None, Some, Result, Ok, Err, codes, if◌then◌else◌, ⊤}
 use Rattle.std.specs.Str.{is_utf8}
 use Rattle.lock_model.specs.declared.instance.Instance.{Instance}
 use Rattle.search_rules.specs.Certificates.{Certificate}
 use Rattle.instance_text.specs.Steps.{◌>>=◌}
 use Rattle.instance_text.specs.Draft.{Draft}
-use Rattle.instance_text.specs.Reading.{reading, instance_part}
+use Rattle.instance_text.specs.Reading.{reading, instance_part, after_instance}
 use Rattle.instance_text.specs.Canonical.{canonical}
 use Rattle.serde_json.specs.Data.{Data}
 use Rattle.serde_json.specs.Read.{read}
@@ -37,10 +37,6 @@ takes_clashes Open = None
 -- the JSON value of bytes
 unfoldable pub json_of : List ℕ → Option Data
 json_of bytes = if is_utf8 bytes then read bytes else None
-
--- the bytes after the instance part
-abbrev pub after_instance : List ℕ → List ℕ
-after_instance text = drop (length (instance_part text)) text
 
 -- what the bytes after the instance part mean, or their first fault
 unfoldable pub rest_in : List ℕ → Result Certificate BadDossier

@@ -9,4 +9,3 @@ pub mod Marks
 pub mod Certificates
 pub mod Heading
 pub mod Dossier
-pub mod Parts

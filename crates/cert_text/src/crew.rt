@@ -14,6 +14,7 @@ pub fn push_bytes(list: &mut Vec<Value>, numbers: &[u8]) -> Result<(), AllocErro
     ensures bytes { OnOk result (all_in byte_in (items_of (map number_data numbers.now)) ≡ Some numbers.now) }
     ensures values { OnOk result (map view list.new.items ≡ map view list.old.items ++ map number_data numbers.now) }
 {
+    list.reserve(numbers.len())?;
     for number in numbers {
         list.push(Value::from(*number))?;
     }

@@ -40,7 +40,7 @@ fn put_all(alloc: Global, cuts: &[CertCut]) -> Result<Vec<Value>, AllocError>
     ensures values { IfOk result (λ list. map view list.items ≡ map cut_data cuts.now) }
     ensures reads_back { IfOk result (λ _. all_in cut_in (items_of (map cut_data cuts.now)) ≡ Some cuts.now) }
 {
-    let mut list = Vec::new(alloc);
+    let mut list = Vec::with_capacity(alloc, cuts.len())?;
     for cut in cuts {
         list.push(put_cut(alloc, cut)?)?;
     }

@@ -1,10 +1,9 @@
 //! The line between an instance and its certificate.
-ghost use Rattle.std.specs.Prelude.{◌≡◌, ◌==◌, length, option_map};
+ghost use Rattle.std.specs.Prelude.{◌≡◌, option_map};
 ghost use Rattle.instance_text.specs.Lines.{words};
 ghost use Rattle.cert_text.specs.Heading.{second_word, heading_of, headed};
 
-use crate::parts::{Parts, Separator};
-use crate::words::{word_at, words_of};
+use instance_text::{Lines, is_blank, word_at, words_of};
 
 /// What the line between an instance and its certificate says.
 #[derive(Clone, Copy, Debug, PartialEq, Eq)]
@@ -45,20 +44,13 @@ fn heading_of(line: &[u8]) -> Option<Heading>
     }
 }
 
-/// Whether a line has no words.
-fn is_blank(line: &[u8]) -> bool
-    ensures { result ≡ (length (words line.now) == 0) }
-{
-    words_of(line).is_empty()
-}
-
 /// The heading of a text, which is its first line with words, and the bytes after that line. None
 /// exactly where no line has words or the first that has is no heading. Takes no memory.
 #[tactic(auto, unfolding(crate::specs::Heading::headed))]
 pub fn headed(text: &[u8]) -> Option<(Heading, &[u8])>
     ensures { option_map (λ found. (found.0, found.1.now)) result ≡ headed text.now }
 {
-    let mut lines = Parts::new(text, Separator::LineFeed);
+    let mut lines = Lines::new(text);
     while let Some(line) = lines.next() {
         if !is_blank(line) {
             let heading = heading_of(line)?;

@@ -5,8 +5,8 @@
 //! they mean, or their first fault exactly where they mean none, or else want of memory.
 //!
 //! The writers `put_cost`, `put_cuts`, `put_plan` and `put_mark` and the readers `cost_of`,
-//! `cuts_of`, `plan_of` and `mark_of` serve one part each, and `split_instance`, `headed`, `json_of`
-//! and `has_members` the frame, so that other texts with these parts may be built of them.
+//! `cuts_of`, `plan_of` and `mark_of` serve one part each, and `headed`, `json_of` and `has_members`
+//! the frame, so that other texts with these parts may be built of them.
 //!
 //! Definitions: `specs/Dossier` (the canonical dossier, what a text means, its first fault),
 //! `Heading` (the line before the certificate), `Certificates` (a certificate as a JSON value, and
@@ -21,7 +21,6 @@ mod crew;
 mod cuts;
 mod heading;
 mod marks;
-mod parts;
 mod plan;
 mod print;
 mod read;
@@ -29,7 +28,6 @@ mod spots;
 mod tree;
 mod value;
 mod why;
-mod words;
 
 pub use bad::{BadDossier, DossierError};
 pub use cost::{cost_of, put_cost};
@@ -39,7 +37,7 @@ pub use marks::{mark_of, put_mark};
 pub use plain_text::NoMemory;
 pub use plan::{plan_of, put_plan};
 pub use print::print_dossier;
-pub use read::{json_of, read_dossier, split_instance};
+pub use read::{json_of, read_dossier};
 pub use value::has_members;
 
 #[cfg(test)]

@@ -53,7 +53,7 @@ fn put_all(alloc: Global, lockages: &[Lockage]) -> Result<Vec<Value>, AllocError
     ensures values { IfOk result (λ list. map view list.items ≡ map lockage_data lockages.now) }
     ensures reads_back { IfOk result (λ _. all_in lockage_in (items_of (map lockage_data lockages.now)) ≡ Some lockages.now) }
 {
-    let mut list = Vec::new(alloc);
+    let mut list = Vec::with_capacity(alloc, lockages.len())?;
     for lockage in lockages {
         list.push(put_lockage(alloc, lockage)?)?;
     }

@@ -23,6 +23,15 @@ fn put_heading(out: &mut Vec<u8>, clashes: bool) -> Result<(), NoMemory>
     }
 }
 
+/// Appends a text and a line feed, for which room is taken once.
+fn put_line(out: &mut Vec<u8>, text: &[u8]) -> Result<(), NoMemory>
+    ensures { OnOk result (out.new.items ≡ (out.old.items ++ text.now) ++ 10 ∷ []) }
+{
+    out.reserve(text.len() + 1)?;
+    put(out, text)?;
+    put(out, b"\n")
+}
+
 /// The JSON text of a certificate, without a line feed.
 fn json_text(alloc: Global, certificate: &Certificate) -> Result<Vec<u8>, NoMemory>
     requires { IsWellFormed certificate.now }
@@ -50,7 +59,6 @@ pub fn print_dossier(
     let mut out = print_instance(alloc, instance)?;
     put_heading(&mut out, has_clash(&certificate.cuts))?;
     let text = json_text(alloc, certificate)?;
-    put(&mut out, text.as_slice())?;
-    put(&mut out, b"\n")?;
+    put_line(&mut out, text.as_slice())?;
     Ok(out)
 }

@@ -2,10 +2,9 @@
 ghost use Rattle.std.specs.Prelude.{◌≡◌, List, ℕ, Some, None, Ok, IfOk, IfErr};
 ghost use Rattle.lock_model.specs.declared.instance.Instance.{Instance as AnyInstance};
 ghost use Rattle.search_rules.specs.Certificates.{Certificate as AnyCertificate};
-ghost use Rattle.instance_text.specs.Reading.{Means, Defect, instance_part};
 ghost use Rattle.serde_json.specs.View.{view};
 ghost use Rattle.cert_text.specs.Answers.{IsRefusal, IsFault, IsAnswer, IsFaultAnswer};
-ghost use Rattle.cert_text.specs.Dossier.{takes_clashes, json_of, rest_in, after_instance, Reads, DossierFault, IsFirstFault};
+ghost use Rattle.cert_text.specs.Dossier.{takes_clashes, json_of, rest_in, Reads, DossierFault, IsFirstFault};
 ghost use Rattle.cert_text.specs.declared.bad.BadDossier.{BadDossier as AnyFault};
 ghost use Rattle.cert_text.specs.declared.bad.BadDossier.TheVariants.{Json};
 
@@ -13,7 +12,7 @@ use crate::bad::{BadDossier, DossierError};
 use crate::certificate::certificate_in;
 use crate::heading::{Heading, headed};
 use cert_check::Certificate;
-use instance_text::{Bad, read_instance_part};
+use instance_text::split_instance;
 use lock_model::Instance;
 use serde_json::Value;
 use std::alloc::Global;
@@ -63,18 +62,6 @@ fn rest_in(alloc: Global, bytes: &[u8]) -> Result<Certificate, DossierError>
     };
     let value = json_of(alloc, rest)?;
     certificate_in(alloc, clashes, &value)
-}
-
-/// The instance of the instance part, which ends with the first line `end`, and the bytes after that
-/// part. Answers the part's first defect exactly where the part means no instance. Takes no memory.
-#[tactic(auto, using(crate::proofs::DossierLemmas::part_fits, crate::proofs::DossierLemmas::rest_is))]
-pub fn split_instance(bytes: &[u8]) -> Result<(Instance, &[u8]), Bad>
-    ensures read { IfOk result (λ r. Means (instance_part bytes.now) r.0) }
-    ensures rest { IfOk result (λ r. r.1.now ≡ after_instance bytes.now) }
-    ensures bad { IfErr result (λ b. Defect (instance_part bytes.now) b.line b.kind) }
-{
-    let (instance, taken) = read_instance_part(bytes)?;
-    Ok((instance, &bytes[taken..]))
 }
 
 /// The instance and the certificate of a text.

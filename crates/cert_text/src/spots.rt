@@ -36,7 +36,7 @@ fn put_spot(alloc: Global, spot: Spot) -> Result<Value, AllocError>
     ensures value { IfOk result (λ v. view v ≡ spot_data spot) }
     ensures reads_back { IfOk result (λ _. spot_in (spot_data spot) ≡ Some spot) }
 {
-    let mut list = Vec::new(alloc);
+    let mut list = Vec::with_capacity(alloc, 4)?;
     list.push(put_word(spot.x))?;
     list.push(put_word(spot.y))?;
     list.push(put_byte(rank_number(spot.rank)))?;
@@ -49,7 +49,7 @@ fn put_all(alloc: Global, spots: &[Spot]) -> Result<Vec<Value>, AllocError>
     ensures values { IfOk result (λ list. map view list.items ≡ map spot_data spots.now) }
     ensures reads_back { IfOk result (λ _. all_in spot_in (items_of (map spot_data spots.now)) ≡ Some spots.now) }
 {
-    let mut list = Vec::new(alloc);
+    let mut list = Vec::with_capacity(alloc, spots.len())?;
     for spot in spots {
         list.push(put_spot(alloc, *spot)?)?;
     }

@@ -25,7 +25,7 @@ fn put_all(alloc: Global, marks: &[Mark]) -> Result<Vec<Value>, AllocError>
     ensures values { IfOk result (λ list. map view list.items ≡ map mark_data marks.now) }
     ensures reads_back { IfOk result (λ _. all_in mark_in (items_of (map mark_data marks.now)) ≡ Some marks.now) }
 {
-    let mut list = Vec::new(alloc);
+    let mut list = Vec::with_capacity(alloc, marks.len())?;
     for mark in marks {
         list.push(put_value(mark))?;
     }

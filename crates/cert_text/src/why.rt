@@ -25,6 +25,7 @@ fn push_words(list: &mut Vec<Value>, numbers: &[u32]) -> Result<(), AllocError>
     ensures words { OnOk result (all_in word_in (items_of (map number_data numbers.now)) ≡ Some numbers.now) }
     ensures values { OnOk result (map view list.new.items ≡ map view list.old.items ++ map number_data numbers.now) }
 {
+    list.reserve(numbers.len())?;
     for number in numbers {
         list.push(Value::from(*number))?;
     }

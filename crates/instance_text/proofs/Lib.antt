@@ -1,5 +1,6 @@
 pub mod Rows
 pub mod SplitLemmas
+pub mod LeftLemmas
 pub mod WordLemmas
 pub mod NameLemmas
 pub mod ClosureLemmas
@@ -16,4 +17,6 @@ pub mod LotLemmas
 pub mod LayoutLemmas
 pub mod WordBackLemmas
 pub mod LineBackLemmas
+pub mod PlainLemmas
 pub mod TextBackLemmas
+pub mod PartBackLemmas

@@ -1,32 +1,27 @@
 -- A canonical text means its instance.
-use Rattle.std.proofs.Common.{◌≡◌, ◌≢◌, ℕ, suc, ◌+◌, ◌<◌, ◌≤◌, ◌^◌, ◌==◌, Bool, true, false, cond, ◌&&◌, List, [], ◌∷◌, ◌++◌, length, map, get_or, All, AllPairs, Result, Ok, decimal, codes, sym, ap, refl, subst, ◌∙◌, arith}
+use Rattle.std.proofs.Common.{◌≡◌, ◌≢◌, ℕ, suc, ◌+◌, ◌<◌, ◌≤◌, ◌==◌, Bool, true, false, ◌&&◌, List, [], ◌∷◌, ◌++◌, length, map, get_or, All, AllPairs, Result, Ok, codes, sym, ap, refl, subst, ◌∙◌, arith}
 use Rattle.std.specs.List.{flat_map, list_all}
 use Rattle.std.proofs.lemmas.Bool.Decides.{nat_tests}
 use Rattle.std.proofs.lemmas.List.{append_assoc, append-nil, length_push, map-append, nil_from_length}
 use Rattle.std.proofs.lemmas.List.Elements.{All-nil, All-cons, All-head, All-tail, All-push}
-use Rattle.std.proofs.lemmas.Fmt.{decimal_nonempty}
-use Rattle.lock_model.specs.Limits.{IsName, is_name_byte}
-use Rattle.lock_model.specs.Closures.{IsClosure, AreClosures}
+use Rattle.lock_model.specs.Limits.{IsName}
+use Rattle.lock_model.specs.Closures.{AreClosures}
 use Rattle.lock_model.specs.Instance.{IsChamber, IsShip}
 use Rattle.lock_model.specs.declared.chamber.Chamber.{Chamber}
 use Rattle.lock_model.specs.declared.closure.Closure.{Closure}
 use Rattle.lock_model.specs.declared.ship.Ship.{Ship}
 use Rattle.lock_model.specs.declared.instance.Instance.{Instance}
-use Rattle.lock_model.specs.declared.way.Way.{Way}
-use Rattle.lock_model.specs.declared.way.Way.TheVariants.{Up, Down}
-use Rattle.lock_model.specs.declared.way.Stand.{Stand}
-use Rattle.lock_model.specs.declared.way.Stand.TheVariants.{Low, High}
 use Rattle.instance_text.specs.declared.bad.Bad.{Bad}
 use Rattle.instance_text.specs.declared.format.Format.{Format}
 use Rattle.instance_text.specs.declared.format.Format.TheVariants.{First, Second}
 use Rattle.instance_text.specs.declared.progress.Progress.TheVariants.{More}
 use Rattle.instance_text.specs.Draft.{Draft, no_draft}
 use Rattle.instance_text.specs.Reading.{reading, Means, read_lines, read_body, read_line, format_of}
-use Rattle.instance_text.specs.Canonical.{chamber_words, closing_words, closings, ship_words, way_word, stand_word, is_plain, header_words, canonical, canonical_words}
+use Rattle.instance_text.specs.Canonical.{chamber_words, closing_words, closings, ship_words, is_plain, header_words, canonical, canonical_words}
 use Rattle.instance_text.proofs.ClosureLemmas.{closures_front}
-use Rattle.instance_text.proofs.LotLemmas.{name_digits}
 use Rattle.instance_text.proofs.TestLemmas.{all_from_test}
-use Rattle.instance_text.proofs.LayoutLemmas.{IsPlain, ArePlain, AreLines, words_of_text, is_utf8-text}
+use Rattle.instance_text.proofs.LayoutLemmas.{words_of_text, is_utf8-text}
+use Rattle.instance_text.proofs.PlainLemmas.{canonical_plain}
 use Rattle.instance_text.proofs.LineBackLemmas.{bare, chamber_line_back, ship_line_back, closing_line_back, end_line_back}
 
 -- chambers and ships with names that none of these and no earlier one has
@@ -190,77 +185,6 @@ lines_back I = by_plain (is_plain I) refl
         let holds = both_hold (list_all (λ (c : Chamber). length c.closures == 0) I.chambers) (list_all (λ (s : Ship). s.cargo == 0) I.ships) is in
         ap (read_lines 0) (parts (header_words true)) ∙ first_back I holds.0 holds.1
     by_plain false is = ap (read_lines 0) (parts (header_words false)) ∙ second_back I
-
--- all words are plain
-decimal_plain : (n : ℕ) → n < 2 ^ 64 → IsPlain (decimal n)
-decimal_plain n small = record { filled = decimal_nonempty n small; allowed = name_digits n small }
-
-name_plain : (name : List ℕ) → IsName name → IsPlain name
-name_plain name good = record { filled = let c = good.count in omega arith; allowed = good.allowed }
-
-way_plain : (w : Way) → IsPlain (way_word w)
-way_plain Up = record { filled = omega arith; allowed = all_from_test is_name_byte (codes "up") refl }
-way_plain Down = record { filled = omega arith; allowed = all_from_test is_name_byte (codes "down") refl }
-
-stand_plain : (s : Stand) → IsPlain (stand_word s)
-stand_plain Low = record { filled = omega arith; allowed = all_from_test is_name_byte (codes "low") refl }
-stand_plain High = record { filled = omega arith; allowed = all_from_test is_name_byte (codes "high") refl }
-
-literal_plain : (w : List ℕ) → 0 < length w → list_all is_name_byte w ≡ true → IsPlain w
-literal_plain w some allowed = record { filled = some; allowed = all_from_test is_name_byte w allowed }
-
-chamber_plain : (c : Chamber) → IsChamber c → (0 < length (chamber_words c)) × ArePlain (chamber_words c)
-unfolding chamber_words
-chamber_plain c good =
-    let most = good.most.1 in let long = good.length.1 in let wide = good.width.1 in let pass = good.pass.1 in let turn = good.turn in
-    let end = good.end in let gap = good.gap in let side = good.side in let opens = good.opens in
-    (omega arith, (literal_plain (codes "chamber") (omega arith) refl, (name_plain c.name good.name, (decimal_plain c.length (omega arith), (decimal_plain c.width (omega arith), (decimal_plain c.end (omega arith), (decimal_plain c.gap (omega arith), (decimal_plain c.side (omega arith), (decimal_plain c.most (omega arith), (decimal_plain c.pass (omega arith), (decimal_plain c.turn (omega arith), (stand_plain c.stands, (decimal_plain c.opens (omega arith), tt)))))))))))))
-
-ship_plain : (s : Ship) → IsShip s → (0 < length (ship_words s)) × ArePlain (ship_words s)
-unfolding ship_words
-ship_plain s good =
-    let long = good.length.1 in let wide = good.width.1 in let arrival = good.arrival in let handling = good.handling in let cargo = good.cargo in
-    (omega arith, (literal_plain (codes "ship") (omega arith) refl, (name_plain s.name good.name, (way_plain s.way, (decimal_plain s.length (omega arith), (decimal_plain s.width (omega arith), (decimal_plain s.arrival (omega arith), (decimal_plain s.handling (omega arith), class (s.cargo == 0)))))))))
-  where
-    class : (none : Bool) → ArePlain (cond none [] (decimal s.cargo ∷ []))
-    class true = tt
-    class false = (decimal_plain s.cargo (let c = good.cargo in omega arith), tt)
-
-closing_plain : (name : List ℕ) (k : Closure) → IsName name → IsClosure k → (0 < length (closing_words name k)) × ArePlain (closing_words name k)
-unfolding closing_words
-closing_plain name k good closure =
-    let span = closure.span in let limit = closure.limit in
-    (omega arith, (literal_plain (codes "close") (omega arith) refl, (name_plain name good, (decimal_plain k.from (omega arith), (decimal_plain k.to (omega arith), tt)))))
-
-AreLines-append : (xs ys : List (List (List ℕ))) → AreLines xs → AreLines ys → AreLines (xs ++ ys)
-AreLines-append [] ys first second = second
-AreLines-append (x ∷ xs) ys first second = (first.0, first.1, AreLines-append xs ys first.2 second)
-
-AreLines-map : {X : Type 0} (f : X → List (List ℕ)) (P : X → Type 0) (xs : List X) → ((x : X) → P x → (0 < length (f x)) × ArePlain (f x)) → All P xs → AreLines (map f xs)
-AreLines-map f P [] plain all = tt
-AreLines-map f P (x ∷ xs) plain all = let first = plain x (All-head P x xs all) in (first.0, first.1, AreLines-map f P xs plain (All-tail P x xs all))
-
-closings_plain : (cs : List Chamber) → All IsChamber cs → AreLines (flat_map closings cs)
-closings_plain [] good = tt
-closings_plain (c ∷ cs) good =
-    let first = All-head IsChamber c cs good in
-    AreLines-append (closings c) (flat_map closings cs) (AreLines-map (closing_words c.name) IsClosure c.closures (λ k closure. closing_plain c.name k first.name closure) first.closures.each) (closings_plain cs (All-tail IsChamber c cs good))
-
-header_plain : (plain : Bool) → (0 < length (header_words plain)) × ArePlain (header_words plain)
-header_plain true = (omega arith, (literal_plain (codes "glock") (omega arith) refl, (literal_plain (codes "1") (omega arith) refl, tt)))
-header_plain false = (omega arith, (literal_plain (codes "glock") (omega arith) refl, (literal_plain (codes "2") (omega arith) refl, tt)))
-
-canonical_plain : (I : Instance) → AreLines (canonical_words I)
-unfolding canonical_words
-canonical_plain I =
-    let header = header_plain (is_plain I) in
-    AreLines-append ((header_words (is_plain I) ∷ map chamber_words I.chambers) ++ flat_map closings I.chambers ++ map ship_words I.ships) ((codes "end" ∷ []) ∷ [])
-    (AreLines-append ((header_words (is_plain I) ∷ map chamber_words I.chambers) ++ flat_map closings I.chambers) (map ship_words I.ships)
-    (AreLines-append (header_words (is_plain I) ∷ map chamber_words I.chambers) (flat_map closings I.chambers)
-    (header.0, header.1, AreLines-map chamber_words IsChamber I.chambers chamber_plain I.limits.chamber)
-    (closings_plain I.chambers I.limits.chamber))
-    (AreLines-map ship_words IsShip I.ships ship_plain I.limits.ship))
-    (omega arith, (literal_plain (codes "end") (omega arith) refl, tt), tt)
 
 -- the canonical text of an instance means that instance
 pub canonical_means : (I : Instance) → Means (canonical I) I

@@ -1,5 +1,5 @@
 -- Instance texts: what they mean, and their first defect.
-use Rattle.std.specs.Prelude.{ℕ, ◌≡◌, ◌+◌, ◌==◌, ◌&&◌, Bool, List, [], ◌∷◌, ◌++◌, length, map, take, nat_lt, Option, None, Some, Result, Ok, Err, codes, if◌then◌else◌}
+use Rattle.std.specs.Prelude.{ℕ, ◌≡◌, ◌+◌, ◌==◌, ◌&&◌, Bool, List, [], ◌∷◌, ◌++◌, length, map, take, drop, nat_lt, Option, None, Some, Result, Ok, Err, codes, if◌then◌else◌}
 use Rattle.std.specs.Str.{bytes_eq, is_utf8}
 use Rattle.std.specs.Str.Lossy.{utf8_valid_len}
 use Rattle.lock_model.specs.declared.instance.Instance.{Instance}
@@ -121,3 +121,7 @@ length_of_part (line ∷ more) = length line + 1 + (if is_end (words line) then 
 -- a text up to and with its first line `end` and that line's line feed, or else the whole text
 unfoldable pub instance_part : List ℕ → List ℕ
 instance_part text = take (length_of_part (lines text)) text
+
+-- the bytes after the instance part
+abbrev pub after_instance : List ℕ → List ℕ
+after_instance text = drop (length (instance_part text)) text

@@ -6,8 +6,8 @@ ghost use Rattle.instance_text.specs.Chamber.{read_chamber};
 
 use crate::bad::Kind;
 use crate::check::check;
+use crate::digits::number;
 use crate::name::new_chamber_name;
-use crate::number::number;
 use crate::side::stand;
 use crate::words::word_at;
 use lock_model::{Chamber, Closures};

@@ -10,8 +10,8 @@ ghost use Rattle.instance_text.specs.Closing.{chamber_named, share_a_minute, is_
 
 use crate::bad::Kind;
 use crate::check::check;
+use crate::digits::number;
 use crate::name::name;
-use crate::number::number;
 use crate::words::word_at;
 use lock_model::{Chamber, Chambers, Closure, Closures};
 

@@ -1,28 +1,40 @@
 //! The lines of a text, counted from 1.
-ghost use Rattle.std.specs.Prelude.{◌≡◌, ◌+◌, ◌^◌, ◌<◌, [], ◌∷◌, ◌==◌, length, IfSome, IfNone};
+ghost use Rattle.std.specs.Prelude.{◌≡◌, ◌+◌, [], ◌∷◌, ◌==◌, length, IfSome, IfNone};
 ghost use Rattle.instance_text.specs.Lines.{lines, words};
-ghost use Rattle.instance_text.specs.Parts.{room_left};
 ghost use Rattle.instance_text.specs.Reading.{is_end, format_of};
 
 use crate::format::Format;
 use crate::parts::{Parts, Separator};
 use crate::words::{word_at, words_of};
+use std::marker::Model;
 
-/// The lines that are left of a text, and how many came before them.
+/// The lines of a text that are still to come, and how many came before them. Lines end at a line
+/// feed, and what stands after the last line feed is a line too, even where it is empty.
 #[derive(Drop)]
 pub struct Lines<'a> {
-    pub parts: Parts<'a>,
-    pub number: u64,
-    ghost counted: { number + room_left parts.left < 2 ^ 64 },
+    parts: Parts<'a>,
+    number: u64,
+}
+
+impl<'a> Model for Lines<'a> {
+    ghost use Rattle.instance_text.specs.Left.{Left};
+    ghost use Rattle.instance_text.specs.Parts.{now_left, AreCounted};
+
+    ghost Value = { Left };
+
+    ghost view = { λ l. record { bytes = now_left l.parts.left; number = l.number } };
+
+    ghost invariant = { λ l. AreCounted l.parts.left l.parts.separator l.number };
 }
 
 impl<'a> Lines<'a> {
-    ghost use Rattle.instance_text.specs.Left.{lines_left};
+    ghost use Rattle.instance_text.specs.Left.{lines_left, bytes_left, size_left};
 
     /// The lines of a text.
-    #[tactic(auto, unfolding(crate::specs::Lines::lines))]
+    #[tactic(auto, using(crate::proofs::LeftLemmas::all_left))]
     pub fn new(text: &'a [u8]) -> Lines<'a>
         ensures left { lines_left result ≡ lines text.now }
+        ensures size { size_left result ≡ length text.now + 1 }
         ensures number { result.number ≡ 0 }
     {
         Lines {
@@ -31,17 +43,34 @@ impl<'a> Lines<'a> {
         }
     }
 
-    /// The next line.
+    /// The next line, with its carriage return and its comment but without its line feed.
+    #[tactic(auto, using(crate::proofs::LeftLemmas::next_line, crate::proofs::LeftLemmas::no_line, crate::proofs::LeftLemmas::size_is))]
     pub fn next(&mut self) -> Option<&'a [u8]>
         ensures some { IfSome result (λ line. lines_left self.old ≡ line.now ∷ lines_left self.new) }
         ensures number { IfSome result (λ line. self.new.number ≡ self.old.number + 1) }
-        ensures shorter { IfSome result (λ line. room_left self.new.parts.left + length line.now + 1 ≡ room_left self.old.parts.left) }
+        ensures shorter { IfSome result (λ line. size_left self.new + length line.now + 1 ≡ size_left self.old) }
         ensures none { IfNone result (lines_left self.old ≡ []) }
+        ensures over { IfNone result (size_left self.old ≡ 0) }
         ensures last { IfNone result (self.new.number ≡ self.old.number) }
     {
         let line = self.parts.next()?;
         self.number += 1;
         Some(line)
+    }
+
+    /// The number of the line that was taken last, or 0 where none was.
+    pub fn number(&self) -> u64
+        ensures { result ≡ self.now.number }
+    {
+        self.number
+    }
+
+    /// All bytes after the lines that were taken.
+    #[tactic(auto, using(crate::proofs::LeftLemmas::rest_is))]
+    pub fn rest(&self) -> &'a [u8]
+        ensures { result.now ≡ bytes_left self.now }
+    {
+        self.parts.rest()
     }
 }
 

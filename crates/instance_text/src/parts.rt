@@ -1,7 +1,7 @@
 //! The parts of bytes between separators, one after the other.
-ghost use Rattle.std.specs.Prelude.{◌≡◌, ◌<◌, ◌≤◌, [], ◌∷◌, length, IfSome, IfNone, take, drop, ◌+◌};
+ghost use Rattle.std.specs.Prelude.{◌≡◌, ◌<◌, ◌≤◌, [], ◌∷◌, length, IfSome, IfNone, take, drop, ◌+◌, Some};
 ghost use Rattle.std.specs.List.{slice_split};
-ghost use Rattle.instance_text.specs.Parts.{separates, parts_left, room_left};
+ghost use Rattle.instance_text.specs.Parts.{separates, parts_left, room_left, now_left, rest_left};
 
 /// Where bytes are cut.
 #[derive(Clone, Copy, Debug, PartialEq, Eq)]
@@ -50,6 +50,8 @@ impl<'a> Parts<'a> {
     pub fn new(bytes: &'a [u8], separator: Separator) -> Parts<'a>
         ensures parts { parts_left result.left result.separator ≡ slice_split (separates separator) bytes.now }
         ensures room { room_left result.left ≡ length bytes.now + 1 }
+        ensures whole { now_left result.left ≡ Some bytes.now }
+        ensures kind { result.separator ≡ separator }
     {
         Parts {
             left: Some(bytes),
@@ -64,6 +66,7 @@ impl<'a> Parts<'a> {
         ensures none { IfNone result (parts_left self.old.left self.old.separator ≡ []) }
         ensures over { IfNone result (room_left self.old.left ≡ 0) }
         ensures still { IfNone result (room_left self.new.left ≡ 0) }
+        ensures kind { self.new.separator ≡ self.old.separator }
     {
         let bytes = self.left?;
         match first(bytes, self.separator) {
@@ -75,6 +78,16 @@ impl<'a> Parts<'a> {
                 self.left = None;
                 Some(bytes)
             }
+        }
+    }
+
+    /// All bytes that are left.
+    pub fn rest(&self) -> &'a [u8]
+        ensures { result.now ≡ rest_left self.now.left }
+    {
+        match self.left {
+            Some(bytes) => bytes,
+            None => b"",
         }
     }
 }

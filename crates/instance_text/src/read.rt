@@ -3,7 +3,7 @@ ghost use Rattle.std.specs.Prelude.{◌≡◌, ◌≤◌, List, ℕ, min, length
 ghost use Rattle.instance_text.specs.Draft.{Draft as AnyDraft, no_draft};
 ghost use Rattle.instance_text.specs.Left.{lines_left};
 ghost use Rattle.instance_text.specs.Lines.{lines, words};
-ghost use Rattle.instance_text.specs.Reading.{read_lines, read_after, format_of, read_line, read_body, read_rest, reading, Means, Defect, bad, length_of_part, instance_part};
+ghost use Rattle.instance_text.specs.Reading.{read_lines, read_after, format_of, read_line, read_body, read_rest, reading, Means, Defect, bad, length_of_part, instance_part, after_instance};
 ghost use Rattle.instance_text.specs.declared.bad.Kind.{Kind as AnyKind};
 ghost use Rattle.lock_model.specs.declared.instance.Instance.{Instance as AnyInstance};
 
@@ -12,7 +12,6 @@ use crate::draft::Draft;
 use crate::format::Format;
 use crate::line::read_line;
 use crate::lines::{Lines, format_of, is_blank, is_end};
-use crate::parts::{Parts, Separator};
 use crate::progress::Progress;
 use crate::utf8::check_utf8;
 use crate::words::words_of;
@@ -23,7 +22,7 @@ fn bad(lines: &Lines<'_>, kind: Kind) -> Bad
     ensures { result ≡ bad lines.now.number kind }
 {
     Bad {
-        line: lines.number,
+        line: lines.number(),
         kind,
     }
 }
@@ -125,9 +124,9 @@ pub fn read_instance(bytes: &[u8]) -> Result<Instance, Bad>
 fn length_of_part(text: &[u8]) -> usize
     ensures { result ≡ min (length_of_part (lines text.now)) (length text.now) }
 {
-    let mut parts = Parts::new(text, Separator::LineFeed);
+    let mut lines = Lines::new(text);
     let mut taken: usize = 0;
-    while let Some(line) = parts.next() {
+    while let Some(line) = lines.next() {
         taken += line.len() + 1;
         if is_end(line) {
             return taken.min(text.len());
@@ -151,4 +150,16 @@ pub fn read_instance_part(bytes: &[u8]) -> Result<(Instance, usize), Bad>
     let taken = length_of_part(bytes);
     let instance = read_instance(&bytes[..taken])?;
     Ok((instance, taken))
+}
+
+/// The instance of the instance part of a text, and the bytes after that part. Refuses as
+/// `read_instance_part` does. Takes no memory.
+#[tactic(auto, using(crate::proofs::PartLemmas::part_fits, crate::proofs::PartLemmas::rest_is))]
+pub fn split_instance(bytes: &[u8]) -> Result<(Instance, &[u8]), Bad>
+    ensures read { IfOk result (λ r. Means (instance_part bytes.now) r.0) }
+    ensures rest { IfOk result (λ r. r.1.now ≡ after_instance bytes.now) }
+    ensures bad { IfErr result (λ b. Defect (instance_part bytes.now) b.line b.kind) }
+{
+    let (instance, taken) = read_instance_part(bytes)?;
+    Ok((instance, &bytes[taken..]))
 }

@@ -6,9 +6,9 @@ ghost use Rattle.instance_text.specs.Ship.{is_ship_count, cargo, read_ship};
 
 use crate::bad::Kind;
 use crate::check::check;
+use crate::digits::number;
 use crate::format::Format;
 use crate::name::new_ship_name;
-use crate::number::number;
 use crate::side::way;
 use crate::words::word_at;
 use lock_model::Ship;

@@ -1,6 +1,7 @@
 //! Worked texts.
 
 use super::*;
+use lock_model::Way;
 use std::test::Fail;
 
 const ONE_SHIP: &[u8] =
@@ -228,11 +229,43 @@ fn nothing_after_the_part_is_looked_at(rt: HostRuntime) {
         }
         Err(_) => assert!(rt; false),
     }
+    assert!(rt; split_instance(text).is_ok_and(|(_, rest)| rest == b"plan \xff\nend\n".as_slice()));
     let bad = Bad {
         line: 1,
         kind: Kind::NoHeader,
     };
     assert!(rt; read_instance_part(b"plan\nend\n\xff") == Err(bad));
+}
+
+#[test]
+fn another_text_is_read_line_by_line(rt: HostRuntime) -> Result<(), Fail> {
+    let mut lines = Lines::new(b"plan\r\n # none\n\tlockage c1 07 up\n\nend");
+    assert!(rt;
+        lines
+            .next()
+            .is_some_and(|line| words_of(line).as_slice().len() == 1)
+    );
+    assert!(rt; lines.next().is_some_and(is_blank));
+    let line = lines.next().ok_or("no third line")?;
+    let words = words_of(line);
+    let words = words.as_slice();
+    assert!(rt; words.len() == 4);
+    assert!(rt; word_at(words, 1) == b"c1".as_slice());
+    assert!(rt; number(word_at(words, 2), 1, 1_000_000_000) == Ok(7));
+    assert!(rt; way(word_at(words, 3)) == Ok(Way::Up));
+    assert_eq!(rt; lines.number(), 3);
+    assert!(rt; lines.rest() == b"\nend".as_slice());
+    Ok(())
+}
+
+#[test]
+fn the_first_line_that_is_no_utf8_is_named(rt: HostRuntime) {
+    let bad = Bad {
+        line: 2,
+        kind: Kind::NotUtf8,
+    };
+    assert!(rt; check_utf8(b"plan\n# \xff\nend\n") == Err(bad));
+    assert!(rt; check_utf8(b"plan\n").is_ok());
 }
 
 #[test]

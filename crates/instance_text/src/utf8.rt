@@ -13,7 +13,7 @@ fn count_lines(text: &[u8]) -> u64
 {
     let mut lines = Lines::new(text);
     'counting: while lines.next().is_some() {}
-    lines.number
+    lines.number()
 }
 
 /// Refuses bytes that are not UTF-8, at the line where their longest front that is ends.

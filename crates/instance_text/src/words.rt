@@ -10,10 +10,10 @@ use crate::parts::{Parts, Separator};
 use arrayvec::ArrayVec;
 
 /// One word more than any line may have.
-pub const ENOUGH: usize = 13;
+const ENOUGH: usize = 13;
 
-/// The first words of a line. A line with more than twelve has a defect whatever they are, so
-/// `ENOUGH` of them tell which.
+/// The first thirteen words of a line, without its comment. No line may have more than twelve, so
+/// these tell as much as all.
 pub type Words<'a> = ArrayVec<&'a [u8], ENOUGH>;
 
 /// A line without the one carriage return that may end it.
@@ -60,7 +60,8 @@ fn push_word<'a>(words: &mut Words<'a>, piece: &'a [u8])
     words.push(piece);
 }
 
-/// The first words of a line.
+/// The first thirteen words of a line. Words are separated by spaces and tabs; one carriage return
+/// that ends the line, and a comment from `#` on, are no part of them. Takes no memory.
 #[tactic(auto, unfolding(crate::specs::Lines::words))]
 pub fn words_of(line: &[u8]) -> Words<'_>
     ensures { texts result.items ≡ take 13 (words line.now) }

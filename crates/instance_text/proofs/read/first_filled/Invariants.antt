@@ -1,7 +1,6 @@
 use Rattle.std.proofs.Common.{◌≡◌, map}
-use Rattle.instance_text.specs.Left.{lines_left}
+use Rattle.instance_text.specs.Left.{lines_left, size_left}
 use Rattle.instance_text.specs.Lines.{words}
-use Rattle.instance_text.specs.Parts.{room_left}
 use Rattle.instance_text.specs.Reading.{read_lines}
 use Rattle.instance_text.proofs.read.first_filled.Given as goal
 
@@ -9,4 +8,4 @@ abbrev pub invariant-loop-line : goal.invariant-loop-line
 invariant-loop-line l = read_lines l.initial.lines.number (map words (lines_left l.initial.lines)) ≡ read_lines l.lines.number (map words (lines_left l.lines))
 
 abbrev pub decreases-loop-line : goal.decreases-loop-line
-decreases-loop-line l = room_left l.lines.parts.left
+decreases-loop-line l = size_left l.lines

@@ -10,10 +10,10 @@ use Rattle.lock_model.specs.declared.chamber.Chamber.{Chamber}
 use Rattle.lock_model.specs.declared.instance.Instance.{Instance}
 use Rattle.instance_text.specs.Lines.{is_line_feed, lines, words}
 use Rattle.instance_text.specs.Chamber.{word_at}
-use Rattle.instance_text.specs.Reading.{is_end, length_of_part, instance_part}
+use Rattle.instance_text.specs.Reading.{is_end, length_of_part, instance_part, after_instance}
 use Rattle.instance_text.specs.Canonical.{line, chamber_words, closing_words, closings, ship_words, is_plain, header_words, canonical, canonical_words}
 use Rattle.instance_text.proofs.LayoutLemmas.{words_of_text}
-use Rattle.cert_text.proofs.CanonicalLemmas.{canonical_plain}
+use Rattle.instance_text.proofs.PlainLemmas.{canonical_plain}
 
 -- ---- the lines of a text of two parts
 
@@ -165,5 +165,5 @@ canonical_part I rest =
     let ends : EndsAt (map words (lines (body I))) = subst EndsAt (sym (body_words I ∙ words_is I)) (ends_after (front I) (front_else I)) in
     ap (λ t. instance_part (t ++ rest)) (canonical_body I) ∙ part_of (body I) rest ends ∙ sym (canonical_body I)
 
-pub canonical_rest : (I : Instance) (rest : List ℕ) → drop (length (instance_part (canonical I ++ rest))) (canonical I ++ rest) ≡ rest
+pub canonical_rest : (I : Instance) (rest : List ℕ) → after_instance (canonical I ++ rest) ≡ rest
 canonical_rest I rest = ap (λ t. drop (length t) (canonical I ++ rest)) (canonical_part I rest) ∙ drop-append_seam (canonical I) rest

@@ -37,7 +37,7 @@ fn is_between(low: u32, high: u32, n: u32) -> bool
 /// `Range` a number outside the limits.
 #[tactic(auto, unfolding(crate::specs::Words::number))]
 pub fn number(word: &[u8], low: u32, high: u32) -> Result<u32, Kind>
-    requires { high ≤ 1000000 }
+    requires { high < 4294967295 }
     ensures value { result ≡ number low high word.now }
     ensures within { IfOk result (Within low high) }
 {
