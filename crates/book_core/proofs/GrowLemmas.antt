@@ -29,6 +29,7 @@ use Rattle.book_core.specs.Replies.{Does, Steps}
 use Rattle.book_core.proofs.StoredLemmas.{stored-append, node-at, nodes_in}
 use Rattle.book_core.proofs.HandLemmas.{set-changes, hands-let_go, hands-same, state-known}
 use Rattle.book_core.proofs.BackLemmas.{back-kept}
+use Rattle.book_core.proofs.NearLemmas.{KeepsNodes}
 use Rattle.book_core.proofs.WaitingLemmas.{Grows, waiting-grown}
 use Rattle.book_core.proofs.KeptLemmas.{length-slots, stored-change}
 use Rattle.book_core.proofs.SettleLemmas.{restated}
@@ -111,6 +112,14 @@ module _ (b : Book) (sound : IsSound b) (id w : ℕ) (held : (slot_at b id).stat
 
   near : (k : ℕ) → k < length b.slots → slot_in grown k ≡ slot_in middle k
   near k known = let count = change.count in get_or-append middle (children_in b id) no_slot k (omega (arith, known, count))
+
+  pub nodes-grown : KeepsNodes b.slots grown
+  nodes-grown =
+      let count = change.count in
+      record {
+        count = omega (arith, count, length-both middle (children_in b id));
+        node = λ k known. ap (λ (s : Slot). s.node) (near k known) ∙ ap (λ (s : Slot). s.node) (change.rest k);
+      }
 
   far : (k : ℕ) → length b.slots ≤ k → (j : ℕ) × (k ≡ length middle + j)
   far k past = let count = change.count in (k - length b.slots, omega (arith, past, count))

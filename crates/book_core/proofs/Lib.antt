@@ -1,10 +1,12 @@
 pub mod StoredLemmas
 pub mod SoundLemmas
 pub mod HandLemmas
+pub mod NearLemmas
 pub mod BackLemmas
 pub mod WaitingLemmas
 pub mod KeptLemmas
 pub mod NodeLemmas
+pub mod BoundingLemmas
 pub mod SettleLemmas
 pub mod CloseLemmas
 pub mod MissingLemmas
@@ -14,7 +16,6 @@ pub mod NextLemmas
 pub mod PostLemmas
 pub mod GrowLemmas
 pub mod SplitLemmas
-pub mod LegalLemmas
 pub mod OutdoneLemmas
 pub mod OpeningLemmas
 pub mod SummingLemmas

@@ -1,8 +1,8 @@
 -- The ships that a slot's node lacks.
-use Rattle.std.proofs.Common.{◌≡◌, ℕ, zero, suc, ◌<◌, List, [], ◌∷◌, length, refl, arith, sym, ap, ◌∙◌, subst, Bool, true, false, slice_index_or}
+use Rattle.std.proofs.Common.{◌≡◌, ℕ, zero, suc, ◌<◌, List, [], ◌∷◌, length, refl, arith, sym, ap, ◌∙◌, subst, Bool, true, false, ◌||◌, nat_eq, eq-eqb, drop, slice_index_or}
 use Rattle.lock_model.specs.declared.instance.Instance.{Instance}
 use Rattle.lock_model.specs.declared.group.Group.{Group}
-use Rattle.lock_rules.specs.Arrival.{missing_ships}
+use Rattle.lock_rules.specs.Arrival.{order_of, missing_ships}
 use Rattle.lock_rules.specs.Node.{IsNode}
 use Rattle.lock_rules.specs.Trace.{has_number}
 use Rattle.search_rules.specs.Book.{Book, Node as TreeNode, slot_at}
@@ -12,6 +12,9 @@ use Rattle.flow_bounds.specs.Missing.{IsMissing}
 use Rattle.flow_bounds.proofs.ProbeLemmas.{among-missing, other-held}
 use Rattle.lock_rules.specs.Bound.{probe_of}
 use Rattle.master_branch.specs.Node.{Node, IsNodeOf}
+use Rattle.std.specs.List.{list_any}
+use Rattle.lock_rules.proofs.SplitLemmas.{length-order}
+use Rattle.book_core.specs.Hands.{IsNextShip}
 use Rattle.book_core.specs.Nodes.{tree_node}
 
 contains-at : (xs : List ℕ) (i s : ℕ) → i < length xs → slice_index_or xs i 0 ≡ s → slice_index_or xs i s ≡ s
@@ -44,6 +47,18 @@ module _ (I : Instance) (k : ℕ) (lines : List (List Group)) (node : IsNode I k
 
   pub missing-false : (IsMissing I lines s → ⊥) → has_number (missing_ships I k) s ≡ false
   missing-false other = by_other (has_number (missing_ships I k) s) refl other
+
+-- the ship that a node lacks first is missing
+next-number : (xs : List ℕ) (k : ℕ) → k < length xs → has_number (drop k xs) (slice_index_or xs k 0) ≡ true
+next-number [] k known = absurd (omega (arith, known))
+next-number (x ∷ xs) zero known = ap (λ t. t || list_any (λ y. nat_eq y x) xs) (eq-eqb x x refl)
+next-number (x ∷ xs) (suc k) known = next-number xs k (omega (arith, known))
+
+pub next-true : (b : Book) (id s : ℕ) → IsNextShip b id s → is_missing b id s ≡ true
+next-true b id s next =
+    let I = b.case.instance in
+    let k = (slot_at b id).node.depth in
+    ap (has_number (missing_ships I k)) next.next ∙ next-number (order_of I) k (omega (arith, next.lacks, length-order I))
 
 -- of a slot's node
 module _ (b : Book) (id : ℕ) (I : Instance) (I_is : I ≡ b.case.instance) (node : Node) (same : tree_node node ≡ (slot_at b id).node) (good : IsNodeOf I node) (s : ℕ) where

@@ -4,12 +4,24 @@ use Rattle.search_rules.specs.declared.book.SlotState.{SlotState}
 use Rattle.search_rules.specs.declared.book.SlotState.TheVariants as slot
 use Rattle.search_rules.specs.Book.{Slot}
 use Rattle.book_core.specs.Tables.{state_in, hand_at}
+use Rattle.std.specs.Prelude.{IfSome}
+use Rattle.std.proofs.Common.{List}
+use Rattle.lock_model.specs.declared.instance.Instance.{Instance}
+use Rattle.book_core.specs.Hands.{held_at, IsHand, AreNodes}
 use Rattle.book_core.specs.Keeps.{AreTables}
 
 no-hand : (n w : ℕ) → hand_at (replicate n None) w ≡ None
 no-hand zero w = refl
 no-hand (suc n) zero = refl
 no-hand (suc n) (suc w) = no-hand n w
+
+pub opening-nodes : (I : Instance) (slots : List Slot) → AreNodes I slots (replicate 9 None) None
+opening-nodes I slots = record { hands_are = empty 9; near_is = tt }
+  where
+    empty : (n w : ℕ) → IfSome (held_at (replicate n None) w) (IsHand I slots)
+    empty zero w = tt
+    empty (suc n) zero = tt
+    empty (suc n) (suc w) = empty n w
 
 none-some : (id : ℕ) → None ≡ Some id → ⊥
 none-some id e = cc

@@ -27,9 +27,11 @@ use Rattle.book_core.specs.Tables.{state_in, IsAmong, AreAbove, AreRising}
 use Rattle.book_core.specs.Changes.{slot_in}
 use Rattle.book_core.specs.Next.{stored_at}
 use Rattle.book_core.specs.Outdone.{outdone_stored, is_back_in}
+use Rattle.book_core.specs.Hands.{ids_of, AreNodes}
 use Rattle.book_core.specs.Keeps.{IsSound, AreTables}
 use Rattle.book_core.specs.Replies.{IsJudged, Does, Steps}
 use Rattle.book_core.proofs.HandLemmas.{state-known, hands-same}
+use Rattle.book_core.proofs.NearLemmas.{KeepsNodes, nodes-kept}
 use Rattle.book_core.proofs.WaitingLemmas.{waiting-kept}
 use Rattle.book_core.proofs.NextLemmas.{stored-any}
 use Rattle.book_core.proofs.CloseLemmas.{Out, pick-true, pick-false}
@@ -117,6 +119,16 @@ module _ (cost : ℕ) (slots : List Slot) where
       by_test : (t : Bool) → (cond t (record (slot_in slots k) { state = slot.ByBound }) (slot_in slots k)).parent ≡ (slot_in slots k).parent
       by_test true = refl
       by_test false = refl
+
+  pub nodes-outdone : KeepsNodes slots new
+  nodes-outdone = record { count = omega (arith, length-map slots (outdone cost)); node = λ k known. ap (λ (s : Slot). s.node) (at k known) ∙ node-same (slot_in slots k) }
+    where
+      node-same : (s : Slot) → (outdone cost s).node ≡ s.node
+      node-same s = by_test ((is_fresh s.state || is_back s.state || is_parked s.state) && nat_le cost s.bound)
+        where
+          by_test : (t : Bool) → (cond t (record s { state = slot.ByBound }) s).node ≡ s.node
+          by_test true = refl
+          by_test false = refl
 
   held-open : (w : ℕ) → slot.Held w ≢ slot.ByBound
   held-open w e = cc
@@ -256,9 +268,12 @@ module _ (a : Inside) (b : Book) (same : seen a ≡ b) (cost : ℕ) (plan : Plan
   replaced-is plans plans_are history more =
       (λ i. record (seen a) { best = plan; plans = plans_are i; slots = (slots-are ∙ ap (λ n. map (outdone n) S) cost-here) i; history = more i }) ∙ ap (λ u. replaced u plan) same
 
-  pub replaced-tables : (back : List ℕ) → back ≡ filter (is_back_in ss) a.back → AreTables S a.ended a.hands a.back a.waiting.items → AreTables (slots_of a.case.instance ss) a.ended a.hands back a.waiting.items
+  pub replaced-tables : (back : List ℕ) → back ≡ filter (is_back_in ss) a.back → AreTables S a.ended (ids_of a.hands) a.back a.waiting.items → AreTables (slots_of a.case.instance ss) a.ended (ids_of a.hands) back a.waiting.items
   replaced-tables back back_is tables =
-      subst (λ l. AreTables (slots_of a.case.instance ss) a.ended a.hands l a.waiting.items) (sym back_is)
-      (subst (λ l. AreTables l a.ended a.hands (filter (is_back_in ss) a.back) a.waiting.items) (sym slots-are)
-      (tables-outdone cost S a.ended a.hands a.back a.waiting.items tables (is_back_in ss)
+      subst (λ l. AreTables (slots_of a.case.instance ss) a.ended (ids_of a.hands) l a.waiting.items) (sym back_is)
+      (subst (λ l. AreTables l a.ended (ids_of a.hands) (filter (is_back_in ss) a.back) a.waiting.items) (sym slots-are)
+      (tables-outdone cost S a.ended (ids_of a.hands) a.back a.waiting.items tables (is_back_in ss)
       (λ k. ap is_back (sym (stored-any a.case.instance ss k).state) ∙ ap (λ l. is_back (state_in l k)) slots-are)))
+
+  pub replaced-nodes : AreNodes a.case.instance S a.hands a.near → AreNodes a.case.instance (slots_of a.case.instance ss) a.hands a.near
+  replaced-nodes nodes = nodes-kept a.case.instance S (slots_of a.case.instance ss) (subst (KeepsNodes S) (sym slots-are) (nodes-outdone cost S)) a.hands a.near nodes

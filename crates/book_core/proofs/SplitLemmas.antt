@@ -6,6 +6,7 @@ use Rattle.lock_rules.specs.Bound.{bound_of}
 use Rattle.lock_rules.specs.Children.{children_of}
 use Rattle.search_rules.specs.declared.book.Entry.{Entry}
 use Rattle.search_rules.specs.declared.book.Entry.TheVariants as entry
+use Rattle.search_rules.specs.declared.book.SlotState.{SlotState}
 use Rattle.search_rules.specs.declared.book.SlotState.TheVariants as slot
 use Rattle.search_rules.specs.Book.{Book, Slot, slot_at, best_cost, is_held}
 use Rattle.search_rules.specs.Step.{children_in}
@@ -17,12 +18,16 @@ use Rattle.book_core.specs.Stored.{slots_of}
 use Rattle.book_core.specs.Tables.{state_in}
 use Rattle.book_core.specs.Changes.{slot_in, set_state, let_go}
 use Rattle.book_core.specs.Growing.{stored_children, with_kids}
+use Rattle.book_core.specs.declared.hand.Hand.{Hand}
+use Rattle.book_core.specs.declared.hand.NearNode.{NearNode}
+use Rattle.book_core.specs.Hands.{ids_of, near_in, AreNodes}
 use Rattle.book_core.specs.Keeps.{IsSound, AreTables}
 use Rattle.book_core.specs.Seen.{seen, IsKept}
 use Rattle.book_core.proofs.HandLemmas.{state-known, hand-known}
+use Rattle.book_core.proofs.NearLemmas.{KeepsNodes, nodes-kept, nodes-moved}
 use Rattle.book_core.proofs.KeptLemmas.{length-slots, is-stored, few-slots}
 use Rattle.book_core.proofs.SettleLemmas.{restated}
-use Rattle.book_core.proofs.GrowLemmas.{grown-is, tables-grown, length-kids}
+use Rattle.book_core.proofs.GrowLemmas.{grown-is, tables-grown, nodes-grown, length-kids}
 
 length-both : {X : Type 0} (xs ys : List X) → length (xs ++ ys) ≡ length xs + length ys
 length-both [] ys = omega arith
@@ -74,7 +79,7 @@ module _ (a : Inside) (kept : IsKept a) (b : Book) (same : seen a ≡ b) (id : �
     pub held-worker : (w : ℕ) → r.state ≡ slot.Held w → w < 9
     held-worker w e =
         let in_hand = kept.tables.hands_are.hand w id (holder.1 ∙ sym held-state ∙ e) in
-        let known = hand-known a.hands w id in_hand in
+        let known = hand-known (ids_of a.hands) w id in_hand in
         omega (arith, known, kept.tables.hands_are.nine)
 
     module _ (bounds : List ℕ) (are : bounds ≡ map (bound_of b.case.instance ((slot_at b id).node.depth + 1)) (children_of b.case.instance (slot_at b id).node.depth (slot_at b id).node.lines)) (n : ℕ) (count : n ≡ length ss) where
@@ -100,7 +105,7 @@ module _ (a : Inside) (kept : IsKept a) (b : Book) (same : seen a ≡ b) (id : �
       split-is slots slots_are history more =
           (λ i. record (seen a) { slots = (ap (slots_of a.case.instance) slots_are ∙ kids-is) i; history = more i }) ∙ ap (λ u. with_kids u id) same
 
-      pub split-tables : (slots : List StoredSlot) → slots ≡ new_slots → (hands : List (Option ℕ)) → hands ≡ let_go r.state a.hands → (waiting : List Waiting) (old : List Waiting) → old ≡ a.waiting.items → (end : ℕ) → end ≡ n + length bounds
+      pub split-tables : (slots : List StoredSlot) → slots ≡ new_slots → (hands : List (Option ℕ)) → hands ≡ let_go r.state (ids_of a.hands) → (waiting : List Waiting) (old : List Waiting) → old ≡ a.waiting.items → (end : ℕ) → end ≡ n + length bounds
           → waiting ≡ old ++ record { split = id; first = n; end = end } ∷ [] → AreTables (slots_of a.case.instance slots) a.ended hands a.back waiting
       split-tables slots slots_are hands hands_are waiting old old_is end end_is waiting_are =
           let G = set_state S id (slot.Split (length S)) ++ children_in (seen a) id in
@@ -119,9 +124,18 @@ module _ (a : Inside) (kept : IsKept a) (b : Book) (same : seen a ≡ b) (id : �
             length-kids (seen a) id a.case.instance (best_cost (seen a)) id (suc node.depth) 0 kids,
           ) in
           let entry_is : record { split = id; first = n; end = end } ≡ record { split = id; first = length S; end = length G } = (λ i. record { split = id; first = first i; end = last i }) in
-          let now : hands ≡ let_go (slot.Held holder.0) a.hands = hands_are ∙ ap (λ s. let_go s a.hands) held-state in
+          let now : hands ≡ let_go (slot.Held holder.0) (ids_of a.hands) = hands_are ∙ ap (λ s. let_go s (ids_of a.hands)) held-state in
           let then : waiting ≡ a.waiting.items ++ record { split = id; first = n; end = end } ∷ [] = waiting_are ∙ ap (λ l. l ++ record { split = id; first = n; end = end } ∷ []) old_is in
           subst (λ h. AreTables (slots_of a.case.instance slots) a.ended h a.back waiting) (sym now)
-          (subst (AreTables (slots_of a.case.instance slots) a.ended (let_go (slot.Held holder.0) a.hands) a.back) (sym then)
-          (subst (λ l. AreTables l a.ended (let_go (slot.Held holder.0) a.hands) a.back (a.waiting.items ++ record { split = id; first = n; end = end } ∷ [])) (sym (ap (slots_of a.case.instance) slots_are ∙ kids-is))
-          (tables-grown (seen a) kept.sound id holder.0 holder.1 a.ended a.hands a.back a.waiting.items kept.tables (record { split = id; first = n; end = end }) entry_is)))
+          (subst (AreTables (slots_of a.case.instance slots) a.ended (let_go (slot.Held holder.0) (ids_of a.hands)) a.back) (sym then)
+          (subst (λ l. AreTables l a.ended (let_go (slot.Held holder.0) (ids_of a.hands)) a.back (a.waiting.items ++ record { split = id; first = n; end = end } ∷ [])) (sym (ap (slots_of a.case.instance) slots_are ∙ kids-is))
+          (tables-grown (seen a) kept.sound id holder.0 holder.1 a.ended (ids_of a.hands) a.back a.waiting.items kept.tables (record { split = id; first = n; end = end }) entry_is)))
+
+      -- the hand's node is the near one
+      pub split-nodes : (slots : List StoredSlot) → slots ≡ new_slots → (s : SlotState) (hands : List (Option Hand)) → hands ≡ let_go s a.hands → (near : Option NearNode) → near ≡ near_in s a.hands
+          → AreNodes a.case.instance (slots_of a.case.instance slots) hands near
+      split-nodes slots slots_are s hands hands_are near near_is =
+          let I = a.case.instance in
+          let keeps : KeepsNodes S (slots_of I slots) = subst (KeepsNodes S) (sym (ap (slots_of I) slots_are ∙ kids-is)) (nodes-grown (seen a) kept.sound id holder.0 holder.1) in
+          let moved = nodes-kept I S (slots_of I slots) keeps (let_go s a.hands) (near_in s a.hands) (nodes-moved I S a.hands a.near kept.nodes s) in
+          subst (λ h. AreNodes I (slots_of I slots) h near) (sym hands_are) (subst (AreNodes I (slots_of I slots) (let_go s a.hands)) (sym near_is) moved)

@@ -28,7 +28,7 @@ pub record Changes (old : List Slot) (id : ℕ) (state : SlotState) (new : List 
   pub rest : (k : ℕ) → stateless (slot_in new k) ≡ stateless (slot_in old k)
 
 -- the hands, where the slot leaves the one that holds it
-abbrev pub let_go : SlotState → List (Option ℕ) → List (Option ℕ)
+abbrev pub let_go : {X : Type 0} → SlotState → List (Option X) → List (Option X)
 let_go (slot.Held w) hands = slice_set hands w None
 let_go _ hands = hands
 
@@ -60,8 +60,8 @@ returned b id w = noted (record (with_state b id slot.Back) { ended = slice_set 
 abbrev pub finished : Book → ℕ → Book
 finished b w = noted (record b { ended = slice_set b.ended w true }) (entry.Release w)
 
--- some hand holds a slot
-abbrev pub has_some : List (Option ℕ) → Bool
+-- some hand isn't empty
+abbrev pub has_some : {X : Type 0} → List (Option X) → Bool
 has_some [] = false
 has_some (None ∷ hands) = has_some hands
-has_some (Some id ∷ hands) = true
+has_some (Some x ∷ hands) = true

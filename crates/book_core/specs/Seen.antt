@@ -2,7 +2,9 @@
 use Rattle.std.specs.Prelude.{length, vec_capacity}
 use Rattle.search_rules.specs.Book.{Book as Told}
 use Rattle.book_core.specs.declared.book.Book.TheInside.{Inside}
+use Rattle.flow_bounds.specs.Roster.{IsRosterOf}
 use Rattle.book_core.specs.Stored.{slots_of}
+use Rattle.book_core.specs.Hands.{ids_of, AreNodes}
 use Rattle.book_core.specs.Keeps.{IsSound, AreTables, AreCosts, HasRoom}
 
 abbrev pub seen : Inside → Told
@@ -21,6 +23,8 @@ seen a = record {
 -- what its fields keep
 pub record IsKept (a : Inside) : Type 0 where
   pub sound : IsSound (seen a)
-  pub tables : AreTables (slots_of a.case.instance a.slots.items) a.ended a.hands a.back a.waiting.items
+  pub tables : AreTables (slots_of a.case.instance a.slots.items) a.ended (ids_of a.hands) a.back a.waiting.items
+  pub nodes : AreNodes a.case.instance (slots_of a.case.instance a.slots.items) a.hands a.near
+  pub roster_is : IsRosterOf a.case.instance a.roster
   pub costs : AreCosts (seen a) a.best_cost a.opening_cost a.throughput
   pub room : HasRoom a.case.nodes (length a.cuts.items) (length a.plans.items) (vec_capacity a.history)

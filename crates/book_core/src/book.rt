@@ -1,13 +1,16 @@
 //! The book: its fields, its opening and its readers.
 ghost use Rattle.std.specs.Prelude.{◌≡◌, ◌<◌, ◌≤◌, false, length, slice_index_or, slice_get, IfSome, IfNone};
 ghost use Rattle.lock_rules.specs.Plan.{IsLegal};
+ghost use Rattle.flow_bounds.specs.Roster.{IsRosterOf};
 ghost use Rattle.search_rules.specs.Book.{best_cost, slot_at};
 ghost use Rattle.search_rules.specs.Cheap.{opening_cost};
 
 use crate::back_list::BackList;
 use crate::case::Case;
+use crate::hand::{Hand, NearNode};
 use crate::stored_slot::StoredSlot;
 use crate::waiting::Waiting;
+use flow_bounds::Roster;
 use lock_model::Plan;
 use place_refute::Cut;
 use search_rules::{Entry, SlotState};
@@ -15,13 +18,15 @@ use std::marker::Model;
 
 /// The case, the opening plan, the slots, the cuts, the plans that replaced the opening one, the best
 /// plan, the number of nodes used, which of nine workers ended, and the history of accepted events.
-/// It keeps all that `specs/Keeps` names. Slots are numbered from 0, the root; they store no nodes.
+/// It keeps all that `specs/Keeps` names. Slots are numbered from 0, the root; they store no nodes,
+/// and take 32 bytes each.
 #[derive(Debug, Drop)]
 pub struct Book {
     pub(crate) case: Case,
     pub(crate) opening: Plan,
     pub(crate) opening_cost: u64,
     pub(crate) throughput: u64,
+    pub(crate) roster: Roster,
     pub(crate) slots: Vec<StoredSlot>,
     pub(crate) cuts: Vec<Cut>,
     pub(crate) plans: Vec<Plan>,
@@ -30,7 +35,8 @@ pub struct Book {
     pub(crate) used: u32,
     pub(crate) ended: [bool; 9],
     pub(crate) history: Vec<Entry>,
-    pub(crate) hands: [Option<u32>; 9],
+    pub(crate) hands: [Option<Hand>; 9],
+    pub(crate) near: Option<NearNode>,
     pub(crate) back: BackList,
     pub(crate) waiting: Vec<Waiting>,
 }
@@ -53,6 +59,13 @@ impl Book {
         ensures { result.now ≡ self.now.case }
     {
         &self.case
+    }
+
+    /// The roster of the instance.
+    pub fn roster(&self) -> &Roster
+        ensures { IsRosterOf self.now.case.instance result.now }
+    {
+        &self.roster
     }
 
     /// The best plan.

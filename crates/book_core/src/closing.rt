@@ -1,11 +1,12 @@
 //! The events that close a slot.
-ghost use Rattle.std.specs.Prelude.{◌≡◌};
+ghost use Rattle.std.specs.Prelude.{◌≡◌, true};
 ghost use Rattle.search_rules.specs.Events.{close_bound, close_cut, close_throughput, close_probe};
+ghost use Rattle.search_rules.specs.Step.{may_close, is_missing, probe_at};
+ghost use Rattle.book_core.specs.Keeps.{IsSound};
 ghost use Rattle.book_core.specs.Replies.{Answers};
 
 use crate::book::Book;
 use crate::reply::Reply;
-use flow_bounds::{is_missing, probe};
 use search_rules::{Entry, SlotState};
 
 impl Book {
@@ -43,6 +44,23 @@ impl Book {
         Reply::Closed
     }
 
+    // Closes a slot that may be closed where this probe of its node and a missing ship is at least
+    // the best cost.
+    fn close_by(&mut self, id: u32, ship: u8, least: u64) -> Reply
+        requires held { may_close self.old id ≡ true }
+        requires missing { is_missing self.old id ship ≡ true }
+        requires least { least ≡ probe_at self.old id ship }
+        requires sound { IsSound self.old }
+        ensures { Answers self.old (close_probe id ship) result self.new }
+    {
+        let best = self.best_cost();
+        if least < best {
+            return Reply::Cheaper(least, best);
+        }
+        self.settle(id, SlotState::ByProbe(ship), Entry::CloseProbe(id, ship));
+        Reply::Closed
+    }
+
     /// Closes a held or parked slot where the probe of its node and this ship is at least the best
     /// cost. Refuses `NotHeld`, then `Absent` where the ship isn't in the instance or is among the
     /// node's ships, then `Cheaper` with the probe. Takes no memory.
@@ -52,17 +70,10 @@ impl Book {
         if !self.may_close(id) {
             return Reply::NotHeld(id);
         }
-        let node = self.node_of(id);
-        if !is_missing(self.instance(), &node, ship) {
-            return Reply::Absent(ship);
+        match self.probe_with(id, ship) {
+            Some(least) => self.close_by(id, ship, least),
+            None => Reply::Absent(ship),
         }
-        let least = probe(self.instance(), &node, ship);
-        let best = self.best_cost();
-        if least < best {
-            return Reply::Cheaper(least, best);
-        }
-        self.settle(id, SlotState::ByProbe(ship), Entry::CloseProbe(id, ship));
-        Reply::Closed
     }
 
     /// Closes a held or parked slot by the cut of this number, which hits a group of its node.

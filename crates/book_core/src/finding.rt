@@ -4,16 +4,14 @@ ghost use Rattle.std.specs.Bool.{OnTrue};
 ghost use Rattle.lock_rules.specs.Throughput.{throughput_of};
 ghost use Rattle.search_rules.specs.Book.{slot_at, first_slot, has_slot, is_back, is_held, is_held_by};
 ghost use Rattle.search_rules.specs.Step.{may_close};
-ghost use Rattle.master_branch.specs.Node.{IsNodeOf};
 ghost use Rattle.book_core.specs.Keeps.{IsSound};
 ghost use Rattle.book_core.specs.Stored.{IsStoredAs};
 ghost use Rattle.book_core.specs.Changes.{has_some};
-ghost use Rattle.book_core.specs.Nodes.{tree_node};
 
 use crate::book::Book;
+use crate::hand::{Hand, id_of};
 use crate::stored_slot::StoredSlot;
 use lock_model::Instance;
-use master_branch::{Node, descend, root};
 use search_rules::SlotState;
 
 impl Book {
@@ -93,27 +91,12 @@ impl Book {
         }
     }
 
-    // The node of a slot, found again from the root.
-    pub(crate) fn node_of(&self, id: u32) -> Node
-        requires { id < length self.now.slots }
-        ensures value { tree_node result ≡ (slot_at self.now id).node }
-        ensures node { IsNodeOf self.now.case.instance result }
-    {
-        let slot = self.stored(id);
-        if id == 0 {
-            return root(self.instance());
-        }
-        let mut node = self.node_of(slot.parent);
-        descend(self.instance(), &mut node, slot.number as u32);
-        node
-    }
-
     /// The slot that the worker holds; None exactly where it holds none.
     pub fn held_by(&self, worker: u8) -> Option<u32>
         ensures { result ≡ first_slot self.now (is_held_by worker) }
     {
         if worker <= 8 {
-            self.hands[worker as usize]
+            id_of(&self.hands[worker as usize])
         } else {
             None
         }
@@ -136,7 +119,7 @@ impl Book {
 }
 
 // Whether a hand holds a slot.
-fn has_some(hands: &[Option<u32>]) -> bool
+fn has_some(hands: &[Option<Hand>]) -> bool
     ensures { result ≡ has_some hands.now }
 {
     let mut i = hands.len();

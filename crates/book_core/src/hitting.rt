@@ -44,7 +44,7 @@ impl Book {
         ensures { result ≡ hits_in self.now id (slice_get self.now.cuts number) }
     {
         match self.cut(number) {
-            Some(cut) => hits_node(self.instance(), cut, &self.node_of(id)),
+            Some(cut) => hits_node(self.instance(), cut, &self.node_at(id)),
             None => false,
         }
     }

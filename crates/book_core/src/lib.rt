@@ -12,27 +12,37 @@
 //! - Fields, opening and readers: `book`, `opening`, `finding`, `summing` (the verdict).
 //! - Events: `taking`, `splitting`, `closing`, `parking`, `posting`, `replacing`, `releasing`. What
 //!   they change together: `moves`, `growing`.
-//! - Tables by which no event walks all slots but `replace`: `hands` (which slot each worker holds),
-//!   `back_list` (the returned slots, nine at most, by rising number), `waiting` (the splits that may
-//!   have a fresh child, by rising first child).
+//! - Tables by which no event walks all slots but `replace`: `hands` (the slot that each worker
+//!   holds, a `hand`), `back_list` (the returned slots, nine at most, by rising number), `waiting`
+//!   (the splits that may have a fresh child, by rising first child). A split that has none leaves
+//!   `waiting` when `take` meets it: one `take` may look at several splits, but all of them together
+//!   look at no more splits than there are takes and splits.
+//! - Nodes aren't stored with the slots. A hand has its slot's node, and the bounds of the node's
+//!   children from the first probe of the ship that the node lacks first until the split. `near`
+//!   keeps one node more: that of the slot that was split last, or of the parent of the slot that
+//!   was taken last. Other nodes are made from the near one or from the root, step by step.
+//!   `bounding` has the probes and the bounds.
 //!
 //! Definitions: `search_rules` has the machine (`specs/Book`, `Events`, `Step`), the replay, the
 //! cover and the counts. Here `specs/Replies` says what it is that a method is a step, `Keeps` what
-//! every book keeps, `Stored` which slots the stored ones are, `Tables` and `Next` what the tables
-//! say, `Laws` the law.
+//! every book keeps, `Stored` which slots the stored ones are, `Tables`, `Hands` and `Next` what the
+//! tables and the kept nodes say, `Laws` the law.
 #![tactic(auto)]
 
 mod back_list;
 mod book;
+mod bounding;
 mod case;
 mod closing;
 mod decks;
 mod finding;
 mod growing;
+mod hand;
 mod hands;
 mod hitting;
 mod laws;
 mod moves;
+mod near;
 mod opening;
 mod parking;
 mod posting;

@@ -10,7 +10,7 @@ use crate::case::Case;
 use crate::splitting::stored_child;
 use crate::stored_slot::StoredSlot;
 use chamber_times::cost;
-use flow_bounds::{bound, throughput};
+use flow_bounds::{Roster, bound, throughput};
 use lock_model::{Instance, Plan};
 use master_branch::root;
 use plain_text::NoMemory;
@@ -24,7 +24,7 @@ fn stored_root(instance: &Instance, cost: u64) -> StoredSlot
 }
 
 // The cost of a legal plan.
-#[tactic(auto, using(crate::proofs::LegalLemmas::legal_arrived))]
+#[tactic(auto, using(lock_rules::proofs::LegalLemmas::of_legal_plans))]
 pub(crate) fn cost_of_legal(instance: &Instance, plan: &Plan) -> u64
     requires { IsLegal instance.now plan.now }
     ensures { result ≡ cost_of instance.now plan.now }
@@ -48,6 +48,7 @@ pub fn open_book(alloc: Global, case: &Case, plan: Plan) -> Result<Book, NoMemor
         opening: plan.copy(),
         opening_cost: best_cost,
         throughput: throughput(&case.instance),
+        roster: Roster::of(&case.instance),
         slots,
         cuts: Vec::new(alloc),
         plans: Vec::new(alloc),
@@ -56,7 +57,8 @@ pub fn open_book(alloc: Global, case: &Case, plan: Plan) -> Result<Book, NoMemor
         used: 0,
         ended: [false; 9],
         history,
-        hands: [None; 9],
+        hands: [None, None, None, None, None, None, None, None, None],
+        near: None,
         back: BackList::new(),
         waiting: Vec::new(alloc),
     })

@@ -19,7 +19,7 @@ impl Book {
         requires { id < length self.now.slots }
         ensures { result ≡ names_lent self.now id chamber place hard.now.deck hard.now.turns }
     {
-        let node = self.node_of(id);
+        let node = self.node_at(id);
         if chamber as usize >= self.instance().chambers.as_slice().len() {
             return false;
         }

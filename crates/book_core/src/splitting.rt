@@ -1,19 +1,18 @@
 //! The event that splits a slot into its children.
-ghost use Rattle.std.specs.Prelude.{◌≡◌, ◌+◌, ◌≤◌, ◌<◌, ◌++◌, true, length, map, IfOk, IfErr, vec_len, vec_capacity};
-ghost use Rattle.lock_rules.specs.Bound.{bound_of};
-ghost use Rattle.lock_rules.specs.Children.{children_of};
+ghost use Rattle.std.specs.Prelude.{◌≡◌, ◌+◌, ◌≤◌, ◌<◌, ◌++◌, true, length, nat_le, IfOk, IfErr, vec_len, vec_capacity};
 ghost use Rattle.search_rules.specs.Book.{slot_at, is_held};
 ghost use Rattle.search_rules.specs.Events.{split};
 ghost use Rattle.book_core.specs.Growing.{stored_child, stored_children, with_kids};
+ghost use Rattle.book_core.specs.Hands.{bounds_at};
 ghost use Rattle.book_core.specs.Keeps.{IsSound};
 ghost use Rattle.book_core.specs.Replies.{Does};
 
 use crate::book::Book;
-use crate::hands::let_go;
+use crate::hands::take_from;
 use crate::reply::Reply;
 use crate::stored_slot::StoredSlot;
 use crate::waiting::Waiting;
-use flow_bounds::child_bounds;
+use flow_bounds::Bounds;
 use plain_text::NoMemory;
 use search_rules::{Entry, SlotState};
 
@@ -66,7 +65,7 @@ impl Book {
     fn grow(&mut self, id: u32, bounds: &[u64]) -> Result<(), NoMemory>
         requires held { is_held (slot_at self.old id).state ≡ true }
         requires few { length bounds.now ≤ 50 }
-        requires bounds { bounds.now ≡ map (bound_of self.old.case.instance ((slot_at self.old id).node.depth + 1)) (children_of self.old.case.instance (slot_at self.old id).node.depth (slot_at self.old id).node.lines) }
+        requires bounds { bounds.now ≡ bounds_at self.old id }
         requires sound { IsSound (with_kids self.old id) }
         ensures some { IfOk result (λ _. self.new ≡ with_kids self.old id) }
         ensures none { IfErr result (λ _. self.new ≡ self.old) }
@@ -74,7 +73,7 @@ impl Book {
         make_space(&mut self.slots, bounds.len(), &mut self.waiting)?;
         let first = self.slots.len() as u32;
         let end = first + bounds.len() as u32;
-        let_go(&mut self.hands, self.slots[id as usize].state);
+        self.near = take_from(&mut self.hands, self.slots[id as usize].state);
         self.slots[id as usize].state = SlotState::Split(first);
         push_children(&mut self.slots, id, bounds, self.best_cost);
         self.waiting.push_reserved(Waiting {
@@ -86,6 +85,33 @@ impl Book {
         Ok(())
     }
 
+    // Splits a held slot, whose node lacks a ship, into children with these bounds.
+    fn split_into(&mut self, id: u32, bounds: &Bounds) -> Reply
+        requires held { is_held (slot_at self.old id).state ≡ true }
+        requires lacks { (slot_at self.old id).node.depth < length self.old.case.instance.ships }
+        requires bounds { bounds.now ≡ bounds_at self.old id }
+        requires sound { IsSound self.old }
+        ensures { Does self.old (split id) result self.new }
+    {
+        let count = bounds.as_slice().len() as u32;
+        match self.grow(id, bounds.as_slice()) {
+            Ok(()) => Reply::Made(count),
+            Err(NoMemory) => Reply::NoMemory,
+        }
+    }
+
+    // Whether the node of a slot holds all ships.
+    fn is_whole(&self, id: u32) -> bool
+        requires { id < length self.now.slots }
+        ensures { result ≡ nat_le (length self.now.case.instance.ships) (slot_at self.now id).node.depth }
+    {
+        let depth = match self.hand_of(id) {
+            Some(hand) => hand.node.depth(),
+            None => self.node_of(id).depth(),
+        };
+        self.instance().ships.as_slice().len() <= depth as usize
+    }
+
     /// Splits a held slot, whose node lacks a ship: its children are appended in order, those closed
     /// whose bound is at least the best cost. Refuses `NotHeld`, then `Whole`, and `NoMemory`, after
     /// which the book is as it was.
@@ -95,15 +121,10 @@ impl Book {
         if !self.is_held(id) {
             return Reply::NotHeld(id);
         }
-        let node = self.node_of(id);
-        if node.depth() as usize >= self.instance().ships.as_slice().len() {
+        if self.is_whole(id) {
             return Reply::Whole(id);
         }
-        let bounds = child_bounds(self.instance(), &node);
-        let count = bounds.as_slice().len() as u32;
-        match self.grow(id, bounds.as_slice()) {
-            Ok(()) => Reply::Made(count),
-            Err(NoMemory) => Reply::NoMemory,
-        }
+        let bounds = self.take_bounds(id);
+        self.split_into(id, &bounds)
     }
 }

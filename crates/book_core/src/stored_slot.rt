@@ -3,8 +3,7 @@
 use search_rules::SlotState;
 
 // A slot of a book: the child of this number of its parent's node, 0 and 0 for the root, with its
-// bound in minutes and its state. It takes 32 bytes. Its node isn't stored: it is found again from
-// the parents.
+// bound in minutes and its state. Its node isn't stored: it is found again from the parents.
 #[derive(Clone, Copy, Debug, PartialEq, Eq)]
 pub(crate) struct StoredSlot {
     pub(crate) bound: u64,
@@ -12,3 +11,6 @@ pub(crate) struct StoredSlot {
     pub(crate) parent: u32,
     pub(crate) number: u8,
 }
+
+// The bytes that a slot takes.
+const _: () = prove!(size_of::<StoredSlot>() == 32);

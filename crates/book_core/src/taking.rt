@@ -25,7 +25,7 @@ impl Book {
     {
         let used = self.used();
         let node = self.node_of(id);
-        self.give(id, worker, used);
+        self.give(id, worker, used, node.copy());
         Reply::Node(id, node)
     }
 
@@ -45,7 +45,7 @@ impl Book {
             return Reply::NodesSpent(used);
         }
         let node = self.node_of(id);
-        self.give(id, worker, used + 1);
+        self.give(id, worker, used + 1, node.copy());
         Reply::Node(id, node)
     }
 
@@ -76,10 +76,14 @@ impl Book {
         ensures node { HasNode self.old.case.instance result }
     {
         if let Some(id) = self.first_back() {
+            self.come_near(id);
             return self.take_back(worker, id);
         }
         match self.next_fresh() {
-            Some(id) => self.take_fresh(worker, id),
+            Some(id) => {
+                self.come_near(id);
+                self.take_fresh(worker, id)
+            }
             None => self.take_none(worker),
         }
     }

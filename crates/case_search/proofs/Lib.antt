@@ -5,3 +5,4 @@ pub mod TurnLemmas
 pub mod VisitLemmas
 pub mod FoundLemmas
 pub mod TreeLemmas
+pub mod ExactLemmas

@@ -15,7 +15,7 @@ use crate::cuts::first_unproved;
 use crate::reading::read_tree;
 use chamber_times::cost;
 use deck_laws::{heredity, normal_form};
-use flow_bounds::throughput;
+use flow_bounds::{Roster, throughput};
 use lock_model::{Instance, Plan};
 use master_branch::root;
 use mooring_rules::judge_plan;
@@ -57,8 +57,10 @@ fn first_wrong_mark_of(instance: &Instance, certificate: &Certificate) -> Option
     ensures none { IfNone result (IsMarkTree instance.now Mark.Split (Closes instance.now certificate.now.cost certificate.now.cuts) (length instance.now.ships) 0 root_lines certificate.now.tree []) }
     ensures some { IfSome result (λ f. FailAtMark instance.now certificate.now.cost certificate.now.cuts certificate.now.tree f.0 f.1) }
 {
+    let roster = Roster::of(instance);
     let claim = Claim {
         instance,
+        roster: &roster,
         throughput: throughput(instance),
         cost: certificate.cost,
         cuts: certificate.cuts.as_slice(),

@@ -2,24 +2,29 @@
 ghost use Rattle.std.specs.Prelude.{◌≡◌, ◌↔◌, All, IsTrue};
 ghost use Rattle.lock_rules.specs.Throughput.{throughput_of};
 ghost use Rattle.master_branch.specs.Node.{IsNodeOf};
+ghost use Rattle.lock_rules.specs.Bound.{probe_of};
+ghost use Rattle.flow_bounds.specs.Missing.{IsMissing};
+ghost use Rattle.flow_bounds.specs.Roster.{IsRosterOf};
 ghost use Rattle.search_rules.specs.Certificates.{IsShaped, IsCutBy, Closes};
 ghost use Rattle.search_rules.specs.Failures.{reason_of};
 
 use crate::certificate::CertCut;
 use crate::hitting::hits_node;
-use flow_bounds::{bound, is_missing, probe};
+use flow_bounds::{Roster, bound, child_bounds, is_missing, probe};
 use lock_model::Instance;
 use master_branch::Node;
 use search_rules::{Mark, Reason};
 
-// What the marks of a certificate are held against: the instance, its throughput, and the cost and
-// the cuts of the certificate.
+// What the marks of a certificate are held against: the instance, its roster and its throughput, and
+// the cost and the cuts of the certificate.
 #[derive(Drop)]
 pub(crate) struct Claim<'c> {
     pub(crate) instance: &'c Instance,
+    pub(crate) roster: &'c Roster,
     pub(crate) throughput: u64,
     pub(crate) cost: u64,
     pub(crate) cuts: &'c [CertCut],
+    pub(crate) ghost rostered: { IsRosterOf instance.now roster.now },
     pub(crate) ghost told: { throughput ≡ throughput_of instance.now },
     pub(crate) ghost shaped: { All (IsShaped instance.now) cuts.now },
 }
@@ -32,12 +37,26 @@ fn is_cut_by(claim: &Claim, node: &Node, number: u64) -> bool
         && hits_node(claim.instance, &claim.cuts[number as usize], node)
 }
 
+// The probe of a ship that the node lacks. Nearly all that are asked for are of the ship that it lacks
+// first, where the roster spares work.
+fn probe_of(claim: &Claim, node: &Node, ship: u8) -> u64
+    requires node { IsNodeOf claim.now.instance.now node.now }
+    requires missing { IsMissing claim.now.instance.now node.now.lines ship }
+    ensures { result ≡ probe_of claim.now.instance.now node.now.depth node.now.lines ship }
+{
+    if ship == claim.roster.ship(claim.instance, node.depth()) {
+        child_bounds(claim.instance, claim.roster, node).least()
+    } else {
+        probe(claim.instance, node, ship)
+    }
+}
+
 // Whether the node lacks this ship, and its probe reaches the cost.
 fn is_probed(claim: &Claim, node: &Node, ship: u8) -> bool
     requires { IsNodeOf claim.now.instance.now node.now }
     ensures { IsTrue result ↔ Closes claim.now.instance.now claim.now.cost claim.now.cuts.now node.now.depth node.now.lines (Mark.Probe ship) }
 {
-    is_missing(claim.instance, node, ship) && probe(claim.instance, node, ship) >= claim.cost
+    is_missing(claim.instance, node, ship) && probe_of(claim, node, ship) >= claim.cost
 }
 
 // Whether a mark closes the node.

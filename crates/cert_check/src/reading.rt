@@ -1,5 +1,5 @@
 //! The marks of a certificate, read once along its tree.
-ghost use Rattle.std.specs.Prelude.{◌≡◌, ◌+◌, ◌<◌, ◌↔◌, [], ◌∷◌, length, All, IsTrue, IfOk, IfErr, IfNone, IfSome};
+ghost use Rattle.std.specs.Prelude.{◌≡◌, ◌+◌, ◌<◌, ◌↔◌, [], ◌∷◌, length, slice_get, Some, All, IsTrue, IfOk, IfErr, IfNone, IfSome};
 ghost use Rattle.lock_rules.specs.Throughput.{throughput_of};
 ghost use Rattle.lock_rules.specs.Bound.{bound_of};
 ghost use Rattle.master_branch.specs.Node.{IsNodeOf, children, child_lines};
@@ -9,7 +9,7 @@ ghost use Rattle.cert_check.specs.Reading.{IsRead, IsStuck, IsChildRead, IsChild
 use crate::closing::{Claim, closes, reason_against};
 use flow_bounds::{Bounds, child_bounds};
 use lock_model::Instance;
-use master_branch::{Node, child, child_count};
+use master_branch::{Node, child_count, descend};
 use search_rules::{Mark, Reason};
 
 // Where reading ends before its time: the marks that are left there, and why.
@@ -49,21 +49,36 @@ fn splits(instance: &Instance, node: &Node, mark: Mark) -> bool
 
 // The bound of child `i` of a node. The bounds of all children are worked out together, where the
 // first of them is asked for.
-fn child_bound(instance: &Instance, node: &Node, told: &mut Option<Bounds>, i: u32) -> u64
-    requires node { IsNodeOf instance.now node.now }
-    requires lacks { node.now.depth < length instance.now.ships }
-    requires within { i < length (children instance.now node.now) }
-    requires told { AreTold instance.now node.now told.old }
-    ensures value { result ≡ bound_of instance.now (node.now.depth + 1) (child_lines instance.now node.now i) }
-    ensures told { AreTold instance.now node.now told.new }
+fn child_bound(claim: &Claim, node: &Node, told: &mut Option<Bounds>, i: u32) -> u64
+    requires node { IsNodeOf claim.now.instance.now node.now }
+    requires lacks { node.now.depth < length claim.now.instance.now.ships }
+    requires within { i < length (children claim.now.instance.now node.now) }
+    requires told { AreTold claim.now.instance.now node.now told.old }
+    ensures value { result ≡ bound_of claim.now.instance.now (node.now.depth + 1) (child_lines claim.now.instance.now node.now i) }
+    ensures told { AreTold claim.now.instance.now node.now told.new }
 {
     let bounds = match told.take() {
         Some(bounds) => bounds,
-        None => child_bounds(instance, node),
+        None => child_bounds(claim.instance, claim.roster, node),
     };
     let bound = bounds.as_slice()[i as usize];
     *told = Some(bounds);
     bound
+}
+
+// Child `i` of a node.
+fn child_of(claim: &Claim, node: &Node, i: u32) -> Node
+    requires node { IsNodeOf claim.now.instance.now node.now }
+    requires lacks { node.now.depth < length claim.now.instance.now.ships }
+    requires within { i < length (children claim.now.instance.now node.now) }
+    ensures depth { result.depth ≡ node.now.depth + 1 }
+    ensures lines { slice_get (children claim.now.instance.now node.now) i ≡ Some result.lines }
+    ensures node { IsNodeOf claim.now.instance.now result }
+{
+    let ship = claim.roster.ship(claim.instance, node.depth());
+    let mut child = node.copy();
+    descend(claim.instance, &mut child, ship, i);
+    child
 }
 
 // Reads a tree of child `i` of a node: the marks behind it.
@@ -84,7 +99,7 @@ fn read_child<'m>(
     ensures told { AreTold claim.now.instance.now node.now told.new }
 {
     if let Some(rest) = behind_bound(marks) {
-        if child_bound(claim.instance, node, told, i) >= claim.cost {
+        if child_bound(claim, node, told, i) >= claim.cost {
             return Ok(rest);
         }
         return Err(Stuck {
@@ -92,7 +107,7 @@ fn read_child<'m>(
             reason: Reason::BoundLow,
         });
     }
-    read_tree(claim, &child(claim.instance, node, i), marks)
+    read_tree(claim, &child_of(claim, node, i), marks)
 }
 
 // Reads trees of all children of a node: the marks behind them.

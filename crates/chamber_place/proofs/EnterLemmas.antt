@@ -1,5 +1,7 @@
 -- What the next option of a case is.
-use Rattle.std.proofs.Common.{◌≡◌, ℕ, zero, suc, ◌+◌, ◌-◌, ◌<◌, ◌≤◌, List, [], ◌∷◌, ◌++◌, length, map, take, drop, Some, None, slice_index_or, inl, inr, refl, sym, ap, ◌∙◌, subst, arith}
+use Rattle.std.proofs.Common.{◌≡◌, ℕ, ◌+◌, ◌-◌, ◌<◌, ◌≤◌, List, [], ◌∷◌, ◌++◌, length, map, take, drop, Some, None, slice_index_or, inl, inr, sym, ap, ◌∙◌, subst, arith}
+use Rattle.std.proofs.lemmas.Bool.{cases_lt}
+use Rattle.std.proofs.lemmas.List.{length-map, get_or_default}
 use Rattle.std.specs.declared.option.Option.{Option}
 use Rattle.lock_model.specs.Deck.{Deck}
 use Rattle.diff_rules.specs.declared.edges.Edge.{Edge}
@@ -18,18 +20,7 @@ use Rattle.chamber_place.proofs.EdgeLemmas.{case-edges-few}
 use Rattle.chamber_place.specs.OnItsWay.{Progress, case_rules, AreChosen, no_paths, paths_at, IsSettled, IsOnItsWay}
 use Rattle.chamber_place.specs.declared.picks.Pick.{Pick}
 use Rattle.chamber_place.specs.declared.decisions.Decision.{Decision}
-use Rattle.chamber_place.proofs.OptionLemmas.{length-map}
-use Rattle.chamber_place.proofs.WayLemmas.{first-options, no-options, choices-push, less-or-most, known-decided, good-paths, good-fault, last-settled, more-chosen, more-edges, more-faulty, more-good, last-edges, back-way, back-case}
-
-pub index-own : {X : Type 0} (xs : List X) (k : ℕ) (d : X) → k < length xs → slice_index_or xs k (slice_index_or xs k d) ≡ slice_index_or xs k d
-index-own [] k d h = absurd (omega (arith, h))
-index-own (x ∷ xs) zero d h = refl
-index-own (x ∷ xs) (suc k) d h = index-own xs k d (omega (arith, h))
-
-pub index-any : {X : Type 0} (xs : List X) (k : ℕ) (d e : X) → k < length xs → slice_index_or xs k d ≡ slice_index_or xs k e
-index-any [] k d e h = absurd (omega (arith, h))
-index-any (x ∷ xs) zero d e h = refl
-index-any (x ∷ xs) (suc k) d e h = index-any xs k d e (omega (arith, h))
+use Rattle.chamber_place.proofs.WayLemmas.{first-options, no-options, choices-push, known-decided, good-paths, good-fault, last-settled, more-chosen, more-edges, more-faulty, more-good, last-edges, back-way, back-case}
 
 abbrev pub progress_of : Deck → List Pick → Progress
 progress_of d picks = record { deck = d; case = choices_of picks }
@@ -38,24 +29,24 @@ module _ (d : Deck) (decided : List Decision) (picks : List Pick) (in_order : ma
   -- the options of the next decision
   pub options-next : (x : Decision) → length picks < length decided → slice_index_or decided (length picks) x ≡ x → options_at (case_rules d) (choices_of picks) ≡ options_of d (decision_of x)
   options-next x less at =
-      ap (λ n. options_first (options_of d) (drop n (decisions (length d.ships)))) (length-map choice_of picks)
+      ap (λ n. options_first (options_of d) (drop n (decisions (length d.ships)))) (length-map picks choice_of)
       ∙ first-options d decided (decisions (length d.ships)) (length picks) x in_order less
       ∙ ap (λ y. options_of d (decision_of y)) at
 
   pub options-none : length decided ≤ length picks → options_at (case_rules d) (choices_of picks) ≡ []
   options-none most =
-      ap (λ n. options_first (options_of d) (drop n (decisions (length d.ships)))) (length-map choice_of picks)
+      ap (λ n. options_first (options_of d) (drop n (decisions (length d.ships)))) (length-map picks choice_of)
       ∙ no-options d decided (decisions (length d.ships)) (length picks) in_order most
 
   pub decisions-count : length decided ≡ length (decisions (length d.ships))
-  decisions-count = sym (length-map decision_of decided) ∙ ap length in_order
+  decisions-count = sym (length-map decided decision_of) ∙ ap length in_order
 
   module _ (v : Progress) (view : progress_of d picks ≡ v) (option : ℕ) (h : option < length (options_at (case_rules v.deck) v.case)) where
     here : option < length (options_at (case_rules d) (choices_of picks))
     here = subst (λ u. option < length (options_at (case_rules u.deck) u.case)) (sym view) h
 
     pub next-less : length picks < length decided
-    next-less = elim (less-or-most (length picks) (length decided)) [ inl l ↦ l | inr m ↦ absurd (none (ap length (options-none m))) ]
+    next-less = elim (cases_lt (length picks) (length decided)) [ inl l ↦ l | inr m ↦ absurd (none (ap length (options-none m))) ]
       where
         none : length (options_at (case_rules d) (choices_of picks)) ≡ 0 → ⊥
         none e = let l = here in omega (arith, l, e)
@@ -90,7 +81,7 @@ module _ (d : Deck) (decided : List Decision) (picks : List Pick) (edges : List 
     next-is = sym (ap (λ ys. slice_index_or ys k (Berthing 0)) xs_are ∙ ap (λ n. slice_index_or decided n (Berthing 0)) k_is)
 
     next-at : slice_index_or decided (length picks) next ≡ next
-    next-at = subst (λ x. slice_index_or decided (length picks) x ≡ x) next-is (index-own decided (length picks) (Berthing 0) less)
+    next-at = subst (λ x. slice_index_or decided (length picks) x ≡ x) next-is (get_or_default decided (length picks) (slice_index_or decided (length picks) (Berthing 0)) (Berthing 0) less)
 
     pub enter-known : IsKnownDecision d next
     enter-known = subst (IsKnownDecision d) next-is (known-decided d decided (length picks) (Berthing 0) way.in_order less)
@@ -118,7 +109,7 @@ module _ (d : Deck) (decided : List Decision) (picks : List Pick) (edges : List 
         pub enter-longest : (n : ℕ) → n ≡ length edges → (t : PathTree) → slice_index_or paths k t ≡ t → AreLongest (take n es) (vars_of d) t
         enter-longest n n_is t at =
             let count = good-paths d decided picks edges paths fault way good in
-            let same : paths_at paths (length picks) ≡ t = index-any paths (length picks) no_paths t (omega (arith, count)) ∙ ap (λ i. slice_index_or paths i t) (sym k_is) ∙ at in
+            let same : paths_at paths (length picks) ≡ t = get_or_default paths (length picks) no_paths t (omega (arith, count)) ∙ ap (λ i. slice_index_or paths i t) (sym k_is) ∙ at in
             subst (λ q. AreLongest q (vars_of d) t) (sym way.edges_are ∙ sym (ap (λ i. take i es) n_is ∙ ap (take (length edges)) es_are ∙ take-front edges (choice_edges d (choice_of p))))
             (subst (AreLongest (case_edges d (choices_of picks)) (vars_of d)) same (last-settled d decided picks edges paths fault way count).longest)
 
@@ -142,7 +133,7 @@ module _ (d : Deck) (decided : List Decision) (picks : List Pick) (edges : List 
 
   one : length picks ≡ (m - 1) + 1
   one =
-      let l = length-map choice_of picks in
+      let l = length-map picks choice_of in
       let s = subst (λ (u : Progress). 0 < length u.case) (sym view) some in
       omega (arith, m_is, l, s)
 
@@ -150,7 +141,7 @@ module _ (d : Deck) (decided : List Decision) (picks : List Pick) (edges : List 
   unfolding last
   last-at =
       let few : m - 1 < length picks = let o = one in omega (arith, o) in
-      subst (λ ps. slice_index_or picks (m - 1) (slice_index_or ps (m - 1) e) ≡ slice_index_or ps (m - 1) e) (sym qs_are) (index-own picks (m - 1) e few)
+      subst (λ ps. slice_index_or picks (m - 1) (slice_index_or ps (m - 1) e) ≡ slice_index_or ps (m - 1) e) (sym qs_are) (get_or_default picks (m - 1) (slice_index_or picks (m - 1) e) e few)
 
   pub leave-fits : count ≤ length es
   unfolding last
@@ -182,5 +173,5 @@ module _ (d : Deck) (decided : List Decision) (picks : List Pick) (edges : List 
   pub good-settled : (ts : List PathTree) → ts ≡ paths → (t : PathTree) → t ≡ slice_index_or ts (length qs) t → IsSettled d (choices_of qs) t
   good-settled ts ts_are t at =
       let count = good-paths d decided picks edges paths fault way (subst (λ u. IsConsistent u.deck u.case) (sym view) is_good) in
-      let same : paths_at paths (length picks) ≡ t = index-any paths (length picks) no_paths t (omega (arith, count)) ∙ sym (at ∙ ap (λ us. slice_index_or us (length qs) t) ts_are ∙ ap (λ ps. slice_index_or paths (length ps) t) qs_are) in
+      let same : paths_at paths (length picks) ≡ t = get_or_default paths (length picks) no_paths t (omega (arith, count)) ∙ sym (at ∙ ap (λ us. slice_index_or us (length qs) t) ts_are ∙ ap (λ ps. slice_index_or paths (length ps) t) qs_are) in
       subst (λ ps. IsSettled d (choices_of ps) t) (sym qs_are) (subst (IsSettled d (choices_of picks)) same (last-settled d decided picks edges paths fault way count))

@@ -1,6 +1,7 @@
 -- Decisions and options by their numbers.
 use Rattle.std.proofs.Common.{◌≡◌, ◌≢◌, ℕ, zero, suc, ◌+◌, ◌-◌, ◌*◌, ◌/◌, ◌<◌, ◌≤◌, List, [], ◌∷◌, ◌++◌, length, map, cond, nat_lt, slice_index_or, inl, inr, refl, sym, ap, ◌∙◌, subst, arith}
 use Rattle.std.proofs.lemmas.Bool.Decides.{leb_tells}
+use Rattle.std.proofs.lemmas.List.{length-map, map-append, get_or-map}
 use Rattle.lock_model.specs.Deck.{Deck}
 use Rattle.lock_rules.specs.Arrival.{numbers_from}
 use Rattle.refute_rules.specs.Choices.{BerthOf, PairOf, Lies as LiesAt, Before as IsBefore, berths_of, options_of, decisions}
@@ -9,19 +10,6 @@ use Rattle.case_search.proofs.BerthLemmas.{berths-length, quay-at, host-at}
 use Rattle.case_search.proofs.ListLemmas.{append-assoc, length-append}
 use Rattle.chamber_place.specs.Picks.{IsKnownMoor, decision_of}
 use Rattle.chamber_place.specs.declared.decisions.Decision.{Decision}
-
-pub length-map : {X Y : Type 0} (f : X → Y) (xs : List X) → length (map f xs) ≡ length xs
-length-map f [] = refl
-length-map f (x ∷ xs) = ap suc (length-map f xs)
-
-pub map-append : {X Y : Type 0} (f : X → Y) (xs ys : List X) → map f (xs ++ ys) ≡ map f xs ++ map f ys
-map-append f [] ys = refl
-map-append f (x ∷ xs) ys = ap (λ l. f x ∷ l) (map-append f xs ys)
-
-pub map-at : {X Y : Type 0} (f : X → Y) (xs : List X) (k : ℕ) (d : X) (e : Y) → k < length xs → slice_index_or (map f xs) k e ≡ f (slice_index_or xs k d)
-map-at f [] k d e h = absurd (omega (arith, h))
-map-at f (x ∷ xs) zero d e h = refl
-map-at f (x ∷ xs) (suc k) d e h = map-at f xs k d e (omega (arith, h))
 
 pub numbers-push : (low n : ℕ) → numbers_from low (n + 1) ≡ numbers_from low n ++ (low + n) ∷ []
 numbers-push low n = ap (numbers_from low) (more n) ∙ push low n
@@ -41,7 +29,7 @@ numbers-length low (suc n) = ap suc (numbers-length (suc low) n)
 pub decisions-length : (n : ℕ) → length (decisions (suc n)) ≡ length (decisions n) + 1 + n
 decisions-length n =
     let a = length-append (decisions n) (BerthOf n ∷ map (λ i. PairOf i n) (numbers_from 0 n)) in
-    let m = length-map (λ i. PairOf i n) (numbers_from 0 n) in
+    let m = length-map (numbers_from 0 n) (λ i. PairOf i n) in
     let l = numbers-length 0 n in
     omega (arith, a, m, l)
 
@@ -76,8 +64,8 @@ ship-more decided new ship lower e d is n =
 
 pub ship-room : (decided : List Decision) (ship lower : ℕ) → ship < 8 → lower < ship → map decision_of decided ≡ decisions ship ++ BerthOf ship ∷ map (λ i. PairOf i ship) (numbers_from 0 lower) → length decided < 36
 ship-room decided ship lower few less e =
-    let l = sym (length-map decision_of decided) ∙ ap length e ∙ length-append (decisions ship) (BerthOf ship ∷ map (λ i. PairOf i ship) (numbers_from 0 lower)) in
-    let m = length-map (λ i. PairOf i ship) (numbers_from 0 lower) in
+    let l = sym (length-map decided decision_of) ∙ ap length e ∙ length-append (decisions ship) (BerthOf ship ∷ map (λ i. PairOf i ship) (numbers_from 0 lower)) in
+    let m = length-map (numbers_from 0 lower) (λ i. PairOf i ship) in
     let n = numbers-length 0 lower in
     let all = decisions-length ship in
     let most = decisions-few (suc ship) (omega (arith, few)) in
@@ -85,17 +73,17 @@ ship-room decided ship lower few less e =
 
 pub begin-room : (decided : List Decision) (ship : ℕ) → ship < 8 → map decision_of decided ≡ decisions ship → length decided < 36
 begin-room decided ship few e =
-    let l = sym (length-map decision_of decided) ∙ ap length e in
+    let l = sym (length-map decided decision_of) ∙ ap length e in
     let all = decisions-length ship in
     let most = decisions-few (suc ship) (omega (arith, few)) in
     omega (arith, l, all, most)
 
 -- ---- options
 pub berth-options : (d : Deck) (i : ℕ) → i < length d.ships → length (options_of d (BerthOf i)) ≡ 2 * length d.ships
-berth-options d i h = length-map (LiesAt i) (berths_of (length d.ships) i) ∙ berths-length (length d.ships) i h
+berth-options d i h = length-map (berths_of (length d.ships) i) (LiesAt i) ∙ berths-length (length d.ships) i h
 
 pub berth-choice : (d : Deck) (i option : ℕ) → i < length d.ships → option < 2 * length d.ships → slice_index_or (options_of d (BerthOf i)) option (IsBefore 0 0) ≡ LiesAt i (slice_index_or (berths_of (length d.ships) i) option first_berth)
-berth-choice d i option h l = let n = berths-length (length d.ships) i h in map-at (LiesAt i) (berths_of (length d.ships) i) option first_berth (IsBefore 0 0) (omega (arith, n, l))
+berth-choice d i option h l = let n = berths-length (length d.ships) i h in get_or-map (LiesAt i) (berths_of (length d.ships) i) option first_berth (IsBefore 0 0) (omega (arith, n, l))
 
 pub moor-known : (d : Deck) (i option : ℕ) → i < length d.ships → option < 2 * length d.ships → IsKnownMoor d i (slice_index_or (berths_of (length d.ships) i) option first_berth).moor
 moor-known d i option h l = elim (leb_tells 2 option) [

@@ -1,6 +1,7 @@
 -- Some of a deck's ships.
 use Rattle.std.proofs.Common.{◌≡◌, ◌⊎◌, ℕ, zero, suc, ◌+◌, ◌-◌, ◌<◌, ◌≤◌, List, [], ◌∷◌, ◌++◌, length, map, take, drop, slice_index, slice_index_or, inl, inr, refl, sym, ap, ◌∙◌, subst, arith, All, Contains}
-use Rattle.std.proofs.lemmas.Bool.Decides.{leb_tells}
+use Rattle.std.proofs.lemmas.Bool.{cases_lt}
+use Rattle.std.proofs.lemmas.List.{length-map, length-take-le, map-append, take-map, take_rest, drop-map, get_or_at, get_or_default, get_or-append-add, get_or-map, get_or-take}
 use Rattle.std.proofs.lemmas.List.Kept.{AllPairs-from_increasing}
 use Rattle.std.specs.List.{remove}
 use Rattle.std.specs.List.Sorted.{IsStrictlyIncreasing}
@@ -11,13 +12,10 @@ use Rattle.refute_rules.specs.declared.refutation.Refutation.TheVariants as refu
 use Rattle.refute_rules.specs.Reasons.{AreSome}
 use Rattle.refute_rules.specs.Refutes.{IsRefuted}
 use Rattle.refute_rules.specs.Clashes.{IsClashingPair}
-use Rattle.case_search.proofs.ListLemmas.{append-assoc, length-append}
+use Rattle.case_search.proofs.ListLemmas.{append-assoc, length-append, length-push}
 use Rattle.chamber_place.specs.Placing.{PlaceRefutes}
 use Rattle.chamber_place.specs.Parts.{part_of, IsLeast, KeepsClash, IsPart, IsSmaller, IsRefutedPart, IsSmallerPart, BeginsWithClash}
-use Rattle.chamber_place.proofs.OptionLemmas.{length-map, map-append, map-at, numbers-length}
-
-pub less-or-most : (a b : ℕ) → (a < b) ⊎ (b ≤ a)
-less-or-most a b = elim (leb_tells b a) [ inl y ↦ inr y.1 | inr n ↦ inl (let less = n.1 in omega (arith, less)) ]
+use Rattle.chamber_place.proofs.OptionLemmas.{numbers-length}
 
 -- ---- a list without one element
 pub remove-length : {X : Type 0} (xs : List X) (k : ℕ) → k < length xs → length (remove xs k) + 1 ≡ length xs
@@ -48,7 +46,7 @@ record IsFrom {X : Type 0} (xs : List X) (k i : ℕ) : Type 0 where
   pub late : k ≤ i → at ≡ suc i
 
 from-at : {X : Type 0} (xs : List X) (k i : ℕ) → k < length xs → i < length (remove xs k) → IsFrom xs k i
-from-at xs k i h l = elim (less-or-most i k) [
+from-at xs k i h l = elim (cases_lt i k) [
   | inl a ↦ record { at = i; same = λ d. remove-below xs k i d a h; low = omega arith; high = omega arith; less = omega (arith, a, h); early = λ e. refl; late = λ m. absurd (omega (arith, a, m)) }
   | inr b ↦ let n = remove-length xs k h in record { at = suc i; same = λ d. remove-above xs k i d b h; low = omega arith; high = omega arith; less = omega (arith, l, n); early = λ e. absurd (omega (arith, b, e)); late = λ m. refl }
 ]
@@ -57,7 +55,7 @@ pub remove-rising : (xs : List ℕ) (k : ℕ) → k < length xs → IsStrictlyIn
 remove-rising xs k h rising i l =
     let a = from-at xs k i h (omega (arith, l)) in
     let b = from-at xs k (i + 1) h l in
-    let less : a.at < b.at = elim (less-or-most i k) [
+    let less : a.at < b.at = elim (cases_lt i k) [
       | inl e ↦ let p = a.early e in let q = b.low in omega (arith, p, q)
       | inr m ↦ let p = a.high in let q = b.late (omega (arith, m)) in omega (arith, p, q)
     ] in
@@ -70,76 +68,39 @@ pub remove-all : {X : Type 0} (P : X → Type 0) (xs : List X) (k : ℕ) → k <
 remove-all P xs k h all i d l = let a = from-at xs k i h l in subst P (sym (a.same d)) (all a.at d a.less)
 
 pub remove-within : (xs : List ℕ) (k : ℕ) → k < length xs → All (Contains xs) (remove xs k)
-remove-within xs k h i d l = let a = from-at xs k i h l in (a.at, a.less, ap (slice_index_or xs a.at) (a.same d) ∙ own xs a.at d a.less ∙ sym (a.same d))
-  where
-    own : (xs : List ℕ) (i d : ℕ) → i < length xs → slice_index_or xs i (slice_index_or xs i d) ≡ slice_index_or xs i d
-    own [] i d h = absurd (omega (arith, h))
-    own (x ∷ xs) zero d h = refl
-    own (x ∷ xs) (suc i) d h = own xs i d (omega (arith, h))
-
-take-map : {X Y : Type 0} (f : X → Y) (n : ℕ) (xs : List X) → take n (map f xs) ≡ map f (take n xs)
-take-map f zero [] = refl
-take-map f zero (x ∷ xs) = refl
-take-map f (suc n) [] = refl
-take-map f (suc n) (x ∷ xs) = ap (λ l. f x ∷ l) (take-map f n xs)
-
-drop-map : {X Y : Type 0} (f : X → Y) (n : ℕ) (xs : List X) → drop n (map f xs) ≡ map f (drop n xs)
-drop-map f zero xs = refl
-drop-map f (suc n) [] = refl
-drop-map f (suc n) (x ∷ xs) = drop-map f n xs
+remove-within xs k h i d l = let a = from-at xs k i h l in (a.at, a.less, ap (slice_index_or xs a.at) (a.same d) ∙ get_or_default xs a.at (slice_index_or xs a.at d) d a.less ∙ sym (a.same d))
 
 remove-map : {X Y : Type 0} (f : X → Y) (xs : List X) (k : ℕ) → remove (map f xs) k ≡ map f (remove xs k)
 remove-map f xs k = ap (λ l. l ++ drop (suc k) (map f xs)) (take-map f k xs) ∙ ap (λ l. map f (take k xs) ++ l) (drop-map f (suc k) xs) ∙ sym (map-append f (take k xs) (drop (suc k) xs))
 
 -- ---- the beginning of a rising list
-index-take : {X : Type 0} (xs : List X) (n k : ℕ) (d : X) → k < n → slice_index_or (take n xs) k d ≡ slice_index_or xs k d
-index-take xs zero k d h = absurd (omega (arith, h))
-index-take [] (suc n) k d h = refl
-index-take (x ∷ xs) (suc n) zero d h = refl
-index-take (x ∷ xs) (suc n) (suc k) d h = index-take xs n k d (omega (arith, h))
-
-length-take : {X : Type 0} (n : ℕ) (xs : List X) → n ≤ length xs → length (take n xs) ≡ n
-length-take zero [] h = refl
-length-take zero (x ∷ xs) h = refl
-length-take (suc n) [] h = absurd (omega (arith, h))
-length-take (suc n) (x ∷ xs) h = ap suc (length-take n xs (omega (arith, h)))
-
 pub take-below : (xs : List ℕ) (n : ℕ) → n < length xs → IsStrictlyIncreasing xs → All (λ s. s < slice_index_or xs n 0) (take n xs)
 take-below xs n h rising k d l =
-    let m = length-take n xs (omega (arith, h)) in
+    let m = length-take-le n xs (omega (arith, h)) in
     let few : k < n = omega (arith, l, m) in
     let both : slice_index_or xs k d < slice_index_or xs n d = AllPairs-from_increasing xs rising k n d few h in
-    let e = index-take xs n k d few in
-    let g = any xs n d h in
+    let e = get_or-take n xs k d few in
+    let g = get_or_default xs n d 0 h in
     omega (arith, both, e, g)
-  where
-    any : (xs : List ℕ) (i d : ℕ) → i < length xs → slice_index_or xs i d ≡ slice_index_or xs i 0
-    any [] i d h = absurd (omega (arith, h))
-    any (x ∷ xs) zero d h = refl
-    any (x ∷ xs) (suc i) d h = any xs i d (omega (arith, h))
 
 pub take-rising : (xs : List ℕ) (n : ℕ) → n ≤ length xs → IsStrictlyIncreasing xs → IsStrictlyIncreasing (take n xs)
 take-rising xs n h rising k l =
-    let m = length-take n xs h in
+    let m = length-take-le n xs h in
     let both : slice_index_or xs k 0 < slice_index_or xs (k + 1) 0 = rising k (omega (arith, l, m, h)) in
-    let p = index-take xs n k 0 (omega (arith, l, m)) in
-    let q = index-take xs n (k + 1) 0 (omega (arith, l, m)) in
+    let p = get_or-take n xs k 0 (omega (arith, l, m)) in
+    let q = get_or-take n xs (k + 1) 0 (omega (arith, l, m)) in
     omega (arith, both, p, q)
 
 take-more : {X : Type 0} (old more : List X) (i : ℕ) → take (length old + i) (old ++ more) ≡ old ++ take i more
 take-more [] more i = ap (λ n. take n more) (let e : 0 + i ≡ i = omega arith in e)
 take-more (x ∷ old) more i = ap (λ n. take n (x ∷ old ++ more)) (let e : length (x ∷ old) + i ≡ suc (length old + i) = omega arith in e) ∙ ap (λ l. x ∷ l) (take-more old more i)
 
-index-more : {X : Type 0} (old more : List X) (i : ℕ) (d : X) → slice_index_or (old ++ more) (length old + i) d ≡ slice_index_or more i d
-index-more [] more i d = ap (λ n. slice_index_or more n d) (let e : 0 + i ≡ i = omega arith in e)
-index-more (x ∷ old) more i d = ap (λ n. slice_index_or (x ∷ old ++ more) n d) (let e : length (x ∷ old) + i ≡ suc (length old + i) = omega arith in e) ∙ index-more old more i d
-
 pub push-below : (old more now : List ℕ) (i : ℕ) → i < length more → IsStrictlyIncreasing (old ++ more) → now ≡ old ++ take i more → All (λ s. s < slice_index_or more i 0) now
 push-below old more now i h rising e =
     let n = length-append old more in
     let all = take-below (old ++ more) (length old + i) (omega (arith, h, n)) rising in
     subst (All (λ s. s < slice_index_or more i 0)) (take-more old more i ∙ sym e)
-    (subst (λ v. All (λ s. s < v) (take (length old + i) (old ++ more))) (index-more old more i 0) all)
+    (subst (λ v. All (λ s. s < v) (take (length old + i) (old ++ more))) (get_or-append-add old more i 0) all)
 
 -- ---- all places
 number-at : (low n k d : ℕ) → k < n → slice_index_or (numbers_from low n) k d ≡ low + k
@@ -161,19 +122,11 @@ numbers-rising n k l =
     let q = number-at 0 n (k + 1) 0 (omega (arith, l, m)) in
     omega (arith, p, q)
 
-index-middle : {X : Type 0} (ys : List X) (x : X) (xs : List X) (e : X) → slice_index_or (ys ++ x ∷ xs) (length ys) e ≡ x
-index-middle [] x xs e = refl
-index-middle (y ∷ ys) x xs e = index-middle ys x xs e
-
-length-push : {X : Type 0} (ys : List X) (x : X) → suc (length ys) ≡ length (ys ++ x ∷ [])
-length-push [] x = refl
-length-push (y ∷ ys) x = ap suc (length-push ys x)
-
 own-rest : {X : Type 0} (e : X) (ys xs : List X) → map (λ k. slice_index_or (ys ++ xs) k e) (numbers_from (length ys) (length xs)) ≡ xs
 own-rest e ys [] = refl
 own-rest e ys (x ∷ xs) =
-    ap (λ h. h ∷ map (λ k. slice_index_or (ys ++ x ∷ xs) k e) (numbers_from (suc (length ys)) (length xs))) (index-middle ys x xs e)
-    ∙ ap (λ l. x ∷ l) (ap (λ zs. map (λ k. slice_index_or zs k e) (numbers_from (suc (length ys)) (length xs))) (sym (append-assoc ys (x ∷ []) xs)) ∙ ap (λ n. map (λ k. slice_index_or ((ys ++ x ∷ []) ++ xs) k e) (numbers_from n (length xs))) (length-push ys x) ∙ own-rest e (ys ++ x ∷ []) xs)
+    ap (λ h. h ∷ map (λ k. slice_index_or (ys ++ x ∷ xs) k e) (numbers_from (suc (length ys)) (length xs))) (get_or_at ys x xs e (length ys) refl)
+    ∙ ap (λ l. x ∷ l) (ap (λ zs. map (λ k. slice_index_or zs k e) (numbers_from (suc (length ys)) (length xs))) (sym (append-assoc ys (x ∷ []) xs)) ∙ ap (λ n. map (λ k. slice_index_or ((ys ++ x ∷ []) ++ xs) k e) (numbers_from n (length xs))) (sym (length-push ys x)) ∙ own-rest e (ys ++ x ∷ []) xs)
 
 pub part-all : (d : Deck) → part_of d (numbers_from 0 (length d.ships)) ≡ d
 part-all d = ap (λ ships. record { length = d.length; width = d.width; end = d.end; gap = d.gap; side = d.side; ships = ships }) (own-rest no_size [] d.ships)
@@ -197,11 +150,11 @@ part-deck d places limits some few = record {
   long = limits.long;
   wide = limits.wide;
   clear = limits.clear;
-  count = let l = length-map (size_at d) places in let one = some.some in (omega (arith, l, one), omega (arith, l, few));
+  count = let l = length-map places (size_at d) in let one = some.some in (omega (arith, l, one), omega (arith, l, few));
   sizes = λ k e h.
-      let l = length-map (size_at d) places in
+      let l = length-map places (size_at d) in
       let less : k < length places = omega (arith, h, l) in
-      subst IsSize (sym (map-at (size_at d) places k 0 e less)) (limits.sizes (slice_index_or places k 0) no_size (some.known k 0 less));
+      subst IsSize (sym (get_or-map (size_at d) places k 0 e less)) (limits.sizes (slice_index_or places k 0) no_size (some.known k 0 less));
 }
 
 pub fewer-some : (d : Deck) (places : List ℕ) (k : ℕ) → AreSome d places → 2 ≤ length places → k < length places → AreSome d (remove places k)
@@ -214,12 +167,12 @@ fewer-some d places k some two h = record {
 pub part-least : (d : Deck) (places : List ℕ) (turns : ℕ) → ((k : ℕ) → k < length places → PlaceRefutes (part_of d (remove places k)) turns → ⊥) → IsLeast (part_of d places) turns
 part-least d places turns none = record {
   needed = λ k two h refutes.
-      let l = length-map (size_at d) places in
+      let l = length-map places (size_at d) in
       none k (omega (arith, h, l)) (subst (λ e. PlaceRefutes e turns) (ap (λ ships. record { length = d.length; width = d.width; end = d.end; gap = d.gap; side = d.side; ships = ships }) (remove-map (size_at d) places k)) refutes);
 }
 
 pub single-least : (d : Deck) (places : List ℕ) (turns : ℕ) → length places ≤ 1 → IsLeast (part_of d places) turns
-single-least d places turns one = record { needed = λ k two h refutes. let l = length-map (size_at d) places in absurd (omega (arith, l, one, two)) }
+single-least d places turns one = record { needed = λ k two h refutes. let l = length-map places (size_at d) in absurd (omega (arith, l, one, two)) }
 
 -- ---- from one part to a smaller one
 pub smaller-same : (d : Deck) (turns : ℕ) (places : List ℕ) → IsSmaller d turns places places
@@ -309,29 +262,17 @@ begun-kept d (refutation.Spots marks) turns begun kept refuted begins some small
 -- ---- the ships at places
 pub ships-below : (ships places : List ℕ) (i : ℕ) → i < length places → IsStrictlyIncreasing ships → IsStrictlyIncreasing places → All (λ k. k < length ships) places → All (λ s. s < slice_index_or ships (slice_index_or places i 0) 0) (map (λ k. slice_index_or ships k 0) (take i places))
 ships-below ships places i h rising up known k d l =
-    let n = length-map (λ k. slice_index_or ships k 0) (take i places) in
-    let m = length-take i places (omega (arith, h)) in
+    let n = length-map (take i places) (λ k. slice_index_or ships k 0) in
+    let m = length-take-le i places (omega (arith, h)) in
     let few : k < i = omega (arith, l, n, m) in
     let here : slice_index_or (map (λ k. slice_index_or ships k 0) (take i places)) k d ≡ slice_index_or ships (slice_index_or places k 0) 0 =
-    map-at (λ k. slice_index_or ships k 0) (take i places) k 0 d (omega (arith, few, m)) ∙ ap (λ p. slice_index_or ships p 0) (index-take places i k 0 few) in
+    get_or-map (λ k. slice_index_or ships k 0) (take i places) k 0 d (omega (arith, few, m)) ∙ ap (λ p. slice_index_or ships p 0) (get_or-take i places k 0 few) in
     let order : slice_index_or places k 0 < slice_index_or places i 0 = AllPairs-from_increasing places up k i 0 few h in
     let both : slice_index_or ships (slice_index_or places k 0) 0 < slice_index_or ships (slice_index_or places i 0) 0 = AllPairs-from_increasing ships rising (slice_index_or places k 0) (slice_index_or places i 0) 0 order (known i 0 h) in
     omega (arith, here, both)
 
 -- ---- two pieces of a rising list
-take-most : {X : Type 0} (xs : List X) (n : ℕ) → length xs ≤ n → take n xs ≡ xs
-take-most [] zero h = refl
-take-most [] (suc n) h = refl
-take-most (x ∷ xs) zero h = absurd (omega (arith, h))
-take-most (x ∷ xs) (suc n) h = ap (λ l. x ∷ l) (take-most xs n (omega (arith, h)))
-
-length-drop : {X : Type 0} (n : ℕ) (xs : List X) → n ≤ length xs → length (drop n xs) + n ≡ length xs
-length-drop zero xs h = omega arith
-length-drop (suc n) [] h = absurd (omega (arith, h))
-length-drop (suc n) (x ∷ xs) h = let rest = length-drop n xs (omega (arith, h)) in omega (arith, rest)
-
 pub pieces-rising : (xs front : List ℕ) (n : ℕ) → front ≡ take n xs → n < length xs → IsStrictlyIncreasing xs → IsStrictlyIncreasing (front ++ take (length xs - (n + 1)) (drop (n + 1) xs))
 pieces-rising xs front n e h rising =
-    let l = length-drop (n + 1) xs (omega (arith, h)) in
     let s : n + 1 ≡ suc n = omega arith in
-    subst IsStrictlyIncreasing (ap (λ f. f ++ drop (suc n) xs) (sym e) ∙ ap (λ r. front ++ r) (sym (take-most (drop (n + 1) xs) (length xs - (n + 1)) (omega (arith, l)) ∙ ap (λ k. drop k xs) s))) (remove-rising xs n h rising)
+    subst IsStrictlyIncreasing (ap (λ f. f ++ drop (suc n) xs) (sym e) ∙ ap (λ r. front ++ r) (sym (take_rest xs (n + 1) ∙ ap (λ k. drop k xs) s))) (remove-rising xs n h rising)

@@ -1,8 +1,6 @@
 -- What the search of a deck's cases says of the deck.
-use Rattle.std.proofs.Common.{◌≡◌, ℕ, zero, suc, ◌<◌, ◌≤◌, List, [], ◌∷◌, ◌++◌, length, map, cond, inl, inr, refl, sym, ap, ◌∙◌, subst, arith, Some}
+use Rattle.std.proofs.Common.{◌≡◌, ℕ, zero, suc, ◌<◌, List, [], ◌∷◌, length, map, cond, inl, inr, refl, sym, ap, ◌∙◌, subst, arith, Some}
 use Rattle.std.proofs.lemmas.Bool.Decides.{eqb_tells}
-use Rattle.std.proofs.lemmas.List.Elements.{recursion_from_All}
-use Rattle.std.specs.List.{AllByRecursion}
 use Rattle.lock_model.specs.Deck.{Deck}
 use Rattle.lock_model.specs.declared.placement.Spot.{Spot}
 use Rattle.lock_rules.specs.Arrival.{numbers_from}
@@ -10,47 +8,18 @@ use Rattle.diff_system.specs.PathTree.{PathTree}
 use Rattle.refute_rules.specs.Reasons.{HasNoReason}
 use Rattle.refute_rules.specs.Choices.{BerthOf, PairOf, Choice, Lies, Before, Below, Stands, Berth, berths_of, options_of, decisions}
 use Rattle.refute_rules.specs.Decided.{berth_in}
-use Rattle.refute_rules.specs.Listing.{AreThose, IsFirstWithin, HasNoneOf, HasMore}
-use Rattle.refute_rules.specs.Cases.{IsConsistent, IsWhole, IsCaseFault, case_fault_numbers, AreSpotsOf, cases_of}
+use Rattle.refute_rules.specs.Listing.{IsFirstWithin, HasMore}
+use Rattle.refute_rules.specs.Cases.{IsConsistent, IsWhole, IsHard, IsCaseFault, case_fault_numbers, AreSpotsOf, cases_of}
 use Rattle.refute_rules.specs.Trees.{IsCaseTree}
 use Rattle.refute_rules.proofs.Among.{IsAmong, IsAmong-left, IsAmong-right}
 use Rattle.refute_rules.proofs.FitLemmas.{case-legal, whole-chosen, decided}
 use Rattle.case_search.specs.Found.{IsRefutedBy as FoundRefuted}
+use Rattle.case_search.proofs.ExactLemmas.{none-first, none-more, first-more}
 use Rattle.case_search.proofs.TreeLemmas.{renamed-tree}
 use Rattle.chamber_place.specs.Faults.{fault_of}
 use Rattle.chamber_place.specs.OnItsWay.{IsSettled, case_rules}
 use Rattle.chamber_place.specs.Spotting.{IsBerthDecided, AreFirstSpots}
 use Rattle.chamber_place.specs.Placing.{IsFit, IsRefutedBy, PlaceRefutes}
-
--- ---- at most one of the three answers
-module _ {X : Type 0} (P Q : X → Type 0) where
-  found-not : (begun left found : List X) (x : X) → AreThose P (begun ++ x ∷ left) found → P x → Q x → AllByRecursion (λ y. Q y → ⊥) found → ⊥
-  found-not [] left [] x those has is none = those.0 has
-  found-not [] left (f ∷ fs) x (inl h) has is none = none.0 (subst Q h.1 is)
-  found-not [] left (f ∷ fs) x (inr h) has is none = h.0 has
-  found-not (b ∷ begun) left [] x those has is none = found-not begun left [] x those.1 has is none
-  found-not (b ∷ begun) left (f ∷ fs) x (inl h) has is none = found-not begun left fs x h.2 has is none.1
-  found-not (b ∷ begun) left (f ∷ fs) x (inr h) has is none = found-not begun left (f ∷ fs) x h.1 has is none
-
-  pub none-first : (t : ℕ) (xs : List X) (x : X) → HasNoneOf P Q t xs → IsFirstWithin P Q t xs x → ⊥
-  none-first t xs x none first = found-not first.begun first.left none.found x (subst (λ l. AreThose P l none.found) (sym first.split) none.those) first.has first.is (recursion_from_All (λ y. Q y → ⊥) none.found none.none)
-
-  fewer : (begun left fs gs : List X) → AreThose P (begun ++ left) fs → AreThose P begun gs → length gs ≤ length fs
-  fewer [] left fs gs h g = subst (λ l. length l ≤ length fs) (sym g) (omega arith)
-  fewer (b ∷ begun) left fs [] h g = omega arith
-  fewer (b ∷ begun) left [] (y ∷ gs) h (inl g) = absurd (h.0 g.0)
-  fewer (b ∷ begun) left [] (y ∷ gs) h (inr g) = fewer begun left [] (y ∷ gs) h.1 g.1
-  fewer (b ∷ begun) left (f ∷ fs) (y ∷ gs) (inl h) (inl g) = let rest = fewer begun left fs gs h.2 g.2 in omega (arith, rest)
-  fewer (b ∷ begun) left (f ∷ fs) (y ∷ gs) (inl h) (inr g) = absurd (g.0 h.0)
-  fewer (b ∷ begun) left (f ∷ fs) (y ∷ gs) (inr h) (inl g) = absurd (h.0 g.0)
-  fewer (b ∷ begun) left (f ∷ fs) (y ∷ gs) (inr h) (inr g) = fewer begun left (f ∷ fs) (y ∷ gs) h.1 g.1
-
-  pub none-more : (t : ℕ) (xs : List X) → HasNoneOf P Q t xs → HasMore P Q t xs → ⊥
-  none-more t xs none more =
-      let l = fewer more.begun more.left none.found more.found (subst (λ l. AreThose P l none.found) (sym more.split) none.those) more.those in
-      let few = none.few in
-      let count = more.count in
-      omega (arith, l, few, count)
 
 -- ---- a whole case decides all berths
 berth-decision : (n i : ℕ) → i < n → IsAmong (decisions n) (BerthOf i)
@@ -108,6 +77,12 @@ module _ (d : Deck) (turns : ℕ) where
   pub more-refutes_not : HasNoReason d → HasMore (IsConsistent d) (IsWhole d) turns (cases_of d) → PlaceRefutes d turns → ⊥
   more-refutes_not reasonless more (inl q) = reasonless q.0 q.1
   more-refutes_not reasonless more (inr none) = none-more (IsConsistent d) (IsWhole d) turns (cases_of d) none more
+
+  pub first-hard_not : (case : List Choice) → IsFirstWithin (IsConsistent d) (IsWhole d) turns (cases_of d) case → IsHard d turns → ⊥
+  first-hard_not case first hard = first-more (IsConsistent d) (IsWhole d) turns (cases_of d) case first hard.more
+
+  pub none-hard_not : (marks : List ℕ) → IsRefutedBy d turns marks → IsHard d turns → ⊥
+  none-hard_not marks refuted hard = none-more (IsConsistent d) (IsWhole d) turns (cases_of d) refuted.none hard.more
 
   pub case-tree : (marks : List ℕ) → FoundRefuted (case_rules d) turns marks → IsCaseTree d marks
   case-tree marks refuted =

@@ -1,6 +1,8 @@
 -- A case goes on its way by one option, and back.
 use Rattle.std.proofs.Common.{◌≡◌, ◌⊎◌, ℕ, zero, suc, ◌+◌, ◌-◌, ◌<◌, ◌≤◌, List, [], ◌∷◌, ◌++◌, length, map, flat_map, take, drop, cond, nat_eq, slice_index_or, inl, inr, refl, sym, ap, ◌∙◌, subst, arith, Some, None}
-use Rattle.std.proofs.lemmas.Bool.Decides.{leb_tells, eqb_tells}
+use Rattle.std.proofs.lemmas.Bool.{cases_lt}
+use Rattle.std.proofs.lemmas.Bool.Decides.{eqb_tells}
+use Rattle.std.proofs.lemmas.List.{length-map, length-take-le, map-append, take-map, take-take, get_or_append_left, get_or_push, get_or-take}
 use Rattle.std.specs.declared.option.Option.{Option}
 use Rattle.lock_model.specs.Deck.{Deck}
 use Rattle.lock_model.specs.declared.placement.Moor.TheVariants.{Ship}
@@ -29,7 +31,7 @@ use Rattle.chamber_place.specs.declared.picks.Pick.TheVariants.{Lies, Before, Be
 use Rattle.chamber_place.specs.declared.decisions.Decision.{Decision}
 use Rattle.chamber_place.specs.declared.decisions.Decision.TheVariants.{Berthing, Pair}
 use Rattle.chamber_place.specs.declared.faults.CaseFault.{CaseFault}
-use Rattle.chamber_place.proofs.OptionLemmas.{numbers-push, length-map, map-append, berth-options, berth-choice}
+use Rattle.chamber_place.proofs.OptionLemmas.{numbers-push, berth-options, berth-choice}
 
 -- ---- lists
 pub choices-push : (ps : List Pick) (p : Pick) → choices_of (ps ++ p ∷ []) ≡ choices_of ps ++ choice_of p ∷ []
@@ -41,50 +43,11 @@ edges-push d ps p =
     ∙ ap (λ l. flat_map (ship_edges d) (numbers_from 0 (length d.ships)) ++ l) (flat_map-append (choice_edges d) (choices_of ps) (choice_of p ∷ []) ∙ ap (λ l. flat_map (choice_edges d) (choices_of ps) ++ l) (append-nil (choice_edges d (choice_of p))))
     ∙ sym (append-assoc (flat_map (ship_edges d) (numbers_from 0 (length d.ships))) (flat_map (choice_edges d) (choices_of ps)) (choice_edges d (choice_of p)))
 
-index-front : {X : Type 0} (xs ys : List X) (k : ℕ) (d : X) → k < length xs → slice_index_or (xs ++ ys) k d ≡ slice_index_or xs k d
-index-front [] ys k d h = absurd (omega (arith, h))
-index-front (x ∷ xs) ys zero d h = refl
-index-front (x ∷ xs) ys (suc k) d h = index-front xs ys k d (omega (arith, h))
-
-index-last : {X : Type 0} (xs : List X) (x d : X) → slice_index_or (xs ++ x ∷ []) (length xs) d ≡ x
-index-last [] x d = refl
-index-last (y ∷ xs) x d = index-last xs x d
-
-index-take : {X : Type 0} (xs : List X) (n k : ℕ) (d : X) → k < n → slice_index_or (take n xs) k d ≡ slice_index_or xs k d
-index-take xs zero k d h = absurd (omega (arith, h))
-index-take [] (suc n) k d h = refl
-index-take (x ∷ xs) (suc n) zero d h = refl
-index-take (x ∷ xs) (suc n) (suc k) d h = index-take xs n k d (omega (arith, h))
-
-take-take : {X : Type 0} (k n : ℕ) (xs : List X) → k ≤ n → take k (take n xs) ≡ take k xs
-take-take zero zero [] h = refl
-take-take zero zero (x ∷ xs) h = refl
-take-take zero (suc n) [] h = refl
-take-take zero (suc n) (x ∷ xs) h = refl
-take-take (suc k) zero xs h = absurd (omega (arith, h))
-take-take (suc k) (suc n) [] h = refl
-take-take (suc k) (suc n) (x ∷ xs) h = ap (λ l. x ∷ l) (take-take k n xs (omega (arith, h)))
-
-length-take : {X : Type 0} (n : ℕ) (xs : List X) → n ≤ length xs → length (take n xs) ≡ n
-length-take zero [] h = refl
-length-take zero (x ∷ xs) h = refl
-length-take (suc n) [] h = absurd (omega (arith, h))
-length-take (suc n) (x ∷ xs) h = ap suc (length-take n xs (omega (arith, h)))
-
-take-map : {X Y : Type 0} (f : X → Y) (n : ℕ) (xs : List X) → take n (map f xs) ≡ map f (take n xs)
-take-map f zero [] = refl
-take-map f zero (x ∷ xs) = refl
-take-map f (suc n) [] = refl
-take-map f (suc n) (x ∷ xs) = ap (λ l. f x ∷ l) (take-map f n xs)
-
 take-last : {X : Type 0} (xs : List X) (n : ℕ) (x : X) → length xs ≡ n + 1 → slice_index_or xs n x ≡ x → xs ≡ take n xs ++ x ∷ []
 take-last [] n x h e = absurd (omega (arith, h))
 take-last (y ∷ []) zero x h e = ap (λ z. z ∷ []) e
 take-last (y ∷ z ∷ xs) zero x h e = absurd (omega (arith, h))
 take-last (y ∷ xs) (suc n) x h e = ap (λ l. y ∷ l) (take-last xs n x (omega (arith, h)) e)
-
-pub less-or-most : (a b : ℕ) → (a < b) ⊎ (b ≤ a)
-less-or-most a b = elim (leb_tells b a) [ inl y ↦ inr y.1 | inr n ↦ inl (let less = n.1 in omega (arith, less)) ]
 
 -- ---- ranks
 berth-append : (case : List Choice) (c : Choice) (i : ℕ) → berth_in (c ∷ []) i ≡ None → berth_in (case ++ c ∷ []) i ≡ berth_in case i
@@ -149,7 +112,7 @@ first-options d decided ds k x e h = ap (λ l. options_first (options_of d) (dro
 
 pub no-options : (d : Deck) (decided : List Decision) (ds : List Told) (k : ℕ) → map decision_of decided ≡ ds → length decided ≤ k → options_first (options_of d) (drop k ds) ≡ []
 no-options d decided ds k e h =
-    let l = length-map decision_of decided in
+    let l = length-map decided decision_of in
     let same = ap length e in
     ap (options_first (options_of d)) (drop-all k ds (omega (arith, h, l, same)))
 
@@ -274,18 +237,18 @@ module _ (d : Deck) (decided : List Decision) (picks : List Pick) (edges : List 
       in_order = way.in_order;
       chosen = more-chosen;
       edges_are = more-edges;
-      settled = λ k h. all k h (less-or-most k (length paths));
+      settled = λ k h. all k h (cases_lt k (length paths));
       state = let count = good-paths good in let l = length-push picks p in let m = length-push paths tree in omega (arith, count, l, m);
     }
       where
         all : (k : ℕ) → k < length (paths ++ tree ∷ []) → (k < length paths) ⊎ (length paths ≤ k) → IsSettled d (choices_of (take k more)) (paths_at (paths ++ tree ∷ []) k)
-        all k h (inl y) = subst (λ t. IsSettled d (choices_of (take k more)) t) (sym (index-front paths (tree ∷ []) k no_paths y)) (kept-settled k y)
+        all k h (inl y) = subst (λ t. IsSettled d (choices_of (take k more)) t) (sym (get_or_append_left paths (tree ∷ []) no_paths k y)) (kept-settled k y)
         all k h (inr n) =
             let m = length-push paths tree in
             let count = good-paths good in
             let l = length-push picks p in
             let end : k ≡ length paths = omega (arith, h, n, m) in
-            subst (λ t. IsSettled d (choices_of (take k more)) t) (sym (ap (λ i. slice_index_or (paths ++ tree ∷ []) i no_paths) end ∙ index-last paths tree no_paths))
+            subst (λ t. IsSettled d (choices_of (take k more)) t) (sym (ap (λ i. slice_index_or (paths ++ tree ∷ []) i no_paths) end ∙ get_or_push paths tree no_paths (length paths) refl))
             (subst (λ ps. IsSettled d (choices_of ps) tree) (sym (take-all more k (omega (arith, end, count, l)))) settled)
 
   -- the last option is taken back
@@ -321,19 +284,19 @@ module _ (d : Deck) (decided : List Decision) (picks : List Pick) (edges : List 
       chosen = take-chosen d (decisions (length d.ships)) picks n way.chosen;
       edges_are = fewer-edges;
       settled = λ k h. kept k h;
-      state = let l = length-take (n + 1) paths (paths-count fault way.state) in let m = length-take n picks (omega (arith, one)) in omega (arith, l, m);
+      state = let l = length-take-le (n + 1) paths (paths-count fault way.state) in let m = length-take-le n picks (omega (arith, one)) in omega (arith, l, m);
     }
       where
         kept : (k : ℕ) → k < length (take (n + 1) paths) → IsSettled d (choices_of (take k fewer)) (paths_at (take (n + 1) paths) k)
         kept k h =
-            let l = length-take (n + 1) paths (paths-count fault way.state) in
+            let l = length-take-le (n + 1) paths (paths-count fault way.state) in
             let few : k < n + 1 = omega (arith, h, l) in
             let all = paths-count fault way.state in
-            subst (λ t. IsSettled d (choices_of (take k fewer)) t) (sym (index-take paths (n + 1) k no_paths few))
+            subst (λ t. IsSettled d (choices_of (take k fewer)) t) (sym (get_or-take (n + 1) paths k no_paths few))
             (subst (λ ps. IsSettled d (choices_of ps) (paths_at paths k)) (sym (take-take k n picks (omega (arith, few)))) (way.settled k (omega (arith, few, all))))
 
     pub back-case : (before : List Choice) (last : Choice) → choices_of picks ≡ before ++ last ∷ [] → choices_of fewer ≡ before
     back-case before last e =
-        let l = sym (length-map choice_of picks) ∙ ap length e ∙ length-push before last in
+        let l = sym (length-map picks choice_of) ∙ ap length e ∙ length-push before last in
         let same : n ≡ length before = omega (arith, one, l) in
         sym (take-map choice_of n picks) ∙ ap (take n) e ∙ ap (λ i. take i (before ++ last ∷ [])) same ∙ take-front before (last ∷ [])

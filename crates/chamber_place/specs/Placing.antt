@@ -57,3 +57,9 @@ abbrev pub RefutesExactly : Deck → ℕ → Placed → Type 0
 RefutesExactly d turns (Fits spots) = PlaceRefutes d turns → ⊥
 RefutesExactly d turns (Refuted r) = IsRefuted d r × PlaceRefutes d turns
 RefutesExactly d turns (Spent tried) = PlaceRefutes d turns → ⊥
+
+-- `Spent` comes exactly where the deck is hard
+abbrev pub SpendsExactly : Deck → ℕ → Placed → Type 0
+SpendsExactly d turns (Fits spots) = IsHard d turns → ⊥
+SpendsExactly d turns (Refuted r) = IsHard d turns → ⊥
+SpendsExactly d turns (Spent tried) = IsHard d turns

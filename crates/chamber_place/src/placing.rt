@@ -1,7 +1,7 @@
 //! The placer.
 ghost use Rattle.std.specs.Prelude.{◌≤◌, IfOk};
 ghost use Rattle.refute_rules.specs.Reasons.{HasNoReason};
-ghost use Rattle.chamber_place.specs.Placing.{IsPlaced, RefutesExactly};
+ghost use Rattle.chamber_place.specs.Placing.{IsPlaced, RefutesExactly, SpendsExactly};
 
 use crate::deck_case::DeckCase;
 use case_search::{Found, search};
@@ -27,11 +27,13 @@ pub enum Placed {
 ///
 /// The answer is the first of these that applies: the first quick reason; the spots of the first
 /// whole case, where that is among the first `turns` consistent cases; a case tree, where there are
-/// at most `turns` consistent cases; else `Spent`. Its only refusal is want of memory.
+/// at most `turns` consistent cases; else `Spent`, so exactly where the deck is hard for `turns`. Its
+/// only refusal is want of memory.
 pub fn place(alloc: Global, deck: &Deck, turns: u32) -> Result<Placed, NoMemory>
     requires { 1 ≤ turns }
     ensures answer { IfOk result (IsPlaced deck.now turns) }
     ensures refutes { IfOk result (RefutesExactly deck.now turns) }
+    ensures spends { IfOk result (SpendsExactly deck.now turns) }
 {
     match find_reason(deck) {
         Some(reason) => Ok(Placed::Refuted(Refutation::Quick(reason))),
@@ -44,6 +46,7 @@ fn place_by_cases(alloc: Global, deck: &Deck, turns: u32) -> Result<Placed, NoMe
     requires { HasNoReason deck.now }
     ensures answer { IfOk result (IsPlaced deck.now turns) }
     ensures refutes { IfOk result (RefutesExactly deck.now turns) }
+    ensures spends { IfOk result (SpendsExactly deck.now turns) }
 {
     let mut case = DeckCase::new(deck);
     match search(alloc, &mut case, turns)? {

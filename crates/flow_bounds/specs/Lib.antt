@@ -3,3 +3,4 @@ pub mod Walk
 pub mod Whole
 pub mod Places
 pub mod Missing
+pub mod Roster

@@ -16,9 +16,8 @@ pub(crate) fn less(own: u64, told: Option<u64>) -> Option<u64>
 
 // The least of some numbers, 0 of none.
 pub(crate) fn least_number(numbers: &[u64]) -> u64
-    requires { All (λ n. n ≤ 500000000000) numbers.now }
     ensures value { result ≡ least_number numbers.now }
-    ensures small { result ≤ 500000000000 }
+    ensures among { (most : ℕ) → All (λ n. n ≤ most) numbers.now → result ≤ most }
 {
     let mut told = None;
     let mut i = numbers.len();

@@ -3,14 +3,15 @@
 //! Every legal plan under a node costs at least `bound` of the node and at least `probe` of it and
 //! a ship that it lacks (`is_missing`), and every legal plan at least `throughput`. At a node that
 //! holds all ships `bound` is the cost of its earliest plan. `child_bounds` gives the bounds of all
-//! children of a node at once. `least_passage` is the least that a ship can take, served first and
+//! children of a node at once; a `Roster` spares it what is the same at all nodes. `least_passage` is the least that a ship can take, served first and
 //! alone, and `least_passages` adds it over all ships. `least_bound_is_cheapest` is the law that a
 //! search rests on: the least bound of the nodes that hold all ships and whose groups all fit is
 //! the cost of a cheapest plan. No call takes memory.
 //!
 //! Definitions: `lock_rules` says what these numbers are and what a lower bound is (`specs/Bound`,
-//! `Throughput`), and what the search of the whole tree comes to (`Search`). Here `specs/Walk` walks along a line, `Places` has the minutes of the
-//! throughput, `Whole` the earliest plan of a node, `Missing` a ship that a node lacks.
+//! `Throughput`), and what the search of the whole tree comes to (`Search`). Here `specs/Walk` walks
+//! along a line, `Places` has the minutes of the throughput, `Whole` the earliest plan of a node,
+//! `Missing` a ship that a node lacks, and `Roster` what a roster is.
 #![tactic(auto)]
 
 mod capacity;
@@ -21,6 +22,7 @@ mod node_bound;
 mod passage;
 mod places;
 mod probing;
+mod roster;
 #[cfg(test)]
 mod tests;
 mod walk;
@@ -30,3 +32,4 @@ pub use laws::least_bound_is_cheapest;
 pub use node_bound::bound;
 pub use passage::{least_passage, least_passages};
 pub use probing::{Bounds, child_bounds, is_missing, probe};
+pub use roster::Roster;

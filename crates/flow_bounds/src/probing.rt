@@ -1,5 +1,5 @@
 //! What a node's ships take once one more ship has entered it.
-ghost use Rattle.std.specs.Prelude.{◌≡◌, ◌+◌, ◌<◌, ◌≤◌, ◌∷◌, ◌++◌, [], length, map, All, slice_set, insert};
+ghost use Rattle.std.specs.Prelude.{◌≡◌, ◌+◌, ◌<◌, ◌≤◌, ◌∷◌, ◌++◌, [], ℕ, length, map, All, slice_set, insert};
 ghost use Rattle.std.specs.Bool.{OnTrue, OnFalse};
 ghost use Rattle.lock_model.specs.Fleet.{ship_at};
 ghost use Rattle.lock_rules.specs.Plan.{times_in};
@@ -10,16 +10,17 @@ ghost use Rattle.lock_rules.specs.Bound.{line_flow, node_flow, bound_of, probe_o
 ghost use Rattle.master_branch.specs.Node.{IsNodeOf, children};
 ghost use Rattle.master_branch.specs.Steps.{group_at, lines_after, IsStep};
 ghost use Rattle.flow_bounds.specs.Missing.{IsMissing};
+ghost use Rattle.flow_bounds.specs.Roster.{IsRosterOf};
 ghost use Rattle.flow_bounds.specs.Walk.{AreWalks, AreAllWalks};
 
 use crate::least::least_number;
 use crate::line_walks::{LineWalks, finish, line_walks};
-use crate::node_bound::node_flow;
 use crate::passage::{alone, least_passage, passages_from};
+use crate::roster::Roster;
 use crate::walk::{Walk, serve};
 use arrayvec::ArrayVec;
 use lock_model::{Group, Instance};
-use master_branch::{Node, Step, arrival_order, next_ship, steps_by, with_ship};
+use master_branch::{Node, Step, arrival_order, steps_by, with_ship};
 use std::marker::Model;
 
 /// Up to 50 bounds: as many as a node of an instance can have children.
@@ -56,6 +57,14 @@ impl Bounds {
         self.items.as_slice()
     }
 
+    /// The least of the bounds, 0 of none.
+    pub fn least(&self) -> u64
+        ensures value { result ≡ least_number self.now }
+        ensures among { (most : ℕ) → All (λ b. b ≤ most) self.now → result ≤ most }
+    {
+        least_number(self.items.as_slice())
+    }
+
     // Appends a bound.
     fn push(&mut self, bound: u64)
         requires { length self.old < 50 }
@@ -75,6 +84,31 @@ fn all_walks(instance: &Instance, node: &Node) -> ArrayVec<LineWalks, 4>
         all.push(line_walks(instance, chamber, node.line(chamber).as_slice()));
     }
     all
+}
+
+// The flow times of the ships in a chamber's line, by the walks along the lines.
+fn walked_line(instance: &Instance, node: &Node, walks: &[LineWalks], chamber: u8) -> u64
+    requires chamber_in { chamber < length instance.now.chambers }
+    requires walks { AreAllWalks instance.now node.now.lines walks.now }
+    ensures value { result ≡ line_flow instance.now chamber (line_at node.now.lines chamber) }
+    ensures small { result ≤ 72000000000 }
+{
+    let _ = instance;
+    let groups = node.line(chamber).as_slice().len();
+    walks[chamber as usize].as_slice()[groups].flow
+}
+
+// The flow times of a node's ships, by the walks along its lines.
+fn walked_flow(instance: &Instance, node: &Node, walks: &[LineWalks]) -> u64
+    requires { AreAllWalks instance.now node.now.lines walks.now }
+    ensures value { result ≡ node_flow instance.now node.now.lines }
+    ensures small { result ≤ 300000000000 }
+{
+    let mut sum = 0;
+    for chamber in 0..instance.chambers.as_slice().len() as u8 {
+        sum += walked_line(instance, node, walks, chamber);
+    }
+    sum
 }
 
 // The flow times of a line in which a ship has joined the group at this place.
@@ -140,9 +174,7 @@ fn other_flows(
     requires total { total ≡ node_flow instance.now node.now.lines }
     ensures { result + line_flow instance.now chamber (line_at node.now.lines chamber) ≡ total }
 {
-    let _ = instance;
-    let groups = node.line(chamber).as_slice().len();
-    total - walks[chamber as usize].as_slice()[groups].flow
+    total - walked_line(instance, node, walks, chamber)
 }
 
 // The flow times of a node's ships once a ship that it lacks has entered it by a step; `total` are
@@ -161,9 +193,9 @@ fn flow_after(
     requires step { IsStep instance.now ship node.now.lines step }
     requires walks { AreAllWalks instance.now node.now.lines walks.now }
     requires total { total ≡ node_flow instance.now node.now.lines }
-    requires total_small { total ≤ 240000000000 }
+    requires total_small { total ≤ 300000000000 }
     ensures value { result ≡ node_flow instance.now (lines_after instance.now ship node.now.lines step) }
-    ensures small { result ≤ 400000000000 }
+    ensures small { result ≤ 460000000000 }
 {
     match step {
         Step::Join { chamber, place } => {
@@ -192,7 +224,7 @@ fn bounds_by(instance: &Instance, node: &Node, ship: u8, rest: u64) -> Bounds
     ensures small { All (λ b. b ≤ 500000000000) result }
 {
     let walks = all_walks(instance, node);
-    let total = node_flow(instance, node);
+    let total = walked_flow(instance, node, walks.as_slice());
     let mut bounds = Bounds::new();
     let steps = steps_by(instance, node, ship);
     for &step in steps.as_slice() {
@@ -203,15 +235,16 @@ fn bounds_by(instance: &Instance, node: &Node, ship: u8, rest: u64) -> Bounds
 
 /// The bounds of all children of a node that lacks a ship, in the order of the children. The least
 /// of them is the probe of the next ship. Takes no memory.
-pub fn child_bounds(instance: &Instance, node: &Node) -> Bounds
+pub fn child_bounds(instance: &Instance, roster: &Roster, node: &Node) -> Bounds
+    requires roster { IsRosterOf instance.now roster.now }
     requires node { IsNodeOf instance.now node.now }
     requires lacks { node.now.depth < length instance.now.ships }
     ensures value { result ≡ map (bound_of instance.now (node.now.depth + 1)) (children instance.now node.now) }
     ensures probe { least_number result ≡ probe_of instance.now node.now.depth node.now.lines (next_ship instance.now node.now.depth) }
     ensures small { All (λ b. b ≤ 500000000000) result }
 {
-    let ship = next_ship(instance, node.depth());
-    let rest = passages_from(instance, node.depth() + 1);
+    let ship = roster.ship(instance, node.depth());
+    let rest = roster.rest(instance, node.depth() + 1);
     bounds_by(instance, node, ship, rest)
 }
 
@@ -243,5 +276,5 @@ pub fn probe(instance: &Instance, node: &Node, ship: u8) -> u64
 {
     let flows = bounds_by(instance, node, ship, 0);
     let others = passages_from(instance, node.depth()) - least_passage(instance, ship);
-    least_number(flows.as_slice()) + others
+    flows.least() + others
 }

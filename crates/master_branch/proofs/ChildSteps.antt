@@ -36,12 +36,15 @@ length-steps I k s lines next =
     ∙ ap length (steps-children I s lines)
     ∙ ap (λ t. length (children_by I t lines)) next
 
+pub ship-known : (I : Instance) (k s : ℕ) → k < length I.ships → s ≡ next_ship I k → s < length I.ships
+ship-known I k s less next = subst (λ t. t < length I.ships) (sym next) (missing-known I k (next_ship I k) (next-missing I k less))
+
 pub may-step : (I : Instance) (k s : ℕ) (lines : List (List Group)) (step : Step) → IsNode I k lines → k < length I.ships → s ≡ next_ship I k → Contains (steps_by I s lines) step → MayStep I k s lines step
 may-step I k s lines step node less next chosen =
     let up : suc k ≡ k + 1 = omega arith in
     let here : chosen.0 < length (children_of I k lines) = omega (arith, chosen.1, length-steps I k s lines next) in
     record {
-      known = subst (λ t. t < length I.ships) (sym next) (missing-known I k (next_ship I k) (next-missing I k less));
+      known = ship-known I k s less next;
       allowed = All-contains (IsStep I s lines) (steps_by I s lines) step (steps-each I s lines) chosen;
       absent = λ c. subst (λ t. times_on t (line_at lines c) ≡ 0) (sym next) (next-absent I k lines node less c);
       room = λ c. omega (arith, line-few I k lines node c, I.limits.ship_count.1);

@@ -56,16 +56,17 @@ pub fn child_count(instance: &Instance, node: &Node) -> u32
     steps_by(instance, node, ship).as_slice().len() as u32
 }
 
-/// Makes a node that lacks a ship its child number `i`. Takes no memory.
-pub fn descend(instance: &Instance, node: &mut Node, i: u32)
+/// Makes a node that lacks a ship its child number `i`; `ship` is the one that it lacks first. Takes
+/// no memory.
+pub fn descend(instance: &Instance, node: &mut Node, ship: u8, i: u32)
     requires node { IsNodeOf instance.now node.old }
     requires lacks { node.old.depth < length instance.now.ships }
+    requires next { ship ≡ next_ship instance.now node.old.depth }
     requires within { i < length (children instance.now node.old) }
     ensures depth { node.new.depth ≡ node.old.depth + 1 }
     ensures lines { slice_get (children instance.now node.old) i ≡ Some node.new.lines }
     ensures node { IsNodeOf instance.now node.new }
 {
-    let ship = next_ship(instance, node.depth());
     let step = steps_by(instance, node, ship).as_slice()[i as usize];
     take_step(instance, node, ship, step);
 }
@@ -82,7 +83,8 @@ pub fn child(instance: &Instance, node: &Node, i: u32) -> Node
     ensures lines { slice_get (children instance.now node.now) i ≡ Some result.lines }
     ensures node { IsNodeOf instance.now result }
 {
+    let ship = next_ship(instance, node.depth());
     let mut child = node.copy();
-    descend(instance, &mut child, i);
+    descend(instance, &mut child, ship, i);
     child
 }

@@ -1,9 +1,10 @@
 //! The calls that are repeated.
 ghost use Rattle.std.specs.Prelude.{◌<◌, ◌≤◌, length};
+ghost use Rattle.flow_bounds.specs.Roster.{IsRosterOf};
 
 use chamber_place::{Placed, place};
 use deck_laws::spot_values;
-use flow_bounds::child_bounds;
+use flow_bounds::{Roster, child_bounds};
 use instance_text::{make_lot, read_instance};
 use lock_model::{Deck, Instance, Measures, Size, Sizes};
 use master_branch::{descend, root};
@@ -25,18 +26,21 @@ fn place_of_least(numbers: &[u64]) -> usize
 }
 
 // How many nodes are bounded on the way from the root to a node that holds all ships.
-fn nodes_on_the_way(instance: &Instance) -> u64 {
+fn nodes_on_the_way(instance: &Instance, roster: &Roster) -> u64
+    requires { IsRosterOf instance.now roster.now }
+{
     let ships = instance.ships.as_slice().len();
     let mut node = root(instance);
     let mut nodes: u64 = 0;
     while (node.depth() as usize) < ships {
-        let bounds = child_bounds(instance, &node);
+        let bounds = child_bounds(instance, roster, &node);
         let bounds = bounds.as_slice();
         if bounds.is_empty() {
             return nodes;
         }
         nodes = nodes.saturating_add(bounds.len() as u64);
-        descend(instance, &mut node, place_of_least(bounds) as u32);
+        let ship = roster.ship(instance, node.depth());
+        descend(instance, &mut node, ship, place_of_least(bounds) as u32);
     }
     nodes
 }
@@ -47,7 +51,8 @@ pub(crate) fn bounds(ships: u32, chambers: u32, rounds: u32) -> u64 {
     let chambers = chambers.clamp(1, 4) as u8;
     let mut nodes: u64 = 0;
     for number in 0..rounds {
-        nodes = nodes.saturating_add(nodes_on_the_way(&make_lot(number, ships, chambers)));
+        let instance = make_lot(number, ships, chambers);
+        nodes = nodes.saturating_add(nodes_on_the_way(&instance, &Roster::of(&instance)));
     }
     nodes
 }

@@ -2,8 +2,7 @@
 //!
 //! `judge_spots` names the first break of a placement of a deck, and answers None exactly where
 //! the placement is legal. `judge_plan` does the like for a plan of an instance. `first_clash` names
-//! the first two ships of a deck whose cargo clashes. None of them takes
-//! memory.
+//! the first two ships of a deck whose cargo clashes. None of them takes memory.
 //!
 //! Definitions: `lock_model` says which placements are legal (`specs/Placement`) and which ships
 //! clash (`Cargo`), `lock_rules` which plans are legal (`specs/Plan`). Here

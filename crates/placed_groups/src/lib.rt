@@ -4,7 +4,7 @@
 //! of them: their spots, or that the deck was too hard for the turns. It is a help to speed alone:
 //! whoever rests a fact on a kept answer tests it again.
 //!
-//! Definitions: `specs/Said` (what a memory says of a chamber and ships).
+//! Definitions: `specs/Said` (the key of a chamber and ships, and when two keys are the same).
 #![tactic(auto)]
 
 mod group_key;

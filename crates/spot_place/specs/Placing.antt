@@ -35,3 +35,19 @@ abbrev pub IsSpotPlaced : Deck → ℕ → SpotPlaced → Type 0
 IsSpotPlaced d turns (Fits spots) = IsFit d turns spots
 IsSpotPlaced d turns (Refuted marks) = IsRefutedBy d turns marks
 IsSpotPlaced d turns (Spent hard) = IsSpentFor d turns hard
+
+-- the decks that `place_by_spots` refutes within so many turns: at most so many spot cases are listed and none of them is whole
+abbrev pub SpotsRefute : Deck → ℕ → Type 0
+SpotsRefute d turns = HasNoneOf (IsListed d) (IsWholeSpots d) turns (spot_cases_of d)
+
+-- `Refuted` comes exactly where `place_by_spots` refutes the deck
+abbrev pub RefutesExactly : Deck → ℕ → SpotPlaced → Type 0
+RefutesExactly d turns (Fits spots) = SpotsRefute d turns → ⊥
+RefutesExactly d turns (Refuted marks) = SpotsRefute d turns
+RefutesExactly d turns (Spent hard) = SpotsRefute d turns → ⊥
+
+-- `Spent` comes exactly where the deck is spot-hard
+abbrev pub SpendsExactly : Deck → ℕ → SpotPlaced → Type 0
+SpendsExactly d turns (Fits spots) = IsSpotHard d turns → ⊥
+SpendsExactly d turns (Refuted marks) = IsSpotHard d turns → ⊥
+SpendsExactly d turns (Spent hard) = IsSpotHard d turns

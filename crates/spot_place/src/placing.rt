@@ -1,6 +1,6 @@
 //! The placer by spots.
 ghost use Rattle.std.specs.Prelude.{◌≤◌, IfOk};
-ghost use Rattle.spot_place.specs.Placing.{IsSpotPlaced};
+ghost use Rattle.spot_place.specs.Placing.{IsSpotPlaced, RefutesExactly, SpendsExactly};
 
 use crate::spot_case::SpotCase;
 use case_search::{Found, search};
@@ -26,14 +26,16 @@ pub enum SpotPlaced {
 /// case is one turn; cargo plays no part. The answer is the first of these that applies:
 /// - `Fits` with the spots of the first whole listed spot case, where one is among the first
 ///   `turns`. They are legal.
-/// - `Refuted` with a spot tree, where there are at most `turns` listed spot cases. Then the deck
-///   doesn't fit.
+/// - `Refuted` with a spot tree, exactly where there are at most `turns` listed spot cases and none
+///   is whole. Then the deck doesn't fit.
 /// - `Spent` with this deck and these turns, so exactly where the deck is spot-hard for `turns`.
 ///
 /// Refuses want of memory alone. What these words mean stands in `specs/Placing`.
 pub fn place_by_spots(alloc: Global, deck: &Deck, turns: u32) -> Result<SpotPlaced, NoMemory>
     requires { 1 ≤ turns }
-    ensures { IfOk result (IsSpotPlaced deck.now turns) }
+    ensures answer { IfOk result (IsSpotPlaced deck.now turns) }
+    ensures refutes { IfOk result (RefutesExactly deck.now turns) }
+    ensures spends { IfOk result (SpendsExactly deck.now turns) }
 {
     let values = spot_values(alloc, deck)?;
     let mut case = SpotCase::new(deck.copy(), values);

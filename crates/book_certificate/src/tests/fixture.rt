@@ -12,25 +12,25 @@ use std::test::Fail;
 
 /// A lock: the width of its first chamber, and whether there is a second one of width 240.
 #[derive(Clone, Copy)]
-pub struct Lock {
-    pub width: u32,
-    pub twin: bool,
+pub(crate) struct Lock {
+    pub(crate) width: u32,
+    pub(crate) twin: bool,
 }
 
 /// The two ships are too wide for each other.
-pub const NARROW: Lock = Lock {
+pub(crate) const NARROW: Lock = Lock {
     width: 232,
     twin: false,
 };
 
 /// They fit side by side.
-pub const SIDE_BY_SIDE: Lock = Lock {
+pub(crate) const SIDE_BY_SIDE: Lock = Lock {
     width: 240,
     twin: false,
 };
 
 /// Each can have a chamber of its own.
-pub const TWIN: Lock = Lock {
+pub(crate) const TWIN: Lock = Lock {
     width: 240,
     twin: true,
 };
@@ -111,17 +111,17 @@ fn plan_of(first: Lockage, second: Lockage) -> Plan {
 }
 
 /// The first ship from minute 0, and the second one as soon as the chamber is back.
-pub fn one_after_the_other() -> Plan {
+pub(crate) fn one_after_the_other() -> Plan {
     plan_of(alone(0, 0, 0), alone(0, 1, 50))
 }
 
 /// Each ship from minute 0 in a chamber of its own.
-pub fn one_each() -> Plan {
+pub(crate) fn one_each() -> Plan {
     plan_of(alone(0, 0, 0), alone(1, 1, 0))
 }
 
 /// Both ships from minute 0, side by side.
-pub fn both() -> Plan {
+pub(crate) fn both() -> Plan {
     let mut ships = Ships::single(0);
     ships.push(1);
     let mut spots = Spots::new();
@@ -139,7 +139,7 @@ pub fn both() -> Plan {
 }
 
 /// The book of a lock, opened with a plan.
-pub fn open(alloc: Global, lock: Lock, plan: Plan) -> Result<Book, Fail> {
+pub(crate) fn open(alloc: Global, lock: Lock, plan: Plan) -> Result<Book, Fail> {
     let instance = instance(lock)?;
     if let Some(_) = first_unfit(&instance) {
         return Err("an unfit ship".into());
@@ -152,7 +152,7 @@ pub fn open(alloc: Global, lock: Lock, plan: Plan) -> Result<Book, Fail> {
 }
 
 /// The cut of both ships in the narrow chamber, by a row of them.
-pub fn row_cut(alloc: Global) -> Result<Cut, Fail> {
+pub(crate) fn row_cut(alloc: Global) -> Result<Cut, Fail> {
     let mut sizes = Sizes::new();
     for _ in 0..2 {
         if sizes.as_slice().len() < 8 {

@@ -8,17 +8,17 @@ use std::alloc::{AllocError, Global};
 /// A lock: the width, `most` and empty turn of its chamber, the way of its second ship, the
 /// handling time of both, and their cargo classes.
 #[derive(Clone, Copy)]
-pub struct Lock {
-    pub width: u32,
-    pub most: u8,
-    pub turn: u32,
-    pub second_way: Way,
-    pub handling: u32,
-    pub cargo: (u8, u8),
+pub(crate) struct Lock {
+    pub(crate) width: u32,
+    pub(crate) most: u8,
+    pub(crate) turn: u32,
+    pub(crate) second_way: Way,
+    pub(crate) handling: u32,
+    pub(crate) cargo: (u8, u8),
 }
 
 /// Two harmless ships of 1100 x 114 go up from minute 0, and lie side by side.
-pub const SIDE_BY_SIDE: Lock = Lock {
+pub(crate) const SIDE_BY_SIDE: Lock = Lock {
     width: 240,
     most: 4,
     turn: 15,
@@ -64,7 +64,7 @@ fn ship(lock: &Lock, digit: u8, way: Way, cargo: u8) -> Ship {
 }
 
 /// The instance of a lock; None where a limit fails.
-pub fn instance(lock: &Lock) -> Option<Instance> {
+pub(crate) fn instance(lock: &Lock) -> Option<Instance> {
     let mut chambers = Chambers::new();
     chambers.push(chamber(lock));
     let mut ships = ShipList::new();
@@ -75,7 +75,7 @@ pub fn instance(lock: &Lock) -> Option<Instance> {
 
 /// Some ships; the stranger isn't in the instance.
 #[derive(Clone, Copy)]
-pub enum Who {
+pub(crate) enum Who {
     Nobody,
     First,
     Second,
@@ -84,7 +84,7 @@ pub enum Who {
 }
 
 /// The ships by number.
-pub fn ships(who: Who) -> Ships {
+pub(crate) fn ships(who: Who) -> Ships {
     match who {
         Who::Nobody => Ships::new(),
         Who::First => Ships::single(0),
@@ -122,7 +122,7 @@ pub type Passage = (Way, Who, u32, u32);
 
 /// Why ships don't fit together.
 #[derive(Clone, Copy)]
-pub enum Why {
+pub(crate) enum Why {
     /// They can't lie side by side, and are too long one after the other.
     Row(Who),
     /// Their cargo clashes.
@@ -131,11 +131,11 @@ pub enum Why {
 
 /// A certificate: its cost, its cut by chamber, ships and reason, its plan and its marks.
 #[derive(Clone, Copy)]
-pub struct Draft {
-    pub cost: u64,
-    pub cut: Option<(u8, Who, Why)>,
-    pub plan: &'static [Passage],
-    pub tree: &'static [Mark],
+pub(crate) struct Draft {
+    pub(crate) cost: u64,
+    pub(crate) cut: Option<(u8, Who, Why)>,
+    pub(crate) plan: &'static [Passage],
+    pub(crate) tree: &'static [Mark],
 }
 
 fn refutation(why: Why) -> Refutation {
@@ -162,7 +162,7 @@ fn plan(passages: &[Passage]) -> Plan {
 }
 
 /// The certificate of a draft.
-pub fn certificate(alloc: Global, draft: &Draft) -> Result<Certificate, AllocError> {
+pub(crate) fn certificate(alloc: Global, draft: &Draft) -> Result<Certificate, AllocError> {
     let mut cuts = CertCuts::new(alloc);
     if let Some((chamber, who, why)) = draft.cut {
         cuts.push(CertCut {

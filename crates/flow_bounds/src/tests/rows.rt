@@ -3,7 +3,7 @@ ghost use Rattle.std.specs.Prelude.{◌≡◌, IfSome};
 ghost use Rattle.master_branch.specs.Node.{IsNodeOf};
 
 use super::named;
-use crate::{bound, child_bounds, is_missing, probe, throughput};
+use crate::{Roster, bound, child_bounds, is_missing, probe, throughput};
 use lock_model::{Chamber, Chambers, Closures, Instance, Name, Ship, ShipList, Stand, Way};
 use master_branch::{Node, child, child_count, root};
 use std::test::Fail;
@@ -109,7 +109,10 @@ fn bound_of_child(instance: &Instance, node: &Node, i: usize) -> Option<u64>
     if node.depth() as usize >= instance.ships.as_slice().len() {
         return None;
     }
-    child_bounds(instance, node).as_slice().get(i).copied()
+    child_bounds(instance, &Roster::of(instance), node)
+        .as_slice()
+        .get(i)
+        .copied()
 }
 
 // The bound of the node at the end of a path, and the probes of both ships there.

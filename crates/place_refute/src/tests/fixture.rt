@@ -6,11 +6,11 @@ use lock_model::*;
 use std::alloc::{AllocError, Global};
 
 /// A ship by length, width and cargo class.
-pub type Fleet = (u32, u32, u8);
+pub(crate) type Fleet = (u32, u32, u8);
 
 /// A refutation as a row of a table.
 #[derive(Clone, Copy, Debug)]
-pub enum Told {
+pub(crate) enum Told {
     Row(u8, u8),
     Cases(&'static [u32]),
     Spots(&'static [u32]),
@@ -18,7 +18,7 @@ pub enum Told {
 }
 
 /// The deck of these ships; None where a limit fails.
-pub fn deck(measures: Measures, ships: &[Fleet]) -> Option<Deck> {
+pub(crate) fn deck(measures: Measures, ships: &[Fleet]) -> Option<Deck> {
     let mut sizes = Sizes::new();
     for &(length, width, cargo) in ships {
         if sizes.as_slice().len() < 8 {
@@ -33,7 +33,7 @@ pub fn deck(measures: Measures, ships: &[Fleet]) -> Option<Deck> {
 }
 
 /// One ship, or two of which the first comes first.
-pub fn pair(first: u8, second: u8) -> Ships {
+pub(crate) fn pair(first: u8, second: u8) -> Ships {
     let mut ships = Ships::single(first);
     if first < second {
         ships.push(second);
@@ -42,7 +42,7 @@ pub fn pair(first: u8, second: u8) -> Ships {
 }
 
 /// The ships 0, 1 and 2.
-pub fn three() -> Ships {
+pub(crate) fn three() -> Ships {
     let mut ships = Ships::single(0);
     ships.push(1);
     ships.push(2);
@@ -50,7 +50,7 @@ pub fn three() -> Ships {
 }
 
 /// Whether all ships are below a count.
-pub fn are_known(ships: &[u8], count: usize) -> bool
+pub(crate) fn are_known(ships: &[u8], count: usize) -> bool
     ensures { IsTrue result → All (λ s. s < count) ships.now }
 {
     for &ship in ships {
@@ -70,7 +70,7 @@ fn marks(alloc: Global, numbers: &[u32]) -> Result<Marks, AllocError> {
 }
 
 /// The refutation of a row.
-pub fn refutation(alloc: Global, told: Told) -> Result<Refutation, AllocError> {
+pub(crate) fn refutation(alloc: Global, told: Told) -> Result<Refutation, AllocError> {
     match told {
         Told::Row(first, second) => Ok(Refutation::Quick(Quick::Row(pair(first, second)))),
         Told::Cases(numbers) => Ok(Refutation::Cases(marks(alloc, numbers)?)),
@@ -100,7 +100,7 @@ fn ship(digit: u8, cargo: u8) -> Ship {
 
 /// A chamber of length 2000 and this width, with three equal ships, the last of this cargo class;
 /// None where a limit fails.
-pub fn instance(width: u32, cargo: u8) -> Option<Instance> {
+pub(crate) fn instance(width: u32, cargo: u8) -> Option<Instance> {
     let mut chambers = Chambers::new();
     chambers.push(Chamber {
         name: name(b'c', b'1'),

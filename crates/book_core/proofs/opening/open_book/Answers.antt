@@ -2,12 +2,13 @@ use Rattle.std.proofs.Common.{◌≡◌, [], ◌∷◌, ◌++◌, length, refl, 
 use Rattle.lock_rules.specs.Plan.{cost_of}
 use Rattle.lock_rules.specs.Throughput.{throughput_of}
 use Rattle.search_rules.specs.Book.{Case, root, bound_at, opening_book, new_slot}
+use Rattle.flow_bounds.specs.Roster.{IsRosterOf}
 use Rattle.book_core.specs.Case.{IsCase}
 use Rattle.book_core.specs.Growing.{stored_root}
 use Rattle.book_core.specs.Keeps.{IsSound, AreTables}
 use Rattle.book_core.specs.Stored.{slots_of}
 use Rattle.book_core.proofs.SoundLemmas.{opening-sound}
-use Rattle.book_core.proofs.OpeningLemmas.{opening-tables}
+use Rattle.book_core.proofs.OpeningLemmas.{opening-tables, opening-nodes}
 use Rattle.book_core.proofs.opening.open_book.Goals as goal
 
 pub invariant_of-result : goal.invariant_of-result
@@ -50,6 +51,8 @@ invariant_of-result c =
       tables = subst (λ b. AreTables (slots_of c.copy.result.instance c.push_reserved.new.self.items) (replicate 9 false) (replicate 9 None) b c.new-4.result.items) (sym c.new-3.ensures)
           (subst (AreTables (slots_of c.copy.result.instance c.push_reserved.new.self.items) (replicate 9 false) (replicate 9 None) []) (sym c.new-4.ensures.items)
           (subst (λ l. AreTables l (replicate 9 false) (replicate 9 None) [] []) (sym slots) (opening-tables first (nat_le (cost_of case.instance plan) (bound_at case.instance root)) refl)));
+      nodes = opening-nodes c.copy.result.instance (slots_of c.copy.result.instance c.push_reserved.new.self.items);
+      roster_is = subst (λ I. IsRosterOf I c.of.result) (ap (λ (k : Case). k.instance) (c.case.view_is ∙ sym c.copy.ensures)) c.of.ensures;
       costs = record {
         best_is = cost_is ∙ ap (λ (k : Case). cost_of k.instance plan) (sym c.copy.ensures);
         opening_is = cost_is ∙ (λ i. cost_of (sym c.copy.ensures i).instance (sym c.copy-2.ensures i));

@@ -8,7 +8,7 @@ returns-then-is_missing c =
     let I = c.args.claim.now.instance.now in
     let missing : IsMissing I c.args.node.now.lines c.args.ship = search rules in
     let among = missing-contains I c.args.node.now.depth c.args.node.now.lines c.args.ship c.requires missing in
-    let value = c.probe.ensures.value in
+    let value = c.probe_of.ensures in
     (λ h. (among, search (rules, value)), λ h. search (rules, value))
 
 pub returns-else-is_missing : goal.returns-else-is_missing

@@ -20,13 +20,13 @@ read_child-returns-in-Some-clause-err n c =
 pub read_child-returns-clause-ok : goal.read_child-returns-clause-ok
 read_child-returns-clause-ok n c =
     IfOk-weaker c.read_tree.result _ _
-    (λ rest h. child-read c.args.claim.now c.args.node.now c.child.result c.args.i c.args.marks.now rest.now c.requires.within c.child.ensures.depth c.child.ensures.lines h)
+    (λ rest h. child-read c.args.claim.now c.args.node.now c.child_of.result c.args.i c.args.marks.now rest.now c.requires.within c.child_of.ensures.depth c.child_of.ensures.lines h)
     c.read_tree.ensures.ok
 
 pub read_child-returns-clause-err : goal.read_child-returns-clause-err
 read_child-returns-clause-err n c =
     IfErr-weaker c.read_tree.result _ _
-    (λ stuck h. child-stuck c.args.claim.now c.args.node.now c.child.result c.args.i c.args.marks.now stuck.marks.now stuck.reason c.requires.within c.child.ensures.depth c.child.ensures.lines h)
+    (λ stuck h. child-stuck c.args.claim.now c.args.node.now c.child_of.result c.args.i c.args.marks.now stuck.marks.now stuck.reason c.requires.within c.child_of.ensures.depth c.child_of.ensures.lines h)
     c.read_tree.ensures.err
 
 pub read_children-returns-in_err-rest-clause-err : goal.read_children-returns-in_err-rest-clause-err

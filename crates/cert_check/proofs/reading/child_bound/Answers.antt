@@ -8,7 +8,7 @@ use Rattle.cert_check.proofs.reading.child_bound.Goals.{in-Some, in-None}
 
 pub returns-clause-value : goal.returns-clause-value
 returns-clause-value c =
-    let I = c.args.instance.now in
+    let I = c.args.claim.now.instance.now in
     let told : c.match-take.bounds ≡ map (bound_of I (c.args.node.now.depth + 1)) (children I c.args.node.now) =
     elim c.match-take.branch [
       | in-Some w ↦

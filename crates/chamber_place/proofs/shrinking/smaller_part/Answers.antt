@@ -1,11 +1,12 @@
 use Rattle.std.proofs.Common.{rules, ◌≡◌, ◌<◌, length, sym, ap, ◌∙◌, subst, arith, IfSome, IfNone, inl, inr}
+use Rattle.std.proofs.lemmas.Bool.{cases_lt}
 use Rattle.std.specs.declared.option.Option.{Option}
 use Rattle.std.specs.List.{remove}
 use Rattle.refute_rules.specs.Reasons.{AreSome}
 use Rattle.chamber_place.specs.Placing.{PlaceRefutes}
 use Rattle.chamber_place.specs.Parts.{part_of, IsRefutedPart}
 use Rattle.chamber_place.specs.declared.shrinking.Part.{Part}
-use Rattle.chamber_place.proofs.PartLemmas.{less-or-most, fewer-some, refuted-smaller}
+use Rattle.chamber_place.proofs.PartLemmas.{fewer-some, refuted-smaller}
 use Rattle.chamber_place.proofs.shrinking.smaller_part.Goals as goal
 
 pub refuted_part-requires-clause-some : goal.refuted_part-requires-clause-some
@@ -24,7 +25,7 @@ loop-number-preserved c =
     let D = c.args.deck.now in
     let P : Option Part → Type 0 = λ found. IfNone found (PlaceRefutes (part_of D c.without.result) c.args.turns → ⊥) in
     let here = subst P c.in_default.is c.in_ok-part.ensures.none in
-    λ k h. elim (less-or-most k c.loop-number.number) [
+    λ k h. elim (cases_lt k c.loop-number.number) [
       | inl l ↦ c.loop-number.invariant k l
       | inr m ↦ λ refutes. here (subst (λ places. PlaceRefutes (part_of D places) c.args.turns) (ap (remove c.args.places.now) (let e : k ≡ c.loop-number.number = omega (arith, h, m) in e) ∙ sym c.without.ensures) refutes)
     ]

@@ -11,13 +11,13 @@ pub bounds_by-requires-clause-absent : goal.bounds_by-requires-clause-absent
 bounds_by-requires-clause-absent c =
     let I = c.args.instance.now in
     let n = c.args.node.now in
-    ap (λ s. times_held s n.lines) (c.next_ship-ship.ensures.value ∙ ap (next_ship I) c.depth.ensures.value) ∙ next-held I n.depth n.lines c.requires.node c.requires.lacks
+    ap (λ s. times_held s n.lines) (c.ship-ship.ensures.value ∙ ap (next_ship I) c.depth.ensures.value) ∙ next-held I n.depth n.lines c.requires.node c.requires.lacks
 
 pub returns-clause-probe : goal.returns-clause-probe
 returns-clause-probe c =
     let I = c.args.instance.now in
     let n = c.args.node.now in
-    let ship : c.next_ship-ship.result ≡ next_ship I n.depth = c.next_ship-ship.ensures.value ∙ ap (next_ship I) c.depth.ensures.value in
-    let rest : c.passages_from-rest.result ≡ sum_by (least_passage I) (missing_ships I (n.depth + 1)) = c.passages_from-rest.ensures.value ∙ ap (λ k. sum_by (least_passage I) (missing_ships I (k + 1))) c.depth-2.ensures.value in
+    let ship : c.ship-ship.result ≡ next_ship I n.depth = c.ship-ship.ensures.value ∙ ap (next_ship I) c.depth.ensures.value in
+    let rest : c.rest-rest.result ≡ sum_by (least_passage I) (missing_ships I (n.depth + 1)) = c.rest-rest.ensures.value ∙ ap (λ k. sum_by (least_passage I) (missing_ships I (k + 1))) c.depth-2.ensures.value in
     let value : c.bounds_by.result ≡ map (bound_of I (n.depth + 1)) (children_of I n.depth n.lines) = c.bounds_by.ensures.value ∙ (λ i. map (λ lines. node_flow I lines + rest i) (children_by I (ship i) n.lines)) in
     ap least_number value ∙ least-child I n.depth n.lines c.requires.node c.requires.lacks

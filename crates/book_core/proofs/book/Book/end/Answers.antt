@@ -2,6 +2,7 @@ use Rattle.std.proofs.Common.{◌≡◌, sym, ap, ◌∙◌, subst, arith, slice
 use Rattle.search_rules.specs.Book.{Book}
 use Rattle.book_core.specs.Stored.{slots_of}
 use Rattle.book_core.specs.Changes.{finished}
+use Rattle.book_core.specs.Hands.{ids_of}
 use Rattle.book_core.specs.Keeps.{IsSound}
 use Rattle.book_core.specs.Seen.{seen}
 use Rattle.book_core.proofs.HandOverLemmas.{tables-ended}
@@ -16,7 +17,9 @@ invariant_of-self c =
     let running = ap (λ (b : Book). slice_index_or b.ended c.args.worker false) c.self.view_is ∙ c.requires.running in
     record {
       sound = subst IsSound (sym same) c.requires.sound;
-      tables = tables-ended (seen a) a.ended a.hands a.back a.waiting.items old.tables (slots_of a.case.instance a.slots.items) 0 c.args.worker (omega (arith, c.requires.known, old.sound.parts.workers.nine)) running;
+      tables = tables-ended (seen a) a.ended (ids_of a.hands) a.back a.waiting.items old.tables (slots_of a.case.instance a.slots.items) 0 c.args.worker (omega (arith, c.requires.known, old.sound.parts.workers.nine)) running;
+      nodes = old.nodes;
+      roster_is = old.roster_is;
       costs = record { best_is = old.costs.best_is; opening_is = old.costs.opening_is; throughput_is = old.costs.throughput_is };
       room = record { enough = omega (arith, old.room.enough, c.push_reserved.ensures.capacity) };
     }

@@ -2,8 +2,10 @@ use Rattle.std.proofs.Common.{◌≡◌, ◌+◌, length, refl, sym, ap, ◌∙�
 use Rattle.search_rules.specs.Book.{Book, slot_at}
 use Rattle.book_core.specs.Changes.{let_go}
 use Rattle.book_core.specs.Keeps.{IsSound}
+use Rattle.book_core.specs.Hands.{ids_of}
+use Rattle.book_core.proofs.NearLemmas.{ids-let_go}
 use Rattle.book_core.proofs.KeptLemmas.{length-slots}
-use Rattle.book_core.proofs.SplitLemmas.{kids-few, held-known, held-state, held-worker, split-is, split-tables}
+use Rattle.book_core.proofs.SplitLemmas.{kids-few, held-known, held-state, held-worker, split-is, split-tables, split-nodes}
 use Rattle.book_core.proofs.book.Book.grow.Goals as goal
 
 pub overflow_cast-first : goal.overflow_cast-first
@@ -30,8 +32,8 @@ index_mut-requires c =
     let known = held-known c.self.inside c.self.invariant c.args.self.now c.self.view_is c.args.id c.requires.held in
     omega (arith, known, c.make_space.new.slots.ok.0, ap length c.make_space.ensures.slots)
 
-pub let_go-requires : goal.let_go-requires
-let_go-requires c = held-worker c.self.inside c.self.invariant c.args.self.now c.self.view_is c.args.id c.requires.held c.make_space.new.slots.items c.make_space.ensures.slots c.index.result.now c.index.ensures
+pub take_from-self-inside-requires : goal.take_from-self-inside-requires
+take_from-self-inside-requires c = held-worker c.self.inside c.self.invariant c.args.self.now c.self.view_is c.args.id c.requires.held c.make_space.new.slots.items c.make_space.ensures.slots c.index.result.now c.index.ensures
 
 pub returns-clause-some : goal.returns-clause-some
 returns-clause-some c =
@@ -59,8 +61,11 @@ invariant_of-self-2 c =
     record {
       sound = subst IsSound (sym same) c.requires.sound;
       tables = split-tables a old b c.self.view_is c.args.id c.requires.held ss c.make_space.ensures.slots r c.index_mut.ensures.value c.args.bounds.now c.requires.bounds n count
-          c.push_children.new.slots.items c.push_children.ensures c.let_go.new.hands (c.let_go.ensures ∙ ap (λ s. let_go s a.hands) state)
+          c.push_children.new.slots.items c.push_children.ensures (ids_of c.take_from-self-inside.new.hands) (ap ids_of c.take_from-self-inside.ensures.hands ∙ sym (ids-let_go c.index.result.now.state a.hands) ∙ ap (λ s. let_go s (ids_of a.hands)) state)
           c.push_reserved.new.self.items c.make_space.new.waiting.items c.make_space.ensures.waiting (n + length c.args.bounds.now) refl c.push_reserved.ensures.items;
+      nodes = split-nodes a old b c.self.view_is c.args.id c.requires.held ss c.make_space.ensures.slots r c.index_mut.ensures.value c.args.bounds.now c.requires.bounds n count
+          c.push_children.new.slots.items c.push_children.ensures c.index.result.now.state c.take_from-self-inside.new.hands c.take_from-self-inside.ensures.hands c.take_from-self-inside.result c.take_from-self-inside.ensures.node;
+      roster_is = old.roster_is;
       costs = record { best_is = old.costs.best_is; opening_is = old.costs.opening_is; throughput_is = old.costs.throughput_is };
       room = record { enough = omega (arith, old.room.enough, c.push_reserved-2.ensures.capacity) };
     }

@@ -11,8 +11,8 @@ pub returns-in-Some : goal.returns-in-Some
 returns-in-Some c =
     let b = c.args.self.now in
     let I = c.instance.result.now in
-    let lines = c.node_of.result.lines in
+    let lines = c.node_at.result.lines in
     one_answer c.hits_node.result (is_node_hit I c.in-Some.cut.now lines) c.hits_node.ensures (is_node_hit-decides I c.in-Some.cut.now lines)
     ∙ ap (λ (J : Instance). is_node_hit J c.in-Some.cut.now lines) c.instance.ensures
-    ∙ ap (λ (n : TreeNode). is_node_hit b.case.instance c.in-Some.cut.now n.lines) c.node_of.ensures.value
+    ∙ ap (λ (n : TreeNode). is_node_hit b.case.instance c.in-Some.cut.now n.lines) c.node_at.ensures.value
     ∙ ap (hits_in b c.args.id) (sym c.in-Some.ensures.some)

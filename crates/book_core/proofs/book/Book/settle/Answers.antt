@@ -2,7 +2,9 @@ use Rattle.std.proofs.Common.{sym, ap, ◌∙◌, subst, arith, slice_set}
 use Rattle.book_core.specs.Keeps.{IsSound, AreTables}
 use Rattle.book_core.specs.Stored.{slots_of}
 use Rattle.book_core.specs.Changes.{let_go}
-use Rattle.book_core.proofs.SettleLemmas.{restated, restated-is, state-is, settled-known, holder-known, settled-tables}
+use Rattle.book_core.specs.Hands.{ids_of, AreNodes}
+use Rattle.book_core.proofs.NearLemmas.{ids-let_go, changed-nodes, nodes-let_go, nodes-kept}
+use Rattle.book_core.proofs.SettleLemmas.{restated, restated-is, restated-changes, state-is, settled-known, holder-known, settled-tables}
 use Rattle.book_core.proofs.book.Book.settle.Goals as goal
 
 pub index-requires : goal.index-requires
@@ -28,11 +30,17 @@ invariant_of-self c =
     let same = restated-is a c.args.self.now c.self.view_is c.args.id c.index_mut.result.now c.index_mut.ensures.value c.args.state c.push_reserved.new.self.items c.args.entry known c.push_reserved.ensures.items in
     let r = c.index_mut.result.now in
     let state = sym (state-is a c.args.self.now c.self.view_is c.args.id r c.index_mut.ensures.value c.args.state known) ∙ state-is a c.args.self.now c.self.view_is c.args.id c.index.result.now c.index.ensures c.args.state known in
-    let hands = ap (λ s. let_go s a.hands) state ∙ sym c.let_go.ensures in
+    let hands = ap (λ s. let_go s (ids_of a.hands)) state ∙ ids-let_go c.index.result.now.state a.hands ∙ ap ids_of (sym c.let_go.ensures) in
+    let I = a.case.instance in
+    let new = slots_of I (slice_set a.slots.items c.args.id (restated r c.args.state)) in
+    let keeps = changed-nodes (slots_of I a.slots.items) new c.args.id c.args.state (restated-changes a c.args.self.now c.self.view_is c.args.id r c.index_mut.ensures.value c.args.state known) in
+    let empty = nodes-let_go I (slots_of I a.slots.items) a.hands a.near old.nodes c.index.result.now.state in
     record {
       sound = subst IsSound (sym same) c.requires.sound;
       tables = subst (λ h. AreTables (slots_of a.case.instance (slice_set a.slots.items c.args.id (restated r c.args.state))) a.ended h a.back a.waiting.items) hands
           (settled-tables a old c.args.self.now c.self.view_is c.args.id c.requires.from r c.index_mut.ensures.value c.args.state c.requires.to);
+      roster_is = old.roster_is;
       costs = record { best_is = old.costs.best_is; opening_is = old.costs.opening_is; throughput_is = old.costs.throughput_is };
+      nodes = subst (λ h. AreNodes I new h a.near) (sym c.let_go.ensures) (nodes-kept I (slots_of I a.slots.items) new keeps (let_go c.index.result.now.state a.hands) a.near empty);
       room = record { enough = omega (arith, old.room.enough, c.push_reserved.ensures.capacity) };
     }

@@ -1,7 +1,15 @@
-use Rattle.std.proofs.Common.{sym, ap, ◌∙◌}
+use Rattle.std.proofs.Common.{sym, ap, ◌∙◌, subst}
+use Rattle.master_branch.specs.Node.{IsNodeOf}
+use Rattle.book_core.specs.Nodes.{tree_node}
 use Rattle.book_core.proofs.EventLemmas.{back-given, given-sound, given-answers}
 use Rattle.search_rules.specs.Step.{given}
 use Rattle.book_core.proofs.book.Book.take_back.Goals as goal
+
+pub give-requires-clause-same : goal.give-requires-clause-same
+give-requires-clause-same c = ap tree_node c.copy.ensures ∙ c.node_of-node.ensures.value
+
+pub give-requires-clause-node : goal.give-requires-clause-node
+give-requires-clause-node c = subst (IsNodeOf c.args.self.now.case.instance) (sym c.copy.ensures) c.node_of-node.ensures.node
 
 pub give-requires-clause-sound : goal.give-requires-clause-sound
 give-requires-clause-sound c =

@@ -1,4 +1,6 @@
-use Rattle.std.proofs.Common.{◌+◌, sym, ◌∙◌, arith}
+use Rattle.std.proofs.Common.{◌+◌, sym, ap, ◌∙◌, subst, arith}
+use Rattle.master_branch.specs.Node.{IsNodeOf}
+use Rattle.book_core.specs.Nodes.{tree_node}
 use Rattle.book_core.proofs.EventLemmas.{take-spent, fresh-given, is-new, given-sound, given-answers}
 use Rattle.book_core.proofs.HandOverLemmas.{free-known}
 use Rattle.book_core.proofs.book.Book.take_fresh.Goals as goal
@@ -12,6 +14,12 @@ node_of-node-requires c = free-known c.args.self.now c.args.id (is-new c.args.se
 
 pub give-requires-clause-open : goal.give-requires-clause-open
 give-requires-clause-open c = is-new c.args.self.now c.args.worker c.args.id c.requires.back c.requires.next
+
+pub give-requires-clause-same : goal.give-requires-clause-same
+give-requires-clause-same c = ap tree_node c.copy.ensures ∙ c.node_of-node.ensures.value
+
+pub give-requires-clause-node : goal.give-requires-clause-node
+give-requires-clause-node c = subst (IsNodeOf c.args.self.now.case.instance) (sym c.copy.ensures) c.node_of-node.ensures.node
 
 pub give-requires-clause-sound : goal.give-requires-clause-sound
 give-requires-clause-sound c =

@@ -1,11 +1,12 @@
 use Rattle.std.proofs.Common.{rules, ◌≡◌, ◌<◌, length, subst, sym, ap, ◌∙◌, slice_index_or}
+use Rattle.std.proofs.lemmas.List.{get_or_default}
 use Rattle.refute_rules.specs.Choices.{options_of}
 use Rattle.case_search.specs.Rules.{options_at}
 use Rattle.chamber_place.specs.Picks.{IsKnownDecision, decision_of}
 use Rattle.chamber_place.specs.OnItsWay.{case_rules}
 use Rattle.chamber_place.specs.declared.decisions.Decision.TheVariants.{Berthing}
 use Rattle.chamber_place.proofs.WayLemmas.{known-decided}
-use Rattle.chamber_place.proofs.EnterLemmas.{options-next, index-own}
+use Rattle.chamber_place.proofs.EnterLemmas.{options-next}
 use Rattle.chamber_place.proofs.deck_case.DeckCaseTrack.count.Goals as goal
 
 pub option_count-requires : goal.option_count-requires
@@ -24,5 +25,5 @@ returns-then-taken-len c =
     c.option_count.ensures
     ∙ ap (λ ds. length (options_of i.deck (decision_of (slice_index_or ds c.len-taken.result (Berthing 0))))) c.as_slice.ensures.value
     ∙ ap (λ n. length (options_of i.deck (decision_of (slice_index_or i.decided.items n (Berthing 0))))) taken
-    ∙ sym (ap length (options-next i.deck i.decided.items i.picks.items c.self.invariant.in_order x less (index-own i.decided.items (length i.picks.items) (Berthing 0) less)))
+    ∙ sym (ap length (options-next i.deck i.decided.items i.picks.items c.self.invariant.in_order x less (get_or_default i.decided.items (length i.picks.items) (slice_index_or i.decided.items (length i.picks.items) (Berthing 0)) (Berthing 0) less)))
     ∙ ap (λ v. length (options_at (case_rules v.deck) v.case)) c.self.view_is

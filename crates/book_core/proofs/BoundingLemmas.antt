@@ -1,0 +1,95 @@
+-- The hand that holds a slot, and the bounds in it.
+use Rattle.std.proofs.Common.{◌≡◌, ℕ, zero, suc, ◌+◌, ◌<◌, ◌≤◌, List, [], ◌∷◌, length, map, refl, sym, ap, ◌∙◌, subst, arith, slice_index_or, Some, None}
+use Rattle.std.specs.Prelude.{IfSome}
+use Rattle.std.specs.declared.option.Option.{Option}
+use Rattle.lock_model.specs.declared.instance.Instance.{Instance}
+use Rattle.lock_rules.specs.Arrival.{next_ship}
+use Rattle.lock_rules.specs.Bound.{bound_of, least_number}
+use Rattle.lock_rules.specs.Children.{children_of}
+use Rattle.search_rules.specs.declared.book.SlotState.TheVariants as slot
+use Rattle.search_rules.specs.Book.{Book, Node as TreeNode, Slot, slot_at}
+use Rattle.search_rules.specs.Step.{probe_at}
+use Rattle.master_branch.specs.Node.{Node}
+use Rattle.flow_bounds.proofs.ChildLemmas.{least-child}
+use Rattle.book_core.specs.declared.book.Book.TheInside.{Inside}
+use Rattle.book_core.specs.declared.hand.Hand.{Hand}
+use Rattle.book_core.specs.Nodes.{tree_node}
+use Rattle.book_core.specs.Stored.{slots_of}
+use Rattle.book_core.specs.Hands.{id_of, ids_of, held_at, bounds_of, bounds_below, bounds_at, IsNodeIn, IsHand, IsHandOf}
+use Rattle.book_core.specs.Keeps.{IsSound}
+use Rattle.book_core.specs.Seen.{seen, IsKept}
+use Rattle.book_core.proofs.HandLemmas.{hand-known}
+use Rattle.book_core.proofs.NearLemmas.{at-any, ids-at, length-ids}
+use Rattle.book_core.proofs.NodeLemmas.{slot-node}
+
+-- the bounds below a slot's node
+pub below-at : (b : Book) (id : ℕ) (I : Instance) → I ≡ b.case.instance → (node : Node) → tree_node node ≡ (slot_at b id).node → bounds_below I node ≡ bounds_at b id
+below-at b id I I_is node same =
+    ap (λ J. bounds_below J node) I_is ∙ ap (λ (n : TreeNode). map (bound_of b.case.instance (n.depth + 1)) (children_of b.case.instance n.depth n.lines)) same
+
+-- the least of them is the probe of the ship that the node lacks first
+pub least-below : (b : Book) → IsSound b → (id : ℕ) → id < length b.slots → (slot_at b id).node.depth < length b.case.instance.ships → least_number (bounds_at b id) ≡ probe_at b id (next_ship b.case.instance (slot_at b id).node.depth)
+least-below b sound id known lacks = least-child b.case.instance (slot_at b id).node.depth (slot_at b id).node.lines (slot-node b sound id known) lacks
+
+same-number : (m n : ℕ) → Some m ≡ Some n → m ≡ n
+same-number m n e = cc
+
+none-some : (n : ℕ) → None ≡ Some n → ⊥
+none-some n e = cc
+
+module _ (a : Inside) (kept : IsKept a) (b : Book) (same : seen a ≡ b) (w id : ℕ) (held : (slot_at b id).state ≡ slot.Held w) where
+  abbrev S : List Slot
+  S = slots_of a.case.instance a.slots.items
+
+  held-here : id_of (held_at a.hands w) ≡ Some id
+  held-here = sym (ids-at a.hands w) ∙ kept.tables.hands_are.hand w id (ap (λ (u : Book). (slot_at u id).state) same ∙ held)
+
+  -- a worker's number is one of nine
+  pub holder-few : w < 9
+  holder-few =
+      let known = hand-known (ids_of a.hands) w id (ids-at a.hands w ∙ held-here) in
+      omega (arith, known, kept.tables.hands_are.nine)
+
+  -- what an index reads of its hand
+  pub at-hand : (d : Option Hand) → slice_index_or a.hands w d ≡ held_at a.hands w
+  at-hand d =
+      let few = holder-few in
+      at-any a.hands w d (omega (arith, few, kept.tables.hands_are.nine, length-ids a.hands))
+
+  -- its hand isn't empty
+  pub hand-some : held_at a.hands w ≡ None → ⊥
+  hand-some e = none-some id (ap id_of (sym e) ∙ held-here)
+
+  -- and holds the slot
+  pub hand-of : (g : Hand) → held_at a.hands w ≡ Some g → IsHandOf b id g
+  hand-of g e =
+      let is : IsHand a.case.instance S g = subst (λ h. IfSome h (IsHand a.case.instance S)) e (kept.nodes.hands_are w) in
+      let own : g.id ≡ id = same-number g.id id (ap id_of (sym e) ∙ held-here) in
+      subst (λ u. IsHandOf u id g) same (record { own = subst (λ k. IsNodeIn a.case.instance S k g.node) own is.own; bounds = is.bounds })
+
+  below-hand : (g : Hand) → held_at a.hands w ≡ Some g → bounds_below a.case.instance g.node ≡ bounds_at b id
+  below-hand g e =
+      let of = hand-of g e in
+      below-at b id a.case.instance (ap (λ (u : Book). u.case.instance) same) g.node of.own.same
+
+  -- the bounds that are lifted from it
+  pub lifted-bounds : (o : Option (List ℕ)) → o ≡ bounds_of (held_at a.hands w) → IfSome o (λ bounds. bounds ≡ bounds_at b id)
+  lifted-bounds o is = subst (λ p. IfSome p (λ bounds. bounds ≡ bounds_at b id)) (sym is) (by-hand (held_at a.hands w) refl)
+    where
+      by-bounds : (below : List ℕ) → below ≡ bounds_at b id → (p : Option (List ℕ)) → IfSome p (λ bounds. bounds ≡ below) → IfSome p (λ bounds. bounds ≡ bounds_at b id)
+      by-bounds below same None h = tt
+      by-bounds below same (Some bounds) h = h ∙ same
+
+      by-hand : (h : Option Hand) → held_at a.hands w ≡ h → IfSome (bounds_of h) (λ bounds. bounds ≡ bounds_at b id)
+      by-hand None e = tt
+      by-hand (Some g) e =
+          let is : IsHand a.case.instance S g = subst (λ h. IfSome h (IsHand a.case.instance S)) e (kept.nodes.hands_are w) in
+          by-bounds (bounds_below a.case.instance g.node) (below-hand g e) g.bounds is.bounds
+
+  -- the bounds that may be laid into it
+  pub laid-bounds : (bounds : List ℕ) → bounds ≡ bounds_at b id → IfSome (held_at a.hands w) (λ g. bounds ≡ bounds_below a.case.instance g.node)
+  laid-bounds bounds is = by-hand (held_at a.hands w) refl
+    where
+      by-hand : (h : Option Hand) → held_at a.hands w ≡ h → IfSome h (λ g. bounds ≡ bounds_below a.case.instance g.node)
+      by-hand None e = tt
+      by-hand (Some g) e = is ∙ sym (below-hand g e)

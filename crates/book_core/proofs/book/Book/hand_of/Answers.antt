@@ -1,0 +1,19 @@
+use Rattle.std.proofs.Common.{sym, ◌∙◌}
+use Rattle.book_core.proofs.BoundingLemmas.{at-hand, hand-some, hand-of}
+use Rattle.book_core.proofs.book.Book.hand_of.Goals as goal
+
+pub returns-in-Some-clause-some : goal.returns-in-Some-clause-some
+returns-in-Some-clause-some c =
+    let a = c.self.inside in
+    let b = c.args.self.now in
+    let w = c.in-Held.worker in
+    let held = sym c.state_of.ensures.state ∙ c.in-Held.is in
+    hand-of a c.self.invariant b c.self.view_is w c.args.id held c.in-Some.hand (sym (at-hand a c.self.invariant b c.self.view_is w c.args.id held c.index-self-worker.result) ∙ c.in-Some.is)
+
+pub returns-in-None-clause-none : goal.returns-in-None-clause-none
+returns-in-None-clause-none c =
+    let a = c.self.inside in
+    let b = c.args.self.now in
+    let w = c.in-Held.worker in
+    let held = sym c.state_of.ensures.state ∙ c.in-Held.is in
+    absurd (hand-some a c.self.invariant b c.self.view_is w c.args.id held (sym (at-hand a c.self.invariant b c.self.view_is w c.args.id held c.index-self-worker.result) ∙ c.in-None.is))

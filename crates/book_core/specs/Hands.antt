@@ -1,0 +1,83 @@
+-- The slots that workers hold, with their nodes, and the near node.
+use Rattle.std.specs.Prelude.{ℕ, ◌≡◌, ◌+◌, ◌<◌, List, [], ◌∷◌, length, map, slice_index_or, Some, None, IfSome}
+use Rattle.std.specs.declared.option.Option.{Option}
+use Rattle.lock_model.specs.declared.instance.Instance.{Instance}
+use Rattle.lock_rules.specs.Arrival.{next_ship}
+use Rattle.lock_rules.specs.Bound.{bound_of}
+use Rattle.lock_rules.specs.Children.{children_of}
+use Rattle.master_branch.specs.Node.{Node, IsNodeOf, children}
+use Rattle.search_rules.specs.Book.{Book, Slot, no_slot, slot_at}
+use Rattle.search_rules.specs.declared.book.SlotState.{SlotState}
+use Rattle.search_rules.specs.declared.book.SlotState.TheVariants as slot
+use Rattle.book_core.specs.declared.hand.Hand.{Hand}
+use Rattle.book_core.specs.declared.hand.NearNode.{NearNode}
+use Rattle.book_core.specs.Nodes.{tree_node}
+
+-- the slot in a hand, and those in hands
+abbrev pub id_of : Option Hand → Option ℕ
+id_of None = None
+id_of (Some h) = Some h.id
+
+abbrev pub ids_of : List (Option Hand) → List (Option ℕ)
+ids_of [] = []
+ids_of (h ∷ hs) = id_of h ∷ ids_of hs
+
+abbrev pub held_at : List (Option Hand) → ℕ → Option Hand
+held_at hands w = slice_index_or hands w None
+
+-- the slot and its node
+abbrev pub near_of : Option Hand → Option NearNode
+near_of None = None
+near_of (Some h) = Some (record { id = h.id; node = h.node })
+
+-- those of the hand that holds a slot in this state
+abbrev pub near_in : SlotState → List (Option Hand) → Option NearNode
+near_in (slot.Held w) hands = near_of (held_at hands w)
+near_in _ hands = None
+
+-- the bounds in a hand, the hand without them, and with these
+abbrev pub bounds_of : Option Hand → Option (List ℕ)
+bounds_of None = None
+bounds_of (Some h) = h.bounds
+
+abbrev pub without_bounds : Option Hand → Option Hand
+without_bounds None = None
+without_bounds (Some h) = Some (record h { bounds = None })
+
+abbrev pub with_bounds : List ℕ → Option Hand → Option Hand
+with_bounds bounds None = None
+with_bounds bounds (Some h) = Some (record h { bounds = Some bounds })
+
+-- the bounds of a node's children, in order
+abbrev pub bounds_below : Instance → Node → List ℕ
+bounds_below I node = map (bound_of I (node.depth + 1)) (children I node)
+
+-- the node is that of slot id
+pub record IsNodeIn (I : Instance) (slots : List Slot) (id : ℕ) (n : Node) : Type 0 where
+  pub known : id < length slots
+  pub same : tree_node n ≡ (slice_index_or slots id no_slot).node
+  pub node : IsNodeOf I n
+
+-- a hand has the node of its slot, and the bounds in it are those of the node's children
+pub record IsHand (I : Instance) (slots : List Slot) (hand : Hand) : Type 0 where
+  pub own : IsNodeIn I slots hand.id hand.node
+  pub bounds : IfSome hand.bounds (λ bounds. bounds ≡ bounds_below I hand.node)
+
+-- the same of all hands; and the near node is that of its slot
+pub record AreNodes (I : Instance) (slots : List Slot) (hands : List (Option Hand)) (near : Option NearNode) : Type 0 where
+  pub hands_are : (w : ℕ) → IfSome (held_at hands w) (IsHand I slots)
+  pub near_is : IfSome near (λ n. IsNodeIn I slots n.id n.node)
+
+-- the bounds of the children of the node of slot id
+abbrev pub bounds_at : Book → ℕ → List ℕ
+bounds_at b id = map (bound_of b.case.instance ((slot_at b id).node.depth + 1)) (children_of b.case.instance (slot_at b id).node.depth (slot_at b id).node.lines)
+
+-- the hand that holds slot id
+pub record IsHandOf (b : Book) (id : ℕ) (hand : Hand) : Type 0 where
+  pub own : IsNodeIn b.case.instance b.slots id hand.node
+  pub bounds : IfSome hand.bounds (λ bounds. bounds ≡ bounds_below b.case.instance hand.node)
+
+-- the node of slot id lacks this ship first
+pub record IsNextShip (b : Book) (id ship : ℕ) : Type 0 where
+  pub lacks : (slot_at b id).node.depth < length b.case.instance.ships
+  pub next : ship ≡ next_ship b.case.instance (slot_at b id).node.depth
