@@ -5,7 +5,7 @@ ghost use Rattle.master_branch.specs.Node.{IsNodeOf};
 ghost use Rattle.node_fate.specs.Fates.{IsGroupAt};
 
 use book_core::Book;
-use master_branch::{Node, next_ship};
+use master_branch::Node;
 use node_fate::last_group;
 
 /// The ship that a node of this depth lacks first.
@@ -13,7 +13,7 @@ pub(crate) fn ship_after(book: &Book, depth: u8) -> u8
     requires { depth < length book.now.case.instance.ships }
     ensures { result ≡ next_ship book.now.case.instance depth }
 {
-    next_ship(&book.case().instance, depth)
+    book.roster().ship(&book.case().instance, depth)
 }
 
 /// The chamber and the place in its line of the group that the node's last ship is in: the only one
