@@ -1,13 +1,11 @@
 -- What was found of a deck before is so of its ships.
-use Rattle.std.proofs.Common.{◌≡◌, ℕ, List, subst, sym, ◌∙◌, Bool, true}
+use Rattle.std.proofs.Common.{◌≡◌, ℕ, List, subst}
 use Rattle.lock_model.specs.Deck.{Deck}
 use Rattle.lock_model.specs.Fitting.{deck_of}
 use Rattle.lock_model.specs.Cargo.{HasNoClash}
 use Rattle.refute_rules.specs.Cases.{IsHard}
 use Rattle.refute_rules.specs.Spots.{IsSpent, IsSpotHard}
 use Rattle.refute_rules.specs.Trees.{IsSpotTree}
-use Rattle.search_rules.specs.Tests.{same_deck}
-use Rattle.search_rules.proofs.TestLemmas.{same_deck-decides}
 use Rattle.place_refute.specs.Tried.{Tried}
 use Rattle.spot_place.specs.declared.placing.SpotPlaced.{SpotPlaced}
 use Rattle.spot_place.specs.declared.placing.SpotPlaced.TheVariants as placed
@@ -38,16 +36,6 @@ spots_spent d e turns p hard spots same is answer clear known told =
     let spent : IsSpentFor d turns spots = subst (IsSpotPlaced d turns) is answer in
     let own : IsSpentFor e turns spots = subst (λ x. IsSpentFor x turns spots) same spent in
     record { hard_is = told; spots_are = own.is; spent = record { hard = known; spot_hard = own.spot_hard }; clear = clear }
-
--- what was told of the same deck and the same turns
-equal : (d e f : Deck) (t : Bool) → t ≡ same_deck d e → t ≡ true → f ≡ e → d ≡ f
-equal d e f t tested same copy = (same_deck-decides d e).0 (sym tested ∙ same) ∙ sym copy
-
-pub hard_same : (d e f : Deck) (t u : ℕ) (test : Bool) → IsHard d t → t ≡ u → test ≡ same_deck d e → test ≡ true → f ≡ e → IsHard f u
-hard_same d e f t u test is turns tested same copy = subst (λ x. IsHard x u) (equal d e f test tested same copy) (subst (IsHard d) turns is)
-
-pub spots_same : (d e f : Deck) (t u : ℕ) (test : Bool) → IsSpotHard d t → t ≡ u → test ≡ same_deck d e → test ≡ true → f ≡ e → IsSpotHard f u
-spots_same d e f t u test is turns tested same copy = subst (λ x. IsSpotHard x u) (equal d e f test tested same copy) (subst (IsSpotHard d) turns is)
 
 pub too_hard : (d : Deck) (turns : ℕ) (hard spots : Tried) → HasNoClash d → hard ≡ record { deck = d; turns = turns } → IsHard d turns → spots ≡ record { deck = d; turns = turns } → IsSpotHard d turns → IsTooHard d turns hard spots
 too_hard d turns hard spots clear told known also spot_known = record { hard_is = told; spots_are = also; spent = record { hard = known; spot_hard = spot_known }; clear = clear }

@@ -1,3 +1,4 @@
 pub mod Settling
 pub mod Fates
+pub mod Last
 pub mod Lines

@@ -4,13 +4,13 @@ ghost use Rattle.lock_rules.specs.Node.{line_at};
 ghost use Rattle.master_branch.specs.Node.{IsNodeOf};
 ghost use Rattle.node_fate.specs.Fates.{IsFate, fate_by};
 
-use crate::recalling::{fitted, settle_known};
+use crate::recalling::{recall_spent, settle_anew};
 use crate::settling::Settled;
 use leaf_plan::Moorings;
 use lock_model::Instance;
 use master_branch::Node;
 use place_refute::{Cut, Hard};
-use placed_groups::Memory;
+use placed_groups::{Memory, Said};
 use plain_text::NoMemory;
 use std::alloc::Global;
 
@@ -38,9 +38,38 @@ fn fate_by(chamber: u8, place: u8, settled: Settled) -> Fate
     }
 }
 
-/// What becomes of a node that lacks a ship, by group `place` of the line of a chamber, with so
-/// many turns of each placer: it is to be split where the ships of the group fit. Its only refusal
-/// is want of memory.
+/// What becomes of a node that lacks a ship, by what is remembered of group `place` of the line of a
+/// chamber: it is to be split where the ships were found to fit, and the group is spent where they
+/// were too hard for exactly these turns. None where nothing is remembered of them, or only for
+/// other turns. Looks once, and takes no memory.
+#[tactic(auto, using(crate::proofs::FateLemmas::settled_fate, crate::proofs::FateLemmas::group_known, crate::proofs::FateLemmas::group_some))]
+pub fn remembered_fate(
+    instance: &Instance,
+    node: &Node,
+    chamber: u8,
+    place: u8,
+    turns: u32,
+    memory: &Memory,
+) -> Option<Fate>
+    requires node { IsNodeOf instance.now node.now }
+    requires lacks { node.now.depth < length instance.now.ships }
+    requires chamber_in { chamber < length instance.now.chambers }
+    requires place_in { place < length (line_at node.now.lines chamber) }
+    ensures { IfSome result (IsFate instance.now turns node.now) }
+{
+    let ships = &node.line(chamber).as_slice()[place as usize].ships;
+    match memory.find(chamber, ships)? {
+        Said::Fits(_) => Some(Fate::Splits),
+        Said::Spent(hard, spots) => {
+            let settled = recall_spent(instance, chamber, ships, turns, hard, spots)?;
+            Some(fate_by(chamber, place, settled))
+        }
+    }
+}
+
+/// What becomes of a node that lacks a ship, by what the placers find of group `place` of the line
+/// of a chamber, with so many turns of each; what they find is remembered. The node is to be split
+/// where the ships of the group fit. Its only refusal is want of memory.
 #[tactic(auto, using(crate::proofs::FateLemmas::settled_fate, crate::proofs::FateLemmas::group_known, crate::proofs::FateLemmas::group_some))]
 pub fn group_fate(
     alloc: Global,
@@ -59,9 +88,6 @@ pub fn group_fate(
     ensures { IfOk result (IsFate instance.now turns node.now) }
 {
     let ships = &node.line(chamber).as_slice()[place as usize].ships;
-    if fitted(memory, chamber, ships) {
-        return Ok(Fate::Splits);
-    }
-    let settled = settle_known(alloc, instance, chamber, ships, turns, memory)?;
+    let settled = settle_anew(alloc, instance, chamber, ships, turns, memory)?;
     Ok(fate_by(chamber, place, settled))
 }

@@ -1,24 +1,22 @@
 //! What becomes of a node of the search tree.
 //!
-//! `group_fate` looks at one group of a node that lacks ships, `leaf_fate` at all groups of a node
-//! that holds all ships: the node is to be split, its groups are moored, a cut hits it, or a group
-//! is spent. What the placers found of a group is remembered, and tested again before a fact rests
-//! on it. `last_group` names the group that the node's parent doesn't have, and `fitted` says
-//! whether a group was found to fit before.
+//! Of a node that lacks ships one group is looked at, the one that its parent doesn't have:
+//! `last_group` names it, `remembered_fate` answers by what was found of its ships before, and
+//! `group_fate` asks the placers and remembers what they find. `leaf_fate` looks at all groups of
+//! a node that holds all ships. The node is to be split, its groups are moored, a cut hits it, or a
+//! group is spent. What is remembered is tested again before a fact rests on it.
 //!
 //! Definitions: `specs/Settling` (what is found of a group), `Fates` (what becomes of a node),
-//! `Lines` (the moorings of a node as they are made).
+//! `Last` (the group that a ship is in), `Lines` (the moorings of a node as they are made).
 #![tactic(auto)]
 
-mod decks;
 mod fate;
 mod last;
 mod leaf;
 mod recalling;
 mod settling;
 
-pub use fate::{Fate, group_fate};
+pub use fate::{Fate, group_fate, remembered_fate};
 pub use last::last_group;
 pub use leaf::leaf_fate;
-pub use recalling::fitted;
 pub use settling::Settled;

@@ -5,7 +5,6 @@ ghost use Rattle.refute_rules.specs.Cases.{IsHard};
 ghost use Rattle.refute_rules.specs.Spots.{IsSpotHard};
 ghost use Rattle.node_fate.specs.Settling.{AreMooredAt, IsSettled, IsRecalled};
 
-use crate::decks::same_deck;
 use crate::settling::{Settled, settle};
 use lock_model::{Deck, Instance, Ships, Spots, deck_of};
 use mooring_rules::{first_clash, judge_spots};
@@ -13,6 +12,13 @@ use place_refute::{Hard, HardSpots, hard, hard_spots};
 use placed_groups::{Memory, Said};
 use plain_text::NoMemory;
 use std::alloc::Global;
+
+// Whether two decks are the same.
+fn same_deck(a: &Deck, b: &Deck) -> bool
+    ensures { OnTrue result (a.now ≡ b.now) }
+{
+    a == b
+}
 
 // Whether these spots are legal for a deck of which no two ships clash.
 fn are_moored(deck: &Deck, spots: &Spots) -> bool
@@ -61,7 +67,7 @@ fn recall_spots(deck: &Deck, turns: u32, spots: &Spots) -> Option<Settled>
 
 #[tactic(auto, using(crate::proofs::RecallLemmas::too_hard))]
 // That a deck was too hard before.
-fn recall_spent(deck: &Deck, turns: u32, known: &Hard, spots: &HardSpots) -> Option<Settled>
+fn recall_hard(deck: &Deck, turns: u32, known: &Hard, spots: &HardSpots) -> Option<Settled>
     ensures { IfSome result (IsRecalled deck.now turns) }
 {
     let hard = hard_again(deck, turns, known)?;
@@ -72,20 +78,45 @@ fn recall_spent(deck: &Deck, turns: u32, known: &Hard, spots: &HardSpots) -> Opt
     }
 }
 
-// What was found of a deck before, if it stands.
-fn recall(deck: &Deck, turns: u32, said: &Said) -> Option<Settled>
-    ensures { IfSome result (IsRecalled deck.now turns) }
+#[tactic(auto, using(crate::proofs::RecallLemmas::recalled_settles))]
+/// That the ships of a chamber were too hard before, if that was for exactly these turns.
+pub(crate) fn recall_spent(
+    instance: &Instance,
+    chamber: u8,
+    ships: &Ships,
+    turns: u32,
+    known: &Hard,
+    spots: &HardSpots,
+) -> Option<Settled>
+    requires chamber_in { chamber < length instance.now.chambers }
+    requires ships_in { All (λ s. s < length instance.now.ships) ships.now }
+    requires some { 1 ≤ length ships.now }
+    ensures { IfSome result (IsSettled instance.now chamber ships.now turns) }
 {
-    match said {
-        Said::Fits(spots) => recall_spots(deck, turns, spots),
-        Said::Spent(hard, spots) => recall_spent(deck, turns, hard, spots),
-    }
+    let deck = deck_of(instance, chamber, ships);
+    recall_hard(&deck, turns, known, spots)
 }
 
 #[tactic(auto, using(crate::proofs::RecallLemmas::recalled_settles))]
-// What was found of these ships of this chamber.
+// The spots that the ships of a chamber were given before, if they are legal.
+fn recall_fits(
+    instance: &Instance,
+    chamber: u8,
+    ships: &Ships,
+    turns: u32,
+    spots: &Spots,
+) -> Option<Settled>
+    requires chamber_in { chamber < length instance.now.chambers }
+    requires ships_in { All (λ s. s < length instance.now.ships) ships.now }
+    requires some { 1 ≤ length ships.now }
+    ensures { IfSome result (IsSettled instance.now chamber ships.now turns) }
+{
+    let deck = deck_of(instance, chamber, ships);
+    recall_spots(&deck, turns, spots)
+}
 
-fn find(
+// What was found of these ships of this chamber, if it stands.
+fn recall(
     instance: &Instance,
     chamber: u8,
     ships: &Ships,
@@ -97,12 +128,9 @@ fn find(
     requires some { 1 ≤ length ships.now }
     ensures { IfSome result (IsSettled instance.now chamber ships.now turns) }
 {
-    match memory.find(chamber, ships) {
-        Some(said) => {
-            let deck = deck_of(instance, chamber, ships);
-            recall(&deck, turns, said)
-        }
-        None => None,
+    match memory.find(chamber, ships)? {
+        Said::Fits(spots) => recall_fits(instance, chamber, ships, turns, spots),
+        Said::Spent(known, spots) => recall_spent(instance, chamber, ships, turns, known, spots),
     }
 }
 
@@ -125,12 +153,27 @@ fn copy_spots(known: &HardSpots) -> HardSpots {
     hard_spots(known.deck.copy(), known.turns)
 }
 
-/// Whether these ships of this chamber were found to fit before.
-pub fn fitted(memory: &Memory, chamber: u8, ships: &Ships) -> bool {
-    match memory.find(chamber, ships) {
-        Some(Said::Fits(_)) => true,
-        _ => false,
+/// Asks the placers whether ships fit a chamber, within so many turns of each, and remembers what
+/// they find. Its only refusal is want of memory.
+pub(crate) fn settle_anew(
+    alloc: Global,
+    instance: &Instance,
+    chamber: u8,
+    ships: &Ships,
+    turns: u32,
+    memory: &mut Memory,
+) -> Result<Settled, NoMemory>
+    requires chamber_in { chamber < length instance.now.chambers }
+    requires ships_in { All (λ s. s < length instance.now.ships) ships.now }
+    requires some { 1 ≤ length ships.now }
+    requires turns { 1 ≤ turns }
+    ensures { IfOk result (IsSettled instance.now chamber ships.now turns) }
+{
+    let settled = settle(alloc, instance, chamber, ships, turns)?;
+    if let Some(said) = said_of(&settled) {
+        memory.keep(chamber, ships, said)?;
     }
+    Ok(settled)
 }
 
 /// Finds out whether ships fit a chamber, within so many turns of each placer, and remembers it;
@@ -150,12 +193,8 @@ pub(crate) fn settle_known(
     requires turns { 1 ≤ turns }
     ensures { IfOk result (IsSettled instance.now chamber ships.now turns) }
 {
-    if let Some(settled) = find(instance, chamber, ships, turns, memory) {
-        return Ok(settled);
+    match recall(instance, chamber, ships, turns, memory) {
+        Some(settled) => Ok(settled),
+        None => settle_anew(alloc, instance, chamber, ships, turns, memory),
     }
-    let settled = settle(alloc, instance, chamber, ships, turns)?;
-    if let Some(said) = said_of(&settled) {
-        memory.keep(chamber, ships, said)?;
-    }
-    Ok(settled)
 }

@@ -29,7 +29,7 @@ use Rattle.book_core.specs.declared.reply.Reply.TheVariants as reply
 use Rattle.book_core.specs.Replies.{Answers, Does, Wants, Steps, Stays, IsJudged, told}
 use Rattle.book_core.proofs.CloseLemmas.{pick-true, pick-false, not-true, is-not_less}
 use Rattle.solve_workers.specs.Holding.{HoldsOnly}
-use Rattle.solve_workers.specs.Told.{number_in, is_made, is_parked as tells_parked, is_want}
+use Rattle.solve_workers.specs.Told.{number_in, is_made, is_parked as tells_parked, is_want, IsMadeOrWant, IsPostedOrWant}
 use Rattle.solve_workers.proofs.ToldLemmas.{Answer, makes, parks, number_of, told-made, told-parked, told-number}
 use Rattle.solve_workers.proofs.ClearLemmas.{no_clash-test}
 use Rattle.solve_workers.proofs.FreeLemmas.{clash, freed, split-freed, is-held}
@@ -42,6 +42,16 @@ none-some x e = cc
 
 some-same : {X : Type 0} (x y : X) → Some x ≡ Some y → x ≡ y
 some-same x y e = cc
+
+-- ---- want of memory
+
+untold : (r : Reply) → is_want r ≡ true → told r ≡ None
+untold reply.NoMemory e = refl
+untold _ e = absurd (clash (sym e))
+
+pub want_kept : (b : Book) (e : Event) (r : Reply) (new : Book) → Does b e r new → is_want r ≡ true → new ≡ b
+want_kept b e r new (Stays wants) want = wants.same
+want_kept b e r new (Steps answers) want = absurd (none-some answers.answer (sym (untold r want) ∙ answers.said))
 
 -- ---- split
 
@@ -74,6 +84,26 @@ split_made b id node r new holds (Steps answers) e =
     λ out same way. split-by b id node (new, answers.answer) holds (subst (SplitOut b id) same way) (told-made r answers.answer answers.said ∙ e) in
     found (Step.split_step b id) answers.same (split-out b id)
 
+not-whole : (most depth : ℕ) → depth < most → nat_le most depth ≡ false
+not-whole most depth less = elim (leb_tells most depth) [ inl y ↦ absurd (omega (arith, less, y.1)) | inr n ↦ n.0 ]
+
+made-is : (r : Reply) → is_made r ≡ true → IsMadeOrWant r
+made-is (reply.Made count) e = tt
+made-is _ e = absurd (clash (sym e))
+
+-- the held slot lacks a ship, so nothing but want of memory stands against its split
+pub split_granted : (b : Book) (id : ℕ) (node : Node) (r : Reply) (new : Book) → HoldsOnly b id node → node.depth < length b.case.instance.ships → Does b (split id) r new → IsMadeOrWant r
+split_granted b id node r new holds lacks (Stays wants) = subst IsMadeOrWant (sym wants.want) tt
+split_granted b id node r new holds lacks (Steps answers) =
+    let most = length b.case.instance.ships in
+    let whole = nat_le most (slot_at b id).node.depth in
+    let out : Out = Step.split_slot b id in
+    let own : (slot_at b id).node.depth ≡ node.depth = ap (λ (n : Node). n.depth) holds.node_is in
+    let way : Step.split_step b id ≡ out =
+    pick-false (not (is_held (slot_at b id).state)) (b, machine.NotHeld id) (cond whole (b, machine.Whole id) out) (not-true (is_held (slot_at b id).state) (is-held b id node holds))
+    ∙ pick-false whole (b, machine.Whole id) out (not-whole most (slot_at b id).node.depth (omega (arith, lacks, own))) in
+    made-is r (sym (told-made r answers.answer answers.said) ∙ ap (λ (o : Out). makes o.1) (sym answers.same ∙ way))
+
 -- ---- post
 
 record IsPosted (b : Book) (cut : Cut) (number : ℕ) (new : Book) : Type 0 where
@@ -103,6 +133,18 @@ posted-by b cut r new number (Steps answers) e =
     let found : (out : Out) → out ≡ (new, answers.answer) → PostOut b cut out → IsPosted b cut number new =
     λ out same way. post-by b cut (new, answers.answer) number (subst (PostOut b cut) same way) (told-number r answers.answer answers.said ∙ e) in
     found (Step.post_step b cut) answers.same (post-out b cut)
+
+posted-is : (r : Reply) (number : ℕ) → number_in r ≡ Some number → IsPostedOrWant r
+posted-is (reply.Posted n) number e = tt
+posted-is _ number e = absurd (none-some number e)
+
+-- the cut is of the instance, so nothing but want of memory stands against it
+pub post_granted : (b : Book) (cut : Cut) (r : Reply) (new : Book) → IsOwnCut b.case.instance cut → Does b (post cut) r new → IsPostedOrWant r
+post_granted b cut r new own (Stays wants) = subst IsPostedOrWant (sym wants.want) tt
+post_granted b cut r new own (Steps answers) =
+    let test = is_own_cut b.case.instance cut in
+    let way : Step.post_step b cut ≡ Step.posted b cut = pick-false (not test) (b, machine.OtherDeck) (Step.posted b cut) (not-true test ((is_own_cut-decides b.case.instance cut).1 own)) in
+    posted-is r (length b.cuts) (sym (told-number r answers.answer answers.said) ∙ ap (λ (o : Out). number_of o.1) (sym answers.same ∙ way))
 
 last-at : (xs : List Cut) (x : Cut) → slice_get (xs ++ x ∷ []) (length xs) ≡ Some x
 last-at [] x = refl

@@ -1,6 +1,7 @@
 -- What the driver knows of the node in its hand, and how the node leaves it.
-use Rattle.std.proofs.Common.{◌≡◌, ℕ, ◌<◌, ◌≤◌, List, length, refl, sym, ap, ◌∙◌, subst, arith, Bool, true, false, slice_index_or, slice_get, Some, None, IfSome, Contains}
+use Rattle.std.proofs.Common.{◌≡◌, ℕ, ◌<◌, ◌≤◌, List, length, refl, sym, ap, ◌∙◌, subst, arith, Bool, true, false, slice_index_or, slice_get, Some, None, IfSome, Contains, Ok, Err, OnOk, OnErr}
 use Rattle.std.specs.declared.option.Option.{Option}
+use Rattle.std.specs.declared.result.Result.{Result}
 use Rattle.std.specs.Bool.{OnTrue, OnFalse}
 use Rattle.std.proofs.lemmas.List.Elements.{Contains-get_or}
 use Rattle.lock_model.specs.declared.instance.Instance.{Instance}
@@ -28,6 +29,18 @@ use Rattle.solve_workers.specs.Told.{number_in, is_closed, is_want}
 use Rattle.solve_workers.proofs.FreeLemmas.{held-known}
 use Rattle.solve_workers.proofs.CloseLemmas.{bound_shut, bound_sure, cut_shut, cut_sure}
 use Rattle.solve_workers.proofs.GrowLemmas.{posted_there, posted_case, parked_frees, replaced_better}
+
+pub on_ok : {A E P Q : Type 0} (r : Result A E) → OnOk r P → (P → Q) → OnOk r Q
+on_ok (Ok a) h f = f h
+on_ok (Err e) h f = h
+
+pub on_err : {A E P Q : Type 0} (r : Result A E) → OnErr r P → (P → Q) → OnErr r Q
+on_err (Ok a) h f = h
+on_err (Err e) h f = f h
+
+pub err_of : {A E P : Type 0} (r : Result A E) → P → OnErr r P
+err_of (Ok a) is = tt
+err_of (Err e) is = is
 
 pub on_true : (b t : Bool) (P : Type 0) → b ≡ t → (t ≡ true → P) → OnTrue b P
 on_true b true P e h = subst (λ x. OnTrue x P) (sym e) (h refl)

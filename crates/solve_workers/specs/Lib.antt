@@ -3,3 +3,4 @@ pub mod Driving
 pub mod Holding
 pub mod Holds
 pub mod Cuts
+pub mod Opening

@@ -1,5 +1,5 @@
 -- What a reply tells.
-use Rattle.std.specs.Prelude.{ℕ, Bool, true, false, Some, None}
+use Rattle.std.specs.Prelude.{ℕ, Bool, true, false, Some, None, ⊤}
 use Rattle.std.specs.declared.option.Option.{Option}
 use Rattle.master_branch.specs.Node.{Node}
 use Rattle.book_core.specs.declared.reply.Reply.{Reply}
@@ -30,3 +30,15 @@ is_parked _ = false
 abbrev pub is_want : Reply → Bool
 is_want reply.NoMemory = true
 is_want _ = false
+
+-- a slot was split, or there was no memory
+abbrev pub IsMadeOrWant : Reply → Type 0
+IsMadeOrWant (reply.Made count) = ⊤
+IsMadeOrWant reply.NoMemory = ⊤
+IsMadeOrWant _ = ⊥
+
+-- a cut was kept, or there was no memory
+abbrev pub IsPostedOrWant : Reply → Type 0
+IsPostedOrWant (reply.Posted number) = ⊤
+IsPostedOrWant reply.NoMemory = ⊤
+IsPostedOrWant _ = ⊥

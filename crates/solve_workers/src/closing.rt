@@ -3,18 +3,18 @@ ghost use Rattle.std.specs.Prelude.{◌≡◌, ◌<◌, length, All, IfSome};
 ghost use Rattle.std.specs.Bool.{OnTrue, OnFalse};
 ghost use Rattle.search_rules.specs.Ends.{HoldsNothing};
 ghost use Rattle.master_branch.specs.Node.{IsNodeOf};
+ghost use Rattle.node_fate.specs.Fates.{IsGroupAt};
 ghost use Rattle.solve_workers.specs.Cuts.{IsHitting, HitsShips};
 ghost use Rattle.solve_workers.specs.Driving.{IsDriven};
 ghost use Rattle.solve_workers.specs.Holds.{Holds};
 
+use crate::arriving::ship_after;
 use crate::held::Held;
 use crate::told::is_closed;
 use book_core::Book;
 use lock_model::Ships;
-use master_branch::{Node, next_ship};
-use node_fate::{fitted, last_group};
+use master_branch::Node;
 use place_refute::cut_hits;
-use placed_groups::Memory;
 
 /// Closes the held node where its bound is at least the best cost, and says whether it did.
 pub(crate) fn close_by_bound(book: &mut Book, held: &Held) -> bool
@@ -48,11 +48,10 @@ pub(crate) fn close_by_probe(book: &mut Book, held: &Held) -> bool
     ensures driven { IsDriven book.old book.new }
 {
     book.keeps();
-    let instance = &book.case().instance;
-    if held.node.depth() as usize >= instance.ships.as_slice().len() {
+    if held.node.depth() as usize >= book.case().instance.ships.as_slice().len() {
         return false;
     }
-    let ship = next_ship(instance, held.node.depth());
+    let ship = ship_after(book, held.node.depth());
     is_closed(&book.close_probe(held.id, ship))
 }
 
@@ -73,30 +72,26 @@ fn known_cut(book: &Book, chamber: u8, ships: &Ships) -> Option<u64>
     None
 }
 
-// The number of a cut of the book that hits the group of the node's last ship, where the placers
-// weren't asked about this group before.
-fn cut_of_last(book: &Book, node: &Node, memory: &Memory) -> Option<u64>
-    requires { IsNodeOf book.now.case.instance node.now }
+// The number of a cut of the book that hits this group of the node.
+fn cut_of_group(book: &Book, node: &Node, chamber: u8, place: u8) -> Option<u64>
+    requires node { IsNodeOf book.now.case.instance node.now }
+    requires at { IsGroupAt book.now.case.instance node.now chamber place }
     ensures { IfSome result (IsHitting book.now node.now) }
 {
-    let (chamber, place) = last_group(&book.case().instance, node)?;
     let ships = &node.line(chamber).as_slice()[place as usize].ships;
-    if fitted(memory, chamber, ships) {
-        return None;
-    }
     known_cut(book, chamber, ships)
 }
 
-/// Closes the held node where a cut of the book hits the group of its last ship, and says whether
-/// it did.
-pub(crate) fn close_by_known_cut(book: &mut Book, held: &Held, memory: &Memory) -> bool
-    requires { Holds book.old held.now }
+/// Closes the held node where a cut of the book hits this group of it, and says whether it did.
+pub(crate) fn close_by_known_cut(book: &mut Book, held: &Held, chamber: u8, place: u8) -> bool
+    requires holds { Holds book.old held.now }
+    requires at { IsGroupAt book.old.case.instance held.now.node chamber place }
     ensures closed { OnTrue result (HoldsNothing book.new) }
     ensures kept { OnFalse result (book.new ≡ book.old) }
     ensures driven { IsDriven book.old book.new }
 {
     book.keeps();
-    match cut_of_last(book, &held.node, memory) {
+    match cut_of_group(book, &held.node, chamber, place) {
         Some(number) => {
             close_by_cut(book, held, number);
             true

@@ -1,5 +1,5 @@
 //! How the node that the driver holds ends.
-ghost use Rattle.std.specs.Prelude.{◌≡◌, ◌<◌, ◌≤◌, length, OnOk};
+ghost use Rattle.std.specs.Prelude.{◌≡◌, ◌<◌, ◌≤◌, length, OnOk, OnErr};
 ghost use Rattle.leaf_plan.specs.Moorings.{AreMoored};
 ghost use Rattle.search_rules.specs.Ends.{HoldsNothing};
 ghost use Rattle.node_fate.specs.Fates.{IsFate, IsNodeCut, IsSpentAt};
@@ -8,24 +8,24 @@ ghost use Rattle.solve_workers.specs.Holds.{Holds};
 
 use crate::closing::close_by_cut;
 use crate::held::Held;
-use crate::told::{is_made, is_want, number_in};
+use crate::told::{is_want, made, posted};
 use book_core::Book;
 use leaf_plan::{Moorings, leaf_plan};
 use node_fate::Fate;
 use place_refute::{Cut, Hard};
 use plain_text::NoMemory;
 
-// Splits the held node.
+// Splits the held node, which lacks a ship.
 fn split(book: &mut Book, held: &Held) -> Result<(), NoMemory>
-    requires { Holds book.old held.now }
+    requires holds { Holds book.old held.now }
+    requires lacks { held.now.node.depth < length book.old.case.instance.ships }
     ensures freed { OnOk result (HoldsNothing book.new) }
+    ensures kept { OnErr result (book.new ≡ book.old) }
     ensures driven { IsDriven book.old book.new }
 {
     book.keeps();
-    if !is_made(&book.split(held.id)) {
-        return Err(NoMemory);
-    }
-    Ok(())
+    let reply = book.split(held.id);
+    made(&reply)
 }
 
 // Keeps a cut that hits the held node, and closes the node by it.
@@ -33,16 +33,14 @@ fn refute(book: &mut Book, held: &Held, cut: Cut) -> Result<(), NoMemory>
     requires holds { Holds book.old held.now }
     requires cut { IsNodeCut book.old.case.instance held.now.node.lines cut }
     ensures freed { OnOk result (HoldsNothing book.new) }
+    ensures kept { OnErr result (book.new ≡ book.old) }
     ensures driven { IsDriven book.old book.new }
 {
     book.keeps();
-    match number_in(&book.post(cut)) {
-        Some(number) => {
-            close_by_cut(book, held, number);
-            Ok(())
-        }
-        None => Err(NoMemory),
-    }
+    let reply = book.post(cut);
+    let number = posted(&reply)?;
+    close_by_cut(book, held, number);
+    Ok(())
 }
 
 // Gives the plan of the held node, which holds all ships, to the book, and closes the node: its
@@ -52,6 +50,7 @@ fn complete(book: &mut Book, held: &Held, moorings: &Moorings) -> Result<(), NoM
     requires whole { held.now.node.depth ≡ length book.old.case.instance.ships }
     requires moored { AreMoored book.old.case.instance moorings.now held.now.node.lines }
     ensures freed { OnOk result (HoldsNothing book.new) }
+    ensures kept { OnErr result (book.new ≡ book.old) }
     ensures driven { IsDriven book.old book.new }
 {
     book.keeps();
@@ -76,11 +75,12 @@ fn park(book: &mut Book, held: &Held, chamber: u8, place: u8, hard: &Hard)
 }
 
 /// Ends the held node as its fate says: it is split, its plan replaces the best one, it is closed by
-/// a new cut, or it is parked. Refuses want of memory alone.
+/// a new cut, or it is parked. Refuses want of memory alone, after which the book is as it was.
 pub(crate) fn end(book: &mut Book, held: &Held, fate: Fate) -> Result<(), NoMemory>
     requires holds { Holds book.old held.now }
     requires fate { IsFate book.old.case.instance book.old.case.turns held.now.node fate }
     ensures freed { OnOk result (HoldsNothing book.new) }
+    ensures kept { OnErr result (book.new ≡ book.old) }
     ensures driven { IsDriven book.old book.new }
 {
     match fate {

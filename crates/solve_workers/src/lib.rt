@@ -6,17 +6,21 @@
 //! book with `first_plan` and drives it. All work is done on the caller's thread for now: `solve`
 //! starts no worker and calls no gate.
 //!
-//! For each node `held` takes it, `closing` tries what needs no placer, `working` asks `node_fate`
-//! what becomes of it, and `ending` makes it so.
+//! For each node `held` takes it, `closing` tries what needs no placer, `working` asks what becomes
+//! of it (`fates`, by `node_fate`), and `ending` makes it so. `arriving` says which ship comes next,
+//! and which group the last one is in.
 //!
 //! Definitions: `search_rules` says how a search ends well (`specs/Ends`) and what events change;
 //! here `specs/Driving` (events of the driver), `Holding` and `Holds` (what it holds, and what it
-//! has tidied), `Cuts` (cuts of the book that hit a node), `Told` (what replies tell).
+//! has tidied), `Cuts` (cuts of the book that hit a node), `Opening` (a book that was just
+//! opened), `Told` (what replies tell).
 #![tactic(auto)]
 
+mod arriving;
 mod closing;
 mod driving;
 mod ending;
+mod fates;
 mod held;
 mod solving;
 #[cfg(test)]

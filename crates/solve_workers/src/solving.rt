@@ -3,10 +3,11 @@ ghost use Rattle.std.specs.Prelude.{◌≡◌, ◌≤◌, IfOk};
 ghost use Rattle.lock_rules.specs.Singles.{singles_of};
 ghost use Rattle.first_plan.specs.Merging.{IsAtMost};
 ghost use Rattle.search_rules.specs.Ends.{EndsWell};
+ghost use Rattle.solve_workers.specs.Opening.{IsOpened};
 
 use crate::driving::drive;
 use book_core::{Book, Case, open_book};
-use first_plan::first_plan;
+use first_plan::{FirstError, first_plan};
 use lock_io::Gate;
 use lock_model::Plan;
 use plain_text::NoMemory;
@@ -27,11 +28,19 @@ fn opening_plan(alloc: Global, case: &Case) -> Result<Plan, NoMemory>
 {
     match first_plan(alloc, &case.instance, case.turns) {
         Ok(plan) => Ok(plan),
-        Err(_) => Err(NoMemory),
+        Err(FirstError::NoMemory) => Err(NoMemory),
+        Err(FirstError::Unfit(_)) => unreachable!(),
     }
 }
 
-#[tactic(auto, using(crate::proofs::OpeningLemmas::opened_free, crate::proofs::OpeningLemmas::opened_running, crate::proofs::OpeningLemmas::solved_well))]
+// The book of a case, opened with that plan.
+fn opened(alloc: Global, case: &Case) -> Result<Book, NoMemory>
+    ensures { IfOk result (IsOpened case.now) }
+{
+    let plan = opening_plan(alloc, case)?;
+    open_book(alloc, case, plan)
+}
+
 /// Searches a case from the plan of `first_plan`, with 1 to 8 workers. Refuses want of memory alone.
 ///
 /// All work is done on the caller's thread for now, whatever the number of workers, and the gate is
@@ -51,8 +60,7 @@ pub fn solve<R: Threads + Wait + Sync, G: Gate + Sync>(
     let _ = rt;
     let _ = workers;
     let _ = gate;
-    let plan = opening_plan(alloc, case)?;
-    let mut book = open_book(alloc, case, plan)?;
+    let mut book = opened(alloc, case)?;
     drive(alloc, &mut book)?;
     Ok(Solved { book })
 }

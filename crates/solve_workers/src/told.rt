@@ -1,9 +1,10 @@
 //! What a reply tells.
-ghost use Rattle.std.specs.Prelude.{◌≡◌};
-ghost use Rattle.solve_workers.specs.Told.{node_in, number_in, is_closed, is_made, is_want};
+ghost use Rattle.std.specs.Prelude.{◌≡◌, true, Some, IfOk, OnOk, OnErr};
+ghost use Rattle.solve_workers.specs.Told.{node_in, number_in, is_closed, is_made, is_want, IsMadeOrWant, IsPostedOrWant};
 
 use book_core::Reply;
 use master_branch::Node;
+use plain_text::NoMemory;
 
 /// The slot that was given, and its node.
 pub(crate) fn node_in(reply: Reply) -> Option<(u32, Node)>
@@ -11,16 +12,6 @@ pub(crate) fn node_in(reply: Reply) -> Option<(u32, Node)>
 {
     match reply {
         Reply::Node(id, node) => Some((id, node)),
-        _ => None,
-    }
-}
-
-/// The number of the cut that was kept.
-pub(crate) fn number_in(reply: &Reply) -> Option<u64>
-    ensures { result ≡ number_in reply.now }
-{
-    match reply {
-        Reply::Posted(number) => Some(*number),
         _ => None,
     }
 }
@@ -35,16 +26,6 @@ pub(crate) fn is_closed(reply: &Reply) -> bool
     }
 }
 
-/// Whether a slot was split.
-pub(crate) fn is_made(reply: &Reply) -> bool
-    ensures { result ≡ is_made reply.now }
-{
-    match reply {
-        Reply::Made(_) => true,
-        _ => false,
-    }
-}
-
 /// Whether there was no memory.
 pub(crate) fn is_want(reply: &Reply) -> bool
     ensures { result ≡ is_want reply.now }
@@ -52,5 +33,31 @@ pub(crate) fn is_want(reply: &Reply) -> bool
     match reply {
         Reply::NoMemory => true,
         _ => false,
+    }
+}
+
+/// That a slot was split; else there was no memory.
+pub(crate) fn made(reply: &Reply) -> Result<(), NoMemory>
+    requires { IsMadeOrWant reply.now }
+    ensures made { OnOk result (is_made reply.now ≡ true) }
+    ensures want { OnErr result (is_want reply.now ≡ true) }
+{
+    match reply {
+        Reply::Made(_) => Ok(()),
+        Reply::NoMemory => Err(NoMemory),
+        _ => unreachable!(),
+    }
+}
+
+/// The number of the cut that was kept; else there was no memory.
+pub(crate) fn posted(reply: &Reply) -> Result<u64, NoMemory>
+    requires { IsPostedOrWant reply.now }
+    ensures posted { IfOk result (λ number. number_in reply.now ≡ Some number) }
+    ensures want { OnErr result (is_want reply.now ≡ true) }
+{
+    match reply {
+        Reply::Posted(number) => Ok(*number),
+        Reply::NoMemory => Err(NoMemory),
+        _ => unreachable!(),
     }
 }

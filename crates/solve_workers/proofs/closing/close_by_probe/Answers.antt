@@ -14,12 +14,12 @@ returns-then-depth-as_slice-clause-driven c = driven_none c.args.book.now
 pub returns-clause-closed : goal.returns-clause-closed
 returns-clause-closed c =
     on_true c.is_closed.result (is_closed c.close_probe.result) (HoldsNothing c.close_probe.new.self) c.is_closed.ensures
-    (probe_shut c.args.book.now c.args.held.now.id (tree_node c.args.held.now.node) c.requires c.close_probe.result c.close_probe.new.self c.next_ship-ship.result c.close_probe.ensures)
+    (probe_shut c.args.book.now c.args.held.now.id (tree_node c.args.held.now.node) c.requires c.close_probe.result c.close_probe.new.self c.ship_after-ship.result c.close_probe.ensures)
 
 pub returns-clause-kept : goal.returns-clause-kept
 returns-clause-kept c =
     on_false c.is_closed.result (is_closed c.close_probe.result) (c.close_probe.new.self ≡ c.args.book.now) c.is_closed.ensures
-    (probe_kept c.args.book.now c.args.held.now.id (tree_node c.args.held.now.node) c.requires c.close_probe.result c.close_probe.new.self c.next_ship-ship.result c.close_probe.ensures)
+    (probe_kept c.args.book.now c.args.held.now.id (tree_node c.args.held.now.node) c.requires c.close_probe.result c.close_probe.new.self c.ship_after-ship.result c.close_probe.ensures)
 
 pub returns-clause-driven : goal.returns-clause-driven
-returns-clause-driven c = driven_by c.args.book.now (close_probe c.args.held.now.id c.next_ship-ship.result) c.close_probe.result c.close_probe.new.self c.keeps.ensures tt tt c.close_probe.ensures
+returns-clause-driven c = driven_by c.args.book.now (close_probe c.args.held.now.id c.ship_after-ship.result) c.close_probe.result c.close_probe.new.self c.keeps.ensures tt tt c.close_probe.ensures

@@ -6,6 +6,7 @@ use Rattle.master_branch.specs.Node.{IsNodeOf}
 use Rattle.search_rules.specs.Book.{Case}
 use Rattle.search_rules.specs.Events.{replace, close_bound}
 use Rattle.solve_workers.proofs.DrivenLemmas.{driven_by, driven_does, driven_then}
+use Rattle.solve_workers.proofs.GrowLemmas.{want_kept}
 use Rattle.solve_workers.proofs.HeldLemmas.{held_node, complete_shut}
 use Rattle.solve_workers.proofs.ending.complete.Goals as goal
 
@@ -16,6 +17,9 @@ leaf_plan-plan-requires-clause-node c =
 
 pub returns-then-is_want-clause-driven : goal.returns-then-is_want-clause-driven
 returns-then-is_want-clause-driven c = driven_does c.args.book.now (replace c.leaf_plan-plan.result) c.replace.result c.replace.new.self c.keeps.ensures tt tt c.replace.ensures
+
+pub returns-then-is_want-clause-kept : goal.returns-then-is_want-clause-kept
+returns-then-is_want-clause-kept c = want_kept c.args.book.now (replace c.leaf_plan-plan.result) c.replace.result c.replace.new.self c.replace.ensures (sym c.is_want.ensures ∙ c.if-is_want.true)
 
 pub returns-clause-freed : goal.returns-clause-freed
 returns-clause-freed c =
