@@ -1,5 +1,5 @@
 -- What a search that ended well shows, and what is answered to it.
-use Rattle.std.proofs.Common.{ℕ, ◌≡◌, ◌≢◌, ◌<◌, refl, List, length, sym, subst, ◌∙◌, inl, inr, All, Err, Result}
+use Rattle.std.proofs.Common.{ℕ, Bool, true, false, ◌≡◌, ◌≢◌, ◌<◌, refl, List, length, sym, subst, ◌∙◌, inl, inr, All, Err, Result}
 use Rattle.std.specs.Prelude.{IfErr}
 use Rattle.std.proofs.lemmas.List.Elements.{All-contains}
 use Rattle.lock_model.specs.declared.instance.Instance.{Instance}
@@ -24,7 +24,7 @@ use Rattle.book_certificate.specs.declared.error.CertError.{CertError}
 use Rattle.book_certificate.specs.declared.error.CertError.TheVariants.{StillOpen, NoMemory}
 use Rattle.plan_print.specs.Report.{IsOfInstance, report}
 use Rattle.lock_top.specs.Statuses.{status_of}
-use Rattle.lock_top.specs.Searching.{Print, PrintsOptimal, PrintsDossier, AnswersSearch}
+use Rattle.lock_top.specs.Searching.{Print, PrintsOptimal, PrintsDossier, PrintsBest, AnswersSearch}
 use Rattle.lock_top.specs.declared.status.Status.{Status}
 use Rattle.lock_top.specs.declared.status.Status.TheVariants.{Good, Open, Words, Refused, ReadFault, WriteFault, BadDossier, Unfit, PlanRefused}
 use Rattle.lock_top.specs.declared.status.Status.TheVariants as statuses
@@ -61,33 +61,41 @@ dossier_printed I C text accepts formed shown reads =
 -- ---- where no dossier is
 
 -- only a cheapest plan ends as good
-pub not_good : (V : Verdict) (status : Status) → status ≡ status_of V → V ≢ Optimal → status ≢ Good
-not_good Optimal status is open good = open refl
-not_good (OpenNodes used low) status is open good = open_good (sym is ∙ good)
-  where
-    open_good : Open ≡ Good → ⊥
-    open_good e = cc
-not_good (OpenTurns chamber ships given low) status is open good = open_good (sym is ∙ good)
+pub not_good : (b : Book) (V : Verdict) (status : Status) → V ≡ verdict_of b → status ≡ status_of V → verdict_of b ≢ Optimal → status ≢ Good
+not_good b V status shown is left good = by_verdict V (λ best. left (sym shown ∙ best)) (sym is ∙ good)
   where
     open_good : Open ≡ Good → ⊥
     open_good e = cc
 
--- a search whose book has no certificate ended open
-pub still_open : (V : Verdict) (found : Result Certificate CertError) → found ≡ Err StillOpen → (V ≡ Optimal → IfErr found (λ error. error ≡ NoMemory)) → V ≢ Optimal
-still_open V found is finished optimal = other (subst (λ r. IfErr r (λ error. error ≡ NoMemory)) is (finished optimal))
+    by_verdict : (V : Verdict) → V ≢ Optimal → status_of V ≡ Good → ⊥
+    by_verdict Optimal other e = other refl
+    by_verdict (OpenNodes used low) other e = open_good e
+    by_verdict (OpenTurns chamber ships given low) other e = open_good e
+
+-- a book without a certificate isn't finished
+pub still_open : {A : Type 0} (b : Book) (found : Result A CertError) → found ≡ Err StillOpen → (verdict_of b ≡ Optimal → IfErr found (λ error. error ≡ NoMemory)) → verdict_of b ≢ Optimal
+still_open {A} b found is finished optimal = other (subst (λ r. IfErr r (λ error. error ≡ NoMemory)) is (finished optimal))
   where
     other : StillOpen ≡ NoMemory → ⊥
     other e = cc
 
 -- the report that was answered is answered where a dossier is asked for
 pub open_answers : (I : Instance) (nodes turns : ℕ) (status : Status) (text : List ℕ) → status ≢ Good → AnswersSearch (PrintsOptimal report) report I nodes turns status text → AnswersSearch PrintsDossier report I nodes turns status text
-open_answers I nodes turns Good text open answer = absurd (open refl)
-open_answers I nodes turns Open text open answer = answer
-open_answers I nodes turns Words text open answer = absurd answer
-open_answers I nodes turns Refused text open answer = absurd answer
-open_answers I nodes turns ReadFault text open answer = absurd answer
-open_answers I nodes turns WriteFault text open answer = absurd answer
-open_answers I nodes turns statuses.NoMemory text open answer = answer
-open_answers I nodes turns BadDossier text open answer = absurd answer
-open_answers I nodes turns Unfit text open answer = absurd answer
-open_answers I nodes turns PlanRefused text open answer = absurd answer
+open_answers I nodes turns Good text left answer = absurd (left refl)
+open_answers I nodes turns Open text left answer = answer
+open_answers I nodes turns Words text left answer = absurd answer
+open_answers I nodes turns Refused text left answer = absurd answer
+open_answers I nodes turns ReadFault text left answer = absurd answer
+open_answers I nodes turns WriteFault text left answer = absurd answer
+open_answers I nodes turns statuses.NoMemory text left answer = answer
+open_answers I nodes turns BadDossier text left answer = absurd answer
+open_answers I nodes turns Unfit text left answer = absurd answer
+open_answers I nodes turns PlanRefused text left answer = absurd answer
+
+-- ---- by what is asked for
+
+pub dossier_asked : (asked : Bool) (I : Instance) (nodes turns : ℕ) (status : Status) (text : List ℕ) → true ≡ asked → AnswersSearch PrintsDossier report I nodes turns status text → AnswersSearch (PrintsBest asked) report I nodes turns status text
+dossier_asked asked I nodes turns status text is answer = subst (λ a. AnswersSearch (PrintsBest a) report I nodes turns status text) is answer
+
+pub report_asked : (asked : Bool) (I : Instance) (nodes turns : ℕ) (status : Status) (text : List ℕ) → false ≡ asked → AnswersSearch (PrintsOptimal report) report I nodes turns status text → AnswersSearch (PrintsBest asked) report I nodes turns status text
+report_asked asked I nodes turns status text is answer = subst (λ a. AnswersSearch (PrintsBest a) report I nodes turns status text) is answer

@@ -7,7 +7,7 @@ ghost use Rattle.search_rules.specs.Ends.{EndsWell, IsEnd};
 ghost use Rattle.search_rules.specs.Verdict.{verdict_of};
 ghost use Rattle.search_rules.specs.WellFormed.{IsWellFormed};
 ghost use Rattle.plan_print.specs.Report.{IsOfInstance, report, verdict_line};
-ghost use Rattle.lock_top.specs.Searching.{PrintsOptimal, PrintsDossier, AnswersSearch};
+ghost use Rattle.lock_top.specs.Searching.{PrintsOptimal, PrintsDossier, PrintsBest, AnswersSearch};
 ghost use Rattle.lock_top.specs.Statuses.{status_of};
 ghost use Rattle.lock_top.specs.Written.{bytes_in};
 
@@ -48,10 +48,10 @@ fn status_of(verdict: &Verdict) -> Status
 }
 
 // The report of the best plan of a search that ended well.
-#[tactic(auto, using(crate::proofs::EndLemmas::end_answers, crate::proofs::EndLemmas::not_good))]
+#[tactic(auto, using(crate::proofs::EndLemmas::end_answers))]
 fn report_answer(alloc: Global, book: &Book) -> Answer
     requires { EndsWell (singles_of book.now.case.instance) book.now }
-    ensures open { verdict_of book.now ≢ Optimal → result.status ≢ Status.Good }
+    ensures left { verdict_of book.now ≢ Optimal → result.status ≢ Status.Good }
     ensures answer { AnswersSearch (PrintsOptimal report) report book.now.case.instance book.now.case.nodes book.now.case.turns result.status (bytes_in result.text) }
 {
     let verdict = shown(book);
@@ -97,7 +97,6 @@ fn dossier_answer(alloc: Global, book: &Book, certificate: &Certificate) -> Answ
 }
 
 // The dossier of a search that ended well, or the report where it ended open.
-#[tactic(auto, using(crate::proofs::EndLemmas::still_open, crate::proofs::EndLemmas::open_answers))]
 fn certified_answer(alloc: Global, book: &Book) -> Answer
     requires { EndsWell (singles_of book.now.case.instance) book.now }
     ensures { AnswersSearch PrintsDossier report book.now.case.instance book.now.case.nodes book.now.case.turns result.status (bytes_in result.text) }
@@ -109,39 +108,36 @@ fn certified_answer(alloc: Global, book: &Book) -> Answer
     }
 }
 
-/// Searches all plans of a case, and answers with the report of the best one.
-pub(crate) fn search_report<R: Threads + Wait + Sync, G: Gate + Sync>(
-    rt: &R,
-    alloc: Global,
-    case: &Case,
-    workers: u8,
-    gate: &G,
-) -> Answer
-    requires some { 1 ≤ workers }
-    requires few { workers ≤ 8 }
-    ensures { AnswersSearch (PrintsOptimal report) report case.now.instance case.now.nodes case.now.turns result.status (bytes_in result.text) }
+// The report of the best plan of a search that ended well, or its dossier where it is cheapest and
+// one is asked for.
+#[tactic(auto, using(crate::proofs::EndLemmas::dossier_asked, crate::proofs::EndLemmas::report_asked))]
+fn best_answer(alloc: Global, book: &Book, dossier: bool) -> Answer
+    requires { EndsWell (singles_of book.now.case.instance) book.now }
+    ensures { AnswersSearch (PrintsBest dossier) report book.now.case.instance book.now.case.nodes book.now.case.turns result.status (bytes_in result.text) }
 {
-    match solve(rt, alloc, case, workers, gate) {
-        Ok(solved) => report_answer(alloc, &solved.book),
-        Err(NoMemory) => no_memory(),
+    if dossier {
+        certified_answer(alloc, book)
+    } else {
+        report_answer(alloc, book)
     }
 }
 
-/// Searches all plans of a case, and answers with the dossier of the best one where it is cheapest,
-/// else with its report.
-pub(crate) fn search_dossier<R: Threads + Wait + Sync, G: Gate + Sync>(
+/// Searches all plans of a case, and answers with the report of the best one, or with its dossier
+/// where it is cheapest and one is asked for.
+pub(crate) fn search_best<R: Threads + Wait + Sync, G: Gate + Sync>(
     rt: &R,
     alloc: Global,
     case: &Case,
     workers: u8,
+    dossier: bool,
     gate: &G,
 ) -> Answer
     requires some { 1 ≤ workers }
     requires few { workers ≤ 8 }
-    ensures { AnswersSearch PrintsDossier report case.now.instance case.now.nodes case.now.turns result.status (bytes_in result.text) }
+    ensures { AnswersSearch (PrintsBest dossier) report case.now.instance case.now.nodes case.now.turns result.status (bytes_in result.text) }
 {
     match solve(rt, alloc, case, workers, gate) {
-        Ok(solved) => certified_answer(alloc, &solved.book),
+        Ok(solved) => best_answer(alloc, &solved.book, dossier),
         Err(NoMemory) => no_memory(),
     }
 }

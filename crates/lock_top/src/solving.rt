@@ -11,7 +11,7 @@ ghost use Rattle.lock_top.specs.Written.{bytes_in};
 
 use crate::answer::{Answer, Text, fixed, no_memory};
 use crate::reading::too_long;
-use crate::searching::{search_dossier, search_report};
+use crate::searching::search_best;
 use crate::status::Status;
 use crate::texts::{defect_text, unfit_text};
 use book_core::Case;
@@ -55,11 +55,7 @@ fn fit_answer<R: Threads + Wait + Sync, G: Gate + Sync>(
     ensures { AnswersSearch (PrintsBest options.now.dossier) report instance options.now.nodes options.now.turns result.status (bytes_in result.text) }
 {
     let case = Case::new(instance, options.nodes, options.turns);
-    if options.dossier {
-        search_dossier(rt, alloc, &case, options.workers, gate)
-    } else {
-        search_report(rt, alloc, &case, options.workers, gate)
-    }
+    search_best(rt, alloc, &case, options.workers, options.dossier, gate)
 }
 
 // What is answered to an instance.
