@@ -1,5 +1,5 @@
 -- What `check` answers over a source that has a dossier left.
-use Rattle.std.proofs.Common.{ℕ, ◌≡◌, ◌≤◌, ◌<◌, List, length, sym, subst, ap, arith, Ok, Err, Result, Some}
+use Rattle.std.proofs.Common.{ℕ, ◌≡◌, ◌≤◌, ◌<◌, List, length, sym, subst, ap, inl, inr, arith, Ok, Err, Result, Some}
 use Rattle.std.specs.Prelude.{IfSome}
 use Rattle.lock_io.specs.Faults.{Rose}
 use Rattle.lock_model.specs.declared.instance.Instance.{Instance}
