@@ -1,44 +1,45 @@
 -- What is answered to an instance, to the bytes that mean it, and to words.
-use Rattle.std.proofs.Common.{ℕ, ◌≡◌, List, sym, subst, false}
+use Rattle.std.proofs.Common.{ℕ, ◌≡◌, Bool, List, sym, subst, ap, ◌∙◌, true, false, inl, inr}
 use Rattle.lock_model.specs.declared.instance.Instance.{Instance}
 use Rattle.instance_text.specs.Reading.{Means}
 use Rattle.plan_print.specs.Report.{report}
 use Rattle.command_words.specs.Meaning.{Means as WordsMean}
 use Rattle.command_words.specs.declared.commands.Command.{Command}
+use Rattle.command_words.specs.declared.commands.SolveOptions.{SolveOptions}
 use Rattle.command_words.specs.declared.commands.Command.TheVariants.{Solve, Check, Lot, Trial, Judge, Play, Replan, Lower, Resume}
-use Rattle.lock_top.specs.Asked.{is_not_yet, MeanOnly, AreRefused}
+use Rattle.lock_top.specs.Asked.{is_not_yet, MeanOnly, AreRefused, solve_options}
 use Rattle.lock_top.specs.Texts.{bad_words_text, no_memory_text}
-use Rattle.lock_top.specs.Searching.{AnswersSearch}
+use Rattle.lock_top.specs.Searching.{PrintsBest, AnswersSearch}
 use Rattle.lock_top.specs.Solving.{AnswersInstance, AnswersText}
 use Rattle.lock_top.specs.Answers.{Drained, IsUnread, AnswersCommand, AnswersMeant, Answers}
 use Rattle.lock_top.specs.declared.status.Status.{Status}
 use Rattle.lock_top.specs.declared.status.Status.TheVariants.{Good, Open, Words, Refused, ReadFault, WriteFault, NoMemory, BadDossier, Unfit, PlanRefused}
 
 -- what is answered at the end of a search is answered to the instance
-pub search_answers : (nodes turns : ℕ) (I : Instance) (status : Status) (text : List ℕ) → AnswersSearch report I nodes turns status text → AnswersInstance nodes turns I status text
-search_answers nodes turns I Good text answer = answer
-search_answers nodes turns I Open text answer = answer
-search_answers nodes turns I Words text answer = absurd answer
-search_answers nodes turns I Refused text answer = absurd answer
-search_answers nodes turns I ReadFault text answer = absurd answer
-search_answers nodes turns I WriteFault text answer = absurd answer
-search_answers nodes turns I NoMemory text answer = answer
-search_answers nodes turns I BadDossier text answer = absurd answer
-search_answers nodes turns I Unfit text answer = absurd answer
-search_answers nodes turns I PlanRefused text answer = absurd answer
+pub search_answers : (options : SolveOptions) (I : Instance) (status : Status) (text : List ℕ) → AnswersSearch (PrintsBest options.dossier) report I options.nodes options.turns status text → AnswersInstance options I status text
+search_answers options I Good text answer = answer
+search_answers options I Open text answer = answer
+search_answers options I Words text answer = absurd answer
+search_answers options I Refused text answer = absurd answer
+search_answers options I ReadFault text answer = absurd answer
+search_answers options I WriteFault text answer = absurd answer
+search_answers options I NoMemory text answer = answer
+search_answers options I BadDossier text answer = absurd answer
+search_answers options I Unfit text answer = absurd answer
+search_answers options I PlanRefused text answer = absurd answer
 
 -- what is answered to an instance is answered to the bytes that mean it
-pub answers_meant : (nodes turns : ℕ) (I : Instance) (bytes : List ℕ) (status : Status) (text : List ℕ) → Means bytes I → AnswersInstance nodes turns I status text → AnswersText nodes turns bytes status text
-answers_meant nodes turns I bytes Good text means answer = record { instance = I; means = means; answer = answer }
-answers_meant nodes turns I bytes Open text means answer = record { instance = I; means = means; answer = answer }
-answers_meant nodes turns I bytes Words text means answer = absurd answer
-answers_meant nodes turns I bytes Refused text means answer = absurd answer
-answers_meant nodes turns I bytes ReadFault text means answer = absurd answer
-answers_meant nodes turns I bytes WriteFault text means answer = absurd answer
-answers_meant nodes turns I bytes NoMemory text means answer = answer
-answers_meant nodes turns I bytes BadDossier text means answer = absurd answer
-answers_meant nodes turns I bytes Unfit text means answer = record { instance = I; means = means; answer = answer }
-answers_meant nodes turns I bytes PlanRefused text means answer = absurd answer
+pub answers_meant : (options : SolveOptions) (I : Instance) (bytes : List ℕ) (status : Status) (text : List ℕ) → Means bytes I → AnswersInstance options I status text → AnswersText options bytes status text
+answers_meant options I bytes Good text means answer = record { instance = I; means = means; answer = answer }
+answers_meant options I bytes Open text means answer = record { instance = I; means = means; answer = answer }
+answers_meant options I bytes Words text means answer = absurd answer
+answers_meant options I bytes Refused text means answer = absurd answer
+answers_meant options I bytes ReadFault text means answer = absurd answer
+answers_meant options I bytes WriteFault text means answer = absurd answer
+answers_meant options I bytes NoMemory text means answer = answer
+answers_meant options I bytes BadDossier text means answer = absurd answer
+answers_meant options I bytes Unfit text means answer = record { instance = I; means = means; answer = answer }
+answers_meant options I bytes PlanRefused text means answer = absurd answer
 
 -- words that are refused
 pub answers_refused : (words : List (List ℕ)) (source : Drained) (status : Status) (text : List ℕ) → status ≡ Words → text ≡ bad_words_text → AreRefused words → IsUnread source → Answers words source status text
@@ -82,8 +83,8 @@ answers_command words source command PlanRefused text mean there answer = record
 
 -- ---- what was answered, by what was asked
 
-abbrev pub solve_of : ℕ → ℕ → ℕ → Command
-solve_of nodes turns workers = Solve (record { nodes = nodes; turns = turns; workers = workers; dossier = false; keep = false })
+abbrev pub solve_of : ℕ → ℕ → ℕ → Bool → Command
+solve_of nodes turns workers dossier = Solve (solve_options nodes turns workers dossier)
 
 abbrev pub lot_of : ℕ → ℕ → ℕ → Command
 lot_of number ships chambers = Lot (record { number = number; ships = ships; chambers = chambers })
@@ -94,3 +95,12 @@ trial_of number ships chambers nodes turns = Trial (record { lot = record { numb
 -- what is answered to the words is answered to a command that they mean
 pub meant_answer : (words : List (List ℕ)) (source : Drained) (status : Status) (text : List ℕ) (command : Command) → AnswersMeant words source status text → WordsMean words command → AnswersCommand command source status text
 meant_answer words source status text command meant means = subst (λ c. AnswersCommand c source status text) (sym (meant.mean.only command means)) meant.answer
+
+-- ---- good words are never refused
+
+pub true_false : true ≡ false → ⊥
+true_false e = cc
+
+pub not_refused_words : (words : List (List ℕ)) (command : Command) → WordsMean words command → is_not_yet command ≡ false → AreRefused words → ⊥
+not_refused_words words command means there (inl refused) = refused command means
+not_refused_words words command means there (inr coming) = true_false (sym coming.coming ∙ ap is_not_yet (sym (coming.mean.only command means)) ∙ there)

@@ -1,14 +1,14 @@
 -- The clauses of a run with status 0 and 1, from what was answered and what was written.
-use Rattle.std.proofs.Common.{ℕ, ◌≡◌, List, subst, Some, None}
+use Rattle.std.proofs.Common.{ℕ, ◌≡◌, Bool, true, false, List, subst, Some, None}
 use Rattle.std.specs.Prelude.{IfSome}
 use Rattle.std.specs.declared.option.Option.{Option}
 use Rattle.std.specs.Io.KnownBytes.{Appends}
 use Rattle.instance_text.specs.Reading.{Means}
 use Rattle.cert_text.specs.Dossier.{Reads}
 use Rattle.command_words.specs.declared.commands.Command.TheVariants.{Check}
-use Rattle.lock_top.specs.Asked.{AskSolve, AskCheck, AskLot, AskTrial}
+use Rattle.lock_top.specs.Asked.{solve_options, AskSolve, AskCheck, AskLot, AskTrial}
 use Rattle.lock_top.specs.Answers.{Drained, AnswersRead, AnswersDossierRead, AnswersMeant, Answers}
-use Rattle.lock_top.specs.Clauses.{IsSolved, IsLeftOpen, IsAccepted, IsDrawn, IsTried, IsTriedOpen}
+use Rattle.lock_top.specs.Clauses.{IsSolved, IsCertified, IsLeftOpen, IsAccepted, IsDrawn, IsTried, IsTriedOpen}
 use Rattle.lock_top.specs.declared.status.Status.{Status}
 use Rattle.lock_top.specs.declared.status.Status.TheVariants.{Good, Open}
 use Rattle.lock_top.proofs.AnswerLemmas.{solve_of, lot_of, trial_of, meant_answer}
@@ -29,9 +29,9 @@ module _ (words : List (List ℕ)) (source : Drained) (status : Status) (text by
   left : status ≡ Open → AnswersMeant words source Open text
   left is = subst (λ s. Answers words source s text) is answer
 
-  pub solved : (nodes turns workers : ℕ) → AskSolve words nodes turns workers → status ≡ Good → IsSolved source held held_after
+  pub solved : (nodes turns workers : ℕ) → AskSolve words nodes turns workers false → status ≡ Good → IsSolved source held held_after
   solved nodes turns workers ask is =
-      let read : AnswersRead nodes turns source Good text = meant_answer words source Good text (solve_of nodes turns workers) (good is) ask.means in
+      let read : AnswersRead (solve_options nodes turns workers false) source Good text = meant_answer words source Good text (solve_of nodes turns workers false) (good is) ask.means in
       let told = read.answer in
       let optimal = told.answer in
       record {
@@ -43,9 +43,27 @@ module _ (words : List (List ℕ)) (source : Drained) (status : Status) (text by
         reported = subst (Appends held held_after) optimal.shown appended;
       }
 
-  pub left_open : (nodes turns workers : ℕ) → AskSolve words nodes turns workers → status ≡ Open → IsLeftOpen nodes turns source held held_after
-  left_open nodes turns workers ask is =
-      let read : AnswersRead nodes turns source Open text = meant_answer words source Open text (solve_of nodes turns workers) (left is) ask.means in
+  pub certified : (nodes turns workers : ℕ) → AskSolve words nodes turns workers true → status ≡ Good → IsCertified source held held_after
+  certified nodes turns workers ask is =
+      let read : AnswersRead (solve_options nodes turns workers true) source Good text = meant_answer words source Good text (solve_of nodes turns workers true) (good is) ask.means in
+      let told = read.answer in
+      let best = told.answer in
+      record {
+        instance = told.instance;
+        certificate = best.certificate;
+        means = told_so (λ bytes. Means bytes told.instance) source.before read.bytes read.all told.means;
+        end = read.end;
+        formed = best.formed;
+        accepts = best.accepts;
+        cheapest = best.cheapest;
+        cost = best.accepts.cost;
+        reads = subst (λ bytes. Reads bytes told.instance best.certificate) best.shown best.reads;
+        printed = subst (Appends held held_after) best.shown appended;
+      }
+
+  pub left_open : (nodes turns workers : ℕ) (dossier : Bool) → AskSolve words nodes turns workers dossier → status ≡ Open → IsLeftOpen nodes turns source held held_after
+  left_open nodes turns workers dossier ask is =
+      let read : AnswersRead (solve_options nodes turns workers dossier) source Open text = meant_answer words source Open text (solve_of nodes turns workers dossier) (left is) ask.means in
       let told = read.answer in
       record {
         instance = told.instance;

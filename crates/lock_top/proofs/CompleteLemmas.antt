@@ -13,25 +13,20 @@ use Rattle.instance_text.specs.declared.bad.Kind.{Kind}
 use Rattle.instance_text.proofs.InstanceLemmas.{same_instance}
 use Rattle.plan_print.specs.Report.{report, verdict_line}
 use Rattle.command_words.specs.Meaning.{Means as WordsMean}
-use Rattle.search_rules.specs.Certificates.{Certificate}
-use Rattle.cert_text.specs.Dossier.{Reads, DossierFault, dossier_in}
-use Rattle.cert_text.specs.declared.bad.BadDossier.{BadDossier as AnyFault}
 use Rattle.command_words.specs.declared.commands.Command.{Command}
 use Rattle.command_words.specs.declared.commands.Command.TheVariants.{Check}
-use Rattle.lock_top.specs.Checking.{AnswersCertificate, AnswersReads}
-use Rattle.lock_top.specs.Asked.{is_not_yet, AreRefused}
-use Rattle.lock_top.specs.Searching.{Print, AnswersSearch}
+use Rattle.command_words.specs.declared.commands.SolveOptions.{SolveOptions}
+use Rattle.lock_top.specs.Asked.{is_not_yet, solve_options}
+use Rattle.lock_top.specs.Searching.{Print, PrintsOptimal, PrintsBest, AnswersSearch}
 use Rattle.lock_top.specs.Lots.{AnswersLot}
-use Rattle.lock_top.specs.Answers.{Drained, limit, IsTooLong, AnswersRead, AnswersSolve, AnswersCommand, Answers, AnswersDossierRead, AnswersCheck, dossier_limit}
-use Rattle.lock_top.specs.Clauses.{IsServed, MayEnd, MayPrint, IsComplete, IsDossierServed, MayCheck}
+use Rattle.lock_top.specs.Answers.{Drained, limit, IsTooLong, AnswersRead, AnswersSolve, AnswersCommand, Answers}
+use Rattle.lock_top.specs.Clauses.{IsServed, MayEnd, MayPrint, IsComplete, MayCheck}
 use Rattle.lock_top.specs.declared.status.Status.{Status}
 use Rattle.lock_top.specs.declared.status.Status.TheVariants.{Good, Open, Words, Refused, ReadFault, WriteFault, NoMemory, BadDossier, Unfit, PlanRefused}
-use Rattle.lock_top.proofs.AnswerLemmas.{solve_of, lot_of, trial_of, meant_answer}
+use Rattle.lock_top.proofs.AnswerLemmas.{solve_of, lot_of, trial_of, not_refused_words, meant_answer}
+use Rattle.lock_top.proofs.CheckLemmas.{draft_of, check_ends}
 
 -- ---- bytes mean one instance, and then have no defect
-
-abbrev draft_of : Instance → Draft
-draft_of I = record { chambers = I.chambers; ships = I.ships }
 
 reads : (bytes : List ℕ) (I : Instance) → Means bytes I → reading bytes ≡ Ok (draft_of I)
 unfolding Means
@@ -60,36 +55,36 @@ nodes_open used low e = cc
 turns_open : (chamber : ℕ) (ships : List ℕ) (turns low : ℕ) → OpenTurns chamber ships turns low ≡ Optimal → ⊥
 turns_open chamber ships turns low e = cc
 
-search_ends : (print : Print) (I : Instance) (nodes turns : ℕ) (status : Status) (text : List ℕ) → AnswersSearch print I nodes turns status text → MayEnd I nodes turns status
-search_ends print I nodes turns Good text answer = tt
-search_ends print I nodes turns Open text (inl n) = λ enough. nodes_open n.used n.low (enough-optimal I nodes turns (singles_of I) n.plan (OpenNodes n.used n.low) enough n.left)
-search_ends print I nodes turns Open text (inr t) = λ enough. turns_open t.chamber t.ships t.spent t.low (enough-optimal I nodes turns (singles_of I) t.plan (OpenTurns t.chamber t.ships t.spent t.low) enough t.left)
-search_ends print I nodes turns Words text answer = absurd answer
-search_ends print I nodes turns Refused text answer = absurd answer
-search_ends print I nodes turns ReadFault text answer = absurd answer
-search_ends print I nodes turns WriteFault text answer = absurd answer
-search_ends print I nodes turns NoMemory text answer = tt
-search_ends print I nodes turns BadDossier text answer = absurd answer
-search_ends print I nodes turns Unfit text answer = absurd answer
-search_ends print I nodes turns PlanRefused text answer = absurd answer
+search_ends : (Best : Instance → List ℕ → Type 0) (print : Print) (I : Instance) (nodes turns : ℕ) (status : Status) (text : List ℕ) → AnswersSearch Best print I nodes turns status text → MayEnd I nodes turns status
+search_ends Best print I nodes turns Good text answer = tt
+search_ends Best print I nodes turns Open text (inl n) = λ enough. nodes_open n.used n.low (enough-optimal I nodes turns (singles_of I) n.plan (OpenNodes n.used n.low) enough n.left)
+search_ends Best print I nodes turns Open text (inr t) = λ enough. turns_open t.chamber t.ships t.spent t.low (enough-optimal I nodes turns (singles_of I) t.plan (OpenTurns t.chamber t.ships t.spent t.low) enough t.left)
+search_ends Best print I nodes turns Words text answer = absurd answer
+search_ends Best print I nodes turns Refused text answer = absurd answer
+search_ends Best print I nodes turns ReadFault text answer = absurd answer
+search_ends Best print I nodes turns WriteFault text answer = absurd answer
+search_ends Best print I nodes turns NoMemory text answer = tt
+search_ends Best print I nodes turns BadDossier text answer = absurd answer
+search_ends Best print I nodes turns Unfit text answer = absurd answer
+search_ends Best print I nodes turns PlanRefused text answer = absurd answer
 
 -- ---- `solve` over a source that is served
 
-module _ (nodes turns : ℕ) (source : Drained) (I : Instance) (served : IsServed source I) where
-  same_bytes : (status : Status) (text : List ℕ) (read : AnswersRead nodes turns source status text) → read.bytes ≡ served.bytes
+module _ (options : SolveOptions) (source : Drained) (I : Instance) (served : IsServed source I) where
+  same_bytes : (status : Status) (text : List ℕ) (read : AnswersRead options source status text) → read.bytes ≡ served.bytes
   same_bytes status text read = subst (λ left. IfSome left (λ bytes. read.bytes ≡ bytes)) served.told read.all
 
-  read_means : (status : Status) (text : List ℕ) (read : AnswersRead nodes turns source status text) → Means read.bytes I
+  read_means : (status : Status) (text : List ℕ) (read : AnswersRead options source status text) → Means read.bytes I
   read_means status text read = subst (λ bytes. Means bytes I) (sym (same_bytes status text read)) served.means
 
-  open_ends : (text : List ℕ) → AnswersRead nodes turns source Open text → MayEnd I nodes turns Open
+  open_ends : (text : List ℕ) → AnswersRead options source Open text → MayEnd I options.nodes options.turns Open
   open_ends text read =
       let told = read.answer in
       let same = one_instance read.bytes told.instance I told.means (read_means Open text read) in
-      subst (λ J. MayEnd J nodes turns Open) same (search_ends report told.instance nodes turns Open text told.answer)
+      subst (λ J. MayEnd J options.nodes options.turns Open) same (search_ends (PrintsBest options.dossier) report told.instance options.nodes options.turns Open text told.answer)
 
   -- the named ship fits some chamber
-  not_unfit : (text : List ℕ) → AnswersRead nodes turns source Unfit text → ⊥
+  not_unfit : (text : List ℕ) → AnswersRead options source Unfit text → ⊥
   not_unfit text read =
       let told = read.answer in
       let same = one_instance read.bytes told.instance I told.means (read_means Unfit text read) in
@@ -98,7 +93,7 @@ module _ (nodes turns : ℕ) (source : Drained) (I : Instance) (served : IsServe
       first.unfit fits.chamber fits.known fits.fits
 
   -- there are few bytes, and they have no defect
-  not_refused : (text : List ℕ) → IsTooLong limit source text ⊎ AnswersRead nodes turns source Refused text → ⊥
+  not_refused : (text : List ℕ) → IsTooLong limit source text ⊎ AnswersRead options source Refused text → ⊥
   not_refused text (inl long) =
       let many : limit < length served.bytes = subst (λ left. IfSome left (λ bytes. limit < length bytes)) served.told long.long in
       let few = served.few in
@@ -107,7 +102,7 @@ module _ (nodes turns : ℕ) (source : Drained) (I : Instance) (served : IsServe
       let told = read.answer in
       not_both (reading read.bytes) (draft_of I) (bad told.line told.kind) (reads read.bytes I (read_means Refused text read)) (refuses read.bytes told.line told.kind told.defect)
 
-  pub solve_ends : (status : Status) (text : List ℕ) → AnswersSolve nodes turns source status text → MayEnd I nodes turns status
+  pub solve_ends : (status : Status) (text : List ℕ) → AnswersSolve options source status text → MayEnd I options.nodes options.turns status
   solve_ends Good text answer = tt
   solve_ends Open text answer = open_ends text answer
   solve_ends Words text answer = absurd answer.answer.answer
@@ -118,66 +113,6 @@ module _ (nodes turns : ℕ) (source : Drained) (I : Instance) (served : IsServe
   solve_ends BadDossier text answer = absurd answer.answer.answer
   solve_ends Unfit text answer = absurd (not_unfit text answer)
   solve_ends PlanRefused text answer = absurd answer.answer.answer
-
--- ---- `check` over a source that is served
-
-reads_pair : (bytes : List ℕ) (I : Instance) (C : Certificate) → Reads bytes I C → dossier_in bytes ≡ Ok (draft_of I, C)
-unfolding Reads
-reads_pair bytes I C reads = reads
-
-has_fault : (bytes : List ℕ) (fault : AnyFault) → DossierFault bytes fault → dossier_in bytes ≡ Err fault
-unfolding DossierFault
-has_fault bytes fault first = first
-
-one_pair : (r : Result (Draft × Certificate) AnyFault) (a b : Draft × Certificate) → r ≡ Ok a → r ≡ Ok b → a ≡ b
-one_pair r a b e f = cc
-
-no_pair : (r : Result (Draft × Certificate) AnyFault) (a : Draft × Certificate) (fault : AnyFault) → r ≡ Ok a → r ≡ Err fault → ⊥
-no_pair r a fault e f = cc
-
-module _ (source : Drained) (I : Instance) (C : Certificate) (served : IsDossierServed source I C) where
-  own_reads : (status : Status) (text : List ℕ) (read : AnswersDossierRead source status text) → Reads read.bytes I C
-  own_reads status text read =
-      let same : read.bytes ≡ served.bytes = subst (λ left. IfSome left (λ bytes. read.bytes ≡ bytes)) served.told read.all in
-      subst (λ bytes. Reads bytes I C) (sym same) served.reads
-
-  -- what was answered, was answered to the dossier that was served
-  own_answer : (status : Status) (text : List ℕ) (read : AnswersDossierRead source status text) → AnswersReads read.bytes status text → AnswersCertificate I C status text
-  own_answer status text read told =
-      let same = one_pair (dossier_in read.bytes) (draft_of told.instance, told.certificate) (draft_of I, C) (reads_pair read.bytes told.instance told.certificate told.reads) (reads_pair read.bytes I C (own_reads status text read)) in
-      let instance : told.instance ≡ I = same_instance told.instance I (ap (λ (p : Draft × Certificate). p.0.chambers) same) (ap (λ (p : Draft × Certificate). p.0.ships) same) in
-      let certificate : told.certificate ≡ C = ap (λ (p : Draft × Certificate). p.1) same in
-      subst (λ J. AnswersCertificate J C status text) instance (subst (λ D. AnswersCertificate told.instance D status text) certificate told.answer)
-
-  bad_ends : (text : List ℕ) → AnswersDossierRead source BadDossier text → MayCheck I C BadDossier
-  bad_ends text read = elim read.answer [
-    | inl fault ↦ absurd (no_pair (dossier_in read.bytes) (draft_of I, C) fault.fault (reads_pair read.bytes I C (own_reads BadDossier text read)) (has_fault read.bytes fault.fault fault.first))
-    | inr told ↦ let own = own_answer BadDossier text read told in (own.place, own.reason, own.fails)
-  ]
-
-  fits_some : (text : List ℕ) → AnswersDossierRead source Unfit text → ⊥
-  fits_some text read =
-      let own = own_answer Unfit text read read.answer in
-      let fits = served.fit.fit own.ship own.first.known in
-      own.first.unfit fits.chamber fits.known fits.fits
-
-  few_bytes : (text : List ℕ) → IsTooLong dossier_limit source text → ⊥
-  few_bytes text long =
-      let many : dossier_limit < length served.bytes = subst (λ left. IfSome left (λ bytes. dossier_limit < length bytes)) served.told long.long in
-      let few = served.few in
-      absurd (omega (arith, many, few))
-
-  check_ends : (status : Status) (text : List ℕ) → AnswersCheck source status text → MayCheck I C status
-  check_ends Good text answer = (own_answer Good text answer answer.answer).accepts
-  check_ends Open text answer = absurd answer.answer.answer
-  check_ends Words text answer = absurd answer.answer.answer
-  check_ends Refused text answer = absurd (few_bytes text answer)
-  check_ends ReadFault text answer = absurd (served.calm answer.0)
-  check_ends WriteFault text answer = tt
-  check_ends NoMemory text answer = tt
-  check_ends BadDossier text answer = bad_ends text answer
-  check_ends Unfit text answer = absurd (fits_some text answer)
-  check_ends PlanRefused text answer = absurd answer.answer.answer
 
 -- ---- `lot`
 
@@ -192,15 +127,6 @@ lot_ends number ships chambers NoMemory text answer = tt
 lot_ends number ships chambers BadDossier text answer = absurd answer
 lot_ends number ships chambers Unfit text answer = absurd answer
 lot_ends number ships chambers PlanRefused text answer = absurd answer
-
--- ---- good words are never refused
-
-true_false : true ≡ false → ⊥
-true_false e = cc
-
-not_refused_words : (words : List (List ℕ)) (command : Command) → WordsMean words command → is_not_yet command ≡ false → AreRefused words → ⊥
-not_refused_words words command means there (inl refused) = refused command means
-not_refused_words words command means there (inr coming) = true_false (sym coming.coming ∙ ap is_not_yet (sym (coming.mean.only command means)) ∙ there)
 
 -- what was answered to the words is want of memory, or answered to the command that they mean
 by_command : (words : List (List ℕ)) (source : Drained) (command : Command) (status : Status) (text : List ℕ) → WordsMean words command → is_not_yet command ≡ false → Answers words source status text → (status ≡ NoMemory) ⊎ AnswersCommand command source status text
@@ -218,13 +144,13 @@ by_command words source command PlanRefused text means there answer = inr (meant
 -- COMPLETENESS, from what was answered,
 pub complete : (words : List (List ℕ)) (source : Drained) (status : Status) (text : List ℕ) → Answers words source status text → IsComplete words source status
 complete words source status text answer = record {
-  solve = λ nodes turns workers I ask served. elim (by_command words source (solve_of nodes turns workers) status text ask.means refl answer) [
+  solve = λ nodes turns workers dossier I ask served. elim (by_command words source (solve_of nodes turns workers dossier) status text ask.means refl answer) [
     | inl want ↦ subst (MayEnd I nodes turns) (sym want) tt
-    | inr told ↦ solve_ends nodes turns source I served status text told
+    | inr told ↦ solve_ends (solve_options nodes turns workers dossier) source I served status text told
   ];
   check = λ I C ask served. elim (by_command words source Check status text ask.means refl answer) [
     | inl want ↦ subst (MayCheck I C) (sym want) tt
-    | inr told ↦ check_ends source I C served status text told
+    | inr told ↦ check_ends source I C served.bytes served.told served.few served.reads served.fit served.calm status text told
   ];
   lot = λ number ships chambers ask. elim (by_command words source (lot_of number ships chambers) status text ask.means refl answer) [
     | inl want ↦ subst MayPrint (sym want) tt
@@ -235,14 +161,14 @@ complete words source status text answer = record {
     | inr told ↦
         let own = told.1.lot in
         let same : told.1.instance ≡ I = same_instance told.1.instance I (own.chambers_are ∙ sym lot.chambers_are) (own.ships_are ∙ sym lot.ships_are) in
-        subst (λ J. MayEnd J nodes turns status) same (search_ends verdict_line told.1.instance nodes turns status text told.1.answer)
+        subst (λ J. MayEnd J nodes turns status) same (search_ends (PrintsOptimal verdict_line) verdict_line told.1.instance nodes turns status text told.1.answer)
   ];
 }
 
 -- and where the sink failed.
 pub cut_complete : (words : List (List ℕ)) (source : Drained) → IsComplete words source WriteFault
 cut_complete words source = record {
-  solve = λ nodes turns workers I ask served. tt;
+  solve = λ nodes turns workers dossier I ask served. tt;
   check = λ I C ask served. tt;
   lot = λ number ships chambers ask. tt;
   trial = λ number ships chambers nodes turns I ask lot. tt;

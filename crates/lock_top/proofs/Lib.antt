@@ -4,4 +4,7 @@ pub mod DossierLemmas
 pub mod AskedLemmas
 pub mod AnswerLemmas
 pub mod ClauseLemmas
+pub mod CheckLemmas
 pub mod CompleteLemmas
+pub mod FitLemmas
+pub mod LawLemmas

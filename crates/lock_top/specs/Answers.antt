@@ -4,6 +4,7 @@ use Rattle.std.specs.declared.option.Option.{Option}
 use Rattle.std.specs.Io.KnownBytes.{Appends}
 use Rattle.command_words.specs.declared.commands.Command.{Command}
 use Rattle.command_words.specs.declared.commands.Command.TheVariants.{Solve, Check, Lot, Trial}
+use Rattle.command_words.specs.declared.commands.SolveOptions.{SolveOptions}
 use Rattle.lock_io.specs.Faults.{Rose}
 use Rattle.lock_io.specs.WholeWrites.{AppendsProperPrefix}
 use Rattle.lock_top.specs.Asked.{is_not_yet, MeanOnly, AreRefused}
@@ -34,12 +35,12 @@ abbrev pub limit : ℕ
 limit = 65536
 
 -- The source was read to its end, at most `limit` bytes, and this is answered to them.
-pub record AnswersRead (nodes turns : ℕ) (source : Drained) (status : Status) (text : List ℕ) : Type 0 where
+pub record AnswersRead (options : SolveOptions) (source : Drained) (status : Status) (text : List ℕ) : Type 0 where
   pub bytes : List ℕ
   pub all : IfSome source.before (λ left. bytes ≡ left)
   pub end : OnSome source.before (source.after ≡ Some [])
   pub few : length bytes ≤ limit
-  pub answer : AnswersText nodes turns bytes status text
+  pub answer : AnswersText options bytes status text
 
 -- more bytes than `most` were left
 pub record IsTooLong (most : ℕ) (source : Drained) (text : List ℕ) : Type 0 where
@@ -52,12 +53,12 @@ TellsTooLong most Refused text = text ≡ too_long_text most
 TellsTooLong most NoMemory text = text ≡ no_memory_text
 TellsTooLong most status text = ⊥
 
--- what `solve` answers to a source, with so many nodes and turns
-abbrev pub AnswersSolve : ℕ → ℕ → Drained → Status → List ℕ → Type 0
-AnswersSolve nodes turns source ReadFault text = Rose source.faults source.faults_after × (text ≡ read_fault_text)
-AnswersSolve nodes turns source NoMemory text = text ≡ no_memory_text
-AnswersSolve nodes turns source Refused text = IsTooLong limit source text ⊎ AnswersRead nodes turns source Refused text
-AnswersSolve nodes turns source status text = AnswersRead nodes turns source status text
+-- what `solve` answers to a source, by its options
+abbrev pub AnswersSolve : SolveOptions → Drained → Status → List ℕ → Type 0
+AnswersSolve options source ReadFault text = Rose source.faults source.faults_after × (text ≡ read_fault_text)
+AnswersSolve options source NoMemory text = text ≡ no_memory_text
+AnswersSolve options source Refused text = IsTooLong limit source text ⊎ AnswersRead options source Refused text
+AnswersSolve options source status text = AnswersRead options source status text
 
 -- the most bytes that `check` reads
 abbrev pub dossier_limit : ℕ
@@ -80,7 +81,7 @@ AnswersCheck source status text = AnswersDossierRead source status text
 
 -- what is answered to a command that isn't still to come
 abbrev pub AnswersCommand : Command → Drained → Status → List ℕ → Type 0
-AnswersCommand (Solve options) source status text = AnswersSolve options.nodes options.turns source status text
+AnswersCommand (Solve options) source status text = AnswersSolve options source status text
 AnswersCommand Check source status text = AnswersCheck source status text
 AnswersCommand (Lot options) source status text = IsUnread source × AnswersLot options.number options.ships options.chambers status text
 AnswersCommand (Trial options) source status text =

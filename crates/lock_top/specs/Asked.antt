@@ -1,5 +1,5 @@
 -- What the words ask for, and the numbers of their options.
-use Rattle.std.specs.Prelude.{ℕ, ◌≡◌, ◌⊎◌, Bool, true, false, ◌||◌, List, ⊤}
+use Rattle.std.specs.Prelude.{ℕ, ◌≡◌, ◌⊎◌, Bool, true, false, List, ⊤}
 use Rattle.command_words.specs.Meaning.{Means, AreBad}
 use Rattle.command_words.specs.declared.commands.Command.{Command}
 use Rattle.command_words.specs.declared.commands.Command.TheVariants.{Solve, Check, Lot, Trial}
@@ -8,9 +8,9 @@ use Rattle.command_words.specs.declared.commands.LotOptions.{LotOptions}
 use Rattle.command_words.specs.declared.commands.TrialOptions.{TrialOptions}
 use Rattle.lock_model.specs.Limits.{Within}
 
--- The command, or one of its flags, is still to come: there are `solve` without flags, `check`, `lot` and `trial`.
+-- The command, or one of its flags, is still to come: there are `solve` without `--keep`, `check`, `lot` and `trial`.
 abbrev pub is_not_yet : Command → Bool
-is_not_yet (Solve options) = options.dossier || options.keep
+is_not_yet (Solve options) = options.keep
 is_not_yet Check = false
 is_not_yet (Lot options) = false
 is_not_yet (Trial options) = false
@@ -31,9 +31,13 @@ pub record AreNotYet (words : List (List ℕ)) : Type 0 where
 abbrev pub AreRefused : List (List ℕ) → Type 0
 AreRefused words = AreBad words ⊎ AreNotYet words
 
--- the words ask for `solve` without flags, with so many nodes, turns and workers
-pub record AskSolve (words : List (List ℕ)) (nodes turns workers : ℕ) : Type 0 where
-  pub means : Means words (Solve (record { nodes = nodes; turns = turns; workers = workers; dossier = false; keep = false }))
+-- `solve` without `--keep`, with so many nodes, turns and workers, and with `--dossier` or without it
+abbrev pub solve_options : ℕ → ℕ → ℕ → Bool → SolveOptions
+solve_options nodes turns workers dossier = record { nodes = nodes; turns = turns; workers = workers; dossier = dossier; keep = false }
+
+-- the words ask for it
+pub record AskSolve (words : List (List ℕ)) (nodes turns workers : ℕ) (dossier : Bool) : Type 0 where
+  pub means : Means words (Solve (solve_options nodes turns workers dossier))
 
 -- the words ask for `check`
 pub record AskCheck (words : List (List ℕ)) : Type 0 where

@@ -1,5 +1,5 @@
 -- The clauses of a run, by command and status.
-use Rattle.std.specs.Prelude.{ℕ, ◌≡◌, ◌≤◌, List, [], length, IfSome, OnSome, Some, ⊤}
+use Rattle.std.specs.Prelude.{ℕ, ◌≡◌, ◌≤◌, Bool, List, [], length, IfSome, OnSome, Some, ⊤}
 use Rattle.std.specs.declared.option.Option.{Option}
 use Rattle.std.specs.Io.KnownBytes.{Appends}
 use Rattle.lock_io.specs.Faults.{Rose}
@@ -13,8 +13,9 @@ use Rattle.search_rules.specs.Failures.{Fails}
 use Rattle.search_rules.specs.declared.certificate.Spot2.{Spot2}
 use Rattle.search_rules.specs.declared.certificate.Reason.{Reason}
 use Rattle.search_rules.specs.Certificates.{Certificate, Accepts}
+use Rattle.search_rules.specs.WellFormed.{IsWellFormed}
 use Rattle.instance_text.specs.Reading.{Means}
-use Rattle.cert_text.specs.Dossier.{Reads}
+use Rattle.cert_text.specs.Dossier.{dossier, Reads}
 use Rattle.instance_text.specs.Canonical.{canonical}
 use Rattle.plan_print.specs.Report.{report, verdict_line}
 use Rattle.lock_top.specs.Asked.{AskSolve, AskCheck, AskLot, AskTrial}
@@ -25,7 +26,7 @@ use Rattle.lock_top.specs.Answers.{Drained, limit, dossier_limit, IsUnread}
 use Rattle.lock_top.specs.declared.status.Status.{Status}
 use Rattle.lock_top.specs.declared.status.Status.TheVariants.{Good, Open, WriteFault, NoMemory, BadDossier}
 
--- SOLVE, OPTIMAL. The source was read to its end, its bytes mean an instance, and the sink got the report of a plan of it that is cheapest over all legal plans.
+-- SOLVE WITHOUT `--dossier`, OPTIMAL. The source was read to its end, its bytes mean an instance, and the sink got the report of a plan of it that is cheapest over all legal plans.
 pub record IsSolved (source : Drained) (held held_after : Option (List ℕ)) : Type 0 where
   pub instance : Instance
   pub plan : Plan
@@ -34,7 +35,20 @@ pub record IsSolved (source : Drained) (held held_after : Option (List ℕ)) : T
   pub cheapest : IsCheapest instance plan
   pub reported : Appends held held_after (report instance plan Optimal)
 
--- SOLVE, OPEN. The source was read to its end, its bytes mean an instance, and the sink got the report of an open plan of it with its cause.
+-- SOLVE WITH `--dossier`, OPTIMAL. The source was read to its end, its bytes mean an instance, and the sink got the dossier of it and of a certificate that is accepted; so its plan is cheapest over all legal plans and has its cost. The dossier is read back as the same two.
+pub record IsCertified (source : Drained) (held held_after : Option (List ℕ)) : Type 0 where
+  pub instance : Instance
+  pub certificate : Certificate
+  pub means : IfSome source.before (λ bytes. Means bytes instance)
+  pub end : OnSome source.before (source.after ≡ Some [])
+  pub formed : IsWellFormed certificate
+  pub accepts : Accepts instance certificate
+  pub cheapest : IsCheapest instance certificate.plan
+  pub cost : cost_of instance certificate.plan ≡ certificate.cost
+  pub reads : Reads (dossier instance certificate) instance certificate
+  pub printed : Appends held held_after (dossier instance certificate)
+
+-- SOLVE, OPEN, with `--dossier` or without it. The source was read to its end, its bytes mean an instance, and the sink got the report of an open plan of it with its cause.
 pub record IsLeftOpen (nodes turns : ℕ) (source : Drained) (held held_after : Option (List ℕ)) : Type 0 where
   pub instance : Instance
   pub text : List ℕ
@@ -124,7 +138,7 @@ MayPrint status = ⊥
 
 -- COMPLETENESS. What is asked rightly is done, or memory was wanting, or the sink failed.
 pub record IsComplete (words : List (List ℕ)) (source : Drained) (status : Status) : Type 0 where
-  pub solve : (nodes turns workers : ℕ) (I : Instance) → AskSolve words nodes turns workers → IsServed source I → MayEnd I nodes turns status
+  pub solve : (nodes turns workers : ℕ) (dossier : Bool) (I : Instance) → AskSolve words nodes turns workers dossier → IsServed source I → MayEnd I nodes turns status
   pub check : (I : Instance) (C : Certificate) → AskCheck words → IsDossierServed source I C → MayCheck I C status
   pub lot : (number ships chambers : ℕ) → AskLot words number ships chambers → MayPrint status
   pub trial : (number ships chambers nodes turns : ℕ) (I : Instance) → AskTrial words number ships chambers nodes turns → IsLot number ships chambers I → MayEnd I nodes turns status

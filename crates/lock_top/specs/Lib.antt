@@ -8,4 +8,5 @@ pub mod DossierTexts
 pub mod Checking
 pub mod Answers
 pub mod Clauses
+pub mod Laws
 pub mod Written

@@ -5,7 +5,7 @@ use Rattle.instance_text.specs.Canonical.{canonical}
 use Rattle.instance_text.specs.Lot.{lot_chambers, lot_ships}
 use Rattle.plan_print.specs.Report.{verdict_line}
 use Rattle.lock_top.specs.Texts.{no_memory_text}
-use Rattle.lock_top.specs.Searching.{AnswersSearch}
+use Rattle.lock_top.specs.Searching.{PrintsOptimal, AnswersSearch}
 use Rattle.lock_top.specs.declared.status.Status.{Status}
 use Rattle.lock_top.specs.declared.status.Status.TheVariants.{Good, NoMemory}
 
@@ -30,4 +30,4 @@ AnswersLot number ships chambers status text = ⊥
 pub record AnswersTrial (number ships chambers nodes turns : ℕ) (status : Status) (text : List ℕ) : Type 0 where
   pub instance : Instance
   pub lot : IsLot number ships chambers instance
-  pub answer : AnswersSearch verdict_line instance nodes turns status text
+  pub answer : AnswersSearch (PrintsOptimal verdict_line) verdict_line instance nodes turns status text

@@ -6,7 +6,8 @@ use Rattle.instance_text.specs.Reading.{Means, Defect}
 use Rattle.instance_text.specs.declared.bad.Kind.{Kind}
 use Rattle.plan_print.specs.Report.{report}
 use Rattle.lock_top.specs.Texts.{no_memory_text, defect_text, unfit_text}
-use Rattle.lock_top.specs.Searching.{AnswersSearch}
+use Rattle.command_words.specs.declared.commands.SolveOptions.{SolveOptions}
+use Rattle.lock_top.specs.Searching.{PrintsBest, AnswersSearch}
 use Rattle.lock_top.specs.declared.status.Status.{Status}
 use Rattle.lock_top.specs.declared.status.Status.TheVariants.{Refused, NoMemory, Unfit}
 
@@ -16,10 +17,10 @@ pub record IsUnfitShip (I : Instance) (text : List ℕ) : Type 0 where
   pub first : IsFirstUnfit I ship
   pub shown : text ≡ unfit_text I ship
 
--- what is answered to an instance, with so many nodes and turns
-abbrev pub AnswersInstance : ℕ → ℕ → Instance → Status → List ℕ → Type 0
-AnswersInstance nodes turns I Unfit text = IsUnfitShip I text
-AnswersInstance nodes turns I status text = AnswersSearch report I nodes turns status text
+-- what is answered to an instance, by the options of `solve`
+abbrev pub AnswersInstance : SolveOptions → Instance → Status → List ℕ → Type 0
+AnswersInstance options I Unfit text = IsUnfitShip I text
+AnswersInstance options I status text = AnswersSearch (PrintsBest options.dossier) report I options.nodes options.turns status text
 
 -- the first defect of the bytes
 pub record IsDefect (bytes text : List ℕ) : Type 0 where
@@ -29,13 +30,13 @@ pub record IsDefect (bytes text : List ℕ) : Type 0 where
   pub shown : text ≡ defect_text line kind
 
 -- the bytes mean an instance, and this is answered to it
-pub record AnswersMeant (nodes turns : ℕ) (bytes : List ℕ) (status : Status) (text : List ℕ) : Type 0 where
+pub record AnswersMeant (options : SolveOptions) (bytes : List ℕ) (status : Status) (text : List ℕ) : Type 0 where
   pub instance : Instance
   pub means : Means bytes instance
-  pub answer : AnswersInstance nodes turns instance status text
+  pub answer : AnswersInstance options instance status text
 
 -- what is answered to the bytes of a text
-abbrev pub AnswersText : ℕ → ℕ → List ℕ → Status → List ℕ → Type 0
-AnswersText nodes turns bytes Refused text = IsDefect bytes text
-AnswersText nodes turns bytes NoMemory text = text ≡ no_memory_text
-AnswersText nodes turns bytes status text = AnswersMeant nodes turns bytes status text
+abbrev pub AnswersText : SolveOptions → List ℕ → Status → List ℕ → Type 0
+AnswersText options bytes Refused text = IsDefect bytes text
+AnswersText options bytes NoMemory text = text ≡ no_memory_text
+AnswersText options bytes status text = AnswersMeant options bytes status text

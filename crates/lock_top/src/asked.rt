@@ -9,7 +9,7 @@ pub(crate) fn is_not_yet(command: &Command) -> bool
     ensures { result ≡ is_not_yet command.now }
 {
     match command {
-        Command::Solve(options) => options.dossier || options.keep,
+        Command::Solve(options) => options.keep,
         Command::Check | Command::Lot(_) | Command::Trial(_) => false,
         _ => true,
     }

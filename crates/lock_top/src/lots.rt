@@ -19,7 +19,6 @@ use std::sync::Wait;
 use std::thread::Threads;
 
 // The lot that is asked for.
-
 fn lot_of(options: &LotOptions) -> Instance
     requires { AreLotNumbers options.now }
     ensures lot { IsLot options.now.number options.now.ships options.now.chambers result }

@@ -1,15 +1,22 @@
 //! What is answered at the end of a search.
-ghost use Rattle.std.specs.Prelude.{◌≡◌, ◌≤◌, IfOk};
+ghost use Rattle.std.specs.Prelude.{◌≡◌, ◌≢◌, ◌≤◌};
 ghost use Rattle.lock_rules.specs.Singles.{singles_of};
+ghost use Rattle.lock_model.specs.declared.verdict.Verdict.TheVariants.{Optimal};
+ghost use Rattle.search_rules.specs.Certificates.{Accepts};
 ghost use Rattle.search_rules.specs.Ends.{EndsWell, IsEnd};
+ghost use Rattle.search_rules.specs.Verdict.{verdict_of};
+ghost use Rattle.search_rules.specs.WellFormed.{IsWellFormed};
 ghost use Rattle.plan_print.specs.Report.{IsOfInstance, report, verdict_line};
-ghost use Rattle.lock_top.specs.Searching.{AnswersSearch};
+ghost use Rattle.lock_top.specs.Searching.{PrintsOptimal, PrintsDossier, PrintsBest, AnswersSearch};
 ghost use Rattle.lock_top.specs.Statuses.{status_of};
 ghost use Rattle.lock_top.specs.Written.{bytes_in};
 
 use crate::answer::{Answer, Text, no_memory};
 use crate::status::Status;
+use book_certificate::{CertError, certificate_of};
 use book_core::{Book, Case};
+use cert_check::Certificate;
+use cert_text::print_dossier;
 use lock_io::Gate;
 use lock_model::Verdict;
 use plain_text::NoMemory;
@@ -22,6 +29,7 @@ use std::thread::Threads;
 // What the book of a search that ended well shows of its best plan.
 fn shown(book: &Book) -> Verdict
     requires { EndsWell (singles_of book.now.case.instance) book.now }
+    ensures verdict { result ≡ verdict_of book.now }
     ensures end { IsEnd book.now.case.instance book.now.case.nodes book.now.case.turns (singles_of book.now.case.instance) book.now.best result }
     ensures known { IsOfInstance book.now.case.instance result }
 {
@@ -43,7 +51,8 @@ fn status_of(verdict: &Verdict) -> Status
 #[tactic(auto, using(crate::proofs::EndLemmas::end_answers))]
 fn report_answer(alloc: Global, book: &Book) -> Answer
     requires { EndsWell (singles_of book.now.case.instance) book.now }
-    ensures { AnswersSearch report book.now.case.instance book.now.case.nodes book.now.case.turns result.status (bytes_in result.text) }
+    ensures left { verdict_of book.now ≢ Optimal → result.status ≢ Status.Good }
+    ensures answer { AnswersSearch (PrintsOptimal report) report book.now.case.instance book.now.case.nodes book.now.case.turns result.status (bytes_in result.text) }
 {
     let verdict = shown(book);
     match print_report(alloc, &book.case().instance, book.best(), &verdict) {
@@ -59,7 +68,7 @@ fn report_answer(alloc: Global, book: &Book) -> Answer
 #[tactic(auto, using(crate::proofs::EndLemmas::end_answers))]
 fn line_answer(alloc: Global, book: &Book) -> Answer
     requires { EndsWell (singles_of book.now.case.instance) book.now }
-    ensures { AnswersSearch verdict_line book.now.case.instance book.now.case.nodes book.now.case.turns result.status (bytes_in result.text) }
+    ensures { AnswersSearch (PrintsOptimal verdict_line) verdict_line book.now.case.instance book.now.case.nodes book.now.case.turns result.status (bytes_in result.text) }
 {
     let verdict = shown(book);
     match print_verdict_line(alloc, &book.case().instance, book.best(), &verdict) {
@@ -71,20 +80,64 @@ fn line_answer(alloc: Global, book: &Book) -> Answer
     }
 }
 
-/// Searches all plans of a case, and answers with the report of the best one.
-pub(crate) fn search_report<R: Threads + Wait + Sync, G: Gate + Sync>(
+// The dossier of the certificate of a finished search.
+#[tactic(auto, using(crate::proofs::EndLemmas::dossier_printed))]
+fn dossier_answer(alloc: Global, book: &Book, certificate: &Certificate) -> Answer
+    requires accepts { Accepts book.now.case.instance certificate.now }
+    requires formed { IsWellFormed certificate.now }
+    ensures { AnswersSearch PrintsDossier report book.now.case.instance book.now.case.nodes book.now.case.turns result.status (bytes_in result.text) }
+{
+    match print_dossier(alloc, &book.case().instance, certificate) {
+        Ok(text) => Answer {
+            status: Status::Good,
+            text: Text::Made(text),
+        },
+        Err(NoMemory) => no_memory(),
+    }
+}
+
+// The dossier of a search that ended well, or the report where it ended open.
+fn certified_answer(alloc: Global, book: &Book) -> Answer
+    requires { EndsWell (singles_of book.now.case.instance) book.now }
+    ensures { AnswersSearch PrintsDossier report book.now.case.instance book.now.case.nodes book.now.case.turns result.status (bytes_in result.text) }
+{
+    match certificate_of(alloc, book) {
+        Ok(certificate) => dossier_answer(alloc, book, &certificate),
+        Err(CertError::StillOpen) => report_answer(alloc, book),
+        Err(CertError::NoMemory) => no_memory(),
+    }
+}
+
+// The report of the best plan of a search that ended well, or its dossier where it is cheapest and
+// one is asked for.
+#[tactic(auto, using(crate::proofs::EndLemmas::dossier_asked, crate::proofs::EndLemmas::report_asked))]
+fn best_answer(alloc: Global, book: &Book, dossier: bool) -> Answer
+    requires { EndsWell (singles_of book.now.case.instance) book.now }
+    ensures { AnswersSearch (PrintsBest dossier) report book.now.case.instance book.now.case.nodes book.now.case.turns result.status (bytes_in result.text) }
+{
+    if dossier {
+        certified_answer(alloc, book)
+    } else {
+        report_answer(alloc, book)
+    }
+}
+
+/// Searches all plans of a case, and answers with the report of the best one, or with its dossier
+/// where it is cheapest and one is asked for.
+pub(crate) fn search_best<R: Threads + Wait + Sync, G: Gate + Sync>(
     rt: &R,
     alloc: Global,
     case: &Case,
     workers: u8,
+    dossier: bool,
     gate: &G,
 ) -> Answer
     requires some { 1 ≤ workers }
     requires few { workers ≤ 8 }
-    ensures { AnswersSearch report case.now.instance case.now.nodes case.now.turns result.status (bytes_in result.text) }
+    ensures { AnswersSearch (PrintsBest dossier) report case.now.instance case.now.nodes case.now.turns result.status (bytes_in result.text) }
 {
     match solve(rt, alloc, case, workers, gate) {
-        Ok(solved) => report_answer(alloc, &solved.book),
+        Ok(solved) => best_answer(alloc, &solved.book, dossier),
         Err(NoMemory) => no_memory(),
     }
 }
@@ -97,7 +150,7 @@ pub(crate) fn search_line<R: Threads + Wait + Sync, G: Gate + Sync>(
     case: &Case,
     gate: &G,
 ) -> Answer
-    ensures { AnswersSearch verdict_line case.now.instance case.now.nodes case.now.turns result.status (bytes_in result.text) }
+    ensures { AnswersSearch (PrintsOptimal verdict_line) verdict_line case.now.instance case.now.nodes case.now.turns result.status (bytes_in result.text) }
 {
     match solve(rt, alloc, case, 1, gate) {
         Ok(solved) => line_answer(alloc, &solved.book),

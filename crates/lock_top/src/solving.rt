@@ -5,13 +5,13 @@ ghost use Rattle.instance_text.specs.Reading.{Defect};
 ghost use Rattle.plan_print.specs.Report.{report};
 ghost use Rattle.lock_top.specs.Answers.{AnswersSolve, drained};
 ghost use Rattle.lock_top.specs.Asked.{AreSolveNumbers};
-ghost use Rattle.lock_top.specs.Searching.{AnswersSearch};
+ghost use Rattle.lock_top.specs.Searching.{PrintsBest, AnswersSearch};
 ghost use Rattle.lock_top.specs.Solving.{AnswersInstance, AnswersText};
 ghost use Rattle.lock_top.specs.Written.{bytes_in};
 
 use crate::answer::{Answer, Text, fixed, no_memory};
 use crate::reading::too_long;
-use crate::searching::search_report;
+use crate::searching::search_best;
 use crate::status::Status;
 use crate::texts::{defect_text, unfit_text};
 use book_core::Case;
@@ -31,7 +31,7 @@ const LIMIT: u64 = 65_536;
 // A ship that fits no chamber.
 fn unfit_answer(alloc: Global, instance: &Instance, ship: u8, options: &SolveOptions) -> Answer
     requires { IsFirstUnfit instance.now ship }
-    ensures { AnswersInstance options.now.nodes options.now.turns instance.now result.status (bytes_in result.text) }
+    ensures { AnswersInstance options.now instance.now result.status (bytes_in result.text) }
 {
     match unfit_text(alloc, instance, ship) {
         Ok(text) => Answer {
@@ -52,10 +52,10 @@ fn fit_answer<R: Threads + Wait + Sync, G: Gate + Sync>(
 ) -> Answer
     requires fit { HasNoUnfit instance }
     requires numbers { AreSolveNumbers options.now }
-    ensures { AnswersSearch report instance options.now.nodes options.now.turns result.status (bytes_in result.text) }
+    ensures { AnswersSearch (PrintsBest options.now.dossier) report instance options.now.nodes options.now.turns result.status (bytes_in result.text) }
 {
     let case = Case::new(instance, options.nodes, options.turns);
-    search_report(rt, alloc, &case, options.workers, gate)
+    search_best(rt, alloc, &case, options.workers, options.dossier, gate)
 }
 
 // What is answered to an instance.
@@ -68,7 +68,7 @@ fn instance_answer<R: Threads + Wait + Sync, G: Gate + Sync>(
     gate: &G,
 ) -> Answer
     requires { AreSolveNumbers options.now }
-    ensures { AnswersInstance options.now.nodes options.now.turns instance result.status (bytes_in result.text) }
+    ensures { AnswersInstance options.now instance result.status (bytes_in result.text) }
 {
     match first_unfit(&instance) {
         Some(ship) => unfit_answer(alloc, &instance, ship, options),
@@ -79,7 +79,7 @@ fn instance_answer<R: Threads + Wait + Sync, G: Gate + Sync>(
 // The first defect of a text.
 fn defect_answer(alloc: Global, bytes: &[u8], bad: Bad, options: &SolveOptions) -> Answer
     requires { Defect bytes.now bad.line bad.kind }
-    ensures { AnswersText options.now.nodes options.now.turns bytes.now result.status (bytes_in result.text) }
+    ensures { AnswersText options.now bytes.now result.status (bytes_in result.text) }
 {
     match defect_text(alloc, bad) {
         Ok(text) => Answer {
@@ -100,7 +100,7 @@ fn text_answer<R: Threads + Wait + Sync, G: Gate + Sync>(
     gate: &G,
 ) -> Answer
     requires { AreSolveNumbers options.now }
-    ensures { AnswersText options.now.nodes options.now.turns bytes.now result.status (bytes_in result.text) }
+    ensures { AnswersText options.now bytes.now result.status (bytes_in result.text) }
 {
     match read_instance(bytes) {
         Ok(instance) => instance_answer(rt, alloc, instance, options, gate),
@@ -109,8 +109,9 @@ fn text_answer<R: Threads + Wait + Sync, G: Gate + Sync>(
 }
 
 /// Reads an instance text to its end, searches all plans of the instance, and answers with the
-/// report of the best one, or says what is refused: too many bytes, a defect, or a ship that fits no
-/// chamber. The numbers of the options are in their ranges.
+/// report of the best one, or with its dossier where it is cheapest and one is asked for, or says
+/// what is refused: too many bytes, a defect, or a ship that fits no chamber. The numbers of the
+/// options are in their ranges.
 pub(crate) fn solve_answer<R: Threads + Wait + Sync, S: Source, G: Gate + Sync>(
     rt: &R,
     alloc: Global,
@@ -119,7 +120,7 @@ pub(crate) fn solve_answer<R: Threads + Wait + Sync, S: Source, G: Gate + Sync>(
     gate: &G,
 ) -> Answer
     requires { AreSolveNumbers options.now }
-    ensures answer { AnswersSolve options.now.nodes options.now.turns (drained (S.left src.old) (S.left src.new) (S.faults src.old) (S.faults src.new)) result.status (bytes_in result.text) }
+    ensures answer { AnswersSolve options.now (drained (S.left src.old) (S.left src.new) (S.faults src.old) (S.faults src.new)) result.status (bytes_in result.text) }
 {
     match read_all(alloc, src, LIMIT) {
         Ok(bytes) => text_answer(rt, alloc, bytes.as_slice(), options, gate),

@@ -7,3 +7,4 @@ mod refusals;
 mod reports;
 mod searches;
 mod words;
+mod written;

@@ -12,6 +12,10 @@ use std::thread::Threads;
 pub(super) const ONE_SHIP: &str =
     "glock 1\nchamber c1 2000 240 10 20 5 4 30 15 low 0\nship s1 up 1100 114 0 5\nend\n";
 
+/// Nine ships in one evening, and two chambers.
+pub(super) const EVENING: &str =
+    "glock 1\nchamber main 2000 240 10 20 5 6 30 15 low 0\nchamber side 1360 160 10 20 5 4 20 10 high 0\nship alva up 1100 114 0 5\nship brio up 1100 114 0 5\nship cora down 800 95 120 5\nship dina down 670 82 120 5\nship eddy down 380 50 125 5\nship fram up 1000 105 200 5\nship gull down 900 90 240 5\nship hero up 500 60 280 5\nship iris down 380 50 330 5\nend\n";
+
 /// The number of a call that never comes.
 pub(super) const NEVER: u64 = 1_000_000;
 

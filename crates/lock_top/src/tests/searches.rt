@@ -1,8 +1,8 @@
 //! Runs that search all plans, by their first lines.
 
 use super::fixture::{
-    BASE, Calls, DOWN, FIRST, HIGH, LATER, NARROW, NEVER, ONE_SHIP, SECOND, WIDE, run_over,
-    run_with, text_of,
+    BASE, Calls, DOWN, EVENING, FIRST, HIGH, LATER, NARROW, NEVER, ONE_SHIP, SECOND, WIDE,
+    run_over, run_with, text_of,
 };
 use std::test::Fail;
 
@@ -42,6 +42,20 @@ fn each_search_has_its_first_line(rt: HostRuntime) -> Result<(), Fail> {
             BASE,
             [FIRST, SECOND].as_slice(),
             ["solve", "--turns", "1"].as_slice(),
+            1,
+            "open turns 1 chamber c1 ships s1 s2 low 80 cost 120\n",
+        ),
+        (
+            NARROW,
+            [FIRST, SECOND].as_slice(),
+            ["solve", "--workers", "1", "--nodes", "2", "--dossier"].as_slice(),
+            1,
+            "open nodes 2 low 80 cost 120\n",
+        ),
+        (
+            BASE,
+            [FIRST, SECOND].as_slice(),
+            ["solve", "--turns", "1", "--dossier"].as_slice(),
             1,
             "open turns 1 chamber c1 ships s1 s2 low 80 cost 120\n",
         ),
@@ -181,13 +195,11 @@ fn the_cost_is_the_same_for_each_number_of_workers(rt: HostRuntime) -> Result<()
 
 #[test]
 fn an_evening_of_nine_ships_is_optimal(rt: HostRuntime) -> Result<(), Fail> {
-    let text =
-        "glock 1\nchamber main 2000 240 10 20 5 6 30 15 low 0\nchamber side 1360 160 10 20 5 4 20 10 high 0\nship alva up 1100 114 0 5\nship brio up 1100 114 0 5\nship cora down 800 95 120 5\nship dina down 670 82 120 5\nship eddy down 380 50 125 5\nship fram up 1000 105 200 5\nship gull down 900 90 240 5\nship hero up 500 60 280 5\nship iris down 380 50 330 5\nend\n";
     let ran = run_over(
         &rt,
         rt.alloc(),
         &["solve", "--workers", "4"],
-        text.as_bytes(),
+        EVENING.as_bytes(),
     )?;
     assert_eq!(rt; ran.status.code(), 0);
     assert!(rt; ran.text.as_slice().starts_with(b"optimal cost 270\n"));

@@ -43,10 +43,12 @@ fn what_is_still_to_come_is_refused_as_bad_words(rt: HostRuntime) -> Result<(), 
         ["judge"].as_slice(),
         ["play"].as_slice(),
         ["replan", "--from", "5"].as_slice(),
+        ["replan", "--from", "5", "--dossier"].as_slice(),
         ["lower"].as_slice(),
         ["resume"].as_slice(),
-        ["solve", "--dossier"].as_slice(),
+        ["resume", "--dossier"].as_slice(),
         ["solve", "--keep"].as_slice(),
+        ["solve", "--keep", "--dossier"].as_slice(),
     ] {
         let ran = run_over(&rt, rt.alloc(), words, ONE_SHIP.as_bytes())?;
         assert_eq!(rt; ran.status.code(), 2, "{words:?}");
