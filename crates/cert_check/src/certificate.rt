@@ -1,5 +1,5 @@
 //! Certificates, and what the checker answers to one.
-ghost use Rattle.std.specs.Prelude.{◌≡◌, [], ◌∷◌, ◌++◌, OnOk, OnErr};
+ghost use Rattle.std.specs.Prelude.{◌≡◌, [], ◌∷◌, ◌++◌, OnOk, OnErr, IfOk};
 
 use lock_model::{Plan, Ships};
 use refute_rules::Refutation;
@@ -90,6 +90,15 @@ impl MarkList {
         MarkList {
             items: Vec::new(alloc),
         }
+    }
+
+    /// No marks, with room for so many.
+    pub fn with_capacity(alloc: Global, count: usize) -> Result<MarkList, AllocError>
+        ensures { IfOk result (λ list. list ≡ []) }
+    {
+        Ok(MarkList {
+            items: Vec::with_capacity(alloc, count)?,
+        })
     }
 
     /// The marks in order.

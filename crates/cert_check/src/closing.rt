@@ -1,9 +1,9 @@
 //! Which marks close a node.
-ghost use Rattle.std.specs.Prelude.{◌≡◌, ◌↔◌, All, IsTrue};
+ghost use Rattle.std.specs.Prelude.{◌≡◌, ◌<◌, ◌↔◌, length, All, IsTrue};
+ghost use Rattle.std.specs.Bool.{OnTrue};
 ghost use Rattle.lock_rules.specs.Throughput.{throughput_of};
 ghost use Rattle.master_branch.specs.Node.{IsNodeOf};
-ghost use Rattle.lock_rules.specs.Bound.{probe_of};
-ghost use Rattle.flow_bounds.specs.Missing.{IsMissing};
+ghost use Rattle.lock_rules.specs.Arrival.{next_ship};
 ghost use Rattle.flow_bounds.specs.Roster.{IsRosterOf};
 ghost use Rattle.search_rules.specs.Certificates.{IsShaped, IsCutBy, Closes};
 ghost use Rattle.search_rules.specs.Failures.{reason_of};
@@ -37,26 +37,25 @@ fn is_cut_by(claim: &Claim, node: &Node, number: u64) -> bool
         && hits_node(claim.instance, &claim.cuts[number as usize], node)
 }
 
-// The probe of a ship that the node lacks. Nearly all that are asked for are of the ship that it lacks
-// first, where the roster spares work.
-fn probe_of(claim: &Claim, node: &Node, ship: u8) -> u64
-    requires node { IsNodeOf claim.now.instance.now node.now }
-    requires missing { IsMissing claim.now.instance.now node.now.lines ship }
-    ensures { result ≡ probe_of claim.now.instance.now node.now.depth node.now.lines ship }
+// Whether this is the ship that the node lacks first.
+fn is_next(claim: &Claim, node: &Node, ship: u8) -> bool
+    ensures lacks { OnTrue result (node.now.depth < length claim.now.instance.now.ships) }
+    ensures next { OnTrue result (ship ≡ next_ship claim.now.instance.now node.now.depth) }
 {
-    if ship == claim.roster.ship(claim.instance, node.depth()) {
-        child_bounds(claim.instance, claim.roster, node).least()
-    } else {
-        probe(claim.instance, node, ship)
-    }
+    (node.depth() as usize) < claim.instance.ships.as_slice().len()
+        && claim.roster.ship(claim.instance, node.depth()) == ship
 }
 
-// Whether the node lacks this ship, and its probe reaches the cost.
+// Whether the node lacks this ship, and its probe reaches the cost. Of the ship that it lacks first
+// the roster spares work, and nearly all that are asked for are that one.
 fn is_probed(claim: &Claim, node: &Node, ship: u8) -> bool
     requires { IsNodeOf claim.now.instance.now node.now }
     ensures { IsTrue result ↔ Closes claim.now.instance.now claim.now.cost claim.now.cuts.now node.now.depth node.now.lines (Mark.Probe ship) }
 {
-    is_missing(claim.instance, node, ship) && probe_of(claim, node, ship) >= claim.cost
+    if is_next(claim, node, ship) {
+        return child_bounds(claim.instance, claim.roster, node).least() >= claim.cost;
+    }
+    is_missing(claim.instance, node, ship) && probe(claim.instance, node, ship) >= claim.cost
 }
 
 // Whether a mark closes the node.

@@ -53,7 +53,7 @@ fn mark_in(value: &Value) -> Option<Mark>
 fn all_in(alloc: Global, list: &[Value]) -> Result<Option<MarkList>, AllocError>
     ensures { IfOk result (λ o. o ≡ all_in mark_in (items_view list.now)) }
 {
-    let mut tree = MarkList::new(alloc);
+    let mut tree = MarkList::with_capacity(alloc, list.len())?;
     for value in list {
         match mark_in(value) {
             Some(mark) => tree.push(mark)?,
