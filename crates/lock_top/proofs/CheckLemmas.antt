@@ -9,7 +9,7 @@ use Rattle.instance_text.specs.Draft.{Draft}
 use Rattle.instance_text.proofs.InstanceLemmas.{same_instance}
 use Rattle.cert_text.specs.Dossier.{Reads, DossierFault, dossier_in}
 use Rattle.cert_text.specs.declared.bad.BadDossier.{BadDossier as AnyFault}
-use Rattle.lock_top.specs.Checking.{AnswersCertificate, AnswersReads, PrintsFault, PrintsRejected}
+use Rattle.lock_top.specs.Checking.{AnswersCertificate, AnswersReads, PrintsRejected}
 use Rattle.lock_top.specs.Answers.{Drained, IsTooLong, AnswersDossierRead, AnswersCheck, dossier_limit}
 use Rattle.lock_top.specs.Clauses.{MayCheck}
 use Rattle.lock_top.specs.declared.status.Status.{Status}

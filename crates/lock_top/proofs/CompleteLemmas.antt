@@ -1,5 +1,5 @@
 -- What is asked rightly is done.
-use Rattle.std.proofs.Common.{ℕ, ◌≡◌, ◌⊎◌, ◌<◌, List, length, sym, subst, ap, ◌∙◌, refl, inl, inr, true, false, arith, Ok, Err, Result}
+use Rattle.std.proofs.Common.{ℕ, ◌≡◌, ◌⊎◌, ◌<◌, List, length, sym, subst, ap, ◌∙◌, refl, inl, inr, false, arith, Ok, Err, Result}
 use Rattle.std.specs.Prelude.{IfSome}
 use Rattle.lock_model.specs.declared.instance.Instance.{Instance}
 use Rattle.lock_model.specs.declared.verdict.Verdict.TheVariants.{Optimal, OpenNodes, OpenTurns}
