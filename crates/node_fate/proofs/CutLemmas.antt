@@ -1,5 +1,5 @@
 -- The cut of some ships of a refuted deck hits the ships.
-use Rattle.std.proofs.Common.{◌≡◌, ℕ, ◌<◌, ◌≤◌, List, [], ◌∷◌, length, map, refl, sym, ap, ◌∙◌, subst, arith, All, Contains, slice_index_or}
+use Rattle.std.proofs.Common.{◌≡◌, ℕ, ◌<◌, List, [], ◌∷◌, length, map, refl, sym, ap, ◌∙◌, subst, arith, All, Contains, slice_index_or}
 use Rattle.std.proofs.lemmas.List.{get_or-map, length-map}
 use Rattle.std.proofs.lemmas.List.Elements.{All-map, All-head, All-tail, Contains-get_or}
 use Rattle.lock_model.specs.Deck.{Deck, size_at, no_size}
@@ -8,9 +8,8 @@ use Rattle.lock_model.specs.Fleet.{ship_at, chamber_at}
 use Rattle.lock_model.specs.declared.deck.Size.{Size}
 use Rattle.lock_model.specs.declared.instance.Instance.{Instance}
 use Rattle.refute_rules.specs.declared.refutation.Refutation.{Refutation}
-use Rattle.refute_rules.specs.Reasons.{AreSome}
 use Rattle.refute_rules.specs.Cuts.{Cut, IsCut}
-use Rattle.chamber_place.specs.Parts.{part_of, IsShrunk}
+use Rattle.chamber_place.specs.Parts.{IsShrunk}
 use Rattle.node_fate.specs.Settling.{IsCutOf}
 
 module _ (I : Instance) (c : ℕ) (S : List ℕ) where

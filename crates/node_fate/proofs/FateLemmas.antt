@@ -1,12 +1,11 @@
 -- What becomes of a node, by what was found of a group of it.
-use Rattle.std.proofs.Common.{◌≡◌, ℕ, zero, suc, ◌<◌, ◌≤◌, List, [], ◌∷◌, length, refl, sym, ap, ◌∙◌, subst, arith, All, Contains, slice_index_or, slice_get, Some}
+use Rattle.std.proofs.Common.{◌≡◌, ℕ, zero, suc, ◌<◌, ◌≤◌, List, [], ◌∷◌, length, refl, sym, ap, ◌∙◌, subst, arith, All, slice_index_or, slice_get, Some}
 use Rattle.std.proofs.lemmas.List.Elements.{Contains-get_or}
 use Rattle.lock_model.specs.Fitting.{deck_of}
-use Rattle.lock_model.specs.Deck.{Deck}
 use Rattle.lock_model.specs.Cargo.{HasNoClash}
 use Rattle.lock_model.specs.declared.instance.Instance.{Instance}
 use Rattle.lock_model.specs.declared.group.Group.{Group}
-use Rattle.lock_rules.specs.Node.{line_at, IsNode, IsNodeGroup}
+use Rattle.lock_rules.specs.Node.{line_at, IsNode}
 use Rattle.lock_rules.proofs.NodeLemmas.{line-known}
 use Rattle.refute_rules.specs.Cuts.{Cut}
 use Rattle.refute_rules.specs.Spots.{IsSpent}

@@ -1,5 +1,5 @@
 -- Mooring the lines of a node, one group after the other.
-use Rattle.std.proofs.Common.{◌≡◌, ℕ, zero, suc, ◌+◌, ◌<◌, ◌≤◌, List, [], ◌∷◌, ◌++◌, length, refl, sym, ap, ◌∙◌, subst, arith, All, sum_by, slice_index_or, inl, inr}
+use Rattle.std.proofs.Common.{◌≡◌, ℕ, zero, suc, ◌+◌, ◌<◌, ◌≤◌, List, [], ◌∷◌, ◌++◌, length, refl, sym, ap, ◌∙◌, subst, arith, All, slice_index_or, inl, inr}
 use Rattle.std.proofs.Math.ListN.{get_or-append}
 use Rattle.std.proofs.lemmas.Bool.Decides.{leb_tells, eqb_tells}
 use Rattle.std.proofs.lemmas.List.{get_or-append-add, length-append}
@@ -7,7 +7,6 @@ use Rattle.lock_model.specs.Fitting.{deck_of}
 use Rattle.lock_model.specs.declared.instance.Instance.{Instance}
 use Rattle.lock_model.specs.declared.group.Group.{Group}
 use Rattle.lock_model.specs.declared.placement.Spot.{Spot}
-use Rattle.lock_rules.specs.Arrival.{numbers_from}
 use Rattle.lock_rules.specs.Node.{line_at, IsNode}
 use Rattle.search_rules.specs.Book.{no_group}
 use Rattle.leaf_plan.specs.declared.moorings.Mooring.{Mooring}

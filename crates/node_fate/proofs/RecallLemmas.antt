@@ -4,7 +4,7 @@ use Rattle.lock_model.specs.Deck.{Deck}
 use Rattle.lock_model.specs.Fitting.{deck_of}
 use Rattle.lock_model.specs.Cargo.{HasNoClash}
 use Rattle.refute_rules.specs.Cases.{IsHard}
-use Rattle.refute_rules.specs.Spots.{IsSpent, IsSpotHard}
+use Rattle.refute_rules.specs.Spots.{IsSpotHard}
 use Rattle.refute_rules.specs.Trees.{IsSpotTree}
 use Rattle.place_refute.specs.Tried.{Tried}
 use Rattle.spot_place.specs.declared.placing.SpotPlaced.{SpotPlaced}

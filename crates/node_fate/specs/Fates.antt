@@ -1,5 +1,5 @@
 -- What becomes of a node.
-use Rattle.std.specs.Prelude.{ℕ, ◌≡◌, ◌≤◌, ◌<◌, List, length, slice_get, Some}
+use Rattle.std.specs.Prelude.{ℕ, ◌≡◌, ◌<◌, List, length, slice_get, Some}
 use Rattle.lock_model.specs.Fitting.{deck_of}
 use Rattle.lock_model.specs.Cargo.{HasNoClash}
 use Rattle.lock_model.specs.declared.instance.Instance.{Instance}

@@ -1,19 +1,13 @@
 -- Closing and parking the held slot.
-use Rattle.std.proofs.Common.{◌≡◌, ℕ, ◌<◌, ◌≤◌, List, length, inl, inr, refl, sym, ap, ◌∙◌, subst, arith, Bool, true, false, not, cond, nat_lt, nat_le, slice_get, Some, None, ◌&&◌}
-use Rattle.std.specs.declared.option.Option.{Option}
-use Rattle.lock_model.specs.Deck.{Deck}
-use Rattle.lock_model.specs.Fitting.{deck_of}
-use Rattle.lock_model.specs.declared.group.Group.{Group}
+use Rattle.std.proofs.Common.{◌≡◌, ℕ, ◌≤◌, refl, sym, ap, ◌∙◌, subst, Bool, true, false, not, cond, nat_lt, slice_get, Some}
 use Rattle.lock_rules.specs.Cut.{HitsNode}
 use Rattle.lock_rules.specs.Throughput.{throughput_of}
-use Rattle.lock_rules.specs.Node.{line_at}
 use Rattle.refute_rules.specs.Cuts.{Cut}
-use Rattle.mooring_rules.specs.declared.breaks.BrokenPlan.{BrokenPlan}
 use Rattle.search_rules.specs.declared.book.SlotState.{SlotState}
 use Rattle.search_rules.specs.declared.book.Entry.{Entry}
 use Rattle.search_rules.specs.declared.book.SlotState.TheVariants as slot
 use Rattle.search_rules.specs.declared.book.Entry.TheVariants as entry
-use Rattle.search_rules.specs.Book.{Book, Node, slot_at, best_cost, is_held, group_at}
+use Rattle.search_rules.specs.Book.{Book, Node, slot_at, best_cost, is_held}
 use Rattle.search_rules.specs.Ends.{HoldsNothing}
 use Rattle.search_rules.specs.Events as machine
 use Rattle.search_rules.specs.Events.{Event, close_bound, close_cut, close_throughput, close_probe, park}

@@ -6,8 +6,6 @@ use Rattle.lock_model.specs.declared.instance.Instance.{Instance}
 use Rattle.lock_model.specs.declared.group.Group.{Group}
 use Rattle.lock_model.specs.declared.plan.Plan.{Plan}
 use Rattle.lock_rules.specs.Plan.{cost_of}
-use Rattle.mooring_rules.specs.declared.breaks.BrokenPlan.{BrokenPlan}
-use Rattle.refute_rules.specs.Cuts.{Cut}
 use Rattle.lock_rules.specs.Throughput.{throughput_of}
 use Rattle.search_rules.specs.declared.book.Entry.TheVariants as entry
 use Rattle.search_rules.specs.declared.book.SlotState.TheVariants as slot
@@ -19,12 +17,12 @@ use Rattle.search_rules.specs.Events.{Replaced, Ended, NodesSpent, Idle, Done, N
 use Rattle.search_rules.specs.NextSlot.{next_fresh}
 use Rattle.search_rules.specs.Room.{room_of}
 use Rattle.search_rules.specs.Step
-use Rattle.search_rules.proofs.StepLemmas.{IsStep, Refused, Accepted, each-step}
+use Rattle.search_rules.proofs.StepLemmas.{Refused, Accepted, each-step}
 use Rattle.search_rules.proofs.RoomLemmas.{room-no_more}
 use Rattle.book_core.specs.declared.reply.Reply.{Reply as BookReply}
 use Rattle.book_core.specs.Keeps.{IsSound}
-use Rattle.book_core.specs.Replies.{Answers, Does, Wants, Steps, Stays}
-use Rattle.solve_workers.specs.Driving.{Deed, IsDrivers, IsDeed, AreDeeds, after_deeds, IsDriven}
+use Rattle.book_core.specs.Replies.{Answers, Does, Steps, Stays}
+use Rattle.solve_workers.specs.Driving.{Deed, IsDrivers, AreDeeds, after_deeds, IsDriven}
 
 -- ---- who has ended stays, for the driver doesn't release
 

@@ -1,9 +1,9 @@
 -- A slot that is no longer held.
-use Rattle.std.proofs.Common.{◌≡◌, ◌≢◌, ℕ, zero, suc, ◌<◌, ◌≤◌, List, [], ◌∷◌, length, inl, inr, refl, sym, ap, ◌∙◌, subst, arith, Bool, true, false, not, cond, ◌||◌, slice_index_or, nat_le}
+use Rattle.std.proofs.Common.{◌≡◌, ℕ, zero, suc, ◌<◌, ◌≤◌, List, [], ◌∷◌, length, inl, inr, refl, ap, ◌∙◌, arith, Bool, true, false, cond, ◌||◌, slice_index_or}
 use Rattle.std.proofs.lemmas.Bool.Decides.{leb_tells}
 use Rattle.search_rules.specs.declared.book.SlotState.{SlotState}
 use Rattle.search_rules.specs.declared.book.SlotState.TheVariants as slot
-use Rattle.search_rules.specs.Book.{Book, Slot, Node, no_slot, slot_at, new_slot, is_held, is_parked}
+use Rattle.search_rules.specs.Book.{Book, Slot, Node, no_slot, slot_at, is_held, is_parked}
 use Rattle.search_rules.specs.Ends.{HasNone, HoldsNothing}
 use Rattle.search_rules.specs.Step
 use Rattle.search_rules.proofs.MoveLemmas.{state-known}

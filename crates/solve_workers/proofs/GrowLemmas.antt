@@ -1,5 +1,5 @@
 -- Posting, splitting, parking and replacing while a slot is held.
-use Rattle.std.proofs.Common.{◌≡◌, ◌≢◌, ℕ, zero, suc, ◌<◌, ◌≤◌, List, [], ◌∷◌, ◌++◌, length, map, inl, inr, refl, sym, ap, ◌∙◌, subst, arith, Bool, true, false, not, cond, ◌&&◌, ◌||◌, nat_le, slice_get, slice_index_or, Some, None, IsNone, ◌↔◌}
+use Rattle.std.proofs.Common.{◌≡◌, ℕ, ◌<◌, ◌≤◌, List, [], ◌∷◌, ◌++◌, length, inl, inr, refl, sym, ap, ◌∙◌, subst, arith, Bool, true, false, not, cond, ◌&&◌, ◌||◌, nat_le, slice_get, slice_index_or, Some, None, IsNone}
 use Rattle.std.specs.declared.option.Option.{Option}
 use Rattle.std.proofs.lemmas.Bool.{le-leb}
 use Rattle.std.proofs.lemmas.Bool.Decides.{leb_tells}
@@ -12,10 +12,8 @@ use Rattle.lock_rules.specs.Node.{line_at}
 use Rattle.lock_rules.specs.Plan.{IsLegal, cost_of}
 use Rattle.refute_rules.specs.Cuts.{Cut}
 use Rattle.mooring_rules.specs.declared.breaks.BrokenPlan.{BrokenPlan}
-use Rattle.search_rules.specs.declared.book.SlotState.{SlotState}
 use Rattle.search_rules.specs.declared.book.SlotState.TheVariants as slot
-use Rattle.search_rules.specs.declared.book.Entry.TheVariants as entry
-use Rattle.search_rules.specs.Book.{Book, Case, Slot, Node, no_slot, slot_at, best_cost, is_held, is_fresh, is_back, is_parked, group_at}
+use Rattle.search_rules.specs.Book.{Book, Slot, Node, no_slot, slot_at, best_cost, is_held, is_fresh, is_back, is_parked, group_at}
 use Rattle.search_rules.specs.Cover.{IsOwnCut}
 use Rattle.search_rules.specs.Ends.{HoldsNothing}
 use Rattle.search_rules.specs.Events as machine
@@ -26,8 +24,8 @@ use Rattle.search_rules.proofs.TestLemmas.{is_own_cut-decides, same_deck-decides
 use Rattle.search_rules.proofs.TurnLemmas.{outdone-at}
 use Rattle.book_core.specs.declared.reply.Reply.{Reply}
 use Rattle.book_core.specs.declared.reply.Reply.TheVariants as reply
-use Rattle.book_core.specs.Replies.{Answers, Does, Wants, Steps, Stays, IsJudged, told}
-use Rattle.book_core.proofs.CloseLemmas.{pick-true, pick-false, not-true, is-not_less}
+use Rattle.book_core.specs.Replies.{Answers, Does, Wants, Steps, Stays, told}
+use Rattle.book_core.proofs.CloseLemmas.{pick-false, not-true}
 use Rattle.solve_workers.specs.Holding.{HoldsOnly}
 use Rattle.solve_workers.specs.Told.{number_in, is_made, is_parked as tells_parked, is_want, IsMadeOrWant, IsPostedOrWant}
 use Rattle.solve_workers.proofs.ToldLemmas.{Answer, makes, parks, number_of, told-made, told-parked, told-number}

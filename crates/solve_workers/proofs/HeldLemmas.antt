@@ -1,10 +1,9 @@
 -- What the driver knows of the node in its hand, and how the node leaves it.
-use Rattle.std.proofs.Common.{◌≡◌, ℕ, ◌<◌, ◌≤◌, List, length, refl, sym, ap, ◌∙◌, subst, arith, Bool, true, false, slice_index_or, slice_get, Some, None, IfSome, Contains, Ok, Err, OnOk, OnErr}
+use Rattle.std.proofs.Common.{◌≡◌, ℕ, ◌<◌, List, length, refl, sym, ap, ◌∙◌, subst, arith, Bool, true, false, slice_index_or, Some, None, IfSome, Contains, Ok, Err, OnOk, OnErr}
 use Rattle.std.specs.declared.option.Option.{Option}
 use Rattle.std.specs.declared.result.Result.{Result}
 use Rattle.std.specs.Bool.{OnTrue, OnFalse}
 use Rattle.std.proofs.lemmas.List.Elements.{Contains-get_or}
-use Rattle.lock_model.specs.declared.instance.Instance.{Instance}
 use Rattle.lock_model.specs.declared.group.Group.{Group}
 use Rattle.lock_model.specs.declared.plan.Plan.{Plan}
 use Rattle.lock_rules.specs.Bound.{bound_of}
@@ -12,10 +11,9 @@ use Rattle.lock_rules.specs.Cut.{HitsNode}
 use Rattle.lock_rules.specs.Node.{IsNode, line_at}
 use Rattle.lock_rules.specs.Plan.{IsLegal, cost_of}
 use Rattle.refute_rules.specs.Cuts.{Cut}
-use Rattle.refute_rules.specs.Spots.{IsSpent}
 use Rattle.place_refute.specs.Tried.{Tried}
 use Rattle.master_branch.specs.Node.{Node, IsNodeOf}
-use Rattle.search_rules.specs.Book.{Book, Case, Node as TreeNode, no_slot, slot_at, best_cost, bound_at}
+use Rattle.search_rules.specs.Book.{Book, Case, Node as TreeNode, no_slot, slot_at, bound_at}
 use Rattle.search_rules.specs.Ends.{HoldsNothing}
 use Rattle.search_rules.specs.Events.{close_bound, close_cut, post, park, replace}
 use Rattle.book_core.specs.declared.reply.Reply.{Reply}
@@ -25,7 +23,7 @@ use Rattle.book_core.specs.Replies.{Answers, Does}
 use Rattle.node_fate.specs.Fates.{IsNodeCut, IsSpentAt, IsGroupAt}
 use Rattle.solve_workers.specs.Cuts.{IsHitting, HitsShips}
 use Rattle.solve_workers.specs.Holding.{HoldsOnly}
-use Rattle.solve_workers.specs.Told.{number_in, is_closed, is_want}
+use Rattle.solve_workers.specs.Told.{number_in, is_want}
 use Rattle.solve_workers.proofs.FreeLemmas.{held-known}
 use Rattle.solve_workers.proofs.CloseLemmas.{bound_shut, bound_sure, cut_shut, cut_sure}
 use Rattle.solve_workers.proofs.GrowLemmas.{posted_there, posted_case, parked_frees, replaced_better}

@@ -1,5 +1,5 @@
 -- A book that was just opened.
-use Rattle.std.proofs.Common.{◌≡◌, ℕ, suc, zero, ◌<◌, ◌≤◌, length, refl, sym, ap, ◌∙◌, subst, arith, Bool, true, false, cond, nat_le, IfOk, Ok, Err}
+use Rattle.std.proofs.Common.{◌≡◌, ℕ, suc, zero, ◌<◌, ◌≤◌, refl, sym, subst, arith, Bool, true, false, cond, nat_le, IfOk, Ok, Err}
 use Rattle.std.specs.declared.result.Result.{Result}
 use Rattle.lock_model.specs.declared.instance.Instance.{Instance}
 use Rattle.lock_model.specs.declared.plan.Plan.{Plan}
@@ -10,8 +10,7 @@ use Rattle.first_plan.specs.Merging.{IsRefusal}
 use Rattle.first_plan.specs.declared.opening.FirstError.{FirstError}
 use Rattle.first_plan.specs.declared.opening.FirstError.TheVariants.{Unfit}
 use Rattle.search_rules.specs.declared.book.SlotState.TheVariants as slot
-use Rattle.search_rules.specs.Book.{Book, Case, Slot, opening_book, slot_at, is_held, root, bound_at}
-use Rattle.search_rules.specs.Cheap.{opening_cost}
+use Rattle.search_rules.specs.Book.{Book, Case, opening_book, slot_at, is_held, root, bound_at}
 use Rattle.search_rules.specs.Ends.{HoldsNothing, EndsWell}
 use Rattle.solve_workers.specs.Opening.{IsOpened}
 

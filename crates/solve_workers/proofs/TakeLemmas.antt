@@ -1,16 +1,13 @@
 -- Taking a slot while none is held.
-use Rattle.std.proofs.Common.{◌≡◌, ◌≢◌, ℕ, suc, ◌<◌, ◌≤◌, ◌⊎◌, List, length, inl, inr, refl, sym, ap, ◌∙◌, subst, arith, Bool, true, false, cond, ◌||◌, nat_eq, nat_le, slice_index_or, Some, None}
+use Rattle.std.proofs.Common.{◌≡◌, ℕ, suc, ◌<◌, ◌≤◌, length, inl, inr, refl, sym, ap, ◌∙◌, subst, arith, Bool, true, false, cond, ◌||◌, Some, None}
 use Rattle.std.specs.declared.option.Option.{Option}
 use Rattle.std.proofs.lemmas.Bool.Decides.{eqb_tells}
-use Rattle.lock_model.specs.declared.instance.Instance.{Instance}
 use Rattle.master_branch.specs.Node.{Node as CodeNode}
 use Rattle.mooring_rules.specs.declared.breaks.BrokenPlan.{BrokenPlan}
 use Rattle.search_rules.specs.declared.book.SlotState.{SlotState}
 use Rattle.search_rules.specs.declared.book.SlotState.TheVariants as slot
-use Rattle.search_rules.specs.declared.book.Entry.TheVariants as entry
-use Rattle.search_rules.specs.Book.{Book, Slot, Node, no_slot, slot_at, first_slot, has_slot, is_fresh, is_back, is_held, is_held_by}
-use Rattle.search_rules.specs.Cover.{IsGoodSlot}
-use Rattle.search_rules.specs.Ends.{HasNone, HoldsNothing, HasNothingOpen, HasSpentNodes, is_open}
+use Rattle.search_rules.specs.Book.{Book, Slot, Node, slot_at, first_slot, has_slot, is_fresh, is_back, is_held, is_held_by}
+use Rattle.search_rules.specs.Ends.{HoldsNothing, HasNothingOpen, is_open}
 use Rattle.search_rules.specs.Events as machine
 use Rattle.search_rules.specs.Events.{take}
 use Rattle.search_rules.specs.NextSlot.{next_fresh}

@@ -1,23 +1,21 @@
 -- Closing the parked slots at the end.
-use Rattle.std.proofs.Common.{◌≡◌, ◌≢◌, ℕ, suc, ◌+◌, ◌<◌, ◌≤◌, ◌⊎◌, List, length, inl, inr, refl, sym, ap, ◌∙◌, subst, arith, Bool, true, false, not, cond, ◌||◌, nat_lt, nat_le, slice_index_or}
+use Rattle.std.proofs.Common.{◌≡◌, ℕ, suc, ◌+◌, ◌<◌, ◌≤◌, length, inl, inr, refl, sym, ap, ◌∙◌, subst, arith, Bool, true, false, not, cond, ◌||◌, nat_lt}
 use Rattle.std.proofs.lemmas.Bool.Decides.{leb_tells, eqb_tells}
 use Rattle.std.proofs.lemmas.List.{length-set}
-use Rattle.mooring_rules.specs.declared.breaks.BrokenPlan.{BrokenPlan}
 use Rattle.search_rules.specs.declared.book.SlotState.{SlotState}
 use Rattle.search_rules.specs.declared.book.SlotState.TheVariants as slot
 use Rattle.search_rules.specs.declared.book.Entry.TheVariants as entry
-use Rattle.search_rules.specs.Book.{Book, Slot, no_slot, slot_at, best_cost, is_fresh, is_back, is_held, is_parked}
+use Rattle.search_rules.specs.Book.{Book, Slot, slot_at, best_cost, is_back, is_held, is_parked}
 use Rattle.search_rules.specs.Cheap.{opening_cost}
-use Rattle.search_rules.specs.Ends.{HasNone, HoldsNothing, HasNothingOpen, HasSpentNodes, ParksCheap, EndsWell, is_open}
+use Rattle.search_rules.specs.Ends.{HasNone, HoldsNothing, EndsWell, is_open}
 use Rattle.search_rules.specs.Events as machine
 use Rattle.search_rules.specs.Events.{close_bound}
 use Rattle.search_rules.specs.Step
 use Rattle.search_rules.proofs.MoveLemmas.{state-known}
-use Rattle.search_rules.proofs.SlotLemmas.{held-is}
 use Rattle.search_rules.proofs.TurnLemmas.{turned-at, Turned, Untouched}
 use Rattle.book_core.specs.declared.reply.Reply.{Reply}
 use Rattle.book_core.specs.Replies.{Answers}
-use Rattle.solve_workers.specs.Holding.{AreCheapBelow, IsDone, IsTidied}
+use Rattle.solve_workers.specs.Holding.{IsDone, IsTidied}
 use Rattle.solve_workers.proofs.ToldLemmas.{Answer}
 use Rattle.solve_workers.proofs.FreeLemmas.{clash, none-at}
 

@@ -1,5 +1,5 @@
 -- What the driver holds.
-use Rattle.std.specs.Prelude.{ℕ, ◌≡◌, ◌≢◌, ◌<◌, ◌≤◌, ◌⊎◌, false, slice_index_or}
+use Rattle.std.specs.Prelude.{ℕ, ◌≡◌, ◌≢◌, ◌<◌, ◌⊎◌, false, slice_index_or}
 use Rattle.search_rules.specs.Book.{Book, Node, slot_at, best_cost, is_held}
 use Rattle.search_rules.specs.declared.book.SlotState.TheVariants as slot
 use Rattle.search_rules.specs.Ends.{HoldsNothing, HasNothingOpen, HasSpentNodes}

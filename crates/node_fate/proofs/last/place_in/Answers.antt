@@ -1,4 +1,4 @@
-use Rattle.std.proofs.Common.{◌≡◌, ◌<◌, length, arith, ap}
+use Rattle.std.proofs.Common.{◌<◌, length, arith, ap}
 use Rattle.node_fate.proofs.LastLemmas.{lacked_more}
 use Rattle.node_fate.proofs.last.place_in.Goals as goal
 

@@ -1,4 +1,4 @@
-use Rattle.std.proofs.Common.{◌≡◌, length, IfNone, subst}
+use Rattle.std.proofs.Common.{length, IfNone, subst}
 use Rattle.lock_rules.specs.Node.{line_at}
 use Rattle.node_fate.specs.Lines.{IsMooredUpTo}
 use Rattle.node_fate.proofs.LineLemmas.{below_more}

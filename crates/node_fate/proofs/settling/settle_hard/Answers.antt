@@ -1,4 +1,3 @@
-use Rattle.std.proofs.Common.{◌≡◌}
 use Rattle.node_fate.proofs.RecallLemmas.{spots_refuted, spots_spent}
 use Rattle.node_fate.proofs.settling.settle_hard.Goals as goal
 

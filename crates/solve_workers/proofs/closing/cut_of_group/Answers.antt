@@ -1,4 +1,4 @@
-use Rattle.std.proofs.Common.{◌≡◌, ◌∙◌, refl, slice_index_or}
+use Rattle.std.proofs.Common.{◌∙◌, refl, slice_index_or}
 use Rattle.node_fate.proofs.FateLemmas.{group_known}
 use Rattle.solve_workers.proofs.HeldLemmas.{hits_some}
 use Rattle.solve_workers.proofs.closing.cut_of_group.Goals as goal

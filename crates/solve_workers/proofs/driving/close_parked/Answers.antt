@@ -1,6 +1,6 @@
-use Rattle.std.proofs.Common.{◌≡◌, ◌∙◌, length}
+use Rattle.std.proofs.Common.{◌∙◌}
 use Rattle.search_rules.specs.Events.{close_bound}
-use Rattle.solve_workers.proofs.DrivenLemmas.{driven_by, driven_none, driven_then}
+use Rattle.solve_workers.proofs.DrivenLemmas.{driven_by, driven_then}
 use Rattle.solve_workers.proofs.TidyLemmas.{tidied_more, tidied_length}
 use Rattle.solve_workers.proofs.driving.close_parked.Goals as goal
 
