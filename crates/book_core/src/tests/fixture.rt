@@ -135,7 +135,13 @@ pub(crate) fn both() -> Plan {
 }
 
 // The book of a case and a plan; None where there can be none, or no memory.
-fn open_with(alloc: Global, instance: Instance, nodes: u32, turns: u32, plan: Plan) -> Option<Book> {
+fn open_with(
+    alloc: Global,
+    instance: Instance,
+    nodes: u32,
+    turns: u32,
+    plan: Plan,
+) -> Option<Book> {
     if nodes == 0 || nodes > 1000000 || turns == 0 || turns > 200000 {
         return None;
     }

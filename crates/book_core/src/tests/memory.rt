@@ -1,4 +1,5 @@
-//! Want of memory: these tests hold wherever one allocation fails.
+//! Want of memory: these tests hold wherever one allocation fails, as under `rt try --test
+//! --fail-alloc N` for each N.
 
 use super::super::*;
 use super::fixture::{both, given, narrow, open, open_for, row_cut, side_by_side, try_cut};

@@ -114,7 +114,17 @@ fn a_spent_group_parks_its_slot(rt: HostRuntime) -> Result<(), Fail> {
     assert_eq!(rt; book.close_bound(2), Reply::Cheaper(80, 120));
     assert_eq!(rt; book.close_probe(2, 1), Reply::Absent(1));
     assert_eq!(rt; book.take(0), Reply::Done);
-    assert!(rt; matches!(book.verdict(), Verdict::OpenTurns { chamber: 0, turns: 1, low: 80, .. }));
+    assert!(rt;
+        matches!(
+            book.verdict(),
+            Verdict::OpenTurns {
+                chamber: 0,
+                turns: 1,
+                low: 80,
+                ..
+            }
+        )
+    );
     assert_eq!(rt; book.replace(both()), Reply::Replaced(80));
     assert_eq!(rt; book.slot_state(2), Some(SlotState::ByBound));
     Ok(())
