@@ -1,11 +1,10 @@
 -- What is stored of slots, and the slots.
-use Rattle.std.proofs.Common.{◌≡◌, ℕ, zero, suc, ◌+◌, ◌<◌, List, [], ◌∷◌, ◌++◌, length, refl, sym, ap, ◌∙◌, arith, slice_index_or, slice_set}
-use Rattle.std.proofs.Math.ListN.{get_or-append}
+use Rattle.std.proofs.Common.{◌≡◌, ℕ, zero, suc, ◌<◌, List, [], ◌∷◌, ◌++◌, length, refl, sym, ap, ◌∙◌, arith, slice_index_or, slice_set}
 use Rattle.lock_model.specs.declared.instance.Instance.{Instance}
 use Rattle.search_rules.specs.declared.book.SlotState.{SlotState}
 use Rattle.search_rules.specs.Book.{Node, Slot, root, no_slot}
 use Rattle.book_core.specs.declared.stored_slot.StoredSlot.{StoredSlot}
-use Rattle.book_core.specs.Stored.{child_node, node_after, slot_with, slots_after, slots_of, IsStoredAs}
+use Rattle.book_core.specs.Stored.{node_after, slot_with, slots_after, IsStoredAs}
 
 append-three : {X : Type 0} (xs : List X) (y : X) (zs : List X) → (xs ++ y ∷ []) ++ zs ≡ xs ++ (y ∷ zs)
 append-three [] y zs = refl
@@ -14,10 +13,6 @@ append-three (x ∷ xs) y zs = ap (λ l. x ∷ l) (append-three xs y zs)
 append-nil : {X : Type 0} (xs : List X) → xs ++ [] ≡ xs
 append-nil [] = refl
 append-nil (x ∷ xs) = ap (λ l. x ∷ l) (append-nil xs)
-
-length-both : {X : Type 0} (xs ys : List X) → length (xs ++ ys) ≡ length xs + length ys
-length-both [] ys = omega arith
-length-both (x ∷ xs) ys = let rest = length-both xs ys in omega (arith, rest)
 
 -- the nodes of slots
 abbrev pub nodes_in : List Slot → List Node
@@ -55,27 +50,3 @@ pub node-at : (slots : List Slot) (i : ℕ) → slice_index_or (nodes_in slots) 
 node-at [] i = refl
 node-at (s ∷ ss) zero = refl
 node-at (s ∷ ss) (suc i) = node-at ss i
-
--- what node follows nodes of which there is one at least
-after-some : (I : Instance) (done : List Node) (s : StoredSlot) → 0 < length done → node_after I done s ≡ child_node I (slice_index_or done s.parent root) s.number
-after-some I [] s some = absurd (omega (arith, some))
-after-some I (n ∷ ns) s some = refl
-
-node-after-at : (I : Instance) (done : List Node) (ss : List StoredSlot) (i : ℕ) (d : StoredSlot) → i < length ss → 0 < length done + i → (slice_index_or ss i d).parent < length done + i
-    → (slice_index_or (slots_after I done ss) i no_slot).node ≡ child_node I (slice_index_or (done ++ nodes_in (slots_after I done ss)) (slice_index_or ss i d).parent root) (slice_index_or ss i d).number
-node-after-at I done [] i d known some before = absurd (omega (arith, known))
-node-after-at I done (s ∷ ss) zero d known some before =
-    let within : s.parent < length done = omega (arith, before) in
-    after-some I done s (omega (arith, some))
-    ∙ ap (λ n. child_node I n s.number) (sym (get_or-append done (node_after I done s ∷ nodes_in (slots_after I (done ++ node_after I done s ∷ []) ss)) root s.parent within))
-node-after-at I done (s ∷ ss) (suc i) d known some before =
-    let n = node_after I done s in
-    let long = length-both done (n ∷ []) in
-    node-after-at I (done ++ n ∷ []) ss i d (omega (arith, known)) (omega (arith, long)) (omega (arith, before, long))
-    ∙ ap (λ l. child_node I (slice_index_or l (slice_index_or ss i d).parent root) (slice_index_or ss i d).number) (append-three done n (nodes_in (slots_after I (done ++ n ∷ []) ss)))
-
-pub child-at : (I : Instance) (ss : List StoredSlot) (i : ℕ) (d : StoredSlot) → 0 < i → i < length ss → (slice_index_or ss i d).parent < i
-    → (slice_index_or (slots_of I ss) i no_slot).node ≡ child_node I (slice_index_or (slots_of I ss) (slice_index_or ss i d).parent no_slot).node (slice_index_or ss i d).number
-child-at I ss i d some known before =
-    node-after-at I [] ss i d known (omega (arith, some)) (omega (arith, before))
-    ∙ ap (λ n. child_node I n (slice_index_or ss i d).number) (node-at (slots_of I ss) (slice_index_or ss i d).parent)

@@ -1,5 +1,7 @@
 //! Worked books.
 mod fixture;
+mod memory;
+mod parking;
 mod walk;
 
 use super::*;

@@ -12,15 +12,15 @@ use std::alloc::Global;
 use std::test::Fail;
 
 /// The width of the chamber in which two ships lie side by side.
-pub const SIDE: u32 = 240;
+pub(crate) const SIDE: u32 = 240;
 
-pub fn named(letter: u8) -> Name {
+pub(crate) fn named(letter: u8) -> Name {
     let mut name = Name::new();
     name.push(letter);
     name
 }
 
-pub fn chamber(letter: u8, width: u32, most: u8, turn: u32) -> Chamber {
+pub(crate) fn chamber(letter: u8, width: u32, most: u8, turn: u32) -> Chamber {
     Chamber {
         name: named(letter),
         length: 2000,
@@ -37,7 +37,7 @@ pub fn chamber(letter: u8, width: u32, most: u8, turn: u32) -> Chamber {
     }
 }
 
-pub fn ship(letter: u8, way: Way, arrival: u32, handling: u32) -> Ship {
+pub(crate) fn ship(letter: u8, way: Way, arrival: u32, handling: u32) -> Ship {
     Ship {
         name: named(letter),
         way,
@@ -59,17 +59,31 @@ fn lock(only: Chamber, second: Way, handling: u32) -> Result<Instance, Fail> {
 }
 
 /// Two ships that are too wide for each other.
-pub fn narrow() -> Result<Instance, Fail> {
+pub(crate) fn narrow() -> Result<Instance, Fail> {
     lock(chamber(b'c', 232, 4, 15), Way::Up, 5)
 }
 
 /// Two ships that fit side by side.
-pub fn side_by_side() -> Result<Instance, Fail> {
+pub(crate) fn side_by_side() -> Result<Instance, Fail> {
     lock(chamber(b'c', SIDE, 4, 15), Way::Up, 5)
 }
 
+/// Two ships that fit side by side, but for their cargos, which clash.
+pub(crate) fn clashing() -> Result<Instance, Fail> {
+    let mut chambers = Chambers::new();
+    chambers.push(chamber(b'c', SIDE, 4, 15));
+    let mut ships = ShipList::new();
+    let mut first = ship(b's', Way::Up, 0, 5);
+    first.cargo = 1;
+    ships.push(first);
+    let mut second = ship(b't', Way::Up, 0, 5);
+    second.cargo = 2;
+    ships.push(second);
+    Ok(Instance::new(chambers, ships).ok_or("no instance")?)
+}
+
 /// Two ships of two ways, one a lockage, and a chamber that turns in no time.
-pub fn swift() -> Result<Instance, Fail> {
+pub(crate) fn swift() -> Result<Instance, Fail> {
     lock(chamber(b'c', SIDE, 1, 0), Way::Down, 0)
 }
 
@@ -95,7 +109,7 @@ fn alone(ship: u8, way: Way, start: u32) -> Lockage {
 }
 
 /// The first ship from minute 0, and the second from this minute, both up.
-pub fn one_after_the_other(start: u32) -> Plan {
+pub(crate) fn one_after_the_other(start: u32) -> Plan {
     let mut lockages = Lockages::new();
     lockages.push(alone(0, Way::Up, 0));
     lockages.push(alone(1, Way::Up, start));
@@ -103,7 +117,7 @@ pub fn one_after_the_other(start: u32) -> Plan {
 }
 
 /// Both ships from minute 0, side by side.
-pub fn both() -> Plan {
+pub(crate) fn both() -> Plan {
     let mut ships = Ships::single(0);
     ships.push(1);
     let mut spots = Spots::new();
@@ -120,36 +134,52 @@ pub fn both() -> Plan {
     Plan { lockages }
 }
 
-fn open_with(alloc: Global, instance: Instance, nodes: u32, plan: Plan) -> Result<Book, Fail> {
-    if nodes == 0 || nodes > 1000000 {
-        return Err("no budget".into());
+// The book of a case and a plan; None where there can be none, or no memory.
+fn open_with(
+    alloc: Global,
+    instance: Instance,
+    nodes: u32,
+    turns: u32,
+    plan: Plan,
+) -> Option<Book> {
+    if nodes == 0 || nodes > 1000000 || turns == 0 || turns > 200000 {
+        return None;
     }
     if let Some(_) = first_unfit(&instance) {
-        return Err("an unfit ship".into());
+        return None;
     }
     if let Some(_) = judge_plan(&instance, &plan) {
-        return Err("no plan".into());
+        return None;
     }
-    let case = Case::new(instance, nodes, 128);
-    Ok(open_book(alloc, &case, plan).map_err(|_| "no memory")?)
+    let case = Case::new(instance, nodes, turns);
+    match open_book(alloc, &case, plan) {
+        Ok(book) => Some(book),
+        Err(_) => None,
+    }
 }
 
-/// The book of an instance, opened with its singles plan.
-pub fn open(alloc: Global, instance: Instance, nodes: u32) -> Result<Book, Fail> {
+/// The book of an instance for so many nodes and turns, opened with its singles plan; None where
+/// there can be none, or no memory.
+pub(crate) fn open_for(alloc: Global, instance: Instance, nodes: u32, turns: u32) -> Option<Book> {
     if let Some(_) = first_unfit(&instance) {
-        return Err("an unfit ship".into());
+        return None;
     }
     let plan = first_plan::singles_plan(&instance);
-    open_with(alloc, instance, nodes, plan)
+    open_with(alloc, instance, nodes, turns, plan)
+}
+
+/// The book of an instance for so many nodes, opened with its singles plan.
+pub(crate) fn open(alloc: Global, instance: Instance, nodes: u32) -> Result<Book, Fail> {
+    Ok(open_for(alloc, instance, nodes, 128).ok_or("no book")?)
 }
 
 /// The book of an instance, opened with both ships side by side.
-pub fn open_cheap(alloc: Global, instance: Instance) -> Result<Book, Fail> {
-    open_with(alloc, instance, 100, both())
+pub(crate) fn open_cheap(alloc: Global, instance: Instance) -> Result<Book, Fail> {
+    Ok(open_with(alloc, instance, 100, 128, both()).ok_or("no book")?)
 }
 
 /// The slot that was given, and the depth of its node.
-pub fn given(reply: Reply) -> Option<(u32, u8)> {
+pub(crate) fn given(reply: Reply) -> Option<(u32, u8)> {
     match reply {
         Reply::Node(id, node) => Some((id, node.depth())),
         _ => None,
@@ -157,8 +187,8 @@ pub fn given(reply: Reply) -> Option<(u32, u8)> {
 }
 
 /// The cut of both ships in a chamber of this width, by a row of them, if it is narrow enough; its
-/// deck is that of the narrow chamber else.
-pub fn row_cut(alloc: Global, width: u32) -> Result<Cut, Fail> {
+/// deck is that of the narrow chamber else. None where there is no memory.
+pub(crate) fn try_cut(alloc: Global, width: u32) -> Option<Cut> {
     let mut sizes = Sizes::new();
     for _ in 0..2 {
         if sizes.as_slice().len() < 8 {
@@ -176,14 +206,24 @@ pub fn row_cut(alloc: Global, width: u32) -> Result<Cut, Fail> {
         gap: if width > 232 { 21 } else { 20 },
         side: 5,
     };
-    let deck = Deck::new(measures, sizes).ok_or("no deck")?;
+    let deck = match Deck::new(measures, sizes) {
+        Some(deck) => deck,
+        None => return None,
+    };
     let mut ships = Ships::single(0);
     ships.push(1);
     if ships.as_slice().len() != deck.ships.as_slice().len() {
-        return Err("not one size a ship".into());
+        return None;
     }
     let mut row = Ships::single(0);
     row.push(1);
-    let refutation = Refutation::Quick(Quick::Row(row));
-    Ok(make_cut(alloc, 0, ships, deck, refutation).map_err(|_| "no cut")?)
+    match make_cut(alloc, 0, ships, deck, Refutation::Quick(Quick::Row(row))) {
+        Ok(cut) => Some(cut),
+        Err(_) => None,
+    }
+}
+
+/// The same cut, where there is memory.
+pub(crate) fn row_cut(alloc: Global, width: u32) -> Result<Cut, Fail> {
+    Ok(try_cut(alloc, width).ok_or("no cut")?)
 }

@@ -7,7 +7,7 @@ use search_rules::SlotState;
 use std::test::Fail;
 
 /// Two chambers and seven ships.
-pub fn instance_of_seven() -> Result<Instance, Fail> {
+pub(crate) fn instance_of_seven() -> Result<Instance, Fail> {
     let mut chambers = Chambers::new();
     chambers.push(chamber(b'a', 240, 4, 15));
     chambers.push(chamber(b'b', 240, 2, 10));
@@ -42,7 +42,7 @@ fn first_child(book: &Book, id: u32) -> u32 {
 
 /// The returned slot of the smallest number, else the root, else the best fresh child of the split
 /// of the greatest first child.
-pub fn slow_next(book: &Book) -> Option<u32> {
+pub(crate) fn slow_next(book: &Book) -> Option<u32> {
     if let Some(id) = first_back(book) {
         return Some(id);
     }

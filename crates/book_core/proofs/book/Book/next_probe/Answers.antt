@@ -1,7 +1,5 @@
-use Rattle.std.proofs.Common.{◌≡◌, sym, ap, ◌∙◌}
+use Rattle.std.proofs.Common.{ap, ◌∙◌}
 use Rattle.lock_rules.specs.Bound.{least_number}
-use Rattle.search_rules.specs.Book.{Book}
-use Rattle.book_core.specs.Hands.{bounds_at}
 use Rattle.book_core.proofs.BoundingLemmas.{least-below}
 use Rattle.book_core.proofs.book.Book.next_probe.Goals as goal
 

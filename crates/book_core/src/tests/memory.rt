@@ -1,0 +1,69 @@
+//! Want of memory: these tests hold wherever one allocation fails, as under `rt try --test
+//! --fail-alloc N` for each N.
+
+use super::super::*;
+use super::fixture::{both, given, narrow, open, open_for, row_cut, side_by_side, try_cut};
+use lock_model::Instance;
+use search_rules::SlotState;
+use std::alloc::Global;
+use std::test::Fail;
+
+// What is seen of a book but for its slots' states: events accepted, slots, nodes used, best cost,
+// and whether there is a first cut.
+fn told(book: &Book) -> (u64, u32, u32, u64, bool) {
+    (
+        book.history_len(),
+        book.slots(),
+        book.used(),
+        book.best_cost(),
+        book.cut(0).is_some(),
+    )
+}
+
+// The book of an instance, where the first try may find no memory.
+fn opened(alloc: Global, first: Instance, again: Instance) -> Result<Book, Fail> {
+    if let Some(book) = open_for(alloc, first, 3, 128) {
+        return Ok(book);
+    }
+    open(alloc, again, 3)
+}
+
+#[test]
+fn a_split_and_a_plan_wait_for_memory(rt: HostRuntime) -> Result<(), Fail> {
+    let mut book = opened(rt.alloc(), side_by_side()?, side_by_side()?)?;
+    assert_eq!(rt; given(book.take(0)), Some((0, 0)));
+    let before = told(&book);
+    let mut reply = book.split(0);
+    if reply == Reply::NoMemory {
+        assert_eq!(rt; told(&book), before);
+        assert_eq!(rt; book.slot_state(0), Some(SlotState::Held(0)));
+        reply = book.split(0);
+    }
+    assert_eq!(rt; reply, Reply::Made(1));
+    assert_eq!(rt; given(book.take(0)), Some((1, 1)));
+    let before = told(&book);
+    let mut reply = book.replace(both());
+    if reply == Reply::NoMemory {
+        assert_eq!(rt; told(&book), before);
+        reply = book.replace(both());
+    }
+    assert_eq!(rt; reply, Reply::Replaced(80));
+    assert_eq!(rt; book.close_probe(1, 1), Reply::Closed);
+    Ok(())
+}
+
+#[test]
+fn a_cut_waits_for_memory(rt: HostRuntime) -> Result<(), Fail> {
+    let mut book = opened(rt.alloc(), narrow()?, narrow()?)?;
+    let before = told(&book);
+    let mut reply = match try_cut(rt.alloc(), 232) {
+        Some(cut) => book.post(cut),
+        None => Reply::NoMemory,
+    };
+    if reply == Reply::NoMemory {
+        assert_eq!(rt; told(&book), before);
+        reply = book.post(row_cut(rt.alloc(), 232)?);
+    }
+    assert_eq!(rt; reply, Reply::Posted(0));
+    Ok(())
+}
