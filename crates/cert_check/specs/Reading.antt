@@ -45,6 +45,10 @@ module _ (claim : Claim) where
   pub record AreStuck (node : Node) (marks stuck : List Mark) (r : Reason) : Type 0 where
     pub stick : FailInOrder (IsTreeOf (suc node.depth)) (TreeSticks (suc node.depth)) (children claim.instance.now node) marks stuck r
 
--- the bounds of a node's children, where they are told
+-- the bounds of a node's children, in order
+abbrev pub bounds_below : Instance → Node → List ℕ
+bounds_below I node = map (bound_of I (node.depth + 1)) (children I node)
+
+-- they are told, or nothing is
 pub record AreTold (I : Instance) (node : Node) (told : Option (List ℕ)) : Type 0 where
-  pub bounds : IfSome told (λ bs. bs ≡ map (bound_of I (node.depth + 1)) (children I node))
+  pub bounds : IfSome told (λ bs. bs ≡ bounds_below I node)

@@ -4,7 +4,7 @@ ghost use Rattle.lock_rules.specs.Throughput.{throughput_of};
 ghost use Rattle.lock_rules.specs.Bound.{bound_of};
 ghost use Rattle.master_branch.specs.Node.{IsNodeOf, children, child_lines};
 ghost use Rattle.search_rules.specs.Certificates.{IsShaped};
-ghost use Rattle.cert_check.specs.Reading.{IsRead, IsStuck, IsChildRead, IsChildStuck, AreRead, AreStuck, AreTold};
+ghost use Rattle.cert_check.specs.Reading.{IsRead, IsStuck, IsChildRead, IsChildStuck, AreRead, AreStuck, AreTold, bounds_below};
 
 use crate::closing::{Claim, closes, reason_against};
 use flow_bounds::{Bounds, child_bounds};
@@ -47,6 +47,19 @@ fn splits(instance: &Instance, node: &Node, mark: Mark) -> bool
     mark == Mark::Split && (node.depth() as usize) < instance.ships.as_slice().len()
 }
 
+// Works out the bounds of a node's children, where they aren't told yet.
+fn tell_bounds(claim: &Claim, node: &Node, told: &mut Option<Bounds>)
+    requires node { IsNodeOf claim.now.instance.now node.now }
+    requires lacks { node.now.depth < length claim.now.instance.now.ships }
+    requires told { AreTold claim.now.instance.now node.now told.old }
+    ensures { told.new ≡ Some (bounds_below claim.now.instance.now node.now) }
+{
+    match told {
+        Some(_) => {}
+        None => *told = Some(child_bounds(claim.instance, claim.roster, node)),
+    }
+}
+
 // The bound of child `i` of a node. The bounds of all children are worked out together, where the
 // first of them is asked for.
 fn child_bound(claim: &Claim, node: &Node, told: &mut Option<Bounds>, i: u32) -> u64
@@ -57,13 +70,11 @@ fn child_bound(claim: &Claim, node: &Node, told: &mut Option<Bounds>, i: u32) ->
     ensures value { result ≡ bound_of claim.now.instance.now (node.now.depth + 1) (child_lines claim.now.instance.now node.now i) }
     ensures told { AreTold claim.now.instance.now node.now told.new }
 {
-    let bounds = match told.take() {
-        Some(bounds) => bounds,
-        None => child_bounds(claim.instance, claim.roster, node),
-    };
-    let bound = bounds.as_slice()[i as usize];
-    *told = Some(bounds);
-    bound
+    tell_bounds(claim, node, told);
+    match told {
+        Some(bounds) => bounds.as_slice()[i as usize],
+        None => unreachable!(),
+    }
 }
 
 // Child `i` of a node.

@@ -15,7 +15,10 @@ use Rattle.lock_rules.proofs.TreeLemmas.{times_in-hit, times_in-miss}
 use Rattle.lock_rules.proofs.SplitLemmas.{length-order, order-parts, next-missing, times_in-at, missing-known}
 use Rattle.flow_bounds.specs.Missing.{IsMissing}
 use Rattle.flow_bounds.specs.declared.walk.Walk.{Walk}
-use Rattle.flow_bounds.specs.Walk.{serve, serve_all, walk_at, AreWalks}
+use Rattle.master_branch.specs.declared.step.Step.{Step}
+use Rattle.master_branch.specs.declared.step.Step.TheVariants.{Join, Open}
+use Rattle.master_branch.specs.Steps.{IsStep}
+use Rattle.flow_bounds.specs.Walk.{serve, serve_all, walk_at, AreWalks, chamber_of}
 use Rattle.flow_bounds.proofs.WalkLemmas.{walk-set, walk-insert}
 
 -- the walk over a line with a group in the place of another, or with one more
@@ -165,3 +168,8 @@ other-held I k lines node s other missing = omega (arith, times_in-none (missing
 -- the part of a list from a number on, as a slice
 pub rest-is : (xs ys : List ℕ) (d k : ℕ) → xs ≡ ys → d ≡ k → take (length xs - d) (drop d xs) ≡ drop k ys
 rest-is xs ys d k same at = take_rest xs d ∙ (λ i. drop (at i) (same i))
+
+-- the chamber of a step is one of the instance's
+pub step_chamber : (I : Instance) (s : ℕ) (lines : List (List Group)) (step : Step) → IsStep I s lines step → chamber_of step < length I.chambers
+step_chamber I s lines (Join c p) step = step.0
+step_chamber I s lines (Open c p) step = step.0

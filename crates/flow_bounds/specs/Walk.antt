@@ -7,6 +7,8 @@ use Rattle.lock_model.specs.declared.group.Group.{Group}
 use Rattle.lock_rules.specs.Lawful.{duration_of, stand_after}
 use Rattle.lock_rules.specs.Node.{line_at}
 use Rattle.lock_rules.specs.Timetable.{start_of}
+use Rattle.master_branch.specs.declared.step.Step.{Step}
+use Rattle.master_branch.specs.declared.step.Step.TheVariants.{Join, Open}
 use Rattle.flow_bounds.specs.declared.walk.Walk.{Walk}
 
 -- before the first group of chamber c
@@ -41,7 +43,7 @@ pub record AreWalks (I : Instance) (c : ℕ) (line : List Group) (ws : List Walk
   pub done : (i : ℕ) → i ≤ length line → (walk_at ws i).done ≤ 1000000 + i * 12000000
   pub flow : (i : ℕ) → i ≤ length line → (walk_at ws i).flow ≤ i * 3000000000
 
--- the walks along a node's lines, by chamber
-pub record AreAllWalks (I : Instance) (lines : List (List Group)) (wss : List (List Walk)) : Type 0 where
-  pub count : length wss ≡ length I.chambers
-  pub each : (c : ℕ) → c < length I.chambers → AreWalks I c (line_at lines c) (slice_index_or wss c [])
+-- the chamber of a step
+abbrev pub chamber_of : Step → ℕ
+chamber_of (Join c p) = c
+chamber_of (Open c p) = c

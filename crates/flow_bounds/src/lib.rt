@@ -3,10 +3,11 @@
 //! Every legal plan under a node costs at least `bound` of the node and at least `probe` of it and
 //! a ship that it lacks (`is_missing`), and every legal plan at least `throughput`. At a node that
 //! holds all ships `bound` is the cost of its earliest plan. `child_bounds` gives the bounds of all
-//! children of a node at once; a `Roster` spares it what is the same at all nodes. `least_passage` is the least that a ship can take, served first and
-//! alone, and `least_passages` adds it over all ships. `least_bound_is_cheapest` is the law that a
-//! search rests on: the least bound of the nodes that hold all ships and whose groups all fit is
-//! the cost of a cheapest plan. No call takes memory.
+//! children of a node at once; a `Roster` spares it what is the same at all nodes. `least_passage`
+//! is the least that a ship can take, served first and alone, and `least_passages` adds it over all
+//! ships. `least_bound_is_cheapest` is the law that a search rests on: the least bound of the nodes
+//! that hold all ships and whose groups all fit is the cost of a cheapest plan. No call takes
+//! memory.
 //!
 //! Definitions: `lock_rules` says what these numbers are and what a lower bound is (`specs/Bound`,
 //! `Throughput`), and what the search of the whole tree comes to (`Search`). Here `specs/Walk` walks

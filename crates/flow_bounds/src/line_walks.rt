@@ -52,14 +52,6 @@ impl LineWalks {
     }
 }
 
-impl Default for LineWalks {
-    fn default() -> LineWalks
-        ensures { result ≡ [] }
-    {
-        LineWalks::new()
-    }
-}
-
 // The walks along a chamber's line.
 pub(crate) fn line_walks(instance: &Instance, chamber: u8, line: &[Group]) -> LineWalks
     requires chamber_in { chamber < length instance.now.chambers }

@@ -11,10 +11,11 @@ ghost use Rattle.master_branch.specs.Node.{IsNodeOf, children};
 ghost use Rattle.master_branch.specs.Steps.{group_at, lines_after, IsStep};
 ghost use Rattle.flow_bounds.specs.Missing.{IsMissing};
 ghost use Rattle.flow_bounds.specs.Roster.{IsRosterOf};
-ghost use Rattle.flow_bounds.specs.Walk.{AreWalks, AreAllWalks};
+ghost use Rattle.flow_bounds.specs.Walk.{AreWalks, chamber_of};
 
 use crate::least::least_number;
 use crate::line_walks::{LineWalks, finish, line_walks};
+use crate::node_bound::node_flow;
 use crate::passage::{alone, least_passage, passages_from};
 use crate::roster::Roster;
 use crate::walk::{Walk, serve};
@@ -74,43 +75,6 @@ impl Bounds {
     }
 }
 
-// The walks along the lines of a node.
-fn all_walks(instance: &Instance, node: &Node) -> ArrayVec<LineWalks, 4>
-    requires { IsNodeOf instance.now node.now }
-    ensures { AreAllWalks instance.now node.now.lines result.items }
-{
-    let mut all = ArrayVec::new();
-    for chamber in 0..instance.chambers.as_slice().len() as u8 {
-        all.push(line_walks(instance, chamber, node.line(chamber).as_slice()));
-    }
-    all
-}
-
-// The flow times of the ships in a chamber's line, by the walks along the lines.
-fn walked_line(instance: &Instance, node: &Node, walks: &[LineWalks], chamber: u8) -> u64
-    requires chamber_in { chamber < length instance.now.chambers }
-    requires walks { AreAllWalks instance.now node.now.lines walks.now }
-    ensures value { result ≡ line_flow instance.now chamber (line_at node.now.lines chamber) }
-    ensures small { result ≤ 72000000000 }
-{
-    let _ = instance;
-    let groups = node.line(chamber).as_slice().len();
-    walks[chamber as usize].as_slice()[groups].flow
-}
-
-// The flow times of a node's ships, by the walks along its lines.
-fn walked_flow(instance: &Instance, node: &Node, walks: &[LineWalks]) -> u64
-    requires { AreAllWalks instance.now node.now.lines walks.now }
-    ensures value { result ≡ node_flow instance.now node.now.lines }
-    ensures small { result ≤ 300000000000 }
-{
-    let mut sum = 0;
-    for chamber in 0..instance.chambers.as_slice().len() as u8 {
-        sum += walked_line(instance, node, walks, chamber);
-    }
-    sum
-}
-
 // The flow times of a line in which a ship has joined the group at this place.
 fn join_flow(
     instance: &Instance,
@@ -161,28 +125,35 @@ fn open_flow(
     finish(instance, chamber, line, walks, place, walk)
 }
 
-// The flow times of a node's ships in the other chambers' lines; `total` are those in all lines.
-fn other_flows(
-    instance: &Instance,
-    node: &Node,
-    walks: &[LineWalks],
-    total: u64,
-    chamber: u8,
-) -> u64
+// The flow times of a node's ships in the other chambers' lines, by the walks along this one's;
+// `total` are those in all lines.
+fn other_flows(instance: &Instance, node: &Node, walks: &[Walk], total: u64, chamber: u8) -> u64
     requires chamber_in { chamber < length instance.now.chambers }
-    requires walks { AreAllWalks instance.now node.now.lines walks.now }
+    requires walks { AreWalks instance.now chamber (line_at node.now.lines chamber) walks.now }
     requires total { total ≡ node_flow instance.now node.now.lines }
     ensures { result + line_flow instance.now chamber (line_at node.now.lines chamber) ≡ total }
 {
-    total - walked_line(instance, node, walks, chamber)
+    let _ = instance;
+    let groups = node.line(chamber).as_slice().len();
+    total - walks[groups].flow
 }
 
-// The flow times of a node's ships once a ship that it lacks has entered it by a step; `total` are
-// those of the node.
+// The chamber of a step.
+fn chamber_of(step: Step) -> u8
+    ensures { result ≡ chamber_of step }
+{
+    match step {
+        Step::Join { chamber, .. } => chamber,
+        Step::Open { chamber, .. } => chamber,
+    }
+}
+
+// The flow times of a node's ships once a ship that it lacks has entered it by a step, by the walks
+// along the line of the step's chamber; `total` are those of the node.
 fn flow_after(
     instance: &Instance,
     node: &Node,
-    walks: &[LineWalks],
+    walks: &[Walk],
     total: u64,
     ship: u8,
     step: Step,
@@ -191,28 +162,50 @@ fn flow_after(
     requires ship_in { ship < length instance.now.ships }
     requires absent { times_held ship node.now.lines ≡ 0 }
     requires step { IsStep instance.now ship node.now.lines step }
-    requires walks { AreAllWalks instance.now node.now.lines walks.now }
+    requires walks { AreWalks instance.now (chamber_of step) (line_at node.now.lines (chamber_of step)) walks.now }
     requires total { total ≡ node_flow instance.now node.now.lines }
-    requires total_small { total ≤ 300000000000 }
+    requires total_small { total ≤ 240000000000 }
     ensures value { result ≡ node_flow instance.now (lines_after instance.now ship node.now.lines step) }
-    ensures small { result ≤ 460000000000 }
+    ensures small { result ≤ 400000000000 }
 {
     match step {
         Step::Join { chamber, place } => {
             let line = node.line(chamber).as_slice();
-            let own = walks[chamber as usize].as_slice();
             other_flows(instance, node, walks, total, chamber)
-                + join_flow(instance, chamber, line, own, ship, place)
+                + join_flow(instance, chamber, line, walks, ship, place)
         }
         Step::Open { chamber, place } => {
             let line = node.line(chamber).as_slice();
-            let own = walks[chamber as usize].as_slice();
             other_flows(instance, node, walks, total, chamber)
-                + open_flow(instance, chamber, line, own, ship, place)
+                + open_flow(instance, chamber, line, walks, ship, place)
         }
     }
 }
 
+// The walks along the line of a chamber of a node.
+fn walks_on(instance: &Instance, node: &Node, chamber: u8) -> LineWalks
+    requires node { IsNodeOf instance.now node.now }
+    requires chamber_in { chamber < length instance.now.chambers }
+    ensures { AreWalks instance.now chamber (line_at node.now.lines chamber) result }
+{
+    line_walks(instance, chamber, node.line(chamber).as_slice())
+}
+
+// Goes over to the line of this chamber, where the walks are along another's.
+fn turn_to(instance: &Instance, node: &Node, chamber: u8, at: &mut u8, walks: &mut LineWalks)
+    requires node { IsNodeOf instance.now node.now }
+    requires chamber_in { chamber < length instance.now.chambers }
+    requires walks { AreWalks instance.now at.old (line_at node.now.lines at.old) walks.old }
+    ensures at { at.new ≡ chamber }
+    ensures walks { AreWalks instance.now chamber (line_at node.now.lines chamber) walks.new }
+{
+    if *at != chamber {
+        *at = chamber;
+        *walks = walks_on(instance, node, chamber);
+    }
+}
+
+#[tactic(auto, using(crate::proofs::ProbeLemmas::step_chamber))]
 // For each way in which a ship that a node lacks may enter it, the flow times of the node's ships
 // and the ship, and `rest`, added.
 fn bounds_by(instance: &Instance, node: &Node, ship: u8, rest: u64) -> Bounds
@@ -223,11 +216,19 @@ fn bounds_by(instance: &Instance, node: &Node, ship: u8, rest: u64) -> Bounds
     ensures value { result ≡ map (λ lines. node_flow instance.now lines + rest) (children_by instance.now ship node.now.lines) }
     ensures small { All (λ b. b ≤ 500000000000) result }
 {
-    let walks = all_walks(instance, node);
-    let total = walked_flow(instance, node, walks.as_slice());
+    let total = node_flow(instance, node);
+    let mut chamber = 0;
+    let mut walks = walks_on(instance, node, 0);
     let mut bounds = Bounds::new();
     let steps = steps_by(instance, node, ship);
     for &step in steps.as_slice() {
+        turn_to(
+            instance,
+            node,
+            chamber_of(step),
+            &mut chamber,
+            &mut walks,
+        );
         bounds.push(rest + flow_after(instance, node, walks.as_slice(), total, ship, step));
     }
     bounds
