@@ -222,13 +222,7 @@ fn bounds_by(instance: &Instance, node: &Node, ship: u8, rest: u64) -> Bounds
     let mut bounds = Bounds::new();
     let steps = steps_by(instance, node, ship);
     for &step in steps.as_slice() {
-        turn_to(
-            instance,
-            node,
-            chamber_of(step),
-            &mut chamber,
-            &mut walks,
-        );
+        turn_to(instance, node, chamber_of(step), &mut chamber, &mut walks);
         bounds.push(rest + flow_after(instance, node, walks.as_slice(), total, ship, step));
     }
     bounds
