@@ -243,7 +243,8 @@ fn a_node_becomes_its_child_in_place(rt: HostRuntime) -> Result<(), Fail> {
     );
     if (node.depth() as usize) < instance.ships.as_slice().len() {
         if child_count(&instance, &node) > 0 {
-            descend(&instance, &mut node, 0);
+            let second = next_ship(&instance, node.depth());
+            descend(&instance, &mut node, second, 0);
         }
     }
     assert_eq!(rt; drawn(rt.alloc(), &instance, &node)?.as_str(), "^01 ");

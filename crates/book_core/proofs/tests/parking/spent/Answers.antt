@@ -24,5 +24,5 @@ told d p is spot (Some h) same = let spent = subst (IsPlaced d 1) same is in sub
 pub returns-in-Some : goal.returns-in-Some
 returns-in-Some c =
     told c.args.deck.now c.in-Ok.placed c.in-Ok.ensures.answer
-    (spot-hard c.args.deck.now c.in-Ok-place_by_spots.by_spots c.in-Ok-place_by_spots.ensures c.in-Some._spots c.in-Some.ensures)
+    (spot-hard c.args.deck.now c.in-Ok-place_by_spots.by_spots c.in-Ok-place_by_spots.ensures.answer c.in-Some._spots c.in-Some.ensures)
     c.hard_of.result c.hard_of.ensures
