@@ -1,0 +1,28 @@
+use Rattle.std.proofs.Common.{ℕ, ◌≡◌, ◌≤◌, ap, sym, ◌∙◌, arith, All, subst, refl}
+use Rattle.bound_word.specs.declared.view.View.{View}
+use Rattle.bound_word.specs.Views.{least}
+use Rattle.bound_word.specs.Steps.{FindsOwn}
+use Rattle.bound_word.specs.Seats.{Placed, Opened}
+use Rattle.bound_word.proofs.RowLemmas.{least-le, least-all}
+use Rattle.bound_word.proofs.StepLemmas.{loads}
+use Rattle.bound_word.proofs.table.BoundTable.load.Goals as goal
+
+pub load-requires : goal.load-requires
+load-requires c = (
+  ap (λ (p : Placed). p.table) c.seat.view_is ∙ c.requires ∙ sym (ap (λ (d : Opened). d.table) c.self.view_is),
+  omega (arith, c.self.invariant.0),
+  loads c.self.inside.table.shared.key c.self.inside.table.shared.table_id.slots c.seat.inside.seat.id c.seat.inside.seat.me (omega (arith, c.seat.invariant)),
+)
+
+pub returns-clause-opening : goal.returns-clause-opening
+returns-clause-opening c =
+    let own = c.load.ensures.2.1 in
+    subst (λ (p : Placed). c.load.result ≤ p.view.opening) c.seat.view_is (omega (arith, own, least-le c.seat.inside.seat.me.0.opening c.seat.inside.seat.me.0.posted))
+
+pub returns-clause-posted : goal.returns-clause-posted
+returns-clause-posted c =
+    let own = c.load.ensures.2.1 in
+    subst (λ (p : Placed). All (λ x. c.load.result ≤ x) p.view.posted) c.seat.view_is (least-all c.seat.inside.seat.me.0.opening c.load.result c.seat.inside.seat.me.0.posted own)
+
+pub returns-clause-alone : goal.returns-clause-alone
+returns-clause-alone c = subst (λ (p : Placed). FindsOwn p.view c.load.result) c.seat.view_is c.load.ensures.2.2

@@ -1,0 +1,3 @@
+pub mod Hitting
+pub use Rattle.boxcar.specs.Table
+pub use Rattle.lock_rules.specs.Cut

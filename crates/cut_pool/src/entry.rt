@@ -1,0 +1,20 @@
+//! What is posted, and what comes back.
+
+use boxcar::Pushed;
+use place_refute::Cut;
+
+/// A cut with its number in the book.
+#[derive(Debug, Drop)]
+pub struct Entry {
+    pub cut: Cut,
+    pub number: u64,
+}
+
+/// What shows that an entry was posted, for as long as the pool lasts.
+pub type Token = Pushed<Entry>;
+
+/// A cut that there was no memory to post.
+#[derive(Debug, Drop)]
+pub struct Back {
+    pub cut: Cut,
+}

@@ -1,0 +1,165 @@
+//! Cuts posted and found again, in one thread and in two.
+ghost use Rattle.std.specs.Prelude.{◌≡◌, ◌<◌, All, IsTrue, IfOk};
+ghost use Rattle.boxcar.specs.Table.{Shows};
+
+use super::*;
+use lock_model::*;
+use place_refute::{Cut, Quick, Refutation, make_cut};
+use std::alloc::Global;
+use std::sync::Wait;
+use std::test::Fail;
+use std::thread::{Threads, join};
+
+fn named(letter: u8) -> Name {
+    let mut name = Name::new();
+    name.push(letter);
+    name
+}
+
+fn chamber(width: u32) -> Chamber {
+    Chamber {
+        name: named(b'c'),
+        length: 2000,
+        width,
+        end: 10,
+        gap: 20,
+        side: 5,
+        most: 4,
+        pass: 30,
+        turn: 15,
+        stands: Stand::Low,
+        opens: 0,
+        closures: Closures::new(),
+    }
+}
+
+fn ship(letter: u8) -> Ship {
+    Ship {
+        name: named(letter),
+        way: Way::Up,
+        length: 1100,
+        width: 114,
+        arrival: 0,
+        handling: 5,
+        cargo: 0,
+    }
+}
+
+// Three equal ships, and a chamber of this width.
+fn lock(width: u32) -> Option<Instance> {
+    let mut chambers = Chambers::new();
+    chambers.push(chamber(width));
+    let mut ships = ShipList::new();
+    ships.push(ship(b's'));
+    ships.push(ship(b't'));
+    ships.push(ship(b'u'));
+    Instance::new(chambers, ships)
+}
+
+// Two ships, of which the first comes first; else one.
+fn pair(first: u8, second: u8) -> Ships {
+    let mut ships = Ships::single(first);
+    if first < second {
+        ships.push(second);
+    }
+    ships
+}
+
+// Whether all ships are below a count.
+fn are_known(ships: &[u8], count: usize) -> bool
+    ensures { IsTrue result → All (λ s. s < count) ships.now }
+{
+    for &ship in ships {
+        if ship as usize >= count {
+            return false;
+        }
+    }
+    true
+}
+
+// The deck of two of the ships in a chamber of width 232.
+fn deck() -> Option<Deck> {
+    let size = Size {
+        length: 1100,
+        width: 114,
+        cargo: 0,
+    };
+    let mut sizes = Sizes::new();
+    sizes.push(size);
+    sizes.push(size);
+    Deck::new(chamber(232).measures(), sizes)
+}
+
+// The cut of two of the ships, which are too broad to lie beside each other.
+fn row(alloc: Global, first: u8, second: u8) -> Result<Cut, Fail> {
+    let ships = pair(first, second);
+    let deck = deck().ok_or("no deck")?;
+    if ships.len() != deck.ships.as_slice().len() {
+        return Err("not one size a ship".into());
+    }
+    let refutation = Refutation::Quick(Quick::Row(pair(0, 1)));
+    make_cut(alloc, 0, ships, deck, refutation).map_err(|_| "no cut".into())
+}
+
+#[test]
+fn a_cut_is_found_for_what_it_hits(rt: HostRuntime) -> Result<(), Fail> {
+    let pool = Pool::new(rt.alloc()).map_err(|_| "no memory")?;
+    let none = Tokens::new(rt.alloc());
+    let narrow = lock(232).ok_or("no instance")?;
+    assert!(rt; pool.find(&none, &narrow, 0, &Ships::single(0)).is_none());
+    let early = pool
+        .post(&rt, row(rt.alloc(), 0, 1)?, 7)
+        .map_err(|_| "no memory")?;
+    let late = pool
+        .post(&rt, row(rt.alloc(), 0, 1)?, 9)
+        .map_err(|_| "no memory")?;
+    assert_eq!(rt; pool.get(&early).number, 7);
+    let mut mine = Tokens::new(rt.alloc());
+    mine.add(late).map_err(|_| "no memory")?;
+    for (width, first, second, known, any) in [
+        (232, 0, 1, Some(9), Some(7)),
+        (200, 0, 1, Some(9), Some(7)),
+        (240, 0, 1, None, None),
+        (232, 1, 2, None, None),
+        (232, 0, 0, None, None),
+    ] {
+        let lock = lock(width).ok_or("no instance")?;
+        let ships = pair(first, second);
+        assert!(rt; are_known(ships.as_slice(), lock.ships.as_slice().len()));
+        assert_eq!(rt; pool.find(&mine, &lock, 0, &ships), known, "at {width}");
+        assert_eq!(rt; pool.find(&none, &lock, 0, &ships), any, "at {width}");
+    }
+    Ok(())
+}
+
+// Posts a cut in one thread, and reads it in another.
+fn handed_over<R: Threads + Wait + Sync>(rt: &R, alloc: Global) -> Result<Option<u64>, Fail> {
+    let pool = Pool::new(alloc).map_err(|_| "no memory")?;
+    let shared = &pool;
+    let cut = row(alloc, 0, 1)?;
+    let (posted, _) = join(rt, move || shared.post(rt, cut, 0), || ());
+    let token = posted.map_err(|_| "no memory")?;
+    let (_, number) = join(rt, || (), || shared.get(&token).number);
+    if number != 0 || pool.get(&token).cut.ships.as_slice() != [0, 1].as_slice() {
+        return Err("another entry".into());
+    }
+    let lock = lock(232).ok_or("no instance")?;
+    let ships = pair(0, 1);
+    if !are_known(ships.as_slice(), lock.ships.as_slice().len()) {
+        return Err("ships that aren't known".into());
+    }
+    let none = Tokens::new(alloc);
+    let found = pool.find(&none, &lock, 0, &ships);
+    let mut mine = Tokens::new(alloc);
+    mine.add(token).map_err(|_| "no memory")?;
+    if pool.find(&mine, &lock, 0, &ships) != found {
+        return Err("found by the token alone".into());
+    }
+    Ok(found)
+}
+
+#[test]
+fn a_cut_is_read_in_another_thread(rt: HostRuntime) -> Result<(), Fail> {
+    assert_eq!(rt; handed_over(&rt, rt.alloc())?, Some(0));
+    Ok(())
+}

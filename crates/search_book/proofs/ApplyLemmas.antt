@@ -1,0 +1,76 @@
+-- An accepted event makes the history longer by one; a refused one leaves the book.
+use Rattle.std.proofs.Common.{◌≡◌, ℕ, ◌+◌, List, [], ◌∷◌, ◌++◌, length, length-append, refl, sym, ap, ◌∙◌, subst, arith, Bool, true, false, cond, Some, None}
+use Rattle.std.specs.declared.option.Option.{Option}
+use Rattle.std.specs.Bool.{OnFalse}
+use Rattle.mooring_rules.specs.declared.breaks.BrokenPlan.{BrokenPlan}
+use Rattle.search_rules.specs.Book.{Book}
+use Rattle.search_rules.specs.Events as machine
+use Rattle.search_rules.specs.Step.{step}
+use Rattle.search_rules.proofs.StepLemmas.{entry_of, IsStep, Refused, Accepted, each-step}
+use Rattle.book_core.specs.declared.reply.Reply.{Reply}
+use Rattle.book_core.specs.declared.reply.Reply.TheVariants as reply
+use Rattle.book_core.specs.Replies.{Answers, Does, Steps, Stays, told}
+use Rattle.search_book.specs.declared.event.Event.{Event}
+use Rattle.search_book.specs.declared.event.Event.TheVariants as event
+use Rattle.search_book.specs.Events.{event_of}
+use Rattle.search_book.specs.Replies.{is_accepted, accepted}
+use Rattle.search_book.specs.Applied.{Applies}
+
+abbrev Answer : Type 0
+Answer = machine.Reply BrokenPlan
+
+-- the machine's reply accepts the event; want of memory doesn't
+abbrev is_accepting : Option Answer → Bool
+is_accepting None = false
+is_accepting (Some a) = machine.is_accepted a
+
+accepted-by : (r : Reply) → is_accepting (told r) ≡ is_accepted r
+accepted-by (reply.Node id node) = refl
+accepted-by _ = refl
+
+pub record Counts (old : Book) (r : Reply) (new : Book) : Type 0 where
+  pub count : length new.history ≡ length old.history + accepted r
+  pub refused : is_accepted r ≡ false → new ≡ old
+
+clash : true ≡ false → ⊥
+clash e = cc
+
+leaves : (old : Book) (r : Reply) (new : Book) → is_accepted r ≡ false → new ≡ old → Counts old r new
+leaves old r new said same =
+    let none : accepted r ≡ 0 = ap (λ t. cond t 1 0) said in
+    let long = ap (λ (b : Book). length b.history) same in
+    record { count = omega (arith, none, long); refused = λ _. same }
+
+answers-count : (old : Book) (e : machine.Event) (r : Reply) (new : Book) → Answers old e r new → Counts old r new
+answers-count old e r new answers =
+    let same_test : is_accepted r ≡ machine.is_accepted answers.answer = sym (accepted-by r) ∙ ap is_accepting answers.said in
+    elim (subst (IsStep old e) answers.same (each-step (λ _ _. answers.found) old e)) [
+      | Refused said same ↦ leaves old r new (same_test ∙ said) same
+      | Accepted done ↦
+          let one_more : accepted r ≡ 1 = ap (λ t. cond t 1 0) (same_test ∙ done.accepted) in
+          let long = ap length done.history ∙ length-append old.history (entry_of e ∷ []) in
+          record { count = omega (arith, one_more, long); refused = λ said. absurd (clash (sym done.accepted ∙ sym same_test ∙ said)) }
+    ]
+
+does-count : (old : Book) (e : machine.Event) (r : Reply) (new : Book) → Does old e r new → Counts old r new
+does-count old e r new (Steps answers) = answers-count old e r new answers
+does-count old e r new (Stays wants) = leaves old r new (ap is_accepted wants.want) wants.same
+
+pub applies-count : (old : Book) (e : Event) (r : Reply) (new : Book) → Applies old e r new → Counts old r new
+applies-count old (event.Take w) r new h = answers-count old (machine.take w) r new h.step
+applies-count old (event.Split id) r new h = does-count old (machine.split id) r new h
+applies-count old (event.CloseBound id) r new h = answers-count old (machine.close_bound id) r new h
+applies-count old (event.CloseCut id number) r new h = answers-count old (machine.close_cut id number) r new h
+applies-count old (event.Post cut) r new h = does-count old (machine.post cut) r new h
+applies-count old (event.Park id chamber place hard) r new h = answers-count old (machine.park id chamber place hard.deck hard.turns) r new h
+applies-count old (event.Replace plan) r new h = does-count old (machine.replace plan) r new h
+applies-count old (event.Release w) r new h = answers-count old (machine.release w) r new h
+applies-count old (event.CloseThroughput id) r new h = answers-count old (machine.close_throughput id) r new h
+applies-count old (event.CloseProbe id ship) r new h = answers-count old (machine.close_probe id ship) r new h
+
+on-false : (t : Bool) (P : Type 0) → (t ≡ false → P) → OnFalse t P
+on-false true P h = tt
+on-false false P h = h refl
+
+pub on-refused : (old : Book) (e : Event) (r : Reply) (new : Book) → Applies old e r new → OnFalse (is_accepted r) (new ≡ old)
+on-refused old e r new h = on-false (is_accepted r) (new ≡ old) (applies-count old e r new h).refused

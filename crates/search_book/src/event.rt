@@ -1,0 +1,30 @@
+//! Events.
+
+use lock_model::Plan;
+use place_refute::{Cut, Hard};
+
+/// What is asked of a book: each event is the method of `Book` of its name, with its arguments.
+/// `Take` and `Release` have a worker of 0 to 8; of `Park` the deck is spot-hard for the turns too.
+#[derive(Debug, Drop)]
+pub enum Event {
+    /// The worker wants a slot.
+    Take(u8),
+    /// The slot is to be split.
+    Split(u32),
+    /// The slot is to be closed by its bound.
+    CloseBound(u32),
+    /// The slot is to be closed by the cut of this number.
+    CloseCut(u32, u64),
+    /// The cut is to be kept.
+    Post(Cut),
+    /// The slot is to be parked: the turns were spent on a group, by chamber and place.
+    Park(u32, u8, u8, Hard),
+    /// The plan is to be the best one.
+    Replace(Plan),
+    /// The worker ends.
+    Release(u8),
+    /// The slot is to be closed by the throughput of the instance.
+    CloseThroughput(u32),
+    /// The slot is to be closed by the probe of its node and this ship.
+    CloseProbe(u32, u8),
+}

@@ -1,0 +1,33 @@
+//! What a reply says.
+ghost use Rattle.std.specs.Prelude.{◌≡◌};
+ghost use Rattle.std.specs.Bool.{OnTrue};
+ghost use Rattle.search_book.specs.Replies.{is_accepted, is_idle, accepted};
+
+use book_core::Reply;
+
+/// Whether a reply accepts its event.
+pub(crate) fn is_accepted(reply: &Reply) -> bool
+    ensures { result ≡ is_accepted reply.now }
+{
+    match reply {
+        Reply::Node(_, _)
+        | Reply::Made(_)
+        | Reply::Closed
+        | Reply::Posted(_)
+        | Reply::Parked
+        | Reply::Replaced(_)
+        | Reply::Released(_) => true,
+        _ => false,
+    }
+}
+
+/// Whether a reply says that nothing is open and a slot is held.
+pub(crate) fn is_idle(reply: &Reply) -> bool
+    ensures value { result ≡ is_idle reply.now }
+    ensures refused { OnTrue result (accepted reply.now ≡ 0) }
+{
+    match reply {
+        Reply::Idle => true,
+        _ => false,
+    }
+}

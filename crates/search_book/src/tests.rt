@@ -1,0 +1,7 @@
+//! Books under a lock.
+mod counting;
+mod fixture;
+mod parking;
+mod parts;
+mod table;
+mod threads;
