@@ -1,5 +1,6 @@
 -- What is read of a node from its mark, or from what is read of its children one by one.
-use Rattle.std.proofs.Common.{◌≡◌, ℕ, suc, ◌+◌, ◌-◌, ◌<◌, ◌≤◌, List, [], ◌∷◌, ◌++◌, refl, sym, ap, ◌∙◌, subst, length, take, drop, inl, inr, arith, slice_get, Some, take-append-drop, drop-cons}
+use Rattle.std.proofs.Common.{◌≡◌, ◌↔◌, ℕ, Bool, true, false, IsTrue, nat_le, suc, ◌+◌, ◌-◌, ◌<◌, ◌≤◌, List, [], ◌∷◌, ◌++◌, refl, sym, ap, ◌∙◌, subst, length, take, drop, inl, inr, arith, slice_get, Some, take-append-drop, drop-cons}
+use Rattle.std.proofs.lemmas.Bool.Decides.{leb_tells}
 use Rattle.std.proofs.lemmas.List.{take_more, take_all}
 use Rattle.std.proofs.lemmas.Option.{slice_get-get_or}
 use Rattle.lock_model.specs.declared.instance.Instance.{Instance}
@@ -17,6 +18,16 @@ use Rattle.master_branch.specs.Node.{Node, children, child_lines}
 use Rattle.cert_check.specs.Reading.{IsTreeOf, TreeSticks, IsRead, IsStuck, IsChildRead, IsChildStuck, AreRead, AreStuck}
 use Rattle.cert_check.specs.declared.closing.Claim.{Claim}
 use Rattle.cert_check.proofs.TreeLemmas.{in_order-append, in_order-fails, lacks-one, leaf-tree, wrong-tree, tree-shorter, stuck-shorter}
+
+off : false ≡ true → ⊥
+off e = cc
+
+-- a test of a bound tells whether it reaches the cost
+pub told-reached : (cost bound : ℕ) (b : Bool) → b ≡ nat_le cost bound → IsTrue b ↔ (cost ≤ bound)
+told-reached cost bound b is = elim (leb_tells cost bound) [
+  | inl most ↦ (λ _. most.1, λ _. is ∙ most.0)
+  | inr less ↦ (λ on. absurd (off (sym less.0 ∙ sym is ∙ on)), λ most. absurd (omega (arith, most, less.1)))
+]
 
 module _ (claim : Claim) where
   abbrev I : Instance
@@ -97,24 +108,24 @@ module _ (claim : Claim) where
       }
 
   -- a bound mark of a child
-  pub bound-read : (node : Node) (i b : ℕ) (marks rest : List Mark) → marks ≡ mark.Bound ∷ rest → b ≡ bound_of I (node.depth + 1) (child_lines I node i) → claim.cost ≤ b → IsChildRead claim node i marks rest
-  bound-read node i b marks rest is told high =
+  pub bound-read : (node : Node) (i : ℕ) (marks rest : List Mark) → marks ≡ mark.Bound ∷ rest → claim.cost ≤ bound_of I (node.depth + 1) (child_lines I node i) → IsChildRead claim node i marks rest
+  bound-read node i marks rest is high =
       let up : suc node.depth ≡ node.depth + 1 = omega arith in
       let deep = ap (λ k. bound_of I k (child_lines I node i)) up in
       record {
         tree =
             subst (λ u. IsTreeOf claim (suc node.depth) (child_lines I node i) u rest) (sym is)
-            (leaf-tree I claim.cost claim.cuts.now (length I.ships - suc node.depth) (suc node.depth) (child_lines I node i) mark.Bound rest (omega (arith, told, high, deep)));
+            (leaf-tree I claim.cost claim.cuts.now (length I.ships - suc node.depth) (suc node.depth) (child_lines I node i) mark.Bound rest (omega (arith, high, deep)));
       }
 
-  pub bound-stuck : (node : Node) (i b : ℕ) (marks rest : List Mark) → marks ≡ mark.Bound ∷ rest → b ≡ bound_of I (node.depth + 1) (child_lines I node i) → b < claim.cost → IsChildStuck claim node i marks marks reason.BoundLow
-  bound-stuck node i b marks rest is told low =
+  pub bound-stuck : (node : Node) (i : ℕ) (marks rest : List Mark) → marks ≡ mark.Bound ∷ rest → (claim.cost ≤ bound_of I (node.depth + 1) (child_lines I node i) → ⊥) → IsChildStuck claim node i marks marks reason.BoundLow
+  bound-stuck node i marks rest is low =
       let up : suc node.depth ≡ node.depth + 1 = omega arith in
       let deep = ap (λ k. bound_of I k (child_lines I node i)) up in
       record {
         sticks =
             subst (λ u. TreeSticks claim (suc node.depth) (child_lines I node i) u u reason.BoundLow) (sym is)
-            (wrong-tree I claim.cost claim.cuts.now (length I.ships - suc node.depth) (suc node.depth) (child_lines I node i) mark.Bound rest (λ high. absurd (omega (arith, told, low, deep, high))) (λ e. absurd cc));
+            (wrong-tree I claim.cost claim.cuts.now (length I.ships - suc node.depth) (suc node.depth) (child_lines I node i) mark.Bound rest (λ high. low (omega (arith, deep, high))) (λ e. absurd cc));
       }
 
   pub read-shorter : (node : Node) (marks rest : List Mark) → IsRead claim node marks rest → length rest ≤ length marks

@@ -1,5 +1,5 @@
 -- Reading the marks of a certificate: what is read of a node and of its children, and where reading sticks.
-use Rattle.std.specs.Prelude.{ℕ, suc, ◌-◌, ◌+◌, ◌≡◌, List, length, take, map, IfSome}
+use Rattle.std.specs.Prelude.{ℕ, suc, ◌-◌, ◌+◌, ◌≡◌, List, length, take, map, Bool, nat_le, IfSome}
 use Rattle.std.specs.declared.option.Option.{Option}
 use Rattle.lock_model.specs.declared.instance.Instance.{Instance}
 use Rattle.lock_model.specs.declared.group.Group.{Group}
@@ -45,10 +45,10 @@ module _ (claim : Claim) where
   pub record AreStuck (node : Node) (marks stuck : List Mark) (r : Reason) : Type 0 where
     pub stick : FailInOrder (IsTreeOf (suc node.depth)) (TreeSticks (suc node.depth)) (children claim.instance.now node) marks stuck r
 
--- the bounds of a node's children, in order
-abbrev pub bounds_below : Instance → Node → List ℕ
-bounds_below I node = map (bound_of I (node.depth + 1)) (children I node)
+  -- of each child of a node, in order, whether its bound reaches the cost
+  abbrev pub reached_below : Node → List Bool
+  reached_below node = map (λ lines. nat_le claim.cost (bound_of claim.instance.now (node.depth + 1) lines)) (children claim.instance.now node)
 
--- they are told, or nothing is
-pub record AreTold (I : Instance) (node : Node) (told : Option (List ℕ)) : Type 0 where
-  pub bounds : IfSome told (λ bs. bs ≡ bounds_below I node)
+  -- that is told, or nothing is
+  pub record AreTold (node : Node) (told : Option (List Bool)) : Type 0 where
+    pub reached : IfSome told (λ rs. rs ≡ reached_below node)

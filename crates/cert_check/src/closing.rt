@@ -10,7 +10,7 @@ ghost use Rattle.search_rules.specs.Failures.{reason_of};
 
 use crate::certificate::CertCut;
 use crate::hitting::hits_node;
-use flow_bounds::{Roster, bound, child_bounds, is_missing, probe};
+use flow_bounds::{Roster, bound, children_reaching, is_missing, probe};
 use lock_model::Instance;
 use master_branch::Node;
 use search_rules::{Mark, Reason};
@@ -53,7 +53,7 @@ fn is_probed(claim: &Claim, node: &Node, ship: u8) -> bool
     ensures { IsTrue result ↔ Closes claim.now.instance.now claim.now.cost claim.now.cuts.now node.now.depth node.now.lines (Mark.Probe ship) }
 {
     if is_next(claim, node, ship) {
-        return child_bounds(claim.instance, claim.roster, node).least() >= claim.cost;
+        return children_reaching(claim.instance, claim.roster, node, claim.cost).all();
     }
     is_missing(claim.instance, node, ship) && probe(claim.instance, node, ship) >= claim.cost
 }

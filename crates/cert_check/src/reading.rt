@@ -1,13 +1,13 @@
 //! The marks of a certificate, read once along its tree.
-ghost use Rattle.std.specs.Prelude.{◌≡◌, ◌+◌, ◌<◌, ◌↔◌, [], ◌∷◌, length, slice_get, Some, All, IsTrue, IfOk, IfErr, IfNone, IfSome};
+ghost use Rattle.std.specs.Prelude.{◌≡◌, ◌+◌, ◌<◌, ◌≤◌, ◌↔◌, [], ◌∷◌, length, slice_get, Some, All, IsTrue, IfOk, IfErr, IfNone, IfSome};
 ghost use Rattle.lock_rules.specs.Throughput.{throughput_of};
 ghost use Rattle.lock_rules.specs.Bound.{bound_of};
 ghost use Rattle.master_branch.specs.Node.{IsNodeOf, children, child_lines};
 ghost use Rattle.search_rules.specs.Certificates.{IsShaped};
-ghost use Rattle.cert_check.specs.Reading.{IsRead, IsStuck, IsChildRead, IsChildStuck, AreRead, AreStuck, AreTold, bounds_below};
+ghost use Rattle.cert_check.specs.Reading.{IsRead, IsStuck, IsChildRead, IsChildStuck, AreRead, AreStuck, AreTold, reached_below};
 
 use crate::closing::{Claim, closes, reason_against};
-use flow_bounds::{Bounds, child_bounds};
+use flow_bounds::{Reached, children_reaching};
 use lock_model::Instance;
 use master_branch::{Node, child_count, descend};
 use search_rules::{Mark, Reason};
@@ -47,32 +47,32 @@ fn splits(instance: &Instance, node: &Node, mark: Mark) -> bool
     mark == Mark::Split && (node.depth() as usize) < instance.ships.as_slice().len()
 }
 
-// Works out the bounds of a node's children, where they aren't told yet.
-fn tell_bounds(claim: &Claim, node: &Node, told: &mut Option<Bounds>)
+// Tells which bounds of a node's children reach the cost, where that isn't told yet.
+fn tell_reached(claim: &Claim, node: &Node, told: &mut Option<Reached>)
     requires node { IsNodeOf claim.now.instance.now node.now }
     requires lacks { node.now.depth < length claim.now.instance.now.ships }
-    requires told { AreTold claim.now.instance.now node.now told.old }
-    ensures { told.new ≡ Some (bounds_below claim.now.instance.now node.now) }
+    requires told { AreTold claim.now node.now told.old }
+    ensures { told.new ≡ Some (reached_below claim.now node.now) }
 {
     match told {
         Some(_) => {}
-        None => *told = Some(child_bounds(claim.instance, claim.roster, node)),
+        None => *told = Some(children_reaching(claim.instance, claim.roster, node, claim.cost)),
     }
 }
 
-// The bound of child `i` of a node. The bounds of all children are worked out together, where the
-// first of them is asked for.
-fn child_bound(claim: &Claim, node: &Node, told: &mut Option<Bounds>, i: u32) -> u64
+// Whether the bound of child `i` of a node reaches the cost. That is told of all children together,
+// where the first of them is asked for.
+fn child_reaches(claim: &Claim, node: &Node, told: &mut Option<Reached>, i: u32) -> bool
     requires node { IsNodeOf claim.now.instance.now node.now }
     requires lacks { node.now.depth < length claim.now.instance.now.ships }
     requires within { i < length (children claim.now.instance.now node.now) }
-    requires told { AreTold claim.now.instance.now node.now told.old }
-    ensures value { result ≡ bound_of claim.now.instance.now (node.now.depth + 1) (child_lines claim.now.instance.now node.now i) }
-    ensures told { AreTold claim.now.instance.now node.now told.new }
+    requires told { AreTold claim.now node.now told.old }
+    ensures value { IsTrue result ↔ (claim.now.cost ≤ bound_of claim.now.instance.now (node.now.depth + 1) (child_lines claim.now.instance.now node.now i)) }
+    ensures told { AreTold claim.now node.now told.new }
 {
-    tell_bounds(claim, node, told);
+    tell_reached(claim, node, told);
     match told {
-        Some(bounds) => bounds.as_slice()[i as usize],
+        Some(reached) => reached.as_slice()[i as usize],
         None => unreachable!(),
     }
 }
@@ -97,20 +97,20 @@ fn child_of(claim: &Claim, node: &Node, i: u32) -> Node
 fn read_child<'m>(
     claim: &Claim,
     node: &Node,
-    told: &mut Option<Bounds>,
+    told: &mut Option<Reached>,
     i: u32,
     marks: &'m [Mark],
 ) -> Result<&'m [Mark], Stuck<'m>>
     requires node { IsNodeOf claim.now.instance.now node.now }
     requires lacks { node.now.depth < length claim.now.instance.now.ships }
     requires within { i < length (children claim.now.instance.now node.now) }
-    requires told { AreTold claim.now.instance.now node.now told.old }
+    requires told { AreTold claim.now node.now told.old }
     ensures ok { IfOk result (λ rest. IsChildRead claim.now node.now i marks.now rest.now) }
     ensures err { IfErr result (λ stuck. IsChildStuck claim.now node.now i marks.now stuck.marks.now stuck.reason) }
-    ensures told { AreTold claim.now.instance.now node.now told.new }
+    ensures told { AreTold claim.now node.now told.new }
 {
     if let Some(rest) = behind_bound(marks) {
-        if child_bound(claim, node, told, i) >= claim.cost {
+        if child_reaches(claim, node, told, i) {
             return Ok(rest);
         }
         return Err(Stuck {

@@ -2,5 +2,6 @@ pub mod PassageLemmas
 pub mod WalkLemmas
 pub mod WholeLemmas
 pub mod PlacesLemmas
+pub mod EnterLemmas
 pub mod ProbeLemmas
 pub mod ChildLemmas

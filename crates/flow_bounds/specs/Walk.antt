@@ -1,11 +1,10 @@
 -- A walk along the line of a chamber, group by group.
-use Rattle.std.specs.Prelude.{ℕ, ◌≡◌, ◌+◌, ◌-◌, ◌*◌, ◌≤◌, ◌<◌, List, [], ◌∷◌, length, sum_by, take, slice_index_or}
+use Rattle.std.specs.Prelude.{ℕ, ◌≡◌, ◌+◌, ◌-◌, ◌*◌, ◌≤◌, List, [], ◌∷◌, length, sum_by, take, slice_index_or}
 use Rattle.lock_model.specs.declared.way.Stand.TheVariants.{Low}
 use Rattle.lock_model.specs.Fleet.{ship_at, chamber_at}
 use Rattle.lock_model.specs.declared.instance.Instance.{Instance}
 use Rattle.lock_model.specs.declared.group.Group.{Group}
 use Rattle.lock_rules.specs.Lawful.{duration_of, stand_after}
-use Rattle.lock_rules.specs.Node.{line_at}
 use Rattle.lock_rules.specs.Timetable.{start_of}
 use Rattle.master_branch.specs.declared.step.Step.{Step}
 use Rattle.master_branch.specs.declared.step.Step.TheVariants.{Join, Open}

@@ -3,19 +3,20 @@
 //! Every legal plan under a node costs at least `bound` of the node and at least `probe` of it and
 //! a ship that it lacks (`is_missing`), and every legal plan at least `throughput`. At a node that
 //! holds all ships `bound` is the cost of its earliest plan. `child_bounds` gives the bounds of all
-//! children of a node at once; a `Roster` spares it what is the same at all nodes. `least_passage`
-//! is the least that a ship can take, served first and alone, and `least_passages` adds it over all
-//! ships. `least_bound_is_cheapest` is the law that a search rests on: the least bound of the nodes
+//! children of a node at once, `children_reaching` tells only which of them are at least a cost; a
+//! `Roster` spares both what is the same at all nodes. `least_passage` is the least that a ship can
+//! take, served first and alone, and `least_passages` adds it over all ships. `least_bound_is_cheapest` is the law that a search rests on: the least bound of the nodes
 //! that hold all ships and whose groups all fit is the cost of a cheapest plan. No call takes
 //! memory.
 //!
 //! Definitions: `lock_rules` says what these numbers are and what a lower bound is (`specs/Bound`,
 //! `Throughput`), and what the search of the whole tree comes to (`Search`). Here `specs/Walk` walks
-//! along a line, `Places` has the minutes of the throughput, `Whole` the earliest plan of a node,
+//! along a line, `Entering` says how a walk goes on once a ship has entered its line, `Places` has the minutes of the throughput, `Whole` the earliest plan of a node,
 //! `Missing` a ship that a node lacks, and `Roster` what a roster is.
 #![tactic(auto)]
 
 mod capacity;
+mod entering;
 mod laws;
 mod least;
 mod line_walks;
@@ -23,6 +24,7 @@ mod node_bound;
 mod passage;
 mod places;
 mod probing;
+mod reaching;
 mod roster;
 #[cfg(test)]
 mod tests;
@@ -33,4 +35,5 @@ pub use laws::least_bound_is_cheapest;
 pub use node_bound::bound;
 pub use passage::{least_passage, least_passages};
 pub use probing::{Bounds, child_bounds, is_missing, probe};
+pub use reaching::{Reached, children_reaching};
 pub use roster::Roster;

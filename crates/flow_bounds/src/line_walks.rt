@@ -1,8 +1,10 @@
 //! The walks along a line, kept at each of its groups.
-ghost use Rattle.std.specs.Prelude.{◌≡◌, ◌+◌, ◌*◌, ◌<◌, ◌≤◌, [], ◌∷◌, ◌++◌, length, All, drop};
+ghost use Rattle.std.specs.Prelude.{◌≡◌, ◌↔◌, ◌<◌, ◌≤◌, [], ◌∷◌, ◌++◌, length, All, IsTrue, drop};
 ghost use Rattle.std.specs.Bool.{OnTrue};
 ghost use Rattle.flow_bounds.specs.Walk.{serve_all, AreWalks};
+ghost use Rattle.flow_bounds.specs.Entering.{IsEntered};
 
+use crate::entering::Entered;
 use crate::walk::{Walk, serve, walk_start};
 use arrayvec::ArrayVec;
 use lock_model::{Group, Instance};
@@ -76,32 +78,59 @@ fn are_in_step(a: Walk, b: Walk) -> bool
     a.stand == b.stand && a.done == b.done
 }
 
-// The flow times at the end of the line, where a walk goes on with the groups from number `from`
-// on: from where it is in step with the walks along the line, it gains what they gain.
+// The flow times at the end of the line, where a ship has entered it: from where the walk is in step
+// with the walks along the line, it gains what they gain.
 pub(crate) fn finish(
     instance: &Instance,
     chamber: u8,
     line: &[Group],
     walks: &[Walk],
-    from: usize,
-    walk: Walk,
+    entered: Entered,
 ) -> u64
     requires chamber_in { chamber < length instance.now.chambers }
     requires ships_in { All (λ g. All (λ s. s < length instance.now.ships) g.ships) line.now }
     requires few { length line.now ≤ 24 }
     requires walks { AreWalks instance.now chamber line.now walks.now }
-    requires from { from ≤ length line.now }
-    requires done { walk.done ≤ 1000000 + (from + 1) * 12000000 }
-    requires flow { walk.flow ≤ (from + 1) * 3000000000 }
-    ensures value { result ≡ (serve_all instance.now chamber walk (drop from line.now)).flow }
+    requires entered { IsEntered instance.now chamber line.now walks.now entered }
+    ensures value { result ≡ (serve_all instance.now chamber entered.walk (drop entered.from line.now)).flow }
     ensures small { result ≤ 160000000000 }
 {
-    let mut walk = walk;
-    for i in from..line.len() {
+    let mut walk = entered.walk;
+    for i in entered.from..line.len() {
         if are_in_step(walk, walks[i]) {
             return walk.flow + (walks[line.len()].flow - walks[i].flow);
         }
         walk = serve(instance, chamber, walk, &line[i]);
     }
     walk.flow
+}
+
+// Whether the flow times at the end of the line, where a ship has entered it, are at least `need`. No
+// group behind adds less than in the walks along the line, so that is often told at once.
+pub(crate) fn reaches(
+    instance: &Instance,
+    chamber: u8,
+    line: &[Group],
+    walks: &[Walk],
+    entered: Entered,
+    need: u64,
+) -> bool
+    requires chamber_in { chamber < length instance.now.chambers }
+    requires ships_in { All (λ g. All (λ s. s < length instance.now.ships) g.ships) line.now }
+    requires few { length line.now ≤ 24 }
+    requires walks { AreWalks instance.now chamber line.now walks.now }
+    requires entered { IsEntered instance.now chamber line.now walks.now entered }
+    ensures { IsTrue result ↔ (need ≤ (serve_all instance.now chamber entered.walk (drop entered.from line.now)).flow) }
+{
+    let mut walk = entered.walk;
+    for i in entered.from..line.len() {
+        if walk.flow + (walks[line.len()].flow - walks[i].flow) >= need {
+            return true;
+        }
+        if are_in_step(walk, walks[i]) {
+            return false;
+        }
+        walk = serve(instance, chamber, walk, &line[i]);
+    }
+    walk.flow >= need
 }

@@ -13,15 +13,16 @@ ghost use Rattle.flow_bounds.specs.Missing.{IsMissing};
 ghost use Rattle.flow_bounds.specs.Roster.{IsRosterOf};
 ghost use Rattle.flow_bounds.specs.Walk.{AreWalks, chamber_of};
 
+use crate::entering::{chamber_of, enter};
 use crate::least::least_number;
 use crate::line_walks::{LineWalks, finish, line_walks};
 use crate::node_bound::node_flow;
-use crate::passage::{alone, least_passage, passages_from};
+use crate::passage::{least_passage, passages_from};
 use crate::roster::Roster;
-use crate::walk::{Walk, serve};
+use crate::walk::Walk;
 use arrayvec::ArrayVec;
-use lock_model::{Group, Instance};
-use master_branch::{Node, Step, arrival_order, steps_by, with_ship};
+use lock_model::Instance;
+use master_branch::{Node, Step, arrival_order, steps_by};
 use std::marker::Model;
 
 /// Up to 50 bounds: as many as a node of an instance can have children.
@@ -75,59 +76,15 @@ impl Bounds {
     }
 }
 
-// The flow times of a line in which a ship has joined the group at this place.
-fn join_flow(
-    instance: &Instance,
-    chamber: u8,
-    line: &[Group],
-    walks: &[Walk],
-    ship: u8,
-    place: u8,
-) -> u64
-    requires ship_in { ship < length instance.now.ships }
-    requires chamber_in { chamber < length instance.now.chambers }
-    requires ships_in { All (λ g. All (λ s. s < length instance.now.ships) g.ships) line.now }
-    requires few { length line.now ≤ 24 }
-    requires walks { AreWalks instance.now chamber line.now walks.now }
-    requires place { place < length line.now }
-    requires room { length (group_at line.now place).ships < 8 }
-    requires absent { times_in (group_at line.now place).ships ship ≡ 0 }
-    ensures value { result ≡ line_flow instance.now chamber (slice_set line.now place (with_ship ship (group_at line.now place))) }
-    ensures small { result ≤ 160000000000 }
-{
-    let place = place as usize;
-    let group = with_ship(&line[place], ship);
-    let walk = serve(instance, chamber, walks[place], &group);
-    finish(instance, chamber, line, walks, place + 1, walk)
-}
-
-// The flow times of a line in which a ship stands alone in a new group at this place.
-fn open_flow(
-    instance: &Instance,
-    chamber: u8,
-    line: &[Group],
-    walks: &[Walk],
-    ship: u8,
-    place: u8,
-) -> u64
-    requires ship_in { ship < length instance.now.ships }
-    requires chamber_in { chamber < length instance.now.chambers }
-    requires ships_in { All (λ g. All (λ s. s < length instance.now.ships) g.ships) line.now }
-    requires few { length line.now ≤ 24 }
-    requires walks { AreWalks instance.now chamber line.now walks.now }
-    requires place { place ≤ length line.now }
-    ensures value { result ≡ line_flow instance.now chamber (insert line.now place (single (ship_at instance.now ship).way ship)) }
-    ensures small { result ≤ 160000000000 }
-{
-    let place = place as usize;
-    let group = alone(instance, ship);
-    let walk = serve(instance, chamber, walks[place], &group);
-    finish(instance, chamber, line, walks, place, walk)
-}
-
 // The flow times of a node's ships in the other chambers' lines, by the walks along this one's;
 // `total` are those in all lines.
-fn other_flows(instance: &Instance, node: &Node, walks: &[Walk], total: u64, chamber: u8) -> u64
+pub(crate) fn other_flows(
+    instance: &Instance,
+    node: &Node,
+    walks: &[Walk],
+    total: u64,
+    chamber: u8,
+) -> u64
     requires chamber_in { chamber < length instance.now.chambers }
     requires walks { AreWalks instance.now chamber (line_at node.now.lines chamber) walks.now }
     requires total { total ≡ node_flow instance.now node.now.lines }
@@ -136,16 +93,6 @@ fn other_flows(instance: &Instance, node: &Node, walks: &[Walk], total: u64, cha
     let _ = instance;
     let groups = node.line(chamber).as_slice().len();
     total - walks[groups].flow
-}
-
-// The chamber of a step.
-fn chamber_of(step: Step) -> u8
-    ensures { result ≡ chamber_of step }
-{
-    match step {
-        Step::Join { chamber, .. } => chamber,
-        Step::Open { chamber, .. } => chamber,
-    }
 }
 
 // The flow times of a node's ships once a ship that it lacks has entered it by a step, by the walks
@@ -168,22 +115,15 @@ fn flow_after(
     ensures value { result ≡ node_flow instance.now (lines_after instance.now ship node.now.lines step) }
     ensures small { result ≤ 400000000000 }
 {
-    match step {
-        Step::Join { chamber, place } => {
-            let line = node.line(chamber).as_slice();
-            other_flows(instance, node, walks, total, chamber)
-                + join_flow(instance, chamber, line, walks, ship, place)
-        }
-        Step::Open { chamber, place } => {
-            let line = node.line(chamber).as_slice();
-            other_flows(instance, node, walks, total, chamber)
-                + open_flow(instance, chamber, line, walks, ship, place)
-        }
-    }
+    let chamber = chamber_of(step);
+    let line = node.line(chamber).as_slice();
+    let entered = enter(instance, node, walks, ship, step);
+    other_flows(instance, node, walks, total, chamber)
+        + finish(instance, chamber, line, walks, entered)
 }
 
 // The walks along the line of a chamber of a node.
-fn walks_on(instance: &Instance, node: &Node, chamber: u8) -> LineWalks
+pub(crate) fn walks_on(instance: &Instance, node: &Node, chamber: u8) -> LineWalks
     requires node { IsNodeOf instance.now node.now }
     requires chamber_in { chamber < length instance.now.chambers }
     ensures { AreWalks instance.now chamber (line_at node.now.lines chamber) result }
@@ -192,7 +132,13 @@ fn walks_on(instance: &Instance, node: &Node, chamber: u8) -> LineWalks
 }
 
 // Goes over to the line of this chamber, where the walks are along another's.
-fn turn_to(instance: &Instance, node: &Node, chamber: u8, at: &mut u8, walks: &mut LineWalks)
+pub(crate) fn turn_to(
+    instance: &Instance,
+    node: &Node,
+    chamber: u8,
+    at: &mut u8,
+    walks: &mut LineWalks,
+)
     requires node { IsNodeOf instance.now node.now }
     requires chamber_in { chamber < length instance.now.chambers }
     requires walks { AreWalks instance.now at.old (line_at node.now.lines at.old) walks.old }

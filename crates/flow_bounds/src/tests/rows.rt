@@ -3,7 +3,7 @@ ghost use Rattle.std.specs.Prelude.{◌≡◌, IfSome};
 ghost use Rattle.master_branch.specs.Node.{IsNodeOf};
 
 use super::named;
-use crate::{Roster, bound, child_bounds, is_missing, probe, throughput};
+use crate::{Roster, bound, child_bounds, children_reaching, is_missing, probe, throughput};
 use lock_model::{Chamber, Chambers, Closures, Instance, Name, Ship, ShipList, Stand, Way};
 use master_branch::{Node, child, child_count, root};
 use std::test::Fail;
@@ -115,6 +115,19 @@ fn bound_of_child(instance: &Instance, node: &Node, i: usize) -> Option<u64>
         .copied()
 }
 
+// Whether the bound of a node's child reaches a cost, if the node lacks a ship.
+fn child_reaches(instance: &Instance, node: &Node, i: usize, cost: u64) -> Option<bool>
+    requires { IsNodeOf instance.now node.now }
+{
+    if node.depth() as usize >= instance.ships.as_slice().len() {
+        return None;
+    }
+    children_reaching(instance, &Roster::of(instance), node, cost)
+        .as_slice()
+        .get(i)
+        .copied()
+}
+
 // The bound of the node at the end of a path, and the probes of both ships there.
 type Bounded = (Lock, &'static [u32], u64, Option<u64>, Option<u64>);
 
@@ -147,6 +160,17 @@ fn all_children_are_bounded_at_once(rt: HostRuntime) -> Result<(), Fail> {
     let node = node_at(&instance, &[0]).ok_or("no node")?;
     for (i, want) in [Some(80), Some(120), Some(120), None].iter().enumerate() {
         assert_eq!(rt; bound_of_child(&instance, &node, i), *want);
+    }
+    Ok(())
+}
+
+#[test]
+fn a_bound_reaches_itself_and_no_more(rt: HostRuntime) -> Result<(), Fail> {
+    let instance = instance(UP).ok_or("no instance")?;
+    let node = node_at(&instance, &[0]).ok_or("no node")?;
+    for (i, bound) in [80, 120, 120].iter().enumerate() {
+        assert_eq!(rt; child_reaches(&instance, &node, i, *bound), Some(true));
+        assert_eq!(rt; child_reaches(&instance, &node, i, *bound + 1), Some(false));
     }
     Ok(())
 }

@@ -9,13 +9,14 @@ use Rattle.cert_check.proofs.ReadLemmas.{bound-read, bound-stuck, child-read, ch
 use Rattle.cert_check.proofs.TreeLemmas.{not-true}
 use Rattle.cert_check.proofs.reading.+tree.Goals as goal
 
-pub read_child-returns-then-child_bound-claim-clause-ok : goal.read_child-returns-then-child_bound-claim-clause-ok
-read_child-returns-then-child_bound-claim-clause-ok n c =
-    bound-read c.args.claim.now c.args.node.now c.args.i c.child_bound.result c.args.marks.now c.in-Some.rest.now c.in-Some.ensures c.child_bound.ensures.value c.if-child_bound-claim.true
+pub read_child-returns-then-child_reaches-clause-ok : goal.read_child-returns-then-child_reaches-clause-ok
+read_child-returns-then-child_reaches-clause-ok n c =
+    bound-read c.args.claim.now c.args.node.now c.args.i c.args.marks.now c.in-Some.rest.now c.in-Some.ensures (c.child_reaches.ensures.value.0 c.if-child_reaches.true)
 
 pub read_child-returns-in-Some-clause-err : goal.read_child-returns-in-Some-clause-err
 read_child-returns-in-Some-clause-err n c =
-    bound-stuck c.args.claim.now c.args.node.now c.args.i c.child_bound.result c.args.marks.now c.in-Some.rest.now c.in-Some.ensures c.child_bound.ensures.value c.if-child_bound-claim.false
+    bound-stuck c.args.claim.now c.args.node.now c.args.i c.args.marks.now c.in-Some.rest.now c.in-Some.ensures
+    (λ high. absurd (not-true c.child_reaches.result c.if-child_reaches.false (c.child_reaches.ensures.value.1 high)))
 
 pub read_child-returns-clause-ok : goal.read_child-returns-clause-ok
 read_child-returns-clause-ok n c =

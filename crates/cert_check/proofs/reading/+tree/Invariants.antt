@@ -14,5 +14,5 @@ decreases-read_tree l = 3 * (length l.claim.now.instance.now.ships - l.node.now.
 abbrev pub invariant-read_children-loop-i : goal.invariant-read_children-loop-i
 invariant-read_children-loop-i l = record {
   read : AreRead l.claim l.node l.i l.marks l.rest;
-  told : AreTold l.claim.instance.now l.node l.told;
+  told : AreTold l.claim l.node l.told;
 }

@@ -1,8 +1,6 @@
-use Rattle.std.proofs.Common.{◌≡◌, ◌<◌, ◌∙◌, All, length, sym, subst}
+use Rattle.std.proofs.Common.{◌<◌, ◌∙◌, All, length, sym, subst}
 use Rattle.lock_rules.proofs.NodeLemmas.{line-known}
-use Rattle.lock_rules.specs.Node.{line_at}
 use Rattle.lock_model.specs.declared.group.Group.{Group}
-use Rattle.flow_bounds.specs.Walk.{AreWalks}
 use Rattle.flow_bounds.proofs.probing.walks_on.Goals as goal
 
 pub line_walks-requires-clause-ships_in : goal.line_walks-requires-clause-ships_in

@@ -1,4 +1,4 @@
-use Rattle.std.proofs.Common.{◌≡◌, ◌<◌, ◌∙◌, ap, length, arith, slice_index_or}
+use Rattle.std.proofs.Common.{◌≡◌, ◌∙◌, ap, length, arith, slice_index_or}
 use Rattle.lock_rules.specs.Arrival.{next_ship}
 use Rattle.lock_rules.proofs.SplitLemmas.{length-order}
 use Rattle.master_branch.proofs.ChildSteps.{ship-known}
