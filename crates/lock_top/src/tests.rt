@@ -1,6 +1,7 @@
 //! Whole runs over sources and sinks in memory.
 
 mod dossiers;
+mod ends;
 mod fixture;
 mod lots;
 mod refusals;

@@ -1,4 +1,5 @@
 //! Books under a lock.
+mod asking;
 mod counting;
 mod fixture;
 mod parking;

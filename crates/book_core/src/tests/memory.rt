@@ -2,10 +2,12 @@
 //! --fail-alloc N` for each N.
 
 use super::super::*;
-use super::fixture::{both, given, narrow, open, open_for, row_cut, side_by_side, try_cut};
+use super::asking::{Ask, expect_given, expect_replies, expect_state, reply_of};
+use super::fixture::{both, narrow, open, open_for, row_cut, side_by_side, try_cut};
 use lock_model::Instance;
 use search_rules::SlotState;
 use std::alloc::Global;
+use std::process::Abort;
 use std::test::Fail;
 
 // What is seen of a book but for its slots' states: events accepted, slots, nodes used, best cost,
@@ -28,38 +30,53 @@ fn opened(alloc: Global, first: Instance, again: Instance) -> Result<Book, Fail>
     open(alloc, again, 3)
 }
 
-#[test]
-fn a_split_and_a_plan_wait_for_memory(rt: HostRuntime) -> Result<(), Fail> {
-    let mut book = opened(rt.alloc(), side_by_side()?, side_by_side()?)?;
-    assert_eq!(rt; given(book.take(0)), Some((0, 0)));
-    let before = told(&book);
-    let mut reply = book.split(0);
+// Slot 0 is split, where the first try may find no memory and changes nothing then.
+fn expect_split(rt: &impl Abort, book: &mut Book) {
+    let before = told(book);
+    let mut reply = reply_of(book, Ask::Split(0));
     if reply == Reply::NoMemory {
-        assert_eq!(rt; told(&book), before);
-        assert_eq!(rt; book.slot_state(0), Some(SlotState::Held(0)));
-        reply = book.split(0);
+        assert_eq!(rt; told(book), before);
+        expect_state(rt, book, 0, Some(SlotState::Held(0)));
+        reply = reply_of(book, Ask::Split(0));
     }
     assert_eq!(rt; reply, Reply::Made(1));
-    assert_eq!(rt; given(book.take(0)), Some((1, 1)));
-    let before = told(&book);
+}
+
+// The plan of both ships is put in place likewise.
+fn expect_replaced(rt: &impl Abort, book: &mut Book) {
+    let before = told(book);
     let mut reply = book.replace(both());
     if reply == Reply::NoMemory {
-        assert_eq!(rt; told(&book), before);
+        assert_eq!(rt; told(book), before);
         reply = book.replace(both());
     }
     assert_eq!(rt; reply, Reply::Replaced(80));
-    assert_eq!(rt; book.close_probe(1, 1), Reply::Closed);
+}
+
+#[test]
+fn a_split_and_a_plan_wait_for_memory(rt: HostRuntime) -> Result<(), Fail> {
+    let mut book = opened(rt.alloc(), side_by_side()?, side_by_side()?)?;
+    expect_given(&rt, &mut book, 0, 0, 0);
+    expect_split(&rt, &mut book);
+    expect_given(&rt, &mut book, 0, 1, 1);
+    expect_replaced(&rt, &mut book);
+    expect_replies(&rt, &mut book, &[(Ask::CloseProbe(1, 1), Reply::Closed)]);
     Ok(())
+}
+
+// Posts a cut, if there is memory for one.
+fn post_tried(alloc: Global, book: &mut Book) -> Reply {
+    match try_cut(alloc, 232) {
+        Some(cut) => book.post(cut),
+        None => Reply::NoMemory,
+    }
 }
 
 #[test]
 fn a_cut_waits_for_memory(rt: HostRuntime) -> Result<(), Fail> {
     let mut book = opened(rt.alloc(), narrow()?, narrow()?)?;
     let before = told(&book);
-    let mut reply = match try_cut(rt.alloc(), 232) {
-        Some(cut) => book.post(cut),
-        None => Reply::NoMemory,
-    };
+    let mut reply = post_tried(rt.alloc(), &mut book);
     if reply == Reply::NoMemory {
         assert_eq!(rt; told(&book), before);
         reply = book.post(row_cut(rt.alloc(), 232)?);

@@ -5,6 +5,7 @@ ghost use Rattle.spot_place.specs.declared.placing.SpotPlaced.TheVariants as spo
 ghost use Rattle.refute_rules.specs.Spots.{IsSpotHard};
 
 use super::super::*;
+use super::asking::{Ask, expect_given, expect_replies, expect_state, reply_of};
 use super::fixture::{both, clashing, given, open_for, side_by_side};
 use chamber_place::{Placed, place};
 use lock_model::{Deck, Instance, Ships, Verdict, deck_of};
@@ -12,6 +13,7 @@ use place_refute::{Hard, HardSpots};
 use search_rules::SlotState;
 use spot_place::{SpotPlaced, place_by_spots};
 use std::alloc::Global;
+use std::process::Abort;
 use std::test::Fail;
 
 // The hard deck of this answer, if it is one.
@@ -68,7 +70,7 @@ fn spent_both(alloc: Global, book: &Book) -> Result<Hard, Fail>
 
 // Worker 0 takes slot `id`.
 fn take(book: &mut Book, id: u32) -> Result<(), Fail> {
-    match given(book.take(0)) {
+    match given(reply_of(book, Ask::Take(0))) {
         Some((other, _)) if other == id => Ok(()),
         _ => Err("another slot".into()),
     }
@@ -78,7 +80,7 @@ fn take(book: &mut Book, id: u32) -> Result<(), Fail> {
 fn at_first(alloc: Global, instance: Instance, turns: u32) -> Result<Book, Fail> {
     let mut book = open_for(alloc, instance, 100, turns).ok_or("no book")?;
     take(&mut book, 0)?;
-    if book.split(0) != Reply::Made(1) {
+    if reply_of(&mut book, Ask::Split(0)) != Reply::Made(1) {
         return Err("no split".into());
     }
     take(&mut book, 1)?;
@@ -88,45 +90,81 @@ fn at_first(alloc: Global, instance: Instance, turns: u32) -> Result<Book, Fail>
 // The same where it holds slot 2, the node of both ships in one group.
 fn at_both(alloc: Global, instance: Instance, turns: u32) -> Result<Book, Fail> {
     let mut book = at_first(alloc, instance, turns)?;
-    if book.split(1) != Reply::Made(3) {
+    if reply_of(&mut book, Ask::Split(1)) != Reply::Made(3) {
         return Err("no split".into());
     }
     take(&mut book, 2)?;
     Ok(book)
 }
 
+// Parking slot `id` by this group has this reply.
+fn expect_park(rt: &impl Abort, book: &mut Book, hard: &Hard, group: (u32, u8, u8), wanted: Reply)
+    requires { IsSpotHard hard.now.deck hard.now.turns }
+{
+    let (id, chamber, place) = group;
+    let reply = book.park(id, chamber, place, hard);
+    assert_eq!(rt; reply, wanted, "{id} {chamber} {place}");
+}
+
+// A slot of another group isn't parked.
+fn expect_other_groups(rt: &impl Abort, book: &mut Book, hard: &Hard)
+    requires { IsSpotHard hard.now.deck hard.now.turns }
+{
+    expect_park(rt, book, hard, (0, 0, 0), Reply::NotHeld(0));
+    expect_park(rt, book, hard, (1, 0, 0), Reply::OtherDeck);
+    expect_park(rt, book, hard, (1, 0, 1), Reply::OtherDeck);
+    expect_park(rt, book, hard, (1, 1, 0), Reply::OtherDeck);
+}
+
+// Slot 2 is parked, once.
+fn expect_parked(rt: &impl Abort, book: &mut Book, hard: &Hard)
+    requires { IsSpotHard hard.now.deck hard.now.turns }
+{
+    assert_eq!(rt; book.history_len(), 5);
+    expect_park(rt, book, hard, (2, 0, 0), Reply::Parked);
+    assert_eq!(rt; book.history_len(), 6);
+    expect_state(rt, book, 2, Some(SlotState::Parked(0, 0)));
+    expect_park(rt, book, hard, (2, 0, 0), Reply::NotHeld(2));
+}
+
+// What a book with a parked slot answers, until a cheaper plan closes the slot.
+fn expect_open(rt: &impl Abort, book: &mut Book) {
+    expect_replies(
+        rt,
+        book,
+        &[
+            (Ask::Split(2), Reply::NotHeld(2)),
+            (Ask::CloseBound(2), Reply::Cheaper(80, 120)),
+            (Ask::CloseProbe(2, 1), Reply::Absent(1)),
+            (Ask::Take(0), Reply::Done),
+        ],
+    );
+    assert!(rt; is_open_for_one_turn(&book.verdict()));
+    assert_eq!(rt; book.replace(both()), Reply::Replaced(80));
+    expect_state(rt, book, 2, Some(SlotState::ByBound));
+}
+
+fn is_open_for_one_turn(verdict: &Verdict) -> bool {
+    matches!(
+        verdict,
+        Verdict::OpenTurns {
+            chamber: 0,
+            turns: 1,
+            low: 80,
+            ..
+        }
+    )
+}
+
 #[test]
 fn a_spent_group_parks_its_slot(rt: HostRuntime) -> Result<(), Fail> {
     let mut book = at_first(rt.alloc(), side_by_side()?, 1)?;
     let hard = spent_both(rt.alloc(), &book)?;
-    assert_eq!(rt; book.park(0, 0, 0, &hard), Reply::NotHeld(0));
-    assert_eq!(rt; book.park(1, 0, 0, &hard), Reply::OtherDeck);
-    assert_eq!(rt; book.park(1, 0, 1, &hard), Reply::OtherDeck);
-    assert_eq!(rt; book.park(1, 1, 0, &hard), Reply::OtherDeck);
-    assert_eq!(rt; book.split(1), Reply::Made(3));
-    assert_eq!(rt; given(book.take(0)), Some((2, 2)));
-    assert_eq!(rt; book.history_len(), 5);
-    assert_eq!(rt; book.park(2, 0, 0, &hard), Reply::Parked);
-    assert_eq!(rt; book.history_len(), 6);
-    assert_eq!(rt; book.slot_state(2), Some(SlotState::Parked(0, 0)));
-    assert_eq!(rt; book.park(2, 0, 0, &hard), Reply::NotHeld(2));
-    assert_eq!(rt; book.split(2), Reply::NotHeld(2));
-    assert_eq!(rt; book.close_bound(2), Reply::Cheaper(80, 120));
-    assert_eq!(rt; book.close_probe(2, 1), Reply::Absent(1));
-    assert_eq!(rt; book.take(0), Reply::Done);
-    assert!(rt;
-        matches!(
-            book.verdict(),
-            Verdict::OpenTurns {
-                chamber: 0,
-                turns: 1,
-                low: 80,
-                ..
-            }
-        )
-    );
-    assert_eq!(rt; book.replace(both()), Reply::Replaced(80));
-    assert_eq!(rt; book.slot_state(2), Some(SlotState::ByBound));
+    expect_other_groups(&rt, &mut book, &hard);
+    expect_replies(&rt, &mut book, &[(Ask::Split(1), Reply::Made(3))]);
+    expect_given(&rt, &mut book, 0, 2, 2);
+    expect_parked(&rt, &mut book, &hard);
+    expect_open(&rt, &mut book);
     Ok(())
 }
 
@@ -135,23 +173,33 @@ fn a_parked_slot_is_closed_by_its_bound(rt: HostRuntime) -> Result<(), Fail> {
     let mut book = at_both(rt.alloc(), side_by_side()?, 1)?;
     let hard = spent_both(rt.alloc(), &book)?;
     assert_eq!(rt; book.replace(both()), Reply::Replaced(80));
-    assert_eq!(rt; book.park(2, 0, 0, &hard), Reply::Parked);
-    assert_eq!(rt; book.close_bound(2), Reply::Closed);
-    assert_eq!(rt; book.close_bound(2), Reply::NotHeld(2));
+    expect_park(&rt, &mut book, &hard, (2, 0, 0), Reply::Parked);
+    expect_replies(
+        &rt,
+        &mut book,
+        &[
+            (Ask::CloseBound(2), Reply::Closed),
+            (Ask::CloseBound(2), Reply::NotHeld(2)),
+        ],
+    );
     assert_eq!(rt; book.verdict(), Verdict::Optimal);
     Ok(())
 }
 
 #[test]
-fn too_few_turns_and_clashes_park_nothing(rt: HostRuntime) -> Result<(), Fail> {
+fn too_few_turns_park_nothing(rt: HostRuntime) -> Result<(), Fail> {
     let mut book = at_both(rt.alloc(), side_by_side()?, 2)?;
     let hard = spent_both(rt.alloc(), &book)?;
-    assert_eq!(rt; book.park(2, 0, 0, &hard), Reply::OtherDeck);
+    expect_park(&rt, &mut book, &hard, (2, 0, 0), Reply::OtherDeck);
+    Ok(())
+}
 
+#[test]
+fn a_clash_parks_nothing(rt: HostRuntime) -> Result<(), Fail> {
     let mut book = at_both(rt.alloc(), clashing()?, 1)?;
     let hard = spent_both(rt.alloc(), &book)?;
-    assert_eq!(rt; book.park(2, 0, 0, &hard), Reply::Clashes(2));
-    assert_eq!(rt; book.slot_state(2), Some(SlotState::Held(0)));
+    expect_park(&rt, &mut book, &hard, (2, 0, 0), Reply::Clashes(2));
+    expect_state(&rt, &book, 2, Some(SlotState::Held(0)));
     assert_eq!(rt; book.history_len(), 5);
     Ok(())
 }

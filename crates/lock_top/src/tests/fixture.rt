@@ -4,6 +4,7 @@ ghost use Rattle.std.specs.Prelude.{◌≤◌};
 use crate::{Status, run};
 use lock_io::{MemorySink, MemorySource, OpenGate};
 use std::alloc::Global;
+use std::process::Abort;
 use std::sync::Wait;
 use std::test::Fail;
 use std::thread::Threads;
@@ -37,6 +38,22 @@ pub(super) struct Calls {
     pub(super) sink_fault: u64,
 }
 
+// The words as strings.
+fn owned(alloc: Global, words: &[&str]) -> Result<Vec<String>, Fail> {
+    let mut list = Vec::new(alloc);
+    for word in words {
+        list.push(String::from_str(alloc, word)?)?;
+    }
+    Ok(list)
+}
+
+// The list of one number.
+fn only(alloc: Global, number: u64) -> Result<Vec<u64>, Fail> {
+    let mut list = Vec::new(alloc);
+    list.push(number)?;
+    Ok(list)
+}
+
 /// Runs over a source that hands out at most `bite` bytes a call, and a sink that takes as many.
 pub(super) fn run_with<R: Threads + Wait + Sync>(
     rt: &R,
@@ -47,16 +64,13 @@ pub(super) fn run_with<R: Threads + Wait + Sync>(
 ) -> Result<Ran, Fail>
     requires { 1 ≤ calls.bite }
 {
-    let mut list = Vec::new(alloc);
-    for word in words {
-        list.push(String::from_str(alloc, word)?)?;
-    }
-    let mut fails = Vec::new(alloc);
-    fails.push(calls.source_fault)?;
-    let mut source = MemorySource::new(text.to_vec(alloc)?, calls.bite, fails);
-    let mut fails = Vec::new(alloc);
-    fails.push(calls.sink_fault)?;
-    let mut sink = MemorySink::new(alloc, calls.bite, fails).map_err(|_| "no memory for the sink")?;
+    let list = owned(alloc, words)?;
+    let source_faults = only(alloc, calls.source_fault)?;
+    let mut source = MemorySource::new(text.to_vec(alloc)?, calls.bite, source_faults);
+    let sink_faults = only(alloc, calls.sink_fault)?;
+    let mut sink = MemorySink::new(alloc, calls.bite, sink_faults).map_err(
+        |_| "no memory for the sink",
+    )?;
     let status = run(
         rt,
         alloc,
@@ -85,6 +99,35 @@ pub(super) fn run_over<R: Threads + Wait + Sync>(
         sink_fault: NEVER,
     };
     run_with(rt, alloc, words, text, calls)
+}
+
+/// The run of this row ended with this code, and wrote this text.
+pub(super) fn expect_ran(rt: &impl Abort, ran: &Ran, code: u8, answer: &[u8], row: &str) {
+    assert_eq!(rt; ran.text.as_slice(), answer, "{row}");
+    assert_eq!(rt; ran.status.code(), code, "{row}");
+}
+
+/// The sink of a run failed at this call of 16 bytes, and got the front of the whole text.
+pub(super) fn expect_cut_off(rt: &impl Abort, ran: &Ran, fault: u64, whole: &[u8]) {
+    assert_eq!(rt; ran.status.code(), 5, "at call {fault}");
+    assert_eq!(rt; ran.text.as_slice().len() as u64, 16 * fault);
+    assert!(rt; whole.starts_with(ran.text.as_slice()));
+}
+
+/// Runs over a sink that takes 16 bytes a call, and fails at this one.
+pub(super) fn run_cut_off<R: Threads + Wait + Sync + Abort>(
+    rt: &R,
+    alloc: Global,
+    words: &[&str],
+    text: &str,
+    fault: u64,
+) -> Result<Ran, Fail> {
+    let calls = Calls {
+        bite: 16,
+        source_fault: NEVER,
+        sink_fault: fault,
+    };
+    run_with(rt, alloc, words, text.as_bytes(), calls)
 }
 
 /// The text of ships in one chamber.

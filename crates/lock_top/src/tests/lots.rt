@@ -1,10 +1,27 @@
 //! Lots, which are printed without reading and without a search.
 
-use super::fixture::{Calls, NEVER, ONE_SHIP, run_over, run_with};
+use super::fixture::{ONE_SHIP, expect_cut_off, run_cut_off, run_over};
+use std::alloc::Global;
+use std::process::Abort;
+use std::sync::Wait;
 use std::test::Fail;
+use std::thread::Threads;
 
 const LOT_OF_ONE: &str =
     "glock 1\nchamber c1 2000 240 10 20 5 6 30 15 low 0\nship s1 up 1020 88 35 4\nend\n";
+
+// These words print that lot, and read nothing.
+fn expect_lot_of_one<R: Threads + Wait + Sync + Abort>(
+    rt: &R,
+    alloc: Global,
+    words: &[&str],
+) -> Result<(), Fail> {
+    let ran = run_over(rt, alloc, words, ONE_SHIP.as_bytes())?;
+    assert_eq!(rt; ran.status.code(), 0, "{words:?}");
+    assert_eq!(rt; ran.text.as_slice(), LOT_OF_ONE.as_bytes(), "{words:?}");
+    assert_eq!(rt; ran.left, ONE_SHIP.len(), "{words:?}");
+    Ok(())
+}
 
 #[test]
 fn a_lot_of_one_ship_is_printed(rt: HostRuntime) -> Result<(), Fail> {
@@ -13,10 +30,7 @@ fn a_lot_of_one_ship_is_printed(rt: HostRuntime) -> Result<(), Fail> {
         ["lot", "--number=1", "--ships=1", "--chambers=1"].as_slice(),
         ["lot", "--ships", "1", "--chambers", "1"].as_slice(),
     ] {
-        let ran = run_over(&rt, rt.alloc(), words, ONE_SHIP.as_bytes())?;
-        assert_eq!(rt; ran.status.code(), 0, "{words:?}");
-        assert_eq!(rt; ran.text.as_slice(), LOT_OF_ONE.as_bytes(), "{words:?}");
-        assert_eq!(rt; ran.left, ONE_SHIP.len(), "{words:?}");
+        expect_lot_of_one(&rt, rt.alloc(), words)?;
     }
     Ok(())
 }
@@ -25,15 +39,8 @@ fn a_lot_of_one_ship_is_printed(rt: HostRuntime) -> Result<(), Fail> {
 fn a_lot_is_cut_off_where_the_sink_fails(rt: HostRuntime) -> Result<(), Fail> {
     let words = ["lot", "--ships", "1", "--chambers", "1"].as_slice();
     for fault in 0..5 {
-        let calls = Calls {
-            bite: 16,
-            source_fault: NEVER,
-            sink_fault: fault,
-        };
-        let ran = run_with(&rt, rt.alloc(), words, b"", calls)?;
-        assert_eq!(rt; ran.status.code(), 5, "at call {fault}");
-        assert_eq!(rt; ran.text.as_slice().len() as u64, 16 * fault);
-        assert!(rt; LOT_OF_ONE.as_bytes().starts_with(ran.text.as_slice()));
+        let ran = run_cut_off(&rt, rt.alloc(), words, "", fault)?;
+        expect_cut_off(&rt, &ran, fault, LOT_OF_ONE.as_bytes());
     }
     Ok(())
 }

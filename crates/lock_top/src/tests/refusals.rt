@@ -1,63 +1,71 @@
 //! Sources that fail, and texts that are refused before any search.
 
-use super::fixture::{Calls, NEVER, ONE_SHIP, run_over, run_with};
+use super::fixture::{Calls, NEVER, ONE_SHIP, expect_ran, run_over, run_with};
+use std::alloc::Global;
+use std::process::Abort;
+use std::sync::Wait;
 use std::test::Fail;
+use std::thread::Threads;
+
+// The text is refused with this code and line.
+fn expect_refused<R: Threads + Wait + Sync + Abort>(
+    rt: &R,
+    alloc: Global,
+    text: &str,
+    code: u8,
+    answer: &str,
+) -> Result<(), Fail> {
+    let ran = run_over(rt, alloc, &["solve", "--turns", "5"], text.as_bytes())?;
+    expect_ran(rt, &ran, code, answer.as_bytes(), text);
+    Ok(())
+}
 
 #[test]
 fn each_refused_text_has_its_status(rt: HostRuntime) -> Result<(), Fail> {
-    for (text, code, answer) in [
-        ("", 3, "line 1 fault 2 NoHeader\n"),
+    for (text, answer) in [
+        ("", "line 1 fault 2 NoHeader\n"),
         (
             "glock 1\nchamber c1 2000 240 10 20 5 4 30 31 low 0\nship s1 up 1100 114 0 5\nend\n",
-            3,
             "line 2 fault 9 TurnOverPass\n",
         ),
         (
             "glock 1\nchamber c1 2000 240 10 20 5 4 30 15 low 0\nship s1 up 1100 114 0 5\n",
-            3,
             "line 4 fault 12 NoEnd\n",
         ),
         (
             "glock 1\nchamber c1 2000 240 10 20 5 4 30 15 low 0\nend\n",
-            3,
             "line 3 fault 11 NoShip\n",
         ),
         (
             "glock 1\nchamber big 100000 100000 0 0 0 8 1000000 1000000 high 1000000\nship s1 up 100001 100000 1000000 1000000\nend\n",
-            3,
             "line 3 fault 6 Range\n",
         ),
         (
             "glock 2\nchamber c1 2000 240 10 20 5 4 30 15 low 0\nclose c2 0 20\nship s1 up 1100 114 0 5\nend\n",
-            3,
             "line 3 fault 13 Unknown\n",
         ),
         (
             "glock 2\nchamber c1 2000 240 10 20 5 4 30 15 low 0\nclose c1 20 20\nship s1 up 1100 114 0 5\nend\n",
-            3,
             "line 3 fault 14 Overlap\n",
         ),
         (
             "glock 1\nchamber c1 2000 240 10 20 5 4 30 15 low 0\nclose c1 0 20\nship s1 up 1100 114 0 5\nend\n",
-            3,
             "line 3 fault 3 Word\n",
         ),
         (
             "glock 2\nchamber c1 2000 240 10 20 5 4 30 15 low 0\nship s1 up 1100 114 0 5 10\nship s2 up 1100 114 0 5 2\nend\n",
-            3,
             "line 3 fault 6 Range\n",
         ),
-        (
-            "glock 1\nchamber c1 2000 240 10 20 5 4 30 15 low 0\nship s1 up 2100 114 0 5\nend\n",
-            8,
-            "ship s1 fits no chamber\n",
-        ),
     ] {
-        let ran = run_over(&rt, rt.alloc(), &["solve", "--turns", "5"], text.as_bytes())?;
-        assert_eq!(rt; ran.status.code(), code, "{text}");
-        assert_eq!(rt; ran.text.as_slice(), answer.as_bytes(), "{text}");
+        expect_refused(&rt, rt.alloc(), text, 3, answer)?;
     }
     Ok(())
+}
+
+#[test]
+fn a_ship_that_fits_no_chamber_is_named(rt: HostRuntime) -> Result<(), Fail> {
+    let text = "glock 1\nchamber c1 2000 240 10 20 5 4 30 15 low 0\nship s1 up 2100 114 0 5\nend\n";
+    expect_refused(&rt, rt.alloc(), text, 8, "ship s1 fits no chamber\n")
 }
 
 #[test]
@@ -68,8 +76,7 @@ fn too_many_bytes_are_refused(rt: HostRuntime) -> Result<(), Fail> {
     ] {
         let text = vec![in rt.alloc(); b'#'; count]?;
         let ran = run_over(&rt, rt.alloc(), &["solve"], text.as_slice())?;
-        assert_eq!(rt; ran.status.code(), 3);
-        assert_eq!(rt; ran.text.as_slice(), answer.as_bytes(), "{count} bytes");
+        expect_ran(&rt, &ran, 3, answer.as_bytes(), answer);
     }
     Ok(())
 }

@@ -1,7 +1,24 @@
 //! Words that are refused.
 
 use super::fixture::{ONE_SHIP, run_over};
+use std::alloc::Global;
+use std::process::Abort;
+use std::sync::Wait;
 use std::test::Fail;
+use std::thread::Threads;
+
+// These words are bad, and nothing is read.
+fn expect_bad<R: Threads + Wait + Sync + Abort>(
+    rt: &R,
+    alloc: Global,
+    words: &[&str],
+) -> Result<(), Fail> {
+    let ran = run_over(rt, alloc, words, ONE_SHIP.as_bytes())?;
+    assert_eq!(rt; ran.status.code(), 2, "{words:?}");
+    assert_eq!(rt; ran.text.as_slice(), b"bad words\n".as_slice(), "{words:?}");
+    assert_eq!(rt; ran.left, ONE_SHIP.len(), "{words:?}");
+    Ok(())
+}
 
 #[test]
 fn refused_words_read_nothing(rt: HostRuntime) -> Result<(), Fail> {
@@ -21,20 +38,14 @@ fn refused_words_read_nothing(rt: HostRuntime) -> Result<(), Fail> {
         ["replan"].as_slice(),
         ["?"].as_slice(),
     ] {
-        let ran = run_over(&rt, rt.alloc(), words, ONE_SHIP.as_bytes())?;
-        assert_eq!(rt; ran.status.code(), 2, "{words:?}");
-        assert_eq!(rt; ran.text.as_slice(), b"bad words\n".as_slice(), "{words:?}");
-        assert_eq!(rt; ran.left, ONE_SHIP.len(), "{words:?}");
+        expect_bad(&rt, rt.alloc(), words)?;
     }
     Ok(())
 }
 
 #[test]
 fn no_words_are_refused(rt: HostRuntime) -> Result<(), Fail> {
-    let ran = run_over(&rt, rt.alloc(), &[], ONE_SHIP.as_bytes())?;
-    assert_eq!(rt; ran.status.code(), 2);
-    assert_eq!(rt; ran.text.as_slice(), b"bad words\n".as_slice());
-    Ok(())
+    expect_bad(&rt, rt.alloc(), &[])
 }
 
 #[test]
@@ -50,10 +61,7 @@ fn what_is_still_to_come_is_refused_as_bad_words(rt: HostRuntime) -> Result<(), 
         ["solve", "--keep"].as_slice(),
         ["solve", "--keep", "--dossier"].as_slice(),
     ] {
-        let ran = run_over(&rt, rt.alloc(), words, ONE_SHIP.as_bytes())?;
-        assert_eq!(rt; ran.status.code(), 2, "{words:?}");
-        assert_eq!(rt; ran.text.as_slice(), b"bad words\n".as_slice(), "{words:?}");
-        assert_eq!(rt; ran.left, ONE_SHIP.len(), "{words:?}");
+        expect_bad(&rt, rt.alloc(), words)?;
     }
     Ok(())
 }

@@ -1,13 +1,16 @@
 //! Dossiers that `solve --dossier` writes, and what `check` says of them.
 
 use super::dossiers::{CLASH, NARROW, SIDE};
-use super::fixture::{Calls, EVENING, NEVER, ONE_SHIP, run_over, run_with};
+use super::fixture::{EVENING, ONE_SHIP, expect_cut_off, run_cut_off, run_over};
 use cert_check::{Answer, check};
 use cert_text::read_dossier;
 use lock_model::Verdict;
 use plan_print::print_report;
 use std::alloc::Global;
+use std::process::Abort;
+use std::sync::Wait;
 use std::test::Fail;
+use std::thread::Threads;
 
 const MOORED: &str =
     "glock 1\nchamber c1 1140 240 10 20 5 4 30 15 low 0\nship s1 up 1100 114 0 5\nship s2 up 1100 60 0 5\nship s3 up 1100 50 0 5\nend\n";
@@ -18,24 +21,35 @@ fn instance_of(dossier: &str) -> Result<&str, Fail> {
     Ok(instance)
 }
 
+// The dossier with this tree in the place of its own.
+fn with_tree(alloc: Global, dossier: &str, tree: &str) -> Result<String, Fail> {
+    let (front, _) = dossier.split_once("\"tree\":").ok_or("no tree")?;
+    Ok(format!(in alloc; "{front}\"tree\":{tree}}}\n")?)
+}
+
+// The dossier that is written of its instance is itself, or has this tree.
+fn expect_written<R: Threads + Wait + Sync + Abort>(
+    rt: &R,
+    alloc: Global,
+    dossier: &str,
+    tree: &str,
+) -> Result<(), Fail> {
+    let wanted = with_tree(alloc, dossier, tree)?;
+    let text = instance_of(dossier)?;
+    let ran = run_over(rt, alloc, &["solve", "--dossier"], text.as_bytes())?;
+    let got = ran.text.as_slice();
+    let is_known = got == wanted.as_bytes() || got == dossier.as_bytes();
+    assert!(rt; is_known, "{text}");
+    assert_eq!(rt; ran.status.code(), 0, "{text}");
+    assert_eq!(rt; ran.left, 0, "{text}");
+    Ok(())
+}
+
 #[test]
 fn each_dossier_is_written_whole(rt: HostRuntime) -> Result<(), Fail> {
-    for (dossier, tree) in [
-        (NARROW, "[0,0,100,1,1]"),
-        (CLASH, "[0,0,100,1,1]"),
-        (SIDE, "[0,11]"),
-    ] {
-        let text = instance_of(dossier)?;
-        let (front, _) = dossier.split_once("\"tree\":").ok_or("no tree")?;
-        let wanted = format!(in rt.alloc(); "{front}\"tree\":{tree}}}\n")?;
-        let ran = run_over(&rt, rt.alloc(), &["solve", "--dossier"], text.as_bytes())?;
-        let got = ran.text.as_slice();
-        let is_known = got == wanted.as_bytes() || got == dossier.as_bytes();
-        assert!(rt; is_known, "{text}");
-        assert_eq!(rt; ran.status.code(), 0, "{text}");
-        assert_eq!(rt; ran.left, 0, "{text}");
-    }
-    Ok(())
+    expect_written(&rt, rt.alloc(), NARROW, "[0,0,100,1,1]")?;
+    expect_written(&rt, rt.alloc(), CLASH, "[0,0,100,1,1]")?;
+    expect_written(&rt, rt.alloc(), SIDE, "[0,11]")
 }
 
 // The cost of an accepted dossier, and the report of its plan.
@@ -55,41 +69,79 @@ fn shown(alloc: Global, dossier: &[u8]) -> Result<(u64, Vec<u8>), Fail> {
     }
 }
 
+// What a run writes that ends well.
+fn written<R: Threads + Wait + Sync + Abort>(
+    rt: &R,
+    alloc: Global,
+    words: &[&str],
+    text: &[u8],
+) -> Result<Vec<u8>, Fail> {
+    let ran = run_over(rt, alloc, words, text)?;
+    assert_eq!(rt; ran.status.code(), 0, "{text:?}");
+    Ok(ran.text)
+}
+
+// The dossier is accepted with this cost.
+fn expect_accepted<R: Threads + Wait + Sync + Abort>(
+    rt: &R,
+    alloc: Global,
+    dossier: &[u8],
+    cost: u64,
+) -> Result<(), Fail> {
+    let line = format!(in alloc; "accepted cost {cost}\n")?;
+    let checked = written(rt, alloc, &["check"], dossier)?;
+    assert_eq!(rt; checked.as_slice(), line.as_bytes());
+    Ok(())
+}
+
+// The dossier is accepted, and the report of its plan is this one.
+fn expect_report<R: Threads + Wait + Sync + Abort>(
+    rt: &R,
+    alloc: Global,
+    dossier: &[u8],
+    alone: &[u8],
+) -> Result<(), Fail> {
+    let (cost, report) = shown(alloc, dossier)?;
+    assert_eq!(rt; report.as_slice(), alone);
+    expect_accepted(rt, alloc, dossier, cost)
+}
+
+// The dossier that is written of this text is accepted, and has the plan of the report.
+fn expect_one_plan<R: Threads + Wait + Sync + Abort>(
+    rt: &R,
+    alloc: Global,
+    text: &[u8],
+) -> Result<(), Fail> {
+    let alone = written(rt, alloc, &["solve", "--workers", "1"], text)?;
+    let dossier = written(rt, alloc, &["solve", "--workers", "1", "--dossier"], text)?;
+    expect_report(rt, alloc, dossier.as_slice(), alone.as_slice())
+}
+
 #[test]
 fn what_is_written_is_accepted_and_has_the_plan_of_the_report(rt: HostRuntime) -> Result<(), Fail> {
-    let mut texts = Vec::new(rt.alloc());
-    texts.push(instance_of(SIDE)?.as_bytes().to_vec(rt.alloc())?)?;
-    texts.push(instance_of(NARROW)?.as_bytes().to_vec(rt.alloc())?)?;
-    texts.push(MOORED.as_bytes().to_vec(rt.alloc())?)?;
-    for (number, ships, chambers) in [("1", "3", "1"), ("2", "4", "2"), ("3", "5", "3")] {
-        let words = [
-            "lot",
-            "--number",
-            number,
-            "--ships",
-            ships,
-            "--chambers",
-            chambers,
-        ];
-        texts.push(run_over(&rt, rt.alloc(), &words, b"")?.text)?;
-    }
-    for text in &texts {
-        let alone = run_over(
-            &rt,
-            rt.alloc(),
-            &["solve", "--workers", "1"],
-            text.as_slice(),
-        )?;
-        let words = ["solve", "--workers", "1", "--dossier"];
-        let written = run_over(&rt, rt.alloc(), &words, text.as_slice())?;
-        assert_eq!(rt; alone.status.code(), 0, "{text:?}");
-        assert_eq!(rt; written.status.code(), 0, "{text:?}");
-        let (cost, report) = shown(rt.alloc(), written.text.as_slice())?;
-        assert_eq!(rt; report.as_slice(), alone.text.as_slice());
-        let checked = run_over(&rt, rt.alloc(), &["check"], written.text.as_slice())?;
-        let line = format!(in rt.alloc(); "accepted cost {cost}\n")?;
-        assert_eq!(rt; checked.text.as_slice(), line.as_bytes());
-        assert_eq!(rt; checked.status.code(), 0);
+    expect_one_plan(&rt, rt.alloc(), instance_of(SIDE)?.as_bytes())?;
+    expect_one_plan(&rt, rt.alloc(), instance_of(NARROW)?.as_bytes())?;
+    expect_one_plan(&rt, rt.alloc(), MOORED.as_bytes())
+}
+
+// The same of the lot that these words make.
+fn expect_one_plan_of_lot<R: Threads + Wait + Sync + Abort>(
+    rt: &R,
+    alloc: Global,
+    words: &[&str],
+) -> Result<(), Fail> {
+    let lot = run_over(rt, alloc, words, b"")?;
+    expect_one_plan(rt, alloc, lot.text.as_slice())
+}
+
+#[test]
+fn what_is_written_of_a_lot_is_accepted(rt: HostRuntime) -> Result<(), Fail> {
+    for words in [
+        ["lot", "--number", "1", "--ships", "3", "--chambers", "1"],
+        ["lot", "--number", "2", "--ships", "4", "--chambers", "2"],
+        ["lot", "--number", "3", "--ships", "5", "--chambers", "3"],
+    ] {
+        expect_one_plan_of_lot(&rt, rt.alloc(), words.as_slice())?;
     }
     Ok(())
 }
@@ -97,12 +149,8 @@ fn what_is_written_is_accepted_and_has_the_plan_of_the_report(rt: HostRuntime) -
 #[test]
 fn the_dossier_of_an_evening_is_accepted(rt: HostRuntime) -> Result<(), Fail> {
     let words = ["solve", "--workers", "4", "--dossier"];
-    let written = run_over(&rt, rt.alloc(), &words, EVENING.as_bytes())?;
-    assert_eq!(rt; written.status.code(), 0);
-    let checked = run_over(&rt, rt.alloc(), &["check"], written.text.as_slice())?;
-    assert_eq!(rt; checked.text.as_slice(), b"accepted cost 270\n".as_slice());
-    assert_eq!(rt; checked.status.code(), 0);
-    Ok(())
+    let dossier = written(&rt, rt.alloc(), &words, EVENING.as_bytes())?;
+    expect_accepted(&rt, rt.alloc(), dossier.as_slice(), 270)
 }
 
 #[test]
@@ -110,15 +158,8 @@ fn a_dossier_is_cut_off_where_the_sink_fails(rt: HostRuntime) -> Result<(), Fail
     let words = ["solve", "--dossier"].as_slice();
     let whole = run_over(&rt, rt.alloc(), words, ONE_SHIP.as_bytes())?;
     for fault in 0..5 {
-        let calls = Calls {
-            bite: 16,
-            source_fault: NEVER,
-            sink_fault: fault,
-        };
-        let ran = run_with(&rt, rt.alloc(), words, ONE_SHIP.as_bytes(), calls)?;
-        assert_eq!(rt; ran.status.code(), 5, "at call {fault}");
-        assert_eq!(rt; ran.text.as_slice().len() as u64, 16 * fault);
-        assert!(rt; whole.text.as_slice().starts_with(ran.text.as_slice()));
+        let ran = run_cut_off(&rt, rt.alloc(), words, ONE_SHIP, fault)?;
+        expect_cut_off(&rt, &ran, fault, whole.text.as_slice());
     }
     Ok(())
 }

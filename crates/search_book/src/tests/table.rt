@@ -2,7 +2,8 @@
 ghost use Rattle.std.specs.Prelude.{◌≡◌};
 ghost use Rattle.refute_rules.specs.Spots.{IsSpotHard};
 
-use super::fixture::{both, narrow, open, open_cheap, row_cut, side_by_side, swift};
+use super::asking::{Ask, expect_reply, expect_same, posts, replaces};
+use super::fixture::{narrow, open, open_cheap, row_cut, side_by_side, swift};
 use super::parking::spent_both;
 use super::parts::{Part, give_back, take_part};
 use crate::{Event, SharedBook, share_book};
@@ -15,11 +16,6 @@ use std::sync::Wait;
 use std::sync::ledger::{Blank, Ledger, Share};
 use std::test::*;
 
-// The reply through the lock is that of the method.
-fn same<R: Abort>(rt: &R, through: Reply, direct: Reply) {
-    assert_eq!(rt; through, direct);
-}
-
 // Worker 0 takes the root, and not twice; it can't be closed.
 fn refusals<L: Ledger, R: Wait + Abort>(
     rt: &R,
@@ -30,29 +26,13 @@ fn refusals<L: Ledger, R: Wait + Abort>(
     requires part { mine.old.parts ≡ 1 }
     ensures part { mine.new.parts ≡ 1 }
 {
-    same(rt, shared.take_or_wait(rt, mine, 0), twin.take(0));
-    same(rt, shared.take_or_wait(rt, mine, 0), twin.take(0));
-    same(rt, shared.with_book(rt, mine, Event::Take(1)), twin.take(1));
-    same(
-        rt,
-        shared.with_book(rt, mine, Event::CloseBound(0)),
-        twin.close_bound(0),
-    );
-    same(
-        rt,
-        shared.with_book(rt, mine, Event::CloseCut(0, 0)),
-        twin.close_cut(0, 0),
-    );
-    same(
-        rt,
-        shared.with_book(rt, mine, Event::CloseThroughput(0)),
-        twin.close_throughput(0),
-    );
-    same(
-        rt,
-        shared.with_book(rt, mine, Event::CloseProbe(0, 1)),
-        twin.close_probe(0, 1),
-    );
+    expect_same(rt, shared, mine, twin, Ask::Wait);
+    expect_same(rt, shared, mine, twin, Ask::Wait);
+    expect_same(rt, shared, mine, twin, Ask::TakeOther);
+    expect_same(rt, shared, mine, twin, Ask::CloseBound(0));
+    expect_same(rt, shared, mine, twin, Ask::CloseCut(0, 0));
+    expect_same(rt, shared, mine, twin, Ask::CloseThroughput(0));
+    expect_same(rt, shared, mine, twin, Ask::CloseProbe(0, 1));
 }
 
 // Worker 0 splits slot `id`, which it holds, and takes the next one.
@@ -66,17 +46,24 @@ fn go_on<L: Ledger, R: Wait + Abort>(
     requires part { mine.old.parts ≡ 1 }
     ensures part { mine.new.parts ≡ 1 }
 {
-    same(
-        rt,
-        shared.with_book(rt, mine, Event::Split(id)),
-        twin.split(id),
-    );
-    same(
-        rt,
-        shared.with_book(rt, mine, Event::Split(id)),
-        Reply::NotHeld(id),
-    );
-    same(rt, shared.with_book(rt, mine, Event::Take(0)), twin.take(0));
+    expect_same(rt, shared, mine, twin, Ask::Split(id));
+    expect_reply(rt, shared, mine, Ask::Split(id), Reply::NotHeld(id));
+    expect_same(rt, shared, mine, twin, Ask::Take);
+}
+
+// Worker 0 comes to the node of both ships in one group.
+fn go_to_both<L: Ledger, R: Wait + Abort>(
+    rt: &R,
+    shared: &SharedBook<L>,
+    mine: &mut Share<L>,
+    twin: &mut Book,
+)
+    requires part { mine.old.parts ≡ 1 }
+    ensures part { mine.new.parts ≡ 1 }
+{
+    refusals(rt, shared, mine, twin);
+    go_on(rt, shared, mine, twin, 0);
+    go_on(rt, shared, mine, twin, 1);
 }
 
 // The narrow chamber: the node of both ships in one group is closed by a cut, and worker 0 ends.
@@ -90,34 +77,33 @@ fn by_cut<L: Ledger, R: Wait + Abort>(
     requires part { mine.old.parts ≡ 1 }
     ensures part { mine.new.parts ≡ 1 }
 {
-    refusals(rt, shared, mine, twin);
-    go_on(rt, shared, mine, twin, 0);
-    go_on(rt, shared, mine, twin, 1);
     let first = row_cut(alloc)?;
     let second = row_cut(alloc)?;
-    same(
-        rt,
-        shared.with_book(rt, mine, Event::Split(2)),
-        Reply::Whole(2),
-    );
-    same(
-        rt,
-        shared.with_book(rt, mine, Event::Post(first)),
-        twin.post(second),
-    );
-    same(
-        rt,
-        shared.with_book(rt, mine, Event::CloseCut(2, 0)),
-        twin.close_cut(2, 0),
-    );
-    same(
-        rt,
-        shared.with_book(rt, mine, Event::Release(0)),
-        twin.release(0),
-    );
-    same(rt, shared.take_or_wait(rt, mine, 0), Reply::Ended(0));
+    go_to_both(rt, shared, mine, twin);
+    expect_reply(rt, shared, mine, Ask::Split(2), Reply::Whole(2));
+    posts(rt, shared, mine, twin, first, second);
+    expect_same(rt, shared, mine, twin, Ask::CloseCut(2, 0));
+    expect_same(rt, shared, mine, twin, Ask::Release);
+    expect_reply(rt, shared, mine, Ask::Wait, Reply::Ended(0));
     assert_eq!(rt; twin.history_len(), 8);
     Ok(())
+}
+
+// Slot 2 is parked for both.
+fn parks<L: Ledger, R: Wait + Abort>(
+    rt: &R,
+    shared: &SharedBook<L>,
+    mine: &mut Share<L>,
+    twin: &mut Book,
+    hard: Hard,
+)
+    requires part { mine.old.parts ≡ 1 }
+    requires hard { IsSpotHard hard.deck hard.turns }
+    ensures part { mine.new.parts ≡ 1 }
+{
+    let direct = twin.park(2, 0, 0, &hard);
+    let through = shared.with_book(rt, mine, Event::Park(2, 0, 0, hard));
+    assert_eq!(rt; through, direct);
 }
 
 // The chamber of two ships side by side: a cheaper plan, a parked slot, and its bound.
@@ -132,56 +118,42 @@ fn by_bound<L: Ledger, R: Wait + Abort>(
     requires hard { IsSpotHard hard.deck hard.turns }
     ensures part { mine.new.parts ≡ 1 }
 {
-    refusals(rt, shared, mine, twin);
-    go_on(rt, shared, mine, twin, 0);
-    go_on(rt, shared, mine, twin, 1);
-    same(
-        rt,
-        shared.with_book(rt, mine, Event::Replace(both())),
-        twin.replace(both()),
-    );
-    let parked = twin.park(2, 0, 0, &hard);
-    same(
-        rt,
-        shared.with_book(rt, mine, Event::Park(2, 0, 0, hard)),
-        parked,
-    );
-    same(
-        rt,
-        shared.with_book(rt, mine, Event::CloseBound(2)),
-        twin.close_bound(2),
-    );
+    go_to_both(rt, shared, mine, twin);
+    replaces(rt, shared, mine, twin);
+    parks(rt, shared, mine, twin, hard);
+    expect_same(rt, shared, mine, twin, Ask::CloseBound(2));
     assert_eq!(rt; twin.history_len(), 8);
 }
 
-// What closes slot `id` by the throughput or, else, by the probe of ship 1.
-fn by_estimates<L: Ledger, R: Wait + Abort>(
+// The first child of the root is closed by the probe of ship 1.
+fn by_probe<L: Ledger, R: Wait + Abort>(
     rt: &R,
     shared: &SharedBook<L>,
     mine: &mut Share<L>,
     twin: &mut Book,
-    splits: bool,
 )
     requires part { mine.old.parts ≡ 1 }
     ensures part { mine.new.parts ≡ 1 }
 {
-    same(rt, shared.take_or_wait(rt, mine, 0), twin.take(0));
-    if splits {
-        go_on(rt, shared, mine, twin, 0);
-        same(
-            rt,
-            shared.with_book(rt, mine, Event::CloseProbe(1, 1)),
-            twin.close_probe(1, 1),
-        );
-        assert_eq!(rt; twin.history_len(), 4);
-    } else {
-        same(
-            rt,
-            shared.with_book(rt, mine, Event::CloseThroughput(0)),
-            twin.close_throughput(0),
-        );
-        assert_eq!(rt; twin.history_len(), 2);
-    }
+    expect_same(rt, shared, mine, twin, Ask::Wait);
+    go_on(rt, shared, mine, twin, 0);
+    expect_same(rt, shared, mine, twin, Ask::CloseProbe(1, 1));
+    assert_eq!(rt; twin.history_len(), 4);
+}
+
+// The root is closed by the throughput.
+fn by_throughput<L: Ledger, R: Wait + Abort>(
+    rt: &R,
+    shared: &SharedBook<L>,
+    mine: &mut Share<L>,
+    twin: &mut Book,
+)
+    requires part { mine.old.parts ≡ 1 }
+    ensures part { mine.new.parts ≡ 1 }
+{
+    expect_same(rt, shared, mine, twin, Ask::Wait);
+    expect_same(rt, shared, mine, twin, Ask::CloseThroughput(0));
+    assert_eq!(rt; twin.history_len(), 2);
 }
 
 // Which events are made.
@@ -210,8 +182,8 @@ fn make<L: Ledger, R: Wait + Abort>(
             let hard = spent_both(alloc, twin)?;
             by_bound(rt, shared, mine, twin, hard);
         }
-        List::ByProbe => by_estimates(rt, shared, mine, twin, true),
-        List::ByThroughput => by_estimates(rt, shared, mine, twin, false),
+        List::ByProbe => by_probe(rt, shared, mine, twin),
+        List::ByThroughput => by_throughput(rt, shared, mine, twin),
     }
     Ok(())
 }
@@ -229,6 +201,35 @@ fn told(book: &Book) -> (u64, u32, u32, u64, bool, bool) {
     )
 }
 
+// What both books tell is the same.
+fn expect_told(rt: &impl Abort, book: &Book, twin: &Book) {
+    assert_eq!(rt; told(book), told(twin));
+    for id in 0..twin.slots() {
+        assert_eq!(rt; book.slot_state(id), twin.slot_state(id));
+    }
+}
+
+// The book that comes back from the lock, after the events.
+fn made<L: Ledger, R: Wait + Abort>(
+    rt: &R,
+    alloc: Global,
+    blank: Blank,
+    book: Book,
+    twin: &mut Book,
+    list: List,
+) -> Result<Book, Fail>
+    requires name { blank.name ≡ L.name }
+    requires parts { (blank.parts ≡ L.parts) × (blank.parts ≡ 2) }
+{
+    let (shared, mut shares) = share_book::<L>(blank, book, 1);
+    let Some(Part { mut share, last }) = take_part(&mut shares) else {
+        return Err("no share".into());
+    };
+    make(rt, alloc, &shared, &mut share, twin, list)?;
+    give_back(&mut shares, Part { share, last });
+    Ok(shared.into_book(shares))
+}
+
 // The book that comes back is that of the methods.
 fn compare_of<L: Ledger, R: Wait + Abort>(
     rt: &R,
@@ -242,17 +243,8 @@ fn compare_of<L: Ledger, R: Wait + Abort>(
     requires parts { (blank.parts ≡ L.parts) × (blank.parts ≡ 2) }
 {
     let mut twin = twin;
-    let (shared, mut shares) = share_book::<L>(blank, book, 1);
-    let Some(Part { mut share, last }) = take_part(&mut shares) else {
-        return Err("no share".into());
-    };
-    make(rt, alloc, &shared, &mut share, &mut twin, list)?;
-    give_back(&mut shares, Part { share, last });
-    let book = shared.into_book(shares);
-    assert_eq!(rt; told(&book), told(&twin));
-    for id in 0..twin.slots() {
-        assert_eq!(rt; book.slot_state(id), twin.slot_state(id));
-    }
+    let book = made::<L, R>(rt, alloc, blank, book, &mut twin, list)?;
+    expect_told(rt, &book, &twin);
     Ok(())
 }
 

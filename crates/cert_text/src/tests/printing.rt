@@ -1,0 +1,123 @@
+//! Dossiers that are printed.
+ghost use Rattle.std.specs.Prelude.{All, IfOk};
+ghost use Rattle.search_rules.specs.WellFormed.{IsFormedCut, IsFormedLockage, IsFormedMark, IsFormedRefutation, IsWellFormed};
+
+use super::super::*;
+use super::fixture::{CLASH, NARROW};
+use cert_check::{CertCut, CertCuts, Certificate, Mark, MarkList};
+use instance_text::read_instance_part;
+use lock_model::{Lockage, Lockages, Moor, Plan, Rank, Ships, Spot, Spots, Way};
+use refute_rules::{Quick, Refutation};
+use std::alloc::Global;
+use std::test::Fail;
+
+/// A lockage of one ship at the left quay.
+fn alone(ship: u8, start: u32) -> Lockage
+    ensures { IsFormedLockage result }
+{
+    let mut spots = Spots::new();
+    spots.push(Spot {
+        x: 10,
+        y: 0,
+        rank: Rank::Left,
+        moor: Moor::Quay,
+    });
+    Lockage {
+        chamber: 0,
+        way: Way::Up,
+        ships: Ships::single(ship),
+        start,
+        spots,
+    }
+}
+
+/// One cut, of both ships.
+#[tactic(auto, using(crate::proofs::FixtureLemmas::one_cut))]
+fn cut_of(alloc: Global, refutation: Refutation) -> Result<CertCuts, Fail>
+    requires { IsFormedRefutation refutation }
+    ensures { IfOk result (All IsFormedCut) }
+{
+    let mut ships = Ships::single(0);
+    ships.push(1);
+    let cut = CertCut {
+        chamber: 0,
+        ships,
+        refutation,
+    };
+    let mut cuts = CertCuts::new(alloc);
+    cuts.push(cut)?;
+    Ok(cuts)
+}
+
+/// The two ships one after the other.
+#[tactic(auto, using(crate::proofs::FixtureLemmas::two_lockages))]
+fn one_by_one() -> Lockages
+    ensures { All IsFormedLockage result }
+{
+    let mut lockages = Lockages::new();
+    lockages.push(alone(0, 0));
+    lockages.push(alone(1, 50));
+    lockages
+}
+
+/// The marks of a tree in which the cut closes a node.
+#[tactic(auto, using(crate::proofs::FixtureLemmas::five_marks))]
+fn marks(alloc: Global) -> Result<MarkList, Fail>
+    ensures { IfOk result (All IsFormedMark) }
+{
+    let mut tree = MarkList::new(alloc);
+    tree.push(Mark::Split)?;
+    tree.push(Mark::Split)?;
+    tree.push(Mark::Cut(0))?;
+    tree.push(Mark::Bound)?;
+    tree.push(Mark::Bound)?;
+    Ok(tree)
+}
+
+/// That the ships go one after the other, since this keeps them from lying side by side.
+fn certificate_by(alloc: Global, refutation: Refutation) -> Result<Certificate, Fail>
+    requires { IsFormedRefutation refutation }
+    ensures { IfOk result (λ c. IsWellFormed c) }
+{
+    let cuts = cut_of(alloc, refutation)?;
+    let tree = marks(alloc)?;
+    let lockages = one_by_one();
+    Ok(Certificate {
+        cost: 120,
+        cuts,
+        plan: Plan { lockages },
+        tree,
+    })
+}
+
+/// Whether the certificate is printed with the instance of a dossier as that dossier.
+fn prints(alloc: Global, certificate: &Certificate, dossier: &str) -> Result<bool, Fail>
+    requires { IsWellFormed certificate.now }
+{
+    let (instance, _) = read_instance_part(dossier.as_bytes()).map_err(|_| "no instance")?;
+    let text = print_dossier(alloc, &instance, certificate).map_err(|_| "no memory")?;
+    Ok(text.as_slice() == dossier.as_bytes())
+}
+
+// The refutation of both ships by a row of them.
+fn row() -> Refutation
+    ensures { IsFormedRefutation result }
+{
+    let mut ships = Ships::single(0);
+    ships.push(1);
+    Refutation::Quick(Quick::Row(ships))
+}
+
+#[test]
+fn a_dossier_is_printed(rt: HostRuntime) -> Result<(), Fail> {
+    let certificate = certificate_by(rt.alloc(), row())?;
+    assert!(rt; prints(rt.alloc(), &certificate, NARROW)?);
+    Ok(())
+}
+
+#[test]
+fn a_dossier_with_a_clash_is_printed(rt: HostRuntime) -> Result<(), Fail> {
+    let certificate = certificate_by(rt.alloc(), Refutation::Clash(0, 1))?;
+    assert!(rt; prints(rt.alloc(), &certificate, CLASH)?);
+    Ok(())
+}
