@@ -1,5 +1,4 @@
 //! Events and replies as rows of a table.
-ghost use Rattle.std.specs.Prelude.{◌≤◌};
 
 use super::super::*;
 use super::fixture::given;

@@ -216,22 +216,30 @@ fn expect_bad_mark(rt: &impl Abort, alloc: Global, mark: &str) -> Result<(), Fai
     Ok(())
 }
 
-#[test]
-fn marks_outside_the_grammar_are_refused(rt: HostRuntime) -> Result<(), Fail> {
-    for mark in [
-        "3",
-        "4",
-        "9",
-        "34",
-        "50",
-        "99",
-        "9223372036854775908",
-        "-1",
-        "null",
-    ] {
-        expect_bad_mark(&rt, rt.alloc(), mark)?;
+fn expect_bad_marks(rt: &impl Abort, alloc: Global, marks: &[&str]) -> Result<(), Fail> {
+    for mark in marks {
+        expect_bad_mark(rt, alloc, mark)?;
     }
     Ok(())
+}
+
+#[test]
+fn marks_outside_the_grammar_are_refused(rt: HostRuntime) -> Result<(), Fail> {
+    expect_bad_marks(
+        &rt,
+        rt.alloc(),
+        &[
+            "3",
+            "4",
+            "9",
+            "34",
+            "50",
+            "99",
+            "9223372036854775908",
+            "-1",
+            "null",
+        ],
+    )
 }
 
 #[test]

@@ -223,18 +223,30 @@ fn expect_costs<R: Threads + Wait + Sync + Abort>(
     Ok(())
 }
 
-#[test]
-fn the_cost_is_the_same_for_each_number_of_workers(rt: HostRuntime) -> Result<(), Fail> {
-    for (chamber, ships, line) in [
-        (BASE, [FIRST, SECOND], "optimal cost 80\n"),
-        (WIDE, [FIRST, SECOND], "optimal cost 80\n"),
-        (NARROW, [FIRST, SECOND], "optimal cost 120\n"),
-        (BASE, [FIRST, DOWN], "optimal cost 105\n"),
-        (BASE, [FIRST, LATER], "optimal cost 85\n"),
-    ] {
-        expect_costs(&rt, rt.alloc(), chamber, ships.as_slice(), line)?;
+fn expect_all_costs<R: Threads + Wait + Sync + Abort>(
+    rt: &R,
+    alloc: Global,
+    rows: &[Cheapest],
+) -> Result<(), Fail> {
+    for (chamber, ships, line) in rows {
+        expect_costs(rt, alloc, chamber, ships, line)?;
     }
     Ok(())
+}
+
+#[test]
+fn the_cost_is_the_same_for_each_number_of_workers(rt: HostRuntime) -> Result<(), Fail> {
+    expect_all_costs(
+        &rt,
+        rt.alloc(),
+        &[
+            (BASE, &[FIRST, SECOND], "optimal cost 80\n"),
+            (WIDE, &[FIRST, SECOND], "optimal cost 80\n"),
+            (NARROW, &[FIRST, SECOND], "optimal cost 120\n"),
+            (BASE, &[FIRST, DOWN], "optimal cost 105\n"),
+            (BASE, &[FIRST, LATER], "optimal cost 85\n"),
+        ],
+    )
 }
 
 #[test]
@@ -266,20 +278,32 @@ fn expect_report<R: Threads + Wait + Sync + Abort>(
     Ok(())
 }
 
-#[test]
-fn good_words_solve_one_ship(rt: HostRuntime) -> Result<(), Fail> {
-    let alone = run_over(&rt, rt.alloc(), &["solve"], ONE_SHIP.as_bytes())?;
+fn expect_reports<R: Threads + Wait + Sync + Abort>(
+    rt: &R,
+    alloc: Global,
+    rows: &[&[&str]],
+) -> Result<(), Fail> {
+    let alone = run_over(rt, alloc, &["solve"], ONE_SHIP.as_bytes())?;
     assert_eq!(rt; alone.text.as_slice().len(), 1173);
-    for words in [
-        ["solve", "--"].as_slice(),
-        ["--", "solve"].as_slice(),
-        ["--nodes", "0000000005", "solve"].as_slice(),
-        ["--nodes=5", "solve", "--turns", "7", "--"].as_slice(),
-        ["--workers", "1", "--", "solve"].as_slice(),
-    ] {
-        expect_report(&rt, rt.alloc(), words, alone.text.as_slice())?;
+    for words in rows {
+        expect_report(rt, alloc, words, alone.text.as_slice())?;
     }
     Ok(())
+}
+
+#[test]
+fn good_words_solve_one_ship(rt: HostRuntime) -> Result<(), Fail> {
+    expect_reports(
+        &rt,
+        rt.alloc(),
+        &[
+            &["solve", "--"],
+            &["--", "solve"],
+            &["--nodes", "0000000005", "solve"],
+            &["--nodes=5", "solve", "--turns", "7", "--"],
+            &["--workers", "1", "--", "solve"],
+        ],
+    )
 }
 
 #[test]
@@ -292,12 +316,23 @@ fn comments_tabs_and_carriage_returns_are_read(rt: HostRuntime) -> Result<(), Fa
     Ok(())
 }
 
+// The report is cut off where the sink fails at this call.
+fn expect_front<R: Threads + Wait + Sync + Abort>(
+    rt: &R,
+    alloc: Global,
+    fault: u64,
+    whole: &[u8],
+) -> Result<(), Fail> {
+    let ran = run_cut_off(rt, alloc, &["solve"], ONE_SHIP, fault)?;
+    expect_cut_off(rt, &ran, fault, whole);
+    Ok(())
+}
+
 #[test]
 fn a_report_is_cut_off_where_the_sink_fails(rt: HostRuntime) -> Result<(), Fail> {
     let whole = run_over(&rt, rt.alloc(), &["solve"], ONE_SHIP.as_bytes())?;
     for fault in 0..74 {
-        let ran = run_cut_off(&rt, rt.alloc(), &["solve"], ONE_SHIP, fault)?;
-        expect_cut_off(&rt, &ran, fault, whole.text.as_slice());
+        expect_front(&rt, rt.alloc(), fault, whole.text.as_slice())?;
     }
     Ok(())
 }
@@ -327,11 +362,8 @@ fn expect_again<R: Threads + Wait + Sync + Abort>(
 
 #[test]
 fn a_trial_prints_one_line_which_is_the_same_again(rt: HostRuntime) -> Result<(), Fail> {
-    for words in [
-        ["trial", "--ships", "8", "--nodes", "100", "--turns", "50"],
-        ["trial", "--ships", "24", "--chambers", "4", "--nodes", "50"],
-    ] {
-        expect_again(&rt, rt.alloc(), words.as_slice())?;
-    }
-    Ok(())
+    let few = ["trial", "--ships", "8", "--nodes", "100", "--turns", "50"];
+    expect_again(&rt, rt.alloc(), &few)?;
+    let most = ["trial", "--ships", "24", "--chambers", "4", "--nodes", "50"];
+    expect_again(&rt, rt.alloc(), &most)
 }

@@ -20,27 +20,39 @@ fn expect_bad<R: Threads + Wait + Sync + Abort>(
     Ok(())
 }
 
-#[test]
-fn refused_words_read_nothing(rt: HostRuntime) -> Result<(), Fail> {
-    for words in [
-        ["solve", "--number", "1"].as_slice(),
-        ["lot", "--nodes", "5"].as_slice(),
-        ["solve", "--nodes", "0"].as_slice(),
-        ["solve", "--workers", "9"].as_slice(),
-        ["plan"].as_slice(),
-        ["solve", "--help"].as_slice(),
-        ["solve", "--dossier=1"].as_slice(),
-        ["solve", "--nodes="].as_slice(),
-        ["solve", "--nodes", "--"].as_slice(),
-        ["solve", "-x"].as_slice(),
-        ["solve", "solve"].as_slice(),
-        ["solve", "--nodes", "1", "--nodes", "1"].as_slice(),
-        ["replan"].as_slice(),
-        ["?"].as_slice(),
-    ] {
-        expect_bad(&rt, rt.alloc(), words)?;
+fn expect_all_bad<R: Threads + Wait + Sync + Abort>(
+    rt: &R,
+    alloc: Global,
+    rows: &[&[&str]],
+) -> Result<(), Fail> {
+    for words in rows {
+        expect_bad(rt, alloc, words)?;
     }
     Ok(())
+}
+
+#[test]
+fn refused_words_read_nothing(rt: HostRuntime) -> Result<(), Fail> {
+    expect_all_bad(
+        &rt,
+        rt.alloc(),
+        &[
+            &["solve", "--number", "1"],
+            &["lot", "--nodes", "5"],
+            &["solve", "--nodes", "0"],
+            &["solve", "--workers", "9"],
+            &["plan"],
+            &["solve", "--help"],
+            &["solve", "--dossier=1"],
+            &["solve", "--nodes="],
+            &["solve", "--nodes", "--"],
+            &["solve", "-x"],
+            &["solve", "solve"],
+            &["solve", "--nodes", "1", "--nodes", "1"],
+            &["replan"],
+            &["?"],
+        ],
+    )
 }
 
 #[test]
@@ -50,18 +62,19 @@ fn no_words_are_refused(rt: HostRuntime) -> Result<(), Fail> {
 
 #[test]
 fn what_is_still_to_come_is_refused_as_bad_words(rt: HostRuntime) -> Result<(), Fail> {
-    for words in [
-        ["judge"].as_slice(),
-        ["play"].as_slice(),
-        ["replan", "--from", "5"].as_slice(),
-        ["replan", "--from", "5", "--dossier"].as_slice(),
-        ["lower"].as_slice(),
-        ["resume"].as_slice(),
-        ["resume", "--dossier"].as_slice(),
-        ["solve", "--keep"].as_slice(),
-        ["solve", "--keep", "--dossier"].as_slice(),
-    ] {
-        expect_bad(&rt, rt.alloc(), words)?;
-    }
-    Ok(())
+    expect_all_bad(
+        &rt,
+        rt.alloc(),
+        &[
+            &["judge"],
+            &["play"],
+            &["replan", "--from", "5"],
+            &["replan", "--from", "5", "--dossier"],
+            &["lower"],
+            &["resume"],
+            &["resume", "--dossier"],
+            &["solve", "--keep"],
+            &["solve", "--keep", "--dossier"],
+        ],
+    )
 }
