@@ -1,5 +1,5 @@
 -- A node whose groups are made of the first ships, each once, is a node of the instance.
-use Rattle.std.proofs.Common.{◌≡◌, ℕ, zero, suc, ◌+◌, ◌<◌, ◌≤◌, List, [], ◌∷◌, length, ◌++◌, take, min, All, Contains, cond, nat_eq, sum_by, slice_index_or, refl, sym, ap, ◌∙◌, subst, arith, inl, inr}
+use Rattle.std.proofs.Common.{◌≡◌, ℕ, zero, suc, ◌+◌, ◌<◌, ◌≤◌, List, [], ◌∷◌, length, ◌++◌, take, min, All, Contains, cond, nat_eq, slice_index_or, refl, sym, ap, ◌∙◌, subst, arith, inl, inr}
 use Rattle.std.proofs.lemmas.Bool.Decides.{eqb_tells, leb_tells}
 use Rattle.std.proofs.lemmas.List.{get_or_past, get_or_default, length-take}
 use Rattle.std.proofs.lemmas.List.Elements.{All-head, All-tail, All-weaker}
@@ -14,7 +14,7 @@ use Rattle.lock_rules.specs.Node.{line_at, times_on, times_held, size_on, size_h
 use Rattle.lock_rules.proofs.CountLemmas.{without, times_in-without, sum_by-without, times_in-append}
 use Rattle.lock_rules.proofs.TreeLemmas.{times_in-hit, times_in-miss}
 use Rattle.lock_rules.proofs.ChildLemmas.{times_on-held}
-use Rattle.lock_rules.proofs.SplitLemmas.{length-order, order-parts, order-known, times_in-at}
+use Rattle.lock_rules.proofs.SplitLemmas.{length-order, order-known, times_in-at}
 use Rattle.lock_rules.proofs.ThroughputLemmas.{length-append, length-sum}
 use Rattle.search_rules.proofs.LawLemmas.{contains-times}
 use Rattle.search_worker.specs.Owning.{IsOwnShip, IsOwnGroup, IsOwnLine}
@@ -135,8 +135,8 @@ module _ (I : Instance) (k : ℕ) (lines : List (List Group)) (keeps : KeepsNode
       | inr none ↦ let past = none.1 in omega (arith, times-lines s lines, past)
     ]
 
-    own-node : IsNode I k lines
-    own-node = record {
+    pub own_node : IsNode I k lines
+    own_node = record {
       four = keeps.four;
       depth = omega (arith, deep, length-order I);
       held = λ s.
@@ -158,8 +158,8 @@ group-times s (g ∷ gs) zero d here = omega arith
 group-times s (g ∷ gs) (suc j) d here = omega (arith, group-times s gs j d (omega (arith, here)))
 
 module _ (I : Instance) (k : ℕ) (lines : List (List Group)) (node : IsNode I k lines) where
-  pub node-deep : k ≤ length (order_of I)
-  node-deep = let deep = node.depth in omega (arith, deep, length-order I)
+  pub node_deep : k ≤ length (order_of I)
+  node_deep = let deep = node.depth in omega (arith, deep, length-order I)
 
   node-group : (c : ℕ) → c < length I.chambers → All (IsOwnGroup I (first_ships I k) (chamber_at I c).most) (line_at lines c)
   node-group c inside j d here =
@@ -177,15 +177,48 @@ module _ (I : Instance) (k : ℕ) (lines : List (List Group)) (node : IsNode I k
         };
       }
 
-  pub node-own : IsOwn I k lines
-  node-own c less = record { groups = node-group c; past = node.past c }
+  pub node_own : IsOwn I k lines
+  node_own c less = record { groups = node-group c; past = node.past c }
 
 -- the first ships are known
-pub first-known : (I : Instance) (k : ℕ) → All (λ s. s < length I.ships) (first_ships I k)
-first-known I k = λ j d here. first-at (order_of I) k j d here (order-known I)
+pub first_known : (I : Instance) (k : ℕ) → All (λ s. s < length I.ships) (first_ships I k)
+first_known I k = λ j d here. first-at (order_of I) k j d here (order-known I)
   where
     first-at : (xs : List ℕ) (k j d : ℕ) → j < length (take k xs) → All (λ s. s < length I.ships) xs → slice_index_or (take k xs) j d < length I.ships
     first-at xs zero j d here all = absurd (omega (arith, here))
     first-at [] (suc k) j d here all = absurd (omega (arith, here))
     first-at (x ∷ xs) (suc k) zero d here all = All-head (λ s. s < length I.ships) x xs all
     first-at (x ∷ xs) (suc k) (suc j) d here all = first-at xs k j d (omega (arith, here)) (All-tail (λ s. s < length I.ships) x xs all)
+
+-- what holds of each place of a list
+pub all_from : {X : Type 0} (P : X → Type 0) (xs : List X) (d : X) (n : ℕ) → length xs ≤ n → ((k : ℕ) → k < n → P (slice_index_or xs k d)) → All P xs
+all_from P xs d n long each k e here = subst P (get_or_default xs k d e here) (each k (omega (arith, long, here)))
+
+-- the ships of a group as the code reads them
+pub own_group : (I : Instance) (first : List ℕ) (most : ℕ) (g : Group) (ss : List ℕ) → ss ≡ g.ships → IsStrictlyIncreasing ss → 1 ≤ length ss → length ss ≤ most → All (IsOwnShip I first g.way) ss → IsOwnGroup I first most g
+own_group I first most g ss same rising some few own = record {
+  rising = subst IsStrictlyIncreasing same rising;
+  count = (let long = ap length same in omega (arith, long, some), let long = ap length same in omega (arith, long, few));
+  ships = subst (All (IsOwnShip I first g.way)) same own;
+}
+
+pub own_ships : (I : Instance) (first : List ℕ) (most : ℕ) (g : Group) (ss : List ℕ) → ss ≡ g.ships → IsOwnGroup I first most g → All (IsOwnShip I first g.way) ss
+own_ships I first most g ss same own = subst (All (IsOwnShip I first g.way)) (sym same) own.ships
+
+pub own_some : (I : Instance) (first : List ℕ) (most : ℕ) (g : Group) (ss : List ℕ) → ss ≡ g.ships → IsOwnGroup I first most g → (1 ≤ length ss) × (length ss ≤ most)
+own_some I first most g ss same own = let long = ap length same in let count = own.count in (omega (arith, long, count.0), omega (arith, long, count.1))
+
+-- the same of a node, with the order and the depth as the code reads them
+module _ (I : Instance) (k d : ℕ) (order : List ℕ) (lines : List (List Group)) (by_arrival : order ≡ order_of I) (depth : d ≡ k) where
+  firsts : take d order ≡ first_ships I k
+  firsts = ap (λ n. take n order) depth ∙ ap (take k) by_arrival
+
+  pub node_from : KeepsNode k lines → d ≤ length order → ((c : ℕ) → c < 4 → IsOwnLine I (take d order) c (line_at lines c)) → IsNode I k lines
+  node_from keeps deep own =
+      own_node I k lines keeps (let long = ap length by_arrival in omega (arith, deep, depth, long)) (λ c less. subst (λ first. IsOwnLine I first c (line_at lines c)) firsts (own c less))
+
+  pub deep_from : IsNode I k lines → d ≤ length order
+  deep_from node = let long = ap length by_arrival in omega (arith, node_deep I k lines node, depth, long)
+
+  pub own_from : IsNode I k lines → (c : ℕ) → c < 4 → IsOwnLine I (take d order) c (line_at lines c)
+  own_from node c less = subst (λ first. IsOwnLine I first c (line_at lines c)) (sym firsts) (node_own I k lines node c less)

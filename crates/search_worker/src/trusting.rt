@@ -1,8 +1,6 @@
 //! Whether a node is one of the instance.
-ghost use Rattle.std.specs.Prelude.{◌≡◌, ◌<◌, ◌≤◌, ◌↔◌, length, All, Contains, IsTrue};
-ghost use Rattle.lock_model.specs.Limits.{Within};
-ghost use Rattle.lock_model.specs.Fleet.{ship_at, chamber_at};
-ghost use Rattle.lock_rules.specs.Arrival.{order_of, first_ships};
+ghost use Rattle.std.specs.Prelude.{ℕ, ◌≡◌, ◌<◌, ◌↔◌, length, All, IsTrue};
+ghost use Rattle.lock_rules.specs.Arrival.{order_of};
 ghost use Rattle.lock_rules.specs.Node.{line_at};
 ghost use Rattle.master_branch.specs.Node.{IsNodeOf};
 ghost use Rattle.search_worker.specs.Owning.{IsOwnShip, IsOwnGroup, IsOwnLine};
@@ -37,9 +35,8 @@ fn is_own_group(instance: &Instance, first: &[u8], most: u8, group: &Group) -> b
     ensures { IsTrue result ↔ IsOwnGroup instance.now first.now most group.now }
 {
     let ships = group.ships.as_slice();
-    !ships.is_empty()
-        && ships.len() <= most as usize
-        && are_own_ships(instance, first, group.way, ships)
+    let count = ships.len();
+    1 <= count && count <= most as usize && are_own_ships(instance, first, group.way, ships)
 }
 
 // Whether it may serve each of these groups.
@@ -81,6 +78,7 @@ fn are_own_lines(instance: &Instance, first: &[u8], node: &Node) -> bool
     true
 }
 
+#[tactic(auto, using(crate::proofs::OwnLemmas::first_known))]
 /// Whether a node is one of the instance, whose ships by arrival are given. A node's type keeps that
 /// no ship stands twice and how many there are, so it is enough that each ship is among as many first
 /// ones. Takes no memory.
