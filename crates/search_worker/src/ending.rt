@@ -5,12 +5,14 @@ ghost use Rattle.master_branch.specs.Node.{IsNodeOf};
 ghost use Rattle.node_fate.specs.Fates.{IsFate};
 ghost use Rattle.refute_rules.specs.Spots.{IsSpotHard};
 ghost use Rattle.search_book.specs.Events.{IsAllowed};
+ghost use Rattle.search_worker.specs.Serving.{Serves};
 
+use crate::asking::ask;
 use crate::closing::is_closed;
 use crate::sharing::{post_cut, show_cost};
 use crate::stop::Stop;
 use crate::taking::Held;
-use crate::worker::Worker;
+use crate::worker::{Post, Worker};
 use book_core::Reply;
 use leaf_plan::{Moorings, leaf_plan};
 use lock_model::Plan;
@@ -21,11 +23,17 @@ use std::sync::Wait;
 use std::sync::ledger::Ledger;
 
 // Closes the held node; the book has what it takes.
-fn close<L: Ledger, W: Wait>(rt: &W, worker: &mut Worker<'_, L>, closing: Event) -> Result<(), Stop>
-    requires { IsAllowed closing }
-    ensures { worker.new.shared ≡ worker.old.shared }
+fn close<L: Ledger, W: Wait>(
+    rt: &W,
+    post: &Post<'_, L>,
+    worker: &mut Worker<L>,
+    closing: Event,
+) -> Result<(), Stop>
+    requires serves { Serves post.now worker.old }
+    requires allowed { IsAllowed closing }
+    ensures serves { Serves post.now worker.new }
 {
-    if is_closed(&worker.ask(rt, closing)) {
+    if is_closed(&ask(rt, post, worker, closing)) {
         Ok(())
     } else {
         Err(Stop)
@@ -33,10 +41,16 @@ fn close<L: Ledger, W: Wait>(rt: &W, worker: &mut Worker<'_, L>, closing: Event)
 }
 
 // Splits the held node.
-fn split<L: Ledger, W: Wait>(rt: &W, worker: &mut Worker<'_, L>, held: &Held) -> Result<(), Stop>
-    ensures { worker.new.shared ≡ worker.old.shared }
+fn split<L: Ledger, W: Wait>(
+    rt: &W,
+    post: &Post<'_, L>,
+    worker: &mut Worker<L>,
+    held: &Held,
+) -> Result<(), Stop>
+    requires serves { Serves post.now worker.old }
+    ensures serves { Serves post.now worker.new }
 {
-    match worker.ask(rt, Event::Split(held.id)) {
+    match ask(rt, post, worker, Event::Split(held.id)) {
         Reply::Made(_) => Ok(()),
         _ => Err(Stop),
     }
@@ -45,23 +59,31 @@ fn split<L: Ledger, W: Wait>(rt: &W, worker: &mut Worker<'_, L>, held: &Held) ->
 // Posts a cut that hits the held node, and closes the node by it.
 fn refute<L: Ledger, W: Wait>(
     rt: &W,
-    worker: &mut Worker<'_, L>,
+    post: &Post<'_, L>,
+    worker: &mut Worker<L>,
     held: &Held,
     cut: Cut,
 ) -> Result<(), Stop>
-    ensures { worker.new.shared ≡ worker.old.shared }
+    requires serves { Serves post.now worker.old }
+    ensures serves { Serves post.now worker.new }
 {
-    let number = post_cut(rt, worker, cut)?;
-    close(rt, worker, Event::CloseCut(held.id, number))
+    let number = post_cut(rt, post, worker, cut)?;
+    close(rt, post, worker, Event::CloseCut(held.id, number))
 }
 
 // Gives a plan to the book, which may have one that is as cheap.
-fn give_plan<L: Ledger, W: Wait>(rt: &W, worker: &mut Worker<'_, L>, plan: Plan) -> Result<(), Stop>
-    ensures { worker.new.shared ≡ worker.old.shared }
+fn give_plan<L: Ledger, W: Wait>(
+    rt: &W,
+    post: &Post<'_, L>,
+    worker: &mut Worker<L>,
+    plan: Plan,
+) -> Result<(), Stop>
+    requires serves { Serves post.now worker.old }
+    ensures serves { Serves post.now worker.new }
 {
-    match worker.ask(rt, Event::Replace(plan)) {
+    match ask(rt, post, worker, Event::Replace(plan)) {
         Reply::Replaced(cost) => {
-            show_cost(worker, cost);
+            show_cost(post, worker, cost);
             Ok(())
         }
         Reply::NotCheaper(_, _) => Ok(()),
@@ -73,33 +95,37 @@ fn give_plan<L: Ledger, W: Wait>(rt: &W, worker: &mut Worker<'_, L>, plan: Plan)
 // bound is the plan's cost.
 fn complete<L: Ledger, W: Wait>(
     rt: &W,
-    worker: &mut Worker<'_, L>,
+    post: &Post<'_, L>,
+    worker: &mut Worker<L>,
     held: &Held,
     moorings: &Moorings,
 ) -> Result<(), Stop>
-    requires node { IsNodeOf worker.old.shared.now.case.now.instance held.now.node }
-    requires whole { held.now.node.depth ≡ length worker.old.shared.now.case.now.instance.ships }
-    requires moored { AreMoored worker.old.shared.now.case.now.instance moorings.now held.now.node.lines }
-    ensures { worker.new.shared ≡ worker.old.shared }
+    requires serves { Serves post.now worker.old }
+    requires node { IsNodeOf post.now.case.now.instance held.now.node }
+    requires whole { held.now.node.depth ≡ length post.now.case.now.instance.ships }
+    requires moored { AreMoored post.now.case.now.instance moorings.now held.now.node.lines }
+    ensures serves { Serves post.now worker.new }
 {
-    let plan = leaf_plan(&worker.shared.case.instance, &held.node, moorings);
-    give_plan(rt, worker, plan)?;
-    close(rt, worker, Event::CloseBound(held.id))
+    let plan = leaf_plan(&post.case.instance, &held.node, moorings);
+    give_plan(rt, post, worker, plan)?;
+    close(rt, post, worker, Event::CloseBound(held.id))
 }
 
 // Parks the held node at a group that is spent.
 fn park<L: Ledger, W: Wait>(
     rt: &W,
-    worker: &mut Worker<'_, L>,
+    post: &Post<'_, L>,
+    worker: &mut Worker<L>,
     held: &Held,
     chamber: u8,
     place: u8,
     hard: Hard,
 ) -> Result<(), Stop>
-    requires { IsSpotHard hard.deck hard.turns }
-    ensures { worker.new.shared ≡ worker.old.shared }
+    requires serves { Serves post.now worker.old }
+    requires spent { IsSpotHard hard.deck hard.turns }
+    ensures serves { Serves post.now worker.new }
 {
-    match worker.ask(rt, Event::Park(held.id, chamber, place, hard)) {
+    match ask(rt, post, worker, Event::Park(held.id, chamber, place, hard)) {
         Reply::Parked => Ok(()),
         _ => Err(Stop),
     }
@@ -109,18 +135,20 @@ fn park<L: Ledger, W: Wait>(
 /// new cut, or it is parked. After a refusal it may be held still.
 pub(crate) fn end<L: Ledger, W: Wait>(
     rt: &W,
-    worker: &mut Worker<'_, L>,
+    post: &Post<'_, L>,
+    worker: &mut Worker<L>,
     held: &Held,
     fate: Fate,
 ) -> Result<(), Stop>
-    requires node { IsNodeOf worker.old.shared.now.case.now.instance held.now.node }
-    requires fate { IsFate worker.old.shared.now.case.now.instance worker.old.shared.now.case.now.turns held.now.node fate }
-    ensures { worker.new.shared ≡ worker.old.shared }
+    requires serves { Serves post.now worker.old }
+    requires node { IsNodeOf post.now.case.now.instance held.now.node }
+    requires fate { IsFate post.now.case.now.instance post.now.case.now.turns held.now.node fate }
+    ensures serves { Serves post.now worker.new }
 {
     match fate {
-        Fate::Splits => split(rt, worker, held),
-        Fate::Moored(moorings) => complete(rt, worker, held, &moorings),
-        Fate::Refuted(cut) => refute(rt, worker, held, cut),
-        Fate::Spent(chamber, place, hard) => park(rt, worker, held, chamber, place, hard),
+        Fate::Splits => split(rt, post, worker, held),
+        Fate::Moored(moorings) => complete(rt, post, worker, held, &moorings),
+        Fate::Refuted(cut) => refute(rt, post, worker, held, cut),
+        Fate::Spent(chamber, place, hard) => park(rt, post, worker, held, chamber, place, hard),
     }
 }

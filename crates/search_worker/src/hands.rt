@@ -31,8 +31,11 @@ fn may_share<T: Sync>(_shared: &T) {}
 
 fn may_hand_over<T: Drop + Send>(_value: T) {}
 
-// Threads may share what workers share, and hand over what a worker owns.
-pub(crate) fn may_share_search<L: Ledger + Send + Sync>(shared: &Shared<'_, L>, hands: Hands<L>) {
-    may_share(shared);
+// Threads may share each of the things that workers share, and hand over what a worker owns.
+pub(crate) fn may_search_beside<L: Ledger + Send + Sync>(shared: &Shared<'_, L>, hands: Hands<L>) {
+    may_share(shared.case);
+    may_share(shared.book);
+    may_share(shared.pool);
+    may_share(shared.word);
     may_hand_over(hands)
 }

@@ -18,6 +18,7 @@
 #![tactic(auto)]
 
 mod arriving;
+mod asking;
 mod closing;
 mod ending;
 mod hands;

@@ -1,10 +1,12 @@
 //! The search of one worker.
 ghost use Rattle.std.specs.Prelude.{◌≡◌, ◌<◌};
+ghost use Rattle.search_worker.specs.Serving.{Serves};
 
+use crate::asking::ask;
 use crate::hands::{Hands, Shared};
 use crate::stop::Stop;
 use crate::taking::take;
-use crate::worker::Worker;
+use crate::worker::{Post, Worker};
 use crate::working::work;
 use lock_io::{Gate, Point};
 use search_book::Event;
@@ -18,15 +20,17 @@ fn search_slots<L: Ledger, W: Wait, G: Gate>(
     rt: &W,
     alloc: Global,
     gate: &G,
-    worker: &mut Worker<'_, L>,
+    post: &Post<'_, L>,
+    worker: &mut Worker<L>,
 ) -> Result<(), Stop>
-    ensures { worker.new.shared ≡ worker.old.shared }
+    requires serves { Serves post.now worker.old }
+    ensures serves { Serves post.now worker.new }
 {
     for _ in rt.forever() {
-        match take(rt, gate, worker)? {
+        match take(rt, gate, post, worker)? {
             Some(held) => {
-                work(rt, alloc, gate, worker, &held)?;
-                gate.at(worker.number, Point::Closed);
+                work(rt, alloc, gate, post, worker, &held)?;
+                gate.at(post.number, Point::Closed);
             }
             None => return Ok(()),
         }
@@ -51,9 +55,10 @@ pub fn search<L: Ledger, W: Wait, G: Gate>(
     requires seat { hands.seat.table ≡ shared.now.word.now.table }
     ensures seat { result.seat.table ≡ hands.seat.table }
 {
-    let mut worker = Worker::new(alloc, shared, worker, hands);
-    if let Err(Stop) = search_slots(rt, alloc, gate, &mut worker) {
-        worker.ask(rt, Event::Release(worker.number));
+    let post = Post::new(shared, worker);
+    let mut worker = Worker::new(alloc, hands);
+    if let Err(Stop) = search_slots(rt, alloc, gate, &post, &mut worker) {
+        ask(rt, &post, &mut worker, Event::Release(post.number));
     }
     worker.hands
 }

@@ -1,8 +1,9 @@
 //! What a worker lets the others see.
-ghost use Rattle.std.specs.Prelude.{◌≡◌};
+ghost use Rattle.search_worker.specs.Serving.{Serves};
 
+use crate::asking::ask;
 use crate::stop::Stop;
-use crate::worker::Worker;
+use crate::worker::{Post, Worker};
 use book_core::Reply;
 use place_refute::{Cut, copy_cut};
 use search_book::Event;
@@ -10,10 +11,17 @@ use std::sync::Wait;
 use std::sync::ledger::Ledger;
 
 // Posts a cut of the book to the pool. Without memory the others find it in the book alone.
-fn show_cut<L: Ledger, W: Wait>(rt: &W, worker: &mut Worker<'_, L>, cut: Cut, number: u64)
-    ensures { worker.new.shared ≡ worker.old.shared }
+fn show_cut<L: Ledger, W: Wait>(
+    rt: &W,
+    post: &Post<'_, L>,
+    worker: &mut Worker<L>,
+    cut: Cut,
+    number: u64,
+)
+    requires serves { Serves post.now worker.old }
+    ensures serves { Serves post.now worker.new }
 {
-    if let Ok(token) = worker.shared.pool.post(rt, cut, number) {
+    if let Ok(token) = post.pool.post(rt, cut, number) {
         let _ = worker.tokens.add(token);
     }
 }
@@ -22,24 +30,27 @@ fn show_cut<L: Ledger, W: Wait>(rt: &W, worker: &mut Worker<'_, L>, cut: Cut, nu
 /// is no memory for the copy.
 pub(crate) fn post_cut<L: Ledger, W: Wait>(
     rt: &W,
-    worker: &mut Worker<'_, L>,
+    post: &Post<'_, L>,
+    worker: &mut Worker<L>,
     cut: Cut,
 ) -> Result<u64, Stop>
-    ensures { worker.new.shared ≡ worker.old.shared }
+    requires serves { Serves post.now worker.old }
+    ensures serves { Serves post.now worker.new }
 {
     let copy = copy_cut(&cut).ok();
-    let Reply::Posted(number) = worker.ask(rt, Event::Post(cut)) else {
+    let Reply::Posted(number) = ask(rt, post, worker, Event::Post(cut)) else {
         return Err(Stop);
     };
     if let Some(copy) = copy {
-        show_cut(rt, worker, copy, number);
+        show_cut(rt, post, worker, copy, number);
     }
     Ok(number)
 }
 
 /// Lowers the shared best cost to that of a plan which the book took.
-pub(crate) fn show_cost<L: Ledger>(worker: &mut Worker<'_, L>, cost: u64)
-    ensures { worker.new.shared ≡ worker.old.shared }
+pub(crate) fn show_cost<L: Ledger>(post: &Post<'_, L>, worker: &mut Worker<L>, cost: u64)
+    requires serves { Serves post.now worker.old }
+    ensures serves { Serves post.now worker.new }
 {
-    worker.shared.word.lower(&mut worker.hands.seat, cost);
+    post.word.lower(&mut worker.hands.seat, cost);
 }

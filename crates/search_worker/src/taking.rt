@@ -1,8 +1,9 @@
 //! The slot that a worker takes.
-ghost use Rattle.std.specs.Prelude.{◌≡◌};
+ghost use Rattle.search_worker.specs.Serving.{Serves};
 
+use crate::asking::{ask_for_slot, best_cost};
 use crate::stop::Stop;
-use crate::worker::Worker;
+use crate::worker::{Post, Worker};
 use book_core::Reply;
 use lock_io::{Gate, Point};
 use master_branch::Node;
@@ -21,11 +22,13 @@ pub(crate) struct Held {
 pub(crate) fn take<L: Ledger, W: Wait, G: Gate>(
     rt: &W,
     gate: &G,
-    worker: &mut Worker<'_, L>,
+    post: &Post<'_, L>,
+    worker: &mut Worker<L>,
 ) -> Result<Option<Held>, Stop>
-    ensures { worker.new.shared ≡ worker.old.shared }
+    requires serves { Serves post.now worker.old }
+    ensures serves { Serves post.now worker.new }
 {
-    match worker.ask_for_slot(rt, gate) {
+    match ask_for_slot(rt, gate, post, worker) {
         Reply::Node(id, node) => Ok(Some(Held { id, node })),
         Reply::Done | Reply::NodesSpent(_) => Ok(None),
         _ => Err(Stop),
@@ -35,13 +38,15 @@ pub(crate) fn take<L: Ledger, W: Wait, G: Gate>(
 /// Tells the gate of a node that was taken, and reads the best cost for it.
 pub(crate) fn read_best_cost<L: Ledger, G: Gate>(
     gate: &G,
-    worker: &mut Worker<'_, L>,
+    post: &Post<'_, L>,
+    worker: &mut Worker<L>,
     node: &Node,
 ) -> u64
-    ensures { worker.new.shared ≡ worker.old.shared }
+    requires serves { Serves post.now worker.old }
+    ensures serves { Serves post.now worker.new }
 {
-    gate.at(worker.number, Point::Took(node.depth()));
-    let best = worker.best_cost();
-    gate.at(worker.number, Point::Read(best));
+    gate.at(post.number, Point::Took(node.depth()));
+    let best = best_cost(post, worker);
+    gate.at(post.number, Point::Read(best));
     best
 }

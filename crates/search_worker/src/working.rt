@@ -2,6 +2,7 @@
 ghost use Rattle.std.specs.Prelude.{◌≡◌, ◌<◌, length, IfOk, IfSome};
 ghost use Rattle.master_branch.specs.Node.{IsNodeOf};
 ghost use Rattle.node_fate.specs.Fates.{IsFate, IsGroupAt};
+ghost use Rattle.search_worker.specs.Serving.{Serves};
 
 use crate::arriving::group_of_last;
 use crate::closing::close_early;
@@ -10,7 +11,7 @@ use crate::knowing::{close_any_if_new, close_by_known_cut};
 use crate::stop::Stop;
 use crate::taking::{Held, read_best_cost};
 use crate::trusting::is_node_of;
-use crate::worker::Worker;
+use crate::worker::{Post, Worker};
 use lock_io::Gate;
 use node_fate::{Fate, group_fate, leaf_fate, remembered_fate};
 use std::alloc::Global;
@@ -21,20 +22,22 @@ use std::sync::ledger::Ledger;
 fn work_new<L: Ledger, W: Wait>(
     rt: &W,
     alloc: Global,
-    worker: &mut Worker<'_, L>,
+    post: &Post<'_, L>,
+    worker: &mut Worker<L>,
     held: &Held,
     chamber: u8,
     place: u8,
 ) -> Result<(), Stop>
-    requires node { IsNodeOf worker.old.shared.now.case.now.instance held.now.node }
-    requires lacks { held.now.node.depth < length worker.old.shared.now.case.now.instance.ships }
-    requires at { IsGroupAt worker.old.shared.now.case.now.instance held.now.node chamber place }
-    ensures { worker.new.shared ≡ worker.old.shared }
+    requires serves { Serves post.now worker.old }
+    requires node { IsNodeOf post.now.case.now.instance held.now.node }
+    requires lacks { held.now.node.depth < length post.now.case.now.instance.ships }
+    requires at { IsGroupAt post.now.case.now.instance held.now.node chamber place }
+    ensures serves { Serves post.now worker.new }
 {
-    if close_by_known_cut(rt, worker, held, chamber, place) {
+    if close_by_known_cut(rt, post, worker, held, chamber, place) {
         return Ok(());
     }
-    let case = worker.shared.case;
+    let case = post.case;
     let fate = group_fate(
         alloc,
         &case.instance,
@@ -44,22 +47,23 @@ fn work_new<L: Ledger, W: Wait>(
         case.turns,
         &mut worker.memory,
     )?;
-    end(rt, worker, held, fate)
+    end(rt, post, worker, held, fate)
 }
 
 // What becomes of the held node, which lacks a ship, by what is remembered of one of its groups.
 fn remembered<L: Ledger>(
-    worker: &Worker<'_, L>,
+    post: &Post<'_, L>,
+    worker: &Worker<L>,
     held: &Held,
     chamber: u8,
     place: u8,
 ) -> Option<Fate>
-    requires node { IsNodeOf worker.now.shared.now.case.now.instance held.now.node }
-    requires lacks { held.now.node.depth < length worker.now.shared.now.case.now.instance.ships }
-    requires at { IsGroupAt worker.now.shared.now.case.now.instance held.now.node chamber place }
-    ensures { IfSome result (IsFate worker.now.shared.now.case.now.instance worker.now.shared.now.case.now.turns held.now.node) }
+    requires node { IsNodeOf post.now.case.now.instance held.now.node }
+    requires lacks { held.now.node.depth < length post.now.case.now.instance.ships }
+    requires at { IsGroupAt post.now.case.now.instance held.now.node chamber place }
+    ensures { IfSome result (IsFate post.now.case.now.instance post.now.case.now.turns held.now.node) }
 {
-    let case = worker.shared.case;
+    let case = post.case;
     remembered_fate(
         &case.instance,
         &held.node,
@@ -74,19 +78,21 @@ fn remembered<L: Ledger>(
 fn work_group<L: Ledger, W: Wait>(
     rt: &W,
     alloc: Global,
-    worker: &mut Worker<'_, L>,
+    post: &Post<'_, L>,
+    worker: &mut Worker<L>,
     held: &Held,
     chamber: u8,
     place: u8,
 ) -> Result<(), Stop>
-    requires node { IsNodeOf worker.old.shared.now.case.now.instance held.now.node }
-    requires lacks { held.now.node.depth < length worker.old.shared.now.case.now.instance.ships }
-    requires at { IsGroupAt worker.old.shared.now.case.now.instance held.now.node chamber place }
-    ensures { worker.new.shared ≡ worker.old.shared }
+    requires serves { Serves post.now worker.old }
+    requires node { IsNodeOf post.now.case.now.instance held.now.node }
+    requires lacks { held.now.node.depth < length post.now.case.now.instance.ships }
+    requires at { IsGroupAt post.now.case.now.instance held.now.node chamber place }
+    ensures serves { Serves post.now worker.new }
 {
-    match remembered(worker, held, chamber, place) {
-        Some(fate) => end(rt, worker, held, fate),
-        None => work_new(rt, alloc, worker, held, chamber, place),
+    match remembered(post, worker, held, chamber, place) {
+        Some(fate) => end(rt, post, worker, held, fate),
+        None => work_new(rt, alloc, post, worker, held, chamber, place),
     }
 }
 
@@ -95,16 +101,18 @@ fn work_group<L: Ledger, W: Wait>(
 fn work_inner<L: Ledger, W: Wait>(
     rt: &W,
     alloc: Global,
-    worker: &mut Worker<'_, L>,
+    post: &Post<'_, L>,
+    worker: &mut Worker<L>,
     held: &Held,
 ) -> Result<(), Stop>
-    requires node { IsNodeOf worker.old.shared.now.case.now.instance held.now.node }
-    requires lacks { held.now.node.depth < length worker.old.shared.now.case.now.instance.ships }
-    ensures { worker.new.shared ≡ worker.old.shared }
+    requires serves { Serves post.now worker.old }
+    requires node { IsNodeOf post.now.case.now.instance held.now.node }
+    requires lacks { held.now.node.depth < length post.now.case.now.instance.ships }
+    ensures serves { Serves post.now worker.new }
 {
-    match group_of_last(worker, &held.node) {
-        Some((chamber, place)) => work_group(rt, alloc, worker, held, chamber, place),
-        None => end(rt, worker, held, Fate::Splits),
+    match group_of_last(post, &held.node) {
+        Some((chamber, place)) => work_group(rt, alloc, post, worker, held, chamber, place),
+        None => end(rt, post, worker, held, Fate::Splits),
     }
 }
 
@@ -113,17 +121,19 @@ fn work_inner<L: Ledger, W: Wait>(
 fn work_whole<L: Ledger, W: Wait>(
     rt: &W,
     alloc: Global,
-    worker: &mut Worker<'_, L>,
+    post: &Post<'_, L>,
+    worker: &mut Worker<L>,
     held: &Held,
 ) -> Result<(), Stop>
-    requires node { IsNodeOf worker.old.shared.now.case.now.instance held.now.node }
-    requires whole { held.now.node.depth ≡ length worker.old.shared.now.case.now.instance.ships }
-    ensures { worker.new.shared ≡ worker.old.shared }
+    requires serves { Serves post.now worker.old }
+    requires node { IsNodeOf post.now.case.now.instance held.now.node }
+    requires whole { held.now.node.depth ≡ length post.now.case.now.instance.ships }
+    ensures serves { Serves post.now worker.new }
 {
-    if close_any_if_new(rt, worker, held) {
+    if close_any_if_new(rt, post, worker, held) {
         return Ok(());
     }
-    let case = worker.shared.case;
+    let case = post.case;
     let fate = leaf_fate(
         alloc,
         &case.instance,
@@ -131,23 +141,25 @@ fn work_whole<L: Ledger, W: Wait>(
         case.turns,
         &mut worker.memory,
     )?;
-    end(rt, worker, held, fate)
+    end(rt, post, worker, held, fate)
 }
 
 // Works on the held node by its groups.
 fn work_on<L: Ledger, W: Wait>(
     rt: &W,
     alloc: Global,
-    worker: &mut Worker<'_, L>,
+    post: &Post<'_, L>,
+    worker: &mut Worker<L>,
     held: &Held,
 ) -> Result<(), Stop>
-    requires { IsNodeOf worker.old.shared.now.case.now.instance held.now.node }
-    ensures { worker.new.shared ≡ worker.old.shared }
+    requires serves { Serves post.now worker.old }
+    requires node { IsNodeOf post.now.case.now.instance held.now.node }
+    ensures serves { Serves post.now worker.new }
 {
-    if (held.node.depth() as usize) < worker.shared.case.instance.ships.as_slice().len() {
-        work_inner(rt, alloc, worker, held)
+    if (held.node.depth() as usize) < post.case.instance.ships.as_slice().len() {
+        work_inner(rt, alloc, post, worker, held)
     } else {
-        work_whole(rt, alloc, worker, held)
+        work_whole(rt, alloc, post, worker, held)
     }
 }
 
@@ -156,17 +168,19 @@ pub(crate) fn work<L: Ledger, W: Wait, G: Gate>(
     rt: &W,
     alloc: Global,
     gate: &G,
-    worker: &mut Worker<'_, L>,
+    post: &Post<'_, L>,
+    worker: &mut Worker<L>,
     held: &Held,
 ) -> Result<(), Stop>
-    ensures { worker.new.shared ≡ worker.old.shared }
+    requires serves { Serves post.now worker.old }
+    ensures serves { Serves post.now worker.new }
 {
-    let best = read_best_cost(gate, worker, &held.node);
-    if !is_node_of(&worker.order, &worker.shared.case.instance, &held.node) {
+    let best = read_best_cost(gate, post, worker, &held.node);
+    if !is_node_of(&post.order, &post.case.instance, &held.node) {
         return Err(Stop);
     }
-    if close_early(rt, worker, held, best) {
+    if close_early(rt, post, worker, held, best) {
         return Ok(());
     }
-    work_on(rt, alloc, worker, held)
+    work_on(rt, alloc, post, worker, held)
 }
