@@ -30,10 +30,10 @@ fn close_by_bound<L: Ledger, W: Wait>(
     best: u64,
 ) -> bool
     requires serves { Serves post.now worker.old }
-    requires node { IsNodeOf post.now.case.now.instance held.now.node }
+    requires node { IsNodeOf post.now.instance.now held.now.node }
     ensures serves { Serves post.now worker.new }
 {
-    if bound(&post.case.instance, &held.node) < best {
+    if bound(post.instance, &held.node) < best {
         return false;
     }
     is_closed(&ask(rt, post, worker, Event::CloseBound(held.id)))
@@ -65,7 +65,7 @@ fn close_by_probe<L: Ledger, W: Wait>(
     ensures serves { Serves post.now worker.new }
 {
     let depth = held.node.depth();
-    if depth as usize >= post.case.instance.ships.as_slice().len() {
+    if depth as usize >= post.instance.ships.as_slice().len() {
         return false;
     }
     let ship = ship_after(post, depth);
@@ -81,7 +81,7 @@ pub(crate) fn close_early<L: Ledger, W: Wait>(
     best: u64,
 ) -> bool
     requires serves { Serves post.now worker.old }
-    requires node { IsNodeOf post.now.case.now.instance held.now.node }
+    requires node { IsNodeOf post.now.instance.now held.now.node }
     ensures serves { Serves post.now worker.new }
 {
     if close_by_bound(rt, post, worker, held, best) {

@@ -101,12 +101,12 @@ fn complete<L: Ledger, W: Wait>(
     moorings: &Moorings,
 ) -> Result<(), Stop>
     requires serves { Serves post.now worker.old }
-    requires node { IsNodeOf post.now.case.now.instance held.now.node }
-    requires whole { held.now.node.depth ≡ length post.now.case.now.instance.ships }
-    requires moored { AreMoored post.now.case.now.instance moorings.now held.now.node.lines }
+    requires node { IsNodeOf post.now.instance.now held.now.node }
+    requires whole { held.now.node.depth ≡ length post.now.instance.now.ships }
+    requires moored { AreMoored post.now.instance.now moorings.now held.now.node.lines }
     ensures serves { Serves post.now worker.new }
 {
-    let plan = leaf_plan(&post.case.instance, &held.node, moorings);
+    let plan = leaf_plan(post.instance, &held.node, moorings);
     give_plan(rt, post, worker, plan)?;
     close(rt, post, worker, Event::CloseBound(held.id))
 }
@@ -141,8 +141,8 @@ pub(crate) fn end<L: Ledger, W: Wait>(
     fate: Fate,
 ) -> Result<(), Stop>
     requires serves { Serves post.now worker.old }
-    requires node { IsNodeOf post.now.case.now.instance held.now.node }
-    requires fate { IsFate post.now.case.now.instance post.now.case.now.turns held.now.node fate }
+    requires node { IsNodeOf post.now.instance.now held.now.node }
+    requires fate { IsFate post.now.instance.now post.now.turns held.now.node fate }
     ensures serves { Serves post.now worker.new }
 {
     match fate {

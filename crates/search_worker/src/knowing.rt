@@ -23,11 +23,11 @@ fn known_cut<L: Ledger>(
     chamber: u8,
     place: u8,
 ) -> Option<u64>
-    requires node { IsNodeOf post.now.case.now.instance node.now }
-    requires at { IsGroupAt post.now.case.now.instance node.now chamber place }
+    requires node { IsNodeOf post.now.instance.now node.now }
+    requires at { IsGroupAt post.now.instance.now node.now chamber place }
 {
     let ships = &node.line(chamber).as_slice()[place as usize].ships;
-    let instance = &post.case.instance;
+    let instance = post.instance;
     post.pool.find(&worker.tokens, instance, chamber, ships)
 }
 
@@ -41,8 +41,8 @@ pub(crate) fn close_by_known_cut<L: Ledger, W: Wait>(
     place: u8,
 ) -> bool
     requires serves { Serves post.now worker.old }
-    requires node { IsNodeOf post.now.case.now.instance held.now.node }
-    requires at { IsGroupAt post.now.case.now.instance held.now.node chamber place }
+    requires node { IsNodeOf post.now.instance.now held.now.node }
+    requires at { IsGroupAt post.now.instance.now held.now.node chamber place }
     ensures serves { Serves post.now worker.new }
 {
     match known_cut(post, worker, &held.node, chamber, place) {
@@ -61,8 +61,8 @@ fn close_if_new<L: Ledger, W: Wait>(
     place: u8,
 ) -> bool
     requires serves { Serves post.now worker.old }
-    requires node { IsNodeOf post.now.case.now.instance held.now.node }
-    requires at { IsGroupAt post.now.case.now.instance held.now.node chamber place }
+    requires node { IsNodeOf post.now.instance.now held.now.node }
+    requires at { IsGroupAt post.now.instance.now held.now.node chamber place }
     ensures serves { Serves post.now worker.new }
 {
     let ships = &held.node.line(chamber).as_slice()[place as usize].ships;
@@ -82,8 +82,8 @@ fn close_line_if_new<L: Ledger, W: Wait>(
     chamber: u8,
 ) -> bool
     requires serves { Serves post.now worker.old }
-    requires node { IsNodeOf post.now.case.now.instance held.now.node }
-    requires chamber_in { chamber < length post.now.case.now.instance.chambers }
+    requires node { IsNodeOf post.now.instance.now held.now.node }
+    requires chamber_in { chamber < length post.now.instance.now.chambers }
     ensures serves { Serves post.now worker.new }
 {
     for place in 0..held.node.line(chamber).as_slice().len() {
@@ -103,10 +103,10 @@ pub(crate) fn close_any_if_new<L: Ledger, W: Wait>(
     held: &Held,
 ) -> bool
     requires serves { Serves post.now worker.old }
-    requires node { IsNodeOf post.now.case.now.instance held.now.node }
+    requires node { IsNodeOf post.now.instance.now held.now.node }
     ensures serves { Serves post.now worker.new }
 {
-    for chamber in 0..post.case.instance.chambers.as_slice().len() as u8 {
+    for chamber in 0..post.instance.chambers.as_slice().len() as u8 {
         if close_line_if_new(rt, post, worker, held, chamber) {
             return true;
         }

@@ -29,22 +29,21 @@ fn work_new<L: Ledger, W: Wait>(
     place: u8,
 ) -> Result<(), Stop>
     requires serves { Serves post.now worker.old }
-    requires node { IsNodeOf post.now.case.now.instance held.now.node }
-    requires lacks { held.now.node.depth < length post.now.case.now.instance.ships }
-    requires at { IsGroupAt post.now.case.now.instance held.now.node chamber place }
+    requires node { IsNodeOf post.now.instance.now held.now.node }
+    requires lacks { held.now.node.depth < length post.now.instance.now.ships }
+    requires at { IsGroupAt post.now.instance.now held.now.node chamber place }
     ensures serves { Serves post.now worker.new }
 {
     if close_by_known_cut(rt, post, worker, held, chamber, place) {
         return Ok(());
     }
-    let case = post.case;
     let fate = group_fate(
         alloc,
-        &case.instance,
+        post.instance,
         &held.node,
         chamber,
         place,
-        case.turns,
+        post.turns,
         &mut worker.memory,
     )?;
     end(rt, post, worker, held, fate)
@@ -58,18 +57,17 @@ fn remembered<L: Ledger>(
     chamber: u8,
     place: u8,
 ) -> Option<Fate>
-    requires node { IsNodeOf post.now.case.now.instance held.now.node }
-    requires lacks { held.now.node.depth < length post.now.case.now.instance.ships }
-    requires at { IsGroupAt post.now.case.now.instance held.now.node chamber place }
-    ensures { IfSome result (IsFate post.now.case.now.instance post.now.case.now.turns held.now.node) }
+    requires node { IsNodeOf post.now.instance.now held.now.node }
+    requires lacks { held.now.node.depth < length post.now.instance.now.ships }
+    requires at { IsGroupAt post.now.instance.now held.now.node chamber place }
+    ensures { IfSome result (IsFate post.now.instance.now post.now.turns held.now.node) }
 {
-    let case = post.case;
     remembered_fate(
-        &case.instance,
+        post.instance,
         &held.node,
         chamber,
         place,
-        case.turns,
+        post.turns,
         &worker.memory,
     )
 }
@@ -85,9 +83,9 @@ fn work_group<L: Ledger, W: Wait>(
     place: u8,
 ) -> Result<(), Stop>
     requires serves { Serves post.now worker.old }
-    requires node { IsNodeOf post.now.case.now.instance held.now.node }
-    requires lacks { held.now.node.depth < length post.now.case.now.instance.ships }
-    requires at { IsGroupAt post.now.case.now.instance held.now.node chamber place }
+    requires node { IsNodeOf post.now.instance.now held.now.node }
+    requires lacks { held.now.node.depth < length post.now.instance.now.ships }
+    requires at { IsGroupAt post.now.instance.now held.now.node chamber place }
     ensures serves { Serves post.now worker.new }
 {
     match remembered(post, worker, held, chamber, place) {
@@ -106,8 +104,8 @@ fn work_inner<L: Ledger, W: Wait>(
     held: &Held,
 ) -> Result<(), Stop>
     requires serves { Serves post.now worker.old }
-    requires node { IsNodeOf post.now.case.now.instance held.now.node }
-    requires lacks { held.now.node.depth < length post.now.case.now.instance.ships }
+    requires node { IsNodeOf post.now.instance.now held.now.node }
+    requires lacks { held.now.node.depth < length post.now.instance.now.ships }
     ensures serves { Serves post.now worker.new }
 {
     match group_of_last(post, &held.node) {
@@ -126,19 +124,18 @@ fn work_whole<L: Ledger, W: Wait>(
     held: &Held,
 ) -> Result<(), Stop>
     requires serves { Serves post.now worker.old }
-    requires node { IsNodeOf post.now.case.now.instance held.now.node }
-    requires whole { held.now.node.depth ≡ length post.now.case.now.instance.ships }
+    requires node { IsNodeOf post.now.instance.now held.now.node }
+    requires whole { held.now.node.depth ≡ length post.now.instance.now.ships }
     ensures serves { Serves post.now worker.new }
 {
     if close_any_if_new(rt, post, worker, held) {
         return Ok(());
     }
-    let case = post.case;
     let fate = leaf_fate(
         alloc,
-        &case.instance,
+        post.instance,
         &held.node,
-        case.turns,
+        post.turns,
         &mut worker.memory,
     )?;
     end(rt, post, worker, held, fate)
@@ -153,10 +150,10 @@ fn work_on<L: Ledger, W: Wait>(
     held: &Held,
 ) -> Result<(), Stop>
     requires serves { Serves post.now worker.old }
-    requires node { IsNodeOf post.now.case.now.instance held.now.node }
+    requires node { IsNodeOf post.now.instance.now held.now.node }
     ensures serves { Serves post.now worker.new }
 {
-    if (held.node.depth() as usize) < post.case.instance.ships.as_slice().len() {
+    if (held.node.depth() as usize) < post.instance.ships.as_slice().len() {
         work_inner(rt, alloc, post, worker, held)
     } else {
         work_whole(rt, alloc, post, worker, held)
@@ -176,7 +173,7 @@ pub(crate) fn work<L: Ledger, W: Wait, G: Gate>(
     ensures serves { Serves post.now worker.new }
 {
     let best = read_best_cost(gate, post, worker, &held.node);
-    if !is_node_of(&post.order, &post.case.instance, &held.node) {
+    if !is_node_of(&post.order, post.instance, &held.node) {
         return Err(Stop);
     }
     if close_early(rt, post, worker, held, best) {
