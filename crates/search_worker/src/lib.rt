@@ -14,7 +14,10 @@
 //! the node: `closing` without the placers, `knowing` by a known cut, then what becomes of it by
 //! `node_fate`, which `ending` makes so. `sharing` posts what the others are to see.
 //!
-//! Definitions: `specs/Owning` says, ship by ship, what the test of a node tests.
+//! `asking` makes each event, and waits. `worker` is what a worker has, and its post, which stays.
+//!
+//! Definitions: `specs/Owning` says, ship by ship, what the test of a node tests, and `Serving` what
+//! ties a worker to its post. A thread makes its own `Shared`, since it is of references alone.
 #![tactic(auto)]
 
 mod arriving;

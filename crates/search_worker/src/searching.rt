@@ -38,11 +38,11 @@ fn search_slots<L: Ledger, W: Wait, G: Gate>(
     unreachable!()
 }
 
-/// Searches as worker `worker`, 0 to 7, until nothing is open or held, the nodes are spent, or memory
-/// is refused. There is one refusal and one place for it: whatever stops the search early, the worker
-/// releases before it ends, so that no other waits for a node in its hand. The hands come back, for
-/// the word that they were of. It waits for the lock, and for others while none is open and one may
-/// come.
+/// Searches as worker `worker`, 0 to 7, until nothing is open or held or the nodes are spent. It has
+/// no refusal: where memory is refused, or the book answers what it answers no worker of these rules,
+/// the worker releases and ends, so that no other waits for a node in its hand. That is done here
+/// alone, whatever stopped the search. The hands come back, and their seat is of the same table. It
+/// waits for the lock, and for other workers while no slot is open and one is held.
 pub fn search<L: Ledger, W: Wait, G: Gate>(
     rt: &W,
     alloc: Global,
