@@ -32,3 +32,6 @@ pub use plain_text::NoMemory;
 pub use printing::print_plan;
 pub use pushing::neat;
 pub use reading::read_plan;
+
+#[cfg(test)]
+mod tests;
