@@ -1,10 +1,10 @@
 -- Lines that were printed read back, and so does the whole text.
-use Rattle.std.proofs.Common.{◌≡◌, ℕ, zero, suc, ◌+◌, ◌<◌, ◌≤◌, ◌^◌, ◌==◌, ◌||◌, ◌∙◌, Bool, true, false, nat_lt, List, [], ◌∷◌, ◌++◌, length, get_or, map, Option, None, Some, All, Result, Ok, Err, decimal, codes, refl, sym, ap, subst, arith, append-nil, append_assoc}
-use Rattle.std.specs.List.{flat_map, list_any}
+use Rattle.std.proofs.Common.{◌≡◌, ℕ, suc, ◌+◌, ◌<◌, ◌≤◌, ◌==◌, ◌||◌, ◌∙◌, Bool, true, false, nat_lt, List, [], ◌∷◌, ◌++◌, length, None, Some, All, Result, Ok, codes, refl, sym, ap, subst, arith, append-nil, append_assoc}
+use Rattle.std.specs.List.{flat_map}
 use Rattle.std.proofs.lemmas.Bool.{ne_eqb}
 use Rattle.std.proofs.lemmas.Bool.Decides.{nat_tests}
 use Rattle.std.proofs.lemmas.List.{length_push}
-use Rattle.std.proofs.lemmas.List.Elements.{All-head, All-tail, All-nil}
+use Rattle.std.proofs.lemmas.List.Elements.{All-head, All-tail}
 use Rattle.lock_model.specs.Ships.{RisesFrom}
 use Rattle.lock_model.specs.Fleet.{ship_at, chamber_at}
 use Rattle.lock_model.specs.declared.instance.Instance.{Instance}
@@ -12,15 +12,14 @@ use Rattle.lock_model.specs.declared.placement.Spot.{Spot}
 use Rattle.lock_model.specs.declared.plan.Lockage.{Lockage}
 use Rattle.lock_model.specs.declared.plan.Plan.{Plan}
 use Rattle.lock_rules.proofs.SplitLemmas.{RisesFrom-increasing}
-use Rattle.instance_text.specs.Steps.{◌>>=◌, ◌>>◌}
 use Rattle.plan_judge.specs.declared.berth.Berth.{Berth}
 use Rattle.plan_judge.specs.declared.berth.Head.{Head}
 use Rattle.plan_judge.specs.declared.kinds.BadPlan.{BadPlan}
 use Rattle.plan_judge.specs.declared.progress.Progress.TheVariants.{More, Ended}
-use Rattle.plan_judge.specs.Berths.{has_berth, lockage_of, check_hosts}
-use Rattle.plan_judge.specs.Draft.{Draft, no_draft, close, close_by}
+use Rattle.plan_judge.specs.Berths.{has_berth}
+use Rattle.plan_judge.specs.Draft.{Draft, no_draft, close}
 use Rattle.plan_judge.specs.Lines.{read_head, new_ship, read_berth, add_berth, add_lockage, read_end, read_other, read_line}
-use Rattle.plan_judge.specs.Reading.{read_rest, read_body, is_mark, read_lines, reading, IsPlanText}
+use Rattle.plan_judge.specs.Reading.{read_body, is_mark, read_lines, reading, IsPlanText}
 use Rattle.plan_judge.specs.Printing.{head_words, berth_words, berths_of, lockage_lines, plan_lines, plan_text}
 use Rattle.plan_judge.specs.Writable.{IsWritableSpot, IsWritable, AreWritable}
 use Rattle.plan_judge.proofs.LayoutLemmas.{ArePlain, AreLines, AreLines-append, words_of_text, is_utf8-text}

@@ -1,7 +1,6 @@
 -- The first thirteen words of a line tell as much as all of them.
-use Rattle.std.proofs.Common.{◌≡◌, ℕ, ◌==◌, List, Result, Ok, Err, IfOk, IfErr, take, length, sym, ap, ◌∙◌, lit<}
+use Rattle.std.proofs.Common.{◌≡◌, ℕ, List, Result, Ok, Err, IfOk, IfErr, take, length, sym, ap, ◌∙◌, lit<}
 use Rattle.lock_model.specs.declared.instance.Instance.{Instance}
-use Rattle.instance_text.specs.Chamber.{word_at}
 use Rattle.instance_text.specs.Steps.{◌>>=◌}
 use Rattle.instance_text.proofs.EnoughLemmas.{word_enough, length_enough}
 use Rattle.plan_judge.specs.declared.berth.Berth.{Berth}

@@ -1,6 +1,6 @@
 -- How a text of plain words falls into lines and words again. A plain word may be a `*` too, which
 -- no name of an instance text may.
-use Rattle.std.proofs.Common.{◌≡◌, ◌≢◌, ℕ, ◌-◌, ◌<◌, ◌≤◌, ◌==◌, ◌||◌, Bool, true, false, cond, List, [], ◌∷◌, ◌++◌, length, take, map, filter, get_or, All, ap, refl, ◌∙◌, ⊎_elim, arith}
+use Rattle.std.proofs.Common.{◌≡◌, ◌≢◌, ℕ, ◌-◌, ◌<◌, ◌≤◌, ◌==◌, true, false, cond, List, [], ◌∷◌, ◌++◌, length, take, map, filter, get_or, All, ap, refl, ◌∙◌, ⊎_elim, arith}
 use Rattle.std.specs.List.{slice_split, before_first, join_with_byte, flat_map}
 use Rattle.std.specs.Str.{is_utf8, IsAscii}
 use Rattle.std.specs.Str.Lines.{strip_carriage_return}

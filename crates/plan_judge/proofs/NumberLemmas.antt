@@ -2,7 +2,7 @@
 use Rattle.std.proofs.Common.{◌≡◌, ◌≢◌, ℕ, Bool, true, false, List, Result, Ok, Err, ap, sym, ◌∙◌}
 use Rattle.std.specs.List.{list_all}
 use Rattle.lock_model.specs.Limits.{is_between}
-use Rattle.instance_text.specs.Steps.{◌>>=◌, ◌>>◌, check as check_word}
+use Rattle.instance_text.specs.Steps.{◌>>◌, check as check_word}
 use Rattle.instance_text.specs.Words.{is_digit, value, number as any_number}
 use Rattle.instance_text.specs.declared.bad.Kind.{Kind}
 use Rattle.instance_text.specs.declared.bad.Kind.TheVariants.{Number as NotDigits, Range as OutOfRange}

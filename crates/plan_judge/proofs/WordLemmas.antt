@@ -1,11 +1,10 @@
 -- The words of printed lines are plain, and mean what was printed.
-use Rattle.std.proofs.Common.{◌≡◌, ◌≢◌, ℕ, ◌<◌, ◌≤◌, ◌^◌, Bool, true, false, ◌||◌, List, [], ◌∷◌, length, get_or, All, Result, Ok, Err, decimal, codes, refl, sym, ap, ◌∙◌, subst, ⊎_elim, arith}
+use Rattle.std.proofs.Common.{◌≡◌, ◌≢◌, ℕ, ◌<◌, ◌≤◌, ◌^◌, Bool, true, false, ◌||◌, List, [], length, get_or, All, Ok, decimal, codes, refl, sym, subst, ⊎_elim, arith}
 use Rattle.std.specs.List.{list_all}
 use Rattle.std.specs.Str.{bytes_eq}
 use Rattle.std.proofs.lemmas.Bool.{cases_lt}
 use Rattle.std.proofs.lemmas.Bool.Decides.{nat_tests}
 use Rattle.std.proofs.lemmas.Fmt.{decimal_nonempty}
-use Rattle.std.proofs.lemmas.List.{get_or_default}
 use Rattle.std.proofs.lemmas.List.Elements.{All-weaker, All-head}
 use Rattle.std.proofs.lemmas.Slice.Eq.{bytes_eq-Decides}
 use Rattle.lock_model.specs.Limits.{Within, IsName, is_between, is_name_byte}
@@ -22,8 +21,6 @@ use Rattle.instance_text.proofs.LotLemmas.{name_digits}
 use Rattle.instance_text.proofs.TestLemmas.{all_from_test}
 use Rattle.instance_text.proofs.WordBackLemmas.{number_back as any_number_back}
 use Rattle.plan_judge.specs.Words.{number, way, rank, chamber_named, ship_named, host}
-use Rattle.plan_judge.specs.declared.berth.Host.{Host}
-use Rattle.plan_judge.specs.declared.berth.Host.TheVariants.{Quay as AtQuay, Ship as AtShip}
 use Rattle.plan_judge.specs.Printing.{rank_word, host_word}
 use Rattle.plan_judge.specs.Writable.{IsWritableMoor}
 use Rattle.plan_judge.proofs.LayoutLemmas.{IsPlain}

@@ -2,7 +2,7 @@
 use Rattle.std.specs.Prelude.{◌<◌, ◌++◌, List, [], ◌∷◌, length, Option, None, Some, IfSome, Result, Ok}
 use Rattle.lock_model.specs.declared.instance.Instance.{Instance}
 use Rattle.lock_model.specs.declared.plan.Lockage.{Lockage}
-use Rattle.instance_text.specs.Steps.{◌>>=◌, ◌>>◌}
+use Rattle.instance_text.specs.Steps.{◌>>◌}
 use Rattle.plan_judge.specs.declared.berth.Berth.{Berth}
 use Rattle.plan_judge.specs.declared.berth.Head.{Head}
 use Rattle.plan_judge.specs.declared.kinds.BadPlan.{BadPlan}

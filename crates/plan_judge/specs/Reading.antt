@@ -4,7 +4,7 @@ use Rattle.std.specs.Str.{bytes_eq, is_utf8}
 use Rattle.lock_model.specs.declared.instance.Instance.{Instance}
 use Rattle.lock_model.specs.declared.plan.Lockage.{Lockage}
 use Rattle.lock_model.specs.declared.plan.Plan.{Plan}
-use Rattle.instance_text.specs.Steps.{◌>>=◌, ◌>>◌}
+use Rattle.instance_text.specs.Steps.{◌>>=◌}
 use Rattle.instance_text.specs.Chamber.{word_at}
 use Rattle.instance_text.specs.Lines.{lines, words}
 use Rattle.instance_text.specs.Reading.{line_of_fault}

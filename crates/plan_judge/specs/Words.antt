@@ -10,7 +10,7 @@ use Rattle.lock_model.specs.declared.placement.Rank.{Rank}
 use Rattle.lock_model.specs.declared.placement.Rank.TheVariants.{Left, Right}
 use Rattle.lock_model.specs.declared.way.Way.{Way}
 use Rattle.lock_model.specs.declared.way.Way.TheVariants.{Up, Down}
-use Rattle.instance_text.specs.Steps.{◌>>=◌, ◌>>◌}
+use Rattle.instance_text.specs.Steps.{◌>>◌}
 use Rattle.instance_text.specs.Words.{is_digit, value}
 use Rattle.plan_judge.specs.declared.kinds.PlanKind.{PlanKind}
 use Rattle.plan_judge.specs.declared.kinds.PlanKind.TheVariants.{Word, Number, Range, Unknown}

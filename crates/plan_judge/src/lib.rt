@@ -7,8 +7,8 @@
 //!
 //! Definitions: `specs/Words` (what a word means), `Berths` (the lockage that berth lines make),
 //! `Draft` and `Lines` (one line after the other), `Reading` (the plan of a text and its first
-//! fault), `Printing` (the text that is printed), `Neat` (plans that differ in x alone). Lines,
-//! words and numbers are those of `instance_text`.
+//! fault), `Writable` (which plans have a text), `Printing` (the text that is printed), `Neat` (plans
+//! that differ in x alone). Lines and words are those of `instance_text`.
 #![tactic(auto)]
 
 mod berth;

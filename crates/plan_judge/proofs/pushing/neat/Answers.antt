@@ -1,6 +1,5 @@
-use Rattle.std.proofs.Common.{◌≡◌, ◌+◌, ◌<◌, ℕ, length, get_or, sym, ap, subst, ◌∙◌, arith}
-use Rattle.std.proofs.lemmas.List.{get_or_read, length_push}
-use Rattle.lock_rules.specs.Lines.{no_lockage}
+use Rattle.std.proofs.Common.{◌+◌, length, ap, ◌∙◌, arith}
+use Rattle.std.proofs.lemmas.List.{length_push}
 use Rattle.lock_rules.proofs.LineLemmas.{lockage_at-read}
 use Rattle.plan_judge.proofs.NeatLemmas.{legal-neat, nearer_more, neat_more}
 use Rattle.plan_judge.proofs.pushing.neat.Goals as goal
