@@ -1,0 +1,12 @@
+pub mod NamedLemmas
+pub mod BerthLemmas
+pub mod EnoughLemmas
+pub mod ReadingLemmas
+pub mod NeatLemmas
+pub mod MadeLemmas
+pub mod NumberLemmas
+pub mod LayoutLemmas
+pub mod WordLemmas
+pub mod BackLemmas
+pub mod WritableLemmas
+pub mod PrintLemmas
