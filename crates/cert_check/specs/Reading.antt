@@ -1,7 +1,6 @@
 -- Reading the marks of a certificate: what is read of a node and of its children, and where reading sticks.
 use Rattle.std.specs.Prelude.{ℕ, suc, ◌-◌, ◌+◌, ◌≡◌, List, length, take, map, Bool, nat_le, IfSome}
 use Rattle.std.specs.declared.option.Option.{Option}
-use Rattle.lock_model.specs.declared.instance.Instance.{Instance}
 use Rattle.lock_model.specs.declared.group.Group.{Group}
 use Rattle.lock_rules.specs.Bound.{bound_of}
 use Rattle.refute_rules.specs.Trees.{AreInOrder}

@@ -92,7 +92,25 @@ fn child_of(claim: &Claim, node: &Node, i: u32) -> Node
     child
 }
 
-// Reads a tree of child `i` of a node: the marks behind it.
+// Reads a tree of child `i` of a node, which is made for it.
+#[cycle(tree)]
+fn read_made_child<'m>(
+    claim: &Claim,
+    node: &Node,
+    i: u32,
+    marks: &'m [Mark],
+) -> Result<&'m [Mark], Stuck<'m>>
+    requires node { IsNodeOf claim.now.instance.now node.now }
+    requires lacks { node.now.depth < length claim.now.instance.now.ships }
+    requires within { i < length (children claim.now.instance.now node.now) }
+    ensures ok { IfOk result (λ rest. IsChildRead claim.now node.now i marks.now rest.now) }
+    ensures err { IfErr result (λ stuck. IsChildStuck claim.now node.now i marks.now stuck.marks.now stuck.reason) }
+{
+    read_tree(claim, &child_of(claim, node, i), marks)
+}
+
+// Reads a tree of child `i` of a node: the marks behind it. The child isn't made where its bound
+// closes it, and no room for it is taken then.
 #[cycle(tree)]
 fn read_child<'m>(
     claim: &Claim,
@@ -118,7 +136,7 @@ fn read_child<'m>(
             reason: Reason::BoundLow,
         });
     }
-    read_tree(claim, &child_of(claim, node, i), marks)
+    read_made_child(claim, node, i, marks)
 }
 
 // Reads trees of all children of a node: the marks behind them.

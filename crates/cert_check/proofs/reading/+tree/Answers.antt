@@ -18,14 +18,14 @@ read_child-returns-in-Some-clause-err n c =
     bound-stuck c.args.claim.now c.args.node.now c.args.i c.args.marks.now c.in-Some.rest.now c.in-Some.ensures
     (λ high. absurd (not-true c.child_reaches.result c.if-child_reaches.false (c.child_reaches.ensures.value.1 high)))
 
-pub read_child-returns-clause-ok : goal.read_child-returns-clause-ok
-read_child-returns-clause-ok n c =
+pub read_made_child-returns-clause-ok : goal.read_made_child-returns-clause-ok
+read_made_child-returns-clause-ok n c =
     IfOk-weaker c.read_tree.result _ _
     (λ rest h. child-read c.args.claim.now c.args.node.now c.child_of.result c.args.i c.args.marks.now rest.now c.requires.within c.child_of.ensures.depth c.child_of.ensures.lines h)
     c.read_tree.ensures.ok
 
-pub read_child-returns-clause-err : goal.read_child-returns-clause-err
-read_child-returns-clause-err n c =
+pub read_made_child-returns-clause-err : goal.read_made_child-returns-clause-err
+read_made_child-returns-clause-err n c =
     IfErr-weaker c.read_tree.result _ _
     (λ stuck h. child-stuck c.args.claim.now c.args.node.now c.child_of.result c.args.i c.args.marks.now stuck.marks.now stuck.reason c.requires.within c.child_of.ensures.depth c.child_of.ensures.lines h)
     c.read_tree.ensures.err
