@@ -18,15 +18,22 @@
 
 mod arriving;
 mod closing;
+mod crew;
+mod cut_list;
 mod driving;
 mod ending;
 mod fates;
 mod held;
+mod opening;
+mod running;
+mod searching;
+mod settling;
 mod solving;
 #[cfg(test)]
 mod tests;
 mod told;
 mod working;
 
+pub use cut_list::CutList;
 pub use driving::drive;
-pub use solving::{Solved, solve};
+pub use solving::{Solved, solve, solve_from};

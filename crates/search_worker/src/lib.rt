@@ -1,0 +1,6 @@
+//! One worker of a search (stand-in).
+#![tactic(auto)]
+
+mod searching;
+
+pub use searching::{Hands, Shared, search};
