@@ -1,7 +1,8 @@
 -- A book that was just opened.
-use Rattle.std.proofs.Common.{◌≡◌, ℕ, suc, zero, ◌<◌, ◌≤◌, List, [], ◌∷◌, ◌++◌, map, refl, sym, ap, ◌∙◌, subst, arith, Bool, true, false, not, cond, nat_le, IfOk, Ok, Err, Some, None}
+use Rattle.std.proofs.Common.{◌≡◌, ℕ, suc, zero, ◌<◌, ◌≤◌, List, [], ◌∷◌, ◌++◌, length, map, take, slice_index_or, refl, sym, ap, ◌∙◌, subst, arith, Bool, true, false, not, cond, nat_le, IfOk, Ok, Err, Some, None}
 use Rattle.std.specs.declared.result.Result.{Result}
-use Rattle.std.proofs.lemmas.List.{append-nil, append_assoc, map-append}
+use Rattle.std.proofs.lemmas.List.{append-nil, append_assoc, map-append, take_all}
+use Rattle.std.proofs.Math.Seq.{take-suc}
 use Rattle.lock_model.specs.declared.instance.Instance.{Instance}
 use Rattle.lock_model.specs.declared.plan.Plan.{Plan}
 use Rattle.lock_rules.specs.Plan.{cost_of}
@@ -13,6 +14,7 @@ use Rattle.first_plan.specs.declared.opening.FirstError.TheVariants.{Unfit}
 use Rattle.search_rules.specs.declared.book.Entry.TheVariants as entry
 use Rattle.search_rules.specs.declared.book.SlotState.TheVariants as slot
 use Rattle.search_rules.specs.Book.{Book, Case, opening_book, slot_at, is_held, root, bound_at}
+use Rattle.search_rules.specs.Cover.{IsOwnCut}
 use Rattle.search_rules.specs.Ends.{HoldsNothing, EndsWell}
 use Rattle.search_rules.specs.Events as machine
 use Rattle.search_rules.specs.Events.{post}
@@ -59,6 +61,19 @@ with_more b cs c =
     let entries : (b.history ++ map (λ _. entry.Post) cs) ++ entry.Post ∷ [] ≡ b.history ++ map (λ _. entry.Post) (cs ++ c ∷ []) =
     append_assoc b.history (map (λ _. entry.Post) cs) (entry.Post ∷ []) ∙ ap (λ es. b.history ++ es) (sym (map-append (λ _. entry.Post) cs (c ∷ []))) in
     (λ j. record b { cuts = cuts j; history = entries j })
+
+-- the next cut of a list is posted
+pub posted_next : (old b new : Book) (cuts : List Cut) (k : ℕ) (d c : Cut) → k < length cuts → slice_index_or cuts k d ≡ c → b ≡ with_cuts old (take k cuts) → new ≡ with_cuts b (c ∷ []) → new ≡ with_cuts old (take (suc k) cuts)
+posted_next old b new cuts k d c here at so_far next =
+    let grown : take (suc k) cuts ≡ take k cuts ++ c ∷ [] = take-suc cuts k d here ∙ ap (λ x. take k cuts ++ x ∷ []) at in
+    next ∙ ap (λ x. with_cuts x (c ∷ [])) so_far ∙ with_more old (take k cuts) c ∙ ap (with_cuts old) (sym grown)
+
+pub posted_whole : (old b : Book) (cuts : List Cut) (k : ℕ) → length cuts ≤ k → b ≡ with_cuts old (take k cuts) → b ≡ with_cuts old cuts
+posted_whole old b cuts k past so_far = so_far ∙ ap (with_cuts old) (take_all k cuts past)
+
+-- the book is of the same case, so the next cut is of it too
+pub own_still : (old b : Book) (cs : List Cut) (c : Cut) → b ≡ with_cuts old cs → IsOwnCut old.case.instance c → IsOwnCut b.case.instance c
+own_still old b cs c is own = subst (λ (x : Book). IsOwnCut x.case.instance c) (sym is) own
 
 -- the driver may take on a book that was just opened
 pub opened_ready : (case : Case) (plan : Plan) (cuts : List Cut) (cost : ℕ) (b : Book) → cost ≡ cost_of case.instance plan → b ≡ opened_with case plan cuts → IsReady case cost b

@@ -1,5 +1,6 @@
 -- The workers below 8 are released, one after the other.
-use Rattle.std.proofs.Common.{◌≡◌, ◌≢◌, ℕ, suc, ◌<◌, ◌≤◌, length, refl, sym, ap, ◌∙◌, subst, arith, Bool, true, false, cond, Some, None, slice_index_or}
+use Rattle.std.proofs.Common.{◌≡◌, ◌≢◌, ℕ, suc, ◌<◌, ◌≤◌, length, inl, inr, refl, sym, ap, ◌∙◌, subst, arith, Bool, true, false, cond, Some, None, slice_index_or}
+use Rattle.std.proofs.lemmas.Bool.Decides.{leb_tells}
 use Rattle.std.specs.declared.option.Option.{Option}
 use Rattle.std.proofs.lemmas.List.{get_or-set_same, get_or-set_other}
 use Rattle.search_rules.specs.declared.book.SlotState.{SlotState}
@@ -73,16 +74,21 @@ module _ (b : Book) (w : ℕ) (keeps : KeepsWorkers b) (below : w < 8) (r : Repl
   lets = released-lets b w (let nine = keeps.nine in omega (arith, nine, below)) r new answers
 
   keeps-new : KeepsWorkers new
-  keeps-new = subst KeepsWorkers (ap (λ (o : Book × Answer). o.0) answers.same) (workers-step (λ _ _. answers.found) b keeps (release w) (omega (arith, below)))
+  keeps-new =
+      let owed : w ≤ 8 = omega (arith, below) in
+      subst KeepsWorkers (ap (λ (o : Book × Answer). o.0) answers.same) (workers-step (λ _ _. answers.found) b keeps (release w) owed)
+
+  differs : (id v : ℕ) → (slot_at new id).state ≡ slot.Held v → v ≢ w
+  differs id v h e = clash (sym (subst (λ u. slice_index_or new.ended u false ≡ true) (sym e) lets.gone) ∙ keeps-new.running id v h)
+
+  past : (id v : ℕ) → (slot_at new id).state ≡ slot.Held v → w ≤ v → suc w ≤ v
+  past id v h low = elim (leb_tells (suc w) v) [ inl y ↦ y.1 | inr n ↦ absurd (differs id v h (let lower = n.1 in omega (arith, low, lower))) ]
+
+  held : (id v : ℕ) → (slot_at new id).state ≡ slot.Held v → (w ≤ v) × (v < 8) → (suc w ≤ v) × (v < 8)
+  held id v h at = (past id v h at.0, at.1)
 
   pub held_after : AreHeldFrom w b → AreHeldFrom (suc w) new
-  held_after from = record { from = λ id v h. (past id v h (from.from id v (lets.held id v h)).0, (from.from id v (lets.held id v h)).1) }
-    where
-      past : (id v : ℕ) → (slot_at new id).state ≡ slot.Held v → w ≤ v → suc w ≤ v
-      past id v h low = let other = differs id v h in omega (arith, low, other)
-        where
-          differs : (id v : ℕ) → (slot_at new id).state ≡ slot.Held v → v ≢ w
-          differs id v h e = clash (sym (subst (λ u. slice_index_or new.ended u false ≡ true) (sym e) lets.gone) ∙ keeps-new.running id v h)
+  held_after from = record { from = λ id v h. held id v h (from.from id v (lets.held id v h)) }
 
   pub back_after : (old : Book) → IsGivenBack old b → IsGivenBack old new
   back_after old back = record {
@@ -90,19 +96,22 @@ module _ (b : Book) (w : ℕ) (keeps : KeepsWorkers b) (below : w < 8) (r : Repl
     opening = lets.opening ∙ back.opening;
     best = lets.best ∙ back.best;
     cuts = lets.cuts ∙ back.cuts;
-    running = record { running = lets.others 8 (λ e. absurd (omega (arith, e, below))) ∙ back.running.running };
+    running = record { running = lets.others 8 (λ e. omega (arith, e, below)) ∙ back.running.running };
   }
 
 -- ---- before the first and after the last
 
+not-eight : (b : Book) → first_slot b (is_held_by 8) ≡ None → (id w : ℕ) → (slot_at b id).state ≡ slot.Held w → w ≢ 8
+not-eight b empty id w h e =
+    let here = state-known b id (slot.Held w) h (λ f. clash (ap is_held f)) in
+    let by : (slot_at b id).state ≡ slot.Held 8 = h ∙ ap slot.Held e in
+    clash (sym (held_by-itself 8) ∙ ap (is_held_by 8) (sym by) ∙ first_slot-none b (is_held_by 8) empty id here)
+
+below-eight : (w : ℕ) → w ≤ 8 → w ≢ 8 → w < 8
+below-eight w most other = elim (leb_tells (suc w) 8) [ inl y ↦ y.1 | inr n ↦ absurd (other (let lower = n.1 in omega (arith, most, lower))) ]
+
 pub held_at_first : (b : Book) → KeepsWorkers b → first_slot b (is_held_by 8) ≡ None → AreHeldFrom 0 b
-held_at_first b keeps empty = record { from = λ id w h. (omega arith, (let most = keeps.known id w h in let other = differs id w h in omega (arith, most, other))) }
-  where
-    differs : (id w : ℕ) → (slot_at b id).state ≡ slot.Held w → w ≢ 8
-    differs id w h e =
-        let here = state-known b id (slot.Held w) h (λ f. clash (ap is_held f)) in
-        let by : (slot_at b id).state ≡ slot.Held 8 = h ∙ ap slot.Held e in
-        clash (sym (held_by-itself 8) ∙ ap (is_held_by 8) (sym by) ∙ first_slot-none b (is_held_by 8) empty id here)
+held_at_first b keeps empty = record { from = λ id w h. (omega arith, below-eight w (keeps.known id w h) (not-eight b empty id w h)) }
 
 pub back_at_first : (b : Book) → IsRunning b → IsGivenBack b b
 back_at_first b running = record { case = refl; opening = refl; best = refl; cuts = refl; running = running }

@@ -18,6 +18,7 @@
 
 mod arriving;
 mod closing;
+mod comparing;
 mod crew;
 mod cut_list;
 mod driving;

@@ -2,25 +2,21 @@
 //!
 //! Of the book that workers share nothing is known but its type. So the caller tests that it is the
 //! one that it opened, and that nothing stands against its driving.
-ghost use Rattle.std.specs.Prelude.{◌≡◌, ◌↔◌, All, IsTrue, IfOk};
+ghost use Rattle.std.specs.Prelude.{◌≡◌, ◌↔◌, All, IsTrue, IfOk, None};
 ghost use Rattle.lock_rules.specs.Plan.{IsLegal, cost_of};
+ghost use Rattle.search_rules.specs.Book.{first_slot, is_held_by};
 ghost use Rattle.search_rules.specs.Cover.{IsOwnCut};
+ghost use Rattle.solve_workers.specs.Holding.{IsRunning};
 ghost use Rattle.solve_workers.specs.Opening.{IsReady, opened_with};
 ghost use Rattle.solve_workers.specs.Settling.{IsOurs, IsFreed};
 
+use crate::comparing::same_case;
 use crate::cut_list::CutList;
 use crate::opening::opened;
 use book_core::{Book, Case};
 use lock_model::Plan;
 use plain_text::NoMemory;
 use std::alloc::Global;
-
-// Whether two cases are the same.
-fn same_case(one: &Case, other: &Case) -> bool
-    ensures { IsTrue result ↔ one.now ≡ other.now }
-{
-    one == other
-}
 
 // Whether the book is of this case and was opened at this cost, and worker 8 has neither ended nor
 // holds a slot.
@@ -33,17 +29,16 @@ fn is_ours(book: &Book, case: &Case, cost: u64) -> bool
         && book.held_by(8).is_none()
 }
 
-// Releases the workers below 8 that haven't ended.
+// Releases the workers below 8; the book refuses those that have ended.
 fn release_others(book: &mut Book)
     requires running { IsRunning book.old }
     requires empty { first_slot book.old (is_held_by 8) ≡ None }
     ensures { IsFreed book.old book.new }
 {
+    book.keeps();
     for worker in 0..8 {
         book.keeps();
-        if !book.ended(worker) {
-            book.release(worker);
-        }
+        book.release(worker);
     }
 }
 

@@ -82,8 +82,8 @@ pub fn solve_from<R: Threads + Wait + Sync, G: Gate + Sync>(
     let book = opened(alloc, case, plan.copy(), &cuts)?;
     let cost = book.opening_cost();
     let blank = Blank::new(workers as u64 + 1);
-    let searched = searched::<Brand, R, G>(rt, alloc, blank, book, case, &cuts, workers, gate)?;
-    let mut book = settled(alloc, searched, case, cost, plan, &cuts)?;
+    let left = searched::<Brand, R, G>(rt, alloc, blank, book, case, &cuts, workers, gate)?;
+    let mut book = settled(alloc, left, case, cost, plan, &cuts)?;
     drive(alloc, &mut book)?;
     Ok(Solved { book })
 }
