@@ -1,0 +1,41 @@
+//! One worker thread that searches a book which several share.
+//!
+//! `search` takes nodes of a shared book and works on each until it is closed, split or parked, as
+//! long as any is open or held and the budget lasts. It looks at the best cost and at the cuts of
+//! other workers beside the lock, and takes the lock once for each event. Where memory is refused,
+//! it releases the node in its hand and ends, so that nobody waits for it. It hands back what it was
+//! given (`Hands`), one part of the ledger of accepted events and one part of the shared best cost.
+//!
+//! Of what the shared book answers nothing is known but its type. So the worker tests that a node is
+//! one of the instance (`trusting`), and takes every answer that doesn't come to a worker of these
+//! rules for a reason to end. The book stays the authority: it accepts an event or refuses it.
+//!
+//! For each node `taking` takes it, `working` reads the best cost and goes through the ways to end
+//! the node: `closing` without the placers, `knowing` by a known cut, then what becomes of it by
+//! `node_fate`, which `ending` makes so. `sharing` posts what the others are to see.
+//!
+//! `asking` makes each event, and waits. `worker` is what a worker has, and its post, which stays.
+//!
+//! Definitions: `specs/Owning` says, ship by ship, what the test of a node tests, and `Serving` what
+//! ties a worker to its post. A thread makes its own `Shared`, since it is of references alone.
+#![tactic(auto)]
+
+mod arriving;
+mod asking;
+mod closing;
+mod ending;
+mod hands;
+mod knowing;
+mod searching;
+mod sharing;
+mod stop;
+mod taking;
+#[cfg(test)]
+mod tests;
+mod trusting;
+mod worker;
+mod working;
+
+pub use hands::{Hands, Shared};
+pub use searching::search;
+pub use trusting::is_node_of;

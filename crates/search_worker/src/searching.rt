@@ -1,0 +1,64 @@
+//! The search of one worker.
+ghost use Rattle.std.specs.Prelude.{◌≡◌, ◌<◌};
+ghost use Rattle.search_worker.specs.Serving.{Serves};
+
+use crate::asking::ask;
+use crate::hands::{Hands, Shared};
+use crate::stop::Stop;
+use crate::taking::take;
+use crate::worker::{Post, Worker};
+use crate::working::work;
+use lock_io::{Gate, Point};
+use search_book::Event;
+use std::alloc::Global;
+use std::sync::Wait;
+use std::sync::ledger::Ledger;
+
+// Takes slots and works on them, until nothing is open or held or the nodes are spent. After a
+// refusal a slot may be held still.
+fn search_slots<L: Ledger, W: Wait, G: Gate>(
+    rt: &W,
+    alloc: Global,
+    gate: &G,
+    post: &Post<'_, L>,
+    worker: &mut Worker<L>,
+) -> Result<(), Stop>
+    requires serves { Serves post.now worker.old }
+    ensures serves { Serves post.now worker.new }
+{
+    for _ in rt.forever() {
+        match take(rt, gate, post, worker)? {
+            Some(held) => {
+                work(rt, alloc, gate, post, worker, &held)?;
+                gate.at(post.number, Point::Closed);
+            }
+            None => return Ok(()),
+        }
+    }
+    unreachable!()
+}
+
+/// Searches as worker `worker`, 0 to 7, until nothing is open or held or the nodes are spent. It has
+/// no refusal: where memory is refused, or the book answers what it answers no worker of these rules,
+/// the worker releases and ends, so that no other waits for a node in its hand. That is done here
+/// alone, whatever stopped the search. The hands come back, and their seat is of the same table. It
+/// waits for the lock, and for other workers while no slot is open and one is held.
+pub fn search<L: Ledger, W: Wait, G: Gate>(
+    rt: &W,
+    alloc: Global,
+    gate: &G,
+    shared: &Shared<'_, L>,
+    worker: u8,
+    hands: Hands<L>,
+) -> Hands<L>
+    requires worker { worker < 8 }
+    requires seat { hands.seat.table ≡ shared.now.word.now.table }
+    ensures seat { result.seat.table ≡ hands.seat.table }
+{
+    let post = Post::new(shared, worker);
+    let mut worker = Worker::new(alloc, hands);
+    if let Err(Stop) = search_slots(rt, alloc, gate, &post, &mut worker) {
+        ask(rt, &post, &mut worker, Event::Release(post.number));
+    }
+    worker.hands
+}

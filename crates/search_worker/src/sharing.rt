@@ -1,0 +1,56 @@
+//! What a worker lets the others see.
+ghost use Rattle.search_worker.specs.Serving.{Serves};
+
+use crate::asking::ask;
+use crate::stop::Stop;
+use crate::worker::{Post, Worker};
+use book_core::Reply;
+use place_refute::{Cut, copy_cut};
+use search_book::Event;
+use std::sync::Wait;
+use std::sync::ledger::Ledger;
+
+// Posts a cut of the book to the pool. Without memory the others find it in the book alone.
+fn show_cut<L: Ledger, W: Wait>(
+    rt: &W,
+    post: &Post<'_, L>,
+    worker: &mut Worker<L>,
+    cut: Cut,
+    number: u64,
+)
+    requires serves { Serves post.now worker.old }
+    ensures serves { Serves post.now worker.new }
+{
+    if let Ok(token) = post.pool.post(rt, cut, number) {
+        let _ = worker.tokens.add(token);
+    }
+}
+
+/// Posts a cut to the book, and a copy with its number to the pool. The pool goes without where there
+/// is no memory for the copy.
+pub(crate) fn post_cut<L: Ledger, W: Wait>(
+    rt: &W,
+    post: &Post<'_, L>,
+    worker: &mut Worker<L>,
+    cut: Cut,
+) -> Result<u64, Stop>
+    requires serves { Serves post.now worker.old }
+    ensures serves { Serves post.now worker.new }
+{
+    let copy = copy_cut(&cut).ok();
+    let Reply::Posted(number) = ask(rt, post, worker, Event::Post(cut)) else {
+        return Err(Stop);
+    };
+    if let Some(copy) = copy {
+        show_cut(rt, post, worker, copy, number);
+    }
+    Ok(number)
+}
+
+/// Lowers the shared best cost to that of a plan which the book took.
+pub(crate) fn show_cost<L: Ledger>(post: &Post<'_, L>, worker: &mut Worker<L>, cost: u64)
+    requires serves { Serves post.now worker.old }
+    ensures serves { Serves post.now worker.new }
+{
+    post.word.lower(&mut worker.hands.seat, cost);
+}

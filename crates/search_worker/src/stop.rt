@@ -1,0 +1,14 @@
+//! Why a worker ends early.
+
+use plain_text::NoMemory;
+
+/// The worker is to release and to end: memory was refused, or the book answered what it doesn't
+/// answer a worker that keeps the rules.
+#[derive(Debug, Drop)]
+pub(crate) struct Stop;
+
+impl From<NoMemory> for Stop {
+    fn from(_want: NoMemory) -> Stop {
+        Stop
+    }
+}

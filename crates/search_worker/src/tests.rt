@@ -1,0 +1,4 @@
+//! One worker alone.
+mod alone;
+mod fixture;
+mod nodes;

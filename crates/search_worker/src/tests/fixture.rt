@@ -1,0 +1,153 @@
+//! Books of one chamber and two ships, and a worker that searches one alone.
+ghost use Rattle.std.specs.Prelude.{◌≡◌};
+
+use crate::{Hands, Shared, search};
+use book_core::{Book, Case, open_book};
+use bound_word::BoundTable;
+use cut_pool::Pool;
+use first_plan::{first_unfit, singles_plan};
+use lock_io::{Gate, Point};
+use lock_model::{Chamber, Chambers, Closures, Instance, Name, Ship, ShipList, Stand, Way};
+use search_book::share_book;
+use std::alloc::Global;
+use std::marker::Brand;
+use std::sync::ledger::{Blank, Ledger};
+use std::sync::{Mutex, Wait};
+use std::test::Fail;
+
+fn named(letter: u8) -> Name {
+    let mut name = Name::new();
+    name.push(letter);
+    name
+}
+
+fn chamber(width: u32, most: u8) -> Chamber {
+    Chamber {
+        name: named(b'c'),
+        length: 2000,
+        width,
+        end: 10,
+        gap: 20,
+        side: 5,
+        most,
+        pass: 30,
+        turn: 15,
+        stands: Stand::Low,
+        opens: 0,
+        closures: Closures::new(),
+    }
+}
+
+fn ship(letter: u8, way: Way) -> Ship {
+    Ship {
+        name: named(letter),
+        way,
+        length: 1100,
+        width: 114,
+        arrival: 0,
+        handling: 5,
+        cargo: 0,
+    }
+}
+
+/// Two ships that come at once, the first up, and a chamber of this width for so many ships.
+pub(crate) fn lock(width: u32, most: u8, second: Way) -> Result<Instance, Fail> {
+    let mut chambers = Chambers::new();
+    chambers.push(chamber(width, most));
+    let mut ships = ShipList::new();
+    ships.push(ship(b's', Way::Up));
+    ships.push(ship(b't', second));
+    Ok(Instance::new(chambers, ships).ok_or("no instance")?)
+}
+
+/// Two ships that want up at once, and a chamber of this width.
+pub(crate) fn two_ships(width: u32) -> Result<Instance, Fail> {
+    lock(width, 4, Way::Up)
+}
+
+/// The book of an instance whose ships fit some chamber each, opened with its singles plan.
+pub(crate) fn open(
+    alloc: Global,
+    instance: Instance,
+    nodes: u32,
+    turns: u32,
+) -> Result<Book, Fail> {
+    if nodes < 1 || nodes > 1000000 || turns < 1 || turns > 200000 {
+        return Err(Fail::from("out of range"));
+    }
+    if first_unfit(&instance).is_some() {
+        return Err(Fail::from("an unfit ship"));
+    }
+    let plan = singles_plan(&instance);
+    let case = Case::new(instance, nodes, turns);
+    Ok(open_book(alloc, &case, plan)?)
+}
+
+// The book after one worker has searched it under a ledger of two parts, and the least cost that was
+// posted.
+fn searched_by<L: Ledger, W: Wait, G: Gate>(
+    rt: &W,
+    alloc: Global,
+    gate: &G,
+    blank: Blank,
+    book: Book,
+) -> Result<(Book, u64), Fail>
+    requires name { blank.name ≡ L.name }
+    requires parts { (blank.parts ≡ L.parts) × (blank.parts ≡ 2) }
+{
+    let case = book.case().copy();
+    let pool = Pool::new(alloc)?;
+    let (word, mut seat) = BoundTable::new(alloc, book.opening_cost(), 2)?;
+    let own = word.split(&mut seat);
+    let (book, mut shares) = share_book::<L>(blank, book, 1);
+    let Some(share) = shares.pop() else {
+        return Err(Fail::from("no share"));
+    };
+    let shared = Shared {
+        case: &case,
+        book: &book,
+        pool: &pool,
+        word: &word,
+    };
+    let hands = search(rt, alloc, gate, &shared, 0, Hands { share, seat: own });
+    let Hands { share, seat: own } = hands;
+    shares.push(share);
+    word.join(&mut seat, own);
+    Ok((book.into_book(shares), word.close(seat)))
+}
+
+/// The book after one worker has searched it alone, and the least cost that was posted.
+pub(crate) fn searched<W: Wait, G: Gate>(
+    rt: &W,
+    alloc: Global,
+    gate: &G,
+    book: Book,
+) -> Result<(Book, u64), Fail> {
+    searched_by::<Brand, W, G>(rt, alloc, gate, Blank::new(2), book)
+}
+
+/// A gate that keeps the points at which one worker called it.
+#[derive(Drop)]
+pub(crate) struct Trail {
+    points: Mutex<Vec<Point>>,
+}
+
+impl Trail {
+    pub(crate) fn new(alloc: Global) -> Trail {
+        Trail {
+            points: Mutex::new(Vec::new(alloc)),
+        }
+    }
+
+    pub(crate) fn points(self) -> Vec<Point> {
+        self.points.into_inner()
+    }
+}
+
+impl Gate for Trail {
+    fn at(&self, _worker: u8, point: Point) {
+        if let Some(mut points) = self.points.try_lock() {
+            let _ = points.push(point);
+        }
+    }
+}
