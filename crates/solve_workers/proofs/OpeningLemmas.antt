@@ -14,6 +14,7 @@ use Rattle.first_plan.specs.declared.opening.FirstError.TheVariants.{Unfit}
 use Rattle.search_rules.specs.declared.book.Entry.TheVariants as entry
 use Rattle.search_rules.specs.declared.book.SlotState.TheVariants as slot
 use Rattle.search_rules.specs.Book.{Book, Case, opening_book, slot_at, is_held, root, bound_at}
+use Rattle.search_rules.specs.Cheap.{opening_cost}
 use Rattle.search_rules.specs.Cover.{IsOwnCut}
 use Rattle.search_rules.specs.Ends.{HoldsNothing, EndsWell}
 use Rattle.search_rules.specs.Events as machine
@@ -22,6 +23,7 @@ use Rattle.search_rules.specs.Step
 use Rattle.search_rules.specs.Tests.{is_own_cut}
 use Rattle.book_core.specs.declared.reply.Reply.{Reply}
 use Rattle.book_core.specs.Replies.{Does, Steps, Stays}
+use Rattle.solve_workers.specs.declared.solving.Solved.{Solved}
 use Rattle.solve_workers.specs.Told.{number_in}
 use Rattle.solve_workers.specs.Opening.{IsReady, with_cuts, opened_with}
 use Rattle.solve_workers.proofs.ToldLemmas.{Answer, number_of, told-number}
@@ -86,6 +88,14 @@ opened_ready_ok case plan cuts cost (Err e) costs is = tt
 -- the end is as good with a higher limit
 pub ends_within : (low high : ℕ) (b : Book) → low ≤ high → EndsWell low b → EndsWell high b
 ends_within low high b less ends = record { free = ends.free; opening = let most = ends.opening in omega (arith, most, less); parked = ends.parked; left = ends.left }
+
+pub ends_within_ok : {E : Type 0} (low high : ℕ) (r : Result Solved E) → low ≤ high → IfOk r (λ solved. EndsWell low solved.book) → IfOk r (λ solved. EndsWell high solved.book)
+ends_within_ok low high (Ok solved) less ends = ends_within low high solved.book less ends
+ends_within_ok low high (Err e) less ends = tt
+
+-- a ready book that was driven has ended well from the cost of its opening plan
+pub driven_ends : (case : Case) (cost limit : ℕ) (b new : Book) → IsReady case cost b → cost ≡ limit → EndsWell (opening_cost b) new → EndsWell limit new
+driven_ends case cost limit b new ready costs ends = subst (λ n. EndsWell n new) (ready.opening ∙ costs) ends
 
 -- where each ship fits some chamber, none is refused
 never-unfit : (I : Instance) (s : ℕ) → HasNoUnfit I → IsFirstUnfit I s → ⊥

@@ -40,6 +40,7 @@ fn opening_plan(alloc: Global, case: &Case) -> Result<Plan, NoMemory>
     }
 }
 
+#[tactic(auto, using(crate::proofs::OpeningLemmas::ends_within_ok))]
 /// Searches a case from the plan of `first_plan` and no cuts, as `solve_from` does.
 pub fn solve<R: Threads + Wait + Sync, G: Gate + Sync>(
     rt: &R,
@@ -79,10 +80,10 @@ pub fn solve_from<R: Threads + Wait + Sync, G: Gate + Sync>(
     ensures case { IfOk result (λ solved. solved.book.case ≡ case.now) }
     ensures well { IfOk result (λ solved. EndsWell (cost_of case.now.instance plan) solved.book) }
 {
-    let book = opened(alloc, case, plan.copy(), &cuts)?;
-    let cost = book.opening_cost();
+    let first = opened(alloc, case, plan.copy(), &cuts)?;
+    let cost = first.opening_cost();
     let blank = Blank::new(workers as u64 + 1);
-    let left = searched::<Brand, R, G>(rt, alloc, blank, book, case, &cuts, workers, gate)?;
+    let left = searched::<Brand, R, G>(rt, alloc, blank, first, case, &cuts, workers, gate)?;
     let mut book = settled(alloc, left, case, cost, plan, &cuts)?;
     drive(alloc, &mut book)?;
     Ok(Solved { book })
