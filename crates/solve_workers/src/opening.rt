@@ -1,5 +1,5 @@
 //! The book that a search begins with.
-ghost use Rattle.std.specs.Prelude.{◌≡◌, All, IfOk, OnOk};
+ghost use Rattle.std.specs.Prelude.{◌≡◌, ◌∷◌, [], All, IfOk, OnOk};
 ghost use Rattle.lock_rules.specs.Plan.{IsLegal};
 ghost use Rattle.search_rules.specs.Cover.{IsOwnCut};
 ghost use Rattle.solve_workers.specs.Opening.{with_cuts, opened_with};
@@ -12,6 +12,7 @@ use place_refute::{Cut, copy_cut};
 use plain_text::NoMemory;
 use std::alloc::Global;
 
+#[tactic(auto, using(crate::proofs::OpeningLemmas::posted_just, crate::proofs::GrowLemmas::post_granted))]
 // Posts a copy of a cut, which is of the book's case.
 fn post_copy(book: &mut Book, cut: &Cut) -> Result<(), NoMemory>
     requires { IsOwnCut book.old.case.instance cut.now }
@@ -22,6 +23,7 @@ fn post_copy(book: &mut Book, cut: &Cut) -> Result<(), NoMemory>
     Ok(())
 }
 
+#[tactic(auto, using(crate::proofs::OpeningLemmas::posted_next, crate::proofs::OpeningLemmas::posted_whole, crate::proofs::OpeningLemmas::own_still, crate::proofs::OpeningLemmas::with_none))]
 // Posts copies of cuts in their order; they are of the book's case.
 fn post_all(book: &mut Book, cuts: &CutList) -> Result<(), NoMemory>
     requires { All (IsOwnCut book.old.case.instance) cuts.now }
