@@ -1,3 +1,5 @@
+use Rattle.std.proofs.Common.{◌≡◌, ◌+◌, suc, subst, arith}
+use Rattle.solve_workers.specs.Settling.{AreHeldFrom}
 use Rattle.solve_workers.proofs.SettleLemmas.{held_at_first, back_at_first, held_after, back_after, free_at_last}
 use Rattle.solve_workers.proofs.settling.release_others.Goals as goal
 
@@ -7,6 +9,6 @@ loop-worker-init c = (held_at_first c.args.book.now c.keeps.ensures.parts.worker
 pub loop-worker-preserved : goal.loop-worker-preserved
 loop-worker-preserved c =
     let keeps = c.keeps-in-loop-worker.ensures.parts.workers in (
-      held_after c.loop-worker.book c.loop-worker.worker keeps c.loop-worker-test.true c.release.result c.release.new.self c.release.ensures c.loop-worker.invariant.0,
+      subst (λ n. AreHeldFrom n c.release.new.self) (let up : suc c.loop-worker.worker ≡ c.loop-worker.worker + 1 = omega arith in up) (held_after c.loop-worker.book c.loop-worker.worker keeps c.loop-worker-test.true c.release.result c.release.new.self c.release.ensures c.loop-worker.invariant.0),
       back_after c.loop-worker.book c.loop-worker.worker keeps c.loop-worker-test.true c.release.result c.release.new.self c.release.ensures c.args.book.now c.loop-worker.invariant.1,
     )
