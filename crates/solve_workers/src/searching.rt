@@ -30,10 +30,8 @@ fn post_copy<W: Wait>(rt: &W, pool: &Pool, cut: &Cut, number: u64) -> Option<Tok
 // Posts the given cuts to the pool, so that workers find them. They have the first numbers of the
 // book. One for which there is no memory is left out.
 fn post_given<W: Wait>(rt: &W, pool: &Pool, cuts: &CutList) {
-    let mut number = 0;
-    for cut in cuts.as_slice() {
-        let _ = post_copy(rt, pool, cut, number);
-        number += 1;
+    for (number, cut) in cuts.as_slice().iter().enumerate() {
+        let _ = post_copy(rt, pool, cut, number as u64);
     }
 }
 

@@ -1,4 +1,4 @@
-use Rattle.std.proofs.Common.{◌≡◌, ◌+◌, ◌≤◌, length, vec_len, sum_by, All}
+use Rattle.std.proofs.Common.{◌≡◌, ◌+◌, length, vec_len, sum_by, All}
 use Rattle.solve_workers.proofs.crew.gather.Given as goal
 
 abbrev pub invariant-loop-hands : goal.invariant-loop-hands

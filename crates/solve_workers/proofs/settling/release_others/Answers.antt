@@ -1,6 +1,6 @@
 use Rattle.std.proofs.Common.{◌≡◌, ◌+◌, suc, subst, arith}
 use Rattle.solve_workers.specs.Settling.{AreHeldFrom}
-use Rattle.solve_workers.proofs.SettleLemmas.{held_at_first, back_at_first, held_after, back_after, free_at_last}
+use Rattle.solve_workers.proofs.SettleLemmas.{held_at_first, back_at_first, held_after, back_after}
 use Rattle.solve_workers.proofs.settling.release_others.Goals as goal
 
 pub loop-worker-init : goal.loop-worker-init
