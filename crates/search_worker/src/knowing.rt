@@ -23,6 +23,7 @@ fn known_cut<L: Ledger>(
     chamber: u8,
     place: u8,
 ) -> Option<u64>
+    requires serves { Serves post.now worker.now }
     requires node { IsNodeOf post.now.instance.now node.now }
     requires at { IsGroupAt post.now.instance.now node.now chamber place }
 {

@@ -8,3 +8,4 @@ pub mod TakeLemmas
 pub mod TidyLemmas
 pub mod OpeningLemmas
 pub mod HeldLemmas
+pub mod SettleLemmas

@@ -4,3 +4,4 @@ pub mod Holding
 pub mod Holds
 pub mod Cuts
 pub mod Opening
+pub mod Settling

@@ -1,18 +1,25 @@
-//! The search of a case from its opening plan.
-ghost use Rattle.std.specs.Prelude.{◌≡◌, ◌≤◌, IfOk};
+//! The search of a case.
+ghost use Rattle.std.specs.Prelude.{◌≡◌, ◌≤◌, All, IfOk};
+ghost use Rattle.lock_rules.specs.Plan.{IsLegal, cost_of};
 ghost use Rattle.lock_rules.specs.Singles.{singles_of};
 ghost use Rattle.first_plan.specs.Merging.{IsAtMost};
+ghost use Rattle.search_rules.specs.Cover.{IsOwnCut};
 ghost use Rattle.search_rules.specs.Ends.{EndsWell};
-ghost use Rattle.solve_workers.specs.Opening.{IsOpened};
 
+use crate::cut_list::CutList;
 use crate::driving::drive;
-use book_core::{Book, Case, open_book};
+use crate::opening::opened;
+use crate::searching::searched;
+use crate::settling::settled;
+use book_core::{Book, Case};
 use first_plan::{FirstError, first_plan};
 use lock_io::Gate;
 use lock_model::Plan;
 use plain_text::NoMemory;
 use std::alloc::Global;
+use std::marker::Brand;
 use std::sync::Wait;
+use std::sync::ledger::Blank;
 use std::thread::Threads;
 
 /// What a search comes to.
@@ -33,18 +40,8 @@ fn opening_plan(alloc: Global, case: &Case) -> Result<Plan, NoMemory>
     }
 }
 
-// The book of a case, opened with that plan.
-fn opened(alloc: Global, case: &Case) -> Result<Book, NoMemory>
-    ensures { IfOk result (IsOpened case.now) }
-{
-    let plan = opening_plan(alloc, case)?;
-    open_book(alloc, case, plan)
-}
-
-/// Searches a case from the plan of `first_plan`, with 1 to 8 workers. Refuses want of memory alone.
-///
-/// All work is done on the caller's thread for now, whatever the number of workers, and the gate is
-/// not called.
+#[tactic(auto, using(crate::proofs::OpeningLemmas::ends_within_ok))]
+/// Searches a case from the plan of `first_plan` and no cuts, as `solve_from` does.
 pub fn solve<R: Threads + Wait + Sync, G: Gate + Sync>(
     rt: &R,
     alloc: Global,
@@ -57,10 +54,37 @@ pub fn solve<R: Threads + Wait + Sync, G: Gate + Sync>(
     ensures case { IfOk result (λ solved. solved.book.case ≡ case.now) }
     ensures well { IfOk result (λ solved. EndsWell (singles_of case.now.instance) solved.book) }
 {
-    let _ = rt;
-    let _ = workers;
-    let _ = gate;
-    let mut book = opened(alloc, case)?;
+    let plan = opening_plan(alloc, case)?;
+    solve_from(rt, alloc, case, plan, CutList::new(alloc), workers, gate)
+}
+
+/// Searches a case from a legal plan and cuts of its chambers and ships, which are posted first, with
+/// 1 to 8 workers. Each worker has a thread of its own where one can be made. When all have ended,
+/// the caller drives the search to its end on its own thread. It may wait for the workers.
+///
+/// Refuses want of memory alone: the caller was refused memory before the workers began, or when it
+/// opened the book anew or drove it to its end after them.
+pub fn solve_from<R: Threads + Wait + Sync, G: Gate + Sync>(
+    rt: &R,
+    alloc: Global,
+    case: &Case,
+    plan: Plan,
+    cuts: CutList,
+    workers: u8,
+    gate: &G,
+) -> Result<Solved, NoMemory>
+    requires some_workers { 1 ≤ workers }
+    requires few_workers { workers ≤ 8 }
+    requires legal { IsLegal case.now.instance plan }
+    requires own { All (IsOwnCut case.now.instance) cuts }
+    ensures case { IfOk result (λ solved. solved.book.case ≡ case.now) }
+    ensures well { IfOk result (λ solved. EndsWell (cost_of case.now.instance plan) solved.book) }
+{
+    let first = opened(alloc, case, plan.copy(), &cuts)?;
+    let cost = first.opening_cost();
+    let blank = Blank::new(workers as u64 + 1);
+    let left = searched::<Brand, R, G>(rt, alloc, blank, first, case, &cuts, workers, gate)?;
+    let mut book = settled(alloc, left, case, cost, plan, &cuts)?;
     drive(alloc, &mut book)?;
     Ok(Solved { book })
 }

@@ -1,0 +1,31 @@
+-- What the caller tests and does once all workers have ended.
+use Rattle.std.specs.Prelude.{ℕ, ◌≡◌, ◌<◌, ◌≤◌, None}
+use Rattle.search_rules.specs.declared.book.SlotState.TheVariants as slot
+use Rattle.search_rules.specs.Book.{Book, Case, slot_at, first_slot, is_held_by}
+use Rattle.search_rules.specs.Cheap.{opening_cost}
+use Rattle.search_rules.specs.Ends.{HoldsNothing}
+use Rattle.solve_workers.specs.Holding.{IsRunning}
+
+-- The book is of this case and its opening plan costs this much. Worker 8 has neither released nor holds a slot.
+pub record IsOurs (case : Case) (cost : ℕ) (b : Book) : Type 0 where
+  pub case_is : b.case ≡ case
+  pub opening : opening_cost b ≡ cost
+  pub running : IsRunning b
+  pub empty : first_slot b (is_held_by 8) ≡ None
+
+-- what is held is held by workers from n up to 7
+pub record AreHeldFrom (n : ℕ) (b : Book) : Type 0 where
+  pub from : (id w : ℕ) → (slot_at b id).state ≡ slot.Held w → (n ≤ w) × (w < 8)
+
+-- Slots were given back and nothing else: the case, all plans and cuts stay, and worker 8 hasn't released.
+pub record IsGivenBack (old new : Book) : Type 0 where
+  pub case : new.case ≡ old.case
+  pub opening : new.opening ≡ old.opening
+  pub best : new.best ≡ old.best
+  pub cuts : new.cuts ≡ old.cuts
+  pub running : IsRunning new
+
+-- the same, and nothing is held
+pub record IsFreed (old new : Book) : Type 0 where
+  pub back : IsGivenBack old new
+  pub free : HoldsNothing new

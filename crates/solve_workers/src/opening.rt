@@ -1,0 +1,53 @@
+//! The book that a search begins with.
+ghost use Rattle.std.specs.Prelude.{◌≡◌, ◌∷◌, [], All, IfOk, OnOk};
+ghost use Rattle.lock_rules.specs.Plan.{IsLegal};
+ghost use Rattle.search_rules.specs.Cover.{IsOwnCut};
+ghost use Rattle.solve_workers.specs.Opening.{with_cuts, opened_with};
+
+use crate::cut_list::CutList;
+use crate::told::posted;
+use book_core::{Book, Case, open_book};
+use lock_model::Plan;
+use place_refute::{Cut, copy_cut};
+use plain_text::NoMemory;
+use std::alloc::Global;
+
+#[tactic(auto, using(crate::proofs::OpeningLemmas::posted_just, crate::proofs::GrowLemmas::post_granted))]
+// Posts a copy of a cut, which is of the book's case.
+fn post_copy(book: &mut Book, cut: &Cut) -> Result<(), NoMemory>
+    requires { IsOwnCut book.old.case.instance cut.now }
+    ensures { OnOk result (book.new ≡ with_cuts book.old (cut.now ∷ [])) }
+{
+    let reply = book.post(copy_cut(cut)?);
+    posted(&reply)?;
+    Ok(())
+}
+
+#[tactic(auto, using(crate::proofs::OpeningLemmas::posted_next, crate::proofs::OpeningLemmas::posted_whole, crate::proofs::OpeningLemmas::own_still, crate::proofs::OpeningLemmas::with_none))]
+// Posts copies of cuts in their order; they are of the book's case.
+fn post_all(book: &mut Book, cuts: &CutList) -> Result<(), NoMemory>
+    requires { All (IsOwnCut book.old.case.instance) cuts.now }
+    ensures { OnOk result (book.new ≡ with_cuts book.old cuts.now) }
+{
+    for cut in cuts.as_slice() {
+        post_copy(book, cut)?;
+    }
+    Ok(())
+}
+
+/// The book of a case and a legal plan in which the given cuts, which are of the case, are posted.
+/// Refuses want of memory alone.
+pub(crate) fn opened(
+    alloc: Global,
+    case: &Case,
+    plan: Plan,
+    cuts: &CutList,
+) -> Result<Book, NoMemory>
+    requires legal { IsLegal case.now.instance plan }
+    requires own { All (IsOwnCut case.now.instance) cuts.now }
+    ensures { IfOk result (λ book. book ≡ opened_with case.now plan cuts.now) }
+{
+    let mut book = open_book(alloc, case, plan)?;
+    post_all(&mut book, cuts)?;
+    Ok(book)
+}
