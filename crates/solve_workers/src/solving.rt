@@ -40,6 +40,27 @@ fn opening_plan(alloc: Global, case: &Case) -> Result<Plan, NoMemory>
     }
 }
 
+// The book as the workers leave it. One worker alone is the caller, who drives without a lock: no
+// other thread is started for it.
+fn worked<R: Threads + Wait + Sync, G: Gate + Sync>(
+    rt: &R,
+    alloc: Global,
+    book: Book,
+    case: &Case,
+    cuts: &CutList,
+    workers: u8,
+    gate: &G,
+) -> Result<Book, NoMemory>
+    requires some_workers { 1 ≤ workers }
+    requires few_workers { workers ≤ 8 }
+{
+    if workers == 1 {
+        return Ok(book);
+    }
+    let blank = Blank::new(workers as u64 + 1);
+    searched::<Brand, R, G>(rt, alloc, blank, book, case, cuts, workers, gate)
+}
+
 #[tactic(auto, using(crate::proofs::OpeningLemmas::ends_within_ok))]
 /// Searches a case from the plan of `first_plan` and no cuts, as `solve_from` does.
 pub fn solve<R: Threads + Wait + Sync, G: Gate + Sync>(
@@ -59,8 +80,9 @@ pub fn solve<R: Threads + Wait + Sync, G: Gate + Sync>(
 }
 
 /// Searches a case from a legal plan and cuts of its chambers and ships, which are posted first, with
-/// 1 to 8 workers. Each worker has a thread of its own where one can be made. When all have ended,
-/// the caller drives the search to its end on its own thread. It may wait for the workers.
+/// 1 to 8 workers. Each of two or more workers has a thread of its own where one can be made. When
+/// all have ended, the caller drives the search to its end on its own thread; one worker alone is the
+/// caller. It may wait for the workers.
 ///
 /// Refuses want of memory alone: the caller was refused memory before the workers began, or when it
 /// opened the book anew or drove it to its end after them.
@@ -82,8 +104,7 @@ pub fn solve_from<R: Threads + Wait + Sync, G: Gate + Sync>(
 {
     let first = opened(alloc, case, plan.copy(), &cuts)?;
     let cost = first.opening_cost();
-    let blank = Blank::new(workers as u64 + 1);
-    let left = searched::<Brand, R, G>(rt, alloc, blank, first, case, &cuts, workers, gate)?;
+    let left = worked(rt, alloc, first, case, &cuts, workers, gate)?;
     let mut book = settled(alloc, left, case, cost, plan, &cuts)?;
     drive(alloc, &mut book)?;
     Ok(Solved { book })

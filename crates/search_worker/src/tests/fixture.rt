@@ -1,14 +1,14 @@
 //! Books of one chamber and two ships, and a worker that searches one alone.
-ghost use Rattle.std.specs.Prelude.{◌≡◌};
+ghost use Rattle.std.specs.Prelude.{◌≡◌, ◌+◌, length, sum_by, All, IfSome};
 
 use crate::{Hands, Shared, search};
 use book_core::{Book, Case, open_book};
-use bound_word::BoundTable;
+use bound_word::{BoundSeat, BoundTable};
 use cut_pool::Pool;
 use first_plan::{first_unfit, singles_plan};
 use lock_io::{Gate, Point};
 use lock_model::{Chamber, Chambers, Closures, Instance, Name, Ship, ShipList, Stand, Way};
-use search_book::share_book;
+use search_book::{ShareList, share_book};
 use std::alloc::Global;
 use std::marker::Brand;
 use std::sync::ledger::{Blank, Ledger};
@@ -83,6 +83,18 @@ pub(crate) fn open(
     Ok(open_book(alloc, &case, plan)?)
 }
 
+// A worker's hands: the last share of a list of single parts, and a seat of one part.
+fn hands_of<L: Ledger>(shares: &mut ShareList<L>, seat: BoundSeat) -> Option<Hands<L>>
+    requires each { All (λ s. s.parts ≡ 1) shares.old }
+    requires seat { seat.view.parts ≡ 1 }
+    ensures parts { IfSome result (λ _. sum_by (λ s. s.parts) shares.new + 1 ≡ sum_by (λ s. s.parts) shares.old) }
+    ensures count { IfSome result (λ _. length shares.new + 1 ≡ length shares.old) }
+    ensures table { IfSome result (λ hands. hands.seat.table ≡ seat.table) }
+{
+    let share = shares.pop()?;
+    Some(Hands { share, seat })
+}
+
 // The book after one worker has searched it under a ledger of two parts, and the least cost that was
 // posted.
 fn searched_by<L: Ledger, W: Wait, G: Gate>(
@@ -100,7 +112,7 @@ fn searched_by<L: Ledger, W: Wait, G: Gate>(
     let (word, mut seat) = BoundTable::new(alloc, book.opening_cost(), 2)?;
     let own = word.split(&mut seat);
     let (book, mut shares) = share_book::<L>(blank, book, 1);
-    let Some(share) = shares.pop() else {
+    let Some(hands) = hands_of(&mut shares, own) else {
         return Err(Fail::from("no share"));
     };
     let shared = Shared {
@@ -109,8 +121,7 @@ fn searched_by<L: Ledger, W: Wait, G: Gate>(
         pool: &pool,
         word: &word,
     };
-    let hands = search(rt, alloc, gate, &shared, 0, Hands { share, seat: own });
-    let Hands { share, seat: own } = hands;
+    let Hands { share, seat: own } = search(rt, alloc, gate, &shared, 0, hands);
     shares.push(share);
     word.join(&mut seat, own);
     Ok((book.into_book(shares), word.close(seat)))

@@ -1,5 +1,5 @@
 //! Searches from the first plan, and from a plan and cuts that were found before.
-ghost use Rattle.std.specs.Prelude.{All, IfOk};
+ghost use Rattle.std.specs.Prelude.{All, IfOk, IfSome};
 ghost use Rattle.search_rules.specs.Cover.{IsOwnCut};
 
 use super::fixture::{case_of, two_ships};
@@ -9,21 +9,31 @@ use book_core::Book;
 use instance_text::make_lot;
 use lock_io::OpenGate;
 use lock_model::Verdict;
-use place_refute::copy_cut;
+use place_refute::{Cut, copy_cut};
 use plain_text::NoMemory;
 use std::alloc::Global;
 use std::test::Fail;
+
+// A copy of a cut of a book; None where it has none of this number.
+fn copied(book: &Book, number: u64) -> Result<Option<Cut>, NoMemory>
+    ensures { IfOk result (λ copy. IfSome copy (IsOwnCut book.now.case.instance)) }
+{
+    book.keeps();
+    match book.cut(number) {
+        Some(cut) => Ok(Some(copy_cut(cut)?)),
+        None => Ok(None),
+    }
+}
 
 // Copies of the cuts of a book.
 fn cuts_of(alloc: Global, book: &Book) -> Result<CutList, NoMemory>
     ensures { IfOk result (All (IsOwnCut book.now.case.instance)) }
 {
     let mut cuts = CutList::new(alloc);
-    book.keeps();
     for number in 0..u64::MAX {
-        match book.cut(number) {
-            Some(cut) => cuts.push(copy_cut(cut)?)?,
-            None => break,
+        match copied(book, number)? {
+            Some(cut) => cuts.push(cut)?,
+            None => return Ok(cuts),
         }
     }
     Ok(cuts)
