@@ -1,0 +1,4 @@
+pub mod Kept
+pub mod PartBreaks
+pub mod Rest
+pub mod Last

@@ -1,0 +1,29 @@
+//! Replanning: what is left of an instance once a part of a plan is kept.
+//!
+//! `residual` keeps the lockages of a plan that start before a minute, judges them, and makes the
+//! instance of the rest: the chambers as the kept lockages leave them and the ships that these
+//! don't serve. It takes no memory.
+//!
+//! Definitions: `specs/Kept` (the kept lockages, and when they can be kept), `PartBreaks` (why they
+//! can't), `Rest` (the rest, and by how much it costs less than the whole).
+#![tactic(auto)]
+
+mod judging;
+mod keeping;
+mod late;
+mod left;
+mod naming;
+mod numbers;
+mod part;
+mod refusal;
+mod remainder;
+mod remaining;
+mod service;
+mod standing;
+#[cfg(test)]
+mod tests;
+
+pub use numbers::Ships24;
+pub use refusal::ReplanError;
+pub use remainder::Residual;
+pub use remaining::residual;
