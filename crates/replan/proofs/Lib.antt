@@ -3,3 +3,7 @@ pub mod ListLemmas
 pub mod PartLemmas
 pub mod StandingLemmas
 pub mod LeftLemmas
+pub mod RenumberLemmas
+pub mod JoinLemmas
+pub mod CostLemmas
+pub mod PutLemmas

@@ -16,7 +16,7 @@ filter-short p (x ∷ xs) =
       | false ↦ omega (arith, rest)
     ]
 
-taken_few : {X : Type 0} (xs : List X) (i : ℕ) → length (take i xs) ≤ i
+pub taken_few : {X : Type 0} (xs : List X) (i : ℕ) → length (take i xs) ≤ i
 taken_few xs zero = omega arith
 taken_few [] (suc i) = omega arith
 taken_few (x ∷ xs) (suc i) = omega (arith, taken_few xs i)

@@ -2,10 +2,11 @@
 //!
 //! `residual` keeps the lockages of a plan that start before a minute, judges them, and makes the
 //! instance of the rest: the chambers as the kept lockages leave them and the ships that these
-//! don't serve. It takes no memory.
+//! don't serve. `put_together` appends a plan of the rest to the kept lockages. Neither takes memory.
 //!
 //! Definitions: `specs/Kept` (the kept lockages, and when they can be kept), `PartBreaks` (why they
-//! can't), `Rest` (the rest, and by how much it costs less than the whole).
+//! can't), `Rest` (the rest, and by how much it costs less than the whole), `Together` (a plan of the
+//! rest put together with the kept plan, and plans that keep it), `Last` (a chamber's last lockage).
 #![tactic(auto)]
 
 mod judging;
@@ -22,8 +23,10 @@ mod service;
 mod standing;
 #[cfg(test)]
 mod tests;
+mod together;
 
 pub use numbers::Ships24;
 pub use refusal::ReplanError;
 pub use remainder::Residual;
 pub use remaining::residual;
+pub use together::put_together;
