@@ -1,11 +1,12 @@
 //! Worked parts of plans.
+ghost use Rattle.std.specs.Prelude.{◌≤◌};
 
 mod fixture;
 
 use super::*;
 use fixture::{Lock, NARROW, Passage, WIDE, instance, plan};
-use lock_model::Stand;
-use mooring_rules::{Broken, BrokenPlan};
+use lock_model::{Instance, Plan, Stand};
+use mooring_rules::{Broken, BrokenPlan, judge_plan};
 use std::test::Fail;
 
 /// The ships of the rest and what is added, or the refusal.
@@ -78,5 +79,30 @@ fn the_rest_begins_where_the_kept_lockage_ends(rt: HostRuntime) -> Result<(), Fa
     for ship in rest.ships.as_slice() {
         assert_eq!(rt; ship.arrival, 10);
     }
+    Ok(())
+}
+
+/// The found plan behind what is kept of the given one; None where that can't be kept, no ship is
+/// left, or the found plan isn't legal for the rest.
+fn planned_anew(whole: &Instance, given: &Plan, from: u32, found: &Plan) -> Option<Plan>
+    requires { from ≤ 1000000 }
+{
+    match residual(whole, given, from) {
+        Err(_) => None,
+        Ok(left) => {
+            let rest = left.rest.as_ref()?;
+            if judge_plan(rest, found).is_some() {
+                return None;
+            }
+            Some(put_together(whole, &left, found))
+        }
+    }
+}
+
+#[test]
+fn a_plan_of_the_rest_is_put_behind_the_kept_part(rt: HostRuntime) -> Result<(), Fail> {
+    let whole = instance(&WIDE).ok_or("over a limit")?;
+    let found = planned_anew(&whole, &plan(&[(0, 0, 10)]), 10, &plan(&[(0, 50, 10)]));
+    assert_eq!(rt; found, Some(plan(&[(0, 0, 10), (1, 50, 10)])));
     Ok(())
 }
