@@ -25,8 +25,21 @@ use Rattle.replan.specs.Rest.{chamber_after, chambers_after, ships_left, from_mi
 use Rattle.replan.specs.Together.{number_of, renumbered, joined, Keeps}
 use Rattle.replan.proofs.RenumberLemmas.{rest-chambers, rest-ships, chamber-rest, ship-rest, duration-rest, legal-renumbered, once-joined}
 
+-- a list of lockages before a minute, and one of others
+pub all-before : (M : ℕ) (ls : List Lockage) → All (λ l. l.start < M) ls → filter (starts_before M) ls ≡ ls
+all-before M [] all = refl
+all-before M (l ∷ ls) all =
+    ap (λ b. cond b (l ∷ filter (starts_before M) ls) (filter (starts_before M) ls)) (lt-ltb l.start M (All-head (λ (l : Lockage). l.start < M) l ls all))
+    ∙ ap (λ rest. l ∷ rest) (all-before M ls (All-tail (λ (l : Lockage). l.start < M) l ls all))
+
+pub none-before : (M : ℕ) (ls : List Lockage) → All (λ l. M ≤ l.start) ls → filter (starts_before M) ls ≡ []
+none-before M [] all = refl
+none-before M (l ∷ ls) all =
+    ap (λ b. cond b (l ∷ filter (starts_before M) ls) (filter (starts_before M) ls)) (le-ltb l.start M (All-head (λ (l : Lockage). M ≤ l.start) l ls all))
+    ∙ none-before M ls (All-tail (λ (l : Lockage). M ≤ l.start) l ls all)
+
 -- lockages that start no later than others are sorted before them
-insert-append : (l : Lockage) (ls ms : List Lockage) → All (λ m. l.start ≤ m.start) ms → insert_by_start l (ls ++ ms) ≡ insert_by_start l ls ++ ms
+pub insert-append : (l : Lockage) (ls ms : List Lockage) → All (λ m. l.start ≤ m.start) ms → insert_by_start l (ls ++ ms) ≡ insert_by_start l ls ++ ms
 insert-append l [] [] later = refl
 insert-append l [] (m ∷ ms) later =
     ap (λ b. cond b (l ∷ m ∷ ms) (m ∷ insert_by_start l ms)) (le-leb l.start m.start (All-head (λ (m : Lockage). l.start ≤ m.start) m ms later))
@@ -53,11 +66,11 @@ insert-renumbered ns l (m ∷ ms) =
       | false ↦ ap (λ rest. renumbered ns m ∷ rest) (insert-renumbered ns l ms)
     ]
 
-sorted-renumbered : (ns : List ℕ) (ls : List Lockage) → sorted_by_start (map (renumbered ns) ls) ≡ map (renumbered ns) (sorted_by_start ls)
+pub sorted-renumbered : (ns : List ℕ) (ls : List Lockage) → sorted_by_start (map (renumbered ns) ls) ≡ map (renumbered ns) (sorted_by_start ls)
 sorted-renumbered ns [] = refl
 sorted-renumbered ns (l ∷ ls) = ap (insert_by_start (renumbered ns l)) (sorted-renumbered ns ls) ∙ insert-renumbered ns l (sorted_by_start ls)
 
-filter-renumbered : (ns : List ℕ) (c : ℕ) (ls : List Lockage) → filter (λ l. nat_eq l.chamber c) (map (renumbered ns) ls) ≡ map (renumbered ns) (filter (λ l. nat_eq l.chamber c) ls)
+pub filter-renumbered : (ns : List ℕ) (c : ℕ) (ls : List Lockage) → filter (λ l. nat_eq l.chamber c) (map (renumbered ns) ls) ≡ map (renumbered ns) (filter (λ l. nat_eq l.chamber c) ls)
 filter-renumbered ns c [] = refl
 filter-renumbered ns c (l ∷ ls) =
     elim (nat_eq l.chamber c) as (λ b. cond b (renumbered ns l ∷ filter (λ l. nat_eq l.chamber c) (map (renumbered ns) ls)) (filter (λ l. nat_eq l.chamber c) (map (renumbered ns) ls)) ≡ map (renumbered ns) (cond b (l ∷ filter (λ l. nat_eq l.chamber c) ls) (filter (λ l. nat_eq l.chamber c) ls))) [
@@ -65,7 +78,7 @@ filter-renumbered ns c (l ∷ ls) =
       | false ↦ filter-renumbered ns c ls
     ]
 
-line-joined : (K Q : Plan) (M : ℕ) (ns : List ℕ) (c : ℕ) → All (λ l. l.start < M) K.lockages → All (λ l. M ≤ l.start) Q.lockages
+pub line-joined : (K Q : Plan) (M : ℕ) (ns : List ℕ) (c : ℕ) → All (λ l. l.start < M) K.lockages → All (λ l. M ≤ l.start) Q.lockages
     → line_of (joined K ns Q) c ≡ line_of K c ++ map (renumbered ns) (line_of Q c)
 line-joined K Q M ns c early late =
     let own = λ (l : Lockage). nat_eq l.chamber c in
@@ -160,22 +173,10 @@ module _ (I R : Instance) (K : Plan) (M : ℕ) (rest : IsRest I K M R) where
       lines = λ c.
           ap (filter (starts_before M)) (line-joined K Q M (ships_left I K) c early late)
           ∙ filter-append (starts_before M) (line_of K c) (map (renumbered (ships_left I K)) (line_of Q c))
-          ∙ ap (λ ls. ls ++ filter (starts_before M) (map (renumbered (ships_left I K)) (line_of Q c))) (all-before (line_of K c) (All-line (λ l. l.start < M) K c early))
-          ∙ ap (λ ms. line_of K c ++ ms) (none-before (map (renumbered (ships_left I K)) (line_of Q c)) (All-map (λ (l : Lockage). M ≤ l.start) (renumbered (ships_left I K)) (line_of Q c) (All-line (λ l. M ≤ l.start) Q c late)))
+          ∙ ap (λ ls. ls ++ filter (starts_before M) (map (renumbered (ships_left I K)) (line_of Q c))) (all-before M (line_of K c) (All-line (λ l. l.start < M) K c early))
+          ∙ ap (λ ms. line_of K c ++ ms) (none-before M (map (renumbered (ships_left I K)) (line_of Q c)) (All-map (λ (l : Lockage). M ≤ l.start) (renumbered (ships_left I K)) (line_of Q c) (All-line (λ l. M ≤ l.start) Q c late)))
           ∙ append-nil (line_of K c);
     }
-      where
-        all-before : (ls : List Lockage) → All (λ l. l.start < M) ls → filter (starts_before M) ls ≡ ls
-        all-before [] all = refl
-        all-before (l ∷ ls) all =
-            ap (λ b. cond b (l ∷ filter (starts_before M) ls) (filter (starts_before M) ls)) (lt-ltb l.start M (All-head (λ (l : Lockage). l.start < M) l ls all))
-            ∙ ap (λ rest. l ∷ rest) (all-before ls (All-tail (λ (l : Lockage). l.start < M) l ls all))
-
-        none-before : (ls : List Lockage) → All (λ l. M ≤ l.start) ls → filter (starts_before M) ls ≡ []
-        none-before [] all = refl
-        none-before (l ∷ ls) all =
-            ap (λ b. cond b (l ∷ filter (starts_before M) ls) (filter (starts_before M) ls)) (le-ltb l.start M (All-head (λ (l : Lockage). M ≤ l.start) l ls all))
-            ∙ none-before ls (All-tail (λ (l : Lockage). M ≤ l.start) l ls all)
 
 -- the kept lockages start before the minute
 pub kept-early : (P : Plan) (M : ℕ) → All (λ l. l.start < M) (kept_of P M).lockages

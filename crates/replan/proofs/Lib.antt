@@ -7,3 +7,4 @@ pub mod RenumberLemmas
 pub mod JoinLemmas
 pub mod CostLemmas
 pub mod PutLemmas
+pub mod BackLemmas

@@ -47,7 +47,7 @@ place_in (x ∷ xs) s some = elim (eqb_tells x s) [
       record { place = suc rest.place; within = omega (arith, rest.within); is = rest.is }
 ]
 
-times_in-filter : (p : ℕ → Bool) (xs : List ℕ) (s : ℕ) → p s ≡ true → times_in (filter p xs) s ≡ times_in xs s
+pub times_in-filter : (p : ℕ → Bool) (xs : List ℕ) (s : ℕ) → p s ≡ true → times_in (filter p xs) s ≡ times_in xs s
 times_in-filter p [] s pass = refl
 times_in-filter p (x ∷ xs) s pass = elim (eqb_tells x s) [
   | inl same ↦ ap (λ b. times_in (cond b (x ∷ filter p xs) (filter p xs)) s) (ap p same.1 ∙ pass) ∙ ap {B = ℕ} (λ n. cond (nat_eq x s) 1 0 + n) (times_in-filter p xs s pass)
@@ -60,7 +60,7 @@ times_in-filter p (x ∷ xs) s pass = elim (eqb_tells x s) [
 
 -- numbers that rise
 module _ (ns : List ℕ) (rise : IsStrictlyIncreasing ns) where
-  number-less : (s t : ℕ) → s < t → t < length ns → number_of ns s < number_of ns t
+  pub number-less : (s t : ℕ) → s < t → t < length ns → number_of ns s < number_of ns t
   number-less s t less within = AllPairs-from_increasing ns rise s t 0 less within
 
   number-other : (s t : ℕ) → s < length ns → t < length ns → s ≢ t → number_of ns s ≢ number_of ns t
@@ -82,7 +82,7 @@ module _ (ns : List ℕ) (rise : IsStrictlyIncreasing ns) where
         | inr other ↦ omega (arith, rest, ap {B = ℕ} (λ b. cond b 1 0) (ne_eqb (number_of ns s) (number_of ns t) (number-other s t here within other.1)), ap {B = ℕ} (λ b. cond b 1 0) other.0)
       ]
 
-  served-renumbered : (ls : List Lockage) (t : ℕ) → All (λ l. All (λ s. s < length ns) l.ships) ls → t < length ns → served_in (map (renumbered ns) ls) (number_of ns t) ≡ served_in ls t
+  pub served-renumbered : (ls : List Lockage) (t : ℕ) → All (λ l. All (λ s. s < length ns) l.ships) ls → t < length ns → served_in (map (renumbered ns) ls) (number_of ns t) ≡ served_in ls t
   served-renumbered [] t known within = refl
   served-renumbered (l ∷ ls) t known within =
       omega (

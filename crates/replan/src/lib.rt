@@ -3,6 +3,8 @@
 //! `residual` keeps the lockages of a plan that start before a minute, judges them, and makes the
 //! instance of the rest: the chambers as the kept lockages leave them and the ships that these
 //! don't serve. `put_together` appends a plan of the rest to the kept lockages. Neither takes memory.
+//! `plans_that_keep` and `cheapest_that_keeps` are the laws that let the rest stand for all plans
+//! that keep the kept part.
 //!
 //! Definitions: `specs/Kept` (the kept lockages, and when they can be kept), `PartBreaks` (why they
 //! can't), `Rest` (the rest, and by how much it costs less than the whole), `Together` (a plan of the
@@ -12,6 +14,7 @@
 mod judging;
 mod keeping;
 mod late;
+mod laws;
 mod left;
 mod naming;
 mod numbers;
@@ -25,6 +28,7 @@ mod standing;
 mod tests;
 mod together;
 
+pub use laws::{cheapest_that_keeps, plans_that_keep};
 pub use numbers::Ships24;
 pub use refusal::ReplanError;
 pub use remainder::Residual;
