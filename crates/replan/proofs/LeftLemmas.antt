@@ -1,0 +1,173 @@
+-- The rest is within the limits.
+use Rattle.std.proofs.Common.{◌↔◌, Option, IsSome, IsNone, is_some, Bool, true≢false, ◌≡◌, ◌≢◌, ℕ, zero, suc, ◌+◌, ◌<◌, ◌≤◌, List, [], ◌∷◌, length, map, max, filter, get_or, All, AllPairs, cond, true, false, nat_eq, nat_le, eq-eqb, refl, sym, ap, ◌∙◌, subst, arith}
+use Rattle.std.proofs.lemmas.List.{length-map, get_or-map, get_or_default}
+use Rattle.std.proofs.lemmas.List.Elements.{All-head, All-tail, All-cons, All-nil, All-weaker, All-filter}
+use Rattle.std.proofs.lemmas.List.Kept.{AllPairs-from_increasing}
+use Rattle.lock_model.specs.Instance.{IsInstance, IsChamber, IsShip}
+use Rattle.lock_model.specs.Fleet.{ship_at, chamber_at, no_ship, no_chamber}
+use Rattle.lock_model.specs.declared.chamber.Chamber.{Chamber}
+use Rattle.lock_model.specs.declared.ship.Ship.{Ship}
+use Rattle.lock_model.specs.declared.instance.Instance.{Instance}
+use Rattle.lock_model.specs.declared.plan.Lockage.{Lockage}
+use Rattle.lock_model.specs.declared.plan.Plan.{Plan}
+use Rattle.lock_rules.specs.Arrival.{numbers_from}
+use Rattle.lock_rules.specs.Lawful.{duration_of}
+use Rattle.lock_rules.specs.Lines.{insert_by_start, sorted_by_start, line_of, end_of}
+use Rattle.lock_rules.specs.Plan.{served_in, IsLegalLockage}
+use Rattle.lock_rules.proofs.LineLemmas.{numbers-below, length-numbers, All-line, line-chamber}
+use Rattle.lock_rules.proofs.ThroughputLemmas.{arrivals-line}
+use Rattle.chamber_times.specs.FirstBreak.{done_after_all}
+use Rattle.replan.specs.Kept.{IsLegalPart, EndsInTime, CanBeKept}
+use Rattle.replan.specs.Rest.{chamber_after, chambers_after, ships_left, from_minute, ships_from}
+use Rattle.replan.proofs.ListLemmas.{get_or-numbers, filter-short, filtered-rise}
+
+-- no ship of the lockage arrives after its start
+abbrev HasArrived : Instance → Lockage → Type 0
+HasArrived I l = All (λ s. (ship_at I s).arrival ≤ l.start) l.ships
+
+-- what holds of the lines of all chambers holds of all lockages
+module _ (Q : Lockage → Type 0) where
+  All-before_insert : (l : Lockage) (ls : List Lockage) → All Q (insert_by_start l ls) → All Q (l ∷ ls)
+  All-before_insert l [] h = h
+  All-before_insert l (m ∷ ms) h =
+      elim (nat_le l.start m.start) as (λ b. All Q (cond b (l ∷ m ∷ ms) (m ∷ insert_by_start l ms)) → All Q (l ∷ m ∷ ms)) [
+        | true ↦ λ h. h
+        | false ↦ λ h.
+            let rest = All-before_insert l ms (All-tail Q m (insert_by_start l ms) h) in
+            All-cons Q l (m ∷ ms) (All-head Q l ms rest) (All-cons Q m ms (All-head Q m (insert_by_start l ms) h) (All-tail Q l ms rest))
+      ] h
+
+  All-before_sort : (ls : List Lockage) → All Q (sorted_by_start ls) → All Q ls
+  All-before_sort [] h = h
+  All-before_sort (l ∷ ls) h =
+      let all = All-before_insert l (sorted_by_start ls) h in
+      All-cons Q l ls (All-head Q l (sorted_by_start ls) all) (All-before_sort ls (All-tail Q l (sorted_by_start ls) all))
+
+  All-from_chambers : (m : ℕ) (ls : List Lockage) → All (λ l. l.chamber < m) ls → ((c : ℕ) → c < m → All Q (filter (λ l. nat_eq l.chamber c) ls)) → All Q ls
+  All-from_chambers m [] known each = All-nil Q
+  All-from_chambers m (l ∷ ls) known each =
+      let own = each l.chamber (All-head (λ (l : Lockage). l.chamber < m) l ls known) in
+      All-cons Q l ls
+      (All-head Q l (filter (λ k. nat_eq k.chamber l.chamber) ls) (subst (λ b. All Q (cond b (l ∷ filter (λ k. nat_eq k.chamber l.chamber) ls) (filter (λ k. nat_eq k.chamber l.chamber) ls))) (eq-eqb l.chamber l.chamber refl) own))
+      (All-from_chambers m ls (All-tail (λ (l : Lockage). l.chamber < m) l ls known) (λ c less. without c (each c less)))
+    where
+      without : (c : ℕ) → All Q (filter (λ l. nat_eq l.chamber c) (l ∷ ls)) → All Q (filter (λ l. nat_eq l.chamber c) ls)
+      without c h =
+          elim (nat_eq l.chamber c) as (λ b. All Q (cond b (l ∷ filter (λ l. nat_eq l.chamber c) ls) (filter (λ l. nat_eq l.chamber c) ls)) → All Q (filter (λ l. nat_eq l.chamber c) ls)) [
+            | true ↦ λ h. All-tail Q l (filter (λ l. nat_eq l.chamber c) ls) h
+            | false ↦ λ h. h
+          ] h
+
+module _ (I : Instance) (K : Plan) (legal : IsLegalPart I K) where
+  pub part-chambers : All (λ l. l.chamber < length I.chambers) K.lockages
+  part-chambers = All-weaker (IsLegalLockage I) (λ l. l.chamber < length I.chambers) (λ l h. h.chamber) K.lockages legal.lockage
+
+  pub part-ships : All (λ l. All (λ s. s < length I.ships) l.ships) K.lockages
+  part-ships = All-weaker (IsLegalLockage I) (λ l. All (λ s. s < length I.ships) l.ships) (λ l h. h.known) K.lockages legal.lockage
+
+  pub part-arrived : All (λ l. All (λ s. (ship_at I s).arrival ≤ l.start) l.ships) K.lockages
+  part-arrived =
+      All-from_chambers (HasArrived I) (length I.chambers) K.lockages part-chambers
+      (λ c less. All-before_sort (HasArrived I) (filter (λ l. nat_eq l.chamber c) K.lockages) (arrivals-line I c (chamber_at I c).stands (chamber_at I c).opens (line_of K c) (legal.timely c less).lawful))
+
+pub left-known : (I : Instance) (K : Plan) → All (λ s. s < length I.ships) (ships_left I K)
+left-known I K =
+    let n = length I.ships in
+    All-filter (λ s. nat_eq (served_in K.lockages s) 0) (λ s. s < n) (numbers_from 0 n)
+    (All-weaker (λ s. s < 0 + n) (λ s. s < n) (λ s h. omega (arith, h)) (numbers_from 0 n) (numbers-below 0 n))
+
+module _ (I : Instance) (K : Plan) where
+  pub count-after : length (chambers_after I K) ≡ length I.chambers
+  count-after = length-map (numbers_from 0 (length I.chambers)) (chamber_after I K) ∙ length-numbers 0 (length I.chambers)
+
+  pub after_at : (c : ℕ) (d : Chamber) → c < length I.chambers → get_or (chambers_after I K) c d ≡ chamber_after I K c
+  after_at c d known =
+      let count = length-numbers 0 (length I.chambers) in
+      get_or-map (chamber_after I K) (numbers_from 0 (length I.chambers)) c 0 d (omega (arith, known, count))
+      ∙ ap (chamber_after I K) (omega (arith, get_or-numbers 0 (length I.chambers) c 0 known))
+
+module _ (I : Instance) (M : ℕ) (ss : List ℕ) where
+  pub from_at : (k : ℕ) (d : Ship) → k < length ss → get_or (ships_from I M ss) k d ≡ from_minute M (ship_at I (get_or ss k 0))
+  from_at k d within = get_or-map (λ s. from_minute M (ship_at I s)) ss k 0 d within
+
+  pub count-from : length (ships_from I M ss) ≡ length ss
+  count-from = length-map ss (λ s. from_minute M (ship_at I s))
+
+opens-small : (I : Instance) (c from : ℕ) (ls : List Lockage) → from ≤ 1000000 → All (λ l. l.chamber ≡ c) ls → All (EndsInTime I) ls → done_after_all I c from ls ≤ 1000000
+opens-small I c from [] small own in_time = small
+opens-small I c from (l ∷ ls) small own in_time =
+    let here : l.chamber ≡ c = All-head (λ (l : Lockage). l.chamber ≡ c) l ls own in
+    let ends = All-head (EndsInTime I) l ls in_time in
+    opens-small I c (l.start + duration_of I c l.ships) ls (subst (λ c. l.start + duration_of I c l.ships ≤ 1000000) here ends.ends)
+    (All-tail (λ (l : Lockage). l.chamber ≡ c) l ls own) (All-tail (EndsInTime I) l ls in_time)
+
+module _ (I : Instance) (K : Plan) (M : ℕ) (can : CanBeKept I K) (early : M ≤ 1000000) where
+  chamber-limits : (c : ℕ) → c < length I.chambers → IsChamber (chamber_after I K c)
+  chamber-limits c known =
+      let h : IsChamber (chamber_at I c) = I.limits.chamber c no_chamber known in
+      record {
+        name = h.name;
+        length = h.length;
+        width = h.width;
+        end = h.end;
+        gap = h.gap;
+        side = h.side;
+        most = h.most;
+        pass = h.pass;
+        turn = h.turn;
+        opens = opens-small I c (chamber_at I c).opens (line_of K c) h.opens (line-chamber K c) (All-line (EndsInTime I) K c can.in_time);
+        closures = h.closures;
+      }
+
+  ship-limits : (s : ℕ) → s < length I.ships → IsShip (from_minute M (ship_at I s))
+  ship-limits s known =
+      let h : IsShip (ship_at I s) = I.limits.ship s no_ship known in
+      record { name = h.name; length = h.length; width = h.width; arrival = omega (arith, h.arrival, early); handling = h.handling; cargo = h.cargo }
+
+  left : List ℕ
+  left = ships_left I K
+
+  left-count : length (ships_left I K) ≤ 24
+  left-count =
+      let limits = I.limits in
+      omega (arith, filter-short (λ s. nat_eq (served_in K.lockages s) 0) (numbers_from 0 (length I.ships)), length-numbers 0 (length I.ships), limits.ship_count.1)
+
+  -- the rest is an instance where ships are left
+  pub rest-limits : 1 ≤ length (ships_left I K) → IsInstance (chambers_after I K) (ships_from I M (ships_left I K))
+  rest-limits some = record {
+    chamber_count = subst (λ n. (1 ≤ n) × (n ≤ 4)) (sym (count-after I K)) I.limits.chamber_count;
+    ship_count = subst (λ n. (1 ≤ n) × (n ≤ 24)) (sym (count-from I M (ships_left I K))) (some, left-count);
+    chamber = λ c d within.
+        let known : c < length I.chambers = subst (λ n. c < n) (count-after I K) within in
+        subst IsChamber (sym (after_at I K c d known)) (chamber-limits c known);
+    ship = λ k d within.
+        let known : k < length (ships_left I K) = subst (λ n. k < n) (count-from I M (ships_left I K)) within in
+        subst IsShip (sym (from_at I M (ships_left I K) k d known)) (ship-limits (get_or (ships_left I K) k 0) (left-known I K k 0 known));
+    chamber_names = λ i j d less within same.
+        let known : j < length I.chambers = subst (λ n. j < n) (count-after I K) within in
+        I.limits.chamber_names i j no_chamber less known
+        (sym (ap (λ (c : Chamber). c.name) (after_at I K i d (omega (arith, less, known)))) ∙ same ∙ ap (λ (c : Chamber). c.name) (after_at I K j d known));
+    ship_names = λ i j d less within same.
+        let known : j < length (ships_left I K) = subst (λ n. j < n) (count-from I M (ships_left I K)) within in
+        let rises : get_or (ships_left I K) i 0 < get_or (ships_left I K) j 0 =
+        AllPairs-from_increasing (ships_left I K) (filtered-rise (λ s. nat_eq (served_in K.lockages s) 0) (length I.ships)) i j 0 less known in
+        I.limits.ship_names (get_or (ships_left I K) i 0) (get_or (ships_left I K) j 0) no_ship rises (left-known I K j 0 known)
+        (sym (ap (λ (s : Ship). s.name) (from_at I M (ships_left I K) i d (omega (arith, less, known)))) ∙ same ∙ ap (λ (s : Ship). s.name) (from_at I M (ships_left I K) j d known));
+  }
+
+  -- there is no rest exactly where no ship is left
+  rest-empty : (o : Option Instance) (cs : List Chamber) (ships : List Ship) (ns : List ℕ) → (IsSome o ↔ IsInstance cs ships) → cs ≡ chambers_after I K → ns ≡ ships_left I K → ships ≡ ships_from I M ns → IsNone o → ns ≡ []
+  rest-empty o cs ships [] valid chambers left made none = refl
+  rest-empty o cs ships (n ∷ ns) valid chambers left made none =
+      let some : 1 ≤ length (ships_left I K) = subst (λ xs. 1 ≤ length xs) left (omega arith) in
+      let limits : IsInstance cs ships = subst (λ cs. IsInstance cs ships) (sym chambers) (subst (IsInstance (chambers_after I K)) (sym (made ∙ ap (ships_from I M) left)) (rest-limits some)) in
+      absurd (true≢false (sym (valid.1 limits) ∙ none))
+
+  pub rest_none : (o : Option Instance) (cs : List Chamber) (ships : List Ship) (ns : List ℕ) → (IsSome o ↔ IsInstance cs ships) → cs ≡ chambers_after I K → ns ≡ ships_left I K → ships ≡ ships_from I M ns → IsNone o ↔ (ns ≡ [])
+  rest_none o cs ships ns valid chambers left made = (rest-empty o cs ships ns valid chambers left made, λ empty. by (is_some o) refl empty)
+    where
+      by : (b : Bool) → is_some o ≡ b → ns ≡ [] → is_some o ≡ false
+      by true e empty =
+          let limits : IsInstance cs ships = valid.0 e in
+          absurd (omega (arith, limits.ship_count.0, ap length made, count-from I M ns, ap length empty))
+      by false e empty = e

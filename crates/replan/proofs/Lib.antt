@@ -1,0 +1,10 @@
+pub mod KeptLemmas
+pub mod ListLemmas
+pub mod PartLemmas
+pub mod StandingLemmas
+pub mod LeftLemmas
+pub mod RenumberLemmas
+pub mod JoinLemmas
+pub mod CostLemmas
+pub mod PutLemmas
+pub mod BackLemmas

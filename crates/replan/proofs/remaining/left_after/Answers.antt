@@ -1,0 +1,9 @@
+use Rattle.std.proofs.Common.{◌<◌, length, All, sym, subst}
+use Rattle.replan.proofs.LeftLemmas.{left-known, part-arrived}
+use Rattle.replan.proofs.remaining.left_after.Goals as goal
+
+pub cost-requires-clause-arrived : goal.cost-requires-clause-arrived
+cost-requires-clause-arrived c = part-arrived c.args.instance.now c.args.kept c.requires.can.legal
+
+pub delays-requires : goal.delays-requires
+delays-requires c = subst (All (λ s. s < length c.args.instance.now.ships)) (sym c.ships_left-numbers.ensures) (left-known c.args.instance.now c.args.kept)

@@ -1,0 +1,48 @@
+//! Ship numbers of an instance.
+ghost use Rattle.std.specs.Prelude.{◌≡◌, ◌<◌, ◌≤◌, [], ◌∷◌, ◌++◌, length};
+
+use arrayvec::ArrayVec;
+use std::marker::Model;
+
+/// Up to 24 ship numbers.
+#[derive(Debug, PartialEq, Eq, Drop)]
+pub struct Ships24 {
+    items: ArrayVec<u8, 24>,
+}
+
+impl Model for Ships24 {
+    ghost use Rattle.std.specs.Prelude.{ℕ, List};
+
+    ghost Value = { List ℕ };
+
+    ghost view = { λ a. a.items.items };
+
+    ghost inverse = { λ xs. record { items = record { items = xs } } };
+}
+
+impl Ships24 {
+    /// No ships.
+    pub fn new() -> Ships24
+        ensures { result ≡ [] }
+    {
+        Ships24 {
+            items: ArrayVec::new(),
+        }
+    }
+
+    /// The ships in order.
+    pub fn as_slice(&self) -> &[u8]
+        ensures value { result.now ≡ self.now }
+        ensures fits { length result.now ≤ 24 }
+    {
+        self.items.as_slice()
+    }
+
+    /// Appends a ship.
+    pub fn push(&mut self, ship: u8)
+        requires { length self.old < 24 }
+        ensures { self.new ≡ self.old ++ ship ∷ [] }
+    {
+        self.items.push(ship);
+    }
+}
