@@ -1,3 +1,5 @@
 mod OrderLemmas
 mod RunLemmas
 mod BeatLemmas
+mod ChamberLemmas
+mod MixLemmas

@@ -16,6 +16,7 @@ use Rattle.lock_model.specs.declared.way.Way.{Way}
 use Rattle.lock_model.specs.declared.way.Way.TheVariants.{Up, Down}
 use Rattle.lock_rules.specs.Lawful.{IsFree, duration_of}
 use Rattle.lock_rules.specs.Lines.{lockage_at}
+use Rattle.day_play.specs.Order.{IsOrdered, minute_of}
 use Rattle.day_play.specs.State.{Moored, Idle, Under, ChamberState, State, IsAmong, opening, after, after_all}
 use Rattle.day_play.specs.declared.beat.Act.{Act}
 use Rattle.day_play.specs.declared.beat.Act.TheVariants.{Turn, Moor, Go, Done}
@@ -128,11 +129,6 @@ abbrev pub AreLawfulBeats : Instance → Plan → List Beat → State → Type 0
 AreLawfulBeats I P [] s = ⊤
 AreLawfulBeats I P (b ∷ bs) s = IsLawful I P b s × AreLawfulBeats I P bs (after I P b s)
 
--- the minutes never fall, and begin at or after `low`
-abbrev pub NeverFall : ℕ → List Beat → Type 0
-NeverFall low [] = ⊤
-NeverFall low (b ∷ bs) = (low ≤ b.minute) × NeverFall b.minute bs
-
 -- every ship is served, every lockage gone, and every chamber still
 pub record IsOver (I : Instance) (P : Plan) (s : State) : Type 0 where
   pub served : (i : ℕ) → i < length I.ships → IsAmong s.served i
@@ -142,6 +138,6 @@ pub record IsOver (I : Instance) (P : Plan) (s : State) : Type 0 where
 -- A LAWFUL DAY of a plan.
 pub record IsLawfulDay (I : Instance) (P : Plan) (bs : List Beat) : Type 0 where
   pub few : length bs ≤ 96
-  pub rising : NeverFall 0 bs
+  pub rising : IsOrdered minute_of 0 bs
   pub lawful : AreLawfulBeats I P bs (opening I)
   pub over : IsOver I P (after_all I P bs (opening I))
