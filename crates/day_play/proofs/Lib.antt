@@ -3,3 +3,5 @@ mod RunLemmas
 mod BeatLemmas
 mod ChamberLemmas
 mod MixLemmas
+mod PlaceLemmas
+mod DayLemmas

@@ -90,14 +90,14 @@ module _ (c : ℕ) where
       (owns : (d : ℕ) (x : Beat) → IsAmong (chamber_beats I P d) x → x.chamber ≡ d)
       (rises : c < length I.chambers → IsOrdered minute_of 0 (chamber_beats I P c)) where
     -- chambers past c, or before it
-    others-after : (low n : ℕ) (bs : List Beat) → (c < low) ⊎ (low + n ≤ c) → beats_at c (put_each minute_of bs (beats_of I P (numbers_from low n))) ≡ beats_at c bs
+    pub others-after : (low n : ℕ) (bs : List Beat) → (c < low) ⊎ (low + n ≤ c) → beats_at c (put_each minute_of bs (beats_of I P (numbers_from low n))) ≡ beats_at c bs
     others-after low zero bs apart = refl
     others-after low (suc n) bs apart =
         ap (beats_at c) (put_each-append minute_of bs (chamber_beats I P low) (beats_of I P (numbers_from (suc low) n)))
         ∙ others-after (suc low) n (put_each minute_of bs (chamber_beats I P low)) (elim apart [ inl before ↦ inl (omega (arith, before)) | inr after ↦ inr (omega (arith, after)) ])
         ∙ put_each-other bs (chamber_beats I P low) (λ x among same. absurd (elim apart [ inl before ↦ omega (arith, before, owns low x among, same) | inr after ↦ omega (arith, after, owns low x among, same) ]))
 
-    own-once : (low n : ℕ) (bs : List Beat) → IsOrdered minute_of 0 bs → beats_at c bs ≡ [] → low ≤ c → c < low + n → c < length I.chambers
+    pub own-once : (low n : ℕ) (bs : List Beat) → IsOrdered minute_of 0 bs → beats_at c bs ≡ [] → low ≤ c → c < low + n → c < length I.chambers
         → beats_at c (put_each minute_of bs (beats_of I P (numbers_from low n))) ≡ chamber_beats I P c
     own-once low zero bs order empty above below known = absurd (omega (arith, above, below))
     own-once low (suc n) bs order empty above below known =

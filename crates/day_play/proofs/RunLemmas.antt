@@ -72,11 +72,11 @@ abbrev going_or_zero : Going → ℕ
 going_or_zero Idle = 0
 going_or_zero (Under p) = p
 
-abbrev IsIdle : Going → Type 0
+abbrev pub IsIdle : Going → Type 0
 IsIdle Idle = Unit {0}
 IsIdle (Under p) = ⊥
 
-idle_not_under : (p : ℕ) → Idle ≡ Under p → ⊥
+pub idle_not_under : (p : ℕ) → Idle ≡ Under p → ⊥
 idle_not_under p e = subst IsIdle e tt
 
 -- what holds of the changed chamber and of the others holds of all

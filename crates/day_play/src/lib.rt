@@ -13,6 +13,8 @@ mod day;
 mod lines;
 mod order;
 mod playing;
+#[cfg(test)]
+mod tests;
 mod walk;
 
 pub use beat::{Act, Beat};
