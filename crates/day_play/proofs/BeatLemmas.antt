@@ -1,5 +1,5 @@
 -- The loops that put beats into a day: what is put so far, and the room for what is left.
-use Rattle.std.proofs.Common.{◌≡◌, ℕ, zero, suc, ◌+◌, ◌*◌, ◌<◌, ◌≤◌, List, [], ◌∷◌, ◌++◌, length, map, drop, get_or, All, sum_by, inl, inr, refl, ap, sym, subst, ◌∙◌, arith, ◌-◌}
+use Rattle.std.proofs.Common.{◌≡◌, ℕ, suc, ◌+◌, ◌*◌, ◌<◌, ◌≤◌, List, [], ◌∷◌, ◌++◌, length, drop, get_or, All, sum_by, inl, inr, refl, ap, sym, subst, ◌∙◌, arith, ◌-◌}
 use Rattle.std.proofs.lemmas.Bool.Decides.{leb_tells}
 use Rattle.std.proofs.lemmas.List.{length-map, length-append}
 use Rattle.std.proofs.lemmas.List.Sums.{sum_by-cons, sum_by-append}
@@ -16,8 +16,8 @@ use Rattle.lock_model.specs.Fleet.{chamber_at}
 use Rattle.lock_rules.specs.Arrival.{numbers_from}
 use Rattle.lock_rules.specs.Lawful.{duration_of, stand_after}
 use Rattle.lock_rules.specs.Lines.{lockage_at, line_of}
-use Rattle.lock_rules.specs.Plan.{IsLegal, IsLegalLockage, times_in}
-use Rattle.lock_rules.proofs.LineLemmas.{length-numbers, sum_by-each, sum_by-lines, All-line}
+use Rattle.lock_rules.specs.Plan.{IsLegal, times_in}
+use Rattle.lock_rules.proofs.LineLemmas.{length-numbers, sum_by-lines, All-line}
 use Rattle.lock_rules.proofs.CountLemmas.{sum_by-counts, ships_in, times_in-ships_in, served_in-outside, times_in-between, times_in-above}
 use Rattle.lock_rules.proofs.LegalLemmas.{legal-chambers, legal-ships}
 use Rattle.chamber_times.specs.Walk.{lockages_at, line_places}

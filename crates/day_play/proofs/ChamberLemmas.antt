@@ -1,12 +1,12 @@
 -- What a chamber does in its own order: the beats of each lockage of a legal plan are lawful there.
-use Rattle.std.proofs.Common.{◌≡◌, ◌≢◌, ℕ, zero, suc, ◌+◌, ◌-◌, ◌<◌, ◌≤◌, List, [], ◌∷◌, ◌++◌, length, map, All, ◌⊎◌, inl, inr, refl, ap, sym, subst, ◌∙◌, arith, slice_index_or}
+use Rattle.std.proofs.Common.{◌≡◌, ◌≢◌, ℕ, zero, suc, ◌+◌, ◌<◌, ◌≤◌, List, [], ◌∷◌, ◌++◌, length, map, All, ◌⊎◌, inl, inr, refl, ap, sym, subst, ◌∙◌, arith, slice_index_or}
 use Rattle.std.proofs.lemmas.Bool.Decides.{leb_tells}
 use Rattle.std.proofs.lemmas.List.{length-map, append_assoc}
 use Rattle.std.proofs.lemmas.List.Elements.{All-cons, All-nil}
 use Rattle.lock_model.specs.Fleet.{ship_at, chamber_at, no_ship}
 use Rattle.lock_model.specs.Deck.{Deck, size_at, no_size}
 use Rattle.lock_model.specs.Fitting.{size_of, deck_of}
-use Rattle.lock_model.specs.Placement.{AreApart, IsAtSide, IsAtHost, IsMoored, spot_at}
+use Rattle.lock_model.specs.Placement.{AreApart, IsAtSide, IsMoored, spot_at}
 use Rattle.lock_model.specs.Cargo.{GoTogether}
 use Rattle.lock_model.specs.declared.deck.Size.{Size}
 use Rattle.lock_model.specs.declared.instance.Instance.{Instance}
@@ -29,14 +29,13 @@ use Rattle.lock_rules.proofs.TimetableLemmas.{turned_at-least, closures_kept}
 use Rattle.chamber_times.specs.Walk.{lockages_at}
 use Rattle.day_play.specs.Order.{IsOrdered}
 use Rattle.day_play.specs.State.{Moored, Idle, ChamberState, IsAmong, other_side, chamber_after}
-use Rattle.day_play.specs.Lawful.{IsWhole, IsOf, HasMoored, IsStill, MayLie, MayMoor, MayTurn, ship_of, side_before}
-use Rattle.day_play.specs.Playing.{gap_to, quay_distance, moor_beat, moor_beats, moor_order, turn_beats, go_beat, done_beat, lockage_beats, line_beats}
+use Rattle.day_play.specs.Lawful.{IsOf, HasMoored, MayMoor, MayTurn, ship_of, side_before}
+use Rattle.day_play.specs.Playing.{gap_to, quay_distance, moor_beats, moor_order, turn_beats, go_beat, done_beat, lockage_beats, line_beats}
 use Rattle.day_play.specs.declared.beat.Act.TheVariants.{Moor}
 use Rattle.day_play.specs.declared.beat.Beat.{Beat}
-use Rattle.day_play.specs.Order.{put_each, minute_of}
 use Rattle.lock_rules.specs.Arrival.{numbers_from}
 use Rattle.lock_rules.proofs.LineLemmas.{length-numbers}
-use Rattle.day_play.proofs.OrderLemmas.{ordered-above, ordered-lower, put_each-ordered, put_each-among, put_each-from, numbers-within, numbers-among, length-put_each}
+use Rattle.day_play.proofs.OrderLemmas.{ordered-above, put_each-ordered, put_each-among, put_each-from, numbers-within, numbers-among, length-put_each}
 use Rattle.day_play.proofs.RunLemmas.{RunsHere}
 
 apart-swap : (d : Deck) (s : Size) (p : Spot) (t : Size) (q : Spot) → AreApart d s p t q → AreApart d t q s p
@@ -156,18 +155,18 @@ module _ (I : Instance) (P : Plan) (p : ℕ) (known : p < length P.lockages) (le
     moors-run low (k ∷ ks) s rest idle same count within order ahead next = (
       may k low ks s idle same count (within k (inl refl)) order ahead,
       moors-run (quay_distance I l k) ks (chamber_after I P l.start l.chamber p (Moor (ship_of l k)) s) rest idle
-      (All-cons (λ (m : Moored). m.lockage ≡ p) (record { ship = ship_of l k; lockage = p }) s.moored refl same)
-      (omega (arith, count))
-      (λ j among. within j (inr among))
-      order.1
-      (λ j inside. elim (ahead j inside) [
-        | inl moored ↦ inl (inr moored)
-        | inr later ↦ elim later [
-          | inl here ↦ inl (inl (ap (λ j. record { ship = ship_of l j; lockage = p }) here))
-          | inr after ↦ inr after
-        ]
-      ])
-      next,
+          (All-cons (λ (m : Moored). m.lockage ≡ p) (record { ship = ship_of l k; lockage = p }) s.moored refl same)
+          (omega (arith, count))
+          (λ j among. within j (inr among))
+          order.1
+          (λ j inside. elim (ahead j inside) [
+            | inl moored ↦ inl (inr moored)
+            | inr later ↦ elim later [
+              | inl here ↦ inl (inl (ap (λ j. record { ship = ship_of l j; lockage = p }) here))
+              | inr after ↦ inr after
+            ]
+          ])
+          next,
     )
 
     may_turn : (stand : Stand) (from : ℕ) → MayTurn I P (first_free (chamber_at I l.chamber).closures (chamber_at I l.chamber).turn from) l.chamber (record { side = stand; free = from; moored = []; going = Idle })
@@ -199,12 +198,12 @@ module _ (I : Instance) (P : Plan) (p : ℕ) (known : p < length P.lockages) (le
     turn-run Low from Down rest turned later next = (
       may_turn Low from,
       next (record { side = High; free = first_free (chamber_at I l.chamber).closures (chamber_at I l.chamber).turn from + (chamber_at I l.chamber).turn; moored = []; going = Idle }) refl refl refl
-      (turned_at-least (chamber_at I l.chamber) from l.start turned),
+          (turned_at-least (chamber_at I l.chamber) from l.start turned),
     )
     turn-run High from Up rest turned later next = (
       may_turn High from,
       next (record { side = Low; free = first_free (chamber_at I l.chamber).closures (chamber_at I l.chamber).turn from + (chamber_at I l.chamber).turn; moored = []; going = Idle }) refl refl refl
-      (turned_at-least (chamber_at I l.chamber) from l.start turned),
+          (turned_at-least (chamber_at I l.chamber) from l.start turned),
     )
     turn-run High from Down rest turned later next = next (record { side = High; free = from; moored = []; going = Idle }) refl refl refl later
 

@@ -1,5 +1,5 @@
 -- The day of a legal plan is lawful.
-use Rattle.std.proofs.Common.{◌≡◌, ℕ, zero, suc, ◌+◌, ◌<◌, ◌≤◌, List, [], ◌∷◌, ◌++◌, length, map, cond, nat_eq, ◌⊎◌, inl, inr, refl, ap, sym, subst, ◌∙◌, arith, get_or}
+use Rattle.std.proofs.Common.{◌≡◌, ℕ, suc, ◌+◌, ◌<◌, ◌≤◌, List, [], ◌∷◌, ◌++◌, length, map, cond, inl, inr, refl, ap, sym, subst, ◌∙◌, arith, get_or}
 use Rattle.std.proofs.lemmas.Bool.Decides.{eqb_tells, leb_tells}
 use Rattle.std.proofs.lemmas.List.{append_assoc}
 use Rattle.lock_model.specs.Fleet.{chamber_at}
@@ -19,9 +19,9 @@ use Rattle.lock_rules.proofs.FreeLemmas.{first_free-from}
 use Rattle.lock_rules.proofs.TimetableLemmas.{turned_at-least}
 use Rattle.chamber_times.specs.Walk.{lockages_at, line_places}
 use Rattle.chamber_times.proofs.WalkLemmas.{lockages_at-line}
-use Rattle.day_play.specs.Order.{put_each, minute_of, IsOrdered}
-use Rattle.day_play.specs.State.{IsAmong, opening, opening_chamber, after_all}
-use Rattle.day_play.specs.Lawful.{IsStill, IsLawfulDay}
+use Rattle.day_play.specs.Order.{minute_of, IsOrdered}
+use Rattle.day_play.specs.State.{IsAmong, opening, opening_chamber}
+use Rattle.day_play.specs.Lawful.{IsLawfulDay}
 use Rattle.day_play.specs.Playing.{moor_beats, moor_order, turn_beats, go_beat, done_beat, lockage_beats, line_beats, chamber_beats, beats_of, day_of}
 use Rattle.day_play.specs.declared.beat.Beat.{Beat}
 use Rattle.day_play.proofs.OrderLemmas.{ordered-lower, put_each-ordered, put_each-among, length-put_each, numbers-among}

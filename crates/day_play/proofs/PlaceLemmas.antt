@@ -1,7 +1,7 @@
 -- The places of a chamber's line, and the ships that are moored for its lockages.
-use Rattle.std.proofs.Common.{◌≡◌, ℕ, zero, suc, ◌+◌, ◌<◌, ◌≤◌, List, [], ◌∷◌, ◌++◌, length, filter, cond, Bool, true, false, nat_eq, nat_le, ◌⊎◌, inl, inr, refl, ap, sym, subst, ◌∙◌, arith, sum_by, eq-eqb, get_or}
+use Rattle.std.proofs.Common.{◌≡◌, ℕ, suc, ◌+◌, ◌<◌, ◌≤◌, List, [], ◌∷◌, ◌++◌, length, filter, cond, Bool, true, false, nat_eq, nat_le, inl, inr, refl, ap, sym, subst, ◌∙◌, arith, sum_by, eq-eqb, get_or}
 use Rattle.std.proofs.lemmas.Bool.{eqb-true}
-use Rattle.std.proofs.lemmas.Bool.Decides.{eqb_tells, leb_tells}
+use Rattle.std.proofs.lemmas.Bool.Decides.{leb_tells}
 use Rattle.std.proofs.lemmas.List.Sums.{sum_by-cons}
 use Rattle.lock_model.specs.declared.instance.Instance.{Instance}
 use Rattle.lock_model.specs.declared.plan.Lockage.{Lockage}
@@ -13,8 +13,8 @@ use Rattle.lock_model.specs.declared.way.Way.TheVariants.{Up, Down}
 use Rattle.lock_model.specs.Fleet.{chamber_at}
 use Rattle.lock_rules.specs.Arrival.{numbers_from}
 use Rattle.lock_rules.specs.Lawful.{duration_of, stand_after}
-use Rattle.lock_rules.specs.Lines.{lockage_at, line_of, no_lockage}
-use Rattle.lock_rules.specs.Plan.{IsLegal, times_in, served_in}
+use Rattle.lock_rules.specs.Lines.{lockage_at, line_of}
+use Rattle.lock_rules.specs.Plan.{IsLegal, times_in}
 use Rattle.lock_rules.proofs.LineLemmas.{sum_by-lines}
 use Rattle.lock_rules.proofs.SplitLemmas.{served_in-sum}
 use Rattle.lock_rules.proofs.CountLemmas.{served_in-outside}
@@ -27,7 +27,7 @@ use Rattle.day_play.specs.Lawful.{ship_of}
 use Rattle.day_play.specs.Playing.{quay_distance, moor_order, moor_beat, moor_beats, turn_beats, go_beat, done_beat, lockage_beats, line_beats, chamber_beats, beats_of}
 use Rattle.day_play.specs.declared.beat.Beat.{Beat}
 use Rattle.day_play.proofs.OrderLemmas.{numbers-within, numbers-among}
-use Rattle.day_play.proofs.RunLemmas.{moor_count, moors_in, IsAmong-left, IsAmong-right, IsAmong-cases}
+use Rattle.day_play.proofs.RunLemmas.{moor_count, moors_in}
 
 filter-from : (t : ℕ → Bool) (xs : List ℕ) (q : ℕ) → IsAmong (filter t xs) q → IsAmong xs q × (t q ≡ true)
 filter-from t [] q h = absurd h

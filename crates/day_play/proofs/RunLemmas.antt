@@ -1,12 +1,12 @@
 -- Beats that each chamber may do in its own order are lawful, however the chambers are mixed.
-use Rattle.std.proofs.Common.{◌≡◌, ◌≢◌, ℕ, zero, suc, ◌+◌, ◌<◌, ◌≤◌, List, [], ◌∷◌, ◌++◌, length, filter, cond, true, false, nat_eq, eq-eqb, ◌⊎◌, inl, inr, refl, ap, sym, subst, arith, slice_index_or}
+use Rattle.std.proofs.Common.{◌≡◌, ◌≢◌, ℕ, zero, suc, ◌+◌, ◌<◌, ◌≤◌, List, [], ◌∷◌, ◌++◌, length, filter, cond, nat_eq, eq-eqb, ◌⊎◌, inl, inr, refl, ap, sym, subst, arith, slice_index_or}
 use Rattle.std.proofs.lemmas.Bool.Decides.{eqb_tells}
 use Rattle.lock_model.specs.declared.instance.Instance.{Instance}
 use Rattle.lock_model.specs.declared.plan.Lockage.{Lockage}
 use Rattle.lock_model.specs.declared.plan.Plan.{Plan}
 use Rattle.lock_rules.specs.Lines.{lockage_at}
 use Rattle.day_play.specs.State.{Moored, Going, Idle, Under, ChamberState, State, IsAmong, chamber_after, state_after, gone_after, served_after, after, after_all}
-use Rattle.day_play.specs.Lawful.{ship_of, IsStill, MayDo, MayEnter, IsLawful, AreLawfulBeats}
+use Rattle.day_play.specs.Lawful.{ship_of, IsStill, MayDo, MayEnter, AreLawfulBeats}
 use Rattle.day_play.specs.Playing.{done_beat}
 use Rattle.day_play.specs.declared.beat.Act.{Act}
 use Rattle.day_play.specs.declared.beat.Act.TheVariants.{Turn, Moor, Go, Done}

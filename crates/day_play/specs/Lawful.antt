@@ -6,8 +6,7 @@ use Rattle.lock_model.specs.Deck.{Deck, size_at}
 use Rattle.lock_model.specs.Placement.{IsInside, AreApart, IsBerthed, spot_at}
 use Rattle.lock_model.specs.Cargo.{GoTogether}
 use Rattle.lock_model.specs.declared.instance.Instance.{Instance}
-use Rattle.lock_model.specs.declared.placement.Moor.{Moor as Mooring}
-use Rattle.lock_model.specs.declared.placement.Moor.TheVariants.{Quay, Ship}
+use Rattle.lock_model.specs.declared.placement.Moor.TheVariants.{Ship}
 use Rattle.lock_model.specs.declared.plan.Lockage.{Lockage}
 use Rattle.lock_model.specs.declared.plan.Plan.{Plan}
 use Rattle.lock_model.specs.declared.way.Stand.{Stand}

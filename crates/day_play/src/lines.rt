@@ -14,14 +14,7 @@ use lock_model::{Instance, Lockage, Plan, Stand, Way};
 
 /// Puts the empty turn, where the lockage at place `p` needs one and its chamber stands so and is
 /// free at `from`. It begins at the least lawful minute.
-fn put_turn(
-    day: &mut Day,
-    instance: &Instance,
-    p: u8,
-    lockage: &Lockage,
-    stand: Stand,
-    from: u64,
-)
+fn put_turn(day: &mut Day, instance: &Instance, p: u8, lockage: &Lockage, stand: Stand, from: u64)
     requires whole { IsWhole instance.now lockage.now }
     requires from_small { from ≤ 2 ^ 61 }
     requires room { length day.old + length (turn_beats instance.now p lockage.now from stand lockage.now.way) ≤ 96 }

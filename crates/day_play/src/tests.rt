@@ -21,7 +21,14 @@ fn tells(played: &Played, beats: &[Told]) -> bool {
     }
     for i in 0..beats.len() {
         let (minute, act) = beats[i];
-        if day[i] != (Beat { minute, chamber: 0, lockage: 0, act }) {
+        if day[i]
+            != (Beat {
+                minute,
+                chamber: 0,
+                lockage: 0,
+                act,
+            })
+        {
             return false;
         }
     }
@@ -41,17 +48,32 @@ const TURNS: [Turned; 3] = [
     (
         (0, 0),
         15,
-        [(0, Act::Turn), (15, Act::Moor(0)), (15, Act::Go), (50, Act::Done)],
+        [
+            (0, Act::Turn),
+            (15, Act::Moor(0)),
+            (15, Act::Go),
+            (50, Act::Done),
+        ],
     ),
     (
         (10, 20),
         35,
-        [(20, Act::Turn), (35, Act::Moor(0)), (35, Act::Go), (70, Act::Done)],
+        [
+            (20, Act::Turn),
+            (35, Act::Moor(0)),
+            (35, Act::Go),
+            (70, Act::Done),
+        ],
     ),
     (
         (15, 20),
         20,
-        [(0, Act::Turn), (20, Act::Moor(0)), (20, Act::Go), (55, Act::Done)],
+        [
+            (0, Act::Turn),
+            (20, Act::Moor(0)),
+            (20, Act::Go),
+            (55, Act::Done),
+        ],
     ),
 ];
 

@@ -1,6 +1,6 @@
 use Rattle.std.proofs.Common.{◌≡◌, ◌+◌, ◌++◌, length, drop, get_or, ap, sym, subst, ◌∙◌, arith}
 use Rattle.lock_rules.specs.Lawful.{duration_of, stand_after}
-use Rattle.lock_rules.specs.Lines.{lockage_at, no_lockage}
+use Rattle.lock_rules.specs.Lines.{no_lockage}
 use Rattle.chamber_times.specs.Walk.{line_places}
 use Rattle.chamber_times.proofs.WalkLemmas.{line_places-within, line_lockage}
 use Rattle.day_play.specs.Order.{put_each, minute_of}

@@ -1,4 +1,4 @@
-use Rattle.std.proofs.Common.{◌≡◌, ◌+◌, length, List, ap, ◌∙◌, arith}
+use Rattle.std.proofs.Common.{◌+◌, length, ap, ◌∙◌, arith}
 use Rattle.std.proofs.lemmas.List.{length-map}
 use Rattle.day_play.specs.Order.{put_by, put_each, minute_of}
 use Rattle.day_play.specs.Playing.{moor_beat, moor_beats, moor_order, turn_beats, go_beat, done_beat}
@@ -16,7 +16,7 @@ put_moors-requires-clause-room c =
     omega (
       arith,
       lockage-room_moors c.args.day.now c.put_turn.new.day (put_each minute_of c.put_turn.new.day (moor_beats p l (moor_order I l))) (put_each minute_of c.put_turn.new.day (moor_beats p l (moor_order I l)))
-      (turn_beats I p l c.args.from c.args.stand l.way) (moor_beats p l (moor_order I l)) (go_beat p l) (done_beat I p l) c.put_turn.ensures (λ i. put_each minute_of c.put_turn.new.day (moor_beats p l (moor_order I l))) c.requires.room,
+          (turn_beats I p l c.args.from c.args.stand l.way) (moor_beats p l (moor_order I l)) (go_beat p l) (done_beat I p l) c.put_turn.ensures (λ i. put_each minute_of c.put_turn.new.day (moor_beats p l (moor_order I l))) c.requires.room,
       length-map (moor_order I l) (moor_beat p l),
       ap length order,
     )

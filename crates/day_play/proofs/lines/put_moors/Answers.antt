@@ -1,5 +1,4 @@
 use Rattle.std.proofs.Common.{◌≡◌, ◌+◌, [], ◌∷◌, drop, get_or, slice_index_or, ap, ◌∙◌}
-use Rattle.std.proofs.lemmas.List.{length-map}
 use Rattle.day_play.specs.Order.{put_by, minute_of}
 use Rattle.day_play.specs.Playing.{moor_beat, moor_beats}
 use Rattle.day_play.specs.declared.beat.Act.TheVariants.{Moor}
