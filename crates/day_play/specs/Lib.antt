@@ -1,0 +1,5 @@
+pub mod Order
+pub mod State
+pub mod Lawful
+pub mod Playing
+pub mod Played

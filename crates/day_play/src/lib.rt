@@ -1,0 +1,22 @@
+//! A plan played as a day at the lock.
+//!
+//! `play` gives the beats of a legal plan: the empty turns, the moorings, and the beginning and the
+//! end of each lockage, by minute, then by chamber, then by their order in the chamber. A plan that
+//! isn't legal is stuck at its first break. Takes no memory.
+//!
+//! Definitions: `specs/State` says what a beat changes, `Lawful` when it is lawful and which lists
+//! of beats are lawful days of a plan, `Playing` which day is played.
+#![tactic(auto)]
+
+mod beat;
+mod day;
+mod lines;
+mod order;
+mod playing;
+#[cfg(test)]
+mod tests;
+mod walk;
+
+pub use beat::{Act, Beat};
+pub use day::Day;
+pub use playing::{Played, play};
