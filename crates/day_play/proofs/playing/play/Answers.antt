@@ -1,4 +1,5 @@
 use Rattle.std.proofs.Common.{refl}
+use Rattle.day_play.proofs.OnceLemmas.{went-once}
 use Rattle.day_play.proofs.DayLemmas.{played_lawful}
 use Rattle.day_play.proofs.playing.play.Goals as goal
 
