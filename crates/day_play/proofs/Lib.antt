@@ -10,3 +10,4 @@ mod SoundLemmas
 mod StateLemmas
 mod WentLemmas
 mod OnceLemmas
+mod LegalDayLemmas
