@@ -1,26 +1,23 @@
 -- A plan that has a lawful day is legal.
-use Rattle.std.proofs.Common.{◌≡◌, ◌≢◌, ℕ, ◌+◌, ◌<◌, ◌≤◌, List, [], ◌∷◌, length, map, filter, cond, Bool, nat_eq, nat_le, true, false, inl, inr, refl, ap, sym, subst, ◌∙◌, arith, slice_index_or, All}
+use Rattle.std.proofs.Common.{◌≡◌, ◌↔◌, ℕ, ◌<◌, List, length, map, inl, inr, refl, ap, sym, subst, ◌∙◌, arith}
 use Rattle.std.proofs.lemmas.Bool.Decides.{eqb_tells, leb_tells}
 use Rattle.std.proofs.lemmas.List.{length-map, get_or_default}
 use Rattle.lock_model.specs.Fleet.{ship_at, chamber_at, no_chamber}
 use Rattle.lock_model.specs.Fitting.{size_of, deck_of}
 use Rattle.lock_model.specs.declared.instance.Instance.{Instance}
-use Rattle.lock_model.specs.declared.plan.Lockage.{Lockage}
 use Rattle.lock_model.specs.declared.plan.Plan.{Plan}
-use Rattle.lock_rules.specs.Arrival.{numbers_from}
 use Rattle.lock_rules.specs.Lawful.{AreLawfulFrom}
 use Rattle.lock_rules.specs.Lines.{no_lockage, lockage_at, group_of, line_of}
 use Rattle.lock_rules.specs.Plan.{IsLegal, IsLegalLockage, IsTimely, times_in, served_in}
-use Rattle.lock_rules.proofs.CountLemmas.{times_in-between, times_in-above}
-use Rattle.chamber_times.specs.Walk.{lockages_at, insert_place, sorted_places, line_places}
+use Rattle.chamber_times.specs.Walk.{lockages_at, line_places}
 use Rattle.chamber_times.proofs.WalkLemmas.{lockages_at-line}
-use Rattle.day_play.specs.Order.{IsOrdered}
 use Rattle.day_play.specs.Rising.{AreRising}
-use Rattle.day_play.specs.State.{State, IsAmong, opening, after_all}
-use Rattle.day_play.specs.Lawful.{ship_of, IsOver, IsLawfulDay}
+use Rattle.day_play.specs.State.{IsAmong, opening, after_all}
+use Rattle.day_play.specs.Lawful.{IsLawfulDay}
+use Rattle.day_play.specs.Playing.{day_of}
 use Rattle.day_play.specs.declared.beat.Beat.{Beat}
-use Rattle.day_play.proofs.OrderLemmas.{ordered-lower}
-use Rattle.day_play.proofs.PlaceLemmas.{line_places-from, line_places-among}
+use Rattle.day_play.proofs.DayLemmas.{played_lawful}
+use Rattle.day_play.proofs.PlaceLemmas.{start_at, line_places-from, line_places-among, line_places-once, line_places-ordered}
 use Rattle.day_play.proofs.RunLemmas.{idle_not_under}
 use Rattle.day_play.proofs.SoundLemmas.{IsCleared, IsSoundState}
 use Rattle.day_play.proofs.StateLemmas.{sound-opening, sound-after_all}
@@ -28,74 +25,7 @@ use Rattle.day_play.proofs.TimesLemmas.{times_in-among, among-times_in, times_in
 use Rattle.day_play.proofs.WentLemmas.{went, went-lawful, went-from, starts-rise}
 use Rattle.day_play.proofs.OnceLemmas.{HasGone, went-once}
 
-filter-few : (t : ℕ → Bool) (xs : List ℕ) (q : ℕ) → times_in (filter t xs) q ≤ times_in xs q
-filter-few t [] q = omega arith
-filter-few t (x ∷ xs) q =
-    let rest = filter-few t xs q in
-    elim (t x) as (λ b. times_in (cond b (x ∷ filter t xs) (filter t xs)) q ≤ times_in (x ∷ xs) q) [
-      | true ↦ more (cond (nat_eq x q) 1 0) (times_in (filter t xs) q) (times_in xs q) rest
-      | false ↦ fewer (cond (nat_eq x q) 1 0) (times_in (filter t xs) q) (times_in xs q) rest
-    ]
-  where
-    more : (a b c : ℕ) → b ≤ c → a + b ≤ a + c
-    more a b c h = omega (arith, h)
-
-    fewer : (a b c : ℕ) → b ≤ c → b ≤ a + c
-    fewer a b c h = omega (arith, h)
-
-numbers-once : (n q : ℕ) → times_in (numbers_from 0 n) q ≤ 1
-numbers-once n q =
-    elim (leb_tells n q) [
-      | inl past ↦ omega (arith, times_in-above 0 n q (omega (arith, past.1)))
-      | inr here ↦ omega (arith, times_in-between 0 n q (omega arith) (omega (arith, here.1)))
-    ]
-
-module _ (P : Plan) where
-  abbrev pub start_at : ℕ → ℕ
-  start_at p = (lockage_at P p).start
-
-  times_in-insert_place : (p : ℕ) (ps : List ℕ) (q : ℕ) → times_in (insert_place P p ps) q ≡ times_in (p ∷ ps) q
-  times_in-insert_place p [] q = refl
-  times_in-insert_place p (r ∷ ps) q =
-      elim (nat_le (lockage_at P p).start (lockage_at P r).start) as (λ b. times_in (cond b (p ∷ r ∷ ps) (r ∷ insert_place P p ps)) q ≡ times_in (p ∷ r ∷ ps) q) [
-        | true ↦ refl
-        | false ↦ swap (cond (nat_eq r q) 1 0) (times_in (insert_place P p ps) q) (cond (nat_eq p q) 1 0) (times_in ps q) (times_in-insert_place p ps q)
-      ]
-    where
-      swap : (a b c d : ℕ) → b ≡ c + d → a + b ≡ c + (a + d)
-      swap a b c d e = omega (arith, e)
-
-  times_in-sorted_places : (ps : List ℕ) (q : ℕ) → times_in (sorted_places P ps) q ≡ times_in ps q
-  times_in-sorted_places [] q = refl
-  times_in-sorted_places (p ∷ ps) q = times_in-insert_place p (sorted_places P ps) q ∙ ap (λ n. cond (nat_eq p q) 1 0 + n) (times_in-sorted_places ps q)
-
-  insert_place-ordered : (low p : ℕ) (ps : List ℕ) → low ≤ start_at p → IsOrdered start_at low ps → IsOrdered start_at low (insert_place P p ps)
-  insert_place-ordered low p [] less order = (less, tt)
-  insert_place-ordered low p (r ∷ ps) less order =
-      elim (leb_tells (start_at p) (start_at r)) [
-        | inl sooner ↦ subst (λ b. IsOrdered start_at low (cond b (p ∷ r ∷ ps) (r ∷ insert_place P p ps))) (sym sooner.0) (less, (sooner.1, order.1))
-        | inr later ↦ subst (λ b. IsOrdered start_at low (cond b (p ∷ r ∷ ps) (r ∷ insert_place P p ps))) (sym later.0) (order.0, insert_place-ordered (start_at r) p ps (omega (arith, later.1)) order.1)
-      ]
-
-  sorted_places-ordered : (ps : List ℕ) → IsOrdered start_at 0 (sorted_places P ps)
-  sorted_places-ordered [] = tt
-  sorted_places-ordered (p ∷ ps) = insert_place-ordered 0 p (sorted_places P ps) (omega arith) (sorted_places-ordered ps)
-
-  -- each lockage has one place in the lines
-  line_places-once : (c q : ℕ) → times_in (line_places P c) q ≤ 1
-  line_places-once c q =
-      let test = λ (p : ℕ). nat_eq (lockage_at P p).chamber c in
-      omega (
-        arith,
-        times_in-sorted_places (filter test (numbers_from 0 (length P.lockages))) q,
-        filter-few test (numbers_from 0 (length P.lockages)) q,
-        numbers-once (length P.lockages) q,
-      )
-
 module _ (I : Instance) (P : Plan) (rising : AreRising P) (bs : List Beat) (day : IsLawfulDay I P bs) where
-  abbrev last : State
-  last = after_all I P bs (opening I)
-
   sound : IsSoundState I P (after_all I P bs (opening I))
   sound = sound-after_all I P rising bs (opening I) (sound-opening I P) day.lawful
 
@@ -139,7 +69,7 @@ module _ (I : Instance) (P : Plan) (rising : AreRising P) (bs : List Beat) (day 
   went-line : (c : ℕ) → c < length I.chambers → line_places P c ≡ went c bs
   went-line c known =
       ordered-same (start_at P) 0 (line_places P c) (went c bs)
-      (sorted_places-ordered P (filter (λ p. nat_eq (lockage_at P p).chamber c) (numbers_from 0 (length P.lockages))))
+      (line_places-ordered P c)
       (starts-rise I P c (I.limits.chamber c no_chamber known).pass.0 (chamber_at I c).stands (chamber_at I c).opens (went c bs)
       (went-lawful I P c rising bs (opening I) (chamber_at I c).stands (chamber_at I c).opens (sound-opening I P) day.lawful (omega arith, inl refl)))
       same
@@ -181,3 +111,7 @@ module _ (I : Instance) (P : Plan) (rising : AreRising P) (bs : List Beat) (day 
     lockage = λ p d within. subst (IsLegalLockage I) (get_or_default P.lockages p no_lockage d within) (lockage-legal p within);
     timely = line-timely;
   }
+
+-- EXACTLY THE LEGAL PLANS have lawful days.
+pub has-day-legal : (I : Instance) (P : Plan) → AreRising P → ((bs : List Beat) × IsLawfulDay I P bs) ↔ IsLegal I P
+has-day-legal I P rising = (λ day. day-legal I P rising day.0 day.1, λ legal. (day_of I P, played_lawful I P (day_of I P) legal refl))

@@ -1,5 +1,5 @@
 -- Each lockage that is gone in the end goes once on a lawful day.
-use Rattle.std.proofs.Common.{◌≡◌, ◌≢◌, ℕ, ◌+◌, ◌<◌, ◌≤◌, List, [], ◌∷◌, length, cond, nat_eq, eq-eqb, true, false, ◌⊎◌, inl, inr, refl, ap, sym, subst, ◌∙◌, arith}
+use Rattle.std.proofs.Common.{◌≡◌, ◌≢◌, ℕ, List, [], ◌∷◌, cond, nat_eq, eq-eqb, true, false, ◌⊎◌, inl, inr, refl, ap, sym, subst, ◌∙◌, arith}
 use Rattle.std.proofs.lemmas.Bool.Decides.{eqb_tells}
 use Rattle.lock_model.specs.declared.instance.Instance.{Instance}
 use Rattle.lock_model.specs.declared.plan.Plan.{Plan}
@@ -7,7 +7,7 @@ use Rattle.lock_rules.specs.Lines.{lockage_at}
 use Rattle.lock_rules.specs.Plan.{times_in}
 use Rattle.lock_rules.proofs.TreeLemmas.{times_in-hit, times_in-miss}
 use Rattle.day_play.specs.Rising.{AreRising}
-use Rattle.day_play.specs.State.{Going, Idle, Under, ChamberState, State, IsAmong, chamber_after, state_after, after, after_all}
+use Rattle.day_play.specs.State.{Under, State, IsAmong, chamber_after, state_after, after, after_all}
 use Rattle.day_play.specs.Lawful.{MayGo, MayDo, AreLawfulBeats}
 use Rattle.day_play.specs.declared.beat.Act.{Act}
 use Rattle.day_play.specs.declared.beat.Act.TheVariants.{Turn, Moor, Go, Done}

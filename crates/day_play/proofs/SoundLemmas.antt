@@ -1,6 +1,5 @@
 -- What holds of every state of a lawful day, as each act leaves it.
-use Rattle.std.proofs.Common.{◌≡◌, ◌≢◌, ℕ, suc, ◌+◌, ◌<◌, ◌≤◌, List, [], ◌∷◌, ◌++◌, length, map, ◌⊎◌, inl, inr, refl, ap, sym, subst, ◌∙◌, arith}
-use Rattle.std.specs.List.Sorted.{IsStrictlyIncreasing}
+use Rattle.std.proofs.Common.{◌≡◌, ◌≢◌, ℕ, ◌<◌, ◌≤◌, List, [], ◌∷◌, ◌++◌, length, map, ◌⊎◌, inl, inr, refl, ap, sym, subst, ◌∙◌, arith}
 use Rattle.std.proofs.lemmas.List.{length-map}
 use Rattle.lock_model.specs.Fleet.{ship_at, chamber_at}
 use Rattle.lock_model.specs.Deck.{Deck, size_at}
@@ -11,10 +10,10 @@ use Rattle.lock_model.specs.declared.instance.Instance.{Instance}
 use Rattle.lock_model.specs.declared.plan.Plan.{Plan}
 use Rattle.lock_rules.specs.Lines.{lockage_at}
 use Rattle.day_play.specs.Rising.{AreRising}
-use Rattle.day_play.specs.State.{Moored, Going, Idle, Under, State, IsAmong}
+use Rattle.day_play.specs.State.{Moored, Going, Under, State, IsAmong}
 use Rattle.day_play.specs.Lawful.{ship_of, IsOf, MayMoor, MayGo, MayEnd, IsWaiting}
 use Rattle.day_play.proofs.ChamberLemmas.{apart-swap, together-swap}
-use Rattle.day_play.proofs.RunLemmas.{IsAmong-cases, IsAmong-left, IsAmong-right, IsAmong-place, IsAmong-at}
+use Rattle.day_play.proofs.RunLemmas.{IsAmong-cases, IsAmong-left, IsAmong-right, IsAmong-place}
 use Rattle.day_play.proofs.TimesLemmas.{increasing-place, length-among}
 
 module _ (I : Instance) (P : Plan) where

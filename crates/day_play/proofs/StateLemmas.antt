@@ -1,11 +1,10 @@
 -- Every state of a lawful day is sound.
-use Rattle.std.proofs.Common.{◌≡◌, ◌≢◌, ℕ, suc, ◌+◌, ◌<◌, ◌≤◌, List, [], ◌∷◌, ◌++◌, length, ◌⊎◌, inl, inr, refl, ap, sym, subst, arith}
+use Rattle.std.proofs.Common.{◌≡◌, ◌≢◌, ℕ, ◌<◌, ◌≤◌, List, [], ◌∷◌, length, ◌⊎◌, inl, inr, refl, ap, sym, subst, arith}
 use Rattle.lock_model.specs.Fleet.{chamber_at}
 use Rattle.lock_model.specs.declared.instance.Instance.{Instance}
 use Rattle.lock_model.specs.declared.plan.Plan.{Plan}
-use Rattle.lock_rules.specs.Lines.{lockage_at}
 use Rattle.day_play.specs.Rising.{AreRising}
-use Rattle.day_play.specs.State.{Moored, Going, Idle, Under, ChamberState, State, IsAmong, chamber_after, state_after, opening, after, after_all}
+use Rattle.day_play.specs.State.{Moored, Going, Under, State, IsAmong, chamber_after, state_after, opening, after, after_all}
 use Rattle.day_play.specs.Lawful.{MayDo, MayEnter, IsLawful, AreLawfulBeats}
 use Rattle.day_play.specs.declared.beat.Act.{Act}
 use Rattle.day_play.specs.declared.beat.Act.TheVariants.{Turn, Moor, Go, Done}

@@ -1,5 +1,5 @@
 -- How often a number stands in a list: rising numbers once, and lists in order by their counts.
-use Rattle.std.proofs.Common.{◌≡◌, ◌≢◌, ℕ, zero, suc, ◌+◌, ◌<◌, ◌≤◌, List, [], ◌∷◌, length, map, cond, nat_eq, eq-eqb, inl, inr, refl, ap, sym, subst, ◌∙◌, arith, slice_index_or, AllPairs}
+use Rattle.std.proofs.Common.{◌≡◌, ◌≢◌, ℕ, zero, suc, ◌+◌, ◌<◌, ◌≤◌, List, [], ◌∷◌, length, cond, nat_eq, eq-eqb, inl, inr, refl, ap, sym, subst, ◌∙◌, arith, slice_index_or, AllPairs}
 use Rattle.std.specs.List.Sorted.{IsStrictlyIncreasing}
 use Rattle.std.proofs.lemmas.Bool.Decides.{eqb_tells, leb_tells}
 use Rattle.std.proofs.lemmas.List.Kept.{AllPairs-from_increasing}
