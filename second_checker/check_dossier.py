@@ -1,8 +1,8 @@
 #!/usr/bin/env python3
 """Checks a dossier of a ship lock, trusting nothing of the program that wrote it.
 
-A dossier holds an instance, a plan and a certificate that no plan costs less. This checker is written from the
-pages in docs/ (rules.md, formats.md, dossier.md) and shares nothing with glock; its comments name their headings.
+A dossier holds an instance, a plan and a certificate that no plan costs less. This checker follows
+the pages in docs/ (rules.md, formats.md, dossier.md), whose headings its comments name, and shares no code with glock.
 It prints one line, the one that `glock check` prints, and ends with the same status:
 
     accepted cost N                      0   the plan is legal, costs N, and no legal plan costs less
@@ -102,7 +102,7 @@ def first_free(chamber, minute, length):
 
 
 def ready(chamber, side, way, minute):
-    """When the chamber, at that side and free since the minute, can take a lockage of the way: after a turn or at once."""
+    """The minute at which the chamber, free since the given one, can take a lockage of the way: now or after a turn."""
     return minute if side == way else first_free(chamber, minute, chamber.turn) + chamber.turn
 
 
@@ -157,7 +157,7 @@ def too_much(sizes, room, gap, across_room, across_gap):
             and sum(along + gap for along, _ in sizes) > room + gap)
 
 
-class Case:
+class Berths:
     """What cases and spot cases of a deck share. A case is `taken`: the options of the first decisions, in order.
 
     A berth is a rank, 0 for left and 1 for right, and a host, None for the quay."""
@@ -180,15 +180,15 @@ class Case:
         return host_berth is not None and host_berth[0] != self.berth(taken, i)[0]
 
 
-class TreeCase(Case):
-    """The cases of case trees: a decision is the list of its options, and an option the list of its edges."""
+class Case(Berths):
+    """Cases and case trees: a decision is the list of its options, and an option is the list of its edges."""
 
     def __init__(self, deck):
         super().__init__(deck)
-        self.bounds, self.decisions = [], []
+        self.room_edges, self.decisions = [], []
         for i, size in enumerate(deck.sizes):
             x, y = 1 + 2 * i, 2 + 2 * i
-            self.bounds += [(0, x, deck.end), (x, 0, -(deck.length - deck.end - size.length)),
+            self.room_edges += [(0, x, deck.end), (x, 0, -(deck.length - deck.end - size.length)),
                             (0, y, 0), (y, 0, -(deck.width - size.width))]
             self.decisions.append([self.berth_edges(i, *berth) for berth in self.berths[i]])
             self.decisions += [[[edge] for edge in self.order_edges(j, i)] for j in range(i)]
@@ -217,7 +217,7 @@ class TreeCase(Case):
         """Whether the fault stands: a host of the other rank, or a closed walk of positive sum."""
         if kind == 1:
             return named[0] in self.ships and self.other_rank(taken, named[0])
-        edges = sum((options[option] for options, option in zip(self.decisions, taken)), self.bounds)
+        edges = sum((options[option] for options, option in zip(self.decisions, taken)), self.room_edges)
         if max(named) >= len(edges):
             return False
         walk = [edges[number] for number in named]
@@ -237,8 +237,8 @@ def spot_values(deck):
     return sorted(values)
 
 
-class SpotCase(Case):
-    """The cases of spot trees: for each ship its berth is decided and then its x, one of the spot values."""
+class SpotCase(Berths):
+    """Spot values and spot trees: for each ship its berth is decided and then its x, one of the spot values."""
 
     def __init__(self, deck):
         super().__init__(deck)
@@ -322,7 +322,7 @@ def refutation_holds(deck, kind, rest):
         covered = sum((size.length + deck.gap) * (size.width + deck.side) for size in deck.sizes)
         return covered > (room + deck.gap) * (deck.width + deck.side)
     if kind == CASE_TREE:
-        return refutes(TreeCase(deck), rest)
+        return refutes(Case(deck), rest)
     if kind == SPOT_TREE:
         return refutes(SpotCase(deck), rest)
     if any(i >= len(deck.sizes) for i in rest):

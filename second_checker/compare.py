@@ -1,6 +1,9 @@
-#!/usr/bin/env python3
-"""compare.py GLOCK FOLDER PER: compares a glock program with the second checker on each dossier of a folder and on PER
-damaged copies of it. It prints the first differences and `N equal, M different`; its status is 0 where nothing differs."""
+"""Compares `check` of a glock program with the second checker: compare.py GLOCK [DOSSIER ..]
+
+Without dossiers the program writes some: of lots of several sizes, as they are, with all ships in a queue, and with
+cargo classes and closures; open ones too where it knows `solve --keep`, which are compared with its `lower`. Each is
+compared as it is and in damaged copies. Prints the first differences and `N equal, M different`; the status is 0 where
+something was compared and nothing differs."""
 
 import pathlib
 import subprocess
@@ -10,10 +13,41 @@ sys.dont_write_bytecode = True
 from check_dossier import answer
 from damage import Dice, damaged
 
+COPIES, NODES, SHOWN = 20, 3000, 5
 
-def glock_answer(glock, data, is_open):
-    done = subprocess.run([glock, "lower" if is_open else "check"], input=data, capture_output=True)
-    return done.stdout.decode("utf-8", "replace").removesuffix("\n"), done.returncode
+
+def run(glock, words, data=b""):
+    done = subprocess.run([glock, *map(str, words)], input=data, capture_output=True)
+    return done.stdout.decode("utf-8", "replace"), done.returncode
+
+
+def edited(text, edit):
+    """An instance text with each line's list of words edited."""
+    return "".join(" ".join(edit(line.split(), number)) + "\n" for number, line in enumerate(text.splitlines()))
+
+
+def in_a_queue(words, number):
+    return words[:5] + [str(int(words[5]) % 21)] + words[6:] if words[0] == "ship" else words
+
+
+def with_classes(words, number):
+    """Format 2: cargo classes 0 to 2, and a closure behind each chamber."""
+    more = {"glock": ["2"], "ship": words[1:] + [str(number % 3)],
+            "chamber": words[1:] + ["\nclose", *words[1:2], str(40 + number), "90"]}
+    return words[:1] + more.get(words[0], [])
+
+
+def written(glock):
+    """Dossiers that the program writes, each with its name."""
+    for ships in (2, 4, 6, 8, 10, 12):
+        lot, _ = run(glock, ["lot", "--number", ships, "--ships", ships, "--chambers", 1 + ships // 2 % 3])
+        for name, text in (("lot", lot), ("classes", edited(lot, with_classes)), ("queue", edited(lot, in_a_queue))):
+            if name == "queue" and ships > 8:
+                continue
+            for words, status in ((["--dossier", "--nodes", NODES], 0), (["--keep", "--nodes", 4], 1)):
+                dossier, ended = run(glock, ["solve", "--workers", 1, *words], text.encode())
+                if ended == status:
+                    yield f"{name} of {ships} ships, {words[0]}", dossier.encode()
 
 
 def second_answer(data, is_open):
@@ -23,27 +57,18 @@ def second_answer(data, is_open):
         return repr(error), None
 
 
-def cases(data, dice, per):
-    yield "as written", data
-    for _ in range(per):
-        name, text = damaged(data, dice)
-        yield name, text
-
-
 def main():
-    glock, folder, per = sys.argv[1], pathlib.Path(sys.argv[2]), int(sys.argv[3])
+    glock = str(pathlib.Path(sys.argv[1]).resolve())
+    given = [(name, pathlib.Path(name).read_bytes()) for name in sys.argv[2:]]
     equal = different = 0
-    for path in sorted(folder.iterdir()):
-        data = path.read_bytes()
-        is_open = b"\ncertificate open\n" in data
-        for name, text in cases(data, Dice(len(data)), per):
-            first, second = glock_answer(glock, text, is_open), second_answer(text, is_open)
-            if first == second:
-                equal += 1
-            else:
-                different += 1
-                if different <= 5:
-                    print(f"{path.name}, {name}: glock {first}, second checker {second}, over {text[:2000]!r}")
+    for name, dossier in given or written(glock):
+        is_open, dice = b"\ncertificate open\n" in dossier, Dice(len(dossier))
+        for damage, data in [("as written", dossier)] + [damaged(dossier, dice) for _ in range(COPIES)]:
+            text, status = run(glock, ["lower" if is_open else "check"], data)
+            first, second = (text.removesuffix("\n"), status), second_answer(data, is_open)
+            equal, different = equal + (first == second), different + (first != second)
+            if first != second and different <= SHOWN:
+                print(f"{name}, {damage}: glock {first}, second checker {second}, over {data[:2000]!r}")
     print(f"{equal} equal, {different} different")
     return 0 if equal and not different else 1
 

@@ -53,6 +53,31 @@ certificate
 "spots":[[10,0,0,0]],"start":0,"way":0}],"tree":[0,1,100]}
 """
 
+# three abreast, the third moored at the first; the plan is legal, and the mark fails
+GUEST = """glock 2
+chamber c1 1140 240 10 20 5 3 30 15 low 0
+ship s1 up 1100 114 0 5
+ship s2 up 1100 60 0 5
+ship s3 up 1100 50 0 5
+end
+certificate
+{"cost":135,"cuts":[],"plan":[{"chamber":0,"ships":[0,1,2],"spots":[[10,0,0,0],[10,180,1,0],[10,119,0,1]],\
+"start":0,"way":0}],"tree":[1]}
+"""
+# one ship; the chamber turns from 20 to 35, behind a closure
+CLOSED = """glock 2
+chamber c1 2000 240 10 20 5 4 30 15 high 0
+close c1 10 20
+close c1 70 80
+ship s1 up 1100 114 0 5
+end
+certificate
+{"cost":70,"cuts":[],"plan":[{"chamber":0,"ships":[0],"spots":[[10,0,0,0]],"start":35,"way":0}],"tree":[1]}
+"""
+# the cut of the second dossier stands for a chamber c2, and the marks end behind a hit in c1
+OTHER = (SECOND.replace("\nship s1", "\nchamber c2 2000 232 10 20 5 4 30 15 low 0\nship s1")
+         .replace('"cuts":[{"chamber":0', '"cuts":[{"chamber":1').replace("[0,0,100,1,1]", "[0,0,100]"))
+
 WIDE = "s1 up 1100 114", "s1 up 1100 241"
 PART = "dossier fault 4 Shape part {}".format
 FIRST_TREE, SECOND_TREE = "[0,0,1,1,1]", "[0,0,100,1,1]"
@@ -127,6 +152,35 @@ CHECKED = [
     # a ship that fits no chamber comes after every fault and before the check
     (FIRST, *WIDE, "ship s1 fits no chamber"), (FIRST.replace(*WIDE), '"cost":80', '"cost":-1', PART(2)),
     (FIRST.replace(*WIDE), '"cost":80', '"cost":79', "ship s1 fits no chamber"),
+    # placements: inside, apart, at the quay, beside the host and along it, within `most`, without a clash
+    (GUEST, "", "", "rejected tree 0 reason 8 BoundLow"), (GUEST, "5 3 30", "5 2 30", ILLEGAL),
+    *((GUEST, old, new, ILLEGAL) for old, new in (
+        ("[[10,0,", "[[9,0,"), ("[[10,0,", "[[31,0,"), ("[[10,0,", "[[10,1,"), ("[[10,0,0,0]", "[[10,0,1,0]"),
+        ("180,1,0", "179,1,0"), ("119,0,1", "118,0,1"), ("119,0,1", "120,0,1"), ("119,0,1", "119,1,1"), ("119,0,1", "119,0,0"),
+        ("119,0,1", "119,0,2"), ("119,0,1", "119,0,3"), ("119,0,1", "119,0,4"), ("s1 up 1100", "s1 up 1090"),
+        ("1140 240 10 20 5", "1140 240 10 20 6"), ("[0,1,2]", "[0,1,3]"), ('"way":0', '"way":1'), ("s2 up", "s2 down"))),
+    (GUEST, "119,0,1", "125,1,2", "rejected tree 0 reason 8 BoundLow"), (GUEST, "119,0,1", "126,1,2", ILLEGAL),
+    (FIRST.replace("glock 1", "glock 2").replace("0 5\nend", "0 5 9\nend"), "0 5\n", "0 5 1\n", ILLEGAL),
+    (FIRST.replace("glock 1", "glock 2").replace("0 5\nend", "0 5 9\nend"), "0 5\n", "0 5 9\n", "accepted cost 80"),
+    # times: the empty turn and the lockage keep clear of closures; a closure ends before its last minute
+    (CLOSED, "", "", "accepted cost 70"), (CLOSED, '"start":35', '"start":34', ILLEGAL),
+    (CLOSED, '"start":35', '"start":36', ILLEGAL), (CLOSED, "70 80", "71 80", "accepted cost 70"),
+    (CLOSED, "close c1 70 80", "close c1 69 80", ILLEGAL), (CLOSED, "10 20\n", "15 20\n", "rejected tree 0 reason 8 BoundLow"),
+    (CLOSED, " high 0", " high 1", "accepted cost 70"), (CLOSED, " high 0", " high 21", ILLEGAL),
+    (CLOSED, "114 0 5", "114 36 5", ILLEGAL), (CLOSED, "30 15 high", "30 0 high", "rejected tree 0 reason 8 BoundLow"),
+    # a cut hits in a chamber that is no roomier than its own
+    (OTHER, "", "", "rejected tree 3 reason 5 TreeShort"),
+    (OTHER, "c1 2000 232", "c1 1999 231", "rejected tree 3 reason 5 TreeShort"),
+    *((OTHER, "c2 2000 232 10 20 5", "c2 " + measures, "rejected tree 2 reason 9 CutMisses") for measures in (
+        "1999 232 10 20 5", "2000 231 10 20 5", "2000 232 11 20 5", "2000 232 10 21 5", "2000 232 10 20 6")),
+    (OTHER, "c2 2000 232", "c2 2000 233", UNPROVED), (OTHER, "c2 2000 232 10 20", "c2 2241 232 10 21", UNPROVED),
+    (OTHER, "c2 2000 232 10 20", "c2 2240 232 10 20", UNPROVED),
+    (OTHER, "c2 2000 232 10 20", "c2 2239 232 10 20", "rejected tree 3 reason 5 TreeShort"),
+    # a column of two, and an area
+    (SECOND, WHY, '"why":[2,0,1]', ACCEPTED),
+    *((SECOND.replace("c1 2000 232", f"c1 {room}"), WHY, why, line) for room, why, line in (
+        ("2239 232", '"why":[2,0,1]', ACCEPTED), ("2240 232", '"why":[2,0,1]', UNPROVED), ("2000 233", '"why":[2,0,1]', UNPROVED),
+        ("1124 232", '"why":[0]', ACCEPTED), ("1125 232", '"why":[0]', UNPROVED))),
     # case trees and spot trees
     (CASES, "", "", "accepted cost 35"), (CASES, "[3,2,3,2]", "[3,2,2,3]", "accepted cost 35"),
     (CASES, "[3,2,3,2]", "[3,0,2,3,2,2,3,2]", "accepted cost 35"), (CASES, "[3,2,3,2]", "[4,0,3,0,3,0]", "accepted cost 35"),
@@ -141,6 +195,7 @@ CHECKED = [
 ]
 OPENED = [
     (OPEN, "", "", "lower 80 cost 120"), (OPEN, "[0,0,3,1,1]", "[3]", "lower 70 cost 120"),
+    (OPEN, "[0,0,3,1,1]", "[0,0,3,3,3]", "lower 80 cost 120"),
     (OPEN, "[0,0,3,1,1]", "[0,0,1,1,1]", "rejected tree 2 reason 8 BoundLow"),
     (OPEN, "[0,0,3,1,1]", "[0,0,3,1,1,3]", "rejected tree 5 reason 6 TreeLong"),
     (OPEN, "[0,0,3,1,1]", "[0,4,3]", PART(5)), (OPEN, '"cuts":[]', '"cuts":[{"chamber":0,"ships":[0,1],"why":[5,1,0]}]', PART(3)),
