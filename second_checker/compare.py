@@ -2,7 +2,7 @@
 
 Without dossiers the program writes some: of lots of several sizes, as they are, with all ships in a queue, and with
 cargo classes and closures; open ones too where it knows `solve --keep`, which are compared with its `lower`. Each is
-compared as it is and in damaged copies. Prints the first differences and `N equal, M different`; the status is 0 where
+compared as it is and in damaged copies. So is trees.dossier, whose cuts have a case tree and a spot tree. Prints the first differences and `N equal, M different`; the status is 0 where
 something was compared and nothing differs."""
 
 import pathlib
@@ -13,7 +13,7 @@ sys.dont_write_bytecode = True
 from check_dossier import answer
 from damage import Dice, damaged
 
-COPIES, NODES, SHOWN = 20, 3000, 5
+COPIES, NODES, SHOWN = 14, 2000, 5
 
 
 def run(glock, words, data=b""):
@@ -38,7 +38,8 @@ def with_classes(words, number):
 
 
 def written(glock):
-    """Dossiers that the program writes, each with its name."""
+    """trees.dossier and dossiers that the program writes, each with its name."""
+    yield "trees.dossier", pathlib.Path(__file__).with_name("trees.dossier").read_bytes()
     for ships in (2, 4, 6, 8, 10, 12):
         lot, _ = run(glock, ["lot", "--number", ships, "--ships", ships, "--chambers", 1 + ships // 2 % 3])
         for name, text in (("lot", lot), ("classes", edited(lot, with_classes)), ("queue", edited(lot, in_a_queue))):
