@@ -189,7 +189,7 @@ class Case(Berths):
         for i, size in enumerate(deck.sizes):
             x, y = 1 + 2 * i, 2 + 2 * i
             self.room_edges += [(0, x, deck.end), (x, 0, -(deck.length - deck.end - size.length)),
-                            (0, y, 0), (y, 0, -(deck.width - size.width))]
+                                (0, y, 0), (y, 0, -(deck.width - size.width))]
             self.decisions.append([self.berth_edges(i, *berth) for berth in self.berths[i]])
             self.decisions += [[[edge] for edge in self.order_edges(j, i)] for j in range(i)]
 

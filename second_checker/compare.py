@@ -40,6 +40,7 @@ def with_classes(words, number):
 def written(glock):
     """trees.dossier and dossiers that the program writes, each with its name."""
     yield "trees.dossier", pathlib.Path(__file__).with_name("trees.dossier").read_bytes()
+    count = 0
     for ships in (2, 4, 6, 8, 10, 12):
         lot, _ = run(glock, ["lot", "--number", ships, "--ships", ships, "--chambers", 1 + ships // 2 % 3])
         for name, text in (("lot", lot), ("classes", edited(lot, with_classes)), ("queue", edited(lot, in_a_queue))):
@@ -47,8 +48,11 @@ def written(glock):
                 continue
             for words, status in ((["--dossier", "--nodes", NODES], 0), (["--keep", "--nodes", 4], 1)):
                 dossier, ended = run(glock, ["solve", "--workers", 1, *words], text.encode())
-                if ended == status:
+                if ended == status and "\ncertificate" in dossier:
+                    count += 1
                     yield f"{name} of {ships} ships, {words[0]}", dossier.encode()
+    if count == 0:
+        sys.exit("the program wrote no dossier")
 
 
 def second_answer(data, is_open):
@@ -69,7 +73,7 @@ def main():
             first, second = (text.removesuffix("\n"), status), second_answer(data, is_open)
             equal, different = equal + (first == second), different + (first != second)
             if first != second and different <= SHOWN:
-                print(f"{name}, {damage}: glock {first}, second checker {second}, over {data[:2000]!r}")
+                print(f"{name}, {damage}: glock {first}, second checker {second}, over {data[:700]!r}")
     print(f"{equal} equal, {different} different")
     return 0 if equal and not different else 1
 
