@@ -482,8 +482,12 @@ def main():
                        help="read an open dossier (line `certificate open`) and print `lower LOW cost N`")
     words.add_argument("file", nargs="?", help="the dossier; standard input where it isn't given")
     given = words.parse_args()
-    with open(given.file, "rb") if given.file else sys.stdin.buffer as source:
-        text, status = answer(source.read(), given.open)
+    try:
+        with open(given.file, "rb") if given.file else sys.stdin.buffer as source:
+            data = source.read()
+    except OSError as error:
+        words.error(str(error))
+    text, status = answer(data, given.open)
     print(text)
     return status
 

@@ -1,9 +1,10 @@
 """Compares `check` of a glock program with the second checker: compare.py GLOCK [DOSSIER ..]
 
 Without dossiers the program writes some: of lots of several sizes, as they are, with all ships in a queue, and with
-cargo classes and closures; open ones too where it knows `solve --keep`, which are compared with its `lower`. Each is
-compared as it is and in damaged copies. So is trees.dossier, whose cuts have a case tree and a spot tree. Prints the first differences and `N equal, M different`; the status is 0 where
-something was compared and nothing differs."""
+cargo classes and closures; open ones too where it knows `solve --keep`, which are compared with its `lower`. To them
+comes trees.dossier, whose cuts have a case tree and a spot tree. Each is compared as it is and in damaged copies.
+Prints the first differences and `N equal, M different`; the status is 0 where something was compared and nothing
+differs."""
 
 import pathlib
 import subprocess
