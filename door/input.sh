@@ -12,10 +12,16 @@ take_input() {
     [ -r "$file" ] || { say "$file can't be read: no permission"; return 66; }
   done
   case ${#files[@]} in
-    0) keep_standard_input ;;
+    0) wait_for_keyboard && keep_standard_input ;;
     1) input=${files[0]} first_name=$input ;;
     2) join_files ;;
   esac
+}
+
+wait_for_keyboard() {
+  if [ -t 0 ] && [ -z "$wrong" ] && [ "$(most_files "$command")" -gt 0 ]; then
+    say "no file is named, so $command reads what you type; end it with Ctrl-D, or stop with Ctrl-C and name a file"
+  fi
 }
 
 # The second file begins on a line of its own, also where the first doesn't end with a line feed.

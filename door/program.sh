@@ -6,7 +6,7 @@ program=$crate/out/lock_main
 # the first source that is newer than the program, or nothing
 newer_source() { find "$top"/crates/*/src "$top"/crates/*/specs "$top/crates.txt" -newer "$program" -print -quit 2>/dev/null; }
 
-# sets run, the words that start the program; the message where no program can answer
+# sets run, the words that start the program; fails where no program can answer
 choose_program() {
   local newer reason
   if [ -n "${GLOCK_PROGRAM-}" ]; then
@@ -22,9 +22,10 @@ choose_program() {
     reason="${newer#"$top"/} is newer than the proved program"
     has_kit || { say "$reason, and the kit isn't here to build it anew; the older proved program answers"; return 0; }
   fi
-  has_kit || { say_no_kit "$reason"; return 69; }
   run=(unproved_run)
-  [ -n "$wrong" ] || say "not the proved program: $reason, so this answer comes from the kit's unproved run, which takes a minute or more; ./glock prove builds the proved program"
+  [ -z "$wrong" ] || return 0
+  has_kit || { say_no_kit "$reason"; return 69; }
+  say "not the proved program: $reason, so this answer comes from the kit's unproved run, which takes a minute or more; ./glock prove builds the proved program"
 }
 
 has_kit() { command -v rt >/dev/null; }

@@ -1,13 +1,18 @@
 # Proves and builds the program, one crate after the other, and says how far it is.
 
 prove() {
-  local log=$top/out/prove.log
+  local log=$top/out/prove.log begin=$top/out/prove.begin
   [ $# = 0 ] || { say "prove takes no other words"; return 2; }
   has_kit || { say_no_kit "proving needs the kit"; return 69; }
-  mkdir -p "$top/out" && : >"$log" || { say "$top/out can't be written in"; return 73; }
+  if [ -x "$program" ] && [ -z "$(newer_source)" ]; then
+    say "the program is proved and built already"
+    return
+  fi
+  mkdir -p "$top/out" && : >"$log" && : >"$begin" || { say "$top/out can't be written in"; return 73; }
   say "proving the crates of the program; this may take an hour or more. What is proved is kept if you stop"
   prove_crates "$log" || return 70
-  touch "$program"
+  # A source that was changed since the start is newer than the program.
+  touch -r "$begin" "$program"
   say "the program is proved and built, $(minutes "$SECONDS") after the start; ./glock answers by it from now on"
 }
 
@@ -27,14 +32,13 @@ prove_crates() {
   done
 }
 
-# a library is built; the program is run as well, on words that end it at once: they are bad words
+# A library is built; the program is built and run, on a word that ends it at once.
 prove_crate() {
   cd "$top/crates/$1" || return
   if [ "$1" != lock_main ]; then
     rt lib
   else
-    rt run -- '?' </dev/null
-    [ $? = 2 ] && [ -x "$program" ]
+    [ "$(rt run -- '?' </dev/null)" = "bad words" ] && [ -x "$program" ]
   fi
 }
 

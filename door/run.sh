@@ -27,6 +27,7 @@ stop_program() {
 start_watch() {
   watch=
   [ -t 2 ] || return 0
+  begun=$SECONDS
   show_time_gone &
   watch=$!
   disown "$watch"
@@ -36,7 +37,7 @@ end_watch() {
   [ -n "$watch" ] || return 0
   kill "$watch" 2>/dev/null
   watch=
-  printf '\r\033[K' >&2
+  if [ $((SECONDS - begun)) -ge 2 ]; then printf '\r\033[K' >&2; fi
 }
 
 show_time_gone() {

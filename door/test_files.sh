@@ -53,7 +53,7 @@ written() {
 }
 rows written <<'ROWS'
 solve evening.lock | 0 | | | optimal cost 270
-solve two-chambers.lock --nodes 50 | 1 | | isn't proved cheapest; what is proved is that no plan costs less than 280 | open nodes 50 low 280
+solve two-chambers.lock --nodes 50 | 1 | | isn't proved cheapest; what is proved is that no plan costs less than | open nodes 50 low 
 solve bad.lock | 3 | line 9 fault 4 Count | bad.lock:9: fault 4 Count | old
 solve --nodes x | 2 | bad words | --nodes takes | old
 solve evening.lock --dossier | 0 | | | glock 1

@@ -56,6 +56,8 @@ no_kit solve evening.lock
 check "no program and no kit" gives 69 "" "the Rattle kit isn't on this machine"
 no_kit prove
 check "no kit to prove with" gives 69 "" "the Rattle kit isn't on this machine"
+no_kit sovle
+check "bad words need no kit" gives 2 "bad words" "there is no command"
 no_kit --help
 check "help needs no kit" gives 0 "glock plans a ship lock" ""
 no_kit --version
@@ -82,6 +84,8 @@ rm "$fresh/bad_middle" "$fresh/proved"
 kit prove
 check "proving" gives 0 "" " 2 of 3  middle"
 check "the crates in order" [ "$(tr '\n' ' ' <"$fresh/proved")" = "low middle lock_main " ]
+kit prove
+check "proving again" gives 0 "" "proved and built already"
 no_kit solve evening.lock
 check "the proved program" gives 0 "optimal cost 270" ""
 
