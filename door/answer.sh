@@ -52,6 +52,8 @@ is_dossier() { [ "$(head -c 6 "$answer" | tr -d '\0')" = "glock " ]; }
 # the minutes of a report or of a day as times of day
 show_times_of_day() {
   case $status in
-    0 | 1) is_dossier || { awk -v begin="$clock" -f "$door/clock.awk" "$answer" >"$room/clock" && answer=$room/clock; } ;;
+    0 | 1) if ! is_dossier; then times_of_day; fi ;;
   esac
 }
+
+times_of_day() { awk -v begin="$clock" -f "$door/clock.awk" "$answer" >"$room/clock" && answer=$room/clock; }

@@ -30,7 +30,10 @@ check_option() {
     *) refuse "\"$1\" is no option; options of the program begin with two dashes"; return ;;
   esac
   is_option "$name" || is_flag "$name" || { refuse "there is no option $name; $(what_it_takes)"; return; }
-  [[ " $(options_of "$command") " == *" $name "* ]] || ! is_command "$command" || { refuse "$name isn't for $command; $(what_it_takes)"; return; }
+  if is_command "$command" && [[ " $(options_of "$command") " != *" $name "* ]]; then
+    refuse "$name isn't for $command; $(what_it_takes)"
+    return
+  fi
   [[ $seen != *" $name "* ]] || { refuse "$name stands twice"; return; }
   seen+="$name "
   check_text "$name" "$@"
@@ -48,7 +51,8 @@ check_text() {
     *) text=${3-} ;;
   esac
   read -r least most <<<"$(range_of "$1")"
-  in_range "$text" "$least" "$most" || refuse "$1 takes a whole number from $(with_commas "$least") to $(with_commas "$most")${text:+, and not \"$text\"}"
+  in_range "$text" "$least" "$most" && return
+  refuse "$1 takes a whole number from $(with_commas "$least") to $(with_commas "$most")${text:+, and not \"$text\"}"
 }
 
 # one to ten digits between two numbers

@@ -22,7 +22,8 @@ explain_answer() {
 # A file was asked for and another text came than its options may let one expect.
 explain_good() {
   if has_word --dossier && ! is_dossier; then
-    say "no dossier: all ships are in lockages that are kept, so nothing was left to plan; the answer is the plan${output:+, and $output is not written}"
+    say "no dossier: all ships are in lockages that are kept, so nothing was left to plan; the answer is the plan" \
+      "${output:+and $output is not written}"
   elif $is_written && has_word --keep && ! has_word --dossier; then
     say "the search came to its end, so $output holds the report of a cheapest plan and no open dossier"
   fi
@@ -41,8 +42,9 @@ explain_open() {
     *) return ;;
   esac
   [ "$command" != trial ] || return 0
-  say "this plan costs ${bounds##* } and isn't proved cheapest; what is proved is that no plan costs less than ${bounds%% *}. $(how_to_go_on "$1")"
-  if [ -n "$output" ] && ! $is_written; then say "a dossier is made for a cheapest plan alone, so $output is not written"; fi
+  say "this plan costs ${bounds##* } and isn't proved cheapest; what is proved is that no plan costs less than" \
+    "${bounds%% *}. $(how_to_go_on "$1")"
+  [ -z "$output" ] || $is_written || say "a dossier is made for a cheapest plan alone, so $output is not written"
 }
 
 how_to_go_on() {

@@ -4,7 +4,9 @@ explain_dossier() {
   case $1 in
     "dossier fault 1 "*) explain_line instance "${parts[5]}" "${parts[7]}" "${parts[8]}" ;;
     "dossier fault 4 "*) say_at "$first_name" "fault 4 Shape: $(sentence_of "shape ${parts[5]}")" ;;
-    "dossier fault "*) say_at "$first_name" "fault ${parts[2]} ${parts[3]}: $(sentence_of "dossier ${parts[3]}")$(other_kind)" ;;
+    "dossier fault "*)
+      say_at "$first_name" "fault ${parts[2]} ${parts[3]}: $(sentence_of "dossier ${parts[3]}")$(other_kind)"
+      ;;
     "rejected "*) explain_rejection "$1" ;;
   esac
 }

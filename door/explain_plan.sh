@@ -3,10 +3,13 @@
 explain_plan() {
   case $1 in
     "plan line "*) explain_line plan "$((${parts[2]} + $(end_of_instance)))" "${parts[4]}" "${parts[5]}" ;;
-    "illegal ship "*) say_at "${second_name:-$first_name}" "ship ${parts[2]} ${parts[3]}: $(break_sentence "${parts[3]}" "${parts[2]}")" ;;
+    "illegal ship "*) explain_ship "${parts[2]}" "${parts[3]}" ;;
     "illegal lockage "*) explain_lockage "${parts[2]}" "${parts[3]}" "${parts[@]:4}" ;;
   esac
 }
+
+# a ship that is in two lockages or in none
+explain_ship() { say_at "${second_name:-$first_name}" "ship $1 $2: $(break_sentence "$2" "$1")"; }
 
 # a lockage's number, its break and the ships that the break names
 explain_lockage() {

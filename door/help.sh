@@ -17,7 +17,7 @@ tell_about() {
 
 tell_version() {
   echo "glock commit $(commit)"
-  sed -n 's/.*\(proved with\) `\(rattle-kit[^`]*\)`.*/\1 \2/p' "$top/README.md"
+  echo "proved with $(kit_of_sources)"
 }
 
 # the commit of these files, where they lie in a repository of their own
@@ -26,7 +26,9 @@ commit() {
   root=$(git -C "$top" rev-parse --show-toplevel 2>/dev/null)
   if [ -z "$root" ] || ! [ "$root" -ef "$top" ]; then
     echo unknown
+  elif [ -z "$(git -C "$top" status --porcelain -uno)" ]; then
+    git -C "$top" rev-parse --short HEAD
   else
-    echo "$(git -C "$top" rev-parse --short HEAD)$([ -z "$(git -C "$top" status --porcelain -uno)" ] || echo ' with later changes')"
+    echo "$(git -C "$top" rev-parse --short HEAD) with later changes"
   fi
 }

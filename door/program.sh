@@ -4,7 +4,9 @@ crate=$top/crates/lock_main
 program=$crate/out/lock_main
 
 # the first source that is newer than the program, or nothing
-newer_source() { find "$top"/crates/*/src "$top"/crates/*/specs "$top/crates.txt" -newer "$program" -print -quit 2>/dev/null; }
+newer_source() {
+  find "$top"/crates/*/src "$top"/crates/*/specs "$top/crates.txt" -newer "$program" -print -quit 2>/dev/null
+}
 
 # sets run, the words that start the program; fails where no program can answer
 choose_program() {
@@ -25,12 +27,19 @@ choose_program() {
   run=(unproved_run)
   [ -z "$wrong" ] || return 0
   has_kit || { say_no_kit "$reason"; return 69; }
-  say "not the proved program: $reason, so this answer comes from the kit's unproved run, which takes a minute or more; ./glock prove builds the proved program"
+  say "not the proved program: $reason, so this answer comes from the kit's unproved run, which takes a minute or more;" \
+    "./glock prove builds the proved program"
 }
+
+# the kit that the sources are proved with, as the README names it
+kit_of_sources() { sed -n 's/.*proved with `\(rattle-kit[^`]*\)`.*/\1/p' "$top/README.md"; }
+is_kit_of_sources() { [ "$(rt version)" = "$(kit_of_sources)" ]; }
 
 has_kit() { command -v rt >/dev/null; }
 
-say_no_kit() { say "$1, and the Rattle kit isn't on this machine: its command rt proves and builds the program (see README.md)"; }
+say_no_kit() {
+  say "$1, and the Rattle kit isn't on this machine: its command rt proves and builds the program (see README.md)"
+}
 
 # The kit's run of the sources without a proof, which builds the program for this run alone and ends with its status.
 # Words that the door sees to be wrong need no program.

@@ -9,6 +9,7 @@ prove() {
     return
   fi
   mkdir -p "$top/out" && : >"$log" && : >"$begin" || { say "$top/out can't be written in"; return 73; }
+  is_kit_of_sources || say "this machine's kit is $(rt version), and the sources were proved with $(kit_of_sources); a proof may fail"
   say "proving the crates of the program; this may take an hour or more. What is proved is kept if you stop"
   prove_crates "$log" || return 70
   # A source that was changed since the start is newer than the program.
@@ -25,7 +26,8 @@ prove_crates() {
     all=$((all + bytes))
   done < <(crates_with_sizes)
   for crate_name in "${order[@]}"; do
-    printf 'glock: %2d of %d  %-16s %s gone%s\n' $((number + 1)) ${#order[@]} "$crate_name" "$(minutes "$SECONDS")" "$(time_left "$done" "$all")" >&2
+    printf 'glock: %2d of %d  %-16s %s gone%s\n' $((number + 1)) ${#order[@]} "$crate_name" "$(minutes "$SECONDS")" \
+      "$(time_left "$done" "$all")" >&2
     prove_crate "$crate_name" >>"$1" 2>&1 || { say_unproved "$crate_name" "$1"; return 1; }
     done=$((done + sizes[number]))
     number=$((number + 1))
@@ -61,9 +63,11 @@ crates_with_sizes() {
     }
     END { mark("lock_main") }' "$top/crates.txt" |
     while read -r name; do
-      echo "$name $(find "$top/crates/$name/src" "$top/crates/$name/specs" "$top/crates/$name/proofs" -type f -exec cat {} + 2>/dev/null | wc -c)"
+      echo "$name $(bytes_of "$top/crates/$name/src" "$top/crates/$name/specs" "$top/crates/$name/proofs")"
     done
 }
+
+bytes_of() { find "$@" -type f -exec cat {} + 2>/dev/null | wc -c; }
 
 time_left() {
   if [ "$1" -gt 0 ] && [ "$SECONDS" -gt 10 ]; then echo ", about $(minutes $((SECONDS * ($2 - $1) / $1))) left"; fi
