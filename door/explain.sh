@@ -23,7 +23,7 @@ explain_answer() {
 explain_good() {
   if has_word --dossier && ! is_dossier; then
     say "no dossier: all ships are in lockages that are kept, so nothing was left to plan; the answer is the plan" \
-      "${output:+and $output is not written}"
+      ${output:+"and $output is not written"}
   elif $is_written && has_word --keep && ! has_word --dossier; then
     say "the search came to its end, so $output holds the report of a cheapest plan and no open dossier"
   fi

@@ -15,7 +15,7 @@ explain_ship() { say_at "${second_name:-$first_name}" "ship $1 $2: $(break_sente
 explain_lockage() {
   local line detail
   IFS=$'\t' read -r line detail < <(awk -v number="$1" -v kind="$2" -f "$door/lockage.awk" "$input")
-  say_at "$(place_of "$line")" "lockage $1 $2: $(break_sentence "${@:2}")$detail"
+  say_at "$(place_of "$line")" "lockage $1 $2: $(break_sentence "${@:2}")${detail:+ ${detail% }}"
 }
 
 # the sentence of a break with the names of its ships

@@ -42,21 +42,23 @@ faulty_instance() {
 rows faulty_instance <<'ROWS'
 4s/alva/\xff/ | line 4 fault 1 NotUtf8 | this line holds a byte that is no text
 1s/1/3/ | line 1 fault 2 NoHeader | the first line must be
+1s/^/\xef\xbb\xbf/ | line 1 fault 2 NoHeader | the file begins with a hidden mark
 4s/ship/boat/ | line 4 fault 3 Word | no line may begin with "boat"
 4s/up/north/ | line 4 fault 3 Word | "north" stands where up or down must stand
 3s/high/top/ | line 3 fault 3 Word | "top" stands where low or high must stand
 4s/^/close main 1 2\n/ | line 4 fault 3 Word | a line close needs `glock 2`
 4s/ 5$// | line 4 fault 4 Count | this line has 6 words; a ship line has 7 words
 3s/$/ 5/ | line 3 fault 4 Count | this line has 13 words; a chamber line has 12 words
-4s/114/11.4/ | line 4 fault 5 Number | "11.4" stands where width must be a whole number
-2s/ 6 / 9 / | line 2 fault 6 Range | most is 9, and must be from 1 to 8
+4s/114/11.4/ | line 4 fault 5 Number | "11.4" stands for the width, which must be a whole number
+s/$/\r/;9s/ 5\r/\r/ | line 9 fault 4 Count | this line has 6 words
+2s/ 6 / 9 / | line 2 fault 6 Range | 9 stands for the most ships of a lockage, which must be from 1 to 8
 4s/alva/a.lva/ | line 4 fault 7 Name | a name has 1 to 12 letters
 5s/brio/alva/ | line 5 fault 8 Twice | the name alva is given in line 4 already
 2s/30 15/15 30/ | line 2 fault 9 TurnOverPass | the empty turn of 30 minutes is longer than the passage of 15
 2,3d | line 11 fault 10 NoChamber | the lock has no chamber
 4,12d | line 4 fault 11 NoShip | there is no ship
 13d | line 13 fault 12 NoEnd | the text stops without its last line
-1s/1/2/;4s/^/close mian 1 2\n/ | line 4 fault 13 Unknown | no chamber line above has this name
+1s/1/2/;4s/^/close mian 1 2\n/ | line 4 fault 13 Unknown | there is no chamber named mian above
 1s/1/2/;4s/^/close main 9 2\n/ | line 4 fault 14 Overlap | the closure begins at minute 9 and ends at minute 2
 ROWS
 
@@ -73,12 +75,14 @@ rows faulty_plan <<'ROWS'
 2d | plan line 2 fault 2 NoMark | the plan must begin
 4s/left/port/ | plan line 4 fault 3 Word | "port" stands where left or right must stand
 4s/ \*$// | plan line 4 fault 4 Count | this line has 5 words; a berth line has 6 words
-3s/ 0$/ noon/ | plan line 3 fault 5 Number | "noon" stands where start must be a whole number
-4s/10/100001/ | plan line 4 fault 6 Range | x is 100001
-3s/main/mian/ | plan line 3 fault 7 Unknown | the instance has no chamber or ship
+3s/ 0$/ noon/ | plan line 3 fault 5 Number | "noon" stands for the minute of the start
+4s/10/100001/ | plan line 4 fault 6 Range | 100001 stands for the place along the chamber, which must be from 0 to 100,000
+3s/main/mian/ | plan line 3 fault 7 Unknown | there is no chamber named mian above
+4s/alva/alwa/ | plan line 4 fault 7 Unknown | there is no ship named alwa
+9s/cora/kora/ | plan line 9 fault 7 Unknown | there is no ship named kora
 4p | plan line 5 fault 8 Twice | this ship has a berth in this lockage already
 3d | plan line 3 fault 9 Loose | a berth comes before the first lockage
-9s/cora/brio/ | plan line 9 fault 10 Host | the ship at which this one moors has no berth
+9s/cora/brio/ | plan line 9 fault 10 Host | brio has no berth in this lockage, and eddy is to moor at it
 20d | plan line 20 fault 11 NoEnd | the plan stops without its last line
 ROWS
 
@@ -89,7 +93,9 @@ broken_plan() {
   check "plan: $2" gives 10 "$2" "$3"
 }
 rows broken_plan <<'ROWS'
-16s/up/down/ | illegal lockage 1 Shape | x.both:16: lockage 1 Shape: the lockage has no ship
+16s/up/down/ | illegal lockage 1 Shape | x.both:16: lockage 1 Shape: the lockage has no ship, more ships than its chamber takes, or a ship that goes the other way. alva goes up
+17d | illegal lockage 1 Shape | It has no ship
+3s/ 4 20/ 1 20/ | illegal lockage 3 Shape | It has 2 ships, and side takes 1
 20s/125/124/ | illegal lockage 3 Early | x.both:20: lockage 3 Early: the lockage starts before all its ships have arrived; start it later. It starts at minute 124; eddy arrives at minute 125
 17s/10/5/ | illegal lockage 1 Outside alva | lockage 1 Outside: alva does not lie inside
 22s/100/50/ | illegal lockage 3 Touching cora eddy | cora and eddy lie too close
@@ -124,7 +130,7 @@ bad_dossier() {
   check "dossier: $2" gives 7 "$2" "x.dossier$3"
 }
 rows bad_dossier <<'ROWS'
-3s/1100/11oo/ | dossier fault 1 Instance line 3 fault 5 Number | :3: fault 5 Number: "11oo" stands where length
+3s/1100/11oo/ | dossier fault 1 Instance line 3 fault 5 Number | :3: fault 5 Number: "11oo" stands for the length
 6s/$/ open/ | dossier fault 2 NoMark | : fault 2 NoMark: after the instance's line end
 7s/}$// | dossier fault 3 Json | : fault 3 Json: what follows
 7s/"cost"/"price"/ | dossier fault 4 Shape part 1 | : fault 4 Shape: the certificate must have the four entries
