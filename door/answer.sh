@@ -1,23 +1,23 @@
 # Hands on the program's answer: to standard output, or to the file of -o.
 
-# before the program runs: whether the file of -o can be written; sets output to the file behind a link
+# before the program runs: whether the file of -o can be written; sets written_file to the file behind a link
 output_is_free() {
   local file
   [ -n "$output" ] || return 0
-  output=$(readlink -m -- "$output")
-  [ ! -d "$output" ] || { say "$output is a folder; -o needs the name of a file"; return 1; }
-  [ -d "$(dirname "$output")" ] || { say "there is no folder $(dirname "$output") for the file of -o"; return 1; }
+  written_file=$(readlink -m -- "$output")
+  [ ! -d "$written_file" ] || { say "$output is a folder; -o needs the name of a file"; return 1; }
+  [ -d "${written_file%/*}/" ] || { say "there is no folder for the file $output"; return 1; }
   for file in "${files[@]}"; do
-    [ ! "$file" -ef "$output" ] || { say "$file is read, so -o must name another file"; return 1; }
+    [ ! "$file" -ef "$written_file" ] || { say "$file is read, so -o must name another file"; return 1; }
   done
   if is_special; then return 0; fi
   # The answer is written beside the file and then moved, so that the file is whole or stays as it was.
-  part_file=$output.part.$$
-  : 2>/dev/null >"$part_file" || { say "$(dirname "$output") can't be written in"; part_file=; return 1; }
+  part_file=$written_file.part.$$
+  : 2>/dev/null >"$part_file" || { say "the folder of $output can't be written in"; part_file=; return 1; }
 }
 
 # a device or a pipe, which is written as it is
-is_special() { [ -e "$output" ] && [ ! -f "$output" ]; }
+is_special() { [ -e "$written_file" ] && [ ! -f "$written_file" ]; }
 
 # sets is_written; an answer that can't be handed on whole is a write fault, as it is for the program
 give_answer() {
@@ -32,9 +32,9 @@ give_answer() {
 
 write_output() {
   if is_special; then
-    cat "$answer" >"$output"
+    cat "$answer" >"$written_file"
   else
-    cat "$answer" >"$part_file" && mv -f "$part_file" "$output" && part_file=
+    cat "$answer" >"$part_file" && mv -f "$part_file" "$written_file" && part_file=
   fi 2>/dev/null
 }
 

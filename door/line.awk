@@ -76,6 +76,7 @@ function sentence() {
 }
 
 function first_wrong_choice(    names, i, parts) {
+  if ($1 == "plan") return "the plan begins here, and the line end before it is missing."
   if (!($1 in form)) return $1 == "" ? "" : "no line may begin with \"" $1 "\" here."
   split(form[$1], names, " ")
   for (i = 1; i < NF; i++)

@@ -3,7 +3,11 @@
 say() { printf 'glock: %s\n' "$*" >&2; }
 
 # a message that belongs to a place: a file, or a file and a line
-say_at() { printf '%s: %s\n' "$1" "$2" >&2; }
+say_at() {
+  local place=$1
+  shift
+  printf '%s: %s\n' "$place" "$*" >&2
+}
 
 # the sentence of sentences.txt with this key, or nothing
 sentence_of() { sed -n "s/^$1 | //p" "$door/sentences.txt"; }
