@@ -7,13 +7,14 @@ most_kept=131073
 # call the parts in messages; and first_lines, the number of lines of the first of two files
 take_input() {
   input= first_name="standard input" second_name= first_lines=0
+  local file
   for file in "${files[@]}"; do
     [ -d "$file" ] && { say "$file is a folder"; return 66; }
     [ -r "$file" ] || { say "$file can't be read: no permission"; return 66; }
   done
   case ${#files[@]} in
     0) wait_for_keyboard && keep_standard_input ;;
-    1) input=${files[0]} first_name=$input ;;
+    1) take_file ;;
     2) join_files ;;
   esac
 }
@@ -21,6 +22,17 @@ take_input() {
 wait_for_keyboard() {
   if [ -t 0 ] && [ -z "$wrong" ] && [ "$(most_files "$command")" -gt 0 ]; then
     say "no file is named, so $command reads what you type; end it with Ctrl-D, or stop with Ctrl-C and name a file"
+  fi
+}
+
+# A pipe can be read once only, so it is taken as standard input is.
+take_file() {
+  first_name=${files[0]}
+  if [ -f "$first_name" ]; then
+    input=$first_name
+  else
+    exec <"$first_name"
+    keep_standard_input
   fi
 }
 

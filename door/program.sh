@@ -32,7 +32,7 @@ choose_program() {
 }
 
 # the kit that the sources are proved with, as the README names it
-kit_of_sources() { sed -n 's/.*proved with `\(rattle-kit[^`]*\)`.*/\1/p' "$top/README.md"; }
+kit_of_sources() { sed -n '/proved with `rattle-kit/{s/.*proved with `\([^`]*\)`.*/\1/p;q}' "$top/README.md"; }
 is_kit_of_sources() { [ "$(rt version)" = "$(kit_of_sources)" ]; }
 
 has_kit() { command -v rt >/dev/null; }

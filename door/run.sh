@@ -3,7 +3,7 @@
 # sets answer and status
 run_program() {
   answer=$room/answer
-  # What stands after "<&0" is the script's standard input; without it the shell would give the program an empty one.
+  # A program in the background has an empty standard input, unless it is given one: that of the script, by "<&0".
   if [ -n "$input" ]; then exec <"$input"; fi
   "${run[@]}" "${program_words[@]}" <&0 >"$answer" &
   running=$!

@@ -36,7 +36,7 @@ take_word() {
 
 # whether the option's text follows it
 take_text() {
-  [ $# -ge 2 ] && [[ $2 != -* ]] || return 1
+  [ $# -ge 2 ] && [ -n "$2" ] && [[ $2 != -* ]] || return 1
   taken=2
 }
 

@@ -43,6 +43,14 @@ judge endless.lock evening.plan | 3 | line 14 fault 3 Word | evening.plan:2: fau
 judge tail.lock bad.lock | 10 | plan line 3 fault 2 NoMark | bad.lock:1: fault 2 NoMark
 ROWS
 
+# A pipe in the place of a file is read once.
+call solve <(cat "$room/evening.lock")
+check "a pipe as a file" gives 0 "optimal cost 270" ""
+call judge <(cat "$room/evening.lock") <(cat "$room/evening-early.plan")
+check "two pipes as files" gives 10 "illegal lockage 3 Early" ":7: lockage 3 Early"
+call check <("$GLOCK_PROGRAM" solve --dossier <"$room/evening.lock")
+check "a dossier from a pipe" gives 0 "accepted cost 270" ""
+
 # -o: what is written, what is left alone
 written() {
   printf 'old\n' >"$room/old"
