@@ -138,3 +138,27 @@ for command in solve check lot trial judge play replan lower resume; do
   example=$(sed -n '/^Example/{n;s/^  //;p}' <<<"$out")
   check "the example of $command" eval "(cd '$top' && $example) >'$room/out' 2>'$room/err' || [ \$? = 1 ]"
 done
+
+# Answers that a test can't bring about with the program: a stand-in gives them.
+cat >"$room/stand_in" <<'PROGRAM'
+#!/usr/bin/env bash
+[ "$ANSWER" = none ] || printf '%s\n' "$ANSWER"
+exit "$ANSWER_STATUS"
+PROGRAM
+chmod +x "$room/stand_in"
+stood_in() {
+  GLOCK_PROGRAM=$room/stand_in ANSWER=$2 ANSWER_STATUS=$1 call solve evening.lock
+  check "a program that says: $2" gives "$1" "${2/#none/}" "evening.lock: $3"
+}
+rows stood_in <<'ROWS'
+1 | open turns 20000 chamber main ships alva low brio low 5 cost 9 | this plan costs 9 and isn't proved cheapest; what is proved is that no plan costs less than 5. Give more --turns
+4 | read fault | read fault: evening.lock could not be read
+5 | none | write fault: not all of the answer
+6 | no memory | no memory: this machine has too little free memory
+137 | none | the program ended with status 137
+ROWS
+
+# A full disk or a reader that is gone is a write fault.
+(cd "$room" && "$top/glock" solve evening.lock >/dev/full 2>err)
+status=$? out= err=$(<"$room/err")
+check "a full disk" gives 5 "" "write fault"
