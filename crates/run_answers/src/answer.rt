@@ -1,20 +1,20 @@
 //! What a run has to write.
 ghost use Rattle.std.specs.Prelude.{◌≡◌};
-ghost use Rattle.lock_top.specs.Texts.{no_memory_text};
-ghost use Rattle.lock_top.specs.Written.{bytes_in};
+ghost use Rattle.run_answers.specs.Texts.{no_memory_text};
+ghost use Rattle.run_answers.specs.Written.{bytes_in};
 
 use crate::status::Status;
 
 /// A text that is always the same, or one that was made.
 #[derive(Debug, Drop)]
-pub(crate) enum Text {
+pub enum Text {
     Fixed(&'static [u8]),
     Made(Vec<u8>),
 }
 
 impl Text {
     /// Its bytes.
-    pub(crate) fn as_slice(&self) -> &[u8]
+    pub fn as_slice(&self) -> &[u8]
         ensures { result.now ≡ bytes_in self.now }
     {
         match self {
@@ -26,13 +26,13 @@ impl Text {
 
 /// A status, and the text that goes with it.
 #[derive(Debug, Drop)]
-pub(crate) struct Answer {
-    pub(crate) status: Status,
-    pub(crate) text: Text,
+pub struct Answer {
+    pub status: Status,
+    pub text: Text,
 }
 
 /// A status with a text that is always the same.
-pub(crate) fn fixed(status: Status, text: &'static [u8]) -> Answer
+pub fn fixed(status: Status, text: &'static [u8]) -> Answer
     ensures status { result.status ≡ status }
     ensures text { bytes_in result.text ≡ text.now }
 {
@@ -43,7 +43,7 @@ pub(crate) fn fixed(status: Status, text: &'static [u8]) -> Answer
 }
 
 /// Want of memory, written without memory.
-pub(crate) fn no_memory() -> Answer
+pub fn no_memory() -> Answer
     ensures status { result.status ≡ Status.NoMemory }
     ensures text { bytes_in result.text ≡ no_memory_text }
 {

@@ -1,6 +1,6 @@
 //! How a run ends.
 ghost use Rattle.std.specs.Prelude.{◌≡◌};
-ghost use Rattle.lock_top.specs.Statuses.{code_of};
+ghost use Rattle.run_answers.specs.Statuses.{code_of};
 
 /// How a run ends.
 #[derive(Clone, Copy, Debug, PartialEq, Eq)]
@@ -9,7 +9,7 @@ pub enum Status {
     Good,
     /// The search ended open.
     Open,
-    /// The words are bad, or ask for what is still to come.
+    /// The words are bad.
     Words,
     /// The instance text was refused, or there are too many bytes.
     Refused,

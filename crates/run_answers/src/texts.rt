@@ -1,6 +1,6 @@
 //! Texts that are made for a refusal.
 ghost use Rattle.std.specs.Prelude.{◌≡◌, ◌<◌, ◌++◌, length, IfOk, OnOk};
-ghost use Rattle.lock_top.specs.Texts.{number_of, name_of, defect_text, too_long_text, unfit_text};
+ghost use Rattle.run_answers.specs.Texts.{number_of, name_of, defect_text, too_long_text, unfit_text};
 
 use instance_text::{Bad, Kind};
 use lock_model::Instance;
@@ -38,7 +38,7 @@ fn name_of(kind: Kind) -> &'static [u8]
 
 /// Appends the first defect of an instance text, with its line, its number and its name.
 #[tactic(auto, unfolding(crate::specs::Texts::defect_text))]
-pub(crate) fn put_defect(out: &mut Vec<u8>, bad: Bad) -> Result<(), NoMemory>
+pub fn put_defect(out: &mut Vec<u8>, bad: Bad) -> Result<(), NoMemory>
     ensures { OnOk result (out.new.items ≡ out.old.items ++ defect_text bad.line bad.kind) }
 {
     put(out, b"line ")?;
@@ -51,7 +51,7 @@ pub(crate) fn put_defect(out: &mut Vec<u8>, bad: Bad) -> Result<(), NoMemory>
 }
 
 /// The first defect of an instance text.
-pub(crate) fn defect_text(alloc: Global, bad: Bad) -> Result<Vec<u8>, NoMemory>
+pub fn defect_text(alloc: Global, bad: Bad) -> Result<Vec<u8>, NoMemory>
     ensures { IfOk result (λ text. text.items ≡ defect_text bad.line bad.kind) }
 {
     let mut out = Vec::new(alloc);
@@ -73,7 +73,7 @@ pub(crate) fn too_long_text(alloc: Global, limit: u64) -> Result<Vec<u8>, NoMemo
 
 /// That no chamber takes the ship.
 #[tactic(auto, unfolding(crate::specs::Texts::unfit_text))]
-pub(crate) fn unfit_text(alloc: Global, instance: &Instance, ship: u8) -> Result<Vec<u8>, NoMemory>
+pub fn unfit_text(alloc: Global, instance: &Instance, ship: u8) -> Result<Vec<u8>, NoMemory>
     requires { ship < length instance.now.ships }
     ensures { IfOk result (λ text. text.items ≡ unfit_text instance.now ship) }
 {
