@@ -3,24 +3,21 @@ ghost use Rattle.std.specs.Prelude.{◌≡◌};
 ghost use Rattle.lock_rules.specs.Unfit.{HasNoUnfit, IsFirstUnfit};
 ghost use Rattle.instance_text.specs.Reading.{Defect};
 ghost use Rattle.plan_print.specs.Report.{report};
-ghost use Rattle.lock_top.specs.Answers.{AnswersSolve, drained};
-ghost use Rattle.lock_top.specs.Asked.{AreSolveNumbers};
-ghost use Rattle.lock_top.specs.Searching.{PrintsBest, AnswersSearch};
-ghost use Rattle.lock_top.specs.Solving.{AnswersInstance, AnswersText};
-ghost use Rattle.lock_top.specs.Written.{bytes_in};
+ghost use Rattle.run_answers.specs.Sources.{AnswersSource, drained};
+ghost use Rattle.run_answers.specs.Written.{bytes_in};
+ghost use Rattle.solve_commands.specs.Options.{AreSolveNumbers};
+ghost use Rattle.solve_commands.specs.Searching.{PrintsBest, PrintsOpen, AnswersSearch};
+ghost use Rattle.solve_commands.specs.Solving.{solve_limit, search_of, AnswersInstance, AnswersSolve};
 
-use crate::answer::{Answer, Text, fixed, no_memory};
-use crate::reading::too_long;
 use crate::searching::search_best;
-use crate::status::Status;
-use crate::texts::{defect_text, unfit_text};
 use book_core::Case;
 use command_words::SolveOptions;
 use first_plan::first_unfit;
 use instance_text::{Bad, read_instance};
-use lock_io::{Gate, ReadError, Source, read_all};
+use lock_io::{Gate, Source};
 use lock_model::Instance;
 use plain_text::NoMemory;
+use run_answers::{Answer, Status, Text, defect_text, no_memory, read_source, unfit_text};
 use std::alloc::Global;
 use std::sync::Wait;
 use std::thread::Threads;
@@ -52,14 +49,14 @@ fn fit_answer<R: Threads + Wait + Sync, G: Gate + Sync>(
 ) -> Answer
     requires fit { HasNoUnfit instance }
     requires numbers { AreSolveNumbers options.now }
-    ensures { AnswersSearch (PrintsBest options.now.dossier) report instance options.now.nodes options.now.turns result.status (bytes_in result.text) }
+    ensures { AnswersSearch (PrintsBest options.now.dossier) (PrintsOpen report) (search_of options.now.nodes options.now.turns instance) result.status (bytes_in result.text) }
 {
     let case = Case::new(instance, options.nodes, options.turns);
     search_best(rt, alloc, &case, options.workers, options.dossier, gate)
 }
 
 // What is answered to an instance.
-#[tactic(auto, using(crate::proofs::AnswerLemmas::search_answers))]
+#[tactic(auto, using(crate::proofs::SolveLemmas::search_answers))]
 fn instance_answer<R: Threads + Wait + Sync, G: Gate + Sync>(
     rt: &R,
     alloc: Global,
@@ -79,7 +76,7 @@ fn instance_answer<R: Threads + Wait + Sync, G: Gate + Sync>(
 // The first defect of a text.
 fn defect_answer(alloc: Global, bytes: &[u8], bad: Bad, options: &SolveOptions) -> Answer
     requires { Defect bytes.now bad.line bad.kind }
-    ensures { AnswersText options.now bytes.now result.status (bytes_in result.text) }
+    ensures { AnswersSolve options.now bytes.now result.status (bytes_in result.text) }
 {
     match defect_text(alloc, bad) {
         Ok(text) => Answer {
@@ -91,7 +88,7 @@ fn defect_answer(alloc: Global, bytes: &[u8], bad: Bad, options: &SolveOptions) 
 }
 
 // What is answered to the bytes of a text.
-#[tactic(auto, using(crate::proofs::AnswerLemmas::answers_meant))]
+#[tactic(auto, using(crate::proofs::SolveLemmas::answers_meant))]
 fn text_answer<R: Threads + Wait + Sync, G: Gate + Sync>(
     rt: &R,
     alloc: Global,
@@ -100,7 +97,7 @@ fn text_answer<R: Threads + Wait + Sync, G: Gate + Sync>(
     gate: &G,
 ) -> Answer
     requires { AreSolveNumbers options.now }
-    ensures { AnswersText options.now bytes.now result.status (bytes_in result.text) }
+    ensures { AnswersSolve options.now bytes.now result.status (bytes_in result.text) }
 {
     match read_instance(bytes) {
         Ok(instance) => instance_answer(rt, alloc, instance, options, gate),
@@ -108,11 +105,12 @@ fn text_answer<R: Threads + Wait + Sync, G: Gate + Sync>(
     }
 }
 
-/// Reads an instance text to its end, searches all plans of the instance, and answers with the
-/// report of the best one, or with its dossier where it is cheapest and one is asked for, or says
-/// what is refused: too many bytes, a defect, or a ship that fits no chamber. The numbers of the
-/// options are in their ranges.
-pub(crate) fn solve_answer<R: Threads + Wait + Sync, S: Source, G: Gate + Sync>(
+/// Reads an instance text of at most 65,536 bytes to its end, searches all plans of the instance, and
+/// answers with the report of the best one, or with its dossier where it is cheapest and one is asked
+/// for; or says what is refused: too many bytes, a defect, or a ship that fits no chamber. The numbers
+/// of the options are in their ranges.
+#[tactic(auto, using(crate::proofs::SolveLemmas::solve_fair, run_answers::proofs::SourceLemmas::bytes_answer, run_answers::proofs::SourceLemmas::unreadable_answers))]
+pub fn solve_answer<R: Threads + Wait + Sync, S: Source, G: Gate + Sync>(
     rt: &R,
     alloc: Global,
     options: &SolveOptions,
@@ -120,12 +118,10 @@ pub(crate) fn solve_answer<R: Threads + Wait + Sync, S: Source, G: Gate + Sync>(
     gate: &G,
 ) -> Answer
     requires { AreSolveNumbers options.now }
-    ensures answer { AnswersSolve options.now (drained (S.left src.old) (S.left src.new) (S.faults src.old) (S.faults src.new)) result.status (bytes_in result.text) }
+    ensures answer { AnswersSource solve_limit (AnswersSolve options.now) (drained (S.left src.old) (S.left src.new) (S.faults src.old) (S.faults src.new)) result.status (bytes_in result.text) }
 {
-    match read_all(alloc, src, LIMIT) {
+    match read_source(alloc, src, LIMIT) {
         Ok(bytes) => text_answer(rt, alloc, bytes.as_slice(), options, gate),
-        Err(ReadError::ReadFault) => fixed(Status::ReadFault, b"read fault\n"),
-        Err(ReadError::TooLong(_)) => too_long(alloc, LIMIT),
-        Err(ReadError::NoMemory) => no_memory(),
+        Err(answer) => answer,
     }
 }

@@ -7,7 +7,7 @@ use Rattle.lock_model.specs.declared.chamber.Chamber.{Chamber}
 use Rattle.lock_model.specs.declared.instance.Instance.{Instance}
 use Rattle.lock_rules.specs.Unfit.{HasNoUnfit}
 use Rattle.instance_text.specs.Lot.{after_draws, draw, lot_ship, lot_ships, lot_chambers}
-use Rattle.lock_top.specs.Lots.{IsLot}
+use Rattle.solve_commands.specs.Lots.{IsLot}
 
 -- at most 1,100 decimetres long and 114 wide
 record IsSmall (s : Ship) : Type 0 where

@@ -1,19 +1,18 @@
 //! What `lot` and `trial` answer.
 ghost use Rattle.std.specs.Prelude.{◌≡◌};
 ghost use Rattle.lock_rules.specs.Unfit.{HasNoUnfit};
-ghost use Rattle.lock_top.specs.Asked.{AreLotNumbers, AreTrialNumbers};
-ghost use Rattle.lock_top.specs.Lots.{IsLot, AnswersLot, AnswersTrial};
-ghost use Rattle.lock_top.specs.Written.{bytes_in};
+ghost use Rattle.solve_commands.specs.Options.{AreLotNumbers, AreTrialNumbers};
+ghost use Rattle.solve_commands.specs.Lots.{IsLot, AnswersLot, AnswersTrial};
+ghost use Rattle.run_answers.specs.Written.{bytes_in};
 
-use crate::answer::{Answer, Text, no_memory};
 use crate::searching::search_line;
-use crate::status::Status;
 use book_core::Case;
 use command_words::{LotOptions, TrialOptions};
 use instance_text::{make_lot, print_instance};
 use lock_io::Gate;
 use lock_model::Instance;
 use plain_text::NoMemory;
+use run_answers::{Answer, Status, Text, no_memory};
 use std::alloc::Global;
 use std::sync::Wait;
 use std::thread::Threads;
@@ -29,7 +28,7 @@ fn lot_of(options: &LotOptions) -> Instance
 
 /// Prints the canonical text of the lot that is asked for. The numbers of the options are in their
 /// ranges.
-pub(crate) fn lot_answer(alloc: Global, options: &LotOptions) -> Answer
+pub fn lot_answer(alloc: Global, options: &LotOptions) -> Answer
     requires { AreLotNumbers options.now }
     ensures { AnswersLot options.now.number options.now.ships options.now.chambers result.status (bytes_in result.text) }
 {
@@ -45,7 +44,7 @@ pub(crate) fn lot_answer(alloc: Global, options: &LotOptions) -> Answer
 
 /// Searches all plans of the lot that is asked for with one worker, and answers with the first line
 /// of the report of the best one. The numbers of the options are in their ranges.
-pub(crate) fn trial_answer<R: Threads + Wait + Sync, G: Gate + Sync>(
+pub fn trial_answer<R: Threads + Wait + Sync, G: Gate + Sync>(
     rt: &R,
     alloc: Global,
     options: &TrialOptions,

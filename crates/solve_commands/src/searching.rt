@@ -1,5 +1,5 @@
 //! What is answered at the end of a search.
-ghost use Rattle.std.specs.Prelude.{◌≡◌, ◌≢◌, ◌≤◌};
+ghost use Rattle.std.specs.Prelude.{◌≡◌, ◌≢◌, ◌≤◌, ℕ};
 ghost use Rattle.lock_rules.specs.Singles.{singles_of};
 ghost use Rattle.lock_model.specs.declared.verdict.Verdict.TheVariants.{Optimal};
 ghost use Rattle.search_rules.specs.Certificates.{Accepts};
@@ -7,12 +7,10 @@ ghost use Rattle.search_rules.specs.Ends.{EndsWell, IsEnd};
 ghost use Rattle.search_rules.specs.Verdict.{verdict_of};
 ghost use Rattle.search_rules.specs.WellFormed.{IsWellFormed};
 ghost use Rattle.plan_print.specs.Report.{IsOfInstance, report, verdict_line};
-ghost use Rattle.lock_top.specs.Searching.{PrintsOptimal, PrintsDossier, PrintsBest, AnswersSearch};
-ghost use Rattle.lock_top.specs.Statuses.{status_of};
-ghost use Rattle.lock_top.specs.Written.{bytes_in};
+ghost use Rattle.solve_commands.specs.Searching.{PrintsOptimal, PrintsDossier, PrintsBest, PrintsOpen, AnswersSearch, search_in, status_of};
+ghost use Rattle.solve_commands.specs.Solving.{search_of};
+ghost use Rattle.run_answers.specs.Written.{bytes_in};
 
-use crate::answer::{Answer, Text, no_memory};
-use crate::status::Status;
 use book_certificate::{CertError, certificate_of};
 use book_core::{Book, Case};
 use cert_check::Certificate;
@@ -21,24 +19,26 @@ use lock_io::Gate;
 use lock_model::Verdict;
 use plain_text::NoMemory;
 use plan_print::{print_report, print_verdict_line};
+use run_answers::{Answer, Status, Text, no_memory};
 use solve_workers::solve;
 use std::alloc::Global;
 use std::sync::Wait;
 use std::thread::Threads;
 
-// What the book of a search that ended well shows of its best plan.
-fn shown(book: &Book) -> Verdict
-    requires { EndsWell (singles_of book.now.case.instance) book.now }
+/// What the book of a search that ended well shows of its best plan.
+pub fn shown(book: &Book) -> Verdict
+    ghost limit: { ℕ }
+    requires { EndsWell limit book.now }
     ensures verdict { result ≡ verdict_of book.now }
-    ensures end { IsEnd book.now.case.instance book.now.case.nodes book.now.case.turns (singles_of book.now.case.instance) book.now.best result }
+    ensures end { IsEnd book.now.case.instance book.now.case.nodes book.now.case.turns limit book.now.best result }
     ensures known { IsOfInstance book.now.case.instance result }
 {
     book.keeps();
     book.verdict()
 }
 
-// The status of a run that ends with this verdict.
-fn status_of(verdict: &Verdict) -> Status
+/// The status of a run that ends with this verdict.
+pub fn status_of(verdict: &Verdict) -> Status
     ensures { result ≡ status_of verdict.now }
 {
     match verdict {
@@ -47,12 +47,13 @@ fn status_of(verdict: &Verdict) -> Status
     }
 }
 
-// The report of the best plan of a search that ended well.
+/// The report of the best plan of a search that ended well.
 #[tactic(auto, using(crate::proofs::EndLemmas::end_answers))]
-fn report_answer(alloc: Global, book: &Book) -> Answer
-    requires { EndsWell (singles_of book.now.case.instance) book.now }
+pub fn report_answer(alloc: Global, book: &Book) -> Answer
+    ghost limit: { ℕ }
+    requires { EndsWell limit book.now }
     ensures left { verdict_of book.now ≢ Optimal → result.status ≢ Status.Good }
-    ensures answer { AnswersSearch (PrintsOptimal report) report book.now.case.instance book.now.case.nodes book.now.case.turns result.status (bytes_in result.text) }
+    ensures answer { AnswersSearch (PrintsOptimal report) (PrintsOpen report) (search_in book.now limit) result.status (bytes_in result.text) }
 {
     let verdict = shown(book);
     match print_report(alloc, &book.case().instance, book.best(), &verdict) {
@@ -67,8 +68,9 @@ fn report_answer(alloc: Global, book: &Book) -> Answer
 // The first line of that report.
 #[tactic(auto, using(crate::proofs::EndLemmas::end_answers))]
 fn line_answer(alloc: Global, book: &Book) -> Answer
-    requires { EndsWell (singles_of book.now.case.instance) book.now }
-    ensures { AnswersSearch (PrintsOptimal verdict_line) verdict_line book.now.case.instance book.now.case.nodes book.now.case.turns result.status (bytes_in result.text) }
+    ghost limit: { ℕ }
+    requires { EndsWell limit book.now }
+    ensures { AnswersSearch (PrintsOptimal verdict_line) (PrintsOpen verdict_line) (search_in book.now limit) result.status (bytes_in result.text) }
 {
     let verdict = shown(book);
     match print_verdict_line(alloc, &book.case().instance, book.best(), &verdict) {
@@ -83,9 +85,10 @@ fn line_answer(alloc: Global, book: &Book) -> Answer
 // The dossier of the certificate of a finished search.
 #[tactic(auto, using(crate::proofs::EndLemmas::dossier_printed))]
 fn dossier_answer(alloc: Global, book: &Book, certificate: &Certificate) -> Answer
+    ghost limit: { ℕ }
     requires accepts { Accepts book.now.case.instance certificate.now }
     requires formed { IsWellFormed certificate.now }
-    ensures { AnswersSearch PrintsDossier report book.now.case.instance book.now.case.nodes book.now.case.turns result.status (bytes_in result.text) }
+    ensures { AnswersSearch PrintsDossier (PrintsOpen report) (search_in book.now limit) result.status (bytes_in result.text) }
 {
     match print_dossier(alloc, &book.case().instance, certificate) {
         Ok(text) => Answer {
@@ -98,8 +101,9 @@ fn dossier_answer(alloc: Global, book: &Book, certificate: &Certificate) -> Answ
 
 // The dossier of a search that ended well, or the report where it ended open.
 fn certified_answer(alloc: Global, book: &Book) -> Answer
-    requires { EndsWell (singles_of book.now.case.instance) book.now }
-    ensures { AnswersSearch PrintsDossier report book.now.case.instance book.now.case.nodes book.now.case.turns result.status (bytes_in result.text) }
+    ghost limit: { ℕ }
+    requires { EndsWell limit book.now }
+    ensures { AnswersSearch PrintsDossier (PrintsOpen report) (search_in book.now limit) result.status (bytes_in result.text) }
 {
     match certificate_of(alloc, book) {
         Ok(certificate) => dossier_answer(alloc, book, &certificate),
@@ -108,12 +112,13 @@ fn certified_answer(alloc: Global, book: &Book) -> Answer
     }
 }
 
-// The report of the best plan of a search that ended well, or its dossier where it is cheapest and
-// one is asked for.
+/// The report of the best plan of a search that ended well, or its dossier where it is cheapest and
+/// one is asked for.
 #[tactic(auto, using(crate::proofs::EndLemmas::dossier_asked, crate::proofs::EndLemmas::report_asked))]
-fn best_answer(alloc: Global, book: &Book, dossier: bool) -> Answer
-    requires { EndsWell (singles_of book.now.case.instance) book.now }
-    ensures { AnswersSearch (PrintsBest dossier) report book.now.case.instance book.now.case.nodes book.now.case.turns result.status (bytes_in result.text) }
+pub fn best_answer(alloc: Global, book: &Book, dossier: bool) -> Answer
+    ghost limit: { ℕ }
+    requires { EndsWell limit book.now }
+    ensures { AnswersSearch (PrintsBest dossier) (PrintsOpen report) (search_in book.now limit) result.status (bytes_in result.text) }
 {
     if dossier {
         certified_answer(alloc, book)
@@ -134,7 +139,7 @@ pub(crate) fn search_best<R: Threads + Wait + Sync, G: Gate + Sync>(
 ) -> Answer
     requires some { 1 ≤ workers }
     requires few { workers ≤ 8 }
-    ensures { AnswersSearch (PrintsBest dossier) report case.now.instance case.now.nodes case.now.turns result.status (bytes_in result.text) }
+    ensures { AnswersSearch (PrintsBest dossier) (PrintsOpen report) (search_of case.now.nodes case.now.turns case.now.instance) result.status (bytes_in result.text) }
 {
     match solve(rt, alloc, case, workers, gate) {
         Ok(solved) => best_answer(alloc, &solved.book, dossier),
@@ -150,7 +155,7 @@ pub(crate) fn search_line<R: Threads + Wait + Sync, G: Gate + Sync>(
     case: &Case,
     gate: &G,
 ) -> Answer
-    ensures { AnswersSearch (PrintsOptimal verdict_line) verdict_line case.now.instance case.now.nodes case.now.turns result.status (bytes_in result.text) }
+    ensures { AnswersSearch (PrintsOptimal verdict_line) (PrintsOpen verdict_line) (search_of case.now.nodes case.now.turns case.now.instance) result.status (bytes_in result.text) }
 {
     match solve(rt, alloc, case, 1, gate) {
         Ok(solved) => line_answer(alloc, &solved.book),

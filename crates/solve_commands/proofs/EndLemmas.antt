@@ -23,11 +23,10 @@ use Rattle.book_core.proofs.SoundLemmas.{laws}
 use Rattle.book_certificate.specs.declared.error.CertError.{CertError}
 use Rattle.book_certificate.specs.declared.error.CertError.TheVariants.{StillOpen, NoMemory}
 use Rattle.plan_print.specs.Report.{IsOfInstance, report}
-use Rattle.lock_top.specs.Statuses.{status_of}
-use Rattle.lock_top.specs.Searching.{Print, PrintsOptimal, PrintsDossier, PrintsBest, AnswersSearch}
-use Rattle.lock_top.specs.declared.status.Status.{Status}
-use Rattle.lock_top.specs.declared.status.Status.TheVariants.{Good, Open, Words, Refused, ReadFault, WriteFault, BadDossier, Unfit, PlanRefused}
-use Rattle.lock_top.specs.declared.status.Status.TheVariants as statuses
+use Rattle.solve_commands.specs.Searching.{Search, Print, PrintsOptimal, PrintsDossier, PrintsBest, PrintsOpen, AnswersSearch, status_of}
+use Rattle.run_answers.specs.declared.status.Status.{Status}
+use Rattle.run_answers.specs.declared.status.Status.TheVariants.{Good, Open, Words, Refused, ReadFault, WriteFault, BadDossier, Unfit, PlanRefused}
+use Rattle.run_answers.specs.declared.status.Status.TheVariants as statuses
 
 -- what the book of a search that ended well shows
 pub book_ends : (b : Book) (limit : ℕ) (V : Verdict) → V ≡ verdict_of b → IsSound b → EndsWell limit b → IsEnd b.case.instance b.case.nodes b.case.turns limit b.best V
@@ -44,14 +43,14 @@ end_known I nodes turns limit P (OpenTurns chamber ships given low) end =
     (named.group.known, subst (All (λ s. s < length I.ships)) named.group.same known)
 
 -- the answer that prints it
-pub end_answers : (print : Print) (I : Instance) (nodes turns : ℕ) (P : Plan) (V : Verdict) (status : Status) (text : List ℕ)
-    → IsEnd I nodes turns (singles_of I) P V → status ≡ status_of V → text ≡ print I P V → AnswersSearch (PrintsOptimal print) print I nodes turns status text
-end_answers print I nodes turns P Optimal status text end is shown =
-    subst (λ s. AnswersSearch (PrintsOptimal print) print I nodes turns s text) (sym is) (record { plan = P; cheapest = end.cheapest; shown = shown })
-end_answers print I nodes turns P (OpenNodes used low) status text end is shown =
-    subst (λ s. AnswersSearch (PrintsOptimal print) print I nodes turns s text) (sym is) (inl (record { plan = P; used = used; low = low; left = end; shown = shown }))
-end_answers print I nodes turns P (OpenTurns chamber ships given low) status text end is shown =
-    subst (λ s. AnswersSearch (PrintsOptimal print) print I nodes turns s text) (sym is) (inr (record { plan = P; chamber = chamber; ships = ships; spent = given; low = low; left = end; shown = shown }))
+pub end_answers : (print : Print) (k : Search) (P : Plan) (V : Verdict) (status : Status) (text : List ℕ)
+    → IsEnd k.instance k.nodes k.turns k.limit P V → status ≡ status_of V → text ≡ print k.instance P V → AnswersSearch (PrintsOptimal print) (PrintsOpen print) k status text
+end_answers print k P Optimal status text end is shown =
+    subst (λ s. AnswersSearch (PrintsOptimal print) (PrintsOpen print) k s text) (sym is) (record { plan = P; cheapest = end.cheapest; shown = shown })
+end_answers print k P (OpenNodes used low) status text end is shown =
+    subst (λ s. AnswersSearch (PrintsOptimal print) (PrintsOpen print) k s text) (sym is) (inl (record { plan = P; used = used; low = low; left = end; shown = shown }))
+end_answers print k P (OpenTurns chamber ships given low) status text end is shown =
+    subst (λ s. AnswersSearch (PrintsOptimal print) (PrintsOpen print) k s text) (sym is) (inr (record { plan = P; chamber = chamber; ships = ships; spent = given; low = low; left = end; shown = shown }))
 
 -- the dossier of an accepted certificate
 pub dossier_printed : (I : Instance) (C : Certificate) (text : List ℕ) → Accepts I C → IsWellFormed C → text ≡ dossier I C → Reads text I C → PrintsDossier I text
@@ -80,22 +79,22 @@ still_open {A} b found is finished optimal = other (subst (λ r. IfErr r (λ err
     other e = cc
 
 -- the report that was answered is answered where a dossier is asked for
-pub open_answers : (I : Instance) (nodes turns : ℕ) (status : Status) (text : List ℕ) → status ≢ Good → AnswersSearch (PrintsOptimal report) report I nodes turns status text → AnswersSearch PrintsDossier report I nodes turns status text
-open_answers I nodes turns Good text left answer = absurd (left refl)
-open_answers I nodes turns Open text left answer = answer
-open_answers I nodes turns Words text left answer = absurd answer
-open_answers I nodes turns Refused text left answer = absurd answer
-open_answers I nodes turns ReadFault text left answer = absurd answer
-open_answers I nodes turns WriteFault text left answer = absurd answer
-open_answers I nodes turns statuses.NoMemory text left answer = answer
-open_answers I nodes turns BadDossier text left answer = absurd answer
-open_answers I nodes turns Unfit text left answer = absurd answer
-open_answers I nodes turns PlanRefused text left answer = absurd answer
+pub open_answers : (k : Search) (status : Status) (text : List ℕ) → status ≢ Good → AnswersSearch (PrintsOptimal report) (PrintsOpen report) k status text → AnswersSearch PrintsDossier (PrintsOpen report) k status text
+open_answers k Good text left answer = absurd (left refl)
+open_answers k Open text left answer = answer
+open_answers k Words text left answer = absurd answer
+open_answers k Refused text left answer = absurd answer
+open_answers k ReadFault text left answer = absurd answer
+open_answers k WriteFault text left answer = absurd answer
+open_answers k statuses.NoMemory text left answer = answer
+open_answers k BadDossier text left answer = absurd answer
+open_answers k Unfit text left answer = absurd answer
+open_answers k PlanRefused text left answer = absurd answer
 
 -- ---- by what is asked for
 
-pub dossier_asked : (asked : Bool) (I : Instance) (nodes turns : ℕ) (status : Status) (text : List ℕ) → true ≡ asked → AnswersSearch PrintsDossier report I nodes turns status text → AnswersSearch (PrintsBest asked) report I nodes turns status text
-dossier_asked asked I nodes turns status text is answer = subst (λ a. AnswersSearch (PrintsBest a) report I nodes turns status text) is answer
+pub dossier_asked : (asked : Bool) (k : Search) (status : Status) (text : List ℕ) → true ≡ asked → AnswersSearch PrintsDossier (PrintsOpen report) k status text → AnswersSearch (PrintsBest asked) (PrintsOpen report) k status text
+dossier_asked asked k status text is answer = subst (λ a. AnswersSearch (PrintsBest a) (PrintsOpen report) k status text) is answer
 
-pub report_asked : (asked : Bool) (I : Instance) (nodes turns : ℕ) (status : Status) (text : List ℕ) → false ≡ asked → AnswersSearch (PrintsOptimal report) report I nodes turns status text → AnswersSearch (PrintsBest asked) report I nodes turns status text
-report_asked asked I nodes turns status text is answer = subst (λ a. AnswersSearch (PrintsBest a) report I nodes turns status text) is answer
+pub report_asked : (asked : Bool) (k : Search) (status : Status) (text : List ℕ) → false ≡ asked → AnswersSearch (PrintsOptimal report) (PrintsOpen report) k status text → AnswersSearch (PrintsBest asked) (PrintsOpen report) k status text
+report_asked asked k status text is answer = subst (λ a. AnswersSearch (PrintsBest a) (PrintsOpen report) k status text) is answer
