@@ -6,7 +6,7 @@ use Rattle.search_rules.specs.declared.certificate.Reason.{Reason}
 use Rattle.search_rules.specs.declared.certificate.Reason.TheVariants.{PlanIllegal, CostWrong, CutShape, CutUnproved, TreeShort, TreeLong, SplitFull, BoundLow, CutMisses, ThroughputLow, ProbeWrong}
 use Rattle.cert_text.specs.declared.bad.BadDossier.{BadDossier}
 use Rattle.cert_text.specs.declared.bad.BadDossier.TheVariants.{Instance, NoMark, Json, Shape}
-use Rattle.lock_top.specs.Texts.{defect_text}
+use Rattle.run_answers.specs.Texts.{defect_text}
 
 -- an accepted certificate
 unfoldable pub accepted_text : ℕ → List ℕ

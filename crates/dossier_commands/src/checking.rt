@@ -1,25 +1,22 @@
 //! What `check` answers to a source.
 ghost use Rattle.std.specs.Prelude.{◌≡◌};
 ghost use Rattle.lock_rules.specs.Plan.{IsCheapest, cost_of};
-ghost use Rattle.lock_rules.specs.Unfit.{IsFirstUnfit};
+ghost use Rattle.lock_rules.specs.Unfit.{HasNoUnfit, IsFirstUnfit};
 ghost use Rattle.search_rules.specs.Certificates.{Accepts};
 ghost use Rattle.search_rules.specs.Failures.{Fails};
 ghost use Rattle.cert_text.specs.Dossier.{DossierFault};
-ghost use Rattle.lock_top.specs.Answers.{AnswersCheck, drained};
-ghost use Rattle.lock_top.specs.Checking.{AnswersCertificate, AnswersDossier};
-ghost use Rattle.lock_top.specs.Written.{bytes_in};
+ghost use Rattle.run_answers.specs.Sources.{AnswersSource, drained};
+ghost use Rattle.run_answers.specs.Written.{bytes_in};
+ghost use Rattle.dossier_commands.specs.Checking.{dossier_limit, AnswersCertificate, AnswersCheck};
 
-use crate::answer::{Answer, Text, fixed, no_memory};
 use crate::dossier_texts::{accepted_text, fault_text, rejected_text};
-use crate::reading::too_long;
-use crate::status::Status;
-use crate::texts::unfit_text;
 use cert_check::{Answer as Checked, Certificate, Reason, Spot2, check};
 use cert_text::{BadDossier, DossierError, read_dossier};
 use first_plan::first_unfit;
-use lock_io::{ReadError, Source, read_all};
+use lock_io::Source;
 use lock_model::Instance;
 use plain_text::NoMemory;
+use run_answers::{Answer, Status, Text, no_memory, read_source, unfit_text};
 use std::alloc::Global;
 
 // The most bytes that are read. Want of memory comes first.
@@ -63,7 +60,8 @@ fn rejected_answer(
     place: Spot2,
     reason: Reason,
 ) -> Answer
-    requires { Fails instance.now certificate.now place reason }
+    requires fit { HasNoUnfit instance.now }
+    requires fails { Fails instance.now certificate.now place reason }
     ensures { AnswersCertificate instance.now certificate.now result.status (bytes_in result.text) }
 {
     match rejected_text(alloc, place, reason) {
@@ -77,6 +75,7 @@ fn rejected_answer(
 
 // What the checker says of the certificate.
 fn checked_answer(alloc: Global, instance: &Instance, certificate: &Certificate) -> Answer
+    requires { HasNoUnfit instance.now }
     ensures { AnswersCertificate instance.now certificate.now result.status (bytes_in result.text) }
 {
     match check(alloc, instance, certificate) {
@@ -101,7 +100,7 @@ fn certificate_answer(alloc: Global, instance: &Instance, certificate: &Certific
 // The first fault of a dossier.
 fn fault_answer(alloc: Global, bytes: &[u8], fault: BadDossier) -> Answer
     requires { DossierFault bytes.now fault }
-    ensures { AnswersDossier bytes.now result.status (bytes_in result.text) }
+    ensures { AnswersCheck bytes.now result.status (bytes_in result.text) }
 {
     match fault_text(alloc, fault) {
         Ok(text) => Answer {
@@ -115,7 +114,7 @@ fn fault_answer(alloc: Global, bytes: &[u8], fault: BadDossier) -> Answer
 // What is answered to the bytes of a dossier.
 #[tactic(auto, using(crate::proofs::DossierLemmas::answers_reads))]
 fn dossier_answer(alloc: Global, bytes: &[u8]) -> Answer
-    ensures { AnswersDossier bytes.now result.status (bytes_in result.text) }
+    ensures { AnswersCheck bytes.now result.status (bytes_in result.text) }
 {
     match read_dossier(alloc, bytes) {
         Ok((instance, certificate)) => certificate_answer(alloc, &instance, &certificate),
@@ -126,13 +125,12 @@ fn dossier_answer(alloc: Global, bytes: &[u8]) -> Answer
 
 /// Reads a dossier to its end and checks its certificate without any search, or says what is
 /// refused: too many bytes, a fault of the dossier, or a ship that fits no chamber.
-pub(crate) fn check_answer<S: Source>(alloc: Global, src: &mut S) -> Answer
-    ensures answer { AnswersCheck (drained (S.left src.old) (S.left src.new) (S.faults src.old) (S.faults src.new)) result.status (bytes_in result.text) }
+#[tactic(auto, using(crate::proofs::DossierLemmas::check_fair, run_answers::proofs::SourceLemmas::bytes_answer, run_answers::proofs::SourceLemmas::unreadable_answers))]
+pub fn check_answer<S: Source>(alloc: Global, src: &mut S) -> Answer
+    ensures answer { AnswersSource dossier_limit AnswersCheck (drained (S.left src.old) (S.left src.new) (S.faults src.old) (S.faults src.new)) result.status (bytes_in result.text) }
 {
-    match read_all(alloc, src, LIMIT) {
+    match read_source(alloc, src, LIMIT) {
         Ok(bytes) => dossier_answer(alloc, bytes.as_slice()),
-        Err(ReadError::ReadFault) => fixed(Status::ReadFault, b"read fault\n"),
-        Err(ReadError::TooLong(_)) => too_long(alloc, LIMIT),
-        Err(ReadError::NoMemory) => no_memory(),
+        Err(answer) => answer,
     }
 }

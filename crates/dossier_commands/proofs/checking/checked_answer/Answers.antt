@@ -1,5 +1,5 @@
 use Rattle.std.proofs.Common.{◌∙◌}
-use Rattle.lock_top.proofs.checking.checked_answer.Goals as goal
+use Rattle.dossier_commands.proofs.checking.checked_answer.Goals as goal
 
 pub accepted_answer-requires-clause-accepts : goal.accepted_answer-requires-clause-accepts
 accepted_answer-requires-clause-accepts c = let told = c.in-Ok-Accepted in ((told.ensures.accepted told.field-0-0).0 told.field-0-is).0

@@ -1,13 +1,13 @@
 //! Texts of `check`.
 ghost use Rattle.std.specs.Prelude.{◌≡◌, ◌++◌, IfOk, OnOk};
-ghost use Rattle.lock_top.specs.DossierTexts.{accepted_text, place_text, number_of_reason, name_of_reason, rejected_text, shape_text, fault_text};
+ghost use Rattle.dossier_commands.specs.DossierTexts.{accepted_text, place_text, number_of_reason, name_of_reason, rejected_text, shape_text, fault_text};
 ghost use Rattle.cert_text.specs.declared.bad.BadDossier.TheVariants.{Instance as InstancePart};
 
-use crate::texts::put_defect;
 use cert_check::{Reason, Spot2};
 use cert_text::BadDossier;
 use instance_text::Bad;
 use plain_text::{NoMemory, put, put_number};
+use run_answers::put_defect;
 use std::alloc::Global;
 
 /// That a certificate of this cost is accepted.
