@@ -15,10 +15,6 @@ still-some old new round P h t some = go (round_at old t) refl some
     go None e bad = cc
     go (Some r) e good = some-by (round_at new t) r (h.stays t r e)
 
--- nothing is reached where all of it is reached already
-pub reaches_still : (old : List (Option ℕ)) (round : ℕ) (P : ℕ → Type 0) → ((t : ℕ) → P t → t < length old → IsSome (round_at old t)) → Reaches old old round P
-reaches_still old round P h = record { size = refl; stays = λ t r e. e; adds = λ t r e. inl e; all = h }
-
 -- the same by another name
 pub reaches_same : (old new : List (Option ℕ)) (round : ℕ) (P Q : ℕ → Type 0) → ((t : ℕ) → P t → Q t) → ((t : ℕ) → Q t → P t) → Reaches old new round P → Reaches old new round Q
 reaches_same old new round P Q to from h = record {
@@ -45,10 +41,6 @@ reaches_then a b c round P Q first second = record {
     whole t known (inl p) = still-some b c round Q second t (first.all t p known)
     whole t known (inr q) = let size = first.size in second.all t q (omega (arith, known, size))
 
--- none of no steps
-pub reaches_none : (old : List (Option ℕ)) (round : ℕ) (P : ℕ → ℕ → Type 0) → Reaches old old round (λ t. (k : ℕ) × (k < 0) × P k t)
-reaches_none old round P = reaches_still old round (λ t. (k : ℕ) × (k < 0) × P k t) (λ t h known. let none = h.1 in absurd (omega (arith, none)))
-
 -- one step more
 pub reaches_more : (a b c : List (Option ℕ)) (round n : ℕ) (P : ℕ → ℕ → Type 0) → Reaches a b round (λ t. (k : ℕ) × (k < n) × P k t) → Reaches b c round (P n) → Reaches a c round (λ t. (k : ℕ) × (k < n + 1) × P k t)
 reaches_more a b c round n P first second =
@@ -60,10 +52,6 @@ reaches_more a b c round n P first second =
 
     from : (t : ℕ) → (k : ℕ) × (k < n + 1) × P k t → ((k : ℕ) × (k < n) × P k t) ⊎ P n t
     from t h = let less = h.1 in elim (eqb_tells h.0 n) [ inl y ↦ inr (subst (λ k. P k t) y.1 h.2) | inr d ↦ inl (h.0, omega (arith, less, d.1), h.2) ]
-
--- all the steps
-pub reaches_whole : (a b : List (Option ℕ)) (round n m : ℕ) (P : ℕ → ℕ → Type 0) → n ≡ m → Reaches a b round (λ t. (k : ℕ) × (k < n) × P k t) → Reaches a b round (λ t. (k : ℕ) × (k < m) × P k t)
-reaches_whole a b round n m P e h = subst (λ n. Reaches a b round (λ t. (k : ℕ) × (k < n) × P k t)) e h
 
 -- ---- a round
 -- a number that this round reaches isn't one that the round before it reached first

@@ -37,12 +37,6 @@ eq-true a c e = elim (eqb_tells a c) [ inl y ↦ y.1 | inr n ↦ absurd (false-t
 eq-false : (a c : ℕ) → nat_eq a c ≡ false → a ≢ c
 eq-false a c e = elim (eqb_tells a c) [ inl y ↦ absurd (true-false (sym y.0 ∙ e)) | inr n ↦ n.1 ]
 
-ship-same : (j k : ℕ) → Ship j ≡ Ship k → j ≡ k
-ship-same j k e = cc
-
-quay-ship : (k : ℕ) → Quay ≡ Ship k → ⊥
-quay-ship k e = cc
-
 pub ltb_tells : (a c : ℕ) → ((nat_lt a c ≡ true) × (a < c)) ⊎ ((nat_lt a c ≡ false) × (c ≤ a))
 ltb_tells a c = go (nat_lt a c) refl
   where
@@ -128,12 +122,6 @@ module _ (d : Deck) (spots : List Spot) (legal : IsLegalPlacement d spots) (limi
   -- the depth from the quay of the ship's own rank falls along hosts
   abbrev low : ℕ → ℕ
   low i = depth_of d spots legal limits (rank i) i
-
-  low-quay : (i : ℕ) → i < length d.ships → low i ≡ 0 → (k : ℕ) → moor i ≡ Ship k → ⊥
-  low-quay i ki e k m =
-      let at = host-by d spots legal limits (rank i) i k ki refl m in
-      let w = is-wide d spots legal limits k at.0 in
-      omega (arith, e, at.4, w)
 
   low-host : (i k : ℕ) → i < length d.ships → moor i ≡ Ship k → (k < length d.ships) × (low k < low i)
   low-host i k ki m =

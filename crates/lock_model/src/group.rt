@@ -1,5 +1,7 @@
 //! Ships that are served together, and the line of groups of a chamber.
-ghost use Rattle.std.specs.Prelude.{◌≡◌, ◌<◌, ◌≤◌, [], ◌∷◌, ◌++◌, length, All, insert, slice_set};
+ghost use Rattle.std.specs.Prelude.{◌≡◌, ◌<◌, ◌≤◌, [], ◌∷◌, ◌++◌, length, All, insert, slice_set, nat_eq};
+ghost use Rattle.std.specs.Cmp.{partial_equiv_from_equiv};
+ghost use Rattle.std.specs.Cmp.Lexicographic.{pointwise, nat_list_eq_equiv};
 ghost use Rattle.std.specs.List.Sorted.{IsStrictlyIncreasing};
 
 use crate::way::Way;
@@ -7,22 +9,22 @@ use arrayvec::ArrayVec;
 use std::marker::Model;
 
 /// Up to eight ship numbers, rising.
-#[derive(Debug, PartialEq, Eq, Drop)]
+#[derive(Debug, Drop)]
 pub struct Ships {
-    items: ArrayVec<u8, 8>,
+    // the numbers, and then bytes that say nothing
+    bytes: [u8; 8],
+    count: u8,
 }
 
 impl Model for Ships {
-    ghost use Rattle.std.specs.Prelude.{ℕ, List};
+    ghost use Rattle.std.specs.Prelude.{ℕ, List, ◌≤◌, take};
     ghost use Rattle.std.specs.List.Sorted.{IsStrictlyIncreasing};
 
     ghost Value = { List ℕ };
 
-    ghost view = { λ a. a.items.items };
+    ghost view = { λ a. take a.count a.bytes };
 
-    ghost invariant = { λ a. IsStrictlyIncreasing a.items.items };
-
-    ghost inverse = { λ xs. record { items = record { items = xs } } };
+    ghost invariant = { λ a. (a.count ≤ 8) × IsStrictlyIncreasing (take a.count a.bytes) };
 }
 
 impl Ships {
@@ -31,7 +33,8 @@ impl Ships {
         ensures { result ≡ [] }
     {
         Ships {
-            items: ArrayVec::new(),
+            bytes: [0; 8],
+            count: 0,
         }
     }
 
@@ -39,9 +42,9 @@ impl Ships {
     pub fn single(ship: u8) -> Ships
         ensures { result ≡ ship ∷ [] }
     {
-        let mut items = ArrayVec::new();
-        items.push(ship);
-        Ships { items }
+        let mut ships = Ships::new();
+        ships.push(ship);
+        ships
     }
 
     /// How many ships there are.
@@ -49,7 +52,7 @@ impl Ships {
         ensures value { result ≡ length self.now }
         ensures fits { result ≤ 8 }
     {
-        self.items.len()
+        self.count as usize
     }
 
     /// The ships in rising order.
@@ -58,7 +61,7 @@ impl Ships {
         ensures fits { length result.now ≤ 8 }
         ensures rising { IsStrictlyIncreasing result.now }
     {
-        self.items.as_slice()
+        &self.bytes[..self.count as usize]
     }
 
     /// Appends a ship that is greater than those before.
@@ -67,18 +70,18 @@ impl Ships {
         requires rising { All (λ s. s < ship) self.old }
         ensures { self.new ≡ self.old ++ ship ∷ [] }
     {
-        self.items.push(ship);
+        self.bytes[self.count as usize] = ship;
+        self.count += 1;
     }
 
     /// The same ships.
     pub fn copy(&self) -> Ships
         ensures { result ≡ self.now }
     {
-        let mut items = ArrayVec::new();
-        for &ship in self.items.as_slice() {
-            items.push(ship);
+        Ships {
+            bytes: self.bytes,
+            count: self.count,
         }
-        Ships { items }
     }
 }
 
@@ -90,12 +93,29 @@ impl Default for Ships {
     }
 }
 
+impl PartialEq for Ships {
+    ghost eq = { pointwise nat_eq };
+
+    ghost laws = { partial_equiv_from_equiv nat_list_eq_equiv };
+
+    fn eq(&self, other: &Self) -> bool {
+        self.as_slice() == other.as_slice()
+    }
+}
+
+impl Eq for Ships {
+    ghost laws = { nat_list_eq_equiv };
+}
+
 /// Ships of one way that share a lockage, by their numbers in the instance.
 #[derive(Debug, PartialEq, Eq, Drop)]
 pub struct Group {
     pub way: Way,
     pub ships: Ships,
 }
+
+// The bytes that a group takes: a node of a search copies many.
+const _: () = prove!(size_of::<Group>() == 10);
 
 impl Group {
     /// The same group.

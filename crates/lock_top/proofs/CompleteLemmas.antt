@@ -5,6 +5,7 @@ use Rattle.lock_model.specs.declared.instance.Instance.{Instance}
 use Rattle.lock_model.specs.declared.verdict.Verdict.TheVariants.{Optimal, OpenNodes, OpenTurns}
 use Rattle.lock_rules.specs.Singles.{singles_of}
 use Rattle.lock_rules.specs.Unfit.{IsFirstUnfit}
+use Rattle.search_rules.specs.Ends.{AreEnough}
 use Rattle.search_rules.proofs.CompleteLemmas.{enough-optimal}
 use Rattle.instance_text.specs.Draft.{Draft}
 use Rattle.instance_text.specs.Reading.{Means, Defect, reading, bad}
@@ -16,13 +17,16 @@ use Rattle.command_words.specs.Meaning.{Means as WordsMean}
 use Rattle.command_words.specs.declared.commands.Command.{Command}
 use Rattle.command_words.specs.declared.commands.Command.TheVariants.{Check}
 use Rattle.command_words.specs.declared.commands.SolveOptions.{SolveOptions}
+use Rattle.run_answers.specs.Sources.{Drained, IsTooLong, AnswersBytes, AnswersSource}
+use Rattle.run_answers.specs.declared.status.Status.{Status}
+use Rattle.run_answers.specs.declared.status.Status.TheVariants.{Good, Open, Words, Refused, ReadFault, WriteFault, NoMemory, BadDossier, Unfit, PlanRefused}
+use Rattle.solve_commands.specs.Searching.{Search, Print, PrintsOptimal, PrintsBest, PrintsOpen, AnswersSearch}
+use Rattle.solve_commands.specs.Solving.{solve_limit, search_of, AnswersInstance, AnswersSolve}
+use Rattle.solve_commands.specs.Lots.{AnswersLot}
 use Rattle.lock_top.specs.Asked.{is_not_yet, solve_options}
-use Rattle.lock_top.specs.Searching.{Print, PrintsOptimal, PrintsBest, AnswersSearch}
-use Rattle.lock_top.specs.Lots.{AnswersLot}
-use Rattle.lock_top.specs.Answers.{Drained, limit, IsTooLong, AnswersRead, AnswersSolve, AnswersCommand, Answers}
+use Rattle.lock_top.specs.Answers.{AnswersCommand, Answers}
 use Rattle.lock_top.specs.Clauses.{IsServed, MayEnd, MayPrint, IsComplete, MayCheck}
-use Rattle.lock_top.specs.declared.status.Status.{Status}
-use Rattle.lock_top.specs.declared.status.Status.TheVariants.{Good, Open, Words, Refused, ReadFault, WriteFault, NoMemory, BadDossier, Unfit, PlanRefused}
+use Rattle.lock_top.specs.Runs.{Filled}
 use Rattle.lock_top.proofs.AnswerLemmas.{solve_of, lot_of, trial_of, not_refused_words, meant_answer}
 use Rattle.lock_top.proofs.CheckLemmas.{draft_of, check_ends}
 
@@ -55,36 +59,38 @@ nodes_open used low e = cc
 turns_open : (chamber : ℕ) (ships : List ℕ) (turns low : ℕ) → OpenTurns chamber ships turns low ≡ Optimal → ⊥
 turns_open chamber ships turns low e = cc
 
-search_ends : (Best : Instance → List ℕ → Type 0) (print : Print) (I : Instance) (nodes turns : ℕ) (status : Status) (text : List ℕ) → AnswersSearch Best print I nodes turns status text → MayEnd I nodes turns status
-search_ends Best print I nodes turns Good text answer = tt
-search_ends Best print I nodes turns Open text (inl n) = λ enough. nodes_open n.used n.low (enough-optimal I nodes turns (singles_of I) n.plan (OpenNodes n.used n.low) enough n.left)
-search_ends Best print I nodes turns Open text (inr t) = λ enough. turns_open t.chamber t.ships t.spent t.low (enough-optimal I nodes turns (singles_of I) t.plan (OpenTurns t.chamber t.ships t.spent t.low) enough t.left)
-search_ends Best print I nodes turns Words text answer = absurd answer
-search_ends Best print I nodes turns Refused text answer = absurd answer
-search_ends Best print I nodes turns ReadFault text answer = absurd answer
-search_ends Best print I nodes turns WriteFault text answer = absurd answer
-search_ends Best print I nodes turns NoMemory text answer = tt
-search_ends Best print I nodes turns BadDossier text answer = absurd answer
-search_ends Best print I nodes turns Unfit text answer = absurd answer
-search_ends Best print I nodes turns PlanRefused text answer = absurd answer
+open_ends : (print : Print) (k : Search) (text : List ℕ) → PrintsOpen print k text → ¬ AreEnough k.instance k.nodes k.turns
+open_ends print k text (inl n) = λ enough. nodes_open n.used n.low (enough-optimal k.instance k.nodes k.turns k.limit n.plan (OpenNodes n.used n.low) enough n.left)
+open_ends print k text (inr t) = λ enough. turns_open t.chamber t.ships t.spent t.low (enough-optimal k.instance k.nodes k.turns k.limit t.plan (OpenTurns t.chamber t.ships t.spent t.low) enough t.left)
+
+search_ends : (Best : Instance → List ℕ → Type 0) (print : Print) (k : Search) (status : Status) (text : List ℕ) → AnswersSearch Best (PrintsOpen print) k status text → MayEnd k.instance k.nodes k.turns status
+search_ends Best print k Good text answer = tt
+search_ends Best print k Open text answer = open_ends print k text answer
+search_ends Best print k Words text answer = absurd answer
+search_ends Best print k Refused text answer = absurd answer
+search_ends Best print k ReadFault text answer = absurd answer
+search_ends Best print k WriteFault text answer = absurd answer
+search_ends Best print k NoMemory text answer = tt
+search_ends Best print k BadDossier text answer = absurd answer
+search_ends Best print k Unfit text answer = absurd answer
+search_ends Best print k PlanRefused text answer = absurd answer
 
 -- ---- `solve` over a source that is served
 
 module _ (options : SolveOptions) (source : Drained) (I : Instance) (served : IsServed source I) where
-  same_bytes : (status : Status) (text : List ℕ) (read : AnswersRead options source status text) → read.bytes ≡ served.bytes
-  same_bytes status text read = subst (λ left. IfSome left (λ bytes. read.bytes ≡ bytes)) served.told read.all
+  read_means : (status : Status) (text : List ℕ) (read : AnswersBytes solve_limit (AnswersSolve options) source status text) → Means read.bytes I
+  read_means status text read =
+      let same : read.bytes ≡ served.bytes = subst (λ left. IfSome left (λ bytes. read.bytes ≡ bytes)) served.told read.read.all in
+      subst (λ bytes. Means bytes I) (sym same) served.means
 
-  read_means : (status : Status) (text : List ℕ) (read : AnswersRead options source status text) → Means read.bytes I
-  read_means status text read = subst (λ bytes. Means bytes I) (sym (same_bytes status text read)) served.means
-
-  open_ends : (text : List ℕ) → AnswersRead options source Open text → MayEnd I options.nodes options.turns Open
-  open_ends text read =
+  left_ends : (text : List ℕ) → AnswersBytes solve_limit (AnswersSolve options) source Open text → MayEnd I options.nodes options.turns Open
+  left_ends text read =
       let told = read.answer in
       let same = one_instance read.bytes told.instance I told.means (read_means Open text read) in
-      subst (λ J. MayEnd J options.nodes options.turns Open) same (search_ends (PrintsBest options.dossier) report told.instance options.nodes options.turns Open text told.answer)
+      subst (λ J. MayEnd J options.nodes options.turns Open) same (open_ends report (search_of options.nodes options.turns told.instance) text told.answer)
 
   -- the named ship fits some chamber
-  not_unfit : (text : List ℕ) → AnswersRead options source Unfit text → ⊥
+  not_unfit : (text : List ℕ) → AnswersBytes solve_limit (AnswersSolve options) source Unfit text → ⊥
   not_unfit text read =
       let told = read.answer in
       let same = one_instance read.bytes told.instance I told.means (read_means Unfit text read) in
@@ -93,26 +99,26 @@ module _ (options : SolveOptions) (source : Drained) (I : Instance) (served : Is
       first.unfit fits.chamber fits.known fits.fits
 
   -- there are few bytes, and they have no defect
-  not_refused : (text : List ℕ) → IsTooLong limit source text ⊎ AnswersRead options source Refused text → ⊥
+  not_refused : (text : List ℕ) → IsTooLong solve_limit source text ⊎ AnswersBytes solve_limit (AnswersSolve options) source Refused text → ⊥
   not_refused text (inl long) =
-      let many : limit < length served.bytes = subst (λ left. IfSome left (λ bytes. limit < length bytes)) served.told long.long in
+      let many : solve_limit < length served.bytes = subst (λ left. IfSome left (λ bytes. solve_limit < length bytes)) served.told long.long in
       let few = served.few in
       absurd (omega (arith, many, few))
   not_refused text (inr read) =
       let told = read.answer in
       not_both (reading read.bytes) (draft_of I) (bad told.line told.kind) (reads read.bytes I (read_means Refused text read)) (refuses read.bytes told.line told.kind told.defect)
 
-  pub solve_ends : (status : Status) (text : List ℕ) → AnswersSolve options source status text → MayEnd I options.nodes options.turns status
+  pub solve_ends : (status : Status) (text : List ℕ) → AnswersSource solve_limit (AnswersSolve options) source status text → MayEnd I options.nodes options.turns status
   solve_ends Good text answer = tt
-  solve_ends Open text answer = open_ends text answer
-  solve_ends Words text answer = absurd answer.answer.answer
+  solve_ends Open text answer = left_ends text answer
+  solve_ends Words text answer = absurd answer
   solve_ends Refused text answer = absurd (not_refused text answer)
-  solve_ends ReadFault text answer = absurd (served.calm answer.0)
+  solve_ends ReadFault text answer = absurd (served.calm answer.rose)
   solve_ends WriteFault text answer = tt
   solve_ends NoMemory text answer = tt
-  solve_ends BadDossier text answer = absurd answer.answer.answer
+  solve_ends BadDossier text answer = absurd answer.answer
   solve_ends Unfit text answer = absurd (not_unfit text answer)
-  solve_ends PlanRefused text answer = absurd answer.answer.answer
+  solve_ends PlanRefused text answer = absurd answer.answer
 
 -- ---- `lot`
 
@@ -135,15 +141,15 @@ by_command words source command Open text means there answer = inr (meant_answer
 by_command words source command Words text means there answer = absurd (not_refused_words words command means there answer.refused)
 by_command words source command Refused text means there answer = inr (meant_answer words source Refused text command answer means)
 by_command words source command ReadFault text means there answer = inr (meant_answer words source ReadFault text command answer means)
-by_command words source command WriteFault text means there answer = inr (meant_answer words source WriteFault text command answer means)
+by_command words source command WriteFault text means there answer = absurd answer
 by_command words source command NoMemory text means there answer = inl refl
 by_command words source command BadDossier text means there answer = inr (meant_answer words source BadDossier text command answer means)
 by_command words source command Unfit text means there answer = inr (meant_answer words source Unfit text command answer means)
 by_command words source command PlanRefused text means there answer = inr (meant_answer words source PlanRefused text command answer means)
 
 -- COMPLETENESS, from what was answered,
-pub complete : (words : List (List ℕ)) (source : Drained) (status : Status) (text : List ℕ) → Answers words source status text → IsComplete words source status
-complete words source status text answer = record {
+pub complete : (words : List (List ℕ)) (source : Drained) (sink : Filled) (status : Status) (text : List ℕ) → Answers words source status text → IsComplete (record { words = words; source = source; sink = sink; status = status })
+complete words source sink status text answer = record {
   solve = λ nodes turns workers dossier I ask served. elim (by_command words source (solve_of nodes turns workers dossier) status text ask.means refl answer) [
     | inl want ↦ subst (MayEnd I nodes turns) (sym want) tt
     | inr told ↦ solve_ends (solve_options nodes turns workers dossier) source I served status text told
@@ -161,13 +167,13 @@ complete words source status text answer = record {
     | inr told ↦
         let own = told.1.lot in
         let same : told.1.instance ≡ I = same_instance told.1.instance I (own.chambers_are ∙ sym lot.chambers_are) (own.ships_are ∙ sym lot.ships_are) in
-        subst (λ J. MayEnd J nodes turns status) same (search_ends (PrintsOptimal verdict_line) verdict_line told.1.instance nodes turns status text told.1.answer)
+        subst (λ J. MayEnd J nodes turns status) same (search_ends (PrintsOptimal verdict_line) verdict_line (search_of nodes turns told.1.instance) status text told.1.answer)
   ];
 }
 
 -- and where the sink failed.
-pub cut_complete : (words : List (List ℕ)) (source : Drained) → IsComplete words source WriteFault
-cut_complete words source = record {
+pub cut_complete : (words : List (List ℕ)) (source : Drained) (sink : Filled) → IsComplete (record { words = words; source = source; sink = sink; status = WriteFault })
+cut_complete words source sink = record {
   solve = λ nodes turns workers dossier I ask served. tt;
   check = λ I C ask served. tt;
   lot = λ number ships chambers ask. tt;

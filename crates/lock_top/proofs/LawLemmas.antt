@@ -6,14 +6,17 @@ use Rattle.std.proofs.lemmas.List.{append_cancel_left}
 use Rattle.search_rules.proofs.FailLemmas.{fails-not_accepted}
 use Rattle.cert_text.specs.Dossier.{dossier, Reads}
 use Rattle.command_words.specs.declared.commands.Command.TheVariants.{Check}
+use Rattle.run_answers.specs.Sources.{Drained, AnswersBytes, AnswersSource}
+use Rattle.run_answers.specs.declared.status.Status.{Status}
+use Rattle.run_answers.specs.declared.status.Status.TheVariants.{Good, Open, Words, Refused, ReadFault, WriteFault, NoMemory, BadDossier, Unfit, PlanRefused}
+use Rattle.dossier_commands.specs.Checking.{dossier_limit, AnswersCheck}
 use Rattle.lock_top.specs.Asked.{AskCheck}
-use Rattle.lock_top.specs.Answers.{Drained, AnswersDossierRead}
-use Rattle.lock_top.specs.Clauses.{IsCertified}
-use Rattle.lock_top.specs.Laws.{IsHandedOn, Filled, IsRun, EndsAccepted}
-use Rattle.lock_top.specs.declared.status.Status.{Status}
-use Rattle.lock_top.specs.declared.status.Status.TheVariants.{Good, Open, Words, Refused, ReadFault, WriteFault, NoMemory, BadDossier, Unfit, PlanRefused}
+use Rattle.lock_top.specs.Answers.{Answers}
+use Rattle.lock_top.specs.Runs.{Filled, Run, Got, run_of}
+use Rattle.lock_top.specs.Clauses.{IsCertified, KeepsItsWord}
+use Rattle.lock_top.specs.Laws.{IsHandedOn, EndsAccepted}
 use Rattle.lock_top.proofs.AnswerLemmas.{true_false, not_refused_words, meant_answer}
-use Rattle.lock_top.proofs.CheckLemmas.{own_answer, bad_rejected, fits_some, few_bytes}
+use Rattle.lock_top.proofs.CheckLemmas.{own_answer, bad_rejected, fits_some, not_refused}
 use Rattle.lock_top.proofs.FitLemmas.{legal_fits}
 
 -- ---- the bytes that were handed on are the dossier
@@ -32,43 +35,43 @@ is_cut _ = false
 not_cut : (status : Status) → is_cut status ≡ false → status ≢ WriteFault
 not_cut status whole is = true_false (sym (ap is_cut is) ∙ whole)
 
-module _ (first : Drained) (held held_after : Option (List ℕ)) (certified : IsCertified first held held_after) (words : List (List ℕ)) (source : Drained) (sink : Filled) (handed : IsHandedOn held held_after source) (ask : AskCheck words) where
+module _ (first : Run) (certified : IsCertified first) (words : List (List ℕ)) (source : Drained) (sink : Filled) (handed : IsHandedOn first.sink source) (ask : AskCheck words) where
   reads_handed : Reads handed.bytes certified.instance certified.certificate
   reads_handed =
-      let same = appended_some handed.old handed.bytes (dossier certified.instance certified.certificate) held held_after handed.before handed.after certified.printed in
+      let same = appended_some handed.old handed.bytes (dossier certified.instance certified.certificate) first.sink.held first.sink.held_after handed.before handed.after certified.printed in
       subst (λ bytes. Reads bytes certified.instance certified.certificate) (sym same) certified.reads
 
-  pub accepted_ends : (status : Status) → IsRun words source sink status → EndsAccepted certified.certificate.cost source sink status
+  pub accepted_ends : (status : Status) → KeepsItsWord (run_of words source sink status) → EndsAccepted certified.certificate.cost (run_of words source sink status) status
   accepted_ends Good run =
       let written = run.written (not_cut Good refl) in
-      let read : AnswersDossierRead source Good written.text = meant_answer words source Good written.text Check written.answer ask.means in
+      let read : AnswersBytes dossier_limit AnswersCheck source Good written.text = meant_answer words source Good written.text Check written.answer ask.means in
       let own = own_answer source certified.instance certified.certificate handed.bytes handed.told handed.few reads_handed (legal_fits certified.instance certified.certificate.plan certified.accepts.legal) Good written.text read read.answer in
-      subst (Appends sink.held sink.held_after) own.shown written.appended
+      subst (Got (run_of words source sink Good)) own.shown written.appended
   accepted_ends Open run =
       let written = run.written (not_cut Open refl) in
-      let read : AnswersDossierRead source Open written.text = meant_answer words source Open written.text Check written.answer ask.means in
-      absurd read.answer.answer
+      let read : AnswersBytes dossier_limit AnswersCheck source Open written.text = meant_answer words source Open written.text Check written.answer ask.means in
+      read.answer
   accepted_ends Words run =
       let written = run.written (not_cut Words refl) in
-      absurd (not_refused_words words Check ask.means refl written.answer.refused)
+      not_refused_words words Check ask.means refl written.answer.refused
   accepted_ends Refused run =
       let written = run.written (not_cut Refused refl) in
-      absurd (few_bytes source certified.instance certified.certificate handed.bytes handed.told handed.few reads_handed (legal_fits certified.instance certified.certificate.plan certified.accepts.legal) written.text (meant_answer words source Refused written.text Check written.answer ask.means))
+      not_refused source certified.instance certified.certificate handed.bytes handed.told handed.few reads_handed (legal_fits certified.instance certified.certificate.plan certified.accepts.legal) written.text (meant_answer words source Refused written.text Check written.answer ask.means)
   accepted_ends ReadFault run =
       let written = run.written (not_cut ReadFault refl) in
-      (meant_answer words source ReadFault written.text Check written.answer ask.means).0
+      (meant_answer words source ReadFault written.text Check written.answer ask.means).rose
   accepted_ends WriteFault run = run.fault refl
   accepted_ends NoMemory run =
       let written = run.written (not_cut NoMemory refl) in
-      subst (Appends sink.held sink.held_after) written.answer written.appended
+      subst (Got (run_of words source sink NoMemory)) written.answer written.appended
   accepted_ends BadDossier run =
       let written = run.written (not_cut BadDossier refl) in
       let rejected = bad_rejected source certified.instance certified.certificate handed.bytes handed.told handed.few reads_handed (legal_fits certified.instance certified.certificate.plan certified.accepts.legal) written.text (meant_answer words source BadDossier written.text Check written.answer ask.means) in
-      absurd (fails-not_accepted certified.instance certified.certificate rejected.place rejected.reason rejected.fails certified.accepts)
+      fails-not_accepted certified.instance certified.certificate rejected.place rejected.reason rejected.fails certified.accepts
   accepted_ends Unfit run =
       let written = run.written (not_cut Unfit refl) in
-      absurd (fits_some source certified.instance certified.certificate handed.bytes handed.told handed.few reads_handed (legal_fits certified.instance certified.certificate.plan certified.accepts.legal) written.text (meant_answer words source Unfit written.text Check written.answer ask.means))
+      fits_some source certified.instance certified.certificate handed.bytes handed.told handed.few reads_handed (legal_fits certified.instance certified.certificate.plan certified.accepts.legal) written.text (meant_answer words source Unfit written.text Check written.answer ask.means)
   accepted_ends PlanRefused run =
       let written = run.written (not_cut PlanRefused refl) in
-      let read : AnswersDossierRead source PlanRefused written.text = meant_answer words source PlanRefused written.text Check written.answer ask.means in
-      absurd read.answer.answer
+      let read : AnswersBytes dossier_limit AnswersCheck source PlanRefused written.text = meant_answer words source PlanRefused written.text Check written.answer ask.means in
+      read.answer

@@ -1,12 +1,10 @@
--- What the words ask for, and the numbers of their options.
+-- What the words ask for.
 use Rattle.std.specs.Prelude.{ℕ, ◌≡◌, ◌⊎◌, Bool, true, false, List, ⊤}
 use Rattle.command_words.specs.Meaning.{Means, AreBad}
 use Rattle.command_words.specs.declared.commands.Command.{Command}
 use Rattle.command_words.specs.declared.commands.Command.TheVariants.{Solve, Check, Lot, Trial}
 use Rattle.command_words.specs.declared.commands.SolveOptions.{SolveOptions}
-use Rattle.command_words.specs.declared.commands.LotOptions.{LotOptions}
-use Rattle.command_words.specs.declared.commands.TrialOptions.{TrialOptions}
-use Rattle.lock_model.specs.Limits.{Within}
+use Rattle.solve_commands.specs.Options.{AreSolveNumbers, AreLotNumbers, AreTrialNumbers}
 
 -- The command, or one of its flags, is still to come: there are `solve` without `--keep`, `check`, `lot` and `trial`.
 abbrev pub is_not_yet : Command → Bool
@@ -51,22 +49,7 @@ pub record AskLot (words : List (List ℕ)) (number ships chambers : ℕ) : Type
 pub record AskTrial (words : List (List ℕ)) (number ships chambers nodes turns : ℕ) : Type 0 where
   pub means : Means words (Trial (record { lot = record { number = number; ships = ships; chambers = chambers }; nodes = nodes; turns = turns }))
 
--- ---- the numbers of good words are in their ranges
-
-pub record AreSolveNumbers (options : SolveOptions) : Type 0 where
-  pub nodes : Within 1 1000000 options.nodes
-  pub turns : Within 1 200000 options.turns
-  pub workers : Within 1 8 options.workers
-
-pub record AreLotNumbers (options : LotOptions) : Type 0 where
-  pub ships : Within 1 24 options.ships
-  pub chambers : Within 1 4 options.chambers
-
-pub record AreTrialNumbers (options : TrialOptions) : Type 0 where
-  pub lot : AreLotNumbers options.lot
-  pub nodes : Within 1 1000000 options.nodes
-  pub turns : Within 1 200000 options.turns
-
+-- the numbers of a command are in their ranges
 abbrev pub HasNumbers : Command → Type 0
 HasNumbers (Solve options) = AreSolveNumbers options
 HasNumbers (Lot options) = AreLotNumbers options

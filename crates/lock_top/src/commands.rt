@@ -1,18 +1,17 @@
 //! From words to the answer of the command that they mean.
 ghost use Rattle.std.specs.Prelude.{◌≡◌, false, map, string_bytes};
-ghost use Rattle.lock_top.specs.Answers.{Answers, AnswersCommand, drained};
+ghost use Rattle.run_answers.specs.Sources.{drained};
+ghost use Rattle.run_answers.specs.Texts.{bad_words_text};
+ghost use Rattle.run_answers.specs.Written.{bytes_in};
+ghost use Rattle.lock_top.specs.Answers.{Answers, AnswersCommand};
 ghost use Rattle.lock_top.specs.Asked.{HasNumbers, is_not_yet};
-ghost use Rattle.lock_top.specs.Texts.{bad_words_text};
-ghost use Rattle.lock_top.specs.Written.{bytes_in};
 
-use crate::answer::{Answer, fixed, no_memory};
 use crate::asked::is_not_yet;
-use crate::checking::check_answer;
-use crate::lots::{lot_answer, trial_answer};
-use crate::solving::solve_answer;
-use crate::status::Status;
 use command_words::{Command, WordsError, read_words};
+use dossier_commands::check_answer;
 use lock_io::{Gate, Source};
+use run_answers::{Answer, Status, fixed, no_memory};
+use solve_commands::{lot_answer, solve_answer, trial_answer};
 use std::alloc::Global;
 use std::sync::Wait;
 use std::thread::Threads;

@@ -6,29 +6,19 @@
 //! or with `--dossier` the dossier of such a plan. `written_dossiers_are_accepted` is the law that
 //! `check` accepts what `solve --dossier` wrote.
 //!
-//! Definitions: `specs/Statuses` (the numbers of the statuses), `Texts` (what is written for each),
-//! `DossierTexts` (those of `check`), `Asked` (what the words ask for), `Searching` (what is answered
-//! at the end of a search), `Solving`, `Checking` and `Lots` (what the commands answer), `Answers`
-//! (what a run answers), `Clauses` (what a run did, by command and status, and that it does what is
-//! asked), `Laws` (what a later run on `check` answers).
+//! Definitions: `specs/Runs` (a run: its words, source, sink and status), `Asked` (what the words ask
+//! for), `Answers` (what a run answers), `Clauses` (what a run did, by command and status, that it does
+//! what is asked, and each status with its cause), `Laws` (what a later run on `check` answers). What
+//! each command answers stands with the commands, in `solve_commands` and `dossier_commands`.
 #![tactic(auto)]
 
-mod answer;
 mod asked;
-mod checking;
 mod commands;
-mod dossier_texts;
 mod laws;
-mod lots;
-mod reading;
-mod searching;
-mod solving;
-mod status;
 #[cfg(test)]
 mod tests;
-mod texts;
 mod top;
 
 pub use laws::written_dossiers_are_accepted;
-pub use status::Status;
+pub use run_answers::Status;
 pub use top::run;

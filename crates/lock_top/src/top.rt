@@ -1,13 +1,12 @@
 //! From words, a source and a sink to a status.
-ghost use Rattle.std.specs.Prelude.{◌≡◌, ◌≢◌, ℕ, Bool, true, false, map, string_bytes};
-ghost use Rattle.lock_io.specs.Faults.{Rose};
-ghost use Rattle.lock_top.specs.Answers.{IsWritten, IsCutOff, drained};
-ghost use Rattle.lock_top.specs.Asked.{AskSolve, AskCheck, AskLot, AskTrial};
-ghost use Rattle.lock_top.specs.Clauses.{IsSolved, IsCertified, IsLeftOpen, IsAccepted, IsDrawn, IsTried, IsTriedOpen, IsComplete};
+ghost use Rattle.std.specs.Prelude.{map, string_bytes};
+ghost use Rattle.run_answers.specs.Sources.{drained};
+ghost use Rattle.lock_top.specs.Runs.{filled, run_of};
+ghost use Rattle.lock_top.specs.Clauses.{KeepsItsWord};
 
 use crate::commands::words_answer;
-use crate::status::Status;
 use lock_io::{Gate, Sink, Source, write_all_of};
+use run_answers::Status;
 use std::alloc::Global;
 use std::sync::Wait;
 use std::thread::Threads;
@@ -40,29 +39,7 @@ pub fn run<R: Threads + Wait + Sync, S: Source, K: Sink, G: Gate + Sync>(
     out: &mut K,
     gate: &G,
 ) -> Status
-    // What was done with status 0 and 1, by command.
-    ensures solved { (nodes turns workers : ℕ) → AskSolve (map string_bytes words.now) nodes turns workers false → result ≡ Status.Good
-        → IsSolved (drained (S.left src.old) (S.left src.new) (S.faults src.old) (S.faults src.new)) (K.held out.old) (K.held out.new) }
-    ensures certified { (nodes turns workers : ℕ) → AskSolve (map string_bytes words.now) nodes turns workers true → result ≡ Status.Good
-        → IsCertified (drained (S.left src.old) (S.left src.new) (S.faults src.old) (S.faults src.new)) (K.held out.old) (K.held out.new) }
-    ensures left_open { (nodes turns workers : ℕ) (dossier : Bool) → AskSolve (map string_bytes words.now) nodes turns workers dossier → result ≡ Status.Open
-        → IsLeftOpen nodes turns (drained (S.left src.old) (S.left src.new) (S.faults src.old) (S.faults src.new)) (K.held out.old) (K.held out.new) }
-    ensures accepted { AskCheck (map string_bytes words.now) → result ≡ Status.Good
-        → IsAccepted (drained (S.left src.old) (S.left src.new) (S.faults src.old) (S.faults src.new)) (K.held out.old) (K.held out.new) }
-    ensures drawn { (number ships chambers : ℕ) → AskLot (map string_bytes words.now) number ships chambers → result ≡ Status.Good
-        → IsDrawn number ships chambers (drained (S.left src.old) (S.left src.new) (S.faults src.old) (S.faults src.new)) (K.held out.old) (K.held out.new) }
-    ensures tried { (number ships chambers nodes turns : ℕ) → AskTrial (map string_bytes words.now) number ships chambers nodes turns → result ≡ Status.Good
-        → IsTried number ships chambers (drained (S.left src.old) (S.left src.new) (S.faults src.old) (S.faults src.new)) (K.held out.old) (K.held out.new) }
-    ensures tried_open { (number ships chambers nodes turns : ℕ) → AskTrial (map string_bytes words.now) number ships chambers nodes turns → result ≡ Status.Open
-        → IsTriedOpen number ships chambers nodes turns (drained (S.left src.old) (S.left src.new) (S.faults src.old) (S.faults src.new)) (K.held out.old) (K.held out.new) }
-
-    // What is asked rightly is done.
-    ensures complete { IsComplete (map string_bytes words.now) (drained (S.left src.old) (S.left src.new) (S.faults src.old) (S.faults src.new)) result }
-
-    // Each status with its cause and its text.
-    ensures written { result ≢ Status.WriteFault → IsWritten (map string_bytes words.now) (drained (S.left src.old) (S.left src.new) (S.faults src.old) (S.faults src.new)) result (K.held out.old) (K.held out.new) }
-    ensures cut_off { result ≡ Status.WriteFault → IsCutOff (map string_bytes words.now) (drained (S.left src.old) (S.left src.new) (S.faults src.old) (S.faults src.new)) (K.held out.old) (K.held out.new) }
-    ensures fault { result ≡ Status.WriteFault → Rose (K.faults out.old) (K.faults out.new) }
+    ensures { KeepsItsWord (run_of (map string_bytes words.now) (drained (S.left src.old) (S.left src.new) (S.faults src.old) (S.faults src.new)) (filled (K.held out.old) (K.held out.new) (K.faults out.old) (K.faults out.new)) result) }
 {
     let answer = words_answer(rt, alloc, words, src, gate);
     match write_all_of(out, answer.text.as_slice()) {

@@ -1,6 +1,6 @@
 -- The edges of a case as it grows and shrinks.
 use Rattle.std.proofs.Common.{◌≡◌, ℕ, zero, suc, ◌+◌, ◌*◌, ◌<◌, ◌≤◌, List, [], ◌∷◌, ◌++◌, length, flat_map, map, take, refl, sym, ap, ◌∙◌, arith}
-use Rattle.std.proofs.lemmas.List.{append_assoc, append-nil, length-append, take_at, take-map}
+use Rattle.std.proofs.lemmas.List.{append-nil, length-append, take-map}
 use Rattle.std.proofs.lemmas.Grind.{flat_map-append}
 use Rattle.lock_model.specs.Deck.{Deck}
 use Rattle.lock_model.specs.declared.placement.Rank.{Rank}
@@ -51,24 +51,6 @@ choices-few d (c ∷ cs) = omega (arith, length-append (choice_edges d c) (flat_
 pub drawn_room : (d : Deck) (case : Drawn) → IsDrawn d case → length d.ships ≤ 8 → length case.choices < 36 → length case.edges ≤ 172
 drawn_room d case is few less =
     omega (arith, ap length is.drawn, length-append (deck_edges d (length d.ships)) (flat_map (choice_edges d) case.choices), ships-length d 0 (length d.ships), choices-few d case.choices)
-
--- the case with one more option
-abbrev pub grown : Deck → Drawn → Choice → Drawn
-grown d case c = record { choices = case.choices ++ c ∷ []; edges = case.edges ++ choice_edges d c }
-
-pub grown_drawn : (d : Deck) (case : Drawn) (c : Choice) → IsDrawn d case → IsDrawn d (grown d case c)
-grown_drawn d case c is = record {
-  drawn =
-      ap (λ u. u ++ choice_edges d c) is.drawn
-      ∙ append_assoc (deck_edges d (length d.ships)) (flat_map (choice_edges d) case.choices) (choice_edges d c)
-      ∙ ap (λ u. deck_edges d (length d.ships) ++ u) (ap (λ u. flat_map (choice_edges d) case.choices ++ u) (sym (append-nil (choice_edges d c))) ∙ sym (flat_map-append (choice_edges d) case.choices (c ∷ [])));
-}
-
-pub grown_back : (d : Deck) (case back : Drawn) (c : Choice) → back.choices ≡ take (length case.choices) (grown d case c).choices → back.edges ≡ take (length case.edges) (grown d case c).edges → back ≡ case
-grown_back d case back c choices edges =
-    let first = choices ∙ take_at case.choices (c ∷ []) (length case.choices) refl in
-    let second = edges ∙ take_at case.edges (choice_edges d c) (length case.edges) refl in
-    ap (λ u. record { choices = u; edges = back.edges }) first ∙ ap (λ u. record { choices = case.choices; edges = u }) second
 
 pub back_choices : (ps qs : List Pick) (n : ℕ) → qs ≡ take n ps → map choice_of qs ≡ take n (map choice_of ps)
 back_choices ps qs n e = ap (map choice_of) e ∙ sym (take-map choice_of n ps)

@@ -237,16 +237,6 @@ module _ (d : Deck) (case : List Choice) where
       tell (PastHost i) h e = absurd (omega (arith, ap head e))
       tell (Touching i j) h e = subst (λ a. AreTouching d case a (get_or ns 1 0)) (ap (λ xs. get_or xs 1 0) e) (subst (λ b. AreTouching d case i b) (ap (λ xs. get_or xs 2 0) e) h)
 
-  pub by_other : (kind : ℕ) (ns : List ℕ) → kind ≢ 1 → kind ≢ 2 → kind ≢ 3 → kind ≢ 4 → kind ≢ 5 → IsBySpot (kind ∷ ns) → ⊥
-  by_other kind ns a b c f g by = tell by.fault by.told
-    where
-      tell : (fault : SpotFault) → spot_fault_numbers fault ≡ kind ∷ ns → ⊥
-      tell (OtherRankAt i) e = a (sym (ap head e))
-      tell (LeadsBack i) e = b (sym (ap head e))
-      tell (Outside i) e = c (sym (ap head e))
-      tell (PastHost i) e = f (sym (ap head e))
-      tell (Touching i j) e = g (sym (ap head e))
-
   -- each kind of a spot case's fault, as it is tested
   pub tells_one : (kind : ℕ) (ns : List ℕ) (b : Bool) → kind ≡ 1 → length ns ≡ count_of OfSpots kind → IsTrue b ↔ HasOtherRank case (get_or ns 0 0) → IsTrue b ↔ IsBySpot (kind ∷ ns)
   tells_one kind ns b e long tells =

@@ -1,5 +1,5 @@
 -- The options of a decision by number.
-use Rattle.std.proofs.Common.{◌≡◌, ℕ, zero, suc, ◌+◌, ◌*◌, ◌<◌, ◌≤◌, Bool, not, cond, nat_eq, List, [], ◌∷◌, length, filter, flat_map, inl, inr, refl, sym, ap, ◌∙◌, subst, arith, get_or}
+use Rattle.std.proofs.Common.{◌≡◌, ℕ, zero, suc, ◌+◌, ◌*◌, ◌<◌, ◌≤◌, Bool, not, cond, nat_eq, List, [], ◌∷◌, length, filter, flat_map, inl, inr, refl, sym, ap, ◌∙◌, arith, get_or}
 use Rattle.std.proofs.lemmas.List.{get_or-map, length-map}
 use Rattle.std.proofs.lemmas.Bool.Decides.{eqb_tells, leb_tells}
 use Rattle.std.proofs.lemmas.Bool.{lt-ltb, le-ltb}
@@ -125,18 +125,5 @@ module _ (d : Deck) (i : ℕ) (known : i < length d.ships) where
       let same : o ≡ suc (suc (suc (2 * p))) = omega (arith, e) in
       option-of o b (omega (arith, less, berths-length)) (ap (λ n. get_or berths n b) same ∙ hosts-right (others (length d.ships) i) p b (omega (arith, e, less, count)) ∙ ap (λ k. record { rank = Right; moor = Ship k }) (others-at (length d.ships) i p known (omega (arith, e, less))))
 
-  pub other_known : (p : ℕ) → suc p < length d.ships → other_at i p < length d.ships
-  other_known p h =
-      elim (leb_tells i p) [
-        | inl y ↦ subst (λ b. cond b p (p + 1) < length d.ships) (sym (le-ltb p i y.1)) (omega (arith, h))
-        | inr e ↦ subst (λ b. cond b p (p + 1) < length d.ships) (sym (lt-ltb p i e.1)) (omega (arith, h))
-      ]
-
 pub place_count : (d : Deck) (values : List ℕ) (i : ℕ) → IsAsked d values (PlaceOf i) → length (options_of d (PlaceOf i)) ≡ length values
 place_count d values i h = length-map (spot_values d) (Stands i) ∙ sym (ap length h.asked.1)
-
-pub place_option : (d : Deck) (values : List ℕ) (i o : ℕ) → IsAsked d values (PlaceOf i) → o < length values → get_or (options_of d (PlaceOf i)) o (Before 0 0) ≡ Stands i (get_or values o 0)
-place_option d values i o h here =
-    let same = h.asked.1 in
-    let less : o < length (spot_values d) = subst (λ vs. o < length vs) same here in
-    get_or-map (Stands i) (spot_values d) o 0 (Before 0 0) less ∙ ap (λ vs. Stands i (get_or vs o 0)) (sym same)

@@ -37,9 +37,6 @@ order-same {X} {M} Tree one (x ∷ xs) marks r s a b =
     let same : a.0 ≡ b.0 = one x marks a.0 b.0 a.1 b.1 in
     order-same Tree one xs b.0 r s (subst (λ ms. AreInOrder Tree xs ms r) same a.2) b.2
 
-zero-head : (inner : List ℕ) → get_or (0 ∷ inner) 0 0 ≡ 0
-zero-head inner = refl
-
 module _ {F : Type 0} (options : Decision → List Choice) (IsFault : List Choice → F → Type 0) (numbers_of : F → List ℕ)
     (leaf_same : (case : List Choice) (marks r s : List ℕ) → IsLeaf IsFault numbers_of case marks r → IsLeaf IsFault numbers_of case marks s → r ≡ s)
     (leaf_kind : (case : List Choice) (marks rest : List ℕ) → IsLeaf IsFault numbers_of case marks rest → get_or marks 0 0 ≢ 0) where
@@ -74,9 +71,6 @@ module _ {F : Type 0} (options : Decision → List Choice) (IsFault : List Choic
       let same : split.0 ≡ inner = ap (drop 1) (sym split.1) in
       subst (λ ms. AreInOrder (λ choice. Tree left (case ++ choice ∷ [])) (options next) ms rest) same split.2
 
-  pub none-split : (case : List Choice) (inner rest : List ℕ) → Tree [] case (0 ∷ inner) rest → ⊥
-  none-split case inner rest leaf = leaf_kind case (0 ∷ inner) rest leaf refl
-
   pub none-empty : (left : List Decision) (case : List Choice) (rest : List ℕ) → Tree left case [] rest → ⊥
   none-empty [] case rest leaf = leaf_kind case [] rest leaf refl
   none-empty (next ∷ left) case rest (inl leaf) = leaf_kind case [] rest leaf refl
@@ -107,10 +101,6 @@ module _ (d : Deck) where
   tree_split OfCases = tree-split (options_of d) (IsCaseFault d) case_fault_numbers (same_leaf d OfCases) (kind_leaf d OfCases)
   tree_split OfSpots = tree-split (options_of d) (IsSpotFault d) spot_fault_numbers (same_leaf d OfSpots) (kind_leaf d OfSpots)
 
-  none_split : (trees : Trees) (case : List Choice) (inner rest : List ℕ) → IsTreeOf d trees [] case (0 ∷ inner) rest → ⊥
-  none_split OfCases = none-split (options_of d) (IsCaseFault d) case_fault_numbers (same_leaf d OfCases) (kind_leaf d OfCases)
-  none_split OfSpots = none-split (options_of d) (IsSpotFault d) spot_fault_numbers (same_leaf d OfSpots) (kind_leaf d OfSpots)
-
   none_empty : (trees : Trees) (left : List Decision) (case : List Choice) (rest : List ℕ) → IsTreeOf d trees left case [] rest → ⊥
   none_empty OfCases = none-empty (options_of d) (IsCaseFault d) case_fault_numbers (same_leaf d OfCases) (kind_leaf d OfCases)
   none_empty OfSpots = none-empty (options_of d) (IsSpotFault d) spot_fault_numbers (same_leaf d OfSpots) (kind_leaf d OfSpots)
@@ -137,12 +127,6 @@ module _ (d : Deck) (trees : Trees) (list : List Decision) (case : List Choice) 
   zero-at : (at : ℕ) → at < length marks → get_or marks at 0 ≡ 0 → drop at marks ≡ 0 ∷ drop (at + 1) marks
   zero-at at here e = drop_more marks at 0 here ∙ ap (λ k. k ∷ drop (at + 1) marks) e
 
-  pub whole_split : (at : ℕ) → at < length marks → get_or marks at 0 ≡ 0 → length list ≤ length case → HasNoTreeAt d trees left case marks at
-  whole_split at here e long = record {
-    none = λ rest tree.
-        none_split d trees case (drop (at + 1) marks) rest (subst (λ l. IsTreeOf d trees l case (0 ∷ drop (at + 1) marks) rest) (drop_all (length case) list long) (subst (λ ms. IsTreeOf d trees left case ms rest) (zero-at at here e) tree));
-  }
-
   left-is : length case < length list → left ≡ next_of list case ∷ later_of list case
   left-is less = drop_more list (length case) (BerthOf 0) less
 
@@ -162,10 +146,6 @@ module _ (d : Deck) (trees : Trees) (list : List Decision) (case : List Choice) 
         h.none rest (tree_split d trees (next_of list case) (later_of list case) case (drop (at + 1) marks) rest (subst (λ l. IsTreeOf d trees l case (0 ∷ drop (at + 1) marks) rest) (left-is less) (subst (λ ms. IsTreeOf d trees left case ms rest) (zero-at at here e) tree)));
   }
   split_none at (Some end) here e less h = tt
-
-  -- children one by one
-  pub children_begun : (first : ℕ) → first ≤ length marks → AreChildrenAt d trees list case marks first 0 first
-  children_begun first inside = record { inside = inside; children = refl }
 
   option-is : (number : ℕ) → number < length (options_of d (next_of list case)) → take (number + 1) (options_of d (next_of list case)) ≡ take number (options_of d (next_of list case)) ++ get_or (options_of d (next_of list case)) number (Before 0 0) ∷ []
   option-is number here = take_more (options_of d (next_of list case)) number (Before 0 0) here
@@ -205,8 +185,3 @@ whole_tree d trees list case marks end b empty ends told at =
           let inside = first.inside in
           told (omega (arith, inside, ap length same, length-drop end marks)),
     )
-
-pub no_whole_tree : (d : Deck) (trees : Trees) (list : List Decision) (case : List Choice) (marks : List ℕ) → case ≡ [] → HasNoTreeAt d trees (drop (length case) list) case marks 0 → IsTreeOf d trees list [] marks [] → ⊥
-no_whole_tree d trees list case marks empty none tree =
-    let first : HasNoTreeAt d trees list [] marks 0 = subst (λ cs. HasNoTreeAt d trees (drop (length cs) list) cs marks 0) empty none in
-    first.none [] tree

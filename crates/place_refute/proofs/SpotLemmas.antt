@@ -62,16 +62,6 @@ across_open d case i e out = none-some out.y (e ∙ out.known)
 pub past : (d : Deck) (case : List Choice) (i host x host_x : ℕ) → Some x ≡ x_in case i → Some host_x ≡ x_in case host → (IsWithinHost d i x host host_x → ⊥) → IsPast d case i host
 past d case i host x host_x own other out = record { x = x; host_x = host_x; own = sym own; other = sym other; past = out }
 
-pub past_within : (d : Deck) (case : List Choice) (i host x host_x : ℕ) → Some x ≡ x_in case i → Some host_x ≡ x_in case host → IsWithinHost d i x host host_x → IsPast d case i host → ⊥
-past_within d case i host x host_x own other within h =
-    h.past (subst (λ u. IsWithinHost d i u host h.host_x) (some-same x h.x (own ∙ h.own)) (subst (λ v. IsWithinHost d i x host v) (some-same host_x h.host_x (other ∙ h.other)) within))
-
-pub past_own : (d : Deck) (case : List Choice) (i host : ℕ) → None ≡ x_in case i → IsPast d case i host → ⊥
-past_own d case i host e h = none-some h.x (e ∙ h.own)
-
-pub past_other : (d : Deck) (case : List Choice) (i host : ℕ) → None ≡ x_in case host → IsPast d case i host → ⊥
-past_other d case i host e h = none-some h.host_x (e ∙ h.other)
-
 pub past_host : (d : Deck) (case : List Choice) (i host : ℕ) → Some host ≡ host_of (berth_in case i) → IsPast d case i host → IsPastHost d case i
 past_host d case i host e h = record { host = host; x = h.x; host_x = h.host_x; lies = sym e; own = h.own; other = h.other; past = h.past }
 
@@ -81,15 +71,6 @@ host_past d case i host e h =
 
 pub past_none : (d : Deck) (case : List Choice) (i : ℕ) → None ≡ host_of (berth_in case i) → IsPastHost d case i → ⊥
 past_none d case i e h = none-some h.host (e ∙ h.lies)
-
-pub lies_at : (d : Deck) (case : List Choice) (i x : ℕ) (y : ℤ) → Some x ≡ x_in case i → Some y ≡ y_in d case i → LiesAt d case i x y
-lies_at d case i x y decided known = record { decided = sym decided; known = sym known }
-
-pub no_x : (d : Deck) (case : List Choice) (i : ℕ) → None ≡ x_in case i → HasNoPlace d case i
-no_x d case i e = record { none = λ x y h. none-some x (e ∙ h.decided) }
-
-pub no_y : (d : Deck) (case : List Choice) (i : ℕ) → None ≡ y_in d case i → HasNoPlace d case i
-no_y d case i e = record { none = λ x y h. none-some y (e ∙ h.known) }
 
 pub touching : (d : Deck) (case : List Choice) (i j xi : ℕ) (yi : ℤ) (xj : ℕ) (yj : ℤ) → i ≢ j → LiesAt d case i xi yi → LiesAt d case j xj yj → (AreApartAt d i xi yi j xj yj → ⊥) → AreTouching d case i j
 touching d case i j xi yi xj yj n p q touch = record { different = n; xi = xi; yi = yi; xj = xj; yj = yj; decided_i = p.decided; known_i = p.known; decided_j = q.decided; known_j = q.known; touching = touch }

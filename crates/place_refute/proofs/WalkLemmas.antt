@@ -26,14 +26,8 @@ module _ (edges : List Edge) (from : ℕ) (numbers : List ℕ) (to : ℕ) where
     back = λ h. alike.back (subst (λ ns. LeadsTo edges at ns to) (sym (rest i here)) (known, e, h));
   }
 
-  pub leads_begun : LeadsAlike edges from numbers from (drop 0 numbers) to
-  leads_begun = record { on = λ h. h; back = λ h. h }
-
   pub leads_end : (i at : ℕ) → length numbers ≤ i → LeadsAlike edges from numbers at (drop i numbers) to → at ≡ to → LeadsTo edges from numbers to
   leads_end i at long alike e = alike.back (subst (λ ns. LeadsTo edges at ns to) (sym (drop_all i numbers long)) e)
-
-  pub leads_there : (i at : ℕ) → length numbers ≤ i → LeadsAlike edges from numbers at (drop i numbers) to → LeadsTo edges from numbers to → at ≡ to
-  leads_there i at long alike h = subst (λ ns. LeadsTo edges at ns to) (drop_all i numbers long) (alike.on h)
 
 total-append : (edges : List Edge) (xs ys : List ℕ) → total_of edges (xs ++ ys) ≡ total_of edges xs +ℤ total_of edges ys
 total-append edges [] ys = omega (arith, ints)

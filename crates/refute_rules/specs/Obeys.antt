@@ -1,5 +1,5 @@
 -- Spots that obey the options of a case.
-use Rattle.std.specs.Prelude.{◌≡◌, ◌+◌, ◌≤◌, List, All}
+use Rattle.std.specs.Prelude.{◌≡◌, ◌+◌, ◌≤◌, List}
 use Rattle.lock_model.specs.Deck.{Deck}
 use Rattle.lock_model.specs.Placement.{spot_at}
 use Rattle.lock_model.specs.declared.placement.Spot.{Spot}
@@ -12,7 +12,3 @@ ObeysChoice d spots (Lies i b) = ((spot_at spots i).rank ≡ b.rank) × ((spot_a
 ObeysChoice d spots (Before i j) = (spot_at spots i).x + length_at d i + d.gap ≤ (spot_at spots j).x
 ObeysChoice d spots (Below i j) = (spot_at spots i).y + width_at d i + d.side ≤ (spot_at spots j).y
 ObeysChoice d spots (Stands i v) = (spot_at spots i).x ≡ v
-
--- the spots obey each option of a case
-abbrev pub ObeysCase : Deck → List Spot → List Choice → Type 0
-ObeysCase d spots case = All (ObeysChoice d spots) case

@@ -2,3 +2,4 @@ pub mod Statuses
 pub mod Texts
 pub mod Written
 pub mod Sources
+pub mod Refusals

@@ -1,6 +1,6 @@
 use Rattle.std.proofs.Common.{map, string_bytes, sym, refl, ◌∙◌, inl, inr, Ok, Err}
-use Rattle.lock_top.specs.Answers.{drained}
-use Rattle.lock_top.specs.Written.{bytes_in}
+use Rattle.run_answers.specs.Sources.{drained}
+use Rattle.run_answers.specs.Written.{bytes_in}
 use Rattle.lock_top.proofs.AskedLemmas.{mean_only}
 use Rattle.lock_top.proofs.AnswerLemmas.{answers_refused, answers_command}
 use Rattle.lock_top.proofs.commands.words_answer.Goals as goal

@@ -1,0 +1,2 @@
+pub mod DossierTexts
+pub mod Checking

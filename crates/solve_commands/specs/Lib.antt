@@ -1,0 +1,4 @@
+pub mod Options
+pub mod Searching
+pub mod Solving
+pub mod Lots

@@ -1,0 +1,164 @@
+//! What is answered at the end of a search.
+ghost use Rattle.std.specs.Prelude.{◌≡◌, ◌≢◌, ◌≤◌, ℕ};
+ghost use Rattle.lock_rules.specs.Singles.{singles_of};
+ghost use Rattle.lock_model.specs.declared.verdict.Verdict.TheVariants.{Optimal};
+ghost use Rattle.search_rules.specs.Certificates.{Accepts};
+ghost use Rattle.search_rules.specs.Ends.{EndsWell, IsEnd};
+ghost use Rattle.search_rules.specs.Verdict.{verdict_of};
+ghost use Rattle.search_rules.specs.WellFormed.{IsWellFormed};
+ghost use Rattle.plan_print.specs.Report.{IsOfInstance, report, verdict_line};
+ghost use Rattle.solve_commands.specs.Searching.{PrintsOptimal, PrintsDossier, PrintsBest, PrintsOpen, AnswersSearch, search_in, status_of};
+ghost use Rattle.solve_commands.specs.Solving.{search_of};
+ghost use Rattle.run_answers.specs.Written.{bytes_in};
+
+use book_certificate::{CertError, certificate_of};
+use book_core::{Book, Case};
+use cert_check::Certificate;
+use cert_text::print_dossier;
+use lock_io::Gate;
+use lock_model::Verdict;
+use plain_text::NoMemory;
+use plan_print::{print_report, print_verdict_line};
+use run_answers::{Answer, Status, Text, no_memory};
+use solve_workers::solve;
+use std::alloc::Global;
+use std::sync::Wait;
+use std::thread::Threads;
+
+/// What the book of a search that ended well shows of its best plan.
+pub fn shown(book: &Book) -> Verdict
+    ghost limit: { ℕ }
+    requires { EndsWell limit book.now }
+    ensures verdict { result ≡ verdict_of book.now }
+    ensures end { IsEnd book.now.case.instance book.now.case.nodes book.now.case.turns limit book.now.best result }
+    ensures known { IsOfInstance book.now.case.instance result }
+{
+    book.keeps();
+    book.verdict()
+}
+
+/// The status of a run that ends with this verdict.
+pub fn status_of(verdict: &Verdict) -> Status
+    ensures { result ≡ status_of verdict.now }
+{
+    match verdict {
+        Verdict::Optimal => Status::Good,
+        Verdict::OpenNodes { .. } | Verdict::OpenTurns { .. } => Status::Open,
+    }
+}
+
+/// The report of the best plan of a search that ended well.
+#[tactic(auto, using(crate::proofs::EndLemmas::end_answers))]
+pub fn report_answer(alloc: Global, book: &Book) -> Answer
+    ghost limit: { ℕ }
+    requires { EndsWell limit book.now }
+    ensures left { verdict_of book.now ≢ Optimal → result.status ≢ Status.Good }
+    ensures answer { AnswersSearch (PrintsOptimal report) (PrintsOpen report) (search_in book.now limit) result.status (bytes_in result.text) }
+{
+    let verdict = shown(book);
+    match print_report(alloc, &book.case().instance, book.best(), &verdict) {
+        Ok(text) => Answer {
+            status: status_of(&verdict),
+            text: Text::Made(text),
+        },
+        Err(NoMemory) => no_memory(),
+    }
+}
+
+// The first line of that report.
+#[tactic(auto, using(crate::proofs::EndLemmas::end_answers))]
+fn line_answer(alloc: Global, book: &Book) -> Answer
+    ghost limit: { ℕ }
+    requires { EndsWell limit book.now }
+    ensures { AnswersSearch (PrintsOptimal verdict_line) (PrintsOpen verdict_line) (search_in book.now limit) result.status (bytes_in result.text) }
+{
+    let verdict = shown(book);
+    match print_verdict_line(alloc, &book.case().instance, book.best(), &verdict) {
+        Ok(text) => Answer {
+            status: status_of(&verdict),
+            text: Text::Made(text),
+        },
+        Err(NoMemory) => no_memory(),
+    }
+}
+
+// The dossier of the certificate of a finished search.
+#[tactic(auto, using(crate::proofs::EndLemmas::dossier_printed))]
+fn dossier_answer(alloc: Global, book: &Book, certificate: &Certificate) -> Answer
+    ghost limit: { ℕ }
+    requires accepts { Accepts book.now.case.instance certificate.now }
+    requires formed { IsWellFormed certificate.now }
+    ensures { AnswersSearch PrintsDossier (PrintsOpen report) (search_in book.now limit) result.status (bytes_in result.text) }
+{
+    match print_dossier(alloc, &book.case().instance, certificate) {
+        Ok(text) => Answer {
+            status: Status::Good,
+            text: Text::Made(text),
+        },
+        Err(NoMemory) => no_memory(),
+    }
+}
+
+// The dossier of a search that ended well, or the report where it ended open.
+fn certified_answer(alloc: Global, book: &Book) -> Answer
+    ghost limit: { ℕ }
+    requires { EndsWell limit book.now }
+    ensures { AnswersSearch PrintsDossier (PrintsOpen report) (search_in book.now limit) result.status (bytes_in result.text) }
+{
+    match certificate_of(alloc, book) {
+        Ok(certificate) => dossier_answer(alloc, book, &certificate),
+        Err(CertError::StillOpen) => report_answer(alloc, book),
+        Err(CertError::NoMemory) => no_memory(),
+    }
+}
+
+/// The report of the best plan of a search that ended well, or its dossier where it is cheapest and
+/// one is asked for.
+#[tactic(auto, using(crate::proofs::EndLemmas::dossier_asked, crate::proofs::EndLemmas::report_asked))]
+pub fn best_answer(alloc: Global, book: &Book, dossier: bool) -> Answer
+    ghost limit: { ℕ }
+    requires { EndsWell limit book.now }
+    ensures { AnswersSearch (PrintsBest dossier) (PrintsOpen report) (search_in book.now limit) result.status (bytes_in result.text) }
+{
+    if dossier {
+        certified_answer(alloc, book)
+    } else {
+        report_answer(alloc, book)
+    }
+}
+
+/// Searches all plans of a case, and answers with the report of the best one, or with its dossier
+/// where it is cheapest and one is asked for.
+pub(crate) fn search_best<R: Threads + Wait + Sync, G: Gate + Sync>(
+    rt: &R,
+    alloc: Global,
+    case: &Case,
+    workers: u8,
+    dossier: bool,
+    gate: &G,
+) -> Answer
+    requires some { 1 ≤ workers }
+    requires few { workers ≤ 8 }
+    ensures { AnswersSearch (PrintsBest dossier) (PrintsOpen report) (search_of case.now.nodes case.now.turns case.now.instance) result.status (bytes_in result.text) }
+{
+    match solve(rt, alloc, case, workers, gate) {
+        Ok(solved) => best_answer(alloc, &solved.book, dossier),
+        Err(NoMemory) => no_memory(),
+    }
+}
+
+/// Searches all plans of a case with one worker, and answers with the first line of the report of
+/// the best one.
+pub(crate) fn search_line<R: Threads + Wait + Sync, G: Gate + Sync>(
+    rt: &R,
+    alloc: Global,
+    case: &Case,
+    gate: &G,
+) -> Answer
+    ensures { AnswersSearch (PrintsOptimal verdict_line) (PrintsOpen verdict_line) (search_of case.now.nodes case.now.turns case.now.instance) result.status (bytes_in result.text) }
+{
+    match solve(rt, alloc, case, 1, gate) {
+        Ok(solved) => line_answer(alloc, &solved.book),
+        Err(NoMemory) => no_memory(),
+    }
+}
