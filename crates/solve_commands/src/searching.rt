@@ -1,11 +1,9 @@
 //! What is answered at the end of a search.
-ghost use Rattle.std.specs.Prelude.{◌≡◌, ◌≢◌, ◌≤◌, ℕ};
+ghost use Rattle.std.specs.Prelude.{◌≡◌, ◌≢◌, ◌≤◌, ℕ, IfOk, IfErr};
 ghost use Rattle.lock_rules.specs.Singles.{singles_of};
 ghost use Rattle.lock_model.specs.declared.verdict.Verdict.TheVariants.{Optimal};
-ghost use Rattle.search_rules.specs.Certificates.{Accepts};
 ghost use Rattle.search_rules.specs.Ends.{EndsWell, IsEnd};
 ghost use Rattle.search_rules.specs.Verdict.{verdict_of};
-ghost use Rattle.search_rules.specs.WellFormed.{IsWellFormed};
 ghost use Rattle.plan_print.specs.Report.{IsOfInstance, report, verdict_line};
 ghost use Rattle.solve_commands.specs.Searching.{PrintsOptimal, PrintsDossier, PrintsBest, PrintsOpen, AnswersSearch, search_in, status_of};
 ghost use Rattle.solve_commands.specs.Solving.{search_of};
@@ -13,7 +11,6 @@ ghost use Rattle.run_answers.specs.Written.{bytes_in};
 
 use book_certificate::{CertError, certificate_of};
 use book_core::{Book, Case};
-use cert_check::Certificate;
 use cert_text::print_dossier;
 use lock_io::Gate;
 use lock_model::Verdict;
@@ -82,20 +79,17 @@ fn line_answer(alloc: Global, book: &Book) -> Answer
     }
 }
 
-// The dossier of the certificate of a finished search.
+/// The dossier of the certificate of a finished search. `StillOpen` only where the search left its
+/// best plan open; else want of memory is the only refusal.
 #[tactic(auto, using(crate::proofs::EndLemmas::dossier_printed))]
-fn dossier_answer(alloc: Global, book: &Book, certificate: &Certificate) -> Answer
-    ghost limit: { ℕ }
-    requires accepts { Accepts book.now.case.instance certificate.now }
-    requires formed { IsWellFormed certificate.now }
-    ensures { AnswersSearch PrintsDossier (PrintsOpen report) (search_in book.now limit) result.status (bytes_in result.text) }
+pub fn dossier_text(alloc: Global, book: &Book) -> Result<Vec<u8>, CertError>
+    ensures printed { IfOk result (λ text. PrintsDossier book.now.case.instance text.items) }
+    ensures finished { verdict_of book.now ≡ Optimal → IfErr result (λ error. error ≡ CertError.NoMemory) }
 {
-    match print_dossier(alloc, &book.case().instance, certificate) {
-        Ok(text) => Answer {
-            status: Status::Good,
-            text: Text::Made(text),
-        },
-        Err(NoMemory) => no_memory(),
+    let certificate = certificate_of(alloc, book)?;
+    match print_dossier(alloc, &book.case().instance, &certificate) {
+        Ok(text) => Ok(text),
+        Err(NoMemory) => Err(CertError::NoMemory),
     }
 }
 
@@ -105,8 +99,11 @@ fn certified_answer(alloc: Global, book: &Book) -> Answer
     requires { EndsWell limit book.now }
     ensures { AnswersSearch PrintsDossier (PrintsOpen report) (search_in book.now limit) result.status (bytes_in result.text) }
 {
-    match certificate_of(alloc, book) {
-        Ok(certificate) => dossier_answer(alloc, book, &certificate),
+    match dossier_text(alloc, book) {
+        Ok(text) => Answer {
+            status: Status::Good,
+            text: Text::Made(text),
+        },
         Err(CertError::StillOpen) => report_answer(alloc, book),
         Err(CertError::NoMemory) => no_memory(),
     }

@@ -8,5 +8,5 @@ pub returns-in-Err-StillOpen : goal.returns-in-Err-StillOpen
 returns-in-Err-StillOpen g c =
     let b = c.args.book.now in
     let told = c.report_answer in
-    let left = still_open b c.certificate_of.result (c.in-Err-StillOpen.is ∙ (λ i. Err (c.in-Err-StillOpen.field-0-is i))) c.certificate_of.ensures.finished in
+    let left = still_open b c.dossier_text.result (c.in-Err-StillOpen.is ∙ (λ i. Err (c.in-Err-StillOpen.field-0-is i))) c.dossier_text.ensures.finished in
     open_answers (search_in b g.limit) told.result.status (bytes_in told.result.text) (told.ensures.left left) told.ensures.answer
