@@ -1,6 +1,7 @@
 -- What is answered to a source, by what is said to its bytes.
-use Rattle.std.proofs.Common.{ℕ, ◌≡◌, List, inl, inr}
-use Rattle.run_answers.specs.Sources.{Drained, Saying, IsFair, IsReadWhole, IsUnreadable, AnswersSource}
+use Rattle.std.proofs.Common.{ℕ, ◌≡◌, ◌≤◌, ◌<◌, ◌⊎◌, List, length, subst, inl, inr, refl, arith}
+use Rattle.std.specs.Prelude.{IfSome}
+use Rattle.run_answers.specs.Sources.{Drained, Saying, IsFair, IsReadWhole, IsTooLong, IsUnreadable, AnswersBytes, AnswersSource, IsServed}
 use Rattle.run_answers.specs.declared.status.Status.{Status}
 use Rattle.run_answers.specs.declared.status.Status.TheVariants.{Good, Open, Words, Refused, ReadFault, WriteFault, NoMemory, BadDossier, Unfit, PlanRefused}
 
@@ -29,3 +30,34 @@ bytes_answer most Says source bytes NoMemory text fair read says = fair.no_memor
 bytes_answer most Says source bytes BadDossier text fair read says = record { bytes = bytes; read = read; answer = says }
 bytes_answer most Says source bytes Unfit text fair read says = record { bytes = bytes; read = read; answer = says }
 bytes_answer most Says source bytes PlanRefused text fair read says = record { bytes = bytes; read = read; answer = says }
+
+-- ---- a source that is served
+
+module _ (most : ℕ) (Says : Saying) (source : Drained) (bytes : List ℕ) (served : IsServed most source bytes) where
+  own_says : (status : Status) (text : List ℕ) → AnswersBytes most Says source status text → Says bytes status text
+  own_says status text read =
+      let same : read.bytes ≡ bytes = subst (λ left. IfSome left (λ told. read.bytes ≡ told)) served.told read.read.all in
+      subst (λ b. Says b status text) same read.answer
+
+  few_bytes : (text : List ℕ) → IsTooLong most source text → ⊥
+  few_bytes text long =
+      let many : most < length bytes = subst (λ left. IfSome left (λ told. most < length told)) served.told long.long in
+      let few = served.few in
+      omega (arith, many, few)
+
+  by_refusal : (text : List ℕ) → IsTooLong most source text ⊎ AnswersBytes most Says source Refused text → Says bytes Refused text
+  by_refusal text (inl long) = absurd (few_bytes text long)
+  by_refusal text (inr read) = own_says Refused text read
+
+  -- what is answered to it is want of memory, or what is said to its bytes
+  pub served_says : (status : Status) (text : List ℕ) → AnswersSource most Says source status text → (status ≡ NoMemory) ⊎ Says bytes status text
+  served_says Good text answer = inr (own_says Good text answer)
+  served_says Open text answer = inr (own_says Open text answer)
+  served_says Words text answer = absurd answer
+  served_says Refused text answer = inr (by_refusal text answer)
+  served_says ReadFault text answer = absurd (served.calm answer.rose)
+  served_says WriteFault text answer = absurd answer
+  served_says NoMemory text answer = inl refl
+  served_says BadDossier text answer = inr (own_says BadDossier text answer)
+  served_says Unfit text answer = inr (own_says Unfit text answer)
+  served_says PlanRefused text answer = inr (own_says PlanRefused text answer)
