@@ -13,9 +13,10 @@ use Rattle.solve_commands.specs.Lots.{AnswersLot, AnswersTrial}
 use Rattle.dossier_commands.specs.Checking.{dossier_limit, AnswersCheck}
 use Rattle.dossier_commands.specs.Lowering.{AnswersLower}
 use Rattle.dossier_commands.specs.Resuming.{AnswersResume}
-use Rattle.plan_commands.specs.Judging.{plan_limit, AnswersJudge}
+use Rattle.plan_commands.specs.Planned.{plan_limit}
+use Rattle.plan_commands.specs.Judging.{AnswersJudge}
 use Rattle.plan_commands.specs.Playing.{AnswersPlay}
-use Rattle.replan_command.specs.Replanning.{AnswersReplan}
+use Rattle.replan_command.specs.Replanning.{replan_limit, AnswersReplan}
 use Rattle.lock_top.specs.Asked.{MeanOnly}
 use Rattle.lock_top.specs.Runs.{Run, Got}
 
@@ -28,7 +29,7 @@ AnswersCommand (Trial options) source status text =
     IsUnread source × AnswersTrial options.lot.number options.lot.ships options.lot.chambers options.nodes options.turns status text
 AnswersCommand Judge source status text = AnswersSource plan_limit AnswersJudge source status text
 AnswersCommand Play source status text = AnswersSource plan_limit AnswersPlay source status text
-AnswersCommand (Replan options) source status text = AnswersSource plan_limit (AnswersReplan options) source status text
+AnswersCommand (Replan options) source status text = AnswersSource replan_limit (AnswersReplan options) source status text
 AnswersCommand Lower source status text = AnswersSource dossier_limit AnswersLower source status text
 AnswersCommand (Resume options) source status text = AnswersSource dossier_limit (AnswersResume options) source status text
 

@@ -1,20 +1,18 @@
 -- What is asked rightly is done, or memory was wanting, or the sink failed.
-use Rattle.std.specs.Prelude.{ℕ, ◌≡◌, List, ⊤}
+use Rattle.std.specs.Prelude.{ℕ, ◌≢◌, List, ⊤}
 use Rattle.lock_model.specs.declared.instance.Instance.{Instance}
 use Rattle.lock_model.specs.declared.plan.Plan.{Plan}
-use Rattle.lock_rules.specs.Plan.{IsLegal}
 use Rattle.lock_rules.specs.Unfit.{HasNoUnfit}
 use Rattle.search_rules.specs.Ends.{AreEnough}
-use Rattle.search_rules.specs.Failures.{Fails, OpenFails}
+use Rattle.search_rules.specs.Failures.{Fails}
 use Rattle.search_rules.specs.declared.certificate.Spot2.{Spot2}
 use Rattle.search_rules.specs.declared.certificate.Reason.{Reason}
 use Rattle.search_rules.specs.Certificates.{Certificate, Accepts}
-use Rattle.search_rules.specs.OpenCertificates.{OpenCertificate, Stands}
-use Rattle.instance_text.specs.Reading.{Means, instance_part, after_instance}
-use Rattle.plan_judge.specs.Reading.{IsPlanText}
+use Rattle.search_rules.specs.OpenCertificates.{OpenCertificate}
+use Rattle.instance_text.specs.Reading.{Means}
 use Rattle.cert_text.specs.Dossier.{Reads}
 use Rattle.resume_book.specs.Reading.{ReadsOpen}
-use Rattle.replan.specs.Kept.{kept_of, CanBeKept}
+use Rattle.replan.specs.Kept.{kept_of}
 use Rattle.command_words.specs.declared.commands.SolveOptions.{SolveOptions}
 use Rattle.command_words.specs.declared.commands.LotOptions.{LotOptions}
 use Rattle.command_words.specs.declared.commands.TrialOptions.{TrialOptions}
@@ -26,7 +24,9 @@ use Rattle.run_answers.specs.declared.status.Status.TheVariants.{Good, Open, Wor
 use Rattle.solve_commands.specs.Solving.{solve_limit}
 use Rattle.solve_commands.specs.Lots.{IsLot}
 use Rattle.dossier_commands.specs.Checking.{dossier_limit}
-use Rattle.plan_commands.specs.Judging.{plan_limit}
+use Rattle.dossier_commands.specs.Completing.{MayLower, MayResume}
+use Rattle.plan_commands.specs.Planned.{plan_limit, IsLegallyPlanned}
+use Rattle.replan_command.specs.Ends.{IsReplanServed, MayEndReplan}
 use Rattle.lock_top.specs.Asked.{Asks}
 use Rattle.lock_top.specs.Runs.{Run}
 
@@ -69,45 +69,14 @@ MayPrint BadDossier = ⊥
 MayPrint Unfit = ⊥
 MayPrint PlanRefused = ⊥
 
--- how a command that searches may end
-abbrev pub MaySearch : Status → Type 0
-MaySearch Good = ⊤
-MaySearch Open = ⊤
-MaySearch Words = ⊥
-MaySearch Refused = ⊥
-MaySearch ReadFault = ⊥
-MaySearch WriteFault = ⊤
-MaySearch NoMemory = ⊤
-MaySearch BadDossier = ⊥
-MaySearch Unfit = ⊥
-MaySearch PlanRefused = ⊥
-
--- how a command over an open dossier may end
-abbrev pub MayGoOn : Instance → OpenCertificate → Status → Type 0
-MayGoOn I C Good = Stands I C
-MayGoOn I C Open = Stands I C
-MayGoOn I C Words = ⊥
-MayGoOn I C Refused = ⊥
-MayGoOn I C ReadFault = ⊥
-MayGoOn I C WriteFault = ⊤
-MayGoOn I C NoMemory = ⊤
-MayGoOn I C BadDossier = (place : Spot2) × (reason : Reason) × OpenFails I C place reason
-MayGoOn I C Unfit = ⊥
-MayGoOn I C PlanRefused = ⊥
-
--- The bytes are an instance text up to its end, and then a plan text of this plan.
-pub record AreInstanceAndPlan (bytes : List ℕ) (I : Instance) (P : Plan) : Type 0 where
-  pub means : Means (instance_part bytes) I
-  pub plan : IsPlanText I (after_instance bytes) P
-
 -- COMPLETENESS. Over a source that is served, and bytes in which nothing is refused.
 pub record IsComplete (run : Run) : Type 0 where
   pub solve : (options : SolveOptions) (bytes : List ℕ) (I : Instance) → Asks run.words (Solve options) → IsServed solve_limit run.source bytes → Means bytes I → HasNoUnfit I → MayEnd I options.nodes options.turns run.status
   pub check : (bytes : List ℕ) (I : Instance) (C : Certificate) → Asks run.words Check → IsServed dossier_limit run.source bytes → Reads bytes I C → HasNoUnfit I → MayCheck I C run.status
   pub lot : (options : LotOptions) → Asks run.words (Lot options) → MayPrint run.status
   pub trial : (options : TrialOptions) (I : Instance) → Asks run.words (Trial options) → IsLot options.lot.number options.lot.ships options.lot.chambers I → MayEnd I options.nodes options.turns run.status
-  pub judge : (bytes : List ℕ) (I : Instance) (P : Plan) → Asks run.words Judge → IsServed plan_limit run.source bytes → AreInstanceAndPlan bytes I P → IsLegal I P → MayPrint run.status
-  pub play : (bytes : List ℕ) (I : Instance) (P : Plan) → Asks run.words Play → IsServed plan_limit run.source bytes → AreInstanceAndPlan bytes I P → IsLegal I P → MayPrint run.status
-  pub replan : (options : ReplanOptions) (bytes : List ℕ) (I : Instance) (G : Plan) → Asks run.words (Replan options) → IsServed plan_limit run.source bytes → AreInstanceAndPlan bytes I G → HasNoUnfit I → CanBeKept I (kept_of G options.from) → MaySearch run.status
-  pub lower : (bytes : List ℕ) (I : Instance) (C : OpenCertificate) → Asks run.words Lower → IsServed dossier_limit run.source bytes → ReadsOpen bytes I C → HasNoUnfit I → MayGoOn I C run.status
-  pub resume : (options : SolveOptions) (bytes : List ℕ) (I : Instance) (C : OpenCertificate) → Asks run.words (Resume options) → IsServed dossier_limit run.source bytes → ReadsOpen bytes I C → HasNoUnfit I → MayGoOn I C run.status
+  pub judge : (bytes : List ℕ) (I : Instance) (P : Plan) → Asks run.words Judge → IsServed plan_limit run.source bytes → IsLegallyPlanned bytes I P → MayPrint run.status
+  pub play : (bytes : List ℕ) (I : Instance) (P : Plan) → Asks run.words Play → IsServed plan_limit run.source bytes → IsLegallyPlanned bytes I P → MayPrint run.status
+  pub replan : (options : ReplanOptions) (I : Instance) (G : Plan) → Asks run.words (Replan options) → IsReplanServed run.source options.from I G → run.status ≢ WriteFault → MayEndReplan options I (kept_of G options.from) run.status
+  pub lower : (bytes : List ℕ) (I : Instance) (C : OpenCertificate) → Asks run.words Lower → IsServed dossier_limit run.source bytes → ReadsOpen bytes I C → HasNoUnfit I → MayLower I C run.status
+  pub resume : (options : SolveOptions) (bytes : List ℕ) (I : Instance) (C : OpenCertificate) → Asks run.words (Resume options) → IsServed dossier_limit run.source bytes → ReadsOpen bytes I C → HasNoUnfit I → MayResume options I C run.status
