@@ -45,7 +45,10 @@ fn faults_and_late_lockages_are_written(rt: HostRuntime) -> Result<(), Fail> {
         kind: PlanKind::Unknown,
     };
     let fault = fault_text(rt.alloc(), bad).map_err(|_| "no memory")?;
-    assert_eq!(rt; fault.as_slice(), b"plan line 4 fault 7 Unknown\n".as_slice());
+    assert_eq!(rt;
+        fault.as_slice(),
+        b"plan line 4 fault 7 Unknown\n".as_slice()
+    );
     let late = late_text(rt.alloc(), 0).map_err(|_| "no memory")?;
     assert_eq!(rt; late.as_slice(), b"illegal lockage 1 Late\n".as_slice());
     Ok(())
