@@ -1,18 +1,5 @@
 # Checks of the built program, run as its users run it. `.ci/run` reads this file.
 
-# a trial prints one line, the same at each run, and ends with the status of that line
-trial_prints_the_same_again() {
-  local first second status again
-  first=$(./glock trial "$@") && status=0 || status=$?
-  second=$(./glock trial "$@") && again=0 || again=$?
-  [ "$first" = "$second" ] && [ "$status" = "$again" ] && [ "$(wc -l <<<"$first")" = 1 ] || return 1
-  case "$first" in
-    "optimal cost "*) [ "$status" = 0 ] ;;
-    "open "*) [ "$status" = 1 ] ;;
-    *) return 1 ;;
-  esac
-}
-
 # the checker accepts the dossiers of lots, with the cost that the report names
 dossiers_are_accepted() {
   local ships chambers text answer report

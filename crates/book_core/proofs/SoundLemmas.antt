@@ -116,7 +116,7 @@ opening-sound case plan good legal = record {
 
 pub all-sound : (b : Book) (es : List Event) (end : Book) → IsSound b → AllByRecursion IsOwed es → RunsTo b es end → IsSound end
 all-sound b [] end old owed runs = subst IsSound runs old
-all-sound b (e ∷ es) end old owed runs = all-sound (step (λ _ _. runs.0) b e).0 es end (step-sound b e runs.0 old owed.0 runs.1.0) owed.1 runs.1.1
+all-sound b (e ∷ es) end old owed runs = all-sound (step (λ _ _. runs.0) b e).0 es end (step-sound b e runs.0 old owed.0 runs.1) owed.1 runs.2
 
 pub all-run : (b : Book) (es : List Event) → AllByRecursion (IsJudgeable b.case.instance) es → (end : Book) × RunsTo b es end
 all-run b [] told = (b, refl)

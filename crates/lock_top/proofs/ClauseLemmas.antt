@@ -1,142 +1,120 @@
 -- The clause of a run, from what was answered and what was written.
-use Rattle.std.proofs.Common.{ℕ, ◌≡◌, ◌≢◌, Bool, true, false, List, sym, refl, ap, ◌∙◌, subst, Some, None}
-use Rattle.std.specs.Prelude.{IfSome}
-use Rattle.std.specs.declared.option.Option.{Option}
+use Rattle.std.proofs.Common.{ℕ, ◌≡◌, ◌≢◌, Bool, true, false, List, sym, refl, subst, ◌∙◌}
 use Rattle.std.specs.Io.KnownBytes.{Appends}
 use Rattle.lock_io.specs.Faults.{Rose}
 use Rattle.lock_io.specs.WholeWrites.{AppendsProperPrefix}
-use Rattle.instance_text.specs.Reading.{Means}
 use Rattle.cert_text.specs.Dossier.{Reads}
-use Rattle.command_words.specs.declared.commands.Command.TheVariants.{Check}
-use Rattle.run_answers.specs.Sources.{Drained, AnswersBytes}
+use Rattle.command_words.specs.declared.commands.Command.{Command}
+use Rattle.command_words.specs.declared.commands.SolveOptions.{SolveOptions}
+use Rattle.command_words.specs.declared.commands.LotOptions.{LotOptions}
+use Rattle.command_words.specs.declared.commands.TrialOptions.{TrialOptions}
+use Rattle.command_words.specs.declared.commands.ReplanOptions.{ReplanOptions}
+use Rattle.command_words.specs.declared.commands.Command.TheVariants.{Solve, Check, Lot, Trial, Judge, Play, Replan, Lower, Resume}
+use Rattle.lock_model.specs.declared.instance.Instance.{Instance}
+use Rattle.instance_text.specs.Reading.{Means}
+use Rattle.run_answers.specs.Sources.{Drained, Saying, AnswersBytes}
 use Rattle.run_answers.specs.declared.status.Status.{Status}
 use Rattle.run_answers.specs.declared.status.Status.TheVariants.{Good, Open, WriteFault}
-use Rattle.solve_commands.specs.Solving.{solve_limit, AnswersSolve}
-use Rattle.dossier_commands.specs.Checking.{dossier_limit, AnswersCheck}
-use Rattle.lock_top.specs.Asked.{solve_options, AskSolve, AskCheck, AskLot, AskTrial}
-use Rattle.lock_top.specs.Answers.{AnswersMeant, Answers}
+use Rattle.solve_commands.specs.Searching.{PrintsBest}
+use Rattle.solve_commands.specs.Solving.{AnswersSolve}
+use Rattle.dossier_commands.specs.Checking.{AnswersCheck}
+use Rattle.dossier_commands.specs.Lowering.{AnswersLower}
+use Rattle.dossier_commands.specs.Resuming.{AnswersResume}
+use Rattle.plan_commands.specs.Judging.{AnswersJudge}
+use Rattle.plan_commands.specs.Playing.{AnswersPlay}
+use Rattle.replan_command.specs.Replanning.{AnswersReplan}
+use Rattle.lock_top.specs.Asked.{Asks}
+use Rattle.lock_top.specs.Answers.{AnswersCommand, AnswersMeant, Answers}
 use Rattle.lock_top.specs.Runs.{Filled, Run, Got}
-use Rattle.lock_top.specs.Clauses.{IsSolved, IsCertified, IsLeftOpen, IsAccepted, IsDrawn, IsTried, IsTriedOpen, KeepsItsWord}
-use Rattle.lock_top.proofs.AnswerLemmas.{solve_of, lot_of, trial_of, meant_answer, true_false}
+use Rattle.lock_top.specs.Clauses.{Did, IsSolved, IsCertified, IsSolvedAs, IsLeftOpen, IsAccepted, IsDrawn, IsTried, IsTriedOpen, KeepsItsWord}
+use Rattle.lock_top.proofs.AnswerLemmas.{meant_answer}
 use Rattle.lock_top.proofs.CompleteLemmas.{complete, cut_complete}
 
--- what is so of the bytes is so of what was left
-told_so : (P : List ℕ → Type 0) (left : Option (List ℕ)) (bytes : List ℕ) → IfSome left (λ told. bytes ≡ told) → P bytes → IfSome left P
-told_so P None bytes all so = tt
-told_so P (Some told) bytes all so = subst P all so
+-- ---- what is said to the bytes, in the words of the clauses
 
--- the text that was answered was written whole
+solved_as : (asked : Bool) (bytes text : List ℕ) (I : Instance) → Means bytes I → PrintsBest asked I text → IsSolvedAs asked bytes text
+solved_as true bytes text I means best = record {
+  instance = I;
+  certificate = best.certificate;
+  means = means;
+  formed = best.formed;
+  accepts = best.accepts;
+  cheapest = best.cheapest;
+  cost = best.accepts.cost;
+  reads = subst (λ b. Reads b I best.certificate) best.shown best.reads;
+  shown = best.shown;
+}
+solved_as false bytes text I means best = record { instance = I; plan = best.plan; means = means; cheapest = best.cheapest; shown = best.shown }
+
+says_solved : (options : SolveOptions) (bytes text : List ℕ) → AnswersSolve options bytes Good text → IsSolvedAs options.dossier bytes text
+says_solved options bytes text told = solved_as options.dossier bytes text told.instance told.means told.answer
+
+says_left : (options : SolveOptions) (bytes text : List ℕ) → AnswersSolve options bytes Open text → IsLeftOpen options bytes text
+says_left options bytes text told = record { instance = told.instance; means = told.means; left = told.answer }
+
+says_accepted : (bytes text : List ℕ) → AnswersCheck bytes Good text → IsAccepted bytes text
+says_accepted bytes text told =
+    let own = told.answer in
+    record { instance = told.instance; certificate = told.certificate; reads = told.reads; accepts = own.accepts; cheapest = own.cheapest; cost = own.cost; shown = own.shown }
+
+-- ---- the text that was answered was written whole
+
 module _ (words : List (List ℕ)) (source : Drained) (sink : Filled) (status : Status) (text : List ℕ) (answer : Answers words source status text) (appended : Appends sink.held sink.held_after text) where
   run : Run
   run = record { words = words; source = source; sink = sink; status = status }
 
-  good : status ≡ Good → AnswersMeant words source Good text
-  good is = subst (λ s. Answers words source s text) is answer
+  good : (command : Command) → Asks words command → status ≡ Good → AnswersCommand command source Good text
+  good command ask is = meant_answer words source Good text command (subst (λ s. Answers words source s text) is answer) ask.means
 
-  left : status ≡ Open → AnswersMeant words source Open text
-  left is = subst (λ s. Answers words source s text) is answer
+  left : (command : Command) → Asks words command → status ≡ Open → AnswersCommand command source Open text
+  left command ask is = meant_answer words source Open text command (subst (λ s. Answers words source s text) is answer) ask.means
 
   whole : status ≡ WriteFault → ⊥
   whole is = subst (λ s. Answers words source s text) is answer
 
-  solved : (nodes turns workers : ℕ) → AskSolve words nodes turns workers false → status ≡ Good → IsSolved run
-  solved nodes turns workers ask is =
-      let read : AnswersBytes solve_limit (AnswersSolve (solve_options nodes turns workers false)) source Good text = meant_answer words source Good text (solve_of nodes turns workers false) (good is) ask.means in
-      let told = read.answer in
-      let optimal = told.answer in
-      record {
-        instance = told.instance;
-        plan = optimal.plan;
-        means = told_so (λ bytes. Means bytes told.instance) source.before read.bytes read.read.all told.means;
-        end = read.read.end;
-        cheapest = optimal.cheapest;
-        reported = subst (Got run) optimal.shown appended;
-      }
+  -- what was said to all the bytes was done
+  did : (most : ℕ) (Says : Saying) (s : Status) (Clause : List ℕ → List ℕ → Type 0) → AnswersBytes most Says source s text → ((bytes text : List ℕ) → Says bytes s text → Clause bytes text) → Did Clause run
+  did most Says s Clause read so = record { bytes = read.bytes; all = read.read.all; end = read.read.end; text = text; says = so read.bytes text read.answer; got = appended }
 
-  certified : (nodes turns workers : ℕ) → AskSolve words nodes turns workers true → status ≡ Good → IsCertified run
-  certified nodes turns workers ask is =
-      let read : AnswersBytes solve_limit (AnswersSolve (solve_options nodes turns workers true)) source Good text = meant_answer words source Good text (solve_of nodes turns workers true) (good is) ask.means in
-      let told = read.answer in
-      let best = told.answer in
-      record {
-        instance = told.instance;
-        certificate = best.certificate;
-        means = told_so (λ bytes. Means bytes told.instance) source.before read.bytes read.read.all told.means;
-        end = read.read.end;
-        formed = best.formed;
-        accepts = best.accepts;
-        cheapest = best.cheapest;
-        cost = best.accepts.cost;
-        reads = subst (λ bytes. Reads bytes told.instance best.certificate) best.shown best.reads;
-        printed = subst (Got run) best.shown appended;
-      }
+  drawn : (options : LotOptions) → Asks words (Lot options) → status ≡ Good → IsDrawn options run
+  drawn options ask is =
+      let told = good (Lot options) ask is in
+      record { instance = told.1.instance; lot = told.1.lot; unread = told.0; got = subst (Got run) told.1.shown appended }
 
-  left_open : (nodes turns workers : ℕ) (dossier : Bool) → AskSolve words nodes turns workers dossier → status ≡ Open → IsLeftOpen nodes turns run
-  left_open nodes turns workers dossier ask is =
-      let read : AnswersBytes solve_limit (AnswersSolve (solve_options nodes turns workers dossier)) source Open text = meant_answer words source Open text (solve_of nodes turns workers dossier) (left is) ask.means in
-      let told = read.answer in
-      record {
-        instance = told.instance;
-        text = text;
-        means = told_so (λ bytes. Means bytes told.instance) source.before read.bytes read.read.all told.means;
-        end = read.read.end;
-        cause = told.answer;
-        reported = appended;
-      }
-
-  accepted : AskCheck words → status ≡ Good → IsAccepted run
-  accepted ask is =
-      let read : AnswersBytes dossier_limit AnswersCheck source Good text = meant_answer words source Good text Check (good is) ask.means in
-      let told = read.answer in
-      let own = told.answer in
-      record {
-        instance = told.instance;
-        certificate = told.certificate;
-        reads = told_so (λ bytes. Reads bytes told.instance told.certificate) source.before read.bytes read.read.all told.reads;
-        end = read.read.end;
-        accepts = own.accepts;
-        cheapest = own.cheapest;
-        cost = own.cost;
-        printed = subst (Got run) own.shown appended;
-      }
-
-  drawn : (number ships chambers : ℕ) → AskLot words number ships chambers → status ≡ Good → IsDrawn number ships chambers run
-  drawn number ships chambers ask is =
-      let told = meant_answer words source Good text (lot_of number ships chambers) (good is) ask.means in
-      record { instance = told.1.instance; lot = told.1.lot; unread = told.0; printed = subst (Got run) told.1.shown appended }
-
-  tried : (number ships chambers nodes turns : ℕ) → AskTrial words number ships chambers nodes turns → status ≡ Good → IsTried number ships chambers run
-  tried number ships chambers nodes turns ask is =
-      let told = meant_answer words source Good text (trial_of number ships chambers nodes turns) (good is) ask.means in
+  tried : (options : TrialOptions) → Asks words (Trial options) → status ≡ Good → IsTried options run
+  tried options ask is =
+      let told = good (Trial options) ask is in
       let optimal = told.1.answer in
-      record {
-        instance = told.1.instance;
-        plan = optimal.plan;
-        lot = told.1.lot;
-        unread = told.0;
-        cheapest = optimal.cheapest;
-        printed = subst (Got run) optimal.shown appended;
-      }
+      record { instance = told.1.instance; plan = optimal.plan; lot = told.1.lot; unread = told.0; cheapest = optimal.cheapest; got = subst (Got run) optimal.shown appended }
 
-  tried_open : (number ships chambers nodes turns : ℕ) → AskTrial words number ships chambers nodes turns → status ≡ Open → IsTriedOpen number ships chambers nodes turns run
-  tried_open number ships chambers nodes turns ask is =
-      let told = meant_answer words source Open text (trial_of number ships chambers nodes turns) (left is) ask.means in
-      record { instance = told.1.instance; text = text; lot = told.1.lot; unread = told.0; cause = told.1.answer; printed = appended }
+  tried_open : (options : TrialOptions) → Asks words (Trial options) → status ≡ Open → IsTriedOpen options run
+  tried_open options ask is =
+      let told = left (Trial options) ask is in
+      record { instance = told.1.instance; text = text; lot = told.1.lot; unread = told.0; left = told.1.answer; got = appended }
 
   pub keeps_written : KeepsItsWord run
   keeps_written = record {
-    solved = solved;
-    certified = certified;
-    left_open = left_open;
-    accepted = accepted;
+    solved = λ options ask is. did _ (AnswersSolve options) Good (IsSolvedAs options.dossier) (good (Solve options) ask is) (says_solved options);
+    left_open = λ options ask is. did _ (AnswersSolve options) Open (IsLeftOpen options) (left (Solve options) ask is) (says_left options);
+    accepted = λ ask is. did _ AnswersCheck Good IsAccepted (good Check ask is) says_accepted;
     drawn = drawn;
     tried = tried;
     tried_open = tried_open;
+    judged = λ ask is. did _ AnswersJudge Good _ (good Judge ask is) (λ bytes text says. says);
+    played = λ ask is. did _ AnswersPlay Good _ (good Play ask is) (λ bytes text says. says);
+    replanned = λ options ask is. did _ (AnswersReplan options) Good _ (good (Replan options) ask is) (λ bytes text says. says);
+    replanned_open = λ options ask is. did _ (AnswersReplan options) Open _ (left (Replan options) ask is) (λ bytes text says. says);
+    proven = λ ask is. did _ AnswersLower Good _ (good Lower ask is) (λ bytes text says. says);
+    proven_below = λ ask is. did _ AnswersLower Open _ (left Lower ask is) (λ bytes text says. says);
+    resumed = λ options ask is. did _ (AnswersResume options) Good _ (good (Resume options) ask is) (λ bytes text says. says);
+    resumed_open = λ options ask is. did _ (AnswersResume options) Open _ (left (Resume options) ask is) (λ bytes text says. says);
     complete = complete words source sink status text answer;
     written = λ is. record { text = text; answer = answer; appended = appended };
     cut_off = λ is. absurd (whole is);
     fault = λ is. absurd (whole is);
   }
+
+-- ---- the text that was answered was cut off
 
 good_cut : WriteFault ≡ Good → ⊥
 good_cut e = cc
@@ -144,17 +122,23 @@ good_cut e = cc
 open_cut : WriteFault ≡ Open → ⊥
 open_cut e = cc
 
--- the text that was answered was cut off
 pub keeps_cut : (words : List (List ℕ)) (source : Drained) (sink : Filled) (status : Status) (text : List ℕ) → Answers words source status text → AppendsProperPrefix sink.held sink.held_after text → Rose sink.faults sink.faults_after
     → KeepsItsWord (record { words = words; source = source; sink = sink; status = WriteFault })
 keeps_cut words source sink status text answer appended rose = record {
-  solved = λ nodes turns workers ask is. absurd (good_cut is);
-  certified = λ nodes turns workers ask is. absurd (good_cut is);
-  left_open = λ nodes turns workers dossier ask is. absurd (open_cut is);
+  solved = λ options ask is. absurd (good_cut is);
+  left_open = λ options ask is. absurd (open_cut is);
   accepted = λ ask is. absurd (good_cut is);
-  drawn = λ number ships chambers ask is. absurd (good_cut is);
-  tried = λ number ships chambers nodes turns ask is. absurd (good_cut is);
-  tried_open = λ number ships chambers nodes turns ask is. absurd (open_cut is);
+  drawn = λ options ask is. absurd (good_cut is);
+  tried = λ options ask is. absurd (good_cut is);
+  tried_open = λ options ask is. absurd (open_cut is);
+  judged = λ ask is. absurd (good_cut is);
+  played = λ ask is. absurd (good_cut is);
+  replanned = λ options ask is. absurd (good_cut is);
+  replanned_open = λ options ask is. absurd (open_cut is);
+  proven = λ ask is. absurd (good_cut is);
+  proven_below = λ ask is. absurd (open_cut is);
+  resumed = λ options ask is. absurd (good_cut is);
+  resumed_open = λ options ask is. absurd (open_cut is);
   complete = cut_complete words source sink;
   written = λ is. absurd (is refl);
   cut_off = λ is. record { status = status; text = text; answer = answer; appended = appended };

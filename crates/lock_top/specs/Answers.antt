@@ -1,5 +1,6 @@
 -- What a run answers: a status and what is written, by the words and the source.
-use Rattle.std.specs.Prelude.{ℕ, ◌≡◌, List, false, ⊥}
+use Rattle.std.specs.Prelude.{ℕ, ◌≡◌, List, ⊥}
+use Rattle.command_words.specs.Meaning.{AreBad}
 use Rattle.command_words.specs.declared.commands.Command.{Command}
 use Rattle.command_words.specs.declared.commands.Command.TheVariants.{Solve, Check, Lot, Trial, Judge, Play, Replan, Lower, Resume}
 use Rattle.lock_io.specs.WholeWrites.{AppendsProperPrefix}
@@ -10,7 +11,13 @@ use Rattle.run_answers.specs.declared.status.Status.TheVariants.{Good, Open, Wor
 use Rattle.solve_commands.specs.Solving.{solve_limit, AnswersSolve}
 use Rattle.solve_commands.specs.Lots.{AnswersLot, AnswersTrial}
 use Rattle.dossier_commands.specs.Checking.{dossier_limit, AnswersCheck}
-use Rattle.lock_top.specs.Asked.{is_not_yet, MeanOnly, AreRefused}
+use Rattle.dossier_commands.specs.Lowering.{AnswersLower}
+use Rattle.dossier_commands.specs.Resuming.{AnswersResume}
+use Rattle.plan_commands.specs.Planned.{plan_limit}
+use Rattle.plan_commands.specs.Judging.{AnswersJudge}
+use Rattle.plan_commands.specs.Playing.{AnswersPlay}
+use Rattle.replan_command.specs.Replanning.{replan_limit, AnswersReplan}
+use Rattle.lock_top.specs.Asked.{MeanOnly}
 use Rattle.lock_top.specs.Runs.{Run, Got}
 
 -- what is answered to a command
@@ -20,22 +27,21 @@ AnswersCommand Check source status text = AnswersSource dossier_limit AnswersChe
 AnswersCommand (Lot options) source status text = IsUnread source × AnswersLot options.number options.ships options.chambers status text
 AnswersCommand (Trial options) source status text =
     IsUnread source × AnswersTrial options.lot.number options.lot.ships options.lot.chambers options.nodes options.turns status text
-AnswersCommand Judge source status text = ⊥
-AnswersCommand Play source status text = ⊥
-AnswersCommand (Replan options) source status text = ⊥
-AnswersCommand Lower source status text = ⊥
-AnswersCommand (Resume options) source status text = ⊥
+AnswersCommand Judge source status text = AnswersSource plan_limit AnswersJudge source status text
+AnswersCommand Play source status text = AnswersSource plan_limit AnswersPlay source status text
+AnswersCommand (Replan options) source status text = AnswersSource replan_limit (AnswersReplan options) source status text
+AnswersCommand Lower source status text = AnswersSource dossier_limit AnswersLower source status text
+AnswersCommand (Resume options) source status text = AnswersSource dossier_limit (AnswersResume options) source status text
 
--- the words mean a command that isn't still to come, and this is answered to it
+-- the words mean a command and no other, and this is answered to it
 pub record AnswersMeant (words : List (List ℕ)) (source : Drained) (status : Status) (text : List ℕ) : Type 0 where
   pub command : Command
   pub mean : MeanOnly words command
-  pub there : is_not_yet command ≡ false
   pub answer : AnswersCommand command source status text
 
--- that the words are refused
+-- that the words are bad, where nothing is read
 pub record IsRefusal (words : List (List ℕ)) (source : Drained) (text : List ℕ) : Type 0 where
-  pub refused : AreRefused words
+  pub bad : AreBad words
   pub unread : IsUnread source
   pub shown : text ≡ bad_words_text
 

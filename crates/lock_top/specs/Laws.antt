@@ -1,5 +1,6 @@
 -- What a run on `check` answers to what a run on `solve --dossier` wrote.
 use Rattle.std.specs.Prelude.{ℕ, ◌≡◌, ◌≤◌, ◌++◌, List, length, Some}
+use Rattle.command_words.specs.declared.commands.Command.TheVariants.{Check}
 use Rattle.lock_io.specs.Faults.{Rose}
 use Rattle.run_answers.specs.Sources.{Drained}
 use Rattle.run_answers.specs.Texts.{no_memory_text}
@@ -7,9 +8,9 @@ use Rattle.run_answers.specs.declared.status.Status.{Status}
 use Rattle.run_answers.specs.declared.status.Status.TheVariants.{Good, Open, Words, Refused, ReadFault, WriteFault, NoMemory, BadDossier, Unfit, PlanRefused}
 use Rattle.dossier_commands.specs.Checking.{dossier_limit}
 use Rattle.dossier_commands.specs.DossierTexts.{accepted_text}
-use Rattle.lock_top.specs.Asked.{AskCheck}
+use Rattle.lock_top.specs.Asked.{Asks}
 use Rattle.lock_top.specs.Runs.{Filled, Run, Got}
-use Rattle.lock_top.specs.Clauses.{IsCertified, KeepsItsWord}
+use Rattle.lock_top.specs.Clauses.{Did, IsCertified, KeepsItsWord}
 
 -- The source has left just the bytes that a sink got, which are at most `dossier_limit`.
 pub record IsHandedOn (sink : Filled) (source : Drained) : Type 0 where
@@ -35,6 +36,6 @@ EndsAccepted cost run PlanRefused = ⊥
 
 -- `check` accepts each dossier that `solve --dossier` wrote, with the cost of its plan, whatever else the two runs were given.
 pub record DossiersAreAccepted : Type 0 where
-  pub accepted : (first : Run) (certified : IsCertified first) (later : Run)
-      → IsHandedOn first.sink later.source → AskCheck later.words → KeepsItsWord later
-      → EndsAccepted certified.certificate.cost later later.status
+  pub accepted : (first : Run) (certified : Did IsCertified first) (later : Run)
+      → IsHandedOn first.sink later.source → Asks later.words Check → KeepsItsWord later
+      → EndsAccepted certified.says.certificate.cost later later.status

@@ -1,11 +1,8 @@
 //! Whole runs over sources and sinks in memory.
+//!
+//! The worked rows of whole runs are tried on the built program. Here is one run of each kind, and what a
+//! program over standard input and output can't show: calls that move few bytes, and calls that fail.
 
-mod dossiers;
-mod ends;
+mod faults;
 mod fixture;
-mod lots;
-mod refusals;
-mod reports;
-mod searches;
-mod words;
-mod written;
+mod kinds;

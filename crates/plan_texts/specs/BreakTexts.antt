@@ -30,13 +30,13 @@ placement_words I ships (Touching i j) = two_named I ships (codes "Touching") i 
 placement_words I ships (Adrift i) = one_named I ships (codes "Adrift") i
 placement_words I ships (BadHost i k) = two_named I ships (codes "BadHost") i k
 
--- the lockage of a number
+-- the lockage at place p of a plan, numbered from 1
 unfoldable pub lockage_head : ℕ → List ℕ
-lockage_head n = codes "illegal lockage " ++ decimal n ++ codes " "
+lockage_head p = codes "illegal lockage " ++ decimal (p + 1) ++ codes " "
 
--- the lockage at place p of a plan, numbered from 1, and what it breaks
+-- the lockage at place p of a plan, and what it breaks
 unfoldable pub lockage_text : ℕ → List ℕ → List ℕ
-lockage_text p words = lockage_head (p + 1) ++ words ++ codes "\n"
+lockage_text p words = lockage_head p ++ words ++ codes "\n"
 
 -- a ship that isn't served once
 unfoldable pub ship_text : Instance → ℕ → List ℕ → List ℕ

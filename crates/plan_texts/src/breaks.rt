@@ -91,13 +91,13 @@ fn put_placement(
     }
 }
 
-// Appends the lockage of a number.
+// Appends the lockage at a place, numbered from 1.
 #[tactic(auto, unfolding(crate::specs::BreakTexts::lockage_head))]
-fn put_head(out: &mut Vec<u8>, number: u64) -> Result<(), NoMemory>
-    ensures { OnOk result (out.new.items ≡ out.old.items ++ lockage_head number) }
+fn put_head(out: &mut Vec<u8>, place: u8) -> Result<(), NoMemory>
+    ensures { OnOk result (out.new.items ≡ out.old.items ++ lockage_head place) }
 {
     put(out, b"illegal lockage ")?;
-    put_number(out, number)?;
+    put_number(out, place as u64 + 1)?;
     put(out, b" ")
 }
 
@@ -106,7 +106,7 @@ fn put_head(out: &mut Vec<u8>, number: u64) -> Result<(), NoMemory>
 fn put_lockage(out: &mut Vec<u8>, place: u8, words: &[u8]) -> Result<(), NoMemory>
     ensures { OnOk result (out.new.items ≡ out.old.items ++ lockage_text place words.now) }
 {
-    put_head(out, place as u64 + 1)?;
+    put_head(out, place)?;
     put(out, words)?;
     put(out, b"\n")
 }
@@ -122,7 +122,7 @@ fn put_deck(
 ) -> Result<(), NoMemory>
     ensures { OnOk result (out.new.items ≡ out.old.items ++ break_text instance.now plan.now (Deck place broken)) }
 {
-    put_head(out, place as u64 + 1)?;
+    put_head(out, place)?;
     put_placement(out, instance, ships_of(plan, place), broken)?;
     put(out, b"\n")
 }
@@ -138,7 +138,7 @@ fn put_clash(
 ) -> Result<(), NoMemory>
     ensures { OnOk result (out.new.items ≡ out.old.items ++ break_text instance.now plan.now (Clash place pair.0 pair.1)) }
 {
-    put_head(out, place as u64 + 1)?;
+    put_head(out, place)?;
     put_two(
         out,
         instance,

@@ -85,3 +85,9 @@ pub record IsFair (Says : Saying) : Type 0 where
   pub read_fault : (bytes text : List ℕ) → Says bytes ReadFault text → ⊥
   pub write_fault : (bytes text : List ℕ) → Says bytes WriteFault text → ⊥
   pub no_memory : (bytes text : List ℕ) → Says bytes NoMemory text → text ≡ no_memory_text
+
+-- The source tells its bytes, which are these and at most `most`, and it counts no fault.
+pub record IsServed (most : ℕ) (source : Drained) (bytes : List ℕ) : Type 0 where
+  pub told : source.before ≡ Some bytes
+  pub few : length bytes ≤ most
+  pub calm : ¬ Rose source.faults source.faults_after

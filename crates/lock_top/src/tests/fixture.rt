@@ -13,9 +13,9 @@ use std::thread::Threads;
 pub(super) const ONE_SHIP: &str =
     "glock 1\nchamber c1 2000 240 10 20 5 4 30 15 low 0\nship s1 up 1100 114 0 5\nend\n";
 
-/// Nine ships in one evening, and two chambers.
-pub(super) const EVENING: &str =
-    "glock 1\nchamber main 2000 240 10 20 5 6 30 15 low 0\nchamber side 1360 160 10 20 5 4 20 10 high 0\nship alva up 1100 114 0 5\nship brio up 1100 114 0 5\nship cora down 800 95 120 5\nship dina down 670 82 120 5\nship eddy down 380 50 125 5\nship fram up 1000 105 200 5\nship gull down 900 90 240 5\nship hero up 500 60 280 5\nship iris down 380 50 330 5\nend\n";
+/// What `lot` prints for one ship and one chamber.
+pub(super) const LOT_OF_ONE: &str =
+    "glock 1\nchamber c1 2000 240 10 20 5 6 30 15 low 0\nship s1 up 1020 88 35 4\nend\n";
 
 /// The number of a call that never comes.
 pub(super) const NEVER: u64 = 1_000_000;
@@ -129,32 +129,3 @@ pub(super) fn run_cut_off<R: Threads + Wait + Sync + Abort>(
     };
     run_with(rt, alloc, words, text.as_bytes(), calls)
 }
-
-/// The text of ships in one chamber.
-pub(super) fn text_of(alloc: Global, chamber: &str, ships: &[&str]) -> Result<Vec<u8>, Fail> {
-    let mut text = Vec::new(alloc);
-    text.extend_from_slice(b"glock 2\nchamber c1 ")?;
-    text.extend_from_slice(chamber.as_bytes())?;
-    for ship in ships {
-        text.extend_from_slice(b"\n")?;
-        text.extend_from_slice(ship.as_bytes())?;
-    }
-    text.extend_from_slice(b"\nend\n")?;
-    Ok(text)
-}
-
-pub(super) const BASE: &str = "2000 240 10 20 5 4 30 15 low 0";
-
-pub(super) const HIGH: &str = "2000 240 10 20 5 4 30 15 high 0";
-
-pub(super) const WIDE: &str = "2000 233 10 20 5 4 30 15 low 0";
-
-pub(super) const NARROW: &str = "2000 232 10 20 5 4 30 15 low 0";
-
-pub(super) const FIRST: &str = "ship s1 up 1100 114 0 5";
-
-pub(super) const SECOND: &str = "ship s2 up 1100 114 0 5";
-
-pub(super) const LATER: &str = "ship s2 up 1100 114 5 5";
-
-pub(super) const DOWN: &str = "ship s2 down 1100 114 0 5";

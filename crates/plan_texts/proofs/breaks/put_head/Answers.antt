@@ -1,4 +1,4 @@
-use Rattle.std.proofs.Common.{◌++◌, ap, ◌∙◌, codes, append_assoc}
+use Rattle.std.proofs.Common.{◌+◌, ◌++◌, ap, ◌∙◌, codes, append_assoc}
 use Rattle.std.specs.Prelude.{decimal}
 use Rattle.std.proofs.lemmas.Result.{IfOk-equal}
 use Rattle.plan_texts.specs.BreakTexts.{lockage_head}
@@ -8,7 +8,7 @@ pub returns : goal.returns
 unfolding lockage_head
 returns c =
     let head = codes "illegal lockage " in
-    let number = decimal c.args.number in
+    let number = decimal (c.args.place + 1) in
     IfOk-equal c.put-2.result _ _ _ c.put-2.ensures
     (ap (λ t. t ++ codes " ")
     (c.in_ok-put_number.ensures

@@ -1,0 +1,44 @@
+# The commands and options of the program, as docs/using.md gives them.
+
+commands="solve check lot trial judge play replan lower resume"
+
+is_command() { [[ " $commands " == *" $1 "* ]]; }
+
+# how many files a command takes in the place of standard input
+most_files() {
+  case $1 in
+    judge | play | replan) echo 2 ;;
+    lot | trial) echo 0 ;;
+    *) echo 1 ;;
+  esac
+}
+
+reads_instance() { [[ " solve judge play replan " == *" $1 "* ]]; }
+reads_plan() { [[ " judge play replan " == *" $1 "* ]]; }
+reads_dossier() { [[ " check lower resume " == *" $1 "* ]]; }
+
+# the options that a command takes
+options_of() {
+  case $1 in
+    solve | resume) echo "--nodes --turns --workers --dossier --keep" ;;
+    replan) echo "--from --nodes --turns --workers --dossier" ;;
+    lot) echo "--number --ships --chambers" ;;
+    trial) echo "--number --ships --chambers --nodes --turns" ;;
+  esac
+}
+
+is_option() { [[ " --nodes --turns --workers --from --number --ships --chambers " == *" $1 "* ]]; }
+is_flag() { [[ " --dossier --keep " == *" $1 "* ]]; }
+
+# the least and the greatest number of an option
+range_of() {
+  case $1 in
+    --nodes) echo "1 1000000" ;;
+    --turns) echo "1 200000" ;;
+    --workers) echo "1 8" ;;
+    --from) echo "0 1000000" ;;
+    --number) echo "0 4294967295" ;;
+    --ships) echo "1 24" ;;
+    --chambers) echo "1 4" ;;
+  esac
+}

@@ -1,0 +1,28 @@
+# What a refused or rejected dossier means.
+
+explain_dossier() {
+  case $1 in
+    "dossier fault 1 "*) explain_line instance "${parts[5]}" "${parts[7]}" "${parts[8]}" ;;
+    "dossier fault 4 "*) say_at "$first_name" "fault 4 Shape: $(sentence_of "shape ${parts[5]}")" ;;
+    "dossier fault "*)
+      say_at "$first_name" "fault ${parts[2]} ${parts[3]}: $(sentence_of "dossier ${parts[3]}")$(other_kind)"
+      ;;
+    "rejected "*) explain_rejection "$1" ;;
+  esac
+}
+
+# rejected <place> reason <number> <reason>
+explain_rejection() {
+  local place=${1#rejected } reason=${1##* }
+  say_at "$first_name" "rejected at ${place%% reason *}: $(sentence_of "rejected $reason") Nothing is shown by this dossier."
+}
+
+# A whole dossier and an open one are easily mixed up.
+other_kind() {
+  [ -n "$input" ] && [ "${parts[3]}" = NoMark ] || return 0
+  if [ "$command" = check ] && grep -q '^certificate open' "$input"; then
+    printf ' This is an open dossier: ./glock lower or resume reads it.'
+  elif [ "$command" != check ] && grep -Eq '^certificate( [0-9])?\s*$' "$input"; then
+    printf ' This dossier is of a search that is over: ./glock check reads it.'
+  fi
+}

@@ -1,0 +1,74 @@
+# What the program reads: a file, two files joined, or standard input.
+
+# more bytes than any instance with its plan may have
+most_kept=131073
+
+# sets input, the file that the program reads, or nothing for standard input itself; first_name and second_name, what to
+# call the parts in messages; and first_lines, the number of lines of the first of two files
+take_input() {
+  input= first_name="standard input" second_name= first_lines=0
+  local file
+  for file in "${files[@]}"; do
+    [ -d "$file" ] && { say "$file is a folder"; return 66; }
+    [ -r "$file" ] || { say "$file can't be read: no permission"; return 66; }
+  done
+  case ${#files[@]} in
+    0) wait_for_keyboard && keep_standard_input ;;
+    1) take_file ;;
+    2) join_files ;;
+  esac
+}
+
+wait_for_keyboard() {
+  if [ -t 0 ] && [ -z "$wrong" ] && [ "$(most_files "$command")" -gt 0 ]; then
+    say "no file is named, so $command reads what you type; end it with Ctrl-D, or stop with Ctrl-C and name a file"
+  fi
+}
+
+# A pipe can be read once only, so it is taken as standard input is.
+take_file() {
+  first_name=${files[0]}
+  if [ -f "$first_name" ]; then
+    input=$first_name
+  else
+    exec <"$first_name"
+    keep_standard_input
+  fi
+}
+
+# The second file begins on a line of its own, also where the first doesn't end with a line feed.
+join_files() {
+  first_name=${files[0]} second_name=${files[1]} input=$room/joined
+  head -c $most_kept "$first_name" >"$input"
+  [ -z "$(tail -c 1 "$input" | tr -d '\n' | tr '\0' 'x')" ] || echo >>"$input"
+  first_lines=$(wc -l <"$input")
+  head -c $most_kept "$second_name" >>"$input"
+}
+
+# An instance on standard input is kept, so that messages can speak of its lines. What is over the program's limit is
+# left unread, as the program leaves it. Where standard input fails the program is to say so itself.
+keep_standard_input() {
+  reads_instance "$command" && [ -z "$wrong" ] || return 0
+  if head -c $most_kept >"$room/kept" 2>/dev/null; then input=$room/kept; fi
+}
+
+# where a line of the input stands, as file:line
+place_of() {
+  if [ -n "$second_name" ] && [ "$1" -gt "$first_lines" ]; then
+    echo "$second_name:$(($1 - first_lines))"
+  else
+    echo "$first_name:$1"
+  fi
+}
+
+# the number of the first line whose words are the one word `end`
+end_of_instance() { awk '{ sub(/\r$/, ""); sub(/#.*/, "") } NF == 1 && $1 == "end" { print NR; exit }' "$input"; }
+
+# a warning, never a refusal
+warn_of_sizes() {
+  local line text
+  [ -n "$input" ] && reads_instance "$command" && [ -z "$wrong" ] || return 0
+  while IFS=$'\t' read -r line text; do
+    say_at "$(place_of "$line")" "warning: $text"
+  done < <(awk -f "$door/sizes.awk" "$input" 2>/dev/null)
+}

@@ -1,0 +1,118 @@
+# Says what is wrong with one line of an instance or a plan text, where its words tell it; else nothing.
+# `number` is the line and `kind` the name of its fault.
+
+BEGIN {
+  # the words of each kind of line, after its first one
+  form["chamber"] = "name length width end gap side most pass turn stand opens"
+  form["ship"] = "name way length width arrival handling class"
+  form["close"] = "chamber from to"
+  form["lockage"] = "chamber way start"
+  form["berth"] = "ship x y rank host"
+
+  count["chamber"] = "a chamber line has 12 words: chamber, name, length, width, end, gap, side, most, pass, turn, low or high, opens"
+  count["ship"] = "a ship line has 7 words: ship, name, up or down, length, width, arrival, handling; with `glock 2` a cargo class may follow"
+  count["close"] = "a close line has 4 words: close, chamber, from, to"
+  count["end"] = "the line end holds nothing else"
+  count["plan"] = "the line plan holds nothing else"
+  count["lockage"] = "a lockage line has 4 words: lockage, chamber, up or down, start"
+  count["berth"] = "a berth line has 6 words: berth, ship, x, y, left or right, and a ship's name or * for the quay"
+
+  # the words that are numbers: what they mean, and from where to where they may go
+  number_word("length", "the length", 1, 100000)
+  number_word("width", "the width", 1, 100000)
+  number_word("end", "the clearance at the ends", 0, 10000)
+  number_word("gap", "the gap along the chamber", 0, 10000)
+  number_word("side", "the gap across the chamber", 0, 10000)
+  number_word("most", "the most ships of a lockage", 1, 8)
+  number_word("pass", "the minutes of a passage", 1, 1000000)
+  number_word("turn", "the minutes of an empty turn", 0, 1000000)
+  number_word("opens", "the minute of opening", 0, 1000000)
+  number_word("arrival", "the minute of arrival", 0, 1000000)
+  number_word("handling", "the minutes of handling", 0, 1000000)
+  number_word("class", "the cargo class", 0, 9)
+  number_word("from", "the first minute of the closure", 0, 1000000)
+  number_word("to", "the minute at which the closure ends", 0, 1000000)
+  number_word("x", "the place along the chamber", 0, 100000)
+  number_word("y", "the place across the chamber", 0, 100000)
+  number_word("start", "the minute of the start", 0, 1000000000)
+
+  choice["way"] = "up or down"
+  choice["stand"] = "low or high"
+  choice["rank"] = "left or right"
+
+  many["chamber"] = "4 chamber lines"
+  many["ship"] = "24 ship lines"
+  many["close"] = "8 close lines for a chamber"
+  many["lockage"] = "24 lockages"
+  many["berth"] = "8 berths in a lockage"
+}
+
+function number_word(name, means, from, to) {
+  meaning[name] = means
+  least[name] = from
+  most[name] = to
+}
+
+{ sub(/\r$/, ""); sub(/#.*/, "") }
+
+NR < number && ($1 == "chamber" || $1 == "ship") { line_of[$1 " " $2] = NR }
+NR == number { print sentence(); exit }
+
+function sentence() {
+  if (kind == "NoHeader" && $1 ~ /^\357\273\277/) return "the file begins with a hidden mark of three bytes; save it as UTF-8 without a byte order mark."
+  if (kind == "Count" && $1 in count) return "this line has " NF (NF == 1 ? " word" : " words") "; " count[$1] "."
+  if (kind == "Word") return first_wrong_choice()
+  if (kind == "Number") return first_no_number()
+  if (kind == "Range") return first_out_of_range()
+  if (kind == "Twice" && ($1 " " $2) in line_of)
+    return "the name " $2 " is given in line " line_of[$1 " " $2] " already; each " $1 " has its own name."
+  if (kind == "TurnOverPass")
+    return "the empty turn of " $10 " minutes is longer than the passage of " $9 "; perhaps the two numbers are swapped."
+  if (kind == "Overlap" && $3 + 0 >= $4 + 0)
+    return "the closure begins at minute " $3 " and ends at minute " $4 "; it must end after it begins."
+  if (kind == "Unknown") return first_unknown()
+  if (kind == "Host") return $6 " has no berth in this lockage, and " $2 " is to moor at it; give it one, or write * for the quay."
+  return ""
+}
+
+function first_wrong_choice(    names, i, parts) {
+  if ($1 == "plan") return "the plan begins here, and the line end before it is missing."
+  if (!($1 in form)) return $1 == "" ? "" : "no line may begin with \"" $1 "\" here."
+  split(form[$1], names, " ")
+  for (i = 1; i < NF; i++)
+    if (names[i] in choice) {
+      split(choice[names[i]], parts, " or ")
+      if ($(i + 1) != parts[1] && $(i + 1) != parts[2]) return "\"" $(i + 1) "\" stands where " choice[names[i]] " must stand."
+    }
+  return $1 == "close" ? "a line close needs `glock 2` as the first line, and may not follow the line end." : ""
+}
+
+function first_no_number(    names, i) {
+  split(form[$1], names, " ")
+  for (i = 1; i < NF; i++)
+    if (names[i] in meaning && $(i + 1) !~ /^[0-9]+$/)
+      return "\"" $(i + 1) "\" stands for " meaning[names[i]] ", which must be a whole number: digits alone, no sign, point or unit."
+  return ""
+}
+
+function first_out_of_range(    names, i, word) {
+  split(form[$1], names, " ")
+  for (i = 1; i < NF; i++) {
+    word = names[i]
+    if (word in meaning && ($(i + 1) + 0 < least[word] || $(i + 1) + 0 > most[word]))
+      return $(i + 1) " stands for " meaning[word] ", which must be from " least[word] " to " with_commas(most[word]) "."
+  }
+  return $1 in many ? "there may be at most " many[$1] "." : ""
+}
+
+function with_commas(whole,    text) {
+  text = sprintf("%d", whole)
+  while (text ~ /[0-9][0-9][0-9][0-9]/) sub(/[0-9][0-9][0-9]($|,)/, ",&", text)
+  return text
+}
+
+function first_unknown() {
+  if ($1 == "close" || $1 == "lockage") return "there is no chamber named " $2 " above."
+  if (!(("ship " $2) in line_of)) return "there is no ship named " $2 " in the instance."
+  return $1 == "berth" ? "there is no ship named " $6 " in the instance." : ""
+}

@@ -1,0 +1,76 @@
+# Proves and builds the program, one crate after the other, and says how far it is.
+
+prove() {
+  local log=$top/out/prove.log begin=$top/out/prove.begin
+  [ $# = 0 ] || { say "prove takes no other words"; return 2; }
+  has_kit || { say_no_kit "proving needs the kit"; return 69; }
+  if [ -x "$program" ] && [ -z "$(newer_source)" ]; then
+    say "the program is proved and built already"
+    return
+  fi
+  mkdir -p "$top/out" && : >"$log" && : >"$begin" || { say "$top/out can't be written in"; return 73; }
+  is_kit_of_sources || say "this machine's kit is $(rt version), and the sources were proved with $(kit_of_sources); a proof may fail"
+  say "proving the crates of the program; this may take an hour or more. What is proved is kept if you stop"
+  prove_crates "$log" || return 70
+  # A source that was changed since the start is newer than the program.
+  touch -r "$begin" "$program"
+  say "the program is proved and built, $(minutes "$SECONDS") after the start; ./glock answers by it from now on"
+}
+
+# The time left is guessed from the bytes of the crates' files. What was proved before goes quickly, so the guess is rough.
+prove_crates() {
+  local crate_name bytes done=0 all=0 number=0
+  local -a order=() sizes=()
+  while read -r crate_name bytes; do
+    order+=("$crate_name") sizes+=("$bytes")
+    all=$((all + bytes))
+  done < <(crates_with_sizes)
+  for crate_name in "${order[@]}"; do
+    printf 'glock: %2d of %d  %-16s %s gone%s\n' $((number + 1)) ${#order[@]} "$crate_name" "$(minutes "$SECONDS")" \
+      "$(time_left "$done" "$all")" >&2
+    prove_crate "$crate_name" >>"$1" 2>&1 || { say_unproved "$crate_name" "$1"; return 1; }
+    done=$((done + sizes[number]))
+    number=$((number + 1))
+  done
+}
+
+# A library is built; the program is built and run, on a word that ends it at once.
+prove_crate() {
+  cd "$top/crates/$1" || return
+  if [ "$1" != lock_main ]; then
+    rt lib
+  else
+    [ "$(rt run -- '?' </dev/null)" = "bad words" ] && [ -x "$program" ]
+  fi
+}
+
+say_unproved() {
+  tail -n 20 "$2" >&2
+  say "$1 could not be proved or built; all that the kit said is in $2"
+}
+
+# the program and the crates below it with the bytes of their files, each crate after those that it uses
+crates_with_sizes() {
+  awk '
+    { sub(/#.*/, "") }
+    NF { name = $1; sub(/:.*/, "", name); names[++count] = name; uses[name] = $0; sub(/^[^:]*:/, "", uses[name]) }
+    function mark(name,    parts, i, n) {
+      if (!(name in uses) || name in wanted) return
+      wanted[name] = 1
+      n = split(uses[name], parts, " ")
+      for (i = 1; i <= n; i++) mark(parts[i])
+      print name
+    }
+    END { mark("lock_main") }' "$top/crates.txt" |
+    while read -r name; do
+      echo "$name $(bytes_of "$top/crates/$name/src" "$top/crates/$name/specs" "$top/crates/$name/proofs")"
+    done
+}
+
+bytes_of() { find "$@" -type f -exec cat {} + 2>/dev/null | wc -c; }
+
+time_left() {
+  if [ "$1" -gt 0 ] && [ "$SECONDS" -gt 10 ]; then echo ", about $(minutes $((SECONDS * ($2 - $1) / $1))) left"; fi
+}
+
+minutes() { printf '%d:%02d min' $(($1 / 60)) $(($1 % 60)); }

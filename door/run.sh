@@ -1,0 +1,51 @@
+# Runs the program and keeps its answer in a file; on a terminal shows how long it has been at work.
+
+# sets answer and status
+run_program() {
+  answer=$room/answer
+  # A program in the background has an empty standard input, unless it is given one: that of the script, by "<&0".
+  if [ -n "$input" ]; then exec <"$input"; fi
+  "${run[@]}" "${program_words[@]}" <&0 >"$answer" &
+  running=$!
+  trap 'stop_program 130' INT
+  trap 'stop_program 143' TERM HUP
+  start_watch
+  wait "$running"
+  status=$?
+  end_watch
+  trap - INT TERM HUP
+}
+
+# Who stops the script stops the program.
+stop_program() {
+  kill "$running" 2>/dev/null
+  wait "$running" 2>/dev/null
+  end_watch
+  exit "$1"
+}
+
+start_watch() {
+  watch=
+  [ -t 2 ] || return 0
+  begun=$SECONDS
+  show_time_gone &
+  watch=$!
+  disown "$watch"
+}
+
+end_watch() {
+  [ -n "$watch" ] || return 0
+  kill "$watch" 2>/dev/null
+  watch=
+  if [ $((SECONDS - begun)) -ge 2 ]; then printf '\r\033[K' >&2; fi
+}
+
+show_time_gone() {
+  local seconds=2
+  sleep 2
+  while :; do
+    printf '\rglock: at work for %d:%02d minutes' $((seconds / 60)) $((seconds % 60)) >&2
+    sleep 1
+    seconds=$((seconds + 1))
+  done
+}

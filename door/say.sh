@@ -1,0 +1,24 @@
+# What the door says goes to standard error, one line at a time.
+
+say() { printf 'glock: %s\n' "$*" >&2; }
+
+# a message that belongs to a place: a file, or a file and a line
+say_at() {
+  local place=$1
+  shift
+  printf '%s: %s\n' "$place" "$*" >&2
+}
+
+# the sentence of sentences.txt with this key, or nothing
+sentence_of() { sed -n "s/^$1 | //p" "$door/sentences.txt"; }
+
+# A folder of our own for what is kept while the program runs; it goes when the script ends.
+make_workroom() {
+  room=$(mktemp -d) || { say "no folder for what is kept while the program runs"; exit 73; }
+  trap leave EXIT
+}
+
+leave() {
+  rm -rf "$room"
+  [ -z "${part_file-}" ] || rm -f "$part_file"
+}

@@ -1,0 +1,152 @@
+# Each fault, break and reason has its sentence, with the file and the line.
+
+# words, and a part of the message
+bad_words() {
+  call $1
+  check "words: $1" gives 2 "bad words" "$2"
+}
+rows bad_words <<'ROWS'
+ | the command is missing
+sovle | there is no command "sovle"
+solve nofile | there is no file "nofile"
+solve solve | there is no file "solve"
+solve evening.lock evening.plan | one too many
+judge evening.lock evening.plan evening.plan | one file too many
+lot evening.lock | lot reads no file
+solve --node 5 | there is no option --node
+solve -n 5 | "-n" is no option
+lot --nodes 5 | --nodes isn't for lot
+solve --nodes 0 | from 1 to 1,000,000, and not "0"
+solve --turns=200001 | from 1 to 200,000, and not "200001"
+solve --workers 9 | from 1 to 8, and not "9"
+lot --number 4294967296 | from 0 to 4,294,967,295
+lot --ships x | from 1 to 24, and not "x"
+lot --chambers | from 1 to 4
+solve --nodes 5 --nodes 5 | --nodes stands twice
+solve --keep=1 | --keep stands alone
+check --keep | --keep isn't for check; check takes no such options
+replan evening.lock evening.plan | replan needs --from
+lot -o | -o needs the name of a file
+lot --clock 10:00 | --clock is for solve
+solve --clock 24:00 | --clock needs a time of day
+ROWS
+
+# an edit of evening.lock, the program's words, and a part of the sentence
+faulty_instance() {
+  local words
+  sed "$1" "$room/evening.lock" >"$room/x.lock"
+  read -r -a words <<<"$2"
+  call solve x.lock
+  check "instance: $2" gives 3 "$2" "x.lock:${words[1]}: fault ${words[3]} ${words[4]}: $3"
+}
+rows faulty_instance <<'ROWS'
+4s/alva/\xff/ | line 4 fault 1 NotUtf8 | this line holds a byte that is no text
+1s/1/3/ | line 1 fault 2 NoHeader | the first line must be
+1s/^/\xef\xbb\xbf/ | line 1 fault 2 NoHeader | the file begins with a hidden mark
+4s/ship/boat/ | line 4 fault 3 Word | no line may begin with "boat"
+4s/up/north/ | line 4 fault 3 Word | "north" stands where up or down must stand
+3s/high/top/ | line 3 fault 3 Word | "top" stands where low or high must stand
+4s/^/close main 1 2\n/ | line 4 fault 3 Word | a line close needs `glock 2`
+4s/ 5$// | line 4 fault 4 Count | this line has 6 words; a ship line has 7 words
+3s/$/ 5/ | line 3 fault 4 Count | this line has 13 words; a chamber line has 12 words
+4s/114/11.4/ | line 4 fault 5 Number | "11.4" stands for the width, which must be a whole number
+s/$/\r/;9s/ 5\r/\r/ | line 9 fault 4 Count | this line has 6 words
+2s/ 6 / 9 / | line 2 fault 6 Range | 9 stands for the most ships of a lockage, which must be from 1 to 8
+4s/alva/a.lva/ | line 4 fault 7 Name | a name has 1 to 12 letters
+5s/brio/alva/ | line 5 fault 8 Twice | the name alva is given in line 4 already
+2s/30 15/15 30/ | line 2 fault 9 TurnOverPass | the empty turn of 30 minutes is longer than the passage of 15
+2,3d | line 11 fault 10 NoChamber | the lock has no chamber
+4,12d | line 4 fault 11 NoShip | there is no ship
+13d | line 13 fault 12 NoEnd | the text stops without its last line
+1s/1/2/;4s/^/close mian 1 2\n/ | line 4 fault 13 Unknown | there is no chamber named mian above
+1s/1/2/;4s/^/close main 9 2\n/ | line 4 fault 14 Overlap | the closure begins at minute 9 and ends at minute 2
+ROWS
+
+# an edit of evening.plan, the program's words, and a part of the sentence
+faulty_plan() {
+  local words
+  sed "$1" "$room/evening.plan" >"$room/x.plan"
+  read -r -a words <<<"$2"
+  call judge evening.lock x.plan
+  check "plan text: $2" gives 10 "$2" "x.plan:${words[2]}: fault ${words[4]} ${words[5]}: $3"
+}
+rows faulty_plan <<'ROWS'
+4s/alva/\xff/ | plan line 4 fault 1 NotUtf8 | this line holds a byte that is no text
+2d | plan line 2 fault 2 NoMark | the plan must begin
+4s/left/port/ | plan line 4 fault 3 Word | "port" stands where left or right must stand
+4s/ \*$// | plan line 4 fault 4 Count | this line has 5 words; a berth line has 6 words
+3s/ 0$/ noon/ | plan line 3 fault 5 Number | "noon" stands for the minute of the start
+4s/10/100001/ | plan line 4 fault 6 Range | 100001 stands for the place along the chamber, which must be from 0 to 100,000
+3s/main/mian/ | plan line 3 fault 7 Unknown | there is no chamber named mian above
+4s/alva/alwa/ | plan line 4 fault 7 Unknown | there is no ship named alwa
+9s/cora/kora/ | plan line 9 fault 7 Unknown | there is no ship named kora
+4p | plan line 5 fault 8 Twice | this ship has a berth in this lockage already
+3d | plan line 3 fault 9 Loose | a berth comes before the first lockage
+9s/cora/brio/ | plan line 9 fault 10 Host | brio has no berth in this lockage, and eddy is to moor at it
+20d | plan line 20 fault 11 NoEnd | the plan stops without its last line
+ROWS
+
+# an edit of the evening with its plan, which is then on standard input, the program's words, and a part of the message
+broken_plan() {
+  cat "$room/evening.lock" "$room/evening.plan" | sed "$1" >"$room/x.both"
+  call judge x.both
+  check "plan: $2" gives 10 "$2" "$3"
+}
+rows broken_plan <<'ROWS'
+16s/up/down/ | illegal lockage 1 Shape | x.both:16: lockage 1 Shape: the lockage has no ship, more ships than its chamber takes, or a ship that goes the other way. alva goes up
+17d | illegal lockage 1 Shape | It has no ship
+3s/ 4 20/ 1 20/ | illegal lockage 3 Shape | It has 2 ships, and side takes 1
+20s/125/124/ | illegal lockage 3 Early | x.both:20: lockage 3 Early: the lockage starts before all its ships have arrived; start it later. It starts at minute 124; eddy arrives at minute 125
+17s/10/5/ | illegal lockage 1 Outside alva | lockage 1 Outside: alva does not lie inside
+22s/100/50/ | illegal lockage 3 Touching cora eddy | cora and eddy lie too close
+17s/ 0 / 10 / | illegal lockage 1 Adrift alva | alva is to lie at the quay
+22s/100/110/ | illegal lockage 3 BadHost eddy cora | eddy cannot moor at cora
+1s/1/2/;6s/$/ 1/;8s/$/ 2/ | illegal lockage 3 Clash cora eddy | cora and eddy have cargoes
+18s/10/9/ | illegal lockage 2 Soon | x.both:18: lockage 2 Soon: the chamber is not ready
+1s/1/2/;3s/$/\nclose main 10 20/ | illegal lockage 1 Shut | x.both:17: lockage 1 Shut: the lockage would run into a closure
+32s/iris/gull/ | illegal ship gull Double | x.both: ship gull Double: gull is in more than one lockage
+31,32d | illegal ship iris Missing | x.both: ship iris Missing: iris is in no lockage
+ROWS
+
+sed 's/ up 1100 114 0 / up 1100 114 999999 /' "$top/examples/one-ship.lock" >"$room/x.lock"
+printf 'plan\nlockage c1 up 999999\nberth s1 10 0 left *\nend\n' >"$room/x.plan"
+call replan x.lock x.plan --from 1000000
+check "plan: Late" gives 10 "illegal lockage 1 Late" "x.plan:2: lockage 1 Late: this lockage is kept"
+
+cat >"$room/two.dossier" <<'DOSSIER'
+glock 1
+chamber c1 2000 232 10 20 5 4 30 15 low 0
+ship s1 up 1100 114 0 5
+ship s2 up 1100 114 0 5
+end
+certificate
+{"cost":120,"cuts":[{"chamber":0,"ships":[0,1],"why":[1,0,1]}],"plan":[{"chamber":0,"ships":[0],"spots":[[10,0,0,0]],"start":0,"way":0},{"chamber":0,"ships":[1],"spots":[[10,0,0,0]],"start":50,"way":0}],"tree":[0,0,100,1,1]}
+DOSSIER
+
+# an edit of a dossier, the program's words, and a part of the message
+bad_dossier() {
+  sed "$1" "$room/two.dossier" >"$room/x.dossier"
+  call check x.dossier
+  check "dossier: $2" gives 7 "$2" "x.dossier$3"
+}
+rows bad_dossier <<'ROWS'
+3s/1100/11oo/ | dossier fault 1 Instance line 3 fault 5 Number | :3: fault 5 Number: "11oo" stands for the length
+6s/$/ open/ | dossier fault 2 NoMark | : fault 2 NoMark: after the instance's line end
+7s/}$// | dossier fault 3 Json | : fault 3 Json: what follows
+7s/"cost"/"price"/ | dossier fault 4 Shape part 1 | : fault 4 Shape: the certificate must have the four entries
+7s/120/-1/ | dossier fault 4 Shape part 2 | : fault 4 Shape: the entry cost
+7s/1,0,1/9/ | dossier fault 4 Shape part 3 | : fault 4 Shape: the entry cuts
+7s/"way":0/"way":2/ | dossier fault 4 Shape part 4 | : fault 4 Shape: the entry plan
+7s/\[0,0,100/[0,7,100/ | dossier fault 4 Shape part 5 | : fault 4 Shape: the entry tree
+7s/"start":50/"start":49/ | rejected plan reason 1 PlanIllegal | : rejected at plan: its plan breaks a rule
+7s/120/119/ | rejected cost reason 2 CostWrong | : rejected at cost: its plan does not cost
+7s/"chamber":0/"chamber":3/ | rejected cut 0 reason 3 CutShape | : rejected at cut 0: this cut names no ship
+7s/\[1,0,1\]/[0]/ | rejected cut 0 reason 4 CutUnproved | : rejected at cut 0: this cut's reason
+7s/,1,1\]}/,1]}/ | rejected tree 4 reason 5 TreeShort | : rejected at tree 4: its tree of cases stops
+7s/,1,1\]}/,1,1,1]}/ | rejected tree 5 reason 6 TreeLong | : rejected at tree 5: its tree of cases goes on
+7s/100,1,1/0,1,1/ | rejected tree 2 reason 7 SplitFull | : rejected at tree 2: its tree splits
+7s/\[0,0,100,1,1\]/[1]/ | rejected tree 0 reason 8 BoundLow | : rejected at tree 0: a case is closed as too costly
+7s/100,1,1/101,1,1/ | rejected tree 2 reason 9 CutMisses | : rejected at tree 2: a case is closed by a cut
+7s/\[0,0,100,1,1\]/[2]/ | rejected tree 0 reason 10 ThroughputLow | : rejected at tree 0: a case is closed by what the lock can pass
+7s/\[0,0,100,1,1\]/[10]/ | rejected tree 0 reason 11 ProbeWrong | : rejected at tree 0: a case is closed by trying one more ship
+ROWS

@@ -1,0 +1,164 @@
+# Files in the place of standard input, -o, two files, warnings, times of day, help.
+
+# The program's text and status are passed on as they are.
+passes_on() {
+  local words=$1 input=$room/$2 wanted
+  wanted=$("$GLOCK_PROGRAM" $words <"$input"; echo "$?")
+  [ "$("$top/glock" $words <"$input" 2>"$room/err"; echo "$?")" = "$wanted" ] || return 1
+  [ "$("$top/glock" $words "$input" 2>"$room/err"; echo "$?")" = "$wanted" ]
+}
+sed '9s/ 5$//' "$room/evening.lock" >"$room/bad.lock"
+"$GLOCK_PROGRAM" solve --nodes 50 --keep <"$room/two-chambers.lock" >"$room/two.open"
+cat "$room/evening.lock" "$room/evening-early.plan" >"$room/early.both"
+passed_on() { check "passed on: $1 < $2" passes_on "$1" "$2"; }
+rows passed_on <<'ROWS'
+solve | evening.lock
+--nodes 50 solve | two-chambers.lock
+solve --dossier | evening.lock
+solve | bad.lock
+check | two.dossier
+check | two.open
+lower | two.open
+resume --workers 1 | two.open
+judge | early.both
+ROWS
+
+# Two files are joined, also where the first has no last line feed; the plan's lines are counted in its own file.
+printf %s "$(<"$room/evening.lock")" >"$room/cut.lock"
+sed '5s/$/\n\n# later\n/' "$room/evening-early.plan" >"$room/late.plan"
+printf '\n# after the end\n' | cat "$room/evening.lock" - >"$room/tail.lock"
+sed '$d' "$room/evening.lock" >"$room/endless.lock"
+joined() {
+  call $1
+  check "joined: $1" gives "$2" "$3" "${4-}"
+}
+rows joined <<'ROWS'
+judge evening.lock evening.plan | 0 | legal cost 270
+judge cut.lock evening.plan | 0 | legal cost 270
+play evening.lock evening.plan | 0 | 10 side moor brio
+replan evening.lock evening.plan --from 150 | 0 | optimal cost 270
+judge tail.lock late.plan | 10 | illegal lockage 3 Early | late.plan:10: lockage 3 Early
+judge evening.lock evening-early.plan | 10 | illegal lockage 3 Early | evening-early.plan:7: lockage 3 Early
+judge endless.lock evening.plan | 3 | line 14 fault 3 Word | evening.plan:2: fault 3 Word: endless.lock has no line end
+judge tail.lock bad.lock | 10 | plan line 3 fault 2 NoMark | bad.lock:1: fault 2 NoMark
+ROWS
+
+# A pipe in the place of a file is read once.
+call solve <(cat "$room/evening.lock")
+check "a pipe as a file" gives 0 "optimal cost 270" ""
+call judge <(cat "$room/evening.lock") <(cat "$room/evening-early.plan")
+check "two pipes as files" gives 10 "illegal lockage 3 Early" ":7: lockage 3 Early"
+call check <("$GLOCK_PROGRAM" solve --dossier <"$room/evening.lock")
+check "a dossier from a pipe" gives 0 "accepted cost 270" ""
+
+# -o: what is written, what is left alone
+written() {
+  printf 'old\n' >"$room/old"
+  call $1 -o old
+  check "written: $1" gives "$2" "$3" "$4"
+  check "the file after: $1" holds "$(head -n 1 "$room/old")" "$5"
+  check "nothing else is left by: $1" holds "$(ls "$room" | grep part)" ""
+}
+rows written <<'ROWS'
+solve evening.lock | 0 | | | optimal cost 270
+solve two-chambers.lock --nodes 50 | 1 | | isn't proved cheapest; what is proved is that no plan costs less than | open nodes 50 low 
+solve bad.lock | 3 | line 9 fault 4 Count | bad.lock:9: fault 4 Count | old
+solve --nodes x | 2 | bad words | --nodes takes | old
+solve evening.lock --dossier | 0 | | | glock 1
+solve two-chambers.lock --nodes 50 --dossier | 1 | open nodes 50 | old is not written | old
+solve two-chambers.lock --nodes 50 --keep | 1 | | this open dossier keeps it | glock 1
+solve evening.lock --keep | 0 | | holds the report of a cheapest plan | optimal cost 270
+check two.dossier | 0 | | | accepted cost 120
+check two.open | 7 | dossier fault 2 NoMark | This is an open dossier | old
+lot | 0 | | | glock 1
+ROWS
+
+no_file() {
+  call $1
+  check "refused: $1" gives "$2" "" "${3-}"
+}
+mkdir "$room/folder"
+rows no_file <<'ROWS'
+solve evening.lock -o evening.lock | 73 | evening.lock is read, so -o must name another file
+solve evening.lock -o folder | 73 | is a folder
+solve evening.lock -o nofolder/x | 73 | there is no folder
+solve folder | 66 | folder is a folder
+solve evening.lock -o /dev/null | 0 |
+ROWS
+check "the device is still there" [ -c /dev/null ]
+
+# an edit of evening.lock, and a part of the warning or of the message
+warned() {
+  sed "$1" "$room/evening.lock" >"$room/x.lock"
+  call solve x.lock
+  check "sizes: $1" gives "$2" "$3" "$4"
+}
+rows warned <<'ROWS'
+4s/1100 114/110 11/ | 0 | optimal | x.lock:4: warning: ship alva is 110 long and 11 wide, which looks like metres
+4s/1100 114/114 150/ | 0 | optimal | x.lock:4: warning: ship alva is wider (150) than long (114)
+4,12s/\([0-9]\)[0-9] \([0-9]*\)[0-9] \([0-9]* 5\)$/\1 \2 \3/ | 0 | optimal | such lines
+4s/1100 114/95 800/ | 8 | ship alva fits no chamber | x.lock:4: alva is 95 long and 800 wide, in decimetres; main takes ships up to 1980 by 240, side takes ships up to 1340 by 160. Its length and width look swapped
+2,3s/[0-9] / /;2s/240/24/;3s/160/16/ | 8 | ship alva fits no chamber | The chambers look as if given in metres
+4s/1100 114/11000 1140/ | 8 | ship alva fits no chamber | The ship looks as if given in centimetres
+ROWS
+
+timed() {
+  call $1
+  check "times of day: $1" gives "$2" "$3" ""
+}
+rows timed <<'ROWS'
+solve evening.lock --clock 06:00 | 0 | start 08:00 end 08:35
+solve evening.lock --clock=23:50 | 0 | start 23:50 end +1 00:25
+judge evening.lock evening.plan --clock 17:00 | 0 | start 17:00 end 17:35
+play evening.lock evening.plan --clock 17:00 | 0 | 17:10 side moor brio
+ROWS
+
+call solve evening.lock --clock 06:00
+check "flow times stay minutes" holds "$out" "  A alva x 10 y 0 left quay flow 35"
+call solve evening.lock --dossier --clock 06:00
+check "a dossier has no times of day" holds "$out" '"start":120'
+
+asked() {
+  call $1
+  check "help: $1" gives "$2" "$3" "${4-}"
+}
+rows asked <<'ROWS'
+--help | 0 | glock plans a ship lock
+help | 0 | glock plans a ship lock
+help judge | 0 | ./glock judge [FILE PLAN]
+replan --help | 0 | ./glock replan [FILE PLAN]
+prove --help | 0 | ./glock prove
+--version | 0 | proved with rattle-kit
+help nothing | 2 | | there is no help on "nothing"
+ROWS
+
+# Each command has a help, and its example works.
+for command in solve check lot trial judge play replan lower resume; do
+  call help "$command"
+  example=$(sed -n '/^Example/{n;s/^  //;p}' <<<"$out")
+  check "the example of $command" eval "(cd '$top' && $example) >'$room/out' 2>'$room/err' || [ \$? = 1 ]"
+done
+
+# Answers that a test can't bring about with the program: a stand-in gives them.
+cat >"$room/stand_in" <<'PROGRAM'
+#!/usr/bin/env bash
+[ "$ANSWER" = none ] || printf '%s\n' "$ANSWER"
+exit "$ANSWER_STATUS"
+PROGRAM
+chmod +x "$room/stand_in"
+stood_in() {
+  GLOCK_PROGRAM=$room/stand_in ANSWER=$2 ANSWER_STATUS=$1 call solve evening.lock
+  check "a program that says: $2" gives "$1" "${2/#none/}" "evening.lock: $3"
+}
+rows stood_in <<'ROWS'
+1 | open turns 20000 chamber main ships alva low brio low 5 cost 9 | this plan costs 9 and isn't proved cheapest; what is proved is that no plan costs less than 5. Give more --turns
+4 | read fault | read fault: evening.lock could not be read
+5 | none | write fault: not all of the answer
+6 | no memory | no memory: this machine has too little free memory
+137 | none | the program ended with status 137
+ROWS
+
+# A full disk or a reader that is gone is a write fault.
+(cd "$room" && "$top/glock" solve evening.lock >/dev/full 2>err)
+status=$? out= err=$(<"$room/err")
+check "a full disk" gives 5 "" "write fault"
