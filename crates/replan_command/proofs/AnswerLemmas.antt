@@ -1,5 +1,5 @@
 -- From what is answered where a part can be kept to what is answered to a source.
-use Rattle.std.proofs.Common.{ℕ, ◌≡◌, ◌≢◌, ◌∙◌, List, Bool, true, false, sym, subst, inl, inr, refl}
+use Rattle.std.proofs.Common.{ℕ, ◌≡◌, ◌≢◌, ◌∙◌, List, true, false, sym, subst, inr, refl}
 use Rattle.lock_model.specs.declared.instance.Instance.{Instance}
 use Rattle.lock_model.specs.declared.plan.Plan.{Plan}
 use Rattle.lock_rules.specs.Unfit.{HasNoUnfit}

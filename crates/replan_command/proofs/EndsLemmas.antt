@@ -1,25 +1,20 @@
 -- Where nothing is refused, a part is kept and the rest is searched.
-use Rattle.std.proofs.Common.{ℕ, ◌≡◌, ◌⊎◌, ◌<◌, ◌≤◌, List, length, sym, subst, ap, ◌∙◌, inl, inr, arith, Ok, Err, Result}
+use Rattle.std.proofs.Common.{ℕ, ◌≡◌, ◌⊎◌, ◌<◌, List, length, subst, ap, inl, inr, arith, Ok, Err, Result}
 use Rattle.std.specs.Prelude.{IfSome}
 use Rattle.lock_model.specs.declared.instance.Instance.{Instance}
-use Rattle.lock_model.specs.declared.plan.Lockage.{Lockage}
 use Rattle.lock_model.specs.declared.plan.Plan.{Plan}
 use Rattle.lock_model.specs.declared.verdict.Verdict.TheVariants.{Optimal, OpenNodes, OpenTurns}
 use Rattle.lock_rules.specs.Singles.{singles_of}
-use Rattle.lock_rules.specs.Unfit.{HasNoUnfit, IsFirstUnfit}
-use Rattle.search_rules.specs.Ends.{AreEnough}
+use Rattle.lock_rules.specs.Unfit.{IsFirstUnfit}
 use Rattle.search_rules.proofs.CompleteLemmas.{enough-optimal}
 use Rattle.instance_text.specs.Draft.{Draft}
 use Rattle.instance_text.specs.Reading.{Means, Defect, reading, bad, instance_part, after_instance}
-use Rattle.instance_text.specs.declared.bad.Bad.{Bad}
 use Rattle.instance_text.specs.declared.bad.Kind.{Kind}
 use Rattle.instance_text.proofs.InstanceLemmas.{same_instance}
 use Rattle.command_words.specs.declared.commands.ReplanOptions.{ReplanOptions}
-use Rattle.plan_judge.specs.declared.kinds.BadPlan.{BadPlan}
 use Rattle.plan_judge.specs.declared.kinds.PlanKind.{PlanKind}
 use Rattle.plan_judge.specs.Reading.{IsPlanText, IsPlanFault, reading as plan_reading}
 use Rattle.plan_judge.specs.Steps.{bad as bad_plan}
-use Rattle.mooring_rules.specs.declared.breaks.BrokenPlan.{BrokenPlan}
 use Rattle.replan.specs.declared.refusal.ReplanError.{ReplanError}
 use Rattle.replan.specs.declared.refusal.ReplanError.TheVariants.{Kept, Late}
 use Rattle.replan.specs.Kept.{kept_of, kept_places, CanBeKept}
@@ -29,7 +24,7 @@ use Rattle.run_answers.specs.Sources.{Drained, IsTooLong, AnswersBytes, AnswersS
 use Rattle.run_answers.specs.declared.status.Status.{Status}
 use Rattle.run_answers.specs.declared.status.Status.TheVariants.{Good, Open, Words, Refused, ReadFault, WriteFault, NoMemory, BadDossier, Unfit, PlanRefused}
 use Rattle.replan_command.specs.Keeping.{PrintsOpen}
-use Rattle.replan_command.specs.Replanning.{replan_limit, AnswersPlan, AnswersPlanText, IsPartRefused, IsPlanTextFault, AnswersReplan}
+use Rattle.replan_command.specs.Replanning.{replan_limit, AnswersPlanText, IsPartRefused, IsPlanTextFault, AnswersReplan}
 use Rattle.replan_command.specs.Ends.{IsReplanServed, IsRestUnsure, MayEndReplan}
 
 -- ---- bytes mean one instance and one plan, and then have no defect and no fault

@@ -1,5 +1,5 @@
 -- What is left of an instance, and what a search of it shows of the whole plan.
-use Rattle.std.proofs.Common.{◌≡◌, ℕ, ◌+◌, ◌<◌, ◌≤◌, ◌^◌, List, [], ◌∷◌, length, map, get_or, All, Bool, true, false, true≢false, Option, Some, None, IfSome, IsNone, is_some, inl, inr, refl, sym, ap, ◌∙◌, subst, arith}
+use Rattle.std.proofs.Common.{◌≡◌, ℕ, ◌+◌, ◌<◌, ◌≤◌, List, [], ◌∷◌, length, map, get_or, All, Bool, true, false, true≢false, Option, Some, None, IfSome, IsNone, is_some, inl, inr, refl, sym, ap, ◌∙◌, subst, arith}
 use Rattle.std.specs.List.Sorted.{IsStrictlyIncreasing}
 use Rattle.std.proofs.lemmas.List.Elements.{All-map}
 use Rattle.lock_model.specs.declared.instance.Instance.{Instance}
@@ -14,13 +14,12 @@ use Rattle.plan_print.specs.Report.{IsOfInstance, report}
 use Rattle.command_words.specs.declared.commands.ReplanOptions.{ReplanOptions}
 use Rattle.replan.specs.declared.remainder.Residual.{Residual}
 use Rattle.replan.specs.Kept.{kept_of, CanBeKept}
-use Rattle.replan.specs.Rest.{ships_left, added_of, IsRest, IsLeft}
+use Rattle.replan.specs.Rest.{ships_left, added_of, IsRest}
 use Rattle.replan.specs.Together.{number_of, joined, Keeps, StayCheapest}
 use Rattle.replan.proofs.JoinLemmas.{kept-early}
 use Rattle.replan.proofs.LeftLemmas.{left-known}
 use Rattle.replan.proofs.RenumberLemmas.{rest-chambers, rest-ships, left-rise}
 use Rattle.run_answers.specs.declared.status.Status.{Status}
-use Rattle.run_answers.specs.declared.status.Status.TheVariants.{Good, Open}
 use Rattle.solve_commands.specs.Searching.{PrintsDossier, status_of}
 use Rattle.replan_command.specs.Keeping.{IsCheapestKeeping, PrintsKeeping, PrintsRestDossier, PrintsBestAs, PrintsBest, prints_dossier, IsPutTogether, in_whole}
 use Rattle.replan_command.specs.Searches.{IsLeftOf, IsToldBelow}

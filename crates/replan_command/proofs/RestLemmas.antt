@@ -1,18 +1,15 @@
 -- The rest, and the kept plan that serves all ships.
-use Rattle.std.proofs.Common.{◌≡◌, ℕ, ◌+◌, ◌<◌, ◌≤◌, List, [], length, filter, not, get_or, All, nat_eq, inl, inr, refl, sym, ap, ◌∙◌, subst, arith, sum_by}
+use Rattle.std.proofs.Common.{◌≡◌, ℕ, ◌<◌, ◌≤◌, [], length, not, get_or, All, nat_eq, inl, inr, refl, sym, ap, ◌∙◌, subst, arith, sum_by}
 use Rattle.std.proofs.lemmas.Bool.Decides.{leb_tells}
-use Rattle.std.proofs.lemmas.List.Elements.{All-weaker}
 use Rattle.std.proofs.lemmas.List.Filters.{sum_by-filter_both}
 use Rattle.lock_model.specs.Fleet.{ship_at, chamber_at}
 use Rattle.lock_model.specs.Fitting.{FitsAlone}
 use Rattle.lock_model.specs.declared.chamber.Chamber.{Chamber}
-use Rattle.lock_model.specs.declared.ship.Ship.{Ship}
 use Rattle.lock_model.specs.declared.instance.Instance.{Instance}
-use Rattle.lock_model.specs.declared.plan.Lockage.{Lockage}
 use Rattle.lock_model.specs.declared.plan.Plan.{Plan}
 use Rattle.lock_rules.specs.Arrival.{numbers_from}
 use Rattle.lock_rules.specs.Lines.{line_of}
-use Rattle.lock_rules.specs.Plan.{times_in, served_in, IsLegalLockage, IsLegal, IsCheapest, flow_in, cost_of}
+use Rattle.lock_rules.specs.Plan.{times_in, served_in, IsLegal, IsCheapest, flow_in, cost_of}
 use Rattle.lock_rules.specs.Unfit.{HasNoUnfit}
 use Rattle.lock_rules.proofs.CountLemmas.{times_in-between}
 use Rattle.lock_rules.proofs.LineLemmas.{sum_by-each, sum_by-lines, All-line}

@@ -1,5 +1,5 @@
 -- The numbers of the options, in their ranges.
-use Rattle.std.specs.Prelude.{ℕ, ◌≤◌}
+use Rattle.std.specs.Prelude.{◌≤◌}
 use Rattle.command_words.specs.declared.commands.ReplanOptions.{ReplanOptions}
 use Rattle.lock_model.specs.Limits.{Within}
 

@@ -1,4 +1,4 @@
-use Rattle.std.proofs.Common.{◌≡◌, ◌+◌, ◌∙◌, ap, sym, subst}
+use Rattle.std.proofs.Common.{◌+◌, ◌∙◌, ap, sym, subst}
 use Rattle.lock_rules.specs.Plan.{cost_of}
 use Rattle.lock_rules.specs.Singles.{singles_of}
 use Rattle.search_rules.specs.Ends.{IsEnd}
