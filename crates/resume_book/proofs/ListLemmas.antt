@@ -38,11 +38,13 @@ without (y ∷ ys) x (inl e) = ys
 without (y ∷ ys) x (inr h) = y ∷ without ys x h
 
 without-shorter : {X : Type 0} (xs : List X) (x : X) (h : IsAmong xs x) → length xs ≡ suc (length (without xs x h))
+unfolding without
 without-shorter [] x h = absurd h
 without-shorter (y ∷ ys) x (inl e) = refl
 without-shorter (y ∷ ys) x (inr h) = ap suc (without-shorter ys x h)
 
 without-other : {X : Type 0} (xs : List X) (x y : X) (h : IsAmong xs x) → IsAmong xs y → y ≢ x → IsAmong (without xs x h) y
+unfolding without
 without-other [] x y h g other = absurd h
 without-other (z ∷ zs) x y (inl e) (inl f) other = absurd (other (sym f ∙ e))
 without-other (z ∷ zs) x y (inl e) (inr g) other = g

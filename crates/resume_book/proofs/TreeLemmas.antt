@@ -144,12 +144,12 @@ module _ (b : Book) (keeps : KeepsBook b) (family : KeepsFamily b) (states : Kee
               marks_with b (flat_map (preorder b lacking) (children_slots b id (slot_at b id).state)) rest,
               ap (λ m. m ∷ marks_with b (flat_map (preorder b lacking) (children_slots b id (slot_at b id).state)) rest) (ap open_mark s.1),
               subst (λ t. AreInOrder (TreeOf lacking (suc node.depth)) (children_of I node.depth node.lines) (marks_with b (flat_map (preorder b lacking) (children_slots b id t)) rest) rest) (sym s.1)
-              (trees-in_order b (TreeOf lacking (suc node.depth)) (preorder b lacking) (children_of I node.depth node.lines) s.0
-              (λ k within r.
-              let own = kids.child k within in
-              let deep = ap (λ (n : Node). n.depth) own.node_is in
-              subst (λ (n : Node). TreeOf lacking n.depth n.lines (marks_with b (preorder b lacking (s.0 + k)) r) r) own.node_is (slot-tree lacking (s.0 + k) (omega (arith, deep, count)) own.known r))
-              rest),
+                  (trees-in_order b (TreeOf lacking (suc node.depth)) (preorder b lacking) (children_of I node.depth node.lines) s.0
+                  (λ k within r.
+                  let own = kids.child k within in
+                  let deep = ap (λ (n : Node). n.depth) own.node_is in
+                  subst (λ (n : Node). TreeOf lacking n.depth n.lines (marks_with b (preorder b lacking (s.0 + k)) r) r) own.node_is (slot-tree lacking (s.0 + k) (omega (arith, deep, count)) own.known r))
+                  rest),
             )
       ]
 
@@ -172,12 +172,12 @@ module _ (b : Book) (keeps : KeepsBook b) (family : KeepsFamily b) (states : Kee
               marks_with b (flat_map (preorder b lacking) (children_slots b id (slot_at b id).state)) rest,
               ap (λ m. m ∷ marks_with b (flat_map (preorder b lacking) (children_slots b id (slot_at b id).state)) rest) (ap open_mark s.1),
               subst (λ bs. OpenInOrder (HasOpen I lacking (suc node.depth)) (children_of I node.depth node.lines) (marks_with b (flat_map (preorder b lacking) (children_slots b id (slot_at b id).state)) rest) rest (bs ++ open_bounds b (flat_map (preorder b lacking) (children_slots b id (slot_at b id).state)))) (sym shut)
-              (subst (λ t. OpenInOrder (HasOpen I lacking (suc node.depth)) (children_of I node.depth node.lines) (marks_with b (flat_map (preorder b lacking) (children_slots b id t)) rest) rest (open_bounds b (flat_map (preorder b lacking) (children_slots b id t)))) (sym s.1)
-              (leaves-in_order b (HasOpen I lacking (suc node.depth)) (preorder b lacking) (children_of I node.depth node.lines) s.0
-              (λ k within r.
-              let own = kids.child k within in
-              let deep = ap (λ (n : Node). n.depth) own.node_is in
-              subst (λ (n : Node). HasOpen I lacking n.depth n.lines (marks_with b (preorder b lacking (s.0 + k)) r) r (open_bounds b (preorder b lacking (s.0 + k)))) own.node_is (slot-leaves lacking (s.0 + k) (omega (arith, deep, count)) own.known r))
-              rest)),
+                  (subst (λ t. OpenInOrder (HasOpen I lacking (suc node.depth)) (children_of I node.depth node.lines) (marks_with b (flat_map (preorder b lacking) (children_slots b id t)) rest) rest (open_bounds b (flat_map (preorder b lacking) (children_slots b id t)))) (sym s.1)
+                  (leaves-in_order b (HasOpen I lacking (suc node.depth)) (preorder b lacking) (children_of I node.depth node.lines) s.0
+                  (λ k within r.
+                  let own = kids.child k within in
+                  let deep = ap (λ (n : Node). n.depth) own.node_is in
+                  subst (λ (n : Node). HasOpen I lacking n.depth n.lines (marks_with b (preorder b lacking (s.0 + k)) r) r (open_bounds b (preorder b lacking (s.0 + k)))) own.node_is (slot-leaves lacking (s.0 + k) (omega (arith, deep, count)) own.known r))
+                  rest)),
             )
       ]

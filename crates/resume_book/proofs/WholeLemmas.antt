@@ -50,7 +50,7 @@ module _ (b : Book) (keeps : KeepsBook b) (parts : KeepsParts b) (C : OpenCertif
   abbrev split : OpenMark
   split = Closed mark.Split
 
-  slots : List ℕ
+  abbrev slots : List ℕ
   slots = slots_in_order b
 
   whole : C.tree ≡ marks_with b slots []

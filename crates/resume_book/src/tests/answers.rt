@@ -116,11 +116,27 @@ fn faults_are_those_of_a_dossier(rt: HostRuntime) -> Result<(), Fail> {
         &[
             (heading, "certificate", Said::Faulty(BadDossier::NoMark)),
             (heading, "certificate 2", Said::Faulty(BadDossier::NoMark)),
-            (heading, "certificate open 3", Said::Faulty(BadDossier::NoMark)),
+            (
+                heading,
+                "certificate open 3",
+                Said::Faulty(BadDossier::NoMark),
+            ),
             ("{\"cost\"", "\"cost\"", Said::Faulty(BadDossier::Json)),
-            ("\"cost\":120", "\"price\":120", Said::Faulty(BadDossier::Shape(1))),
-            ("\"cost\":120", "\"cost\":120.0", Said::Faulty(BadDossier::Shape(2))),
-            ("\"cuts\":[]", "\"cuts\":3", Said::Faulty(BadDossier::Shape(3))),
+            (
+                "\"cost\":120",
+                "\"price\":120",
+                Said::Faulty(BadDossier::Shape(1)),
+            ),
+            (
+                "\"cost\":120",
+                "\"cost\":120.0",
+                Said::Faulty(BadDossier::Shape(2)),
+            ),
+            (
+                "\"cuts\":[]",
+                "\"cuts\":3",
+                Said::Faulty(BadDossier::Shape(3)),
+            ),
             ("[[10,0,0,0]]", "[]", Said::Faulty(BadDossier::Shape(4))),
             ("[0,0,3,1,1]", "[4]", Said::Faulty(BadDossier::Shape(5))),
             ("[0,0,3,1,1]", "[34]", Said::Faulty(BadDossier::Shape(5))),
