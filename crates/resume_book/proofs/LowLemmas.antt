@@ -1,5 +1,5 @@
 -- The least bound of the open leaves is what the book's verdict says.
-use Rattle.std.proofs.Common.{◌≡◌, ℕ, zero, suc, ◌<◌, ◌≤◌, List, [], ◌∷◌, ◌++◌, length, map, filter, ◌⊎◌, inl, inr, refl, sym, ap, ◌∙◌, subst, arith, Bool, true, false, cond, ◌||◌, Some, None, slice_index_or, min}
+use Rattle.std.proofs.Common.{◌≡◌, ℕ, zero, suc, ◌<◌, ◌≤◌, List, [], ◌∷◌, length, map, filter, ◌⊎◌, inl, inr, refl, sym, ap, ◌∙◌, subst, arith, Bool, true, false, cond, ◌||◌, Some, None, slice_index_or, min}
 use Rattle.std.specs.declared.option.Option.{Option}
 use Rattle.std.specs.List.{list_any}
 use Rattle.lock_model.specs.declared.verdict.Verdict.TheVariants as verdict
@@ -8,13 +8,12 @@ use Rattle.lock_rules.proofs.TreeLemmas.{IsAmong, IsAmong-left, IsAmong-right}
 use Rattle.refute_rules.proofs.Among.{among-append}
 use Rattle.search_rules.specs.declared.book.SlotState.{SlotState}
 use Rattle.search_rules.specs.declared.book.SlotState.TheVariants as slot
-use Rattle.search_rules.specs.declared.certificate.OpenMark.{OpenMark}
-use Rattle.search_rules.specs.declared.certificate.OpenMark.TheVariants.{Closed, Open}
-use Rattle.search_rules.specs.Book.{Node, Slot, Book, no_slot, slot_at, best_cost, is_fresh, is_back, is_held, is_parked, is_live, has_slot, first_slot}
+use Rattle.search_rules.specs.declared.certificate.OpenMark.TheVariants.{Open}
+use Rattle.search_rules.specs.Book.{Node, Slot, Book, no_slot, slot_at, is_fresh, is_back, is_held, is_parked, is_live, has_slot, first_slot}
 use Rattle.search_rules.specs.Verdict.{low_of, parked_verdict, turns_verdict, verdict_of}
 use Rattle.search_rules.specs.Low.{leaf_bounds}
 use Rattle.search_rules.proofs.SlotLemmas.{first_slot-at}
-use Rattle.search_rules.proofs.LowLemmas.{HasBelow, least-below}
+use Rattle.search_rules.proofs.LowLemmas.{least-below}
 use Rattle.book_certificate.proofs.VerdictLemmas.{live-verdict}
 use Rattle.resume_book.specs.Preorder.{open_mark, mark_at}
 use Rattle.resume_book.specs.Certified.{certified_low}
@@ -123,11 +122,11 @@ is_open state = is_fresh state || is_back state || is_held state
 
 any-some : (p : Slot → Bool) (xs : List Slot) → list_any p xs ≡ true → (id : ℕ) × (id < length xs) × (p (slice_index_or xs id no_slot) ≡ true)
 any-some p [] e = absurd (clash (sym e))
-any-some p (x ∷ xs) e = by_first (p x) refl e
+any-some p (x ∷ xs) e = by_first (λ f. any-some p xs f) (p x) refl e
   where
-    by_first : (t : Bool) → p x ≡ t → (t || list_any p xs) ≡ true → (id : ℕ) × (id < length (x ∷ xs)) × (p (slice_index_or (x ∷ xs) id no_slot) ≡ true)
-    by_first true is f = (0, omega arith, is)
-    by_first false is f = let rest = any-some p xs f in (suc rest.0, omega (arith, rest.1), rest.2)
+    by_first : (list_any p xs ≡ true → (id : ℕ) × (id < length xs) × (p (slice_index_or xs id no_slot) ≡ true)) → (t : Bool) → p x ≡ t → (t || list_any p xs) ≡ true → (id : ℕ) × (id < length (x ∷ xs)) × (p (slice_index_or (x ∷ xs) id no_slot) ≡ true)
+    by_first later true is f = (0, omega arith, is)
+    by_first later false is f = let rest = later f in (suc rest.0, omega (arith, rest.1), rest.2)
 
 open-live : (s : SlotState) → is_open s ≡ true → is_live s ≡ true
 open-live slot.Fresh e = refl

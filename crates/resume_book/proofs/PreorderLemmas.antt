@@ -1,7 +1,5 @@
 -- The slots of a book in preorder: each is a slot, and each slot is among them.
-use Rattle.std.proofs.Common.{◌≡◌, ℕ, zero, suc, ◌+◌, ◌-◌, ◌<◌, ◌≤◌, List, [], ◌∷◌, inl, inr, length, refl, sym, ap, ◌∙◌, subst, arith}
-use Rattle.std.specs.List.{flat_map}
-use Rattle.std.proofs.lemmas.Bool.Decides.{leb_tells}
+use Rattle.std.proofs.Common.{◌≡◌, ℕ, zero, suc, ◌+◌, ◌-◌, ◌<◌, ◌≤◌, inl, inr, length, refl, sym, ap, subst, arith}
 use Rattle.lock_rules.proofs.TreeLemmas.{IsAmong}
 use Rattle.lock_rules.proofs.SplitLemmas.{IsAmong-flat_map}
 use Rattle.search_rules.specs.declared.book.SlotState.{SlotState}

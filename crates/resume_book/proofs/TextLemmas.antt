@@ -1,6 +1,5 @@
 -- The canonical open dossier is read back, and a text is read part by part.
-use Rattle.std.proofs.Common.{◌≡◌, ◌∙◌, ◌++◌, ◌≤◌, ℕ, true, false, List, [], ◌∷◌, map, codes, length, Some, Result, Ok, Err, IfOk, IfErr, refl, sym, ap, ap₂, subst, append_assoc, arith}
-use Rattle.std.specs.Prelude.{◌==◌}
+use Rattle.std.proofs.Common.{◌≡◌, ◌∙◌, ◌++◌, ◌≤◌, ℕ, false, List, [], ◌∷◌, codes, Some, Result, Ok, IfOk, IfErr, refl, sym, ap, ap₂, subst, append_assoc, arith}
 use Rattle.std.specs.Str.{IsUtf8}
 use Rattle.json.specs.Lex.{tokens}
 use Rattle.json.specs.Print.{print}

@@ -1,5 +1,5 @@
 -- The marks of a book's slots are one open tree, whose open leaves are the slots that are live.
-use Rattle.std.proofs.Common.{◌≡◌, ℕ, zero, suc, ◌+◌, ◌^◌, ◌<◌, ◌≤◌, List, [], ◌∷◌, ◌++◌, inl, inr, ◌⊎◌, length, map, refl, sym, ap, ◌∙◌, subst, arith, true, false, slice_index_or, append-nil}
+use Rattle.std.proofs.Common.{◌≡◌, ℕ, zero, suc, ◌+◌, ◌<◌, List, [], ◌∷◌, ◌++◌, inl, inr, ◌⊎◌, length, map, refl, sym, ap, ◌∙◌, subst, arith, slice_index_or, append-nil}
 use Rattle.std.specs.List.{range_with_len, flat_map}
 use Rattle.std.proofs.lemmas.List.{append_assoc, map-append}
 use Rattle.lock_model.specs.declared.instance.Instance.{Instance}
@@ -12,7 +12,7 @@ use Rattle.search_rules.specs.declared.book.SlotState.{SlotState}
 use Rattle.search_rules.specs.declared.book.SlotState.TheVariants as slot
 use Rattle.search_rules.specs.declared.certificate.Mark.TheVariants as mark
 use Rattle.search_rules.specs.declared.certificate.OpenMark.{OpenMark}
-use Rattle.search_rules.specs.declared.certificate.OpenMark.TheVariants.{Closed, Open}
+use Rattle.search_rules.specs.declared.certificate.OpenMark.TheVariants.{Closed}
 use Rattle.search_rules.specs.Book.{Node, Book, no_slot, slot_at, best_cost}
 use Rattle.search_rules.specs.Cover.{KeepsBook}
 use Rattle.search_rules.specs.States.{KeepsStates}

@@ -2,7 +2,7 @@ use Rattle.std.proofs.Common.{◌+◌, ◌-◌, ◌<◌, ◌++◌, [], ◌∷◌
 use Rattle.search_rules.specs.Book.{slot_at}
 use Rattle.search_rules.specs.Family.{child_count}
 use Rattle.book_certificate.proofs.ChildLemmas.{split-lacks, child-known, child-deeper}
-use Rattle.resume_book.proofs.WritingLemmas.{none-written, more-written, split-written}
+use Rattle.resume_book.proofs.WritingLemmas.{more-written, split-written}
 use Rattle.resume_book.proofs.marks.+tree.Goals as goal
 
 pub write_split-write_slot-requires : goal.write_split-write_slot-requires

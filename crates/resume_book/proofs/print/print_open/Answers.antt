@@ -1,4 +1,4 @@
-use Rattle.std.proofs.Common.{◌≡◌, ◌∙◌, ◌++◌, [], ◌∷◌, ap, refl, sym, subst}
+use Rattle.std.proofs.Common.{◌∙◌, ◌++◌, [], ◌∷◌, ap, refl, sym, subst}
 use Rattle.cert_text.specs.Dossier.{json_of}
 use Rattle.resume_book.specs.OpenDossier.{ReadsOpen}
 use Rattle.resume_book.proofs.TextLemmas.{printed, dossier_back}
