@@ -15,14 +15,14 @@ use Rattle.search_rules.specs.Step.{step}
 use Rattle.search_rules.specs.Laws.{TreeLaws}
 use Rattle.search_rules.specs.Cover.{KeepsBook}
 use Rattle.search_rules.proofs.CoverLemmas.{event-keeps, replaced-keeps, opening-keeps}
-use Rattle.search_rules.proofs.ReplayLemmas.{IsReplayed, after_all, event-replayed, opening-replayed}
+use Rattle.search_rules.proofs.ReplayLemmas.{IsReplayed, event-replayed, opening-replayed}
 use Rattle.search_rules.proofs.LawLemmas.{tree-laws}
 use Rattle.deck_laws.proofs.HeredityLemmas.{hereditary}
 use Rattle.deck_laws.proofs.NormalLemmas.{has-normal}
 use Rattle.search_rules.proofs.StepLemmas.{Refused, Accepted, each-step}
 use Rattle.search_rules.proofs.PartLemmas.{parts-step, opening-parts}
 use Rattle.std.specs.List.{AllByRecursion}
-use Rattle.book_core.specs.Laws.{GivesBreaks}
+use Rattle.book_core.specs.Laws.{RunsTo, IsJudgeable}
 use Rattle.book_core.specs.Case.{IsCase}
 use Rattle.book_core.specs.Replies.{IsJudged, IsFirstOf}
 use Rattle.book_core.specs.Keeps.{PassesLegal, Replays, IsSound}
@@ -114,20 +114,16 @@ opening-sound case plan good legal = record {
 
 -- ---- every list of events
 
-module _ (f : Instance → Plan → Option BrokenPlan) (gives : GivesBreaks f) where
-  -- a step by a function that gives first breaks
-  pub any-step : (b : Book) (e : Event) → IsSound b → IsOwed e → IsSound (step f b e).0
-  any-step b (take w) old owed = step-sound b (take w) None old owed tt
-  any-step b (split id) old owed = step-sound b (split id) None old owed tt
-  any-step b (close_bound id) old owed = step-sound b (close_bound id) None old owed tt
-  any-step b (close_cut id number) old owed = step-sound b (close_cut id number) None old owed tt
-  any-step b (close_throughput id) old owed = step-sound b (close_throughput id) None old owed tt
-  any-step b (close_probe id s) old owed = step-sound b (close_probe id s) None old owed tt
-  any-step b (post cut) old owed = step-sound b (post cut) None old owed tt
-  any-step b (park id c p deck turns) old owed = step-sound b (park id c p deck turns) None old owed tt
-  any-step b (replace plan) old owed = step-sound b (replace plan) (f b.case.instance plan) old owed (gives.gives b.case.instance plan)
-  any-step b (release w) old owed = step-sound b (release w) None old owed tt
+pub all-sound : (b : Book) (es : List Event) (end : Book) → IsSound b → AllByRecursion IsOwed es → RunsTo b es end → IsSound end
+all-sound b [] end old owed runs = subst IsSound runs old
+all-sound b (e ∷ es) end old owed runs = all-sound (step (λ _ _. runs.0) b e).0 es end (step-sound b e runs.0 old owed.0 runs.1.0) owed.1 runs.1.1
 
-  pub all-sound : (b : Book) (es : List Event) → IsSound b → AllByRecursion IsOwed es → IsSound (after_all f b es)
-  all-sound b [] old owed = old
-  all-sound b (e ∷ es) old owed = all-sound (step f b e).0 es (any-step b e old owed.0) owed.1
+pub all-run : (b : Book) (es : List Event) → AllByRecursion (IsJudgeable b.case.instance) es → (end : Book) × RunsTo b es end
+all-run b [] told = (b, refl)
+all-run b (e ∷ es) told =
+    let found : Option BrokenPlan = told.0.found in
+    let rest = all-run (step (λ _ _. found) b e).0 es (subst (λ (k : Case). AllByRecursion (IsJudgeable k.instance) es) (sym (same-case b e found)) told.1) in
+    (rest.0, (found, told.0.first, rest.1))
+
+pub legal-judgeable : (I : Instance) (P : Plan) → IsLegal I P → IsJudgeable I (replace P)
+legal-judgeable I P legal = record { found = None; first = record { none = (λ _. legal, λ _. refl); some = tt } }

@@ -1,31 +1,17 @@
 -- Which cases take a turn.
-use Rattle.std.proofs.Common.{◌≡◌, ℕ, ◌+◌, ◌<◌, Bool, true, false, List, [], ◌∷◌, ◌++◌, length, take, flat_map, cond, inl, inr, refl, sym, ap, ◌∙◌, subst, arith}
-use Rattle.std.proofs.lemmas.Bool.Decides.{leb_tells}
+use Rattle.std.proofs.Common.{◌≡◌, ℕ, ◌+◌, ◌<◌, Bool, true, false, List, [], ◌∷◌, ◌++◌, length, flat_map, cond, inl, refl, sym, subst, arith}
 use Rattle.refute_rules.specs.Choices.{Decision, Choice}
 use Rattle.refute_rules.specs.Listing.{AreThose, cases_from}
 use Rattle.case_search.specs.Rules.{Rules, AreLawful, IsReached, TakesTurn, left_of, options_first, options_at, cases_under}
 use Rattle.case_search.specs.Visits.{after_first, cases_below}
 use Rattle.case_search.specs.Counts.{NoneIn}
-use Rattle.case_search.proofs.ListLemmas.{take-front, take-append, length-push}
+use Rattle.case_search.proofs.ListLemmas.{take-front}
 use Rattle.case_search.proofs.CountLemmas.{none-listed, none-below}
 
 -- a good case that is reached takes a turn
 pub good-turn : (counts : Bool) (IsGood : List Choice → Type 0) (case : List Choice) → IsReached IsGood case → IsGood case → TakesTurn counts IsGood case
 good-turn false IsGood case reached good = good
 good-turn true IsGood case reached good = reached
-
--- an extension of a good case that is reached is reached
-pub reached-more : (IsGood : List Choice → Type 0) (case : List Choice) (c : Choice) → IsReached IsGood case → IsGood case → IsReached IsGood (case ++ c ∷ [])
-reached-more IsGood case c reached good k h =
-    let long = length-push case c in
-    elim (leb_tells (length case) k) [
-      | inl y ↦
-          let end : k ≡ length case = let few = y.1 in omega (arith, long, few, h) in
-          subst IsGood (sym (ap (λ n. take n (case ++ c ∷ [])) end ∙ take-front case (c ∷ []))) good
-      | inr n ↦
-          let less : k < length case = let fewer = n.1 in omega (arith, fewer) in
-          subst IsGood (sym (take-append k case (c ∷ []) (omega (arith, less)))) (reached k less)
-    ]
 
 module _ {F : Type 0} (r : Rules F) (case : List Choice) where
   -- the case, and then its extensions by each option

@@ -1,6 +1,5 @@
 -- What the visit of a case comes to.
 use Rattle.std.proofs.Common.{◌≡◌, ℕ, suc, ◌+◌, ◌-◌, ◌≤◌, ◌<◌, Bool, true, false, List, [], ◌∷◌, ◌++◌, length, take, drop, slice_index_or, flat_map, cond, inl, inr, refl, sym, ap, ◌∙◌, subst, arith}
-use Rattle.std.proofs.lemmas.Bool.Decides.{leb_tells}
 use Rattle.refute_rules.specs.Choices.{Decision, Choice, Before}
 use Rattle.refute_rules.specs.Listing.{cases_from}
 use Rattle.refute_rules.specs.Trees.{AreInOrder, IsLeaf, IsTree}
@@ -9,7 +8,7 @@ use Rattle.case_search.specs.Counts.{NoneIn, FirstIn, MoreIn}
 use Rattle.case_search.specs.Visits.{after_first, IsTreeBelow, cases_below, IsPassed, IsRefuted, IsVisit}
 use Rattle.case_search.specs.declared.visits.Visit.{Visit}
 use Rattle.case_search.specs.declared.visits.Visit.TheVariants.{Refuted, Whole, Spent}
-use Rattle.case_search.proofs.ListLemmas.{append-assoc, length-push, flat_map-append, flat_map-one, take-more, take-all, split-at, drop-more, drop-all, drop-length, in_order-more}
+use Rattle.case_search.proofs.ListLemmas.{append-assoc, length-push, flat_map-append, flat_map-one, take-more, take-all, split-at, drop-more, drop-length, in_order-more}
 use Rattle.case_search.proofs.CountLemmas.{none-nil, none-one, none-append, first-append, more-append}
 use Rattle.case_search.proofs.TurnLemmas.{good-turn, under-split, fault-none}
 
@@ -74,16 +73,6 @@ module _ {F : Type 0} (r : Rules F) (case : List Choice) where
   options-left : (left : List Decision) (k : ℕ) → k < length (options_first r.options left) → (next : Decision) × (left ≡ next ∷ after_first left)
   options-left [] k h = absurd (omega (arith, h))
   options-left (next ∷ left) k h = (next, refl)
-
-  pub room-left : (k : ℕ) → k < length opts → length case < length r.decisions
-  room-left k h = elim (leb_tells (length r.decisions) (length case)) [
-    | inl y ↦ absurd (none (left_of r case) (drop-all (length case) r.decisions y.1) h)
-    | inr n ↦ let less = n.1 in omega (arith, less)
-  ]
-    where
-      none : (left : List Decision) → left ≡ [] → k < length (options_first r.options left) → ⊥
-      none [] e h = omega (arith, h)
-      none (next ∷ left) e h = cc
 
   pub left-below : (k : ℕ) → k < length opts → (c : Choice) → left_of r (case ++ c ∷ []) ≡ after_first (left_of r case)
   left-below k h c =

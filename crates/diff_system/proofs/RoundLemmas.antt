@@ -1,11 +1,10 @@
 -- Rounds over the edges.
-use Rattle.std.proofs.Common.{◌≡◌, ℕ, zero, suc, ◌+◌, ◌<◌, ◌≤◌, ℤ, ◌+ℤ◌, ◌≤ℤ◌, ◌<ℤ◌, Bool, true, false, List, length, ◌⊎◌, inl, inr, refl, sym, subst, arith, Ok}
-use Rattle.std.proofs.lemmas.Int.{by_lt_z}
+use Rattle.std.proofs.Common.{◌≡◌, ℕ, zero, suc, ◌+◌, ◌<◌, ◌≤◌, Bool, true, false, List, length, ◌⊎◌, inl, inr, refl, sym, subst, arith, Ok}
 use Rattle.std.proofs.lemmas.Bool.Decides.{eqb_tells}
 use Rattle.diff_rules.specs.declared.edges.Edge.{Edge}
-use Rattle.diff_rules.specs.Differences.{value_at, edge_at, no_edge, Obeys, IsSystem}
+use Rattle.diff_rules.specs.Differences.{edge_at, no_edge, Obeys, IsSystem}
 use Rattle.diff_system.specs.PathTree.{PathTree, IsPathTree, AreLongest}
-use Rattle.diff_system.specs.Rounds.{Raises, raised_by, IsRaised, IsSettled, IsReady, IsPartly, IsUnderway, IsRelaxed}
+use Rattle.diff_system.specs.Rounds.{raised_by, IsRaised, IsSettled, IsReady, IsPartly, IsUnderway, IsRelaxed}
 use Rattle.diff_system.proofs.TreeLemmas.{depth-few, all-obeyed}
 use Rattle.diff_system.proofs.RaiseLemmas.{raised-tree, begins-deep, raised-here, raised-others}
 
@@ -14,28 +13,7 @@ before_or_from zero k = inr (omega arith)
 before_or_from (suc first) zero = inl (omega arith)
 before_or_from (suc first) (suc k) = elim (before_or_from first k) [ inl h ↦ inl (omega (arith, h)) | inr h ↦ inr (omega (arith, h)) ]
 
--- an edge that asks no more is obeyed
-pub not-raising : (values : List ℤ) (e : Edge) → (Raises values e → ⊥) → Obeys values e
-not-raising values e n =
-    elim (lt_or_le (value_at values e.to) (value_at values e.from +ℤ e.weight)) [
-      | inl l ↦ absurd (n (record { higher = l }))
-      | inr g ↦ record { far = g }
-    ]
-  where
-    lt_or_le : (a b : ℤ) → (a <ℤ b) ⊎ (b ≤ℤ a)
-    lt_or_le a b = by_lt_z a b (λ l. inl l) (λ g. inr g)
-
 module _ (edges : List Edge) (vars : ℕ) (system : IsSystem edges vars) where
-  pub underway-begin : (old : PathTree) → IsPathTree edges vars old → (first : ℕ) → IsUnderway edges vars old old first first false
-  underway-begin old is first = record {
-    is_tree = is;
-    still = λ r. (refl, λ k more less. absurd (omega (arith, more, less)));
-    partly = λ r ready. record {
-      done = λ k less. record { settled = inl (ready.obeyed k less) };
-      rest = ready.rest;
-    };
-  }
-
   -- edge n asks for nothing
   pub underway-still : (old tree : PathTree) (first n : ℕ) (raised : Bool) → IsUnderway edges vars old tree first n raised → Obeys tree.values (edge_at edges n) → IsUnderway edges vars old tree first (n + 1) raised
   underway-still old tree first n raised so obeys = record {

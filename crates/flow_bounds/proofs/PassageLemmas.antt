@@ -32,12 +32,6 @@ passages_from-other I s c less fits =
     ap (λ cs. map (passage_on I s) (filter (fits_alone I s) cs)) (numbers_from-step c (length I.chambers) less)
     ∙ (λ i. map (passage_on I s) (cond (fits i) (c ∷ filter (fits_alone I s) (numbers_from (c + 1) (length I.chambers - (c + 1)))) (filter (fits_alone I s) (numbers_from (c + 1) (length I.chambers - (c + 1))))))
 
--- past the last chamber there is none
-pub passages_from-past : (I : Instance) (s c : ℕ) → length I.chambers ≤ c → passages_from I s c ≡ []
-passages_from-past I s c past =
-    let none : length I.chambers - c ≡ 0 = omega arith in
-    ap (λ n. map (passage_on I s) (filter (fits_alone I s) (numbers_from c n))) none
-
 -- a ship ends no earlier than it arrives
 pub ends_after_arrival : (I : Instance) (s c : ℕ) → c < length I.chambers → (ship_at I s).arrival ≤ first_end I s c
 ends_after_arrival I s c known =

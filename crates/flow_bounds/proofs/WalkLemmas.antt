@@ -1,15 +1,13 @@
 -- What a walk along a line adds up is the flow time of the line.
-use Rattle.std.proofs.Common.{◌≡◌, ℕ, ◌+◌, ◌<◌, ◌≤◌, List, [], ◌∷◌, ◌++◌, ◌*◌, length, All, take, drop, refl, arith, ap, ◌∙◌, sym, inl, inr, slice_set}
+use Rattle.std.proofs.Common.{◌≡◌, ℕ, ◌+◌, ◌<◌, ◌≤◌, List, [], ◌∷◌, ◌++◌, ◌*◌, length, take, drop, refl, arith, ap, ◌∙◌, sym, inl, inr, slice_set}
 use Rattle.std.specs.List.{insert}
 use Rattle.std.proofs.lemmas.List.{take-append-drop, take-set, drop-set, take-append-le, length-append, get_or_append_left}
 use Rattle.std.proofs.Math.Seq.{take-length, get_or-append_seam}
 use Rattle.std.proofs.lemmas.Bool.Decides.{leb_tells}
-use Rattle.lock_model.specs.Fleet.{ship_at}
 use Rattle.lock_model.specs.declared.instance.Instance.{Instance}
 use Rattle.lock_model.specs.declared.group.Group.{Group}
 use Rattle.lock_rules.specs.Timetable.{timetable_from}
 use Rattle.lock_rules.specs.Bound.{flow_of, line_flow}
-use Rattle.lock_rules.proofs.TimetableLemmas.{start_of-lawful}
 use Rattle.flow_bounds.specs.declared.walk.Walk.{Walk}
 use Rattle.flow_bounds.specs.Walk.{walk_start, serve, serve_all, no_walk, walk_at, AreWalks}
 
@@ -20,10 +18,6 @@ serve_all-flow I c w (g ∷ gs) = omega (arith, serve_all-flow I c (serve I c w 
 
 pub serve_all-line : (I : Instance) (c : ℕ) (line : List Group) → (serve_all I c (walk_start I c) line).flow ≡ line_flow I c line
 serve_all-line I c line = omega (arith, serve_all-flow I c (walk_start I c) line)
-
--- no ship of a group ends before it arrives
-pub ends-late : (I : Instance) (c : ℕ) → c < length I.chambers → (w : Walk) (g : Group) → All (λ s. (ship_at I s).arrival ≤ (serve I c w g).done) g.ships
-ends-late I c known w g = λ k d here. omega (arith, (start_of-lawful I c known w.stand w.done g).arrived k d here)
 
 pub serve_all-append : (I : Instance) (c : ℕ) (w : Walk) (xs ys : List Group) → serve_all I c w (xs ++ ys) ≡ serve_all I c (serve_all I c w xs) ys
 serve_all-append I c w [] ys = refl

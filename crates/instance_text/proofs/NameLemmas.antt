@@ -1,16 +1,11 @@
 -- Names that differ from all earlier ones.
-use Rattle.std.proofs.Common.{◌≡◌, ◌≢◌, Bool, true, false, not, ◌||◌, ℕ, subst, List, [], ◌∷◌, map, All, Ok, sym, refl}
+use Rattle.std.proofs.Common.{◌≡◌, ◌≢◌, Bool, true, false, not, ◌||◌, ℕ, subst, List, [], ◌∷◌, map, All, Ok, sym}
 use Rattle.std.proofs.lemmas.List.Elements.{All-cons, All-nil}
 use Rattle.std.proofs.lemmas.Slice.Eq.{bytes_eq-Decides}
 use Rattle.std.specs.List.{list_any}
 use Rattle.std.specs.Str.{bytes_eq}
 use Rattle.instance_text.specs.declared.bad.Kind.{Kind}
 use Rattle.instance_text.specs.Steps.{check}
-
--- a test that let through holds
-pub check_passed : (b : Bool) (kind : Kind) (u : Unit {0}) → Ok u ≡ check b kind → b ≡ true
-check_passed true kind u h = refl
-check_passed false kind u h = cc
 
 -- a name that none of these has
 pub new_among : {X : Type 0} (name_of : X → List ℕ) (xs : List X) (word : List ℕ) → list_any (bytes_eq word) (map name_of xs) ≡ false → All (λ x. name_of x ≢ word) xs

@@ -51,9 +51,6 @@ chosen_more lane b c T e known chosen by = record {
 pub chosen_after : (lane : Passage) (b c : ℕ) (T : List ℕ) → c ≡ b + 1 → AreChosen lane c T → All (λ i. b < i) T
 chosen_after lane b c T e chosen = All-weaker (λ x. c ≤ x) (λ x. b < x) (λ x h. omega (arith, e, h)) T (RisesFrom-each c T chosen.rising)
 
-pub chosen_known : (lane : Passage) (c : ℕ) (T : List ℕ) → AreChosen lane c T → All (λ i. i < length lane.needs) T
-chosen_known lane c T chosen = All-from_recursion (λ i. i < length lane.needs) T chosen.known
-
 pub chosen_few : (lane : Passage) (c : ℕ) (T : List ℕ) → AreChosen lane c T → c ≤ length lane.needs → c + length T ≤ length lane.needs
 chosen_few lane c T chosen less = few-above (length lane.needs) c T less chosen.rising chosen.known
 

@@ -14,9 +14,6 @@ use Rattle.refute_rules.proofs.ReasonLemmas.{each-from_pairs, total-sum}
 use Rattle.ship_shapes.specs.declared.lane.Need.{Need}
 use Rattle.ship_shapes.specs.Lanes.{Passage, row_lane, column_lane, need_at, along_at, AreCrowded, AreAllCrowded, along_of, IsJam}
 
-no_need : Need
-no_need = record { across = 0; along = 0 }
-
 -- a deck and one of its lanes, where each ship has its own measures across and along
 module _ (d : Deck) (lane : Passage) (count : length lane.needs ≡ length d.ships) (R : ℕ → ℕ → Type 0) (m : ℕ → ℕ)
     (crowds : (i j : ℕ) → i < length d.ships → j < length d.ships → R i j → AreCrowded lane i j)

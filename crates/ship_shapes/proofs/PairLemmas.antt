@@ -16,9 +16,6 @@ pairs_told lane S h i j d less here =
     let k : i < length S = omega (arith, less, here) in
     subst (λ a. AreCrowded lane a (get_or S j d)) (get_or_default S i 0 d k) (subst (λ a. AreCrowded lane (get_or S i 0) a) (get_or_default S j 0 d here) ((h i k).later j less here))
 
-pub pairs_after : (lane : Passage) (S : List ℕ) (i : ℕ) → AllPairs (AreCrowded lane) S → IsCrowdedAfter lane S i
-pairs_after lane S i h = record { later = λ j less here. h i j 0 less here }
-
 pub along_more : (lane : Passage) (S : List ℕ) (i : ℕ) → i < length S → along_of lane (take (i + 1) S) ≡ along_of lane (take i S) + along_at lane (get_or S i 0)
 along_more lane S i here = ap (along_of lane) (take_more S i 0 here) ∙ along-append lane (take i S) (get_or S i 0 ∷ []) ∙ omega arith
 
