@@ -1,19 +1,29 @@
 -- What the answers say, from the first failure of a certificate or from its acceptance.
-use Rattle.std.proofs.Common.{◌≡◌, ◌↔◌, ℕ, ◌∙◌, ap, sym, subst}
+use Rattle.std.proofs.Common.{◌≡◌, ◌↔◌, ℕ, List, ◌∙◌, ap, sym, subst}
 use Rattle.lock_model.specs.declared.instance.Instance.{Instance}
+use Rattle.lock_model.specs.declared.plan.Plan.{Plan}
 use Rattle.lock_rules.specs.Plan.{IsCheapest, cost_of}
 use Rattle.lock_rules.specs.Heredity.{IsHereditary}
 use Rattle.lock_model.specs.Deck.{Deck, IsDeck}
 use Rattle.refute_rules.proofs.RefuteLemmas.{HasNormal}
 use Rattle.search_rules.specs.declared.certificate.Spot2.{Spot2}
+use Rattle.search_rules.specs.declared.certificate.Spot2.TheVariants as place
 use Rattle.search_rules.specs.declared.certificate.Reason.{Reason}
-use Rattle.search_rules.specs.Certificates.{Certificate, Accepts}
-use Rattle.search_rules.specs.Failures.{Fails}
+use Rattle.search_rules.specs.Certificates.{CertCut, Certificate, Accepts}
+use Rattle.search_rules.specs.Failures.{FailsAt, Fails}
 use Rattle.search_rules.proofs.FailLemmas.{fails-not_accepted}
 use Rattle.search_rules.proofs.AcceptLemmas.{accepted-cheapest}
 use Rattle.search_rules.proofs.LawLemmas.{tree-laws}
 use Rattle.cert_check.specs.declared.certificate.Answer.TheVariants.{Accepted, Rejected}
+use Rattle.cert_check.specs.FirstFailure.{FailBeforeMarks}
 use Rattle.cert_check.proofs.FirstFailure.{fails-same}
+
+-- what fails before the marks fails first, whatever the marks are
+pub before-fails : {M : Type 0} (I : Instance) (cost : ℕ) (cuts : List CertCut) (plan : Plan) (tree : List M) (Fail : List M → Reason → Type 0) (p : Spot2) (r : Reason) → FailBeforeMarks I cost cuts plan p r → FailsAt I cost cuts plan tree Fail p r
+before-fails I cost cuts plan tree Fail place.Plan r h = h.fails
+before-fails I cost cuts plan tree Fail place.Cost r h = h.fails
+before-fails I cost cuts plan tree Fail (place.Cut c) r h = h.fails
+before-fails I cost cuts plan tree Fail (place.Tree n) r h = absurd h.fails.5
 
 module _ (I : Instance) (C : Certificate) where
   pub accepted-rejected : Accepts I C → (n : ℕ) (place : Spot2) (why : Reason) → (Accepted n ≡ Rejected place why) ↔ Fails I C place why

@@ -4,16 +4,16 @@ use Rattle.std.proofs.lemmas.Bool.Decides.{leb_tells}
 use Rattle.std.proofs.lemmas.List.{get_or_default, length-take}
 use Rattle.lock_model.specs.declared.instance.Instance.{Instance}
 use Rattle.lock_model.specs.declared.group.Group.{Group}
+use Rattle.lock_model.specs.declared.plan.Plan.{Plan}
 use Rattle.lock_rules.specs.Node.{root_lines}
 use Rattle.lock_rules.specs.Children.{children_of}
-use Rattle.search_rules.specs.declared.certificate.Mark.{Mark}
 use Rattle.search_rules.specs.declared.certificate.Mark.TheVariants as mark
 use Rattle.search_rules.specs.declared.certificate.Spot2.{Spot2}
 use Rattle.search_rules.specs.declared.certificate.Spot2.TheVariants as place
 use Rattle.search_rules.specs.declared.certificate.Reason.{Reason}
 use Rattle.search_rules.specs.declared.certificate.Reason.TheVariants as reason
 use Rattle.search_rules.specs.Certificates.{CertCut, Certificate, IsShaped, IsProved, Closes, IsMarkTree}
-use Rattle.search_rules.specs.Failures.{FailInOrder, FailsHere, TreeFails, MarksFail, CutFails, reason_of, Fails}
+use Rattle.search_rules.specs.Failures.{FailInOrder, FailsHere, TreeFails, MarksFail, CutFails, FailsAt, reason_of, Fails}
 use Rattle.search_rules.proofs.FailLemmas.{heads, tails, tree-unique, tree-not_fails}
 use Rattle.cert_check.specs.FirstFailure.{AreSameFailure}
 
@@ -38,37 +38,34 @@ here-same : {M : Type 0} (Closing : M → Type 0) (reason_by : M → Reason) (ma
 here-same Closing reason_by [] s t p q a b = record { left = a.0 ∙ sym b.0; why = a.1 ∙ sym b.1 }
 here-same Closing reason_by (m ∷ ms) s t p q a b = record { left = a.0 ∙ sym b.0; why = a.2 ∙ sym b.2 }
 
-module _ (I : Instance) (cost : ℕ) (cuts : List CertCut) where
-  abbrev Closing : ℕ → List (List Group) → Mark → Type 0
-  Closing = Closes I cost cuts
+module _ {M : Type 0} (I : Instance) (split : M) (Closing : ℕ → List (List Group) → M → Type 0) (reason_by : M → Reason) (no_split : (k : ℕ) (lines : List (List Group)) → Closing k lines split → ⊥) where
+  abbrev Failing : ℕ → ℕ → List (List Group) → List M → List M → Reason → Type 0
+  Failing = TreeFails I split Closing reason_by
 
-  abbrev Failing : ℕ → ℕ → List (List Group) → List Mark → List Mark → Reason → Type 0
-  Failing = TreeFails I mark.Split Closing reason_of
-
-  here-not_split : (k : ℕ) (lines : List (List Group)) (marks s inner : List Mark) (p : Reason) → FailsHere (λ m. Closing k lines m ⊎ (m ≡ mark.Split)) reason_of marks s p → marks ≡ mark.Split ∷ inner → ⊥
+  here-not_split : (k : ℕ) (lines : List (List Group)) (marks s inner : List M) (p : Reason) → FailsHere (λ m. Closing k lines m ⊎ (m ≡ split)) reason_by marks s p → marks ≡ split ∷ inner → ⊥
   here-not_split k lines [] s inner p f e = absurd cc
-  here-not_split k lines (m ∷ ms) s inner p f e = f.1 (inr (heads m mark.Split ms inner e))
+  here-not_split k lines (m ∷ ms) s inner p f e = f.1 (inr (heads m split ms inner e))
 
-  tree-same : (lacking k : ℕ) (lines : List (List Group)) (marks s t : List Mark) (p q : Reason) → Failing lacking k lines marks s p → Failing lacking k lines marks t q → AreSame s t p q
-  tree-same zero k lines marks s t p q a b = here-same (Closing k lines) reason_of marks s t p q a b
-  tree-same (suc lacking) k lines marks s t p q (inl a) (inl b) = here-same (λ m. Closing k lines m ⊎ (m ≡ mark.Split)) reason_of marks s t p q a b
+  tree-same : (lacking k : ℕ) (lines : List (List Group)) (marks s t : List M) (p q : Reason) → Failing lacking k lines marks s p → Failing lacking k lines marks t q → AreSame s t p q
+  tree-same zero k lines marks s t p q a b = here-same (Closing k lines) reason_by marks s t p q a b
+  tree-same (suc lacking) k lines marks s t p q (inl a) (inl b) = here-same (λ m. Closing k lines m ⊎ (m ≡ split)) reason_by marks s t p q a b
   tree-same (suc lacking) k lines marks s t p q (inl a) (inr b) = absurd (here-not_split k lines marks s b.0 p a b.1)
   tree-same (suc lacking) k lines marks s t p q (inr a) (inl b) = absurd (here-not_split k lines marks t a.0 q b a.1)
   tree-same (suc lacking) k lines marks s t p q (inr a) (inr b) =
-      let same : a.0 ≡ b.0 = tails mark.Split mark.Split a.0 b.0 (sym a.1 ∙ b.1) in
-      let Tree = IsMarkTree I mark.Split Closing lacking (suc k) in
+      let same : a.0 ≡ b.0 = tails split split a.0 b.0 (sym a.1 ∙ b.1) in
+      let Tree = IsMarkTree I split Closing lacking (suc k) in
       in_order-same Tree (Failing lacking (suc k))
-      (λ x m r u. tree-unique I mark.Split Closing reason_of (λ k lines h. h) lacking (suc k) x m r u)
-      (λ x m r u why. tree-not_fails I mark.Split Closing reason_of (λ k lines h. h) lacking (suc k) x m r u why)
+      (λ x m r u. tree-unique I split Closing reason_by no_split lacking (suc k) x m r u)
+      (λ x m r u why. tree-not_fails I split Closing reason_by no_split lacking (suc k) x m r u why)
       (λ x m u v p q. tree-same lacking (suc k) x m u v p q) (children_of I k lines) b.0 s t p q
       (subst (λ u. FailInOrder Tree (Failing lacking (suc k)) (children_of I k lines) u s p) same a.2) b.2
 
-  marks-same : (marks s t : List Mark) (p q : Reason) → MarksFail I mark.Split Closing reason_of marks s p → MarksFail I mark.Split Closing reason_of marks t q → AreSame s t p q
+  marks-same : (marks s t : List M) (p q : Reason) → MarksFail I split Closing reason_by marks s p → MarksFail I split Closing reason_by marks t q → AreSame s t p q
   marks-same marks s t p q (inl a) (inl b) = tree-same (length I.ships) 0 root_lines marks s t p q a b
-  marks-same marks s t p q (inl a) (inr b) = absurd (tree-not_fails I mark.Split Closing reason_of (λ k lines h. h) (length I.ships) 0 root_lines marks t s p b.2 a)
-  marks-same marks s t p q (inr a) (inl b) = absurd (tree-not_fails I mark.Split Closing reason_of (λ k lines h. h) (length I.ships) 0 root_lines marks s t q a.2 b)
+  marks-same marks s t p q (inl a) (inr b) = absurd (tree-not_fails I split Closing reason_by no_split (length I.ships) 0 root_lines marks t s p b.2 a)
+  marks-same marks s t p q (inr a) (inl b) = absurd (tree-not_fails I split Closing reason_by no_split (length I.ships) 0 root_lines marks s t q a.2 b)
   marks-same marks s t p q (inr a) (inr b) = record {
-    left = tree-unique I mark.Split Closing reason_of (λ k lines h. h) (length I.ships) 0 root_lines marks s t a.2 b.2;
+    left = tree-unique I split Closing reason_by no_split (length I.ships) 0 root_lines marks s t a.2 b.2;
     why = a.1 ∙ sym b.1;
   }
 
@@ -103,25 +100,32 @@ cut-same I cuts c d p q a b =
       ]
     ]
 
--- two first failures of a certificate are the same
+-- two first failures are the same, of a certificate or an open one
+module _ {M : Type 0} (I : Instance) (split : M) (Closing : ℕ → List (List Group) → M → Type 0) (reason_by : M → Reason) (no_split : (k : ℕ) (lines : List (List Group)) → Closing k lines split → ⊥) (cost : ℕ) (cuts : List CertCut) (plan : Plan) (tree : List M) where
+  abbrev FailsFirst : Spot2 → Reason → Type 0
+  FailsFirst = FailsAt I cost cuts plan tree (MarksFail I split Closing reason_by tree)
+
+  pub failing-same : (p q : Spot2) (r s : Reason) → FailsFirst p r → FailsFirst q s → AreSameFailure p q r s
+  failing-same place.Plan place.Plan r s a b = record { place = refl; reason = a.1 ∙ sym b.1 }
+  failing-same place.Plan place.Cost r s a b = absurd (a.0 b.0)
+  failing-same place.Plan (place.Cut d) r s a b = absurd (a.0 b.0)
+  failing-same place.Plan (place.Tree n) r s a b = absurd (a.0 b.0)
+  failing-same place.Cost place.Plan r s a b = absurd (b.0 a.0)
+  failing-same place.Cost place.Cost r s a b = record { place = refl; reason = a.2 ∙ sym b.2 }
+  failing-same place.Cost (place.Cut d) r s a b = absurd (a.1 b.1)
+  failing-same place.Cost (place.Tree n) r s a b = absurd (a.1 b.1)
+  failing-same (place.Cut c) place.Plan r s a b = absurd (b.0 a.0)
+  failing-same (place.Cut c) place.Cost r s a b = absurd (b.1 a.1)
+  failing-same (place.Cut c) (place.Cut d) r s a b =
+      let same = cut-same I cuts c d r s a.2 b.2 in
+      record { place = ap place.Cut same.0; reason = same.1 }
+  failing-same (place.Cut c) (place.Tree n) r s a b = absurd (unproved-is I cuts c r a.2 (subst (IsProved I) a.2.is (b.2 c a.2.cut a.2.known)))
+  failing-same (place.Tree m) place.Plan r s a b = absurd (b.0 a.0)
+  failing-same (place.Tree m) place.Cost r s a b = absurd (b.1 a.1)
+  failing-same (place.Tree m) (place.Cut d) r s a b = absurd (unproved-is I cuts d s b.2 (subst (IsProved I) b.2.is (a.2 d b.2.cut b.2.known)))
+  failing-same (place.Tree m) (place.Tree n) r s a b =
+      let same = marks-same I split Closing reason_by no_split tree a.3 b.3 r s a.5 b.5 in
+      record { place = ap place.Tree (a.4 ∙ ap (λ u. length tree - length u) same.left ∙ sym b.4); reason = same.why }
+
 pub fails-same : (I : Instance) (C : Certificate) (p q : Spot2) (r s : Reason) → Fails I C p r → Fails I C q s → AreSameFailure p q r s
-fails-same I C place.Plan place.Plan r s a b = record { place = refl; reason = a.1 ∙ sym b.1 }
-fails-same I C place.Plan place.Cost r s a b = absurd (a.0 b.0)
-fails-same I C place.Plan (place.Cut d) r s a b = absurd (a.0 b.0)
-fails-same I C place.Plan (place.Tree n) r s a b = absurd (a.0 b.0)
-fails-same I C place.Cost place.Plan r s a b = absurd (b.0 a.0)
-fails-same I C place.Cost place.Cost r s a b = record { place = refl; reason = a.2 ∙ sym b.2 }
-fails-same I C place.Cost (place.Cut d) r s a b = absurd (a.1 b.1)
-fails-same I C place.Cost (place.Tree n) r s a b = absurd (a.1 b.1)
-fails-same I C (place.Cut c) place.Plan r s a b = absurd (b.0 a.0)
-fails-same I C (place.Cut c) place.Cost r s a b = absurd (b.1 a.1)
-fails-same I C (place.Cut c) (place.Cut d) r s a b =
-    let same = cut-same I C.cuts c d r s a.2 b.2 in
-    record { place = ap place.Cut same.0; reason = same.1 }
-fails-same I C (place.Cut c) (place.Tree n) r s a b = absurd (unproved-is I C.cuts c r a.2 (subst (IsProved I) a.2.is (b.2 c a.2.cut a.2.known)))
-fails-same I C (place.Tree m) place.Plan r s a b = absurd (b.0 a.0)
-fails-same I C (place.Tree m) place.Cost r s a b = absurd (b.1 a.1)
-fails-same I C (place.Tree m) (place.Cut d) r s a b = absurd (unproved-is I C.cuts d s b.2 (subst (IsProved I) b.2.is (a.2 d b.2.cut b.2.known)))
-fails-same I C (place.Tree m) (place.Tree n) r s a b =
-    let same = marks-same I C.cost C.cuts C.tree a.3 b.3 r s a.5 b.5 in
-    record { place = ap place.Tree (a.4 ∙ ap (λ u. length C.tree - length u) same.left ∙ sym b.4); reason = same.why }
+fails-same I C p q r s a b = failing-same I mark.Split (Closes I C.cost C.cuts) reason_of (λ k lines h. h) C.cost C.cuts C.plan C.tree p q r s a b

@@ -38,14 +38,14 @@ module _ (claim : Claim) where
 
   -- a mark that closes the node is a tree of it
   pub leaf-read : (node : Node) (m : Mark) (marks rest : List Mark) → marks ≡ m ∷ rest → Closing node.depth node.lines m → IsRead claim node marks rest
-  leaf-read node m marks rest is closes = record { tree = subst (λ u. IsTreeOf claim node.depth node.lines u rest) (sym is) (leaf-tree I claim.cost claim.cuts.now (length I.ships - node.depth) node.depth node.lines m rest closes) }
+  leaf-read node m marks rest is closes = record { tree = subst (λ u. IsTreeOf claim node.depth node.lines u rest) (sym is) (leaf-tree I mark.Split Closing reason_of (length I.ships - node.depth) node.depth node.lines m rest closes) }
 
   -- reading ends at a mark that doesn't close the node, a split where no ship is lacking among them
   pub leaf-stuck : (node : Node) (m : Mark) (marks rest : List Mark) → marks ≡ m ∷ rest → (Closing node.depth node.lines m → ⊥) → (m ≡ mark.Split → length I.ships ≤ node.depth) → IsStuck claim node marks marks (reason_of m)
   leaf-stuck node m marks rest is open' whole = record {
     sticks =
         subst (λ u. TreeSticks claim node.depth node.lines u u (reason_of m)) (sym is)
-        (wrong-tree I claim.cost claim.cuts.now (length I.ships - node.depth) node.depth node.lines m rest open' (λ e. let held = whole e in omega (arith, held)));
+        (wrong-tree I mark.Split Closing reason_of (length I.ships - node.depth) node.depth node.lines m rest open' (λ e. let held = whole e in omega (arith, held)));
   }
 
   -- a split mark and the trees of all children are a tree of a node that lacks a ship
@@ -84,7 +84,7 @@ module _ (claim : Claim) where
       }
 
   -- the lines of a child that is made
-  child-lines : (node : Node) (i : ℕ) (lines : List (List Group)) → i < length (children I node) → slice_get (children I node) i ≡ Some lines → child_lines I node i ≡ lines
+  pub child-lines : (node : Node) (i : ℕ) (lines : List (List Group)) → i < length (children I node) → slice_get (children I node) i ≡ Some lines → child_lines I node i ≡ lines
   child-lines node i lines within made =
       let own = slice_get-get_or (children I node) i root_lines within in
       cc
@@ -115,7 +115,7 @@ module _ (claim : Claim) where
       record {
         tree =
             subst (λ u. IsTreeOf claim (suc node.depth) (child_lines I node i) u rest) (sym is)
-            (leaf-tree I claim.cost claim.cuts.now (length I.ships - suc node.depth) (suc node.depth) (child_lines I node i) mark.Bound rest (omega (arith, high, deep)));
+            (leaf-tree I mark.Split Closing reason_of (length I.ships - suc node.depth) (suc node.depth) (child_lines I node i) mark.Bound rest (omega (arith, high, deep)));
       }
 
   pub bound-stuck : (node : Node) (i : ℕ) (marks rest : List Mark) → marks ≡ mark.Bound ∷ rest → (claim.cost ≤ bound_of I (node.depth + 1) (child_lines I node i) → ⊥) → IsChildStuck claim node i marks marks reason.BoundLow
@@ -125,11 +125,11 @@ module _ (claim : Claim) where
       record {
         sticks =
             subst (λ u. TreeSticks claim (suc node.depth) (child_lines I node i) u u reason.BoundLow) (sym is)
-            (wrong-tree I claim.cost claim.cuts.now (length I.ships - suc node.depth) (suc node.depth) (child_lines I node i) mark.Bound rest (λ high. low (omega (arith, deep, high))) (λ e. absurd cc));
+            (wrong-tree I mark.Split Closing reason_of (length I.ships - suc node.depth) (suc node.depth) (child_lines I node i) mark.Bound rest (λ high. low (omega (arith, deep, high))) (λ e. absurd cc));
       }
 
   pub read-shorter : (node : Node) (marks rest : List Mark) → IsRead claim node marks rest → length rest ≤ length marks
-  read-shorter node marks rest h = tree-shorter I claim.cost claim.cuts.now (length I.ships - node.depth) node.depth node.lines marks rest h.tree
+  read-shorter node marks rest h = tree-shorter I mark.Split Closing reason_of (length I.ships - node.depth) node.depth node.lines marks rest h.tree
 
   pub sticks-shorter : (node : Node) (marks s : List Mark) (why : Reason) → IsStuck claim node marks s why → length s ≤ length marks
-  sticks-shorter node marks s why h = stuck-shorter I claim.cost claim.cuts.now (length I.ships - node.depth) node.depth node.lines marks s why h.sticks
+  sticks-shorter node marks s why h = stuck-shorter I mark.Split Closing reason_of (length I.ships - node.depth) node.depth node.lines marks s why h.sticks

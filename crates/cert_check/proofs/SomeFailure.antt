@@ -5,18 +5,18 @@ use Rattle.std.proofs.lemmas.List.{append-nil}
 use Rattle.std.proofs.lemmas.List.Elements.{All-nil, All-push, All-same}
 use Rattle.lock_model.specs.declared.instance.Instance.{Instance}
 use Rattle.lock_model.specs.declared.group.Group.{Group}
+use Rattle.lock_model.specs.declared.plan.Plan.{Plan}
 use Rattle.lock_rules.specs.Node.{root_lines}
 use Rattle.lock_rules.specs.Children.{children_of}
 use Rattle.lock_rules.specs.Plan.{IsLegal, cost_of}
 use Rattle.refute_rules.specs.Trees.{AreInOrder}
-use Rattle.search_rules.specs.declared.certificate.Mark.{Mark}
 use Rattle.search_rules.specs.declared.certificate.Mark.TheVariants as mark
 use Rattle.search_rules.specs.declared.certificate.Spot2.{Spot2}
 use Rattle.search_rules.specs.declared.certificate.Spot2.TheVariants as place
 use Rattle.search_rules.specs.declared.certificate.Reason.{Reason}
 use Rattle.search_rules.specs.declared.certificate.Reason.TheVariants as reason
 use Rattle.search_rules.specs.Certificates.{CertCut, Certificate, IsShaped, IsProved, Closes, IsMarkTree, Accepts}
-use Rattle.search_rules.specs.Failures.{FailInOrder, FailsHere, TreeFails, MarksFail, CutFails, reason_of, Fails}
+use Rattle.search_rules.specs.Failures.{FailInOrder, FailsHere, TreeFails, MarksFail, CutFails, FailsAt, reason_of, Fails}
 
 -- it can't be otherwise
 abbrev Must : Type 0 → Type 0
@@ -57,25 +57,25 @@ here-ends Closing reason_by (m ∷ ms) =
       | inr open' ↦ must (inr (m ∷ ms, reason_by m, (refl, open', refl)))
     ])
 
-module _ (I : Instance) (cost : ℕ) (cuts : List CertCut) where
-  abbrev Tree : ℕ → ℕ → List (List Group) → List Mark → List Mark → Type 0
-  Tree = IsMarkTree I mark.Split (Closes I cost cuts)
+module _ {M : Type 0} (I : Instance) (split : M) (Closing : ℕ → List (List Group) → M → Type 0) (reason_by : M → Reason) where
+  abbrev Tree : ℕ → ℕ → List (List Group) → List M → List M → Type 0
+  Tree = IsMarkTree I split Closing
 
-  abbrev Failing : ℕ → ℕ → List (List Group) → List Mark → List Mark → Reason → Type 0
-  Failing = TreeFails I mark.Split (Closes I cost cuts) reason_of
+  abbrev Failing : ℕ → ℕ → List (List Group) → List M → List M → Reason → Type 0
+  Failing = TreeFails I split Closing reason_by
 
-  tree-ends : (lacking k : ℕ) (lines : List (List Group)) (marks : List Mark) → Must (Ends (Tree lacking k lines marks) (Failing lacking k lines marks))
+  tree-ends : (lacking k : ℕ) (lines : List (List Group)) (marks : List M) → Must (Ends (Tree lacking k lines marks) (Failing lacking k lines marks))
   tree-ends zero k lines marks =
-      next (here-ends (Closes I cost cuts k lines) reason_of marks) (λ first. elim first [
+      next (here-ends (Closing k lines) reason_by marks) (λ first. elim first [
         | inl a ↦ must (inl (a.1, (a.0, a.2, a.3)))
         | inr f ↦ must (inr (f.0, f.1, f.2))
       ])
   tree-ends (suc lacking) k lines marks =
-      next (here-ends (λ m. Closes I cost cuts k lines m ⊎ (m ≡ mark.Split)) reason_of marks) (λ first. elim first [
+      next (here-ends (λ m. Closing k lines m ⊎ (m ≡ split)) reason_by marks) (λ first. elim first [
         | inl a ↦ elim a.2 [
           | inl closes ↦ must (inl (a.1, inl (a.0, closes, a.3)))
-          | inr split ↦
-              let front : marks ≡ mark.Split ∷ a.1 = subst (λ m. marks ≡ m ∷ a.1) split a.3 in
+          | inr same ↦
+              let front : marks ≡ split ∷ a.1 = subst (λ m. marks ≡ m ∷ a.1) same a.3 in
               next (in_order-ends (Tree lacking (suc k)) (Failing lacking (suc k)) (λ x m. tree-ends lacking (suc k) x m) (children_of I k lines) a.1) (λ inner. elim inner [
                 | inl b ↦ must (inl (b.0, inr (a.1, front, b.1)))
                 | inr b ↦ must (inr (b.0, b.1, inr (a.1, front, b.2)))
@@ -84,11 +84,11 @@ module _ (I : Instance) (cost : ℕ) (cuts : List CertCut) where
         | inr f ↦ must (inr (f.0, f.1, inl f.2))
       ])
 
-  left-over : (marks rest : List Mark) → Tree (length I.ships) 0 root_lines marks rest → Tree (length I.ships) 0 root_lines marks [] ⊎ ((stuck : List Mark) × (r : Reason) × MarksFail I mark.Split (Closes I cost cuts) reason_of marks stuck r)
+  left-over : (marks rest : List M) → Tree (length I.ships) 0 root_lines marks rest → Tree (length I.ships) 0 root_lines marks [] ⊎ ((stuck : List M) × (r : Reason) × MarksFail I split Closing reason_by marks stuck r)
   left-over marks [] tree = inl tree
   left-over marks (m ∷ ms) tree = inr (m ∷ ms, reason.TreeLong, inr ((λ e. absurd cc), refl, tree))
 
-  marks-end : (marks : List Mark) → Must (Tree (length I.ships) 0 root_lines marks [] ⊎ ((stuck : List Mark) × (r : Reason) × MarksFail I mark.Split (Closes I cost cuts) reason_of marks stuck r))
+  marks-end : (marks : List M) → Must (Tree (length I.ships) 0 root_lines marks [] ⊎ ((stuck : List M) × (r : Reason) × MarksFail I split Closing reason_by marks stuck r))
   marks-end marks =
       next (tree-ends (length I.ships) 0 root_lines marks) (λ read. elim read [
         | inl a ↦ must (left-over marks a.0 a.1)
@@ -120,26 +120,40 @@ cuts-end I before (c ∷ cs) proved =
       ])
     ])
 
-accepted-or_fails : (I : Instance) (C : Certificate) → Must (Accepts I C ⊎ ((p : Spot2) × (r : Reason) × Fails I C p r))
-accepted-or_fails I C =
-    next (one-way (IsLegal I C.plan)) (λ plan. elim plan [
-      | inr broken ↦ must (inr (place.Plan, reason.PlanIllegal, (broken, refl)))
-      | inl legal ↦ next (one-way (cost_of I C.plan ≡ C.cost)) (λ price. elim price [
-        | inr wrong ↦ must (inr (place.Cost, reason.CostWrong, (legal, wrong, refl)))
-        | inl cost ↦ next (cuts-end I [] C.cuts (All-nil (IsProved I))) (λ cuts. elim cuts [
-          | inr f ↦ must (inr (place.Cut f.0, f.1, (legal, cost, f.2)))
-          | inl proved ↦ next (marks-end I C.cost C.cuts C.tree) (λ marks. elim marks [
-            | inl tree ↦ must (inl (record { legal = legal; cost = cost; cuts = proved; tree = tree }))
-            | inr f ↦ must (inr (place.Tree (length C.tree - length f.0), f.1, (legal, cost, proved, f.0, refl, f.2)))
+-- what holds or fails is told whole, of a certificate or an open one
+module _ {M : Type 0} (I : Instance) (split : M) (Closing : ℕ → List (List Group) → M → Type 0) (reason_by : M → Reason) (cost : ℕ) (cuts : List CertCut) (plan : Plan) (tree : List M) where
+  abbrev Holds : Type 0
+  Holds = IsLegal I plan × (cost_of I plan ≡ cost) × All (IsProved I) cuts × IsMarkTree I split Closing (length I.ships) 0 root_lines tree []
+
+  abbrev FailsFirst : Spot2 → Reason → Type 0
+  FailsFirst = FailsAt I cost cuts plan tree (MarksFail I split Closing reason_by tree)
+
+  holds-or_fails : Must (Holds ⊎ ((p : Spot2) × (r : Reason) × FailsFirst p r))
+  holds-or_fails =
+      next (one-way (IsLegal I plan)) (λ lawful. elim lawful [
+        | inr broken ↦ must (inr (place.Plan, reason.PlanIllegal, (broken, refl)))
+        | inl legal ↦ next (one-way (cost_of I plan ≡ cost)) (λ price. elim price [
+          | inr wrong ↦ must (inr (place.Cost, reason.CostWrong, (legal, wrong, refl)))
+          | inl costs ↦ next (cuts-end I [] cuts (All-nil (IsProved I))) (λ told. elim told [
+            | inr f ↦ must (inr (place.Cut f.0, f.1, (legal, costs, f.2)))
+            | inl proved ↦ next (marks-end I split Closing reason_by tree) (λ marks. elim marks [
+              | inl whole ↦ must (inl (legal, costs, proved, whole))
+              | inr f ↦ must (inr (place.Tree (length tree - length f.0), f.1, (legal, costs, proved, f.0, refl, f.2)))
+            ])
           ])
         ])
       ])
-    ])
+
+  -- what doesn't hold fails
+  pub fails-first : (Holds → ⊥) → ((p : Spot2) (r : Reason) → FailsFirst p r → ⊥) → ⊥
+  fails-first other never =
+      holds-or_fails (λ one. elim one [
+        | inl good ↦ other good
+        | inr f ↦ never f.0 f.1 f.2
+      ])
 
 -- a certificate that isn't accepted fails
 pub fails-somewhere : (I : Instance) (C : Certificate) → (Accepts I C → ⊥) → ((p : Spot2) (r : Reason) → Fails I C p r → ⊥) → ⊥
 fails-somewhere I C other never =
-    accepted-or_fails I C (λ one. elim one [
-      | inl good ↦ other good
-      | inr f ↦ never f.0 f.1 f.2
-    ])
+    fails-first I mark.Split (Closes I C.cost C.cuts) reason_of C.cost C.cuts C.plan C.tree
+    (λ h. other (record { legal = h.0; cost = h.1; cuts = h.2; tree = h.3 })) never

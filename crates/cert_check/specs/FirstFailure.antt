@@ -1,12 +1,14 @@
 -- The first failure of the marks, and that a certificate that isn't accepted has one first failure.
-use Rattle.std.specs.Prelude.{ℕ, ◌≡◌, ◌-◌, List, length}
+use Rattle.std.specs.Prelude.{ℕ, ◌≡◌, ◌-◌, List, [], length, All}
 use Rattle.lock_model.specs.declared.instance.Instance.{Instance}
+use Rattle.lock_model.specs.declared.plan.Plan.{Plan}
+use Rattle.lock_rules.specs.Plan.{IsLegal, cost_of}
 use Rattle.search_rules.specs.declared.certificate.Spot2.{Spot2}
 use Rattle.search_rules.specs.declared.certificate.Reason.{Reason}
 use Rattle.search_rules.specs.declared.certificate.Mark.{Mark}
 use Rattle.search_rules.specs.declared.certificate.Mark.TheVariants as mark
-use Rattle.search_rules.specs.Certificates.{CertCut, Certificate, Closes, Accepts}
-use Rattle.search_rules.specs.Failures.{MarksFail, reason_of, Fails}
+use Rattle.search_rules.specs.Certificates.{CertCut, Certificate, IsProved, Closes, Accepts}
+use Rattle.search_rules.specs.Failures.{MarksFail, FailsAt, reason_of, Fails}
 
 -- the same place and the same reason
 pub record AreSameFailure (p q : Spot2) (r s : Reason) : Type 0 where
@@ -18,6 +20,16 @@ pub record HaveOneFailure : Type 0 where
   pub same : (I : Instance) (C : Certificate) (p q : Spot2) (r s : Reason) → Fails I C p r → Fails I C q s → AreSameFailure p q r s
   pub none : (I : Instance) (C : Certificate) (p : Spot2) (r : Reason) → Accepts I C → Fails I C p r → ⊥
   pub some : (I : Instance) (C : Certificate) → (Accepts I C → ⊥) → ((p : Spot2) (r : Reason) → Fails I C p r → ⊥) → ⊥
+
+-- the plan is legal and has the cost, and each cut is proved
+pub record HoldBeforeMarks (I : Instance) (cost : ℕ) (cuts : List CertCut) (plan : Plan) : Type 0 where
+  pub legal : IsLegal I plan
+  pub costs : cost_of I plan ≡ cost
+  pub proved : All (IsProved I) cuts
+
+-- the plan, the cost or a cut fails first, whatever marks there are
+pub record FailBeforeMarks (I : Instance) (cost : ℕ) (cuts : List CertCut) (plan : Plan) (p : Spot2) (r : Reason) : Type 0 where
+  pub fails : FailsAt {M = Mark} I cost cuts plan [] (λ stuck why. ⊥) p r
 
 -- the marks fail first at mark p
 pub record FailAtMark (I : Instance) (cost : ℕ) (cuts : List CertCut) (marks : List Mark) (p : ℕ) (r : Reason) : Type 0 where

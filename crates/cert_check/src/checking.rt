@@ -7,9 +7,9 @@ ghost use Rattle.search_rules.specs.Certificates.{IsShaped, IsProved, Closes, Is
 ghost use Rattle.search_rules.specs.Failures.{Fails};
 ghost use Rattle.search_rules.specs.declared.certificate.Spot2.{Spot2 as Place};
 ghost use Rattle.search_rules.specs.declared.certificate.Reason.{Reason as Why};
-ghost use Rattle.cert_check.specs.FirstFailure.{FailAtMark};
+ghost use Rattle.cert_check.specs.FirstFailure.{HoldBeforeMarks, FailBeforeMarks, FailAtMark};
 
-use crate::certificate::{Answer, Certificate};
+use crate::certificate::{Answer, CertCuts, Certificate};
 use crate::closing::Claim;
 use crate::cuts::first_unproved;
 use crate::reading::read_tree;
@@ -68,6 +68,31 @@ fn first_wrong_mark_of(instance: &Instance, certificate: &Certificate) -> Option
     first_wrong_mark(&claim, certificate.tree.as_slice())
 }
 
+/// The first failure of what comes before the marks of a certificate: its plan, then its cost in
+/// minutes, then its cuts in order. None where the plan is legal and costs as much, and each cut is
+/// proved. Refuses want of memory alone.
+pub fn first_failure_before_marks(
+    alloc: Global,
+    instance: &Instance,
+    cost: u64,
+    cuts: &CertCuts,
+    plan: &Plan,
+) -> Result<Option<(Spot2, Reason)>, NoMemory>
+    ensures none { IfOk result (λ first. IfNone first (HoldBeforeMarks instance.now cost cuts.now plan.now)) }
+    ensures some { IfOk result (λ first. IfSome first (λ f. FailBeforeMarks instance.now cost cuts.now plan.now f.0 f.1)) }
+{
+    if !is_legal(instance, plan) {
+        return Ok(Some((Spot2::Plan, Reason::PlanIllegal)));
+    }
+    if !costs(instance, plan, cost) {
+        return Ok(Some((Spot2::Cost, Reason::CostWrong)));
+    }
+    if let Some((number, reason)) = first_unproved(alloc, instance, cuts.as_slice())? {
+        return Ok(Some((Spot2::Cut(number), reason)));
+    }
+    Ok(None)
+}
+
 // The first failure of a certificate. None where it is accepted.
 fn first_failure(
     alloc: Global,
@@ -77,14 +102,9 @@ fn first_failure(
     ensures none { IfOk result (λ first. IfNone first (Accepts instance.now certificate.now)) }
     ensures some { IfOk result (λ first. IfSome first (λ f. Fails instance.now certificate.now f.0 f.1)) }
 {
-    if !is_legal(instance, &certificate.plan) {
-        return Ok(Some((Spot2::Plan, Reason::PlanIllegal)));
-    }
-    if !costs(instance, &certificate.plan, certificate.cost) {
-        return Ok(Some((Spot2::Cost, Reason::CostWrong)));
-    }
-    if let Some((number, reason)) = first_unproved(alloc, instance, certificate.cuts.as_slice())? {
-        return Ok(Some((Spot2::Cut(number), reason)));
+    let Certificate { cost, cuts, plan, .. } = certificate;
+    if let Some(first) = first_failure_before_marks(alloc, instance, *cost, cuts, plan)? {
+        return Ok(Some(first));
     }
     if let Some((number, reason)) = first_wrong_mark_of(instance, certificate) {
         return Ok(Some((Spot2::Tree(number), reason)));

@@ -15,18 +15,18 @@ use lock_model::Instance;
 use master_branch::Node;
 use search_rules::{Mark, Reason};
 
-// What the marks of a certificate are held against: the instance, its roster and its throughput, and
-// the cost and the cuts of the certificate.
+/// What the marks of a certificate are held against: the instance, its roster and its throughput, and
+/// the cost in minutes and the cuts of the certificate, each about a chamber and ships of the instance.
 #[derive(Drop)]
-pub(crate) struct Claim<'c> {
-    pub(crate) instance: &'c Instance,
-    pub(crate) roster: &'c Roster,
-    pub(crate) throughput: u64,
-    pub(crate) cost: u64,
-    pub(crate) cuts: &'c [CertCut],
-    pub(crate) ghost rostered: { IsRosterOf instance.now roster.now },
-    pub(crate) ghost told: { throughput ≡ throughput_of instance.now },
-    pub(crate) ghost shaped: { All (IsShaped instance.now) cuts.now },
+pub struct Claim<'c> {
+    pub instance: &'c Instance,
+    pub roster: &'c Roster,
+    pub throughput: u64,
+    pub cost: u64,
+    pub cuts: &'c [CertCut],
+    pub ghost rostered: { IsRosterOf instance.now roster.now },
+    pub ghost told: { throughput ≡ throughput_of instance.now },
+    pub ghost shaped: { All (IsShaped instance.now) cuts.now },
 }
 
 // Whether there is a cut of this number, and it hits a group of the node.
@@ -58,8 +58,8 @@ fn is_probed(claim: &Claim, node: &Node, ship: u8) -> bool
     is_missing(claim.instance, node, ship) && probe(claim.instance, node, ship) >= claim.cost
 }
 
-// Whether a mark closes the node.
-pub(crate) fn closes(claim: &Claim, node: &Node, mark: Mark) -> bool
+/// Whether a mark closes the node.
+pub fn closes(claim: &Claim, node: &Node, mark: Mark) -> bool
     requires { IsNodeOf claim.now.instance.now node.now }
     ensures { IsTrue result ↔ Closes claim.now.instance.now claim.now.cost claim.now.cuts.now node.now.depth node.now.lines mark }
 {
@@ -72,8 +72,8 @@ pub(crate) fn closes(claim: &Claim, node: &Node, mark: Mark) -> bool
     }
 }
 
-// Why a mark that should close a node doesn't; a split is wrong where no ship is lacking.
-pub(crate) fn reason_against(mark: Mark) -> Reason
+/// Why a mark that should close a node doesn't; a split is wrong where no ship is lacking.
+pub fn reason_against(mark: Mark) -> Reason
     ensures { result ≡ reason_of mark }
 {
     match mark {

@@ -8,6 +8,10 @@
 //! place for one reason. The marks are read once along their tree, and the code shares nothing with
 //! the search but definitions.
 //!
+//! The parts of the check serve checkers of other certificates: `first_failure_before_marks` (the
+//! plan, the cost and the cuts), and against a `Claim` `closes` and `reason_against` (one mark at a
+//! node), `child_reaches` and `child_of` (the children of a node).
+//!
 //! Definitions: `search_rules` says which certificates are accepted (`specs/Certificates`) and
 //! where one fails first (`Failures`). Here `specs/Cuts` says what is wrong with a cut, `Hitting`
 //! what a cut hits line by line, `Reading` what is read of a node and of its children, and
@@ -25,6 +29,8 @@ mod reading;
 mod tests;
 
 pub use certificate::{Answer, CertCut, CertCuts, Certificate, MarkList};
-pub use checking::check;
+pub use checking::{check, first_failure_before_marks};
+pub use closing::{Claim, closes, reason_against};
 pub use laws::one_first_failure;
+pub use reading::{child_of, child_reaches};
 pub use search_rules::{Mark, Reason, Spot2};

@@ -60,9 +60,9 @@ fn tell_reached(claim: &Claim, node: &Node, told: &mut Option<Reached>)
     }
 }
 
-// Whether the bound of child `i` of a node reaches the cost. That is told of all children together,
-// where the first of them is asked for.
-fn child_reaches(claim: &Claim, node: &Node, told: &mut Option<Reached>, i: u32) -> bool
+/// Whether the bound of child `i` of a node reaches the cost. That is told of all children together,
+/// where the first of them is asked for.
+pub fn child_reaches(claim: &Claim, node: &Node, told: &mut Option<Reached>, i: u32) -> bool
     requires node { IsNodeOf claim.now.instance.now node.now }
     requires lacks { node.now.depth < length claim.now.instance.now.ships }
     requires within { i < length (children claim.now.instance.now node.now) }
@@ -77,8 +77,8 @@ fn child_reaches(claim: &Claim, node: &Node, told: &mut Option<Reached>, i: u32)
     }
 }
 
-// Child `i` of a node.
-fn child_of(claim: &Claim, node: &Node, i: u32) -> Node
+/// Child `i` of a node that lacks a ship, made for it.
+pub fn child_of(claim: &Claim, node: &Node, i: u32) -> Node
     requires node { IsNodeOf claim.now.instance.now node.now }
     requires lacks { node.now.depth < length claim.now.instance.now.ships }
     requires within { i < length (children claim.now.instance.now node.now) }

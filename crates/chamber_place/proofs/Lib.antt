@@ -1,5 +1,4 @@
 pub mod OptionLemmas
-pub mod RankLemmas
 pub mod EdgeLemmas
 pub mod WayLemmas
 pub mod EnterLemmas

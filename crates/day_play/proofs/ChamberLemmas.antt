@@ -38,13 +38,13 @@ use Rattle.lock_rules.proofs.LineLemmas.{length-numbers}
 use Rattle.day_play.proofs.OrderLemmas.{ordered-above, put_each-ordered, put_each-among, put_each-from, numbers-within, numbers-among, length-put_each}
 use Rattle.day_play.proofs.RunLemmas.{RunsHere}
 
-apart-swap : (d : Deck) (s : Size) (p : Spot) (t : Size) (q : Spot) → AreApart d s p t q → AreApart d t q s p
+pub apart-swap : (d : Deck) (s : Size) (p : Spot) (t : Size) (q : Spot) → AreApart d s p t q → AreApart d t q s p
 apart-swap d s p t q (inl a) = inr (inl a)
 apart-swap d s p t q (inr (inl b)) = inl b
 apart-swap d s p t q (inr (inr (inl a))) = inr (inr (inr a))
 apart-swap d s p t q (inr (inr (inr b))) = inr (inr (inl b))
 
-together-swap : (s t : Size) → GoTogether s t → GoTogether t s
+pub together-swap : (s t : Size) → GoTogether s t → GoTogether t s
 together-swap s t go = record { peace = λ clash. go.peace (record { differ = λ e. clash.differ (sym e); first = clash.second; second = clash.first }) }
 
 size_at-of : (f : ℕ → Size) (ships : List ℕ) (k : ℕ) → k < length ships → slice_index_or (map f ships) k no_size ≡ f (slice_index_or ships k 0)
@@ -57,7 +57,7 @@ nearer : (d : Deck) (s : Size) (p : Spot) (t : Size) (q : Spot) (rank : Rank) (a
 nearer d s p t q Left across wide inside beside = omega (arith, beside, wide)
 nearer d s p t q Right across wide inside beside = omega (arith, beside, wide, inside)
 
-other_before : (way : Way) → other_side (side_before way) ≡ stand_after way
+pub other_before : (way : Way) → other_side (side_before way) ≡ stand_after way
 other_before Up = refl
 other_before Down = refl
 

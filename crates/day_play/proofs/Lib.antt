@@ -5,3 +5,9 @@ mod ChamberLemmas
 mod MixLemmas
 mod PlaceLemmas
 mod DayLemmas
+mod TimesLemmas
+mod SoundLemmas
+mod StateLemmas
+mod WentLemmas
+mod OnceLemmas
+mod LegalDayLemmas

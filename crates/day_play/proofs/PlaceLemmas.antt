@@ -17,11 +17,11 @@ use Rattle.lock_rules.specs.Lines.{lockage_at, line_of}
 use Rattle.lock_rules.specs.Plan.{IsLegal, times_in}
 use Rattle.lock_rules.proofs.LineLemmas.{sum_by-lines}
 use Rattle.lock_rules.proofs.SplitLemmas.{served_in-sum}
-use Rattle.lock_rules.proofs.CountLemmas.{served_in-outside}
+use Rattle.lock_rules.proofs.CountLemmas.{served_in-outside, times_in-between, times_in-above}
 use Rattle.lock_rules.proofs.LegalLemmas.{legal-chambers, legal-ships}
 use Rattle.chamber_times.specs.Walk.{lockages_at, line_places, insert_place, sorted_places}
 use Rattle.chamber_times.proofs.WalkLemmas.{lockages_at-line}
-use Rattle.day_play.specs.Order.{put_by, put_each, minute_of}
+use Rattle.day_play.specs.Order.{put_by, put_each, minute_of, IsOrdered}
 use Rattle.day_play.specs.State.{IsAmong}
 use Rattle.day_play.specs.Lawful.{ship_of}
 use Rattle.day_play.specs.Playing.{quay_distance, moor_order, moor_beat, moor_beats, turn_beats, go_beat, done_beat, lockage_beats, line_beats, chamber_beats, beats_of}
@@ -102,6 +102,75 @@ module _ (P : Plan) where
       let c = (lockage_at P q).chamber in
       sorted_places-among (filter (λ p. nat_eq (lockage_at P p).chamber c) (numbers_from 0 (length P.lockages))) q
       (filter-among (λ p. nat_eq (lockage_at P p).chamber c) (numbers_from 0 (length P.lockages)) q (eq-eqb c c refl) (numbers-among 0 (length P.lockages) q (omega arith) (omega (arith, known))))
+
+filter-few : (t : ℕ → Bool) (xs : List ℕ) (q : ℕ) → times_in (filter t xs) q ≤ times_in xs q
+filter-few t [] q = omega arith
+filter-few t (x ∷ xs) q =
+    let rest = filter-few t xs q in
+    elim (t x) as (λ b. times_in (cond b (x ∷ filter t xs) (filter t xs)) q ≤ times_in (x ∷ xs) q) [
+      | true ↦ more (cond (nat_eq x q) 1 0) (times_in (filter t xs) q) (times_in xs q) rest
+      | false ↦ fewer (cond (nat_eq x q) 1 0) (times_in (filter t xs) q) (times_in xs q) rest
+    ]
+  where
+    more : (a b c : ℕ) → b ≤ c → a + b ≤ a + c
+    more a b c h = omega (arith, h)
+
+    fewer : (a b c : ℕ) → b ≤ c → b ≤ a + c
+    fewer a b c h = omega (arith, h)
+
+numbers-once : (n q : ℕ) → times_in (numbers_from 0 n) q ≤ 1
+numbers-once n q =
+    elim (leb_tells n q) [
+      | inl past ↦ omega (arith, times_in-above 0 n q (omega (arith, past.1)))
+      | inr here ↦ omega (arith, times_in-between 0 n q (omega arith) (omega (arith, here.1)))
+    ]
+
+module _ (P : Plan) where
+  -- the start of lockage p
+  abbrev pub start_at : ℕ → ℕ
+  start_at p = (lockage_at P p).start
+
+  times_in-insert_place : (p : ℕ) (ps : List ℕ) (q : ℕ) → times_in (insert_place P p ps) q ≡ times_in (p ∷ ps) q
+  times_in-insert_place p [] q = refl
+  times_in-insert_place p (r ∷ ps) q =
+      elim (nat_le (lockage_at P p).start (lockage_at P r).start) as (λ b. times_in (cond b (p ∷ r ∷ ps) (r ∷ insert_place P p ps)) q ≡ times_in (p ∷ r ∷ ps) q) [
+        | true ↦ refl
+        | false ↦ swap (cond (nat_eq r q) 1 0) (times_in (insert_place P p ps) q) (cond (nat_eq p q) 1 0) (times_in ps q) (times_in-insert_place p ps q)
+      ]
+    where
+      swap : (a b c d : ℕ) → b ≡ c + d → a + b ≡ c + (a + d)
+      swap a b c d e = omega (arith, e)
+
+  times_in-sorted_places : (ps : List ℕ) (q : ℕ) → times_in (sorted_places P ps) q ≡ times_in ps q
+  times_in-sorted_places [] q = refl
+  times_in-sorted_places (p ∷ ps) q = times_in-insert_place p (sorted_places P ps) q ∙ ap (λ n. cond (nat_eq p q) 1 0 + n) (times_in-sorted_places ps q)
+
+  insert_place-ordered : (low p : ℕ) (ps : List ℕ) → low ≤ start_at p → IsOrdered start_at low ps → IsOrdered start_at low (insert_place P p ps)
+  insert_place-ordered low p [] less order = (less, tt)
+  insert_place-ordered low p (r ∷ ps) less order =
+      elim (leb_tells (start_at p) (start_at r)) [
+        | inl sooner ↦ subst (λ b. IsOrdered start_at low (cond b (p ∷ r ∷ ps) (r ∷ insert_place P p ps))) (sym sooner.0) (less, (sooner.1, order.1))
+        | inr later ↦ subst (λ b. IsOrdered start_at low (cond b (p ∷ r ∷ ps) (r ∷ insert_place P p ps))) (sym later.0) (order.0, insert_place-ordered (start_at r) p ps (omega (arith, later.1)) order.1)
+      ]
+
+  sorted_places-ordered : (ps : List ℕ) → IsOrdered start_at 0 (sorted_places P ps)
+  sorted_places-ordered [] = tt
+  sorted_places-ordered (p ∷ ps) = insert_place-ordered 0 p (sorted_places P ps) (omega arith) (sorted_places-ordered ps)
+
+  -- the starts along a line never fall
+  pub line_places-ordered : (c : ℕ) → IsOrdered start_at 0 (line_places P c)
+  line_places-ordered c = sorted_places-ordered (filter (λ p. nat_eq (lockage_at P p).chamber c) (numbers_from 0 (length P.lockages)))
+
+  -- each lockage has one place in the lines
+  pub line_places-once : (c q : ℕ) → times_in (line_places P c) q ≤ 1
+  line_places-once c q =
+      let test = λ (p : ℕ). nat_eq (lockage_at P p).chamber c in
+      omega (
+        arith,
+        times_in-sorted_places (filter test (numbers_from 0 (length P.lockages))) q,
+        filter-few test (numbers_from 0 (length P.lockages)) q,
+        numbers-once (length P.lockages) q,
+      )
 
 -- how often some beats moor a ship
 pub moors_in-append : (xs ys : List Beat) (i : ℕ) → moors_in (xs ++ ys) i ≡ moors_in xs i + moors_in ys i

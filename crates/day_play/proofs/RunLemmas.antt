@@ -68,7 +68,7 @@ rest_none i m h = let one : 1 + m ≤ 1 = subst (λ t. cond t 1 0 + m ≤ 1) (eq
 not_none : (i m : ℕ) → cond (nat_eq i i) 1 0 + m ≡ 0 → ⊥
 not_none i m e = let one : 1 + m ≡ 0 = subst (λ t. cond t 1 0 + m ≡ 0) (eq-eqb i i refl) e in absurd (omega (arith, one))
 
-abbrev going_or_zero : Going → ℕ
+abbrev pub going_or_zero : Going → ℕ
 going_or_zero Idle = 0
 going_or_zero (Under p) = p
 
@@ -80,7 +80,7 @@ pub idle_not_under : (p : ℕ) → Idle ≡ Under p → ⊥
 idle_not_under p e = subst IsIdle e tt
 
 -- what holds of the changed chamber and of the others holds of all
-pick : (Q : ChamberState → Type 0) (d c : ℕ) (x y : ChamberState) → (d ≡ c → Q x) → (d ≢ c → Q y) → Q (cond (nat_eq d c) x y)
+pub pick : (Q : ChamberState → Type 0) (d c : ℕ) (x y : ChamberState) → (d ≡ c → Q x) → (d ≢ c → Q y) → Q (cond (nat_eq d c) x y)
 pick Q d c x y hit miss =
     elim (eqb_tells d c) [
       | inl same ↦ subst (λ t. Q (cond t x y)) (sym same.0) (hit same.1)
@@ -201,7 +201,7 @@ module _ (I : Instance) (P : Plan) where
   runs-still [] s each c = each c
   runs-still (b ∷ bs) s each c = runs-still bs (after I P b s) (next b bs s each) c
 
-  gone-kept : (p q : ℕ) (a : Act) (gone : List ℕ) → IsAmong gone q → IsAmong (gone_after p a gone) q
+  pub gone-kept : (p q : ℕ) (a : Act) (gone : List ℕ) → IsAmong gone q → IsAmong (gone_after p a gone) q
   gone-kept p q Turn gone h = h
   gone-kept p q (Moor i) gone h = h
   gone-kept p q Go gone h = h

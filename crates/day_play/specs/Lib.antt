@@ -3,3 +3,4 @@ pub mod State
 pub mod Lawful
 pub mod Playing
 pub mod Played
+pub mod Rising

@@ -2,7 +2,7 @@
 //!
 //! `play` gives the beats of a legal plan: the empty turns, the moorings, and the beginning and the
 //! end of each lockage, by minute, then by chamber, then by their order in the chamber. A plan that
-//! isn't legal is stuck at its first break. Takes no memory.
+//! isn't legal is stuck at its first break, and has no lawful day. Takes no memory.
 //!
 //! Definitions: `specs/State` says what a beat changes, `Lawful` when it is lawful and which lists
 //! of beats are lawful days of a plan, `Playing` which day is played.
@@ -13,6 +13,7 @@ mod day;
 mod lines;
 mod order;
 mod playing;
+mod rising;
 #[cfg(test)]
 mod tests;
 mod walk;

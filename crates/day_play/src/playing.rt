@@ -1,13 +1,15 @@
 //! A plan played as a day.
-ghost use Rattle.std.specs.Prelude.{◌≡◌};
+ghost use Rattle.std.specs.Prelude.{◌≡◌, List};
 ghost use Rattle.lock_rules.specs.Plan.{IsLegal};
 ghost use Rattle.mooring_rules.specs.PlanBreaks.{IsFirstBrokenPlan};
 ghost use Rattle.day_play.specs.Lawful.{IsLawfulDay};
 ghost use Rattle.day_play.specs.Playing.{day_of};
 ghost use Rattle.day_play.specs.Played.{OnDay, OnStuck};
+ghost use Rattle.day_play.specs.declared.beat.Beat.{Beat};
 
 use crate::day::Day;
 use crate::lines::day_of;
+use crate::rising::learn_rising;
 use lock_model::{Instance, Plan};
 use mooring_rules::{BrokenPlan, judge_plan};
 
@@ -16,22 +18,27 @@ use mooring_rules::{BrokenPlan, judge_plan};
 pub enum Played {
     /// The plan is legal, and this is a lawful day of it.
     Day(Day),
-    /// The plan isn't legal, and this is its first break.
+    /// The plan isn't legal, so it has no lawful day, and this is its first break.
     Stuck(BrokenPlan),
 }
 
 /// Plays a plan as a day. `Day` exactly where the plan is legal: a lawful day of it, with a turn
 /// only before a lockage that needs one, at the least lawful minute. Else `Stuck` with the break
-/// of `judge_plan`. Takes no memory.
+/// of `judge_plan`, and no list of beats is a lawful day of the plan. Takes no memory.
 pub fn play(instance: &Instance, plan: &Plan) -> Played
     ensures legal { OnDay result (λ d. IsLegal instance.now plan.now) }
     ensures lawful { OnDay result (IsLawfulDay instance.now plan.now) }
     ensures day { OnDay result (λ d. d ≡ day_of instance.now plan.now) }
     ensures stuck { OnStuck result (λ b. IsFirstBrokenPlan instance.now plan.now b) }
     ensures illegal { OnStuck result (λ b. IsLegal instance.now plan.now → ⊥) }
+    ensures never { OnStuck result
+        (λ b. (bs : List Beat) → IsLawfulDay instance.now plan.now bs → ⊥) }
 {
     match judge_plan(instance, plan) {
-        Some(broken) => Played::Stuck(broken),
+        Some(broken) => {
+            learn_rising(plan);
+            Played::Stuck(broken)
+        }
         None => Played::Day(day_of(instance, plan)),
     }
 }

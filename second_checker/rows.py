@@ -1,0 +1,238 @@
+#!/usr/bin/env python3
+"""Worked rows for the second checker: a dossier, one edit, and the line that must be printed.
+
+It prints each row that differs and `N rows, M different`, and its status is 0 where none differs."""
+
+import pathlib
+import subprocess
+import sys
+
+sys.dont_write_bytecode = True
+from check_dossier import answer
+
+NARROW = """glock 1
+chamber c1 2000 232 10 20 5 4 30 15 low 0
+ship s1 up 1100 114 0 5
+ship s2 up 1100 114 0 5
+end
+"""
+ONE_BY_ONE = ('"plan":[{"chamber":0,"ships":[0],"spots":[[10,0,0,0]],"start":0,"way":0},'
+              '{"chamber":0,"ships":[1],"spots":[[10,0,0,0]],"start":50,"way":0}]')
+
+# two ships side by side
+FIRST = NARROW.replace("232", "240") + """certificate
+{"cost":80,"cuts":[],"plan":[{"chamber":0,"ships":[0,1],"spots":[[10,0,0,0],[10,126,1,0]],"start":0,"way":0}],\
+"tree":[0,0,1,1,1]}
+"""
+# one after the other, since a row shows that both don't fit together
+SECOND = NARROW + ('certificate\n{"cost":120,"cuts":[{"chamber":0,"ships":[0,1],"why":[1,0,1]}],' + ONE_BY_ONE
+                   + ',"tree":[0,0,100,1,1]}\n')
+# the same, since their cargoes clash
+CLASH = (SECOND.replace("glock 1", "glock 2").replace("232", "240").replace("certificate", "certificate 2")
+         .replace("s1 up 1100 114 0 5", "s1 up 1100 114 0 5 1").replace("s2 up 1100 114 0 5", "s2 up 1100 114 0 5 2")
+         .replace("[1,0,1]", "[5,0,1]"))
+# both together is left open: its bound is 80
+OPEN = NARROW + 'certificate open\n{"cost":120,"cuts":[],' + ONE_BY_ONE + ',"tree":[0,0,3,1,1]}\n'
+THROUGHPUT = """glock 1
+chamber c1 2000 240 10 20 5 1 30 0 low 0
+ship s1 up 1100 114 0 0
+ship s2 down 1100 114 0 0
+end
+certificate
+{"cost":90,"cuts":[],"plan":[{"chamber":0,"ships":[0],"spots":[[10,0,0,0]],"start":0,"way":0},\
+{"chamber":0,"ships":[1],"spots":[[10,0,0,0]],"start":30,"way":1}],"tree":[2]}
+"""
+# one ship too wide by one, which a walk of two edges shows, and a spot tree too
+CASES = """glock 1
+chamber c1 120 51 10 0 0 1 30 15 low 0
+chamber c2 120 50 10 0 0 1 30 15 low 0
+ship s1 up 100 51 0 5
+end
+certificate
+{"cost":35,"cuts":[{"chamber":1,"ships":[0],"why":[3,2,3,2]}],"plan":[{"chamber":0,"ships":[0],\
+"spots":[[10,0,0,0]],"start":0,"way":0}],"tree":[0,1,100]}
+"""
+
+# three abreast, the third moored at the first; the plan is legal, and the mark fails
+GUEST = """glock 2
+chamber c1 1140 240 10 20 5 3 30 15 low 0
+ship s1 up 1100 114 0 5
+ship s2 up 1100 60 0 5
+ship s3 up 1100 50 0 5
+end
+certificate
+{"cost":135,"cuts":[],"plan":[{"chamber":0,"ships":[0,1,2],"spots":[[10,0,0,0],[10,180,1,0],[10,119,0,1]],\
+"start":0,"way":0}],"tree":[1]}
+"""
+# one ship; the chamber turns from 20 to 35, behind a closure
+CLOSED = """glock 2
+chamber c1 2000 240 10 20 5 4 30 15 high 0
+close c1 10 20
+close c1 70 80
+ship s1 up 1100 114 0 5
+end
+certificate
+{"cost":70,"cuts":[],"plan":[{"chamber":0,"ships":[0],"spots":[[10,0,0,0]],"start":35,"way":0}],"tree":[1]}
+"""
+# the cut of the second dossier stands for a chamber c2, and the marks end behind a hit in c1
+OTHER = (SECOND.replace("\nship s1", "\nchamber c2 2000 232 10 20 5 4 30 15 low 0\nship s1")
+         .replace('"cuts":[{"chamber":0', '"cuts":[{"chamber":1').replace("[0,0,100,1,1]", "[0,0,100]"))
+
+WIDE = "s1 up 1100 114", "s1 up 1100 241"
+PART = "dossier fault 4 Shape part {}".format
+FIRST_TREE, SECOND_TREE = "[0,0,1,1,1]", "[0,0,100,1,1]"
+WHY, SPOTS = '"why":[1,0,1]', '"ships":[0],"spots":[[10,0,0,0]]'
+ACCEPTED, JSON, NO_MARK = "accepted cost 120", "dossier fault 3 Json", "dossier fault 2 NoMark"
+UNPROVED, ILLEGAL = "rejected cut 0 reason 4 CutUnproved", "rejected plan reason 1 PlanIllegal"
+LAST_LINE, AFTER_END = SECOND.splitlines()[-1], SECOND[SECOND.index("certificate"):]
+
+# dossier, what is replaced (once), by what, the line
+CHECKED = [
+    # accepted, and cut short
+    (FIRST, "", "", "accepted cost 80"), (FIRST, "]}\n", "]}", "accepted cost 80"), (FIRST, "]}\n", "]", JSON),
+    (FIRST, "1]}\n", "1", JSON), (FIRST, ",1]}\n", ",", JSON), (FIRST, ",1]}\n", "", JSON),
+    # edits of the second dossier
+    (SECOND, "", "", ACCEPTED), (SECOND, WHY, '"why":[1,0]', UNPROVED),
+    (SECOND, SECOND_TREE, "[0,0,100,1]", "rejected tree 4 reason 5 TreeShort"),
+    (SECOND, SECOND_TREE, "[0,0,1,1,1]", "rejected tree 2 reason 8 BoundLow"),
+    (SECOND, '"cost":120', '"cost":119', "rejected cost reason 2 CostWrong"),
+    (SECOND, '{"chamber":0,"ships":[0,1]', '{"chamber":7,"ships":[0,1]', "rejected cut 0 reason 3 CutShape"),
+    (SECOND, '"start":50', '"start":49', ILLEGAL),
+    (SECOND, ',{"chamber":0,"ships":[1],"spots":[[10,0,0,0]],"start":50,"way":0}', "", ILLEGAL),
+    (SECOND, SPOTS, '"ships":[0],"spots":[[11,0,0,0]]', ACCEPTED),
+    (SECOND, '"cost":120', '"cost":-1', PART(2)), (SECOND, '"ships":[0,1]', '"ships":[1,0]', PART(3)),
+    (SECOND, ',"tree":' + SECOND_TREE, "", PART(1)), (SECOND, '"cost":120', '"cost":120,"more":1', PART(1)),
+    (SECOND, SECOND_TREE, "[]", "rejected tree 0 reason 5 TreeShort"),
+    (SECOND, SECOND_TREE, "[0,0,100,1,1,1]", "rejected tree 5 reason 6 TreeLong"),
+    (SECOND, SECOND_TREE, "[0,0,0,1,1]", "rejected tree 2 reason 7 SplitFull"),
+    (SECOND, SECOND_TREE, "[0,0,101,1,1]", "rejected tree 2 reason 9 CutMisses"),
+    (SECOND, SECOND_TREE, "[0,0,50,1,1]", PART(5)), (SECOND, "certificate\n", "certificates\n", NO_MARK),
+    (SECOND, "end\n", "", "dossier fault 1 Instance line 5 fault 3 Word"),
+    (SECOND, LAST_LINE, LAST_LINE + "\n" + LAST_LINE, JSON), (SECOND, LAST_LINE, "[" * 200, JSON),
+    # throughput and probe
+    (FIRST, FIRST_TREE, "[0,11]", "accepted cost 80"), (FIRST, FIRST_TREE, "[5]", PART(5)),
+    (FIRST, FIRST_TREE, "[11]", "rejected tree 0 reason 11 ProbeWrong"),
+    (FIRST, FIRST_TREE, "[0,10]", "rejected tree 1 reason 11 ProbeWrong"), (THROUGHPUT, "", "", "accepted cost 90"),
+    (THROUGHPUT, '"tree":[2]', '"tree":[1]', "rejected tree 0 reason 8 BoundLow"),
+    (THROUGHPUT, "20 5 1 30", "20 5 2 30", "rejected tree 0 reason 10 ThroughputLow"),
+    # the line `certificate 2`
+    (CLASH, "", "", ACCEPTED), (CLASH, "certificate 2\n", "certificate\n", PART(3)), (CLASH, "0 5 2\n", "0 5 1\n", UNPROVED),
+    (OPEN, "", "", NO_MARK),
+    # marks outside the grammar
+    *((FIRST, FIRST_TREE, f"[{mark}]", PART(5)) for mark in (3, 4, 9, 34, 50, 99, 2**63 + 100)),
+    (FIRST, FIRST_TREE, "[33]", "rejected tree 0 reason 11 ProbeWrong"),
+    (FIRST, FIRST_TREE, "[0,100]", "rejected tree 1 reason 9 CutMisses"),
+    # lenient reading
+    (SECOND, "certificate\n", "\n # x\n\t certificate # y\r\n", ACCEPTED),
+    (SECOND, "certificate\n", "\r\ncertificate\n", ACCEPTED), (SECOND, "certificate\n", "certificate open\n", NO_MARK),
+    (SECOND, AFTER_END, "", NO_MARK), (SECOND, LAST_LINE + "\n", "", JSON), (SECOND, AFTER_END, "certificate\r", JSON),
+    (SECOND, '{"cost"', ' \n { "cost"', ACCEPTED), (SECOND, '"cost":120', '"cost":1,"cost":120', ACCEPTED),
+    (SECOND, '"cost"', r'"\u0063ost"', ACCEPTED), (SECOND, '"cost":120', '"cost":1e400', JSON),
+    (SECOND, '"cost":120', '"cost":120.0', PART(2)), (SECOND, '"cost"', r'"\ud800"', JSON),
+    (SECOND, WHY, '"why":[0,1]', PART(3)), (SECOND, WHY, '"why":[6]', PART(3)),
+    (SECOND, SPOTS, '"ships":[0],"spots":[]', PART(4)), (SECOND, SPOTS, '"ships":[0],"spots":[[10,0,0,256]]', ILLEGAL),
+    (SECOND, SPOTS, '"ships":[0],"spots":[[10,0,0,257]]', PART(4)),
+    (SECOND, LAST_LINE, "[" * 127 + "]" * 127, PART(1)), (SECOND, LAST_LINE, "[" * 128 + "]" * 128, JSON),
+    (SECOND, "certificate\n", "# \udcff\ncertificate\n", ACCEPTED),
+    # forms of a reason
+    *((SECOND, WHY, f'"why":{why}', PART(3)) for why in ("[]", "[0,0]", "[1]", "[2]", "[1,1,1]", "[1,256]", "[3,4294967296]")),
+    *((SECOND, WHY, f'"why":{why}', UNPROVED) for why in ("[0]", "[1,255]", "[3]", "[4]", "[3,4294967295]", "[4,6]")),
+    *((CLASH, "[5,0,1]", why, PART(3)) for why in ("[5]", "[5,0]", "[5,1,0]", "[5,1,1]", "[5,0,1,2]", "[5,0,256]")),
+    (CLASH, "[5,0,1]", "[5,0,255]", UNPROVED),
+    # numbers and their fields
+    *((SECOND, '"start":50', f'"start":{start}', PART(4)) for start in ("4294967296", "-0", "50.0", "5e1", '"50"', "true")),
+    *((SECOND, '"start":50', f'"start":{start}', JSON) for start in ("050", "+50", "50.", "NaN", "Infinity", "-1e400")),
+    (SECOND, '"start":50', '"start":4294967295', "rejected cost reason 2 CostWrong"),
+    (SECOND, '"cost":120', '"cost":18446744073709551615', "rejected cost reason 2 CostWrong"),
+    (SECOND, '"cost":120', '"cost":18446744073709551616', PART(2)),
+    (SECOND, '{"chamber":0,"ships":[0,1]', '{"chamber":256,"ships":[0,1]', PART(3)),
+    (SECOND, '"ships":[0,1]', '"ships":[0,255]', "rejected cut 0 reason 3 CutShape"),
+    (SECOND, '"ships":[0,1]', '"ships":[0,256]', PART(3)), (SECOND, '"ships":[0,1]', '"ships":[]', PART(3)),
+    (SECOND, SPOTS, '"ships":[0],"spots":[[10,0,2,0]]', PART(4)), (SECOND, SPOTS, '"ships":[9],"spots":[[10,0,0,0]]', ILLEGAL),
+    # a ship that fits no chamber comes after every fault and before the check
+    (FIRST, *WIDE, "ship s1 fits no chamber"), (FIRST.replace(*WIDE), '"cost":80', '"cost":-1', PART(2)),
+    (FIRST.replace(*WIDE), '"cost":80', '"cost":79', "ship s1 fits no chamber"),
+    # placements: inside, apart, at the quay, beside the host and along it, within `most`, without a clash
+    (GUEST, "", "", "rejected tree 0 reason 8 BoundLow"), (GUEST, "5 3 30", "5 2 30", ILLEGAL),
+    *((GUEST, old, new, ILLEGAL) for old, new in (
+        ("[[10,0,", "[[9,0,"), ("[[10,0,", "[[31,0,"), ("[[10,0,", "[[10,1,"), ("[[10,0,0,0]", "[[10,0,1,0]"),
+        ("180,1,0", "179,1,0"), ("119,0,1", "118,0,1"), ("119,0,1", "120,0,1"), ("119,0,1", "119,1,1"), ("119,0,1", "119,0,0"),
+        ("119,0,1", "119,0,2"), ("119,0,1", "119,0,3"), ("119,0,1", "119,0,4"), ("s1 up 1100", "s1 up 1090"),
+        ("1140 240 10 20 5", "1140 240 10 20 6"), ("[0,1,2]", "[0,1,3]"), ('"way":0', '"way":1'), ("s2 up", "s2 down"))),
+    (GUEST, "119,0,1", "125,1,2", "rejected tree 0 reason 8 BoundLow"), (GUEST, "119,0,1", "126,1,2", ILLEGAL),
+    (FIRST.replace("glock 1", "glock 2").replace("0 5\nend", "0 5 9\nend"), "0 5\n", "0 5 1\n", ILLEGAL),
+    (FIRST.replace("glock 1", "glock 2").replace("0 5\nend", "0 5 9\nend"), "0 5\n", "0 5 9\n", "accepted cost 80"),
+    # times: the empty turn and the lockage keep clear of closures; a closure ends before its last minute
+    (CLOSED, "", "", "accepted cost 70"), (CLOSED, '"start":35', '"start":34', ILLEGAL),
+    (CLOSED, '"start":35', '"start":36', ILLEGAL), (CLOSED, "70 80", "71 80", "accepted cost 70"),
+    (CLOSED, "close c1 70 80", "close c1 69 80", ILLEGAL), (CLOSED, "10 20\n", "15 20\n", "rejected tree 0 reason 8 BoundLow"),
+    (CLOSED, " high 0", " high 1", "accepted cost 70"), (CLOSED, " high 0", " high 21", ILLEGAL),
+    (CLOSED, "114 0 5", "114 36 5", ILLEGAL), (CLOSED, "30 15 high", "30 0 high", "rejected tree 0 reason 8 BoundLow"),
+    # a cut hits in a chamber that is no roomier than its own
+    (OTHER, "", "", "rejected tree 3 reason 5 TreeShort"),
+    (OTHER, "c1 2000 232", "c1 1999 231", "rejected tree 3 reason 5 TreeShort"),
+    *((OTHER, "c2 2000 232 10 20 5", "c2 " + measures, "rejected tree 2 reason 9 CutMisses") for measures in (
+        "1999 232 10 20 5", "2000 231 10 20 5", "2000 232 11 20 5", "2000 232 10 21 5", "2000 232 10 20 6")),
+    (OTHER, "c2 2000 232", "c2 2000 233", UNPROVED), (OTHER, "c2 2000 232 10 20", "c2 2241 232 10 21", UNPROVED),
+    (OTHER, "c2 2000 232 10 20", "c2 2240 232 10 20", UNPROVED),
+    (OTHER, "c2 2000 232 10 20", "c2 2239 232 10 20", "rejected tree 3 reason 5 TreeShort"),
+    # a column of two, and an area
+    (SECOND, WHY, '"why":[2,0,1]', ACCEPTED),
+    *((SECOND.replace("c1 2000 232", f"c1 {room}"), WHY, why, line) for room, why, line in (
+        ("2239 232", '"why":[2,0,1]', ACCEPTED), ("2240 232", '"why":[2,0,1]', UNPROVED), ("2000 233", '"why":[2,0,1]', UNPROVED),
+        ("1124 232", '"why":[0]', ACCEPTED), ("1125 232", '"why":[0]', UNPROVED))),
+    # case trees and spot trees
+    (CASES, "", "", "accepted cost 35"), (CASES, "[3,2,3,2]", "[3,2,2,3]", "accepted cost 35"),
+    (CASES, "[3,2,3,2]", "[3,0,2,3,2,2,3,2]", "accepted cost 35"), (CASES, "[3,2,3,2]", "[4,0,3,0,3,0]", "accepted cost 35"),
+    (CASES, "[3,2,3,2]", "[4,0,0,3,0,3,0]", "accepted cost 35"),
+    *((CASES, "[3,2,3,2]", why, UNPROVED) for why in (
+        "[3,2,0,1]", "[3,2,2,2]", "[3,2,3]", "[3,2,3,2,0]", "[3,2,4,3]", "[3,0,2,3,2]", "[3,0,0,2,3,2,2,3,2]", "[3,1,0]",
+        "[3,1,1]", "[4,3,0]", "[4,0,3,0]", "[4,0,3,1,3,0]", "[4,0,2,0,3,0]", "[4,0,4,0,3,0]", "[4,0,5,0,0,3,0]")),
+    # an instance text of any length; a word after the line's words; a line of words that aren't UTF-8
+    (SECOND, "end\n", "#" * 70_000 + "\nend\n", ACCEPTED), (SECOND, "certificate\n", "certificate 2 x\n", NO_MARK),
+    (SECOND, "certificate\n", "\udcff\ncertificate\n", NO_MARK), (SECOND, "end\n", "end \r# x\n", "dossier fault 1 "
+                                                                 "Instance line 5 fault 4 Count"),
+]
+OPENED = [
+    (OPEN, "", "", "lower 80 cost 120"), (OPEN, "[0,0,3,1,1]", "[3]", "lower 70 cost 120"),
+    (OPEN, "[0,0,3,1,1]", "[0,0,3,3,3]", "lower 80 cost 120"),
+    (OPEN, "[0,0,3,1,1]", "[0,0,1,1,1]", "rejected tree 2 reason 8 BoundLow"),
+    (OPEN, "[0,0,3,1,1]", "[0,0,3,1,1,3]", "rejected tree 5 reason 6 TreeLong"),
+    (OPEN, "[0,0,3,1,1]", "[0,4,3]", PART(5)), (OPEN, '"cuts":[]', '"cuts":[{"chamber":0,"ships":[0,1],"why":[5,1,0]}]', PART(3)),
+    (SECOND, "certificate\n", "certificate open\n", "lower 120 cost 120"), (SECOND, "", "", NO_MARK), (CLASH, "", "", NO_MARK),
+    (CLASH, "certificate 2", "certificate open", "lower 120 cost 120"),
+]
+
+
+def status_of(line):
+    words = line.split()
+    if words[0] == "lower":
+        return 0 if words[1] == words[3] else 1
+    return {"accepted": 0, "ship": 8}.get(words[0], 7)
+
+
+def as_process(data, *words):
+    program = pathlib.Path(__file__).with_name("check_dossier.py")
+    done = subprocess.run([sys.executable, program, *words], input=data, capture_output=True)
+    return done.stdout.decode(), done.returncode
+
+
+def main():
+    rows = [(*row, False) for row in CHECKED] + [(*row, True) for row in OPENED]
+    different = 0
+    for number, (dossier, old, new, line, is_open) in enumerate(rows):
+        assert old == "" or dossier.count(old) >= 1, (number, old)
+        data = dossier.replace(old, new, 1).encode("utf-8", "surrogateescape")
+        said = answer(data, is_open)
+        if number % 40 == 0:
+            assert as_process(data, *["--open"][:is_open]) == (said[0] + "\n", said[1]), number
+        if said != (line, status_of(line)):
+            different += 1
+            print(f"row {number}: {old!r} by {new[:60]!r}: {said}, not {line!r}")
+    assert as_process(OPEN.encode(), "--open") == ("lower 80 cost 120\n", 1)
+    print(f"{len(rows)} rows, {different} different")
+    return 1 if different else 0
+
+
+if __name__ == "__main__":
+    sys.exit(main())
