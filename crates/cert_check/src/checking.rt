@@ -102,7 +102,12 @@ fn first_failure(
     ensures none { IfOk result (λ first. IfNone first (Accepts instance.now certificate.now)) }
     ensures some { IfOk result (λ first. IfSome first (λ f. Fails instance.now certificate.now f.0 f.1)) }
 {
-    let Certificate { cost, cuts, plan, .. } = certificate;
+    let Certificate {
+        cost,
+        cuts,
+        plan,
+        ..
+    } = certificate;
     if let Some(first) = first_failure_before_marks(alloc, instance, *cost, cuts, plan)? {
         return Ok(Some(first));
     }
