@@ -189,7 +189,7 @@ class Case(Berths):
         for i, size in enumerate(deck.sizes):
             x, y = 1 + 2 * i, 2 + 2 * i
             self.room_edges += [(0, x, deck.end), (x, 0, -(deck.length - deck.end - size.length)),
-                            (0, y, 0), (y, 0, -(deck.width - size.width))]
+                                (0, y, 0), (y, 0, -(deck.width - size.width))]
             self.decisions.append([self.berth_edges(i, *berth) for berth in self.berths[i]])
             self.decisions += [[[edge] for edge in self.order_edges(j, i)] for j in range(i)]
 
@@ -482,8 +482,12 @@ def main():
                        help="read an open dossier (line `certificate open`) and print `lower LOW cost N`")
     words.add_argument("file", nargs="?", help="the dossier; standard input where it isn't given")
     given = words.parse_args()
-    with open(given.file, "rb") if given.file else sys.stdin.buffer as source:
-        text, status = answer(source.read(), given.open)
+    try:
+        with open(given.file, "rb") if given.file else sys.stdin.buffer as source:
+            data = source.read()
+    except OSError as error:
+        words.error(str(error))
+    text, status = answer(data, given.open)
     print(text)
     return status
 

@@ -1,9 +1,10 @@
 """Compares `check` of a glock program with the second checker: compare.py GLOCK [DOSSIER ..]
 
 Without dossiers the program writes some: of lots of several sizes, as they are, with all ships in a queue, and with
-cargo classes and closures; open ones too where it knows `solve --keep`, which are compared with its `lower`. Each is
-compared as it is and in damaged copies. Prints the first differences and `N equal, M different`; the status is 0 where
-something was compared and nothing differs."""
+cargo classes and closures; open ones too where it knows `solve --keep`, which are compared with its `lower`. To them
+comes trees.dossier, whose cuts have a case tree and a spot tree. Each is compared as it is and in damaged copies.
+Prints the first differences and `N equal, M different`; the status is 0 where something was compared and nothing
+differs."""
 
 import pathlib
 import subprocess
@@ -13,7 +14,7 @@ sys.dont_write_bytecode = True
 from check_dossier import answer
 from damage import Dice, damaged
 
-COPIES, NODES, SHOWN = 20, 3000, 5
+COPIES, NODES, SHOWN = 14, 2000, 5
 
 
 def run(glock, words, data=b""):
@@ -38,7 +39,9 @@ def with_classes(words, number):
 
 
 def written(glock):
-    """Dossiers that the program writes, each with its name."""
+    """trees.dossier and dossiers that the program writes, each with its name."""
+    yield "trees.dossier", pathlib.Path(__file__).with_name("trees.dossier").read_bytes()
+    count = 0
     for ships in (2, 4, 6, 8, 10, 12):
         lot, _ = run(glock, ["lot", "--number", ships, "--ships", ships, "--chambers", 1 + ships // 2 % 3])
         for name, text in (("lot", lot), ("classes", edited(lot, with_classes)), ("queue", edited(lot, in_a_queue))):
@@ -46,8 +49,11 @@ def written(glock):
                 continue
             for words, status in ((["--dossier", "--nodes", NODES], 0), (["--keep", "--nodes", 4], 1)):
                 dossier, ended = run(glock, ["solve", "--workers", 1, *words], text.encode())
-                if ended == status:
+                if ended == status and "\ncertificate" in dossier:
+                    count += 1
                     yield f"{name} of {ships} ships, {words[0]}", dossier.encode()
+    if count == 0:
+        sys.exit("the program wrote no dossier")
 
 
 def second_answer(data, is_open):
@@ -68,7 +74,7 @@ def main():
             first, second = (text.removesuffix("\n"), status), second_answer(data, is_open)
             equal, different = equal + (first == second), different + (first != second)
             if first != second and different <= SHOWN:
-                print(f"{name}, {damage}: glock {first}, second checker {second}, over {data[:2000]!r}")
+                print(f"{name}, {damage}: glock {first}, second checker {second}, over {data[:700]!r}")
     print(f"{equal} equal, {different} different")
     return 0 if equal and not different else 1
 

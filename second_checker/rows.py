@@ -53,6 +53,9 @@ certificate
 "spots":[[10,0,0,0]],"start":0,"way":0}],"tree":[0,1,100]}
 """
 
+# one up and one down, which never share a lockage
+BOTH_WAYS = SECOND.replace("s2 up", "s2 down").replace('50,"way":0', '35,"way":1').replace("120", "105").replace(
+    "[0,0,100,1,1]", "[0,0,1,1]")
 # three abreast, the third moored at the first; the plan is legal, and the mark fails
 GUEST = """glock 2
 chamber c1 1140 240 10 20 5 3 30 15 low 0
@@ -77,6 +80,9 @@ certificate
 # the cut of the second dossier stands for a chamber c2, and the marks end behind a hit in c1
 OTHER = (SECOND.replace("\nship s1", "\nchamber c2 2000 232 10 20 5 4 30 15 low 0\nship s1")
          .replace('"cuts":[{"chamber":0', '"cuts":[{"chamber":1').replace("[0,0,100,1,1]", "[0,0,100]"))
+
+# three ships whose cut 0 is a case tree and cut 1 a spot tree of all kinds of leaves
+TREES = pathlib.Path(__file__).with_name("trees.dossier").read_text()
 
 WIDE = "s1 up 1100 114", "s1 up 1100 241"
 PART = "dossier fault 4 Shape part {}".format
@@ -155,13 +161,23 @@ CHECKED = [
     # placements: inside, apart, at the quay, beside the host and along it, within `most`, without a clash
     (GUEST, "", "", "rejected tree 0 reason 8 BoundLow"), (GUEST, "5 3 30", "5 2 30", ILLEGAL),
     *((GUEST, old, new, ILLEGAL) for old, new in (
-        ("[[10,0,", "[[9,0,"), ("[[10,0,", "[[31,0,"), ("[[10,0,", "[[10,1,"), ("[[10,0,0,0]", "[[10,0,1,0]"),
+        ("[[10,0,", "[[9,0,"), ("[10,180", "[9,180"), ("[10,119", "[9,119"), ("[[10,0,", "[[31,0,"), ("[[10,0,", "[[10,1,"), ("[[10,0,0,0]", "[[10,0,1,0]"),
         ("180,1,0", "179,1,0"), ("119,0,1", "118,0,1"), ("119,0,1", "120,0,1"), ("119,0,1", "119,1,1"), ("119,0,1", "119,0,0"),
         ("119,0,1", "119,0,2"), ("119,0,1", "119,0,3"), ("119,0,1", "119,0,4"), ("s1 up 1100", "s1 up 1090"),
         ("1140 240 10 20 5", "1140 240 10 20 6"), ("[0,1,2]", "[0,1,3]"), ('"way":0', '"way":1'), ("s2 up", "s2 down"))),
     (GUEST, "119,0,1", "125,1,2", "rejected tree 0 reason 8 BoundLow"), (GUEST, "119,0,1", "126,1,2", ILLEGAL),
     (FIRST.replace("glock 1", "glock 2").replace("0 5\nend", "0 5 9\nend"), "0 5\n", "0 5 1\n", ILLEGAL),
     (FIRST.replace("glock 1", "glock 2").replace("0 5\nend", "0 5 9\nend"), "0 5\n", "0 5 9\n", "accepted cost 80"),
+    # formats 1 and 2, and counts of lines
+    (CLASH, "glock 2", "glock 1", "dossier fault 1 Instance line 3 fault 4 Count"),
+    (CLOSED, "glock 2", "glock 1", "dossier fault 1 Instance line 3 fault 3 Word"),
+    (CLOSED, "ship s1", "".join(f"close c1 {k} {k + 1}\n" for k in range(100, 106)) + "ship s1", "accepted cost 70"),
+    (CLOSED, "ship s1", "".join(f"close c1 {k} {k + 1}\n" for k in range(100, 107)) + "ship s1",
+     "dossier fault 1 Instance line 11 fault 6 Range"), (CLOSED, "70 80", "19 30", "dossier fault 1 Instance line 4 fault 14 Overlap"),
+    (SECOND, "end\n", "end\r\r\n", "dossier fault 1 Instance line 5 fault 3 Word"),
+    # only a group of its way takes a ship, and only below `most`
+    (BOTH_WAYS, "", "", "accepted cost 105"), (BOTH_WAYS, "[0,0,1,1]", "[0,0,1,1,1]", "rejected tree 4 reason 6 TreeLong"),
+    (SECOND, "20 5 4 30", "20 5 1 30", "rejected tree 2 reason 9 CutMisses"),
     # times: the empty turn and the lockage keep clear of closures; a closure ends before its last minute
     (CLOSED, "", "", "accepted cost 70"), (CLOSED, '"start":35', '"start":34', ILLEGAL),
     (CLOSED, '"start":35', '"start":36', ILLEGAL), (CLOSED, "70 80", "71 80", "accepted cost 70"),
@@ -177,17 +193,24 @@ CHECKED = [
     (OTHER, "c2 2000 232 10 20", "c2 2240 232 10 20", UNPROVED),
     (OTHER, "c2 2000 232 10 20", "c2 2239 232 10 20", "rejected tree 3 reason 5 TreeShort"),
     # a column of two, and an area
+    (OTHER.replace("[1,0,1]", "[0]"), "c2 2000 232 10 20 5", "c2 1100 228 0 0 0", UNPROVED),
+    (OTHER.replace("[1,0,1]", "[0]"), "c2 2000 232 10 20 5", "c2 1100 227 0 0 0", "rejected tree 2 reason 9 CutMisses"),
     (SECOND, WHY, '"why":[2,0,1]', ACCEPTED),
     *((SECOND.replace("c1 2000 232", f"c1 {room}"), WHY, why, line) for room, why, line in (
         ("2239 232", '"why":[2,0,1]', ACCEPTED), ("2240 232", '"why":[2,0,1]', UNPROVED), ("2000 233", '"why":[2,0,1]', UNPROVED),
         ("1124 232", '"why":[0]', ACCEPTED), ("1125 232", '"why":[0]', UNPROVED))),
     # case trees and spot trees
+    (TREES, "", "", "accepted cost 170"), (TREES, ",100,1,1,", ",101,1,1,", "accepted cost 170"),
+    (TREES, ",100,1,1,", ",102,1,1,", "rejected tree 3 reason 9 CutMisses"),
+    (TREES, "c1 400 80 0 0 5 3", "c1 399 80 0 0 5 3", "rejected plan reason 1 PlanIllegal"),
+    (TREES, "]}],\"plan\"", ",0]}],\"plan\"", "rejected cut 1 reason 4 CutUnproved"),
     (CASES, "", "", "accepted cost 35"), (CASES, "[3,2,3,2]", "[3,2,2,3]", "accepted cost 35"),
     (CASES, "[3,2,3,2]", "[3,0,2,3,2,2,3,2]", "accepted cost 35"), (CASES, "[3,2,3,2]", "[4,0,3,0,3,0]", "accepted cost 35"),
     (CASES, "[3,2,3,2]", "[4,0,0,3,0,3,0]", "accepted cost 35"),
     *((CASES, "[3,2,3,2]", why, UNPROVED) for why in (
         "[3,2,0,1]", "[3,2,2,2]", "[3,2,3]", "[3,2,3,2,0]", "[3,2,4,3]", "[3,0,2,3,2]", "[3,0,0,2,3,2,2,3,2]", "[3,1,0]",
-        "[3,1,1]", "[4,3,0]", "[4,0,3,0]", "[4,0,3,1,3,0]", "[4,0,2,0,3,0]", "[4,0,4,0,3,0]", "[4,0,5,0,0,3,0]")),
+        "[3,1,1]", "[4,3,0]", "[4,0,3,0]", "[4,0,3,1,3,0]", "[4,0,2,0,3,0]", "[4,0,4,0,3,0]", "[4,0,5,0,0,3,0]",
+        "[4,1,0]", "[4,2,0]", "[4,0,0,5,0,0,0,5,0,0]")),
     # an instance text of any length; a word after the line's words; a line of words that aren't UTF-8
     (SECOND, "end\n", "#" * 70_000 + "\nend\n", ACCEPTED), (SECOND, "certificate\n", "certificate 2 x\n", NO_MARK),
     (SECOND, "certificate\n", "\udcff\ncertificate\n", NO_MARK), (SECOND, "end\n", "end \r# x\n", "dossier fault 1 "

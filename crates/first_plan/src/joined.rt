@@ -42,12 +42,33 @@ impl Joined {
         }
     }
 
+    // The group of lockage number `i` after the joining.
+    fn group_of(&self, i: usize, lockage: &Lockage) -> Group
+        ensures { (n : ℕ) → All (λ s. s < n) self.now.ships → All (λ s. s < n) lockage.now.ships → All (λ s. s < n) result.ships }
+    {
+        Group {
+            way: lockage.way,
+            ships: self.ships_of(i, lockage),
+        }
+    }
+
     // The spots of lockage number `i` after the joining.
     fn spots_of(&self, i: usize, lockage: &Lockage, spots: &Spots) -> Spots {
         if i == self.into {
             spots.copy()
         } else {
             lockage.spots.copy()
+        }
+    }
+
+    // Appends the group of lockage number `i` after the joining, where it is of the chamber and stays.
+    fn put_group(&self, i: usize, lockage: &Lockage, chamber: u8, line: &mut Line)
+        requires { length line.old < 24 }
+        ensures fits { length line.new ≤ length line.old + 1 }
+        ensures known { (n : ℕ) → All (λ s. s < n) self.now.ships → All (λ s. s < n) lockage.now.ships → All (λ g. All (λ s. s < n) g.ships) line.old → All (λ g. All (λ s. s < n) g.ships) line.new }
+    {
+        if lockage.chamber == chamber && i != self.gone {
+            line.push(self.group_of(i, lockage));
         }
     }
 
@@ -60,13 +81,7 @@ impl Joined {
         let lockages = plan.lockages.as_slice();
         let mut line = Line::new();
         for i in 0..lockages.len() {
-            let lockage = &lockages[i];
-            if lockage.chamber == chamber && i != self.gone {
-                line.push(Group {
-                    way: lockage.way,
-                    ships: self.ships_of(i, lockage),
-                });
-            }
+            self.put_group(i, &lockages[i], chamber, &mut line);
         }
         line
     }
