@@ -1,3 +1,5 @@
 pub mod EndLemmas
+pub mod KeepLemmas
+pub mod EnoughLemmas
 pub mod LotLemmas
 pub mod SolveLemmas

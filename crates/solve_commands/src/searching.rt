@@ -1,20 +1,21 @@
 //! What is answered at the end of a search.
-ghost use Rattle.std.specs.Prelude.{◌≡◌, ◌≢◌, ◌≤◌, ℕ};
+ghost use Rattle.std.specs.Prelude.{◌≡◌, ◌≢◌, ◌↔◌, IsTrue, ℕ, IfOk, IfErr};
 ghost use Rattle.lock_rules.specs.Singles.{singles_of};
 ghost use Rattle.lock_model.specs.declared.verdict.Verdict.TheVariants.{Optimal};
-ghost use Rattle.search_rules.specs.Certificates.{Accepts};
 ghost use Rattle.search_rules.specs.Ends.{EndsWell, IsEnd};
 ghost use Rattle.search_rules.specs.Verdict.{verdict_of};
-ghost use Rattle.search_rules.specs.WellFormed.{IsWellFormed};
 ghost use Rattle.plan_print.specs.Report.{IsOfInstance, report, verdict_line};
-ghost use Rattle.solve_commands.specs.Searching.{PrintsOptimal, PrintsDossier, PrintsBest, PrintsOpen, AnswersSearch, search_in, status_of};
+ghost use Rattle.solve_commands.specs.Options.{AreSolveNumbers};
+ghost use Rattle.solve_commands.specs.Searching.{PrintsOptimal, PrintsDossier, PrintsBest, PrintsOpen, NoBest, NoLeft, AnswersSearch, search_in, status_of};
+ghost use Rattle.solve_commands.specs.Keeping.{PrintsLeft};
 ghost use Rattle.solve_commands.specs.Solving.{search_of};
 ghost use Rattle.run_answers.specs.Written.{bytes_in};
 
+use crate::keeping::kept_answer;
 use book_certificate::{CertError, certificate_of};
 use book_core::{Book, Case};
-use cert_check::Certificate;
 use cert_text::print_dossier;
+use command_words::SolveOptions;
 use lock_io::Gate;
 use lock_model::Verdict;
 use plain_text::NoMemory;
@@ -52,6 +53,7 @@ pub fn status_of(verdict: &Verdict) -> Status
 pub fn report_answer(alloc: Global, book: &Book) -> Answer
     ghost limit: { ℕ }
     requires { EndsWell limit book.now }
+    ensures best { verdict_of book.now ≡ Optimal → result.status ≢ Status.Open }
     ensures left { verdict_of book.now ≢ Optimal → result.status ≢ Status.Good }
     ensures answer { AnswersSearch (PrintsOptimal report) (PrintsOpen report) (search_in book.now limit) result.status (bytes_in result.text) }
 {
@@ -82,43 +84,43 @@ fn line_answer(alloc: Global, book: &Book) -> Answer
     }
 }
 
-// The dossier of the certificate of a finished search.
+/// The dossier of the certificate of a finished search. `StillOpen` only where the search left its
+/// best plan open; else want of memory is the only refusal.
 #[tactic(auto, using(crate::proofs::EndLemmas::dossier_printed))]
-fn dossier_answer(alloc: Global, book: &Book, certificate: &Certificate) -> Answer
-    ghost limit: { ℕ }
-    requires accepts { Accepts book.now.case.instance certificate.now }
-    requires formed { IsWellFormed certificate.now }
-    ensures { AnswersSearch PrintsDossier (PrintsOpen report) (search_in book.now limit) result.status (bytes_in result.text) }
+pub fn dossier_text(alloc: Global, book: &Book) -> Result<Vec<u8>, CertError>
+    ensures printed { IfOk result (λ text. PrintsDossier book.now.case.instance text.items) }
+    ensures finished { verdict_of book.now ≡ Optimal → IfErr result (λ error. error ≡ CertError.NoMemory) }
 {
-    match print_dossier(alloc, &book.case().instance, certificate) {
+    let certificate = certificate_of(alloc, book)?;
+    match print_dossier(alloc, &book.case().instance, &certificate) {
+        Ok(text) => Ok(text),
+        Err(NoMemory) => Err(CertError::NoMemory),
+    }
+}
+
+// The dossier of a search that ended optimal.
+fn certified_answer(alloc: Global, book: &Book) -> Answer
+    ghost limit: { ℕ }
+    requires { verdict_of book.now ≡ Optimal }
+    ensures { AnswersSearch PrintsDossier NoLeft (search_in book.now limit) result.status (bytes_in result.text) }
+{
+    match dossier_text(alloc, book) {
         Ok(text) => Answer {
             status: Status::Good,
             text: Text::Made(text),
         },
-        Err(NoMemory) => no_memory(),
-    }
-}
-
-// The dossier of a search that ended well, or the report where it ended open.
-fn certified_answer(alloc: Global, book: &Book) -> Answer
-    ghost limit: { ℕ }
-    requires { EndsWell limit book.now }
-    ensures { AnswersSearch PrintsDossier (PrintsOpen report) (search_in book.now limit) result.status (bytes_in result.text) }
-{
-    match certificate_of(alloc, book) {
-        Ok(certificate) => dossier_answer(alloc, book, &certificate),
-        Err(CertError::StillOpen) => report_answer(alloc, book),
+        Err(CertError::StillOpen) => unreachable!(),
         Err(CertError::NoMemory) => no_memory(),
     }
 }
 
-/// The report of the best plan of a search that ended well, or its dossier where it is cheapest and
-/// one is asked for.
+// What is answered at the end of a search that ended optimal.
 #[tactic(auto, using(crate::proofs::EndLemmas::dossier_asked, crate::proofs::EndLemmas::report_asked))]
-pub fn best_answer(alloc: Global, book: &Book, dossier: bool) -> Answer
+fn cheapest_answer(alloc: Global, book: &Book, dossier: bool) -> Answer
     ghost limit: { ℕ }
-    requires { EndsWell limit book.now }
-    ensures { AnswersSearch (PrintsBest dossier) (PrintsOpen report) (search_in book.now limit) result.status (bytes_in result.text) }
+    requires well { EndsWell limit book.now }
+    requires optimal { verdict_of book.now ≡ Optimal }
+    ensures { AnswersSearch (PrintsBest dossier) NoLeft (search_in book.now limit) result.status (bytes_in result.text) }
 {
     if dossier {
         certified_answer(alloc, book)
@@ -127,22 +129,56 @@ pub fn best_answer(alloc: Global, book: &Book, dossier: bool) -> Answer
     }
 }
 
-/// Searches all plans of a case, and answers with the report of the best one, or with its dossier
-/// where it is cheapest and one is asked for.
+// What is answered at the end of a search that ended open.
+#[tactic(auto, using(crate::proofs::EndLemmas::kept_asked, crate::proofs::EndLemmas::open_asked))]
+fn left_answer(alloc: Global, book: &Book, keep: bool) -> Answer
+    ghost limit: { ℕ }
+    requires well { EndsWell limit book.now }
+    requires open { verdict_of book.now ≢ Optimal }
+    ensures { AnswersSearch NoBest (PrintsLeft keep) (search_in book.now limit) result.status (bytes_in result.text) }
+{
+    if keep {
+        kept_answer(alloc, book)
+    } else {
+        report_answer(alloc, book)
+    }
+}
+
+// Whether a verdict is that the plan is cheapest.
+fn is_optimal(verdict: &Verdict) -> bool
+    ensures { IsTrue result ↔ (verdict.now ≡ Optimal) }
+{
+    matches!(verdict, Verdict::Optimal)
+}
+
+/// What is answered at the end of a search that ended well: of a cheapest plan the report, or its
+/// dossier where one is asked for; of an open one the report, or its open dossier where one is to be
+/// kept.
+pub fn best_answer(alloc: Global, book: &Book, dossier: bool, keep: bool) -> Answer
+    ghost limit: { ℕ }
+    requires { EndsWell limit book.now }
+    ensures { AnswersSearch (PrintsBest dossier) (PrintsLeft keep) (search_in book.now limit) result.status (bytes_in result.text) }
+{
+    if is_optimal(&shown(book)) {
+        cheapest_answer(alloc, book, dossier)
+    } else {
+        left_answer(alloc, book, keep)
+    }
+}
+
+/// Searches all plans of a case, and answers with what the options ask for of the best one.
 pub(crate) fn search_best<R: Threads + Wait + Sync, G: Gate + Sync>(
     rt: &R,
     alloc: Global,
     case: &Case,
-    workers: u8,
-    dossier: bool,
+    options: &SolveOptions,
     gate: &G,
 ) -> Answer
-    requires some { 1 ≤ workers }
-    requires few { workers ≤ 8 }
-    ensures { AnswersSearch (PrintsBest dossier) (PrintsOpen report) (search_of case.now.nodes case.now.turns case.now.instance) result.status (bytes_in result.text) }
+    requires { AreSolveNumbers options.now }
+    ensures { AnswersSearch (PrintsBest options.now.dossier) (PrintsLeft options.now.keep) (search_of case.now.nodes case.now.turns case.now.instance) result.status (bytes_in result.text) }
 {
-    match solve(rt, alloc, case, workers, gate) {
-        Ok(solved) => best_answer(alloc, &solved.book, dossier),
+    match solve(rt, alloc, case, options.workers, gate) {
+        Ok(solved) => best_answer(alloc, &solved.book, options.dossier, options.keep),
         Err(NoMemory) => no_memory(),
     }
 }
