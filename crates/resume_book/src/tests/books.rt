@@ -1,0 +1,2 @@
+//! The open certificates of books, printed.
+
