@@ -5,11 +5,11 @@ use Rattle.search_rules.specs.declared.certificate.OpenMark.{OpenMark}
 use Rattle.resume_book.specs.Prior.{is_prior, prior_of}
 
 prior-append : (xs ys : List OpenMark) → prior_of (xs ++ ys) ≡ prior_of xs + prior_of ys
-prior-append [] ys = refl
+prior-append [] ys = omega arith
 prior-append (x ∷ xs) ys = go (is_prior x) (prior-append xs ys)
   where
     go : (t : Bool) → prior_of (xs ++ ys) ≡ prior_of xs + prior_of ys → length (cond t (x ∷ filter is_prior (xs ++ ys)) (filter is_prior (xs ++ ys))) ≡ length (cond t (x ∷ filter is_prior xs) (filter is_prior xs)) + prior_of ys
-    go true e = ap suc e
+    go true e = omega (arith, e)
     go false e = e
 
 -- one mark more

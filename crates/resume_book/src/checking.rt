@@ -65,7 +65,12 @@ fn low_or_failure(
     ensures ok { IfOk result (λ told. IfOk told (λ low. Stands instance.now certificate.now × IsLow instance.now certificate.now low)) }
     ensures err { IfOk result (λ told. IfErr told (λ f. OpenFails instance.now certificate.now f.0 f.1)) }
 {
-    let OpenCertificate { cost, cuts, plan, .. } = certificate;
+    let OpenCertificate {
+        cost,
+        cuts,
+        plan,
+        ..
+    } = certificate;
     if let Some(first) = first_failure_before_marks(alloc, instance, *cost, cuts, plan)? {
         return Ok(Err(first));
     }

@@ -15,27 +15,15 @@
 //! `Prior` the work. `Reading` says what is read of a node and of its children.
 #![tactic(auto)]
 
-mod book;
 mod certificate;
 mod checking;
 mod counting;
 mod laws;
-mod marks;
-mod print;
-mod read;
 mod reading;
-#[cfg(test)]
-mod tests;
-mod tree;
-mod value;
 
-pub use book::open_certificate_of;
-pub use cert_text::{BadDossier, DossierError};
 pub use certificate::{OpenAnswer, OpenCertificate, OpenMarks};
 pub use checking::check_open;
+pub use counting::prior;
 pub use laws::one_first_open_failure;
 pub use plain_text::NoMemory;
-pub use print::print_open;
-pub use counting::prior;
-pub use read::read_open;
 pub use search_rules::{OpenMark, Reason, Spot2};

@@ -6,8 +6,8 @@ use Rattle.resume_book.proofs.counting.count.Goals as goal
 
 pub loop-mark-preserved : goal.loop-mark-preserved
 loop-mark-preserved c = record {
-  total = prior-more c.args.marks.now c.loop-mark.mark-index c.loop-mark.count c.weight.result _ c.loop-mark-test.true c.loop-mark.invariant.total c.weight.ensures.value;
-  few = let most = c.weight.ensures.most in let few = c.loop-mark.invariant.few in omega (arith, most, few);
+  total = prior-more c.args.marks.now c.loop-mark.mark-index c.loop-mark.count c.weight-count.result _ c.loop-mark-test.true c.loop-mark.invariant.total c.weight-count.ensures.value;
+  few = let most = c.weight-count.ensures.most in let few = c.loop-mark.invariant.few in omega (arith, most, few);
 }
 
 pub returns : goal.returns

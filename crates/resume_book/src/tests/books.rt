@@ -1,2 +1,0 @@
-//! The open certificates of books, printed.
-
