@@ -1,0 +1,4 @@
+mod PriorLemmas
+mod LeastLemmas
+mod ReadLemmas
+mod AnswerLemmas

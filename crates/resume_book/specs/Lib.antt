@@ -1,0 +1,4 @@
+pub mod Prior
+pub mod Proven
+pub mod Reading
+pub mod OneFailure

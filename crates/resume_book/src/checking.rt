@@ -1,0 +1,108 @@
+//! The checker of open certificates: whether one stands, and its low, or its first failure.
+ghost use Rattle.std.specs.Prelude.{◌≡◌, ◌↔◌, ℕ, [], length, All, IfOk, IfErr};
+ghost use Rattle.lock_rules.specs.Node.{root_lines};
+ghost use Rattle.lock_rules.specs.Throughput.{throughput_of};
+ghost use Rattle.search_rules.specs.declared.certificate.Spot2.{Spot2 as Place};
+ghost use Rattle.search_rules.specs.declared.certificate.Reason.{Reason as Why};
+ghost use Rattle.search_rules.specs.Certificates.{IsProved};
+ghost use Rattle.search_rules.specs.OpenCertificates.{Stands};
+ghost use Rattle.search_rules.specs.Low.{IsLow};
+ghost use Rattle.search_rules.specs.Failures.{OpenFails};
+ghost use Rattle.resume_book.specs.Proven.{IsProvenLow};
+ghost use Rattle.resume_book.specs.OneFailure.{IsLowOfMarks, FailAtOpenMark};
+
+use crate::certificate::{OpenAnswer, OpenCertificate};
+use crate::reading::read_tree;
+use cert_check::{Claim, first_failure_before_marks};
+use deck_laws::{heredity, normal_form};
+use flow_bounds::{Roster, throughput};
+use lock_model::Instance;
+use master_branch::root;
+use plain_text::NoMemory;
+use search_rules::{OpenMark, Reason, Spot2};
+use std::alloc::Global;
+
+// The low of marks that are one open tree of the root, or their first failure, by the number of the
+// mark where it comes.
+fn low_of_marks(claim: &Claim, marks: &[OpenMark]) -> Result<u64, (u64, Reason)>
+    ensures ok { IfOk result (IsLowOfMarks claim.now.instance.now claim.now.cost claim.now.cuts.now marks.now) }
+    ensures err { IfErr result (λ f. FailAtOpenMark claim.now.instance.now claim.now.cost claim.now.cuts.now marks.now f.0 f.1) }
+{
+    let read = match read_tree(claim, &root(claim.instance), claim.cost, marks) {
+        Ok(read) => read,
+        Err(stuck) => return Err(((marks.len() - stuck.marks.len()) as u64, stuck.reason)),
+    };
+    if read.marks.is_empty() {
+        Ok(read.low)
+    } else {
+        Err(((marks.len() - read.marks.len()) as u64, Reason::TreeLong))
+    }
+}
+
+// The same of the marks of an open certificate whose cuts are proved.
+fn low_of(instance: &Instance, certificate: &OpenCertificate) -> Result<u64, (u64, Reason)>
+    requires { All (IsProved instance.now) certificate.now.cuts }
+    ensures ok { IfOk result (IsLowOfMarks instance.now certificate.now.cost certificate.now.cuts certificate.now.tree) }
+    ensures err { IfErr result (λ f. FailAtOpenMark instance.now certificate.now.cost certificate.now.cuts certificate.now.tree f.0 f.1) }
+{
+    let roster = Roster::of(instance);
+    let claim = Claim {
+        instance,
+        roster: &roster,
+        throughput: throughput(instance),
+        cost: certificate.cost,
+        cuts: certificate.cuts.as_slice(),
+    };
+    low_of_marks(&claim, certificate.tree.as_slice())
+}
+
+// The low of an open certificate that stands, or its first failure.
+fn low_or_failure(
+    alloc: Global,
+    instance: &Instance,
+    certificate: &OpenCertificate,
+) -> Result<Result<u64, (Spot2, Reason)>, NoMemory>
+    ensures ok { IfOk result (λ told. IfOk told (λ low. Stands instance.now certificate.now × IsLow instance.now certificate.now low)) }
+    ensures err { IfOk result (λ told. IfErr told (λ f. OpenFails instance.now certificate.now f.0 f.1)) }
+{
+    let OpenCertificate {
+        cost,
+        cuts,
+        plan,
+        ..
+    } = certificate;
+    if let Some(first) = first_failure_before_marks(alloc, instance, *cost, cuts, plan)? {
+        return Ok(Err(first));
+    }
+    match low_of(instance, certificate) {
+        Ok(low) => Ok(Ok(low)),
+        Err((number, reason)) => Ok(Err((Spot2::Tree(number), reason))),
+    }
+}
+
+/// Checks an open certificate of an instance without any search: its plan, then its cost, then its
+/// cuts in order, then its marks in order, each mark once. An open leaf ends its node.
+///
+/// `Stands` exactly where the open certificate stands, with its low and its cost in minutes; then its
+/// plan is legal and costs as much, and every legal plan costs at least the low. `Rejected` exactly
+/// with the first place and reason at which it fails. Places are numbered from 0. Refuses want of
+/// memory alone.
+pub fn check_open(
+    alloc: Global,
+    instance: &Instance,
+    certificate: &OpenCertificate,
+) -> Result<OpenAnswer, NoMemory>
+    ensures stands { IfOk result (λ answer. (low cost : ℕ) → (answer ≡ OpenAnswer.Stands low cost) ↔ (Stands instance.now certificate.now × IsLow instance.now certificate.now low × (cost ≡ certificate.now.cost))) }
+    ensures rejected { IfOk result (λ answer. (place : Place) (why : Why) → (answer ≡ OpenAnswer.Rejected place why) ↔ OpenFails instance.now certificate.now place why) }
+    ensures proves { IfOk result (λ answer. (low cost : ℕ) → answer ≡ OpenAnswer.Stands low cost → IsProvenLow instance.now certificate.now.plan low cost) }
+{
+    heredity();
+    normal_form();
+    match low_or_failure(alloc, instance, certificate)? {
+        Ok(low) => Ok(OpenAnswer::Stands {
+            low,
+            cost: certificate.cost,
+        }),
+        Err((place, reason)) => Ok(OpenAnswer::Rejected(place, reason)),
+    }
+}

@@ -1,0 +1,37 @@
+//! The work that an open certificate holds.
+ghost use Rattle.std.specs.Prelude.{◌≡◌, ◌≤◌, [], ◌∷◌};
+ghost use Rattle.resume_book.specs.Prior.{prior_of};
+
+use crate::certificate::OpenCertificate;
+use cert_check::Mark;
+use search_rules::OpenMark;
+
+// 1 for a mark that is neither a bound mark nor an open leaf, and else 0.
+fn weight(mark: &OpenMark) -> u64
+    ensures value { result ≡ prior_of (mark.now ∷ []) }
+    ensures most { result ≤ 1 }
+{
+    match mark {
+        OpenMark::Open | OpenMark::Closed(Mark::Bound) => 0,
+        OpenMark::Closed(_) => 1,
+    }
+}
+
+// How many of these marks are neither bound marks nor open leaves.
+fn count(marks: &[OpenMark]) -> u64
+    ensures { result ≡ prior_of marks.now }
+{
+    let mut count = 0;
+    for mark in marks {
+        count += weight(mark);
+    }
+    count
+}
+
+/// How many marks of an open certificate are neither bound marks nor open leaves. The nodes that a
+/// search has taken and not left open have such marks, or bound marks.
+pub fn prior(certificate: &OpenCertificate) -> u64
+    ensures { result ≡ prior_of certificate.now.tree }
+{
+    count(certificate.tree.as_slice())
+}

@@ -1,0 +1,201 @@
+//! The marks of an open certificate, read once along its tree.
+ghost use Rattle.std.specs.Prelude.{◌≡◌, ◌<◌, ◌↔◌, [], ◌∷◌, length, IsTrue, IfOk, IfErr, IfNone, IfSome};
+ghost use Rattle.lock_rules.specs.Bound.{bound_of};
+ghost use Rattle.master_branch.specs.Node.{IsNodeOf, children};
+ghost use Rattle.search_rules.specs.OpenCertificates.{ClosesOrOpen};
+ghost use Rattle.search_rules.specs.Failures.{open_reason_of};
+ghost use Rattle.search_rules.specs.Low.{leaf_bounds};
+ghost use Rattle.cert_check.specs.Reading.{AreTold};
+ghost use Rattle.lock_rules.specs.Bound.{least_number};
+ghost use Rattle.resume_book.specs.Reading.{IsRead, IsStuck, IsChildRead, IsChildStuck, AreRead, AreStuck};
+
+use cert_check::{Claim, Mark, child_of, child_reaches, closes, reason_against};
+use flow_bounds::{Reached, bound};
+use lock_model::Instance;
+use master_branch::{Node, child_count};
+use search_rules::{OpenMark, Reason};
+
+// What was read: the marks behind it, and the least of the bounds of the open leaves so far and of
+// the number that reading began with.
+#[derive(Drop)]
+pub(crate) struct Read<'m> {
+    pub(crate) marks: &'m [OpenMark],
+    pub(crate) low: u64,
+}
+
+// Where reading ends before its time: the marks that are left there, and why.
+#[derive(Drop)]
+pub(crate) struct Stuck<'m> {
+    pub(crate) marks: &'m [OpenMark],
+    pub(crate) reason: Reason,
+}
+
+// The first mark and those behind it.
+fn first_mark(marks: &[OpenMark]) -> Option<(OpenMark, &[OpenMark])>
+    ensures none { IfNone result (marks.now ≡ []) }
+    ensures some { IfSome result (λ first. marks.now ≡ first.0 ∷ first.1.now) }
+{
+    match marks {
+        [mark, rest @ ..] => Some((*mark, rest)),
+        [] => None,
+    }
+}
+
+// The marks behind a bound mark, where the first one is a bound mark.
+fn behind_bound(marks: &[OpenMark]) -> Option<&[OpenMark]>
+    ensures { IfSome result (λ rest. marks.now ≡ OpenMark.Closed Mark.Bound ∷ rest.now) }
+{
+    match first_mark(marks) {
+        Some((OpenMark::Closed(Mark::Bound), rest)) => Some(rest),
+        _ => None,
+    }
+}
+
+// Whether a mark splits the node: a split mark, where the node lacks a ship.
+fn splits(instance: &Instance, node: &Node, mark: OpenMark) -> bool
+    ensures { IsTrue result ↔ (mark ≡ OpenMark.Closed Mark.Split) × (node.now.depth < length instance.now.ships) }
+{
+    mark == OpenMark::Closed(Mark::Split)
+        && (node.depth() as usize) < instance.ships.as_slice().len()
+}
+
+// Whether a mark closes the node or leaves it open.
+fn ends(claim: &Claim, node: &Node, mark: OpenMark) -> bool
+    requires { IsNodeOf claim.now.instance.now node.now }
+    ensures { IsTrue result ↔ ClosesOrOpen claim.now.instance.now claim.now.cost claim.now.cuts.now node.now.depth node.now.lines mark }
+{
+    match mark {
+        OpenMark::Closed(mark) => closes(claim, node, mark),
+        OpenMark::Open => true,
+    }
+}
+
+// Why a mark that should end a node doesn't.
+fn reason_of(mark: OpenMark) -> Reason
+    ensures { result ≡ open_reason_of mark }
+{
+    match mark {
+        OpenMark::Closed(mark) => reason_against(mark),
+        OpenMark::Open => Reason::SplitFull,
+    }
+}
+
+// The lesser of a number and the bound of the node, where the mark leaves it open.
+fn lowered(instance: &Instance, node: &Node, mark: OpenMark, low: u64) -> u64
+    requires { IsNodeOf instance.now node.now }
+    ensures { result ≡ least_number (low ∷ leaf_bounds (bound_of instance.now node.now.depth node.now.lines) mark) }
+{
+    match mark {
+        OpenMark::Closed(_) => low,
+        OpenMark::Open => low.min(bound(instance, node)),
+    }
+}
+
+// Reads an open tree of child `i` of a node, which is made for it.
+#[cycle(tree)]
+fn read_made_child<'m>(
+    claim: &Claim,
+    node: &Node,
+    i: u32,
+    low: u64,
+    marks: &'m [OpenMark],
+) -> Result<Read<'m>, Stuck<'m>>
+    requires node { IsNodeOf claim.now.instance.now node.now }
+    requires lacks { node.now.depth < length claim.now.instance.now.ships }
+    requires within { i < length (children claim.now.instance.now node.now) }
+    ensures ok { IfOk result (λ read. IsChildRead claim.now node.now i low marks.now read.marks.now read.low) }
+    ensures err { IfErr result (λ stuck. IsChildStuck claim.now node.now i marks.now stuck.marks.now stuck.reason) }
+{
+    read_tree(claim, &child_of(claim, node, i), low, marks)
+}
+
+// Reads an open tree of child `i` of a node. The child isn't made where its bound closes it, and no
+// room for it is taken then.
+#[cycle(tree)]
+fn read_child<'m>(
+    claim: &Claim,
+    node: &Node,
+    told: &mut Option<Reached>,
+    i: u32,
+    low: u64,
+    marks: &'m [OpenMark],
+) -> Result<Read<'m>, Stuck<'m>>
+    requires node { IsNodeOf claim.now.instance.now node.now }
+    requires lacks { node.now.depth < length claim.now.instance.now.ships }
+    requires within { i < length (children claim.now.instance.now node.now) }
+    requires told { AreTold claim.now node.now told.old }
+    ensures ok { IfOk result (λ read. IsChildRead claim.now node.now i low marks.now read.marks.now read.low) }
+    ensures err { IfErr result (λ stuck. IsChildStuck claim.now node.now i marks.now stuck.marks.now stuck.reason) }
+    ensures told { AreTold claim.now node.now told.new }
+{
+    if let Some(rest) = behind_bound(marks) {
+        if child_reaches(claim, node, told, i) {
+            return Ok(Read { marks: rest, low });
+        }
+        return Err(Stuck {
+            marks,
+            reason: Reason::BoundLow,
+        });
+    }
+    read_made_child(claim, node, i, low, marks)
+}
+
+// Reads open trees of all children of a node.
+#[cycle(tree)]
+fn read_children<'m>(
+    claim: &Claim,
+    node: &Node,
+    low: u64,
+    marks: &'m [OpenMark],
+) -> Result<Read<'m>, Stuck<'m>>
+    requires node { IsNodeOf claim.now.instance.now node.now }
+    requires lacks { node.now.depth < length claim.now.instance.now.ships }
+    ensures ok { IfOk result (λ read. AreRead claim.now node.now (length (children claim.now.instance.now node.now)) low marks.now read.marks.now read.low) }
+    ensures err { IfErr result (λ stuck. AreStuck claim.now node.now marks.now stuck.marks.now stuck.reason) }
+{
+    let mut told = None;
+    let mut rest = marks;
+    let mut least = low;
+    for i in 0..child_count(claim.instance, node) {
+        let read = read_child(claim, node, &mut told, i, least, rest)?;
+        rest = read.marks;
+        least = read.low;
+    }
+    Ok(Read {
+        marks: rest,
+        low: least,
+    })
+}
+
+// Reads an open tree of a node. It calls itself no deeper than the instance has ships.
+#[cycle(tree)]
+pub(crate) fn read_tree<'m>(
+    claim: &Claim,
+    node: &Node,
+    low: u64,
+    marks: &'m [OpenMark],
+) -> Result<Read<'m>, Stuck<'m>>
+    requires { IsNodeOf claim.now.instance.now node.now }
+    ensures ok { IfOk result (λ read. IsRead claim.now node.now low marks.now read.marks.now read.low) }
+    ensures err { IfErr result (λ stuck. IsStuck claim.now node.now marks.now stuck.marks.now stuck.reason) }
+{
+    let Some((mark, rest)) = first_mark(marks) else {
+        return Err(Stuck {
+            marks,
+            reason: Reason::TreeShort,
+        });
+    };
+    if splits(claim.instance, node, mark) {
+        return read_children(claim, node, low, rest);
+    }
+    if ends(claim, node, mark) {
+        return Ok(Read {
+            marks: rest,
+            low: lowered(claim.instance, node, mark, low),
+        });
+    }
+    Err(Stuck {
+        marks,
+        reason: reason_of(mark),
+    })
+}
