@@ -27,7 +27,6 @@ fn status_of(low: u64, cost: u64) -> Status
 }
 
 // The low and the cost of a certificate that stands.
-#[tactic(auto, using(crate::proofs::OpenLemmas::low_answers))]
 fn low_answer(alloc: Global, bytes: &[u8], standing: &Standing) -> Answer
     requires standing { IsStanding bytes.now standing.now.instance standing.now.certificate }
     requires low { HasLow standing.now.instance standing.now.certificate standing.now.low }

@@ -74,6 +74,7 @@ fn budget(certificate: &OpenCertificate, given: u32) -> u32
 }
 
 // What a search of a case shows that goes on from a certificate that stands.
+#[tactic(auto, using(solve_commands::proofs::WiderLemmas::ends_from_opening, solve_commands::proofs::WiderLemmas::answers_wider))]
 fn search_answer<R: Threads + Wait + Sync, G: Gate + Sync>(
     rt: &R,
     alloc: Global,

@@ -70,7 +70,7 @@ not_good b V status shown is left good = by_verdict V (λ best. left (sym shown 
 
 -- and none ends as open
 pub not_open : (b : Book) (V : Verdict) (status : Status) → V ≡ verdict_of b → status ≡ status_of V → verdict_of b ≡ Optimal → status ≢ Open
-not_open b V status shown is best open = good_open (ap status_of (sym best ∙ sym shown) ∙ sym is ∙ open)
+not_open b V status shown is best left = good_open (ap status_of (sym best ∙ sym shown) ∙ sym is ∙ left)
   where
     good_open : Good ≡ Open → ⊥
     good_open e = cc
@@ -106,7 +106,7 @@ dossier_asked asked k status text is answer = subst (λ a. AnswersSearch (Prints
 
 pub report_asked : (asked : Bool) (k : Search) (status : Status) (text : List ℕ) → false ≡ asked → status ≢ Open → AnswersSearch (PrintsOptimal report) (PrintsOpen report) k status text → AnswersSearch (PrintsBest asked) NoLeft k status text
 report_asked asked k status text is best answer =
-    subst (λ a. AnswersSearch (PrintsBest a) NoLeft k status text) is (answers_as (PrintsOptimal report) (PrintsOptimal report) (PrintsOpen report) NoLeft k status text (λ _ shown. shown) (λ open _. absurd (best open)) answer)
+    subst (λ a. AnswersSearch (PrintsBest a) NoLeft k status text) is (answers_as (PrintsOptimal report) (PrintsOptimal report) (PrintsOpen report) NoLeft k status text (λ _ shown. shown) (λ left _. absurd (best left)) answer)
 
 pub kept_asked : (asked : Bool) (k : Search) (status : Status) (text : List ℕ) → true ≡ asked → AnswersSearch NoBest PrintsKept k status text → AnswersSearch NoBest (PrintsLeft asked) k status text
 kept_asked asked k status text is answer = subst (λ a. AnswersSearch NoBest (PrintsLeft a) k status text) is answer

@@ -1,5 +1,5 @@
 -- What the open certificate of a search that ended well and open keeps.
-use Rattle.std.proofs.Common.{ℕ, Bool, true, false, ◌≡◌, ◌≢◌, ◌<◌, ◌≤◌, refl, List, length, sym, subst, ap, ◌∙◌, inl, inr, arith, Some, None, cond, ◌||◌, min}
+use Rattle.std.proofs.Common.{ℕ, Bool, true, false, ◌≡◌, ◌≢◌, ◌<◌, ◌≤◌, ◌⊎◌, refl, List, length, sym, subst, ap, ◌∙◌, inl, inr, arith, Some, None, cond, ◌||◌, min}
 use Rattle.std.specs.declared.option.Option.{Option}
 use Rattle.std.proofs.lemmas.List.Folds.{Any-from_list_any}
 use Rattle.std.proofs.lemmas.List.{get_or_default}
@@ -66,16 +66,16 @@ module _ (b : Book) (limit : ℕ) (C : OpenCertificate) (own : IsOpenCertificate
 
   -- its low is that of the verdict, which is below the cost
   kept_low : (low : ℕ) → best_cost b ≤ limit → IsOpenLow I b.best low → IsLow I C (min low (best_cost b)) → SpendsNodes (search_in b limit) C ⊎ SpendsTurns (search_in b limit) C → IsKept (search_in b limit) C
-  kept_low low cost open lowest cause =
+  kept_low low cost lower lowest cause =
       let is = own.cost in
-      let same : min low (best_cost b) ≡ low = let below = open.below in omega (arith, below) in
+      let same : min low (best_cost b) ≡ low = let below = lower.below in omega (arith, below) in
       record {
         formed = formed;
         stands = stands;
         cost = omega (arith, cost, is);
         low = low;
         lowest = subst (IsLow I C) same lowest;
-        lower = subst (λ P. IsOpenLow I P low) (sym own.plan) open;
+        lower = subst (λ P. IsOpenLow I P low) (sym own.plan) lower;
         cause = cause;
       }
 

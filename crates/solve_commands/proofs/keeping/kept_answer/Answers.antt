@@ -3,5 +3,5 @@ use Rattle.solve_commands.proofs.keeping.kept_answer.Goals as goal
 
 pub open_dossier_answer-requires : goal.open_dossier_answer-requires
 open_dossier_answer-requires g c =
-    let told = c.open_certificate_of.ensures in
-    search rules
+    let told = c.in-Ok in
+    certificate_kept c.args.book.now g.limit told.certificate told.ensures.certified told.ensures.stands told.ensures.formed c.keeps.ensures c.requires.well c.requires.open told.ensures.low told.ensures.more

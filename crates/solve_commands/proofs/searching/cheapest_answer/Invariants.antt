@@ -1,4 +1,4 @@
-use Rattle.solve_commands.proofs.searching.cheapest_answer.Goals as goal
+use Rattle.solve_commands.proofs.searching.cheapest_answer.Given as goal
 
 abbrev pub ghost-certified_answer : goal.ghost-certified_answer
 ghost-certified_answer g a = g.limit

@@ -1,4 +1,4 @@
-use Rattle.solve_commands.proofs.searching.left_answer.Goals as goal
+use Rattle.solve_commands.proofs.searching.left_answer.Given as goal
 
 abbrev pub ghost-kept_answer : goal.ghost-kept_answer
 ghost-kept_answer g a = g.limit
