@@ -1,4 +1,4 @@
--- What `check` writes.
+-- What the commands that read dossiers write.
 use Rattle.std.specs.Prelude.{ℕ, List, ◌++◌, codes, decimal}
 use Rattle.search_rules.specs.declared.certificate.Spot2.{Spot2}
 use Rattle.search_rules.specs.declared.certificate.Spot2.TheVariants.{Plan, Cost, Cut, Tree}
@@ -59,3 +59,7 @@ fault_text (Instance bad) = codes "dossier fault 1 Instance " ++ defect_text bad
 fault_text NoMark = codes "dossier fault 2 NoMark\n"
 fault_text Json = codes "dossier fault 3 Json\n"
 fault_text (Shape part) = shape_text part
+
+-- the low and the cost of an open certificate
+unfoldable pub lower_text : ℕ → ℕ → List ℕ
+lower_text low cost = codes "lower " ++ decimal low ++ codes " cost " ++ decimal cost ++ codes "\n"

@@ -19,8 +19,8 @@ use plain_text::NoMemory;
 use run_answers::{Answer, Status, Text, no_memory, read_source, unfit_text};
 use std::alloc::Global;
 
-// The most bytes that are read. Want of memory comes first.
-const LIMIT: u64 = 9_007_199_254_740_992;
+/// The most bytes that are read. Want of memory comes first.
+pub(crate) const LIMIT: u64 = 9_007_199_254_740_992;
 
 // A ship that fits no chamber.
 fn unfit_answer(alloc: Global, instance: &Instance, certificate: &Certificate, ship: u8) -> Answer

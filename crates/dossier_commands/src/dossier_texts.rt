@@ -1,6 +1,6 @@
-//! Texts of `check`.
+//! Texts of the commands that read dossiers.
 ghost use Rattle.std.specs.Prelude.{◌≡◌, ◌++◌, IfOk, OnOk};
-ghost use Rattle.dossier_commands.specs.DossierTexts.{accepted_text, place_text, number_of_reason, name_of_reason, rejected_text, shape_text, fault_text};
+ghost use Rattle.dossier_commands.specs.DossierTexts.{accepted_text, lower_text, place_text, number_of_reason, name_of_reason, rejected_text, shape_text, fault_text};
 ghost use Rattle.cert_text.specs.declared.bad.BadDossier.TheVariants.{Instance as InstancePart};
 
 use cert_check::{Reason, Spot2};
@@ -17,6 +17,20 @@ pub(crate) fn accepted_text(alloc: Global, cost: u64) -> Result<Vec<u8>, NoMemor
 {
     let mut out = Vec::new(alloc);
     put(&mut out, b"accepted cost ")?;
+    put_number(&mut out, cost)?;
+    put(&mut out, b"\n")?;
+    Ok(out)
+}
+
+/// The low and the cost of an open certificate.
+#[tactic(auto, unfolding(crate::specs::DossierTexts::lower_text))]
+pub(crate) fn lower_text(alloc: Global, low: u64, cost: u64) -> Result<Vec<u8>, NoMemory>
+    ensures { IfOk result (λ text. text.items ≡ lower_text low cost) }
+{
+    let mut out = Vec::new(alloc);
+    put(&mut out, b"lower ")?;
+    put_number(&mut out, low)?;
+    put(&mut out, b" cost ")?;
     put_number(&mut out, cost)?;
     put(&mut out, b"\n")?;
     Ok(out)

@@ -1,6 +1,5 @@
 -- What a search that ended well shows, and what is answered to it.
-use Rattle.std.proofs.Common.{ℕ, Bool, true, false, ◌≡◌, ◌≢◌, ◌<◌, refl, List, length, sym, subst, ◌∙◌, inl, inr, All, Err, Result}
-use Rattle.std.specs.Prelude.{IfErr}
+use Rattle.std.proofs.Common.{ℕ, Bool, true, false, ◌≡◌, ◌≢◌, ◌<◌, refl, List, length, sym, ap, subst, ◌∙◌, inl, inr, All}
 use Rattle.std.proofs.lemmas.List.Elements.{All-contains}
 use Rattle.lock_model.specs.declared.instance.Instance.{Instance}
 use Rattle.lock_model.specs.declared.group.Group.{Group}
@@ -20,13 +19,11 @@ use Rattle.search_rules.proofs.EndLemmas.{ends}
 use Rattle.cert_text.specs.Dossier.{dossier, Reads}
 use Rattle.book_core.specs.Keeps.{IsSound}
 use Rattle.book_core.proofs.SoundLemmas.{laws}
-use Rattle.book_certificate.specs.declared.error.CertError.{CertError}
-use Rattle.book_certificate.specs.declared.error.CertError.TheVariants.{StillOpen, NoMemory}
 use Rattle.plan_print.specs.Report.{IsOfInstance, report}
-use Rattle.solve_commands.specs.Searching.{Search, Print, PrintsOptimal, PrintsDossier, PrintsBest, PrintsOpen, AnswersSearch, status_of}
 use Rattle.run_answers.specs.declared.status.Status.{Status}
-use Rattle.run_answers.specs.declared.status.Status.TheVariants.{Good, Open, Words, Refused, ReadFault, WriteFault, BadDossier, Unfit, PlanRefused}
-use Rattle.run_answers.specs.declared.status.Status.TheVariants as statuses
+use Rattle.run_answers.specs.declared.status.Status.TheVariants.{Good, Open, Words, Refused, ReadFault, WriteFault, NoMemory, BadDossier, Unfit, PlanRefused}
+use Rattle.solve_commands.specs.Searching.{Search, Print, PrintsOptimal, PrintsDossier, PrintsBest, PrintsOpen, NoBest, NoLeft, AnswersSearch, status_of}
+use Rattle.solve_commands.specs.Keeping.{PrintsKept, PrintsLeft}
 
 -- what the book of a search that ended well shows
 pub book_ends : (b : Book) (limit : ℕ) (V : Verdict) → V ≡ verdict_of b → IsSound b → EndsWell limit b → IsEnd b.case.instance b.case.nodes b.case.turns limit b.best V
@@ -57,9 +54,9 @@ pub dossier_printed : (I : Instance) (C : Certificate) (text : List ℕ) → Acc
 dossier_printed I C text accepts formed shown reads =
     record { certificate = C; formed = formed; accepts = accepts; cheapest = accepted-cheapest I C (laws I) accepts; shown = shown; reads = reads }
 
--- ---- where no dossier is
+-- ---- what its status tells
 
--- only a cheapest plan ends as good
+-- only a cheapest plan ends as good,
 pub not_good : (b : Book) (V : Verdict) (status : Status) → V ≡ verdict_of b → status ≡ status_of V → verdict_of b ≢ Optimal → status ≢ Good
 not_good b V status shown is left good = by_verdict V (λ best. left (sym shown ∙ best)) (sym is ∙ good)
   where
@@ -71,30 +68,49 @@ not_good b V status shown is left good = by_verdict V (λ best. left (sym shown 
     by_verdict (OpenNodes used low) other e = open_good e
     by_verdict (OpenTurns chamber ships given low) other e = open_good e
 
--- a book without a certificate isn't finished
-pub still_open : {A : Type 0} (b : Book) (found : Result A CertError) → found ≡ Err StillOpen → (verdict_of b ≡ Optimal → IfErr found (λ error. error ≡ NoMemory)) → verdict_of b ≢ Optimal
-still_open {A} b found is finished optimal = other (subst (λ r. IfErr r (λ error. error ≡ NoMemory)) is (finished optimal))
+-- and none ends as open
+pub not_open : (b : Book) (V : Verdict) (status : Status) → V ≡ verdict_of b → status ≡ status_of V → verdict_of b ≡ Optimal → status ≢ Open
+not_open b V status shown is best left = good_open (ap status_of (sym best ∙ sym shown) ∙ sym is ∙ left)
   where
-    other : StillOpen ≡ NoMemory → ⊥
-    other e = cc
+    good_open : Good ≡ Open → ⊥
+    good_open e = cc
 
--- the report that was answered is answered where a dossier is asked for
-pub open_answers : (k : Search) (status : Status) (text : List ℕ) → status ≢ Good → AnswersSearch (PrintsOptimal report) (PrintsOpen report) k status text → AnswersSearch PrintsDossier (PrintsOpen report) k status text
-open_answers k Good text left answer = absurd (left refl)
-open_answers k Open text left answer = answer
-open_answers k Words text left answer = absurd answer
-open_answers k Refused text left answer = absurd answer
-open_answers k ReadFault text left answer = absurd answer
-open_answers k WriteFault text left answer = absurd answer
-open_answers k statuses.NoMemory text left answer = answer
-open_answers k BadDossier text left answer = absurd answer
-open_answers k Unfit text left answer = absurd answer
-open_answers k PlanRefused text left answer = absurd answer
+-- ---- one answer for another
+
+-- what is printed of a cheapest plan, and of an open one, is told otherwise
+pub answers_as : (Best Other : Instance → List ℕ → Type 0) (Left Rest : Search → List ℕ → Type 0) (k : Search) (status : Status) (text : List ℕ)
+    → (status ≡ Good → Best k.instance text → Other k.instance text) → (status ≡ Open → Left k text → Rest k text)
+    → AnswersSearch Best Left k status text → AnswersSearch Other Rest k status text
+answers_as Best Other Left Rest k Good text best left answer = best refl answer
+answers_as Best Other Left Rest k Open text best left answer = left refl answer
+answers_as Best Other Left Rest k Words text best left answer = answer
+answers_as Best Other Left Rest k Refused text best left answer = answer
+answers_as Best Other Left Rest k ReadFault text best left answer = answer
+answers_as Best Other Left Rest k WriteFault text best left answer = answer
+answers_as Best Other Left Rest k NoMemory text best left answer = answer
+answers_as Best Other Left Rest k BadDossier text best left answer = answer
+answers_as Best Other Left Rest k Unfit text best left answer = answer
+answers_as Best Other Left Rest k PlanRefused text best left answer = answer
+
+-- where nothing is printed of an open plan, or nothing of a cheapest one
+pub best_answers : (dossier keep : Bool) (k : Search) (status : Status) (text : List ℕ) → AnswersSearch (PrintsBest dossier) NoLeft k status text → AnswersSearch (PrintsBest dossier) (PrintsLeft keep) k status text
+best_answers dossier keep k status text = answers_as (PrintsBest dossier) (PrintsBest dossier) NoLeft (PrintsLeft keep) k status text (λ _ best. best) (λ _ none. absurd none)
+
+pub left_answers : (dossier keep : Bool) (k : Search) (status : Status) (text : List ℕ) → AnswersSearch NoBest (PrintsLeft keep) k status text → AnswersSearch (PrintsBest dossier) (PrintsLeft keep) k status text
+left_answers dossier keep k status text = answers_as NoBest (PrintsBest dossier) (PrintsLeft keep) (PrintsLeft keep) k status text (λ _ none. absurd none) (λ _ left. left)
 
 -- ---- by what is asked for
 
-pub dossier_asked : (asked : Bool) (k : Search) (status : Status) (text : List ℕ) → true ≡ asked → AnswersSearch PrintsDossier (PrintsOpen report) k status text → AnswersSearch (PrintsBest asked) (PrintsOpen report) k status text
-dossier_asked asked k status text is answer = subst (λ a. AnswersSearch (PrintsBest a) (PrintsOpen report) k status text) is answer
+pub dossier_asked : (asked : Bool) (k : Search) (status : Status) (text : List ℕ) → true ≡ asked → AnswersSearch PrintsDossier NoLeft k status text → AnswersSearch (PrintsBest asked) NoLeft k status text
+dossier_asked asked k status text is answer = subst (λ a. AnswersSearch (PrintsBest a) NoLeft k status text) is answer
 
-pub report_asked : (asked : Bool) (k : Search) (status : Status) (text : List ℕ) → false ≡ asked → AnswersSearch (PrintsOptimal report) (PrintsOpen report) k status text → AnswersSearch (PrintsBest asked) (PrintsOpen report) k status text
-report_asked asked k status text is answer = subst (λ a. AnswersSearch (PrintsBest a) (PrintsOpen report) k status text) is answer
+pub report_asked : (asked : Bool) (k : Search) (status : Status) (text : List ℕ) → false ≡ asked → status ≢ Open → AnswersSearch (PrintsOptimal report) (PrintsOpen report) k status text → AnswersSearch (PrintsBest asked) NoLeft k status text
+report_asked asked k status text is best answer =
+    subst (λ a. AnswersSearch (PrintsBest a) NoLeft k status text) is (answers_as (PrintsOptimal report) (PrintsOptimal report) (PrintsOpen report) NoLeft k status text (λ _ shown. shown) (λ left _. absurd (best left)) answer)
+
+pub kept_asked : (asked : Bool) (k : Search) (status : Status) (text : List ℕ) → true ≡ asked → AnswersSearch NoBest PrintsKept k status text → AnswersSearch NoBest (PrintsLeft asked) k status text
+kept_asked asked k status text is answer = subst (λ a. AnswersSearch NoBest (PrintsLeft a) k status text) is answer
+
+pub open_asked : (asked : Bool) (k : Search) (status : Status) (text : List ℕ) → false ≡ asked → status ≢ Good → AnswersSearch (PrintsOptimal report) (PrintsOpen report) k status text → AnswersSearch NoBest (PrintsLeft asked) k status text
+open_asked asked k status text is left answer =
+    subst (λ a. AnswersSearch NoBest (PrintsLeft a) k status text) is (answers_as (PrintsOptimal report) NoBest (PrintsOpen report) (PrintsOpen report) k status text (λ good _. absurd (left good)) (λ _ shown. shown) answer)

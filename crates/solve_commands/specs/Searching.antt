@@ -77,6 +77,13 @@ pub record PrintsOpenTurns (print : Print) (k : Search) (text : List ℕ) : Type
 abbrev pub PrintsOpen : Print → Search → List ℕ → Type 0
 PrintsOpen print k text = PrintsOpenNodes print k text ⊎ PrintsOpenTurns print k text
 
+-- nothing is printed of a cheapest plan, where a search ended open, and nothing of an open one, where it ended optimal
+abbrev pub NoBest : Instance → List ℕ → Type 0
+NoBest I text = ⊥
+
+abbrev pub NoLeft : Search → List ℕ → Type 0
+NoLeft k text = ⊥
+
 -- What is answered at the end of a search, where `Best` is what is printed of a cheapest plan, and `Left` what is printed of an open one.
 abbrev pub AnswersSearch : (Instance → List ℕ → Type 0) → (Search → List ℕ → Type 0) → Search → Status → List ℕ → Type 0
 AnswersSearch Best Left k Good text = Best k.instance text

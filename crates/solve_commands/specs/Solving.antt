@@ -3,13 +3,13 @@ use Rattle.std.specs.Prelude.{ℕ, ◌≡◌, List}
 use Rattle.lock_model.specs.declared.instance.Instance.{Instance}
 use Rattle.lock_rules.specs.Singles.{singles_of}
 use Rattle.instance_text.specs.Reading.{Means}
-use Rattle.plan_print.specs.Report.{report}
 use Rattle.command_words.specs.declared.commands.SolveOptions.{SolveOptions}
 use Rattle.run_answers.specs.Refusals.{IsDefect, IsUnfitShip}
 use Rattle.run_answers.specs.Texts.{no_memory_text}
 use Rattle.run_answers.specs.declared.status.Status.{Status}
 use Rattle.run_answers.specs.declared.status.Status.TheVariants.{Good, Open, Words, Refused, ReadFault, WriteFault, NoMemory, BadDossier, Unfit, PlanRefused}
-use Rattle.solve_commands.specs.Searching.{Search, PrintsBest, PrintsOpen, AnswersSearch}
+use Rattle.solve_commands.specs.Searching.{Search, PrintsBest}
+use Rattle.solve_commands.specs.Keeping.{PrintsLeft}
 
 -- the most bytes that `solve` reads
 abbrev pub solve_limit : ℕ
@@ -22,7 +22,7 @@ search_of nodes turns I = record { instance = I; nodes = nodes; turns = turns; l
 -- what is answered to an instance
 abbrev pub AnswersInstance : SolveOptions → Instance → Status → List ℕ → Type 0
 AnswersInstance options I Good text = PrintsBest options.dossier I text
-AnswersInstance options I Open text = PrintsOpen report (search_of options.nodes options.turns I) text
+AnswersInstance options I Open text = PrintsLeft options.keep (search_of options.nodes options.turns I) text
 AnswersInstance options I Words text = ⊥
 AnswersInstance options I Refused text = ⊥
 AnswersInstance options I ReadFault text = ⊥

@@ -1,17 +1,21 @@
 //! What is answered at the end of a search.
-ghost use Rattle.std.specs.Prelude.{◌≡◌, ◌≢◌, ◌≤◌, ℕ, IfOk, IfErr};
+ghost use Rattle.std.specs.Prelude.{◌≡◌, ◌≢◌, ◌↔◌, IsTrue, ℕ, IfOk, IfErr};
 ghost use Rattle.lock_rules.specs.Singles.{singles_of};
 ghost use Rattle.lock_model.specs.declared.verdict.Verdict.TheVariants.{Optimal};
 ghost use Rattle.search_rules.specs.Ends.{EndsWell, IsEnd};
 ghost use Rattle.search_rules.specs.Verdict.{verdict_of};
 ghost use Rattle.plan_print.specs.Report.{IsOfInstance, report, verdict_line};
-ghost use Rattle.solve_commands.specs.Searching.{PrintsOptimal, PrintsDossier, PrintsBest, PrintsOpen, AnswersSearch, search_in, status_of};
+ghost use Rattle.solve_commands.specs.Options.{AreSolveNumbers};
+ghost use Rattle.solve_commands.specs.Searching.{PrintsOptimal, PrintsDossier, PrintsBest, PrintsOpen, NoBest, NoLeft, AnswersSearch, search_in, status_of};
+ghost use Rattle.solve_commands.specs.Keeping.{PrintsLeft};
 ghost use Rattle.solve_commands.specs.Solving.{search_of};
 ghost use Rattle.run_answers.specs.Written.{bytes_in};
 
+use crate::keeping::kept_answer;
 use book_certificate::{CertError, certificate_of};
 use book_core::{Book, Case};
 use cert_text::print_dossier;
+use command_words::SolveOptions;
 use lock_io::Gate;
 use lock_model::Verdict;
 use plain_text::NoMemory;
@@ -49,6 +53,7 @@ pub fn status_of(verdict: &Verdict) -> Status
 pub fn report_answer(alloc: Global, book: &Book) -> Answer
     ghost limit: { ℕ }
     requires { EndsWell limit book.now }
+    ensures best { verdict_of book.now ≡ Optimal → result.status ≢ Status.Open }
     ensures left { verdict_of book.now ≢ Optimal → result.status ≢ Status.Good }
     ensures answer { AnswersSearch (PrintsOptimal report) (PrintsOpen report) (search_in book.now limit) result.status (bytes_in result.text) }
 {
@@ -93,29 +98,29 @@ pub fn dossier_text(alloc: Global, book: &Book) -> Result<Vec<u8>, CertError>
     }
 }
 
-// The dossier of a search that ended well, or the report where it ended open.
+// The dossier of a search that ended optimal.
 fn certified_answer(alloc: Global, book: &Book) -> Answer
     ghost limit: { ℕ }
-    requires { EndsWell limit book.now }
-    ensures { AnswersSearch PrintsDossier (PrintsOpen report) (search_in book.now limit) result.status (bytes_in result.text) }
+    requires { verdict_of book.now ≡ Optimal }
+    ensures { AnswersSearch PrintsDossier NoLeft (search_in book.now limit) result.status (bytes_in result.text) }
 {
     match dossier_text(alloc, book) {
         Ok(text) => Answer {
             status: Status::Good,
             text: Text::Made(text),
         },
-        Err(CertError::StillOpen) => report_answer(alloc, book),
+        Err(CertError::StillOpen) => unreachable!(),
         Err(CertError::NoMemory) => no_memory(),
     }
 }
 
-/// The report of the best plan of a search that ended well, or its dossier where it is cheapest and
-/// one is asked for.
+// What is answered at the end of a search that ended optimal.
 #[tactic(auto, using(crate::proofs::EndLemmas::dossier_asked, crate::proofs::EndLemmas::report_asked))]
-pub fn best_answer(alloc: Global, book: &Book, dossier: bool) -> Answer
+fn cheapest_answer(alloc: Global, book: &Book, dossier: bool) -> Answer
     ghost limit: { ℕ }
-    requires { EndsWell limit book.now }
-    ensures { AnswersSearch (PrintsBest dossier) (PrintsOpen report) (search_in book.now limit) result.status (bytes_in result.text) }
+    requires well { EndsWell limit book.now }
+    requires optimal { verdict_of book.now ≡ Optimal }
+    ensures { AnswersSearch (PrintsBest dossier) NoLeft (search_in book.now limit) result.status (bytes_in result.text) }
 {
     if dossier {
         certified_answer(alloc, book)
@@ -124,22 +129,56 @@ pub fn best_answer(alloc: Global, book: &Book, dossier: bool) -> Answer
     }
 }
 
-/// Searches all plans of a case, and answers with the report of the best one, or with its dossier
-/// where it is cheapest and one is asked for.
+// What is answered at the end of a search that ended open.
+#[tactic(auto, using(crate::proofs::EndLemmas::kept_asked, crate::proofs::EndLemmas::open_asked))]
+fn left_answer(alloc: Global, book: &Book, keep: bool) -> Answer
+    ghost limit: { ℕ }
+    requires well { EndsWell limit book.now }
+    requires open { verdict_of book.now ≢ Optimal }
+    ensures { AnswersSearch NoBest (PrintsLeft keep) (search_in book.now limit) result.status (bytes_in result.text) }
+{
+    if keep {
+        kept_answer(alloc, book)
+    } else {
+        report_answer(alloc, book)
+    }
+}
+
+// Whether a verdict is that the plan is cheapest.
+fn is_optimal(verdict: &Verdict) -> bool
+    ensures { IsTrue result ↔ (verdict.now ≡ Optimal) }
+{
+    matches!(verdict, Verdict::Optimal)
+}
+
+/// What is answered at the end of a search that ended well: of a cheapest plan the report, or its
+/// dossier where one is asked for; of an open one the report, or its open dossier where one is to be
+/// kept.
+pub fn best_answer(alloc: Global, book: &Book, dossier: bool, keep: bool) -> Answer
+    ghost limit: { ℕ }
+    requires { EndsWell limit book.now }
+    ensures { AnswersSearch (PrintsBest dossier) (PrintsLeft keep) (search_in book.now limit) result.status (bytes_in result.text) }
+{
+    if is_optimal(&shown(book)) {
+        cheapest_answer(alloc, book, dossier)
+    } else {
+        left_answer(alloc, book, keep)
+    }
+}
+
+/// Searches all plans of a case, and answers with what the options ask for of the best one.
 pub(crate) fn search_best<R: Threads + Wait + Sync, G: Gate + Sync>(
     rt: &R,
     alloc: Global,
     case: &Case,
-    workers: u8,
-    dossier: bool,
+    options: &SolveOptions,
     gate: &G,
 ) -> Answer
-    requires some { 1 ≤ workers }
-    requires few { workers ≤ 8 }
-    ensures { AnswersSearch (PrintsBest dossier) (PrintsOpen report) (search_of case.now.nodes case.now.turns case.now.instance) result.status (bytes_in result.text) }
+    requires { AreSolveNumbers options.now }
+    ensures { AnswersSearch (PrintsBest options.now.dossier) (PrintsLeft options.now.keep) (search_of case.now.nodes case.now.turns case.now.instance) result.status (bytes_in result.text) }
 {
-    match solve(rt, alloc, case, workers, gate) {
-        Ok(solved) => best_answer(alloc, &solved.book, dossier),
+    match solve(rt, alloc, case, options.workers, gate) {
+        Ok(solved) => best_answer(alloc, &solved.book, options.dossier, options.keep),
         Err(NoMemory) => no_memory(),
     }
 }

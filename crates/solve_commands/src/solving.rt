@@ -2,11 +2,11 @@
 ghost use Rattle.std.specs.Prelude.{◌≡◌};
 ghost use Rattle.lock_rules.specs.Unfit.{HasNoUnfit, IsFirstUnfit};
 ghost use Rattle.instance_text.specs.Reading.{Defect};
-ghost use Rattle.plan_print.specs.Report.{report};
 ghost use Rattle.run_answers.specs.Sources.{AnswersSource, drained};
 ghost use Rattle.run_answers.specs.Written.{bytes_in};
 ghost use Rattle.solve_commands.specs.Options.{AreSolveNumbers};
-ghost use Rattle.solve_commands.specs.Searching.{PrintsBest, PrintsOpen, AnswersSearch};
+ghost use Rattle.solve_commands.specs.Searching.{PrintsBest, AnswersSearch};
+ghost use Rattle.solve_commands.specs.Keeping.{PrintsLeft};
 ghost use Rattle.solve_commands.specs.Solving.{solve_limit, search_of, AnswersInstance, AnswersSolve};
 
 use crate::searching::search_best;
@@ -49,10 +49,10 @@ fn fit_answer<R: Threads + Wait + Sync, G: Gate + Sync>(
 ) -> Answer
     requires fit { HasNoUnfit instance }
     requires numbers { AreSolveNumbers options.now }
-    ensures { AnswersSearch (PrintsBest options.now.dossier) (PrintsOpen report) (search_of options.now.nodes options.now.turns instance) result.status (bytes_in result.text) }
+    ensures { AnswersSearch (PrintsBest options.now.dossier) (PrintsLeft options.now.keep) (search_of options.now.nodes options.now.turns instance) result.status (bytes_in result.text) }
 {
     let case = Case::new(instance, options.nodes, options.turns);
-    search_best(rt, alloc, &case, options.workers, options.dossier, gate)
+    search_best(rt, alloc, &case, options, gate)
 }
 
 // What is answered to an instance.
@@ -106,8 +106,8 @@ fn text_answer<R: Threads + Wait + Sync, G: Gate + Sync>(
 }
 
 /// Reads an instance text of at most 65,536 bytes to its end, searches all plans of the instance, and
-/// answers with the report of the best one, or with its dossier where it is cheapest and one is asked
-/// for; or says what is refused: too many bytes, a defect, or a ship that fits no chamber. The numbers
+/// answers with the report of the best one, with its dossier where it is cheapest and one is asked
+/// for, or with its open dossier where it is left open and one is to be kept; or says what is refused: too many bytes, a defect, or a ship that fits no chamber. The numbers
 /// of the options are in their ranges.
 #[tactic(auto, using(crate::proofs::SolveLemmas::solve_fair, run_answers::proofs::SourceLemmas::bytes_answer, run_answers::proofs::SourceLemmas::unreadable_answers))]
 pub fn solve_answer<R: Threads + Wait + Sync, S: Source, G: Gate + Sync>(
