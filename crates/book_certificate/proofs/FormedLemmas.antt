@@ -49,13 +49,13 @@ formed-refutation d (refutation.Cases marks) h = tt
 formed-refutation d (refutation.Spots marks) h = tt
 formed-refutation d (refutation.Clash i j) h = h.rises
 
-own-formed : (cut : Cut) → IsCut cut → IsFormedCut (cert_cut cut)
+pub own-formed : (cut : Cut) → IsCut cut → IsFormedCut (cert_cut cut)
 own-formed cut is =
     let count = is.count in
     let ships = is.deck.count in
     ((omega (arith, count, ships.0), omega (arith, count, ships.1)), formed-refutation cut.deck cut.refutation is.refuted)
 
-own-proved : (I : Instance) (cut : Cut) → IsCut cut → IsOwnCut I cut → IsProved I (cert_cut cut)
+pub own-proved : (I : Instance) (cut : Cut) → IsCut cut → IsOwnCut I cut → IsProved I (cert_cut cut)
 own-proved I cut is own =
     let formed = own-formed cut is in
     record {
@@ -70,7 +70,7 @@ own-proved I cut is own =
 
 -- ---- lockages
 
-legal-formed : (I : Instance) (l : Lockage) → IsLegalLockage I l → IsFormedLockage l
+pub legal-formed : (I : Instance) (l : Lockage) → IsLegalLockage I l → IsFormedLockage l
 legal-formed I l legal =
     let most = (I.limits.chamber l.chamber no_chamber legal.chamber).most in
     let count = legal.count in (
@@ -96,7 +96,7 @@ less-trans : (k m n : ℕ) → k < m → m < n → k < n
 less-trans k m n low high = omega (arith, low, high)
 
 module _ (b : Book) (family : KeepsFamily b) (states : KeepsStates b) (few : length b.cuts < 2 ^ 63) where
-  leaf-formed : (id : ℕ) → id < length b.slots → (m : Mark) → leaf_mark (slot_at b id).state ≡ Some m → IsFormedMark m
+  pub leaf-formed : (id : ℕ) → id < length b.slots → (m : Mark) → leaf_mark (slot_at b id).state ≡ Some m → IsFormedMark m
   leaf-formed id known m e = by_state (slot_at b id).state refl e
     where
       from : (n : Mark) → Some n ≡ Some m → IsFormedMark n → IsFormedMark m

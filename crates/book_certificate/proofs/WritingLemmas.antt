@@ -28,7 +28,7 @@ leaf-written b id m old new e grown = record {
 pub none-written : (b : Book) (id first n : ℕ) (old : List Mark) → n ≡ 0 → AreWritten b id first n old old
 none-written b id first n old none = subst (λ k. AreWritten b id first k old old) (sym none) (record { written = []; grown = sym (append-nil old); marks = λ rest. refl })
 
-range-more : (a n : ℕ) → range_with_len a (suc n) ≡ range_with_len a n ++ (a + n) ∷ []
+pub range-more : (a n : ℕ) → range_with_len a (suc n) ≡ range_with_len a n ++ (a + n) ∷ []
 range-more a zero = let e : a ≡ a + 0 = omega arith in ap (λ k. k ∷ []) e
 range-more a (suc n) =
     let e : a + 1 + n ≡ a + suc n = omega arith in

@@ -6,6 +6,8 @@
 //! certificate is accepted and well formed, so the checker never rejects it. `StillOpen` comes
 //! exactly where a slot is open, held or parked; else want of memory is the only refusal.
 //!
+//! `cuts_of`, `first_child` and `children_end` serve other certificates of a book.
+//!
 //! Definitions: `specs/Preorder` says which marks the slots have, and `Certified` what the
 //! certificate of a book is. `search_rules` says what a book keeps (`specs/Parts`), and which
 //! certificates are accepted (`Certificates`) and well formed (`WellFormed`). Here `Writing` says
@@ -21,4 +23,6 @@ mod marks;
 mod tests;
 
 pub use certificate::certificate_of;
+pub use cuts::cuts_of;
 pub use error::CertError;
+pub use marks::{children_end, first_child};

@@ -27,8 +27,8 @@ fn leaf_mark(state: SlotState) -> Option<Mark>
     }
 }
 
-// The first child of a slot. None where it isn't split.
-fn first_child(book: &Book, id: u32) -> Option<u32>
+/// The first child of a slot. None where it isn't split.
+pub fn first_child(book: &Book, id: u32) -> Option<u32>
     requires { id < length book.now.slots }
     ensures some { IfSome result (λ first. (slot_at book.now id).state ≡ slot.Split first) }
     ensures none { IfNone result (is_split (slot_at book.now id).state ≡ false) }
@@ -39,8 +39,8 @@ fn first_child(book: &Book, id: u32) -> Option<u32>
     }
 }
 
-// The slot behind the last child of a split.
-fn children_end(book: &Book, id: u32, first: u32) -> u32
+/// The slot behind the last child of a split.
+pub fn children_end(book: &Book, id: u32, first: u32) -> u32
     requires { (slot_at book.now id).state ≡ slot.Split first }
     ensures { result ≡ first + child_count book.now.case.instance (slot_at book.now id).node }
 {

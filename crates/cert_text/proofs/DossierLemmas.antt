@@ -2,16 +2,12 @@
 use Rattle.std.proofs.Common.{◌≡◌, ◌∙◌, ◌++◌, ℕ, Bool, true, false, List, [], ◌∷◌, Some, Result, Ok, Err, IfOk, IfErr, refl, sym, ap, ap₂, append_assoc}
 use Rattle.lock_model.specs.declared.instance.Instance.{Instance}
 use Rattle.search_rules.specs.Certificates.{Certificate}
-use Rattle.instance_text.specs.Steps.{◌>>=◌}
-use Rattle.instance_text.specs.Draft.{Draft}
 use Rattle.instance_text.specs.declared.bad.Bad.{Bad}
 use Rattle.instance_text.specs.Reading.{reading, Means, Defect, instance_part, after_instance}
 use Rattle.instance_text.specs.Canonical.{canonical}
 use Rattle.instance_text.proofs.TextBackLemmas.{canonical_means}
-use Rattle.instance_text.proofs.InstanceLemmas.{same_instance}
 use Rattle.instance_text.proofs.PartBackLemmas.{canonical_part, canonical_rest}
 use Rattle.cert_text.specs.Answers.{IsFault, IsAnswer, IsFaultAnswer}
-use Rattle.cert_text.specs.Steps.{fault_under}
 use Rattle.cert_text.specs.declared.bad.DossierError.{DossierError}
 use Rattle.cert_text.specs.declared.bad.DossierError.TheVariants.{Fault, NoMemory}
 use Rattle.cert_text.specs.Cuts.{has_clash}
@@ -20,6 +16,7 @@ use Rattle.cert_text.specs.Dossier.{heading_line, dossier, takes_clashes, json_o
 use Rattle.cert_text.specs.declared.bad.BadDossier.{BadDossier}
 use Rattle.cert_text.specs.declared.bad.BadDossier.TheVariants as fault
 use Rattle.cert_text.proofs.HeadingLemmas.{heading_for, heading_back}
+use Rattle.cert_text.proofs.PairLemmas.{made, each_answer, each_fault_answer}
 
 -- what is printed step by step
 pub printed : (I : Instance) (C : Certificate) (clashes : Bool) (a b c d json : List ℕ) → a ≡ canonical I → clashes ≡ has_clash C.cuts → b ≡ a ++ heading_line clashes → json ≡ certificate_text C → c ≡ b ++ json → d ≡ c ++ 10 ∷ [] → d ≡ dossier I C
@@ -37,9 +34,6 @@ rest_back : (C : Certificate) (clashes : Bool) (json : List ℕ) → json_of jso
 unfolding rest_in
 rest_back C clashes json value certificate = rw (heading_back clashes json, taken clashes, value, certificate) refl
 
-abbrev made : Result Draft Bad → Result Certificate BadDossier → Result (Draft × Certificate) BadDossier
-made r s = fault_under fault.Instance r >>= λ d. s >>= λ c. Ok (d, c)
-
 -- the canonical dossier is read as the pair
 pub dossier_back : (I : Instance) (C : Certificate) → json_of (certificate_text C ++ 10 ∷ []) ≡ Some (certificate_data C) → certificate_in (has_clash C.cuts) (certificate_data C) ≡ Ok C → Reads (dossier I C) I C
 unfolding Reads dossier_in dossier Means
@@ -49,34 +43,18 @@ dossier_back I C value certificate =
 
 -- ---- one meaning, or one first fault
 
-abbrev draft_of : Instance → Draft
-draft_of I = record { chambers = I.chambers; ships = I.ships }
-
-pub Reads-one : (text : List ℕ) (I J : Instance) (C D : Certificate) → Reads text I C → Reads text J D → (I ≡ J) × (C ≡ D)
-unfolding Reads
-Reads-one text I J C D first second =
-    let same : ◌≡◌ {A = Result (Draft × Certificate) BadDossier} (Ok (draft_of I, C)) (Ok (draft_of J, D)) = sym first ∙ second in
-    let pair : ◌≡◌ {A = Draft × Certificate} (draft_of I, C) (draft_of J, D) = cc in
-    (same_instance I J (ap (λ (p : Draft × Certificate). p.0.chambers) pair) (ap (λ (p : Draft × Certificate). p.0.ships) pair), ap (λ (p : Draft × Certificate). p.1) pair)
-
-pub Reads-no_fault : (text : List ℕ) (I : Instance) (C : Certificate) (f : BadDossier) → Reads text I C → DossierFault text f → ⊥
-unfolding Reads DossierFault
-Reads-no_fault text I C f first second = let same : ◌≡◌ {A = Result (Draft × Certificate) BadDossier} (Ok (draft_of I, C)) (Err f) = sym first ∙ second in cc
-
-pub DossierFault-one : (text : List ℕ) (f g : BadDossier) → DossierFault text f → DossierFault text g → f ≡ g
-unfolding DossierFault
-DossierFault-one text f g first second = let same : ◌≡◌ {A = Result (Draft × Certificate) BadDossier} (Err f) (Err g) = sym first ∙ second in cc
-
 -- a reader that is right where it answers, answers all that is so or wants memory
 pub reads_each : (text : List ℕ) (r : Result (Instance × Certificate) DossierError) → IfOk r (λ p. Reads text p.0 p.1) → IfErr r (IsFirstFault text) → (I : Instance) (C : Certificate) → Reads text I C → IsAnswer (I, C) r
-reads_each text (Ok p) ok err I C reads = let same = Reads-one text p.0 I p.1 C ok reads in ap₂ (λ J D. (J, D)) same.0 same.1
-reads_each text (Err NoMemory) ok err I C reads = tt
-reads_each text (Err (Fault f)) ok err I C reads = Reads-no_fault text I C f reads err
+unfolding Reads DossierFault
+reads_each text (Ok p) ok err = each_answer (dossier_in text) (Ok p) ok err
+reads_each text (Err NoMemory) ok err = each_answer (dossier_in text) (Err NoMemory) ok err
+reads_each text (Err (Fault f)) ok err = each_answer (dossier_in text) (Err (Fault f)) ok err
 
 pub faults_each : (text : List ℕ) (r : Result (Instance × Certificate) DossierError) → IfOk r (λ p. Reads text p.0 p.1) → IfErr r (IsFirstFault text) → (f : BadDossier) → DossierFault text f → IsFaultAnswer f r
-faults_each text (Ok p) ok err f fault = Reads-no_fault text p.0 p.1 f ok fault
-faults_each text (Err NoMemory) ok err f fault = tt
-faults_each text (Err (Fault g)) ok err f fault = DossierFault-one text g f err fault
+unfolding Reads DossierFault
+faults_each text (Ok p) ok err = each_fault_answer (dossier_in text) (Ok p) ok err
+faults_each text (Err NoMemory) ok err = each_fault_answer (dossier_in text) (Err NoMemory) ok err
+faults_each text (Err (Fault f)) ok err = each_fault_answer (dossier_in text) (Err (Fault f)) ok err
 
 -- ---- reading part by part
 

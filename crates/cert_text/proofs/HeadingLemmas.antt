@@ -50,7 +50,7 @@ unfolding lines
 lines_of_second = refl
 
 -- a text that begins with a heading
-begins : (text line rest : List ℕ) (ws : List (List ℕ)) (h : Heading) → lines line ≡ line ∷ [] → words line ≡ ws → (length ws == 0) ≡ false → heading_of ws ≡ Some h → text ≡ line ++ 10 ∷ rest → headed text ≡ Some (h, rest)
+pub begins : (text line rest : List ℕ) (ws : List (List ℕ)) (h : Heading) → lines line ≡ line ∷ [] → words line ≡ ws → (length ws == 0) ≡ false → heading_of ws ≡ Some h → text ≡ line ++ 10 ∷ rest → headed text ≡ Some (h, rest)
 unfolding headed
 begins text line rest ws h one is some heading whole =
     ap (λ t. option_map (λ f. (f.0, join_with_byte 10 f.1)) (after_heading (lines t))) whole

@@ -10,5 +10,6 @@ pub mod HeadingLemmas
 pub mod JsonLemmas
 pub mod ShapeLemmas
 pub mod WrittenLemmas
+pub mod PairLemmas
 pub mod DossierLemmas
 pub mod FixtureLemmas

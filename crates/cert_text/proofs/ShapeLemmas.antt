@@ -13,11 +13,11 @@ use Rattle.cert_text.specs.Plans.{spot_data, lockage_data}
 use Rattle.cert_text.specs.Marks.{mark_data}
 use Rattle.cert_text.specs.Certificates.{certificate_data}
 
-list_no_float : {A : Type 0} (f : A → Data) → ((x : A) → has_float (f x) ≡ false) → (xs : List A) → items_have_float (items_of (map f xs)) ≡ false
+pub list_no_float : {A : Type 0} (f : A → Data) → ((x : A) → has_float (f x) ≡ false) → (xs : List A) → items_have_float (items_of (map f xs)) ≡ false
 list_no_float f each [] = refl
 list_no_float f each (x ∷ xs) = rw (each x, list_no_float f each xs) refl
 
-list_depth : {A : Type 0} (f : A → Data) (k : ℕ) → ((x : A) → depth (f x) ≤ k) → (xs : List A) → depth (list_data f xs) ≤ suc k
+pub list_depth : {A : Type 0} (f : A → Data) (k : ℕ) → ((x : A) → depth (f x) ≤ k) → (xs : List A) → depth (list_data f xs) ≤ suc k
 list_depth f k each [] = omega arith
 list_depth f k each (x ∷ xs) =
     let first = each x in
@@ -30,19 +30,19 @@ numbers_no_float ns = list_no_float number_data (λ n. refl) ns
 numbers_depth : (ns : List ℕ) → depth (numbers_data ns) ≤ 1
 numbers_depth ns = list_depth number_data 0 (λ n. omega arith) ns
 
-cut_no_float : (c : CertCut) → has_float (cut_data c) ≡ false
+pub cut_no_float : (c : CertCut) → has_float (cut_data c) ≡ false
 cut_no_float c = rw (numbers_no_float c.ships, numbers_no_float (why_of c.refutation)) refl
 
-cut_depth : (c : CertCut) → depth (cut_data c) ≤ 2
+pub cut_depth : (c : CertCut) → depth (cut_data c) ≤ 2
 cut_depth c =
     let ships = numbers_depth c.ships in
     let why = numbers_depth (why_of c.refutation) in
     omega arith
 
-lockage_no_float : (l : Lockage) → has_float (lockage_data l) ≡ false
+pub lockage_no_float : (l : Lockage) → has_float (lockage_data l) ≡ false
 lockage_no_float l = rw (numbers_no_float l.ships, list_no_float spot_data (λ s. refl) l.spots) refl
 
-lockage_depth : (l : Lockage) → depth (lockage_data l) ≤ 3
+pub lockage_depth : (l : Lockage) → depth (lockage_data l) ≤ 3
 lockage_depth l =
     let ships = numbers_depth l.ships in
     let spots = list_depth spot_data 1 (λ s. omega arith) l.spots in

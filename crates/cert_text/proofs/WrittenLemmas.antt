@@ -21,13 +21,18 @@ written C d text is text_is = text_is (ap has_float is ∙ no_float C) ∙ ap co
 feed : IsUtf8 (10 ∷ [])
 feed = IsUtf8-are_ascii (10 ∷ []) refl
 
-pub written_back : (C : Certificate) (d : Data) (text : List ℕ) → d ≡ certificate_data C → text ≡ print (tokens text) → IsUtf8 text → IsInOrder text d → (depth d ≤ max_depth → read text ≡ Some d) → json_of (text ++ 10 ∷ []) ≡ Some (certificate_data C)
+-- a compact text of a value and a line feed are read as the value
+pub data_back : (d : Data) (text : List ℕ) → has_float d ≡ false → depth d ≤ max_depth → text ≡ print (tokens text) → IsUtf8 text → IsInOrder text d → (depth d ≤ max_depth → read text ≡ Some d) → json_of (text ++ 10 ∷ []) ≡ Some d
 unfolding json_of
+data_back d text whole flat compact utf8 order reads =
+    let line = read_line text d compact order whole flat (reads flat) in
+    let valid = is_utf8-from_IsUtf8 (text ++ 10 ∷ []) (IsUtf8-append text (10 ∷ []) utf8 feed) in
+    ap (λ b. cond b (read (text ++ 10 ∷ [])) None) valid ∙ line
+
+pub written_back : (C : Certificate) (d : Data) (text : List ℕ) → d ≡ certificate_data C → text ≡ print (tokens text) → IsUtf8 text → IsInOrder text d → (depth d ≤ max_depth → read text ≡ Some d) → json_of (text ++ 10 ∷ []) ≡ Some (certificate_data C)
 written_back C d text is compact utf8 order reads =
     let flat = subst (λ e. depth e ≤ max_depth) (sym is) (shallow C) in
-    let line = read_line text d compact order (ap has_float is ∙ no_float C) flat (reads flat) in
-    let valid = is_utf8-from_IsUtf8 (text ++ 10 ∷ []) (IsUtf8-append text (10 ∷ []) utf8 feed) in
-    ap (λ b. cond b (read (text ++ 10 ∷ [])) None) valid ∙ line ∙ ap Some is
+    data_back d text (ap has_float is ∙ no_float C) flat compact utf8 order reads ∙ ap Some is
 
 pub json_found : (bytes : List ℕ) (d : Data) → IsUtf8 bytes → read bytes ≡ Some d → json_of bytes ≡ Some d
 unfolding json_of

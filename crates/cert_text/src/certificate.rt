@@ -63,8 +63,8 @@ pub fn has_clash(cuts: &CertCuts) -> bool
     false
 }
 
-/// Whether a value is an object of the four keys.
-fn is_frame(value: &Value) -> bool
+/// Whether a value is an object of the four keys of a certificate. Takes no memory.
+pub fn is_frame(value: &Value) -> bool
     ensures { result ≡ is_frame (view value.now) }
 {
     has_members(value, 4)
@@ -74,8 +74,9 @@ fn is_frame(value: &Value) -> bool
         && value.get("tree").is_some()
 }
 
-/// The cost at the key `cost`.
-fn cost_at(value: &Value) -> Result<u64, BadDossier>
+/// The cost, in minutes, at the key `cost`. Answers `Shape(2)` exactly where there is none. Takes no
+/// memory.
+pub fn cost_at(value: &Value) -> Result<u64, BadDossier>
     ensures read { IfOk result (λ cost. value_at (codes "cost") cost_in (view value.now) ≡ Some cost) }
     ensures shape { IfErr result (λ f. (f ≡ Shape 2) × (value_at (codes "cost") cost_in (view value.now) ≡ None)) }
 {
@@ -98,8 +99,9 @@ fn cuts_under(alloc: Global, clashes: bool, value: &Value) -> Result<CertCuts, D
     }
 }
 
-/// The cuts at the key `cuts`.
-fn cuts_at(alloc: Global, clashes: bool, value: &Value) -> Result<CertCuts, DossierError>
+/// The cuts at the key `cuts`, where clashes are taken or none is there. Answers `Shape(3)` exactly
+/// where these are none, or else want of memory.
+pub fn cuts_at(alloc: Global, clashes: bool, value: &Value) -> Result<CertCuts, DossierError>
     ensures read { IfOk result (λ cuts. value_at (codes "cuts") (cuts_under clashes) (view value.now) ≡ Some cuts) }
     ensures shape { IfErr result (IsRefusal (Shape 3) (value_at (codes "cuts") (cuts_under clashes) (view value.now) ≡ None)) }
 {
@@ -109,8 +111,8 @@ fn cuts_at(alloc: Global, clashes: bool, value: &Value) -> Result<CertCuts, Doss
     }
 }
 
-/// The plan at the key `plan`.
-fn plan_at(value: &Value) -> Result<Plan, BadDossier>
+/// The plan at the key `plan`. Answers `Shape(4)` exactly where there is none. Takes no memory.
+pub fn plan_at(value: &Value) -> Result<Plan, BadDossier>
     ensures read { IfOk result (λ plan. value_at (codes "plan") plan_in (view value.now) ≡ Some plan) }
     ensures shape { IfErr result (λ f. (f ≡ Shape 4) × (value_at (codes "plan") plan_in (view value.now) ≡ None)) }
 {

@@ -23,8 +23,8 @@ fn put_heading(out: &mut Vec<u8>, clashes: bool) -> Result<(), NoMemory>
     }
 }
 
-/// Appends a text and a line feed, for which room is taken once.
-fn put_line(out: &mut Vec<u8>, text: &[u8]) -> Result<(), NoMemory>
+/// Appends a text and a line feed, for which room is taken once. Its only refusal is want of memory.
+pub fn put_line(out: &mut Vec<u8>, text: &[u8]) -> Result<(), NoMemory>
     ensures { OnOk result (out.new.items ≡ (out.old.items ++ text.now) ++ 10 ∷ []) }
 {
     out.reserve(text.len() + 1)?;

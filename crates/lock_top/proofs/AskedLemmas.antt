@@ -26,9 +26,18 @@ has_numbers words (Trial options) means =
     }
 has_numbers words Judge means = tt
 has_numbers words Play means = tt
-has_numbers words (Replan options) means = tt
+has_numbers words (Replan options) means =
+    let given = means.gives.options in
+    record {
+      from = given.from.high;
+      nodes = (given.nodes.low, given.nodes.high);
+      turns = (given.turns.low, given.turns.high);
+      workers = (given.workers.low, given.workers.high);
+    }
 has_numbers words Lower means = tt
-has_numbers words (Resume options) means = tt
+has_numbers words (Resume options) means =
+    let given = means.gives.options in
+    record { nodes = (given.nodes.low, given.nodes.high); turns = (given.turns.low, given.turns.high); workers = (given.workers.low, given.workers.high) }
 
 same : (a b : Command) (r : Result Command WordsError) → r ≡ Ok a → r ≡ Ok b → b ≡ a
 same a b r e f = cc

@@ -1,114 +1,146 @@
--- The clauses of a run with status 0 and 1, from what was answered and what was written.
-use Rattle.std.proofs.Common.{ℕ, ◌≡◌, Bool, true, false, List, subst, Some, None}
-use Rattle.std.specs.Prelude.{IfSome}
-use Rattle.std.specs.declared.option.Option.{Option}
+-- The clause of a run, from what was answered and what was written.
+use Rattle.std.proofs.Common.{ℕ, ◌≡◌, ◌≢◌, Bool, true, false, List, sym, refl, subst, ◌∙◌}
 use Rattle.std.specs.Io.KnownBytes.{Appends}
-use Rattle.instance_text.specs.Reading.{Means}
+use Rattle.lock_io.specs.Faults.{Rose}
+use Rattle.lock_io.specs.WholeWrites.{AppendsProperPrefix}
 use Rattle.cert_text.specs.Dossier.{Reads}
-use Rattle.command_words.specs.declared.commands.Command.TheVariants.{Check}
-use Rattle.lock_top.specs.Asked.{solve_options, AskSolve, AskCheck, AskLot, AskTrial}
-use Rattle.lock_top.specs.Answers.{Drained, AnswersRead, AnswersDossierRead, AnswersMeant, Answers}
-use Rattle.lock_top.specs.Clauses.{IsSolved, IsCertified, IsLeftOpen, IsAccepted, IsDrawn, IsTried, IsTriedOpen}
-use Rattle.lock_top.specs.declared.status.Status.{Status}
-use Rattle.lock_top.specs.declared.status.Status.TheVariants.{Good, Open}
-use Rattle.lock_top.proofs.AnswerLemmas.{solve_of, lot_of, trial_of, meant_answer}
+use Rattle.command_words.specs.declared.commands.Command.{Command}
+use Rattle.command_words.specs.declared.commands.SolveOptions.{SolveOptions}
+use Rattle.command_words.specs.declared.commands.LotOptions.{LotOptions}
+use Rattle.command_words.specs.declared.commands.TrialOptions.{TrialOptions}
+use Rattle.command_words.specs.declared.commands.ReplanOptions.{ReplanOptions}
+use Rattle.command_words.specs.declared.commands.Command.TheVariants.{Solve, Check, Lot, Trial, Judge, Play, Replan, Lower, Resume}
+use Rattle.lock_model.specs.declared.instance.Instance.{Instance}
+use Rattle.instance_text.specs.Reading.{Means}
+use Rattle.run_answers.specs.Sources.{Drained, Saying, AnswersBytes}
+use Rattle.run_answers.specs.declared.status.Status.{Status}
+use Rattle.run_answers.specs.declared.status.Status.TheVariants.{Good, Open, WriteFault}
+use Rattle.solve_commands.specs.Searching.{PrintsBest}
+use Rattle.solve_commands.specs.Solving.{AnswersSolve}
+use Rattle.dossier_commands.specs.Checking.{AnswersCheck}
+use Rattle.dossier_commands.specs.Lowering.{AnswersLower}
+use Rattle.dossier_commands.specs.Resuming.{AnswersResume}
+use Rattle.plan_commands.specs.Judging.{AnswersJudge}
+use Rattle.plan_commands.specs.Playing.{AnswersPlay}
+use Rattle.replan_command.specs.Replanning.{AnswersReplan}
+use Rattle.lock_top.specs.Asked.{Asks}
+use Rattle.lock_top.specs.Answers.{AnswersCommand, AnswersMeant, Answers}
+use Rattle.lock_top.specs.Runs.{Filled, Run, Got}
+use Rattle.lock_top.specs.Clauses.{Did, IsSolved, IsCertified, IsSolvedAs, IsLeftOpen, IsAccepted, IsDrawn, IsTried, IsTriedOpen, KeepsItsWord}
+use Rattle.lock_top.proofs.AnswerLemmas.{meant_answer}
+use Rattle.lock_top.proofs.CompleteLemmas.{complete, cut_complete}
 
--- what is so of the bytes is so of what was left
-told_so : (P : List ℕ → Type 0) (left : Option (List ℕ)) (bytes : List ℕ) → IfSome left (λ told. bytes ≡ told) → P bytes → IfSome left P
-told_so P None bytes all so = tt
-told_so P (Some told) bytes all so = subst P all so
+-- ---- what is said to the bytes, in the words of the clauses
 
--- `bytes`, which are the text that was answered, were written
-module _ (words : List (List ℕ)) (source : Drained) (status : Status) (text bytes : List ℕ) (held held_after : Option (List ℕ)) (answer : Answers words source status text) (same : bytes ≡ text) (written : Appends held held_after bytes) where
-  appended : Appends held held_after text
-  appended = subst (Appends held held_after) same written
+solved_as : (asked : Bool) (bytes text : List ℕ) (I : Instance) → Means bytes I → PrintsBest asked I text → IsSolvedAs asked bytes text
+solved_as true bytes text I means best = record {
+  instance = I;
+  certificate = best.certificate;
+  means = means;
+  formed = best.formed;
+  accepts = best.accepts;
+  cheapest = best.cheapest;
+  cost = best.accepts.cost;
+  reads = subst (λ b. Reads b I best.certificate) best.shown best.reads;
+  shown = best.shown;
+}
+solved_as false bytes text I means best = record { instance = I; plan = best.plan; means = means; cheapest = best.cheapest; shown = best.shown }
 
-  good : status ≡ Good → AnswersMeant words source Good text
-  good is = subst (λ s. Answers words source s text) is answer
+says_solved : (options : SolveOptions) (bytes text : List ℕ) → AnswersSolve options bytes Good text → IsSolvedAs options.dossier bytes text
+says_solved options bytes text told = solved_as options.dossier bytes text told.instance told.means told.answer
 
-  left : status ≡ Open → AnswersMeant words source Open text
-  left is = subst (λ s. Answers words source s text) is answer
+says_left : (options : SolveOptions) (bytes text : List ℕ) → AnswersSolve options bytes Open text → IsLeftOpen options bytes text
+says_left options bytes text told = record { instance = told.instance; means = told.means; left = told.answer }
 
-  pub solved : (nodes turns workers : ℕ) → AskSolve words nodes turns workers false → status ≡ Good → IsSolved source held held_after
-  solved nodes turns workers ask is =
-      let read : AnswersRead (solve_options nodes turns workers false) source Good text = meant_answer words source Good text (solve_of nodes turns workers false) (good is) ask.means in
-      let told = read.answer in
-      let optimal = told.answer in
-      record {
-        instance = told.instance;
-        plan = optimal.plan;
-        means = told_so (λ bytes. Means bytes told.instance) source.before read.bytes read.all told.means;
-        end = read.end;
-        cheapest = optimal.cheapest;
-        reported = subst (Appends held held_after) optimal.shown appended;
-      }
+says_accepted : (bytes text : List ℕ) → AnswersCheck bytes Good text → IsAccepted bytes text
+says_accepted bytes text told =
+    let own = told.answer in
+    record { instance = told.instance; certificate = told.certificate; reads = told.reads; accepts = own.accepts; cheapest = own.cheapest; cost = own.cost; shown = own.shown }
 
-  pub certified : (nodes turns workers : ℕ) → AskSolve words nodes turns workers true → status ≡ Good → IsCertified source held held_after
-  certified nodes turns workers ask is =
-      let read : AnswersRead (solve_options nodes turns workers true) source Good text = meant_answer words source Good text (solve_of nodes turns workers true) (good is) ask.means in
-      let told = read.answer in
-      let best = told.answer in
-      record {
-        instance = told.instance;
-        certificate = best.certificate;
-        means = told_so (λ bytes. Means bytes told.instance) source.before read.bytes read.all told.means;
-        end = read.end;
-        formed = best.formed;
-        accepts = best.accepts;
-        cheapest = best.cheapest;
-        cost = best.accepts.cost;
-        reads = subst (λ bytes. Reads bytes told.instance best.certificate) best.shown best.reads;
-        printed = subst (Appends held held_after) best.shown appended;
-      }
+-- ---- the text that was answered was written whole
 
-  pub left_open : (nodes turns workers : ℕ) (dossier : Bool) → AskSolve words nodes turns workers dossier → status ≡ Open → IsLeftOpen nodes turns source held held_after
-  left_open nodes turns workers dossier ask is =
-      let read : AnswersRead (solve_options nodes turns workers dossier) source Open text = meant_answer words source Open text (solve_of nodes turns workers dossier) (left is) ask.means in
-      let told = read.answer in
-      record {
-        instance = told.instance;
-        text = text;
-        means = told_so (λ bytes. Means bytes told.instance) source.before read.bytes read.all told.means;
-        end = read.end;
-        cause = told.answer;
-        reported = appended;
-      }
+module _ (words : List (List ℕ)) (source : Drained) (sink : Filled) (status : Status) (text : List ℕ) (answer : Answers words source status text) (appended : Appends sink.held sink.held_after text) where
+  run : Run
+  run = record { words = words; source = source; sink = sink; status = status }
 
-  pub accepted : AskCheck words → status ≡ Good → IsAccepted source held held_after
-  accepted ask is =
-      let read : AnswersDossierRead source Good text = meant_answer words source Good text Check (good is) ask.means in
-      let told = read.answer in
-      let own = told.answer in
-      record {
-        instance = told.instance;
-        certificate = told.certificate;
-        reads = told_so (λ bytes. Reads bytes told.instance told.certificate) source.before read.bytes read.all told.reads;
-        end = read.end;
-        accepts = own.accepts;
-        cheapest = own.cheapest;
-        cost = own.cost;
-        printed = subst (Appends held held_after) own.shown appended;
-      }
+  good : (command : Command) → Asks words command → status ≡ Good → AnswersCommand command source Good text
+  good command ask is = meant_answer words source Good text command (subst (λ s. Answers words source s text) is answer) ask.means
 
-  pub drawn : (number ships chambers : ℕ) → AskLot words number ships chambers → status ≡ Good → IsDrawn number ships chambers source held held_after
-  drawn number ships chambers ask is =
-      let told = meant_answer words source Good text (lot_of number ships chambers) (good is) ask.means in
-      record { instance = told.1.instance; lot = told.1.lot; unread = told.0; printed = subst (Appends held held_after) told.1.shown appended }
+  left : (command : Command) → Asks words command → status ≡ Open → AnswersCommand command source Open text
+  left command ask is = meant_answer words source Open text command (subst (λ s. Answers words source s text) is answer) ask.means
 
-  pub tried : (number ships chambers nodes turns : ℕ) → AskTrial words number ships chambers nodes turns → status ≡ Good → IsTried number ships chambers source held held_after
-  tried number ships chambers nodes turns ask is =
-      let told = meant_answer words source Good text (trial_of number ships chambers nodes turns) (good is) ask.means in
+  whole : status ≡ WriteFault → ⊥
+  whole is = subst (λ s. Answers words source s text) is answer
+
+  -- what was said to all the bytes was done
+  did : (most : ℕ) (Says : Saying) (s : Status) (Clause : List ℕ → List ℕ → Type 0) → AnswersBytes most Says source s text → ((bytes text : List ℕ) → Says bytes s text → Clause bytes text) → Did Clause run
+  did most Says s Clause read so = record { bytes = read.bytes; all = read.read.all; end = read.read.end; text = text; says = so read.bytes text read.answer; got = appended }
+
+  drawn : (options : LotOptions) → Asks words (Lot options) → status ≡ Good → IsDrawn options run
+  drawn options ask is =
+      let told = good (Lot options) ask is in
+      record { instance = told.1.instance; lot = told.1.lot; unread = told.0; got = subst (Got run) told.1.shown appended }
+
+  tried : (options : TrialOptions) → Asks words (Trial options) → status ≡ Good → IsTried options run
+  tried options ask is =
+      let told = good (Trial options) ask is in
       let optimal = told.1.answer in
-      record {
-        instance = told.1.instance;
-        plan = optimal.plan;
-        lot = told.1.lot;
-        unread = told.0;
-        cheapest = optimal.cheapest;
-        printed = subst (Appends held held_after) optimal.shown appended;
-      }
+      record { instance = told.1.instance; plan = optimal.plan; lot = told.1.lot; unread = told.0; cheapest = optimal.cheapest; got = subst (Got run) optimal.shown appended }
 
-  pub tried_open : (number ships chambers nodes turns : ℕ) → AskTrial words number ships chambers nodes turns → status ≡ Open → IsTriedOpen number ships chambers nodes turns source held held_after
-  tried_open number ships chambers nodes turns ask is =
-      let told = meant_answer words source Open text (trial_of number ships chambers nodes turns) (left is) ask.means in
-      record { instance = told.1.instance; text = text; lot = told.1.lot; unread = told.0; cause = told.1.answer; printed = appended }
+  tried_open : (options : TrialOptions) → Asks words (Trial options) → status ≡ Open → IsTriedOpen options run
+  tried_open options ask is =
+      let told = left (Trial options) ask is in
+      record { instance = told.1.instance; text = text; lot = told.1.lot; unread = told.0; left = told.1.answer; got = appended }
+
+  pub keeps_written : KeepsItsWord run
+  keeps_written = record {
+    solved = λ options ask is. did _ (AnswersSolve options) Good (IsSolvedAs options.dossier) (good (Solve options) ask is) (says_solved options);
+    left_open = λ options ask is. did _ (AnswersSolve options) Open (IsLeftOpen options) (left (Solve options) ask is) (says_left options);
+    accepted = λ ask is. did _ AnswersCheck Good IsAccepted (good Check ask is) says_accepted;
+    drawn = drawn;
+    tried = tried;
+    tried_open = tried_open;
+    judged = λ ask is. did _ AnswersJudge Good _ (good Judge ask is) (λ bytes text says. says);
+    played = λ ask is. did _ AnswersPlay Good _ (good Play ask is) (λ bytes text says. says);
+    replanned = λ options ask is. did _ (AnswersReplan options) Good _ (good (Replan options) ask is) (λ bytes text says. says);
+    replanned_open = λ options ask is. did _ (AnswersReplan options) Open _ (left (Replan options) ask is) (λ bytes text says. says);
+    proven = λ ask is. did _ AnswersLower Good _ (good Lower ask is) (λ bytes text says. says);
+    proven_below = λ ask is. did _ AnswersLower Open _ (left Lower ask is) (λ bytes text says. says);
+    resumed = λ options ask is. did _ (AnswersResume options) Good _ (good (Resume options) ask is) (λ bytes text says. says);
+    resumed_open = λ options ask is. did _ (AnswersResume options) Open _ (left (Resume options) ask is) (λ bytes text says. says);
+    complete = complete words source sink status text answer;
+    written = λ is. record { text = text; answer = answer; appended = appended };
+    cut_off = λ is. absurd (whole is);
+    fault = λ is. absurd (whole is);
+  }
+
+-- ---- the text that was answered was cut off
+
+good_cut : WriteFault ≡ Good → ⊥
+good_cut e = cc
+
+open_cut : WriteFault ≡ Open → ⊥
+open_cut e = cc
+
+pub keeps_cut : (words : List (List ℕ)) (source : Drained) (sink : Filled) (status : Status) (text : List ℕ) → Answers words source status text → AppendsProperPrefix sink.held sink.held_after text → Rose sink.faults sink.faults_after
+    → KeepsItsWord (record { words = words; source = source; sink = sink; status = WriteFault })
+keeps_cut words source sink status text answer appended rose = record {
+  solved = λ options ask is. absurd (good_cut is);
+  left_open = λ options ask is. absurd (open_cut is);
+  accepted = λ ask is. absurd (good_cut is);
+  drawn = λ options ask is. absurd (good_cut is);
+  tried = λ options ask is. absurd (good_cut is);
+  tried_open = λ options ask is. absurd (open_cut is);
+  judged = λ ask is. absurd (good_cut is);
+  played = λ ask is. absurd (good_cut is);
+  replanned = λ options ask is. absurd (good_cut is);
+  replanned_open = λ options ask is. absurd (open_cut is);
+  proven = λ ask is. absurd (good_cut is);
+  proven_below = λ ask is. absurd (open_cut is);
+  resumed = λ options ask is. absurd (good_cut is);
+  resumed_open = λ options ask is. absurd (open_cut is);
+  complete = cut_complete words source sink;
+  written = λ is. absurd (is refl);
+  cut_off = λ is. record { status = status; text = text; answer = answer; appended = appended };
+  fault = λ is. rose;
+}

@@ -1,175 +1,159 @@
 -- What is asked rightly is done.
-use Rattle.std.proofs.Common.{ℕ, ◌≡◌, ◌⊎◌, ◌<◌, List, length, sym, subst, ap, ◌∙◌, refl, inl, inr, false, arith, Ok, Err, Result}
-use Rattle.std.specs.Prelude.{IfSome}
+use Rattle.std.proofs.Common.{ℕ, ◌≡◌, ◌≢◌, ◌⊎◌, List, sym, subst, ◌∙◌, refl, inl, inr}
 use Rattle.lock_model.specs.declared.instance.Instance.{Instance}
-use Rattle.lock_model.specs.declared.verdict.Verdict.TheVariants.{Optimal, OpenNodes, OpenTurns}
-use Rattle.lock_rules.specs.Singles.{singles_of}
-use Rattle.lock_rules.specs.Unfit.{IsFirstUnfit}
-use Rattle.search_rules.proofs.CompleteLemmas.{enough-optimal}
-use Rattle.instance_text.specs.Draft.{Draft}
-use Rattle.instance_text.specs.Reading.{Means, Defect, reading, bad}
-use Rattle.instance_text.specs.declared.bad.Bad.{Bad}
-use Rattle.instance_text.specs.declared.bad.Kind.{Kind}
+use Rattle.lock_rules.specs.Unfit.{HasNoUnfit, IsFirstUnfit}
+use Rattle.search_rules.specs.Certificates.{Certificate}
+use Rattle.instance_text.specs.Reading.{Means}
 use Rattle.instance_text.proofs.InstanceLemmas.{same_instance}
-use Rattle.plan_print.specs.Report.{report, verdict_line}
-use Rattle.command_words.specs.Meaning.{Means as WordsMean}
+use Rattle.instance_text.proofs.ReadingLemmas.{Means-one, Means-no_defect}
+use Rattle.plan_print.specs.Report.{verdict_line}
 use Rattle.command_words.specs.declared.commands.Command.{Command}
-use Rattle.command_words.specs.declared.commands.Command.TheVariants.{Check}
+use Rattle.command_words.specs.declared.commands.Command.TheVariants.{Solve, Check, Lot, Trial, Judge, Play, Replan, Lower, Resume}
 use Rattle.command_words.specs.declared.commands.SolveOptions.{SolveOptions}
-use Rattle.lock_top.specs.Asked.{is_not_yet, solve_options}
-use Rattle.lock_top.specs.Searching.{Print, PrintsOptimal, PrintsBest, AnswersSearch}
-use Rattle.lock_top.specs.Lots.{AnswersLot}
-use Rattle.lock_top.specs.Answers.{Drained, limit, IsTooLong, AnswersRead, AnswersSolve, AnswersCommand, Answers}
-use Rattle.lock_top.specs.Clauses.{IsServed, MayEnd, MayPrint, IsComplete, MayCheck}
-use Rattle.lock_top.specs.declared.status.Status.{Status}
-use Rattle.lock_top.specs.declared.status.Status.TheVariants.{Good, Open, Words, Refused, ReadFault, WriteFault, NoMemory, BadDossier, Unfit, PlanRefused}
-use Rattle.lock_top.proofs.AnswerLemmas.{solve_of, lot_of, trial_of, not_refused_words, meant_answer}
-use Rattle.lock_top.proofs.CheckLemmas.{draft_of, check_ends}
+use Rattle.command_words.specs.declared.commands.LotOptions.{LotOptions}
+use Rattle.command_words.specs.declared.commands.TrialOptions.{TrialOptions}
+use Rattle.command_words.specs.declared.commands.ReplanOptions.{ReplanOptions}
+use Rattle.run_answers.specs.Refusals.{IsUnfitShip}
+use Rattle.run_answers.specs.Sources.{Drained, Saying, AnswersSource, IsServed}
+use Rattle.run_answers.specs.declared.status.Status.{Status}
+use Rattle.run_answers.specs.declared.status.Status.TheVariants.{Good, Open, Words, Refused, ReadFault, WriteFault, NoMemory, BadDossier, Unfit, PlanRefused}
+use Rattle.run_answers.proofs.SourceLemmas.{served_says}
+use Rattle.solve_commands.specs.Searching.{Search, PrintsOptimal, PrintsOpen, AnswersSearch}
+use Rattle.solve_commands.specs.Solving.{solve_limit, search_of, AnswersSolve}
+use Rattle.solve_commands.specs.Lots.{IsLot, AnswersLot, AnswersTrial}
+use Rattle.solve_commands.proofs.EnoughLemmas.{open_ends, left_ends}
+use Rattle.dossier_commands.specs.Checking.{dossier_limit, AnswersCheck}
+use Rattle.dossier_commands.specs.Lowering.{AnswersLower}
+use Rattle.dossier_commands.specs.Resuming.{AnswersResume}
+use Rattle.dossier_commands.specs.Completing.{MayLower, MayResume}
+use Rattle.dossier_commands.proofs.CompleteLemmas.{lower_ends, resume_ends}
+use Rattle.plan_commands.specs.Planned.{plan_limit}
+use Rattle.plan_commands.specs.Judging.{AnswersJudge}
+use Rattle.plan_commands.specs.Playing.{AnswersPlay}
+use Rattle.plan_commands.proofs.CompleteLemmas.{judged_good, played_good}
+use Rattle.replan.specs.Kept.{kept_of}
+use Rattle.replan_command.specs.Ends.{MayEndReplan}
+use Rattle.replan_command.proofs.EndsLemmas.{replan_ends}
+use Rattle.lock_top.specs.Asked.{Asks}
+use Rattle.lock_top.specs.Answers.{AnswersCommand, Answers}
+use Rattle.lock_top.specs.Complete.{MayEnd, MayCheck, MayPrint, IsComplete}
+use Rattle.lock_top.specs.Runs.{Filled}
+use Rattle.lock_top.proofs.AnswerLemmas.{by_command}
+use Rattle.lock_top.proofs.CheckLemmas.{check_ends}
 
--- ---- bytes mean one instance, and then have no defect
+-- ---- `solve` over bytes that mean an instance without an unfit ship
 
-reads : (bytes : List ℕ) (I : Instance) → Means bytes I → reading bytes ≡ Ok (draft_of I)
-unfolding Means
-reads bytes I means = means
-
-refuses : (bytes : List ℕ) (line : ℕ) (kind : Kind) → Defect bytes line kind → reading bytes ≡ Err (bad line kind)
-unfolding Defect
-refuses bytes line kind defect = defect
-
-one_draft : (r : Result Draft Bad) (a b : Draft) → r ≡ Ok a → r ≡ Ok b → a ≡ b
-one_draft r a b e f = cc
-
-not_both : (r : Result Draft Bad) (a : Draft) (b : Bad) → r ≡ Ok a → r ≡ Err b → ⊥
-not_both r a b e f = cc
-
-one_instance : (bytes : List ℕ) (I J : Instance) → Means bytes I → Means bytes J → I ≡ J
-one_instance bytes I J first second =
-    let same = one_draft (reading bytes) (draft_of I) (draft_of J) (reads bytes I first) (reads bytes J second) in
-    same_instance I J (ap (λ (d : Draft). d.chambers) same) (ap (λ (d : Draft). d.ships) same)
-
--- ---- a search ends open only where its nodes or turns aren't surely enough
-
-nodes_open : (used low : ℕ) → OpenNodes used low ≡ Optimal → ⊥
-nodes_open used low e = cc
-
-turns_open : (chamber : ℕ) (ships : List ℕ) (turns low : ℕ) → OpenTurns chamber ships turns low ≡ Optimal → ⊥
-turns_open chamber ships turns low e = cc
-
-search_ends : (Best : Instance → List ℕ → Type 0) (print : Print) (I : Instance) (nodes turns : ℕ) (status : Status) (text : List ℕ) → AnswersSearch Best print I nodes turns status text → MayEnd I nodes turns status
-search_ends Best print I nodes turns Good text answer = tt
-search_ends Best print I nodes turns Open text (inl n) = λ enough. nodes_open n.used n.low (enough-optimal I nodes turns (singles_of I) n.plan (OpenNodes n.used n.low) enough n.left)
-search_ends Best print I nodes turns Open text (inr t) = λ enough. turns_open t.chamber t.ships t.spent t.low (enough-optimal I nodes turns (singles_of I) t.plan (OpenTurns t.chamber t.ships t.spent t.low) enough t.left)
-search_ends Best print I nodes turns Words text answer = absurd answer
-search_ends Best print I nodes turns Refused text answer = absurd answer
-search_ends Best print I nodes turns ReadFault text answer = absurd answer
-search_ends Best print I nodes turns WriteFault text answer = absurd answer
-search_ends Best print I nodes turns NoMemory text answer = tt
-search_ends Best print I nodes turns BadDossier text answer = absurd answer
-search_ends Best print I nodes turns Unfit text answer = absurd answer
-search_ends Best print I nodes turns PlanRefused text answer = absurd answer
-
--- ---- `solve` over a source that is served
-
-module _ (options : SolveOptions) (source : Drained) (I : Instance) (served : IsServed source I) where
-  same_bytes : (status : Status) (text : List ℕ) (read : AnswersRead options source status text) → read.bytes ≡ served.bytes
-  same_bytes status text read = subst (λ left. IfSome left (λ bytes. read.bytes ≡ bytes)) served.told read.all
-
-  read_means : (status : Status) (text : List ℕ) (read : AnswersRead options source status text) → Means read.bytes I
-  read_means status text read = subst (λ bytes. Means bytes I) (sym (same_bytes status text read)) served.means
-
-  open_ends : (text : List ℕ) → AnswersRead options source Open text → MayEnd I options.nodes options.turns Open
-  open_ends text read =
-      let told = read.answer in
-      let same = one_instance read.bytes told.instance I told.means (read_means Open text read) in
-      subst (λ J. MayEnd J options.nodes options.turns Open) same (search_ends (PrintsBest options.dossier) report told.instance options.nodes options.turns Open text told.answer)
-
-  -- the named ship fits some chamber
-  not_unfit : (text : List ℕ) → AnswersRead options source Unfit text → ⊥
-  not_unfit text read =
-      let told = read.answer in
-      let same = one_instance read.bytes told.instance I told.means (read_means Unfit text read) in
-      let first : IsFirstUnfit I told.answer.ship = subst (λ J. IsFirstUnfit J told.answer.ship) same told.answer.first in
-      let fits = served.fit.fit told.answer.ship first.known in
+module _ (options : SolveOptions) (bytes : List ℕ) (I : Instance) (means : Means bytes I) (fit : HasNoUnfit I) where
+  not_unfit : (J : Instance) (text : List ℕ) → Means bytes J → IsUnfitShip J text → ⊥
+  not_unfit J text other unfit =
+      let first : IsFirstUnfit I unfit.ship = subst (λ K. IsFirstUnfit K unfit.ship) (Means-one bytes J I other means) unfit.first in
+      let fits = fit.fit unfit.ship first.known in
       first.unfit fits.chamber fits.known fits.fits
 
-  -- there are few bytes, and they have no defect
-  not_refused : (text : List ℕ) → IsTooLong limit source text ⊎ AnswersRead options source Refused text → ⊥
-  not_refused text (inl long) =
-      let many : limit < length served.bytes = subst (λ left. IfSome left (λ bytes. limit < length bytes)) served.told long.long in
-      let few = served.few in
-      absurd (omega (arith, many, few))
-  not_refused text (inr read) =
-      let told = read.answer in
-      not_both (reading read.bytes) (draft_of I) (bad told.line told.kind) (reads read.bytes I (read_means Refused text read)) (refuses read.bytes told.line told.kind told.defect)
+  solve_ends : (status : Status) (text : List ℕ) → AnswersSolve options bytes status text → MayEnd I options.nodes options.turns status
+  solve_ends Good text told = tt
+  solve_ends Open text told =
+      subst (λ J. MayEnd J options.nodes options.turns Open) (Means-one bytes told.instance I told.means means)
+      (left_ends options.keep (search_of options.nodes options.turns told.instance) text told.answer)
+  solve_ends Words text told = told
+  solve_ends Refused text told = Means-no_defect bytes I told.line told.kind means told.defect
+  solve_ends ReadFault text told = told
+  solve_ends WriteFault text told = tt
+  solve_ends NoMemory text told = tt
+  solve_ends BadDossier text told = told
+  solve_ends Unfit text told = not_unfit told.instance text told.means told.answer
+  solve_ends PlanRefused text told = told
 
-  pub solve_ends : (status : Status) (text : List ℕ) → AnswersSolve options source status text → MayEnd I options.nodes options.turns status
-  solve_ends Good text answer = tt
-  solve_ends Open text answer = open_ends text answer
-  solve_ends Words text answer = absurd answer.answer.answer
-  solve_ends Refused text answer = absurd (not_refused text answer)
-  solve_ends ReadFault text answer = absurd (served.calm answer.0)
-  solve_ends WriteFault text answer = tt
-  solve_ends NoMemory text answer = tt
-  solve_ends BadDossier text answer = absurd answer.answer.answer
-  solve_ends Unfit text answer = absurd (not_unfit text answer)
-  solve_ends PlanRefused text answer = absurd answer.answer.answer
+-- ---- `lot` and `trial`
 
--- ---- `lot`
+lot_ends : (options : LotOptions) (status : Status) (text : List ℕ) → AnswersLot options.number options.ships options.chambers status text → MayPrint status
+lot_ends options Good text told = tt
+lot_ends options Open text told = told
+lot_ends options Words text told = told
+lot_ends options Refused text told = told
+lot_ends options ReadFault text told = told
+lot_ends options WriteFault text told = tt
+lot_ends options NoMemory text told = tt
+lot_ends options BadDossier text told = told
+lot_ends options Unfit text told = told
+lot_ends options PlanRefused text told = told
 
-lot_ends : (number ships chambers : ℕ) (status : Status) (text : List ℕ) → AnswersLot number ships chambers status text → MayPrint status
-lot_ends number ships chambers Good text answer = tt
-lot_ends number ships chambers Open text answer = absurd answer
-lot_ends number ships chambers Words text answer = absurd answer
-lot_ends number ships chambers Refused text answer = absurd answer
-lot_ends number ships chambers ReadFault text answer = absurd answer
-lot_ends number ships chambers WriteFault text answer = absurd answer
-lot_ends number ships chambers NoMemory text answer = tt
-lot_ends number ships chambers BadDossier text answer = absurd answer
-lot_ends number ships chambers Unfit text answer = absurd answer
-lot_ends number ships chambers PlanRefused text answer = absurd answer
+line_ends : (k : Search) (status : Status) (text : List ℕ) → AnswersSearch (PrintsOptimal verdict_line) (PrintsOpen verdict_line) k status text → MayEnd k.instance k.nodes k.turns status
+line_ends k Good text told = tt
+line_ends k Open text told = open_ends verdict_line k text told
+line_ends k Words text told = told
+line_ends k Refused text told = told
+line_ends k ReadFault text told = told
+line_ends k WriteFault text told = tt
+line_ends k NoMemory text told = tt
+line_ends k BadDossier text told = told
+line_ends k Unfit text told = told
+line_ends k PlanRefused text told = told
 
--- what was answered to the words is want of memory, or answered to the command that they mean
-by_command : (words : List (List ℕ)) (source : Drained) (command : Command) (status : Status) (text : List ℕ) → WordsMean words command → is_not_yet command ≡ false → Answers words source status text → (status ≡ NoMemory) ⊎ AnswersCommand command source status text
-by_command words source command Good text means there answer = inr (meant_answer words source Good text command answer means)
-by_command words source command Open text means there answer = inr (meant_answer words source Open text command answer means)
-by_command words source command Words text means there answer = absurd (not_refused_words words command means there answer.refused)
-by_command words source command Refused text means there answer = inr (meant_answer words source Refused text command answer means)
-by_command words source command ReadFault text means there answer = inr (meant_answer words source ReadFault text command answer means)
-by_command words source command WriteFault text means there answer = inr (meant_answer words source WriteFault text command answer means)
-by_command words source command NoMemory text means there answer = inl refl
-by_command words source command BadDossier text means there answer = inr (meant_answer words source BadDossier text command answer means)
-by_command words source command Unfit text means there answer = inr (meant_answer words source Unfit text command answer means)
-by_command words source command PlanRefused text means there answer = inr (meant_answer words source PlanRefused text command answer means)
+trial_ends : (options : TrialOptions) (I : Instance) → IsLot options.lot.number options.lot.ships options.lot.chambers I → (status : Status) (text : List ℕ)
+    → AnswersTrial options.lot.number options.lot.ships options.lot.chambers options.nodes options.turns status text → MayEnd I options.nodes options.turns status
+trial_ends options I lot status text told =
+    let same : told.instance ≡ I = same_instance told.instance I (told.lot.chambers_are ∙ sym lot.chambers_are) (told.lot.ships_are ∙ sym lot.ships_are) in
+    subst (λ J. MayEnd J options.nodes options.turns status) same (line_ends (search_of options.nodes options.turns told.instance) status text told.answer)
+
+-- ---- what was answered to the words
+
+module _ (words : List (List ℕ)) (source : Drained) (status : Status) (text : List ℕ) (answer : Answers words source status text) where
+  -- by what is answered to the command that they mean
+  by_answer : (May : Status → Type 0) → May NoMemory → (command : Command) → Asks words command → (AnswersCommand command source status text → May status) → May status
+  by_answer May want command ask ends = elim (by_command words source command status text ask.means answer) [
+    | inl is ↦ subst May (sym is) want
+    | inr told ↦ ends told
+  ]
+
+  -- by what is said to the bytes of a source that is served
+  by_bytes : (May : Status → Type 0) → May NoMemory → (most : ℕ) (Says : Saying) (bytes : List ℕ) → IsServed most source bytes → ((status : Status) (text : List ℕ) → Says bytes status text → May status) → AnswersSource most Says source status text → May status
+  by_bytes May want most Says bytes served ends told = elim (served_says most Says source bytes served status text told) [
+    | inl is ↦ subst May (sym is) want
+    | inr says ↦ ends status text says
+  ]
+
+may_print : (status : Status) → (status ≡ Good) ⊎ (status ≡ NoMemory) → MayPrint status
+may_print status (inl good) = subst MayPrint (sym good) tt
+may_print status (inr want) = subst MayPrint (sym want) tt
 
 -- COMPLETENESS, from what was answered,
-pub complete : (words : List (List ℕ)) (source : Drained) (status : Status) (text : List ℕ) → Answers words source status text → IsComplete words source status
-complete words source status text answer = record {
-  solve = λ nodes turns workers dossier I ask served. elim (by_command words source (solve_of nodes turns workers dossier) status text ask.means refl answer) [
-    | inl want ↦ subst (MayEnd I nodes turns) (sym want) tt
-    | inr told ↦ solve_ends (solve_options nodes turns workers dossier) source I served status text told
-  ];
-  check = λ I C ask served. elim (by_command words source Check status text ask.means refl answer) [
-    | inl want ↦ subst (MayCheck I C) (sym want) tt
-    | inr told ↦ check_ends source I C served.bytes served.told served.few served.reads served.fit served.calm status text told
-  ];
-  lot = λ number ships chambers ask. elim (by_command words source (lot_of number ships chambers) status text ask.means refl answer) [
-    | inl want ↦ subst MayPrint (sym want) tt
-    | inr told ↦ lot_ends number ships chambers status text told.1
-  ];
-  trial = λ number ships chambers nodes turns I ask lot. elim (by_command words source (trial_of number ships chambers nodes turns) status text ask.means refl answer) [
-    | inl want ↦ subst (MayEnd I nodes turns) (sym want) tt
-    | inr told ↦
-        let own = told.1.lot in
-        let same : told.1.instance ≡ I = same_instance told.1.instance I (own.chambers_are ∙ sym lot.chambers_are) (own.ships_are ∙ sym lot.ships_are) in
-        subst (λ J. MayEnd J nodes turns status) same (search_ends (PrintsOptimal verdict_line) verdict_line told.1.instance nodes turns status text told.1.answer)
-  ];
+pub complete : (words : List (List ℕ)) (source : Drained) (sink : Filled) (status : Status) (text : List ℕ) → Answers words source status text → IsComplete (record { words = words; source = source; sink = sink; status = status })
+complete words source sink status text answer = record {
+  solve = λ options bytes I ask served means fit.
+      by_answer words source status text answer (MayEnd I options.nodes options.turns) tt (Solve options) ask
+      (by_bytes words source status text answer (MayEnd I options.nodes options.turns) tt solve_limit (AnswersSolve options) bytes served (solve_ends options bytes I means fit));
+  check = λ bytes I C ask served reads fit.
+      by_answer words source status text answer (MayCheck I C) tt Check ask
+      (by_bytes words source status text answer (MayCheck I C) tt dossier_limit AnswersCheck bytes served (check_ends bytes I C reads fit));
+  lot = λ options ask. by_answer words source status text answer MayPrint tt (Lot options) ask (λ told. lot_ends options status text told.1);
+  trial = λ options I ask lot. by_answer words source status text answer (MayEnd I options.nodes options.turns) tt (Trial options) ask (λ told. trial_ends options I lot status text told.1);
+  judge = λ bytes I P ask served planned.
+      by_answer words source status text answer MayPrint tt Judge ask
+      (by_bytes words source status text answer MayPrint tt plan_limit AnswersJudge bytes served (λ s t says. may_print s (judged_good bytes t I P planned s says)));
+  play = λ bytes I P ask served planned.
+      by_answer words source status text answer MayPrint tt Play ask
+      (by_bytes words source status text answer MayPrint tt plan_limit AnswersPlay bytes served (λ s t says. may_print s (played_good bytes t I P planned s says)));
+  replan = λ options I G ask served whole.
+      by_answer words source status text answer (MayEndReplan options I (kept_of G options.from)) tt (Replan options) ask (replan_ends options source I G served status text);
+  lower = λ bytes I C ask served reads fit.
+      by_answer words source status text answer (MayLower I C) tt Lower ask
+      (by_bytes words source status text answer (MayLower I C) tt dossier_limit AnswersLower bytes served (lower_ends bytes I C reads fit));
+  resume = λ options bytes I C ask served reads fit.
+      by_answer words source status text answer (MayResume options I C) tt (Resume options) ask
+      (by_bytes words source status text answer (MayResume options I C) tt dossier_limit (AnswersResume options) bytes served (resume_ends bytes I C reads fit options));
 }
 
 -- and where the sink failed.
-pub cut_complete : (words : List (List ℕ)) (source : Drained) → IsComplete words source WriteFault
-cut_complete words source = record {
-  solve = λ nodes turns workers dossier I ask served. tt;
-  check = λ I C ask served. tt;
-  lot = λ number ships chambers ask. tt;
-  trial = λ number ships chambers nodes turns I ask lot. tt;
+pub cut_complete : (words : List (List ℕ)) (source : Drained) (sink : Filled) → IsComplete (record { words = words; source = source; sink = sink; status = WriteFault })
+cut_complete words source sink = record {
+  solve = λ options bytes I ask served means fit. tt;
+  check = λ bytes I C ask served reads fit. tt;
+  lot = λ options ask. tt;
+  trial = λ options I ask lot. tt;
+  judge = λ bytes I P ask served planned. tt;
+  play = λ bytes I P ask served planned. tt;
+  replan = λ options I G ask served whole. absurd (whole refl);
+  lower = λ bytes I C ask served reads fit. tt;
+  resume = λ options bytes I C ask served reads fit. tt;
 }

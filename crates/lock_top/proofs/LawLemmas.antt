@@ -1,19 +1,24 @@
 -- What `check` answers to what `solve --dossier` wrote.
-use Rattle.std.proofs.Common.{ℕ, ◌≡◌, ◌≢◌, ◌++◌, Bool, true, false, List, sym, subst, ap, ◌∙◌, refl, Some}
+use Rattle.std.proofs.Common.{ℕ, ◌≡◌, ◌≢◌, ◌++◌, Bool, true, false, List, sym, subst, ap, ◌∙◌, refl, inl, inr, Some}
 use Rattle.std.specs.declared.option.Option.{Option}
 use Rattle.std.specs.Io.KnownBytes.{Appends}
 use Rattle.std.proofs.lemmas.List.{append_cancel_left}
 use Rattle.search_rules.proofs.FailLemmas.{fails-not_accepted}
 use Rattle.cert_text.specs.Dossier.{dossier, Reads}
 use Rattle.command_words.specs.declared.commands.Command.TheVariants.{Check}
-use Rattle.lock_top.specs.Asked.{AskCheck}
-use Rattle.lock_top.specs.Answers.{Drained, AnswersDossierRead}
-use Rattle.lock_top.specs.Clauses.{IsCertified}
-use Rattle.lock_top.specs.Laws.{IsHandedOn, Filled, IsRun, EndsAccepted}
-use Rattle.lock_top.specs.declared.status.Status.{Status}
-use Rattle.lock_top.specs.declared.status.Status.TheVariants.{Good, Open, Words, Refused, ReadFault, WriteFault, NoMemory, BadDossier, Unfit, PlanRefused}
-use Rattle.lock_top.proofs.AnswerLemmas.{true_false, not_refused_words, meant_answer}
-use Rattle.lock_top.proofs.CheckLemmas.{own_answer, bad_rejected, fits_some, few_bytes}
+use Rattle.lock_rules.specs.Unfit.{HasNoUnfit}
+use Rattle.run_answers.specs.Sources.{Drained, AnswersSource, AnswersBytes, IsTooLong}
+use Rattle.run_answers.specs.declared.status.Status.{Status}
+use Rattle.run_answers.specs.declared.status.Status.TheVariants.{Good, Open, Words, Refused, ReadFault, WriteFault, NoMemory, BadDossier, Unfit, PlanRefused}
+use Rattle.run_answers.proofs.SourceLemmas.{told_says, told_refused}
+use Rattle.dossier_commands.specs.Checking.{dossier_limit, AnswersCheck}
+use Rattle.lock_top.specs.Asked.{Asks}
+use Rattle.lock_top.specs.Answers.{Answers}
+use Rattle.lock_top.specs.Runs.{Filled, Run, Got, run_of}
+use Rattle.lock_top.specs.Clauses.{Did, IsCertified, KeepsItsWord}
+use Rattle.lock_top.specs.Laws.{IsHandedOn, EndsAccepted}
+use Rattle.lock_top.proofs.AnswerLemmas.{meant_answer}
+use Rattle.lock_top.proofs.CheckLemmas.{own_answer, bad_rejected, fits_some}
 use Rattle.lock_top.proofs.FitLemmas.{legal_fits}
 
 -- ---- the bytes that were handed on are the dossier
@@ -25,6 +30,9 @@ appended_some old bytes text held held_after before after appended =
 
 -- ---- how a run ends
 
+true_false : true ≡ false → ⊥
+true_false e = cc
+
 abbrev is_cut : Status → Bool
 is_cut WriteFault = true
 is_cut _ = false
@@ -32,43 +40,48 @@ is_cut _ = false
 not_cut : (status : Status) → is_cut status ≡ false → status ≢ WriteFault
 not_cut status whole is = true_false (sym (ap is_cut is) ∙ whole)
 
-module _ (first : Drained) (held held_after : Option (List ℕ)) (certified : IsCertified first held held_after) (words : List (List ℕ)) (source : Drained) (sink : Filled) (handed : IsHandedOn held held_after source) (ask : AskCheck words) where
-  reads_handed : Reads handed.bytes certified.instance certified.certificate
+module _ (first : Run) (certified : Did IsCertified first) (words : List (List ℕ)) (source : Drained) (sink : Filled) (handed : IsHandedOn first.sink source) (ask : Asks words Check) where
+  reads_handed : Reads handed.bytes certified.says.instance certified.says.certificate
   reads_handed =
-      let same = appended_some handed.old handed.bytes (dossier certified.instance certified.certificate) held held_after handed.before handed.after certified.printed in
-      subst (λ bytes. Reads bytes certified.instance certified.certificate) (sym same) certified.reads
+      let own = certified.says in
+      let certified_got : Got first (dossier own.instance own.certificate) = subst (Got first) own.shown certified.got in
+      let same = appended_some handed.old handed.bytes (dossier own.instance own.certificate) first.sink.held first.sink.held_after handed.before handed.after (certified_got) in
+      subst (λ bytes. Reads bytes own.instance own.certificate) (sym same) own.reads
 
-  pub accepted_ends : (status : Status) → IsRun words source sink status → EndsAccepted certified.certificate.cost source sink status
+  fit : HasNoUnfit certified.says.instance
+  fit = legal_fits certified.says.instance certified.says.certificate.plan certified.says.accepts.legal
+
+  told : (status : Status) (text : List ℕ) → AnswersBytes dossier_limit AnswersCheck source status text → AnswersCheck handed.bytes status text
+  told status text read = told_says dossier_limit AnswersCheck source handed.bytes handed.told status text read
+
+  pub accepted_ends : (status : Status) → KeepsItsWord (run_of words source sink status) → EndsAccepted certified.says.certificate.cost (run_of words source sink status) status
   accepted_ends Good run =
       let written = run.written (not_cut Good refl) in
-      let read : AnswersDossierRead source Good written.text = meant_answer words source Good written.text Check written.answer ask.means in
-      let own = own_answer source certified.instance certified.certificate handed.bytes handed.told handed.few reads_handed (legal_fits certified.instance certified.certificate.plan certified.accepts.legal) Good written.text read read.answer in
-      subst (Appends sink.held sink.held_after) own.shown written.appended
+      let own = own_answer handed.bytes certified.says.instance certified.says.certificate reads_handed fit Good written.text (told Good written.text (meant_answer words source Good written.text Check written.answer ask.means)) in
+      subst (Got (run_of words source sink Good)) own.shown written.appended
   accepted_ends Open run =
       let written = run.written (not_cut Open refl) in
-      let read : AnswersDossierRead source Open written.text = meant_answer words source Open written.text Check written.answer ask.means in
-      absurd read.answer.answer
+      told Open written.text (meant_answer words source Open written.text Check written.answer ask.means)
   accepted_ends Words run =
       let written = run.written (not_cut Words refl) in
-      absurd (not_refused_words words Check ask.means refl written.answer.refused)
+      written.answer.bad Check ask.means
   accepted_ends Refused run =
       let written = run.written (not_cut Refused refl) in
-      absurd (few_bytes source certified.instance certified.certificate handed.bytes handed.told handed.few reads_handed (legal_fits certified.instance certified.certificate.plan certified.accepts.legal) written.text (meant_answer words source Refused written.text Check written.answer ask.means))
+      told_refused dossier_limit AnswersCheck source handed.bytes handed.told handed.few written.text (meant_answer words source Refused written.text Check written.answer ask.means)
   accepted_ends ReadFault run =
       let written = run.written (not_cut ReadFault refl) in
-      (meant_answer words source ReadFault written.text Check written.answer ask.means).0
+      (meant_answer words source ReadFault written.text Check written.answer ask.means).rose
   accepted_ends WriteFault run = run.fault refl
   accepted_ends NoMemory run =
       let written = run.written (not_cut NoMemory refl) in
-      subst (Appends sink.held sink.held_after) written.answer written.appended
+      subst (Got (run_of words source sink NoMemory)) written.answer written.appended
   accepted_ends BadDossier run =
       let written = run.written (not_cut BadDossier refl) in
-      let rejected = bad_rejected source certified.instance certified.certificate handed.bytes handed.told handed.few reads_handed (legal_fits certified.instance certified.certificate.plan certified.accepts.legal) written.text (meant_answer words source BadDossier written.text Check written.answer ask.means) in
-      absurd (fails-not_accepted certified.instance certified.certificate rejected.place rejected.reason rejected.fails certified.accepts)
+      let rejected = bad_rejected handed.bytes certified.says.instance certified.says.certificate reads_handed fit written.text (told BadDossier written.text (meant_answer words source BadDossier written.text Check written.answer ask.means)) in
+      fails-not_accepted certified.says.instance certified.says.certificate rejected.place rejected.reason rejected.fails certified.says.accepts
   accepted_ends Unfit run =
       let written = run.written (not_cut Unfit refl) in
-      absurd (fits_some source certified.instance certified.certificate handed.bytes handed.told handed.few reads_handed (legal_fits certified.instance certified.certificate.plan certified.accepts.legal) written.text (meant_answer words source Unfit written.text Check written.answer ask.means))
+      fits_some handed.bytes certified.says.instance certified.says.certificate reads_handed fit written.text (told Unfit written.text (meant_answer words source Unfit written.text Check written.answer ask.means))
   accepted_ends PlanRefused run =
       let written = run.written (not_cut PlanRefused refl) in
-      let read : AnswersDossierRead source PlanRefused written.text = meant_answer words source PlanRefused written.text Check written.answer ask.means in
-      absurd read.answer.answer
+      told PlanRefused written.text (meant_answer words source PlanRefused written.text Check written.answer ask.means)

@@ -1,74 +1,28 @@
--- What the words ask for, and the numbers of their options.
-use Rattle.std.specs.Prelude.{ℕ, ◌≡◌, ◌⊎◌, Bool, true, false, List, ⊤}
-use Rattle.command_words.specs.Meaning.{Means, AreBad}
+-- What the words ask for.
+use Rattle.std.specs.Prelude.{ℕ, ◌≡◌, List, ⊤}
+use Rattle.command_words.specs.Meaning.{Means}
 use Rattle.command_words.specs.declared.commands.Command.{Command}
-use Rattle.command_words.specs.declared.commands.Command.TheVariants.{Solve, Check, Lot, Trial}
-use Rattle.command_words.specs.declared.commands.SolveOptions.{SolveOptions}
-use Rattle.command_words.specs.declared.commands.LotOptions.{LotOptions}
-use Rattle.command_words.specs.declared.commands.TrialOptions.{TrialOptions}
-use Rattle.lock_model.specs.Limits.{Within}
+use Rattle.command_words.specs.declared.commands.Command.TheVariants.{Solve, Check, Lot, Trial, Judge, Play, Replan, Lower, Resume}
+use Rattle.solve_commands.specs.Options.{AreSolveNumbers, AreLotNumbers, AreTrialNumbers}
+use Rattle.replan_command.specs.Options.{AreReplanNumbers}
 
--- The command, or one of its flags, is still to come: there are `solve` without `--keep`, `check`, `lot` and `trial`.
-abbrev pub is_not_yet : Command → Bool
-is_not_yet (Solve options) = options.keep
-is_not_yet Check = false
-is_not_yet (Lot options) = false
-is_not_yet (Trial options) = false
-is_not_yet _ = true
+-- the words ask for this command, with these options
+pub record Asks (words : List (List ℕ)) (command : Command) : Type 0 where
+  pub means : Means words command
 
 -- the words mean this command and no other
 pub record MeanOnly (words : List (List ℕ)) (command : Command) : Type 0 where
   pub means : Means words command
   pub only : (other : Command) → Means words other → other ≡ command
 
--- the words mean a command that is still to come
-pub record AreNotYet (words : List (List ℕ)) : Type 0 where
-  pub command : Command
-  pub mean : MeanOnly words command
-  pub coming : is_not_yet command ≡ true
-
--- the words are bad, or mean a command that is still to come
-abbrev pub AreRefused : List (List ℕ) → Type 0
-AreRefused words = AreBad words ⊎ AreNotYet words
-
--- `solve` without `--keep`, with so many nodes, turns and workers, and with `--dossier` or without it
-abbrev pub solve_options : ℕ → ℕ → ℕ → Bool → SolveOptions
-solve_options nodes turns workers dossier = record { nodes = nodes; turns = turns; workers = workers; dossier = dossier; keep = false }
-
--- the words ask for it
-pub record AskSolve (words : List (List ℕ)) (nodes turns workers : ℕ) (dossier : Bool) : Type 0 where
-  pub means : Means words (Solve (solve_options nodes turns workers dossier))
-
--- the words ask for `check`
-pub record AskCheck (words : List (List ℕ)) : Type 0 where
-  pub means : Means words Check
-
--- the words ask for `lot` of this number, so many ships and chambers
-pub record AskLot (words : List (List ℕ)) (number ships chambers : ℕ) : Type 0 where
-  pub means : Means words (Lot (record { number = number; ships = ships; chambers = chambers }))
-
--- the words ask for `trial` of this lot, with so many nodes and turns
-pub record AskTrial (words : List (List ℕ)) (number ships chambers nodes turns : ℕ) : Type 0 where
-  pub means : Means words (Trial (record { lot = record { number = number; ships = ships; chambers = chambers }; nodes = nodes; turns = turns }))
-
--- ---- the numbers of good words are in their ranges
-
-pub record AreSolveNumbers (options : SolveOptions) : Type 0 where
-  pub nodes : Within 1 1000000 options.nodes
-  pub turns : Within 1 200000 options.turns
-  pub workers : Within 1 8 options.workers
-
-pub record AreLotNumbers (options : LotOptions) : Type 0 where
-  pub ships : Within 1 24 options.ships
-  pub chambers : Within 1 4 options.chambers
-
-pub record AreTrialNumbers (options : TrialOptions) : Type 0 where
-  pub lot : AreLotNumbers options.lot
-  pub nodes : Within 1 1000000 options.nodes
-  pub turns : Within 1 200000 options.turns
-
+-- the numbers of a command are in their ranges
 abbrev pub HasNumbers : Command → Type 0
 HasNumbers (Solve options) = AreSolveNumbers options
+HasNumbers Check = ⊤
 HasNumbers (Lot options) = AreLotNumbers options
 HasNumbers (Trial options) = AreTrialNumbers options
-HasNumbers _ = ⊤
+HasNumbers Judge = ⊤
+HasNumbers Play = ⊤
+HasNumbers (Replan options) = AreReplanNumbers options
+HasNumbers Lower = ⊤
+HasNumbers (Resume options) = AreSolveNumbers options

@@ -1,12 +1,6 @@
-pub mod Statuses
-pub mod Texts
+pub mod Runs
 pub mod Asked
-pub mod Searching
-pub mod Solving
-pub mod Lots
-pub mod DossierTexts
-pub mod Checking
 pub mod Answers
+pub mod Complete
 pub mod Clauses
 pub mod Laws
-pub mod Written

@@ -1,23 +1,23 @@
 //! From words to the answer of the command that they mean.
-ghost use Rattle.std.specs.Prelude.{◌≡◌, false, map, string_bytes};
-ghost use Rattle.lock_top.specs.Answers.{Answers, AnswersCommand, drained};
-ghost use Rattle.lock_top.specs.Asked.{HasNumbers, is_not_yet};
-ghost use Rattle.lock_top.specs.Texts.{bad_words_text};
-ghost use Rattle.lock_top.specs.Written.{bytes_in};
+ghost use Rattle.std.specs.Prelude.{◌≡◌, map, string_bytes};
+ghost use Rattle.run_answers.specs.Sources.{drained};
+ghost use Rattle.run_answers.specs.Texts.{bad_words_text};
+ghost use Rattle.run_answers.specs.Written.{bytes_in};
+ghost use Rattle.lock_top.specs.Answers.{Answers, AnswersCommand};
+ghost use Rattle.lock_top.specs.Asked.{HasNumbers};
 
-use crate::answer::{Answer, fixed, no_memory};
-use crate::asked::is_not_yet;
-use crate::checking::check_answer;
-use crate::lots::{lot_answer, trial_answer};
-use crate::solving::solve_answer;
-use crate::status::Status;
 use command_words::{Command, WordsError, read_words};
+use dossier_commands::{check_answer, lower_answer, resume_answer};
 use lock_io::{Gate, Source};
+use plan_commands::{judge_answer, play_answer};
+use replan_command::replan_answer;
+use run_answers::{Answer, Status, fixed, no_memory};
+use solve_commands::{lot_answer, solve_answer, trial_answer};
 use std::alloc::Global;
 use std::sync::Wait;
 use std::thread::Threads;
 
-// What is answered to a command that isn't still to come.
+// What is answered to a command.
 fn command_answer<R: Threads + Wait + Sync, S: Source, G: Gate + Sync>(
     rt: &R,
     alloc: Global,
@@ -25,8 +25,7 @@ fn command_answer<R: Threads + Wait + Sync, S: Source, G: Gate + Sync>(
     src: &mut S,
     gate: &G,
 ) -> Answer
-    requires numbers { HasNumbers command.now }
-    requires there { is_not_yet command.now ≡ false }
+    requires { HasNumbers command.now }
     ensures answer { AnswersCommand command.now (drained (S.left src.old) (S.left src.new) (S.faults src.old) (S.faults src.new)) result.status (bytes_in result.text) }
 {
     match command {
@@ -34,11 +33,15 @@ fn command_answer<R: Threads + Wait + Sync, S: Source, G: Gate + Sync>(
         Command::Check => check_answer(alloc, src),
         Command::Lot(options) => lot_answer(alloc, options),
         Command::Trial(options) => trial_answer(rt, alloc, options, gate),
-        _ => refusal(),
+        Command::Judge => judge_answer(alloc, src),
+        Command::Play => play_answer(alloc, src),
+        Command::Replan(options) => replan_answer(rt, alloc, options, src, gate),
+        Command::Lower => lower_answer(alloc, src),
+        Command::Resume(options) => resume_answer(rt, alloc, options, src, gate),
     }
 }
 
-// That the words are refused.
+// That the words are bad.
 fn refusal() -> Answer
     ensures status { result.status ≡ Status.Words }
     ensures text { bytes_in result.text ≡ bad_words_text }
@@ -57,13 +60,7 @@ pub(crate) fn words_answer<R: Threads + Wait + Sync, S: Source, G: Gate + Sync>(
     ensures answer { Answers (map string_bytes words.now) (drained (S.left src.old) (S.left src.new) (S.faults src.old) (S.faults src.new)) result.status (bytes_in result.text) }
 {
     match read_words(alloc, words) {
-        Ok(command) => {
-            if is_not_yet(&command) {
-                refusal()
-            } else {
-                command_answer(rt, alloc, &command, src, gate)
-            }
-        }
+        Ok(command) => command_answer(rt, alloc, &command, src, gate),
         Err(WordsError::Bad) => refusal(),
         Err(WordsError::NoMemory) => no_memory(),
     }

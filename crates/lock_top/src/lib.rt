@@ -1,34 +1,24 @@
 //! The top call: from words and a source of bytes to a sink and a status.
 //!
-//! `run` does what the words ask and writes one text. Its contract says, for each command and status,
-//! what the text is and why it came: with status 0 of `solve` the source was read to its end, its bytes
-//! mean an instance, and the sink got the report of a plan of it that is cheapest over all legal plans,
-//! or with `--dossier` the dossier of such a plan. `written_dossiers_are_accepted` is the law that
-//! `check` accepts what `solve --dossier` wrote.
+//! `run` does what the words ask and writes one text. Its contract is one record of a run, with a clause
+//! for each command and status: with status 0 of `solve` the source was read to its end, its bytes mean
+//! an instance, and the sink got the report of a plan of it that is cheapest over all legal plans, or
+//! with `--dossier` the dossier of such a plan. `written_dossiers_are_accepted` is the law that `check`
+//! accepts what `solve --dossier` wrote.
 //!
-//! Definitions: `specs/Statuses` (the numbers of the statuses), `Texts` (what is written for each),
-//! `DossierTexts` (those of `check`), `Asked` (what the words ask for), `Searching` (what is answered
-//! at the end of a search), `Solving`, `Checking` and `Lots` (what the commands answer), `Answers`
-//! (what a run answers), `Clauses` (what a run did, by command and status, and that it does what is
-//! asked), `Laws` (what a later run on `check` answers).
+//! Definitions: `specs/Clauses` is what to read first: what a run did, by command and status. `Runs` (a
+//! run: its words, source, sink and status), `Asked` (what the words ask for), `Answers` (what a run
+//! answers), `Complete` (what is asked rightly is done), `Laws` (what a later run on `check` answers).
+//! What each command answers stands with the commands, in `solve_commands`, `dossier_commands`,
+//! `plan_commands` and `replan_command`, a file of `specs/` for each.
 #![tactic(auto)]
 
-mod answer;
-mod asked;
-mod checking;
 mod commands;
-mod dossier_texts;
 mod laws;
-mod lots;
-mod reading;
-mod searching;
-mod solving;
-mod status;
 #[cfg(test)]
 mod tests;
-mod texts;
 mod top;
 
 pub use laws::written_dossiers_are_accepted;
-pub use status::Status;
+pub use run_answers::Status;
 pub use top::run;

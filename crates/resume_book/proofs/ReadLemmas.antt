@@ -8,7 +8,7 @@ use Rattle.lock_rules.specs.Node.{root_lines}
 use Rattle.refute_rules.specs.Trees.{AreInOrder}
 use Rattle.search_rules.specs.declared.certificate.Mark.TheVariants as mark
 use Rattle.search_rules.specs.declared.certificate.OpenMark.{OpenMark}
-use Rattle.search_rules.specs.declared.certificate.OpenMark.TheVariants.{Closed, Open}
+use Rattle.search_rules.specs.declared.certificate.OpenMark.TheVariants.{Closed}
 use Rattle.search_rules.specs.declared.certificate.Reason.{Reason}
 use Rattle.search_rules.specs.declared.certificate.Reason.TheVariants as reason
 use Rattle.search_rules.specs.Certificates.{IsMarkTree}

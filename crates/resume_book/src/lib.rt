@@ -5,22 +5,37 @@
 //! is legal and has its cost, and every legal plan costs at least its low: the least of its cost and
 //! the bounds of its open leaves. `check_open` tells whether it stands, and its low, or else the first
 //! place and reason at which it fails; `one_first_open_failure` is the law that there is no other.
-//! `prior` counts the work that an open certificate holds.
+//! `open_certificate_of` gives the open certificate of a book at any time: it stands, and its low is
+//! what the book's verdict says. `print_open` and `read_open` write and read open dossiers, both ways
+//! exactly. `prior` counts the work that an open certificate holds.
 //!
 //! Definitions: `search_rules` has open certificates (`specs/OpenCertificates`), their low (`Low`) and
-//! where one fails first (`Failures`). Here `Proven` says what one proves, `OneFailure` the law,
+//! where one fails first (`Failures`). Here `Proven` says what one proves, `Preorder` and `Certified`
+//! what that of a book is, `OneFailure` the law, `OpenMarks` and `OpenDossier` the text both ways,
 //! `Prior` the work. `Reading` says what is read of a node and of its children.
 #![tactic(auto)]
 
+mod book;
 mod certificate;
 mod checking;
 mod counting;
 mod laws;
+mod marks;
+mod print;
+mod read;
 mod reading;
+#[cfg(test)]
+mod tests;
+mod tree;
+mod value;
 
+pub use book::open_certificate_of;
+pub use cert_text::{BadDossier, DossierError};
 pub use certificate::{OpenAnswer, OpenCertificate, OpenMarks};
 pub use checking::check_open;
 pub use counting::prior;
 pub use laws::one_first_open_failure;
 pub use plain_text::NoMemory;
+pub use print::print_open;
+pub use read::read_open;
 pub use search_rules::{OpenMark, Reason, Spot2};

@@ -25,6 +25,15 @@ fn copied(book: &Book, number: u64) -> Result<Option<Cut>, NoMemory>
     }
 }
 
+// Appends a cut of the book's instance to cuts of it.
+fn add(book: &Book, cuts: &mut CutList, cut: Cut) -> Result<(), NoMemory>
+    requires { IsOwnCut book.now.case.instance cut }
+    ensures { All (IsOwnCut book.now.case.instance) cuts.old → All (IsOwnCut book.now.case.instance) cuts.new }
+{
+    let _ = book;
+    cuts.push(cut)
+}
+
 // Copies of the cuts of a book.
 fn cuts_of(alloc: Global, book: &Book) -> Result<CutList, NoMemory>
     ensures { IfOk result (All (IsOwnCut book.now.case.instance)) }
@@ -32,7 +41,7 @@ fn cuts_of(alloc: Global, book: &Book) -> Result<CutList, NoMemory>
     let mut cuts = CutList::new(alloc);
     for number in 0..u64::MAX {
         match copied(book, number)? {
-            Some(cut) => cuts.push(cut)?,
+            Some(cut) => add(book, &mut cuts, cut)?,
             None => return Ok(cuts),
         }
     }

@@ -7,7 +7,7 @@ use Rattle.search_rules.specs.OpenCertificates.{ClosesOrOpen}
 use Rattle.master_branch.specs.Node.{children}
 use Rattle.cert_check.proofs.TreeLemmas.{not-true}
 use Rattle.resume_book.specs.Reading.{IsStuck}
-use Rattle.resume_book.proofs.ReadLemmas.{bound-read, bound-stuck, child-read, child-stuck, none-read, more-read, more-stuck, split-read, split-stuck, leaf-read, leaf-stuck}
+use Rattle.resume_book.proofs.ReadLemmas.{bound-read, bound-stuck, child-read, child-stuck, more-read, more-stuck, split-read, split-stuck, leaf-read, leaf-stuck}
 use Rattle.resume_book.proofs.reading.+tree.Goals as goal
 
 pub read_child-returns-then-child_reaches-clause-ok : goal.read_child-returns-then-child_reaches-clause-ok

@@ -1,0 +1,3 @@
+pub mod DossierLemmas
+pub mod OpenLemmas
+pub mod CompleteLemmas

@@ -1,0 +1,103 @@
+-- What is answered to the bytes of an open dossier.
+use Rattle.std.proofs.Common.{ℕ, ◌≡◌, ◌≢◌, ◌<◌, ◌≤◌, List, ◌∷◌, sym, subst, refl, inl, inr, arith}
+use Rattle.std.proofs.lemmas.Bool.Decides.{leb_tells}
+use Rattle.lock_model.specs.declared.instance.Instance.{Instance}
+use Rattle.lock_model.specs.declared.plan.Plan.{Plan}
+use Rattle.lock_rules.specs.Plan.{IsCheapest, cost_of}
+use Rattle.search_rules.specs.OpenCertificates.{OpenCertificate, Stands}
+use Rattle.search_rules.proofs.LowLemmas.{least-below}
+use Rattle.command_words.specs.declared.commands.SolveOptions.{SolveOptions}
+use Rattle.run_answers.specs.Sources.{IsFair}
+use Rattle.run_answers.specs.declared.status.Status.{Status}
+use Rattle.run_answers.specs.declared.status.Status.TheVariants.{Good, Open, Words, Refused, ReadFault, WriteFault, NoMemory, BadDossier, Unfit, PlanRefused}
+use Rattle.solve_commands.specs.Searching.{PrintsBest, AnswersSearch}
+use Rattle.solve_commands.specs.Keeping.{PrintsLeft}
+use Rattle.dossier_commands.specs.DossierTexts.{lower_text}
+use Rattle.dossier_commands.specs.OpenDossiers.{IsStanding, HasLow, IsNoStanding}
+use Rattle.dossier_commands.specs.Lowering.{AnswersLower}
+use Rattle.dossier_commands.specs.Resuming.{search_on, AnswersResume}
+
+-- ---- what is answered to bytes that aren't an open dossier that stands
+
+pub lowers_none : (bytes : List ℕ) (s : Status) (text : List ℕ) → IsNoStanding bytes s text → AnswersLower bytes s text
+lowers_none bytes Good text none = absurd none
+lowers_none bytes Open text none = absurd none
+lowers_none bytes Words text none = none
+lowers_none bytes Refused text none = none
+lowers_none bytes ReadFault text none = none
+lowers_none bytes WriteFault text none = none
+lowers_none bytes NoMemory text none = none
+lowers_none bytes BadDossier text none = none
+lowers_none bytes Unfit text none = none
+lowers_none bytes PlanRefused text none = none
+
+pub resumes_none : (options : SolveOptions) (bytes : List ℕ) (s : Status) (text : List ℕ) → IsNoStanding bytes s text → AnswersResume options bytes s text
+resumes_none options bytes Good text none = absurd none
+resumes_none options bytes Open text none = absurd none
+resumes_none options bytes Words text none = none
+resumes_none options bytes Refused text none = none
+resumes_none options bytes ReadFault text none = none
+resumes_none options bytes WriteFault text none = none
+resumes_none options bytes NoMemory text none = none
+resumes_none options bytes BadDossier text none = none
+resumes_none options bytes Unfit text none = none
+resumes_none options bytes PlanRefused text none = none
+
+-- ---- `lower`
+
+-- its low is at most its cost
+low_at_most : (I : Instance) (C : OpenCertificate) (low : ℕ) → HasLow I C low → low ≤ C.cost
+low_at_most I C low has =
+    let lowest = has.lowest in
+    let is = lowest.least in
+    let below = least-below C.cost (C.cost ∷ lowest.bounds) (inl (omega arith)) in
+    omega (arith, is, below)
+
+pub low_answers : (bytes : List ℕ) (I : Instance) (C : OpenCertificate) (low : ℕ) (s : Status) (text : List ℕ) → IsStanding bytes I C → HasLow I C low → (low ≡ C.cost → s ≡ Good) → (low ≢ C.cost → s ≡ Open) → text ≡ lower_text low C.cost → AnswersLower bytes s text
+low_answers bytes I C low s text standing has equal gap shown =
+    elim (leb_tells C.cost low) [
+      | inl high ↦
+          let same : low ≡ C.cost = let most = low_at_most I C low has in let reached = high.1 in omega (arith, most, reached) in
+          let own : HasLow I C C.cost = subst (HasLow I C) same has in
+          subst (λ t. AnswersLower bytes t text) (sym (equal same)) (record { cost = C.cost; printed = record { instance = I; certificate = C; standing = standing; lowest = own; cost_is = refl; shown = subst (λ n. text ≡ lower_text n C.cost) same shown } })
+      | inr less ↦
+          let below : low < C.cost = less.1 in
+          let other : low ≢ C.cost = λ same. absurd (omega (arith, below, same)) in
+          subst (λ t. AnswersLower bytes t text) (sym (gap other)) (record { low = low; cost = C.cost; below = below; printed = record { instance = I; certificate = C; standing = standing; lowest = has; cost_is = refl; shown = shown } })
+    ]
+
+-- `lower` says to bytes neither that words are bad nor that a fault was counted
+pub lower_fair : IsFair AnswersLower
+lower_fair = record {
+  words = λ bytes text says. says;
+  read_fault = λ bytes text says. says;
+  write_fault = λ bytes text says. says;
+  no_memory = λ bytes text says. says;
+}
+
+-- ---- `resume`
+
+-- a cheapest plan costs at most what the certificate's plan costs
+cheapest_within : (I : Instance) (C : OpenCertificate) → Stands I C → (P : Plan) → IsCheapest I P → cost_of I P ≤ C.cost
+cheapest_within I C stands P cheapest = subst (λ cost. cost_of I P ≤ cost) stands.cost (cheapest.least C.plan stands.legal)
+
+pub search_resumes : (options : SolveOptions) (bytes : List ℕ) (I : Instance) (C : OpenCertificate) (s : Status) (text : List ℕ) → IsStanding bytes I C → AnswersSearch (PrintsBest options.dossier) (PrintsLeft options.keep) (search_on options I C) s text → AnswersResume options bytes s text
+search_resumes options bytes I C Good text standing answer = record { instance = I; certificate = C; standing = standing; within = cheapest_within I C standing.stands; best = answer }
+search_resumes options bytes I C Open text standing answer = record { instance = I; certificate = C; standing = standing; left = answer }
+search_resumes options bytes I C Words text standing answer = answer
+search_resumes options bytes I C Refused text standing answer = answer
+search_resumes options bytes I C ReadFault text standing answer = answer
+search_resumes options bytes I C WriteFault text standing answer = answer
+search_resumes options bytes I C NoMemory text standing answer = answer
+search_resumes options bytes I C BadDossier text standing answer = absurd answer
+search_resumes options bytes I C Unfit text standing answer = absurd answer
+search_resumes options bytes I C PlanRefused text standing answer = answer
+
+-- `resume` says to bytes neither that words are bad nor that a fault was counted
+pub resume_fair : (options : SolveOptions) → IsFair (AnswersResume options)
+resume_fair options = record {
+  words = λ bytes text says. says;
+  read_fault = λ bytes text says. says;
+  write_fault = λ bytes text says. says;
+  no_memory = λ bytes text says. says;
+}

@@ -1,0 +1,6 @@
+use Rattle.std.proofs.Common.{All}
+use Rattle.search_rules.specs.Cover.{IsOwnCut}
+use Rattle.dossier_commands.proofs.resuming.own_cuts.Given as goal
+
+abbrev pub invariant-loop-cut : goal.invariant-loop-cut
+invariant-loop-cut l = All (IsOwnCut l.instance) l.own

@@ -1,0 +1,6 @@
+pub mod DossierTexts
+pub mod Checking
+pub mod OpenDossiers
+pub mod Lowering
+pub mod Resuming
+pub mod Completing

@@ -1,0 +1,67 @@
+//! What `lower` answers to a source.
+ghost use Rattle.std.specs.Prelude.{◌≡◌, ◌≢◌};
+ghost use Rattle.run_answers.specs.Sources.{AnswersSource, drained};
+ghost use Rattle.run_answers.specs.Written.{bytes_in};
+ghost use Rattle.dossier_commands.specs.Checking.{dossier_limit};
+ghost use Rattle.dossier_commands.specs.OpenDossiers.{IsStanding, HasLow};
+ghost use Rattle.dossier_commands.specs.Lowering.{AnswersLower};
+
+use crate::checking::LIMIT;
+use crate::dossier_texts::lower_text;
+use crate::standing::{Standing, read_standing};
+use lock_io::Source;
+use plain_text::NoMemory;
+use run_answers::{Answer, Status, Text, no_memory, read_source};
+use std::alloc::Global;
+
+// The status that goes with a low and a cost.
+fn status_of(low: u64, cost: u64) -> Status
+    ensures equal { low ≡ cost → result ≡ Status.Good }
+    ensures gap { low ≢ cost → result ≡ Status.Open }
+{
+    if low == cost {
+        Status::Good
+    } else {
+        Status::Open
+    }
+}
+
+// The low and the cost of a certificate that stands.
+fn low_answer(alloc: Global, bytes: &[u8], standing: &Standing) -> Answer
+    requires standing { IsStanding bytes.now standing.now.instance standing.now.certificate }
+    requires low { HasLow standing.now.instance standing.now.certificate standing.now.low }
+    ensures { AnswersLower bytes.now result.status (bytes_in result.text) }
+{
+    match lower_text(alloc, standing.low, standing.certificate.cost) {
+        Ok(text) => Answer {
+            status: status_of(standing.low, standing.certificate.cost),
+            text: Text::Made(text),
+        },
+        Err(NoMemory) => no_memory(),
+    }
+}
+
+// What is answered to the bytes of an open dossier.
+#[tactic(auto, using(crate::proofs::OpenLemmas::lowers_none))]
+fn dossier_answer(alloc: Global, bytes: &[u8]) -> Answer
+    ensures { AnswersLower bytes.now result.status (bytes_in result.text) }
+{
+    match read_standing(alloc, bytes) {
+        Ok(standing) => low_answer(alloc, bytes, &standing),
+        Err(answer) => answer,
+    }
+}
+
+/// Reads an open dossier to its end, checks its certificate without any search, and answers with its
+/// low and its cost, in minutes: no legal plan costs less than the low. Or says what is refused: too
+/// many bytes, a fault of the dossier, a ship that fits no chamber, or the first failure of the
+/// certificate.
+#[tactic(auto, using(crate::proofs::OpenLemmas::lower_fair, run_answers::proofs::SourceLemmas::bytes_answer, run_answers::proofs::SourceLemmas::unreadable_answers))]
+pub fn lower_answer<S: Source>(alloc: Global, src: &mut S) -> Answer
+    ensures answer { AnswersSource dossier_limit AnswersLower (drained (S.left src.old) (S.left src.new) (S.faults src.old) (S.faults src.new)) result.status (bytes_in result.text) }
+{
+    match read_source(alloc, src, LIMIT) {
+        Ok(bytes) => dossier_answer(alloc, bytes.as_slice()),
+        Err(answer) => answer,
+    }
+}

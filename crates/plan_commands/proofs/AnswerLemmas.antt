@@ -1,0 +1,66 @@
+-- What is answered where the bytes name no legal plan is what each command answers.
+use Rattle.std.proofs.Common.{ℕ, ◌≡◌, ◌⊎◌, List, inl, inr}
+use Rattle.lock_model.specs.declared.instance.Instance.{Instance}
+use Rattle.lock_model.specs.declared.plan.Plan.{Plan}
+use Rattle.instance_text.specs.Reading.{Means, instance_part, after_instance}
+use Rattle.mooring_rules.specs.PlanBreaks.{IsFirstBrokenPlan}
+use Rattle.mooring_rules.specs.declared.breaks.BrokenPlan.{BrokenPlan}
+use Rattle.plan_judge.specs.Reading.{IsPlanFault}
+use Rattle.plan_judge.specs.declared.kinds.PlanKind.{PlanKind}
+use Rattle.plan_texts.specs.FaultTexts.{fault_text}
+use Rattle.plan_texts.specs.BreakTexts.{break_text}
+use Rattle.run_answers.specs.Sources.{IsFair}
+use Rattle.run_answers.specs.declared.status.Status.{Status}
+use Rattle.run_answers.specs.declared.status.Status.TheVariants.{Good, Open, Words, Refused, ReadFault, WriteFault, NoMemory, BadDossier, Unfit, PlanRefused}
+use Rattle.plan_commands.specs.Planned.{IsPlanned, IsFault, IsBreak, AnswersIllegal}
+use Rattle.plan_commands.specs.Judging.{AnswersJudge}
+use Rattle.plan_commands.specs.Playing.{AnswersPlay}
+
+pub judge_illegal : (bytes : List ℕ) (status : Status) (text : List ℕ) → AnswersIllegal bytes status text → AnswersJudge bytes status text
+judge_illegal bytes Good text answer = absurd answer
+judge_illegal bytes Open text answer = answer
+judge_illegal bytes Words text answer = answer
+judge_illegal bytes Refused text answer = answer
+judge_illegal bytes ReadFault text answer = answer
+judge_illegal bytes WriteFault text answer = answer
+judge_illegal bytes NoMemory text answer = answer
+judge_illegal bytes BadDossier text answer = answer
+judge_illegal bytes Unfit text answer = answer
+judge_illegal bytes PlanRefused text answer = answer
+
+-- `judge` says to bytes neither that words are bad nor that a fault was counted
+pub judge_fair : IsFair AnswersJudge
+judge_fair = record {
+  words = λ bytes text says. says;
+  read_fault = λ bytes text says. says;
+  write_fault = λ bytes text says. says;
+  no_memory = λ bytes text says. says;
+}
+
+pub play_illegal : (bytes : List ℕ) (status : Status) (text : List ℕ) → AnswersIllegal bytes status text → AnswersPlay bytes status text
+play_illegal bytes Good text answer = absurd answer
+play_illegal bytes Open text answer = answer
+play_illegal bytes Words text answer = answer
+play_illegal bytes Refused text answer = answer
+play_illegal bytes ReadFault text answer = answer
+play_illegal bytes WriteFault text answer = answer
+play_illegal bytes NoMemory text answer = answer
+play_illegal bytes BadDossier text answer = answer
+play_illegal bytes Unfit text answer = answer
+play_illegal bytes PlanRefused text answer = answer
+
+-- `play` says to bytes neither that words are bad nor that a fault was counted
+pub play_fair : IsFair AnswersPlay
+play_fair = record {
+  words = λ bytes text says. says;
+  read_fault = λ bytes text says. says;
+  write_fault = λ bytes text says. says;
+  no_memory = λ bytes text says. says;
+}
+
+-- a plan is refused by a fault of its text, and by its first break
+pub fault_refuses : (bytes text : List ℕ) (I : Instance) (line : ℕ) (kind : PlanKind) → Means (instance_part bytes) I → IsPlanFault I (after_instance bytes) line kind → text ≡ fault_text line kind → IsFault bytes text ⊎ IsBreak bytes text
+fault_refuses bytes text I line kind means fault shown = inl (record { instance = I; means = means; line = line; kind = kind; fault = fault; shown = shown })
+
+pub break_refuses : (bytes text : List ℕ) (I : Instance) (P : Plan) (broken : BrokenPlan) → IsPlanned bytes I P → IsFirstBrokenPlan I P broken → text ≡ break_text I P broken → IsFault bytes text ⊎ IsBreak bytes text
+break_refuses bytes text I P broken planned first shown = inr (record { instance = I; plan = P; planned = planned; broken = broken; first = first; shown = shown })

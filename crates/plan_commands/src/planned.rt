@@ -1,0 +1,86 @@
+//! Reading an instance and a plan of it.
+ghost use Rattle.std.specs.Prelude.{◌≡◌, IfOk, IfErr};
+ghost use Rattle.instance_text.specs.Reading.{Means, Defect, instance_part, after_instance};
+ghost use Rattle.mooring_rules.specs.PlanBreaks.{IsFirstBrokenPlan};
+ghost use Rattle.plan_judge.specs.Reading.{IsPlanFault};
+ghost use Rattle.run_answers.specs.Written.{bytes_in};
+ghost use Rattle.plan_commands.specs.Planned.{IsPlanned, AnswersIllegal};
+
+use instance_text::{Bad, split_instance};
+use lock_model::{Instance, Plan};
+use mooring_rules::BrokenPlan;
+use plain_text::NoMemory;
+use plan_judge::{BadPlan, read_plan};
+use plan_texts::{break_text, fault_text};
+use run_answers::{Answer, Status, Text, defect_text, no_memory};
+use std::alloc::Global;
+
+/// The most bytes that are read.
+pub(crate) const LIMIT: u64 = 131_072;
+
+// The first defect of the instance part.
+fn defect_answer(alloc: Global, bytes: &[u8], bad: Bad) -> Answer
+    requires { Defect (instance_part bytes.now) bad.line bad.kind }
+    ensures { AnswersIllegal bytes.now result.status (bytes_in result.text) }
+{
+    match defect_text(alloc, bad) {
+        Ok(text) => Answer {
+            status: Status::Refused,
+            text: Text::Made(text),
+        },
+        Err(NoMemory) => no_memory(),
+    }
+}
+
+// The first fault of the plan text.
+#[tactic(auto, using(crate::proofs::AnswerLemmas::fault_refuses))]
+fn fault_answer(alloc: Global, bytes: &[u8], instance: &Instance, bad: BadPlan) -> Answer
+    requires means { Means (instance_part bytes.now) instance.now }
+    requires fault { IsPlanFault instance.now (after_instance bytes.now) bad.line bad.kind }
+    ensures { AnswersIllegal bytes.now result.status (bytes_in result.text) }
+{
+    match fault_text(alloc, bad) {
+        Ok(text) => Answer {
+            status: Status::PlanRefused,
+            text: Text::Made(text),
+        },
+        Err(NoMemory) => no_memory(),
+    }
+}
+
+/// The first break of the plan that the bytes name.
+#[tactic(auto, using(crate::proofs::AnswerLemmas::break_refuses))]
+pub(crate) fn break_answer(
+    alloc: Global,
+    bytes: &[u8],
+    instance: &Instance,
+    plan: &Plan,
+    broken: BrokenPlan,
+) -> Answer
+    requires planned { IsPlanned bytes.now instance.now plan.now }
+    requires first { IsFirstBrokenPlan instance.now plan.now broken }
+    ensures { AnswersIllegal bytes.now result.status (bytes_in result.text) }
+{
+    match break_text(alloc, instance, plan, broken) {
+        Ok(text) => Answer {
+            status: Status::PlanRefused,
+            text: Text::Made(text),
+        },
+        Err(NoMemory) => no_memory(),
+    }
+}
+
+/// The instance and the plan that the bytes name, or what is answered where they name none.
+pub(crate) fn read_planned(alloc: Global, bytes: &[u8]) -> Result<(Instance, Plan), Answer>
+    ensures read { IfOk result (λ r. IsPlanned bytes.now r.0 r.1) }
+    ensures refused { IfErr result (λ answer. AnswersIllegal bytes.now answer.status (bytes_in answer.text)) }
+{
+    let (instance, rest) = match split_instance(bytes) {
+        Ok(split) => split,
+        Err(bad) => return Err(defect_answer(alloc, bytes, bad)),
+    };
+    match read_plan(&instance, rest) {
+        Ok(plan) => Ok((instance, plan)),
+        Err(bad) => Err(fault_answer(alloc, bytes, &instance, bad)),
+    }
+}

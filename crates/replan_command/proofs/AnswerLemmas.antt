@@ -1,0 +1,106 @@
+-- From what is answered where a part can be kept to what is answered to a source.
+use Rattle.std.proofs.Common.{ℕ, ◌≡◌, ◌≢◌, ◌∙◌, List, true, false, sym, subst, inr, refl}
+use Rattle.lock_model.specs.declared.instance.Instance.{Instance}
+use Rattle.lock_model.specs.declared.plan.Plan.{Plan}
+use Rattle.lock_rules.specs.Unfit.{HasNoUnfit}
+use Rattle.instance_text.specs.Reading.{Means, instance_part, after_instance}
+use Rattle.command_words.specs.declared.commands.ReplanOptions.{ReplanOptions}
+use Rattle.plan_judge.specs.Reading.{IsPlanText}
+use Rattle.replan.specs.Kept.{kept_of, CanBeKept}
+use Rattle.replan.specs.Rest.{ships_left}
+use Rattle.run_answers.specs.Sources.{IsFair}
+use Rattle.run_answers.specs.declared.status.Status.{Status}
+use Rattle.run_answers.specs.declared.status.Status.TheVariants.{Good, Open, Words, Refused, ReadFault, WriteFault, NoMemory, BadDossier, Unfit, PlanRefused}
+use Rattle.replan_command.specs.Keeping.{PrintsKeeping, PrintsRestDossier, PrintsBestAs, PrintsBest, prints_dossier}
+use Rattle.replan_command.specs.Replanning.{AnswersKept, AnswersPlan, AnswersBehind, AnswersInstance, AnswersReplan}
+
+-- ---- by what is printed where all is shown
+
+-- an answer that isn't good is answered whatever that is
+pub open_answers : (A B : List ℕ → Type 0) (options : ReplanOptions) (I : Instance) (K : Plan) (status : Status) (text : List ℕ) → status ≢ Good → AnswersKept A options I K status text → AnswersKept B options I K status text
+open_answers A B options I K Good text left answer = absurd (left refl)
+open_answers A B options I K Open text left answer = answer
+open_answers A B options I K Words text left answer = absurd answer
+open_answers A B options I K Refused text left answer = absurd answer
+open_answers A B options I K ReadFault text left answer = absurd answer
+open_answers A B options I K WriteFault text left answer = absurd answer
+open_answers A B options I K NoMemory text left answer = answer
+open_answers A B options I K BadDossier text left answer = absurd answer
+open_answers A B options I K Unfit text left answer = absurd answer
+open_answers A B options I K PlanRefused text left answer = absurd answer
+
+module _ (options : ReplanOptions) (I : Instance) (K : Plan) (status : Status) (text : List ℕ) (rest : prints_dossier options.dossier (ships_left I K) ≡ options.dossier) where
+  pub dossier_asked : true ≡ options.dossier → AnswersKept (PrintsRestDossier I K options.from) options I K status text → AnswersKept (PrintsBest options.dossier I K options.from) options I K status text
+  dossier_asked is answer = subst (λ b. AnswersKept (PrintsBestAs b I K options.from) options I K status text) (is ∙ sym rest) answer
+
+  pub report_asked : false ≡ options.dossier → AnswersKept (PrintsKeeping I K options.from) options I K status text → AnswersKept (PrintsBest options.dossier I K options.from) options I K status text
+  report_asked is answer = subst (λ b. AnswersKept (PrintsBestAs b I K options.from) options I K status text) (is ∙ sym rest) answer
+
+-- ---- from the kept part to the plan, the bytes behind the instance, the instance, and all bytes
+
+pub part_answers : (options : ReplanOptions) (I : Instance) (G : Plan) (status : Status) (text : List ℕ) → CanBeKept I (kept_of G options.from)
+    → AnswersKept (PrintsBest options.dossier I (kept_of G options.from) options.from) options I (kept_of G options.from) status text → AnswersPlan options I G status text
+part_answers options I G Good text can answer = record { can = can; answer = answer }
+part_answers options I G Open text can answer = record { can = can; answer = answer }
+part_answers options I G Words text can answer = absurd answer
+part_answers options I G Refused text can answer = absurd answer
+part_answers options I G ReadFault text can answer = absurd answer
+part_answers options I G WriteFault text can answer = absurd answer
+part_answers options I G NoMemory text can answer = answer
+part_answers options I G BadDossier text can answer = absurd answer
+part_answers options I G Unfit text can answer = absurd answer
+part_answers options I G PlanRefused text can answer = absurd answer
+
+-- the same, where the residual has the kept plan
+pub kept_answers : (options : ReplanOptions) (I : Instance) (G K : Plan) (status : Status) (text : List ℕ) → K ≡ kept_of G options.from → CanBeKept I (kept_of G options.from)
+    → AnswersKept (PrintsBest options.dossier I K options.from) options I K status text → AnswersPlan options I G status text
+kept_answers options I G K status text is can answer = part_answers options I G status text can (subst (λ K. AnswersKept (PrintsBest options.dossier I K options.from) options I K status text) is answer)
+
+pub plan_answers : (options : ReplanOptions) (I : Instance) (bytes : List ℕ) (G : Plan) (status : Status) (text : List ℕ) → IsPlanText I bytes G → AnswersPlan options I G status text → AnswersBehind options I bytes status text
+plan_answers options I bytes G Good text is answer = record { plan = G; is_text = is; answer = answer }
+plan_answers options I bytes G Open text is answer = record { plan = G; is_text = is; answer = answer }
+plan_answers options I bytes G Words text is answer = answer
+plan_answers options I bytes G Refused text is answer = answer
+plan_answers options I bytes G ReadFault text is answer = answer
+plan_answers options I bytes G WriteFault text is answer = answer
+plan_answers options I bytes G NoMemory text is answer = answer
+plan_answers options I bytes G BadDossier text is answer = answer
+plan_answers options I bytes G Unfit text is answer = answer
+plan_answers options I bytes G PlanRefused text is answer = inr (record { plan = G; is_text = is; answer = answer })
+
+pub behind_answers : (options : ReplanOptions) (I : Instance) (bytes : List ℕ) (status : Status) (text : List ℕ) → HasNoUnfit I → AnswersBehind options I bytes status text → AnswersInstance options I bytes status text
+behind_answers options I bytes Good text fit answer = record { fit = fit; answer = answer }
+behind_answers options I bytes Open text fit answer = record { fit = fit; answer = answer }
+behind_answers options I bytes Words text fit answer = answer
+behind_answers options I bytes Refused text fit answer = answer
+behind_answers options I bytes ReadFault text fit answer = answer
+behind_answers options I bytes WriteFault text fit answer = answer
+behind_answers options I bytes NoMemory text fit answer = answer
+behind_answers options I bytes BadDossier text fit answer = answer
+behind_answers options I bytes Unfit text fit answer = absurd answer
+behind_answers options I bytes PlanRefused text fit answer = record { fit = fit; answer = answer }
+
+pub answers_meant : (options : ReplanOptions) (I : Instance) (bytes behind : List ℕ) (status : Status) (text : List ℕ) → Means (instance_part bytes) I → behind ≡ after_instance bytes
+    → AnswersInstance options I behind status text → AnswersReplan options bytes status text
+answers_meant options I bytes behind status text means is answer = by_status status (subst (λ behind. AnswersInstance options I behind status text) is answer)
+  where
+    by_status : (status : Status) → AnswersInstance options I (after_instance bytes) status text → AnswersReplan options bytes status text
+    by_status Good answer = record { instance = I; means = means; answer = answer }
+    by_status Open answer = record { instance = I; means = means; answer = answer }
+    by_status Words answer = answer
+    by_status Refused answer = absurd answer
+    by_status ReadFault answer = answer
+    by_status WriteFault answer = answer
+    by_status NoMemory answer = answer
+    by_status BadDossier answer = answer
+    by_status Unfit answer = record { instance = I; means = means; answer = answer }
+    by_status PlanRefused answer = record { instance = I; means = means; answer = answer }
+
+-- `replan` says to bytes neither that words are bad nor that a fault was counted
+pub replan_fair : (options : ReplanOptions) → IsFair (AnswersReplan options)
+replan_fair options = record {
+  words = λ bytes text says. says;
+  read_fault = λ bytes text says. says;
+  write_fault = λ bytes text says. says;
+  no_memory = λ bytes text says. says;
+}

@@ -1,0 +1,164 @@
+-- Where nothing is refused, a part is kept and the rest is searched.
+use Rattle.std.proofs.Common.{ℕ, ◌≡◌, ◌⊎◌, ◌<◌, List, length, subst, ap, inl, inr, arith, Ok, Err, Result}
+use Rattle.std.specs.Prelude.{IfSome}
+use Rattle.lock_model.specs.declared.instance.Instance.{Instance}
+use Rattle.lock_model.specs.declared.plan.Plan.{Plan}
+use Rattle.lock_model.specs.declared.verdict.Verdict.TheVariants.{Optimal, OpenNodes, OpenTurns}
+use Rattle.lock_rules.specs.Singles.{singles_of}
+use Rattle.lock_rules.specs.Unfit.{IsFirstUnfit}
+use Rattle.search_rules.proofs.CompleteLemmas.{enough-optimal}
+use Rattle.instance_text.specs.Draft.{Draft}
+use Rattle.instance_text.specs.Reading.{Means, Defect, reading, bad, instance_part, after_instance}
+use Rattle.instance_text.specs.declared.bad.Kind.{Kind}
+use Rattle.instance_text.proofs.InstanceLemmas.{same_instance}
+use Rattle.command_words.specs.declared.commands.ReplanOptions.{ReplanOptions}
+use Rattle.plan_judge.specs.declared.kinds.PlanKind.{PlanKind}
+use Rattle.plan_judge.specs.Reading.{IsPlanText, IsPlanFault, reading as plan_reading}
+use Rattle.plan_judge.specs.Steps.{bad as bad_plan}
+use Rattle.replan.specs.declared.refusal.ReplanError.{ReplanError}
+use Rattle.replan.specs.declared.refusal.ReplanError.TheVariants.{Kept, Late}
+use Rattle.replan.specs.Kept.{kept_of, kept_places, CanBeKept}
+use Rattle.replan.specs.PartBreaks.{IsRefusal}
+use Rattle.replan.proofs.PartLemmas.{IsFirstBrokenPart-illegal, IsFirstLate-unkept}
+use Rattle.run_answers.specs.Sources.{Drained, IsTooLong, AnswersBytes, AnswersSource}
+use Rattle.run_answers.specs.declared.status.Status.{Status}
+use Rattle.run_answers.specs.declared.status.Status.TheVariants.{Good, Open, Words, Refused, ReadFault, WriteFault, NoMemory, BadDossier, Unfit, PlanRefused}
+use Rattle.replan_command.specs.Keeping.{PrintsOpen}
+use Rattle.replan_command.specs.Replanning.{replan_limit, AnswersPlanText, IsPartRefused, IsPlanTextFault, AnswersReplan}
+use Rattle.replan_command.specs.Ends.{IsReplanServed, IsRestUnsure, MayEndReplan}
+
+-- ---- bytes mean one instance and one plan, and then have no defect and no fault
+
+abbrev draft_of : Instance → Draft
+draft_of I = record { chambers = I.chambers; ships = I.ships }
+
+reads : (bytes : List ℕ) (I : Instance) → Means bytes I → reading bytes ≡ Ok (draft_of I)
+unfolding Means
+reads bytes I means = means
+
+refuses : (bytes : List ℕ) (line : ℕ) (kind : Kind) → Defect bytes line kind → reading bytes ≡ Err (bad line kind)
+unfolding Defect
+refuses bytes line kind defect = defect
+
+plan_reads : (I : Instance) (bytes : List ℕ) (P : Plan) → IsPlanText I bytes P → plan_reading I bytes ≡ Ok P.lockages
+unfolding IsPlanText
+plan_reads I bytes P is = is
+
+plan_refuses : (I : Instance) (bytes : List ℕ) (line : ℕ) (kind : PlanKind) → IsPlanFault I bytes line kind → plan_reading I bytes ≡ Err (bad_plan line kind)
+unfolding IsPlanFault
+plan_refuses I bytes line kind fault = fault
+
+one_ok : {A E : Type 0} (r : Result A E) (a b : A) → r ≡ Ok a → r ≡ Ok b → a ≡ b
+one_ok r a b e f = cc
+
+not_both : {A E : Type 0} (r : Result A E) (a : A) (e : E) → r ≡ Ok a → r ≡ Err e → ⊥
+not_both r a e is isnt = cc
+
+one_instance : (bytes : List ℕ) (I J : Instance) → Means bytes I → Means bytes J → I ≡ J
+one_instance bytes I J first second =
+    let same = one_ok (reading bytes) (draft_of I) (draft_of J) (reads bytes I first) (reads bytes J second) in
+    same_instance I J (ap (λ (d : Draft). d.chambers) same) (ap (λ (d : Draft). d.ships) same)
+
+one_plan : (I : Instance) (bytes : List ℕ) (P Q : Plan) → IsPlanText I bytes P → IsPlanText I bytes Q → P ≡ Q
+one_plan I bytes P Q first second =
+    let same : P.lockages ≡ Q.lockages = one_ok (plan_reading I bytes) P.lockages Q.lockages (plan_reads I bytes P first) (plan_reads I bytes Q second) in
+    λ i. record { lockages = same i }
+
+-- ---- a search ends open only where its nodes or turns aren't surely enough
+
+nodes_open : (used low : ℕ) → OpenNodes used low ≡ Optimal → ⊥
+nodes_open used low e = cc
+
+turns_open : (chamber : ℕ) (ships : List ℕ) (turns low : ℕ) → OpenTurns chamber ships turns low ≡ Optimal → ⊥
+turns_open chamber ships turns low e = cc
+
+open_unsure : (options : ReplanOptions) (I : Instance) (K : Plan) (text : List ℕ) → PrintsOpen options.nodes options.turns I K options.from text → IsRestUnsure options I K
+open_unsure options I K text (inl n) = record {
+  rest = n.rest;
+  is_rest = n.together.is_rest;
+  unsure = λ enough. nodes_open n.used n.low (enough-optimal n.rest options.nodes options.turns (singles_of n.rest) n.found (OpenNodes n.used n.low) enough n.left);
+}
+open_unsure options I K text (inr t) = record {
+  rest = t.rest;
+  is_rest = t.together.is_rest;
+  unsure = λ enough. turns_open t.chamber t.ships t.spent t.low (enough-optimal t.rest options.nodes options.turns (singles_of t.rest) t.found (OpenTurns t.chamber t.ships t.spent t.low) enough t.left);
+}
+
+-- what can be kept isn't refused
+not_part_refused : (I : Instance) (K : Plan) (places : List ℕ) (error : ReplanError) → IsRefusal I K places error → CanBeKept I K → ⊥
+not_part_refused I K places (Kept broken) refusal can = IsFirstBrokenPart-illegal I K refusal.0 refusal.1 can.legal
+not_part_refused I K places (Late p) refusal can = IsFirstLate-unkept I K refusal.0 refusal.2 can
+
+-- ---- `replan` over a source that is served
+
+module _ (options : ReplanOptions) (source : Drained) (I : Instance) (G : Plan) (served : IsReplanServed source options.from I G) where
+  read_is : (status : Status) (text : List ℕ) (read : AnswersBytes replan_limit (AnswersReplan options) source status text) → read.bytes ≡ served.bytes
+  read_is status text read = subst (λ left. IfSome left (λ bytes. read.bytes ≡ bytes)) served.told read.read.all
+
+  -- the bytes that were read mean this instance alone
+  same_read : (J : Instance) (bytes : List ℕ) → bytes ≡ served.bytes → Means (instance_part bytes) J → J ≡ I
+  same_read J bytes is means = one_instance (instance_part served.bytes) J I (subst (λ bytes. Means (instance_part bytes) J) is means) served.means
+
+  -- and this plan alone
+  same_planned : (J : Instance) (bytes : List ℕ) (P : Plan) → bytes ≡ served.bytes → J ≡ I → IsPlanText J (after_instance bytes) P → P ≡ G
+  same_planned J bytes P is same text =
+      one_plan I (after_instance served.bytes) P G (subst (λ J. IsPlanText J (after_instance served.bytes) P) same (subst (λ bytes. IsPlanText J (after_instance bytes) P) is text)) served.planned
+
+  left_ends : (text : List ℕ) → AnswersBytes replan_limit (AnswersReplan options) source Open text → IsRestUnsure options I (kept_of G options.from)
+  left_ends text read =
+      let told = read.answer in
+      let is = read_is Open text read in
+      let same = same_read told.instance read.bytes is told.means in
+      let planned = told.answer.answer in
+      let plan = same_planned told.instance read.bytes planned.plan is same planned.is_text in
+      subst (λ P. IsRestUnsure options I (kept_of P options.from)) plan
+      (subst (λ J. IsRestUnsure options J (kept_of planned.plan options.from)) same (open_unsure options told.instance (kept_of planned.plan options.from) text planned.answer.answer))
+
+  -- the named ship fits some chamber
+  not_unfit : (text : List ℕ) → AnswersBytes replan_limit (AnswersReplan options) source Unfit text → ⊥
+  not_unfit text read =
+      let told = read.answer in
+      let same = same_read told.instance read.bytes (read_is Unfit text read) told.means in
+      let first : IsFirstUnfit I told.answer.ship = subst (λ J. IsFirstUnfit J told.answer.ship) same told.answer.first in
+      let fits = served.fit.fit told.answer.ship first.known in
+      first.unfit fits.chamber fits.known fits.fits
+
+  -- there are few bytes, and their instance has no defect
+  not_refused : (text : List ℕ) → IsTooLong replan_limit source text ⊎ AnswersBytes replan_limit (AnswersReplan options) source Refused text → ⊥
+  not_refused text (inl long) =
+      let many : replan_limit < length served.bytes = subst (λ left. IfSome left (λ bytes. replan_limit < length bytes)) served.told long.long in
+      let few = served.few in
+      absurd (omega (arith, many, few))
+  not_refused text (inr read) =
+      let told = read.answer in
+      let defect = subst (λ bytes. Defect (instance_part bytes) told.line told.kind) (read_is Refused text read) told.defect in
+      not_both (reading (instance_part served.bytes)) (draft_of I) (bad told.line told.kind) (reads (instance_part served.bytes) I served.means) (refuses (instance_part served.bytes) told.line told.kind defect)
+
+  -- the plan text has no fault, and its kept part is kept
+  no_fault : (text : List ℕ) (J : Instance) (bytes : List ℕ) → bytes ≡ served.bytes → J ≡ I → IsPlanTextFault J (after_instance bytes) text ⊎ AnswersPlanText options J (after_instance bytes) PlanRefused text → ⊥
+  no_fault text J bytes is same (inl bad) =
+      let fault = subst (λ J. IsPlanFault J (after_instance served.bytes) bad.line bad.kind) same (subst (λ bytes. IsPlanFault J (after_instance bytes) bad.line bad.kind) is bad.fault) in
+      not_both (plan_reading I (after_instance served.bytes)) G.lockages (bad_plan bad.line bad.kind) (plan_reads I (after_instance served.bytes) G served.planned) (plan_refuses I (after_instance served.bytes) bad.line bad.kind fault)
+  no_fault text J bytes is same (inr planned) =
+      let plan = same_planned J bytes planned.plan is same planned.is_text in
+      let refused : IsPartRefused I G options.from text = subst (λ P. IsPartRefused I P options.from text) plan (subst (λ J. IsPartRefused J planned.plan options.from text) same planned.answer) in
+      not_part_refused I (kept_of G options.from) (kept_places G options.from) refused.error refused.refusal served.can
+
+  not_plan_refused : (text : List ℕ) → AnswersBytes replan_limit (AnswersReplan options) source PlanRefused text → ⊥
+  not_plan_refused text read =
+      let told = read.answer in
+      let is = read_is PlanRefused text read in
+      no_fault text told.instance read.bytes is (same_read told.instance read.bytes is told.means) told.answer.answer
+
+  -- WHERE NOTHING IS REFUSED, `replan` ENDS WITH A CHEAPEST PLAN, OPEN, OR WANT OF MEMORY.
+  pub replan_ends : (status : Status) (text : List ℕ) → AnswersSource replan_limit (AnswersReplan options) source status text → MayEndReplan options I (kept_of G options.from) status
+  replan_ends Good text answer = tt
+  replan_ends Open text answer = left_ends text answer
+  replan_ends Words text answer = answer
+  replan_ends Refused text answer = not_refused text answer
+  replan_ends ReadFault text answer = served.calm answer.rose
+  replan_ends WriteFault text answer = answer
+  replan_ends NoMemory text answer = tt
+  replan_ends BadDossier text answer = answer.answer
+  replan_ends Unfit text answer = not_unfit text answer
+  replan_ends PlanRefused text answer = not_plan_refused text answer

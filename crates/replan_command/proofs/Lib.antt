@@ -1,0 +1,4 @@
+pub mod RestLemmas
+pub mod KeepingLemmas
+pub mod AnswerLemmas
+pub mod EndsLemmas

@@ -1,0 +1,46 @@
+-- How replanning ends where nothing is refused.
+use Rattle.std.specs.Prelude.{ℕ, ◌≡◌, ◌≤◌, List, length, Some, ⊤}
+use Rattle.lock_io.specs.Faults.{Rose}
+use Rattle.lock_model.specs.declared.instance.Instance.{Instance}
+use Rattle.lock_model.specs.declared.plan.Plan.{Plan}
+use Rattle.lock_rules.specs.Unfit.{HasNoUnfit}
+use Rattle.search_rules.specs.Ends.{AreEnough}
+use Rattle.instance_text.specs.Reading.{Means, instance_part, after_instance}
+use Rattle.command_words.specs.declared.commands.ReplanOptions.{ReplanOptions}
+use Rattle.plan_judge.specs.Reading.{IsPlanText}
+use Rattle.replan.specs.Kept.{kept_of, CanBeKept}
+use Rattle.replan.specs.Rest.{IsRest}
+use Rattle.run_answers.specs.Sources.{Drained}
+use Rattle.run_answers.specs.declared.status.Status.{Status}
+use Rattle.run_answers.specs.declared.status.Status.TheVariants.{Good, Open, Words, Refused, ReadFault, WriteFault, NoMemory, BadDossier, Unfit, PlanRefused}
+use Rattle.replan_command.specs.Replanning.{replan_limit}
+
+-- The source tells its bytes, which are at most `replan_limit`, mean this instance without an unfit ship and then this plan, whose lockages before minute M can be kept; and it counts no fault.
+pub record IsReplanServed (source : Drained) (M : ℕ) (I : Instance) (G : Plan) : Type 0 where
+  pub bytes : List ℕ
+  pub told : source.before ≡ Some bytes
+  pub few : length bytes ≤ replan_limit
+  pub means : Means (instance_part bytes) I
+  pub fit : HasNoUnfit I
+  pub planned : IsPlanText I (after_instance bytes) G
+  pub can : CanBeKept I (kept_of G M)
+  pub calm : ¬ Rose source.faults source.faults_after
+
+-- a rest is left for which the nodes or turns aren't surely enough
+pub record IsRestUnsure (options : ReplanOptions) (I : Instance) (K : Plan) : Type 0 where
+  pub rest : Instance
+  pub is_rest : IsRest I K options.from rest
+  pub unsure : ¬ AreEnough rest options.nodes options.turns
+
+-- how replanning may end: open only where the nodes or turns aren't surely enough for the rest
+abbrev pub MayEndReplan : ReplanOptions → Instance → Plan → Status → Type 0
+MayEndReplan options I K Good = ⊤
+MayEndReplan options I K Open = IsRestUnsure options I K
+MayEndReplan options I K Words = ⊥
+MayEndReplan options I K Refused = ⊥
+MayEndReplan options I K ReadFault = ⊥
+MayEndReplan options I K WriteFault = ⊥
+MayEndReplan options I K NoMemory = ⊤
+MayEndReplan options I K BadDossier = ⊥
+MayEndReplan options I K Unfit = ⊥
+MayEndReplan options I K PlanRefused = ⊥

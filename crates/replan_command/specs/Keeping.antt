@@ -1,0 +1,86 @@
+-- What is printed where a kept part can be kept: K is the kept plan of an instance I, and M the minute from which ships are planned anew.
+use Rattle.std.specs.Prelude.{ℕ, ◌≡◌, ◌+◌, ◌≤◌, ◌⊎◌, Bool, true, false, List, [], ◌∷◌, map}
+use Rattle.lock_model.specs.declared.instance.Instance.{Instance}
+use Rattle.lock_model.specs.declared.plan.Plan.{Plan}
+use Rattle.lock_model.specs.declared.verdict.Verdict.{Verdict}
+use Rattle.lock_model.specs.declared.verdict.Verdict.TheVariants.{Optimal, OpenNodes, OpenTurns}
+use Rattle.lock_rules.specs.Plan.{IsLegal, cost_of}
+use Rattle.lock_rules.specs.Singles.{singles_of}
+use Rattle.search_rules.specs.Ends.{IsOpenNodes, IsOpenTurns}
+use Rattle.plan_print.specs.Report.{report}
+use Rattle.replan.specs.Rest.{ships_left, added_of, IsRest}
+use Rattle.replan.specs.Together.{number_of, joined, Keeps}
+use Rattle.solve_commands.specs.Searching.{PrintsDossier}
+
+-- legal, keeps the kept plan, and no legal plan that keeps it costs less
+pub record IsCheapestKeeping (I : Instance) (K : Plan) (M : ℕ) (P : Plan) : Type 0 where
+  pub legal : IsLegal I P
+  pub keeps : Keeps K M P
+  pub least : (Q : Plan) → IsLegal I Q → Keeps K M Q → cost_of I P ≤ cost_of I Q
+
+-- such a plan is printed as optimal
+pub record PrintsKeeping (I : Instance) (K : Plan) (M : ℕ) (text : List ℕ) : Type 0 where
+  pub plan : Plan
+  pub cheapest : IsCheapestKeeping I K M plan
+  pub shown : text ≡ report I plan Optimal
+
+-- The dossier of the rest is printed. Its plan is cheapest for the rest, so put together with the kept plan it is cheapest of those that keep that.
+pub record PrintsRestDossier (I : Instance) (K : Plan) (M : ℕ) (text : List ℕ) : Type 0 where
+  pub rest : Instance
+  pub is_rest : IsRest I K M rest
+  pub prints : PrintsDossier rest text
+  pub cheapest : IsCheapestKeeping I K M (joined K (ships_left I K) prints.certificate.plan)
+
+abbrev pub PrintsBestAs : Bool → Instance → Plan → ℕ → List ℕ → Type 0
+PrintsBestAs true I K M text = PrintsRestDossier I K M text
+PrintsBestAs false I K M text = PrintsKeeping I K M text
+
+-- a dossier is printed where one is asked for and ships are left
+abbrev pub prints_dossier : Bool → List ℕ → Bool
+prints_dossier asked [] = false
+prints_dossier asked (ship ∷ ships) = asked
+
+-- what is printed where all is shown: the report of the whole plan, or the dossier of the rest
+abbrev pub PrintsBest : Bool → Instance → Plan → ℕ → List ℕ → Type 0
+PrintsBest asked I K M text = PrintsBestAs (prints_dossier asked (ships_left I K)) I K M text
+
+-- P is the plan Q of the rest R put together with the kept plan
+pub record IsPutTogether (I : Instance) (K : Plan) (M : ℕ) (R : Instance) (Q P : Plan) : Type 0 where
+  pub is_rest : IsRest I K M R
+  pub same : P ≡ joined K (ships_left I K) Q
+  pub legal : IsLegal I P
+  pub keeps : Keeps K M P
+  pub cost : cost_of I P ≡ cost_of R Q + added_of I K M
+
+-- What was shown of a plan of the rest, said of the whole plan: `ns` are the numbers in the instance of the ships of the rest, and the whole plan costs so much more.
+abbrev pub in_whole : List ℕ → ℕ → Verdict → Verdict
+in_whole ns added Optimal = Optimal
+in_whole ns added (OpenNodes used low) = OpenNodes used (low + added)
+in_whole ns added (OpenTurns chamber ships turns low) = OpenTurns chamber (map (number_of ns) ships) turns (low + added)
+
+-- a plan is printed as open, for all nodes of the search of the rest were used
+pub record PrintsOpenNodes (nodes : ℕ) (I : Instance) (K : Plan) (M : ℕ) (text : List ℕ) : Type 0 where
+  pub rest : Instance
+  pub found : Plan
+  pub plan : Plan
+  pub together : IsPutTogether I K M rest found plan
+  pub used : ℕ
+  pub low : ℕ
+  pub left : IsOpenNodes rest nodes (singles_of rest) found used low
+  pub shown : text ≡ report I plan (in_whole (ships_left I K) (added_of I K M) (OpenNodes used low))
+
+-- a plan is printed as open, for the turns of the search of the rest were spent on the named ships
+pub record PrintsOpenTurns (turns : ℕ) (I : Instance) (K : Plan) (M : ℕ) (text : List ℕ) : Type 0 where
+  pub rest : Instance
+  pub found : Plan
+  pub plan : Plan
+  pub together : IsPutTogether I K M rest found plan
+  pub chamber : ℕ
+  pub ships : List ℕ
+  pub spent : ℕ
+  pub low : ℕ
+  pub left : IsOpenTurns rest turns (singles_of rest) found chamber ships spent low
+  pub shown : text ≡ report I plan (in_whole (ships_left I K) (added_of I K M) (OpenTurns chamber ships spent low))
+
+abbrev pub PrintsOpen : ℕ → ℕ → Instance → Plan → ℕ → List ℕ → Type 0
+PrintsOpen nodes turns I K M text = PrintsOpenNodes nodes I K M text ⊎ PrintsOpenTurns turns I K M text

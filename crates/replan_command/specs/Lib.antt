@@ -1,0 +1,5 @@
+pub mod Options
+pub mod Keeping
+pub mod Searches
+pub mod Replanning
+pub mod Ends

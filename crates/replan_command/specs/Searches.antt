@@ -1,0 +1,30 @@
+-- What is left to be searched, and a search of it that ended well.
+use Rattle.std.specs.Prelude.{ℕ, ◌≡◌, ◌+◌, ◌<◌, List, length, All, ⊤}
+use Rattle.lock_model.specs.declared.instance.Instance.{Instance}
+use Rattle.lock_model.specs.declared.plan.Plan.{Plan}
+use Rattle.lock_model.specs.declared.verdict.Verdict.{Verdict}
+use Rattle.lock_model.specs.declared.verdict.Verdict.TheVariants.{Optimal, OpenNodes, OpenTurns}
+use Rattle.lock_rules.specs.Singles.{singles_of}
+use Rattle.command_words.specs.declared.commands.ReplanOptions.{ReplanOptions}
+use Rattle.search_rules.specs.Book.{Book}
+use Rattle.search_rules.specs.Ends.{EndsWell}
+use Rattle.replan.specs.declared.remainder.Residual.{Residual}
+use Rattle.replan.specs.Kept.{kept_of}
+use Rattle.replan.specs.Rest.{IsLeft}
+
+-- what is left of the instance once a plan's lockages before minute M are kept
+pub record IsLeftOf (I : Instance) (M : ℕ) (r : Residual) : Type 0 where
+  pub given : Plan
+  pub left : IsLeft I (kept_of given M) M r
+
+-- a search with the nodes and turns that are asked for ended well
+pub record HasSearched (options : ReplanOptions) (b : Book) : Type 0 where
+  pub nodes : b.case.nodes ≡ options.nodes
+  pub turns : b.case.turns ≡ options.turns
+  pub well : EndsWell (singles_of b.case.instance) b
+
+-- the ships that the verdict names have numbers, and its lower bound stays below `bound` when it is raised
+abbrev pub IsToldBelow : ℕ → List ℕ → ℕ → Verdict → Type 0
+IsToldBelow bound ns added Optimal = ⊤
+IsToldBelow bound ns added (OpenNodes used low) = low + added < bound
+IsToldBelow bound ns added (OpenTurns chamber ships turns low) = All (λ s. s < length ns) ships × (low + added < bound)

@@ -1,0 +1,36 @@
+-- The slots of a book in preorder of the tree that they make, and their marks.
+use Rattle.std.specs.Prelude.{ℕ, zero, suc, List, [], ◌∷◌, length}
+use Rattle.std.specs.List.{flat_map}
+use Rattle.search_rules.specs.declared.book.SlotState.{SlotState}
+use Rattle.search_rules.specs.declared.book.SlotState.TheVariants as slot
+use Rattle.search_rules.specs.declared.certificate.Mark.TheVariants as mark
+use Rattle.search_rules.specs.declared.certificate.OpenMark.{OpenMark}
+use Rattle.search_rules.specs.declared.certificate.OpenMark.TheVariants.{Closed, Open}
+use Rattle.search_rules.specs.Book.{Book, slot_at}
+use Rattle.book_certificate.specs.Preorder.{children_from}
+
+-- the mark of a slot by its state; a slot that is open, held or parked is an open leaf
+abbrev pub open_mark : SlotState → OpenMark
+open_mark (slot.Split first) = Closed mark.Split
+open_mark slot.ByBound = Closed mark.Bound
+open_mark (slot.ByCut number) = Closed (mark.Cut number)
+open_mark slot.ByThroughput = Closed mark.Throughput
+open_mark (slot.ByProbe s) = Closed (mark.Probe s)
+open_mark _ = Open
+
+abbrev pub mark_at : Book → ℕ → OpenMark
+mark_at b id = open_mark (slot_at b id).state
+
+-- the children of slot `id` in order, by its state; only a split slot has some
+abbrev pub children_slots : Book → ℕ → SlotState → List ℕ
+children_slots b id (slot.Split first) = children_from b id first
+children_slots b id _ = []
+
+-- slot `id` and all slots below it, each slot before its children and these in order; so many ships are lacking at most
+abbrev pub preorder : Book → ℕ → ℕ → List ℕ
+preorder b zero id = id ∷ []
+preorder b (suc lacking) id = id ∷ flat_map (preorder b lacking) (children_slots b id (slot_at b id).state)
+
+-- all slots, from the root on
+abbrev pub slots_in_order : Book → List ℕ
+slots_in_order b = preorder b (length b.case.instance.ships) 0

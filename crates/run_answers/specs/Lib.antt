@@ -1,0 +1,5 @@
+pub mod Statuses
+pub mod Texts
+pub mod Written
+pub mod Sources
+pub mod Refusals

@@ -1,0 +1,116 @@
+-- What a search that ended well shows, and what is answered to it.
+use Rattle.std.proofs.Common.{ℕ, Bool, true, false, ◌≡◌, ◌≢◌, ◌<◌, refl, List, length, sym, ap, subst, ◌∙◌, inl, inr, All}
+use Rattle.std.proofs.lemmas.List.Elements.{All-contains}
+use Rattle.lock_model.specs.declared.instance.Instance.{Instance}
+use Rattle.lock_model.specs.declared.group.Group.{Group}
+use Rattle.lock_model.specs.declared.plan.Plan.{Plan}
+use Rattle.lock_model.specs.declared.verdict.Verdict.{Verdict}
+use Rattle.lock_model.specs.declared.verdict.Verdict.TheVariants.{Optimal, OpenNodes, OpenTurns}
+use Rattle.lock_rules.specs.Node.{line_at}
+use Rattle.lock_rules.specs.Singles.{singles_of}
+use Rattle.lock_rules.proofs.NodeLemmas.{line-known}
+use Rattle.search_rules.specs.Book.{Book}
+use Rattle.search_rules.specs.Verdict.{verdict_of}
+use Rattle.search_rules.specs.Ends.{EndsWell, IsEnd}
+use Rattle.search_rules.specs.Certificates.{Certificate, Accepts}
+use Rattle.search_rules.specs.WellFormed.{IsWellFormed}
+use Rattle.search_rules.proofs.AcceptLemmas.{accepted-cheapest}
+use Rattle.search_rules.proofs.EndLemmas.{ends}
+use Rattle.cert_text.specs.Dossier.{dossier, Reads}
+use Rattle.book_core.specs.Keeps.{IsSound}
+use Rattle.book_core.proofs.SoundLemmas.{laws}
+use Rattle.plan_print.specs.Report.{IsOfInstance, report}
+use Rattle.run_answers.specs.declared.status.Status.{Status}
+use Rattle.run_answers.specs.declared.status.Status.TheVariants.{Good, Open, Words, Refused, ReadFault, WriteFault, NoMemory, BadDossier, Unfit, PlanRefused}
+use Rattle.solve_commands.specs.Searching.{Search, Print, PrintsOptimal, PrintsDossier, PrintsBest, PrintsOpen, NoBest, NoLeft, AnswersSearch, status_of}
+use Rattle.solve_commands.specs.Keeping.{PrintsKept, PrintsLeft}
+
+-- what the book of a search that ended well shows
+pub book_ends : (b : Book) (limit : ℕ) (V : Verdict) → V ≡ verdict_of b → IsSound b → EndsWell limit b → IsEnd b.case.instance b.case.nodes b.case.turns limit b.best V
+book_ends b limit V is sound well =
+    subst (IsEnd b.case.instance b.case.nodes b.case.turns limit b.best) (sym is) (ends b (laws b.case.instance) sound.keeps sound.parts limit well)
+
+-- the chamber and the ships that it names are in the instance
+pub end_known : (I : Instance) (nodes turns limit : ℕ) (P : Plan) (V : Verdict) → IsEnd I nodes turns limit P V → IsOfInstance I V
+end_known I nodes turns limit P Optimal end = tt
+end_known I nodes turns limit P (OpenNodes used low) end = tt
+end_known I nodes turns limit P (OpenTurns chamber ships given low) end =
+    let named = end.named in
+    let known = All-contains (λ (g : Group). All (λ s. s < length I.ships) g.ships) (line_at named.lines chamber) named.group.group (line-known I named.depth named.lines named.node chamber) named.group.held in
+    (named.group.known, subst (All (λ s. s < length I.ships)) named.group.same known)
+
+-- the answer that prints it
+pub end_answers : (print : Print) (k : Search) (P : Plan) (V : Verdict) (status : Status) (text : List ℕ)
+    → IsEnd k.instance k.nodes k.turns k.limit P V → status ≡ status_of V → text ≡ print k.instance P V → AnswersSearch (PrintsOptimal print) (PrintsOpen print) k status text
+end_answers print k P Optimal status text end is shown =
+    subst (λ s. AnswersSearch (PrintsOptimal print) (PrintsOpen print) k s text) (sym is) (record { plan = P; cheapest = end.cheapest; shown = shown })
+end_answers print k P (OpenNodes used low) status text end is shown =
+    subst (λ s. AnswersSearch (PrintsOptimal print) (PrintsOpen print) k s text) (sym is) (inl (record { plan = P; used = used; low = low; left = end; shown = shown }))
+end_answers print k P (OpenTurns chamber ships given low) status text end is shown =
+    subst (λ s. AnswersSearch (PrintsOptimal print) (PrintsOpen print) k s text) (sym is) (inr (record { plan = P; chamber = chamber; ships = ships; spent = given; low = low; left = end; shown = shown }))
+
+-- the dossier of an accepted certificate
+pub dossier_printed : (I : Instance) (C : Certificate) (text : List ℕ) → Accepts I C → IsWellFormed C → text ≡ dossier I C → Reads text I C → PrintsDossier I text
+dossier_printed I C text accepts formed shown reads =
+    record { certificate = C; formed = formed; accepts = accepts; cheapest = accepted-cheapest I C (laws I) accepts; shown = shown; reads = reads }
+
+-- ---- what its status tells
+
+-- only a cheapest plan ends as good,
+pub not_good : (b : Book) (V : Verdict) (status : Status) → V ≡ verdict_of b → status ≡ status_of V → verdict_of b ≢ Optimal → status ≢ Good
+not_good b V status shown is left good = by_verdict V (λ best. left (sym shown ∙ best)) (sym is ∙ good)
+  where
+    open_good : Open ≡ Good → ⊥
+    open_good e = cc
+
+    by_verdict : (V : Verdict) → V ≢ Optimal → status_of V ≡ Good → ⊥
+    by_verdict Optimal other e = other refl
+    by_verdict (OpenNodes used low) other e = open_good e
+    by_verdict (OpenTurns chamber ships given low) other e = open_good e
+
+-- and none ends as open
+pub not_open : (b : Book) (V : Verdict) (status : Status) → V ≡ verdict_of b → status ≡ status_of V → verdict_of b ≡ Optimal → status ≢ Open
+not_open b V status shown is best left = good_open (ap status_of (sym best ∙ sym shown) ∙ sym is ∙ left)
+  where
+    good_open : Good ≡ Open → ⊥
+    good_open e = cc
+
+-- ---- one answer for another
+
+-- what is printed of a cheapest plan, and of an open one, is told otherwise
+pub answers_as : (Best Other : Instance → List ℕ → Type 0) (Left Rest : Search → List ℕ → Type 0) (k : Search) (status : Status) (text : List ℕ)
+    → (status ≡ Good → Best k.instance text → Other k.instance text) → (status ≡ Open → Left k text → Rest k text)
+    → AnswersSearch Best Left k status text → AnswersSearch Other Rest k status text
+answers_as Best Other Left Rest k Good text best left answer = best refl answer
+answers_as Best Other Left Rest k Open text best left answer = left refl answer
+answers_as Best Other Left Rest k Words text best left answer = answer
+answers_as Best Other Left Rest k Refused text best left answer = answer
+answers_as Best Other Left Rest k ReadFault text best left answer = answer
+answers_as Best Other Left Rest k WriteFault text best left answer = answer
+answers_as Best Other Left Rest k NoMemory text best left answer = answer
+answers_as Best Other Left Rest k BadDossier text best left answer = answer
+answers_as Best Other Left Rest k Unfit text best left answer = answer
+answers_as Best Other Left Rest k PlanRefused text best left answer = answer
+
+-- where nothing is printed of an open plan, or nothing of a cheapest one
+pub best_answers : (dossier keep : Bool) (k : Search) (status : Status) (text : List ℕ) → AnswersSearch (PrintsBest dossier) NoLeft k status text → AnswersSearch (PrintsBest dossier) (PrintsLeft keep) k status text
+best_answers dossier keep k status text = answers_as (PrintsBest dossier) (PrintsBest dossier) NoLeft (PrintsLeft keep) k status text (λ _ best. best) (λ _ none. absurd none)
+
+pub left_answers : (dossier keep : Bool) (k : Search) (status : Status) (text : List ℕ) → AnswersSearch NoBest (PrintsLeft keep) k status text → AnswersSearch (PrintsBest dossier) (PrintsLeft keep) k status text
+left_answers dossier keep k status text = answers_as NoBest (PrintsBest dossier) (PrintsLeft keep) (PrintsLeft keep) k status text (λ _ none. absurd none) (λ _ left. left)
+
+-- ---- by what is asked for
+
+pub dossier_asked : (asked : Bool) (k : Search) (status : Status) (text : List ℕ) → true ≡ asked → AnswersSearch PrintsDossier NoLeft k status text → AnswersSearch (PrintsBest asked) NoLeft k status text
+dossier_asked asked k status text is answer = subst (λ a. AnswersSearch (PrintsBest a) NoLeft k status text) is answer
+
+pub report_asked : (asked : Bool) (k : Search) (status : Status) (text : List ℕ) → false ≡ asked → status ≢ Open → AnswersSearch (PrintsOptimal report) (PrintsOpen report) k status text → AnswersSearch (PrintsBest asked) NoLeft k status text
+report_asked asked k status text is best answer =
+    subst (λ a. AnswersSearch (PrintsBest a) NoLeft k status text) is (answers_as (PrintsOptimal report) (PrintsOptimal report) (PrintsOpen report) NoLeft k status text (λ _ shown. shown) (λ left _. absurd (best left)) answer)
+
+pub kept_asked : (asked : Bool) (k : Search) (status : Status) (text : List ℕ) → true ≡ asked → AnswersSearch NoBest PrintsKept k status text → AnswersSearch NoBest (PrintsLeft asked) k status text
+kept_asked asked k status text is answer = subst (λ a. AnswersSearch NoBest (PrintsLeft a) k status text) is answer
+
+pub open_asked : (asked : Bool) (k : Search) (status : Status) (text : List ℕ) → false ≡ asked → status ≢ Good → AnswersSearch (PrintsOptimal report) (PrintsOpen report) k status text → AnswersSearch NoBest (PrintsLeft asked) k status text
+open_asked asked k status text is left answer =
+    subst (λ a. AnswersSearch NoBest (PrintsLeft a) k status text) is (answers_as (PrintsOptimal report) NoBest (PrintsOpen report) (PrintsOpen report) k status text (λ good _. absurd (left good)) (λ _ shown. shown) answer)

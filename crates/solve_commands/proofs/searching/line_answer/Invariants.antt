@@ -1,0 +1,4 @@
+use Rattle.solve_commands.proofs.searching.line_answer.Given as goal
+
+abbrev pub ghost-shown : goal.ghost-shown
+ghost-shown g a = g.limit

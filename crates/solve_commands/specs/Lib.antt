@@ -1,0 +1,5 @@
+pub mod Options
+pub mod Searching
+pub mod Keeping
+pub mod Solving
+pub mod Lots
