@@ -43,6 +43,14 @@ fn own_cut(instance: &Instance, cut: &CertCut) -> Result<Cut, NoMemory>
     Ok(known_cut(cut.chamber, cut.ships.copy(), deck, refutation))
 }
 
+// Appends the cut of a proved cut of a certificate to cuts of its instance.
+fn add_own(instance: &Instance, own: &mut CutList, cut: &CertCut) -> Result<(), NoMemory>
+    requires { IsProved instance.now cut.now }
+    ensures { All (IsOwnCut instance.now) own.old → All (IsOwnCut instance.now) own.new }
+{
+    own.push(own_cut(instance, cut)?)
+}
+
 // The cuts of the proved cuts of a certificate.
 fn own_cuts(alloc: Global, instance: &Instance, cuts: &[CertCut]) -> Result<CutList, NoMemory>
     requires { All (IsProved instance.now) cuts.now }
@@ -50,7 +58,7 @@ fn own_cuts(alloc: Global, instance: &Instance, cuts: &[CertCut]) -> Result<CutL
 {
     let mut own = CutList::new(alloc);
     for cut in cuts {
-        own.push(own_cut(instance, cut)?)?;
+        add_own(instance, &mut own, cut)?;
     }
     Ok(own)
 }

@@ -1,5 +1,5 @@
 -- What is answered to a source, by what is said to its bytes.
-use Rattle.std.proofs.Common.{ℕ, ◌≡◌, ◌≤◌, ◌<◌, ◌⊎◌, List, length, subst, inl, inr, refl, arith}
+use Rattle.std.proofs.Common.{ℕ, ◌≡◌, ◌≤◌, ◌<◌, ◌⊎◌, List, length, subst, inl, inr, refl, arith, Some}
 use Rattle.std.specs.Prelude.{IfSome}
 use Rattle.run_answers.specs.Sources.{Drained, Saying, IsFair, IsReadWhole, IsTooLong, IsUnreadable, AnswersBytes, AnswersSource, IsServed}
 use Rattle.run_answers.specs.declared.status.Status.{Status}
