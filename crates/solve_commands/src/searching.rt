@@ -2,8 +2,10 @@
 ghost use Rattle.std.specs.Prelude.{◌≡◌, ◌≢◌, ◌↔◌, IsTrue, ℕ, IfOk, IfErr};
 ghost use Rattle.lock_rules.specs.Singles.{singles_of};
 ghost use Rattle.lock_model.specs.declared.verdict.Verdict.TheVariants.{Optimal};
+ghost use Rattle.search_rules.specs.Certificates.{Accepts};
 ghost use Rattle.search_rules.specs.Ends.{EndsWell, IsEnd};
 ghost use Rattle.search_rules.specs.Verdict.{verdict_of};
+ghost use Rattle.search_rules.specs.WellFormed.{IsWellFormed};
 ghost use Rattle.plan_print.specs.Report.{IsOfInstance, report, verdict_line};
 ghost use Rattle.solve_commands.specs.Options.{AreSolveNumbers};
 ghost use Rattle.solve_commands.specs.Searching.{PrintsOptimal, PrintsDossier, PrintsBest, PrintsOpen, NoBest, NoLeft, AnswersSearch, search_in, status_of};
@@ -14,6 +16,7 @@ ghost use Rattle.run_answers.specs.Written.{bytes_in};
 use crate::keeping::kept_answer;
 use book_certificate::{CertError, certificate_of};
 use book_core::{Book, Case};
+use cert_check::Certificate;
 use cert_text::print_dossier;
 use command_words::SolveOptions;
 use lock_io::Gate;
@@ -84,15 +87,24 @@ fn line_answer(alloc: Global, book: &Book) -> Answer
     }
 }
 
+// The dossier of an accepted certificate of a search.
+#[tactic(auto, using(crate::proofs::EndLemmas::dossier_printed))]
+fn printed(alloc: Global, book: &Book, certificate: &Certificate) -> Result<Vec<u8>, NoMemory>
+    requires accepts { Accepts book.now.case.instance certificate.now }
+    requires formed { IsWellFormed certificate.now }
+    ensures { IfOk result (λ text. PrintsDossier book.now.case.instance text.items) }
+{
+    print_dossier(alloc, &book.case().instance, certificate)
+}
+
 /// The dossier of the certificate of a finished search. `StillOpen` only where the search left its
 /// best plan open; else want of memory is the only refusal.
-#[tactic(auto, using(crate::proofs::EndLemmas::dossier_printed))]
 pub fn dossier_text(alloc: Global, book: &Book) -> Result<Vec<u8>, CertError>
     ensures printed { IfOk result (λ text. PrintsDossier book.now.case.instance text.items) }
     ensures finished { verdict_of book.now ≡ Optimal → IfErr result (λ error. error ≡ CertError.NoMemory) }
 {
     let certificate = certificate_of(alloc, book)?;
-    match print_dossier(alloc, &book.case().instance, &certificate) {
+    match printed(alloc, book, &certificate) {
         Ok(text) => Ok(text),
         Err(NoMemory) => Err(CertError::NoMemory),
     }
