@@ -14,7 +14,7 @@ use Rattle.solve_commands.specs.Searching.{PrintsBest, AnswersSearch}
 use Rattle.solve_commands.specs.Keeping.{PrintsLeft}
 use Rattle.dossier_commands.specs.DossierTexts.{lower_text}
 use Rattle.dossier_commands.specs.OpenDossiers.{IsStanding, HasLow, IsNoStanding}
-use Rattle.dossier_commands.specs.Lowering.{AnswersLower}
+use Rattle.dossier_commands.specs.Lowering.{PrintsEqual, PrintsGap, AnswersLower}
 use Rattle.dossier_commands.specs.Resuming.{search_on, AnswersResume}
 
 -- ---- what is answered to bytes that aren't an open dossier that stands
@@ -53,17 +53,19 @@ low_at_most I C low has =
     let below = least-below C.cost (C.cost ∷ lowest.bounds) (inl (omega arith)) in
     omega (arith, is, below)
 
-pub low_answers : (bytes : List ℕ) (I : Instance) (C : OpenCertificate) (low : ℕ) (s : Status) (text : List ℕ) → IsStanding bytes I C → HasLow I C low → (low ≡ C.cost → s ≡ Good) → (low ≢ C.cost → s ≡ Open) → text ≡ lower_text low C.cost → AnswersLower bytes s text
-low_answers bytes I C low s text standing has equal gap shown =
-    elim (leb_tells C.cost low) [
-      | inl high ↦
-          let same : low ≡ C.cost = let most = low_at_most I C low has in let reached = high.1 in omega (arith, most, reached) in
-          let own : HasLow I C C.cost = subst (HasLow I C) same has in
-          subst (λ t. AnswersLower bytes t text) (sym (equal same)) (record { cost = C.cost; printed = record { instance = I; certificate = C; standing = standing; lowest = own; cost_is = refl; shown = subst (λ n. text ≡ lower_text n C.cost) same shown } })
-      | inr less ↦
-          let below : low < C.cost = less.1 in
-          let other : low ≢ C.cost = λ same. absurd (omega (arith, below, same)) in
-          subst (λ t. AnswersLower bytes t text) (sym (gap other)) (record { low = low; cost = C.cost; below = below; printed = record { instance = I; certificate = C; standing = standing; lowest = has; cost_is = refl; shown = shown } })
+pub equal_answers : (bytes : List ℕ) (I : Instance) (C : OpenCertificate) (low cost : ℕ) (text : List ℕ) → IsStanding bytes I C → HasLow I C low → cost ≡ C.cost → low ≡ cost → text ≡ lower_text low cost → PrintsEqual bytes text
+equal_answers bytes I C low cost text standing has is same shown =
+    record {
+      cost = cost;
+      printed = record { instance = I; certificate = C; standing = standing; lowest = subst (HasLow I C) same has; cost_is = sym is; shown = subst (λ n. text ≡ lower_text n cost) same shown };
+    }
+
+pub gap_answers : (bytes : List ℕ) (I : Instance) (C : OpenCertificate) (low cost : ℕ) (text : List ℕ) → IsStanding bytes I C → HasLow I C low → cost ≡ C.cost → low ≢ cost → text ≡ lower_text low cost → PrintsGap bytes text
+gap_answers bytes I C low cost text standing has is other shown =
+    let most = low_at_most I C low has in
+    elim (leb_tells cost low) [
+      | inl high ↦ absurd (other (let reached = high.1 in omega (arith, most, reached, is)))
+      | inr less ↦ record { low = low; cost = cost; below = less.1; printed = record { instance = I; certificate = C; standing = standing; lowest = has; cost_is = sym is; shown = shown } }
     ]
 
 -- `lower` says to bytes neither that words are bad nor that a fault was counted

@@ -1,5 +1,5 @@
 //! What `lower` answers to a source.
-ghost use Rattle.std.specs.Prelude.{◌≡◌, ◌≢◌};
+ghost use Rattle.std.specs.Prelude.{◌≡◌};
 ghost use Rattle.run_answers.specs.Sources.{AnswersSource, drained};
 ghost use Rattle.run_answers.specs.Written.{bytes_in};
 ghost use Rattle.dossier_commands.specs.Checking.{dossier_limit};
@@ -11,19 +11,15 @@ use crate::dossier_texts::lower_text;
 use crate::standing::{Standing, read_standing};
 use lock_io::Source;
 use plain_text::NoMemory;
+use resume_book::OpenCertificate;
 use run_answers::{Answer, Status, Text, no_memory, read_source};
 use std::alloc::Global;
 
-// The status that goes with a low and a cost.
-fn status_of(low: u64, cost: u64) -> Status
-    ensures equal { low ≡ cost → result ≡ Status.Good }
-    ensures gap { low ≢ cost → result ≡ Status.Open }
+// The cost of a certificate, in minutes.
+fn cost_in(certificate: &OpenCertificate) -> u64
+    ensures { result ≡ certificate.now.cost }
 {
-    if low == cost {
-        Status::Good
-    } else {
-        Status::Open
-    }
+    certificate.cost
 }
 
 // The low and the cost of a certificate that stands.
@@ -32,9 +28,14 @@ fn low_answer(alloc: Global, bytes: &[u8], standing: &Standing) -> Answer
     requires low { HasLow standing.now.instance standing.now.certificate standing.now.low }
     ensures { AnswersLower bytes.now result.status (bytes_in result.text) }
 {
-    match lower_text(alloc, standing.low, standing.certificate.cost) {
+    let cost = cost_in(&standing.certificate);
+    match lower_text(alloc, standing.low, cost) {
+        Ok(text) if standing.low == cost => Answer {
+            status: Status::Good,
+            text: Text::Made(text),
+        },
         Ok(text) => Answer {
-            status: status_of(standing.low, standing.certificate.cost),
+            status: Status::Open,
             text: Text::Made(text),
         },
         Err(NoMemory) => no_memory(),

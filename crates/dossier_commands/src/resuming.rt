@@ -43,12 +43,13 @@ fn own_cut(instance: &Instance, cut: &CertCut) -> Result<Cut, NoMemory>
     Ok(known_cut(cut.chamber, cut.ships.copy(), deck, refutation))
 }
 
-// Appends the cut of a proved cut of a certificate to cuts of its instance.
-fn add_own(instance: &Instance, own: &mut CutList, cut: &CertCut) -> Result<(), NoMemory>
-    requires { IsProved instance.now cut.now }
+// Appends a cut of the instance to cuts of it.
+fn add_own(instance: &Instance, own: &mut CutList, cut: Cut) -> Result<(), NoMemory>
+    requires { IsOwnCut instance.now cut }
     ensures { All (IsOwnCut instance.now) own.old → All (IsOwnCut instance.now) own.new }
 {
-    own.push(own_cut(instance, cut)?)
+    let _ = instance;
+    own.push(cut)
 }
 
 // The cuts of the proved cuts of a certificate.
@@ -58,7 +59,7 @@ fn own_cuts(alloc: Global, instance: &Instance, cuts: &[CertCut]) -> Result<CutL
 {
     let mut own = CutList::new(alloc);
     for cut in cuts {
-        add_own(instance, &mut own, cut)?;
+        add_own(instance, &mut own, own_cut(instance, cut)?)?;
     }
     Ok(own)
 }

@@ -11,25 +11,13 @@ use std::test::Fail;
 pub(super) const SIDE: &[u8] =
     b"glock 1\nchamber c1 2000 240 10 20 5 4 30 15 low 0\nship s1 up 1100 114 0 5\nship s2 up 1100 114 0 5\nend\n";
 
-/// The second ship comes later.
-pub(super) const LATER: &[u8] =
-    b"glock 1\nchamber c1 2000 240 10 20 5 4 30 15 low 0\nship s1 up 1100 114 0 5\nship s2 up 1100 114 5 5\nend\n";
-
 /// One ship up and one down.
 pub(super) const OPPOSITE: &[u8] =
     b"glock 1\nchamber c1 2000 240 10 20 5 4 30 15 low 0\nship s1 up 1100 114 0 5\nship s2 down 1100 114 0 5\nend\n";
 
-/// Two ships whose cargo clashes.
-pub(super) const CARGO: &[u8] =
-    b"glock 2\nchamber c1 2000 240 10 20 5 4 30 15 low 0\nship s1 up 1100 114 0 5 1\nship s2 up 1100 114 0 5 2\nend\n";
-
 /// A chamber that stands on the other side.
 pub(super) const HIGH: &[u8] =
     b"glock 1\nchamber c1 2000 240 10 20 5 4 30 15 high 0\nship s1 up 1100 114 0 5\nend\n";
-
-/// A closure in the span of a lockage that starts at once.
-pub(super) const CUT: &[u8] =
-    b"glock 2\nchamber c1 2000 240 10 20 5 4 30 15 low 0\nclose c1 30 40\nship s1 up 1100 114 0 5\nend\n";
 
 /// The bytes one after the other.
 fn joined(alloc: Global, parts: &[&[u8]]) -> Result<Vec<u8>, Fail> {

@@ -1,7 +1,12 @@
-use Rattle.dossier_commands.proofs.OpenLemmas.{low_answers}
+use Rattle.dossier_commands.proofs.OpenLemmas.{equal_answers, gap_answers}
 use Rattle.dossier_commands.proofs.lowering.low_answer.Goals as goal
 
 pub returns-in-Ok : goal.returns-in-Ok
 returns-in-Ok c =
     let s = c.args.standing.now in
-    low_answers c.args.bytes.now s.instance s.certificate s.low c.status_of.result c.in-Ok.text.items c.requires.standing c.requires.low c.status_of.ensures.equal c.status_of.ensures.gap c.in-Ok.ensures
+    equal_answers c.args.bytes.now s.instance s.certificate s.low c.cost_in-cost.result c.in-Ok.text.items c.requires.standing c.requires.low c.cost_in-cost.ensures c.if-standing-cost.true c.in-Ok.ensures
+
+pub returns-in-Ok-2 : goal.returns-in-Ok-2
+returns-in-Ok-2 c =
+    let s = c.args.standing.now in
+    gap_answers c.args.bytes.now s.instance s.certificate s.low c.cost_in-cost.result c.in-Ok.text.items c.requires.standing c.requires.low c.cost_in-cost.ensures c.if-standing-cost.false c.in-Ok.ensures
