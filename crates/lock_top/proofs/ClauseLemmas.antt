@@ -60,7 +60,7 @@ says_accepted bytes text told =
 -- ---- the text that was answered was written whole
 
 module _ (words : List (List ℕ)) (source : Drained) (sink : Filled) (status : Status) (text : List ℕ) (answer : Answers words source status text) (appended : Appends sink.held sink.held_after text) where
-  run : Run
+  abbrev run : Run
   run = record { words = words; source = source; sink = sink; status = status }
 
   good : (command : Command) → Asks words command → status ≡ Good → AnswersCommand command source Good text

@@ -1,5 +1,5 @@
 -- What a run answers: a status and what is written, by the words and the source.
-use Rattle.std.specs.Prelude.{ℕ, ◌≡◌, List, ⊥}
+use Rattle.std.specs.Prelude.{ℕ, ◌≡◌, List}
 use Rattle.command_words.specs.Meaning.{AreBad}
 use Rattle.command_words.specs.declared.commands.Command.{Command}
 use Rattle.command_words.specs.declared.commands.Command.TheVariants.{Solve, Check, Lot, Trial, Judge, Play, Replan, Lower, Resume}

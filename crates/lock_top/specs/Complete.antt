@@ -11,7 +11,7 @@ use Rattle.search_rules.specs.Certificates.{Certificate, Accepts}
 use Rattle.search_rules.specs.OpenCertificates.{OpenCertificate}
 use Rattle.instance_text.specs.Reading.{Means}
 use Rattle.cert_text.specs.Dossier.{Reads}
-use Rattle.resume_book.specs.Reading.{ReadsOpen}
+use Rattle.resume_book.specs.OpenDossier.{ReadsOpen}
 use Rattle.replan.specs.Kept.{kept_of}
 use Rattle.command_words.specs.declared.commands.SolveOptions.{SolveOptions}
 use Rattle.command_words.specs.declared.commands.LotOptions.{LotOptions}
