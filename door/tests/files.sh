@@ -13,7 +13,7 @@ cat "$room/evening.lock" "$room/evening-early.plan" >"$room/early.both"
 passed_on() { check "passed on: $1 < $2" passes_on "$1" "$2"; }
 rows passed_on <<'ROWS'
 solve | evening.lock
---nodes 50 solve | two-chambers.lock
+--nodes 50 --workers 1 solve | two-chambers.lock
 solve --dossier | evening.lock
 solve | bad.lock
 check | two.dossier
