@@ -15,7 +15,7 @@ use Rattle.chamber_place.specs.Picks.{choice_of, choices_of, decision_of, IsKnow
 use Rattle.chamber_place.specs.Faults.{fault_of}
 use Rattle.chamber_place.specs.declared.faults.CaseFault.{CaseFault}
 use Rattle.chamber_place.specs.declared.decisions.Decision.TheVariants.{Berthing}
-use Rattle.case_search.proofs.ListLemmas.{length-append, take-front}
+use Rattle.case_search.proofs.ListLemmas.{take-front}
 use Rattle.chamber_place.proofs.EdgeLemmas.{case-edges-few}
 use Rattle.chamber_place.specs.OnItsWay.{Progress, case_rules, AreChosen, no_paths, paths_at, IsSettled, IsOnItsWay}
 use Rattle.chamber_place.specs.declared.picks.Pick.{Pick}
@@ -37,9 +37,6 @@ module _ (d : Deck) (decided : List Decision) (picks : List Pick) (in_order : ma
   options-none most =
       ap (λ n. options_first (options_of d) (drop n (decisions (length d.ships)))) (length-map picks choice_of)
       ∙ no-options d decided (decisions (length d.ships)) (length picks) in_order most
-
-  pub decisions-count : length decided ≡ length (decisions (length d.ships))
-  decisions-count = sym (length-map decided decision_of) ∙ ap length in_order
 
   module _ (v : Progress) (view : progress_of d picks ≡ v) (option : ℕ) (h : option < length (options_at (case_rules v.deck) v.case)) where
     here : option < length (options_at (case_rules d) (choices_of picks))
@@ -102,9 +99,6 @@ module _ (d : Deck) (decided : List Decision) (picks : List Pick) (edges : List 
       module _ (es : List Edge) (es_are : es ≡ edges ++ choice_edges d (choice_of p)) where
         pub enter-edges : es ≡ case_edges d (choices_of ps)
         enter-edges = es_are ∙ more-edges d decided picks edges paths fault way p next option good next-at less known enter-option is ∙ ap (λ qs. case_edges d (choices_of qs)) (sym ps_are)
-
-        pub enter-few : length edges ≤ length es
-        enter-few = let l = ap length es_are ∙ length-append edges (choice_edges d (choice_of p)) in omega (arith, l)
 
         pub enter-longest : (n : ℕ) → n ≡ length edges → (t : PathTree) → slice_index_or paths k t ≡ t → AreLongest (take n es) (vars_of d) t
         enter-longest n n_is t at =

@@ -1,5 +1,5 @@
 -- Some of a deck's ships.
-use Rattle.std.proofs.Common.{◌≡◌, ◌⊎◌, ℕ, zero, suc, ◌+◌, ◌-◌, ◌<◌, ◌≤◌, List, [], ◌∷◌, ◌++◌, length, map, take, drop, slice_index, slice_index_or, inl, inr, refl, sym, ap, ◌∙◌, subst, arith, All, Contains}
+use Rattle.std.proofs.Common.{◌≡◌, ◌⊎◌, ℕ, zero, suc, ◌+◌, ◌-◌, ◌<◌, ◌≤◌, List, [], ◌∷◌, ◌++◌, length, map, take, drop, slice_index_or, inl, inr, refl, sym, ap, ◌∙◌, subst, arith, All, Contains}
 use Rattle.std.proofs.lemmas.Bool.{cases_lt}
 use Rattle.std.proofs.lemmas.List.{length-map, length-take-le, map-append, take-map, take_rest, drop-map, get_or_at, get_or_default, get_or-append-add, get_or-map, get_or-take}
 use Rattle.std.proofs.lemmas.List.Kept.{AllPairs-from_increasing}
@@ -11,7 +11,6 @@ use Rattle.refute_rules.specs.declared.refutation.Refutation.{Refutation}
 use Rattle.refute_rules.specs.declared.refutation.Refutation.TheVariants as refutation
 use Rattle.refute_rules.specs.Reasons.{AreSome}
 use Rattle.refute_rules.specs.Refutes.{IsRefuted}
-use Rattle.refute_rules.specs.Clashes.{IsClashingPair}
 use Rattle.case_search.proofs.ListLemmas.{append-assoc, length-append, length-push}
 use Rattle.chamber_place.specs.Placing.{PlaceRefutes}
 use Rattle.chamber_place.specs.Parts.{part_of, IsLeast, KeepsClash, IsPart, IsSmaller, IsRefutedPart, IsSmallerPart, BeginsWithClash}
@@ -82,14 +81,6 @@ take-below xs n h rising k d l =
     let e = get_or-take n xs k d few in
     let g = get_or_default xs n d 0 h in
     omega (arith, both, e, g)
-
-pub take-rising : (xs : List ℕ) (n : ℕ) → n ≤ length xs → IsStrictlyIncreasing xs → IsStrictlyIncreasing (take n xs)
-take-rising xs n h rising k l =
-    let m = length-take-le n xs h in
-    let both : slice_index_or xs k 0 < slice_index_or xs (k + 1) 0 = rising k (omega (arith, l, m, h)) in
-    let p = get_or-take n xs k 0 (omega (arith, l, m)) in
-    let q = get_or-take n xs (k + 1) 0 (omega (arith, l, m)) in
-    omega (arith, both, p, q)
 
 take-more : {X : Type 0} (old more : List X) (i : ℕ) → take (length old + i) (old ++ more) ≡ old ++ take i more
 take-more [] more i = ap (λ n. take n more) (let e : 0 + i ≡ i = omega arith in e)
@@ -171,13 +162,7 @@ part-least d places turns none = record {
       none k (omega (arith, h, l)) (subst (λ e. PlaceRefutes e turns) (ap (λ ships. record { length = d.length; width = d.width; end = d.end; gap = d.gap; side = d.side; ships = ships }) (remove-map (size_at d) places k)) refutes);
 }
 
-pub single-least : (d : Deck) (places : List ℕ) (turns : ℕ) → length places ≤ 1 → IsLeast (part_of d places) turns
-single-least d places turns one = record { needed = λ k two h refutes. let l = length-map places (size_at d) in absurd (omega (arith, l, one, two)) }
-
 -- ---- from one part to a smaller one
-pub smaller-same : (d : Deck) (turns : ℕ) (places : List ℕ) → IsSmaller d turns places places
-smaller-same d turns places = inl refl
-
 pub smaller-fewer : (d : Deck) (turns : ℕ) (places after : List ℕ) (k : ℕ) → k < length places → after ≡ remove places k → PlaceRefutes (part_of d after) turns → IsSmaller d turns places after
 smaller-fewer d turns places after k h e refutes = inr (subst (All (Contains places)) (sym e) (remove-within places k h), refutes)
 
@@ -197,27 +182,6 @@ refuted-smaller d turns places fewer found r k h e refuted = record {
 }
 
 -- ---- a clash
-pub clash-some : (d : Deck) (i j : ℕ) → IsClashingPair d i j → AreSome d (i ∷ j ∷ [])
-clash-some d i j pair =
-    let less = pair.rises in
-    let known = pair.known in
-    record { some = omega arith; rising = λ k h. rises k h; known = λ k e h. in_deck k e h }
-  where
-    rises : (k : ℕ) → k + 1 < 2 → slice_index (i ∷ j ∷ []) k < slice_index (i ∷ j ∷ []) (k + 1)
-    rises zero h = pair.rises
-    rises (suc k) h = absurd (omega (arith, h))
-
-    in_deck : (k e : ℕ) → k < 2 → slice_index_or (i ∷ j ∷ []) k e < length d.ships
-    in_deck zero e h = let less = pair.rises in let known = pair.known in omega (arith, less, known)
-    in_deck (suc zero) e h = pair.known
-    in_deck (suc (suc k)) e h = absurd (omega (arith, h))
-
-pub clash-is : (d : Deck) (i j : ℕ) (places : List ℕ) → places ≡ i ∷ j ∷ [] → IsClashingPair d i j → IsPart d places (refutation.Clash 0 1)
-clash-is d i j places e pair = subst (λ ps. IsPart d ps (refutation.Clash 0 1)) (sym e) (record {
-  some = clash-some d i j pair;
-  refuted = record { rises = omega arith; known = omega arith; clash = pair.clash };
-})
-
 contains-two : (i j x : ℕ) → Contains (i ∷ j ∷ []) x → (x ≡ i) ⊎ (x ≡ j)
 contains-two i j x (zero, h, e) = inl (sym e)
 contains-two i j x (suc zero, h, e) = inr (sym e)

@@ -85,9 +85,6 @@ berth-known d (x ∷ ds) (Below j k ∷ ps) i b chosen e = berth-known d ds ps i
 pub ranks-all : (d : Deck) (ps : List Pick) → AreChosen d (decisions (length d.ships)) ps → ((i : ℕ) → i < length d.ships → HasOtherRank (choices_of ps) i → ⊥) → (i : ℕ) → HasOtherRank (choices_of ps) i → ⊥
 ranks-all d ps chosen few i h = few i (berth-known d (decisions (length d.ships)) ps i _ chosen h.lies) h
 
-pub no-ranks : (i : ℕ) → HasOtherRank [] i → ⊥
-no-ranks i h = some-none _ h.lies
-
 -- ---- the empty case
 pub ship-edges-push : (d : Deck) (n : ℕ) → flat_map (ship_edges d) (numbers_from 0 (n + 1)) ≡ flat_map (ship_edges d) (numbers_from 0 n) ++ ship_edges d n
 ship-edges-push d n =

@@ -1,8 +1,8 @@
 -- What building makes of the parser, and which argument a name finds in it.
-use Rattle.std.proofs.Common.{◌≡◌, Bool, true, false, List, [], ◌∷◌, Option, Some, None, map, refl, codes, option_map}
+use Rattle.std.proofs.Common.{◌≡◌, Bool, true, false, List, [], ◌∷◌, Option, Some, map, refl, codes, option_map}
 use Rattle.std.specs.Prelude.{◌||◌, if◌then◌else◌}
-use Rattle.clap.specs.Walk.{Rule, arg_by_long, arg_by_id, arg_by_index}
-use Rattle.clap.specs.Simple.{Shape, built, names_of, is_simple}
+use Rattle.clap.specs.Walk.{Rule, arg_by_long, arg_by_id}
+use Rattle.clap.specs.Simple.{Shape, built, is_simple}
 use Rattle.clap.specs.declared.builder.action.ArgAction.TheVariants.{Set}
 use Rattle.clap.specs.declared.builder.value_parser.ValueParser.TheVariants as vp
 use Rattle.command_words.specs.Names.{Text, name_of, option_named}
@@ -28,18 +28,6 @@ rules = map built_rule arguments
 abbrev pub top : Shape
 top = (built parser).top
 
-pub top_rules : (built parser).top.rules ≡ rules
-unfolding parser
-top_rules = refl
-
-pub no_names : names_of (built parser) ≡ []
-unfolding parser
-no_names = refl
-
-pub no_again : (built parser).top.args_override_self ≡ false
-unfolding parser
-no_again = refl
-
 pub simple : is_simple parser ≡ true
 unfolding parser
 simple = refl
@@ -56,12 +44,6 @@ by_id Number = refl
 by_id Ships = refl
 by_id Chambers = refl
 by_id From = refl
-
-pub first_index : arg_by_index rules 1 ≡ Some (built_rule Command)
-first_index = refl
-
-pub second_index : arg_by_index rules 2 ≡ None
-second_index = refl
 
 next : (b : Bool) (s : Argument) (r : Rule) (x : Option Rule) (y : Option Argument) → r ≡ built_rule s → x ≡ option_map built_rule y → (if b || false then Some r else x) ≡ option_map built_rule (if b then Some s else y)
 next true s r x y e h = rw e refl

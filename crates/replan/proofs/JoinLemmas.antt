@@ -103,9 +103,6 @@ turned-after I K c High Up from to h = record { at = h.at; after = h.after; befo
 turned-after I K c High Down from to h = h
 
 module _ (I R : Instance) (K : Plan) (M : ℕ) (rest : IsRest I K M R) where
-  Known : Lockage → Type 0
-  Known l = All (λ s. s < length (ships_left I K)) l.ships
-
   arrival-rest : (s start : ℕ) → s < length (ships_left I K) → (ship_at R s).arrival ≤ start → (ship_at I (number_of (ships_left I K) s)).arrival ≤ start
   arrival-rest s start known arrived = omega (arith, ap (λ (x : Ship). x.arrival) (ship-rest I R K M rest s known), arrived)
 

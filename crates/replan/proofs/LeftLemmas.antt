@@ -62,9 +62,6 @@ module _ (I : Instance) (K : Plan) (legal : IsLegalPart I K) where
   pub part-chambers : All (λ l. l.chamber < length I.chambers) K.lockages
   part-chambers = All-weaker (IsLegalLockage I) (λ l. l.chamber < length I.chambers) (λ l h. h.chamber) K.lockages legal.lockage
 
-  pub part-ships : All (λ l. All (λ s. s < length I.ships) l.ships) K.lockages
-  part-ships = All-weaker (IsLegalLockage I) (λ l. All (λ s. s < length I.ships) l.ships) (λ l h. h.known) K.lockages legal.lockage
-
   pub part-arrived : All (λ l. All (λ s. (ship_at I s).arrival ≤ l.start) l.ships) K.lockages
   part-arrived =
       All-from_chambers (HasArrived I) (length I.chambers) K.lockages part-chambers

@@ -2,7 +2,7 @@
 use Rattle.std.proofs.Common.{◌≡◌, ℕ, zero, suc, ◌+◌, ◌<◌, ◌≤◌, List, [], ◌∷◌, ◌++◌, length, take, get_or, filter, cond, Bool, true, false, refl, sym, ap, ◌∙◌, arith}
 use Rattle.std.specs.List.Sorted.{IsStrictlyIncreasing}
 use Rattle.std.proofs.lemmas.List.{append-nil}
-use Rattle.std.proofs.lemmas.List.Elements.{filter-append, filter_more}
+use Rattle.std.proofs.lemmas.List.Elements.{filter-append}
 use Rattle.std.proofs.lemmas.List.Kept.{IsStrictlyIncreasing-filter}
 use Rattle.lock_rules.specs.Arrival.{numbers_from}
 use Rattle.lock_rules.proofs.LineLemmas.{numbers_more, length-numbers}
@@ -23,17 +23,6 @@ taken_few (x ∷ xs) (suc i) = omega (arith, taken_few xs i)
 
 pub filtered_few : {X : Type 0} (p : X → Bool) (xs : List X) (i : ℕ) → length (filter p (take i xs)) ≤ i
 filtered_few p xs i = omega (arith, filter-short p (take i xs), taken_few xs i)
-
--- one element more, which passes or not
-module _ {X : Type 0} (p : X → Bool) (xs : List X) (i : ℕ) (x : X) (within : i < length xs) (read : x ≡ get_or xs i x) where
-  more : filter p (take (i + 1) xs) ≡ filter p (take i xs) ++ cond (p x) (x ∷ []) []
-  more = filter_more p xs i x within ∙ ap (λ y. filter p (take i xs) ++ cond (p y) (y ∷ []) []) (sym read)
-
-  pub filter_hit : p x ≡ true → filter p (take i xs) ++ x ∷ [] ≡ filter p (take (i + 1) xs)
-  filter_hit hit = sym (more ∙ ap (λ b. filter p (take i xs) ++ cond b (x ∷ []) []) hit)
-
-  pub filter_miss : p x ≡ false → filter p (take i xs) ≡ filter p (take (i + 1) xs)
-  filter_miss miss = sym (more ∙ ap (λ b. filter p (take i xs) ++ cond b (x ∷ []) []) miss ∙ append-nil (filter p (take i xs)))
 
 -- one number more
 module _ (p : ℕ → Bool) (n : ℕ) where

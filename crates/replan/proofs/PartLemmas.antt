@@ -1,5 +1,5 @@
 -- A part of a plan with a break isn't legal, and a part without one is.
-use Rattle.std.proofs.Common.{◌≡◌, ℕ, ◌<◌, ◌≤◌, List, length, subst, sym, refl, ◌∙◌, ap, arith, All, get_or}
+use Rattle.std.proofs.Common.{ℕ, ◌<◌, ◌≤◌, length, subst, ◌∙◌, ap, arith}
 use Rattle.std.proofs.lemmas.List.{length-map, get_or_default}
 use Rattle.std.specs.List.Sorted.{IsStrictlyIncreasing}
 use Rattle.lock_model.specs.Fleet.{ship_at}
@@ -7,16 +7,16 @@ use Rattle.lock_model.specs.Fitting.{size_of, deck_of}
 use Rattle.lock_model.specs.declared.instance.Instance.{Instance}
 use Rattle.lock_model.specs.declared.plan.Lockage.{Lockage}
 use Rattle.lock_model.specs.declared.plan.Plan.{Plan}
-use Rattle.lock_rules.specs.Plan.{IsLegal, IsLegalLockage}
+use Rattle.lock_rules.specs.Plan.{IsLegalLockage}
 use Rattle.lock_rules.specs.Lines.{no_lockage, lockage_at}
 use Rattle.chamber_times.proofs.BreakLemmas.{IsFirstBreak-untimely}
-use Rattle.mooring_rules.specs.PlanBreaks.{HasShape, IsPlaced, IsClear, AreShaped, HasNoDouble, ArePlaced, AreClear, AreOnTime, IsFirstMisplaced, IsFirstClash, IsFirstBrokenPlan}
+use Rattle.mooring_rules.specs.PlanBreaks.{HasShape, IsPlaced, IsClear, AreShaped, HasNoDouble, ArePlaced, AreClear, AreOnTime, IsFirstMisplaced, IsFirstClash}
 use Rattle.mooring_rules.specs.declared.breaks.Broken.{Broken}
 use Rattle.mooring_rules.specs.declared.breaks.BrokenPlan.{BrokenPlan}
 use Rattle.mooring_rules.specs.declared.breaks.BrokenPlan.TheVariants.{Shape, Double, Missing, Deck, Clash, Time}
 use Rattle.mooring_rules.proofs.PlacementLemmas.{IsFirstBroken-illegal}
-use Rattle.replan.specs.Kept.{IsLegalPart, EndsInTime, CanBeKept}
-use Rattle.replan.specs.PartBreaks.{IsFirstBrokenPart, IsFirstLate}
+use Rattle.replan.specs.Kept.{IsLegalPart}
+use Rattle.replan.specs.PartBreaks.{IsFirstBrokenPart}
 
 -- a legal lockage has its shape
 HasShape-legal : (I : Instance) (l : Lockage) → IsLegalLockage I l → HasShape I l
@@ -62,22 +62,6 @@ module _ (I : Instance) (K : Plan) where
   IsFirstBrokenPart-illegal (Clash p i j) first legal = IsFirstClash-illegal p i j first.3 legal
   IsFirstBrokenPart-illegal (Time c b) first legal = IsFirstBreak-untimely I c K b first.4.broken (legal.timely c first.4.chamber)
 
-  -- a first break of a plan is that of the part, but where ships are missing
-  pub IsFirstBrokenPart-plan : (b : BrokenPlan) → ((s : ℕ) → b ≡ Missing s → ⊥) → IsFirstBrokenPlan I K b → IsFirstBrokenPart I K b
-  IsFirstBrokenPart-plan (Shape p) other first = first
-  IsFirstBrokenPart-plan (Double s) other first = first
-  IsFirstBrokenPart-plan (Missing s) other first = other s refl
-  IsFirstBrokenPart-plan (Deck p b) other first = (first.0, first.1, first.3)
-  IsFirstBrokenPart-plan (Clash p i j) other first = (first.0, first.1, first.3, first.4)
-  IsFirstBrokenPart-plan (Time c b) other first = (first.0, first.1, first.3, first.4, first.5)
-
-  pub IsLegalPart-legal : IsLegal I K → IsLegalPart I K
-  IsLegalPart-legal legal = record {
-    once = λ s known. omega (arith, legal.once s known);
-    lockage = legal.lockage;
-    timely = legal.timely;
-  }
-
   -- without a break it is legal
   pub IsLegalPart-unbroken : AreShaped I K → ((p : ℕ) → p < length K.lockages → IsStrictlyIncreasing (lockage_at K p).ships) → HasNoDouble I K → ArePlaced I K → AreClear I K → AreOnTime I K → IsLegalPart I K
   IsLegalPart-unbroken shaped rising single placed clear timely = record {
@@ -87,17 +71,3 @@ module _ (I : Instance) (K : Plan) where
         (IsLegalLockage-shaped I (lockage_at K p) (shaped.each p within) (rising p within) (placed.each p within) (clear.each p within));
     timely = timely.each;
   }
-
-  -- a lockage that is read from a legal part
-  pub legal_at : IsLegalPart I K → (p : ℕ) (l : Lockage) (ls : List Lockage) → ls ≡ K.lockages → p < length ls → l ≡ get_or ls p l → IsLegalLockage I l
-  legal_at legal p l ls same within read = subst (IsLegalLockage I) (sym read) (subst (All (IsLegalLockage I)) (sym same) legal.lockage p l within)
-
-  -- with a late lockage it can't be kept
-  pub IsFirstLate-unkept : (p : ℕ) → IsFirstLate I K p → CanBeKept I K → ⊥
-  IsFirstLate-unkept p first can =
-      let in_time : EndsInTime I (lockage_at K p) = can.in_time p no_lockage first.place in
-      absurd (omega (arith, first.late, in_time.ends))
-
-  -- all lockages end in time where each does
-  pub AllInTime : ((k : ℕ) → k < length K.lockages → EndsInTime I (lockage_at K k)) → All (EndsInTime I) K.lockages
-  AllInTime each p d within = subst (EndsInTime I) (get_or_default K.lockages p no_lockage d within) (each p within)

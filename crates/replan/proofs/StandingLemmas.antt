@@ -1,6 +1,6 @@
 -- A chamber's last lockage by start, walked from the last place on, and how it leaves the chamber.
-use Rattle.std.proofs.Common.{◌≡◌, ◌≢◌, ℕ, suc, ◌+◌, ◌<◌, ◌≤◌, List, [], ◌∷◌, ◌++◌, length, drop, All, filter, cond, Bool, true, false, nat_eq, nat_le, get_or, Option, Some, None, refl, sym, ap, ◌∙◌, arith}
-use Rattle.std.proofs.lemmas.Bool.{le-leb, lt-leb, ne_eqb, eq-eqb}
+use Rattle.std.proofs.Common.{◌≡◌, ℕ, suc, ◌+◌, ◌<◌, ◌≤◌, List, [], ◌∷◌, ◌++◌, length, drop, All, filter, cond, Bool, true, false, nat_eq, nat_le, get_or, Some, refl, sym, ap, ◌∙◌, arith}
+use Rattle.std.proofs.lemmas.Bool.{le-leb, lt-leb, eq-eqb}
 use Rattle.std.proofs.lemmas.List.Elements.{All-head, All-tail, All-nil, All-cons, All-append, All-weaker}
 use Rattle.std.proofs.Math.Seq.{drop-cons}
 use Rattle.lock_model.specs.Fleet.{chamber_at}
@@ -45,26 +45,8 @@ module _ (P : Plan) (c place : ℕ) (within : place < length P.lockages) where
       pushed true l ls = refl
       pushed false l ls = refl
 
-  miss : (lockage_at P place).chamber ≢ c → line_from P c place ≡ line_from P c (place + 1)
-  miss other = one_more ∙ ap (λ b. cond b (insert_by_start (lockage_at P place) (line_from P c (place + 1))) (line_from P c (place + 1))) (ne_eqb (lockage_at P place).chamber c other)
-
   hit : (lockage_at P place).chamber ≡ c → line_from P c place ≡ insert_by_start (lockage_at P place) (line_from P c (place + 1))
   hit own = one_more ∙ ap (λ b. cond b (insert_by_start (lockage_at P place) (line_from P c (place + 1))) (line_from P c (place + 1))) (eq-eqb (lockage_at P place).chamber c own)
-
-  -- a lockage of another chamber
-  pub last_passed : (last : Option ℕ) → (lockage_at P place).chamber ≢ c → IsLastFrom P c (place + 1) last → IsLastFrom P c place last
-  last_passed None other none = miss other ∙ none
-  last_passed (Some p) other ends = record { within = ends.within; own = ends.own; before = ends.before; line = miss other ∙ ends.line; rising = ends.rising }
-
-  -- the only lockage
-  pub last_alone : (lockage_at P place).chamber ≡ c → IsLastFrom P c (place + 1) None → IsLastFrom P c place (Some place)
-  last_alone own none = record {
-    within = within;
-    own = own;
-    before = [];
-    line = hit own ∙ ap (insert_by_start (lockage_at P place)) none;
-    rising = All-nil (λ (l : Lockage). l.start ≤ (lockage_at P place).start);
-  }
 
   -- a lockage that starts no later than the last
   pub last_kept : (p : ℕ) → (lockage_at P place).chamber ≡ c → (lockage_at P place).start ≤ (lockage_at P p).start → IsLastFrom P c (place + 1) (Some p) → IsLastFrom P c place (Some p)
@@ -103,9 +85,6 @@ done-last I c from [] l = refl
 done-last I c from (k ∷ ls) l = done-last I c (k.start + duration_of I c k.ships) ls l
 
 module _ (I : Instance) (K : Plan) (c : ℕ) where
-  pub after_none : line_of K c ≡ [] → chamber_at I c ≡ chamber_after I K c
-  after_none none = ap (λ ls. record (chamber_at I c) { stands = stand_after_all (chamber_at I c).stands ls; opens = done_after_all I c (chamber_at I c).opens ls }) (sym none)
-
   pub after_last : (l : Lockage) (before : List Lockage) → line_of K c ≡ before ++ l ∷ [] → l.chamber ≡ c → left_by I c l ≡ chamber_after I K c
   after_last l before line own =
       let stands : stand_after l.way ≡ stand_after_all (chamber_at I c).stands (line_of K c) = sym (ap (stand_after_all (chamber_at I c).stands) line ∙ stand-last (chamber_at I c).stands before l) in

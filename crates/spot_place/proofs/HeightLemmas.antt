@@ -14,7 +14,7 @@ use Rattle.refute_rules.specs.Choices.{Berth, Choice}
 use Rattle.refute_rules.specs.Decided.{berth_in}
 use Rattle.refute_rules.specs.Known.{quay_y, guest_y, moored_y, berth_y, y_within}
 use Rattle.case_search.specs.declared.berths.Berth.{Berth as Mooring}
-use Rattle.spot_place.specs.OnWay.{berth_at, lying, IsKnownMoor, AreKnown}
+use Rattle.spot_place.specs.OnWay.{berth_at, lying}
 use Rattle.spot_place.proofs.KnownLemmas.{some-same, map-some}
 use Rattle.spot_place.proofs.CaseLemmas.{berth-hit, berth-miss}
 
@@ -84,10 +84,6 @@ module _ (d : Deck) (good : IsDeck d) (case : List Choice) where
 -- ---- y by the berth
 
 module _ (d : Deck) (ms : List Mooring) (i : ℕ) where
-  pub y-no_steps : (steps : ℕ) → steps ≡ 0 → None ≡ y_within d (lying ms) steps i
-  y-no_steps zero e = refl
-  y-no_steps (suc steps) e = absurd (omega (arith, e))
-
   pub y-undecided : (steps : ℕ) → length ms ≤ i → None ≡ y_within d (lying ms) steps i
   y-undecided zero h = refl
   y-undecided (suc steps) h = sym (ap (λ o. berth_y d i o (y_within d (lying ms) steps)) (berth-miss ms [] i h))
@@ -101,6 +97,3 @@ module _ (d : Deck) (ms : List Mooring) (i : ℕ) where
   pub y-guest : (steps fewer k : ℕ) (o : Option ℤ) → steps ≡ suc fewer → i < length ms → (berth_at ms i).moor ≡ Ship k → o ≡ y_within d (lying ms) fewer k → option_map (guest_y d i k (berth_at ms i).rank) o ≡ y_within d (lying ms) steps i
   y-guest steps fewer k o e h m t =
       sym (y-moored steps fewer e h ∙ ap (λ m. moored_y d i (berth_at ms i).rank m (y_within d (lying ms) fewer)) m ∙ ap (option_map (guest_y d i k (berth_at ms i).rank)) (sym t))
-
-  pub host-known : (k : ℕ) → AreKnown d ms → i < length ms → (berth_at ms i).moor ≡ Ship k → k < length d.ships
-  host-known k known h e = subst (IsKnownMoor d) e (known.each i h)

@@ -81,9 +81,6 @@ before-last case before shorter last t e long is =
 
 -- ---- listed cases
 
-pub listed-empty : (d : Deck) → IsListed d []
-listed-empty d k h = absurd (omega (arith, h))
-
 pub listed-more : (d : Deck) (case : List Choice) (last : Choice) → IsListed d case → IsFaultless d case → IsListed d (case ++ last ∷ [])
 listed-more d case last listed good k h =
     let count = length-push case in
