@@ -30,7 +30,7 @@ pub(crate) fn hits_node(instance: &Instance, cut: &Cut, node: &Node) -> bool
     ensures { IsTrue result ↔ HitsNode cut.now.ships cut.now.deck instance.now node.now.lines }
 {
     for chamber in 0..instance.chambers.as_slice().len() as u8 {
-        if hits_line(instance, cut, chamber, node.line(chamber).as_slice()) {
+        if hits_line(instance, cut, chamber, node.line(chamber)) {
             return true;
         }
     }

@@ -23,7 +23,7 @@ impl Book {
         if chamber as usize >= self.instance().chambers.as_slice().len() {
             return false;
         }
-        let line = node.line(chamber).as_slice();
+        let line = node.line(chamber);
         if place as usize >= line.len() {
             return false;
         }

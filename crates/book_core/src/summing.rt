@@ -109,7 +109,7 @@ impl Book {
                 let node = self.node_of(id);
                 Verdict::OpenTurns {
                     chamber,
-                    ships: node.line(chamber).as_slice()[place as usize].ships.copy(),
+                    ships: node.line(chamber)[place as usize].ships.copy(),
                     turns: self.turns(),
                     low: self.low(),
                 }

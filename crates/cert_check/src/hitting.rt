@@ -65,7 +65,7 @@ fn hits_at(instance: &Instance, cut: &CertCut, node: &Node, chamber: u8) -> bool
     ensures { IsTrue result ↔ HitsAt instance.now cut.now.chamber cut.now.ships node.now.lines chamber }
 {
     is_tight(instance, cut, chamber)
-        && hits_line(cut.ships.as_slice(), node.line(chamber).as_slice())
+        && hits_line(cut.ships.as_slice(), node.line(chamber))
 }
 
 // Whether the cut hits a group of the node.

@@ -106,11 +106,11 @@ pub(crate) fn enter(
 {
     match step {
         Step::Join { chamber, place } => {
-            let line = node.line(chamber).as_slice();
+            let line = node.line(chamber);
             joined(instance, chamber, line, walks, ship, place)
         }
         Step::Open { chamber, place } => {
-            let line = node.line(chamber).as_slice();
+            let line = node.line(chamber);
             opened(instance, chamber, line, walks, ship, place)
         }
     }

@@ -17,7 +17,7 @@ pub(crate) fn node_flow(instance: &Instance, node: &Node) -> u64
 {
     let mut sum = 0;
     for chamber in 0..instance.chambers.as_slice().len() as u8 {
-        sum += line_flow(instance, chamber, node.line(chamber).as_slice());
+        sum += line_flow(instance, chamber, node.line(chamber));
     }
     sum
 }

@@ -91,7 +91,7 @@ pub(crate) fn other_flows(
     ensures { result + line_flow instance.now chamber (line_at node.now.lines chamber) ≡ total }
 {
     let _ = instance;
-    let groups = node.line(chamber).as_slice().len();
+    let groups = node.line(chamber).len();
     total - walks[groups].flow
 }
 
@@ -116,7 +116,7 @@ fn flow_after(
     ensures small { result ≤ 400000000000 }
 {
     let chamber = chamber_of(step);
-    let line = node.line(chamber).as_slice();
+    let line = node.line(chamber);
     let entered = enter(instance, node, walks, ship, step);
     other_flows(instance, node, walks, total, chamber)
         + finish(instance, chamber, line, walks, entered)
@@ -128,7 +128,7 @@ pub(crate) fn walks_on(instance: &Instance, node: &Node, chamber: u8) -> LineWal
     requires chamber_in { chamber < length instance.now.chambers }
     ensures { AreWalks instance.now chamber (line_at node.now.lines chamber) result }
 {
-    line_walks(instance, chamber, node.line(chamber).as_slice())
+    line_walks(instance, chamber, node.line(chamber))
 }
 
 // Goes over to the line of this chamber, where the walks are along another's.

@@ -95,7 +95,7 @@ fn reaches_after(
     ensures { result ≡ nat_le need (node_flow instance.now (lines_after instance.now ship node.now.lines step)) }
 {
     let chamber = chamber_of(step);
-    let line = node.line(chamber).as_slice();
+    let line = node.line(chamber);
     let entered = enter(instance, node, walks, ship, step);
     let others = other_flows(instance, node, walks, total, chamber);
     reaches(

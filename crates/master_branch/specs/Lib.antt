@@ -1,3 +1,4 @@
 pub mod Node
 pub mod Steps
 pub mod Split
+pub mod Row

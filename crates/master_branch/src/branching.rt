@@ -3,30 +3,32 @@ ghost use Rattle.std.specs.Prelude.{◌≡◌, ◌+◌, ◌<◌, ℕ, length, sl
 ghost use Rattle.lock_rules.specs.Arrival.{next_ship};
 ghost use Rattle.lock_rules.specs.Node.{times_on, line_at};
 ghost use Rattle.master_branch.specs.Node.{IsNodeOf, children};
+ghost use Rattle.master_branch.specs.Row.{groups_held};
 ghost use Rattle.master_branch.specs.Steps.{steps_by, lines_after, IsStep};
 
 use crate::arrival::next_ship;
 use crate::joining::join;
+use crate::lines::Lines;
 use crate::node::Node;
 use crate::step::{Step, steps_by};
-use lock_model::{Group, Instance, Line, Ships};
+use lock_model::{Group, Instance, Ships};
 
 // Puts a ship that stands in no line into the lines by a step.
-fn enter(lines: &mut [Line; 4], instance: &Instance, ship: u8, step: Step)
+fn enter(lines: &mut Lines, instance: &Instance, ship: u8, step: Step)
     requires known { ship < length instance.now.ships }
     requires step { IsStep instance.now ship lines.old step }
     requires absent { (c : ℕ) → times_on ship (line_at lines.old c) ≡ 0 }
-    requires room { (c : ℕ) → length (line_at lines.old c) < 24 }
+    requires room { groups_held lines.old < 24 }
     ensures { lines.new ≡ lines_after instance.now ship lines.old step }
 {
     match step {
-        Step::Join { chamber, place } => join(&mut lines[chamber as usize], place, ship),
+        Step::Join { chamber, place } => join(lines, chamber, place, ship),
         Step::Open { chamber, place } => {
             let group = Group {
                 way: instance.ships.as_slice()[ship as usize].way,
                 ships: Ships::single(ship),
             };
-            lines[chamber as usize].insert(place as usize, group);
+            lines.insert(chamber, place, group);
         }
     }
 }

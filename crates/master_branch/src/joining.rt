@@ -1,10 +1,12 @@
 //! Groups with one ship more.
 ghost use Rattle.std.specs.Prelude.{◌≡◌, ◌<◌, ◌≤◌, length, slice_index, slice_set, insert};
 ghost use Rattle.lock_rules.specs.Plan.{times_in};
+ghost use Rattle.lock_rules.specs.Node.{line_at};
 ghost use Rattle.lock_rules.specs.Children.{insert_number, with_ship};
 ghost use Rattle.master_branch.specs.Steps.{group_at};
 
-use lock_model::{Group, Line, Ships};
+use crate::lines::Lines;
+use lock_model::{Group, Ships};
 
 // The place of a ship among rising numbers: before the first that is greater.
 fn place_among(ships: &[u8], ship: u8) -> usize
@@ -53,13 +55,14 @@ pub fn with_ship(group: &Group, ship: u8) -> Group
     }
 }
 
-// Puts a ship into the group at a place of a line.
-pub(crate) fn join(line: &mut Line, place: u8, ship: u8)
-    requires place { place < length line.old }
-    requires room { length (group_at line.old place).ships < 8 }
-    requires absent { times_in (group_at line.old place).ships ship ≡ 0 }
-    ensures { line.new ≡ slice_set line.old place (with_ship ship (group_at line.old place)) }
+// Puts a ship into the group at a place of a chamber's line.
+pub(crate) fn join(lines: &mut Lines, chamber: u8, place: u8, ship: u8)
+    requires chamber { chamber < 4 }
+    requires place { place < length (line_at lines.old chamber) }
+    requires room { length (group_at (line_at lines.old chamber) place).ships < 8 }
+    requires absent { times_in (group_at (line_at lines.old chamber) place).ships ship ≡ 0 }
+    ensures { lines.new ≡ slice_set lines.old chamber (slice_set (line_at lines.old chamber) place (with_ship ship (group_at (line_at lines.old chamber) place))) }
 {
-    let joined = with_ship(&line.as_slice()[place as usize], ship);
-    line.set(place as usize, joined);
+    let joined = with_ship(&lines.line(chamber)[place as usize], ship);
+    lines.set(chamber, place, joined);
 }

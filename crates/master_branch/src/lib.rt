@@ -17,6 +17,7 @@ mod arrival;
 mod branching;
 mod joining;
 mod laws;
+mod lines;
 mod node;
 mod step;
 #[cfg(test)]

@@ -1,11 +1,12 @@
 //! Nodes of the search tree.
-ghost use Rattle.std.specs.Prelude.{◌≡◌, ◌<◌};
+ghost use Rattle.std.specs.Prelude.{◌≡◌, ◌<◌, ◌≤◌, length};
 ghost use Rattle.lock_model.specs.declared.plan.Plan.{Plan as AnyPlan};
 ghost use Rattle.lock_rules.specs.Node.{KeepsNode, line_at};
 ghost use Rattle.lock_rules.specs.Trace.{IsUnder};
 ghost use Rattle.master_branch.specs.Node.{IsNodeOf, root};
 
-use lock_model::{Instance, Line};
+use crate::lines::Lines;
+use lock_model::{Group, Instance};
 use std::marker::Model;
 
 /// The first ships in arrival order in groups, chamber by chamber in order of service. No group is
@@ -13,8 +14,11 @@ use std::marker::Model;
 #[derive(Debug, PartialEq, Eq, Drop)]
 pub struct Node {
     pub(crate) depth: u8,
-    pub(crate) lines: [Line; 4],
+    pub(crate) lines: Lines,
 }
+
+// The bytes that a node takes: a search copies many.
+const _: () = prove!(size_of::<Node>() == 264);
 
 impl Model for Node {
     ghost use Rattle.lock_rules.specs.Node.{KeepsNode};
@@ -39,21 +43,21 @@ impl Node {
     }
 
     /// The groups of a chamber in order of service.
-    pub fn line(&self, chamber: u8) -> &Line
+    pub fn line(&self, chamber: u8) -> &[Group]
         requires { chamber < 4 }
-        ensures { result.now ≡ line_at self.now.lines chamber }
+        ensures value { result.now ≡ line_at self.now.lines chamber }
+        ensures fits { length result.now ≤ 24 }
     {
-        &self.lines[chamber as usize]
+        self.lines.line(chamber)
     }
 
     /// The same node.
     pub fn copy(&self) -> Node
         ensures { result ≡ self.now }
     {
-        let [first, second, third, fourth] = &self.lines;
         Node {
             depth: self.depth,
-            lines: [first.copy(), second.copy(), third.copy(), fourth.copy()],
+            lines: self.lines.copy(),
         }
     }
 }
@@ -67,6 +71,6 @@ pub fn root(instance: &Instance) -> Node
     let _ = instance;
     Node {
         depth: 0,
-        lines: [Line::new(), Line::new(), Line::new(), Line::new()],
+        lines: Lines::new(),
     }
 }

@@ -115,7 +115,7 @@ fn push_steps(steps: &mut Steps, instance: &Instance, node: &Node, ship: u8, cha
 {
     let way = instance.ships.as_slice()[ship as usize].way;
     let most = instance.chambers.as_slice()[chamber as usize].most;
-    let line = node.line(chamber).as_slice();
+    let line = node.line(chamber);
     push_joins(steps, most, way, chamber, line);
     push_opens(steps, chamber, line.len() as u8 + 1);
 }

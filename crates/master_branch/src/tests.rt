@@ -93,7 +93,7 @@ fn drawn(alloc: Global, instance: &Instance, node: &Node) -> Result<String, Allo
         if number > 0 {
             text.push_str("/ ")?;
         }
-        for group in node.line(number).as_slice() {
+        for group in node.line(number) {
             text.push(if group.way == Way::Up { '^' } else { 'v' })?;
             for ship in group.ships.as_slice() {
                 text = format!(in alloc; "{text}{ship}")?;
@@ -216,8 +216,8 @@ fn the_greatest_nodes_have_fifty_children(rt: HostRuntime) -> Result<(), Fail> {
         assert!(rt; child_at(&instance, &node, count).is_none());
         node = child_at(&instance, &node, count - 1).ok_or("no child")?;
     }
-    assert_eq!(rt; node.line(3).as_slice().len(), 24);
-    assert_eq!(rt; node.line(0).as_slice().len(), 0);
+    assert_eq!(rt; node.line(3).len(), 24);
+    assert_eq!(rt; node.line(0).len(), 0);
     assert!(rt; child_at(&instance, &node, 0).is_none());
     assert_eq!(rt; node.copy(), node);
     Ok(())

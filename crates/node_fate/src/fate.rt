@@ -57,7 +57,7 @@ pub fn remembered_fate(
     requires place_in { place < length (line_at node.now.lines chamber) }
     ensures { IfSome result (IsFate instance.now turns node.now) }
 {
-    let ships = &node.line(chamber).as_slice()[place as usize].ships;
+    let ships = &node.line(chamber)[place as usize].ships;
     match memory.find(chamber, ships)? {
         Said::Fits(_) => Some(Fate::Splits),
         Said::Spent(hard, spots) => {
@@ -87,7 +87,7 @@ pub fn group_fate(
     requires turns { 1 ≤ turns }
     ensures { IfOk result (IsFate instance.now turns node.now) }
 {
-    let ships = &node.line(chamber).as_slice()[place as usize].ships;
+    let ships = &node.line(chamber)[place as usize].ships;
     let settled = settle_anew(alloc, instance, chamber, ships, turns, memory)?;
     Ok(fate_by(chamber, place, settled))
 }

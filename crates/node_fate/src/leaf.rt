@@ -33,7 +33,7 @@ fn moor_line(
     ensures stuck { IfOk result (λ found. IfSome found (IsFate instance.now turns node.now)) }
     ensures moored { IfOk result (λ found. IfNone found (IsMooredUpTo instance.now chamber (line_at node.now.lines chamber) (length (line_at node.now.lines chamber)) moorings.old moorings.new)) }
 {
-    let groups = node.line(chamber).as_slice();
+    let groups = node.line(chamber);
     for place in 0..groups.len() {
         let ships = &groups[place].ships;
         match settle_known(alloc, instance, chamber, ships, turns, memory)? {

@@ -27,7 +27,7 @@ fn known_cut<L: Ledger>(
     requires node { IsNodeOf post.now.instance.now node.now }
     requires at { IsGroupAt post.now.instance.now node.now chamber place }
 {
-    let ships = &node.line(chamber).as_slice()[place as usize].ships;
+    let ships = &node.line(chamber)[place as usize].ships;
     let instance = post.instance;
     post.pool.find(&worker.tokens, instance, chamber, ships)
 }
@@ -66,7 +66,7 @@ fn close_if_new<L: Ledger, W: Wait>(
     requires at { IsGroupAt post.now.instance.now held.now.node chamber place }
     ensures serves { Serves post.now worker.new }
 {
-    let ships = &held.node.line(chamber).as_slice()[place as usize].ships;
+    let ships = &held.node.line(chamber)[place as usize].ships;
     if worker.memory.find(chamber, ships).is_some() {
         return false;
     }
@@ -87,7 +87,7 @@ fn close_line_if_new<L: Ledger, W: Wait>(
     requires chamber_in { chamber < length post.now.instance.now.chambers }
     ensures serves { Serves post.now worker.new }
 {
-    for place in 0..held.node.line(chamber).as_slice().len() {
+    for place in 0..held.node.line(chamber).len() {
         if close_if_new(rt, post, worker, held, chamber, place as u8) {
             return true;
         }

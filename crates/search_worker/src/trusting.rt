@@ -71,7 +71,7 @@ fn are_own_lines(instance: &Instance, first: &[u8], node: &Node) -> bool
     ensures { IsTrue result ↔ ((c : ℕ) → c < 4 → IsOwnLine instance.now first.now c (line_at node.now.lines c)) }
 {
     for chamber in 0..4 {
-        if !is_own_line(instance, first, chamber, node.line(chamber).as_slice()) {
+        if !is_own_line(instance, first, chamber, node.line(chamber)) {
             return false;
         }
     }

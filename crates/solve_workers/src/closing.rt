@@ -78,7 +78,7 @@ fn cut_of_group(book: &Book, node: &Node, chamber: u8, place: u8) -> Option<u64>
     requires at { IsGroupAt book.now.case.instance node.now chamber place }
     ensures { IfSome result (IsHitting book.now node.now) }
 {
-    let ships = &node.line(chamber).as_slice()[place as usize].ships;
+    let ships = &node.line(chamber)[place as usize].ships;
     known_cut(book, chamber, ships)
 }
 

@@ -27,7 +27,7 @@ fn close_if_new(book: &mut Book, held: &Held, chamber: u8, place: u8, memory: &M
     ensures kept { OnFalse result (book.new ≡ book.old) }
     ensures driven { IsDriven book.old book.new }
 {
-    let ships = &held.node.line(chamber).as_slice()[place as usize].ships;
+    let ships = &held.node.line(chamber)[place as usize].ships;
     if memory.find(chamber, ships).is_some() {
         return false;
     }
