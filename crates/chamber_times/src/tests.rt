@@ -108,9 +108,10 @@ const TIMETABLES: [Timetable; 15] = [
 ];
 
 /// The earliest times of a line of the two ships.
-fn times_of(instance: &Instance, line: &Line) -> Times
+fn times_of(instance: &Instance, line: &[Group]) -> Times
     requires chamber { length instance.now.chambers ≡ 1 }
     requires ships { length instance.now.ships ≡ 2 }
+    requires few { length line.now ≤ 24 }
     requires line { All (λ g. All (λ s. s < 2) g.ships) line.now }
 {
     earliest(instance, 0, line)
@@ -121,7 +122,7 @@ fn the_earliest_starts_wait_for_arrivals_turns_and_closures(rt: HostRuntime) -> 
     for (i, (lock, groups, want)) in TIMETABLES.iter().enumerate() {
         let instance = instance(lock).ok_or("over a limit")?;
         assert!(rt; groups.len() <= 24);
-        let times = times_of(&instance, &line(groups));
+        let times = times_of(&instance, line(groups).as_slice());
         assert_eq!(rt; times.as_slice(), *want, "row {i}");
     }
     Ok(())

@@ -1,15 +1,16 @@
 //! The earliest timetable of a line.
-ghost use Rattle.std.specs.Prelude.{◌≡◌, ◌^◌, ◌<◌, length, All};
+ghost use Rattle.std.specs.Prelude.{◌≡◌, ◌^◌, ◌<◌, ◌≤◌, length, All};
 ghost use Rattle.lock_rules.specs.Lawful.{AreEarliest};
 ghost use Rattle.lock_rules.specs.Timetable.{timetable_of, starts_of};
 
 use crate::service::{group_times, stand_after};
-use lock_model::{Instance, Line, Times};
+use lock_model::{Group, Instance, Times};
 
 /// The start and the end of each group of a chamber's line, as early as they can be: the starts
 /// are lawful, and in every lawful list each start is at least as large.
-pub fn earliest(instance: &Instance, chamber: u8, line: &Line) -> Times
+pub fn earliest(instance: &Instance, chamber: u8, line: &[Group]) -> Times
     requires chamber_in { chamber < length instance.now.chambers }
+    requires few { length line.now ≤ 24 }
     requires ships_in { All (λ g. All (λ s. s < length instance.now.ships) g.ships) line.now }
     ensures table { result ≡ timetable_of instance.now chamber line.now }
     ensures starts { AreEarliest instance.now chamber line.now (starts_of result) }
@@ -20,7 +21,7 @@ pub fn earliest(instance: &Instance, chamber: u8, line: &Line) -> Times
     let mut stand = lock.stands;
     let mut from = lock.opens as u64;
     let mut times = Times::new();
-    for group in line.as_slice() {
+    for group in line {
         let (start, end) = group_times(instance, chamber, stand, from, group);
         times.push(start, end);
         stand = stand_after(group.way);

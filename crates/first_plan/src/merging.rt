@@ -6,7 +6,7 @@ ghost use Rattle.first_plan.specs.Merging.{IsBetter, IsAtMost};
 use crate::joined::{Joined, joined_ships};
 use chamber_place::{Placed, place};
 use chamber_times::{cost, earliest, flow_time};
-use lock_model::{Instance, Line, Plan, Ships, Spots, deck_of};
+use lock_model::{Group, Instance, Plan, Ships, Spots, deck_of};
 use mooring_rules::{first_clash, judge_plan};
 use plain_text::NoMemory;
 use std::alloc::Global;
@@ -24,16 +24,16 @@ fn flow_until(instance: &Instance, ships: &Ships, end: u64) -> u64
 }
 
 // The flow times of a line's ships in its earliest timetable, added.
-fn line_flow(instance: &Instance, chamber: u8, line: &Line) -> u64
+fn line_flow(instance: &Instance, chamber: u8, line: &[Group]) -> u64
     requires chamber_in { chamber < length instance.now.chambers }
+    requires few { length line.now ≤ 24 }
     requires ships_in { All (λ g. All (λ s. s < length instance.now.ships) g.ships) line.now }
 {
     let times = earliest(instance, chamber, line);
     let times = times.as_slice();
-    let groups = line.as_slice();
     let mut flow: u64 = 0;
-    for i in 0..groups.len() {
-        flow = flow.saturating_add(flow_until(instance, &groups[i].ships, times[i].1));
+    for i in 0..line.len() {
+        flow = flow.saturating_add(flow_until(instance, &line[i].ships, times[i].1));
     }
     flow
 }
@@ -115,12 +115,12 @@ fn with_joined(
     ensures { IfOk result (λ found. IfSome found (IsBetter instance.now plan.now)) }
 {
     let line = joined.line(instance, plan, chamber);
-    if line_flow(instance, chamber, &line) >= chamber_flow(instance, plan, chamber) {
+    if line_flow(instance, chamber, line.as_slice()) >= chamber_flow(instance, plan, chamber) {
         return Ok(None);
     }
     match spots_for(alloc, instance, chamber, &joined.ships, turns)? {
         Some(spots) => {
-            let times = earliest(instance, chamber, &line);
+            let times = earliest(instance, chamber, line.as_slice());
             let candidate = joined.plan(plan, chamber, &spots, times.as_slice());
             Ok(better(instance, plan, candidate))
         }

@@ -8,14 +8,14 @@ ghost use Rattle.leaf_plan.specs.Moorings.{AreMoored, spots_by};
 
 use crate::moorings::Moorings;
 use chamber_times::earliest;
-use lock_model::{Instance, Line, Lockage, Lockages, Plan};
+use lock_model::{Group, Instance, Lockage, Lockages, Plan};
 use master_branch::Node;
 
 // Appends the lockages of a chamber's line at the earliest.
 fn append_line(
     instance: &Instance,
     chamber: u8,
-    line: &Line,
+    line: &[Group],
     moorings: &Moorings,
     lockages: &mut Lockages,
 )
@@ -26,9 +26,8 @@ fn append_line(
 {
     let times = earliest(instance, chamber, line);
     let times = times.as_slice();
-    let groups = line.as_slice();
-    for i in 0..groups.len() {
-        let group = &groups[i];
+    for i in 0..line.len() {
+        let group = &line[i];
         lockages.push(Lockage {
             chamber,
             way: group.way,

@@ -11,15 +11,18 @@ use Rattle.lock_rules.proofs.SplitLemmas.{missing-known, next-missing}
 use Rattle.lock_rules.proofs.ChildLemmas.{next-absent}
 use Rattle.lock_rules.proofs.NodeLemmas.{children-nodes}
 use Rattle.master_branch.specs.declared.step.Step.{Step}
+use Rattle.lock_rules.proofs.SizeLemmas.{node-kept}
+use Rattle.master_branch.specs.Row.{groups_held}
 use Rattle.master_branch.specs.Steps.{steps_by, lines_after, IsStep}
-use Rattle.master_branch.proofs.StepLemmas.{steps-each, steps-children, line-few}
+use Rattle.master_branch.proofs.RowLemmas.{groups-held-few}
+use Rattle.master_branch.proofs.StepLemmas.{steps-each, steps-children}
 
 -- what a step of ship s finds in a node of depth k, and makes of it
 pub record MayStep (I : Instance) (k s : ℕ) (lines : List (List Group)) (step : Step) : Type 0 where
   pub known : s < length I.ships
   pub allowed : IsStep I s lines step
   pub absent : (c : ℕ) → times_on s (line_at lines c) ≡ 0
-  pub room : (c : ℕ) → length (line_at lines c) < 24
+  pub room : groups_held lines < 24
   pub node : IsNode I (k + 1) (lines_after I s lines step)
 
 -- the lines after step i are child i's
@@ -42,12 +45,13 @@ ship-known I k s less next = subst (λ t. t < length I.ships) (sym next) (missin
 pub may-step : (I : Instance) (k s : ℕ) (lines : List (List Group)) (step : Step) → IsNode I k lines → k < length I.ships → s ≡ next_ship I k → Contains (steps_by I s lines) step → MayStep I k s lines step
 may-step I k s lines step node less next chosen =
     let up : suc k ≡ k + 1 = omega arith in
+    let kept = node-kept I k lines node in
     let here : chosen.0 < length (children_of I k lines) = omega (arith, chosen.1, length-steps I k s lines next) in
     record {
       known = ship-known I k s less next;
       allowed = All-contains (IsStep I s lines) (steps_by I s lines) step (steps-each I s lines) chosen;
       absent = λ c. subst (λ t. times_on t (line_at lines c) ≡ 0) (sym next) (next-absent I k lines node less c);
-      room = λ c. omega (arith, line-few I k lines node c, I.limits.ship_count.1);
+      room = omega (arith, groups-held-few lines kept.some, kept.depth, less, I.limits.ship_count.1);
       node = subst (λ n. IsNode I n (lines_after I s lines step)) up
           (subst (IsNode I (suc k)) (step-child I k s lines chosen.0 step lines next chosen.1 ∙ ap (lines_after I s lines) chosen.2)
           (children-nodes I k lines node less chosen.0 lines here));

@@ -3,3 +3,4 @@ pub mod StepLemmas
 pub mod JoinLemmas
 pub mod ChildSteps
 pub mod LawLemmas
+pub mod RowLemmas

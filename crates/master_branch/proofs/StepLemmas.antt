@@ -187,20 +187,6 @@ module _ (I : Instance) (s : ℕ) (lines : List (List Group)) where
 pub steps-few : (I : Instance) (s k : ℕ) (lines : List (List Group)) → IsNode I k lines → length (steps_by I s lines) ≤ 2 * k + length I.chambers
 steps-few I s k lines node = omega (arith, length-map (steps_by I s lines) (lines_after I s lines), ap length (steps-children I s lines), children-few I s k lines node)
 
--- a line of a node of depth k has at most k groups
-pub line-few : (I : Instance) (k : ℕ) (lines : List (List Group)) → IsNode I k lines → (c : ℕ) → length (line_at lines c) ≤ k
-line-few I k lines node c =
-    elim (leb_tells (length I.chambers) c) [
-      | inl past ↦ omega (arith, ap length (node.past c past.1))
-      | inr less ↦ omega (
-        arith,
-        groups-few (line_at lines c) (All-weaker (IsNodeGroup I c) (λ g. 1 ≤ length g.ships) (λ g h. h.count.0) (line_at lines c) (node.groups c less.1)),
-        sum_by-numbers_more (λ c. size_on (line_at lines c)) c,
-        sizes-sum lines (c + 1),
-        node-size I k lines node,
-      )
-    ]
-
 -- what a chamber's joins and new groups make together
 pub steps_at-is : (I : Instance) (s : ℕ) (lines : List (List Group)) (c most : ℕ) (way : Way) (line : List Group) → most ≡ (chamber_at I c).most → way ≡ (ship_at I s).way → line ≡ line_at lines c
     → joins_at most way c line ++ opens_at c (length line + 1) ≡ steps_at I s lines c

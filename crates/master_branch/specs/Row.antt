@@ -1,5 +1,5 @@
 -- The lines of a node as one row of groups: what the code keeps, and no public contract names.
-use Rattle.std.specs.Prelude.{ℕ, suc, ◌≡◌, ◌≤◌, ◌+◌, ◌-◌, List, [], ◌∷◌, ◌++◌, length, map, take, drop, slice_index_or}
+use Rattle.std.specs.Prelude.{ℕ, zero, suc, ◌≡◌, ◌≤◌, ◌+◌, ◌-◌, List, [], ◌∷◌, ◌++◌, length, map, take, drop, slice_index_or}
 use Rattle.lock_model.specs.declared.group.Group.{Group}
 
 -- the groups of a row from number `start` up to number `end`
@@ -16,6 +16,11 @@ abbrev pub IsCutFrom : ℕ → List ℕ → ℕ → Type 0
 IsCutFrom start [] n = start ≡ n
 IsCutFrom start (end ∷ ends) n = (start ≤ end) × IsCutFrom end ends n
 
+-- a row that is cut into four lines
+pub record IsRow (row : List Group) (ends : List ℕ) : Type 0 where
+  pub four : length ends ≡ 4
+  pub cut : IsCutFrom 0 ends (length row)
+
 -- the row that is cut into these lines, and its ends
 abbrev pub row_of : List (List Group) → List Group
 row_of [] = []
@@ -25,15 +30,14 @@ abbrev pub ends_from : ℕ → List (List Group) → List ℕ
 ends_from start [] = []
 ends_from start (line ∷ lines) = (start + length line) ∷ ends_from (start + length line) lines
 
--- where line c begins
-abbrev pub start_of : List ℕ → ℕ → ℕ
-start_of ends 0 = 0
-start_of ends (suc c) = slice_index_or ends c 0
+-- where line c begins, the first at `start`
+abbrev pub start_from : ℕ → List ℕ → ℕ → ℕ
+start_from start ends c = slice_index_or (start ∷ ends) c 0
 
 -- the ends once line c has a group more
 abbrev pub raised : List ℕ → ℕ → List ℕ
 raised [] c = []
-raised (end ∷ ends) 0 = (end + 1) ∷ map (λ e. e + 1) ends
+raised (end ∷ ends) zero = (end + 1) ∷ map (λ e. e + 1) ends
 raised (end ∷ ends) (suc c) = end ∷ raised ends c
 
 -- how many groups stand in some lines

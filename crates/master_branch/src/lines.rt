@@ -1,7 +1,7 @@
 //! The lines of the four chambers as one row of groups.
 ghost use Rattle.std.specs.Prelude.{◌≡◌, ◌<◌, ◌≤◌, length, All, insert, slice_set};
 ghost use Rattle.lock_rules.specs.Node.{line_at, root_lines};
-ghost use Rattle.master_branch.specs.Row.{start_of, raised, groups_held};
+ghost use Rattle.master_branch.specs.Row.{part, start_from, raised, groups_held};
 
 use arrayvec::ArrayVec;
 use lock_model::Group;
@@ -17,17 +17,20 @@ pub(crate) struct Lines {
 }
 
 impl Model for Lines {
-    ghost use Rattle.std.specs.Prelude.{List, length};
+    ghost use Rattle.std.specs.Prelude.{List};
     ghost use Rattle.lock_model.specs.declared.group.Group.{Group};
-    ghost use Rattle.master_branch.specs.Row.{cut_from, IsCutFrom, row_of, ends_from};
+    ghost use Rattle.master_branch.specs.Row.{cut_from, IsRow, row_of, ends_from};
+    ghost use Rattle.master_branch.specs.RowBack.{row-back, ends-back};
 
     ghost Value = { List (List Group) };
 
     ghost view = { λ a. cut_from 0 a.row.items a.ends };
 
-    ghost invariant = { λ a. IsCutFrom 0 a.ends (length a.row.items) };
+    ghost invariant = { λ a. IsRow a.row.items a.ends };
 
     ghost inverse = { λ lines. record { row = record { items = row_of lines }; ends = ends_from 0 lines } };
+
+    ghost inverse_ok = { λ a h i. record { row = record { items = row-back 0 a.row.items a.ends h.cut i }; ends = ends-back 0 a.row.items a.ends h.cut i } };
 }
 
 impl Lines {
@@ -48,7 +51,8 @@ impl Lines {
         ensures fits { length result.now ≤ 24 }
     {
         let start = start_of(&self.ends, chamber);
-        &self.row.as_slice()[start as usize..self.ends[chamber as usize] as usize]
+        let end = self.ends[chamber as usize];
+        part_of(self.row.as_slice(), start as usize, end as usize)
     }
 
     // Puts a group in the place of another one of a chamber's line.
@@ -58,7 +62,7 @@ impl Lines {
         ensures { self.new ≡ slice_set self.old chamber (slice_set (line_at self.old chamber) place group) }
     {
         let start = start_of(&self.ends, chamber);
-        self.row[(start + place) as usize] = group;
+        put(&mut self.row, start as usize + place as usize, group);
     }
 
     // Puts a group into a chamber's line, before the one at this place or behind the last.
@@ -69,7 +73,7 @@ impl Lines {
         ensures { self.new ≡ slice_set self.old chamber (insert (line_at self.old chamber) place group) }
     {
         let start = start_of(&self.ends, chamber);
-        self.row.insert((start + place) as usize, group);
+        self.row.insert(start as usize + place as usize, group);
         self.ends = raised(self.ends, chamber);
     }
 
@@ -77,8 +81,12 @@ impl Lines {
     pub(crate) fn copy(&self) -> Lines
         ensures { result ≡ self.now }
     {
+        let mut row = ArrayVec::new();
+        for group in self.row.as_slice() {
+            row.push(group.copy());
+        }
         Lines {
-            row: copied(self.row.as_slice()),
+            row,
             ends: self.ends,
         }
     }
@@ -87,13 +95,30 @@ impl Lines {
 // Where the line of a chamber begins in the row.
 fn start_of(ends: &[u8; 4], chamber: u8) -> u8
     requires { chamber < 4 }
-    ensures { result ≡ start_of ends.now chamber }
+    ensures { result ≡ start_from 0 ends.now chamber }
 {
     if chamber == 0 {
         0
     } else {
         ends[chamber as usize - 1]
     }
+}
+
+// The groups from number `start` on up to number `end`.
+fn part_of(row: &[Group], start: usize, end: usize) -> &[Group]
+    requires rises { start ≤ end }
+    requires within { end ≤ length row.now }
+    ensures { result.now ≡ part start end row.now }
+{
+    &row[start..end]
+}
+
+// Puts a group in the place of group `i` of a row.
+fn put(row: &mut ArrayVec<Group, 24>, i: usize, group: Group)
+    requires { i < length row.old.items }
+    ensures { row.new.items ≡ slice_set row.old.items i group }
+{
+    row[i] = group;
 }
 
 // The ends once a line has a group more.
@@ -109,16 +134,4 @@ fn raised(ends: [u8; 4], chamber: u8) -> [u8; 4]
         2 => [first, second, third + 1, fourth + 1],
         _ => [first, second, third, fourth + 1],
     }
-}
-
-// The same groups.
-fn copied(groups: &[Group]) -> ArrayVec<Group, 24>
-    requires { length groups.now ≤ 24 }
-    ensures { result.items ≡ groups.now }
-{
-    let mut row = ArrayVec::new();
-    for group in groups {
-        row.push(group.copy());
-    }
-    row
 }

@@ -1,11 +1,11 @@
 //! The group that a node's last ship is in.
-ghost use Rattle.std.specs.Prelude.{◌≡◌, ◌<◌, ◌↔◌, length, Contains, IsTrue, IfSome, IfNone};
+ghost use Rattle.std.specs.Prelude.{◌≡◌, ◌<◌, ◌≤◌, ◌↔◌, length, Contains, IsTrue, IfSome, IfNone};
 ghost use Rattle.lock_rules.specs.Node.{line_at};
 ghost use Rattle.master_branch.specs.Node.{IsNodeOf};
 ghost use Rattle.node_fate.specs.Fates.{IsGroupAt};
 ghost use Rattle.node_fate.specs.Last.{IsInGroup, IsLacked, IsLackedBelow};
 
-use lock_model::{Instance, Line};
+use lock_model::{Group, Instance};
 use master_branch::Node;
 
 // Whether a ship is among these.
@@ -16,13 +16,13 @@ fn is_among(ship: u8, ships: &[u8]) -> bool
 }
 
 // The place of the group of a line that this ship is in.
-fn place_in(line: &Line, ship: u8) -> Option<u8>
+fn place_in(line: &[Group], ship: u8) -> Option<u8>
+    requires { length line.now ≤ 24 }
     ensures some { IfSome result (IsInGroup line.now ship) }
     ensures none { IfNone result (IsLacked line.now ship (length line.now)) }
 {
-    let groups = line.as_slice();
-    for place in 0..groups.len() {
-        if is_among(ship, groups[place].ships.as_slice()) {
+    for place in 0..line.len() {
+        if is_among(ship, line[place].ships.as_slice()) {
             return Some(place as u8);
         }
     }

@@ -12,12 +12,11 @@ loop-i-preserved c =
     let at = c.args.chamber in
     let i = c.loop-i.i in
     let times = c.as_slice-times.ensures.value ∙ c.earliest-times.ensures.table in
-    let groups = c.as_slice-groups.ensures.value in
     let count = ap length c.push.ensures in (
-      line_more I at (spots_by ms at) c.args.line.now c.as_slice-times.result.now c.args.lockages.now c.loop-i.lockages c.push.new.self i c.index-groups-i.result c.copy.result (slice_index_or c.as_slice-times.result.now i (0, 0)).0 c.spots.result (0, 0)
-          times (omega (arith, ap length groups, c.loop-i-test.true)) c.loop-i.invariant.0
-          (c.index-groups-i.is ∙ ap (λ gs. slice_index_or gs i c.index-groups-i.result) groups) c.copy.ensures c.spots.ensures refl c.push.ensures,
-      omega (arith, count, length-append c.loop-i.lockages (record { chamber = c.args.chamber; way = c.index-groups-i.result.way; ships = c.copy.result; start = (slice_index_or c.as_slice-times.result.now i (0, 0)).0; spots = c.spots.result } ∷ []), c.loop-i.invariant.1),
+      line_more I at (spots_by ms at) c.args.line.now c.as_slice-times.result.now c.args.lockages.now c.loop-i.lockages c.push.new.self i c.index-line-i.result c.copy.result (slice_index_or c.as_slice-times.result.now i (0, 0)).0 c.spots.result (0, 0)
+          times (omega (arith, c.loop-i-test.true)) c.loop-i.invariant.0
+          (c.index-line-i.is) c.copy.ensures c.spots.ensures refl c.push.ensures,
+      omega (arith, count, length-append c.loop-i.lockages (record { chamber = c.args.chamber; way = c.index-line-i.result.way; ships = c.copy.result; start = (slice_index_or c.as_slice-times.result.now i (0, 0)).0; spots = c.spots.result } ∷ []), c.loop-i.invariant.1),
     )
 
 pub returns : goal.returns
@@ -25,5 +24,5 @@ returns c =
     let I = c.args.instance.now in
     let spots = spots_by c.args.moorings.now c.args.chamber in
     let L = lockages_on I c.args.chamber spots c.args.line.now in
-    let all : c.loop-i.i ≡ length c.args.line.now = omega (arith, ap length c.as_slice-groups.ensures.value, c.loop-i-test.false, c.loop-i.auto.i-end) in
+    let all : c.loop-i.i ≡ length c.args.line.now = omega (arith, c.loop-i-test.false, c.loop-i.auto.i-end) in
     record { value = c.loop-i.invariant.0 ∙ ap (λ n. c.args.lockages.now ++ take n L) all ∙ ap (λ ls. c.args.lockages.now ++ ls) (line_whole I c.args.chamber spots c.args.line.now) }

@@ -18,14 +18,14 @@ pub append_line-requires-clause-ships_in : goal.append_line-requires-clause-ship
 append_line-requires-clause-ships_in c =
     let I = c.args.instance.now in
     let n = c.args.node.now in
-    subst (All (λ (g : Group). All (λ s. s < length I.ships) g.ships)) (sym c.line.ensures) (line-known I n.depth n.lines c.requires.node c.loop-chamber.chamber)
+    subst (All (λ (g : Group). All (λ s. s < length I.ships) g.ships)) (sym c.line.ensures.value) (line-known I n.depth n.lines c.requires.node c.loop-chamber.chamber)
 
 pub append_line-requires-clause-room : goal.append_line-requires-clause-room
 append_line-requires-clause-room c =
     let I = c.args.instance.now in
     let n = c.args.node.now in
     let here : c.loop-chamber.chamber < length I.chambers = omega (arith, c.loop-chamber-test.true, ap length c.as_slice.ensures.value) in
-    omega (arith, c.loop-chamber.invariant.1, room_for I n.depth n.lines c.requires.node c.loop-chamber.chamber here, c.requires.whole, I.limits.ship_count.1, ap length c.line.ensures)
+    omega (arith, c.loop-chamber.invariant.1, room_for I n.depth n.lines c.requires.node c.loop-chamber.chamber here, c.requires.whole, I.limits.ship_count.1, ap length c.line.ensures.value)
 
 pub loop-chamber-preserved : goal.loop-chamber-preserved
 loop-chamber-preserved c =
@@ -33,7 +33,7 @@ loop-chamber-preserved c =
     let n = c.args.node.now in
     let at = c.loop-chamber.chamber in
     let f : ℕ → List Lockage = λ c'. lockages_on I c' (spots_by c.args.moorings.now c') (line_at n.lines c') in
-    let line = ap (lockages_on I at (spots_by c.args.moorings.now at)) c.line.ensures in
+    let line = ap (lockages_on I at (spots_by c.args.moorings.now at)) c.line.ensures.value in
     let grown : c.append_line.new.lockages ≡ c.loop-chamber.lockages ++ f at = c.append_line.ensures.value ∙ ap (λ ls. c.loop-chamber.lockages ++ ls) line in (
       grown ∙ ap (λ ls. ls ++ f at) c.loop-chamber.invariant.0 ∙ sym (chambers_step f at),
       omega (arith, ap length grown, length-append c.loop-chamber.lockages (f at), line_length I at (spots_by c.args.moorings.now at) (line_at n.lines at), c.loop-chamber.invariant.1, sizes_step n.lines at),

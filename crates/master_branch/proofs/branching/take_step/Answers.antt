@@ -1,6 +1,7 @@
 use Rattle.std.proofs.Common.{◌≡◌, ◌+◌, ℕ, ◌<◌, length, sym, ap, ◌∙◌, subst}
 use Rattle.lock_rules.specs.Node.{line_at, times_on, IsNode}
 use Rattle.lock_rules.proofs.SizeLemmas.{node-kept}
+use Rattle.master_branch.specs.Row.{groups_held}
 use Rattle.master_branch.specs.Steps.{lines_after, IsStep}
 use Rattle.master_branch.proofs.ChildSteps.{may-step}
 use Rattle.master_branch.proofs.branching.take_step.Goals as goal
@@ -22,7 +23,7 @@ enter-requires-clause-absent c =
 pub enter-requires-clause-room : goal.enter-requires-clause-room
 enter-requires-clause-room c =
     let may = may-step c.args.instance.now c.args.node.now.depth c.args.ship c.args.node.now.lines c.args.step c.requires.node c.requires.lacks c.requires.next c.requires.step in
-    subst (λ lines. (d : ℕ) → length (line_at lines d) < 24) (sym (ap (λ n. n.lines) c.node.view_is)) may.room
+    subst (λ lines. groups_held lines < 24) (sym (ap (λ n. n.lines) c.node.view_is)) may.room
 
 pub returns-clause-node : goal.returns-clause-node
 returns-clause-node c =

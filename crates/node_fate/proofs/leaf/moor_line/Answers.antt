@@ -8,11 +8,11 @@ pub loop-place-preserved : goal.loop-place-preserved
 loop-place-preserved c =
     let I = c.args.instance.now in
     let line = line_at c.args.node.now.lines c.args.chamber in
-    let same : c.as_slice-groups.result.now ≡ line = c.as_slice-groups.ensures.value ∙ c.line.ensures in
+    let same : c.line-groups.result.now ≡ line = c.line-groups.ensures.value in
     let here : c.loop-place.place < length line = omega (arith, ap length same, c.loop-place-test.true) in
     let group = c.index-groups-place.result in
-    let ships : List ℕ = (slice_index_or c.as_slice-groups.result.now c.loop-place.place group).ships in
-    moored_more I c.args.chamber line c.as_slice-groups.result.now c.loop-place.place c.args.moorings.now c.loop-place.moorings c.push.new.self group ships c.copy.result c.in-Fits.spots
+    let ships : List ℕ = (slice_index_or c.line-groups.result.now c.loop-place.place group).ships in
+    moored_more I c.args.chamber line c.line-groups.result.now c.loop-place.place c.args.moorings.now c.loop-place.moorings c.push.new.self group ships c.copy.result c.in-Fits.spots
     same here refl c.copy.ensures
     (fits_at I c.args.chamber ships c.args.turns c.in_ok-spots.field-0 c.in-Fits.spots c.in-Fits.is c.in_ok-spots.ensures)
     c.loop-place.invariant c.push.ensures
