@@ -1,12 +1,12 @@
 -- A row of groups cut into lines: what a line is, and what an edit of the row does to the lines.
-use Rattle.std.proofs.Common.{◌≡◌, ℕ, zero, suc, ◌+◌, ◌-◌, ◌<◌, ◌≤◌, List, [], ◌∷◌, ◌++◌, length, map, take, drop, All, refl, sym, ap, ◌∙◌, subst, arith, slice_index_or, slice_set}
+use Rattle.std.proofs.Common.{◌≡◌, ℕ, zero, suc, ◌+◌, ◌-◌, ◌<◌, ◌≤◌, List, [], ◌∷◌, length, map, take, drop, All, refl, sym, ap, ◌∙◌, subst, arith, slice_index_or, slice_set}
 use Rattle.std.specs.List.{insert}
-use Rattle.std.proofs.lemmas.List.{length-map, length-set, length-take, length-drop, drop-set-lt, drop-set-add, take-set-le}
+use Rattle.std.proofs.lemmas.List.{length-map, length-set, length-drop, drop-set-lt, drop-set-add, take-set-le}
 use Rattle.std.proofs.lemmas.List.Edits.{length-insert}
 use Rattle.std.proofs.lemmas.List.Elements.{All-head, All-tail}
 use Rattle.std.proofs.Math.Seq.{take-set-lt}
 use Rattle.lock_model.specs.declared.group.Group.{Group}
-use Rattle.lock_rules.specs.Node.{line_at, size_on, size_held}
+use Rattle.lock_rules.specs.Node.{line_at, size_held}
 use Rattle.lock_rules.proofs.SizeLemmas.{groups-few}
 use Rattle.master_branch.specs.Row.{part, cut_from, IsCutFrom, IsRow, start_from, raised, groups_held}
 use Rattle.master_branch.specs.RowBack.{begins-within, length-part}

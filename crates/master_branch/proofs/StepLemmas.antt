@@ -1,21 +1,21 @@
 -- The steps of a ship make the children, and how many there are.
 use Rattle.std.proofs.Common.{◌≡◌, ℕ, zero, suc, ◌+◌, ◌*◌, ◌<◌, ◌≤◌, List, [], ◌∷◌, ◌++◌, length, map, filter, All, cond, Bool, true, false, inl, inr, refl, sym, ap, ◌∙◌, arith, slice_set, slice_index_or}
 use Rattle.std.specs.List.{flat_map, insert}
-use Rattle.std.proofs.lemmas.Bool.Decides.{eqb_tells, leb_tells}
+use Rattle.std.proofs.lemmas.Bool.Decides.{eqb_tells}
 use Rattle.std.proofs.lemmas.Simd.{map-map}
 use Rattle.std.proofs.lemmas.Grind.{flat_map-append}
 use Rattle.std.proofs.lemmas.List.{get_or_default, length-append, length-map, map-append, map_push, append-nil}
-use Rattle.std.proofs.lemmas.List.Elements.{All-weaker, All-append, All-map, All-filter, filter-append, filter_passes}
+use Rattle.std.proofs.lemmas.List.Elements.{All-append, All-map, All-filter, filter-append, filter_passes}
 use Rattle.lock_model.specs.Fleet.{ship_at, chamber_at}
 use Rattle.lock_model.specs.declared.instance.Instance.{Instance}
 use Rattle.lock_model.specs.declared.group.Group.{Group}
 use Rattle.lock_model.specs.declared.way.Way.{Way}
 use Rattle.lock_rules.specs.Arrival.{numbers_from}
-use Rattle.lock_rules.specs.Node.{line_at, size_on, IsNode, IsNodeGroup}
+use Rattle.lock_rules.specs.Node.{line_at, IsNode}
 use Rattle.lock_rules.specs.Children.{with_ship, single, joined, added, children_at, children_by}
-use Rattle.lock_rules.proofs.LineLemmas.{length-numbers, numbers_more, numbers-below, sum_by-numbers_more}
+use Rattle.lock_rules.proofs.LineLemmas.{length-numbers, numbers_more, numbers-below}
 use Rattle.lock_rules.proofs.ChildLemmas.{All-flat_map}
-use Rattle.lock_rules.proofs.SizeLemmas.{node-size, groups-few, sizes-sum, children-few}
+use Rattle.lock_rules.proofs.SizeLemmas.{children-few}
 use Rattle.master_branch.specs.declared.step.Step.{Step}
 use Rattle.master_branch.specs.declared.step.Step.TheVariants.{Join, Open}
 use Rattle.master_branch.specs.Steps.{group_at, may_join, places_to_join, joins_at, opens_at, steps_at, steps_by, lines_after, IsStep}

@@ -1,5 +1,5 @@
 -- That the lines of a node give their row back, by which nodes are compared. No public contract names it.
-use Rattle.std.proofs.Common.{◌≡◌, ℕ, ◌+◌, ◌-◌, ◌≤◌, List, [], ◌∷◌, ◌++◌, length, take, drop, refl, sym, ap, ◌∙◌, arith}
+use Rattle.std.proofs.Common.{◌≡◌, ℕ, ◌+◌, ◌-◌, ◌≤◌, List, [], ◌∷◌, ◌++◌, length, drop, refl, sym, ap, ◌∙◌, arith}
 use Rattle.std.proofs.lemmas.List.{length-take, length-drop, take-append-drop, drop-drop}
 use Rattle.lock_model.specs.declared.group.Group.{Group}
 use Rattle.master_branch.specs.Row.{part, cut_from, IsCutFrom, row_of, ends_from}

@@ -1,4 +1,4 @@
-use Rattle.std.proofs.Common.{◌≡◌, ◌+◌, ℕ, ◌<◌, length, sym, ap, ◌∙◌, subst}
+use Rattle.std.proofs.Common.{◌≡◌, ◌+◌, ◌<◌, sym, ap, ◌∙◌, subst}
 use Rattle.lock_rules.specs.Node.{line_at, times_on, IsNode}
 use Rattle.lock_rules.proofs.SizeLemmas.{node-kept}
 use Rattle.master_branch.specs.Row.{groups_held}

@@ -1,6 +1,6 @@
-use Rattle.std.proofs.Common.{◌≡◌, ◌+◌, ◌<◌, ◌≤◌, All, length, arith, ap, ◌∙◌, sym, subst}
+use Rattle.std.proofs.Common.{◌+◌, ◌<◌, ◌≤◌, length, arith, ap, ◌∙◌, sym, subst}
 use Rattle.std.specs.List.{insert}
-use Rattle.master_branch.specs.Row.{cut_from, IsRow, raised, groups_held}
+use Rattle.master_branch.specs.Row.{cut_from, IsRow}
 use Rattle.master_branch.proofs.RowLemmas.{line-fits, insert-in, row-insert, row-held, ends-within}
 use Rattle.master_branch.proofs.lines.Lines.insert.Goals as goal
 

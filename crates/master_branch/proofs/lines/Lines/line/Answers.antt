@@ -1,4 +1,4 @@
-use Rattle.std.proofs.Common.{◌≡◌, ◌≤◌, length, arith, ap, ◌∙◌, sym, subst, slice_index_or}
+use Rattle.std.proofs.Common.{◌≤◌, length, arith, ap, ◌∙◌, slice_index_or}
 use Rattle.master_branch.specs.Row.{part}
 use Rattle.master_branch.specs.RowBack.{length-part}
 use Rattle.master_branch.proofs.RowLemmas.{line-rises, line-within, line-is}

@@ -1,4 +1,4 @@
-use Rattle.std.proofs.Common.{◌≡◌, ◌+◌, ◌<◌, length, arith, ap, ◌∙◌, sym, subst, slice_set}
+use Rattle.std.proofs.Common.{◌+◌, arith, ap, ◌∙◌, sym, subst}
 use Rattle.master_branch.specs.Row.{cut_from, IsRow}
 use Rattle.master_branch.proofs.RowLemmas.{line-fits, set-in, row-set}
 use Rattle.master_branch.proofs.lines.Lines.set.Goals as goal
