@@ -11,6 +11,7 @@ use Rattle.search_rules.proofs.NextLemmas.{first_slot-is, first_slot-empty}
 use Rattle.book_core.proofs.HandLemmas.{state-known}
 use Rattle.book_core.specs.Tables.{state_in, IsAmong, AreAbove, AreRising, AreBack}
 use Rattle.book_core.specs.Changes.{Changes}
+use Rattle.search_rules.specs.declared.grounds.Ground.TheVariants as by
 
 not-back : (state : SlotState) → is_back state ≡ false → state ≢ slot.Back
 not-back state e h = clash (sym (ap is_back h) ∙ e)
@@ -118,10 +119,10 @@ first-back b (x ∷ xs) good = sym (first_slot-is b is_back x (state-known b.slo
     here : state_in b.slots x ≡ slot.Back
     here = good.each x (inl refl)
 
-    open_is : state_in b.slots x ≢ slot.ByBound
+    open_is : state_in b.slots x ≢ slot.Closed by.Bound
     open_is e = clash (sym here ∙ e)
       where
-        clash : slot.Back ≡ slot.ByBound → ⊥
+        clash : slot.Back ≡ slot.Closed by.Bound → ⊥
         clash h = cc
 
     by_state : (k : ℕ) → k < x → (t : Bool) → is_back (slot_at b k).state ≡ t → t ≡ false

@@ -1,20 +1,18 @@
 -- The events that close a slot.
-use Rattle.std.proofs.Common.{◌≡◌, ℕ, suc, ◌<◌, ◌≤◌, refl, sym, ap, ◌∙◌, subst, arith, Bool, true, false, not, cond, nat_lt, inl, inr, None, slice_get}
+use Rattle.std.proofs.Common.{◌≡◌, ℕ, suc, ◌<◌, ◌≤◌, refl, sym, ap, ◌∙◌, subst, arith, Bool, true, false, not, cond, nat_lt, inl, inr, Some, None, slice_get}
 use Rattle.std.specs.declared.option.Option.{Option}
 use Rattle.std.proofs.lemmas.Bool.Decides.{leb_tells}
-use Rattle.lock_rules.specs.Throughput.{throughput_of}
 use Rattle.mooring_rules.specs.declared.breaks.BrokenPlan.{BrokenPlan}
-use Rattle.search_rules.specs.declared.book.SlotState.{SlotState}
-use Rattle.search_rules.specs.declared.book.SlotState.TheVariants as slot
-use Rattle.search_rules.specs.declared.book.Entry.{Entry}
-use Rattle.search_rules.specs.declared.book.Entry.TheVariants as entry
-use Rattle.search_rules.specs.Book.{Book, slot_at, best_cost}
+use Rattle.search_rules.specs.declared.grounds.Ground.{Ground}
+use Rattle.search_rules.specs.declared.grounds.Ground.TheVariants as by
+use Rattle.search_rules.specs.Book.{Book, best_cost}
 use Rattle.search_rules.specs.Events as machine
-use Rattle.search_rules.specs.Events.{Event, IsOwed, close_bound, close_cut, close_throughput, close_probe}
-use Rattle.search_rules.specs.Step.{step, may_close, noted, with_state, closed, hits_in, probe_at, is_missing}
+use Rattle.search_rules.specs.Events.{close}
+use Rattle.search_rules.specs.Step.{step, may_close, refusal_of, cheaper_than, close_unless, closed, hits_in, probe_at, is_missing}
+use Rattle.book_core.specs.declared.reply.Reply.{Reply}
 use Rattle.book_core.specs.declared.reply.Reply.TheVariants as reply
 use Rattle.book_core.specs.Keeps.{IsSound}
-use Rattle.book_core.specs.Replies.{IsFirstOf, Answers}
+use Rattle.book_core.specs.Replies.{told, Answers}
 use Rattle.book_core.proofs.SoundLemmas.{step-sound}
 
 abbrev pub Out : Type 0
@@ -42,121 +40,72 @@ is-not_less a b h = elim (leb_tells (suc a) b) [ inl y ↦ absurd (omega (arith,
 abbrev pub none : Option BrokenPlan
 none = None
 
-module _ (b : Book) (id : ℕ) where
-  abbrev answer : Event → Out
-  answer e = step (λ _ _. none) b e
+module _ (b : Book) (id : ℕ) (why : Ground) where
+  abbrev answer : Out
+  answer = step (λ _ _. none) b (close id why)
+
+  abbrev refusal : Option (machine.Reply BrokenPlan)
+  refusal = refusal_of b id why
 
   abbrev not_held : Out
   not_held = (b, machine.NotHeld id)
 
-  -- where the slot may be closed, what follows
-  pub past-held : (rest : Out) → may_close b id ≡ true → cond (not (may_close b id)) not_held rest ≡ rest
-  past-held rest e = pick-false (not (may_close b id)) not_held rest (not-true (may_close b id) e)
-
-  missed : (rest : Out) → may_close b id ≡ false → cond (not (may_close b id)) not_held rest ≡ not_held
-  missed rest e = pick-true (not (may_close b id)) not_held rest (not-false (may_close b id) e)
-
-  -- a number against the best cost
-  module _ (n : ℕ) (state : SlotState) (x : Entry) (bound best : ℕ) (bound_is : bound ≡ n) (best_is : best ≡ best_cost b) where
-    abbrev tested : Out
-    tested = cond (nat_lt n (best_cost b)) (b, machine.Cheaper n (best_cost b)) (closed {Break = BrokenPlan} b id state x)
-
-    pub tested-cheap : bound < best → tested ≡ (b, machine.Cheaper bound best)
-    tested-cheap low =
-        pick-true (nat_lt n (best_cost b)) (b, machine.Cheaper n (best_cost b)) (closed {Break = BrokenPlan} b id state x) (is-less n (best_cost b) (omega (arith, low, bound_is, best_is)))
-        ∙ (λ i. (b, machine.Cheaper (sym bound_is i) (sym best_is i)))
-
-    pub tested-shut : best ≤ bound → tested ≡ closed {Break = BrokenPlan} b id state x
-    tested-shut high = pick-false (nat_lt n (best_cost b)) (b, machine.Cheaper n (best_cost b)) (closed {Break = BrokenPlan} b id state x) (is-not_less n (best_cost b) (omega (arith, high, bound_is, best_is)))
-
-  -- ---- by its bound
-
-  pub bound-missed : may_close b id ≡ false → Answers b (close_bound id) (reply.NotHeld id) b
-  bound-missed e = record { found = None; judged = tt; answer = machine.NotHeld id; said = refl; same = missed _ e }
-
-  pub bound-cheap : (bound best : ℕ) → bound ≡ (slot_at b id).bound → best ≡ best_cost b → may_close b id ≡ true → bound < best → Answers b (close_bound id) (reply.Cheaper bound best) b
-  bound-cheap bound best f g e low = record {
+  pub missed : may_close b id ≡ false → Answers b (close id why) (reply.NotHeld id) b
+  missed e = record {
     found = None;
     judged = tt;
-    answer = machine.Cheaper bound best;
+    answer = machine.NotHeld id;
     said = refl;
-    same = past-held _ e ∙ tested-cheap (slot_at b id).bound slot.ByBound (entry.CloseBound id) bound best f g low;
+    same = pick-true (not (may_close b id)) not_held (close_unless b id why refusal) (not-false (may_close b id) e);
   }
 
-  pub bound-shut : (bound best : ℕ) → bound ≡ (slot_at b id).bound → best ≡ best_cost b → may_close b id ≡ true → best ≤ bound → answer (close_bound id) ≡ closed b id slot.ByBound (entry.CloseBound id)
-  bound-shut bound best f g e high = past-held _ e ∙ tested-shut (slot_at b id).bound slot.ByBound (entry.CloseBound id) bound best f g high
+  past-held : may_close b id ≡ true → answer ≡ close_unless b id why refusal
+  past-held e = pick-false (not (may_close b id)) not_held (close_unless b id why refusal) (not-true (may_close b id) e)
 
-  -- ---- by the throughput
+  pub refused : (r : Reply) (o : machine.Reply BrokenPlan) → told r ≡ Some o → may_close b id ≡ true → refusal ≡ Some o → Answers b (close id why) r b
+  refused r o said may is = record { found = None; judged = tt; answer = o; said = said; same = past-held may ∙ ap (close_unless b id why) is }
 
-  pub throughput-missed : may_close b id ≡ false → Answers b (close_throughput id) (reply.NotHeld id) b
-  throughput-missed e = record { found = None; judged = tt; answer = machine.NotHeld id; said = refl; same = missed _ e }
+  -- where nothing is refused, the book after it is sound, and it is the answer
+  module _ (may : may_close b id ≡ true) (unrefused : refusal ≡ None) where
+    shut : answer ≡ (closed b id why, machine.Closed)
+    shut = past-held may ∙ ap (close_unless b id why) unrefused
 
-  pub throughput-cheap : (bound best : ℕ) → bound ≡ throughput_of b.case.instance → best ≡ best_cost b → may_close b id ≡ true → bound < best → Answers b (close_throughput id) (reply.Cheaper bound best) b
-  throughput-cheap bound best f g e low = record {
-    found = None;
-    judged = tt;
-    answer = machine.Cheaper bound best;
-    said = refl;
-    same = past-held _ e ∙ tested-cheap (throughput_of b.case.instance) slot.ByThroughput (entry.CloseThroughput id) bound best f g low;
-  }
+    pub shut-sound : IsSound b → IsSound (closed b id why)
+    shut-sound sound = subst IsSound (ap (λ (o : Out). o.0) shut) (step-sound b (close id why) None sound tt tt)
 
-  pub throughput-shut : (bound best : ℕ) → bound ≡ throughput_of b.case.instance → best ≡ best_cost b → may_close b id ≡ true → best ≤ bound → answer (close_throughput id) ≡ closed b id slot.ByThroughput (entry.CloseThroughput id)
-  throughput-shut bound best f g e high = past-held _ e ∙ tested-shut (throughput_of b.case.instance) slot.ByThroughput (entry.CloseThroughput id) bound best f g high
+    pub shut-answers : (new : Book) → new ≡ closed b id why → Answers b (close id why) reply.Closed new
+    shut-answers new is = record { found = None; judged = tt; answer = machine.Closed; said = refl; same = shut ∙ ap (λ u. (u, machine.Closed)) (sym is) }
 
-  -- ---- by a probe
+  -- a number that has to be at least the best cost
+  module _ (n best : ℕ) (best_is : best ≡ best_cost b) (asked : refusal ≡ cheaper_than (best_cost b) n) where
+    abbrev test : Bool → Option (machine.Reply BrokenPlan)
+    test t = cond t (Some (machine.Cheaper n (best_cost b))) None
 
-  abbrev absent : ℕ → Out
-  absent s = (b, machine.Absent s)
+    pub cheap-refused : n < best → refusal ≡ Some (machine.Cheaper n best)
+    cheap-refused low = asked ∙ ap test (is-less n (best_cost b) (omega (arith, low, best_is))) ∙ ap (λ m. Some (machine.Cheaper n m)) (sym best_is)
 
-  pub probe-missed : (s : ℕ) → may_close b id ≡ false → Answers b (close_probe id s) (reply.NotHeld id) b
-  probe-missed s e = record { found = None; judged = tt; answer = machine.NotHeld id; said = refl; same = missed _ e }
+    pub high-unrefused : best ≤ n → refusal ≡ None
+    high-unrefused high = asked ∙ ap test (is-not_less n (best_cost b) (omega (arith, high, best_is)))
 
-  pub probe-absent : (s : ℕ) → may_close b id ≡ true → is_missing b id s ≡ false → Answers b (close_probe id s) (reply.Absent s) b
-  probe-absent s e m = record {
-    found = None;
-    judged = tt;
-    answer = machine.Absent s;
-    said = refl;
-    same = past-held _ e ∙ pick-true (not (is_missing b id s)) (absent s) _ (not-false (is_missing b id s) m);
-  }
+module _ (b : Book) (id : ℕ) where
+  -- a ship that the node holds, and one that it lacks
+  module _ (s : ℕ) where
+    abbrev probed : Bool → Option (machine.Reply BrokenPlan)
+    probed t = cond (not t) (Some (machine.Absent s)) (cheaper_than (best_cost b) (probe_at b id s))
 
-  pub probe-cheap : (s bound best : ℕ) → bound ≡ probe_at b id s → best ≡ best_cost b → may_close b id ≡ true → is_missing b id s ≡ true → bound < best → Answers b (close_probe id s) (reply.Cheaper bound best) b
-  probe-cheap s bound best f g e m low = record {
-    found = None;
-    judged = tt;
-    answer = machine.Cheaper bound best;
-    said = refl;
-    same =
-        past-held _ e ∙ pick-false (not (is_missing b id s)) (absent s) _ (not-true (is_missing b id s) m)
-        ∙ tested-cheap (probe_at b id s) (slot.ByProbe s) (entry.CloseProbe id s) bound best f g low;
-  }
+    pub probe-absent : is_missing b id s ≡ false → refusal_of {Break = BrokenPlan} b id (by.Probe s) ≡ Some (machine.Absent s)
+    probe-absent e = ap probed e
 
-  pub probe-shut : (s bound best : ℕ) → bound ≡ probe_at b id s → best ≡ best_cost b → may_close b id ≡ true → is_missing b id s ≡ true → best ≤ bound → answer (close_probe id s) ≡ closed b id (slot.ByProbe s) (entry.CloseProbe id s)
-  probe-shut s bound best f g e m high =
-      past-held _ e ∙ pick-false (not (is_missing b id s)) (absent s) _ (not-true (is_missing b id s) m)
-      ∙ tested-shut (probe_at b id s) (slot.ByProbe s) (entry.CloseProbe id s) bound best f g high
+    pub probe-asked : (least : ℕ) → is_missing b id s ≡ true → least ≡ probe_at b id s → refusal_of {Break = BrokenPlan} b id (by.Probe s) ≡ cheaper_than (best_cost b) least
+    probe-asked least e is = ap probed e ∙ ap (cheaper_than (best_cost b)) (sym is)
 
-  -- ---- by a cut
+  -- a cut that misses the node, and one that hits it
+  module _ (number : ℕ) where
+    abbrev hit : Bool → Option (machine.Reply BrokenPlan)
+    hit t = cond (not t) (Some (machine.NoHit number)) None
 
-  pub cut-missed : (number : ℕ) → may_close b id ≡ false → Answers b (close_cut id number) (reply.NotHeld id) b
-  cut-missed number e = record { found = None; judged = tt; answer = machine.NotHeld id; said = refl; same = missed _ e }
+    pub cut-misses : hits_in b id (slice_get b.cuts number) ≡ false → refusal_of {Break = BrokenPlan} b id (by.Cut number) ≡ Some (machine.NoHit number)
+    cut-misses e = ap hit e
 
-  pub cut-misses : (number : ℕ) → may_close b id ≡ true → hits_in b id (slice_get b.cuts number) ≡ false → Answers b (close_cut id number) (reply.NoHit number) b
-  cut-misses number e m = record {
-    found = None;
-    judged = tt;
-    answer = machine.NoHit number;
-    said = refl;
-    same = past-held _ e ∙ pick-true (not (hits_in b id (slice_get b.cuts number))) (b, machine.NoHit number) _ (not-false (hits_in b id (slice_get b.cuts number)) m);
-  }
-
-  pub cut-shut : (number : ℕ) → may_close b id ≡ true → hits_in b id (slice_get b.cuts number) ≡ true → answer (close_cut id number) ≡ closed b id (slot.ByCut number) (entry.CloseCut id number)
-  cut-shut number e m = past-held _ e ∙ pick-false (not (hits_in b id (slice_get b.cuts number))) (b, machine.NoHit number) _ (not-true (hits_in b id (slice_get b.cuts number)) m)
-
--- where a step closes a slot, the book after it is sound, and it is the answer
-module _ (b : Book) (sound : IsSound b) (id : ℕ) (state : SlotState) (x : Entry) (e : Event) (owed : IsOwed e) (judged : IsFirstOf b.case.instance e None) (same : step (λ _ _. none) b e ≡ closed {Break = BrokenPlan} b id state x) where
-  pub shut-sound : IsSound (noted (with_state b id state) x)
-  shut-sound = subst IsSound (ap (λ (o : Out). o.0) same) (step-sound b e None sound owed judged)
-
-  pub shut-answers : (new : Book) → new ≡ noted (with_state b id state) x → Answers b e reply.Closed new
-  shut-answers new is = record { found = None; judged = judged; answer = machine.Closed; said = refl; same = same ∙ ap (λ u. (u, machine.Closed)) (sym is) }
+    pub cut-hits : hits_in b id (slice_get b.cuts number) ≡ true → refusal_of {Break = BrokenPlan} b id (by.Cut number) ≡ None
+    cut-hits e = ap hit e

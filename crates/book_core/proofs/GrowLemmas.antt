@@ -35,6 +35,7 @@ use Rattle.book_core.proofs.KeptLemmas.{length-slots, stored-change}
 use Rattle.book_core.proofs.SettleLemmas.{restated}
 use Rattle.book_core.proofs.CloseLemmas.{Out, none, pick-true, pick-false, not-true, not-false}
 use Rattle.book_core.proofs.SoundLemmas.{step-sound}
+use Rattle.search_rules.specs.declared.grounds.Ground.TheVariants as by
 
 pub append-three : {X : Type 0} (xs ys zs : List X) → (xs ++ ys) ++ zs ≡ xs ++ (ys ++ zs)
 append-three [] ys zs = refl
@@ -68,7 +69,7 @@ kids-slots I cost id node (l ∷ ls) before n done count all known is =
     let lines : slice_index_or (children_of I node.depth node.lines) n root_lines ≡ l = (λ i. slice_index_or (all i) (count i) root_lines) ∙ at-middle before l ls root_lines in
     let here : node_after I done s ≡ own =
     after-some I done s (omega (arith, known)) ∙ ap (λ m. child_node I m n) is ∙ ap (λ x. record { depth = suc node.depth; lines = x }) lines in
-    let kid : Node → Slot = λ m. record { parent = id; number = n; node = m; bound = bound_of I (suc node.depth) l; state = cond (nat_le cost (bound_of I (suc node.depth) l)) slot.ByBound slot.Fresh } in
+    let kid : Node → Slot = λ m. record { parent = id; number = n; node = m; bound = bound_of I (suc node.depth) l; state = cond (nat_le cost (bound_of I (suc node.depth) l)) (slot.Closed by.Bound) slot.Fresh } in
     let long = length-both done (node_after I done s ∷ []) in
     let rest = kids-slots I cost id node ls (before ++ l ∷ []) (suc n) (done ++ node_after I done s ∷ []) (omega (arith, count, length-both before (l ∷ []))) (all ∙ sym (append-three before (l ∷ []) ls))
     (omega (arith, known, long)) (get_or-append done (node_after I done s ∷ []) root id known ∙ is) in
@@ -77,11 +78,11 @@ kids-slots I cost id node (l ∷ ls) before n done count all known is =
 -- ---- the slots of a book that is split
 
 -- the slots of children are Fresh or closed
-kid-state : (P : SlotState → Type 0) → P slot.ByBound → P slot.Fresh → (I : Instance) (cost id depth n : ℕ) (ls : List (List (List Group))) (k : ℕ) → P (state_in (child_slots I cost id depth n ls) k)
+kid-state : (P : SlotState → Type 0) → P (slot.Closed by.Bound) → P slot.Fresh → (I : Instance) (cost id depth n : ℕ) (ls : List (List (List Group))) (k : ℕ) → P (state_in (child_slots I cost id depth n ls) k)
 kid-state P closed fresh I cost id depth n [] k = closed
 kid-state P closed fresh I cost id depth n (l ∷ ls) zero = by_test (nat_le cost (bound_of I depth l))
   where
-    by_test : (t : Bool) → P (cond t slot.ByBound slot.Fresh)
+    by_test : (t : Bool) → P (cond t (slot.Closed by.Bound) slot.Fresh)
     by_test true = closed
     by_test false = fresh
 kid-state P closed fresh I cost id depth n (l ∷ ls) (suc k) = kid-state P closed fresh I cost id depth (suc n) ls k
@@ -101,7 +102,7 @@ module _ (b : Book) (sound : IsSound b) (id w : ℕ) (held : (slot_at b id).stat
   abbrev pub grown : List Slot
   grown = middle ++ children_in b id
 
-  held-open : slot.Held w ≢ slot.ByBound
+  held-open : slot.Held w ≢ slot.Closed by.Bound
   held-open e = cc
 
   id-known : id < length b.slots
@@ -128,7 +129,7 @@ module _ (b : Book) (sound : IsSound b) (id w : ℕ) (held : (slot_at b id).stat
   far-slot k past = ap (slot_in grown) (far k past).1 ∙ get_or-append-add middle (children_in b id) (far k past).0 no_slot
 
   -- a state that children don't have
-  old-state : (P : SlotState → Bool) → P slot.ByBound ≡ false → P slot.Fresh ≡ false → (k : ℕ) → P (state_in grown k) ≡ true → k < length b.slots
+  old-state : (P : SlotState → Bool) → P (slot.Closed by.Bound) ≡ false → P slot.Fresh ≡ false → (k : ℕ) → P (state_in grown k) ≡ true → k < length b.slots
   old-state P closed fresh k e = elim (leb_tells (suc k) (length b.slots)) [
     | inl y ↦ y.1
     | inr n ↦
@@ -148,7 +149,7 @@ module _ (b : Book) (sound : IsSound b) (id w : ℕ) (held : (slot_at b id).stat
       (λ v k e. let count = change.count in ap (λ (s : Slot). s.state) (near k (omega (arith, count, state-known middle k (λ h. held-not (sym e ∙ h))))) ∙ e)
       (λ v k e. ap (λ (s : Slot). s.state) (sym (near k (old-state is_held refl refl k (ap is_held e)))) ∙ e)
     where
-      held-not : {v : ℕ} → slot.Held v ≡ slot.ByBound → ⊥
+      held-not : {v : ℕ} → slot.Held v ≡ slot.Closed by.Bound → ⊥
       held-not h = cc
 
   grown-back : (back : List ℕ) → AreBack b.slots back → AreBack grown back
@@ -160,7 +161,7 @@ module _ (b : Book) (sound : IsSound b) (id w : ℕ) (held : (slot_at b id).stat
         all = λ k e. middle_back.all k (ap (λ (s : Slot). s.state) (sym (near k (old-state is_back refl refl k (ap is_back e)))) ∙ e);
       }
     where
-      back-not : slot.Back ≡ slot.ByBound → ⊥
+      back-not : slot.Back ≡ slot.Closed by.Bound → ⊥
       back-not h = cc
 
   grows : Grows b.slots id grown

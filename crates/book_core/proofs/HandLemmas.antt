@@ -11,6 +11,7 @@ use Rattle.std.proofs.lemmas.List.Folds.{Any-from_list_any, list_any_at}
 use Rattle.search_rules.proofs.SlotLemmas.{held-is, held_by-is, held_by-itself, first_slot-at, first_slot-none}
 use Rattle.book_core.specs.Tables.{state_in, hand_at, AreHands}
 use Rattle.book_core.specs.Changes.{slot_in, stateless, set_state, Changes, let_go, has_some}
+use Rattle.search_rules.specs.declared.grounds.Ground.TheVariants as by
 
 pub set-changes : (slots : List Slot) (id : ℕ) (state : SlotState) → id < length slots → Changes slots id state (set_state slots id state)
 set-changes slots id state known =
@@ -99,10 +100,7 @@ module _ (old new : List Slot) (id : ℕ) (state : SlotState) (change : Changes 
   by_state slot.Back e after = hands-kept (ap is_held e) after
   by_state (slot.Parked c p) e after = hands-kept (ap is_held e) after
   by_state (slot.Split first) e after = hands-kept (ap is_held e) after
-  by_state slot.ByBound e after = hands-kept (ap is_held e) after
-  by_state (slot.ByCut number) e after = hands-kept (ap is_held e) after
-  by_state slot.ByThroughput e after = hands-kept (ap is_held e) after
-  by_state (slot.ByProbe s) e after = hands-kept (ap is_held e) after
+  by_state (slot.Closed why) e after = hands-kept (ap is_held e) after
 
   -- the slot leaves the hand that holds it, if one does
   pub hands-let_go : is_held state ≡ false → AreHands new (let_go (state_in old id) hands)
@@ -145,12 +143,12 @@ pub hands-same : (old new : List Slot) (hands : List (Option ℕ)) → AreHands 
 hands-same old new hands good there back = record { nine = good.nine; held = λ w id e. there w id (good.held w id e); hand = λ w id e. good.hand w id (back w id e) }
 
 -- a slot in another state than ByBound is one of the slots
-pub state-known : (slots : List Slot) (id : ℕ) → state_in slots id ≢ slot.ByBound → id < length slots
+pub state-known : (slots : List Slot) (id : ℕ) → state_in slots id ≢ slot.Closed by.Bound → id < length slots
 state-known [] id other = absurd (other refl)
 state-known (s ∷ ss) zero other = omega arith
 state-known (s ∷ ss) (suc id) other = let rest = state-known ss id other in omega (arith, rest)
 
-open-held : (w : ℕ) → slot.Held w ≢ slot.ByBound
+open-held : (w : ℕ) → slot.Held w ≢ slot.Closed by.Bound
 open-held w e = clash (ap is_held e)
   where
     clash : true ≡ false → ⊥

@@ -26,11 +26,12 @@ use Rattle.book_core.proofs.BackLemmas.{first-back, first-taken, fewer-back, bac
 use Rattle.book_core.proofs.WaitingLemmas.{settles, waiting-kept}
 use Rattle.book_core.proofs.KeptLemmas.{length-slots, stored-change}
 use Rattle.book_core.proofs.SettleLemmas.{restated}
+use Rattle.search_rules.specs.declared.grounds.Ground.TheVariants as by
 
-fresh-open : slot.Fresh ≢ slot.ByBound
+fresh-open : slot.Fresh ≢ slot.Closed by.Bound
 fresh-open e = cc
 
-held-open : (w : ℕ) → slot.Held w ≢ slot.ByBound
+held-open : (w : ℕ) → slot.Held w ≢ slot.Closed by.Bound
 held-open w e = cc
 
 -- a free slot is Back or Fresh
@@ -71,10 +72,7 @@ module _ (b : Book) (ended : List Bool) (hands : List (Option ℕ)) (back : List
   fewer (slot.Held v) = omega arith
   fewer (slot.Parked c p) = omega arith
   fewer (slot.Split first) = omega arith
-  fewer slot.ByBound = omega arith
-  fewer (slot.ByCut number) = omega arith
-  fewer slot.ByThroughput = omega arith
-  fewer (slot.ByProbe s) = omega arith
+  fewer (slot.Closed why) = omega arith
 
   -- a free slot goes to a worker who holds none
   pub tables-given : Changes b.slots id (slot.Held w) new → IsFree b id → w ≤ 8 → first_slot b (is_held_by w) ≡ None → AreTables new ended (slice_set hands w (Some id)) (leave_back (state_in b.slots id) back) waiting

@@ -18,6 +18,7 @@ use Rattle.book_core.proofs.StoredLemmas.{length-slots_after, stored-at, stored-
 use Rattle.book_core.proofs.HandLemmas.{state-known, hands-let_go}
 use Rattle.book_core.proofs.BackLemmas.{back-kept}
 use Rattle.book_core.proofs.WaitingLemmas.{settles, waiting-kept}
+use Rattle.search_rules.specs.declared.grounds.Ground.TheVariants as by
 
 -- ---- what is stored of a slot
 
@@ -67,7 +68,7 @@ few-slots b sound =
 pub record MayLeave (state : SlotState) : Type 0 where
   pub back : is_back state ≡ false
   pub split : is_split state ≡ false
-  pub known : state ≢ slot.ByBound
+  pub known : state ≢ slot.Closed by.Bound
 
 clash : false ≡ true → ⊥
 clash e = cc
@@ -78,10 +79,7 @@ may-leave (slot.Parked c p) e = record { back = refl; split = refl; known = λ h
 may-leave slot.Fresh e = absurd (clash e)
 may-leave slot.Back e = absurd (clash e)
 may-leave (slot.Split first) e = absurd (clash e)
-may-leave slot.ByBound e = absurd (clash e)
-may-leave (slot.ByCut number) e = absurd (clash e)
-may-leave slot.ByThroughput e = absurd (clash e)
-may-leave (slot.ByProbe s) e = absurd (clash e)
+may-leave (slot.Closed why) e = absurd (clash e)
 
 pub leaving-known : (slots : List Slot) (id : ℕ) → (is_held (state_in slots id) || is_parked (state_in slots id)) ≡ true → id < length slots
 leaving-known slots id e = state-known slots id (may-leave (state_in slots id) e).known

@@ -31,10 +31,7 @@ ids-let_go slot.Fresh hands = refl
 ids-let_go slot.Back hands = refl
 ids-let_go (slot.Parked c p) hands = refl
 ids-let_go (slot.Split first) hands = refl
-ids-let_go slot.ByBound hands = refl
-ids-let_go (slot.ByCut number) hands = refl
-ids-let_go slot.ByThroughput hands = refl
-ids-let_go (slot.ByProbe s) hands = refl
+ids-let_go (slot.Closed why) hands = refl
 
 pub some-ids : (hands : List (Option Hand)) → has_some hands ≡ has_some (ids_of hands)
 some-ids [] = refl
@@ -96,10 +93,7 @@ module _ (I : Instance) where
     nodes-let_go slot.Back = nodes
     nodes-let_go (slot.Parked c p) = nodes
     nodes-let_go (slot.Split first) = nodes
-    nodes-let_go slot.ByBound = nodes
-    nodes-let_go (slot.ByCut number) = nodes
-    nodes-let_go slot.ByThroughput = nodes
-    nodes-let_go (slot.ByProbe s) = nodes
+    nodes-let_go (slot.Closed why) = nodes
 
     of-hand : (h : Option Hand) → IfSome h (IsHand I slots) → IfSome (near_of h) (λ n. IsNodeIn I slots n.id n.node)
     of-hand None is = tt
@@ -111,10 +105,7 @@ module _ (I : Instance) where
     near-here slot.Back = tt
     near-here (slot.Parked c p) = tt
     near-here (slot.Split first) = tt
-    near-here slot.ByBound = tt
-    near-here (slot.ByCut number) = tt
-    near-here slot.ByThroughput = tt
-    near-here (slot.ByProbe s) = tt
+    near-here (slot.Closed why) = tt
 
     -- the node of the hand that holds a slot in this state is the near one, and the hand is empty
     pub nodes-moved : (s : SlotState) → AreNodes I slots (let_go s hands) (near_in s hands)

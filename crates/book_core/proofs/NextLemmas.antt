@@ -21,8 +21,9 @@ use Rattle.book_core.specs.Keeps.{IsSound}
 use Rattle.book_core.proofs.HandLemmas.{state-known}
 use Rattle.book_core.proofs.StoredLemmas.{stored-at}
 use Rattle.book_core.proofs.KeptLemmas.{length-slots, slot-past}
+use Rattle.search_rules.specs.declared.grounds.Ground.TheVariants as by
 
-stored-past : (ss : List StoredSlot) (id : ℕ) → length ss ≤ id → stored_at ss id ≡ record { bound = 0; state = slot.ByBound; parent = 0; number = 0 }
+stored-past : (ss : List StoredSlot) (id : ℕ) → length ss ≤ id → stored_at ss id ≡ record { bound = 0; state = slot.Closed by.Bound; parent = 0; number = 0 }
 stored-past [] id past = refl
 stored-past (s ∷ ss) zero past = absurd (omega (arith, past))
 stored-past (s ∷ ss) (suc id) past = stored-past ss id (omega (arith, past))
@@ -30,7 +31,7 @@ stored-past (s ∷ ss) (suc id) past = stored-past ss id (omega (arith, past))
 -- what is stored at any number, behind the last slot too
 pub stored-any : (I : Instance) (ss : List StoredSlot) (id : ℕ) → IsStoredAs (stored_at ss id) (slot_in (slots_of I ss) id)
 stored-any I ss id = elim (leb_tells (suc id) (length ss)) [
-  | inl y ↦ stored-at I [] ss id (record { bound = 0; state = slot.ByBound; parent = 0; number = 0 }) y.1
+  | inl y ↦ stored-at I [] ss id (record { bound = 0; state = slot.Closed by.Bound; parent = 0; number = 0 }) y.1
   | inr n ↦
       let past : length ss ≤ id = omega (arith, n.1) in
       let is = slot-past (slots_of I ss) id (omega (arith, past, length-slots I ss)) in
@@ -139,7 +140,7 @@ some-number (suc n) other = omega arith
 split-same : (m n : ℕ) → slot.Split m ≡ slot.Split n → m ≡ n
 split-same m n e = cc
 
-fresh-open : slot.Fresh ≢ slot.ByBound
+fresh-open : slot.Fresh ≢ slot.Closed by.Bound
 fresh-open e = cc
 
 clash : true ≡ false → ⊥

@@ -9,6 +9,7 @@ use Rattle.std.proofs.Common.{List}
 use Rattle.lock_model.specs.declared.instance.Instance.{Instance}
 use Rattle.book_core.specs.Hands.{held_at, IsHand, AreNodes}
 use Rattle.book_core.specs.Keeps.{AreTables}
+use Rattle.search_rules.specs.declared.grounds.Ground.TheVariants as by
 
 no-hand : (n w : ℕ) → hand_at (replicate n None) w ≡ None
 no-hand zero w = refl
@@ -26,12 +27,12 @@ opening-nodes I slots = record { hands_are = empty 9; near_is = tt }
 none-some : (id : ℕ) → None ≡ Some id → ⊥
 none-some id e = cc
 
-module _ (s : Slot) (t : Bool) (is : s.state ≡ cond t slot.ByBound slot.Fresh) where
+module _ (s : Slot) (t : Bool) (is : s.state ≡ cond t (slot.Closed by.Bound) slot.Fresh) where
   -- the one slot is closed or Fresh, and behind it there is none
-  at : (P : SlotState → Type 0) → P slot.ByBound → P slot.Fresh → (id : ℕ) → P (state_in (s ∷ []) id)
+  at : (P : SlotState → Type 0) → P (slot.Closed by.Bound) → P slot.Fresh → (id : ℕ) → P (state_in (s ∷ []) id)
   at P closed fresh zero = by_test t is
     where
-      by_test : (u : Bool) → s.state ≡ cond u slot.ByBound slot.Fresh → P s.state
+      by_test : (u : Bool) → s.state ≡ cond u (slot.Closed by.Bound) slot.Fresh → P s.state
       by_test true e = subst P (sym e) closed
       by_test false e = subst P (sym e) fresh
   at P closed fresh (suc id) = closed
@@ -52,19 +53,19 @@ module _ (s : Slot) (t : Bool) (is : s.state ≡ cond t slot.ByBound slot.Fresh)
     };
   }
     where
-      closed-held : (w : ℕ) → slot.ByBound ≢ slot.Held w
+      closed-held : (w : ℕ) → (slot.Closed by.Bound) ≢ slot.Held w
       closed-held w e = cc
 
       fresh-held : (w : ℕ) → slot.Fresh ≢ slot.Held w
       fresh-held w e = cc
 
-      closed-back : slot.ByBound ≢ slot.Back
+      closed-back : (slot.Closed by.Bound) ≢ slot.Back
       closed-back e = cc
 
       fresh-back : slot.Fresh ≢ slot.Back
       fresh-back e = cc
 
-      closed-fresh : slot.ByBound ≢ slot.Fresh
+      closed-fresh : (slot.Closed by.Bound) ≢ slot.Fresh
       closed-fresh e = cc
 
       behind : (id : ℕ) → 0 < id → state_in (s ∷ []) id ≡ slot.Fresh → ⊥

@@ -36,6 +36,7 @@ use Rattle.book_core.proofs.WaitingLemmas.{waiting-kept}
 use Rattle.book_core.proofs.NextLemmas.{stored-any}
 use Rattle.book_core.proofs.CloseLemmas.{Out, pick-true, pick-false}
 use Rattle.book_core.proofs.SoundLemmas.{step-sound}
+use Rattle.search_rules.specs.declared.grounds.Ground.TheVariants as by
 
 -- ---- the walk over the slots
 
@@ -50,10 +51,10 @@ each-outdone cost (s ∷ ss) (n ∷ ns) count each =
     (λ i. here i ∷ rest i)
 
 one-outdone : (I : Instance) (cost : ℕ) (s : StoredSlot) (ss : List StoredSlot) (done : List Node) (t : Bool) → ((more : List Node) → slots_after I more (map (outdone_stored cost) ss) ≡ map (outdone cost) (slots_after I more ss))
-    → slots_after I done (cond t (record s { state = slot.ByBound }) s ∷ map (outdone_stored cost) ss)
-    ≡ cond t (record (slot_with s (node_after I done s)) { state = slot.ByBound }) (slot_with s (node_after I done s)) ∷ map (outdone cost) (slots_after I (done ++ node_after I done s ∷ []) ss)
-one-outdone I cost s ss [] true rest = ap (λ l. record (slot_with s (node_after I [] s)) { state = slot.ByBound } ∷ l) (rest (node_after I [] s ∷ []))
-one-outdone I cost s ss (n ∷ ns) true rest = ap (λ l. record (slot_with s (node_after I (n ∷ ns) s)) { state = slot.ByBound } ∷ l) (rest ((n ∷ ns) ++ node_after I (n ∷ ns) s ∷ []))
+    → slots_after I done (cond t (record s { state = slot.Closed by.Bound }) s ∷ map (outdone_stored cost) ss)
+    ≡ cond t (record (slot_with s (node_after I done s)) { state = slot.Closed by.Bound }) (slot_with s (node_after I done s)) ∷ map (outdone cost) (slots_after I (done ++ node_after I done s ∷ []) ss)
+one-outdone I cost s ss [] true rest = ap (λ l. record (slot_with s (node_after I [] s)) { state = slot.Closed by.Bound } ∷ l) (rest (node_after I [] s ∷ []))
+one-outdone I cost s ss (n ∷ ns) true rest = ap (λ l. record (slot_with s (node_after I (n ∷ ns) s)) { state = slot.Closed by.Bound } ∷ l) (rest ((n ∷ ns) ++ node_after I (n ∷ ns) s ∷ []))
 one-outdone I cost s ss done false rest = ap (λ l. slot_with s (node_after I done s) ∷ l) (rest (done ++ node_after I done s ∷ []))
 
 outdone-stored : (I : Instance) (cost : ℕ) (done : List Node) (ss : List StoredSlot) → slots_after I done (map (outdone_stored cost) ss) ≡ map (outdone cost) (slots_after I done ss)
@@ -69,7 +70,7 @@ slots-outdone I cost ss = outdone-stored I cost [] ss
 -- the slot is as it was, or closed, and then it was Fresh, Back or Parked
 data Way (s new : Slot) : Type 0 where
   Same : new ≡ s → Way s new
-  Shut : new.state ≡ slot.ByBound → (is_fresh s.state || is_back s.state || is_parked s.state) ≡ true → Way s new
+  Shut : new.state ≡ slot.Closed by.Bound → (is_fresh s.state || is_back s.state || is_parked s.state) ≡ true → Way s new
 
 both-first : (p q : Bool) → (p && q) ≡ true → p ≡ true
 both-first true q e = refl
@@ -78,7 +79,7 @@ both-first false q e = e
 way : (cost : ℕ) (s : Slot) → Way s (outdone cost s)
 way cost s = by_test ((is_fresh s.state || is_back s.state || is_parked s.state) && nat_le cost s.bound) refl
   where
-    by_test : (t : Bool) → ((is_fresh s.state || is_back s.state || is_parked s.state) && nat_le cost s.bound) ≡ t → Way s (cond t (record s { state = slot.ByBound }) s)
+    by_test : (t : Bool) → ((is_fresh s.state || is_back s.state || is_parked s.state) && nat_le cost s.bound) ≡ t → Way s (cond t (record s { state = slot.Closed by.Bound }) s)
     by_test true e = Shut refl (both-first (is_fresh s.state || is_back s.state || is_parked s.state) (nat_le cost s.bound) e)
     by_test false e = Same refl
 
@@ -90,7 +91,7 @@ module _ (cost : ℕ) (slots : List Slot) where
   at k known = got-map (outdone cost) slots k known
 
   -- a state that is neither Fresh, Back nor Parked stays
-  stays : (k : ℕ) (state : SlotState) → state ≢ slot.ByBound → (is_fresh state || is_back state || is_parked state) ≡ false → state_in slots k ≡ state → state_in new k ≡ state
+  stays : (k : ℕ) (state : SlotState) → state ≢ slot.Closed by.Bound → (is_fresh state || is_back state || is_parked state) ≡ false → state_in slots k ≡ state → state_in new k ≡ state
   stays k state other shut e =
       let known = state-known slots k (λ h. other (sym e ∙ h)) in
       ap (λ (s : Slot). s.state) (at k known) ∙ by_way (way cost (slot_in slots k))
@@ -103,7 +104,7 @@ module _ (cost : ℕ) (slots : List Slot) where
       by_way (Shut closed open_is) = absurd (clash (sym shut ∙ ap (λ s. is_fresh s || is_back s || is_parked s) (sym e) ∙ open_is))
 
   -- a state other than ByBound was there before
-  was : (k : ℕ) (state : SlotState) → state ≢ slot.ByBound → state_in new k ≡ state → state_in slots k ≡ state
+  was : (k : ℕ) (state : SlotState) → state ≢ slot.Closed by.Bound → state_in new k ≡ state → state_in slots k ≡ state
   was k state other e =
       let there = state-known new k (λ h. other (sym e ∙ h)) in
       let known : k < length slots = omega (arith, there, length-map slots (outdone cost)) in
@@ -116,7 +117,7 @@ module _ (cost : ℕ) (slots : List Slot) where
   parent-same : (k : ℕ) → k < length slots → (slot_in new k).parent ≡ (slot_in slots k).parent
   parent-same k known = ap (λ (s : Slot). s.parent) (at k known) ∙ by_test ((is_fresh (slot_in slots k).state || is_back (slot_in slots k).state || is_parked (slot_in slots k).state) && nat_le cost (slot_in slots k).bound)
     where
-      by_test : (t : Bool) → (cond t (record (slot_in slots k) { state = slot.ByBound }) (slot_in slots k)).parent ≡ (slot_in slots k).parent
+      by_test : (t : Bool) → (cond t (record (slot_in slots k) { state = slot.Closed by.Bound }) (slot_in slots k)).parent ≡ (slot_in slots k).parent
       by_test true = refl
       by_test false = refl
 
@@ -126,20 +127,20 @@ module _ (cost : ℕ) (slots : List Slot) where
       node-same : (s : Slot) → (outdone cost s).node ≡ s.node
       node-same s = by_test ((is_fresh s.state || is_back s.state || is_parked s.state) && nat_le cost s.bound)
         where
-          by_test : (t : Bool) → (cond t (record s { state = slot.ByBound }) s).node ≡ s.node
+          by_test : (t : Bool) → (cond t (record s { state = slot.Closed by.Bound }) s).node ≡ s.node
           by_test true = refl
           by_test false = refl
 
-  held-open : (w : ℕ) → slot.Held w ≢ slot.ByBound
+  held-open : (w : ℕ) → slot.Held w ≢ slot.Closed by.Bound
   held-open w e = cc
 
-  split-open : (n : ℕ) → slot.Split n ≢ slot.ByBound
+  split-open : (n : ℕ) → slot.Split n ≢ slot.Closed by.Bound
   split-open n e = cc
 
-  fresh-open : slot.Fresh ≢ slot.ByBound
+  fresh-open : slot.Fresh ≢ slot.Closed by.Bound
   fresh-open e = cc
 
-  back-open : slot.Back ≢ slot.ByBound
+  back-open : slot.Back ≢ slot.Closed by.Bound
   back-open e = cc
 
   -- ---- those that are Back still

@@ -15,6 +15,7 @@ use Rattle.book_core.specs.Keeps.{AreTables}
 use Rattle.book_core.specs.Seen.{seen, IsKept}
 use Rattle.book_core.proofs.HandLemmas.{set-changes, hand-known}
 use Rattle.book_core.proofs.KeptLemmas.{length-slots, is-stored, stored-change, leaving-known, tables-settled}
+use Rattle.search_rules.specs.declared.grounds.Ground.TheVariants as by
 
 -- ---- one slot takes another state
 
@@ -58,12 +59,12 @@ module _ (a : Inside) (kept : IsKept a) (b : Book) (same : seen a ≡ b) (id : �
     -- a worker's number is one of nine
     pub holder-known : (w : ℕ) → r.state ≡ slot.Held w → w < 9
     holder-known w e =
-        let in_hand = kept.tables.hands_are.hand w id (state-is a b same id r is slot.ByBound settled-known ∙ e) in
+        let in_hand = kept.tables.hands_are.hand w id (state-is a b same id r is (slot.Closed by.Bound) settled-known ∙ e) in
         let known = hand-known (ids_of a.hands) w id in_hand in
         omega (arith, known, kept.tables.hands_are.nine)
 
     pub settled-tables : (state : SlotState) → IsSettled state → AreTables (slots_of a.case.instance (slice_set a.slots.items id (restated r state))) a.ended (let_go r.state (ids_of a.hands)) a.back a.waiting.items
     settled-tables state to =
-        subst (λ o. AreTables (slots_of a.case.instance (slice_set a.slots.items id (restated r state))) a.ended (let_go o (ids_of a.hands)) a.back a.waiting.items) (state-is a b same id r is slot.ByBound settled-known)
+        subst (λ o. AreTables (slots_of a.case.instance (slice_set a.slots.items id (restated r state))) a.ended (let_go o (ids_of a.hands)) a.back a.waiting.items) (state-is a b same id r is (slot.Closed by.Bound) settled-known)
         (tables-settled (slots_of a.case.instance a.slots.items) (slots_of a.case.instance (slice_set a.slots.items id (restated r state))) id state a.ended (ids_of a.hands) a.back a.waiting.items
         (restated-changes a b same id r is state settled-known) kept.tables leaving to)

@@ -9,7 +9,7 @@ use Rattle.mooring_rules.specs.declared.breaks.BrokenPlan.{BrokenPlan}
 use Rattle.mooring_rules.specs.declared.breaks.BrokenPlan.TheVariants.{Double}
 use Rattle.search_rules.specs.Book.{Case, Book, best_cost, opening_book}
 use Rattle.search_rules.specs.Events as machine
-use Rattle.search_rules.specs.Events.{Event, IsOwed, take, split, close_bound, close_cut, close_throughput, close_probe, post, park, replace, release}
+use Rattle.search_rules.specs.Events.{Event, IsOwed, take, split, close, post, park, replace, release}
 use Rattle.search_rules.specs.Step
 use Rattle.search_rules.specs.Step.{step}
 use Rattle.search_rules.specs.Laws.{TreeLaws}
@@ -60,10 +60,7 @@ replace-keeps b plan None keeps judged =
 pub step-keeps : (b : Book) (e : Event) (found : Option BrokenPlan) → KeepsBook b → IsOwed e → IsFirstOf b.case.instance e found → KeepsBook (step (λ _ _. found) b e).0
 step-keeps b (take w) found keeps owed judged = event-keeps always always-sound b (laws b.case.instance) keeps (take w) owed
 step-keeps b (split id) found keeps owed judged = event-keeps always always-sound b (laws b.case.instance) keeps (split id) owed
-step-keeps b (close_bound id) found keeps owed judged = event-keeps always always-sound b (laws b.case.instance) keeps (close_bound id) owed
-step-keeps b (close_cut id number) found keeps owed judged = event-keeps always always-sound b (laws b.case.instance) keeps (close_cut id number) owed
-step-keeps b (close_throughput id) found keeps owed judged = event-keeps always always-sound b (laws b.case.instance) keeps (close_throughput id) owed
-step-keeps b (close_probe id s) found keeps owed judged = event-keeps always always-sound b (laws b.case.instance) keeps (close_probe id s) owed
+step-keeps b (close id why) found keeps owed judged = event-keeps always always-sound b (laws b.case.instance) keeps (close id why) owed
 step-keeps b (post cut) found keeps owed judged = event-keeps always always-sound b (laws b.case.instance) keeps (post cut) owed
 step-keeps b (park id c p deck turns) found keeps owed judged = event-keeps always always-sound b (laws b.case.instance) keeps (park id c p deck turns) owed
 step-keeps b (replace plan) found keeps owed judged = replace-keeps b plan found keeps judged
@@ -84,10 +81,7 @@ same-found f passes b plan None judged old =
 pub step-replays : (b : Book) (e : Event) (found : Option BrokenPlan) → Replays b → IsFirstOf b.case.instance e found → Replays (step (λ _ _. found) b e).0
 step-replays b (take w) found old judged = record { replay = λ f passes. event-replayed f b (take w) (old.replay f passes) }
 step-replays b (split id) found old judged = record { replay = λ f passes. event-replayed f b (split id) (old.replay f passes) }
-step-replays b (close_bound id) found old judged = record { replay = λ f passes. event-replayed f b (close_bound id) (old.replay f passes) }
-step-replays b (close_cut id number) found old judged = record { replay = λ f passes. event-replayed f b (close_cut id number) (old.replay f passes) }
-step-replays b (close_throughput id) found old judged = record { replay = λ f passes. event-replayed f b (close_throughput id) (old.replay f passes) }
-step-replays b (close_probe id s) found old judged = record { replay = λ f passes. event-replayed f b (close_probe id s) (old.replay f passes) }
+step-replays b (close id why) found old judged = record { replay = λ f passes. event-replayed f b (close id why) (old.replay f passes) }
 step-replays b (post cut) found old judged = record { replay = λ f passes. event-replayed f b (post cut) (old.replay f passes) }
 step-replays b (park id c p deck turns) found old judged = record { replay = λ f passes. event-replayed f b (park id c p deck turns) (old.replay f passes) }
 step-replays b (replace plan) found old judged = record { replay = λ f passes. same-found f passes b plan found judged (old.replay f passes) }

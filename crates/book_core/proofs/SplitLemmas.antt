@@ -28,12 +28,13 @@ use Rattle.book_core.proofs.NearLemmas.{KeepsNodes, nodes-kept, nodes-moved}
 use Rattle.book_core.proofs.KeptLemmas.{length-slots, is-stored, few-slots}
 use Rattle.book_core.proofs.SettleLemmas.{restated}
 use Rattle.book_core.proofs.GrowLemmas.{grown-is, tables-grown, nodes-grown, length-kids}
+use Rattle.search_rules.specs.declared.grounds.Ground.TheVariants as by
 
 length-both : {X : Type 0} (xs ys : List X) → length (xs ++ ys) ≡ length xs + length ys
 length-both [] ys = omega arith
 length-both (x ∷ xs) ys = let rest = length-both xs ys in omega (arith, rest)
 
-held-open : (w : ℕ) → slot.Held w ≢ slot.ByBound
+held-open : (w : ℕ) → slot.Held w ≢ slot.Closed by.Bound
 held-open w e = cc
 
 -- how many slots there are then

@@ -9,6 +9,7 @@ use Rattle.search_rules.specs.NextSlot.{is_split}
 use Rattle.book_core.specs.declared.waiting.Waiting.{Waiting}
 use Rattle.book_core.specs.Tables.{state_in, waiting_at, IsWaiting, IsInEntry, AreWaiting}
 use Rattle.book_core.specs.Changes.{Changes, slot_in}
+use Rattle.search_rules.specs.declared.grounds.Ground.TheVariants as by
 
 -- Of new slots: their parents are the old ones, no slot becomes Fresh, and what is split stays so.
 pub record Settles (old new : List Slot) : Type 0 where
@@ -20,7 +21,7 @@ pub record Settles (old new : List Slot) : Type 0 where
 fresh-known : (slots : List Slot) (k : ℕ) → state_in slots k ≡ slot.Fresh → k < length slots
 fresh-known [] k e = absurd (closed e)
   where
-    closed : slot.ByBound ≡ slot.Fresh → ⊥
+    closed : (slot.Closed by.Bound) ≡ slot.Fresh → ⊥
     closed h = cc
 fresh-known (s ∷ ss) zero e = omega arith
 fresh-known (s ∷ ss) (suc k) e = let rest = fresh-known ss k e in omega (arith, rest)
@@ -131,7 +132,7 @@ waiting-grown old new id grow ws good w is = record {
     split-known : (slots : List Slot) (k first : ℕ) → state_in slots k ≡ slot.Split first → k < length slots
     split-known [] k first e = absurd (closed e)
       where
-        closed : slot.ByBound ≡ slot.Split first → ⊥
+        closed : (slot.Closed by.Bound) ≡ slot.Split first → ⊥
         closed h = cc
     split-known (s ∷ ss) zero first e = omega arith
     split-known (s ∷ ss) (suc k) first e = let rest = split-known ss k first e in omega (arith, rest)

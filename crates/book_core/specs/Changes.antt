@@ -7,13 +7,14 @@ use Rattle.search_rules.specs.declared.book.Entry.TheVariants as entry
 use Rattle.search_rules.specs.Book.{Book, Slot, no_slot, slot_at, first_slot, is_fresh, is_back, is_held}
 use Rattle.search_rules.specs.Step.{noted, with_state}
 use Rattle.book_core.specs.Tables.{state_in}
+use Rattle.search_rules.specs.declared.grounds.Ground.TheVariants as by
 
 abbrev pub slot_in : List Slot → ℕ → Slot
 slot_in slots id = slice_index_or slots id no_slot
 
 -- the slot but for its state
 abbrev pub stateless : Slot → Slot
-stateless s = record s { state = slot.ByBound }
+stateless s = record s { state = slot.Closed by.Bound }
 
 -- slot id is in this state
 abbrev pub set_state : List Slot → ℕ → SlotState → List Slot

@@ -7,6 +7,7 @@ use Rattle.search_rules.specs.declared.book.Entry.TheVariants as entry
 use Rattle.search_rules.specs.Book.{Book, root, bound_at}
 use Rattle.search_rules.specs.Step.{noted, with_children}
 use Rattle.book_core.specs.declared.stored_slot.StoredSlot.{StoredSlot}
+use Rattle.search_rules.specs.declared.grounds.Ground.TheVariants as by
 
 -- the book with one cut more
 abbrev pub kept_cut : Book → Cut → Book
@@ -14,7 +15,7 @@ kept_cut b cut = noted (record b { cuts = b.cuts ++ cut ∷ [] }) entry.Post
 
 -- what is stored of a child with this bound
 abbrev pub stored_child : ℕ → ℕ → ℕ → ℕ → StoredSlot
-stored_child cost parent number bound = record { bound = bound; state = if nat_le cost bound then slot.ByBound else slot.Fresh; parent = parent; number = number }
+stored_child cost parent number bound = record { bound = bound; state = if nat_le cost bound then (slot.Closed by.Bound) else slot.Fresh; parent = parent; number = number }
 
 -- what is stored of children with these bounds, numbered from `number` on
 abbrev pub stored_children : ℕ → ℕ → ℕ → List ℕ → List StoredSlot

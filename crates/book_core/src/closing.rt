@@ -1,77 +1,78 @@
 //! The events that close a slot.
-ghost use Rattle.std.specs.Prelude.{◌≡◌, true};
-ghost use Rattle.search_rules.specs.Events.{close_bound, close_cut, close_throughput, close_probe};
-ghost use Rattle.search_rules.specs.Step.{may_close, is_missing, probe_at};
+ghost use Rattle.std.specs.Prelude.{◌≡◌, true, None};
+ghost use Rattle.mooring_rules.specs.declared.breaks.BrokenPlan.{BrokenPlan};
+ghost use Rattle.search_rules.specs.Book.{best_cost};
+ghost use Rattle.search_rules.specs.Events.{close};
+ghost use Rattle.search_rules.specs.Step.{may_close, refusal_of, cheaper_than};
 ghost use Rattle.book_core.specs.Keeps.{IsSound};
 ghost use Rattle.book_core.specs.Replies.{Answers};
 
 use crate::book::Book;
 use crate::reply::Reply;
-use search_rules::{Entry, SlotState};
+use search_rules::{Entry, Ground, SlotState};
 
 impl Book {
+    // Closes a slot that may be closed so.
+    fn shut(&mut self, id: u32, why: Ground) -> Reply
+        requires held { may_close self.old id ≡ true }
+        requires unrefused { refusal_of {Break = BrokenPlan} self.old id why ≡ None }
+        requires sound { IsSound self.old }
+        ensures { Answers self.old (close id why) result self.new }
+    {
+        self.settle(id, SlotState::Closed(why), Entry::Close(id, why));
+        Reply::Closed
+    }
+
+    // Closes a slot that may be closed where this number, which is all that is asked, is at least
+    // the best cost.
+    fn shut_from(&mut self, id: u32, why: Ground, number: u64) -> Reply
+        requires held { may_close self.old id ≡ true }
+        requires asked { refusal_of {Break = BrokenPlan} self.old id why ≡ cheaper_than (best_cost self.old) number }
+        requires sound { IsSound self.old }
+        ensures { Answers self.old (close id why) result self.new }
+    {
+        let best = self.best_cost();
+        if number < best {
+            return Reply::Cheaper(number, best);
+        }
+        self.shut(id, why)
+    }
+
     /// Closes a held or parked slot whose bound is at least the best cost. Refuses `NotHeld`, and
     /// `Cheaper` with the slot's bound. Takes no memory.
     pub fn close_bound(&mut self, id: u32) -> Reply
-        ensures { Answers self.old (close_bound id) result self.new }
+        ensures { Answers self.old (close id Ground.Bound) result self.new }
     {
         if !self.may_close(id) {
             return Reply::NotHeld(id);
         }
         let bound = self.stored(id).bound;
-        let best = self.best_cost();
-        if bound < best {
-            return Reply::Cheaper(bound, best);
-        }
-        self.settle(id, SlotState::ByBound, Entry::CloseBound(id));
-        Reply::Closed
+        self.shut_from(id, Ground::Bound, bound)
     }
 
     /// Closes a held or parked slot where the throughput of the instance is at least the best
     /// cost. Refuses `NotHeld`, and `Cheaper` with the throughput. Takes no memory.
     pub fn close_throughput(&mut self, id: u32) -> Reply
-        ensures { Answers self.old (close_throughput id) result self.new }
+        ensures { Answers self.old (close id Ground.Throughput) result self.new }
     {
         if !self.may_close(id) {
             return Reply::NotHeld(id);
         }
         let throughput = self.throughput();
-        let best = self.best_cost();
-        if throughput < best {
-            return Reply::Cheaper(throughput, best);
-        }
-        self.settle(id, SlotState::ByThroughput, Entry::CloseThroughput(id));
-        Reply::Closed
-    }
-
-    // Closes a slot that may be closed where this probe of its node and a missing ship is at least
-    // the best cost.
-    fn close_by(&mut self, id: u32, ship: u8, least: u64) -> Reply
-        requires held { may_close self.old id ≡ true }
-        requires missing { is_missing self.old id ship ≡ true }
-        requires least { least ≡ probe_at self.old id ship }
-        requires sound { IsSound self.old }
-        ensures { Answers self.old (close_probe id ship) result self.new }
-    {
-        let best = self.best_cost();
-        if least < best {
-            return Reply::Cheaper(least, best);
-        }
-        self.settle(id, SlotState::ByProbe(ship), Entry::CloseProbe(id, ship));
-        Reply::Closed
+        self.shut_from(id, Ground::Throughput, throughput)
     }
 
     /// Closes a held or parked slot where the probe of its node and this ship is at least the best
     /// cost. Refuses `NotHeld`, then `Absent` where the ship isn't in the instance or is among the
     /// node's ships, then `Cheaper` with the probe. Takes no memory.
     pub fn close_probe(&mut self, id: u32, ship: u8) -> Reply
-        ensures { Answers self.old (close_probe id ship) result self.new }
+        ensures { Answers self.old (close id (Ground.Probe ship)) result self.new }
     {
         if !self.may_close(id) {
             return Reply::NotHeld(id);
         }
         match self.probe_with(id, ship) {
-            Some(least) => self.close_by(id, ship, least),
+            Some(least) => self.shut_from(id, Ground::Probe(ship), least),
             None => Reply::Absent(ship),
         }
     }
@@ -80,7 +81,7 @@ impl Book {
     /// Refuses `NotHeld`, then `NoHit` where there is no such cut or it hits no group. Takes no
     /// memory.
     pub fn close_cut(&mut self, id: u32, number: u64) -> Reply
-        ensures { Answers self.old (close_cut id number) result self.new }
+        ensures { Answers self.old (close id (Ground.Cut number)) result self.new }
     {
         if !self.may_close(id) {
             return Reply::NotHeld(id);
@@ -88,7 +89,18 @@ impl Book {
         if !self.hits(id, number) {
             return Reply::NoHit(number);
         }
-        self.settle(id, SlotState::ByCut(number), Entry::CloseCut(id, number));
-        Reply::Closed
+        self.shut(id, Ground::Cut(number))
+    }
+
+    /// Closes a slot as the method of its ground does.
+    pub fn close(&mut self, id: u32, why: Ground) -> Reply
+        ensures { Answers self.old (close id why) result self.new }
+    {
+        match why {
+            Ground::Bound => self.close_bound(id),
+            Ground::Throughput => self.close_throughput(id),
+            Ground::Probe(ship) => self.close_probe(id, ship),
+            Ground::Cut(number) => self.close_cut(id, number),
+        }
     }
 }

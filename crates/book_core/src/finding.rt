@@ -12,10 +12,10 @@ use crate::book::Book;
 use crate::hand::{Hand, id_of};
 use crate::stored_slot::StoredSlot;
 use lock_model::Instance;
-use search_rules::SlotState;
+use search_rules::{Ground, SlotState};
 
 impl Book {
-    // The state of a slot; ByBound where there is no such slot.
+    // The state of a slot; closed by its bound where there is no such slot.
     pub(crate) fn state_of(&self, id: u32) -> SlotState
         ensures state { result ≡ (slot_at self.now id).state }
         ensures sound { IsSound self.now }
@@ -23,7 +23,7 @@ impl Book {
         if (id as usize) < self.slots.len() {
             self.slots[id as usize].state
         } else {
-            SlotState::ByBound
+            SlotState::Closed(Ground::Bound)
         }
     }
 

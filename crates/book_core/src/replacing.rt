@@ -17,7 +17,7 @@ use crate::stored_slot::StoredSlot;
 use lock_model::Plan;
 use mooring_rules::judge_plan;
 use plain_text::NoMemory;
-use search_rules::{Entry, SlotState};
+use search_rules::{Entry, Ground, SlotState};
 
 // Whether a slot in this state is fresh, returned or parked.
 fn may_be_outdone(state: SlotState) -> bool
@@ -35,7 +35,7 @@ fn outdone(slot: StoredSlot, cost: u64) -> StoredSlot
 {
     if may_be_outdone(slot.state) && cost <= slot.bound {
         StoredSlot {
-            state: SlotState::ByBound,
+            state: SlotState::Closed(Ground::Bound),
             ..slot
         }
     } else {

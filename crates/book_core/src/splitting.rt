@@ -14,14 +14,14 @@ use crate::stored_slot::StoredSlot;
 use crate::waiting::Waiting;
 use flow_bounds::Bounds;
 use plain_text::NoMemory;
-use search_rules::{Entry, SlotState};
+use search_rules::{Entry, Ground, SlotState};
 
 // The slot of a child: closed where its bound is at least the best cost.
 pub(crate) fn stored_child(parent: u32, number: u8, bound: u64, cost: u64) -> StoredSlot
     ensures { result ≡ stored_child cost parent number bound }
 {
     let state = if cost <= bound {
-        SlotState::ByBound
+        SlotState::Closed(Ground::Bound)
     } else {
         SlotState::Fresh
     };

@@ -13,4 +13,4 @@ pub(crate) struct StoredSlot {
 }
 
 // The bytes that a slot takes.
-const _: () = prove!(size_of::<StoredSlot>() == 32);
+const _: () = prove!(size_of::<StoredSlot>() == 40);

@@ -11,7 +11,7 @@ use fixture::{
     SIDE, both, narrow, one_after_the_other, open, open_cheap, row_cut, side_by_side, swift,
 };
 use lock_model::Verdict;
-use search_rules::SlotState;
+use search_rules::{Ground, SlotState};
 use std::process::Abort;
 use std::test::Fail;
 use walk::{instance_of_seven, slow_next};
@@ -28,8 +28,8 @@ fn events_answer_as_the_table_says(rt: HostRuntime) -> Result<(), Fail> {
         &[
             (Ask::Take(0), Reply::Holds(0)),
             (Ask::Take(1), Reply::Idle),
-            (Ask::CloseBound(0), Reply::Cheaper(70, 120)),
-            (Ask::CloseCut(0, 0), Reply::NoHit(0)),
+            (Ask::Close(0, Ground::Bound), Reply::Cheaper(70, 120)),
+            (Ask::Close(0, Ground::Cut(0)), Reply::NoHit(0)),
             (Ask::Split(0), Reply::Made(1)),
             (Ask::Split(0), Reply::NotHeld(0)),
             (Ask::Release(0), Reply::Released(0)),
@@ -49,10 +49,10 @@ fn throughput_and_probe_leave_what_is_cheaper(rt: HostRuntime) -> Result<(), Fai
         &rt,
         &mut book,
         &[
-            (Ask::CloseThroughput(0), Reply::Cheaper(70, 120)),
-            (Ask::CloseProbe(0, 2), Reply::Absent(2)),
-            (Ask::CloseProbe(0, 0), Reply::Cheaper(70, 120)),
-            (Ask::CloseProbe(1, 0), Reply::NotHeld(1)),
+            (Ask::Close(0, Ground::Throughput), Reply::Cheaper(70, 120)),
+            (Ask::Close(0, Ground::Probe(2)), Reply::Absent(2)),
+            (Ask::Close(0, Ground::Probe(0)), Reply::Cheaper(70, 120)),
+            (Ask::Close(1, Ground::Probe(0)), Reply::NotHeld(1)),
             (Ask::Split(0), Reply::Made(1)),
         ],
     );
@@ -61,8 +61,8 @@ fn throughput_and_probe_leave_what_is_cheaper(rt: HostRuntime) -> Result<(), Fai
         &rt,
         &mut book,
         &[
-            (Ask::CloseProbe(1, 0), Reply::Absent(0)),
-            (Ask::CloseProbe(1, 1), Reply::Cheaper(80, 120)),
+            (Ask::Close(1, Ground::Probe(0)), Reply::Absent(0)),
+            (Ask::Close(1, Ground::Probe(1)), Reply::Cheaper(80, 120)),
         ],
     );
     Ok(())
@@ -72,8 +72,12 @@ fn throughput_and_probe_leave_what_is_cheaper(rt: HostRuntime) -> Result<(), Fai
 fn the_throughput_closes_what_is_no_cheaper(rt: HostRuntime) -> Result<(), Fail> {
     let mut book = open(rt.alloc(), swift()?, 3)?;
     expect_given(&rt, &mut book, 0, 0, 0);
-    expect_replies(&rt, &mut book, &[(Ask::CloseThroughput(0), Reply::Closed)]);
-    expect_state(&rt, &book, 0, Some(SlotState::ByThroughput));
+    expect_replies(
+        &rt,
+        &mut book,
+        &[(Ask::Close(0, Ground::Throughput), Reply::Closed)],
+    );
+    expect_state(&rt, &book, 0, Some(SlotState::Closed(Ground::Throughput)));
     assert_eq!(rt; book.verdict(), Verdict::Optimal);
     Ok(())
 }
@@ -82,8 +86,12 @@ fn the_throughput_closes_what_is_no_cheaper(rt: HostRuntime) -> Result<(), Fail>
 fn a_probe_closes_what_is_no_cheaper(rt: HostRuntime) -> Result<(), Fail> {
     let mut book = open_cheap(rt.alloc(), side_by_side()?)?;
     go_to_first(&rt, &mut book);
-    expect_replies(&rt, &mut book, &[(Ask::CloseProbe(1, 1), Reply::Closed)]);
-    expect_state(&rt, &book, 1, Some(SlotState::ByProbe(1)));
+    expect_replies(
+        &rt,
+        &mut book,
+        &[(Ask::Close(1, Ground::Probe(1)), Reply::Closed)],
+    );
+    expect_state(&rt, &book, 1, Some(SlotState::Closed(Ground::Probe(1))));
     Ok(())
 }
 
@@ -92,8 +100,8 @@ fn a_probe_closes_what_is_no_cheaper(rt: HostRuntime) -> Result<(), Fail> {
 fn return_both(rt: &impl Abort, book: &mut Book) {
     go_to_first(rt, book);
     expect_replies(rt, book, &[(Ask::Split(1), Reply::Made(3))]);
-    expect_state(rt, book, 3, Some(SlotState::ByBound));
-    expect_state(rt, book, 4, Some(SlotState::ByBound));
+    expect_state(rt, book, 3, Some(SlotState::Closed(Ground::Bound)));
+    expect_state(rt, book, 4, Some(SlotState::Closed(Ground::Bound)));
     expect_given(rt, book, 0, 2, 2);
     expect_replies(rt, book, &[(Ask::Split(2), Reply::Whole(2))]);
     assert_eq!(rt; book.verdict(), Verdict::OpenNodes { used: 3, low: 80 });
@@ -114,8 +122,8 @@ fn a_cut_closes_the_slot_that_it_hits(rt: HostRuntime) -> Result<(), Fail> {
         &rt,
         &mut book,
         &[
-            (Ask::CloseCut(2, 1), Reply::NoHit(1)),
-            (Ask::CloseCut(2, 0), Reply::Closed),
+            (Ask::Close(2, Ground::Cut(1)), Reply::NoHit(1)),
+            (Ask::Close(2, Ground::Cut(0)), Reply::Closed),
             (Ask::Take(8), Reply::Done),
         ],
     );
@@ -137,7 +145,7 @@ fn a_cheaper_plan_is_put_in_place_once(rt: HostRuntime) -> Result<(), Fail> {
     go_to_first(&rt, &mut book);
     expect_replies(&rt, &mut book, &[(Ask::Split(1), Reply::Made(3))]);
     replace_once(&rt, &mut book);
-    expect_state(&rt, &book, 2, Some(SlotState::ByBound));
+    expect_state(&rt, &book, 2, Some(SlotState::Closed(Ground::Bound)));
     expect_replies(&rt, &mut book, &[(Ask::Take(0), Reply::Done)]);
     assert!(rt; matches!(book.replace(one_after_the_other(1)), Reply::NotLegal(_)));
     Ok(())
@@ -173,12 +181,17 @@ fn take_next(rt: &impl Abort, book: &mut Book, worker: u8) -> u32 {
 
 // A worker closes its slot or splits it, or ends at a node of all ships.
 fn go_on(rt: &impl Abort, book: &mut Book, worker: u8, id: u32, ends: bool) {
-    if reply_of(book, Ask::CloseBound(id)) == Reply::Closed
+    if reply_of(book, Ask::Close(id, Ground::Bound)) == Reply::Closed
         || reply_of(book, Ask::Split(id)) != Reply::Whole(id)
     {
         return;
     }
-    assert!(rt; matches!(reply_of(book, Ask::CloseProbe(id, 0)), Reply::Absent(_)));
+    assert!(rt;
+        matches!(
+            reply_of(book, Ask::Close(id, Ground::Probe(0))),
+            Reply::Absent(_)
+        )
+    );
     if ends {
         expect_replies(rt, book, &[(Ask::Release(worker), Reply::Released(1))]);
     }

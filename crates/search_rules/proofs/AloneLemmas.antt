@@ -1,5 +1,5 @@
 -- A worker alone with a book stays alone, and where it gets no more slots, a last pass ends the search well.
-use Rattle.std.proofs.Common.{◌≡◌, ℕ, suc, ◌<◌, length, inl, inr, refl, sym, ap, ◌∙◌, subst, arith, Bool, true, false, not, cond, Some, None, slice_index_or, slice_get, nat_eq, nat_le, nat_lt}
+use Rattle.std.proofs.Common.{◌≡◌, ℕ, suc, ◌<◌, length, inl, inr, refl, sym, ap, ◌∙◌, subst, arith, Bool, true, false, not, cond, Some, None, slice_index_or, nat_eq, nat_le}
 use Rattle.std.specs.declared.option.Option.{Option}
 use Rattle.std.proofs.lemmas.Bool.Decides.{leb_tells}
 use Rattle.std.proofs.lemmas.List.{set_past}
@@ -8,22 +8,22 @@ use Rattle.lock_model.specs.declared.instance.Instance.{Instance}
 use Rattle.lock_model.specs.declared.group.Group.{Group}
 use Rattle.lock_model.specs.declared.plan.Plan.{Plan}
 use Rattle.lock_rules.specs.Plan.{cost_of}
-use Rattle.lock_rules.specs.Throughput.{throughput_of}
-use Rattle.search_rules.specs.declared.book.Entry.TheVariants as entry
 use Rattle.search_rules.specs.declared.book.SlotState.{SlotState}
 use Rattle.search_rules.specs.declared.book.SlotState.TheVariants as slot
 use Rattle.search_rules.specs.Tests.{has_clash, is_own_cut}
 use Rattle.search_rules.specs.Book.{Slot, Book, slot_at, best_cost, first_slot, is_back, is_held, is_held_by, group_at}
-use Rattle.search_rules.specs.Events.{Event, Reply, take, split, close_bound, close_cut, close_throughput, close_probe, post, park, replace, release}
-use Rattle.search_rules.specs.Events.{Replaced, Ended, NodesSpent, NotHeld, Whole, Cheaper, NoHit, OtherDeck, NotCheaper, Absent, Clashes}
+use Rattle.search_rules.specs.Events.{Event, Reply, take, split, close, post, park, replace, release}
+use Rattle.search_rules.specs.Events.{Replaced, Ended, NodesSpent, NotHeld, Whole, OtherDeck, NotCheaper, Clashes}
 use Rattle.search_rules.specs.NextSlot.{next_fresh}
 use Rattle.search_rules.specs.Step
 use Rattle.search_rules.specs.Ends.{HoldsNothing}
 use Rattle.search_rules.specs.Alone.{IsAlone, IsBy}
 use Rattle.search_rules.proofs.SlotLemmas.{first_slot-at, next_fresh-at}
-use Rattle.search_rules.proofs.CoverLemmas.{held-known, not-not}
+use Rattle.search_rules.proofs.CoverLemmas.{held-known}
+use Rattle.search_rules.proofs.TestLemmas.{not-not}
 use Rattle.search_rules.proofs.TurnLemmas.{Turned, Untouched, turned-at}
 use Rattle.search_rules.proofs.WorkerLemmas.{Holds, same-worker, turned-holds, split-holds, outdone-holds}
+use Rattle.search_rules.specs.declared.grounds.Ground.{Ground}
 
 clash : true ≡ false → ⊥
 clash e = cc
@@ -47,6 +47,10 @@ module _ {Break : Type 0} (broken : Instance → Plan → Option Break) (b : Boo
 
   closed-alone : (id : ℕ) (new : SlotState) (new_book : Book) → is_held new ≡ false → new_book.slots ≡ (Step.with_state b id new).slots → IsAlone w new_book
   closed-alone id new new_book free same = record { own = λ other v h. alone.own other v (state-holds b id new free other v (subst (λ slots. Holds slots other v) same h)) }
+
+  close-alone : (id : ℕ) (why : Ground) (o : Option (Reply Break)) → Alone (Step.close_unless b id why o)
+  close-alone id why (Some r) = alone
+  close-alone id why None = closed-alone id (slot.Closed why) (Step.closed b id why) refl refl
 
   given-alone : (id used : ℕ) → id < length b.slots → Alone (Step.given b w id used)
   given-alone id used known = record {
@@ -97,27 +101,8 @@ module _ {Break : Type 0} (broken : Instance → Plan → Option Break) (b : Boo
       keep_or (not (is_held (slot_at b id).state)) (NotHeld id) (cond whole (b, Whole id) (Step.split_slot b id)) (λ e.
       keep_or whole (Whole id) (Step.split_slot b id) (λ f.
       record { own = λ other v h. alone.own other v (split-holds b id (held-known b.slots id (not-not (is_held (slot_at b id).state) e)) other v h) }))
-  alone-step (close_bound id) by =
-      let low = nat_lt (slot_at b id).bound (best_cost b) in
-      let reply = Cheaper (slot_at b id).bound (best_cost b) in
-      let out = Step.closed {Break = Break} b id slot.ByBound (entry.CloseBound id) in
-      keep_or (not (Step.may_close b id)) (NotHeld id) (cond low (b, reply) out) (λ e. keep_or low reply out (λ f. closed-alone id slot.ByBound out.0 refl refl))
-  alone-step (close_cut id number) by =
-      let miss = not (Step.hits_in b id (slice_get b.cuts number)) in
-      let out = Step.closed {Break = Break} b id (slot.ByCut number) (entry.CloseCut id number) in
-      keep_or (not (Step.may_close b id)) (NotHeld id) (cond miss (b, NoHit number) out) (λ e. keep_or miss (NoHit number) out (λ f. closed-alone id (slot.ByCut number) out.0 refl refl))
-  alone-step (close_throughput id) by =
-      let low = nat_lt (throughput_of b.case.instance) (best_cost b) in
-      let reply = Cheaper (throughput_of b.case.instance) (best_cost b) in
-      let out = Step.closed {Break = Break} b id slot.ByThroughput (entry.CloseThroughput id) in
-      keep_or (not (Step.may_close b id)) (NotHeld id) (cond low (b, reply) out) (λ e. keep_or low reply out (λ f. closed-alone id slot.ByThroughput out.0 refl refl))
-  alone-step (close_probe id s) by =
-      let low = nat_lt (Step.probe_at b id s) (best_cost b) in
-      let reply = Cheaper (Step.probe_at b id s) (best_cost b) in
-      let out = Step.closed {Break = Break} b id (slot.ByProbe s) (entry.CloseProbe id s) in
-      keep_or (not (Step.may_close b id)) (NotHeld id) (cond (not (Step.is_missing b id s)) (b, Absent s) (cond low (b, reply) out)) (λ e.
-      keep_or (not (Step.is_missing b id s)) (Absent s) (cond low (b, reply) out) (λ g.
-      keep_or low reply out (λ f. closed-alone id (slot.ByProbe s) out.0 refl refl)))
+  alone-step (close id why) by =
+      keep_or (not (Step.may_close b id)) (NotHeld id) (Step.close_unless b id why (Step.refusal_of b id why)) (λ e. close-alone id why (Step.refusal_of b id why))
   alone-step (post cut) by = keep_or (not (is_own_cut b.case.instance cut)) OtherDeck (Step.posted b cut) (λ e. record { own = alone.own })
   alone-step (park id c p deck turns) by =
       keep_or (not (is_held (slot_at b id).state)) (NotHeld id) (Step.park_group b id c p deck turns (group_at (slot_at b id).node c p)) (λ e. park_group-alone id c p deck turns (group_at (slot_at b id).node c p))

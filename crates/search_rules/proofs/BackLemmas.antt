@@ -20,8 +20,9 @@ use Rattle.search_rules.specs.Room.{count_slots, count_false}
 use Rattle.search_rules.specs.Waiting.{back_slots, KeepsBack}
 use Rattle.search_rules.proofs.SlotLemmas.{among-where, IsAt, first_slot-at, first_slot-before}
 use Rattle.search_rules.proofs.NextLemmas.{where-rises, where-among, above-low, first_slot-is, first_slot-empty}
-use Rattle.search_rules.proofs.MoveLemmas.{Stays, TakesBack, TakesFresh, Splits, Closes, Parks, Posts, Replaces, Ends, GivesBack, IsRunning, MayClose, FromHeld, FromParked, IsClosed, ByBound, ByCut, ByThroughput, ByProbe, each-move}
+use Rattle.search_rules.proofs.MoveLemmas.{Stays, TakesBack, TakesFresh, Splits, Closes, Parks, Posts, Replaces, Ends, GivesBack, IsRunning, MayClose, FromHeld, FromParked, each-move}
 use Rattle.search_rules.proofs.TallyLemmas.{one, count-turned, count-append, count-children, count-outdone, Kept, Closed, outdone-is, count_false-set}
+use Rattle.search_rules.specs.declared.grounds.Ground.TheVariants as by
 
 clash : true ≡ false → ⊥
 clash e = cc
@@ -105,7 +106,7 @@ children-backs I cost parent depth number (l ∷ ls) low =
     let node : TreeNode = record { depth = depth; lines = l } in
     backs-miss low (new_slot I cost parent number node) (Step.child_slots I cost parent depth (suc number) ls) (new-off (nat_le cost (bound_at I node))) ∙ children-backs I cost parent depth (suc number) ls (suc low)
   where
-    new-off : (t : Bool) → is_back (cond t slot.ByBound slot.Fresh) ≡ false
+    new-off : (t : Bool) → is_back (cond t (slot.Closed by.Bound) slot.Fresh) ≡ false
     new-off true = refl
     new-off false = refl
 
@@ -128,10 +129,10 @@ outdone-backs cost p low (x ∷ xs) tells =
     by_bound e rest tell =
         elim (leb_tells cost x.bound) [
           | inl y ↦
-              let off : is_back (Step.outdone cost x).state ≡ false = ap (λ t. is_back (cond t (record x { state = slot.ByBound }) x).state) ((λ i. open-back x e i && y.0 i)) in
+              let off : is_back (Step.outdone cost x).state ≡ false = ap (λ t. is_back (cond t (record x { state = slot.Closed by.Bound }) x).state) ((λ i. open-back x e i && y.0 i)) in
               backs-miss low (Step.outdone cost x) (map (Step.outdone cost) xs) off ∙ rest ∙ sym (ap (λ t. cond t (low ∷ filter p (backs (suc low) xs)) (filter p (backs (suc low) xs))) (tell ∙ not-below x.bound cost y.1))
           | inr n ↦
-              let on : is_back (Step.outdone cost x).state ≡ true = ap (λ t. is_back (cond t (record x { state = slot.ByBound }) x).state) ((λ i. open-back x e i && n.0 i)) ∙ e in
+              let on : is_back (Step.outdone cost x).state ≡ true = ap (λ t. is_back (cond t (record x { state = slot.Closed by.Bound }) x).state) ((λ i. open-back x e i && n.0 i)) ∙ e in
               backs-hit low (Step.outdone cost x) (map (Step.outdone cost) xs) on ∙ ap (λ ns. low ∷ ns) rest ∙ sym (ap (λ t. cond t (low ∷ filter p (backs (suc low) xs)) (filter p (backs (suc low) xs))) (tell ∙ below x.bound cost n.1))
         ]
       where
@@ -162,12 +163,6 @@ closing-off : (old : SlotState) → MayClose old → is_back old ≡ false
 closing-off old (FromHeld w) = refl
 closing-off old (FromParked c p) = refl
 
-closed-off : (new : SlotState) → IsClosed new → is_back new ≡ false
-closed-off new ByBound = refl
-closed-off new (ByCut number) = refl
-closed-off new ByThroughput = refl
-closed-off new (ByProbe s) = refl
-
 -- neither state is Back
 plain-backs : (b : Book) (id : ℕ) (old new : SlotState) → IsAt b id old → is_back old ≡ false → is_back new ≡ false → backs 0 (Step.with_state b id new).slots ≡ back_slots b
 plain-backs b id old new at off still = turned-same 0 b.slots id (record (slot_at b id) { state = new }) (still ∙ sym (ap is_back at.is ∙ off))
@@ -191,7 +186,7 @@ module _ {Break : Type 0} (broken : Instance → Plan → Option Break) (b : Boo
             Taken id (taken ∙ (λ i. zeroth i ∷ back_slots (sym same i)))
         | TakesFresh w id runs none no_back next at left same ↦ Same (ap back_slots same ∙ plain-backs b id slot.Fresh (slot.Held w) at refl refl)
         | Splits w id at lacks same ↦ Same (ap back_slots same ∙ split-backs b w id at)
-        | Closes old new id x from to at tells same ↦ Same (ap back_slots same ∙ plain-backs b id old new at (closing-off old from) (closed-off new to))
+        | Closes old why id from at tells same ↦ Same (ap back_slots same ∙ plain-backs b id old (slot.Closed why) at (closing-off old from) refl)
         | Parks w id c p at tells same ↦ Same (ap back_slots same ∙ plain-backs b id (slot.Held w) (slot.Parked c p) at refl refl)
         | Posts cut grows good own same ↦ Same (ap back_slots same)
         | Replaces plan grows cheaper same ↦
@@ -229,7 +224,7 @@ module _ {Break : Type 0} (broken : Instance → Plan → Option Break) (b : Boo
                     count-children is_back refl refl b.case.instance (best_cost b) id (suc node.depth) 0 (children_of b.case.instance node.depth node.lines),
                   );
             })
-        | Closes old new id x from to at tells same ↦ subst KeepsBack (sym same) (record { few = omega (arith, keeps.few, count-turned is_back b id old new at, ap one (closed-off new to)) })
+        | Closes old why id from at tells same ↦ subst KeepsBack (sym same) (record { few = omega (arith, keeps.few, count-turned is_back b id old (slot.Closed why) at) })
         | Parks w id c p at tells same ↦ subst KeepsBack (sym same) (record { few = omega (arith, keeps.few, count-turned is_back b id (slot.Held w) (slot.Parked c p) at) })
         | Posts cut grows good own same ↦ subst KeepsBack (sym same) (record { few = keeps.few })
         | Replaces plan grows cheaper same ↦ subst KeepsBack (sym same) (record { few = omega (arith, keeps.few, count-outdone is_back refl (cost_of b.case.instance plan) b.slots) })
@@ -240,7 +235,7 @@ module _ {Break : Type 0} (broken : Instance → Plan → Option Break) (b : Boo
 pub opening-back : (case : Case) (plan : Plan) → KeepsBack (opening_book case plan)
 opening-back case plan = record { few = by_bound (nat_le (cost_of case.instance plan) (bound_at case.instance root)) }
   where
-    by_bound : (t : Bool) → one (is_back (cond t slot.ByBound slot.Fresh)) + 0 + 9 ≤ 9
+    by_bound : (t : Bool) → one (is_back (cond t (slot.Closed by.Bound) slot.Fresh)) + 0 + 9 ≤ 9
     by_bound true = omega arith
     by_bound false = omega arith
 

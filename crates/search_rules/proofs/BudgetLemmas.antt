@@ -19,7 +19,7 @@ use Rattle.search_rules.specs.Cover.{KeepsBook}
 use Rattle.search_rules.specs.Room.{count_slots}
 use Rattle.search_rules.specs.Budget.{is_taken, KeepsBudget}
 use Rattle.search_rules.proofs.SlotLemmas.{IsAt}
-use Rattle.search_rules.proofs.MoveLemmas.{Stays, TakesBack, TakesFresh, Splits, Closes, Parks, Posts, Replaces, Ends, GivesBack, MayClose, FromHeld, FromParked, IsClosed, ByBound, ByCut, ByThroughput, ByProbe, turned, each-move}
+use Rattle.search_rules.proofs.MoveLemmas.{Stays, TakesBack, TakesFresh, Splits, Closes, Parks, Posts, Replaces, Ends, GivesBack, MayClose, FromHeld, FromParked, turned, each-move}
 use Rattle.search_rules.proofs.TallyLemmas.{one, count-turned, count-append, count-children, count-weaker, count-outdone_same, count-outdone, open-whole, length-children, length-append}
 
 -- ---- the budget of nodes
@@ -36,12 +36,6 @@ turned-budget b id old new used ended e keeps at whole still paid room = record 
 pub closing-whole : (old : SlotState) → MayClose old → (is_split old ≡ false) × (is_taken old ≡ true)
 closing-whole old (FromHeld w) = (refl, refl)
 closing-whole old (FromParked c p) = (refl, refl)
-
-pub closed-whole : (new : SlotState) → IsClosed new → (is_split new ≡ false) × (is_taken new ≡ false)
-closed-whole new ByBound = (refl, refl)
-closed-whole new (ByCut number) = (refl, refl)
-closed-whole new ByThroughput = (refl, refl)
-closed-whole new (ByProbe s) = (refl, refl)
 
 split-budget : (b : Book) (w id : ℕ) → KeepsBook b → KeepsBudget b → IsAt b id (slot.Held w) → (slot_at b id).node.depth < length b.case.instance.ships → (e : Entry) → KeepsBudget (Step.noted (Step.with_children b id) e)
 split-budget b w id book keeps at lacks e =
@@ -86,10 +80,9 @@ module _ {Break : Type 0} (broken : Instance → Plan → Option Break) (b : Boo
         | TakesBack w id runs none first at same ↦ subst KeepsBudget (sym same) (turned-budget b id slot.Back (slot.Held w) b.used b.ended _ keeps at refl refl (omega arith) keeps.used)
         | TakesFresh w id runs none no_back next at left same ↦ subst KeepsBudget (sym same) (turned-budget b id slot.Fresh (slot.Held w) (suc b.used) b.ended _ keeps at refl refl (omega arith) (omega (arith, keeps.used, left)))
         | Splits w id at lacks same ↦ subst KeepsBudget (sym same) (split-budget b w id book keeps at lacks _)
-        | Closes old new id x from to at tells same ↦
+        | Closes old why id from at tells same ↦
             let was = closing-whole old from in
-            let is = closed-whole new to in
-            subst KeepsBudget (sym same) (turned-budget b id old new b.used b.ended x keeps at was.0 is.0 (omega (arith, ap one was.1, ap one is.1)) keeps.used)
+            subst KeepsBudget (sym same) (turned-budget b id old (slot.Closed why) b.used b.ended _ keeps at was.0 refl (omega (arith, ap one was.1)) keeps.used)
         | Parks w id c p at tells same ↦ subst KeepsBudget (sym same) (turned-budget b id (slot.Held w) (slot.Parked c p) b.used b.ended _ keeps at refl refl (omega arith) keeps.used)
         | Posts cut grows good own same ↦ subst KeepsBudget (sym same) (record { used = keeps.used; taken = keeps.taken; few = keeps.few })
         | Replaces plan grows cheaper same ↦ subst KeepsBudget (sym same) (record {

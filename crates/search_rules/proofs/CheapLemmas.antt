@@ -23,9 +23,10 @@ use Rattle.search_rules.specs.Room.{count_slots}
 use Rattle.search_rules.specs.Cover.{IsGoodSlot, KeepsBook}
 use Rattle.search_rules.specs.Cheap.{opening_cost, count_cheap, share_of, sum_shares, KeepsCheap}
 use Rattle.search_rules.proofs.SlotLemmas.{IsAt, next_fresh-at}
-use Rattle.search_rules.proofs.MoveLemmas.{Stays, TakesBack, TakesFresh, Splits, Closes, Parks, Posts, Replaces, Ends, GivesBack, MayClose, FromHeld, FromParked, IsClosed, ByBound, ByCut, ByThroughput, ByProbe, turned, each-move}
-use Rattle.search_rules.proofs.BudgetLemmas.{closing-whole, closed-whole}
+use Rattle.search_rules.proofs.MoveLemmas.{Stays, TakesBack, TakesFresh, Splits, Closes, Parks, Posts, Replaces, Ends, GivesBack, MayClose, FromHeld, FromParked, turned, each-move}
+use Rattle.search_rules.proofs.BudgetLemmas.{closing-whole}
 use Rattle.search_rules.proofs.TallyLemmas.{one, count-turned, count-append, count-outdone, open-whole, Kept, Closed, outdone-is}
+use Rattle.search_rules.specs.declared.grounds.Ground.TheVariants as by
 
 clash : true ≡ false → ⊥
 clash e = cc
@@ -51,13 +52,13 @@ cheap-outdone c cost (x ∷ xs) =
     ]
 
 -- a new slot that is Fresh is cheap by any cost that isn't lower
-new-cheap : (c cost : ℕ) → cost ≤ c → (bound : ℕ) → one (is_fresh (cond (nat_le cost bound) slot.ByBound slot.Fresh)) ≤ one (nat_lt bound c)
+new-cheap : (c cost : ℕ) → cost ≤ c → (bound : ℕ) → one (is_fresh (cond (nat_le cost bound) (slot.Closed by.Bound) slot.Fresh)) ≤ one (nat_lt bound c)
 new-cheap c cost less bound =
     elim (leb_tells cost bound) [
-      | inl y ↦ let shut = ap (λ t. one (is_fresh (cond t slot.ByBound slot.Fresh))) y.0 in omega (arith, shut)
+      | inl y ↦ let shut = ap (λ t. one (is_fresh (cond t (slot.Closed by.Bound) slot.Fresh))) y.0 in omega (arith, shut)
       | inr n ↦
           elim (leb_tells (suc bound) c) [
-            | inl z ↦ let cheap = ap one z.0 in let fresh = ap (λ t. one (is_fresh (cond t slot.ByBound slot.Fresh))) n.0 in omega (arith, cheap, fresh)
+            | inl z ↦ let cheap = ap one z.0 in let fresh = ap (λ t. one (is_fresh (cond t (slot.Closed by.Bound) slot.Fresh))) n.0 in omega (arith, cheap, fresh)
             | inr m ↦ absurd (omega (arith, n.1, m.1, less))
           ]
     ]
@@ -92,7 +93,7 @@ shares-outdone I c cost (x ∷ xs) =
       | Closed e high same ↦ omega (arith, rest, ap (share_of I c) same, whole-share I c x (open-whole x.state e))
     ]
 
-new-whole : (t : Bool) → is_split (cond t slot.ByBound slot.Fresh) ≡ false
+new-whole : (t : Bool) → is_split (cond t (slot.Closed by.Bound) slot.Fresh) ≡ false
 new-whole true = refl
 new-whole false = refl
 
@@ -176,12 +177,6 @@ pub closing-fresh : (old : SlotState) → MayClose old → is_fresh old ≡ fals
 closing-fresh old (FromHeld w) = refl
 closing-fresh old (FromParked c p) = refl
 
-pub closed-fresh : (new : SlotState) → IsClosed new → is_fresh new ≡ false
-closed-fresh new ByBound = refl
-closed-fresh new (ByCut number) = refl
-closed-fresh new ByThroughput = refl
-closed-fresh new (ByProbe s) = refl
-
 module _ {Break : Type 0} (broken : Instance → Plan → Option Break) (b : Book) (book : KeepsBook b) where
   pub cheap-step : KeepsCheap b → (e : Event) → IsOwed e → KeepsCheap (Step.step broken b e).0
   cheap-step keeps e owed =
@@ -190,9 +185,9 @@ module _ {Break : Type 0} (broken : Instance → Plan → Option Break) (b : Boo
         | TakesBack w id runs none first at same ↦ subst KeepsCheap (sym same) (turned-cheap b id slot.Back (slot.Held w) b.used b.ended (entry.Take w) keeps at refl refl (omega arith))
         | TakesFresh w id runs none no_back next at left same ↦ subst KeepsCheap (sym same) (turned-cheap b id slot.Fresh (slot.Held w) (suc b.used) b.ended (entry.Take w) keeps at refl refl (omega arith))
         | Splits w id at lacks same ↦ subst KeepsCheap (sym same) (split-cheap b w id book keeps at lacks)
-        | Closes old new id x from to at tells same ↦
+        | Closes old why id from at tells same ↦
             subst KeepsCheap (sym same)
-            (turned-cheap b id old new b.used b.ended x keeps at (closing-whole old from).0 (closed-whole new to).0 (omega (arith, ap one (closing-fresh old from), ap one (closed-fresh new to))))
+            (turned-cheap b id old (slot.Closed why) b.used b.ended (entry.Close id why) keeps at (closing-whole old from).0 refl (omega (arith, ap one (closing-fresh old from))))
         | Parks w id c p at tells same ↦ subst KeepsCheap (sym same) (turned-cheap b id (slot.Held w) (slot.Parked c p) b.used b.ended (entry.Park id c p) keeps at refl refl (omega arith))
         | Posts cut grows good own same ↦ subst KeepsCheap (sym same) (record { best = keeps.best; used = keeps.used; all = keeps.all })
         | Replaces plan grows cheaper same ↦ subst KeepsCheap (sym same) (replaced-cheap b plan keeps cheaper)

@@ -119,10 +119,7 @@ live-either slot.Back live shut free = absurd (clash shut)
 live-either (slot.Held w) live shut free = absurd (clash free)
 live-either (slot.Parked c p) live shut free = inr refl
 live-either (slot.Split first) live shut free = absurd (clash (sym live))
-live-either slot.ByBound live shut free = absurd (clash (sym live))
-live-either (slot.ByCut number) live shut free = absurd (clash (sym live))
-live-either slot.ByThroughput live shut free = absurd (clash (sym live))
-live-either (slot.ByProbe s) live shut free = absurd (clash (sym live))
+live-either (slot.Closed why) live shut free = absurd (clash (sym live))
 
 module _ (b : Book) (laws : TreeLaws b.case.instance) (keeps : KeepsBook b) (parts : KeepsParts b) (limit : ℕ) (well : EndsWell limit b) where
   abbrev I : Instance

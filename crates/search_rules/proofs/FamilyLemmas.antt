@@ -16,9 +16,10 @@ use Rattle.search_rules.specs.Step
 use Rattle.search_rules.specs.Family.{child_count, child_node, IsChildSlot, HasChildren, IsBorn, KeepsFamily}
 use Rattle.search_rules.proofs.SlotLemmas.{IsAt}
 use Rattle.search_rules.proofs.MoveLemmas.{Stays, TakesBack, TakesFresh, Splits, Closes, Parks, Posts, Replaces, Ends, GivesBack, turned, state-known, each-move}
-use Rattle.search_rules.proofs.BudgetLemmas.{closing-whole, closed-whole}
+use Rattle.search_rules.proofs.BudgetLemmas.{closing-whole}
 use Rattle.search_rules.proofs.TallyLemmas.{Kept, Closed, outdone-is, open-whole}
 use Rattle.search_rules.proofs.TurnLemmas.{Turned, Untouched, turned-at, Parent, Old, Child, Past, split-at, kid, kid-at, length-split, outdone-at}
+use Rattle.search_rules.specs.declared.grounds.Ground.TheVariants as by
 
 clash : true ≡ false → ⊥
 clash e = cc
@@ -119,7 +120,7 @@ replaced-shape b plan = record {
   was = λ id first h.
       elim (outdone-is cost (slot_at b id)) [
         | Kept e s ↦ sym (ap (λ (u : Slot). u.state) (outdone-at cost b.slots id ∙ s)) ∙ h
-        | Closed e high s ↦ absurd (not-split slot.ByBound first refl (sym (ap (λ (u : Slot). u.state) (outdone-at cost b.slots id ∙ s)) ∙ h))
+        | Closed e high s ↦ absurd (not-split (slot.Closed by.Bound) first refl (sym (ap (λ (u : Slot). u.state) (outdone-at cost b.slots id ∙ s)) ∙ h))
       ];
   stays = λ id first h.
       elim (outdone-is cost (slot_at b id)) [
@@ -182,7 +183,7 @@ module _ (b : Book) (w id : ℕ) (at : IsAt b id (slot.Held w)) (e : Entry) wher
         | Past past s ↦ absurd (omega (arith, here, past, length-split b id))
       ]
 
-  new-whole : (t : Bool) → is_split (cond t slot.ByBound slot.Fresh) ≡ false
+  new-whole : (t : Bool) → is_split (cond t (slot.Closed by.Bound) slot.Fresh) ≡ false
   new-whole true = refl
   new-whole false = refl
 
@@ -236,7 +237,7 @@ module _ (b : Book) (w id : ℕ) (at : IsAt b id (slot.Held w)) (e : Entry) wher
             subst (HasChildren new other) first_is (subst (λ k. HasChildren new k first_kid) (sym is) (own-children lacks))
         | Old not_id known s ↦ old-children other first known (keeps.children other first (sym (ap (λ (u : Slot). u.state) s) ∙ h))
         | Child k is known s ↦ absurd (not-split (kid b id k).state first (kid-whole k) (sym (ap (λ (u : Slot). u.state) s) ∙ h))
-        | Past past s ↦ absurd (not-split slot.ByBound first refl (sym (ap (λ (u : Slot). u.state) s) ∙ h))
+        | Past past s ↦ absurd (not-split (slot.Closed by.Bound) first refl (sym (ap (λ (u : Slot). u.state) s) ∙ h))
       ]
 
   old-born : (other : ℕ) → other < length b.slots → IsBorn b other → IsBorn new other
@@ -302,7 +303,7 @@ module _ {Break : Type 0} (broken : Instance → Plan → Option Break) (b : Boo
         | TakesBack w id runs none first at same ↦ subst KeepsFamily (sym same) (turned-family id slot.Back (slot.Held w) b.used b.ended (entry.Take w) keeps at refl refl)
         | TakesFresh w id runs none no_back next at left same ↦ subst KeepsFamily (sym same) (turned-family id slot.Fresh (slot.Held w) (suc b.used) b.ended (entry.Take w) keeps at refl refl)
         | Splits w id at lacks same ↦ subst KeepsFamily (sym same) (split-family b w id at (entry.Split id) keeps lacks)
-        | Closes old new id x from to at tells same ↦ subst KeepsFamily (sym same) (turned-family id old new b.used b.ended x keeps at (closing-whole old from).0 (closed-whole new to).0)
+        | Closes old why id from at tells same ↦ subst KeepsFamily (sym same) (turned-family id old (slot.Closed why) b.used b.ended (entry.Close id why) keeps at (closing-whole old from).0 refl)
         | Parks w id c p at tells same ↦ subst KeepsFamily (sym same) (turned-family id (slot.Held w) (slot.Parked c p) b.used b.ended (entry.Park id c p) keeps at refl refl)
         | Posts cut grows good own same ↦
             let new = Step.noted (record b { cuts = b.cuts ++ cut ∷ [] }) entry.Post in
@@ -322,13 +323,13 @@ opening-family case plan = record {
   born = λ id low known. absurd (omega (arith, low, known));
 }
   where
-    new-whole' : (t : Bool) → is_split (cond t slot.ByBound slot.Fresh) ≡ false
+    new-whole' : (t : Bool) → is_split (cond t (slot.Closed by.Bound) slot.Fresh) ≡ false
     new-whole' true = refl
     new-whole' false = refl
 
     none : (id first : ℕ) → (slot_at (opening_book case plan) id).state ≡ slot.Split first → ⊥
     none zero first h = not-split (new_slot case.instance (cost_of case.instance plan) 0 0 root).state first (new-whole' (nat_le (cost_of case.instance plan) (bound_at case.instance root))) h
-    none (suc id) first h = not-split slot.ByBound first refl h
+    none (suc id) first h = not-split (slot.Closed by.Bound) first refl h
 
 -- ---- one slot and its parent
 

@@ -1,5 +1,5 @@
 -- What an event does to a book: a refusal leaves it, and each accepted event is one of nine moves.
-use Rattle.std.proofs.Common.{◌≡◌, ◌≢◌, ℕ, zero, suc, ◌<◌, ◌≤◌, List, [], ◌∷◌, ◌++◌, length, inl, inr, refl, sym, ap, ◌∙◌, subst, arith, Bool, true, false, not, cond, ◌&&◌, ◌||◌, Some, None, slice_index_or, slice_get, slice_set, nat_eq, nat_le, nat_lt}
+use Rattle.std.proofs.Common.{◌≡◌, ◌≢◌, ℕ, zero, suc, ◌<◌, ◌≤◌, List, [], ◌∷◌, ◌++◌, length, inl, inr, refl, sym, ap, ◌∙◌, subst, arith, Bool, true, false, not, cond, ◌&&◌, ◌||◌, Some, None, slice_index_or, slice_get, slice_set, nat_eq, nat_le}
 use Rattle.std.specs.declared.option.Option.{Option}
 use Rattle.std.proofs.lemmas.Bool.Decides.{eqb_tells, leb_tells}
 use Rattle.lock_model.specs.Deck.{Deck}
@@ -10,9 +10,6 @@ use Rattle.lock_model.specs.declared.group.Group.{Group}
 use Rattle.lock_model.specs.declared.plan.Plan.{Plan}
 use Rattle.lock_rules.specs.Plan.{cost_of}
 use Rattle.lock_rules.specs.Node.{line_at}
-use Rattle.lock_rules.specs.Arrival.{missing_ships}
-use Rattle.lock_rules.specs.Throughput.{throughput_of}
-use Rattle.lock_rules.proofs.SplitLemmas.{missing-known}
 use Rattle.refute_rules.specs.Spots.{IsSpent}
 use Rattle.refute_rules.specs.Cuts.{Cut, IsCut}
 use Rattle.refute_rules.proofs.ListingLemmas.{spent-fewer}
@@ -22,16 +19,18 @@ use Rattle.search_rules.specs.declared.book.SlotState.{SlotState}
 use Rattle.search_rules.specs.declared.book.SlotState.TheVariants as slot
 use Rattle.search_rules.specs.Tests.{same_deck, has_clash, is_own_cut}
 use Rattle.search_rules.specs.Book.{Slot, Book, no_slot, slot_at, best_cost, first_slot, has_slot, is_back, is_held, is_held_by, is_parked, group_at, ships_at, no_group}
-use Rattle.search_rules.specs.Events.{Event, Reply, IsOwed, is_accepted, take, split, close_bound, close_cut, close_throughput, close_probe, post, park, replace, release}
-use Rattle.search_rules.specs.Events.{Replaced, Ended, NodesSpent, Idle, Done, NotHeld, Whole, Cheaper, NoHit, OtherDeck, NotCheaper, Absent, Clashes}
+use Rattle.search_rules.specs.Events.{Event, Reply, IsOwed, is_accepted, take, split, close, post, park, replace, release}
+use Rattle.search_rules.specs.Events.{Replaced, Ended, NodesSpent, Idle, Done, NotHeld, Whole, OtherDeck, NotCheaper, Clashes}
 use Rattle.search_rules.specs.NextSlot.{next_fresh}
 use Rattle.search_rules.specs.Step
 use Rattle.search_rules.specs.States.{Tells}
-use Rattle.search_rules.proofs.CoverLemmas.{held-known, not-not, not-below, not-le}
-use Rattle.search_rules.proofs.LawLemmas.{contains-times}
-use Rattle.search_rules.proofs.TestLemmas.{same_deck-decides, HasNoClash-test, has_number-decides, is_node_hit-decides, is_own_cut-decides}
+use Rattle.search_rules.proofs.ClosingLemmas.{MayRefuse, may-refuse, unrefused-may}
+use Rattle.search_rules.proofs.CoverLemmas.{held-known}
+use Rattle.search_rules.proofs.TestLemmas.{not-not, not-le, same_deck-decides, HasNoClash-test, is_own_cut-decides}
 use Rattle.search_rules.specs.Cover.{IsOwnCut}
 use Rattle.search_rules.proofs.SlotLemmas.{IsAt, back-is, held-is, held_by-is, held_by-itself, first_slot-at, first_slot-none, next_fresh-at}
+use Rattle.search_rules.specs.declared.grounds.Ground.{Ground}
+use Rattle.search_rules.specs.declared.grounds.Ground.TheVariants as by
 
 -- the book with slot id in another state, and these numbers
 abbrev pub turned : Book → ℕ → SlotState → ℕ → List Bool → Entry → Book
@@ -46,16 +45,10 @@ pub record IsRunning (b : Book) (w : ℕ) : Type 0 where
 abbrev pub HoldsNone : Book → ℕ → Type 0
 HoldsNone b w = (id : ℕ) → (slot_at b id).state ≡ slot.Held w → ⊥
 
--- a state that a slot may be closed from, and a closed one
+-- a state that a slot may be closed from
 pub data MayClose : SlotState → Type 0 where
   FromHeld : (w : ℕ) → MayClose (slot.Held w)
   FromParked : (c p : ℕ) → MayClose (slot.Parked c p)
-
-pub data IsClosed : SlotState → Type 0 where
-  ByBound : IsClosed slot.ByBound
-  ByCut : (number : ℕ) → IsClosed (slot.ByCut number)
-  ByThroughput : IsClosed slot.ByThroughput
-  ByProbe : (s : ℕ) → IsClosed (slot.ByProbe s)
 
 -- what the new state of slot id tells is true
 abbrev pub TellsAt : Book → ℕ → SlotState → Type 0
@@ -72,7 +65,7 @@ pub data IsMove {Break : Type 0} (b : Book) (e : Event) (out : Book × Reply Bre
   TakesBack : (w id : ℕ) → IsRunning b w → HoldsNone b w → first_slot b is_back ≡ Some id → IsAt b id slot.Back → out.0 ≡ turned b id (slot.Held w) b.used b.ended (entry.Take w) → IsMove b e out
   TakesFresh : (w id : ℕ) → IsRunning b w → HoldsNone b w → first_slot b is_back ≡ None → next_fresh b ≡ Some id → IsAt b id slot.Fresh → b.used ≢ b.case.nodes → out.0 ≡ turned b id (slot.Held w) (suc b.used) b.ended (entry.Take w) → IsMove b e out
   Splits : (w id : ℕ) → IsAt b id (slot.Held w) → (slot_at b id).node.depth < length b.case.instance.ships → out.0 ≡ Step.noted (Step.with_children b id) (entry.Split id) → IsMove b e out
-  Closes : (old new : SlotState) (id : ℕ) (x : Entry) → MayClose old → IsClosed new → IsAt b id old → TellsAt b id new → out.0 ≡ turned b id new b.used b.ended x → IsMove b e out
+  Closes : (old : SlotState) (why : Ground) (id : ℕ) → MayClose old → IsAt b id old → TellsAt b id (slot.Closed why) → out.0 ≡ turned b id (slot.Closed why) b.used b.ended (entry.Close id why) → IsMove b e out
   Parks : (w id c p : ℕ) → IsAt b id (slot.Held w) → TellsAt b id (slot.Parked c p) → out.0 ≡ turned b id (slot.Parked c p) b.used b.ended (entry.Park id c p) → IsMove b e out
   Posts : (cut : Cut) → is_growing e ≡ true → IsCut cut → IsOwnCut b.case.instance cut → out.0 ≡ Step.noted (record b { cuts = b.cuts ++ cut ∷ [] }) entry.Post → IsMove b e out
   Replaces : (plan : Plan) → is_growing e ≡ true → cost_of b.case.instance plan < best_cost b → out.0 ≡ Step.replaced b plan → IsMove b e out
@@ -85,7 +78,7 @@ clash e = cc
 none-some : {X : Type 0} (x : X) → None ≡ Some x → ⊥
 none-some x e = cc
 
-pub state-known : (b : Book) (id : ℕ) (state : SlotState) → (slot_at b id).state ≡ state → (state ≡ slot.ByBound → ⊥) → id < length b.slots
+pub state-known : (b : Book) (id : ℕ) (state : SlotState) → (slot_at b id).state ≡ state → (state ≡ slot.Closed by.Bound → ⊥) → id < length b.slots
 state-known b id state is other = in_list b.slots id is
   where
     in_list : (xs : List Slot) (id : ℕ) → (slice_index_or xs id no_slot).state ≡ state → id < length xs
@@ -115,7 +108,7 @@ module _ {Break : Type 0} (broken : Instance → Plan → Option Break) (b : Boo
       let known = state-known b id (slot.Held w) is held-open in
       clash (sym (held_by-itself w) ∙ ap (is_held_by w) (sym is) ∙ first_slot-none b (is_held_by w) e id known)
     where
-      held-open : slot.Held w ≡ slot.ByBound → ⊥
+      held-open : slot.Held w ≡ slot.Closed by.Bound → ⊥
       held-open e = clash (ap is_held e)
 
   idle-move : (w : ℕ) (t : Bool) → Is (take w) (b, cond t Idle Done)
@@ -154,23 +147,11 @@ module _ {Break : Type 0} (broken : Instance → Plan → Option Break) (b : Boo
   from_state id (slot.Parked c p) is e = (FromParked c p, record { known = state-known b id (slot.Parked c p) is (λ f. clash (ap is_parked f)); is = is })
   from_state id _ is e = absurd (clash (sym e))
 
-  closed-move : (e : Event) (id : ℕ) (new : SlotState) (x : Entry) → Step.may_close b id ≡ true → IsClosed new → TellsAt b id new → Is e (Step.closed b id new x)
-  closed-move e id new x may closed tells =
+  close-move : (id : ℕ) (why : Ground) → Step.may_close b id ≡ true → (o : Option (Reply Break)) → Step.refusal_of b id why ≡ o → MayRefuse o → Is (close id why) (Step.close_unless b id why o)
+  close-move id why may (Some r) e refuses = Stays refuses refl
+  close-move id why may None e refuses =
       let old = from_state id (slot_at b id).state refl may in
-      Closes (slot_at b id).state new id x old.0 closed old.1 tells refl
-
-  hit-tells : (id number : ℕ) (o : Option Cut) → slice_get b.cuts number ≡ o → Step.hits_in b id o ≡ true → TellsAt b id (slot.ByCut number)
-  hit-tells id number None e hit = absurd (clash (sym hit))
-  hit-tells id number (Some cut) e hit = record { cut = cut; there = e; hits = (is_node_hit-decides I cut (slot_at b id).node.lines).0 hit }
-
-  probe-tells : (id s : ℕ) → Step.is_missing b id s ≡ true → best_cost b ≤ Step.probe_at b id s → TellsAt b id (slot.ByProbe s)
-  probe-tells id s missing high =
-      let among = (has_number-decides (missing_ships I (slot_at b id).node.depth) s).0 missing in
-      record {
-        known = missing-known I (slot_at b id).node.depth s (contains-times (missing_ships I (slot_at b id).node.depth) s among);
-        missing = among;
-        high = high;
-      }
+      Closes (slot_at b id).state why id old.0 old.1 (unrefused-may b id why e) refl
 
   -- ---- parking
 
@@ -225,40 +206,10 @@ module _ {Break : Type 0} (broken : Instance → Plan → Option Break) (b : Boo
       refuse_or (split id) whole (Whole id) (Step.split_slot b id) refl (λ g.
       let held = held-at b id (not-not (is_held (slot_at b id).state) f) in
       Splits held.0 id held.1 (not-le (length I.ships) (slot_at b id).node.depth g) refl))
-  each-move (close_bound id) owed =
-      let low = nat_lt (slot_at b id).bound (best_cost b) in
-      let reply = Cheaper (slot_at b id).bound (best_cost b) in
-      let e = close_bound id in
-      let x = entry.CloseBound id in
-      refuse_or e (not (Step.may_close b id)) (NotHeld id) (cond low (b, reply) (Step.closed b id slot.ByBound x)) refl (λ f.
-      refuse_or e low reply (Step.closed b id slot.ByBound x) refl (λ g.
-      closed-move e id slot.ByBound x (not-not (Step.may_close b id) f) ByBound (not-below (slot_at b id).bound (best_cost b) g)))
-  each-move (close_cut id number) owed =
-      let hit = Step.hits_in b id (slice_get b.cuts number) in
-      let e = close_cut id number in
-      let x = entry.CloseCut id number in
-      refuse_or e (not (Step.may_close b id)) (NotHeld id) (cond (not hit) (b, NoHit number) (Step.closed b id (slot.ByCut number) x)) refl (λ f.
-      refuse_or e (not hit) (NoHit number) (Step.closed b id (slot.ByCut number) x) refl (λ g.
-      closed-move e id (slot.ByCut number) x (not-not (Step.may_close b id) f) (ByCut number) (hit-tells id number (slice_get b.cuts number) refl (not-not hit g))))
-  each-move (close_throughput id) owed =
-      let low = nat_lt (throughput_of I) (best_cost b) in
-      let reply = Cheaper (throughput_of I) (best_cost b) in
-      let e = close_throughput id in
-      let x = entry.CloseThroughput id in
-      refuse_or e (not (Step.may_close b id)) (NotHeld id) (cond low (b, reply) (Step.closed b id slot.ByThroughput x)) refl (λ f.
-      refuse_or e low reply (Step.closed b id slot.ByThroughput x) refl (λ g.
-      closed-move e id slot.ByThroughput x (not-not (Step.may_close b id) f) ByThroughput (not-below (throughput_of I) (best_cost b) g)))
-  each-move (close_probe id s) owed =
-      let low = nat_lt (Step.probe_at b id s) (best_cost b) in
-      let reply = Cheaper (Step.probe_at b id s) (best_cost b) in
-      let e = close_probe id s in
-      let x = entry.CloseProbe id s in
-      let missing = Step.is_missing b id s in
-      let onwards = cond low (b, reply) (Step.closed b id (slot.ByProbe s) x) in
-      refuse_or e (not (Step.may_close b id)) (NotHeld id) (cond (not missing) (b, Absent s) onwards) refl (λ f.
-      refuse_or e (not missing) (Absent s) onwards refl (λ g.
-      refuse_or e low reply (Step.closed b id (slot.ByProbe s) x) refl (λ h.
-      closed-move e id (slot.ByProbe s) x (not-not (Step.may_close b id) f) (ByProbe s) (probe-tells id s (not-not missing g) (not-below (Step.probe_at b id s) (best_cost b) h)))))
+  each-move (close id why) owed =
+      let refusal = Step.refusal_of b id why in
+      refuse_or (close id why) (not (Step.may_close b id)) (NotHeld id) (Step.close_unless b id why refusal) refl (λ f.
+      close-move id why (not-not (Step.may_close b id) f) refusal refl (may-refuse b id Break why))
   each-move (post cut) owed =
       refuse_or (post cut) (not (is_own_cut I cut)) OtherDeck (Step.posted b cut) refl (λ f.
       Posts cut refl owed ((is_own_cut-decides I cut).0 (not-not (is_own_cut I cut) f)) refl)

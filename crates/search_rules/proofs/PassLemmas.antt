@@ -5,11 +5,10 @@ use Rattle.std.proofs.lemmas.Bool.Decides.{leb_tells, eqb_tells}
 use Rattle.std.proofs.lemmas.List.{length-set}
 use Rattle.lock_model.specs.declared.instance.Instance.{Instance}
 use Rattle.lock_model.specs.declared.plan.Plan.{Plan}
-use Rattle.search_rules.specs.declared.book.Entry.TheVariants as entry
 use Rattle.search_rules.specs.declared.book.SlotState.{SlotState}
 use Rattle.search_rules.specs.declared.book.SlotState.TheVariants as slot
 use Rattle.search_rules.specs.Book.{Slot, Book, no_slot, slot_at, best_cost, first_slot, is_fresh, is_back, is_held, is_held_by, is_parked}
-use Rattle.search_rules.specs.Events.{Reply, take, close_bound, Ended, NodesSpent, Done, NotHeld, Cheaper}
+use Rattle.search_rules.specs.Events.{Reply, take, close, Ended, NodesSpent, Done, NotHeld, Cheaper}
 use Rattle.search_rules.specs.NextSlot.{next_fresh}
 use Rattle.search_rules.specs.Step
 use Rattle.search_rules.specs.Family.{KeepsFamily}
@@ -19,6 +18,7 @@ use Rattle.search_rules.specs.Alone.{IsAlone, EndsBefore}
 use Rattle.search_rules.proofs.SlotLemmas.{fresh-is, held-is, held_by-itself, first_slot-none, next_fresh-at}
 use Rattle.search_rules.proofs.NextLemmas.{next_fresh-some}
 use Rattle.search_rules.proofs.TurnLemmas.{Turned, Untouched, turned-at}
+use Rattle.search_rules.specs.declared.grounds.Ground.TheVariants as by
 
 clash : true ≡ false → ⊥
 clash e = cc
@@ -121,7 +121,7 @@ module _ {Break : Type 0} (broken : Instance → Plan → Option Break) (b : Boo
 -- closing slot k by its bound leaves the book, or the slot was held or parked with a bound of at least the best cost
 data IsPassed (b : Book) (k : ℕ) (new : Book) : Type 0 where
   Left : new ≡ b → ((is_parked (slot_at b k).state ≡ false) ⊎ ((slot_at b k).bound < best_cost b)) → IsPassed b k new
-  Shut : k < length b.slots → (is_fresh (slot_at b k).state ≡ false) → new ≡ Step.noted (Step.with_state b k slot.ByBound) (entry.CloseBound k) → IsPassed b k new
+  Shut : k < length b.slots → (is_fresh (slot_at b k).state ≡ false) → new ≡ Step.closed b k by.Bound → IsPassed b k new
 
 parked-known : (xs : List Slot) (id : ℕ) → (is_held (slice_index_or xs id no_slot).state || is_parked (slice_index_or xs id no_slot).state) ≡ true → id < length xs
 parked-known [] id e = absurd (clash (sym e))
@@ -137,40 +137,40 @@ shut-free (slot.Parked c p) e = e
 shut-free _ e = refl
 
 module _ {Break : Type 0} (broken : Instance → Plan → Option Break) (b : Book) (k : ℕ) where
-  passed : IsPassed b k (Step.step broken b (close_bound k)).0
+  passed : IsPassed b k (Step.step broken b (close k by.Bound)).0
   passed = by_shut (is_held (slot_at b k).state || is_parked (slot_at b k).state) refl
     where
       by_bound : (is_held (slot_at b k).state || is_parked (slot_at b k).state) ≡ true → (t : Bool) → nat_lt (slot_at b k).bound (best_cost b) ≡ t
-          → IsPassed b k (cond t (b, Cheaper (slot_at b k).bound (best_cost b)) (Step.closed {Break = Break} b k slot.ByBound (entry.CloseBound k))).0
+          → IsPassed b k (Step.close_unless {Break = Break} b k by.Bound (cond t (Some (Cheaper (slot_at b k).bound (best_cost b))) None)).0
       by_bound may true e = Left refl (inr (elim (leb_tells (suc (slot_at b k).bound) (best_cost b)) [ inl y ↦ y.1 | inr n ↦ absurd (clash (sym e ∙ n.0)) ]))
       by_bound may false e = Shut (parked-known b.slots k may) (shut-stale (slot_at b k).state may) refl
 
       by_shut : (t : Bool) → (is_held (slot_at b k).state || is_parked (slot_at b k).state) ≡ t
-          → IsPassed b k (cond (not t) (b, NotHeld k) (cond (nat_lt (slot_at b k).bound (best_cost b)) (b, Cheaper (slot_at b k).bound (best_cost b)) (Step.closed {Break = Break} b k slot.ByBound (entry.CloseBound k)))).0
+          → IsPassed b k (cond (not t) (b, NotHeld k) (Step.close_unless {Break = Break} b k by.Bound (Step.refusal_of b k by.Bound))).0
       by_shut true e = by_bound e (nat_lt (slot_at b k).bound (best_cost b)) refl
       by_shut false e = Left refl (inl (shut-free (slot_at b k).state e))
 
 -- ---- what a shut slot leaves as it was
 
 abbrev shut_book : Book → ℕ → Book
-shut_book b k = Step.noted (Step.with_state b k slot.ByBound) (entry.CloseBound k)
+shut_book b k = Step.closed b k by.Bound
 
 module _ (b : Book) (k : ℕ) (known : k < length b.slots) where
   long : length (shut_book b k).slots ≡ length b.slots
-  long = length-set b.slots k (record (slot_at b k) { state = slot.ByBound })
+  long = length-set b.slots k (record (slot_at b k) { state = slot.Closed by.Bound })
 
-  -- a slot that isn't ByBound was as it is
-  as-before : (id : ℕ) (state : SlotState) → (slot_at (shut_book b k) id).state ≡ state → (state ≡ slot.ByBound → ⊥) → (id ≢ k) × (slot_at (shut_book b k) id ≡ slot_at b id)
+  -- a slot that isn't closed by its bound was as it is
+  as-before : (id : ℕ) (state : SlotState) → (slot_at (shut_book b k) id).state ≡ state → (state ≡ slot.Closed by.Bound → ⊥) → (id ≢ k) × (slot_at (shut_book b k) id ≡ slot_at b id)
   as-before id state is other =
-      elim (turned-at b k slot.ByBound known id) [
+      elim (turned-at b k (slot.Closed by.Bound) known id) [
         | Turned same e ↦ absurd (other (sym is ∙ ap (λ (s : Slot). s.state) e))
         | Untouched apart e ↦ (apart, e)
       ]
 
-  shut-none : (test : SlotState → Bool) → test slot.ByBound ≡ false → HasNone b test → HasNone (shut_book b k) test
+  shut-none : (test : SlotState → Bool) → test (slot.Closed by.Bound) ≡ false → HasNone b test → HasNone (shut_book b k) test
   shut-none test closed old = record {
     none = λ id here.
-        elim (turned-at b k slot.ByBound known id) [
+        elim (turned-at b k (slot.Closed by.Bound) known id) [
           | Turned same e ↦ ap (λ (s : Slot). test s.state) e ∙ closed
           | Untouched apart e ↦ ap (λ (s : Slot). test s.state) e ∙ old.none id (omega (arith, here, long))
         ];
@@ -182,7 +182,7 @@ module _ (b : Book) (k : ℕ) (known : k < length b.slots) where
     back = shut-none is_back refl old.back;
     id = old.id;
     known = omega (arith, old.known, long);
-    fresh = elim (turned-at b k slot.ByBound known old.id) [
+    fresh = elim (turned-at b k (slot.Closed by.Bound) known old.id) [
       | Turned same e ↦ absurd (clash (sym (ap is_fresh (sym (ap (λ id. (slot_at b id).state) same) ∙ old.fresh)) ∙ stale))
       | Untouched apart e ↦ ap (λ (s : Slot). s.state) e ∙ old.fresh
     ];
@@ -196,7 +196,7 @@ module _ (b : Book) (k : ℕ) (known : k < length b.slots) where
         omega (arith, old.low id c p (omega (arith, less, before.0)) own, ap (λ (s : Slot). s.bound) before.1);
   }
     where
-      parked-open : {c p : ℕ} → slot.Parked c p ≡ slot.ByBound → ⊥
+      parked-open : {c p : ℕ} → slot.Parked c p ≡ slot.Closed by.Bound → ⊥
       parked-open e = clash (ap is_parked e)
 
 -- where slot k isn't parked or is cheap, the pass may go on
@@ -216,7 +216,7 @@ left-parks b k why old = record {
 
 module _ {Break : Type 0} (broken : Instance → Plan → Option Break) (limit k : ℕ) (b : Book) where
   -- THE LAST PASS closes slot by slot what isn't cheap,
-  pub pass-step : EndsBefore limit k b → EndsBefore limit (suc k) (Step.step broken b (close_bound k)).0
+  pub pass-step : EndsBefore limit k b → EndsBefore limit (suc k) (Step.step broken b (close k by.Bound)).0
   pass-step old =
       elim (passed broken b k) [
         | Left same why ↦ subst (EndsBefore limit (suc k)) (sym same) (record { free = old.free; opening = old.opening; parked = left-parks b k why old.parked; left = old.left })
@@ -228,7 +228,7 @@ module _ {Break : Type 0} (broken : Instance → Plan → Option Break) (limit k
         })
       ]
 
-  pub pass-long : length (Step.step broken b (close_bound k)).0.slots ≡ length b.slots
+  pub pass-long : length (Step.step broken b (close k by.Bound)).0.slots ≡ length b.slots
   pass-long =
       elim (passed broken b k) [
         | Left same why ↦ ap (λ (u : Book). length u.slots) same

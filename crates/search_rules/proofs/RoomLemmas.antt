@@ -17,8 +17,9 @@ use Rattle.search_rules.specs.Budget.{is_taken, KeepsBudget}
 use Rattle.search_rules.specs.History.{KeepsRoom}
 use Rattle.search_rules.proofs.SlotLemmas.{IsAt}
 use Rattle.search_rules.proofs.StepLemmas.{Refused, Accepted, each-step, entry_of, cuts_of, plans_of}
-use Rattle.search_rules.proofs.MoveLemmas.{Stays, TakesBack, TakesFresh, Splits, Closes, Parks, Posts, Replaces, Ends, GivesBack, IsRunning, MayClose, FromHeld, FromParked, IsClosed, ByBound, ByCut, ByThroughput, ByProbe, is_growing, each-move}
+use Rattle.search_rules.proofs.MoveLemmas.{Stays, TakesBack, TakesFresh, Splits, Closes, Parks, Posts, Replaces, Ends, GivesBack, IsRunning, MayClose, FromHeld, FromParked, is_growing, each-move}
 use Rattle.search_rules.proofs.TallyLemmas.{one, count-turned, count-append, count-children, count-outdone, length-append, count_false-set}
+use Rattle.search_rules.specs.declared.grounds.Ground.TheVariants as by
 
 clash : true ≡ false → ⊥
 clash e = cc
@@ -36,12 +37,6 @@ slots_room-turned b id old new at = omega (arith, count-turned is_back b id old 
 closing-room : (old : SlotState) → MayClose old → 1 ≤ state_room old
 closing-room old (FromHeld w) = omega arith
 closing-room old (FromParked c p) = omega arith
-
-closed-room : (new : SlotState) → IsClosed new → state_room new ≡ 0
-closed-room new ByBound = omega arith
-closed-room new (ByCut number) = omega arith
-closed-room new ByThroughput = omega arith
-closed-room new (ByProbe s) = omega arith
 
 split-room : (b : Book) (w id : ℕ) → IsAt b id (slot.Held w) → (e : Entry) → suc (room_of (Step.noted (Step.with_children b id) e)) ≤ room_of b
 split-room b w id at e =
@@ -82,9 +77,9 @@ module _ {Break : Type 0} (broken : Instance → Plan → Option Break) (b : Boo
             let slots = slots_room-turned b id slot.Fresh (slot.Held w) at in
             Less (subst (λ (u : Book). suc (room_of u) ≤ room_of b) (sym same) (omega (arith, slots, left, budget.used)))
         | Splits w id at lacks same ↦ Less (subst (λ (u : Book). suc (room_of u) ≤ room_of b) (sym same) (split-room b w id at (entry.Split id)))
-        | Closes old new id x from to at tells same ↦
-            let slots = slots_room-turned b id old new at in
-            Less (subst (λ (u : Book). suc (room_of u) ≤ room_of b) (sym same) (omega (arith, slots, closing-room old from, closed-room new to)))
+        | Closes old why id from at tells same ↦
+            let slots = slots_room-turned b id old (slot.Closed why) at in
+            Less (subst (λ (u : Book). suc (room_of u) ≤ room_of b) (sym same) (omega (arith, slots, closing-room old from)))
         | Parks w id c p at tells same ↦
             let slots = slots_room-turned b id (slot.Held w) (slot.Parked c p) at in
             Less (subst (λ (u : Book). suc (room_of u) ≤ room_of b) (sym same) (omega (arith, slots)))
@@ -145,13 +140,13 @@ module _ {Break : Type 0} (broken : Instance → Plan → Option Break) (b : Boo
 pub opening-room : (case : Case) (plan : Plan) → KeepsRoom (opening_book case plan)
 opening-room case plan = record { room = by_bound (nat_le (cost_of case.instance plan) (bound_at case.instance root)) }
   where
-    by_bound : (t : Bool) → 0 + (3 * (case.nodes - 0) + 3 * (one (is_back (cond t slot.ByBound slot.Fresh)) + 0) + 2 * (one (is_held (cond t slot.ByBound slot.Fresh)) + 0) + (one (is_parked (cond t slot.ByBound slot.Fresh)) + 0) + 2 * 9) ≤ 3 * case.nodes + 32 + 0 + 0
+    by_bound : (t : Bool) → 0 + (3 * (case.nodes - 0) + 3 * (one (is_back (cond t (slot.Closed by.Bound) slot.Fresh)) + 0) + 2 * (one (is_held (cond t (slot.Closed by.Bound) slot.Fresh)) + 0) + (one (is_parked (cond t (slot.Closed by.Bound) slot.Fresh)) + 0) + 2 * 9) ≤ 3 * case.nodes + 32 + 0 + 0
     by_bound true = omega arith
     by_bound false = omega arith
 
 pub opening-budget : (case : Case) (plan : Plan) → KeepsBudget (opening_book case plan)
 opening-budget case plan = record { used = omega arith; taken = by_bound (nat_le (cost_of case.instance plan) (bound_at case.instance root)); few = omega arith }
   where
-    by_bound : (t : Bool) → one (is_taken (cond t slot.ByBound slot.Fresh)) + 0 ≤ 0
+    by_bound : (t : Bool) → one (is_taken (cond t (slot.Closed by.Bound) slot.Fresh)) + 0 ≤ 0
     by_bound true = omega arith
     by_bound false = omega arith

@@ -18,10 +18,12 @@ use Rattle.search_rules.specs.Events.{Event, IsOwed}
 use Rattle.search_rules.specs.Step
 use Rattle.search_rules.specs.Cover.{IsParkedWell}
 use Rattle.search_rules.specs.States.{Tells, IsTrueSlot, KeepsStates}
-use Rattle.search_rules.proofs.CoverLemmas.{all-set, not-le}
+use Rattle.search_rules.proofs.CoverLemmas.{all-set}
+use Rattle.search_rules.proofs.TestLemmas.{not-le}
 use Rattle.search_rules.proofs.SlotLemmas.{IsAt}
 use Rattle.search_rules.proofs.MoveLemmas.{Stays, TakesBack, TakesFresh, Splits, Closes, Parks, Posts, Replaces, Ends, GivesBack, TellsAt, turned, each-move}
 use Rattle.search_rules.proofs.TallyLemmas.{Kept, Closed, outdone-is}
+use Rattle.search_rules.specs.declared.grounds.Ground.TheVariants as by
 
 clash : true ≡ false → ⊥
 clash e = cc
@@ -30,7 +32,7 @@ is-le : (m n : ℕ) → nat_le m n ≡ true → m ≤ n
 is-le m n e = elim (leb_tells m n) [ inl y ↦ y.1 | inr n ↦ absurd (clash (sym e ∙ n.0)) ]
 
 -- a new slot is closed exactly where its bound is at least the cost
-new-true : (case : Case) (cuts : List Cut) (cost : ℕ) (node : TreeNode) (bound : ℕ) (t : Bool) → nat_le cost bound ≡ t → Tells case cuts cost node bound (cond t slot.ByBound slot.Fresh)
+new-true : (case : Case) (cuts : List Cut) (cost : ℕ) (node : TreeNode) (bound : ℕ) (t : Bool) → nat_le cost bound ≡ t → Tells case cuts cost node bound (cond t (slot.Closed by.Bound) slot.Fresh)
 new-true case cuts cost node bound true e = is-le cost bound e
 new-true case cuts cost node bound false e = not-le cost bound e
 
@@ -51,15 +53,15 @@ get-more (c ∷ cuts) more zero cut e = e
 get-more (c ∷ cuts) more (suc number) cut e = get-more cuts more number cut e
 
 more-tells : (case : Case) (cuts more : List Cut) (cost : ℕ) (node : TreeNode) (bound : ℕ) (state : SlotState) → Tells case cuts cost node bound state → Tells case (cuts ++ more) cost node bound state
-more-tells case cuts more cost node bound (slot.ByCut number) h = record { cut = h.cut; there = get-more cuts more number h.cut h.there; hits = h.hits }
+more-tells case cuts more cost node bound (slot.Closed (by.Cut number)) h = record { cut = h.cut; there = get-more cuts more number h.cut h.there; hits = h.hits }
+more-tells case cuts more cost node bound (slot.Closed by.Bound) h = h
+more-tells case cuts more cost node bound (slot.Closed by.Throughput) h = h
+more-tells case cuts more cost node bound (slot.Closed (by.Probe s)) h = h
 more-tells case cuts more cost node bound slot.Fresh h = h
 more-tells case cuts more cost node bound slot.Back h = h
 more-tells case cuts more cost node bound (slot.Held w) h = h
 more-tells case cuts more cost node bound (slot.Parked c p) h = h
 more-tells case cuts more cost node bound (slot.Split first) h = h
-more-tells case cuts more cost node bound slot.ByBound h = h
-more-tells case cuts more cost node bound slot.ByThroughput h = h
-more-tells case cuts more cost node bound (slot.ByProbe s) h = h
 
 -- by a lower cost, where a Fresh slot's bound is still below it
 lower-tells : (case : Case) (cuts : List Cut) (cost lower : ℕ) → lower ≤ cost → (node : TreeNode) (bound : ℕ) (state : SlotState) → (is_fresh state ≡ true → bound < lower) → Tells case cuts cost node bound state → Tells case cuts lower node bound state
@@ -68,10 +70,10 @@ lower-tells case cuts cost lower less node bound slot.Back fresh h = h
 lower-tells case cuts cost lower less node bound (slot.Held w) fresh h = h
 lower-tells case cuts cost lower less node bound (slot.Parked c p) fresh h = h
 lower-tells case cuts cost lower less node bound (slot.Split first) fresh h = h
-lower-tells case cuts cost lower less node bound slot.ByBound fresh h = omega (arith, h, less)
-lower-tells case cuts cost lower less node bound (slot.ByCut number) fresh h = h
-lower-tells case cuts cost lower less node bound slot.ByThroughput fresh h = omega (arith, h, less)
-lower-tells case cuts cost lower less node bound (slot.ByProbe s) fresh h = record { known = h.known; missing = h.missing; high = omega (arith, h.high, less) }
+lower-tells case cuts cost lower less node bound (slot.Closed by.Bound) fresh h = omega (arith, h, less)
+lower-tells case cuts cost lower less node bound (slot.Closed (by.Cut number)) fresh h = h
+lower-tells case cuts cost lower less node bound (slot.Closed by.Throughput) fresh h = omega (arith, h, less)
+lower-tells case cuts cost lower less node bound (slot.Closed (by.Probe s)) fresh h = (h.0, omega (arith, h.1, less))
 
 outdone-true : (case : Case) (cuts : List Cut) (cost lower : ℕ) → lower ≤ cost → (s : Slot) → IsTrueSlot case cuts cost s → IsTrueSlot case cuts lower (Step.outdone lower s)
 outdone-true case cuts cost lower less s h =
@@ -119,7 +121,7 @@ module _ {Break : Type 0} (broken : Instance → Plan → Option Break) (b : Boo
         | TakesBack w id runs none first at same ↦ subst KeepsStates (sym same) (turned-states id (slot.Held w) b.used b.ended (entry.Take w) keeps tt)
         | TakesFresh w id runs none no_back next at left same ↦ subst KeepsStates (sym same) (turned-states id (slot.Held w) (suc b.used) b.ended (entry.Take w) keeps tt)
         | Splits w id at lacks same ↦ subst KeepsStates (sym same) (split-states id keeps)
-        | Closes old new id x from to at tells same ↦ subst KeepsStates (sym same) (turned-states id new b.used b.ended x keeps tells)
+        | Closes old why id from at tells same ↦ subst KeepsStates (sym same) (turned-states id (slot.Closed why) b.used b.ended (entry.Close id why) keeps tells)
         | Parks w id c p at tells same ↦ subst KeepsStates (sym same) (turned-states id (slot.Parked c p) b.used b.ended (entry.Park id c p) keeps tells)
         | Posts cut grows good own same ↦ subst KeepsStates (sym same) (posted-states cut keeps)
         | Replaces plan grows cheaper same ↦ subst KeepsStates (sym same) (replaced-states plan cheaper keeps)
@@ -143,8 +145,8 @@ state-tells b id state keeps at = subst (TellsAt b id) at.is (keeps.states id no
 pub fresh-low : (b : Book) (id : ℕ) → KeepsStates b → IsAt b id slot.Fresh → (slot_at b id).bound < best_cost b
 fresh-low b id keeps at = state-tells b id slot.Fresh keeps at
 
-pub by_bound-high : (b : Book) (id : ℕ) → KeepsStates b → IsAt b id slot.ByBound → best_cost b ≤ (slot_at b id).bound
-by_bound-high b id keeps at = state-tells b id slot.ByBound keeps at
+pub by_bound-high : (b : Book) (id : ℕ) → KeepsStates b → IsAt b id (slot.Closed by.Bound) → best_cost b ≤ (slot_at b id).bound
+by_bound-high b id keeps at = state-tells b id (slot.Closed by.Bound) keeps at
 
 pub parked-well : (b : Book) (id c p : ℕ) → KeepsStates b → IsAt b id (slot.Parked c p) → IsParkedWell b id c p
 parked-well b id c p keeps at = let group = state-tells b id (slot.Parked c p) keeps at in record { spent = group.spent; clear = group.clear }

@@ -9,6 +9,7 @@ use Rattle.search_rules.specs.NextSlot.{is_split}
 use Rattle.search_rules.specs.Step
 use Rattle.search_rules.specs.Room.{count_slots, count_false}
 use Rattle.search_rules.proofs.SlotLemmas.{IsAt}
+use Rattle.search_rules.specs.declared.grounds.Ground.TheVariants as by
 
 clash : true ≡ false → ⊥
 clash e = cc
@@ -34,8 +35,8 @@ pub count-append : (test : SlotState → Bool) (xs ys : List Slot) → count_slo
 count-append test [] ys = omega arith
 count-append test (x ∷ xs) ys = let rest = count-append test xs ys in omega (arith, rest)
 
--- no new slot passes a test that neither Fresh nor ByBound passes
-pub count-children : (test : SlotState → Bool) → test slot.Fresh ≡ false → test slot.ByBound ≡ false → (I : Instance) (cost parent depth number : ℕ) (ls : List (List (List Group)))
+-- no new slot passes a test that neither a Fresh slot passes nor one closed by its bound
+pub count-children : (test : SlotState → Bool) → test slot.Fresh ≡ false → test (slot.Closed by.Bound) ≡ false → (I : Instance) (cost parent depth number : ℕ) (ls : List (List (List Group)))
     → count_slots test (Step.child_slots I cost parent depth number ls) ≡ 0
 count-children test fresh bound I cost parent depth number [] = refl
 count-children test fresh bound I cost parent depth number (l ∷ ls) =
@@ -43,7 +44,7 @@ count-children test fresh bound I cost parent depth number (l ∷ ls) =
     let here = by_bound (nat_le cost (bound_at I (record { depth = depth; lines = l }))) in
     omega (arith, rest, here)
   where
-    by_bound : (t : Bool) → one (test (cond t slot.ByBound slot.Fresh)) ≡ 0
+    by_bound : (t : Bool) → one (test (cond t (slot.Closed by.Bound) slot.Fresh)) ≡ 0
     by_bound true = ap one bound
     by_bound false = ap one fresh
 
@@ -68,10 +69,10 @@ count-weaker test other weaker (x ∷ xs) =
 
 -- ---- a new best plan
 
--- an outdone slot is as it was, or it was open or parked, its bound is at least the cost, and now it is ByBound
+-- an outdone slot is as it was, or it was open or parked, its bound is at least the cost, and now it is closed by it
 pub data IsOutdone (cost : ℕ) (s new : Slot) : Type 0 where
   Kept : ((is_fresh s.state || is_back s.state || is_parked s.state) && nat_le cost s.bound) ≡ false → new ≡ s → IsOutdone cost s new
-  Closed : (is_fresh s.state || is_back s.state || is_parked s.state) ≡ true → nat_le cost s.bound ≡ true → new ≡ record s { state = slot.ByBound } → IsOutdone cost s new
+  Closed : (is_fresh s.state || is_back s.state || is_parked s.state) ≡ true → nat_le cost s.bound ≡ true → new ≡ record s { state = slot.Closed by.Bound } → IsOutdone cost s new
 
 pub outdone-is : (cost : ℕ) (s : Slot) → IsOutdone cost s (Step.outdone cost s)
 outdone-is cost s = by_test ((is_fresh s.state || is_back s.state || is_parked s.state) && nat_le cost s.bound) refl
@@ -80,12 +81,12 @@ outdone-is cost s = by_test ((is_fresh s.state || is_back s.state || is_parked s
     both true q e = (refl, e)
     both false q e = absurd (clash (sym e))
 
-    by_test : (t : Bool) → ((is_fresh s.state || is_back s.state || is_parked s.state) && nat_le cost s.bound) ≡ t → IsOutdone cost s (cond t (record s { state = slot.ByBound }) s)
+    by_test : (t : Bool) → ((is_fresh s.state || is_back s.state || is_parked s.state) && nat_le cost s.bound) ≡ t → IsOutdone cost s (cond t (record s { state = slot.Closed by.Bound }) s)
     by_test true e = let parts = both (is_fresh s.state || is_back s.state || is_parked s.state) (nat_le cost s.bound) e in Closed parts.0 parts.1 refl
     by_test false e = Kept e refl
 
--- a test that neither ByBound nor any open or parked state passes answers the same
-pub count-outdone_same : (test : SlotState → Bool) → test slot.ByBound ≡ false → ((s : SlotState) → (is_fresh s || is_back s || is_parked s) ≡ true → test s ≡ false)
+-- a test that neither a slot closed by its bound passes nor any open or parked one answers the same
+pub count-outdone_same : (test : SlotState → Bool) → test (slot.Closed by.Bound) ≡ false → ((s : SlotState) → (is_fresh s || is_back s || is_parked s) ≡ true → test s ≡ false)
     → (cost : ℕ) (xs : List Slot) → count_slots test (map (Step.outdone cost) xs) ≡ count_slots test xs
 count-outdone_same test bound opened cost [] = refl
 count-outdone_same test bound opened cost (x ∷ xs) =
@@ -95,8 +96,8 @@ count-outdone_same test bound opened cost (x ∷ xs) =
       | Closed e high same ↦ omega (arith, rest, ap (λ (s : Slot). one (test s.state)) same, ap one bound, ap one (opened x.state e))
     ]
 
--- a test that ByBound doesn't pass answers for no more slots
-pub count-outdone : (test : SlotState → Bool) → test slot.ByBound ≡ false → (cost : ℕ) (xs : List Slot) → count_slots test (map (Step.outdone cost) xs) ≤ count_slots test xs
+-- a test that a slot closed by its bound doesn't pass answers for no more slots
+pub count-outdone : (test : SlotState → Bool) → test (slot.Closed by.Bound) ≡ false → (cost : ℕ) (xs : List Slot) → count_slots test (map (Step.outdone cost) xs) ≤ count_slots test xs
 count-outdone test bound cost [] = omega arith
 count-outdone test bound cost (x ∷ xs) =
     let rest = count-outdone test bound cost xs in

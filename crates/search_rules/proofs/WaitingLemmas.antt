@@ -22,6 +22,7 @@ use Rattle.search_rules.proofs.MoveLemmas.{state-known, turned}
 use Rattle.search_rules.proofs.TallyLemmas.{Kept, Closed, outdone-is, open-whole}
 use Rattle.search_rules.proofs.FamilyLemmas.{held-whole, stays-split, parent-split}
 use Rattle.search_rules.proofs.TurnLemmas.{Turned, Untouched, turned-at, Parent, Old, Child, Past, split-at, length-split, outdone-at}
+use Rattle.search_rules.specs.declared.grounds.Ground.TheVariants as by
 
 clash : true ≡ false → ⊥
 clash e = cc
@@ -269,7 +270,7 @@ replaced-settles b plan = record {
               fresh = sym (ap (λ (u : Slot). u.state) at) ∙ c.fresh;
               below = sym (ap (λ (u : Slot). u.parent) at) ∙ c.below;
             }
-        | Closed e high s ↦ absurd (not-fresh slot.ByBound refl (sym (ap (λ (u : Slot). u.state) (outdone-at cost b.slots k ∙ s)) ∙ c.fresh))
+        | Closed e high s ↦ absurd (not-fresh (slot.Closed by.Bound) refl (sym (ap (λ (u : Slot). u.state) (outdone-at cost b.slots k ∙ s)) ∙ c.fresh))
       ];
   split = λ p first h.
       elim (outdone-is cost (slot_at b p)) [

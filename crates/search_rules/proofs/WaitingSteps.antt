@@ -18,7 +18,7 @@ use Rattle.search_rules.proofs.NextLemmas.{next_fresh-root, next_fresh-child}
 use Rattle.search_rules.proofs.MoveLemmas.{Stays, TakesBack, TakesFresh, Splits, Closes, Parks, Posts, Replaces, Ends, GivesBack, turned, each-move}
 use Rattle.search_rules.proofs.TurnLemmas.{Turned, Untouched, turned-at}
 use Rattle.search_rules.proofs.BudgetLemmas.{closing-whole}
-use Rattle.search_rules.proofs.CheapLemmas.{closing-fresh, closed-fresh}
+use Rattle.search_rules.proofs.CheapLemmas.{closing-fresh}
 use Rattle.search_rules.proofs.WaitingLemmas.{among-number, Settles, IsFreshTest, waiting-last, waiting-none, waiting-same, waiting-less, waiting-fewer, search-below, child-tells, turned-settles, turned-stays, turned-waiting, replaced-settles, gains, keeps-list}
 
 clash : true ≡ false → ⊥
@@ -146,8 +146,8 @@ module _ {Break : Type 0} (broken : Instance → Plan → Option Break) (b : Boo
         | TakesBack w id runs none first at same ↦ onto (sym same) (Same (turned-waiting b id slot.Back (slot.Held w) b.used b.ended (entry.Take w) splits at refl refl refl waiting))
         | TakesFresh w id runs none no_back next at left same ↦ onto (sym same) (fresh-taken b family w id at next splits waiting)
         | Splits w id at lacks same ↦ onto (sym same) (split-waiting w id at splits waiting)
-        | Closes old new id x from to at tells same ↦
-            onto (sym same) (Same (turned-waiting b id old new b.used b.ended x splits at (closing-whole old from).0 (closing-fresh old from) (closed-fresh new to) waiting))
+        | Closes old why id from at tells same ↦
+            onto (sym same) (Same (turned-waiting b id old (slot.Closed why) b.used b.ended (entry.Close id why) splits at (closing-whole old from).0 (closing-fresh old from) refl waiting))
         | Parks w id c p at tells same ↦ onto (sym same) (Same (turned-waiting b id (slot.Held w) (slot.Parked c p) b.used b.ended (entry.Park id c p) splits at refl refl refl waiting))
         | Posts cut grows good own same ↦ onto (sym same) (Same (like-waiting b (Step.noted (record b { cuts = b.cuts ++ cut ∷ [] }) entry.Post) splits refl waiting))
         | Replaces plan grows cheaper same ↦ onto (sym same) (Fewer (λ test tests. waiting-fewer b (Step.replaced b plan) splits test (replaced-settles b plan) tests waiting))

@@ -13,9 +13,10 @@ use Rattle.search_rules.specs.Book.{Case, Slot, Book, no_slot, best_cost, bound_
 use Rattle.search_rules.specs.Events.{Event, IsOwed}
 use Rattle.search_rules.specs.Step
 use Rattle.search_rules.specs.Workers.{KeepsWorkers}
-use Rattle.search_rules.proofs.MoveLemmas.{Stays, TakesBack, TakesFresh, Splits, Closes, Parks, Posts, Replaces, Ends, GivesBack, IsRunning, HoldsNone, IsClosed, ByBound, ByCut, ByThroughput, ByProbe, turned, each-move}
+use Rattle.search_rules.proofs.MoveLemmas.{Stays, TakesBack, TakesFresh, Splits, Closes, Parks, Posts, Replaces, Ends, GivesBack, IsRunning, HoldsNone, turned, each-move}
 use Rattle.search_rules.proofs.TallyLemmas.{Kept, Closed, outdone-is}
 use Rattle.search_rules.proofs.TurnLemmas.{Turned, Untouched, turned-at, Parent, Old, Child, Past, split-at, kid, outdone-at}
+use Rattle.search_rules.specs.declared.grounds.Ground.TheVariants as by
 
 clash : true ≡ false → ⊥
 clash e = cc
@@ -83,7 +84,7 @@ taken-workers b w id used e keeps known runs none = record {
     both first other v (inr old) (inl c) = absurd (none first (subst (λ u. Holds b.slots first u) c.1 old))
     both first other v (inr old) (inr older) = keeps.one first other v old older
 
-new-free : (t : Bool) → is_held (cond t slot.ByBound slot.Fresh) ≡ false
+new-free : (t : Bool) → is_held (cond t (slot.Closed by.Bound) slot.Fresh) ≡ false
 new-free true = refl
 new-free false = refl
 
@@ -93,7 +94,7 @@ split-holds b id known other w h =
       | Parent is e ↦ absurd (not-held (slot.Split (length b.slots)) w refl (sym (ap (λ (s : Slot). s.state) e) ∙ h))
       | Old not_id here e ↦ sym (ap (λ (s : Slot). s.state) e) ∙ h
       | Child k is here e ↦ absurd (not-held (kid b id k).state w (new-free (nat_le (best_cost b) (bound_at b.case.instance (kid b id k).node))) (sym (ap (λ (s : Slot). s.state) e) ∙ h))
-      | Past past e ↦ absurd (not-held slot.ByBound w refl (sym (ap (λ (s : Slot). s.state) e) ∙ h))
+      | Past past e ↦ absurd (not-held (slot.Closed by.Bound) w refl (sym (ap (λ (s : Slot). s.state) e) ∙ h))
     ]
 
 pub outdone-holds : (cost : ℕ) (slots : List Slot) (id w : ℕ) → Holds (map (Step.outdone cost) slots) id w → Holds slots id w
@@ -102,14 +103,8 @@ outdone-holds cost slots id w h =
     let at = outdone-at cost slots id in
     elim (outdone-is cost s) [
       | Kept e same ↦ sym (ap (λ (s : Slot). s.state) (at ∙ same)) ∙ h
-      | Closed e high same ↦ absurd (not-held slot.ByBound w refl (sym (ap (λ (s : Slot). s.state) (at ∙ same)) ∙ h))
+      | Closed e high same ↦ absurd (not-held (slot.Closed by.Bound) w refl (sym (ap (λ (s : Slot). s.state) (at ∙ same)) ∙ h))
     ]
-
-closed-free : (new : SlotState) → IsClosed new → is_held new ≡ false
-closed-free new ByBound = refl
-closed-free new (ByCut number) = refl
-closed-free new ByThroughput = refl
-closed-free new (ByProbe s) = refl
 
 module _ {Break : Type 0} (broken : Instance → Plan → Option Break) (b : Book) where
   pub workers-step : KeepsWorkers b → (e : Event) → IsOwed e → KeepsWorkers (Step.step broken b e).0
@@ -119,8 +114,8 @@ module _ {Break : Type 0} (broken : Instance → Plan → Option Break) (b : Boo
         | TakesBack w id runs none first at same ↦ subst KeepsWorkers (sym same) (taken-workers b w id b.used (entry.Take w) keeps at.known runs none)
         | TakesFresh w id runs none no_back next at left same ↦ subst KeepsWorkers (sym same) (taken-workers b w id (suc b.used) (entry.Take w) keeps at.known runs none)
         | Splits w id at lacks same ↦ subst KeepsWorkers (sym same) (same-workers b (Step.noted (Step.with_children b id) (entry.Split id)) keeps refl (split-holds b id at.known))
-        | Closes old new id x from to at tells same ↦
-            subst KeepsWorkers (sym same) (same-workers b (turned b id new b.used b.ended x) keeps refl (λ other v h. (turned-holds b id new at.known (closed-free new to) other v h).0))
+        | Closes old why id from at tells same ↦
+            subst KeepsWorkers (sym same) (same-workers b (turned b id (slot.Closed why) b.used b.ended (entry.Close id why)) keeps refl (λ other v h. (turned-holds b id (slot.Closed why) at.known refl other v h).0))
         | Parks w id c p at tells same ↦
             subst KeepsWorkers (sym same) (same-workers b (turned b id (slot.Parked c p) b.used b.ended (entry.Park id c p)) keeps refl (λ other v h. (turned-holds b id (slot.Parked c p) at.known refl other v h).0))
         | Posts cut grows good own same ↦ subst KeepsWorkers (sym same) (same-workers b (Step.noted (record b { cuts = b.cuts ++ cut ∷ [] }) entry.Post) keeps refl (λ other v h. h))
@@ -144,4 +139,4 @@ opening-workers case plan = record {
   where
     none : (id w : ℕ) → Holds (opening_book case plan).slots id w → ⊥
     none zero w h = not-held (new_slot case.instance (cost_of case.instance plan) 0 0 root).state w (new-free (nat_le (cost_of case.instance plan) (bound_at case.instance root))) h
-    none (suc id) w h = not-held slot.ByBound w refl h
+    none (suc id) w h = not-held (slot.Closed by.Bound) w refl h

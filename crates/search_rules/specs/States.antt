@@ -1,30 +1,23 @@
 -- What the state of a slot says of its node.
-use Rattle.std.specs.Prelude.{ℕ, ◌≡◌, ◌<◌, ◌≤◌, List, length, slice_get, Some, All, Contains, ⊤}
+use Rattle.std.specs.Prelude.{ℕ, ◌≡◌, ◌<◌, List, length, slice_get, Some, All, ⊤}
 use Rattle.lock_model.specs.Fitting.{deck_of}
 use Rattle.lock_model.specs.Cargo.{HasNoClash}
 use Rattle.lock_model.specs.declared.instance.Instance.{Instance}
+use Rattle.lock_model.specs.declared.group.Group.{Group}
 use Rattle.lock_rules.specs.Node.{line_at}
-use Rattle.lock_rules.specs.Arrival.{missing_ships}
-use Rattle.lock_rules.specs.Bound.{probe_of}
-use Rattle.lock_rules.specs.Throughput.{throughput_of}
 use Rattle.lock_rules.specs.Cut.{HitsNode}
 use Rattle.refute_rules.specs.Spots.{IsSpent}
 use Rattle.refute_rules.specs.Cuts.{Cut}
 use Rattle.search_rules.specs.declared.book.SlotState.{SlotState}
 use Rattle.search_rules.specs.declared.book.SlotState.TheVariants as slot
 use Rattle.search_rules.specs.Book.{Case, Node, Slot, Book, best_cost, ships_at}
+use Rattle.search_rules.specs.Grounds.{IsClosedBy}
 
--- the cut of this number hits a group of the node
-pub record IsHitBy (I : Instance) (cuts : List Cut) (node : Node) (number : ℕ) : Type 0 where
+-- the cut of this number is there and hits a group of the lines
+pub record IsHitBy (I : Instance) (cuts : List Cut) (number : ℕ) (lines : List (List Group)) : Type 0 where
   pub cut : Cut
   pub there : slice_get cuts number ≡ Some cut
-  pub hits : HitsNode cut.ships cut.deck I node.lines
-
--- the node lacks ship s, and its probe is at least the cost
-pub record IsProbedBy (I : Instance) (cost : ℕ) (node : Node) (s : ℕ) : Type 0 where
-  pub known : s < length I.ships
-  pub missing : Contains (missing_ships I node.depth) s
-  pub high : cost ≤ probe_of I node.depth node.lines s
+  pub hits : HitsNode cut.ships cut.deck I lines
 
 -- group p of chamber c is there, it is spent for the case's turns, and no two of its ships clash
 pub record IsSpentGroup (case : Case) (node : Node) (c p : ℕ) : Type 0 where
@@ -35,10 +28,7 @@ pub record IsSpentGroup (case : Case) (node : Node) (c p : ℕ) : Type 0 where
 -- by the state of a slot, with this best cost; of Back, Held and Split slots nothing is said
 abbrev pub Tells : Case → List Cut → ℕ → Node → ℕ → SlotState → Type 0
 Tells case cuts cost node bound slot.Fresh = bound < cost
-Tells case cuts cost node bound slot.ByBound = cost ≤ bound
-Tells case cuts cost node bound (slot.ByCut number) = IsHitBy case.instance cuts node number
-Tells case cuts cost node bound slot.ByThroughput = cost ≤ throughput_of case.instance
-Tells case cuts cost node bound (slot.ByProbe s) = IsProbedBy case.instance cost node s
+Tells case cuts cost node bound (slot.Closed why) = IsClosedBy case.instance (IsHitBy case.instance cuts) cost bound node.depth node.lines why
 Tells case cuts cost node bound (slot.Parked c p) = IsSpentGroup case node c p
 Tells case cuts cost node bound _ = ⊤
 

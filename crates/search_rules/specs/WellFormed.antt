@@ -5,6 +5,8 @@ use Rattle.lock_model.specs.declared.plan.Lockage.{Lockage}
 use Rattle.refute_rules.specs.declared.refutation.Quick.{Quick}
 use Rattle.refute_rules.specs.declared.refutation.Quick.TheVariants.{Area, Row, Column}
 use Rattle.refute_rules.specs.declared.refutation.Refutation.{Refutation}
+use Rattle.search_rules.specs.declared.grounds.Ground.{Ground}
+use Rattle.search_rules.specs.declared.grounds.Ground.TheVariants as by
 use Rattle.search_rules.specs.declared.certificate.Mark.{Mark}
 use Rattle.search_rules.specs.declared.certificate.OpenMark.{OpenMark}
 use Rattle.search_rules.specs.declared.certificate.OpenMark.TheVariants.{Closed, Open}
@@ -30,12 +32,14 @@ IsFormedCut c = Within 1 8 (length c.ships) × IsFormedRefutation c.refutation
 abbrev pub IsFormedLockage : Lockage → Type 0
 IsFormedLockage l = Within 1 8 (length l.ships) × (length l.spots ≡ length l.ships)
 
+abbrev pub IsFormedGround : Ground → Type 0
+IsFormedGround (by.Probe s) = s ≤ 23
+IsFormedGround (by.Cut number) = number < 2 ^ 63
+IsFormedGround _ = ⊤
+
 abbrev pub IsFormedMark : Mark → Type 0
 IsFormedMark mark.Split = ⊤
-IsFormedMark mark.Bound = ⊤
-IsFormedMark (mark.Cut number) = number < 2 ^ 63
-IsFormedMark mark.Throughput = ⊤
-IsFormedMark (mark.Probe s) = s ≤ 23
+IsFormedMark (mark.Leaf why) = IsFormedGround why
 
 abbrev pub IsFormedOpenMark : OpenMark → Type 0
 IsFormedOpenMark (Closed m) = IsFormedMark m

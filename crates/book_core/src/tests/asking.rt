@@ -2,7 +2,7 @@
 
 use super::super::*;
 use super::fixture::given;
-use search_rules::SlotState;
+use search_rules::{Ground, SlotState};
 use std::process::Abort;
 
 /// What is asked of a book.
@@ -10,10 +10,7 @@ use std::process::Abort;
 pub(crate) enum Ask {
     Take(u8),
     Split(u32),
-    CloseBound(u32),
-    CloseCut(u32, u64),
-    CloseThroughput(u32),
-    CloseProbe(u32, u8),
+    Close(u32, Ground),
     Release(u8),
 }
 
@@ -22,10 +19,7 @@ pub(crate) fn reply_of(book: &mut Book, ask: Ask) -> Reply {
     match ask {
         Ask::Take(worker) if worker <= 8 => book.take(worker),
         Ask::Split(id) => book.split(id),
-        Ask::CloseBound(id) => book.close_bound(id),
-        Ask::CloseCut(id, number) => book.close_cut(id, number),
-        Ask::CloseThroughput(id) => book.close_throughput(id),
-        Ask::CloseProbe(id, ship) => book.close_probe(id, ship),
+        Ask::Close(id, why) => book.close(id, why),
         Ask::Release(worker) if worker <= 8 => book.release(worker),
         _ => Reply::OtherDeck,
     }

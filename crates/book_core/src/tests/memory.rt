@@ -5,7 +5,7 @@ use super::super::*;
 use super::asking::{Ask, expect_given, expect_replies, expect_state, reply_of};
 use super::fixture::{both, narrow, open, open_for, row_cut, side_by_side, try_cut};
 use lock_model::Instance;
-use search_rules::SlotState;
+use search_rules::{Ground, SlotState};
 use std::alloc::Global;
 use std::process::Abort;
 use std::test::Fail;
@@ -60,7 +60,11 @@ fn a_split_and_a_plan_wait_for_memory(rt: HostRuntime) -> Result<(), Fail> {
     expect_split(&rt, &mut book);
     expect_given(&rt, &mut book, 0, 1, 1);
     expect_replaced(&rt, &mut book);
-    expect_replies(&rt, &mut book, &[(Ask::CloseProbe(1, 1), Reply::Closed)]);
+    expect_replies(
+        &rt,
+        &mut book,
+        &[(Ask::Close(1, Ground::Probe(1)), Reply::Closed)],
+    );
     Ok(())
 }
 

@@ -10,7 +10,7 @@ use super::fixture::{both, clashing, given, open_for, side_by_side};
 use chamber_place::{Placed, place};
 use lock_model::{Deck, Instance, Ships, Verdict, deck_of};
 use place_refute::{Hard, HardSpots};
-use search_rules::SlotState;
+use search_rules::{Ground, SlotState};
 use spot_place::{SpotPlaced, place_by_spots};
 use std::alloc::Global;
 use std::process::Abort;
@@ -134,14 +134,14 @@ fn expect_open(rt: &impl Abort, book: &mut Book) {
         book,
         &[
             (Ask::Split(2), Reply::NotHeld(2)),
-            (Ask::CloseBound(2), Reply::Cheaper(80, 120)),
-            (Ask::CloseProbe(2, 1), Reply::Absent(1)),
+            (Ask::Close(2, Ground::Bound), Reply::Cheaper(80, 120)),
+            (Ask::Close(2, Ground::Probe(1)), Reply::Absent(1)),
             (Ask::Take(0), Reply::Done),
         ],
     );
     assert!(rt; is_open_for_one_turn(&book.verdict()));
     assert_eq!(rt; book.replace(both()), Reply::Replaced(80));
-    expect_state(rt, book, 2, Some(SlotState::ByBound));
+    expect_state(rt, book, 2, Some(SlotState::Closed(Ground::Bound)));
 }
 
 fn is_open_for_one_turn(verdict: &Verdict) -> bool {
@@ -178,8 +178,8 @@ fn a_parked_slot_is_closed_by_its_bound(rt: HostRuntime) -> Result<(), Fail> {
         &rt,
         &mut book,
         &[
-            (Ask::CloseBound(2), Reply::Closed),
-            (Ask::CloseBound(2), Reply::NotHeld(2)),
+            (Ask::Close(2, Ground::Bound), Reply::Closed),
+            (Ask::Close(2, Ground::Bound), Reply::NotHeld(2)),
         ],
     );
     assert_eq!(rt; book.verdict(), Verdict::Optimal);

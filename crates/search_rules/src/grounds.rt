@@ -1,0 +1,14 @@
+//! Why a node is closed.
+
+/// Why a node is closed, in a book and in a certificate.
+#[derive(Clone, Copy, Debug, PartialEq, Eq)]
+pub enum Ground {
+    /// Its bound is at least the cost.
+    Bound,
+    /// The throughput of the instance is at least the cost.
+    Throughput,
+    /// It lacks this ship, and the probe of the two is at least the cost.
+    Probe(u8),
+    /// The cut of this number hits one of its groups.
+    Cut(u64),
+}
