@@ -26,6 +26,7 @@ pub(crate) struct Entered {
 }
 
 // A ship joins the group at this place of a line.
+#[inline]
 fn joined(
     instance: &Instance,
     chamber: u8,
@@ -53,6 +54,7 @@ fn joined(
 }
 
 // A ship stands alone in a new group at this place of a line.
+#[inline]
 fn opened(
     instance: &Instance,
     chamber: u8,
@@ -89,6 +91,7 @@ pub(crate) fn chamber_of(step: Step) -> u8
 }
 
 // A ship that a node lacks enters it by a step, by the walks along the line of the step's chamber.
+#[inline]
 pub(crate) fn enter(
     instance: &Instance,
     node: &Node,

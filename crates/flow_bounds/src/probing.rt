@@ -152,26 +152,25 @@ pub(crate) fn turn_to(
 
 #[tactic(auto, using(crate::proofs::ProbeLemmas::step_chamber))]
 // For each way in which a ship that a node lacks may enter it, the flow times of the node's ships
-// and the ship, and `rest`, added.
-fn bounds_by(instance: &Instance, node: &Node, ship: u8, rest: u64) -> Bounds
+// and the ship, and `rest`, added, put into `bounds`.
+fn bounds_by(instance: &Instance, node: &Node, ship: u8, rest: u64, bounds: &mut Bounds)
     requires node { IsNodeOf instance.now node.now }
     requires ship_in { ship < length instance.now.ships }
     requires absent { times_held ship node.now.lines ≡ 0 }
     requires rest { rest ≤ 312000000 }
-    ensures value { result ≡ map (λ lines. node_flow instance.now lines + rest) (children_by instance.now ship node.now.lines) }
-    ensures small { All (λ b. b ≤ 500000000000) result }
+    requires none { bounds.old ≡ [] }
+    ensures value { bounds.new ≡ map (λ lines. node_flow instance.now lines + rest) (children_by instance.now ship node.now.lines) }
+    ensures small { All (λ b. b ≤ 500000000000) bounds.new }
 {
     let total = node_flow(instance, node);
     let mut chamber = 0;
     let mut along = LineWalks::new();
     walk_on(instance, node, 0, &mut along);
-    let mut bounds = Bounds::new();
     let steps = steps_by(instance, node, ship);
     for &step in steps.as_slice() {
         turn_to(instance, node, chamber_of(step), &mut chamber, &mut along);
         bounds.push(rest + flow_after(instance, node, &along, total, ship, step));
     }
-    bounds
 }
 
 /// The bounds of all children of a node that lacks a ship, in the order of the children. The least
@@ -186,7 +185,9 @@ pub fn child_bounds(instance: &Instance, roster: &Roster, node: &Node) -> Bounds
 {
     let ship = roster.ship(instance, node.depth());
     let rest = roster.rest(instance, node.depth() + 1);
-    bounds_by(instance, node, ship, rest)
+    let mut bounds = Bounds::new();
+    bounds_by(instance, node, ship, rest, &mut bounds);
+    bounds
 }
 
 /// Whether the node lacks this ship of the instance, so that it may be probed. Takes no memory.
@@ -215,7 +216,8 @@ pub fn probe(instance: &Instance, node: &Node, ship: u8) -> u64
     ensures value { result ≡ probe_of instance.now node.now.depth node.now.lines ship }
     ensures holds { IsLowerBound instance.now node.now.depth node.now.lines result }
 {
-    let flows = bounds_by(instance, node, ship, 0);
+    let mut flows = Bounds::new();
+    bounds_by(instance, node, ship, 0, &mut flows);
     let others = passages_from(instance, node.depth()) - least_passage(instance, ship);
     flows.least() + others
 }

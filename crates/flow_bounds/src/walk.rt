@@ -2,7 +2,7 @@
 ghost use Rattle.std.specs.Prelude.{◌≡◌, ◌+◌, ◌-◌, ◌*◌, ◌<◌, ◌≤◌, length, All, max};
 ghost use Rattle.lock_model.specs.declared.group.Group.{Group as AnyGroup};
 ghost use Rattle.lock_rules.specs.Bound.{line_flow};
-ghost use Rattle.lock_rules.specs.Timetable.{first_free, ready_at};
+ghost use Rattle.lock_rules.specs.Timetable.{ready_at};
 ghost use Rattle.flow_bounds.specs.Load.{IsLoad, IsLoadOf};
 ghost use Rattle.flow_bounds.specs.Walk.{walk_start, serve, no_walk, end_with};
 
@@ -45,21 +45,6 @@ pub(crate) fn walk_start(instance: &Instance, chamber: u8) -> Walk
     }
 }
 
-// The first minute from `from` on at which `long` minutes free of a chamber's closures begin: at once
-// where it has none.
-#[inline]
-fn free_from(lock: &Chamber, long: u64, from: u64) -> u64
-    requires from_small { from ≤ 1000000000 }
-    requires long_small { long ≤ 1000000000 }
-    ensures value { result ≡ first_free lock.now.closures long from }
-    ensures small { result ≤ max from 1000000 }
-{
-    if lock.closures.as_slice().is_empty() {
-        return from;
-    }
-    first_free(&lock.closures, long, from)
-}
-
 // The first minute at which the chamber may be ready for a way behind a walk.
 #[inline]
 fn ready(lock: &Chamber, walk: Walk, way: Way) -> u64
@@ -71,7 +56,7 @@ fn ready(lock: &Chamber, walk: Walk, way: Way) -> u64
     match (walk.stand, way) {
         (Stand::Low, Way::Up) | (Stand::High, Way::Down) => walk.done,
         (Stand::Low, Way::Down) | (Stand::High, Way::Up) => {
-            free_from(lock, lock.turn as u64, walk.done) + lock.turn as u64
+            first_free(&lock.closures, lock.turn as u64, walk.done) + lock.turn as u64
         }
     }
 }
@@ -89,7 +74,7 @@ fn end_with(lock: &Chamber, walk: Walk, load: &Load) -> u64
 {
     let long = lock.pass as u64 + load.handling as u64;
     let low = ready(lock, walk, load.way).max(load.latest as u64);
-    free_from(lock, long, low) + long
+    first_free(&lock.closures, long, low) + long
 }
 
 // The flow times of a load's ships that end at this minute, added.
