@@ -6,9 +6,14 @@ use Rattle.std.proofs.lemmas.List.{length-append, length-set, get_or_append_left
 use Rattle.std.proofs.lemmas.List.Elements.{All-head, All-tail}
 use Rattle.std.proofs.lemmas.List.Sums.{sum_by-cons}
 use Rattle.lock_model.specs.Fleet.{ship_at, chamber_at}
+use Rattle.lock_model.specs.declared.chamber.Chamber.{Chamber}
+use Rattle.lock_model.specs.declared.closure.Closure.{Closure}
 use Rattle.lock_model.specs.declared.instance.Instance.{Instance}
 use Rattle.lock_model.specs.declared.group.Group.{Group}
-use Rattle.lock_model.specs.declared.way.Way.TheVariants.{Up}
+use Rattle.lock_model.specs.declared.way.Way.{Way}
+use Rattle.lock_model.specs.declared.way.Way.TheVariants.{Up, Down}
+use Rattle.lock_model.specs.declared.way.Stand.{Stand}
+use Rattle.lock_model.specs.declared.way.Stand.TheVariants.{Low, High}
 use Rattle.lock_rules.specs.Lawful.{duration_of}
 use Rattle.lock_rules.specs.Timetable.{first_free, ready_at, last_arrival}
 use Rattle.lock_rules.specs.Children.{insert_number, with_ship}
@@ -17,7 +22,7 @@ use Rattle.master_branch.specs.Steps.{group_at}
 use Rattle.flow_bounds.specs.declared.load.Load.{Load}
 use Rattle.flow_bounds.specs.declared.walk.Walk.{Walk}
 use Rattle.flow_bounds.specs.Load.{no_load, with_one, load_at, IsLoad, IsLoadOf, AreLoads}
-use Rattle.flow_bounds.specs.Walk.{flow_until, serve, end_with}
+use Rattle.flow_bounds.specs.Walk.{flow_until, serve, turn_for, end_with}
 
 -- a sum over rising numbers into which one more is put
 pub sum-insert : (f : ℕ → ℕ) (s : ℕ) (xs : List ℕ) → sum_by f (insert_number s xs) ≡ f s + sum_by f xs
@@ -27,6 +32,18 @@ sum-insert f s (x ∷ xs) =
       | true ↦ omega (arith, sum_by-cons f s (x ∷ xs))
       | false ↦ omega (arith, sum_by-cons f x xs, sum_by-cons f x (insert_number s xs), sum-insert f s xs)
     ]
+
+-- no minutes are free at once
+first_free-none : (ks : List Closure) (from : ℕ) → first_free ks 0 from ≡ from
+first_free-none [] from = refl
+first_free-none (k ∷ ks) from = refl
+
+-- a way waits for its empty turn, of no minutes where it needs none
+pub ready-turned : (lock : Chamber) (stand : Stand) (from : ℕ) (way : Way) → first_free lock.closures (turn_for lock stand way) from + turn_for lock stand way ≡ ready_at lock stand from way
+ready-turned lock Low from Up = omega (arith, first_free-none lock.closures from)
+ready-turned lock Low from Down = refl
+ready-turned lock High from Up = refl
+ready-turned lock High from Down = omega (arith, first_free-none lock.closures from)
 
 module _ (I : Instance) where
   -- the low minute may be taken in at the end

@@ -1,6 +1,9 @@
 -- A walk along the line of a chamber, group by group.
 use Rattle.std.specs.Prelude.{ℕ, ◌≡◌, ◌+◌, ◌-◌, ◌*◌, ◌≤◌, ◌<◌, List, [], ◌∷◌, length, max, sum_by, take, slice_index_or}
-use Rattle.lock_model.specs.declared.way.Stand.TheVariants.{Low}
+use Rattle.lock_model.specs.declared.way.Way.{Way}
+use Rattle.lock_model.specs.declared.way.Way.TheVariants.{Up, Down}
+use Rattle.lock_model.specs.declared.way.Stand.{Stand}
+use Rattle.lock_model.specs.declared.way.Stand.TheVariants.{Low, High}
 use Rattle.lock_model.specs.Fleet.{ship_at, chamber_at}
 use Rattle.lock_model.specs.declared.chamber.Chamber.{Chamber}
 use Rattle.lock_model.specs.declared.instance.Instance.{Instance}
@@ -25,6 +28,13 @@ abbrev pub serve : Instance → ℕ → Walk → Group → Walk
 serve I c w g =
     let end = start_of I c w.stand w.done g + duration_of I c g.ships in
     record { stand = stand_after g.way; done = end; flow = w.flow + flow_until I end g.ships }
+
+-- the minutes of the empty turn that a way needs
+abbrev pub turn_for : Chamber → Stand → Way → ℕ
+turn_for lock Low Up = 0
+turn_for lock Low Down = lock.turn
+turn_for lock High Up = lock.turn
+turn_for lock High Down = 0
 
 -- the end of a group of this load behind a walk
 abbrev pub end_with : Chamber → Walk → Load → ℕ

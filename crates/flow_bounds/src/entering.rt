@@ -91,7 +91,7 @@ pub(crate) fn chamber_of(step: Step) -> u8
 }
 
 // A ship that a node lacks enters it by a step, by the walks along the line of the step's chamber.
-#[inline]
+#[inline(always)]
 pub(crate) fn enter(
     instance: &Instance,
     node: &Node,

@@ -50,7 +50,7 @@ pub(crate) fn walk_along(instance: &Instance, chamber: u8, line: &[Group], along
 fn are_in_step(a: Walk, b: Walk) -> bool
     ensures { OnTrue result ((a.stand ≡ b.stand) × (a.done ≡ b.done)) }
 {
-    a.stand == b.stand && a.done == b.done
+    a.done == b.done && a.stand == b.stand
 }
 
 // The flow times at the end of the line, where a ship has entered it: from where the walk is in step

@@ -2,9 +2,9 @@
 ghost use Rattle.std.specs.Prelude.{◌≡◌, ◌+◌, ◌-◌, ◌*◌, ◌<◌, ◌≤◌, length, All, max};
 ghost use Rattle.lock_model.specs.declared.group.Group.{Group as AnyGroup};
 ghost use Rattle.lock_rules.specs.Bound.{line_flow};
-ghost use Rattle.lock_rules.specs.Timetable.{ready_at};
+ghost use Rattle.lock_rules.specs.Timetable.{first_free, ready_at};
 ghost use Rattle.flow_bounds.specs.Load.{IsLoad, IsLoadOf};
-ghost use Rattle.flow_bounds.specs.Walk.{walk_start, serve, no_walk, end_with};
+ghost use Rattle.flow_bounds.specs.Walk.{walk_start, serve, no_walk, turn_for, end_with};
 
 use crate::load::{Load, load_of};
 use chamber_times::{first_free, stand_after};
@@ -45,7 +45,35 @@ pub(crate) fn walk_start(instance: &Instance, chamber: u8) -> Walk
     }
 }
 
-// The first minute at which the chamber may be ready for a way behind a walk.
+// The first minute from `from` on at which `long` minutes free of a chamber's closures begin. Most
+// chambers have none, and are not asked how long.
+#[inline]
+fn free_from(lock: &Chamber, long: u64, from: u64) -> u64
+    requires from_small { from ≤ 1000000000 }
+    requires long_small { long ≤ 1000000000 }
+    ensures value { result ≡ first_free lock.now.closures long from }
+    ensures small { result ≤ max from 1000000 }
+{
+    if lock.closures.as_slice().is_empty() {
+        return from;
+    }
+    first_free(&lock.closures, long, from)
+}
+
+// The minutes of the empty turn that a way needs: none where the chamber stands on its side.
+#[inline]
+fn turn_for(lock: &Chamber, stand: Stand, way: Way) -> u64
+    ensures value { result ≡ turn_for lock.now stand way }
+    ensures small { result ≤ lock.now.turn }
+{
+    match (stand, way) {
+        (Stand::Low, Way::Up) | (Stand::High, Way::Down) => 0,
+        (Stand::Low, Way::Down) | (Stand::High, Way::Up) => lock.turn as u64,
+    }
+}
+
+// The first minute at which the chamber may be ready for a way behind a walk. An empty turn of no
+// minutes is free at once, so there is nothing to choose.
 #[inline]
 fn ready(lock: &Chamber, walk: Walk, way: Way) -> u64
     requires done_small { walk.done ≤ 900000000 }
@@ -53,12 +81,8 @@ fn ready(lock: &Chamber, walk: Walk, way: Way) -> u64
     ensures value { result ≡ ready_at lock.now walk.stand walk.done way }
     ensures small { result ≤ max walk.done 1000000 + 1000000 }
 {
-    match (walk.stand, way) {
-        (Stand::Low, Way::Up) | (Stand::High, Way::Down) => walk.done,
-        (Stand::Low, Way::Down) | (Stand::High, Way::Up) => {
-            first_free(&lock.closures, lock.turn as u64, walk.done) + lock.turn as u64
-        }
-    }
+    let turn = turn_for(lock, walk.stand, way);
+    free_from(lock, turn, walk.done) + turn
 }
 
 // The end of a load that is served behind a walk.
@@ -74,7 +98,7 @@ fn end_with(lock: &Chamber, walk: Walk, load: &Load) -> u64
 {
     let long = lock.pass as u64 + load.handling as u64;
     let low = ready(lock, walk, load.way).max(load.latest as u64);
-    first_free(&lock.closures, long, low) + long
+    free_from(lock, long, low) + long
 }
 
 // The flow times of a load's ships that end at this minute, added.
