@@ -2,7 +2,7 @@
 use Rattle.std.proofs.Common.{◌≡◌, ℕ, ◌+◌, ◌-◌, ◌<◌, ◌≤◌, List, [], ◌∷◌, ◌++◌, length, All, sum_by, cond, true, false, nat_lt, take, drop, arith, ap, ◌∙◌, sym}
 use Rattle.std.proofs.lemmas.List.{take_more}
 use Rattle.std.proofs.lemmas.List.Elements.{All-head, All-tail, All-cons, All-nil}
-use Rattle.std.proofs.lemmas.List.Sums.{sum_by-cons, sum_by-le-sum_by}
+use Rattle.std.proofs.lemmas.List.Sums.{sum_by-le-sum_by}
 use Rattle.lock_model.specs.Fleet.{ship_at, chamber_at}
 use Rattle.lock_model.specs.declared.instance.Instance.{Instance}
 use Rattle.lock_model.specs.declared.group.Group.{Group}
@@ -15,6 +15,7 @@ use Rattle.master_branch.specs.Steps.{group_at}
 use Rattle.flow_bounds.specs.declared.walk.Walk.{Walk}
 use Rattle.flow_bounds.specs.Walk.{walk_start, serve, serve_all, walk_at, AreWalks}
 use Rattle.flow_bounds.specs.Entering.{IsBehind}
+use Rattle.flow_bounds.proofs.LoadLemmas.{sum-insert}
 use Rattle.flow_bounds.proofs.WalkLemmas.{serve_all-append, walk-gain}
 
 -- what holds of some ships and one more holds of them
@@ -25,14 +26,6 @@ All-without P s (x ∷ xs) all =
       | true ↦ λ all. All-tail P s (x ∷ xs) all
       | false ↦ λ all. All-cons P x xs (All-head P x (insert_number s xs) all) (All-without P s xs (All-tail P x (insert_number s xs) all))
     ] all
-
-sum-more : (f : ℕ → ℕ) (s : ℕ) (xs : List ℕ) → sum_by f xs ≤ sum_by f (insert_number s xs)
-sum-more f s [] = omega arith
-sum-more f s (x ∷ xs) =
-    elim (nat_lt s x) as (λ b. sum_by f (x ∷ xs) ≤ sum_by f (cond b (s ∷ x ∷ xs) (x ∷ insert_number s xs))) [
-      | true ↦ omega (arith, sum_by-cons f s (x ∷ xs))
-      | false ↦ omega (arith, sum_by-cons f x xs, sum_by-cons f x (insert_number s xs), sum-more f s xs)
-    ]
 
 -- the walk after one more group of the line
 pub walk-step : (I : Instance) (c : ℕ) (line : List Group) (ws : List Walk) → AreWalks I c line ws → (p : ℕ) → p < length line → (g : Group) → g ≡ group_at line p
@@ -82,7 +75,7 @@ module _ (I : Instance) (c : ℕ) (known : c < length I.chambers) where
   behind-joined v s g =
       let start = start_of I c v.stand v.done (with_ship s g) in
       let lawful = start_of-lawful I c known v.stand v.done (with_ship s g) in
-      let handled = sum-more (λ s. (ship_at I s).handling) s g.ships in
+      let handled : sum_by (λ s. (ship_at I s).handling) g.ships ≤ sum_by (λ s. (ship_at I s).handling) (insert_number s g.ships) = omega (arith, sum-insert (λ s. (ship_at I s).handling) s g.ships) in
       let early = start_of-kept I c known v.stand v.stand v.done v.done start (with_ship s g) g.ships (Dominates-itself (chamber_at I c) v.stand v.done) lawful (All-without (λ s. (ship_at I s).arrival ≤ start) s g.ships lawful.arrived) handled in
       let later = Dominates-later (chamber_at I c) (stand_after g.way) (serve I c v g).done (serve I c v (with_ship s g)).done (closures_kept I c known) (omega (arith, early, handled)) in
       record { done = later.done; ready = later.ready }

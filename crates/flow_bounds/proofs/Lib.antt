@@ -1,4 +1,5 @@
 pub mod PassageLemmas
+pub mod LoadLemmas
 pub mod WalkLemmas
 pub mod WholeLemmas
 pub mod PlacesLemmas

@@ -1,13 +1,15 @@
 -- What a walk along a line adds up is the flow time of the line.
-use Rattle.std.proofs.Common.{◌≡◌, ℕ, ◌+◌, ◌<◌, ◌≤◌, List, [], ◌∷◌, ◌++◌, ◌*◌, length, take, drop, refl, arith, ap, ◌∙◌, sym, inl, inr, slice_set}
+use Rattle.std.proofs.Common.{◌≡◌, ℕ, suc, ◌+◌, ◌<◌, ◌≤◌, List, [], ◌∷◌, ◌++◌, ◌*◌, length, take, drop, refl, arith, ap, ◌∙◌, sym, inl, inr, slice_set, get_or-set_same, get_or-set_other}
 use Rattle.std.specs.List.{insert}
-use Rattle.std.proofs.lemmas.List.{take-append-drop, take-set, drop-set, take-append-le, length-append, get_or_append_left}
-use Rattle.std.proofs.Math.Seq.{take-length, get_or-append_seam}
+use Rattle.std.proofs.lemmas.List.{take-append-drop, take-set, drop-set, take-append-le, length-append, length-set}
+use Rattle.std.proofs.Math.Seq.{take-length, drop-cons}
 use Rattle.std.proofs.lemmas.Bool.Decides.{leb_tells}
 use Rattle.lock_model.specs.declared.instance.Instance.{Instance}
 use Rattle.lock_model.specs.declared.group.Group.{Group}
+use Rattle.lock_model.specs.declared.way.Way.TheVariants.{Up}
 use Rattle.lock_rules.specs.Timetable.{timetable_from}
 use Rattle.lock_rules.specs.Bound.{flow_of, line_flow}
+use Rattle.master_branch.specs.Steps.{group_at}
 use Rattle.flow_bounds.specs.declared.walk.Walk.{Walk}
 use Rattle.flow_bounds.specs.Walk.{walk_start, serve, serve_all, no_walk, walk_at, AreWalks}
 
@@ -22,6 +24,14 @@ serve_all-line I c line = omega (arith, serve_all-flow I c (walk_start I c) line
 pub serve_all-append : (I : Instance) (c : ℕ) (w : Walk) (xs ys : List Group) → serve_all I c w (xs ++ ys) ≡ serve_all I c (serve_all I c w xs) ys
 serve_all-append I c w [] ys = refl
 serve_all-append I c w (x ∷ xs) ys = serve_all-append I c (serve I c w x) xs ys
+
+-- the walk goes on with the next group of a line
+pub serve_all-next : (I : Instance) (c : ℕ) (line : List Group) (i : ℕ) (g : Group) → i < length line → g ≡ group_at line i → (w v : Walk) → v ≡ serve I c w g
+    → serve_all I c v (drop (i + 1) line) ≡ serve_all I c w (drop i line)
+serve_all-next I c line i g less own w v is =
+    let up : suc i ≡ i + 1 = omega arith in
+    let here : drop i line ≡ g ∷ drop (i + 1) line = drop-cons line i (record { way = Up; ships = [] }) less ∙ (λ k. sym own k ∷ drop (up k) line) in
+    ap (λ w. serve_all I c w (drop (i + 1) line)) is ∙ sym (ap (serve_all I c w) here)
 
 -- walks that are in step gain the same
 pub gains-alike : (I : Instance) (c : ℕ) (w v : Walk) (gs : List Group) → w.stand ≡ v.stand → w.done ≡ v.done → (serve_all I c w gs).flow + v.flow ≡ (serve_all I c v gs).flow + w.flow
@@ -51,9 +61,10 @@ finish-in-step I c line ws walks i within w stand done =
 pub walk-grows : (I : Instance) (c : ℕ) (line : List Group) (ws : List Walk) → AreWalks I c line ws → (i : ℕ) → i ≤ length line → (walk_at ws i).flow ≤ (walk_at ws (length line)).flow
 walk-grows I c line ws walks i within = omega (arith, walk-gain I c line ws walks i within, serve_all-flow I c (walk_at ws i) (drop i line))
 
-pub last-walk : (I : Instance) (c : ℕ) (line : List Group) (ws : List Walk) → AreWalks I c line ws → (walk_at ws (length line)).flow ≡ line_flow I c line
-last-walk I c line ws walks =
-    ap (λ w. w.flow) (walks.each (length line) (omega arith))
+pub last-walk : (I : Instance) (c : ℕ) (line : List Group) (ws : List Walk) → AreWalks I c line ws → (n : ℕ) → n ≡ length line → (walk_at ws n).flow ≡ line_flow I c line
+last-walk I c line ws walks n end =
+    ap (λ n. (walk_at ws n).flow) end
+    ∙ ap (λ w. w.flow) (walks.each (length line) (omega arith))
     ∙ ap (λ gs. (serve_all I c (walk_start I c) gs).flow) (take-length line)
     ∙ serve_all-line I c line
 
@@ -74,13 +85,13 @@ walk-set I c line p g less =
     ∙ ap (line_flow I c) (sym parts)
 
 -- one group more, and the walk after it
-pub walks-more : (I : Instance) (c : ℕ) (gs : List Group) (ws : List Walk) (g : Group) (w : Walk) → AreWalks I c gs ws
+pub walks-more : (I : Instance) (c : ℕ) (gs : List Group) (ws : List Walk) (g : Group) (w : Walk) → AreWalks I c gs ws → length gs + 1 < length ws
     → w ≡ serve I c (serve_all I c (walk_start I c) gs) g → w.done ≤ 1000000 + (length gs + 1) * 12000000 → w.flow ≤ (length gs + 1) * 3000000000
-    → AreWalks I c (gs ++ g ∷ []) (ws ++ w ∷ [])
-walks-more I c gs ws g w walks is done flow =
+    → AreWalks I c (gs ++ g ∷ []) (slice_set ws (length gs + 1) w)
+walks-more I c gs ws g w walks room is done flow =
     let start = walk_start I c in
     record {
-      count = omega (arith, length-append ws (w ∷ []), length-append gs (g ∷ []), walks.count);
+      room = omega (arith, length-append gs (g ∷ []), length-set ws (length gs + 1) w);
       each = λ i within. elim (leb_tells i (length gs)) [
         | inl old ↦ at_old i old.1 ∙ walks.each i old.1 ∙ ap (serve_all I c start) (sym (take-append-le i gs (g ∷ []) old.1))
         | inr new ↦
@@ -102,13 +113,11 @@ walks-more I c gs ws g w walks is done flow =
       ];
     }
   where
-    at_old : (i : ℕ) → i ≤ length gs → walk_at (ws ++ w ∷ []) i ≡ walk_at ws i
-    at_old i old = get_or_append_left ws (w ∷ []) no_walk i (omega (arith, walks.count))
+    at_old : (i : ℕ) → i ≤ length gs → walk_at (slice_set ws (length gs + 1) w) i ≡ walk_at ws i
+    at_old i old = get_or-set_other ws (length gs + 1) i w no_walk (λ e. omega (arith, e, old))
 
     at_new : (i : ℕ) → i ≤ length (gs ++ g ∷ []) → length gs < i → i ≡ length gs + 1
     at_new i within new = omega (arith, length-append gs (g ∷ []))
 
-    last_is : (i : ℕ) → i ≡ length gs + 1 → walk_at (ws ++ w ∷ []) i ≡ w
-    last_is i last =
-        let end : i ≡ length ws = omega (arith, walks.count) in
-        ap (walk_at (ws ++ w ∷ [])) end ∙ get_or-append_seam ws w [] no_walk
+    last_is : (i : ℕ) → i ≡ length gs + 1 → walk_at (slice_set ws (length gs + 1) w) i ≡ w
+    last_is i last = ap (walk_at (slice_set ws (length gs + 1) w)) last ∙ get_or-set_same ws (length gs + 1) w no_walk room

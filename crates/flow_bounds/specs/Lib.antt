@@ -1,5 +1,7 @@
 pub mod Least
+pub mod Load
 pub mod Walk
+pub mod Along
 pub mod Entering
 pub mod Whole
 pub mod Places

@@ -11,7 +11,7 @@
 //!
 //! Definitions: `lock_rules` says what these numbers are and what a lower bound is (`specs/Bound`,
 //! `Throughput`), and what the search of the whole tree comes to (`Search`). Here `specs/Walk` walks
-//! along a line, `Entering` says how a walk goes on once a ship has entered its line, `Places` has the minutes of the throughput, `Whole` the earliest plan of a node,
+//! along a line, by the loads of its groups (`Load`, `Along`), `Entering` says how a walk goes on once a ship has entered its line, `Places` has the minutes of the throughput, `Whole` the earliest plan of a node,
 //! `Missing` a ship that a node lacks, and `Roster` what a roster is.
 #![tactic(auto)]
 
@@ -20,6 +20,7 @@ mod entering;
 mod laws;
 mod least;
 mod line_walks;
+mod load;
 mod node_bound;
 mod passage;
 mod places;

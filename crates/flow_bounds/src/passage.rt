@@ -14,7 +14,7 @@ use lock_model::{Group, Instance, Ships, fits_alone};
 use master_branch::arrival_order;
 
 // The ship as a group of its own.
-pub(crate) fn alone(instance: &Instance, ship: u8) -> Group
+fn alone(instance: &Instance, ship: u8) -> Group
     requires { ship < length instance.now.ships }
     ensures { result ≡ single (ship_at instance.now ship).way ship }
 {

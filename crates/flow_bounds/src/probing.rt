@@ -11,15 +11,15 @@ ghost use Rattle.master_branch.specs.Node.{IsNodeOf, children};
 ghost use Rattle.master_branch.specs.Steps.{group_at, lines_after, IsStep};
 ghost use Rattle.flow_bounds.specs.Missing.{IsMissing};
 ghost use Rattle.flow_bounds.specs.Roster.{IsRosterOf};
-ghost use Rattle.flow_bounds.specs.Walk.{AreWalks, chamber_of};
+ghost use Rattle.flow_bounds.specs.Walk.{chamber_of};
+ghost use Rattle.flow_bounds.specs.Along.{IsAlong};
 
 use crate::entering::{chamber_of, enter};
 use crate::least::least_number;
-use crate::line_walks::{LineWalks, finish, line_walks};
+use crate::line_walks::{LineWalks, finish, walk_along};
 use crate::node_bound::node_flow;
 use crate::passage::{least_passage, passages_from};
 use crate::roster::Roster;
-use crate::walk::Walk;
 use arrayvec::ArrayVec;
 use lock_model::Instance;
 use master_branch::{Node, Step, arrival_order, steps_by};
@@ -81,18 +81,18 @@ impl Bounds {
 pub(crate) fn other_flows(
     instance: &Instance,
     node: &Node,
-    walks: &[Walk],
+    along: &LineWalks,
     total: u64,
     chamber: u8,
 ) -> u64
     requires chamber_in { chamber < length instance.now.chambers }
-    requires walks { AreWalks instance.now chamber (line_at node.now.lines chamber) walks.now }
+    requires along { IsAlong instance.now chamber (line_at node.now.lines chamber) along.now }
     requires total { total ≡ node_flow instance.now node.now.lines }
     ensures { result + line_flow instance.now chamber (line_at node.now.lines chamber) ≡ total }
 {
     let _ = instance;
     let groups = node.line(chamber).len();
-    total - walks[groups].flow
+    total - along.walks[groups].flow
 }
 
 // The flow times of a node's ships once a ship that it lacks has entered it by a step, by the walks
@@ -100,16 +100,15 @@ pub(crate) fn other_flows(
 fn flow_after(
     instance: &Instance,
     node: &Node,
-    walks: &[Walk],
+    along: &LineWalks,
     total: u64,
     ship: u8,
     step: Step,
 ) -> u64
     requires node { IsNodeOf instance.now node.now }
     requires ship_in { ship < length instance.now.ships }
-    requires absent { times_held ship node.now.lines ≡ 0 }
     requires step { IsStep instance.now ship node.now.lines step }
-    requires walks { AreWalks instance.now (chamber_of step) (line_at node.now.lines (chamber_of step)) walks.now }
+    requires along { IsAlong instance.now (chamber_of step) (line_at node.now.lines (chamber_of step)) along.now }
     requires total { total ≡ node_flow instance.now node.now.lines }
     requires total_small { total ≤ 240000000000 }
     ensures value { result ≡ node_flow instance.now (lines_after instance.now ship node.now.lines step) }
@@ -117,18 +116,18 @@ fn flow_after(
 {
     let chamber = chamber_of(step);
     let line = node.line(chamber);
-    let entered = enter(instance, node, walks, ship, step);
-    other_flows(instance, node, walks, total, chamber)
-        + finish(instance, chamber, line, walks, entered)
+    let entered = enter(instance, node, along, ship, step);
+    other_flows(instance, node, along, total, chamber)
+        + finish(instance, chamber, line, along, entered)
 }
 
-// The walks along the line of a chamber of a node.
-pub(crate) fn walks_on(instance: &Instance, node: &Node, chamber: u8) -> LineWalks
+// Walks along the line of a chamber of a node.
+pub(crate) fn walk_on(instance: &Instance, node: &Node, chamber: u8, along: &mut LineWalks)
     requires node { IsNodeOf instance.now node.now }
     requires chamber_in { chamber < length instance.now.chambers }
-    ensures { AreWalks instance.now chamber (line_at node.now.lines chamber) result }
+    ensures { IsAlong instance.now chamber (line_at node.now.lines chamber) along.new }
 {
-    line_walks(instance, chamber, node.line(chamber))
+    walk_along(instance, chamber, node.line(chamber), along);
 }
 
 // Goes over to the line of this chamber, where the walks are along another's.
@@ -137,41 +136,41 @@ pub(crate) fn turn_to(
     node: &Node,
     chamber: u8,
     at: &mut u8,
-    walks: &mut LineWalks,
+    along: &mut LineWalks,
 )
     requires node { IsNodeOf instance.now node.now }
     requires chamber_in { chamber < length instance.now.chambers }
-    requires walks { AreWalks instance.now at.old (line_at node.now.lines at.old) walks.old }
+    requires along { IsAlong instance.now at.old (line_at node.now.lines at.old) along.old }
     ensures at { at.new ≡ chamber }
-    ensures walks { AreWalks instance.now chamber (line_at node.now.lines chamber) walks.new }
+    ensures along { IsAlong instance.now chamber (line_at node.now.lines chamber) along.new }
 {
     if *at != chamber {
         *at = chamber;
-        *walks = walks_on(instance, node, chamber);
+        walk_on(instance, node, chamber, along);
     }
 }
 
 #[tactic(auto, using(crate::proofs::ProbeLemmas::step_chamber))]
 // For each way in which a ship that a node lacks may enter it, the flow times of the node's ships
-// and the ship, and `rest`, added.
-fn bounds_by(instance: &Instance, node: &Node, ship: u8, rest: u64) -> Bounds
+// and the ship, and `rest`, added, put into `bounds`.
+fn bounds_by(instance: &Instance, node: &Node, ship: u8, rest: u64, bounds: &mut Bounds)
     requires node { IsNodeOf instance.now node.now }
     requires ship_in { ship < length instance.now.ships }
     requires absent { times_held ship node.now.lines ≡ 0 }
     requires rest { rest ≤ 312000000 }
-    ensures value { result ≡ map (λ lines. node_flow instance.now lines + rest) (children_by instance.now ship node.now.lines) }
-    ensures small { All (λ b. b ≤ 500000000000) result }
+    requires none { bounds.old ≡ [] }
+    ensures value { bounds.new ≡ map (λ lines. node_flow instance.now lines + rest) (children_by instance.now ship node.now.lines) }
+    ensures small { All (λ b. b ≤ 500000000000) bounds.new }
 {
     let total = node_flow(instance, node);
     let mut chamber = 0;
-    let mut walks = walks_on(instance, node, 0);
-    let mut bounds = Bounds::new();
+    let mut along = LineWalks::new();
+    walk_on(instance, node, 0, &mut along);
     let steps = steps_by(instance, node, ship);
     for &step in steps.as_slice() {
-        turn_to(instance, node, chamber_of(step), &mut chamber, &mut walks);
-        bounds.push(rest + flow_after(instance, node, walks.as_slice(), total, ship, step));
+        turn_to(instance, node, chamber_of(step), &mut chamber, &mut along);
+        bounds.push(rest + flow_after(instance, node, &along, total, ship, step));
     }
-    bounds
 }
 
 /// The bounds of all children of a node that lacks a ship, in the order of the children. The least
@@ -186,7 +185,9 @@ pub fn child_bounds(instance: &Instance, roster: &Roster, node: &Node) -> Bounds
 {
     let ship = roster.ship(instance, node.depth());
     let rest = roster.rest(instance, node.depth() + 1);
-    bounds_by(instance, node, ship, rest)
+    let mut bounds = Bounds::new();
+    bounds_by(instance, node, ship, rest, &mut bounds);
+    bounds
 }
 
 /// Whether the node lacks this ship of the instance, so that it may be probed. Takes no memory.
@@ -215,7 +216,8 @@ pub fn probe(instance: &Instance, node: &Node, ship: u8) -> u64
     ensures value { result ≡ probe_of instance.now node.now.depth node.now.lines ship }
     ensures holds { IsLowerBound instance.now node.now.depth node.now.lines result }
 {
-    let flows = bounds_by(instance, node, ship, 0);
+    let mut flows = Bounds::new();
+    bounds_by(instance, node, ship, 0, &mut flows);
     let others = passages_from(instance, node.depth()) - least_passage(instance, ship);
     flows.least() + others
 }

@@ -7,14 +7,14 @@ ghost use Rattle.lock_rules.specs.Bound.{node_flow, bound_of, probe_of};
 ghost use Rattle.master_branch.specs.Node.{IsNodeOf, children};
 ghost use Rattle.master_branch.specs.Steps.{lines_after, IsStep};
 ghost use Rattle.flow_bounds.specs.Roster.{IsRosterOf};
-ghost use Rattle.flow_bounds.specs.Walk.{AreWalks, chamber_of};
+ghost use Rattle.flow_bounds.specs.Walk.{chamber_of};
+ghost use Rattle.flow_bounds.specs.Along.{IsAlong};
 
 use crate::entering::{chamber_of, enter};
-use crate::line_walks::reaches;
+use crate::line_walks::{LineWalks, reaches};
 use crate::node_bound::node_flow;
-use crate::probing::{other_flows, turn_to, walks_on};
+use crate::probing::{other_flows, turn_to, walk_on};
 use crate::roster::Roster;
-use crate::walk::Walk;
 use arrayvec::ArrayVec;
 use lock_model::Instance;
 use master_branch::{Node, Step, steps_by};
@@ -80,7 +80,7 @@ impl Reached {
 fn reaches_after(
     instance: &Instance,
     node: &Node,
-    walks: &[Walk],
+    along: &LineWalks,
     total: u64,
     ship: u8,
     step: Step,
@@ -88,21 +88,20 @@ fn reaches_after(
 ) -> bool
     requires node { IsNodeOf instance.now node.now }
     requires ship_in { ship < length instance.now.ships }
-    requires absent { times_held ship node.now.lines ≡ 0 }
     requires step { IsStep instance.now ship node.now.lines step }
-    requires walks { AreWalks instance.now (chamber_of step) (line_at node.now.lines (chamber_of step)) walks.now }
+    requires along { IsAlong instance.now (chamber_of step) (line_at node.now.lines (chamber_of step)) along.now }
     requires total { total ≡ node_flow instance.now node.now.lines }
     ensures { result ≡ nat_le need (node_flow instance.now (lines_after instance.now ship node.now.lines step)) }
 {
     let chamber = chamber_of(step);
     let line = node.line(chamber);
-    let entered = enter(instance, node, walks, ship, step);
-    let others = other_flows(instance, node, walks, total, chamber);
+    let entered = enter(instance, node, along, ship, step);
+    let others = other_flows(instance, node, along, total, chamber);
     reaches(
         instance,
         chamber,
         line,
-        walks,
+        along,
         entered,
         need.saturating_sub(others),
     )
@@ -119,12 +118,13 @@ fn reached_by(instance: &Instance, node: &Node, ship: u8, need: u64) -> Reached
 {
     let total = node_flow(instance, node);
     let mut chamber = 0;
-    let mut walks = walks_on(instance, node, 0);
+    let mut along = LineWalks::new();
+    walk_on(instance, node, 0, &mut along);
     let mut reached = Reached::new();
     let steps = steps_by(instance, node, ship);
     for &step in steps.as_slice() {
-        turn_to(instance, node, chamber_of(step), &mut chamber, &mut walks);
-        reached.push(reaches_after(instance, node, walks.as_slice(), total, ship, step, need));
+        turn_to(instance, node, chamber_of(step), &mut chamber, &mut along);
+        reached.push(reaches_after(instance, node, &along, total, ship, step, need));
     }
     reached
 }

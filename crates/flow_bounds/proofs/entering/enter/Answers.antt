@@ -1,38 +1,14 @@
-use Rattle.std.proofs.Common.{◌≡◌, ◌<◌, All, length, arith, ap, ◌∙◌, sym, subst, slice_set, drop}
+use Rattle.std.proofs.Common.{◌≡◌, arith, ap, ◌∙◌, sym, subst, slice_set, drop}
 use Rattle.std.specs.List.{insert}
-use Rattle.lock_model.specs.declared.group.Group.{Group}
 use Rattle.lock_model.specs.Fleet.{ship_at}
-use Rattle.lock_rules.specs.Node.{line_at, times_on}
+use Rattle.lock_rules.specs.Node.{line_at}
 use Rattle.lock_rules.specs.Children.{with_ship, single}
 use Rattle.lock_rules.specs.Bound.{line_flow, node_flow}
-use Rattle.lock_rules.proofs.ChildLemmas.{times_on-held}
 use Rattle.master_branch.specs.declared.step.Step.TheVariants.{Join, Open}
 use Rattle.master_branch.specs.Steps.{group_at, lines_after, IsStep}
-use Rattle.master_branch.proofs.JoinLemmas.{group-absent}
-use Rattle.lock_rules.proofs.NodeLemmas.{line-known}
 use Rattle.flow_bounds.specs.Walk.{serve_all, chamber_of}
 use Rattle.flow_bounds.proofs.ProbeLemmas.{flow-set}
 use Rattle.flow_bounds.proofs.entering.enter.Goals as goal
-
-pub joined-requires-clause-ships_in : goal.joined-requires-clause-ships_in
-joined-requires-clause-ships_in c =
-    let I = c.args.instance.now in
-    let same = c.as_slice-line.ensures.value ∙ c.line.ensures in
-    subst (All (λ (g : Group). All (λ s. s < length I.ships) g.ships)) (sym same) (line-known I c.args.node.now.depth c.args.node.now.lines c.requires.node c.in-Join.chamber)
-
-pub opened-requires-clause-ships_in : goal.opened-requires-clause-ships_in
-opened-requires-clause-ships_in c =
-    let I = c.args.instance.now in
-    let same = c.as_slice-line-in-Open.ensures.value ∙ c.line-in-Open.ensures in
-    subst (All (λ (g : Group). All (λ s. s < length I.ships) g.ships)) (sym same) (line-known I c.args.node.now.depth c.args.node.now.lines c.requires.node c.in-Open.chamber)
-
-pub joined-requires-clause-absent : goal.joined-requires-clause-absent
-joined-requires-clause-absent c =
-    let lines = c.args.node.now.lines in
-    let ch = c.in-Join.chamber in
-    let same = c.as_slice-line.ensures.value ∙ c.line.ensures in
-    let none : times_on c.args.ship (line_at lines ch) ≡ 0 = omega (arith, times_on-held c.args.ship lines ch, c.requires.absent) in
-    group-absent c.args.ship c.as_slice-line.result.now c.in-Join.place (ap (times_on c.args.ship) same ∙ none)
 
 pub returns-in-Join-clause-flow : goal.returns-in-Join-clause-flow
 returns-in-Join-clause-flow c =

@@ -1,22 +1,27 @@
-use Rattle.std.proofs.Common.{ap, refl, arith, ◌∙◌, sym, subst}
-use Rattle.std.specs.List.{insert}
-use Rattle.lock_rules.specs.Bound.{line_flow}
-use Rattle.flow_bounds.specs.Walk.{walk_at}
+use Rattle.std.proofs.Common.{◌≡◌, refl, arith, sym, subst}
+use Rattle.lock_model.specs.Fleet.{ship_at}
+use Rattle.lock_rules.specs.Children.{single}
+use Rattle.flow_bounds.specs.Walk.{serve, walk_at}
 use Rattle.flow_bounds.specs.Entering.{IsBehind}
 use Rattle.flow_bounds.proofs.EnterLemmas.{behind-opened}
 use Rattle.flow_bounds.proofs.ProbeLemmas.{open-flow}
 use Rattle.flow_bounds.proofs.entering.opened.Goals as goal
+use Rattle.flow_bounds.proofs.entering.opened.Goals.{After-serve}
+
+-- the ship is served alone
+served : (c : After-serve) → c.serve.result ≡ serve c.args.instance.now c.args.chamber (walk_at c.args.along.now.walks c.args.place) (single (ship_at c.args.instance.now c.args.ship).way c.args.ship)
+served c = c.serve.ensures.value (single (ship_at c.args.instance.now c.args.ship).way c.args.ship) c.load_alone-load.ensures.value
 
 pub returns-clause-entered : goal.returns-clause-entered
 returns-clause-entered c =
     let I = c.args.instance.now in
     let ch = c.args.chamber in
-    let ws = c.args.walks.now in
+    let ws = c.args.along.now.walks in
     let p = c.args.place in
-    let walks = c.requires.walks in
+    let walks = c.requires.along.walks in
     record {
       within = c.requires.place;
-      behind = subst (λ w. IsBehind I ch w (walk_at ws p)) (sym c.serve.ensures.value) (behind-opened I ch c.requires.chamber_in (walk_at ws p) c.alone-group.result);
+      behind = subst (λ w. IsBehind I ch w (walk_at ws p)) (sym (served c)) (behind-opened I ch c.requires.chamber_in (walk_at ws p) (single (ship_at I c.args.ship).way c.args.ship));
       done = omega (arith, c.serve.ensures.done, walks.done p c.requires.place);
       flow = omega (arith, c.serve.ensures.done, c.serve.ensures.flow, c.requires.few, c.requires.place, walks.done p c.requires.place, walks.flow p c.requires.place);
     }
@@ -24,6 +29,4 @@ returns-clause-entered c =
 pub returns-clause-flow : goal.returns-clause-flow
 returns-clause-flow c =
     let I = c.args.instance.now in
-    let line = c.args.line.now in
-    open-flow I c.args.chamber line c.args.walks.now c.requires.walks c.args.place c.requires.place c.alone-group.result c.serve.result _ c.serve.ensures.value refl
-    ∙ ap (λ g. line_flow I c.args.chamber (insert line c.args.place g)) c.alone-group.ensures
+    open-flow I c.args.chamber c.args.line.now c.args.along.now.walks c.requires.along.walks c.args.place c.requires.place (single (ship_at I c.args.ship).way c.args.ship) c.serve.result _ (served c) refl

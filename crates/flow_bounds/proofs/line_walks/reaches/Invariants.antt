@@ -6,7 +6,7 @@ use Rattle.flow_bounds.proofs.line_walks.reaches.Given as goal
 abbrev pub invariant-loop-i : goal.invariant-loop-i
 invariant-loop-i l = record {
   rest : (serve_all l.instance l.chamber l.walk (drop l.i l.line)).flow ≡ (serve_all l.instance l.chamber l.initial.walk (drop l.initial.i l.line)).flow;
-  behind : IsBehind l.instance l.chamber l.walk (walk_at l.walks l.i);
+  behind : IsBehind l.instance l.chamber l.walk (walk_at l.along.walks l.i);
   done : l.walk.done ≤ 1000000 + (l.i + 1) * 12000000;
   flow : l.walk.flow ≤ (l.i + 1) * 3000000000;
 }

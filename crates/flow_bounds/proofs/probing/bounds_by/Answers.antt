@@ -4,7 +4,7 @@ use Rattle.std.proofs.lemmas.Simd.{map-map}
 use Rattle.std.proofs.lemmas.List.Elements.{All-append, All-cons, All-nil}
 use Rattle.lock_rules.specs.Node.{line_at}
 use Rattle.lock_rules.specs.Bound.{node_flow}
-use Rattle.flow_bounds.specs.Walk.{AreWalks}
+use Rattle.flow_bounds.specs.Along.{IsAlong}
 use Rattle.master_branch.specs.declared.step.Step.{Step}
 use Rattle.master_branch.specs.declared.step.Step.TheVariants.{Join}
 use Rattle.master_branch.specs.Steps.{lines_after}
@@ -22,7 +22,7 @@ loop-step-preserved c =
     let I = c.args.instance.now in
     let f = λ (step : Step). node_flow I (lines_after I c.args.ship c.args.node.now.lines step) + c.args.rest in
     record {
-      walks = subst (λ k. AreWalks I k (line_at c.args.node.now.lines k) c.turn_to.new.walks) (sym c.turn_to.ensures.at) c.turn_to.ensures.walks;
+      along = subst (λ k. IsAlong I k (line_at c.args.node.now.lines k) c.turn_to.new.along) (sym c.turn_to.ensures.at) c.turn_to.ensures.along;
       value = c.push.ensures ∙ map-more f c.as_slice-step-items.result.now c.loop-step.step-index (Join 0 0) c.loop-step.bounds _ (omega arith) c.loop-step.invariant.value (omega (arith, c.flow_after.ensures.value));
       small = subst (All (λ b. b ≤ 500000000000)) (sym c.push.ensures) (All-append (λ b. b ≤ 500000000000) c.loop-step.bounds _ c.loop-step.invariant.small (All-cons (λ b. b ≤ 500000000000) _ [] (omega (arith, c.flow_after.ensures.small, c.requires.rest)) (All-nil (λ b. b ≤ 500000000000))));
     }

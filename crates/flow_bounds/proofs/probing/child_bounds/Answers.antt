@@ -19,5 +19,5 @@ returns-clause-probe c =
     let n = c.args.node.now in
     let ship : c.ship-ship.result ≡ next_ship I n.depth = c.ship-ship.ensures.value ∙ ap (next_ship I) c.depth.ensures.value in
     let rest : c.rest-rest.result ≡ sum_by (least_passage I) (missing_ships I (n.depth + 1)) = c.rest-rest.ensures.value ∙ ap (λ k. sum_by (least_passage I) (missing_ships I (k + 1))) c.depth-2.ensures.value in
-    let value : c.bounds_by.result ≡ map (bound_of I (n.depth + 1)) (children_of I n.depth n.lines) = c.bounds_by.ensures.value ∙ (λ i. map (λ lines. node_flow I lines + rest i) (children_by I (ship i) n.lines)) in
+    let value : c.bounds_by.new.bounds ≡ map (bound_of I (n.depth + 1)) (children_of I n.depth n.lines) = c.bounds_by.ensures.value ∙ (λ i. map (λ lines. node_flow I lines + rest i) (children_by I (ship i) n.lines)) in
     ap least_number value ∙ least-child I n.depth n.lines c.requires.node c.requires.lacks

@@ -16,7 +16,7 @@ overflow_sub-others c =
     omega (arith, others-sum (least_passage I) c.args.ship (missing_ships I n.depth) once, missing, c.passages_from.ensures.value, c.least_passage.ensures.value)
 
 pub overflow_add-result : goal.overflow_add-result
-overflow_add-result c = omega (arith, c.least.ensures.among 500000000000 c.bounds_by-flows.ensures.small, c.passages_from.ensures.small)
+overflow_add-result c = omega (arith, c.least.ensures.among 500000000000 c.bounds_by.ensures.small, c.passages_from.ensures.small)
 
 value : (c : goal.After-least) → c.least.result + (c.passages_from.result - c.least_passage.result) ≡ probe_of c.args.instance.now c.args.node.now.depth c.args.node.now.lines c.args.ship
 value c =
@@ -25,7 +25,7 @@ value c =
     let once = missing-once I n.depth n.lines c.requires.node c.args.ship c.requires.missing.known c.requires.missing.absent in
     let missing = ap (λ k. sum_by (least_passage I) (missing_ships I k)) c.depth.ensures.value in
     let plain : map (λ lines. node_flow I lines + 0) (children_by I c.args.ship n.lines) ≡ map (node_flow I) (children_by I c.args.ship n.lines) = λ i. map (λ lines. add-zero (node_flow I lines) i) (children_by I c.args.ship n.lines) in
-    let least : c.least.result ≡ least_number (map (node_flow I) (children_by I c.args.ship n.lines)) = c.least.ensures.value ∙ ap least_number (c.bounds_by-flows.ensures.value ∙ plain) in
+    let least : c.least.result ≡ least_number (map (node_flow I) (children_by I c.args.ship n.lines)) = c.least.ensures.value ∙ ap least_number (c.bounds_by.ensures.value ∙ plain) in
     omega (arith, least, others-sum (least_passage I) c.args.ship (missing_ships I n.depth) once, missing, c.passages_from.ensures.value, c.least_passage.ensures.value)
 
 pub returns-clause-value : goal.returns-clause-value
