@@ -45,8 +45,8 @@ pub(crate) fn walk_start(instance: &Instance, chamber: u8) -> Walk
     }
 }
 
-// The first minute from `from` on at which `long` minutes free of a chamber's closures begin. Most
-// chambers have none, and are not asked how long.
+// The first minute from `from` on at which `long` minutes free of a chamber's closures begin. That it
+// has none comes first, so that no branch hangs on `long`, which is 0 at one group and not at the next.
 #[inline]
 fn free_from(lock: &Chamber, long: u64, from: u64) -> u64
     requires from_small { from ≤ 1000000000 }

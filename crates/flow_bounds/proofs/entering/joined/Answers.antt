@@ -1,4 +1,4 @@
-use Rattle.std.proofs.Common.{◌≡◌, ◌+◌, refl, arith, ◌∙◌, sym, subst}
+use Rattle.std.proofs.Common.{◌≡◌, ◌+◌, refl, arith, sym, subst}
 use Rattle.lock_rules.specs.Children.{with_ship}
 use Rattle.master_branch.specs.Steps.{group_at}
 use Rattle.flow_bounds.specs.Walk.{serve, walk_at}

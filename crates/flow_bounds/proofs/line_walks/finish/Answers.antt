@@ -1,4 +1,4 @@
-use Rattle.std.proofs.Common.{◌<◌, ◌+◌, length, refl, arith, ap, ◌∙◌}
+use Rattle.std.proofs.Common.{◌<◌, length, refl, arith, ap, ◌∙◌}
 use Rattle.master_branch.specs.Steps.{group_at}
 use Rattle.flow_bounds.proofs.WalkLemmas.{serve_all-next, walk-grows, finish-in-step}
 use Rattle.flow_bounds.proofs.line_walks.finish.Goals as goal
