@@ -10,13 +10,13 @@ overflow_sub-result c =
     let I = c.args.instance.now in
     let ch = c.args.chamber in
     let lines = c.args.node.now.lines in
-    let end = ap length (c.as_slice-groups.ensures.value ∙ c.line.ensures) in
-    omega (arith, last-walk I ch (line_at lines ch) c.args.along.now.walks c.requires.along.walks (length c.as_slice-groups.result.now) end, flow-part I lines ch c.requires.chamber_in, c.requires.total)
+    let end = ap length (c.line-groups.ensures.value) in
+    omega (arith, last-walk I ch (line_at lines ch) c.args.along.now.walks c.requires.along.walks (length c.line-groups.result.now) end, flow-part I lines ch c.requires.chamber_in, c.requires.total)
 
 pub returns : goal.returns
 returns c =
     let I = c.args.instance.now in
     let ch = c.args.chamber in
     let lines = c.args.node.now.lines in
-    let end = ap length (c.as_slice-groups.ensures.value ∙ c.line.ensures) in
-    omega (arith, last-walk I ch (line_at lines ch) c.args.along.now.walks c.requires.along.walks (length c.as_slice-groups.result.now) end, flow-part I lines ch c.requires.chamber_in, c.requires.total)
+    let end = ap length (c.line-groups.ensures.value) in
+    omega (arith, last-walk I ch (line_at lines ch) c.args.along.now.walks c.requires.along.walks (length c.line-groups.result.now) end, flow-part I lines ch c.requires.chamber_in, c.requires.total)

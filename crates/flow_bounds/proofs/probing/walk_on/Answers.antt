@@ -6,5 +6,5 @@ use Rattle.flow_bounds.proofs.probing.walk_on.Goals as goal
 pub walk_along-requires-clause-ships_in : goal.walk_along-requires-clause-ships_in
 walk_along-requires-clause-ships_in c =
     let I = c.args.instance.now in
-    let same = c.as_slice.ensures.value ∙ c.line.ensures in
+    let same = c.line.ensures.value in
     subst (All (λ (g : Group). All (λ s. s < length I.ships) g.ships)) (sym same) (line-known I c.args.node.now.depth c.args.node.now.lines c.requires.node c.args.chamber)
