@@ -12,6 +12,8 @@ use Rattle.lock_rules.specs.Node.{root_lines}
 use Rattle.lock_rules.specs.Children.{children_of}
 use Rattle.refute_rules.specs.Cuts.{Cut}
 use Rattle.refute_rules.specs.Trees.{AreInOrder}
+use Rattle.search_rules.specs.declared.grounds.Ground.{Ground}
+use Rattle.search_rules.specs.declared.grounds.Ground.TheVariants as by
 use Rattle.search_rules.specs.declared.book.SlotState.{SlotState}
 use Rattle.search_rules.specs.declared.book.SlotState.TheVariants as slot
 use Rattle.search_rules.specs.declared.certificate.Mark.{Mark}
@@ -22,6 +24,7 @@ use Rattle.search_rules.specs.States.{KeepsStates, IsHitBy}
 use Rattle.search_rules.specs.Family.{HasChildren, KeepsFamily}
 use Rattle.search_rules.specs.Certificates.{IsCutBy, Closes, IsMarkTree}
 use Rattle.search_rules.proofs.SlotLemmas.{IsAt}
+use Rattle.search_rules.proofs.MoveLemmas.{TellsAt}
 use Rattle.search_rules.proofs.StateLemmas.{state-tells}
 use Rattle.book_certificate.specs.Preorder.{leaf_mark, AreMarksOf}
 use Rattle.book_certificate.specs.Certified.{cert_cut}
@@ -54,8 +57,8 @@ module _ (b : Book) (keeps : KeepsBook b) (family : KeepsFamily b) (states : Kee
   Closing = Closes I (best_cost b) (map cert_cut b.cuts)
 
   -- the cut that closes a slot, in the certificate
-  hit-cut : (node : Node) (number : ℕ) → IsHitBy I b.cuts node number → IsCutBy I (map cert_cut b.cuts) number node.lines
-  hit-cut node number h =
+  hit-cut : (number : ℕ) (lines : List (List Group)) → IsHitBy I b.cuts number lines → IsCutBy I (map cert_cut b.cuts) number lines
+  hit-cut number lines h =
       let known : number < length b.cuts = slice_get_within b.cuts number h.cut h.there in
       let is : slice_index_or b.cuts number h.cut ≡ h.cut = get_or_from_slice_get b.cuts number h.cut h.cut h.there in
       let own = (keeps.cuts number h.cut known).1 in
@@ -64,7 +67,7 @@ module _ (b : Book) (keeps : KeepsBook b) (family : KeepsFamily b) (states : Kee
         cut = cert_cut h.cut;
         known = subst (λ n. number < n) (sym (length-map b.cuts cert_cut)) known;
         is = get_or-map cert_cut b.cuts number h.cut (cert_cut h.cut) known ∙ ap cert_cut is;
-        hits = subst (λ (d : Deck). HitsNode h.cut.ships d I node.lines) deck h.hits;
+        hits = subst (λ (d : Deck). HitsNode h.cut.ships d I lines) deck h.hits;
       }
 
   -- the mark of a closed slot closes its node
@@ -80,11 +83,14 @@ module _ (b : Book) (keeps : KeepsBook b) (family : KeepsFamily b) (states : Kee
       at : (state : SlotState) → (slot_at b id).state ≡ state → IsAt b id state
       at state is = record { known = known; is = is }
 
+      ground-closes : (why : Ground) → TellsAt b id (slot.Closed why) → Closing node.depth node.lines (mark.Leaf why)
+      ground-closes by.Bound h = subst (λ n. best_cost b ≤ n) (keeps.slots id no_slot known).bound h
+      ground-closes by.Throughput h = h
+      ground-closes (by.Probe s) h = h
+      ground-closes (by.Cut number) h = hit-cut number node.lines h
+
       by_state : (state : SlotState) → (slot_at b id).state ≡ state → leaf_mark state ≡ Some m → Closing node.depth node.lines m
-      by_state slot.ByBound is f = from mark.Bound f (subst (λ n. best_cost b ≤ n) (keeps.slots id no_slot known).bound (state-tells b id slot.ByBound states (at slot.ByBound is)))
-      by_state (slot.ByCut number) is f = from (mark.Cut number) f (hit-cut node number (state-tells b id (slot.ByCut number) states (at (slot.ByCut number) is)))
-      by_state slot.ByThroughput is f = from mark.Throughput f (state-tells b id slot.ByThroughput states (at slot.ByThroughput is))
-      by_state (slot.ByProbe s) is f = let told = state-tells b id (slot.ByProbe s) states (at (slot.ByProbe s) is) in from (mark.Probe s) f (told.missing, told.high)
+      by_state (slot.Closed why) is f = from (mark.Leaf why) f (ground-closes why (state-tells b id (slot.Closed why) states (at (slot.Closed why) is)))
       by_state _ is f = absurd (none-some m f)
 
   -- the marks of a slot and of those below it are a tree of its node

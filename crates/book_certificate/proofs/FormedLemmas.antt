@@ -12,6 +12,8 @@ use Rattle.lock_model.specs.declared.plan.Lockage.{Lockage}
 use Rattle.lock_model.specs.declared.plan.Plan.{Plan}
 use Rattle.lock_model.specs.Fleet.{no_chamber}
 use Rattle.lock_rules.specs.Plan.{IsLegal, IsLegalLockage, cost_of}
+use Rattle.lock_rules.specs.Arrival.{missing_ships}
+use Rattle.lock_rules.proofs.SplitLemmas.{missing-known}
 use Rattle.refute_rules.specs.declared.refutation.Quick.{Quick}
 use Rattle.refute_rules.specs.declared.refutation.Quick.TheVariants.{Area, Row, Column}
 use Rattle.refute_rules.specs.declared.refutation.Refutation.{Refutation}
@@ -20,6 +22,8 @@ use Rattle.refute_rules.specs.Reasons.{Holds}
 use Rattle.refute_rules.specs.Refutes.{IsRefuted}
 use Rattle.refute_rules.specs.Cuts.{Cut, IsCut}
 use Rattle.refute_rules.specs.Trees.{AreInOrder}
+use Rattle.search_rules.specs.declared.grounds.Ground.{Ground}
+use Rattle.search_rules.specs.declared.grounds.Ground.TheVariants as by
 use Rattle.search_rules.specs.declared.book.SlotState.{SlotState}
 use Rattle.search_rules.specs.declared.book.SlotState.TheVariants as slot
 use Rattle.search_rules.specs.declared.certificate.Mark.{Mark}
@@ -29,7 +33,9 @@ use Rattle.search_rules.specs.Cover.{KeepsBook, IsOwnCut}
 use Rattle.search_rules.specs.States.{KeepsStates}
 use Rattle.search_rules.specs.Family.{KeepsFamily}
 use Rattle.search_rules.specs.Certificates.{Certificate, IsProved, Closes, IsMarkTree, Accepts}
-use Rattle.search_rules.specs.WellFormed.{IsFormedReason, IsFormedRefutation, IsFormedCut, IsFormedLockage, IsFormedMark, IsWellFormed}
+use Rattle.search_rules.specs.WellFormed.{IsFormedReason, IsFormedRefutation, IsFormedCut, IsFormedLockage, IsFormedGround, IsFormedMark, IsWellFormed}
+use Rattle.search_rules.proofs.LawLemmas.{contains-times}
+use Rattle.search_rules.proofs.MoveLemmas.{TellsAt}
 use Rattle.search_rules.proofs.SlotLemmas.{IsAt}
 use Rattle.search_rules.proofs.StateLemmas.{state-tells}
 use Rattle.book_certificate.specs.Preorder.{leaf_mark, AreMarksOf}
@@ -108,18 +114,19 @@ module _ (b : Book) (family : KeepsFamily b) (states : KeepsStates b) (few : len
       at : (state : SlotState) → (slot_at b id).state ≡ state → IsAt b id state
       at state is = record { known = known; is = is }
 
+      ground-formed : (why : Ground) → TellsAt b id (slot.Closed why) → IsFormedGround why
+      ground-formed by.Bound h = tt
+      ground-formed by.Throughput h = tt
+      ground-formed (by.Probe s) h =
+          let I = b.case.instance in
+          let k = (slot_at b id).node.depth in
+          let ship = missing-known I k s (contains-times (missing_ships I k) s h.0) in
+          let ships = I.limits.ship_count.1 in
+          omega (arith, ship, ships)
+      ground-formed (by.Cut number) h = less-trans number (length b.cuts) (2 ^ 63) (slice_get_within b.cuts number h.cut h.there) few
+
       by_state : (state : SlotState) → (slot_at b id).state ≡ state → leaf_mark state ≡ Some m → IsFormedMark m
-      by_state slot.ByBound is f = from mark.Bound f tt
-      by_state (slot.ByCut number) is f =
-          let told = state-tells b id (slot.ByCut number) states (at (slot.ByCut number) is) in
-          let there : number < length b.cuts = slice_get_within b.cuts number told.cut told.there in
-          from (mark.Cut number) f (less-trans number (length b.cuts) (2 ^ 63) there few)
-      by_state slot.ByThroughput is f = from mark.Throughput f tt
-      by_state (slot.ByProbe s) is f =
-          let told = state-tells b id (slot.ByProbe s) states (at (slot.ByProbe s) is) in
-          let ship = told.known in
-          let ships = b.case.instance.limits.ship_count.1 in
-          from (mark.Probe s) f (omega (arith, ship, ships))
+      by_state (slot.Closed why) is f = from (mark.Leaf why) f (ground-formed why (state-tells b id (slot.Closed why) states (at (slot.Closed why) is)))
       by_state _ is f = absurd (none-some f)
 
   slot-formed : (lacking id : ℕ) → id < length b.slots → (marks rest : List Mark) → AreMarksOf b lacking id marks rest → All IsFormedMark rest → All IsFormedMark marks

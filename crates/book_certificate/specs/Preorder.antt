@@ -12,10 +12,7 @@ use Rattle.search_rules.specs.Family.{child_count}
 
 -- the mark of a closed slot; a slot that is split, open, held or parked has none
 abbrev pub leaf_mark : SlotState → Option Mark
-leaf_mark slot.ByBound = Some mark.Bound
-leaf_mark (slot.ByCut number) = Some (mark.Cut number)
-leaf_mark slot.ByThroughput = Some mark.Throughput
-leaf_mark (slot.ByProbe s) = Some (mark.Probe s)
+leaf_mark (slot.Closed why) = Some (mark.Leaf why)
 leaf_mark _ = None
 
 -- the children of a split slot in order, from slot `first` on

@@ -19,10 +19,7 @@ fn leaf_mark(state: SlotState) -> Option<Mark>
     ensures { result ≡ leaf_mark state }
 {
     match state {
-        SlotState::ByBound => Some(Mark::Bound),
-        SlotState::ByCut(number) => Some(Mark::Cut(number)),
-        SlotState::ByThroughput => Some(Mark::Throughput),
-        SlotState::ByProbe(ship) => Some(Mark::Probe(ship)),
+        SlotState::Closed(why) => Some(Mark::Leaf(why)),
         _ => None,
     }
 }

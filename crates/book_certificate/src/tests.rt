@@ -3,7 +3,7 @@ mod fixture;
 
 use super::*;
 use book_core::{Book, Reply};
-use cert_check::{Answer, Certificate, Mark, check};
+use cert_check::{Answer, Certificate, Ground, Mark, check};
 use fixture::{
     Lock, NARROW, SIDE_BY_SIDE, TWIN, both, one_after_the_other, one_each, open, row_cut,
 };
@@ -70,9 +70,9 @@ fn a_book_of_the_narrow_chamber_gives_its_certificate(rt: HostRuntime) -> Result
         [
             Mark::Split,
             Mark::Split,
-            Mark::Cut(0),
-            Mark::Bound,
-            Mark::Bound
+            Mark::Leaf(Ground::Cut(0)),
+            Mark::Leaf(Ground::Bound),
+            Mark::Leaf(Ground::Bound)
         ]
         .as_slice()
     );
@@ -95,9 +95,9 @@ fn finished_books_give_marks_in_preorder(rt: HostRuntime) -> Result<(), Fail> {
             both(),
             &[Take(0), Split(0), Take(0), CloseProbe(1, 1)],
             80,
-            &[Mark::Split, Mark::Probe(1)],
+            &[Mark::Split, Mark::Leaf(Ground::Probe(1))],
         ),
-        (TWIN, one_each(), &[], 70, &[Mark::Bound]),
+        (TWIN, one_each(), &[], 70, &[Mark::Leaf(Ground::Bound)]),
         (
             TWIN,
             one_after_the_other(),
@@ -118,15 +118,15 @@ fn finished_books_give_marks_in_preorder(rt: HostRuntime) -> Result<(), Fail> {
             &[
                 Mark::Split,
                 Mark::Split,
-                Mark::Throughput,
-                Mark::Bound,
-                Mark::Bound,
-                Mark::Throughput,
+                Mark::Leaf(Ground::Throughput),
+                Mark::Leaf(Ground::Bound),
+                Mark::Leaf(Ground::Bound),
+                Mark::Leaf(Ground::Throughput),
                 Mark::Split,
-                Mark::Bound,
-                Mark::Bound,
-                Mark::Bound,
-                Mark::Bound,
+                Mark::Leaf(Ground::Bound),
+                Mark::Leaf(Ground::Bound),
+                Mark::Leaf(Ground::Bound),
+                Mark::Leaf(Ground::Bound),
             ],
         ),
     ];

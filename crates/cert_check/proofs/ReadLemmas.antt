@@ -18,6 +18,7 @@ use Rattle.master_branch.specs.Node.{Node, children, child_lines}
 use Rattle.cert_check.specs.Reading.{IsTreeOf, TreeSticks, IsRead, IsStuck, IsChildRead, IsChildStuck, AreRead, AreStuck}
 use Rattle.cert_check.specs.declared.closing.Claim.{Claim}
 use Rattle.cert_check.proofs.TreeLemmas.{in_order-append, in_order-fails, lacks-one, leaf-tree, wrong-tree, tree-shorter, stuck-shorter}
+use Rattle.search_rules.specs.declared.grounds.Ground.TheVariants as by
 
 off : false ≡ true → ⊥
 off e = cc
@@ -108,24 +109,24 @@ module _ (claim : Claim) where
       }
 
   -- a bound mark of a child
-  pub bound-read : (node : Node) (i : ℕ) (marks rest : List Mark) → marks ≡ mark.Bound ∷ rest → claim.cost ≤ bound_of I (node.depth + 1) (child_lines I node i) → IsChildRead claim node i marks rest
+  pub bound-read : (node : Node) (i : ℕ) (marks rest : List Mark) → marks ≡ mark.Leaf by.Bound ∷ rest → claim.cost ≤ bound_of I (node.depth + 1) (child_lines I node i) → IsChildRead claim node i marks rest
   bound-read node i marks rest is high =
       let up : suc node.depth ≡ node.depth + 1 = omega arith in
       let deep = ap (λ k. bound_of I k (child_lines I node i)) up in
       record {
         tree =
             subst (λ u. IsTreeOf claim (suc node.depth) (child_lines I node i) u rest) (sym is)
-            (leaf-tree I mark.Split Closing reason_of (length I.ships - suc node.depth) (suc node.depth) (child_lines I node i) mark.Bound rest (omega (arith, high, deep)));
+            (leaf-tree I mark.Split Closing reason_of (length I.ships - suc node.depth) (suc node.depth) (child_lines I node i) (mark.Leaf by.Bound) rest (omega (arith, high, deep)));
       }
 
-  pub bound-stuck : (node : Node) (i : ℕ) (marks rest : List Mark) → marks ≡ mark.Bound ∷ rest → (claim.cost ≤ bound_of I (node.depth + 1) (child_lines I node i) → ⊥) → IsChildStuck claim node i marks marks reason.BoundLow
+  pub bound-stuck : (node : Node) (i : ℕ) (marks rest : List Mark) → marks ≡ mark.Leaf by.Bound ∷ rest → (claim.cost ≤ bound_of I (node.depth + 1) (child_lines I node i) → ⊥) → IsChildStuck claim node i marks marks reason.BoundLow
   bound-stuck node i marks rest is low =
       let up : suc node.depth ≡ node.depth + 1 = omega arith in
       let deep = ap (λ k. bound_of I k (child_lines I node i)) up in
       record {
         sticks =
             subst (λ u. TreeSticks claim (suc node.depth) (child_lines I node i) u u reason.BoundLow) (sym is)
-            (wrong-tree I mark.Split Closing reason_of (length I.ships - suc node.depth) (suc node.depth) (child_lines I node i) mark.Bound rest (λ high. low (omega (arith, deep, high))) (λ e. absurd cc));
+            (wrong-tree I mark.Split Closing reason_of (length I.ships - suc node.depth) (suc node.depth) (child_lines I node i) (mark.Leaf by.Bound) rest (λ high. low (omega (arith, deep, high))) (λ e. absurd cc));
       }
 
   pub read-shorter : (node : Node) (marks rest : List Mark) → IsRead claim node marks rest → length rest ≤ length marks

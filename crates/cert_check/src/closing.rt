@@ -6,14 +6,14 @@ ghost use Rattle.master_branch.specs.Node.{IsNodeOf};
 ghost use Rattle.lock_rules.specs.Arrival.{next_ship};
 ghost use Rattle.flow_bounds.specs.Roster.{IsRosterOf};
 ghost use Rattle.search_rules.specs.Certificates.{IsShaped, IsCutBy, Closes};
-ghost use Rattle.search_rules.specs.Failures.{reason_of};
+ghost use Rattle.search_rules.specs.Failures.{ground_reason, reason_of};
 
 use crate::certificate::CertCut;
 use crate::hitting::hits_node;
 use flow_bounds::{Roster, bound, children_reaching, is_missing, probe};
 use lock_model::Instance;
 use master_branch::Node;
-use search_rules::{Mark, Reason};
+use search_rules::{Ground, Mark, Reason};
 
 /// What the marks of a certificate are held against: the instance, its roster and its throughput, and
 /// the cost in minutes and the cuts of the certificate, each about a chamber and ships of the instance.
@@ -50,12 +50,25 @@ fn is_next(claim: &Claim, node: &Node, ship: u8) -> bool
 // the roster spares work, and nearly all that are asked for are that one.
 fn is_probed(claim: &Claim, node: &Node, ship: u8) -> bool
     requires { IsNodeOf claim.now.instance.now node.now }
-    ensures { IsTrue result ↔ Closes claim.now.instance.now claim.now.cost claim.now.cuts.now node.now.depth node.now.lines (Mark.Probe ship) }
+    ensures { IsTrue result ↔ Closes claim.now.instance.now claim.now.cost claim.now.cuts.now node.now.depth node.now.lines (Mark.Leaf (Ground.Probe ship)) }
 {
     if is_next(claim, node, ship) {
         return children_reaching(claim.instance, claim.roster, node, claim.cost).all();
     }
     is_missing(claim.instance, node, ship) && probe(claim.instance, node, ship) >= claim.cost
+}
+
+// Whether the node is closed so.
+fn is_closed_by(claim: &Claim, node: &Node, why: Ground) -> bool
+    requires { IsNodeOf claim.now.instance.now node.now }
+    ensures { IsTrue result ↔ Closes claim.now.instance.now claim.now.cost claim.now.cuts.now node.now.depth node.now.lines (Mark.Leaf why) }
+{
+    match why {
+        Ground::Bound => bound(claim.instance, node) >= claim.cost,
+        Ground::Throughput => claim.throughput >= claim.cost,
+        Ground::Probe(ship) => is_probed(claim, node, ship),
+        Ground::Cut(number) => is_cut_by(claim, node, number),
+    }
 }
 
 /// Whether a mark closes the node.
@@ -65,10 +78,19 @@ pub fn closes(claim: &Claim, node: &Node, mark: Mark) -> bool
 {
     match mark {
         Mark::Split => false,
-        Mark::Bound => bound(claim.instance, node) >= claim.cost,
-        Mark::Cut(number) => is_cut_by(claim, node, number),
-        Mark::Throughput => claim.throughput >= claim.cost,
-        Mark::Probe(ship) => is_probed(claim, node, ship),
+        Mark::Leaf(why) => is_closed_by(claim, node, why),
+    }
+}
+
+// Why the node isn't closed so.
+fn reason_by(why: Ground) -> Reason
+    ensures { result ≡ ground_reason why }
+{
+    match why {
+        Ground::Bound => Reason::BoundLow,
+        Ground::Throughput => Reason::ThroughputLow,
+        Ground::Probe(_) => Reason::ProbeWrong,
+        Ground::Cut(_) => Reason::CutMisses,
     }
 }
 
@@ -78,9 +100,6 @@ pub fn reason_against(mark: Mark) -> Reason
 {
     match mark {
         Mark::Split => Reason::SplitFull,
-        Mark::Bound => Reason::BoundLow,
-        Mark::Cut(_) => Reason::CutMisses,
-        Mark::Throughput => Reason::ThroughputLow,
-        Mark::Probe(_) => Reason::ProbeWrong,
+        Mark::Leaf(why) => reason_by(why),
     }
 }

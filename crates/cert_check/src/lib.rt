@@ -33,4 +33,4 @@ pub use checking::{check, first_failure_before_marks};
 pub use closing::{Claim, closes, reason_against};
 pub use laws::one_first_failure;
 pub use reading::{child_of, child_reaches};
-pub use search_rules::{Mark, Reason, Spot2};
+pub use search_rules::{Ground, Mark, Reason, Spot2};

@@ -10,7 +10,7 @@ use crate::closing::{Claim, closes, reason_against};
 use flow_bounds::{Reached, children_reaching};
 use lock_model::Instance;
 use master_branch::{Node, child_count, descend};
-use search_rules::{Mark, Reason};
+use search_rules::{Ground, Mark, Reason};
 
 // Where reading ends before its time: the marks that are left there, and why.
 #[derive(Drop)]
@@ -32,10 +32,10 @@ fn first_mark(marks: &[Mark]) -> Option<(Mark, &[Mark])>
 
 // The marks behind a bound mark, where the first one is a bound mark.
 fn behind_bound(marks: &[Mark]) -> Option<&[Mark]>
-    ensures { IfSome result (λ rest. marks.now ≡ Mark.Bound ∷ rest.now) }
+    ensures { IfSome result (λ rest. marks.now ≡ Mark.Leaf Ground.Bound ∷ rest.now) }
 {
     match first_mark(marks) {
-        Some((Mark::Bound, rest)) => Some(rest),
+        Some((Mark::Leaf(Ground::Bound), rest)) => Some(rest),
         _ => None,
     }
 }

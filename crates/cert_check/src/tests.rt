@@ -16,9 +16,9 @@ const BOTH: Draft = Draft {
     tree: &[
         Mark::Split,
         Mark::Split,
-        Mark::Bound,
-        Mark::Bound,
-        Mark::Bound,
+        Mark::Leaf(Ground::Bound),
+        Mark::Leaf(Ground::Bound),
+        Mark::Leaf(Ground::Bound),
     ],
 };
 
@@ -35,9 +35,9 @@ const ONE_BY_ONE: Draft = Draft {
     tree: &[
         Mark::Split,
         Mark::Split,
-        Mark::Cut(0),
-        Mark::Bound,
-        Mark::Bound,
+        Mark::Leaf(Ground::Cut(0)),
+        Mark::Leaf(Ground::Bound),
+        Mark::Leaf(Ground::Bound),
     ],
 };
 
@@ -57,7 +57,7 @@ const BY_THROUGHPUT: Draft = Draft {
         (Way::Up, Who::First, 0, 10),
         (Way::Down, Who::Second, 30, 10),
     ],
-    tree: &[Mark::Throughput],
+    tree: &[Mark::Leaf(Ground::Throughput)],
 };
 
 const CLASHING: Lock = Lock {
@@ -157,7 +157,12 @@ const EDITS: [Edit; 26] = [
     (
         NARROW,
         Draft {
-            tree: &[Mark::Split, Mark::Split, Mark::Cut(0), Mark::Bound],
+            tree: &[
+                Mark::Split,
+                Mark::Split,
+                Mark::Leaf(Ground::Cut(0)),
+                Mark::Leaf(Ground::Bound),
+            ],
             ..ONE_BY_ONE
         },
         Answer::Rejected(Spot2::Tree(4), Reason::TreeShort),
@@ -168,10 +173,10 @@ const EDITS: [Edit; 26] = [
             tree: &[
                 Mark::Split,
                 Mark::Split,
-                Mark::Cut(0),
-                Mark::Bound,
-                Mark::Bound,
-                Mark::Bound,
+                Mark::Leaf(Ground::Cut(0)),
+                Mark::Leaf(Ground::Bound),
+                Mark::Leaf(Ground::Bound),
+                Mark::Leaf(Ground::Bound),
             ],
             ..ONE_BY_ONE
         },
@@ -184,8 +189,8 @@ const EDITS: [Edit; 26] = [
                 Mark::Split,
                 Mark::Split,
                 Mark::Split,
-                Mark::Bound,
-                Mark::Bound,
+                Mark::Leaf(Ground::Bound),
+                Mark::Leaf(Ground::Bound),
             ],
             ..ONE_BY_ONE
         },
@@ -197,9 +202,9 @@ const EDITS: [Edit; 26] = [
             tree: &[
                 Mark::Split,
                 Mark::Split,
-                Mark::Bound,
-                Mark::Bound,
-                Mark::Bound,
+                Mark::Leaf(Ground::Bound),
+                Mark::Leaf(Ground::Bound),
+                Mark::Leaf(Ground::Bound),
             ],
             ..ONE_BY_ONE
         },
@@ -208,7 +213,7 @@ const EDITS: [Edit; 26] = [
     (
         NARROW,
         Draft {
-            tree: &[Mark::Split, Mark::Bound],
+            tree: &[Mark::Split, Mark::Leaf(Ground::Bound)],
             ..ONE_BY_ONE
         },
         Answer::Rejected(Spot2::Tree(1), Reason::BoundLow),
@@ -219,9 +224,9 @@ const EDITS: [Edit; 26] = [
             tree: &[
                 Mark::Split,
                 Mark::Split,
-                Mark::Cut(1),
-                Mark::Bound,
-                Mark::Bound,
+                Mark::Leaf(Ground::Cut(1)),
+                Mark::Leaf(Ground::Bound),
+                Mark::Leaf(Ground::Bound),
             ],
             ..ONE_BY_ONE
         },
@@ -233,9 +238,9 @@ const EDITS: [Edit; 26] = [
             tree: &[
                 Mark::Split,
                 Mark::Split,
-                Mark::Cut(0),
-                Mark::Cut(0),
-                Mark::Bound,
+                Mark::Leaf(Ground::Cut(0)),
+                Mark::Leaf(Ground::Cut(0)),
+                Mark::Leaf(Ground::Bound),
             ],
             ..ONE_BY_ONE
         },
@@ -247,9 +252,9 @@ const EDITS: [Edit; 26] = [
             tree: &[
                 Mark::Split,
                 Mark::Split,
-                Mark::Throughput,
-                Mark::Bound,
-                Mark::Bound,
+                Mark::Leaf(Ground::Throughput),
+                Mark::Leaf(Ground::Bound),
+                Mark::Leaf(Ground::Bound),
             ],
             ..ONE_BY_ONE
         },
@@ -261,9 +266,9 @@ const EDITS: [Edit; 26] = [
             tree: &[
                 Mark::Split,
                 Mark::Split,
-                Mark::Probe(1),
-                Mark::Bound,
-                Mark::Bound,
+                Mark::Leaf(Ground::Probe(1)),
+                Mark::Leaf(Ground::Bound),
+                Mark::Leaf(Ground::Bound),
             ],
             ..ONE_BY_ONE
         },
@@ -272,7 +277,7 @@ const EDITS: [Edit; 26] = [
     (
         SIDE_BY_SIDE,
         Draft {
-            tree: &[Mark::Split, Mark::Probe(1)],
+            tree: &[Mark::Split, Mark::Leaf(Ground::Probe(1))],
             ..BOTH
         },
         Answer::Accepted(80),
@@ -280,7 +285,7 @@ const EDITS: [Edit; 26] = [
     (
         SIDE_BY_SIDE,
         Draft {
-            tree: &[Mark::Probe(1)],
+            tree: &[Mark::Leaf(Ground::Probe(1))],
             ..BOTH
         },
         Answer::Rejected(Spot2::Tree(0), Reason::ProbeWrong),
@@ -288,7 +293,7 @@ const EDITS: [Edit; 26] = [
     (
         SIDE_BY_SIDE,
         Draft {
-            tree: &[Mark::Split, Mark::Probe(0)],
+            tree: &[Mark::Split, Mark::Leaf(Ground::Probe(0))],
             ..BOTH
         },
         Answer::Rejected(Spot2::Tree(1), Reason::ProbeWrong),
@@ -296,7 +301,7 @@ const EDITS: [Edit; 26] = [
     (
         SIDE_BY_SIDE,
         Draft {
-            tree: &[Mark::Split, Mark::Probe(2)],
+            tree: &[Mark::Split, Mark::Leaf(Ground::Probe(2))],
             ..BOTH
         },
         Answer::Rejected(Spot2::Tree(1), Reason::ProbeWrong),
@@ -304,7 +309,7 @@ const EDITS: [Edit; 26] = [
     (
         PASSING,
         Draft {
-            tree: &[Mark::Bound],
+            tree: &[Mark::Leaf(Ground::Bound)],
             ..BY_THROUGHPUT
         },
         Answer::Rejected(Spot2::Tree(0), Reason::BoundLow),
