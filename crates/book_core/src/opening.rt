@@ -7,6 +7,7 @@ ghost use Rattle.book_core.specs.Growing.{stored_root};
 use crate::back_list::BackList;
 use crate::book::Book;
 use crate::case::Case;
+use crate::path::Path;
 use crate::splitting::stored_child;
 use crate::stored_slot::StoredSlot;
 use chamber_times::cost;
@@ -41,6 +42,7 @@ pub fn open_book(alloc: Global, case: &Case, plan: Plan) -> Result<Book, NoMemor
 {
     let mut slots = Vec::with_capacity(alloc, 1)?;
     let history = Vec::with_capacity(alloc, 3 * case.nodes as usize + 32)?;
+    let path = Path::new(alloc)?;
     let best_cost = cost_of_legal(&case.instance, &plan);
     slots.push_reserved(stored_root(&case.instance, best_cost));
     Ok(Book {
@@ -58,7 +60,7 @@ pub fn open_book(alloc: Global, case: &Case, plan: Plan) -> Result<Book, NoMemor
         ended: [false; 9],
         history,
         hands: [None, None, None, None, None, None, None, None, None],
-        near: None,
+        path,
         back: BackList::new(),
         waiting: Vec::new(alloc),
     })
