@@ -1,5 +1,5 @@
 -- The hand that holds a slot, and the bounds in it.
-use Rattle.std.proofs.Common.{◌≡◌, ℕ, ◌+◌, ◌<◌, List, length, map, refl, sym, ap, ◌∙◌, subst, arith, slice_index_or, Some, None}
+use Rattle.std.proofs.Common.{◌≡◌, ℕ, ◌+◌, ◌<◌, List, slice_set, length, map, refl, sym, ap, ◌∙◌, subst, arith, slice_index_or, Some, None}
 use Rattle.std.specs.Prelude.{IfSome}
 use Rattle.std.specs.declared.option.Option.{Option}
 use Rattle.lock_model.specs.declared.instance.Instance.{Instance}
@@ -15,11 +15,12 @@ use Rattle.book_core.specs.declared.book.Book.TheInside.{Inside}
 use Rattle.book_core.specs.declared.hand.Hand.{Hand}
 use Rattle.book_core.specs.Nodes.{tree_node}
 use Rattle.book_core.specs.Stored.{slots_of}
-use Rattle.book_core.specs.Hands.{id_of, ids_of, held_at, bounds_in, bounds_below, bounds_at, filled, IsNodeIn, IsHand, IsHandOf, IsBounding}
-use Rattle.book_core.specs.Keeps.{IsSound}
+use Rattle.book_core.specs.Hands.{id_of, ids_of, held_at, bounds_in, bounds_below, bounds_at, filled, IsNodeIn, IsHand, IsHandOf, IsBounding, AreNodes}
+use Rattle.std.proofs.lemmas.List.{get_or-set_same, set-set}
+use Rattle.book_core.specs.Keeps.{IsSound, AreTables}
 use Rattle.book_core.specs.Seen.{seen, IsKept}
 use Rattle.book_core.proofs.HandLemmas.{hand-known}
-use Rattle.book_core.proofs.HeldLemmas.{at-any, ids-at, length-ids}
+use Rattle.book_core.proofs.HeldLemmas.{at-any, ids-at, length-ids, ids-filled, nodes-filled}
 use Rattle.book_core.proofs.NodeLemmas.{slot-node}
 
 -- the bounds below a slot's node
@@ -91,3 +92,32 @@ module _ (a : Inside) (kept : IsKept a) (b : Book) (same : seen a ≡ b) (w id :
       by-hand : (o : Option Hand) → held_at a.hands w ≡ o → bounds_in (filled a.case.instance o) ≡ bounds_at b id
       by-hand None e = absurd (hand-some e)
       by-hand (Some g) e = below-hand g e
+
+  -- all hands, once they are there
+  module _ (K : Instance) (K_is : K ≡ a.case.instance) (hands : List (Option Hand)) (hands_are : hands ≡ slice_set a.hands w (filled K (held_at a.hands w))) where
+    abbrev full : Option Hand
+    full = filled a.case.instance (held_at a.hands w)
+
+    are : hands ≡ slice_set a.hands w full
+    are = hands_are ∙ ap (λ J. slice_set a.hands w (filled J (held_at a.hands w))) K_is
+
+    pub tables-filled : AreTables S a.ended (ids_of hands) a.back a.waiting.items
+    tables-filled =
+        subst (λ hs. AreTables S a.ended (ids_of hs) a.back a.waiting.items) (sym are)
+        (subst (λ ids. AreTables S a.ended ids a.back a.waiting.items) (sym (ids-filled a.case.instance a.hands w full refl)) kept.tables)
+
+    pub hands-filled : AreNodes a.case.instance S hands
+    hands-filled = subst (AreNodes a.case.instance S) (sym are) (nodes-filled a.case.instance S a.hands kept.nodes w full refl)
+
+    within : w < length a.hands
+    within = let few = holder-few in omega (arith, few, kept.tables.hands_are.nine, length-ids a.hands)
+
+    read : (d : Option Hand) → slice_index_or hands w d ≡ full
+    read d = ap (λ hs. slice_index_or hs w d) are ∙ get_or-set_same a.hands w full d within
+
+    -- what an index reads of the hand
+    pub bounds-here : (d : Option Hand) → bounds_in (slice_index_or hands w d) ≡ bounds_at b id
+    bounds-here d = bounds-filled (slice_index_or hands w d) (read d)
+
+    pub hands-left : slice_set hands w None ≡ slice_set a.hands w None
+    hands-left = ap (λ hs. slice_set hs w None) are ∙ set-set a.hands w full None

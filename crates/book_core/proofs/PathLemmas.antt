@@ -188,3 +188,14 @@ module _ (I : Instance) (slots : List Slot) where
     some = omega (arith, longer old entry);
     last = ap (λ (n : PathNode). n.id) (at-new (length (old ++ entry ∷ []) - 1) old entry (omega (arith, longer old entry)));
   })
+
+-- the same of an equal instance and equal stored slots
+module _ (J I : Instance) (J_is : J ≡ I) (xs ss : List StoredSlot) (all : xs ≡ ss) where
+  pub tree-in : IsTree I (slots_of I ss) → IsTree J (slots_of J xs)
+  tree-in tree = subst (λ K. IsTree K (slots_of K xs)) (sym J_is) (subst (λ l. IsTree I (slots_of I l)) (sym all) tree)
+
+  pub path-in : (path : Path) → IsPath I (slots_of I ss) path → IsPath J (slots_of J xs) path
+  path-in path is = subst (λ K. IsPath K (slots_of K xs) path) (sym J_is) (subst (λ l. IsPath I (slots_of I l) path) (sym all) is)
+
+  pub path-out : (path : Path) → IsPath J (slots_of J xs) path → IsPath I (slots_of I ss) path
+  path-out path is = subst (λ l. IsPath I (slots_of I l) path) all (subst (λ K. IsPath K (slots_of K xs) path) J_is is)

@@ -60,19 +60,6 @@ impl Book {
         self.probe_in(id, &self.node_of(id), ship)
     }
 
-    // The same of any slot.
-    fn any_probe(&self, id: u32, ship: u8) -> Option<u64>
-        requires { id < length self.now.slots }
-        ensures some { IfSome result (λ least. (is_missing self.now id ship ≡ true) × (least ≡ probe_at self.now id ship)) }
-        ensures none { IfNone result (is_missing self.now id ship ≡ false) }
-    {
-        if self.is_held(id) {
-            self.probe_in(id, self.held_node(id), ship)
-        } else {
-            self.made_probe(id, ship)
-        }
-    }
-
     // Whether a node lacks this ship first.
     fn lacks_first(&self, node: &Node, ship: u8) -> bool
         ensures lacks { OnTrue result (node.now.depth < length self.now.case.instance.ships) }
@@ -100,10 +87,13 @@ impl Book {
         ensures some { IfSome result (λ least. (is_missing self.old id ship ≡ true) × (least ≡ probe_at self.old id ship)) }
         ensures none { IfNone result (is_missing self.old id ship ≡ false) }
     {
+        if !self.is_held(id) {
+            return self.made_probe(id, ship);
+        }
         if self.is_next(id, ship) {
             Some(self.next_probe(id))
         } else {
-            self.any_probe(id, ship)
+            self.probe_in(id, self.held_node(id), ship)
         }
     }
 }

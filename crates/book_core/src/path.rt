@@ -73,7 +73,7 @@ pub(crate) fn node_from_root(instance: &Instance, roster: &Roster, slots: &[Stor
 
 impl Path {
     // No slot, and room for as many as there may be.
-    pub(crate) fn new(alloc: Global) -> Result<Path, NoMemory>
+    pub(crate) fn with_room(alloc: Global) -> Result<Path, NoMemory>
         ensures nodes { IfOk result (λ path. path.nodes.items ≡ []) }
         ensures room { IfOk result (λ path. 25 ≤ vec_capacity path.nodes) }
     {

@@ -1,5 +1,5 @@
 //! The event that splits a slot into its children.
-ghost use Rattle.std.specs.Prelude.{◌≡◌, ◌+◌, ◌≤◌, ◌<◌, ◌++◌, true, length, nat_le, IfOk, IfErr, vec_len, vec_capacity};
+ghost use Rattle.std.specs.Prelude.{◌≡◌, ◌+◌, ◌≤◌, ◌<◌, ◌++◌, true, false, length, nat_le, IfOk, IfErr, IfSome, IfNone, vec_len, vec_capacity};
 ghost use Rattle.search_rules.specs.Book.{slot_at, is_held};
 ghost use Rattle.search_rules.specs.declared.book.SlotState.TheVariants as slot;
 ghost use Rattle.search_rules.specs.Events.{split};
@@ -104,6 +104,17 @@ impl Book {
         Ok(count as u32)
     }
 
+    // The worker who holds a slot; None exactly where no worker does.
+    fn holder(&self, id: u32) -> Option<u8>
+        ensures some { IfSome result (λ worker. (slot_at self.now id).state ≡ slot.Held worker) }
+        ensures none { IfNone result (is_held (slot_at self.now id).state ≡ false) }
+    {
+        match self.state_of(id) {
+            SlotState::Held(worker) => Some(worker),
+            _ => None,
+        }
+    }
+
     // Whether the node of a held slot holds all ships.
     fn is_whole(&self, id: u32) -> bool
         requires { is_held (slot_at self.now id).state ≡ true }
@@ -135,9 +146,9 @@ impl Book {
         ensures { Does self.old (split id) result self.new }
     {
         self.keeps();
-        match self.state_of(id) {
-            SlotState::Held(worker) => self.split_held(id, worker),
-            _ => Reply::NotHeld(id),
+        match self.holder(id) {
+            Some(worker) => self.split_held(id, worker),
+            None => Reply::NotHeld(id),
         }
     }
 }
