@@ -23,7 +23,7 @@ use Rattle.book_core.specs.Seen.{seen}
 use Rattle.book_core.proofs.HandLemmas.{set-changes, state-known, hands-given, hands-let_go, first-held}
 use Rattle.book_core.proofs.BackLemmas.{first-back, first-taken, fewer-back, back-kept, back-given, length-put}
 use Rattle.book_core.proofs.WaitingLemmas.{settles, waiting-kept}
-use Rattle.book_core.proofs.KeptLemmas.{length-slots, stored-change}
+use Rattle.book_core.proofs.KeptLemmas.{stored-change}
 use Rattle.book_core.proofs.SettleLemmas.{restated}
 
 fresh-open : slot.Fresh ≢ slot.ByBound

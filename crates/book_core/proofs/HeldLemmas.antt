@@ -8,7 +8,7 @@ use Rattle.search_rules.specs.declared.book.SlotState.TheVariants as slot
 use Rattle.search_rules.specs.Book.{Slot}
 use Rattle.master_branch.specs.Node.{Node}
 use Rattle.book_core.specs.declared.hand.Hand.{Hand}
-use Rattle.book_core.specs.Hands.{id_of, ids_of, held_at, bounds_below, filled, IsNodeIn, IsHand, IsBounding, AreNodes}
+use Rattle.book_core.specs.Hands.{id_of, ids_of, held_at, filled, IsNodeIn, IsHand, AreNodes}
 use Rattle.book_core.specs.Tables.{hand_at}
 use Rattle.book_core.specs.Changes.{slot_in, Changes, let_go, has_some}
 

@@ -6,8 +6,6 @@ use Rattle.search_rules.specs.Book.{Book, Node as TreeNode, Slot, no_slot, slot_
 use Rattle.search_rules.specs.Family.{child_node, child_count, IsBorn, HasChildren}
 use Rattle.master_branch.specs.Node.{Node, children}
 use Rattle.book_core.specs.Keeps.{IsSound}
-use Rattle.book_core.specs.declared.stored_slot.StoredSlot.{StoredSlot}
-use Rattle.book_core.specs.Stored.{IsStoredAs}
 use Rattle.book_core.specs.Nodes.{tree_node}
 
 got-or : {X : Type 0} (xs : List X) (k : ℕ) (x d : X) → slice_get xs k ≡ Some x → slice_index_or xs k d ≡ x

@@ -1,9 +1,8 @@
 -- The way from the root to a slot.
-use Rattle.std.proofs.Common.{◌≡◌, ℕ, zero, suc, ◌+◌, ◌-◌, ◌<◌, ◌≤◌, List, [], ◌∷◌, ◌++◌, length, take, refl, sym, ap, ◌∙◌, subst, arith, slice_index_or, slice_get, vec_capacity, inl, inr, Some, None}
+use Rattle.std.proofs.Common.{◌≡◌, ℕ, zero, suc, ◌+◌, ◌-◌, ◌<◌, ◌≤◌, List, [], ◌∷◌, ◌++◌, length, take, refl, sym, ap, ◌∙◌, subst, arith, slice_index_or, slice_get, vec_capacity, inl, inr, Some}
 use Rattle.std.specs.Prelude.{◌⊎◌}
-use Rattle.std.proofs.lemmas.List.{length-append, length-take}
 use Rattle.lock_model.specs.declared.instance.Instance.{Instance}
-use Rattle.search_rules.specs.Book.{Book, Node as TreeNode, Slot, slot_at}
+use Rattle.search_rules.specs.Book.{Book, Node as TreeNode, Slot}
 use Rattle.search_rules.specs.Family.{child_node, child_count}
 use Rattle.master_branch.specs.Node.{Node, IsNodeOf, children, root}
 use Rattle.book_core.specs.declared.path.Path.{Path}
@@ -179,7 +178,7 @@ module _ (I : Instance) (slots : List Slot) where
         where
           by-place : (k : ℕ) → k < length (path.nodes.items ++ (record { id = id; node = new }) ∷ []) → IsEntry I slots k (entry_at (path.nodes.items ++ (record { id = id; node = new }) ∷ []) k)
           by-place k less = elim (before-or k (length path.nodes.items) (omega (arith, less, longer path.nodes.items (record { id = id; node = new })))) [
-            inl earlier ↦ subst (IsEntry I slots k) (sym (at-old k path.nodes.items (record { id = id; node = new }) earlier)) (is.each k earlier)
+            | inl earlier ↦ subst (IsEntry I slots k) (sym (at-old k path.nodes.items (record { id = id; node = new }) earlier)) (is.each k earlier)
             | inr here ↦ subst (IsEntry I slots k) (sym (at-new k path.nodes.items (record { id = id; node = new }) here)) (there k here)
           ]
 

@@ -33,7 +33,8 @@ impl Book {
     {
         leave_back(&mut self.back, self.slots[id as usize].state);
         let case = &self.case;
-        self.path.lead_to(&case.instance, &self.roster, self.slots.as_slice(), id);
+        self.path
+            .lead_to(&case.instance, &self.roster, self.slots.as_slice(), id);
         self.hands[worker as usize] = Some(Hand {
             id,
             node: self.path.last().copy(),

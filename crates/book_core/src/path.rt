@@ -57,7 +57,12 @@ fn step(node: &mut Node, instance: &Instance, roster: &Roster, slots: &[StoredSl
 }
 
 // The node of a slot, made step by step from the root's.
-pub(crate) fn node_from_root(instance: &Instance, roster: &Roster, slots: &[StoredSlot], id: u32) -> Node
+pub(crate) fn node_from_root(
+    instance: &Instance,
+    roster: &Roster,
+    slots: &[StoredSlot],
+    id: u32,
+) -> Node
     requires tree { IsTree instance.now (slots_of instance.now slots.now) }
     requires roster { IsRosterOf instance.now roster.now }
     requires known { id < length slots.now }
@@ -130,7 +135,13 @@ impl Path {
 
     // It leads to this slot: it is cut off where the way to the slot leaves it, and goes on from
     // there. The calls are no deeper than the tree.
-    pub(crate) fn lead_to(&mut self, instance: &Instance, roster: &Roster, slots: &[StoredSlot], id: u32)
+    pub(crate) fn lead_to(
+        &mut self,
+        instance: &Instance,
+        roster: &Roster,
+        slots: &[StoredSlot],
+        id: u32,
+    )
         requires tree { IsTree instance.now (slots_of instance.now slots.now) }
         requires roster { IsRosterOf instance.now roster.now }
         requires known { id < length slots.now }

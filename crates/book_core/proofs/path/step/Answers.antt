@@ -1,4 +1,4 @@
-use Rattle.std.proofs.Common.{◌<◌, length, sym, ap, ◌∙◌, subst, arith, slice_index_or, vec_capacity}
+use Rattle.std.proofs.Common.{arith, slice_index_or}
 use Rattle.search_rules.specs.declared.book.SlotState.TheVariants as slot
 use Rattle.book_core.specs.declared.stored_slot.StoredSlot.{StoredSlot}
 use Rattle.book_core.specs.Stored.{slots_of}

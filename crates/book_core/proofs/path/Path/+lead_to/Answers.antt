@@ -1,4 +1,4 @@
-use Rattle.std.proofs.Common.{◌<◌, length, sym, ap, ◌∙◌, subst, arith, slice_index_or, vec_capacity}
+use Rattle.std.proofs.Common.{sym, subst, arith}
 use Rattle.search_rules.specs.declared.book.SlotState.TheVariants as slot
 use Rattle.book_core.specs.declared.stored_slot.StoredSlot.{StoredSlot}
 use Rattle.book_core.specs.Stored.{slots_of}
@@ -22,13 +22,18 @@ pub lead_to-requires : goal.lead_to-requires
 lead_to-requires t c =
     let I = c.args.instance.now in
     let d : StoredSlot = record { bound = 0; state = slot.Fresh; parent = 0; number = 0 } in
-    let before = up-before I c.args.slots.now c.requires.tree c.args.id (omega arith) c.requires.known d in
-    (
+    let before = up-before I c.args.slots.now c.requires.tree c.args.id (omega arith) c.requires.known d in (
       omega (arith, before, c.decreases),
-      (c.requires.tree, (c.requires.roster, (
-        omega (arith, before, c.requires.known),
-        path-cut I (slots_of I c.args.slots.now) c.args.self.now (record { nodes = c.truncate.new.self }) c.count_up_to-count.result c.truncate.ensures.items c.truncate.ensures.capacity c.requires.path,
-      ))),
+      (
+        c.requires.tree,
+        (
+          c.requires.roster,
+          (
+            omega (arith, before, c.requires.known),
+            path-cut I (slots_of I c.args.slots.now) c.args.self.now (record { nodes = c.truncate.new.self }) c.count_up_to-count.result c.truncate.ensures.items c.truncate.ensures.capacity c.requires.path,
+          ),
+        ),
+      ),
     )
 
 pub go_on-requires-clause-from : goal.go_on-requires-clause-from
