@@ -1,5 +1,5 @@
 -- The hand that holds a slot, and the bounds in it.
-use Rattle.std.proofs.Common.{◌≡◌, ℕ, ◌+◌, ◌<◌, List, length, map, refl, sym, ap, ◌∙◌, subst, arith, slice_index_or, Some, None}
+use Rattle.std.proofs.Common.{◌≡◌, ℕ, ◌+◌, ◌<◌, List, slice_set, length, map, refl, sym, ap, ◌∙◌, subst, arith, slice_index_or, Some, None}
 use Rattle.std.specs.Prelude.{IfSome}
 use Rattle.std.specs.declared.option.Option.{Option}
 use Rattle.lock_model.specs.declared.instance.Instance.{Instance}
@@ -15,11 +15,12 @@ use Rattle.book_core.specs.declared.book.Book.TheInside.{Inside}
 use Rattle.book_core.specs.declared.hand.Hand.{Hand}
 use Rattle.book_core.specs.Nodes.{tree_node}
 use Rattle.book_core.specs.Stored.{slots_of}
-use Rattle.book_core.specs.Hands.{id_of, ids_of, held_at, bounds_of, bounds_below, bounds_at, IsNodeIn, IsHand, IsHandOf}
-use Rattle.book_core.specs.Keeps.{IsSound}
+use Rattle.book_core.specs.Hands.{id_of, ids_of, held_at, bounds_in, bounds_below, bounds_at, filled, IsNodeIn, IsHand, IsHandOf, IsBounding, AreNodes}
+use Rattle.std.proofs.lemmas.List.{get_or-set_same, set-set}
+use Rattle.book_core.specs.Keeps.{IsSound, AreTables}
 use Rattle.book_core.specs.Seen.{seen, IsKept}
 use Rattle.book_core.proofs.HandLemmas.{hand-known}
-use Rattle.book_core.proofs.NearLemmas.{at-any, ids-at, length-ids}
+use Rattle.book_core.proofs.HeldLemmas.{at-any, ids-at, length-ids, ids-filled, nodes-filled}
 use Rattle.book_core.proofs.NodeLemmas.{slot-node}
 
 -- the bounds below a slot's node
@@ -63,7 +64,7 @@ module _ (a : Inside) (kept : IsKept a) (b : Book) (same : seen a ≡ b) (w id :
   -- and holds the slot
   pub hand-of : (g : Hand) → held_at a.hands w ≡ Some g → IsHandOf b id g
   hand-of g e =
-      let is : IsHand a.case.instance S g = subst (λ h. IfSome h (IsHand a.case.instance S)) e (kept.nodes.hands_are w) in
+      let is : IsHand a.case.instance S g = subst (λ h. IfSome h (IsHand a.case.instance S)) e (kept.nodes.each w) in
       let own : g.id ≡ id = same-number g.id id (ap id_of (sym e) ∙ held-here) in
       subst (λ u. IsHandOf u id g) same (record { own = subst (λ k. IsNodeIn a.case.instance S k g.node) own is.own; bounds = is.bounds })
 
@@ -72,24 +73,51 @@ module _ (a : Inside) (kept : IsKept a) (b : Book) (same : seen a ≡ b) (w id :
       let of = hand-of g e in
       below-at b id a.case.instance (ap (λ (u : Book). u.case.instance) same) g.node of.own.same
 
-  -- the bounds that are lifted from it
-  pub lifted-bounds : (o : Option (List ℕ)) → o ≡ bounds_of (held_at a.hands w) → IfSome o (λ bounds. bounds ≡ bounds_at b id)
-  lifted-bounds o is = subst (λ p. IfSome p (λ bounds. bounds ≡ bounds_at b id)) (sym is) (by-hand (held_at a.hands w) refl)
+  -- the bounds of its node's children may be computed
+  pub bounding : (slot_at b id).node.depth < length b.case.instance.ships → IfSome (held_at a.hands w) (IsBounding a.case.instance)
+  bounding lacks = by-hand (held_at a.hands w) refl
     where
-      by-bounds : (below : List ℕ) → below ≡ bounds_at b id → (p : Option (List ℕ)) → IfSome p (λ bounds. bounds ≡ below) → IfSome p (λ bounds. bounds ≡ bounds_at b id)
-      by-bounds below same None h = tt
-      by-bounds below same (Some bounds) h = h ∙ same
-
-      by-hand : (h : Option Hand) → held_at a.hands w ≡ h → IfSome (bounds_of h) (λ bounds. bounds ≡ bounds_at b id)
+      by-hand : (h : Option Hand) → held_at a.hands w ≡ h → IfSome h (IsBounding a.case.instance)
       by-hand None e = tt
       by-hand (Some g) e =
-          let is : IsHand a.case.instance S g = subst (λ h. IfSome h (IsHand a.case.instance S)) e (kept.nodes.hands_are w) in
-          by-bounds (bounds_below a.case.instance g.node) (below-hand g e) g.bounds is.bounds
+          let is : IsHand a.case.instance S g = subst (λ h. IfSome h (IsHand a.case.instance S)) e (kept.nodes.each w) in
+          let depth : g.node.depth ≡ (slot_at b id).node.depth = ap (λ (n : TreeNode). n.depth) (hand-of g e).own.same in
+          let ships : length a.case.instance.ships ≡ length b.case.instance.ships = ap (λ (u : Book). length u.case.instance.ships) same in
+          record { node = is.own.node; lacks = omega (arith, lacks, depth, ships); bounds = is.bounds }
 
-  -- the bounds that may be laid into it
-  pub laid-bounds : (bounds : List ℕ) → bounds ≡ bounds_at b id → IfSome (held_at a.hands w) (λ g. bounds ≡ bounds_below a.case.instance g.node)
-  laid-bounds bounds is = by-hand (held_at a.hands w) refl
+  -- and are those of the slot then
+  pub bounds-filled : (h : Option Hand) → h ≡ filled a.case.instance (held_at a.hands w) → bounds_in h ≡ bounds_at b id
+  bounds-filled h is = ap bounds_in is ∙ by-hand (held_at a.hands w) refl
     where
-      by-hand : (h : Option Hand) → held_at a.hands w ≡ h → IfSome h (λ g. bounds ≡ bounds_below a.case.instance g.node)
-      by-hand None e = tt
-      by-hand (Some g) e = is ∙ sym (below-hand g e)
+      by-hand : (o : Option Hand) → held_at a.hands w ≡ o → bounds_in (filled a.case.instance o) ≡ bounds_at b id
+      by-hand None e = absurd (hand-some e)
+      by-hand (Some g) e = below-hand g e
+
+  -- all hands, once they are there
+  module _ (K : Instance) (K_is : K ≡ a.case.instance) (hands : List (Option Hand)) (hands_are : hands ≡ slice_set a.hands w (filled K (held_at a.hands w))) where
+    abbrev full : Option Hand
+    full = filled a.case.instance (held_at a.hands w)
+
+    are : hands ≡ slice_set a.hands w full
+    are = hands_are ∙ ap (λ J. slice_set a.hands w (filled J (held_at a.hands w))) K_is
+
+    pub tables-filled : AreTables S a.ended (ids_of hands) a.back a.waiting.items
+    tables-filled =
+        subst (λ hs. AreTables S a.ended (ids_of hs) a.back a.waiting.items) (sym are)
+        (subst (λ ids. AreTables S a.ended ids a.back a.waiting.items) (sym (ids-filled a.case.instance a.hands w full refl)) kept.tables)
+
+    pub hands-filled : AreNodes a.case.instance S hands
+    hands-filled = subst (AreNodes a.case.instance S) (sym are) (nodes-filled a.case.instance S a.hands kept.nodes w full refl)
+
+    within : w < length a.hands
+    within = let few = holder-few in omega (arith, few, kept.tables.hands_are.nine, length-ids a.hands)
+
+    read : (d : Option Hand) → slice_index_or hands w d ≡ full
+    read d = ap (λ hs. slice_index_or hs w d) are ∙ get_or-set_same a.hands w full d within
+
+    -- what an index reads of the hand
+    pub bounds-here : (d : Option Hand) → bounds_in (slice_index_or hands w d) ≡ bounds_at b id
+    bounds-here d = bounds-filled (slice_index_or hands w d) (read d)
+
+    pub hands-left : slice_set hands w None ≡ slice_set a.hands w None
+    hands-left = ap (λ hs. slice_set hs w None) are ∙ set-set a.hands w full None

@@ -29,7 +29,7 @@ use Rattle.book_core.specs.Replies.{Does, Steps}
 use Rattle.book_core.proofs.StoredLemmas.{stored-append, node-at, nodes_in}
 use Rattle.book_core.proofs.HandLemmas.{set-changes, hands-let_go, hands-same, state-known}
 use Rattle.book_core.proofs.BackLemmas.{back-kept}
-use Rattle.book_core.proofs.NearLemmas.{KeepsNodes}
+use Rattle.book_core.proofs.HeldLemmas.{KeepsNodes}
 use Rattle.book_core.proofs.WaitingLemmas.{Grows, waiting-grown}
 use Rattle.book_core.proofs.KeptLemmas.{length-slots, stored-change}
 use Rattle.book_core.proofs.SettleLemmas.{restated}

@@ -15,16 +15,15 @@ use Rattle.book_core.specs.declared.stored_slot.StoredSlot.{StoredSlot}
 use Rattle.book_core.specs.declared.waiting.Waiting.{Waiting}
 use Rattle.book_core.specs.Stored.{slots_of}
 use Rattle.book_core.specs.Tables.{state_in, AreHands, AreBack}
-use Rattle.book_core.specs.Changes.{Changes, let_go, leave_back, IsFree, IsReturned, IsNew, handed, returned}
 use Rattle.master_branch.specs.Node.{Node, IsNodeOf}
 use Rattle.book_core.specs.Nodes.{tree_node}
-use Rattle.book_core.specs.Hands.{IsNodeIn}
+use Rattle.book_core.specs.Changes.{Changes, set_state, let_go, leave_back, IsFree, IsReturned, IsNew, handed, returned}
 use Rattle.book_core.specs.Keeps.{AreTables}
 use Rattle.book_core.specs.Seen.{seen}
-use Rattle.book_core.proofs.HandLemmas.{state-known, hands-given, hands-let_go, first-held}
+use Rattle.book_core.proofs.HandLemmas.{set-changes, state-known, hands-given, hands-let_go, first-held}
 use Rattle.book_core.proofs.BackLemmas.{first-back, first-taken, fewer-back, back-kept, back-given, length-put}
 use Rattle.book_core.proofs.WaitingLemmas.{settles, waiting-kept}
-use Rattle.book_core.proofs.KeptLemmas.{length-slots, stored-change}
+use Rattle.book_core.proofs.KeptLemmas.{stored-change}
 use Rattle.book_core.proofs.SettleLemmas.{restated}
 use Rattle.search_rules.specs.declared.grounds.Ground.TheVariants as by
 
@@ -110,16 +109,22 @@ module _ (b : Book) (ended : List Bool) (hands : List (Option ℕ)) (back : List
       let few = tables.few in
       record { hands_are = tables.hands_are; back_are = tables.back_are; few = omega (arith, few, count); waiting_are = tables.waiting_are }
 
--- ---- what the fields show
+-- ---- the slot that was given
 
--- the node of a slot as the fields have it
-pub given-node : (a : Inside) (b : Book) → seen a ≡ b → (id : ℕ) → id < length a.slots.items → (node : Node) → tree_node node ≡ (slot_at b id).node → IsNodeOf b.case.instance node
-    → IsNodeIn a.case.instance (seen a).slots id node
-given-node a b same id known node is good = record {
-  known = omega (arith, known, length-slots a.case.instance a.slots.items);
-  same = is ∙ ap (λ (u : Book). (slot_at u id).node) (sym same);
-  node = subst (λ (u : Book). IsNodeOf u.case.instance node) (sym same) good;
-}
+module _ (b : Book) (id w used : ℕ) (free : IsFree b id) (new : Book) (is : new ≡ handed b id w used) where
+  change : Changes b.slots id (slot.Held w) (set_state b.slots id (slot.Held w))
+  change = set-changes b.slots id (slot.Held w) (free-known b id free)
+
+  pub given-held : is_held (slot_at new id).state ≡ true
+  given-held = ap (λ (u : Book). is_held (slot_at u id).state) is ∙ ap is_held change.here
+
+  pub given-node : (node : Node) → tree_node node ≡ (slot_at new id).node → tree_node node ≡ (slot_at b id).node
+  given-node node same = same ∙ ap (λ (u : Book). (slot_at u id).node) is ∙ ap (λ (s : Slot). s.node) (change.rest id)
+
+  pub given-good : (node : Node) → IsNodeOf new.case.instance node → IsNodeOf b.case.instance node
+  given-good node good = subst (λ (u : Book). IsNodeOf u.case.instance node) is good
+
+-- ---- what the fields show
 
 module _ (a : Inside) (b : Book) (same : seen a ≡ b) (id w : ℕ) (r : StoredSlot) (is : r ≡ slice_index_or a.slots.items id r) (known : id < length a.slots.items) (history : List Entry) where
   pub handed-is : (used : ℕ) → history ≡ a.history.items ++ entry.Take w ∷ []

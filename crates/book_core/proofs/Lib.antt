@@ -1,11 +1,12 @@
 pub mod StoredLemmas
 pub mod SoundLemmas
 pub mod HandLemmas
-pub mod NearLemmas
+pub mod HeldLemmas
 pub mod BackLemmas
 pub mod WaitingLemmas
 pub mod KeptLemmas
 pub mod NodeLemmas
+pub mod PathLemmas
 pub mod BoundingLemmas
 pub mod SettleLemmas
 pub mod CloseLemmas

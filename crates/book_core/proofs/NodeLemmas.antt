@@ -6,8 +6,6 @@ use Rattle.search_rules.specs.Book.{Book, Node as TreeNode, Slot, no_slot, slot_
 use Rattle.search_rules.specs.Family.{child_node, child_count, IsBorn, HasChildren}
 use Rattle.master_branch.specs.Node.{Node, children}
 use Rattle.book_core.specs.Keeps.{IsSound}
-use Rattle.book_core.specs.declared.stored_slot.StoredSlot.{StoredSlot}
-use Rattle.book_core.specs.Stored.{IsStoredAs}
 use Rattle.book_core.specs.Nodes.{tree_node}
 
 got-or : {X : Type 0} (xs : List X) (k : ℕ) (x d : X) → slice_get xs k ≡ Some x → slice_index_or xs k d ≡ x
@@ -54,25 +52,3 @@ child-is I old new k depth lines =
     let is : slice_index_or (children I old) k root_lines ≡ new.lines = got-or (children I old) k new.lines root_lines lines in
     let deep : new.depth ≡ suc old.depth = omega (arith, depth) in
     (λ i. record { depth = deep i; lines = sym is i })
-
--- one step from the parent's node to a slot's
-module _ (b : Book) (sound : IsSound b) (id : ℕ) (known : id < length b.slots) (some : 0 < id) (r : StoredSlot) (is : IsStoredAs r (slot_at b id)) where
-  pub up-before : r.parent < id
-  up-before = let before = parent-before b sound id known some in let parent = is.parent in omega (arith, before, parent)
-
-  module _ (node : Node) (same : tree_node node ≡ (slot_at b r.parent).node) where
-    parent-is : tree_node node ≡ (slot_at b (slot_at b id).parent).node
-    parent-is = same ∙ ap (λ p. (slot_at b p).node) (sym is.parent)
-
-    pub up-lacks : node.depth < length b.case.instance.ships
-    up-lacks = let lacks = parent-lacks b sound id known some in let depth = ap (λ (n : TreeNode). n.depth) parent-is in omega (arith, lacks, depth)
-
-    pub up-within : r.number < length (children b.case.instance node)
-    up-within =
-        let within = number-within b sound id known some in
-        let count = ap (child_count b.case.instance) parent-is in
-        let number = is.number in
-        omega (arith, within, count, number)
-
-    pub up-is : child_node b.case.instance (tree_node node) r.number ≡ (slot_at b id).node
-    up-is = (λ i. child_node b.case.instance (parent-is i) (sym is.number i)) ∙ sym (node-born b sound id known some)

@@ -16,8 +16,8 @@ no-hand zero w = refl
 no-hand (suc n) zero = refl
 no-hand (suc n) (suc w) = no-hand n w
 
-pub opening-nodes : (I : Instance) (slots : List Slot) → AreNodes I slots (replicate 9 None) None
-opening-nodes I slots = record { hands_are = empty 9; near_is = tt }
+pub opening-nodes : (I : Instance) (slots : List Slot) → AreNodes I slots (replicate 9 None)
+opening-nodes I slots = record { each = empty 9 }
   where
     empty : (n w : ℕ) → IfSome (held_at (replicate n None) w) (IsHand I slots)
     empty zero w = tt

@@ -31,7 +31,9 @@ use Rattle.book_core.specs.Hands.{ids_of, AreNodes}
 use Rattle.book_core.specs.Keeps.{IsSound, AreTables}
 use Rattle.book_core.specs.Replies.{IsJudged, Does, Steps}
 use Rattle.book_core.proofs.HandLemmas.{state-known, hands-same}
-use Rattle.book_core.proofs.NearLemmas.{KeepsNodes, nodes-kept}
+use Rattle.book_core.specs.Path.{IsPath}
+use Rattle.book_core.proofs.HeldLemmas.{KeepsNodes, nodes-kept}
+use Rattle.book_core.proofs.PathLemmas.{path-kept}
 use Rattle.book_core.proofs.WaitingLemmas.{waiting-kept}
 use Rattle.book_core.proofs.NextLemmas.{stored-any}
 use Rattle.book_core.proofs.CloseLemmas.{Out, pick-true, pick-false}
@@ -276,5 +278,11 @@ module _ (a : Inside) (b : Book) (same : seen a ≡ b) (cost : ℕ) (plan : Plan
       (tables-outdone cost S a.ended (ids_of a.hands) a.back a.waiting.items tables (is_back_in ss)
       (λ k. ap is_back (sym (stored-any a.case.instance ss k).state) ∙ ap (λ l. is_back (state_in l k)) slots-are)))
 
-  pub replaced-nodes : AreNodes a.case.instance S a.hands a.near → AreNodes a.case.instance (slots_of a.case.instance ss) a.hands a.near
-  replaced-nodes nodes = nodes-kept a.case.instance S (slots_of a.case.instance ss) (subst (KeepsNodes S) (sym slots-are) (nodes-outdone cost S)) a.hands a.near nodes
+  replaced-keeps : KeepsNodes S (slots_of a.case.instance ss)
+  replaced-keeps = subst (KeepsNodes S) (sym slots-are) (nodes-outdone cost S)
+
+  pub replaced-nodes : AreNodes a.case.instance S a.hands → AreNodes a.case.instance (slots_of a.case.instance ss) a.hands
+  replaced-nodes = nodes-kept a.case.instance S (slots_of a.case.instance ss) replaced-keeps a.hands
+
+  pub replaced-path : IsPath a.case.instance S a.path → IsPath a.case.instance (slots_of a.case.instance ss) a.path
+  replaced-path = path-kept a.case.instance S (slots_of a.case.instance ss) replaced-keeps a.path

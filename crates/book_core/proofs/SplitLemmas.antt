@@ -19,12 +19,13 @@ use Rattle.book_core.specs.Tables.{state_in}
 use Rattle.book_core.specs.Changes.{slot_in, set_state, let_go}
 use Rattle.book_core.specs.Growing.{stored_children, with_kids}
 use Rattle.book_core.specs.declared.hand.Hand.{Hand}
-use Rattle.book_core.specs.declared.hand.NearNode.{NearNode}
-use Rattle.book_core.specs.Hands.{ids_of, near_in, AreNodes}
+use Rattle.book_core.specs.Hands.{ids_of, AreNodes}
+use Rattle.book_core.specs.Path.{IsPath}
 use Rattle.book_core.specs.Keeps.{IsSound, AreTables}
 use Rattle.book_core.specs.Seen.{seen, IsKept}
 use Rattle.book_core.proofs.HandLemmas.{state-known, hand-known}
-use Rattle.book_core.proofs.NearLemmas.{KeepsNodes, nodes-kept, nodes-moved}
+use Rattle.book_core.proofs.HeldLemmas.{KeepsNodes, nodes-kept, nodes-let_go}
+use Rattle.book_core.proofs.PathLemmas.{path-kept}
 use Rattle.book_core.proofs.KeptLemmas.{length-slots, is-stored, few-slots}
 use Rattle.book_core.proofs.SettleLemmas.{restated}
 use Rattle.book_core.proofs.GrowLemmas.{grown-is, tables-grown, nodes-grown, length-kids}
@@ -132,11 +133,15 @@ module _ (a : Inside) (kept : IsKept a) (b : Book) (same : seen a ≡ b) (id : �
           (subst (λ l. AreTables l a.ended (let_go (slot.Held holder.0) (ids_of a.hands)) a.back (a.waiting.items ++ record { split = id; first = n; end = end } ∷ [])) (sym (ap (slots_of a.case.instance) slots_are ∙ kids-is))
           (tables-grown (seen a) kept.sound id holder.0 holder.1 a.ended (ids_of a.hands) a.back a.waiting.items kept.tables (record { split = id; first = n; end = end }) entry_is)))
 
-      -- the hand's node is the near one
-      pub split-nodes : (slots : List StoredSlot) → slots ≡ new_slots → (s : SlotState) (hands : List (Option Hand)) → hands ≡ let_go s a.hands → (near : Option NearNode) → near ≡ near_in s a.hands
-          → AreNodes a.case.instance (slots_of a.case.instance slots) hands near
-      split-nodes slots slots_are s hands hands_are near near_is =
+      -- the slots keep their nodes
+      split-keeps : (slots : List StoredSlot) → slots ≡ new_slots → KeepsNodes S (slots_of a.case.instance slots)
+      split-keeps slots slots_are = subst (KeepsNodes S) (sym (ap (slots_of a.case.instance) slots_are ∙ kids-is)) (nodes-grown (seen a) kept.sound id holder.0 holder.1)
+
+      pub split-nodes : (slots : List StoredSlot) → slots ≡ new_slots → (s : SlotState) (hands : List (Option Hand)) → hands ≡ let_go s a.hands → AreNodes a.case.instance (slots_of a.case.instance slots) hands
+      split-nodes slots slots_are s hands hands_are =
           let I = a.case.instance in
-          let keeps : KeepsNodes S (slots_of I slots) = subst (KeepsNodes S) (sym (ap (slots_of I) slots_are ∙ kids-is)) (nodes-grown (seen a) kept.sound id holder.0 holder.1) in
-          let moved = nodes-kept I S (slots_of I slots) keeps (let_go s a.hands) (near_in s a.hands) (nodes-moved I S a.hands a.near kept.nodes s) in
-          subst (λ h. AreNodes I (slots_of I slots) h near) (sym hands_are) (subst (AreNodes I (slots_of I slots) (let_go s a.hands)) (sym near_is) moved)
+          let left = nodes-kept I S (slots_of I slots) (split-keeps slots slots_are) (let_go s a.hands) (nodes-let_go I S a.hands kept.nodes s) in
+          subst (AreNodes I (slots_of I slots)) (sym hands_are) left
+
+      pub split-path : (slots : List StoredSlot) → slots ≡ new_slots → IsPath a.case.instance (slots_of a.case.instance slots) a.path
+      split-path slots slots_are = path-kept a.case.instance S (slots_of a.case.instance slots) (split-keeps slots slots_are) a.path kept.path

@@ -1,4 +1,4 @@
--- The slots that workers hold, with their nodes, and the near node.
+-- The slots that workers hold, with their nodes.
 use Rattle.std.specs.Prelude.{ℕ, ◌≡◌, ◌+◌, ◌<◌, List, [], ◌∷◌, length, map, slice_index_or, Some, None, IfSome}
 use Rattle.std.specs.declared.option.Option.{Option}
 use Rattle.lock_model.specs.declared.instance.Instance.{Instance}
@@ -7,10 +7,7 @@ use Rattle.lock_rules.specs.Bound.{bound_of}
 use Rattle.lock_rules.specs.Children.{children_of}
 use Rattle.master_branch.specs.Node.{Node, IsNodeOf, children}
 use Rattle.search_rules.specs.Book.{Book, Slot, no_slot, slot_at}
-use Rattle.search_rules.specs.declared.book.SlotState.{SlotState}
-use Rattle.search_rules.specs.declared.book.SlotState.TheVariants as slot
 use Rattle.book_core.specs.declared.hand.Hand.{Hand}
-use Rattle.book_core.specs.declared.hand.NearNode.{NearNode}
 use Rattle.book_core.specs.Nodes.{tree_node}
 
 -- the slot in a hand, and those in hands
@@ -25,32 +22,32 @@ ids_of (h ∷ hs) = id_of h ∷ ids_of hs
 abbrev pub held_at : List (Option Hand) → ℕ → Option Hand
 held_at hands w = slice_index_or hands w None
 
--- the slot and its node
-abbrev pub near_of : Option Hand → Option NearNode
-near_of None = None
-near_of (Some h) = Some (record { id = h.id; node = h.node })
-
--- those of the hand that holds a slot in this state
-abbrev pub near_in : SlotState → List (Option Hand) → Option NearNode
-near_in (slot.Held w) hands = near_of (held_at hands w)
-near_in _ hands = None
-
--- the bounds in a hand, the hand without them, and with these
-abbrev pub bounds_of : Option Hand → Option (List ℕ)
-bounds_of None = None
-bounds_of (Some h) = h.bounds
-
-abbrev pub without_bounds : Option Hand → Option Hand
-without_bounds None = None
-without_bounds (Some h) = Some (record h { bounds = None })
-
-abbrev pub with_bounds : List ℕ → Option Hand → Option Hand
-with_bounds bounds None = None
-with_bounds bounds (Some h) = Some (record h { bounds = Some bounds })
-
 -- the bounds of a node's children, in order
 abbrev pub bounds_below : Instance → Node → List ℕ
 bounds_below I node = map (bound_of I (node.depth + 1)) (children I node)
+
+-- the bounds in a hand; none where they aren't there
+abbrev pub or_none : Option (List ℕ) → List ℕ
+or_none None = []
+or_none (Some bounds) = bounds
+
+abbrev pub bounds_in : Option Hand → List ℕ
+bounds_in None = []
+bounds_in (Some h) = or_none h.bounds
+
+-- the hand with those of its node's children
+abbrev pub with_bounds : Instance → Hand → Hand
+with_bounds I h = record h { bounds = Some (bounds_below I h.node) }
+
+abbrev pub filled : Instance → Option Hand → Option Hand
+filled I None = None
+filled I (Some h) = Some (with_bounds I h)
+
+-- the hand has a node that lacks a ship, and the bounds in it are those of the node's children
+pub record IsBounding (I : Instance) (hand : Hand) : Type 0 where
+  pub node : IsNodeOf I hand.node
+  pub lacks : hand.node.depth < length I.ships
+  pub bounds : IfSome hand.bounds (λ bounds. bounds ≡ bounds_below I hand.node)
 
 -- the node is that of slot id
 pub record IsNodeIn (I : Instance) (slots : List Slot) (id : ℕ) (n : Node) : Type 0 where
@@ -63,10 +60,9 @@ pub record IsHand (I : Instance) (slots : List Slot) (hand : Hand) : Type 0 wher
   pub own : IsNodeIn I slots hand.id hand.node
   pub bounds : IfSome hand.bounds (λ bounds. bounds ≡ bounds_below I hand.node)
 
--- the same of all hands; and the near node is that of its slot
-pub record AreNodes (I : Instance) (slots : List Slot) (hands : List (Option Hand)) (near : Option NearNode) : Type 0 where
-  pub hands_are : (w : ℕ) → IfSome (held_at hands w) (IsHand I slots)
-  pub near_is : IfSome near (λ n. IsNodeIn I slots n.id n.node)
+-- the same of all hands
+pub record AreNodes (I : Instance) (slots : List Slot) (hands : List (Option Hand)) : Type 0 where
+  pub each : (w : ℕ) → IfSome (held_at hands w) (IsHand I slots)
 
 -- the bounds of the children of the node of slot id
 abbrev pub bounds_at : Book → ℕ → List ℕ

@@ -11,6 +11,7 @@ pub mod Hitting
 pub mod Next
 pub mod Parking
 pub mod Growing
+pub mod Path
 pub mod Outdone
 pub mod Summing
 pub mod Laws

@@ -5,6 +5,7 @@ use Rattle.book_core.specs.declared.book.Book.TheInside.{Inside}
 use Rattle.flow_bounds.specs.Roster.{IsRosterOf}
 use Rattle.book_core.specs.Stored.{slots_of}
 use Rattle.book_core.specs.Hands.{ids_of, AreNodes}
+use Rattle.book_core.specs.Path.{IsPath}
 use Rattle.book_core.specs.Keeps.{IsSound, AreTables, AreCosts, HasRoom}
 
 abbrev pub seen : Inside → Told
@@ -24,7 +25,8 @@ seen a = record {
 pub record IsKept (a : Inside) : Type 0 where
   pub sound : IsSound (seen a)
   pub tables : AreTables (slots_of a.case.instance a.slots.items) a.ended (ids_of a.hands) a.back a.waiting.items
-  pub nodes : AreNodes a.case.instance (slots_of a.case.instance a.slots.items) a.hands a.near
+  pub nodes : AreNodes a.case.instance (slots_of a.case.instance a.slots.items) a.hands
+  pub path : IsPath a.case.instance (slots_of a.case.instance a.slots.items) a.path
   pub roster_is : IsRosterOf a.case.instance a.roster
   pub costs : AreCosts (seen a) a.best_cost a.opening_cost a.throughput
   pub room : HasRoom a.case.nodes (length a.cuts.items) (length a.plans.items) (vec_capacity a.history)

@@ -7,7 +7,8 @@ ghost use Rattle.search_rules.specs.Cheap.{opening_cost};
 
 use crate::back_list::BackList;
 use crate::case::Case;
-use crate::hand::{Hand, NearNode};
+use crate::hand::Hand;
+use crate::path::Path;
 use crate::stored_slot::StoredSlot;
 use crate::waiting::Waiting;
 use flow_bounds::Roster;
@@ -36,7 +37,7 @@ pub struct Book {
     pub(crate) ended: [bool; 9],
     pub(crate) history: Vec<Entry>,
     pub(crate) hands: [Option<Hand>; 9],
-    pub(crate) near: Option<NearNode>,
+    pub(crate) path: Path,
     pub(crate) back: BackList,
     pub(crate) waiting: Vec<Waiting>,
 }

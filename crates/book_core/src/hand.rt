@@ -1,8 +1,11 @@
 //! A slot that a worker holds, with what is known of its node.
-ghost use Rattle.std.specs.Prelude.{◌≡◌};
-ghost use Rattle.book_core.specs.Hands.{id_of, near_of, bounds_of, without_bounds, with_bounds};
+ghost use Rattle.std.specs.Prelude.{◌≡◌, ◌≤◌, length, IfSome};
+ghost use Rattle.flow_bounds.specs.Roster.{IsRosterOf};
+ghost use Rattle.lock_rules.specs.Bound.{least_number};
+ghost use Rattle.book_core.specs.Hands.{IsBounding, id_of, bounds_in, filled, with_bounds};
 
-use flow_bounds::Bounds;
+use flow_bounds::{Bounds, Roster, child_bounds};
+use lock_model::Instance;
 use master_branch::Node;
 
 // A held slot, its node, and the bounds of the node's children once they were computed.
@@ -11,13 +14,6 @@ pub(crate) struct Hand {
     pub(crate) id: u32,
     pub(crate) node: Node,
     pub(crate) bounds: Option<Bounds>,
-}
-
-// A slot and its node.
-#[derive(Debug, Drop)]
-pub(crate) struct NearNode {
-    pub(crate) id: u32,
-    pub(crate) node: Node,
 }
 
 // The slot in a hand.
@@ -30,37 +26,54 @@ pub(crate) fn id_of(hand: &Option<Hand>) -> Option<u32>
     }
 }
 
-// Takes the slot and its node out of a hand.
-pub(crate) fn put_down(hand: &mut Option<Hand>) -> Option<NearNode>
-    ensures node { result ≡ near_of hand.old }
-    ensures empty { hand.new ≡ None }
-{
-    match hand.take() {
-        Some(hand) => Some(NearNode {
-            id: hand.id,
-            node: hand.node,
-        }),
-        None => None,
+impl Hand {
+    // Computes the bounds of the children of its node, unless they are there.
+    fn fill(&mut self, instance: &Instance, roster: &Roster)
+        requires roster { IsRosterOf instance.now roster.now }
+        requires hand { IsBounding instance.now self.old }
+        ensures { self.new ≡ with_bounds instance.now self.old }
+    {
+        if self.bounds.is_none() {
+            self.bounds = Some(child_bounds(instance, roster, &self.node));
+        }
     }
 }
 
-// Takes the bounds out of a hand.
-pub(crate) fn lift_bounds(hand: &mut Option<Hand>) -> Option<Bounds>
-    ensures bounds { result ≡ bounds_of hand.old }
-    ensures rest { hand.new ≡ without_bounds hand.old }
+// The same where there is a hand.
+pub(crate) fn fill(hand: &mut Option<Hand>, instance: &Instance, roster: &Roster)
+    requires roster { IsRosterOf instance.now roster.now }
+    requires hand { IfSome hand.old (IsBounding instance.now) }
+    ensures { hand.new ≡ filled instance.now hand.old }
 {
     match hand {
-        Some(hand) => hand.bounds.take(),
-        None => None,
-    }
-}
-
-// Puts bounds into a hand that holds a slot.
-pub(crate) fn lay_bounds(hand: &mut Option<Hand>, bounds: Bounds)
-    ensures { hand.new ≡ with_bounds bounds hand.old }
-{
-    match hand {
-        Some(hand) => hand.bounds = Some(bounds),
+        Some(hand) => hand.fill(instance, roster),
         None => {}
+    }
+}
+
+// The bounds in a hand; none where they aren't there.
+pub(crate) fn bounds_in(hand: &Option<Hand>) -> &[u64]
+    ensures bounds { result.now ≡ bounds_in hand.now }
+    ensures few { length result.now ≤ 50 }
+{
+    match hand {
+        Some(hand) => match &hand.bounds {
+            Some(bounds) => bounds.as_slice(),
+            None => &[],
+        },
+        None => &[],
+    }
+}
+
+// The least of the bounds in a hand; 0 where they aren't there.
+pub(crate) fn least_in(hand: &Option<Hand>) -> u64
+    ensures { result ≡ least_number (bounds_in hand.now) }
+{
+    match hand {
+        Some(hand) => match &hand.bounds {
+            Some(bounds) => bounds.least(),
+            None => 0,
+        },
+        None => 0,
     }
 }

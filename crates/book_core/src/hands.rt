@@ -1,11 +1,14 @@
 //! Which slot each worker holds.
-ghost use Rattle.std.specs.Prelude.{◌≡◌, ◌<◌, ◌≢◌, [], ℕ};
+ghost use Rattle.std.specs.Prelude.{◌≡◌, ◌<◌, ◌≤◌, ◌≢◌, [], ℕ, IfSome, slice_set};
 ghost use Rattle.search_rules.specs.declared.book.SlotState.TheVariants as slot;
+ghost use Rattle.flow_bounds.specs.Roster.{IsRosterOf};
+ghost use Rattle.book_core.specs.Hands.{IsBounding, filled, held_at};
 ghost use Rattle.book_core.specs.Changes.{let_go, leave_back};
-ghost use Rattle.book_core.specs.Hands.{near_in};
 
 use crate::back_list::BackList;
-use crate::hand::{Hand, NearNode, put_down};
+use crate::hand::{Hand, fill};
+use flow_bounds::Roster;
+use lock_model::Instance;
 use search_rules::SlotState;
 
 // A slot in this state leaves the hand of the worker who holds it, if one does.
@@ -19,16 +22,19 @@ pub(crate) fn let_go(hands: &mut [Option<Hand>; 9], state: SlotState)
     }
 }
 
-// The same, where the slot and its node are wanted.
-pub(crate) fn take_from(hands: &mut [Option<Hand>; 9], state: SlotState) -> Option<NearNode>
-    requires { (w : ℕ) → state ≡ slot.Held w → w < 9 }
-    ensures node { result ≡ near_in state hands.old }
-    ensures hands { hands.new ≡ let_go state hands.old }
+// Computes the bounds of the children of the node in a worker's hand, unless they are there.
+pub(crate) fn fill_hand(
+    hands: &mut [Option<Hand>; 9],
+    worker: u8,
+    instance: &Instance,
+    roster: &Roster,
+)
+    requires worker { worker ≤ 8 }
+    requires roster { IsRosterOf instance.now roster.now }
+    requires hand { IfSome (held_at hands.old worker) (IsBounding instance.now) }
+    ensures { hands.new ≡ slice_set hands.old worker (filled instance.now (held_at hands.old worker)) }
 {
-    match state {
-        SlotState::Held(worker) => put_down(&mut hands[worker as usize]),
-        _ => None,
-    }
+    fill(&mut hands[worker as usize], instance, roster);
 }
 
 // The first slot of the list, which is in this state, leaves the list if it is Back.

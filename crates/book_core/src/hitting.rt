@@ -2,6 +2,8 @@
 ghost use Rattle.std.specs.Prelude.{◌≡◌, ◌<◌, ◌↔◌, length, All, slice_get, IsTrue};
 ghost use Rattle.lock_rules.specs.Cut.{Hits, HitsNode};
 ghost use Rattle.master_branch.specs.Node.{IsNodeOf};
+ghost use Rattle.search_rules.specs.Book.{slot_at};
+ghost use Rattle.book_core.specs.Nodes.{tree_node};
 ghost use Rattle.search_rules.specs.Step.{hits_in};
 ghost use Rattle.book_core.specs.Hitting.{HitsLine};
 
@@ -38,14 +40,36 @@ pub(crate) fn hits_node(instance: &Instance, cut: &Cut, node: &Node) -> bool
 }
 
 impl Book {
+    // Whether the cut of this number hits a group of a slot's node, which is given.
+    fn hits_in(&self, id: u32, node: &Node, number: u64) -> bool
+        requires value { tree_node node.now ≡ (slot_at self.now id).node }
+        requires node { IsNodeOf self.now.case.instance node.now }
+        ensures { result ≡ hits_in self.now id (slice_get self.now.cuts number) }
+    {
+        let _ = id;
+        match self.cut(number) {
+            Some(cut) => hits_node(self.instance(), cut, node),
+            None => false,
+        }
+    }
+
+    // The same of a slot that no worker holds, whose node is made first.
+    fn hits_made(&self, id: u32, number: u64) -> bool
+        requires { id < length self.now.slots }
+        ensures { result ≡ hits_in self.now id (slice_get self.now.cuts number) }
+    {
+        self.hits_in(id, &self.node_of(id), number)
+    }
+
     // Whether the cut of this number hits a group of the slot's node.
     pub(crate) fn hits(&self, id: u32, number: u64) -> bool
         requires { id < length self.now.slots }
         ensures { result ≡ hits_in self.now id (slice_get self.now.cuts number) }
     {
-        match self.cut(number) {
-            Some(cut) => hits_node(self.instance(), cut, &self.node_at(id)),
-            None => false,
+        if self.is_held(id) {
+            self.hits_in(id, self.held_node(id), number)
+        } else {
+            self.hits_made(id, number)
         }
     }
 }

@@ -18,15 +18,16 @@
 //!   `waiting` when `take` meets it: one `take` may look at several splits, but all of them together
 //!   look at no more splits than there are takes and splits.
 //! - Nodes aren't stored with the slots. A hand has its slot's node, and the bounds of the node's
-//!   children from the first probe of the ship that the node lacks first until the split. `near`
-//!   keeps one node more: that of the slot that was split last, or of the parent of the slot that
-//!   was taken last. Other nodes are made from the near one or from the root, step by step.
-//!   `bounding` has the probes and the bounds.
+//!   children from the first probe of the ship that the node lacks first until the split. `path` has
+//!   the slots on the way from the root to the slot that was taken last, with their nodes: `take`
+//!   cuts it off where the way to the new slot leaves it, and makes the nodes from there on, which is
+//!   one in a depth-first search. The node of a slot that no worker holds is made from the root's
+//!   (`nodes`). `bounding` has the probes and the bounds.
 //!
 //! Definitions: `search_rules` has the machine (`specs/Book`, `Events`, `Step`), the replay, the
 //! cover and the counts. Here `specs/Replies` says what it is that a method is a step, `Keeps` what
-//! every book keeps, `Stored` which slots the stored ones are, `Tables`, `Hands` and `Next` what the
-//! tables and the kept nodes say, `Laws` the law.
+//! every book keeps, `Stored` which slots the stored ones are, `Tables`, `Hands`, `Path` and `Next`
+//! what the tables and the kept nodes say, `Laws` the law.
 #![tactic(auto)]
 
 mod back_list;
@@ -42,9 +43,10 @@ mod hands;
 mod hitting;
 mod laws;
 mod moves;
-mod near;
+mod nodes;
 mod opening;
 mod parking;
+mod path;
 mod posting;
 mod releasing;
 mod replacing;

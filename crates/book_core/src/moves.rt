@@ -1,16 +1,13 @@
 //! What events change of a book.
 ghost use Rattle.std.specs.Prelude.{◌≡◌, ◌≤◌, true, false, slice_index_or, Some, None};
-ghost use Rattle.master_branch.specs.Node.{IsNodeOf};
-ghost use Rattle.search_rules.specs.Book.{slot_at, first_slot, is_held_by};
+ghost use Rattle.search_rules.specs.Book.{first_slot, is_held_by};
 ghost use Rattle.search_rules.specs.Step.{may_close, noted, with_state};
 ghost use Rattle.book_core.specs.Changes.{IsSettled, IsFree, handed, returned, finished};
 ghost use Rattle.book_core.specs.Keeps.{IsSound};
-ghost use Rattle.book_core.specs.Nodes.{tree_node};
 
 use crate::book::Book;
 use crate::hand::Hand;
 use crate::hands::{leave_back, let_go};
-use master_branch::Node;
 use search_rules::{Entry, SlotState};
 
 impl Book {
@@ -27,19 +24,20 @@ impl Book {
     }
 
     // An open slot goes to a worker who holds none, with its node.
-    pub(crate) fn give(&mut self, id: u32, worker: u8, used: u32, node: Node)
+    pub(crate) fn give(&mut self, id: u32, worker: u8, used: u32)
         requires known { worker ≤ 8 }
         requires empty { first_slot self.old (is_held_by worker) ≡ None }
         requires open { IsFree self.old id }
-        requires same { tree_node node ≡ (slot_at self.old id).node }
-        requires node { IsNodeOf self.old.case.instance node }
         requires sound { IsSound (handed self.old id worker used) }
         ensures { self.new ≡ handed self.old id worker used }
     {
         leave_back(&mut self.back, self.slots[id as usize].state);
+        let case = &self.case;
+        self.path
+            .lead_to(&case.instance, &self.roster, self.slots.as_slice(), id);
         self.hands[worker as usize] = Some(Hand {
             id,
-            node,
+            node: self.path.last().copy(),
             bounds: None,
         });
         self.slots[id as usize].state = SlotState::Held(worker);

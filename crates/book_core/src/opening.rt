@@ -7,6 +7,7 @@ ghost use Rattle.book_core.specs.Growing.{stored_root};
 use crate::back_list::BackList;
 use crate::book::Book;
 use crate::case::Case;
+use crate::path::Path;
 use crate::splitting::stored_child;
 use crate::stored_slot::StoredSlot;
 use chamber_times::cost;
@@ -34,13 +35,14 @@ pub(crate) fn cost_of_legal(instance: &Instance, plan: &Plan) -> u64
 
 /// The book of a case and a legal plan, with the root alone: it is closed by its bound where that is
 /// at least the plan's cost, else fresh. Takes the room of the history, 3 entries for each node of
-/// the budget and 32 more. Refuses want of memory alone.
+/// the budget and 32 more, and the room of a path. Refuses want of memory alone.
 pub fn open_book(alloc: Global, case: &Case, plan: Plan) -> Result<Book, NoMemory>
     requires { IsLegal case.now.instance plan }
     ensures { IfOk result (λ book. book ≡ opening_book case.now plan) }
 {
     let mut slots = Vec::with_capacity(alloc, 1)?;
     let history = Vec::with_capacity(alloc, 3 * case.nodes as usize + 32)?;
+    let path = Path::with_room(alloc)?;
     let best_cost = cost_of_legal(&case.instance, &plan);
     slots.push_reserved(stored_root(&case.instance, best_cost));
     Ok(Book {
@@ -58,7 +60,7 @@ pub fn open_book(alloc: Global, case: &Case, plan: Plan) -> Result<Book, NoMemor
         ended: [false; 9],
         history,
         hands: [None, None, None, None, None, None, None, None, None],
-        near: None,
+        path,
         back: BackList::new(),
         waiting: Vec::new(alloc),
     })

@@ -1,6 +1,7 @@
 //! The event that parks a slot.
-ghost use Rattle.std.specs.Prelude.{◌≡◌, ◌<◌, length};
+ghost use Rattle.std.specs.Prelude.{◌≡◌, true};
 ghost use Rattle.refute_rules.specs.Spots.{IsSpotHard};
+ghost use Rattle.search_rules.specs.Book.{slot_at, is_held};
 ghost use Rattle.search_rules.specs.Events.{park};
 ghost use Rattle.book_core.specs.Parking.{names_lent};
 ghost use Rattle.book_core.specs.Replies.{Answers};
@@ -13,13 +14,13 @@ use place_refute::Hard;
 use search_rules::{Entry, SlotState};
 
 impl Book {
-    // Whether the deck of the named group of the slot's node is the lent value's, and its turns are
+    // Whether the deck of the named group of a held slot's node is the lent value's, and its turns are
     // at least the case's.
     fn names_lent(&self, id: u32, chamber: u8, place: u8, hard: &Hard) -> bool
-        requires { id < length self.now.slots }
+        requires { is_held (slot_at self.now id).state ≡ true }
         ensures { result ≡ names_lent self.now id chamber place hard.now.deck hard.now.turns }
     {
-        let node = self.node_at(id);
+        let node = self.held_node(id);
         if chamber as usize >= self.instance().chambers.as_slice().len() {
             return false;
         }

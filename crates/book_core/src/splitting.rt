@@ -1,18 +1,19 @@
 //! The event that splits a slot into its children.
-ghost use Rattle.std.specs.Prelude.{◌≡◌, ◌+◌, ◌≤◌, ◌<◌, ◌++◌, true, length, nat_le, IfOk, IfErr, vec_len, vec_capacity};
+ghost use Rattle.std.specs.Prelude.{◌≡◌, ◌+◌, ◌≤◌, ◌<◌, ◌++◌, true, false, length, nat_le, IfOk, IfErr, IfSome, IfNone, vec_len, vec_capacity};
 ghost use Rattle.search_rules.specs.Book.{slot_at, is_held};
+ghost use Rattle.search_rules.specs.declared.book.SlotState.TheVariants as slot;
 ghost use Rattle.search_rules.specs.Events.{split};
 ghost use Rattle.book_core.specs.Growing.{stored_child, stored_children, with_kids};
-ghost use Rattle.book_core.specs.Hands.{bounds_at};
+ghost use Rattle.book_core.specs.Hands.{bounds_at, bounds_in, held_at};
 ghost use Rattle.book_core.specs.Keeps.{IsSound};
 ghost use Rattle.book_core.specs.Replies.{Does};
 
 use crate::book::Book;
-use crate::hands::take_from;
+use crate::hand::{Hand, bounds_in};
+use crate::hands::fill_hand;
 use crate::reply::Reply;
 use crate::stored_slot::StoredSlot;
 use crate::waiting::Waiting;
-use flow_bounds::Bounds;
 use plain_text::NoMemory;
 use search_rules::{Entry, Ground, SlotState};
 
@@ -44,6 +45,21 @@ fn push_children(slots: &mut Vec<StoredSlot>, parent: u32, bounds: &[u64], cost:
     }
 }
 
+// Appends those of the children whose bounds are in a worker's hand.
+fn push_held(
+    slots: &mut Vec<StoredSlot>,
+    parent: u32,
+    hands: &[Option<Hand>; 9],
+    worker: u8,
+    cost: u64,
+)
+    requires worker { worker ≤ 8 }
+    requires room { vec_len slots.old + length (bounds_in (held_at hands.now worker)) ≤ vec_capacity slots.old }
+    ensures { slots.new.items ≡ slots.old.items ++ stored_children cost parent 0 (bounds_in (held_at hands.now worker)) }
+{
+    push_children(slots, parent, bounds_in(&hands[worker as usize]), cost);
+}
+
 // Room for so many slots, and for one more split.
 fn make_space(
     slots: &mut Vec<StoredSlot>,
@@ -61,55 +77,66 @@ fn make_space(
 }
 
 impl Book {
-    // A held slot is split into children with these bounds.
-    fn grow(&mut self, id: u32, bounds: &[u64]) -> Result<(), NoMemory>
-        requires held { is_held (slot_at self.old id).state ≡ true }
-        requires few { length bounds.now ≤ 50 }
-        requires bounds { bounds.now ≡ bounds_at self.old id }
+    // The slot that this worker holds is split into its node's children; tells how many. Their
+    // bounds are those in the hand, from which the slot goes then.
+    fn grow(&mut self, id: u32, worker: u8) -> Result<u32, NoMemory>
+        requires held { (slot_at self.old id).state ≡ slot.Held worker }
+        requires lacks { (slot_at self.old id).node.depth < length self.old.case.instance.ships }
         requires sound { IsSound (with_kids self.old id) }
         ensures some { IfOk result (λ _. self.new ≡ with_kids self.old id) }
+        ensures count { IfOk result (λ count. count ≡ length (bounds_at self.old id)) }
         ensures none { IfErr result (λ _. self.new ≡ self.old) }
     {
-        make_space(&mut self.slots, bounds.len(), &mut self.waiting)?;
+        let case = &self.case;
+        fill_hand(&mut self.hands, worker, &case.instance, &self.roster);
+        let count = bounds_in(&self.hands[worker as usize]).len();
+        make_space(&mut self.slots, count, &mut self.waiting)?;
         let first = self.slots.len() as u32;
-        let end = first + bounds.len() as u32;
-        self.near = take_from(&mut self.hands, self.slots[id as usize].state);
         self.slots[id as usize].state = SlotState::Split(first);
-        push_children(&mut self.slots, id, bounds, self.best_cost);
+        push_held(&mut self.slots, id, &self.hands, worker, self.best_cost);
+        self.hands[worker as usize] = None;
         self.waiting.push_reserved(Waiting {
             split: id,
             first,
-            end,
+            end: first + count as u32,
         });
         self.history.push_reserved(Entry::Split(id));
-        Ok(())
+        Ok(count as u32)
     }
 
-    // Splits a held slot, whose node lacks a ship, into children with these bounds.
-    fn split_into(&mut self, id: u32, bounds: &Bounds) -> Reply
-        requires held { is_held (slot_at self.old id).state ≡ true }
-        requires lacks { (slot_at self.old id).node.depth < length self.old.case.instance.ships }
-        requires bounds { bounds.now ≡ bounds_at self.old id }
-        requires sound { IsSound self.old }
-        ensures { Does self.old (split id) result self.new }
+    // The worker who holds a slot; None exactly where no worker does.
+    fn holder(&self, id: u32) -> Option<u8>
+        ensures some { IfSome result (λ worker. (slot_at self.now id).state ≡ slot.Held worker) }
+        ensures none { IfNone result (is_held (slot_at self.now id).state ≡ false) }
     {
-        let count = bounds.as_slice().len() as u32;
-        match self.grow(id, bounds.as_slice()) {
-            Ok(()) => Reply::Made(count),
-            Err(NoMemory) => Reply::NoMemory,
+        match self.state_of(id) {
+            SlotState::Held(worker) => Some(worker),
+            _ => None,
         }
     }
 
-    // Whether the node of a slot holds all ships.
+    // Whether the node of a held slot holds all ships.
     fn is_whole(&self, id: u32) -> bool
-        requires { id < length self.now.slots }
+        requires { is_held (slot_at self.now id).state ≡ true }
         ensures { result ≡ nat_le (length self.now.case.instance.ships) (slot_at self.now id).node.depth }
     {
-        let depth = match self.hand_of(id) {
-            Some(hand) => hand.node.depth(),
-            None => self.node_of(id).depth(),
-        };
+        let depth = self.held_node(id).depth();
         self.instance().ships.as_slice().len() <= depth as usize
+    }
+
+    // Splits the slot that this worker holds.
+    fn split_held(&mut self, id: u32, worker: u8) -> Reply
+        requires held { (slot_at self.old id).state ≡ slot.Held worker }
+        requires sound { IsSound self.old }
+        ensures { Does self.old (split id) result self.new }
+    {
+        if self.is_whole(id) {
+            return Reply::Whole(id);
+        }
+        match self.grow(id, worker) {
+            Ok(count) => Reply::Made(count),
+            Err(NoMemory) => Reply::NoMemory,
+        }
     }
 
     /// Splits a held slot, whose node lacks a ship: its children are appended in order, those closed
@@ -118,13 +145,10 @@ impl Book {
     pub fn split(&mut self, id: u32) -> Reply
         ensures { Does self.old (split id) result self.new }
     {
-        if !self.is_held(id) {
-            return Reply::NotHeld(id);
+        self.keeps();
+        match self.holder(id) {
+            Some(worker) => self.split_held(id, worker),
+            None => Reply::NotHeld(id),
         }
-        if self.is_whole(id) {
-            return Reply::Whole(id);
-        }
-        let bounds = self.take_bounds(id);
-        self.split_into(id, &bounds)
     }
 }

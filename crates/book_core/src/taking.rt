@@ -24,9 +24,8 @@ impl Book {
         ensures node { HasNode self.old.case.instance result }
     {
         let used = self.used();
-        let node = self.node_of(id);
-        self.give(id, worker, used, node.copy());
-        Reply::Node(id, node)
+        self.give(id, worker, used);
+        Reply::Node(id, self.held_node(id).copy())
     }
 
     // Gives a fresh slot, the next, to a worker, unless the budget is spent.
@@ -44,9 +43,8 @@ impl Book {
         if used == self.nodes() {
             return Reply::NodesSpent(used);
         }
-        let node = self.node_of(id);
-        self.give(id, worker, used + 1, node.copy());
-        Reply::Node(id, node)
+        self.give(id, worker, used + 1);
+        Reply::Node(id, self.held_node(id).copy())
     }
 
     // Nothing is open.
@@ -76,14 +74,10 @@ impl Book {
         ensures node { HasNode self.old.case.instance result }
     {
         if let Some(id) = self.first_back() {
-            self.come_near(id);
             return self.take_back(worker, id);
         }
         match self.next_fresh() {
-            Some(id) => {
-                self.come_near(id);
-                self.take_fresh(worker, id)
-            }
+            Some(id) => self.take_fresh(worker, id),
             None => self.take_none(worker),
         }
     }

@@ -8,6 +8,7 @@ use Rattle.book_core.specs.Growing.{stored_root}
 use Rattle.book_core.specs.Keeps.{IsSound, AreTables}
 use Rattle.book_core.specs.Stored.{slots_of}
 use Rattle.book_core.proofs.SoundLemmas.{opening-sound}
+use Rattle.book_core.proofs.PathLemmas.{path-new}
 use Rattle.book_core.proofs.OpeningLemmas.{opening-tables, opening-nodes}
 use Rattle.book_core.proofs.opening.open_book.Goals as goal
 
@@ -52,6 +53,7 @@ invariant_of-result c =
           (subst (AreTables (slots_of c.copy.result.instance c.push_reserved.new.self.items) (replicate 9 false) (replicate 9 None) []) (sym c.new-4.ensures.items)
           (subst (λ l. AreTables l (replicate 9 false) (replicate 9 None) [] []) (sym slots) (opening-tables first (nat_le (cost_of case.instance plan) (bound_at case.instance root)) refl)));
       nodes = opening-nodes c.copy.result.instance (slots_of c.copy.result.instance c.push_reserved.new.self.items);
+      path = path-new c.copy.result.instance (slots_of c.copy.result.instance c.push_reserved.new.self.items) c.in_ok-path.path c.in_ok-path.ensures.nodes c.in_ok-path.ensures.room;
       roster_is = subst (λ I. IsRosterOf I c.of.result) (ap (λ (k : Case). k.instance) (c.case.view_is ∙ sym c.copy.ensures)) c.of.ensures;
       costs = record {
         best_is = cost_is ∙ ap (λ (k : Case). cost_of k.instance plan) (sym c.copy.ensures);

@@ -19,6 +19,7 @@ invariant_of-self c =
       sound = subst IsSound (sym same) c.requires.sound;
       tables = tables-ended (seen a) a.ended (ids_of a.hands) a.back a.waiting.items old.tables (slots_of a.case.instance a.slots.items) 0 c.args.worker (omega (arith, c.requires.known, old.sound.parts.workers.nine)) running;
       nodes = old.nodes;
+      path = old.path;
       roster_is = old.roster_is;
       costs = record { best_is = old.costs.best_is; opening_is = old.costs.opening_is; throughput_is = old.costs.throughput_is };
       room = record { enough = omega (arith, old.room.enough, c.push_reserved.ensures.capacity) };

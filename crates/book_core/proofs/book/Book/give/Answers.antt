@@ -1,5 +1,5 @@
-use Rattle.std.proofs.Common.{sym, ap, ◌∙◌, subst, arith, slice_set, Some, None}
-use Rattle.search_rules.specs.Book.{first_slot, is_held_by}
+use Rattle.std.proofs.Common.{length, sym, ap, ◌∙◌, subst, arith, slice_set, Some, None}
+use Rattle.search_rules.specs.Book.{Case, first_slot, is_held_by}
 use Rattle.search_rules.specs.declared.book.SlotState.TheVariants as slot
 use Rattle.book_core.specs.Stored.{slots_of}
 use Rattle.book_core.specs.Changes.{IsFree, leave_back}
@@ -7,11 +7,12 @@ use Rattle.book_core.specs.Keeps.{IsSound, AreTables}
 use Rattle.book_core.specs.Seen.{seen}
 use Rattle.std.specs.declared.option.Option.{Option}
 use Rattle.book_core.specs.declared.hand.Hand.{Hand}
-use Rattle.book_core.specs.Hands.{ids_of, IsHand}
+use Rattle.book_core.specs.Hands.{ids_of, IsHand, IsNodeIn}
 use Rattle.book_core.specs.Tables.{state_in}
-use Rattle.book_core.proofs.NearLemmas.{ids-set, changed-nodes, node-kept, nodes-set, nodes-kept}
+use Rattle.book_core.proofs.HeldLemmas.{ids-set, changed-nodes, node-kept, nodes-set, nodes-kept}
 use Rattle.book_core.proofs.SettleLemmas.{restated, slots-known, state-is, restated-changes}
-use Rattle.book_core.proofs.HandOverLemmas.{free-known, tables-given, given-node, handed-is, not-empty}
+use Rattle.book_core.proofs.PathLemmas.{path-kept, path-in, path-out, last-in, tree-of, tree-in}
+use Rattle.book_core.proofs.HandOverLemmas.{free-known, tables-given, handed-is, not-empty}
 use Rattle.book_core.proofs.book.Book.give.Goals as goal
 
 pub index-requires : goal.index-requires
@@ -31,6 +32,21 @@ leave_back-requires c = λ is none.
     let state = state-is a c.args.self.now c.self.view_is c.args.id c.index.result.now c.index.ensures slot.Back known in
     not-empty (seen a) a.back c.self.invariant.tables.back_are c.args.id (state ∙ is) none
 
+pub lead_to-requires-clause-tree : goal.lead_to-requires-clause-tree
+lead_to-requires-clause-tree c =
+    let a = c.self.inside in
+    tree-in c.case.inside.instance a.case.instance (ap (λ (k : Case). k.instance) c.case.view_is) c.as_slice.result.now a.slots.items c.as_slice.ensures.value (tree-of (seen a) c.self.invariant.sound)
+
+pub lead_to-requires-clause-path : goal.lead_to-requires-clause-path
+lead_to-requires-clause-path c =
+    let a = c.self.inside in
+    path-in c.case.inside.instance a.case.instance (ap (λ (k : Case). k.instance) c.case.view_is) c.as_slice.result.now a.slots.items c.as_slice.ensures.value a.path c.self.invariant.path
+
+pub lead_to-requires-clause-known : goal.lead_to-requires-clause-known
+lead_to-requires-clause-known c =
+    let known = slots-known c.self.inside c.args.self.now c.self.view_is c.args.id (free-known c.args.self.now c.args.id c.requires.open) in
+    omega (arith, known, ap length c.as_slice.ensures.value)
+
 pub returns : goal.returns
 returns c =
     let a = c.self.inside in
@@ -49,11 +65,14 @@ invariant_of-self c =
     let back = ap (λ s. leave_back s a.back) state ∙ sym c.leave_back.ensures in
     let new = slots_of a.case.instance (slice_set a.slots.items c.args.id (restated r (slot.Held c.args.worker))) in
     let I = a.case.instance in
-    let own_hand : Hand = record { id = c.args.id; node = c.args.node; bounds = None } in
+    let node = c.copy.result in
+    let own_hand : Hand = record { id = c.args.id; node = node; bounds = None } in
     let hand : Option Hand = Some own_hand in
     let keeps = changed-nodes (seen a).slots new c.args.id (slot.Held c.args.worker) (restated-changes a b c.self.view_is c.args.id r c.index_mut.ensures.value (slot.Held c.args.worker) known) in
-    let there = given-node a b c.self.view_is c.args.id known c.args.node c.requires.same c.requires.node in
-    let own : IsHand I new own_hand = record { own = node-kept I (seen a).slots new keeps c.args.id c.args.node there; bounds = tt } in
+    let path = c.lead_to.new.self in
+    let leads = path-out c.case.inside.instance I (ap (λ (k : Case). k.instance) c.case.view_is) c.as_slice.result.now a.slots.items c.as_slice.ensures.value path c.lead_to.ensures.path in
+    let there = subst (IsNodeIn I (seen a).slots c.args.id) (sym (c.copy.ensures ∙ c.last.ensures)) (last-in I (seen a).slots path leads c.args.id c.lead_to.ensures.ends) in
+    let own : IsHand I new own_hand = record { own = node-kept I (seen a).slots new keeps c.args.id node there; bounds = tt } in
     record {
       sound = subst IsSound (sym same) c.requires.sound;
       tables = subst (λ l. AreTables new a.ended (ids_of (slice_set a.hands c.args.worker hand)) l a.waiting.items) back
@@ -62,7 +81,8 @@ invariant_of-self c =
           (restated-changes a b c.self.view_is c.args.id r c.index_mut.ensures.value (slot.Held c.args.worker) known)
           (subst (λ u. IsFree u c.args.id) (sym c.self.view_is) c.requires.open) c.requires.known
           (ap (λ u. first_slot u (is_held_by c.args.worker)) c.self.view_is ∙ c.requires.empty)));
-      nodes = nodes-set I new a.hands a.near (nodes-kept I (seen a).slots new keeps a.hands a.near old.nodes) c.args.worker hand own;
+      nodes = nodes-set I new a.hands (nodes-kept I (seen a).slots new keeps a.hands old.nodes) c.args.worker hand own;
+      path = path-kept I (seen a).slots new keeps path leads;
       roster_is = old.roster_is;
       costs = record { best_is = old.costs.best_is; opening_is = old.costs.opening_is; throughput_is = old.costs.throughput_is };
       room = record { enough = omega (arith, old.room.enough, c.push_reserved.ensures.capacity) };

@@ -2,7 +2,7 @@ use Rattle.std.proofs.Common.{ap, ◌∙◌}
 use Rattle.search_rules.specs.Book.{has_slot, is_held}
 use Rattle.book_core.specs.Seen.{seen}
 use Rattle.book_core.specs.Hands.{ids_of}
-use Rattle.book_core.proofs.NearLemmas.{some-ids}
+use Rattle.book_core.proofs.HeldLemmas.{some-ids}
 use Rattle.book_core.proofs.HandLemmas.{some-held}
 use Rattle.book_core.proofs.book.Book.has_held.Goals as goal
 

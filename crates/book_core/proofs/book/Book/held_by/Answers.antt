@@ -3,7 +3,7 @@ use Rattle.search_rules.specs.Book.{first_slot, is_held_by}
 use Rattle.book_core.specs.Hands.{id_of, ids_of}
 use Rattle.book_core.specs.Seen.{seen}
 use Rattle.book_core.proofs.HandLemmas.{first-held, hand-past}
-use Rattle.book_core.proofs.NearLemmas.{at-any, ids-at, length-ids}
+use Rattle.book_core.proofs.HeldLemmas.{at-any, ids-at, length-ids}
 use Rattle.book_core.proofs.book.Book.held_by.Goals as goal
 
 pub returns-then-worker-le8 : goal.returns-then-worker-le8

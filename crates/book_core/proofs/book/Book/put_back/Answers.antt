@@ -6,7 +6,8 @@ use Rattle.book_core.specs.Keeps.{IsSound, AreTables}
 use Rattle.book_core.specs.Seen.{seen}
 use Rattle.lock_rules.specs.Children.{insert_number}
 use Rattle.book_core.specs.Hands.{ids_of}
-use Rattle.book_core.proofs.NearLemmas.{ids-set, changed-nodes, nodes-set, nodes-kept}
+use Rattle.book_core.proofs.HeldLemmas.{ids-set, changed-nodes, nodes-set, nodes-kept}
+use Rattle.book_core.proofs.PathLemmas.{path-kept}
 use Rattle.book_core.proofs.SettleLemmas.{restated, slots-known, restated-changes}
 use Rattle.book_core.proofs.HandOverLemmas.{holder-at, tables-returned, returned-is, room-back}
 use Rattle.book_core.proofs.book.Book.put_back.Goals as goal
@@ -49,7 +50,8 @@ invariant_of-self c =
           (restated-changes a b c.self.view_is c.args.id r c.index_mut.ensures.value slot.Back known)
           (ap (λ u. first_slot u (is_held_by c.args.worker)) c.self.view_is ∙ c.requires.held)
           (omega (arith, c.requires.known, old.sound.parts.workers.nine)) running));
-      nodes = nodes-set I new a.hands a.near (nodes-kept I (seen a).slots new keeps a.hands a.near old.nodes) c.args.worker None tt;
+      nodes = nodes-set I new a.hands (nodes-kept I (seen a).slots new keeps a.hands old.nodes) c.args.worker None tt;
+      path = path-kept I (seen a).slots new keeps a.path old.path;
       roster_is = old.roster_is;
       costs = record { best_is = old.costs.best_is; opening_is = old.costs.opening_is; throughput_is = old.costs.throughput_is };
       room = record { enough = omega (arith, old.room.enough, c.push_reserved.ensures.capacity) };

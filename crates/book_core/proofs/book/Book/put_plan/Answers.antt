@@ -5,7 +5,7 @@ use Rattle.search_rules.specs.Book.{Book}
 use Rattle.search_rules.specs.declared.book.Entry.TheVariants as entry
 use Rattle.book_core.specs.Keeps.{IsSound}
 use Rattle.book_core.specs.Outdone.{outdone_stored, is_back_in}
-use Rattle.book_core.proofs.OutdoneLemmas.{refill, cost-here, replaced-is, replaced-tables, replaced-nodes}
+use Rattle.book_core.proofs.OutdoneLemmas.{refill, cost-here, replaced-is, replaced-tables, replaced-nodes, replaced-path}
 use Rattle.book_core.proofs.book.Book.put_plan.Goals as goal
 
 length-one-more : (xs : List Plan) (x : Plan) → length (xs ++ x ∷ []) ≡ suc (length xs)
@@ -42,6 +42,7 @@ invariant_of-self-2 c =
       sound = subst IsSound (sym same) c.requires.sound;
       tables = replaced-tables a b c.self.view_is c.args.cost c.args.plan c.requires.cost ss all c.still_back-self-inside.result back old.tables;
       nodes = replaced-nodes a b c.self.view_is c.args.cost c.args.plan c.requires.cost ss all old.nodes;
+      path = replaced-path a b c.self.view_is c.args.cost c.args.plan c.requires.cost ss all old.path;
       roster_is = old.roster_is;
       costs = record { best_is = cost-here a b c.self.view_is c.args.cost c.args.plan c.requires.cost ss all; opening_is = old.costs.opening_is; throughput_is = old.costs.throughput_is };
       room = record {

@@ -3,7 +3,8 @@ use Rattle.book_core.specs.Keeps.{IsSound, AreTables}
 use Rattle.book_core.specs.Stored.{slots_of}
 use Rattle.book_core.specs.Changes.{let_go}
 use Rattle.book_core.specs.Hands.{ids_of, AreNodes}
-use Rattle.book_core.proofs.NearLemmas.{ids-let_go, changed-nodes, nodes-let_go, nodes-kept}
+use Rattle.book_core.proofs.HeldLemmas.{ids-let_go, changed-nodes, nodes-let_go, nodes-kept}
+use Rattle.book_core.proofs.PathLemmas.{path-kept}
 use Rattle.book_core.proofs.SettleLemmas.{restated, restated-is, restated-changes, state-is, settled-known, holder-known, settled-tables}
 use Rattle.book_core.proofs.book.Book.settle.Goals as goal
 
@@ -34,13 +35,14 @@ invariant_of-self c =
     let I = a.case.instance in
     let new = slots_of I (slice_set a.slots.items c.args.id (restated r c.args.state)) in
     let keeps = changed-nodes (slots_of I a.slots.items) new c.args.id c.args.state (restated-changes a c.args.self.now c.self.view_is c.args.id r c.index_mut.ensures.value c.args.state known) in
-    let empty = nodes-let_go I (slots_of I a.slots.items) a.hands a.near old.nodes c.index.result.now.state in
+    let empty = nodes-let_go I (slots_of I a.slots.items) a.hands old.nodes c.index.result.now.state in
     record {
       sound = subst IsSound (sym same) c.requires.sound;
       tables = subst (λ h. AreTables (slots_of a.case.instance (slice_set a.slots.items c.args.id (restated r c.args.state))) a.ended h a.back a.waiting.items) hands
           (settled-tables a old c.args.self.now c.self.view_is c.args.id c.requires.from r c.index_mut.ensures.value c.args.state c.requires.to);
       roster_is = old.roster_is;
       costs = record { best_is = old.costs.best_is; opening_is = old.costs.opening_is; throughput_is = old.costs.throughput_is };
-      nodes = subst (λ h. AreNodes I new h a.near) (sym c.let_go.ensures) (nodes-kept I (slots_of I a.slots.items) new keeps (let_go c.index.result.now.state a.hands) a.near empty);
+      nodes = subst (AreNodes I new) (sym c.let_go.ensures) (nodes-kept I (slots_of I a.slots.items) new keeps (let_go c.index.result.now.state a.hands) empty);
+      path = path-kept I (slots_of I a.slots.items) new keeps a.path old.path;
       room = record { enough = omega (arith, old.room.enough, c.push_reserved.ensures.capacity) };
     }

@@ -1,0 +1,60 @@
+//! The nodes of slots: those in hands, and those that are made again.
+ghost use Rattle.std.specs.Prelude.{◌≡◌, ◌<◌, true, false, length, IfSome, IfNone};
+ghost use Rattle.lock_rules.specs.Arrival.{next_ship};
+ghost use Rattle.search_rules.specs.Book.{slot_at, is_held};
+ghost use Rattle.master_branch.specs.Node.{IsNodeOf};
+ghost use Rattle.book_core.specs.Hands.{IsHandOf};
+ghost use Rattle.book_core.specs.Nodes.{tree_node};
+
+use crate::book::Book;
+use crate::hand::Hand;
+use crate::path::node_from_root;
+use master_branch::Node;
+use search_rules::SlotState;
+
+impl Book {
+    // The hand that holds a slot; None exactly where no worker holds it.
+    pub(crate) fn hand_of(&self, id: u32) -> Option<&Hand>
+        ensures some { IfSome result (λ hand. IsHandOf self.now id hand.now) }
+        ensures none { IfNone result (is_held (slot_at self.now id).state ≡ false) }
+    {
+        match self.state_of(id) {
+            SlotState::Held(worker) => match &self.hands[worker as usize] {
+                Some(hand) => Some(hand),
+                None => None,
+            },
+            _ => None,
+        }
+    }
+
+    // The node of a slot that a worker holds.
+    pub(crate) fn held_node(&self, id: u32) -> &Node
+        requires { is_held (slot_at self.now id).state ≡ true }
+        ensures value { tree_node result.now ≡ (slot_at self.now id).node }
+        ensures node { IsNodeOf self.now.case.instance result.now }
+    {
+        match self.hand_of(id) {
+            Some(hand) => &hand.node,
+            None => unreachable!(),
+        }
+    }
+
+    // The ship that a node of this depth lacks first.
+    pub(crate) fn next_ship(&self, depth: u8) -> u8
+        requires { depth < length self.now.case.instance.ships }
+        ensures { result ≡ next_ship self.now.case.instance depth }
+    {
+        let case = &self.case;
+        self.roster.ship(&case.instance, depth)
+    }
+
+    // The node of a slot, made step by step from the root's: for slots that no worker holds.
+    pub(crate) fn node_of(&self, id: u32) -> Node
+        requires { id < length self.now.slots }
+        ensures value { tree_node result ≡ (slot_at self.now id).node }
+        ensures node { IsNodeOf self.now.case.instance result }
+    {
+        let case = &self.case;
+        node_from_root(&case.instance, &self.roster, self.slots.as_slice(), id)
+    }
+}
