@@ -142,7 +142,7 @@ pub hands-same : (old new : List Slot) (hands : List (Option ℕ)) → AreHands 
     → ((w id : ℕ) → state_in old id ≡ slot.Held w → state_in new id ≡ slot.Held w) → ((w id : ℕ) → state_in new id ≡ slot.Held w → state_in old id ≡ slot.Held w) → AreHands new hands
 hands-same old new hands good there back = record { nine = good.nine; held = λ w id e. there w id (good.held w id e); hand = λ w id e. good.hand w id (back w id e) }
 
--- a slot in another state than ByBound is one of the slots
+-- a slot that isn't closed by its bound is one of the slots
 pub state-known : (slots : List Slot) (id : ℕ) → state_in slots id ≢ slot.Closed by.Bound → id < length slots
 state-known [] id other = absurd (other refl)
 state-known (s ∷ ss) zero other = omega arith

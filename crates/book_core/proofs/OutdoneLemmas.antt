@@ -105,7 +105,7 @@ module _ (cost : ℕ) (slots : List Slot) where
       by_way (Same is) = ap (λ (s : Slot). s.state) is ∙ e
       by_way (Shut closed open_is) = absurd (clash (sym shut ∙ ap (λ s. is_fresh s || is_back s || is_parked s) (sym e) ∙ open_is))
 
-  -- a state other than ByBound was there before
+  -- a state but that of a slot closed by its bound was there before
   was : (k : ℕ) (state : SlotState) → state ≢ slot.Closed by.Bound → state_in new k ≡ state → state_in slots k ≡ state
   was k state other e =
       let there = state-known new k (λ h. other (sym e ∙ h)) in

@@ -1,6 +1,7 @@
 use Rattle.std.proofs.Common.{◌≢◌, ℕ, sym, ap, ◌∙◌, subst}
 use Rattle.std.specs.Prelude.{IfSome}
 use Rattle.lock_rules.specs.Bound.{least_number}
+use Rattle.search_rules.specs.declared.grounds.Ground.TheVariants as by
 use Rattle.search_rules.specs.declared.book.SlotState.TheVariants as slot
 use Rattle.search_rules.specs.Book.{Case}
 use Rattle.book_core.specs.Hands.{held_at, IsBounding}
@@ -8,7 +9,7 @@ use Rattle.book_core.proofs.HandLemmas.{state-known}
 use Rattle.book_core.proofs.BoundingLemmas.{least-below, bounding, tables-filled, hands-filled, bounds-here}
 use Rattle.book_core.proofs.book.Book.next_probe.Goals as goal
 
-held-open : (w : ℕ) → slot.Held w ≢ slot.ByBound
+held-open : (w : ℕ) → slot.Held w ≢ slot.Closed by.Bound
 held-open w e = cc
 
 pub fill_hand-requires-clause-hand : goal.fill_hand-requires-clause-hand
