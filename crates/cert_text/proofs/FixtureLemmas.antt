@@ -4,7 +4,8 @@ use Rattle.std.proofs.lemmas.List.Elements.{All-nil, All-cons}
 use Rattle.lock_model.specs.declared.plan.Lockage.{Lockage}
 use Rattle.search_rules.specs.Certificates.{CertCut}
 use Rattle.search_rules.specs.WellFormed.{IsFormedCut, IsFormedLockage, IsFormedMark}
-use Rattle.search_rules.specs.declared.certificate.Mark.TheVariants.{Split, Bound, Cut}
+use Rattle.search_rules.specs.declared.grounds.Ground.TheVariants.{Bound, Cut}
+use Rattle.search_rules.specs.declared.certificate.Mark.TheVariants.{Split, Leaf}
 
 pub one_cut : (c : CertCut) → IsFormedCut c → All IsFormedCut (c ∷ [])
 one_cut c formed = All-cons IsFormedCut c [] formed (All-nil IsFormedCut)
@@ -12,10 +13,10 @@ one_cut c formed = All-cons IsFormedCut c [] formed (All-nil IsFormedCut)
 pub two_lockages : (a b : Lockage) → IsFormedLockage a → IsFormedLockage b → All IsFormedLockage (a ∷ b ∷ [])
 two_lockages a b first second = All-cons IsFormedLockage a (b ∷ []) first (All-cons IsFormedLockage b [] second (All-nil IsFormedLockage))
 
-pub five_marks : All IsFormedMark (Split ∷ Split ∷ Cut 0 ∷ Bound ∷ Bound ∷ [])
+pub five_marks : All IsFormedMark (Split ∷ Split ∷ Leaf (Cut 0) ∷ Leaf Bound ∷ Leaf Bound ∷ [])
 five_marks =
-    All-cons IsFormedMark Split (Split ∷ Cut 0 ∷ Bound ∷ Bound ∷ []) tt
-    (All-cons IsFormedMark Split (Cut 0 ∷ Bound ∷ Bound ∷ []) tt
-    (All-cons IsFormedMark (Cut 0) (Bound ∷ Bound ∷ []) (omega arith)
-    (All-cons IsFormedMark Bound (Bound ∷ []) tt
-    (All-cons IsFormedMark Bound [] tt (All-nil IsFormedMark)))))
+    All-cons IsFormedMark Split (Split ∷ Leaf (Cut 0) ∷ Leaf Bound ∷ Leaf Bound ∷ []) tt
+    (All-cons IsFormedMark Split (Leaf (Cut 0) ∷ Leaf Bound ∷ Leaf Bound ∷ []) tt
+    (All-cons IsFormedMark (Leaf (Cut 0)) (Leaf Bound ∷ Leaf Bound ∷ []) (omega arith)
+    (All-cons IsFormedMark (Leaf Bound) (Leaf Bound ∷ []) tt
+    (All-cons IsFormedMark (Leaf Bound) [] tt (All-nil IsFormedMark)))))

@@ -5,7 +5,7 @@ ghost use Rattle.cert_text.specs.Marks.{mark_number, mark_of};
 ghost use Rattle.cert_text.specs.declared.bad.BadDossier.TheVariants.{Shape};
 
 use crate::bad::BadDossier;
-use cert_check::Mark;
+use cert_check::{Ground, Mark};
 
 /// The number of a mark, which `mark_of` reads back. Takes no memory.
 #[tactic(auto, unfolding(crate::specs::Marks::mark_of))]
@@ -16,10 +16,10 @@ pub fn put_mark(mark: &Mark) -> u64
 {
     match *mark {
         Mark::Split => 0,
-        Mark::Bound => 1,
-        Mark::Throughput => 2,
-        Mark::Probe(ship) => 10 + u64::from(ship),
-        Mark::Cut(number) => 100 + number,
+        Mark::Leaf(Ground::Bound) => 1,
+        Mark::Leaf(Ground::Throughput) => 2,
+        Mark::Leaf(Ground::Probe(ship)) => 10 + u64::from(ship),
+        Mark::Leaf(Ground::Cut(number)) => 100 + number,
     }
 }
 
@@ -31,10 +31,10 @@ pub fn mark_of(number: u64) -> Result<Mark, BadDossier>
 {
     match number {
         0 => Ok(Mark::Split),
-        1 => Ok(Mark::Bound),
-        2 => Ok(Mark::Throughput),
-        10..=33 => Ok(Mark::Probe((number - 10) as u8)),
-        100..=9_223_372_036_854_775_907 => Ok(Mark::Cut(number - 100)),
+        1 => Ok(Mark::Leaf(Ground::Bound)),
+        2 => Ok(Mark::Leaf(Ground::Throughput)),
+        10..=33 => Ok(Mark::Leaf(Ground::Probe((number - 10) as u8))),
+        100..=9_223_372_036_854_775_907 => Ok(Mark::Leaf(Ground::Cut(number - 100))),
         _ => Err(BadDossier::Shape(5)),
     }
 }

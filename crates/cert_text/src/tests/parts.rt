@@ -1,7 +1,7 @@
 //! Parts of a dossier, one by one.
 
 use super::super::*;
-use cert_check::Mark;
+use cert_check::{Ground, Mark};
 use serde_json::Value;
 use std::alloc::Global;
 use std::process::Abort;
@@ -42,7 +42,7 @@ fn an_empty_list_is_no_cuts_and_no_lockages(rt: HostRuntime) -> Result<(), Fail>
 
 #[test]
 fn marks_are_read_and_written(rt: HostRuntime) {
-    assert!(rt; mark_of(110) == Ok(Mark::Cut(10)));
+    assert!(rt; mark_of(110) == Ok(Mark::Leaf(Ground::Cut(10))));
     assert!(rt; mark_of(34) == Err(BadDossier::Shape(5)));
-    assert!(rt; put_mark(&Mark::Probe(23)) == 33);
+    assert!(rt; put_mark(&Mark::Leaf(Ground::Probe(23))) == 33);
 }

@@ -4,7 +4,7 @@ ghost use Rattle.search_rules.specs.WellFormed.{IsFormedCut, IsFormedLockage, Is
 
 use super::super::*;
 use super::fixture::{CLASH, NARROW};
-use cert_check::{CertCut, CertCuts, Certificate, Mark, MarkList};
+use cert_check::{CertCut, CertCuts, Certificate, Ground, Mark, MarkList};
 use instance_text::read_instance_part;
 use lock_model::{Lockage, Lockages, Moor, Plan, Rank, Ships, Spot, Spots, Way};
 use refute_rules::{Quick, Refutation};
@@ -68,9 +68,9 @@ fn marks(alloc: Global) -> Result<MarkList, Fail>
     let mut tree = MarkList::new(alloc);
     tree.push(Mark::Split)?;
     tree.push(Mark::Split)?;
-    tree.push(Mark::Cut(0))?;
-    tree.push(Mark::Bound)?;
-    tree.push(Mark::Bound)?;
+    tree.push(Mark::Leaf(Ground::Cut(0)))?;
+    tree.push(Mark::Leaf(Ground::Bound))?;
+    tree.push(Mark::Leaf(Ground::Bound))?;
     Ok(tree)
 }
 
