@@ -19,3 +19,4 @@ pub mod SplitLemmas
 pub mod OutdoneLemmas
 pub mod OpeningLemmas
 pub mod SummingLemmas
+pub mod SameLemmas

@@ -27,7 +27,7 @@ impl Book {
 
     // Keeps the bounds of the children of a slot's node in the hand that holds the slot, if one
     // does.
-    fn keep_bounds(&mut self, id: u32, bounds: Bounds)
+    pub(crate) fn keep_bounds(&mut self, id: u32, bounds: Bounds)
         requires { bounds ≡ bounds_at self.old id }
         ensures { self.new ≡ self.old }
     {

@@ -21,7 +21,9 @@
 //!   children from the first probe of the ship that the node lacks first until the split. `near`
 //!   keeps one node more: that of the slot that was split last, or of the parent of the slot that
 //!   was taken last. Other nodes are made from the near one or from the root, step by step.
-//!   `bounding` has the probes and the bounds.
+//!   `bounding` has the probes and the bounds. Bounds may also be worked out without the book
+//!   (`foreseen`), which takes them where they are of its instance and of the slot's node
+//!   (`comparing`).
 //!
 //! Definitions: `search_rules` has the machine (`specs/Book`, `Events`, `Step`), the replay, the
 //! cover and the counts. Here `specs/Replies` says what it is that a method is a step, `Keeps` what
@@ -34,8 +36,10 @@ mod book;
 mod bounding;
 mod case;
 mod closing;
+mod comparing;
 mod decks;
 mod finding;
+mod foreseen;
 mod growing;
 mod hand;
 mod hands;
@@ -59,6 +63,8 @@ mod waiting;
 
 pub use book::Book;
 pub use case::Case;
+pub use comparing::same_instance;
+pub use foreseen::Foreseen;
 pub use laws::every_list_keeps;
 pub use opening::open_book;
 pub use reply::Reply;
