@@ -1,5 +1,5 @@
 //! One event of a book that is kept with its total, and an event with a taking after it.
-ghost use Rattle.std.specs.Prelude.{◌≡◌, ◌+◌, ◌<◌, length};
+ghost use Rattle.std.specs.Prelude.{◌≡◌, ◌+◌, ◌<◌, ◌≤◌, length};
 ghost use Rattle.std.specs.Bool.{OnFalse};
 ghost use Rattle.book_core.specs.Replies.{Does};
 ghost use Rattle.search_rules.specs.Events as machine;
