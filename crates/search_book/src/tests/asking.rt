@@ -5,6 +5,7 @@ ghost use Rattle.search_book.specs.Events.{IsAllowed};
 use super::fixture::both;
 use crate::{Event, SharedBook};
 use book_core::{Book, Reply};
+use lock_model::Plan;
 use place_refute::Cut;
 use std::process::Abort;
 use std::sync::Wait;
@@ -108,7 +109,7 @@ pub(crate) fn posts<L: Ledger, R: Wait + Abort>(
     shared: &SharedBook<L>,
     mine: &mut Share<L>,
     twin: &mut Book,
-    first: Cut,
+    first: Box<Cut>,
     second: Cut,
 )
     requires part { mine.old.parts ≡ 1 }
@@ -124,10 +125,11 @@ pub(crate) fn replaces<L: Ledger, R: Wait + Abort>(
     shared: &SharedBook<L>,
     mine: &mut Share<L>,
     twin: &mut Book,
+    plan: Box<Plan>,
 )
     requires part { mine.old.parts ≡ 1 }
     ensures part { mine.new.parts ≡ 1 }
 {
-    let reply = shared.with_book(rt, mine, Event::Replace(both()));
+    let reply = shared.with_book(rt, mine, Event::Replace(plan));
     assert_eq!(rt; reply, twin.replace(both()));
 }

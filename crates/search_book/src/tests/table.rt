@@ -3,11 +3,13 @@ ghost use Rattle.std.specs.Prelude.{◌≡◌};
 ghost use Rattle.refute_rules.specs.Spots.{IsSpotHard};
 
 use super::asking::{Ask, expect_reply, expect_same, posts, replaces};
-use super::fixture::{narrow, open, open_cheap, row_cut, side_by_side, swift};
+use super::fixture::{both, narrow, open, open_cheap, row_cut, side_by_side, swift};
+use super::following::by_foreseen;
 use super::parking::spent_both;
 use super::parts::{Part, give_back, take_part};
 use crate::{Event, SharedBook, share_book};
 use book_core::{Book, Reply};
+use lock_model::Plan;
 use place_refute::Hard;
 use std::alloc::Global;
 use std::marker::Brand;
@@ -77,7 +79,7 @@ fn by_cut<L: Ledger, R: Wait + Abort>(
     requires part { mine.old.parts ≡ 1 }
     ensures part { mine.new.parts ≡ 1 }
 {
-    let first = row_cut(alloc)?;
+    let first = Box::new(alloc, row_cut(alloc)?)?;
     let second = row_cut(alloc)?;
     go_to_both(rt, shared, mine, twin);
     expect_reply(rt, shared, mine, Ask::Split(2), Reply::Whole(2));
@@ -95,13 +97,13 @@ fn parks<L: Ledger, R: Wait + Abort>(
     shared: &SharedBook<L>,
     mine: &mut Share<L>,
     twin: &mut Book,
-    hard: Hard,
+    hard: Box<Hard>,
 )
     requires part { mine.old.parts ≡ 1 }
-    requires hard { IsSpotHard hard.deck hard.turns }
+    requires hard { IsSpotHard hard.value.deck hard.value.turns }
     ensures part { mine.new.parts ≡ 1 }
 {
-    let direct = twin.park(2, 0, 0, &hard);
+    let direct = twin.park(2, 0, 0, &*hard);
     let through = shared.with_book(rt, mine, Event::Park(2, 0, 0, hard));
     assert_eq!(rt; through, direct);
 }
@@ -112,14 +114,15 @@ fn by_bound<L: Ledger, R: Wait + Abort>(
     shared: &SharedBook<L>,
     mine: &mut Share<L>,
     twin: &mut Book,
-    hard: Hard,
+    hard: Box<Hard>,
+    plan: Box<Plan>,
 )
     requires part { mine.old.parts ≡ 1 }
-    requires hard { IsSpotHard hard.deck hard.turns }
+    requires hard { IsSpotHard hard.value.deck hard.value.turns }
     ensures part { mine.new.parts ≡ 1 }
 {
     go_to_both(rt, shared, mine, twin);
-    replaces(rt, shared, mine, twin);
+    replaces(rt, shared, mine, twin, plan);
     parks(rt, shared, mine, twin, hard);
     expect_same(rt, shared, mine, twin, Ask::CloseBound(2));
     assert_eq!(rt; twin.history_len(), 8);
@@ -163,6 +166,8 @@ enum List {
     ByBound,
     ByProbe,
     ByThroughput,
+    Foreseen,
+    ForeseenElsewhere,
 }
 
 fn make<L: Ledger, R: Wait + Abort>(
@@ -179,11 +184,20 @@ fn make<L: Ledger, R: Wait + Abort>(
     match list {
         List::ByCut => by_cut(rt, alloc, shared, mine, twin)?,
         List::ByBound => {
-            let hard = spent_both(alloc, twin)?;
-            by_bound(rt, shared, mine, twin, hard);
+            let hard = Box::new(alloc, spent_both(alloc, twin)?)?;
+            let plan = Box::new(alloc, both())?;
+            by_bound(rt, shared, mine, twin, hard, plan);
         }
         List::ByProbe => by_probe(rt, shared, mine, twin),
         List::ByThroughput => by_throughput(rt, shared, mine, twin),
+        List::Foreseen => {
+            let source = open(alloc, narrow()?, 128)?;
+            by_foreseen(rt, shared, mine, twin, &source);
+        }
+        List::ForeseenElsewhere => {
+            let source = open(alloc, swift()?, 128)?;
+            by_foreseen(rt, shared, mine, twin, &source);
+        }
     }
     Ok(())
 }
@@ -284,4 +298,18 @@ fn the_throughput_closes_through_the_lock(rt: HostRuntime) -> Result<(), Fail> {
     let book = open(rt.alloc(), swift()?, 128)?;
     let twin = open(rt.alloc(), swift()?, 128)?;
     compare(&rt, rt.alloc(), book, twin, List::ByThroughput)
+}
+
+#[test]
+fn bounds_that_were_foreseen_change_no_reply(rt: HostRuntime) -> Result<(), Fail> {
+    let book = open(rt.alloc(), narrow()?, 128)?;
+    let twin = open(rt.alloc(), narrow()?, 128)?;
+    compare(&rt, rt.alloc(), book, twin, List::Foreseen)
+}
+
+#[test]
+fn bounds_of_another_instance_are_not_used(rt: HostRuntime) -> Result<(), Fail> {
+    let book = open(rt.alloc(), narrow()?, 128)?;
+    let twin = open(rt.alloc(), narrow()?, 128)?;
+    compare(&rt, rt.alloc(), book, twin, List::ForeseenElsewhere)
 }
