@@ -15,6 +15,7 @@ use crate::replies::is_accepted;
 use book_core::{Book, Foreseen, Reply};
 use lock_model::Plan;
 use place_refute::Cut;
+use search_rules::Ground;
 use std::sync::ledger::{Ledger, Share};
 
 // Keeps a boxed cut.
@@ -39,14 +40,11 @@ fn make(book: &mut Book, event: Event) -> Reply
     match event {
         Event::Take(worker) => book.take(worker),
         Event::Split(id) => book.split(id),
-        Event::CloseBound(id) => book.close_bound(id),
-        Event::CloseCut(id, number) => book.close_cut(id, number),
+        Event::Close(id, why) => book.close(id, why),
         Event::Post(cut) => post(book, cut),
         Event::Park(id, chamber, place, hard) => book.park(id, chamber, place, &*hard),
         Event::Replace(plan) => replace(book, plan),
         Event::Release(worker) => book.release(worker),
-        Event::CloseThroughput(id) => book.close_throughput(id),
-        Event::CloseProbe(id, ship) => book.close_probe(id, ship),
     }
 }
 
@@ -89,7 +87,7 @@ fn foresee(book: &mut Book, ending: &Event, foreseen: Option<Foreseen<'_>>)
         return;
     };
     match ending {
-        Event::Split(id) | Event::CloseProbe(id, _) => book.foresee(*id, foreseen),
+        Event::Split(id) | Event::Close(id, Ground::Probe(_)) => book.foresee(*id, foreseen),
         _ => {}
     }
 }

@@ -12,6 +12,7 @@ use book_core::Foreseen;
 use flow_bounds::bound;
 use lock_io::Gate;
 use search_book::Event;
+use search_rules::Ground;
 use std::sync::Wait;
 use std::sync::ledger::Ledger;
 
@@ -26,7 +27,7 @@ fn close_by_bound<L: Ledger, W: Wait, G: Gate>(
     ensures serves { Serves post.now worker.new }
 {
     bound(post.instance, held.node) >= held.best
-        && end_and_take(post, worker, Event::CloseBound(held.id), None)
+        && end_and_take(post, worker, Event::Close(held.id, Ground::Bound), None)
 }
 
 // Closes the held node where the throughput of the instance is at least the best cost, and says
@@ -40,7 +41,7 @@ fn close_by_throughput<L: Ledger, W: Wait, G: Gate>(
     ensures serves { Serves post.now worker.new }
 {
     post.throughput >= held.best
-        && end_and_take(post, worker, Event::CloseThroughput(held.id), None)
+        && end_and_take(post, worker, Event::Close(held.id, Ground::Throughput), None)
 }
 
 /// Closes the held node where that can be done by its bound or by the throughput, and says whether it
@@ -70,5 +71,6 @@ pub(crate) fn close_by_probe<L: Ledger, W: Wait, G: Gate>(
     ensures serves { Serves post.now worker.new }
 {
     let ship = ship_after(post, held.node.depth());
-    end_and_take(post, worker, Event::CloseProbe(held.id, ship), Some(foreseen))
+    let closing = Event::Close(held.id, Ground::Probe(ship));
+    end_and_take(post, worker, closing, Some(foreseen))
 }

@@ -19,6 +19,7 @@ use lock_model::Plan;
 use node_fate::Fate;
 use place_refute::{Cut, Hard};
 use search_book::Event;
+use search_rules::Ground;
 use std::sync::Wait;
 use std::sync::ledger::Ledger;
 
@@ -51,7 +52,7 @@ fn refute<L: Ledger, W: Wait, G: Gate>(
     ensures serves { Serves post.now worker.new }
 {
     let number = post_cut(post, worker, cut)?;
-    finish(post, worker, Event::CloseCut(held.id, number), None)
+    finish(post, worker, Event::Close(held.id, Ground::Cut(number)), None)
 }
 
 // Gives a plan to the book, which may have one that is as cheap.
@@ -90,7 +91,7 @@ fn complete<L: Ledger, W: Wait, G: Gate>(
 {
     let plan = leaf_plan(post.instance, held.node, moorings);
     give_plan(post, worker, plan)?;
-    finish(post, worker, Event::CloseBound(held.id), None)
+    finish(post, worker, Event::Close(held.id, Ground::Bound), None)
 }
 
 // Parks the held node at a group that is spent.

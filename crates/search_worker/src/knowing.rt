@@ -12,6 +12,7 @@ use crate::worker::{Post, Worker};
 use lock_io::Gate;
 use master_branch::Node;
 use search_book::Event;
+use search_rules::Ground;
 use std::sync::Wait;
 use std::sync::ledger::Ledger;
 
@@ -46,7 +47,10 @@ pub(crate) fn close_by_known_cut<L: Ledger, W: Wait, G: Gate>(
     ensures serves { Serves post.now worker.new }
 {
     match known_cut(post, worker, held.node, chamber, place) {
-        Some(number) => end_and_take(post, worker, Event::CloseCut(held.id, number), None),
+        Some(number) => {
+            let closing = Event::Close(held.id, Ground::Cut(number));
+            end_and_take(post, worker, closing, None)
+        }
         None => false,
     }
 }

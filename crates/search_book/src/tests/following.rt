@@ -6,6 +6,7 @@ use super::asking::{Ask, expect_same};
 use crate::{Event, Next, SharedBook};
 use book_core::{Book, Foreseen};
 use master_branch::{Node, root};
+use search_rules::Ground;
 use std::process::Abort;
 use std::sync::Wait;
 use std::sync::ledger::{Ledger, Share};
@@ -53,8 +54,8 @@ fn takes_nothing<L: Ledger, R: Wait + Abort>(
     requires part { mine.old.parts ≡ 1 }
     ensures part { mine.new.parts ≡ 1 }
 {
-    let next = shared.end_and_take(rt, mine, 0, Event::CloseBound(id), None);
-    assert_eq!(rt; next, Next::Refused(twin.close_bound(id)));
+    let next = shared.end_and_take(rt, mine, 0, Event::Close(id, Ground::Bound), None);
+    assert_eq!(rt; next, Next::Refused(twin.close(id, Ground::Bound)));
 }
 
 /// Worker 0 splits the root and its child, each with bounds of the children of the root of some
