@@ -70,5 +70,10 @@ pub(crate) fn close_by_probe<L: Ledger, W: Wait, G: Gate>(
     ensures serves { Serves post.now worker.new }
 {
     let ship = ship_after(post, held.node.depth());
-    end_and_take(post, worker, Event::CloseProbe(held.id, ship), Some(foreseen))
+    end_and_take(
+        post,
+        worker,
+        Event::CloseProbe(held.id, ship),
+        Some(foreseen),
+    )
 }
