@@ -21,7 +21,10 @@ pub(crate) fn ship_after<L: Ledger, W: Wait, G: Gate>(post: &Post<'_, L, W, G>, 
 
 /// The chamber and the place in its line of the group that the node's last ship is in: the only one
 /// that the node's parent doesn't have. None at the root.
-pub(crate) fn group_of_last<L: Ledger, W: Wait, G: Gate>(post: &Post<'_, L, W, G>, node: &Node) -> Option<(u8, u8)>
+pub(crate) fn group_of_last<L: Ledger, W: Wait, G: Gate>(
+    post: &Post<'_, L, W, G>,
+    node: &Node,
+) -> Option<(u8, u8)>
     requires { IsNodeOf post.now.instance.now node.now }
     ensures { IfSome result (λ at. IsGroupAt post.now.instance.now node.now at.0 at.1) }
 {

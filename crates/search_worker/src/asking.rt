@@ -20,8 +20,7 @@ pub(crate) fn ask<L: Ledger, W: Wait, G: Gate>(
     requires allowed { IsAllowed event }
     ensures serves { Serves post.now worker.new }
 {
-    post.book
-        .with_book(post.rt, &mut worker.hands.share, event)
+    post.book.with_book(post.rt, &mut worker.hands.share, event)
 }
 
 /// Ends the held node by this event, with the bounds of its children, if they are known and were not
@@ -50,10 +49,7 @@ pub(crate) fn end_and_take<L: Ledger, W: Wait, G: Gate>(
 }
 
 /// Takes a slot.
-pub(crate) fn take<L: Ledger, W: Wait, G: Gate>(
-    post: &Post<'_, L, W, G>,
-    worker: &mut Worker<L>,
-)
+pub(crate) fn take<L: Ledger, W: Wait, G: Gate>(post: &Post<'_, L, W, G>, worker: &mut Worker<L>)
     requires serves { Serves post.now worker.old }
     ensures serves { Serves post.now worker.new }
 {

@@ -108,7 +108,12 @@ fn park<L: Ledger, W: Wait, G: Gate>(
     ensures serves { Serves post.now worker.new }
 {
     let hard = Box::new(post.alloc, hard)?;
-    finish(post, worker, Event::Park(held.id, chamber, place, hard), None)
+    finish(
+        post,
+        worker,
+        Event::Park(held.id, chamber, place, hard),
+        None,
+    )
 }
 
 /// Ends the held node as its fate says: it is split, its plan goes to the book, it is closed by a

@@ -48,7 +48,11 @@ pub(crate) fn post_cut<L: Ledger, W: Wait, G: Gate>(
 }
 
 /// Lowers the shared best cost to that of a plan which the book took.
-pub(crate) fn show_cost<L: Ledger, W: Wait, G: Gate>(post: &Post<'_, L, W, G>, worker: &mut Worker<L>, cost: u64)
+pub(crate) fn show_cost<L: Ledger, W: Wait, G: Gate>(
+    post: &Post<'_, L, W, G>,
+    worker: &mut Worker<L>,
+    cost: u64,
+)
     requires serves { Serves post.now worker.old }
     ensures serves { Serves post.now worker.new }
 {

@@ -49,7 +49,7 @@ pub(crate) fn taken<L: Ledger, W: Wait, G: Gate>(
 }
 
 /// Tells the gate of a node that was taken, and reads the best cost for it.
-pub(crate) fn held<'n, L: Ledger, W: Wait, G: Gate>(
+pub(crate) fn hold<'n, L: Ledger, W: Wait, G: Gate>(
     post: &Post<'_, L, W, G>,
     worker: &mut Worker<L>,
     id: u32,

@@ -9,7 +9,7 @@ use crate::closing::{close_by_probe, close_early};
 use crate::ending::end;
 use crate::knowing::{close_any_if_new, close_by_known_cut};
 use crate::stop::Stop;
-use crate::taking::{Held, held};
+use crate::taking::{Held, hold};
 use crate::trusting::is_node_of;
 use crate::worker::{Post, Worker};
 use book_core::Foreseen;
@@ -187,7 +187,7 @@ pub(crate) fn work<L: Ledger, W: Wait, G: Gate>(
     requires serves { Serves post.now worker.old }
     ensures serves { Serves post.now worker.new }
 {
-    let held = held(post, worker, id, node);
+    let held = hold(post, worker, id, node);
     if !is_node_of(&post.order, post.instance, held.node) {
         return Err(Stop);
     }
