@@ -41,7 +41,12 @@ fn close_by_throughput<L: Ledger, W: Wait, G: Gate>(
     ensures serves { Serves post.now worker.new }
 {
     post.throughput >= held.best
-        && end_and_take(post, worker, Event::Close(held.id, Ground::Throughput), None)
+        && end_and_take(
+            post,
+            worker,
+            Event::Close(held.id, Ground::Throughput),
+            None,
+        )
 }
 
 /// Closes the held node where that can be done by its bound or by the throughput, and says whether it

@@ -52,7 +52,12 @@ fn refute<L: Ledger, W: Wait, G: Gate>(
     ensures serves { Serves post.now worker.new }
 {
     let number = post_cut(post, worker, cut)?;
-    finish(post, worker, Event::Close(held.id, Ground::Cut(number)), None)
+    finish(
+        post,
+        worker,
+        Event::Close(held.id, Ground::Cut(number)),
+        None,
+    )
 }
 
 // Gives a plan to the book, which may have one that is as cheap.

@@ -6,5 +6,5 @@ use Rattle.book_core.proofs.hitting.hits_node.Goals as goal
 pub hits_line-requires-clause-ships_in : goal.hits_line-requires-clause-ships_in
 hits_line-requires-clause-ships_in c =
     let I = c.args.instance.now in
-    let same = c.as_slice-in-loop-chamber.ensures.value ∙ c.line.ensures in
+    let same = c.line.ensures.value in
     subst (All (λ (g : Group). All (λ s. s < length I.ships) g.ships)) (sym same) (line-known I c.args.node.now.depth c.args.node.now.lines c.requires c.loop-chamber.chamber)
