@@ -15,7 +15,7 @@ use Rattle.book_core.specs.declared.book.Book.TheInside.{Inside}
 use Rattle.book_core.specs.declared.hand.Hand.{Hand}
 use Rattle.book_core.specs.Nodes.{tree_node}
 use Rattle.book_core.specs.Stored.{slots_of}
-use Rattle.book_core.specs.Hands.{id_of, ids_of, held_at, bounds_in, bounds_below, bounds_at, filled, IsNodeIn, IsHand, IsHandOf, IsBounding, AreNodes}
+use Rattle.book_core.specs.Hands.{id_of, ids_of, held_at, bounds_in, bounds_below, bounds_at, filled, laid, IsNodeIn, IsHand, IsHandOf, IsBounding, AreNodes}
 use Rattle.std.proofs.lemmas.List.{get_or-set_same, set-set}
 use Rattle.book_core.specs.Keeps.{IsSound, AreTables}
 use Rattle.book_core.specs.Seen.{seen, IsKept}
@@ -72,6 +72,14 @@ module _ (a : Inside) (kept : IsKept a) (b : Book) (same : seen a ≡ b) (w id :
   below-hand g e =
       let of = hand-of g e in
       below-at b id a.case.instance (ap (λ (u : Book). u.case.instance) same) g.node of.own.same
+
+  -- the slot's bounds are those of its node's children
+  pub laid-filled : (bounds : List ℕ) → bounds ≡ bounds_at b id → laid bounds (held_at a.hands w) ≡ filled a.case.instance (held_at a.hands w)
+  laid-filled bounds is = by-hand (held_at a.hands w) refl
+    where
+      by-hand : (h : Option Hand) → held_at a.hands w ≡ h → laid bounds h ≡ filled a.case.instance h
+      by-hand None e = refl
+      by-hand (Some g) e = ap (λ l. Some (record g { bounds = Some l })) (is ∙ sym (below-hand g e))
 
   -- the bounds of its node's children may be computed
   pub bounding : (slot_at b id).node.depth < length b.case.instance.ships → IfSome (held_at a.hands w) (IsBounding a.case.instance)

@@ -20,3 +20,4 @@ pub mod SplitLemmas
 pub mod OutdoneLemmas
 pub mod OpeningLemmas
 pub mod SummingLemmas
+pub mod SameLemmas

@@ -43,6 +43,11 @@ abbrev pub filled : Instance → Option Hand → Option Hand
 filled I None = None
 filled I (Some h) = Some (with_bounds I h)
 
+-- the hand with these
+abbrev pub laid : List ℕ → Option Hand → Option Hand
+laid bounds None = None
+laid bounds (Some h) = Some (record h { bounds = Some bounds })
+
 -- the hand has a node that lacks a ship, and the bounds in it are those of the node's children
 pub record IsBounding (I : Instance) (hand : Hand) : Type 0 where
   pub node : IsNodeOf I hand.node

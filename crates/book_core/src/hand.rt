@@ -2,7 +2,7 @@
 ghost use Rattle.std.specs.Prelude.{◌≡◌, ◌≤◌, length, IfSome};
 ghost use Rattle.flow_bounds.specs.Roster.{IsRosterOf};
 ghost use Rattle.lock_rules.specs.Bound.{least_number};
-ghost use Rattle.book_core.specs.Hands.{IsBounding, id_of, bounds_in, filled, with_bounds};
+ghost use Rattle.book_core.specs.Hands.{IsBounding, id_of, bounds_in, filled, laid, with_bounds};
 
 use flow_bounds::{Bounds, Roster, child_bounds};
 use lock_model::Instance;
@@ -47,6 +47,16 @@ pub(crate) fn fill(hand: &mut Option<Hand>, instance: &Instance, roster: &Roster
 {
     match hand {
         Some(hand) => hand.fill(instance, roster),
+        None => {}
+    }
+}
+
+// Puts bounds into a hand that holds a slot.
+pub(crate) fn lay(hand: &mut Option<Hand>, bounds: Bounds)
+    ensures { hand.new ≡ laid bounds hand.old }
+{
+    match hand {
+        Some(hand) => hand.bounds = Some(bounds),
         None => {}
     }
 }

@@ -2,12 +2,12 @@
 ghost use Rattle.std.specs.Prelude.{◌≡◌, ◌<◌, ◌≤◌, ◌≢◌, [], ℕ, IfSome, slice_set};
 ghost use Rattle.search_rules.specs.declared.book.SlotState.TheVariants as slot;
 ghost use Rattle.flow_bounds.specs.Roster.{IsRosterOf};
-ghost use Rattle.book_core.specs.Hands.{IsBounding, filled, held_at};
+ghost use Rattle.book_core.specs.Hands.{IsBounding, filled, laid, held_at};
 ghost use Rattle.book_core.specs.Changes.{let_go, leave_back};
 
 use crate::back_list::BackList;
-use crate::hand::{Hand, fill};
-use flow_bounds::Roster;
+use crate::hand::{Hand, fill, lay};
+use flow_bounds::{Bounds, Roster};
 use lock_model::Instance;
 use search_rules::SlotState;
 
@@ -35,6 +35,14 @@ pub(crate) fn fill_hand(
     ensures { hands.new ≡ slice_set hands.old worker (filled instance.now (held_at hands.old worker)) }
 {
     fill(&mut hands[worker as usize], instance, roster);
+}
+
+// Puts bounds into a worker's hand.
+pub(crate) fn lay_bounds(hands: &mut [Option<Hand>; 9], worker: u8, bounds: Bounds)
+    requires { worker ≤ 8 }
+    ensures { hands.new ≡ slice_set hands.old worker (laid bounds (held_at hands.old worker)) }
+{
+    lay(&mut hands[worker as usize], bounds);
 }
 
 // The first slot of the list, which is in this state, leaves the list if it is Back.

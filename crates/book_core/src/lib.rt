@@ -22,7 +22,9 @@
 //!   the slots on the way from the root to the slot that was taken last, with their nodes: `take`
 //!   cuts it off where the way to the new slot leaves it, and makes the nodes from there on, which is
 //!   one in a depth-first search. The node of a slot that no worker holds is made from the root's
-//!   (`nodes`). `bounding` has the probes and the bounds.
+//!   (`nodes`). `bounding` has the probes and the bounds. Bounds may also be worked out without the
+//!   book (`foreseen`), which takes them where they are of its instance and of the slot's node
+//!   (`comparing`).
 //!
 //! Definitions: `search_rules` has the machine (`specs/Book`, `Events`, `Step`), the replay, the
 //! cover and the counts. Here `specs/Replies` says what it is that a method is a step, `Keeps` what
@@ -35,8 +37,10 @@ mod book;
 mod bounding;
 mod case;
 mod closing;
+mod comparing;
 mod decks;
 mod finding;
+mod foreseen;
 mod growing;
 mod hand;
 mod hands;
@@ -61,6 +65,8 @@ mod waiting;
 
 pub use book::Book;
 pub use case::Case;
+pub use comparing::same_instance;
+pub use foreseen::Foreseen;
 pub use laws::every_list_keeps;
 pub use opening::open_book;
 pub use reply::Reply;

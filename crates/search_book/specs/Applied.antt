@@ -17,6 +17,6 @@ pub record Takes (old : Book) (w : ℕ) (r : Reply) (new : Book) : Type 0 where
 abbrev pub Applies : Book → Event → Reply → Book → Type 0
 Applies old (event.Take w) r new = Takes old w r new
 Applies old (event.Split id) r new = Does old (machine.split id) r new
-Applies old (event.Post cut) r new = Does old (machine.post cut) r new
-Applies old (event.Replace plan) r new = Does old (machine.replace plan) r new
+Applies old (event.Post cut) r new = Does old (machine.post cut.value) r new
+Applies old (event.Replace plan) r new = Does old (machine.replace plan.value) r new
 Applies old e r new = Answers old (event_of e) r new

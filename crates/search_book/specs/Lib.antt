@@ -2,3 +2,4 @@ pub mod Events
 pub mod Replies
 pub mod Applied
 pub mod Shares
+pub mod Following

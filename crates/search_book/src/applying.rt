@@ -1,15 +1,36 @@
-//! One event of a book that is kept with its total.
-ghost use Rattle.std.specs.Prelude.{◌≡◌, ◌+◌, ◌<◌, length};
+//! One event of a book that is kept with its total, and an event with a taking after it.
+ghost use Rattle.std.specs.Prelude.{◌≡◌, ◌+◌, ◌<◌, ◌≤◌, length};
 ghost use Rattle.std.specs.Bool.{OnFalse};
+ghost use Rattle.book_core.specs.Replies.{Does};
+ghost use Rattle.search_rules.specs.Events as machine;
 ghost use Rattle.search_book.specs.Applied.{Applies};
 ghost use Rattle.search_book.specs.Events.{IsAllowed};
+ghost use Rattle.search_book.specs.Following.{Follows, counted};
 ghost use Rattle.search_book.specs.Replies.{is_accepted, accepted};
 
 use crate::event::Event;
 use crate::kept::Kept;
+use crate::next::Next;
 use crate::replies::is_accepted;
-use book_core::{Book, Reply};
+use book_core::{Book, Foreseen, Reply};
+use lock_model::Plan;
+use place_refute::Cut;
+use search_rules::Ground;
 use std::sync::ledger::{Ledger, Share};
+
+// Keeps a boxed cut.
+fn post(book: &mut Book, cut: Box<Cut>) -> Reply
+    ensures { Does book.old (machine.post cut.value) result book.new }
+{
+    book.post(Box::into_inner(cut))
+}
+
+// Makes a boxed plan the best one.
+fn replace(book: &mut Book, plan: Box<Plan>) -> Reply
+    ensures { Does book.old (machine.replace plan.value) result book.new }
+{
+    book.replace(Box::into_inner(plan))
+}
 
 // Makes one event by the method of its name.
 fn make(book: &mut Book, event: Event) -> Reply
@@ -19,14 +40,11 @@ fn make(book: &mut Book, event: Event) -> Reply
     match event {
         Event::Take(worker) => book.take(worker),
         Event::Split(id) => book.split(id),
-        Event::CloseBound(id) => book.close_bound(id),
-        Event::CloseCut(id, number) => book.close_cut(id, number),
-        Event::Post(cut) => book.post(cut),
-        Event::Park(id, chamber, place, hard) => book.park(id, chamber, place, &hard),
-        Event::Replace(plan) => book.replace(plan),
+        Event::Close(id, why) => book.close(id, why),
+        Event::Post(cut) => post(book, cut),
+        Event::Park(id, chamber, place, hard) => book.park(id, chamber, place, &*hard),
+        Event::Replace(plan) => replace(book, plan),
         Event::Release(worker) => book.release(worker),
-        Event::CloseThroughput(id) => book.close_throughput(id),
-        Event::CloseProbe(id, ship) => book.close_probe(id, ship),
     }
 }
 
@@ -59,4 +77,42 @@ pub fn apply<L: Ledger>(kept: &mut Kept<L>, share: &mut Share<L>, event: Event) 
         kept.tally.add(share, 1);
     }
     reply
+}
+
+// Hands bounds that were worked out beforehand to the book, where the event may need them.
+fn foresee(book: &mut Book, ending: &Event, foreseen: Option<Foreseen<'_>>)
+    ensures { book.new ≡ book.old }
+{
+    let Some(foreseen) = foreseen else {
+        return;
+    };
+    match ending {
+        Event::Split(id) | Event::Close(id, Ground::Probe(_)) => book.foresee(*id, foreseen),
+        _ => {}
+    }
+}
+
+/// Makes an event and, where it is accepted, `Take` of this worker, each as `apply` does. Bounds of
+/// the children of the event's slot, which were worked out beforehand, spare the book that work.
+pub fn apply_and_take<L: Ledger>(
+    kept: &mut Kept<L>,
+    share: &mut Share<L>,
+    worker: u8,
+    ending: Event,
+    foreseen: Option<Foreseen<'_>>,
+) -> Next
+    requires part { 0 < share.old.parts }
+    requires worker { worker ≤ 8 }
+    requires allowed { IsAllowed ending }
+    ensures steps { Follows kept.old.book ending worker result kept.new.book }
+    ensures total { kept.new.tally.total ≡ kept.old.tally.total + counted result }
+    ensures amount { share.new.amount ≡ share.old.amount + counted result }
+    ensures parts { share.new.parts ≡ share.old.parts }
+{
+    foresee(&mut kept.book, &ending, foreseen);
+    let reply = apply(kept, share, ending);
+    if !is_accepted(&reply) {
+        return Next::Refused(reply);
+    }
+    Next::Taken(apply(kept, share, Event::Take(worker)))
 }

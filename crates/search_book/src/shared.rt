@@ -1,15 +1,22 @@
 //! The book that threads share, and who waits for it.
 ghost use Rattle.std.specs.Prelude.{◌≡◌, ◌+◌, ◌<◌, ◌≤◌, false};
 ghost use Rattle.search_book.specs.Events.{IsAllowed};
+ghost use Rattle.search_book.specs.Following.{counted};
 ghost use Rattle.search_book.specs.Replies.{accepted, is_idle};
 
-use crate::applying::apply;
+use crate::applying::{apply, apply_and_take};
 use crate::event::Event;
 use crate::kept::Kept;
+use crate::next::Next;
 use crate::replies::{is_accepted, is_idle};
-use book_core::Reply;
+use book_core::{Foreseen, Reply};
+use std::hint::spin_loop;
 use std::sync::ledger::{Ledger, Share};
-use std::sync::{Condvar, Mutex, Wait};
+use std::sync::{Condvar, Mutex, MutexGuard, Wait};
+
+// How often a thread tries for the lock before it may sleep. The lock is held for about a
+// microsecond, and sleeping and waking take fifty times that.
+const TRIES: u32 = 200;
 
 /// A share without parts, which gathers the others when the book is taken back.
 #[derive(Drop)]
@@ -28,6 +35,38 @@ pub struct SharedBook<L: Ledger> {
 }
 
 impl<L: Ledger> SharedBook<L> {
+    // Takes the lock, and tries for a while before it may sleep.
+    fn lock_soon<W: Wait>(&self, rt: &W) -> MutexGuard<'_, Kept<L>> {
+        for _ in 0..TRIES {
+            if let Some(kept) = self.lock.try_lock() {
+                return kept;
+            }
+            spin_loop();
+        }
+        self.lock.lock(rt)
+    }
+
+    // Leaves the lock after an accepted event, and tells those who wait, if any do.
+    fn leave(&self, kept: MutexGuard<'_, Kept<L>>) {
+        let waiting = kept.waiting;
+        drop(kept);
+        if waiting > 0 {
+            self.told.notify_all();
+        }
+    }
+
+    // Leaves the lock until some event is accepted.
+    fn wait<'k, W: Wait>(
+        &self,
+        rt: &W,
+        mut kept: MutexGuard<'k, Kept<L>>,
+    ) -> MutexGuard<'k, Kept<L>> {
+        kept.waiting = kept.waiting.saturating_add(1);
+        let mut kept = self.told.wait(rt, kept);
+        kept.waiting = kept.waiting.saturating_sub(1);
+        kept
+    }
+
     /// Waits for the lock, and makes one event as `apply` does. The share grows by one exactly where
     /// the event is accepted, and then all who wait are told. The share needs a part, and keeps its
     /// parts. `Take` and `Release` need a worker of 0 to 8, and `Park` a deck that is spot-hard for
@@ -38,16 +77,41 @@ impl<L: Ledger> SharedBook<L> {
         ensures amount { share.new.amount ≡ share.old.amount + accepted result }
         ensures parts { share.new.parts ≡ share.old.parts }
     {
-        let mut kept = self.lock.lock(rt);
+        let mut kept = self.lock_soon(rt);
         let reply = apply(&mut *kept, share, event);
         if is_accepted(&reply) {
-            self.told.notify_all();
+            self.leave(kept);
         }
         reply
     }
 
-    /// The same for `Take` by a worker of 0 to 8, but that it waits, while nothing is open and a slot
-    /// is held, until some event is accepted: it never answers `Idle`.
+    /// Waits for the lock, and makes an event and, where it is accepted, `Take` of this worker, as
+    /// `apply_and_take` does in one holding of the lock. The share grows by one for each of the two
+    /// that is accepted, and then all who wait are told. The conditions are those of `with_book`.
+    pub fn end_and_take<W: Wait>(
+        &self,
+        rt: &W,
+        share: &mut Share<L>,
+        worker: u8,
+        ending: Event,
+        foreseen: Option<Foreseen<'_>>,
+    ) -> Next
+        requires part { 0 < share.old.parts }
+        requires worker { worker ≤ 8 }
+        requires allowed { IsAllowed ending }
+        ensures amount { share.new.amount ≡ share.old.amount + counted result }
+        ensures parts { share.new.parts ≡ share.old.parts }
+    {
+        let mut kept = self.lock_soon(rt);
+        let next = apply_and_take(&mut *kept, share, worker, ending, foreseen);
+        if let Next::Taken(_) = next {
+            self.leave(kept);
+        }
+        next
+    }
+
+    /// The same as `with_book` for `Take` by a worker of 0 to 8, but that it waits, while nothing is
+    /// open and a slot is held, until some event is accepted: it never answers `Idle`.
     pub fn take_or_wait<W: Wait>(&self, rt: &W, share: &mut Share<L>, worker: u8) -> Reply
         requires part { 0 < share.old.parts }
         requires worker { worker ≤ 8 }
@@ -55,16 +119,16 @@ impl<L: Ledger> SharedBook<L> {
         ensures parts { share.new.parts ≡ share.old.parts }
         ensures waited { is_idle result ≡ false }
     {
-        let mut kept = self.lock.lock(rt);
+        let mut kept = self.lock_soon(rt);
         for _ in rt.forever() {
             let reply = apply(&mut *kept, share, Event::Take(worker));
             if !is_idle(&reply) {
                 if is_accepted(&reply) {
-                    self.told.notify_all();
+                    self.leave(kept);
                 }
                 return reply;
             }
-            kept = self.told.wait(rt, kept);
+            kept = self.wait(rt, kept);
         }
         unreachable!()
     }

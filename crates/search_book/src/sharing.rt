@@ -46,7 +46,11 @@ pub fn share_book<L: Ledger>(blank: Blank, book: Book, workers: u8) -> (SharedBo
     let mut shares = cut_shares(&mut all, workers);
     shares.push(all);
     let shared = SharedBook {
-        lock: Mutex::new(Kept { book, tally }),
+        lock: Mutex::new(Kept {
+            book,
+            tally,
+            waiting: 0,
+        }),
         told: Condvar::new(),
         nobody: Mutex::new(Nobody { share: nobody }),
     };
@@ -67,7 +71,11 @@ impl<L: Ledger> SharedBook<L> {
         } = self;
         let Nobody { share: mut all } = nobody.into_inner();
         shares.gather(&mut all);
-        let Kept { book, mut tally } = lock.into_inner();
+        let Kept {
+            book,
+            mut tally,
+            waiting: _,
+        } = lock.into_inner();
         tally.audit(&mut all);
         book
     }

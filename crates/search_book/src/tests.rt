@@ -2,6 +2,7 @@
 mod asking;
 mod counting;
 mod fixture;
+mod following;
 mod parking;
 mod parts;
 mod table;

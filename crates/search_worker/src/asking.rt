@@ -1,19 +1,18 @@
-//! What a worker asks of the shared book, each under its lock, and of the word beside it.
+//! What a worker asks of the shared book, under its lock, and of the word beside it.
 ghost use Rattle.std.specs.Prelude.{◌≡◌};
 ghost use Rattle.search_book.specs.Events.{IsAllowed};
 ghost use Rattle.search_worker.specs.Serving.{Serves};
 
 use crate::worker::{Post, Worker};
-use book_core::Reply;
-use lock_io::{Gate, Point};
-use search_book::Event;
+use book_core::{Foreseen, Reply};
+use lock_io::Gate;
+use search_book::{Event, Next};
 use std::sync::Wait;
 use std::sync::ledger::Ledger;
 
 /// Makes one event of the shared book.
-pub(crate) fn ask<L: Ledger, W: Wait>(
-    rt: &W,
-    post: &Post<'_, L>,
+pub(crate) fn ask<L: Ledger, W: Wait, G: Gate>(
+    post: &Post<'_, L, W, G>,
     worker: &mut Worker<L>,
     event: Event,
 ) -> Reply
@@ -21,40 +20,60 @@ pub(crate) fn ask<L: Ledger, W: Wait>(
     requires allowed { IsAllowed event }
     ensures serves { Serves post.now worker.new }
 {
-    post.book.with_book(rt, &mut worker.hands.share, event)
+    post.book.with_book(post.rt, &mut worker.hands.share, event)
 }
 
-// Waits for a slot while none is open and one may come.
-fn wait_for_slot<L: Ledger, W: Wait>(rt: &W, post: &Post<'_, L>, worker: &mut Worker<L>) -> Reply
-    requires serves { Serves post.now worker.old }
-    ensures serves { Serves post.now worker.new }
-{
-    post.book
-        .take_or_wait(rt, &mut worker.hands.share, post.number)
-}
-
-/// Asks for a slot, and waits while none is open and one may come. The gate is told before the
-/// waiting.
-pub(crate) fn ask_for_slot<L: Ledger, W: Wait, G: Gate>(
-    rt: &W,
-    gate: &G,
-    post: &Post<'_, L>,
+/// Ends the held node by this event, with the bounds of its children, if they are known and were not
+/// handed over yet. Where the book accepts it, the next slot is taken at once.
+pub(crate) fn end_and_take<L: Ledger, W: Wait, G: Gate>(
+    post: &Post<'_, L, W, G>,
     worker: &mut Worker<L>,
-) -> Reply
+    ending: Event,
+    foreseen: Option<Foreseen<'_>>,
+) -> bool
     requires serves { Serves post.now worker.old }
+    requires allowed { IsAllowed ending }
     ensures serves { Serves post.now worker.new }
 {
-    match ask(rt, post, worker, Event::Take(post.number)) {
-        Reply::Idle => {
-            gate.at(post.number, Point::Idle);
-            wait_for_slot(rt, post, worker)
+    let share = &mut worker.hands.share;
+    match post
+        .book
+        .end_and_take(post.rt, share, post.number, ending, foreseen)
+    {
+        Next::Taken(reply) => {
+            worker.taken = reply;
+            true
         }
-        reply => reply,
+        Next::Refused(_) => false,
     }
 }
 
+/// Takes a slot.
+pub(crate) fn take<L: Ledger, W: Wait, G: Gate>(post: &Post<'_, L, W, G>, worker: &mut Worker<L>)
+    requires serves { Serves post.now worker.old }
+    ensures serves { Serves post.now worker.new }
+{
+    worker.taken = ask(post, worker, Event::Take(post.number));
+}
+
+/// Takes a slot, and waits while none is open and one may come.
+pub(crate) fn take_or_wait<L: Ledger, W: Wait, G: Gate>(
+    post: &Post<'_, L, W, G>,
+    worker: &mut Worker<L>,
+)
+    requires serves { Serves post.now worker.old }
+    ensures serves { Serves post.now worker.new }
+{
+    worker.taken = post
+        .book
+        .take_or_wait(post.rt, &mut worker.hands.share, post.number);
+}
+
 /// The best cost, as far as it is seen from here.
-pub(crate) fn best_cost<L: Ledger>(post: &Post<'_, L>, worker: &mut Worker<L>) -> u64
+pub(crate) fn best_cost<L: Ledger, W: Wait, G: Gate>(
+    post: &Post<'_, L, W, G>,
+    worker: &mut Worker<L>,
+) -> u64
     requires serves { Serves post.now worker.old }
     ensures serves { Serves post.now worker.new }
 {

@@ -1,94 +1,81 @@
-//! Ways to close the node in the worker's hand that need no groups.
+//! Ways to close the node in the worker's hand that need no groups. The book is asked only where a
+//! bound reaches the best cost that was read.
+ghost use Rattle.std.specs.Prelude.{◌≡◌, ◌<◌, length};
 ghost use Rattle.master_branch.specs.Node.{IsNodeOf};
 ghost use Rattle.search_worker.specs.Serving.{Serves};
 
 use crate::arriving::ship_after;
-use crate::asking::ask;
+use crate::asking::end_and_take;
 use crate::taking::Held;
 use crate::worker::{Post, Worker};
-use book_core::Reply;
+use book_core::Foreseen;
 use flow_bounds::bound;
+use lock_io::Gate;
 use search_book::Event;
+use search_rules::Ground;
 use std::sync::Wait;
 use std::sync::ledger::Ledger;
 
-/// Whether a slot was closed.
-pub(crate) fn is_closed(reply: &Reply) -> bool {
-    match reply {
-        Reply::Closed => true,
-        _ => false,
-    }
-}
-
-// Closes the held node where its bound is at least the best cost, and says whether it did. The book
-// is asked only where the bound reaches the cost that was read.
-fn close_by_bound<L: Ledger, W: Wait>(
-    rt: &W,
-    post: &Post<'_, L>,
+// Closes the held node where its bound is at least the best cost, and says whether it did.
+fn close_by_bound<L: Ledger, W: Wait, G: Gate>(
+    post: &Post<'_, L, W, G>,
     worker: &mut Worker<L>,
-    held: &Held,
-    best: u64,
+    held: &Held<'_>,
 ) -> bool
     requires serves { Serves post.now worker.old }
-    requires node { IsNodeOf post.now.instance.now held.now.node }
+    requires node { IsNodeOf post.now.instance.now held.now.node.now }
     ensures serves { Serves post.now worker.new }
 {
-    if bound(post.instance, &held.node) < best {
-        return false;
-    }
-    is_closed(&ask(rt, post, worker, Event::CloseBound(held.id)))
+    bound(post.instance, held.node) >= held.best
+        && end_and_take(post, worker, Event::Close(held.id, Ground::Bound), None)
 }
 
 // Closes the held node where the throughput of the instance is at least the best cost, and says
 // whether it did.
-fn close_by_throughput<L: Ledger, W: Wait>(
-    rt: &W,
-    post: &Post<'_, L>,
+fn close_by_throughput<L: Ledger, W: Wait, G: Gate>(
+    post: &Post<'_, L, W, G>,
     worker: &mut Worker<L>,
-    held: &Held,
+    held: &Held<'_>,
 ) -> bool
     requires serves { Serves post.now worker.old }
     ensures serves { Serves post.now worker.new }
 {
-    is_closed(&ask(rt, post, worker, Event::CloseThroughput(held.id)))
+    post.throughput >= held.best
+        && end_and_take(
+            post,
+            worker,
+            Event::Close(held.id, Ground::Throughput),
+            None,
+        )
 }
 
-// Closes the held node where the probe of the next ship is at least the best cost, and says whether
-// it did.
-fn close_by_probe<L: Ledger, W: Wait>(
-    rt: &W,
-    post: &Post<'_, L>,
+/// Closes the held node where that can be done by its bound or by the throughput, and says whether it
+/// did.
+pub(crate) fn close_early<L: Ledger, W: Wait, G: Gate>(
+    post: &Post<'_, L, W, G>,
     worker: &mut Worker<L>,
-    held: &Held,
+    held: &Held<'_>,
 ) -> bool
     requires serves { Serves post.now worker.old }
+    requires node { IsNodeOf post.now.instance.now held.now.node.now }
     ensures serves { Serves post.now worker.new }
 {
-    let depth = held.node.depth();
-    if depth as usize >= post.instance.ships.as_slice().len() {
-        return false;
-    }
-    let ship = ship_after(post, depth);
-    is_closed(&ask(rt, post, worker, Event::CloseProbe(held.id, ship)))
+    close_by_bound(post, worker, held) || close_by_throughput(post, worker, held)
 }
 
-/// Closes the held node where that can be done without its groups, and says whether it did.
-pub(crate) fn close_early<L: Ledger, W: Wait>(
-    rt: &W,
-    post: &Post<'_, L>,
+/// Closes the held node, which lacks a ship, by the probe of the next ship, and says whether it did.
+/// The book keeps the bounds of the node's children, of which the probe is the least.
+pub(crate) fn close_by_probe<L: Ledger, W: Wait, G: Gate>(
+    post: &Post<'_, L, W, G>,
     worker: &mut Worker<L>,
-    held: &Held,
-    best: u64,
+    held: &Held<'_>,
+    foreseen: Foreseen<'_>,
 ) -> bool
     requires serves { Serves post.now worker.old }
-    requires node { IsNodeOf post.now.instance.now held.now.node }
+    requires lacks { held.now.node.now.depth < length post.now.instance.now.ships }
     ensures serves { Serves post.now worker.new }
 {
-    if close_by_bound(rt, post, worker, held, best) {
-        return true;
-    }
-    if close_by_throughput(rt, post, worker, held) {
-        return true;
-    }
-    close_by_probe(rt, post, worker, held)
+    let ship = ship_after(post, held.node.depth());
+    let closing = Event::Close(held.id, Ground::Probe(ship));
+    end_and_take(post, worker, closing, Some(foreseen))
 }

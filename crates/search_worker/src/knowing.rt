@@ -6,18 +6,19 @@ ghost use Rattle.master_branch.specs.Node.{IsNodeOf};
 ghost use Rattle.node_fate.specs.Fates.{IsGroupAt};
 ghost use Rattle.search_worker.specs.Serving.{Serves};
 
-use crate::asking::ask;
-use crate::closing::is_closed;
+use crate::asking::end_and_take;
 use crate::taking::Held;
 use crate::worker::{Post, Worker};
+use lock_io::Gate;
 use master_branch::Node;
 use search_book::Event;
+use search_rules::Ground;
 use std::sync::Wait;
 use std::sync::ledger::Ledger;
 
 // The number of a known cut that hits this group of the node.
-fn known_cut<L: Ledger>(
-    post: &Post<'_, L>,
+fn known_cut<L: Ledger, W: Wait, G: Gate>(
+    post: &Post<'_, L, W, G>,
     worker: &Worker<L>,
     node: &Node,
     chamber: u8,
@@ -33,62 +34,62 @@ fn known_cut<L: Ledger>(
 }
 
 /// Closes the held node where a known cut hits this group of it, and says whether it did.
-pub(crate) fn close_by_known_cut<L: Ledger, W: Wait>(
-    rt: &W,
-    post: &Post<'_, L>,
+pub(crate) fn close_by_known_cut<L: Ledger, W: Wait, G: Gate>(
+    post: &Post<'_, L, W, G>,
     worker: &mut Worker<L>,
-    held: &Held,
+    held: &Held<'_>,
     chamber: u8,
     place: u8,
 ) -> bool
     requires serves { Serves post.now worker.old }
-    requires node { IsNodeOf post.now.instance.now held.now.node }
-    requires at { IsGroupAt post.now.instance.now held.now.node chamber place }
+    requires node { IsNodeOf post.now.instance.now held.now.node.now }
+    requires at { IsGroupAt post.now.instance.now held.now.node.now chamber place }
     ensures serves { Serves post.now worker.new }
 {
-    match known_cut(post, worker, &held.node, chamber, place) {
-        Some(number) => is_closed(&ask(rt, post, worker, Event::CloseCut(held.id, number))),
+    match known_cut(post, worker, held.node, chamber, place) {
+        Some(number) => {
+            let closing = Event::Close(held.id, Ground::Cut(number));
+            end_and_take(post, worker, closing, None)
+        }
         None => false,
     }
 }
 
 // The same, where nothing is remembered of the group.
-fn close_if_new<L: Ledger, W: Wait>(
-    rt: &W,
-    post: &Post<'_, L>,
+fn close_if_new<L: Ledger, W: Wait, G: Gate>(
+    post: &Post<'_, L, W, G>,
     worker: &mut Worker<L>,
-    held: &Held,
+    held: &Held<'_>,
     chamber: u8,
     place: u8,
 ) -> bool
     requires serves { Serves post.now worker.old }
-    requires node { IsNodeOf post.now.instance.now held.now.node }
-    requires at { IsGroupAt post.now.instance.now held.now.node chamber place }
+    requires node { IsNodeOf post.now.instance.now held.now.node.now }
+    requires at { IsGroupAt post.now.instance.now held.now.node.now chamber place }
     ensures serves { Serves post.now worker.new }
 {
     let ships = &held.node.line(chamber)[place as usize].ships;
     if worker.memory.find(chamber, ships).is_some() {
         return false;
     }
-    close_by_known_cut(rt, post, worker, held, chamber, place)
+    close_by_known_cut(post, worker, held, chamber, place)
 }
 
 // Closes the held node where a known cut hits a group of this line of which nothing is remembered,
 // and says whether it did.
-fn close_line_if_new<L: Ledger, W: Wait>(
-    rt: &W,
-    post: &Post<'_, L>,
+fn close_line_if_new<L: Ledger, W: Wait, G: Gate>(
+    post: &Post<'_, L, W, G>,
     worker: &mut Worker<L>,
-    held: &Held,
+    held: &Held<'_>,
     chamber: u8,
 ) -> bool
     requires serves { Serves post.now worker.old }
-    requires node { IsNodeOf post.now.instance.now held.now.node }
+    requires node { IsNodeOf post.now.instance.now held.now.node.now }
     requires chamber_in { chamber < length post.now.instance.now.chambers }
     ensures serves { Serves post.now worker.new }
 {
     for place in 0..held.node.line(chamber).len() {
-        if close_if_new(rt, post, worker, held, chamber, place as u8) {
+        if close_if_new(post, worker, held, chamber, place as u8) {
             return true;
         }
     }
@@ -97,18 +98,17 @@ fn close_line_if_new<L: Ledger, W: Wait>(
 
 /// Closes the held node where a known cut hits any group of it of which nothing is remembered, and
 /// says whether it did.
-pub(crate) fn close_any_if_new<L: Ledger, W: Wait>(
-    rt: &W,
-    post: &Post<'_, L>,
+pub(crate) fn close_any_if_new<L: Ledger, W: Wait, G: Gate>(
+    post: &Post<'_, L, W, G>,
     worker: &mut Worker<L>,
-    held: &Held,
+    held: &Held<'_>,
 ) -> bool
     requires serves { Serves post.now worker.old }
-    requires node { IsNodeOf post.now.instance.now held.now.node }
+    requires node { IsNodeOf post.now.instance.now held.now.node.now }
     ensures serves { Serves post.now worker.new }
 {
     for chamber in 0..post.instance.chambers.as_slice().len() as u8 {
-        if close_line_if_new(rt, post, worker, held, chamber) {
+        if close_line_if_new(post, worker, held, chamber) {
             return true;
         }
     }

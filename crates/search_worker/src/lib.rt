@@ -2,7 +2,8 @@
 //!
 //! `search` takes nodes of a shared book and works on each until it is closed, split or parked, as
 //! long as any is open or held and the budget lasts. It looks at the best cost and at the cuts of
-//! other workers beside the lock, and takes the lock once for each event. Where memory is refused,
+//! other workers, and works out bounds, beside the lock. It takes the lock once for most nodes, to
+//! end one and take the next; a cut or a plan is an event before that. Where memory is refused,
 //! it releases the node in its hand and ends, so that nobody waits for it. It hands back what it was
 //! given (`Hands`), one part of the ledger of accepted events and one part of the shared best cost.
 //!
@@ -10,9 +11,9 @@
 //! one of the instance (`trusting`), and takes every answer that doesn't come to a worker of these
 //! rules for a reason to end. The book stays the authority: it accepts an event or refuses it.
 //!
-//! For each node `taking` takes it, `working` reads the best cost and goes through the ways to end
-//! the node: `closing` without the placers, `knowing` by a known cut, then what becomes of it by
-//! `node_fate`, which `ending` makes so. `sharing` posts what the others are to see.
+//! For each node that was taken (`taking`) `working` reads the best cost and goes through the ways
+//! to end the node: `closing` without the placers, `knowing` by a known cut, then what becomes of it
+//! by `node_fate`, which `ending` makes so. `sharing` posts what the others are to see.
 //!
 //! `asking` makes each event, and waits. `worker` is what a worker has, and its post, which stays.
 //!

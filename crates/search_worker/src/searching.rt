@@ -2,10 +2,10 @@
 ghost use Rattle.std.specs.Prelude.{◌≡◌, ◌<◌};
 ghost use Rattle.search_worker.specs.Serving.{Serves};
 
-use crate::asking::ask;
+use crate::asking::{ask, take};
 use crate::hands::{Hands, Shared};
 use crate::stop::Stop;
-use crate::taking::take;
+use crate::taking::taken;
 use crate::worker::{Post, Worker};
 use crate::working::work;
 use lock_io::{Gate, Point};
@@ -17,20 +17,18 @@ use std::sync::ledger::Ledger;
 // Takes slots and works on them, until nothing is open or held or the nodes are spent. After a
 // refusal a slot may be held still.
 fn search_slots<L: Ledger, W: Wait, G: Gate>(
-    rt: &W,
-    alloc: Global,
-    gate: &G,
-    post: &Post<'_, L>,
+    post: &Post<'_, L, W, G>,
     worker: &mut Worker<L>,
 ) -> Result<(), Stop>
     requires serves { Serves post.now worker.old }
     ensures serves { Serves post.now worker.new }
 {
-    for _ in rt.forever() {
-        match take(rt, gate, post, worker)? {
-            Some(held) => {
-                work(rt, alloc, gate, post, worker, &held)?;
-                gate.at(post.number, Point::Closed);
+    take(post, worker);
+    for _ in post.rt.forever() {
+        match taken(post, worker)? {
+            Some((id, node)) => {
+                work(post, worker, id, &node)?;
+                post.gate.at(post.number, Point::Closed);
             }
             None => return Ok(()),
         }
@@ -55,10 +53,10 @@ pub fn search<L: Ledger, W: Wait, G: Gate>(
     requires seat { hands.seat.table ≡ shared.now.word.now.table }
     ensures seat { result.seat.table ≡ hands.seat.table }
 {
-    let post = Post::new(shared, worker);
+    let post = Post::new(rt, alloc, gate, shared, worker);
     let mut worker = Worker::new(alloc, hands);
-    if let Err(Stop) = search_slots(rt, alloc, gate, &post, &mut worker) {
-        ask(rt, &post, &mut worker, Event::Release(post.number));
+    if let Err(Stop) = search_slots(&post, &mut worker) {
+        ask(&post, &mut worker, Event::Release(post.number));
     }
     worker.hands
 }

@@ -5,15 +5,15 @@ use crate::asking::ask;
 use crate::stop::Stop;
 use crate::worker::{Post, Worker};
 use book_core::Reply;
+use lock_io::Gate;
 use place_refute::{Cut, copy_cut};
 use search_book::Event;
 use std::sync::Wait;
 use std::sync::ledger::Ledger;
 
 // Posts a cut of the book to the pool. Without memory the others find it in the book alone.
-fn show_cut<L: Ledger, W: Wait>(
-    rt: &W,
-    post: &Post<'_, L>,
+fn show_cut<L: Ledger, W: Wait, G: Gate>(
+    post: &Post<'_, L, W, G>,
     worker: &mut Worker<L>,
     cut: Cut,
     number: u64,
@@ -21,16 +21,15 @@ fn show_cut<L: Ledger, W: Wait>(
     requires serves { Serves post.now worker.old }
     ensures serves { Serves post.now worker.new }
 {
-    if let Ok(token) = post.pool.post(rt, cut, number) {
+    if let Ok(token) = post.pool.post(post.rt, cut, number) {
         let _ = worker.tokens.add(token);
     }
 }
 
 /// Posts a cut to the book, and a copy with its number to the pool. The pool goes without where there
 /// is no memory for the copy.
-pub(crate) fn post_cut<L: Ledger, W: Wait>(
-    rt: &W,
-    post: &Post<'_, L>,
+pub(crate) fn post_cut<L: Ledger, W: Wait, G: Gate>(
+    post: &Post<'_, L, W, G>,
     worker: &mut Worker<L>,
     cut: Cut,
 ) -> Result<u64, Stop>
@@ -38,17 +37,22 @@ pub(crate) fn post_cut<L: Ledger, W: Wait>(
     ensures serves { Serves post.now worker.new }
 {
     let copy = copy_cut(&cut).ok();
-    let Reply::Posted(number) = ask(rt, post, worker, Event::Post(cut)) else {
+    let cut = Box::new(post.alloc, cut)?;
+    let Reply::Posted(number) = ask(post, worker, Event::Post(cut)) else {
         return Err(Stop);
     };
     if let Some(copy) = copy {
-        show_cut(rt, post, worker, copy, number);
+        show_cut(post, worker, copy, number);
     }
     Ok(number)
 }
 
 /// Lowers the shared best cost to that of a plan which the book took.
-pub(crate) fn show_cost<L: Ledger>(post: &Post<'_, L>, worker: &mut Worker<L>, cost: u64)
+pub(crate) fn show_cost<L: Ledger, W: Wait, G: Gate>(
+    post: &Post<'_, L, W, G>,
+    worker: &mut Worker<L>,
+    cost: u64,
+)
     requires serves { Serves post.now worker.old }
     ensures serves { Serves post.now worker.new }
 {

@@ -1,11 +1,18 @@
 //! Why a worker ends early.
 
 use plain_text::NoMemory;
+use std::alloc::AllocFailed;
 
 /// The worker is to release and to end: memory was refused, or the book answered what it doesn't
 /// answer a worker that keeps the rules.
 #[derive(Debug, Drop)]
 pub(crate) struct Stop;
+
+impl<T: Drop> From<AllocFailed<T>> for Stop {
+    fn from(_want: AllocFailed<T>) -> Stop {
+        Stop
+    }
+}
 
 impl From<NoMemory> for Stop {
     fn from(_want: NoMemory) -> Stop {

@@ -1,52 +1,66 @@
-//! The slot that a worker takes.
+//! The slot that a worker was given.
+ghost use Rattle.std.specs.Prelude.{◌≡◌};
 ghost use Rattle.search_worker.specs.Serving.{Serves};
 
-use crate::asking::{ask_for_slot, best_cost};
+use crate::asking::{best_cost, take_or_wait};
 use crate::stop::Stop;
 use crate::worker::{Post, Worker};
 use book_core::Reply;
 use lock_io::{Gate, Point};
 use master_branch::Node;
+use std::mem;
 use std::sync::Wait;
 use std::sync::ledger::Ledger;
 
-/// A slot in the worker's hand, and its node.
+/// A slot in the worker's hand, its node, and the best cost that was read for it, in minutes.
 #[derive(Debug, Drop)]
-pub(crate) struct Held {
+pub(crate) struct Held<'n> {
     pub(crate) id: u32,
-    pub(crate) node: Node,
+    pub(crate) node: &'n Node,
+    pub(crate) best: u64,
 }
 
-/// Takes a slot, and waits where none is open but one may come. None where nothing is open or held,
-/// or the nodes are spent.
-pub(crate) fn take<L: Ledger, W: Wait, G: Gate>(
-    rt: &W,
-    gate: &G,
-    post: &Post<'_, L>,
-    worker: &mut Worker<L>,
-) -> Result<Option<Held>, Stop>
+// Waits for a slot, where none was open but one may come. The gate is told before the waiting.
+fn wait_if_idle<L: Ledger, W: Wait, G: Gate>(post: &Post<'_, L, W, G>, worker: &mut Worker<L>)
     requires serves { Serves post.now worker.old }
     ensures serves { Serves post.now worker.new }
 {
-    match ask_for_slot(rt, gate, post, worker) {
-        Reply::Node(id, node) => Ok(Some(Held { id, node })),
+    if let Reply::Idle = worker.taken {
+        post.gate.at(post.number, Point::Idle);
+        take_or_wait(post, worker);
+    }
+}
+
+/// The slot that the worker took, and its node; it waits where none was open but one may come. None
+/// where nothing is open or held, or the nodes are spent.
+pub(crate) fn taken<L: Ledger, W: Wait, G: Gate>(
+    post: &Post<'_, L, W, G>,
+    worker: &mut Worker<L>,
+) -> Result<Option<(u32, Node)>, Stop>
+    requires serves { Serves post.now worker.old }
+    ensures serves { Serves post.now worker.new }
+{
+    wait_if_idle(post, worker);
+    match mem::replace(&mut worker.taken, Reply::Idle) {
+        Reply::Node(id, node) => Ok(Some((id, node))),
         Reply::Done | Reply::NodesSpent(_) => Ok(None),
         _ => Err(Stop),
     }
 }
 
 /// Tells the gate of a node that was taken, and reads the best cost for it.
-pub(crate) fn read_best_cost<L: Ledger, G: Gate>(
-    gate: &G,
-    post: &Post<'_, L>,
+pub(crate) fn hold<'n, L: Ledger, W: Wait, G: Gate>(
+    post: &Post<'_, L, W, G>,
     worker: &mut Worker<L>,
-    node: &Node,
-) -> u64
+    id: u32,
+    node: &'n Node,
+) -> Held<'n>
     requires serves { Serves post.now worker.old }
     ensures serves { Serves post.now worker.new }
+    ensures node { result.node.now ≡ node.now }
 {
-    gate.at(post.number, Point::Took(node.depth()));
+    post.gate.at(post.number, Point::Took(node.depth()));
     let best = best_cost(post, worker);
-    gate.at(post.number, Point::Read(best));
-    best
+    post.gate.at(post.number, Point::Read(best));
+    Held { id, node, best }
 }

@@ -5,7 +5,9 @@ ghost use Rattle.search_book.specs.Events.{IsAllowed};
 use super::fixture::both;
 use crate::{Event, SharedBook};
 use book_core::{Book, Reply};
+use lock_model::Plan;
 use place_refute::Cut;
+use search_rules::Ground;
 use std::process::Abort;
 use std::sync::Wait;
 use std::sync::ledger::{Ledger, Share};
@@ -20,10 +22,7 @@ pub(crate) enum Ask {
     /// Worker 1 takes a slot.
     TakeOther,
     Split(u32),
-    CloseBound(u32),
-    CloseCut(u32, u64),
-    CloseThroughput(u32),
-    CloseProbe(u32, u8),
+    Close(u32, Ground),
     Release,
 }
 
@@ -34,10 +33,7 @@ fn event_of(ask: Ask) -> Event
         Ask::Wait | Ask::Take => Event::Take(0),
         Ask::TakeOther => Event::Take(1),
         Ask::Split(id) => Event::Split(id),
-        Ask::CloseBound(id) => Event::CloseBound(id),
-        Ask::CloseCut(id, number) => Event::CloseCut(id, number),
-        Ask::CloseThroughput(id) => Event::CloseThroughput(id),
-        Ask::CloseProbe(id, ship) => Event::CloseProbe(id, ship),
+        Ask::Close(id, why) => Event::Close(id, why),
         Ask::Release => Event::Release(0),
     }
 }
@@ -48,10 +44,7 @@ fn direct(book: &mut Book, ask: Ask) -> Reply {
         Ask::Wait | Ask::Take => book.take(0),
         Ask::TakeOther => book.take(1),
         Ask::Split(id) => book.split(id),
-        Ask::CloseBound(id) => book.close_bound(id),
-        Ask::CloseCut(id, number) => book.close_cut(id, number),
-        Ask::CloseThroughput(id) => book.close_throughput(id),
-        Ask::CloseProbe(id, ship) => book.close_probe(id, ship),
+        Ask::Close(id, why) => book.close(id, why),
         Ask::Release => book.release(0),
     }
 }
@@ -108,7 +101,7 @@ pub(crate) fn posts<L: Ledger, R: Wait + Abort>(
     shared: &SharedBook<L>,
     mine: &mut Share<L>,
     twin: &mut Book,
-    first: Cut,
+    first: Box<Cut>,
     second: Cut,
 )
     requires part { mine.old.parts ≡ 1 }
@@ -124,10 +117,11 @@ pub(crate) fn replaces<L: Ledger, R: Wait + Abort>(
     shared: &SharedBook<L>,
     mine: &mut Share<L>,
     twin: &mut Book,
+    plan: Box<Plan>,
 )
     requires part { mine.old.parts ≡ 1 }
     ensures part { mine.new.parts ≡ 1 }
 {
-    let reply = shared.with_book(rt, mine, Event::Replace(both()));
+    let reply = shared.with_book(rt, mine, Event::Replace(plan));
     assert_eq!(rt; reply, twin.replace(both()));
 }

@@ -71,7 +71,11 @@ fn count_of<L: Ledger, R: Abort>(rt: &R, blank: Blank, book: Book)
 {
     let (mut tally, mut share) = blank.open::<L>();
     tally.add(&mut share, book.history_len());
-    let mut kept = Kept { book, tally };
+    let mut kept = Kept {
+        book,
+        tally,
+        waiting: 0,
+    };
     expect_taken(rt, &mut kept, &mut share);
     expect(
         rt,

@@ -3,12 +3,15 @@ ghost use Rattle.std.specs.Prelude.{◌≡◌};
 ghost use Rattle.refute_rules.specs.Spots.{IsSpotHard};
 
 use super::asking::{Ask, expect_reply, expect_same, posts, replaces};
-use super::fixture::{narrow, open, open_cheap, row_cut, side_by_side, swift};
+use super::fixture::{both, narrow, open, open_cheap, row_cut, side_by_side, swift};
+use super::following::by_foreseen;
 use super::parking::spent_both;
 use super::parts::{Part, give_back, take_part};
 use crate::{Event, SharedBook, share_book};
 use book_core::{Book, Reply};
+use lock_model::Plan;
 use place_refute::Hard;
+use search_rules::Ground;
 use std::alloc::Global;
 use std::marker::Brand;
 use std::process::Abort;
@@ -29,10 +32,10 @@ fn refusals<L: Ledger, R: Wait + Abort>(
     expect_same(rt, shared, mine, twin, Ask::Wait);
     expect_same(rt, shared, mine, twin, Ask::Wait);
     expect_same(rt, shared, mine, twin, Ask::TakeOther);
-    expect_same(rt, shared, mine, twin, Ask::CloseBound(0));
-    expect_same(rt, shared, mine, twin, Ask::CloseCut(0, 0));
-    expect_same(rt, shared, mine, twin, Ask::CloseThroughput(0));
-    expect_same(rt, shared, mine, twin, Ask::CloseProbe(0, 1));
+    expect_same(rt, shared, mine, twin, Ask::Close(0, Ground::Bound));
+    expect_same(rt, shared, mine, twin, Ask::Close(0, Ground::Cut(0)));
+    expect_same(rt, shared, mine, twin, Ask::Close(0, Ground::Throughput));
+    expect_same(rt, shared, mine, twin, Ask::Close(0, Ground::Probe(1)));
 }
 
 // Worker 0 splits slot `id`, which it holds, and takes the next one.
@@ -77,12 +80,12 @@ fn by_cut<L: Ledger, R: Wait + Abort>(
     requires part { mine.old.parts ≡ 1 }
     ensures part { mine.new.parts ≡ 1 }
 {
-    let first = row_cut(alloc)?;
+    let first = Box::new(alloc, row_cut(alloc)?)?;
     let second = row_cut(alloc)?;
     go_to_both(rt, shared, mine, twin);
     expect_reply(rt, shared, mine, Ask::Split(2), Reply::Whole(2));
     posts(rt, shared, mine, twin, first, second);
-    expect_same(rt, shared, mine, twin, Ask::CloseCut(2, 0));
+    expect_same(rt, shared, mine, twin, Ask::Close(2, Ground::Cut(0)));
     expect_same(rt, shared, mine, twin, Ask::Release);
     expect_reply(rt, shared, mine, Ask::Wait, Reply::Ended(0));
     assert_eq!(rt; twin.history_len(), 8);
@@ -95,13 +98,13 @@ fn parks<L: Ledger, R: Wait + Abort>(
     shared: &SharedBook<L>,
     mine: &mut Share<L>,
     twin: &mut Book,
-    hard: Hard,
+    hard: Box<Hard>,
 )
     requires part { mine.old.parts ≡ 1 }
-    requires hard { IsSpotHard hard.deck hard.turns }
+    requires hard { IsSpotHard hard.value.deck hard.value.turns }
     ensures part { mine.new.parts ≡ 1 }
 {
-    let direct = twin.park(2, 0, 0, &hard);
+    let direct = twin.park(2, 0, 0, &*hard);
     let through = shared.with_book(rt, mine, Event::Park(2, 0, 0, hard));
     assert_eq!(rt; through, direct);
 }
@@ -112,16 +115,17 @@ fn by_bound<L: Ledger, R: Wait + Abort>(
     shared: &SharedBook<L>,
     mine: &mut Share<L>,
     twin: &mut Book,
-    hard: Hard,
+    hard: Box<Hard>,
+    plan: Box<Plan>,
 )
     requires part { mine.old.parts ≡ 1 }
-    requires hard { IsSpotHard hard.deck hard.turns }
+    requires hard { IsSpotHard hard.value.deck hard.value.turns }
     ensures part { mine.new.parts ≡ 1 }
 {
     go_to_both(rt, shared, mine, twin);
-    replaces(rt, shared, mine, twin);
+    replaces(rt, shared, mine, twin, plan);
     parks(rt, shared, mine, twin, hard);
-    expect_same(rt, shared, mine, twin, Ask::CloseBound(2));
+    expect_same(rt, shared, mine, twin, Ask::Close(2, Ground::Bound));
     assert_eq!(rt; twin.history_len(), 8);
 }
 
@@ -137,7 +141,7 @@ fn by_probe<L: Ledger, R: Wait + Abort>(
 {
     expect_same(rt, shared, mine, twin, Ask::Wait);
     go_on(rt, shared, mine, twin, 0);
-    expect_same(rt, shared, mine, twin, Ask::CloseProbe(1, 1));
+    expect_same(rt, shared, mine, twin, Ask::Close(1, Ground::Probe(1)));
     assert_eq!(rt; twin.history_len(), 4);
 }
 
@@ -152,7 +156,7 @@ fn by_throughput<L: Ledger, R: Wait + Abort>(
     ensures part { mine.new.parts ≡ 1 }
 {
     expect_same(rt, shared, mine, twin, Ask::Wait);
-    expect_same(rt, shared, mine, twin, Ask::CloseThroughput(0));
+    expect_same(rt, shared, mine, twin, Ask::Close(0, Ground::Throughput));
     assert_eq!(rt; twin.history_len(), 2);
 }
 
@@ -163,6 +167,8 @@ enum List {
     ByBound,
     ByProbe,
     ByThroughput,
+    Foreseen,
+    ForeseenElsewhere,
 }
 
 fn make<L: Ledger, R: Wait + Abort>(
@@ -179,11 +185,20 @@ fn make<L: Ledger, R: Wait + Abort>(
     match list {
         List::ByCut => by_cut(rt, alloc, shared, mine, twin)?,
         List::ByBound => {
-            let hard = spent_both(alloc, twin)?;
-            by_bound(rt, shared, mine, twin, hard);
+            let hard = Box::new(alloc, spent_both(alloc, twin)?)?;
+            let plan = Box::new(alloc, both())?;
+            by_bound(rt, shared, mine, twin, hard, plan);
         }
         List::ByProbe => by_probe(rt, shared, mine, twin),
         List::ByThroughput => by_throughput(rt, shared, mine, twin),
+        List::Foreseen => {
+            let source = open(alloc, narrow()?, 128)?;
+            by_foreseen(rt, shared, mine, twin, &source);
+        }
+        List::ForeseenElsewhere => {
+            let source = open(alloc, swift()?, 128)?;
+            by_foreseen(rt, shared, mine, twin, &source);
+        }
     }
     Ok(())
 }
@@ -284,4 +299,18 @@ fn the_throughput_closes_through_the_lock(rt: HostRuntime) -> Result<(), Fail> {
     let book = open(rt.alloc(), swift()?, 128)?;
     let twin = open(rt.alloc(), swift()?, 128)?;
     compare(&rt, rt.alloc(), book, twin, List::ByThroughput)
+}
+
+#[test]
+fn bounds_that_were_foreseen_change_no_reply(rt: HostRuntime) -> Result<(), Fail> {
+    let book = open(rt.alloc(), narrow()?, 128)?;
+    let twin = open(rt.alloc(), narrow()?, 128)?;
+    compare(&rt, rt.alloc(), book, twin, List::Foreseen)
+}
+
+#[test]
+fn bounds_of_another_instance_are_not_used(rt: HostRuntime) -> Result<(), Fail> {
+    let book = open(rt.alloc(), narrow()?, 128)?;
+    let twin = open(rt.alloc(), narrow()?, 128)?;
+    compare(&rt, rt.alloc(), book, twin, List::ForeseenElsewhere)
 }

@@ -75,6 +75,16 @@ fn split_late<L: Ledger, R: Wait>(rt: &R, shared: &SharedBook<L>, part: Part<L>)
     Part { share, last: None }
 }
 
+// Lets the root go after a while: the worker ends, and then takes nothing.
+fn end_late<L: Ledger, R: Wait>(rt: &R, shared: &SharedBook<L>, part: Part<L>) -> Part<L> {
+    let Part { mut share, last: _ } = part;
+    for _ in 0..1000u32 {
+        yield_now();
+    }
+    shared.end_and_take(rt, &mut share, 0, Event::Release(0), None);
+    Part { share, last: None }
+}
+
 // Takes a slot, when there is one.
 fn take_one<L: Ledger, R: Wait>(rt: &R, shared: &SharedBook<L>, part: Part<L>) -> Part<L> {
     let Part { mut share, last: _ } = part;
@@ -85,12 +95,27 @@ fn take_one<L: Ledger, R: Wait>(rt: &R, shared: &SharedBook<L>, part: Part<L>) -
     Part { share, last }
 }
 
-// Worker 0 holds the root and splits it while worker 1 waits. The slot that worker 1 gets, and the
-// length of the history.
+// Splits the root or ends, after a while.
+fn late<L: Ledger, R: Wait>(
+    rt: &R,
+    shared: &SharedBook<L>,
+    part: Part<L>,
+    splits: bool,
+) -> Part<L> {
+    if splits {
+        split_late(rt, shared, part)
+    } else {
+        end_late(rt, shared, part)
+    }
+}
+
+// Worker 0 holds the root, and splits it or ends while worker 1 waits. The slot that worker 1 gets,
+// and the length of the history.
 fn wait_of<L: Ledger + Send + Sync, R: Threads + Wait + Sync>(
     rt: &R,
     blank: Blank,
     book: Book,
+    splits: bool,
 ) -> Option<(u64, Option<u32>)>
     requires name { blank.name ≡ L.name }
     requires parts { (blank.parts ≡ L.parts) × (blank.parts ≡ 3) }
@@ -101,7 +126,7 @@ fn wait_of<L: Ledger + Send + Sync, R: Threads + Wait + Sync>(
     let lent = &shared;
     let (one, other) = thread::join(
         rt,
-        move || split_late(rt, lent, first),
+        move || late(rt, lent, first, splits),
         move || take_one(rt, lent, second),
     );
     give_back(&mut shares, one);
@@ -121,7 +146,15 @@ fn two_workers_take_and_split(rt: HostRuntime) -> Result<(), Fail> {
 #[test]
 fn who_waits_is_told_of_a_split(rt: HostRuntime) -> Result<(), Fail> {
     let book = open(rt.alloc(), narrow()?, 128)?;
-    let done = wait_of::<Brand, _>(&rt, Blank::new(3), book);
+    let done = wait_of::<Brand, _>(&rt, Blank::new(3), book, true);
     assert_eq!(rt; done, Some((3, Some(1))));
+    Ok(())
+}
+
+#[test]
+fn who_waits_is_told_of_an_ending(rt: HostRuntime) -> Result<(), Fail> {
+    let book = open(rt.alloc(), narrow()?, 128)?;
+    let done = wait_of::<Brand, _>(&rt, Blank::new(3), book, false);
+    assert_eq!(rt; done, Some((3, Some(0))));
     Ok(())
 }
