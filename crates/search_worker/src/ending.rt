@@ -147,7 +147,7 @@ pub(crate) fn end<L: Ledger, W: Wait>(
 {
     match fate {
         Fate::Splits => split(rt, post, worker, held),
-        Fate::Moored(moorings) => complete(rt, post, worker, held, &moorings),
+        Fate::Moored(moorings) => complete(rt, post, worker, held, &*moorings),
         Fate::Refuted(cut) => refute(rt, post, worker, held, cut),
         Fate::Spent(chamber, place, hard) => park(rt, post, worker, held, chamber, place, hard),
     }
