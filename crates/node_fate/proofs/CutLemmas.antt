@@ -10,7 +10,9 @@ use Rattle.lock_model.specs.declared.instance.Instance.{Instance}
 use Rattle.refute_rules.specs.declared.refutation.Refutation.{Refutation}
 use Rattle.refute_rules.specs.Cuts.{Cut, IsCut}
 use Rattle.chamber_place.specs.Parts.{IsShrunk}
-use Rattle.node_fate.specs.Settling.{IsCutOf}
+use Rattle.node_fate.specs.declared.settling.Settled.{Settled}
+use Rattle.node_fate.specs.declared.settling.Settled.TheVariants.{Fits, Refuted, Spent}
+use Rattle.node_fate.specs.Settling.{IsCutOf, IsFound, IsSettled}
 
 module _ (I : Instance) (c : ℕ) (S : List ℕ) where
   abbrev d : Deck
@@ -57,6 +59,16 @@ module _ (I : Instance) (c : ℕ) (S : List ℕ) where
         };
       }
 
-pub shrunk_settles : (I : Instance) (c : ℕ) (S : List ℕ) (d : Deck) (r : Refutation) (turns : ℕ) (cut : Cut)
-    → d ≡ deck_of I c S → c < length I.chambers → All (λ s. s < length I.ships) S → IsShrunk c S d r turns cut → IsCut cut → IsCutOf I c S cut
-shrunk_settles I c S d r turns cut is inside ships shrunk proved = shrunk-hits I c S r turns cut inside ships (subst (λ e. IsShrunk c S e r turns cut) is shrunk) proved
+-- there are as many ships as sizes
+pub as_many : (I : Instance) (c : ℕ) (S : List ℕ) (d : Deck) → d ≡ deck_of I c S → length S ≡ length d.ships
+as_many I c S d is = sym (ap (λ (e : Deck). length e.ships) is ∙ length-map S (size I c S))
+
+-- what is found of the deck of the ships is so of the ships
+found : (I : Instance) (c : ℕ) (S : List ℕ) (turns : ℕ) (settled : Settled) → c < length I.chambers → All (λ s. s < length I.ships) S → IsFound c S (deck_of I c S) turns settled → IsSettled I c S turns settled
+found I c S turns (Fits spots) inside ships is = is
+found I c S turns (Refuted cut) inside ships is = shrunk-hits I c S is.refutation turns cut inside ships is.shrunk is.proved
+found I c S turns (Spent hard spots) inside ships is = is
+
+pub found_settles : (I : Instance) (c : ℕ) (S : List ℕ) (d : Deck) (turns : ℕ) (settled : Settled)
+    → d ≡ deck_of I c S → c < length I.chambers → All (λ s. s < length I.ships) S → IsFound c S d turns settled → IsSettled I c S turns settled
+found_settles I c S d turns settled is inside ships known = found I c S turns settled inside ships (subst (λ e. IsFound c S e turns settled) is known)

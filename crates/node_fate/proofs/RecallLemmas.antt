@@ -5,11 +5,7 @@ use Rattle.lock_model.specs.Fitting.{deck_of}
 use Rattle.lock_model.specs.Cargo.{HasNoClash}
 use Rattle.refute_rules.specs.Cases.{IsHard}
 use Rattle.refute_rules.specs.Spots.{IsSpotHard}
-use Rattle.refute_rules.specs.Trees.{IsSpotTree}
 use Rattle.place_refute.specs.Tried.{Tried}
-use Rattle.spot_place.specs.declared.placing.SpotPlaced.{SpotPlaced}
-use Rattle.spot_place.specs.declared.placing.SpotPlaced.TheVariants as placed
-use Rattle.spot_place.specs.Placing.{IsSpotPlaced, IsRefutedBy, IsSpentFor}
 use Rattle.lock_model.specs.declared.placement.Spot.{Spot}
 use Rattle.lock_model.specs.declared.instance.Instance.{Instance}
 use Rattle.node_fate.specs.declared.settling.Settled.{Settled}
@@ -24,19 +20,7 @@ recalled I c S turns (Spent hard spots) is = is
 pub recalled_settles : (I : Instance) (c : ℕ) (S : List ℕ) (d : Deck) (turns : ℕ) (settled : Settled) → d ≡ deck_of I c S → IsRecalled d turns settled → IsSettled I c S turns settled
 recalled_settles I c S d turns settled is found = recalled I c S turns settled (subst (λ e. IsRecalled e turns settled) is found)
 
--- what the placer by spots answers of a deck
-pub spots_refuted : (d e : Deck) (turns : ℕ) (p : SpotPlaced) (marks : List ℕ) → d ≡ e → p ≡ placed.Refuted marks → IsSpotPlaced d turns p → IsSpotTree e marks
-spots_refuted d e turns p marks same is answer =
-    let refuted : IsRefutedBy d turns marks = subst (IsSpotPlaced d turns) is answer in
-    subst (λ x. IsSpotTree x marks) same refuted.tree
-
-pub spots_spent : (d e : Deck) (turns : ℕ) (p : SpotPlaced) (hard spots : Tried) → d ≡ e → p ≡ placed.Spent spots → IsSpotPlaced d turns p
-    → HasNoClash e → IsHard e turns → hard ≡ record { deck = e; turns = turns } → IsTooHard e turns hard spots
-spots_spent d e turns p hard spots same is answer clear known told =
-    let spent : IsSpentFor d turns spots = subst (IsSpotPlaced d turns) is answer in
-    let own : IsSpentFor e turns spots = subst (λ x. IsSpentFor x turns spots) same spent in
-    record { hard_is = told; spots_are = own.is; spent = record { hard = known; spot_hard = own.spot_hard }; clear = clear }
-
+-- what was found of a deck that was too hard
 pub too_hard : (d : Deck) (turns : ℕ) (hard spots : Tried) → HasNoClash d → hard ≡ record { deck = d; turns = turns } → IsHard d turns → spots ≡ record { deck = d; turns = turns } → IsSpotHard d turns → IsTooHard d turns hard spots
 too_hard d turns hard spots clear told known also spot_known = record { hard_is = told; spots_are = also; spent = record { hard = known; spot_hard = spot_known }; clear = clear }
 

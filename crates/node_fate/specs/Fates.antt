@@ -34,7 +34,7 @@ pub record IsSpentAt (I : Instance) (turns : ℕ) (lines : List (List Group)) (c
 
 abbrev pub IsFate : Instance → ℕ → Node → Fate → Type 0
 IsFate I turns node Splits = node.depth < length I.ships
-IsFate I turns node (Moored moorings) = (node.depth ≡ length I.ships) × AreMoored I moorings node.lines
+IsFate I turns node (Moored moorings) = (node.depth ≡ length I.ships) × AreMoored I moorings.value node.lines
 IsFate I turns node (Refuted cut) = IsNodeCut I node.lines cut
 IsFate I turns node (Spent c p hard) = IsSpentAt I turns node.lines c p hard
 

@@ -9,23 +9,25 @@ use crate::settling::Settled;
 use leaf_plan::Moorings;
 use lock_model::Instance;
 use master_branch::Node;
-use place_refute::{Cut, Hard};
+use place_refute::{Cut, Hard, HardSpots};
 use placed_groups::{Memory, Said};
 use plain_text::NoMemory;
 use std::alloc::Global;
 
-/// What becomes of a node.
+/// What becomes of a node. Moorings are kilobytes, and few nodes have them, so they are boxed.
 #[derive(Debug, Drop)]
 pub enum Fate {
     /// It lacks a ship, and is to be split.
     Splits,
     /// It holds all ships, and each of its groups lies here.
-    Moored(Moorings),
+    Moored(Box<Moorings>),
     /// This cut hits one of its groups.
     Refuted(Cut),
     /// The group of this chamber and place in its line is spent.
     Spent(u8, u8, Hard),
 }
+
+const _: () = prove!(size_of::<Fate>() <= 256);
 
 // What becomes of a node that lacks a ship, by what was found of a group of it.
 fn fate_by(chamber: u8, place: u8, settled: Settled) -> Fate
@@ -36,6 +38,28 @@ fn fate_by(chamber: u8, place: u8, settled: Settled) -> Fate
         Settled::Refuted(cut) => Fate::Refuted(cut),
         Settled::Spent(hard, _) => Fate::Spent(chamber, place, hard),
     }
+}
+
+#[tactic(auto, using(crate::proofs::FateLemmas::settled_fate, crate::proofs::FateLemmas::group_known, crate::proofs::FateLemmas::group_some))]
+// What becomes of a node that lacks a ship, if a group of it was too hard for exactly these turns.
+fn spent_fate(
+    instance: &Instance,
+    node: &Node,
+    at: (u8, u8),
+    turns: u32,
+    hard: &Hard,
+    spots: &HardSpots,
+) -> Option<Fate>
+    requires node { IsNodeOf instance.now node.now }
+    requires lacks { node.now.depth < length instance.now.ships }
+    requires chamber_in { at.0 < length instance.now.chambers }
+    requires place_in { at.1 < length (line_at node.now.lines at.0) }
+    ensures { IfSome result (IsFate instance.now turns node.now) }
+{
+    let (chamber, place) = at;
+    let ships = &node.line(chamber)[place as usize].ships;
+    let settled = recall_spent(instance, chamber, ships, turns, hard, spots)?;
+    Some(fate_by(chamber, place, settled))
 }
 
 /// What becomes of a node that lacks a ship, by what is remembered of group `place` of the line of a
@@ -60,10 +84,14 @@ pub fn remembered_fate(
     let ships = &node.line(chamber)[place as usize].ships;
     match memory.find(chamber, ships)? {
         Said::Fits(_) => Some(Fate::Splits),
-        Said::Spent(hard, spots) => {
-            let settled = recall_spent(instance, chamber, ships, turns, hard, spots)?;
-            Some(fate_by(chamber, place, settled))
-        }
+        Said::Spent(hard, spots) => spent_fate(
+            instance,
+            node,
+            (chamber, place),
+            turns,
+            hard,
+            spots,
+        ),
     }
 }
 

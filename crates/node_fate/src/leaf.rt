@@ -73,5 +73,8 @@ pub fn leaf_fate(
             None => {}
         }
     }
-    Ok(Fate::Moored(moorings))
+    match Box::new(alloc, moorings) {
+        Ok(moorings) => Ok(Fate::Moored(moorings)),
+        Err(_) => Err(NoMemory),
+    }
 }

@@ -1,11 +1,10 @@
 //! What the placers find of the ships of a chamber.
 ghost use Rattle.std.specs.Prelude.{◌≡◌, ◌<◌, ◌≤◌, length, All, IfOk, IfSome};
-ghost use Rattle.lock_model.specs.Fitting.{deck_of};
 ghost use Rattle.lock_model.specs.Placement.{IsLegalPlacement};
 ghost use Rattle.lock_model.specs.Cargo.{HasNoClash};
 ghost use Rattle.refute_rules.specs.Cases.{IsHard};
 ghost use Rattle.refute_rules.specs.Refutes.{IsRefuted};
-ghost use Rattle.node_fate.specs.Settling.{IsSettled};
+ghost use Rattle.node_fate.specs.Settling.{IsFound, IsSettled};
 
 use chamber_place::{Placed, place, shrink};
 use lock_model::{Deck, Instance, Moor, Rank, Ships, Spot, Spots, deck_of};
@@ -27,24 +26,21 @@ pub enum Settled {
     Spent(Hard, HardSpots),
 }
 
-// The cut of some ships of a deck that is refuted.
+// The cut of some of these ships, whose deck is refuted.
 fn refuted(
     alloc: Global,
-    instance: &Instance,
     chamber: u8,
     ships: &Ships,
+    deck: &Deck,
     refutation: Refutation,
     turns: u32,
 ) -> Result<Settled, NoMemory>
-    requires chamber_in { chamber < length instance.now.chambers }
-    requires ships_in { All (λ s. s < length instance.now.ships) ships.now }
-    requires some { 1 ≤ length ships.now }
+    requires sizes { length ships.now ≡ length deck.now.ships }
     requires turns { 1 ≤ turns }
-    requires refuted { IsRefuted (deck_of instance.now chamber ships.now) refutation }
-    ensures { IfOk result (IsSettled instance.now chamber ships.now turns) }
+    requires refuted { IsRefuted deck.now refutation }
+    ensures { IfOk result (IsFound chamber ships.now deck.now turns) }
 {
-    let deck = deck_of(instance, chamber, ships);
-    let cut = shrink(alloc, chamber, ships, &deck, refutation, turns)?;
+    let cut = shrink(alloc, chamber, ships, deck, refutation, turns)?;
     Ok(Settled::Refuted(cut))
 }
 
@@ -78,28 +74,25 @@ fn spots_alone(deck: &Deck) -> Option<Spots>
 // Asks the placer by spots, where the other one has spent its turns.
 fn settle_hard(
     alloc: Global,
-    instance: &Instance,
     chamber: u8,
     ships: &Ships,
+    deck: &Deck,
     turns: u32,
     hard: Hard,
 ) -> Result<Settled, NoMemory>
-    requires chamber_in { chamber < length instance.now.chambers }
-    requires ships_in { All (λ s. s < length instance.now.ships) ships.now }
-    requires some { 1 ≤ length ships.now }
+    requires sizes { length ships.now ≡ length deck.now.ships }
     requires turns { 1 ≤ turns }
-    requires clear { HasNoClash (deck_of instance.now chamber ships.now) }
-    requires spent { IsHard (deck_of instance.now chamber ships.now) turns }
-    requires told { hard ≡ record { deck = deck_of instance.now chamber ships.now; turns = turns } }
-    ensures { IfOk result (IsSettled instance.now chamber ships.now turns) }
+    requires clear { HasNoClash deck.now }
+    requires spent { IsHard deck.now turns }
+    requires told { hard ≡ record { deck = deck.now; turns = turns } }
+    ensures { IfOk result (IsFound chamber ships.now deck.now turns) }
 {
-    let deck = deck_of(instance, chamber, ships);
-    match place_by_spots(alloc, &deck, turns)? {
+    match place_by_spots(alloc, deck, turns)? {
         SpotPlaced::Fits(spots) => Ok(Settled::Fits(spots)),
         SpotPlaced::Spent(spots) => Ok(Settled::Spent(hard, spots)),
         SpotPlaced::Refuted(marks) => {
             let refutation = Refutation::Spots(marks);
-            refuted(alloc, instance, chamber, ships, refutation, turns)
+            refuted(alloc, chamber, ships, deck, refutation, turns)
         }
     }
 }
@@ -107,29 +100,48 @@ fn settle_hard(
 // Asks the placers about ships of which no two clash.
 fn settle_clear(
     alloc: Global,
-    instance: &Instance,
     chamber: u8,
     ships: &Ships,
+    deck: &Deck,
     turns: u32,
 ) -> Result<Settled, NoMemory>
-    requires chamber_in { chamber < length instance.now.chambers }
-    requires ships_in { All (λ s. s < length instance.now.ships) ships.now }
-    requires some { 1 ≤ length ships.now }
+    requires sizes { length ships.now ≡ length deck.now.ships }
     requires turns { 1 ≤ turns }
-    requires clear { HasNoClash (deck_of instance.now chamber ships.now) }
-    ensures { IfOk result (IsSettled instance.now chamber ships.now turns) }
+    requires clear { HasNoClash deck.now }
+    ensures { IfOk result (IsFound chamber ships.now deck.now turns) }
 {
-    let deck = deck_of(instance, chamber, ships);
-    if let Some(spots) = spots_alone(&deck) {
+    if let Some(spots) = spots_alone(deck) {
         return Ok(Settled::Fits(spots));
     }
-    match place(alloc, &deck, turns)? {
+    match place(alloc, deck, turns)? {
         Placed::Fits(spots) => Ok(Settled::Fits(spots)),
-        Placed::Refuted(refutation) => refuted(alloc, instance, chamber, ships, refutation, turns),
-        Placed::Spent(hard) => settle_hard(alloc, instance, chamber, ships, turns, hard),
+        Placed::Refuted(refutation) => refuted(alloc, chamber, ships, deck, refutation, turns),
+        Placed::Spent(hard) => settle_hard(alloc, chamber, ships, deck, turns, hard),
     }
 }
 
+// Finds out whether the ships of this deck fit it.
+fn settle_deck(
+    alloc: Global,
+    chamber: u8,
+    ships: &Ships,
+    deck: &Deck,
+    turns: u32,
+) -> Result<Settled, NoMemory>
+    requires sizes { length ships.now ≡ length deck.now.ships }
+    requires turns { 1 ≤ turns }
+    ensures { IfOk result (IsFound chamber ships.now deck.now turns) }
+{
+    match first_clash(deck) {
+        Some((first, second)) => {
+            let refutation = Refutation::Clash(first, second);
+            refuted(alloc, chamber, ships, deck, refutation, turns)
+        }
+        None => settle_clear(alloc, chamber, ships, deck, turns),
+    }
+}
+
+#[tactic(auto, using(crate::proofs::CutLemmas::as_many, crate::proofs::CutLemmas::found_settles))]
 /// Finds out whether ships fit a chamber, within so many turns of each placer. Two ships that clash
 /// refute it, and a ship that fits alone lies at the near end of the left quay; for all others the
 /// placers are asked, the one by spots where the first has spent its turns. Its only refusal is
@@ -148,11 +160,5 @@ pub(crate) fn settle(
     ensures { IfOk result (IsSettled instance.now chamber ships.now turns) }
 {
     let deck = deck_of(instance, chamber, ships);
-    match first_clash(&deck) {
-        Some((first, second)) => {
-            let refutation = Refutation::Clash(first, second);
-            refuted(alloc, instance, chamber, ships, refutation, turns)
-        }
-        None => settle_clear(alloc, instance, chamber, ships, turns),
-    }
+    settle_deck(alloc, chamber, ships, &deck, turns)
 }

@@ -137,7 +137,7 @@ pub(crate) fn end<L: Ledger, W: Wait, G: Gate>(
 {
     match fate {
         Fate::Splits => finish(post, worker, Event::Split(held.id), foreseen),
-        Fate::Moored(moorings) => complete(post, worker, held, &moorings),
+        Fate::Moored(moorings) => complete(post, worker, held, &*moorings),
         Fate::Refuted(cut) => refute(post, worker, held, cut),
         Fate::Spent(chamber, place, hard) => park(post, worker, held, chamber, place, hard),
     }

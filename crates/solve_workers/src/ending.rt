@@ -85,7 +85,7 @@ pub(crate) fn end(book: &mut Book, held: &Held, fate: Fate) -> Result<(), NoMemo
 {
     match fate {
         Fate::Splits => split(book, held),
-        Fate::Moored(moorings) => complete(book, held, &moorings),
+        Fate::Moored(moorings) => complete(book, held, &*moorings),
         Fate::Refuted(cut) => refute(book, held, cut),
         Fate::Spent(chamber, place, hard) => {
             park(book, held, chamber, place, &hard);

@@ -1,4 +1,4 @@
-use Rattle.std.proofs.Common.{◌≡◌, ◌<◌, length, arith, ap, ◌∙◌, slice_index_or, refl, List, ℕ}
+use Rattle.std.proofs.Common.{◌≡◌, ◌<◌, length, arith, ap, slice_index_or, refl, List, ℕ}
 use Rattle.lock_rules.specs.Node.{line_at}
 use Rattle.node_fate.proofs.LineLemmas.{moored_more}
 use Rattle.node_fate.proofs.RecallLemmas.{fits_at}
