@@ -59,14 +59,11 @@ does-count old e r new (Stays wants) = leaves old r new (ap is_accepted wants.wa
 pub applies-count : (old : Book) (e : Event) (r : Reply) (new : Book) → Applies old e r new → Counts old r new
 applies-count old (event.Take w) r new h = answers-count old (machine.take w) r new h.step
 applies-count old (event.Split id) r new h = does-count old (machine.split id) r new h
-applies-count old (event.CloseBound id) r new h = answers-count old (machine.close_bound id) r new h
-applies-count old (event.CloseCut id number) r new h = answers-count old (machine.close_cut id number) r new h
+applies-count old (event.Close id why) r new h = answers-count old (machine.close id why) r new h
 applies-count old (event.Post cut) r new h = does-count old (machine.post cut) r new h
 applies-count old (event.Park id chamber place hard) r new h = answers-count old (machine.park id chamber place hard.deck hard.turns) r new h
 applies-count old (event.Replace plan) r new h = does-count old (machine.replace plan) r new h
 applies-count old (event.Release w) r new h = answers-count old (machine.release w) r new h
-applies-count old (event.CloseThroughput id) r new h = answers-count old (machine.close_throughput id) r new h
-applies-count old (event.CloseProbe id ship) r new h = answers-count old (machine.close_probe id ship) r new h
 
 on-false : (t : Bool) (P : Type 0) → (t ≡ false → P) → OnFalse t P
 on-false true P h = tt

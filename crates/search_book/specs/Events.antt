@@ -8,14 +8,11 @@ use Rattle.search_book.specs.declared.event.Event.TheVariants as event
 abbrev pub event_of : Event → machine.Event
 event_of (event.Take w) = machine.take w
 event_of (event.Split id) = machine.split id
-event_of (event.CloseBound id) = machine.close_bound id
-event_of (event.CloseCut id number) = machine.close_cut id number
+event_of (event.Close id why) = machine.close id why
 event_of (event.Post cut) = machine.post cut
 event_of (event.Park id chamber place hard) = machine.park id chamber place hard.deck hard.turns
 event_of (event.Replace plan) = machine.replace plan
 event_of (event.Release w) = machine.release w
-event_of (event.CloseThroughput id) = machine.close_throughput id
-event_of (event.CloseProbe id ship) = machine.close_probe id ship
 
 -- a worker's number is at most 8, and a lent deck, which is hard by its type, is spot-hard too
 abbrev pub IsAllowed : Event → Type 0

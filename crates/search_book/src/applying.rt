@@ -19,14 +19,11 @@ fn make(book: &mut Book, event: Event) -> Reply
     match event {
         Event::Take(worker) => book.take(worker),
         Event::Split(id) => book.split(id),
-        Event::CloseBound(id) => book.close_bound(id),
-        Event::CloseCut(id, number) => book.close_cut(id, number),
+        Event::Close(id, why) => book.close(id, why),
         Event::Post(cut) => book.post(cut),
         Event::Park(id, chamber, place, hard) => book.park(id, chamber, place, &hard),
         Event::Replace(plan) => book.replace(plan),
         Event::Release(worker) => book.release(worker),
-        Event::CloseThroughput(id) => book.close_throughput(id),
-        Event::CloseProbe(id, ship) => book.close_probe(id, ship),
     }
 }
 

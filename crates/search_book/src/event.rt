@@ -2,6 +2,7 @@
 
 use lock_model::Plan;
 use place_refute::{Cut, Hard};
+use search_rules::Ground;
 
 /// What is asked of a book: each event is the method of `Book` of its name, with its arguments.
 /// `Take` and `Release` have a worker of 0 to 8; of `Park` the deck is spot-hard for the turns too.
@@ -11,10 +12,8 @@ pub enum Event {
     Take(u8),
     /// The slot is to be split.
     Split(u32),
-    /// The slot is to be closed by its bound.
-    CloseBound(u32),
-    /// The slot is to be closed by the cut of this number.
-    CloseCut(u32, u64),
+    /// The slot is to be closed.
+    Close(u32, Ground),
     /// The cut is to be kept.
     Post(Cut),
     /// The slot is to be parked: the turns were spent on a group, by chamber and place.
@@ -23,8 +22,4 @@ pub enum Event {
     Replace(Plan),
     /// The worker ends.
     Release(u8),
-    /// The slot is to be closed by the throughput of the instance.
-    CloseThroughput(u32),
-    /// The slot is to be closed by the probe of its node and this ship.
-    CloseProbe(u32, u8),
 }

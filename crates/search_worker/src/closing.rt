@@ -9,6 +9,7 @@ use crate::worker::{Post, Worker};
 use book_core::Reply;
 use flow_bounds::bound;
 use search_book::Event;
+use search_rules::Ground;
 use std::sync::Wait;
 use std::sync::ledger::Ledger;
 
@@ -36,7 +37,7 @@ fn close_by_bound<L: Ledger, W: Wait>(
     if bound(post.instance, &held.node) < best {
         return false;
     }
-    is_closed(&ask(rt, post, worker, Event::CloseBound(held.id)))
+    is_closed(&ask(rt, post, worker, Event::Close(held.id, Ground::Bound)))
 }
 
 // Closes the held node where the throughput of the instance is at least the best cost, and says
@@ -50,7 +51,7 @@ fn close_by_throughput<L: Ledger, W: Wait>(
     requires serves { Serves post.now worker.old }
     ensures serves { Serves post.now worker.new }
 {
-    is_closed(&ask(rt, post, worker, Event::CloseThroughput(held.id)))
+    is_closed(&ask(rt, post, worker, Event::Close(held.id, Ground::Throughput)))
 }
 
 // Closes the held node where the probe of the next ship is at least the best cost, and says whether
@@ -69,7 +70,7 @@ fn close_by_probe<L: Ledger, W: Wait>(
         return false;
     }
     let ship = ship_after(post, depth);
-    is_closed(&ask(rt, post, worker, Event::CloseProbe(held.id, ship)))
+    is_closed(&ask(rt, post, worker, Event::Close(held.id, Ground::Probe(ship))))
 }
 
 /// Closes the held node where that can be done without its groups, and says whether it did.

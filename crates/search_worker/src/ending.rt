@@ -4,7 +4,6 @@ ghost use Rattle.leaf_plan.specs.Moorings.{AreMoored};
 ghost use Rattle.master_branch.specs.Node.{IsNodeOf};
 ghost use Rattle.node_fate.specs.Fates.{IsFate};
 ghost use Rattle.refute_rules.specs.Spots.{IsSpotHard};
-ghost use Rattle.search_book.specs.Events.{IsAllowed};
 ghost use Rattle.search_worker.specs.Serving.{Serves};
 
 use crate::asking::ask;
@@ -19,6 +18,7 @@ use lock_model::Plan;
 use node_fate::Fate;
 use place_refute::{Cut, Hard};
 use search_book::Event;
+use search_rules::Ground;
 use std::sync::Wait;
 use std::sync::ledger::Ledger;
 
@@ -27,13 +27,13 @@ fn close<L: Ledger, W: Wait>(
     rt: &W,
     post: &Post<'_, L>,
     worker: &mut Worker<L>,
-    closing: Event,
+    held: &Held,
+    why: Ground,
 ) -> Result<(), Stop>
     requires serves { Serves post.now worker.old }
-    requires allowed { IsAllowed closing }
     ensures serves { Serves post.now worker.new }
 {
-    if is_closed(&ask(rt, post, worker, closing)) {
+    if is_closed(&ask(rt, post, worker, Event::Close(held.id, why))) {
         Ok(())
     } else {
         Err(Stop)
@@ -68,7 +68,7 @@ fn refute<L: Ledger, W: Wait>(
     ensures serves { Serves post.now worker.new }
 {
     let number = post_cut(rt, post, worker, cut)?;
-    close(rt, post, worker, Event::CloseCut(held.id, number))
+    close(rt, post, worker, held, Ground::Cut(number))
 }
 
 // Gives a plan to the book, which may have one that is as cheap.
@@ -108,7 +108,7 @@ fn complete<L: Ledger, W: Wait>(
 {
     let plan = leaf_plan(post.instance, &held.node, moorings);
     give_plan(rt, post, worker, plan)?;
-    close(rt, post, worker, Event::CloseBound(held.id))
+    close(rt, post, worker, held, Ground::Bound)
 }
 
 // Parks the held node at a group that is spent.

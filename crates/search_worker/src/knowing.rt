@@ -12,6 +12,7 @@ use crate::taking::Held;
 use crate::worker::{Post, Worker};
 use master_branch::Node;
 use search_book::Event;
+use search_rules::Ground;
 use std::sync::Wait;
 use std::sync::ledger::Ledger;
 
@@ -47,7 +48,12 @@ pub(crate) fn close_by_known_cut<L: Ledger, W: Wait>(
     ensures serves { Serves post.now worker.new }
 {
     match known_cut(post, worker, &held.node, chamber, place) {
-        Some(number) => is_closed(&ask(rt, post, worker, Event::CloseCut(held.id, number))),
+        Some(number) => is_closed(&ask(
+            rt,
+            post,
+            worker,
+            Event::Close(held.id, Ground::Cut(number)),
+        )),
         None => false,
     }
 }

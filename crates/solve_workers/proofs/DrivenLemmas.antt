@@ -1,19 +1,17 @@
 -- Events of the driver, one after the other.
-use Rattle.std.proofs.Common.{◌≡◌, ℕ, suc, ◌≤◌, List, [], ◌∷◌, ◌++◌, length, refl, sym, ap, ◌∙◌, subst, arith, Bool, true, false, not, cond, Some, None, nat_eq, nat_le, nat_lt, slice_index_or, slice_get}
+use Rattle.std.proofs.Common.{◌≡◌, ℕ, suc, ◌≤◌, List, [], ◌∷◌, ◌++◌, length, refl, sym, ap, ◌∙◌, subst, arith, Bool, true, false, not, cond, Some, None, nat_eq, nat_le, slice_index_or}
 use Rattle.std.specs.declared.option.Option.{Option}
 use Rattle.lock_model.specs.Deck.{Deck}
 use Rattle.lock_model.specs.declared.instance.Instance.{Instance}
 use Rattle.lock_model.specs.declared.group.Group.{Group}
 use Rattle.lock_model.specs.declared.plan.Plan.{Plan}
 use Rattle.lock_rules.specs.Plan.{cost_of}
-use Rattle.lock_rules.specs.Throughput.{throughput_of}
-use Rattle.search_rules.specs.declared.book.Entry.TheVariants as entry
-use Rattle.search_rules.specs.declared.book.SlotState.TheVariants as slot
+use Rattle.search_rules.specs.declared.grounds.Ground.{Ground}
 use Rattle.search_rules.specs.Tests.{has_clash, is_own_cut}
 use Rattle.search_rules.specs.Book.{Book, Case, first_slot, has_slot, is_held, is_held_by, is_back, group_at, slot_at, best_cost}
 use Rattle.search_rules.specs.Cheap.{opening_cost}
-use Rattle.search_rules.specs.Events.{Event, Reply, IsOwed, take, split, close_bound, close_cut, close_throughput, close_probe, post, park, replace, release}
-use Rattle.search_rules.specs.Events.{Replaced, Ended, NodesSpent, Idle, Done, NotHeld, Whole, Cheaper, NoHit, OtherDeck, NotCheaper, Absent, Clashes}
+use Rattle.search_rules.specs.Events.{Event, Reply, IsOwed, take, split, close, post, park, replace, release}
+use Rattle.search_rules.specs.Events.{Replaced, Ended, NodesSpent, Idle, Done, NotHeld, Whole, OtherDeck, NotCheaper, Clashes}
 use Rattle.search_rules.specs.NextSlot.{next_fresh}
 use Rattle.search_rules.specs.Room.{room_of}
 use Rattle.search_rules.specs.Step
@@ -49,6 +47,10 @@ module _ {Break : Type 0} (broken : Instance → Plan → Option Break) (b : Boo
   free-ended w (Some id) = refl
   free-ended w None = slot-ended w (first_slot b is_back)
 
+  close-ended : (id : ℕ) (why : Ground) (o : Option (Reply Break)) → Remains (Step.close_unless b id why o)
+  close-ended id why (Some r) = refl
+  close-ended id why None = refl
+
   group-ended : (id c p : ℕ) (deck : Deck) (turns : ℕ) (o : Option Group) → Remains (Step.park_group b id c p deck turns o)
   group-ended id c p deck turns None = refl
   group-ended id c p deck turns (Some g) =
@@ -65,26 +67,7 @@ module _ {Break : Type 0} (broken : Instance → Plan → Option Break) (b : Boo
   ended-stays (split id) is =
       let whole = nat_le (length b.case.instance.ships) (slot_at b id).node.depth in
       keep_or (not (is_held (slot_at b id).state)) (NotHeld id) (cond whole (b, Whole id) (Step.split_slot b id)) (keep_or whole (Whole id) (Step.split_slot b id) refl)
-  ended-stays (close_bound id) is =
-      let low = nat_lt (slot_at b id).bound (best_cost b) in
-      let reply = Cheaper (slot_at b id).bound (best_cost b) in
-      let out = Step.closed {Break = Break} b id slot.ByBound (entry.CloseBound id) in
-      keep_or (not (Step.may_close b id)) (NotHeld id) (cond low (b, reply) out) (keep_or low reply out refl)
-  ended-stays (close_cut id number) is =
-      let miss = not (Step.hits_in b id (slice_get b.cuts number)) in
-      let out = Step.closed {Break = Break} b id (slot.ByCut number) (entry.CloseCut id number) in
-      keep_or (not (Step.may_close b id)) (NotHeld id) (cond miss (b, NoHit number) out) (keep_or miss (NoHit number) out refl)
-  ended-stays (close_throughput id) is =
-      let low = nat_lt (throughput_of b.case.instance) (best_cost b) in
-      let reply = Cheaper (throughput_of b.case.instance) (best_cost b) in
-      let out = Step.closed {Break = Break} b id slot.ByThroughput (entry.CloseThroughput id) in
-      keep_or (not (Step.may_close b id)) (NotHeld id) (cond low (b, reply) out) (keep_or low reply out refl)
-  ended-stays (close_probe id s) is =
-      let low = nat_lt (Step.probe_at b id s) (best_cost b) in
-      let reply = Cheaper (Step.probe_at b id s) (best_cost b) in
-      let out = Step.closed {Break = Break} b id (slot.ByProbe s) (entry.CloseProbe id s) in
-      keep_or (not (Step.may_close b id)) (NotHeld id) (cond (not (Step.is_missing b id s)) (b, Absent s) (cond low (b, reply) out))
-      (keep_or (not (Step.is_missing b id s)) (Absent s) (cond low (b, reply) out) (keep_or low reply out refl))
+  ended-stays (close id why) is = keep_or (not (Step.may_close b id)) (NotHeld id) (Step.close_unless b id why (Step.refusal_of b id why)) (close-ended id why (Step.refusal_of b id why))
   ended-stays (post cut) is = keep_or (not (is_own_cut b.case.instance cut)) OtherDeck (Step.posted b cut) refl
   ended-stays (park id c p deck turns) is =
       keep_or (not (is_held (slot_at b id).state)) (NotHeld id) (Step.park_group b id c p deck turns (group_at (slot_at b id).node c p)) (group-ended id c p deck turns (group_at (slot_at b id).node c p))

@@ -9,6 +9,7 @@ use Rattle.search_rules.specs.Step
 use Rattle.search_rules.proofs.MoveLemmas.{state-known}
 use Rattle.search_rules.proofs.TurnLemmas.{turned-at, split-at, Turned, Untouched, Parent, Old, Child, Past}
 use Rattle.solve_workers.specs.Holding.{HoldsOnly}
+use Rattle.search_rules.specs.declared.grounds.Ground.TheVariants as by
 
 pub clash : true ≡ false → ⊥
 clash e = cc
@@ -19,7 +20,7 @@ past-end (x ∷ xs) zero h = absurd (omega (arith, h))
 past-end (x ∷ xs) (suc k) h = past-end xs k (omega (arith, h))
 
 -- of any number, also one of no slot
-pub none-at : (b : Book) (test : SlotState → Bool) → test slot.ByBound ≡ false → HasNone b test → (k : ℕ) → test (slot_at b k).state ≡ false
+pub none-at : (b : Book) (test : SlotState → Bool) → test (slot.Closed by.Bound) ≡ false → HasNone b test → (k : ℕ) → test (slot_at b k).state ≡ false
 none-at b test plain has k = elim (leb_tells (suc k) (length b.slots)) [
   | inl y ↦ has.none k y.1
   | inr n ↦ ap (λ (s : Slot). test s.state) (past-end b.slots k (let past = n.1 in omega (arith, past))) ∙ plain
@@ -44,7 +45,7 @@ freed b id node state new holds off same = record { none = λ k here. ap (λ xs.
       | Untouched other e ↦ ap (λ (s : Slot). is_held s.state) e ∙ holds.others k other
     ]
 
-new-off : (t : Bool) → is_held (cond t slot.ByBound slot.Fresh) ≡ false
+new-off : (t : Bool) → is_held (cond t (slot.Closed by.Bound) slot.Fresh) ≡ false
 new-off true = refl
 new-off false = refl
 

@@ -31,6 +31,7 @@ use Rattle.solve_workers.specs.Told.{number_in, is_made, is_parked as tells_park
 use Rattle.solve_workers.proofs.ToldLemmas.{Answer, makes, parks, number_of, told-made, told-parked, told-number}
 use Rattle.solve_workers.proofs.ClearLemmas.{no_clash-test}
 use Rattle.solve_workers.proofs.FreeLemmas.{clash, freed, split-freed, is-held}
+use Rattle.search_rules.specs.declared.grounds.Ground.TheVariants as by
 
 abbrev Out : Type 0
 Out = Book × Answer
@@ -214,19 +215,19 @@ module _ (b : Book) (id : ℕ) (node : Node) (c p : ℕ) (deck : Deck) (turns : 
 outdone-node : (cost : ℕ) (s : Slot) → (Step.outdone cost s).node ≡ s.node
 outdone-node cost s = by_test ((is_fresh s.state || is_back s.state || is_parked s.state) && nat_le cost s.bound)
   where
-    by_test : (t : Bool) → (cond t (record s { state = slot.ByBound }) s).node ≡ s.node
+    by_test : (t : Bool) → (cond t (record s { state = slot.Closed by.Bound }) s).node ≡ s.node
     by_test true = refl
     by_test false = refl
 
 outdone-bound : (cost : ℕ) (s : Slot) → (Step.outdone cost s).bound ≡ s.bound
 outdone-bound cost s = by_test ((is_fresh s.state || is_back s.state || is_parked s.state) && nat_le cost s.bound)
   where
-    by_test : (t : Bool) → (cond t (record s { state = slot.ByBound }) s).bound ≡ s.bound
+    by_test : (t : Bool) → (cond t (record s { state = slot.Closed by.Bound }) s).bound ≡ s.bound
     by_test true = refl
     by_test false = refl
 
 outdone-held : (cost w : ℕ) (s : Slot) → s.state ≡ slot.Held w → (Step.outdone cost s).state ≡ slot.Held w
-outdone-held cost w s e = ap (λ t. (cond t (record s { state = slot.ByBound }) s).state) off ∙ e
+outdone-held cost w s e = ap (λ t. (cond t (record s { state = slot.Closed by.Bound }) s).state) off ∙ e
   where
     off : ((is_fresh s.state || is_back s.state || is_parked s.state) && nat_le cost s.bound) ≡ false
     off = ap (λ u. (is_fresh u || is_back u || is_parked u) && nat_le cost s.bound) e
@@ -234,7 +235,7 @@ outdone-held cost w s e = ap (λ t. (cond t (record s { state = slot.ByBound }) 
 outdone-off : (cost : ℕ) (s : Slot) → is_held s.state ≡ false → is_held (Step.outdone cost s).state ≡ false
 outdone-off cost s e = by_test ((is_fresh s.state || is_back s.state || is_parked s.state) && nat_le cost s.bound)
   where
-    by_test : (t : Bool) → is_held (cond t (record s { state = slot.ByBound }) s).state ≡ false
+    by_test : (t : Bool) → is_held (cond t (record s { state = slot.Closed by.Bound }) s).state ≡ false
     by_test true = refl
     by_test false = e
 

@@ -15,7 +15,7 @@ use Rattle.place_refute.specs.Tried.{Tried}
 use Rattle.master_branch.specs.Node.{Node, IsNodeOf}
 use Rattle.search_rules.specs.Book.{Book, Case, Node as TreeNode, no_slot, slot_at, bound_at}
 use Rattle.search_rules.specs.Ends.{HoldsNothing}
-use Rattle.search_rules.specs.Events.{close_bound, close_cut, post, park, replace}
+use Rattle.search_rules.specs.Events.{close, post, park, replace}
 use Rattle.book_core.specs.declared.reply.Reply.{Reply}
 use Rattle.book_core.specs.Keeps.{IsSound}
 use Rattle.book_core.specs.Nodes.{tree_node}
@@ -25,8 +25,9 @@ use Rattle.solve_workers.specs.Cuts.{IsHitting, HitsShips}
 use Rattle.solve_workers.specs.Holding.{HoldsOnly}
 use Rattle.solve_workers.specs.Told.{number_in, is_want}
 use Rattle.solve_workers.proofs.FreeLemmas.{held-known}
-use Rattle.solve_workers.proofs.CloseLemmas.{bound_shut, bound_sure, cut_shut, cut_sure}
+use Rattle.solve_workers.proofs.CloseLemmas.{close_shut, bound_sure, cut_sure}
 use Rattle.solve_workers.proofs.GrowLemmas.{posted_there, posted_case, parked_frees, replaced_better}
+use Rattle.search_rules.specs.declared.grounds.Ground.TheVariants as by
 
 pub on_ok : {A E P Q : Type 0} (r : Result A E) → OnOk r P → (P → Q) → OnOk r Q
 on_ok (Ok a) h f = f h
@@ -61,19 +62,19 @@ module _ (b : Book) (id : ℕ) (n : Node) (holds : HoldsOnly b id (tree_node n))
       good.bound ∙ ap (bound_at b.case.instance) holds.node_is
 
   -- a cut of the book that hits the node closes it
-  pub hit_shut : (number : ℕ) (r : Reply) (new : Book) → IsHitting b n number → Answers b (close_cut id number) r new → HoldsNothing new
+  pub hit_shut : (number : ℕ) (r : Reply) (new : Book) → IsHitting b n number → Answers b (close id (by.Cut number)) r new → HoldsNothing new
   hit_shut number r new hit answers =
-      cut_shut b id (tree_node n) holds r new number answers (cut_sure b id (tree_node n) holds r new number hit.cut hit.there hit.hits answers)
+      close_shut b id (tree_node n) holds r new (by.Cut number) answers (cut_sure b id (tree_node n) holds r new number hit answers)
 
   -- the plan of the node makes its bound too high
   pub complete_shut : (plan : Plan) (r : Reply) (mid : Book) (s : Reply) (new : Book) → IsSound b → IsLegal b.case.instance plan → cost_of b.case.instance plan ≡ bound_of b.case.instance n.depth n.lines
-      → is_want r ≡ false → Does b (replace plan) r mid → Answers mid (close_bound id) s new → HoldsNothing new
+      → is_want r ≡ false → Does b (replace plan) r mid → Answers mid (close id by.Bound) s new → HoldsNothing new
   complete_shut plan r mid s new sound legal cost told does answers =
       let better = replaced_better b id (tree_node n) plan holds r mid legal told does in
       let bound = held_bound sound in
       let best = better.best in
       let own = better.bound in
-      bound_shut mid id (tree_node n) better.holds s new answers (bound_sure mid id (tree_node n) better.holds s new (omega (arith, best, own, bound, cost)) answers)
+      close_shut mid id (tree_node n) better.holds s new by.Bound answers (bound_sure mid id (tree_node n) better.holds s new (omega (arith, best, own, bound, cost)) answers)
 
   pub complete_holds : (plan : Plan) (r : Reply) (mid : Book) → IsLegal b.case.instance plan → is_want r ≡ false → Does b (replace plan) r mid → HoldsOnly mid id (tree_node n)
   complete_holds plan r mid legal told does = (replaced_better b id (tree_node n) plan holds r mid legal told does).holds

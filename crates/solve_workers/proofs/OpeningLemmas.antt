@@ -27,8 +27,9 @@ use Rattle.solve_workers.specs.declared.solving.Solved.{Solved}
 use Rattle.solve_workers.specs.Told.{number_in}
 use Rattle.solve_workers.specs.Opening.{IsReady, with_cuts, opened_with}
 use Rattle.solve_workers.proofs.ToldLemmas.{Answer, number_of, told-number}
+use Rattle.search_rules.specs.declared.grounds.Ground.TheVariants as by
 
-new-off : (t : Bool) → is_held (cond t slot.ByBound slot.Fresh) ≡ false
+new-off : (t : Bool) → is_held (cond t (slot.Closed by.Bound) slot.Fresh) ≡ false
 new-off true = refl
 new-off false = refl
 

@@ -6,6 +6,7 @@ use super::fixture::both;
 use crate::{Event, SharedBook};
 use book_core::{Book, Reply};
 use place_refute::Cut;
+use search_rules::Ground;
 use std::process::Abort;
 use std::sync::Wait;
 use std::sync::ledger::{Ledger, Share};
@@ -20,10 +21,7 @@ pub(crate) enum Ask {
     /// Worker 1 takes a slot.
     TakeOther,
     Split(u32),
-    CloseBound(u32),
-    CloseCut(u32, u64),
-    CloseThroughput(u32),
-    CloseProbe(u32, u8),
+    Close(u32, Ground),
     Release,
 }
 
@@ -34,10 +32,7 @@ fn event_of(ask: Ask) -> Event
         Ask::Wait | Ask::Take => Event::Take(0),
         Ask::TakeOther => Event::Take(1),
         Ask::Split(id) => Event::Split(id),
-        Ask::CloseBound(id) => Event::CloseBound(id),
-        Ask::CloseCut(id, number) => Event::CloseCut(id, number),
-        Ask::CloseThroughput(id) => Event::CloseThroughput(id),
-        Ask::CloseProbe(id, ship) => Event::CloseProbe(id, ship),
+        Ask::Close(id, why) => Event::Close(id, why),
         Ask::Release => Event::Release(0),
     }
 }
@@ -48,10 +43,7 @@ fn direct(book: &mut Book, ask: Ask) -> Reply {
         Ask::Wait | Ask::Take => book.take(0),
         Ask::TakeOther => book.take(1),
         Ask::Split(id) => book.split(id),
-        Ask::CloseBound(id) => book.close_bound(id),
-        Ask::CloseCut(id, number) => book.close_cut(id, number),
-        Ask::CloseThroughput(id) => book.close_throughput(id),
-        Ask::CloseProbe(id, ship) => book.close_probe(id, ship),
+        Ask::Close(id, why) => book.close(id, why),
         Ask::Release => book.release(0),
     }
 }

@@ -9,6 +9,7 @@ use super::parts::{Part, give_back, take_part};
 use crate::{Event, SharedBook, share_book};
 use book_core::{Book, Reply};
 use place_refute::Hard;
+use search_rules::Ground;
 use std::alloc::Global;
 use std::marker::Brand;
 use std::process::Abort;
@@ -29,10 +30,10 @@ fn refusals<L: Ledger, R: Wait + Abort>(
     expect_same(rt, shared, mine, twin, Ask::Wait);
     expect_same(rt, shared, mine, twin, Ask::Wait);
     expect_same(rt, shared, mine, twin, Ask::TakeOther);
-    expect_same(rt, shared, mine, twin, Ask::CloseBound(0));
-    expect_same(rt, shared, mine, twin, Ask::CloseCut(0, 0));
-    expect_same(rt, shared, mine, twin, Ask::CloseThroughput(0));
-    expect_same(rt, shared, mine, twin, Ask::CloseProbe(0, 1));
+    expect_same(rt, shared, mine, twin, Ask::Close(0, Ground::Bound));
+    expect_same(rt, shared, mine, twin, Ask::Close(0, Ground::Cut(0)));
+    expect_same(rt, shared, mine, twin, Ask::Close(0, Ground::Throughput));
+    expect_same(rt, shared, mine, twin, Ask::Close(0, Ground::Probe(1)));
 }
 
 // Worker 0 splits slot `id`, which it holds, and takes the next one.
@@ -82,7 +83,7 @@ fn by_cut<L: Ledger, R: Wait + Abort>(
     go_to_both(rt, shared, mine, twin);
     expect_reply(rt, shared, mine, Ask::Split(2), Reply::Whole(2));
     posts(rt, shared, mine, twin, first, second);
-    expect_same(rt, shared, mine, twin, Ask::CloseCut(2, 0));
+    expect_same(rt, shared, mine, twin, Ask::Close(2, Ground::Cut(0)));
     expect_same(rt, shared, mine, twin, Ask::Release);
     expect_reply(rt, shared, mine, Ask::Wait, Reply::Ended(0));
     assert_eq!(rt; twin.history_len(), 8);
@@ -121,7 +122,7 @@ fn by_bound<L: Ledger, R: Wait + Abort>(
     go_to_both(rt, shared, mine, twin);
     replaces(rt, shared, mine, twin);
     parks(rt, shared, mine, twin, hard);
-    expect_same(rt, shared, mine, twin, Ask::CloseBound(2));
+    expect_same(rt, shared, mine, twin, Ask::Close(2, Ground::Bound));
     assert_eq!(rt; twin.history_len(), 8);
 }
 
@@ -137,7 +138,7 @@ fn by_probe<L: Ledger, R: Wait + Abort>(
 {
     expect_same(rt, shared, mine, twin, Ask::Wait);
     go_on(rt, shared, mine, twin, 0);
-    expect_same(rt, shared, mine, twin, Ask::CloseProbe(1, 1));
+    expect_same(rt, shared, mine, twin, Ask::Close(1, Ground::Probe(1)));
     assert_eq!(rt; twin.history_len(), 4);
 }
 
@@ -152,7 +153,7 @@ fn by_throughput<L: Ledger, R: Wait + Abort>(
     ensures part { mine.new.parts ≡ 1 }
 {
     expect_same(rt, shared, mine, twin, Ask::Wait);
-    expect_same(rt, shared, mine, twin, Ask::CloseThroughput(0));
+    expect_same(rt, shared, mine, twin, Ask::Close(0, Ground::Throughput));
     assert_eq!(rt; twin.history_len(), 2);
 }
 

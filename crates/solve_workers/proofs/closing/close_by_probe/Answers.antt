@@ -1,12 +1,13 @@
 use Rattle.search_rules.specs.Ends.{HoldsNothing}
-use Rattle.search_rules.specs.Events.{close_probe}
+use Rattle.search_rules.specs.Events.{close}
 use Rattle.std.proofs.Common.{◌≡◌}
 use Rattle.book_core.specs.Nodes.{tree_node}
 use Rattle.solve_workers.specs.Told.{is_closed}
-use Rattle.solve_workers.proofs.CloseLemmas.{probe_shut, probe_kept}
+use Rattle.solve_workers.proofs.CloseLemmas.{close_shut, close_kept}
 use Rattle.solve_workers.proofs.DrivenLemmas.{driven_by, driven_none}
 use Rattle.solve_workers.proofs.HeldLemmas.{on_true, on_false}
 use Rattle.solve_workers.proofs.closing.close_by_probe.Goals as goal
+use Rattle.search_rules.specs.declared.grounds.Ground.TheVariants as by
 
 pub returns-then-depth-as_slice-clause-driven : goal.returns-then-depth-as_slice-clause-driven
 returns-then-depth-as_slice-clause-driven c = driven_none c.args.book.now
@@ -14,12 +15,12 @@ returns-then-depth-as_slice-clause-driven c = driven_none c.args.book.now
 pub returns-clause-closed : goal.returns-clause-closed
 returns-clause-closed c =
     on_true c.is_closed.result (is_closed c.close_probe.result) (HoldsNothing c.close_probe.new.self) c.is_closed.ensures
-    (probe_shut c.args.book.now c.args.held.now.id (tree_node c.args.held.now.node) c.requires c.close_probe.result c.close_probe.new.self c.ship_after-ship.result c.close_probe.ensures)
+    (close_shut c.args.book.now c.args.held.now.id (tree_node c.args.held.now.node) c.requires c.close_probe.result c.close_probe.new.self (by.Probe c.ship_after-ship.result) c.close_probe.ensures)
 
 pub returns-clause-kept : goal.returns-clause-kept
 returns-clause-kept c =
     on_false c.is_closed.result (is_closed c.close_probe.result) (c.close_probe.new.self ≡ c.args.book.now) c.is_closed.ensures
-    (probe_kept c.args.book.now c.args.held.now.id (tree_node c.args.held.now.node) c.requires c.close_probe.result c.close_probe.new.self c.ship_after-ship.result c.close_probe.ensures)
+    (close_kept c.args.book.now c.args.held.now.id (tree_node c.args.held.now.node) c.requires c.close_probe.result c.close_probe.new.self (by.Probe c.ship_after-ship.result) c.close_probe.ensures)
 
 pub returns-clause-driven : goal.returns-clause-driven
-returns-clause-driven c = driven_by c.args.book.now (close_probe c.args.held.now.id c.ship_after-ship.result) c.close_probe.result c.close_probe.new.self c.keeps.ensures tt tt c.close_probe.ensures
+returns-clause-driven c = driven_by c.args.book.now (close c.args.held.now.id (by.Probe c.ship_after-ship.result)) c.close_probe.result c.close_probe.new.self c.keeps.ensures tt tt c.close_probe.ensures

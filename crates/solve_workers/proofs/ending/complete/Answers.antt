@@ -4,11 +4,12 @@ use Rattle.lock_rules.specs.Bound.{bound_of}
 use Rattle.lock_rules.specs.Plan.{IsLegal, cost_of}
 use Rattle.master_branch.specs.Node.{IsNodeOf}
 use Rattle.search_rules.specs.Book.{Case}
-use Rattle.search_rules.specs.Events.{replace, close_bound}
+use Rattle.search_rules.specs.Events.{replace, close}
 use Rattle.solve_workers.proofs.DrivenLemmas.{driven_by, driven_does, driven_then}
 use Rattle.solve_workers.proofs.GrowLemmas.{want_kept}
 use Rattle.solve_workers.proofs.HeldLemmas.{held_node, complete_shut}
 use Rattle.solve_workers.proofs.ending.complete.Goals as goal
+use Rattle.search_rules.specs.declared.grounds.Ground.TheVariants as by
 
 pub leaf_plan-plan-requires-clause-node : goal.leaf_plan-plan-requires-clause-node
 leaf_plan-plan-requires-clause-node c =
@@ -34,4 +35,4 @@ returns-clause-freed c =
 pub returns-clause-driven : goal.returns-clause-driven
 returns-clause-driven c =
     driven_then c.args.book.now c.replace.new.self c.close_bound.new.self (driven_does c.args.book.now (replace c.leaf_plan-plan.result) c.replace.result c.replace.new.self c.keeps.ensures tt tt c.replace.ensures)
-    (driven_by c.replace.new.self (close_bound c.args.held.now.id) c.close_bound.result c.close_bound.new.self c.keeps-2.ensures tt tt c.close_bound.ensures)
+    (driven_by c.replace.new.self (close c.args.held.now.id by.Bound) c.close_bound.result c.close_bound.new.self c.keeps-2.ensures tt tt c.close_bound.ensures)
