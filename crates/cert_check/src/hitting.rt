@@ -64,8 +64,7 @@ fn hits_at(instance: &Instance, cut: &CertCut, node: &Node, chamber: u8) -> bool
     requires own_in { cut.now.chamber < length instance.now.chambers }
     ensures { IsTrue result ↔ HitsAt instance.now cut.now.chamber cut.now.ships node.now.lines chamber }
 {
-    is_tight(instance, cut, chamber)
-        && hits_line(cut.ships.as_slice(), node.line(chamber))
+    is_tight(instance, cut, chamber) && hits_line(cut.ships.as_slice(), node.line(chamber))
 }
 
 // Whether the cut hits a group of the node.

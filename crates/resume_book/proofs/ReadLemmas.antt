@@ -21,6 +21,7 @@ use Rattle.cert_check.proofs.TreeLemmas.{in_order-append, in_order-fails, lacks-
 use Rattle.cert_check.proofs.ReadLemmas.{child-lines}
 use Rattle.resume_book.specs.Reading.{IsTreeOf, LeavesOf, TreeSticks, IsRead, IsStuck, IsChildRead, IsChildStuck, AreRead, AreStuck}
 use Rattle.resume_book.proofs.LeastLemmas.{least-append}
+use Rattle.search_rules.specs.declared.grounds.Ground.TheVariants as by
 
 pub open_in_order-append : (Tree : List (List Group) → List OpenMark → List OpenMark → List ℕ → Type 0) (xs ys : List (List (List Group))) (a b c : List OpenMark) (bs cs : List ℕ) → OpenInOrder Tree xs a b bs → OpenInOrder Tree ys b c cs → OpenInOrder Tree (xs ++ ys) a c (bs ++ cs)
 open_in_order-append Tree [] ys a b c bs cs h k = subst (λ u. OpenInOrder Tree ys u c (bs ++ cs)) (sym h.0) (subst (λ u. OpenInOrder Tree ys b c (u ++ cs)) (sym h.1) k)
@@ -142,27 +143,27 @@ module _ (claim : Claim) where
       }
 
   -- a bound mark of a child
-  pub bound-read : (node : Node) (i low : ℕ) (marks rest : List OpenMark) → marks ≡ Closed mark.Bound ∷ rest → claim.cost ≤ bound_of I (node.depth + 1) (child_lines I node i) → IsChildRead claim node i low marks rest low
+  pub bound-read : (node : Node) (i low : ℕ) (marks rest : List OpenMark) → marks ≡ Closed (mark.Leaf by.Bound) ∷ rest → claim.cost ≤ bound_of I (node.depth + 1) (child_lines I node i) → IsChildRead claim node i low marks rest low
   bound-read node i low marks rest is high =
       let up : suc node.depth ≡ node.depth + 1 = omega arith in
       let deep = ap (λ k. bound_of I k (child_lines I node i)) up in
       record {
         tree =
             subst (λ u. IsTreeOf claim (suc node.depth) (child_lines I node i) u rest) (sym is)
-            (leaf-tree I split Closing open_reason_of (length I.ships - suc node.depth) (suc node.depth) (child_lines I node i) (Closed mark.Bound) rest (omega (arith, high, deep)));
+            (leaf-tree I split Closing open_reason_of (length I.ships - suc node.depth) (suc node.depth) (child_lines I node i) (Closed (mark.Leaf by.Bound)) rest (omega (arith, high, deep)));
         bounds = [];
-        leaves = leaf-open I (length I.ships - suc node.depth) (suc node.depth) (child_lines I node i) (Closed mark.Bound) marks rest (λ e. absurd cc) is;
+        leaves = leaf-open I (length I.ships - suc node.depth) (suc node.depth) (child_lines I node i) (Closed (mark.Leaf by.Bound)) marks rest (λ e. absurd cc) is;
         is = refl;
       }
 
-  pub bound-stuck : (node : Node) (i : ℕ) (marks rest : List OpenMark) → marks ≡ Closed mark.Bound ∷ rest → (claim.cost ≤ bound_of I (node.depth + 1) (child_lines I node i) → ⊥) → IsChildStuck claim node i marks marks reason.BoundLow
+  pub bound-stuck : (node : Node) (i : ℕ) (marks rest : List OpenMark) → marks ≡ Closed (mark.Leaf by.Bound) ∷ rest → (claim.cost ≤ bound_of I (node.depth + 1) (child_lines I node i) → ⊥) → IsChildStuck claim node i marks marks reason.BoundLow
   bound-stuck node i marks rest is low =
       let up : suc node.depth ≡ node.depth + 1 = omega arith in
       let deep = ap (λ k. bound_of I k (child_lines I node i)) up in
       record {
         sticks =
             subst (λ u. TreeSticks claim (suc node.depth) (child_lines I node i) u u reason.BoundLow) (sym is)
-            (wrong-tree I split Closing open_reason_of (length I.ships - suc node.depth) (suc node.depth) (child_lines I node i) (Closed mark.Bound) rest (λ high. low (omega (arith, deep, high))) (λ e. absurd cc));
+            (wrong-tree I split Closing open_reason_of (length I.ships - suc node.depth) (suc node.depth) (child_lines I node i) (Closed (mark.Leaf by.Bound)) rest (λ high. low (omega (arith, deep, high))) (λ e. absurd cc));
       }
 
   pub read-shorter : (node : Node) (low : ℕ) (marks rest : List OpenMark) (least : ℕ) → IsRead claim node low marks rest least → length rest ≤ length marks

@@ -89,10 +89,7 @@ by-state b id = go (slot_at b id).state refl
     go (slot.Held w) is = inl (whole (slot.Held w) is (λ e. absurd cc) refl)
     go (slot.Parked c p) is = inl (whole (slot.Parked c p) is (λ e. absurd cc) refl)
     go (slot.Split first) is = inr (first, is)
-    go slot.ByBound is = inl (whole slot.ByBound is (λ e. absurd cc) refl)
-    go (slot.ByCut number) is = inl (whole (slot.ByCut number) is (λ e. absurd cc) refl)
-    go slot.ByThroughput is = inl (whole slot.ByThroughput is (λ e. absurd cc) refl)
-    go (slot.ByProbe s) is = inl (whole (slot.ByProbe s) is (λ e. absurd cc) refl)
+    go (slot.Closed why) is = inl (whole (slot.Closed why) is (λ e. absurd cc) refl)
 
 module _ (b : Book) (keeps : KeepsBook b) (family : KeepsFamily b) (states : KeepsStates b) where
   abbrev I : Instance
@@ -113,10 +110,7 @@ module _ (b : Book) (keeps : KeepsBook b) (family : KeepsFamily b) (states : Kee
 
       go : (s : SlotState) → (slot_at b id).state ≡ s → Ends (mark_at b id)
       go (slot.Split first) is = absurd (whole (ap open_mark is))
-      go slot.ByBound is = subst Ends (sym (ap open_mark is)) (leaf-closes b keeps family states id known mark.Bound (ap leaf_mark is))
-      go (slot.ByCut number) is = subst Ends (sym (ap open_mark is)) (leaf-closes b keeps family states id known (mark.Cut number) (ap leaf_mark is))
-      go slot.ByThroughput is = subst Ends (sym (ap open_mark is)) (leaf-closes b keeps family states id known mark.Throughput (ap leaf_mark is))
-      go (slot.ByProbe s) is = subst Ends (sym (ap open_mark is)) (leaf-closes b keeps family states id known (mark.Probe s) (ap leaf_mark is))
+      go (slot.Closed why) is = subst Ends (sym (ap open_mark is)) (leaf-closes b keeps family states id known (mark.Leaf why) (ap leaf_mark is))
       go _ is = subst Ends (sym (ap open_mark is)) tt
 
   own-bounds : (id : ℕ) → id < length b.slots → leaf_bounds (slot_at b id).bound (mark_at b id) ≡ leaf_bounds (bound_of I (slot_at b id).node.depth (slot_at b id).node.lines) (mark_at b id)

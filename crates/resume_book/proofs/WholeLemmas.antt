@@ -114,10 +114,7 @@ module _ (b : Book) (keeps : KeepsBook b) (parts : KeepsParts b) (C : OpenCertif
       where
         go : (s : SlotState) → (slot_at b id).state ≡ s → IsFormedOpenMark (mark_at b id)
         go (slot.Split first) is = subst IsFormedOpenMark (sym (ap open_mark is)) tt
-        go slot.ByBound is = subst IsFormedOpenMark (sym (ap open_mark is)) tt
-        go (slot.ByCut number) is = subst IsFormedOpenMark (sym (ap open_mark is)) (leaf-formed b parts.family parts.states few id known (mark.Cut number) (ap leaf_mark is))
-        go slot.ByThroughput is = subst IsFormedOpenMark (sym (ap open_mark is)) tt
-        go (slot.ByProbe s) is = subst IsFormedOpenMark (sym (ap open_mark is)) (leaf-formed b parts.family parts.states few id known (mark.Probe s) (ap leaf_mark is))
+        go (slot.Closed why) is = subst IsFormedOpenMark (sym (ap open_mark is)) (leaf-formed b parts.family parts.states few id known (mark.Leaf why) (ap leaf_mark is))
         go _ is = subst IsFormedOpenMark (sym (ap open_mark is)) tt
 
     pub is-formed : IsWellFormedOpen C

@@ -12,10 +12,7 @@ use Rattle.book_certificate.specs.Preorder.{children_from}
 -- the mark of a slot by its state; a slot that is open, held or parked is an open leaf
 abbrev pub open_mark : SlotState → OpenMark
 open_mark (slot.Split first) = Closed mark.Split
-open_mark slot.ByBound = Closed mark.Bound
-open_mark (slot.ByCut number) = Closed (mark.Cut number)
-open_mark slot.ByThroughput = Closed mark.Throughput
-open_mark (slot.ByProbe s) = Closed (mark.Probe s)
+open_mark (slot.Closed why) = Closed (mark.Leaf why)
 open_mark _ = Open
 
 abbrev pub mark_at : Book → ℕ → OpenMark

@@ -3,15 +3,13 @@ use Rattle.std.specs.Prelude.{ℕ, Bool, true, false, List, length, filter}
 use Rattle.search_rules.specs.declared.certificate.OpenMark.{OpenMark}
 use Rattle.search_rules.specs.declared.certificate.OpenMark.TheVariants.{Closed, Open}
 use Rattle.search_rules.specs.declared.certificate.Mark.TheVariants as mark
+use Rattle.search_rules.specs.declared.grounds.Ground.TheVariants as by
 
 -- neither a bound mark nor an open leaf
 abbrev pub is_prior : OpenMark → Bool
 is_prior Open = false
-is_prior (Closed mark.Bound) = false
-is_prior (Closed mark.Split) = true
-is_prior (Closed (mark.Cut number)) = true
-is_prior (Closed mark.Throughput) = true
-is_prior (Closed (mark.Probe s)) = true
+is_prior (Closed (mark.Leaf by.Bound)) = false
+is_prior (Closed m) = true
 
 -- how many marks are neither
 abbrev pub prior_of : List OpenMark → ℕ

@@ -3,7 +3,7 @@ ghost use Rattle.std.specs.Prelude.{◌≡◌, ◌≤◌, [], ◌∷◌};
 ghost use Rattle.resume_book.specs.Prior.{prior_of};
 
 use crate::certificate::OpenCertificate;
-use cert_check::Mark;
+use cert_check::{Ground, Mark};
 use search_rules::OpenMark;
 
 // 1 for a mark that is neither a bound mark nor an open leaf, and else 0.
@@ -12,7 +12,7 @@ fn weight(mark: &OpenMark) -> u64
     ensures most { result ≤ 1 }
 {
     match mark {
-        OpenMark::Open | OpenMark::Closed(Mark::Bound) => 0,
+        OpenMark::Open | OpenMark::Closed(Mark::Leaf(Ground::Bound)) => 0,
         OpenMark::Closed(_) => 1,
     }
 }

@@ -20,10 +20,7 @@ fn open_mark(state: SlotState) -> OpenMark
 {
     match state {
         SlotState::Split(_) => OpenMark::Closed(Mark::Split),
-        SlotState::ByBound => OpenMark::Closed(Mark::Bound),
-        SlotState::ByCut(number) => OpenMark::Closed(Mark::Cut(number)),
-        SlotState::ByThroughput => OpenMark::Closed(Mark::Throughput),
-        SlotState::ByProbe(ship) => OpenMark::Closed(Mark::Probe(ship)),
+        SlotState::Closed(why) => OpenMark::Closed(Mark::Leaf(why)),
         _ => OpenMark::Open,
     }
 }

@@ -9,7 +9,7 @@ ghost use Rattle.cert_check.specs.Reading.{AreTold};
 ghost use Rattle.lock_rules.specs.Bound.{least_number};
 ghost use Rattle.resume_book.specs.Reading.{IsRead, IsStuck, IsChildRead, IsChildStuck, AreRead, AreStuck};
 
-use cert_check::{Claim, Mark, child_of, child_reaches, closes, reason_against};
+use cert_check::{Claim, Ground, Mark, child_of, child_reaches, closes, reason_against};
 use flow_bounds::{Reached, bound};
 use lock_model::Instance;
 use master_branch::{Node, child_count};
@@ -43,10 +43,10 @@ fn first_mark(marks: &[OpenMark]) -> Option<(OpenMark, &[OpenMark])>
 
 // The marks behind a bound mark, where the first one is a bound mark.
 fn behind_bound(marks: &[OpenMark]) -> Option<&[OpenMark]>
-    ensures { IfSome result (λ rest. marks.now ≡ OpenMark.Closed Mark.Bound ∷ rest.now) }
+    ensures { IfSome result (λ rest. marks.now ≡ OpenMark.Closed (Mark.Leaf Ground.Bound) ∷ rest.now) }
 {
     match first_mark(marks) {
-        Some((OpenMark::Closed(Mark::Bound), rest)) => Some(rest),
+        Some((OpenMark::Closed(Mark::Leaf(Ground::Bound)), rest)) => Some(rest),
         _ => None,
     }
 }

@@ -38,10 +38,7 @@ parked_other b node slot.Fresh used low e = cc
 parked_other b node slot.Back used low e = cc
 parked_other b node (slot.Held w) used low e = cc
 parked_other b node (slot.Split first) used low e = cc
-parked_other b node slot.ByBound used low e = cc
-parked_other b node (slot.ByCut number) used low e = cc
-parked_other b node slot.ByThroughput used low e = cc
-parked_other b node (slot.ByProbe s) used low e = cc
+parked_other b node (slot.Closed why) used low e = cc
 
 turns_other : (b : Book) (o : Option ℕ) (used low : ℕ) → turns_verdict b o ≡ OpenNodes used low → ⊥
 turns_other b None used low e = cc
