@@ -1,0 +1,3 @@
+pub mod LooseLemmas
+pub mod ReachLemmas
+pub mod Rows
