@@ -4,6 +4,7 @@ use Rattle.std.specs.Prelude.{IfSome}
 use Rattle.lock_model.specs.declared.instance.Instance.{Instance}
 use Rattle.lock_model.specs.declared.plan.Plan.{Plan}
 use Rattle.lock_model.specs.declared.verdict.Verdict.TheVariants.{Optimal, OpenNodes, OpenTurns}
+use Rattle.lock_rules.specs.Lines.{no_lockage, lockage_at}
 use Rattle.lock_rules.specs.Singles.{singles_of}
 use Rattle.lock_rules.specs.Unfit.{IsFirstUnfit}
 use Rattle.search_rules.proofs.CompleteLemmas.{enough-optimal}
@@ -17,9 +18,9 @@ use Rattle.plan_judge.specs.Reading.{IsPlanText, IsPlanFault, reading as plan_re
 use Rattle.plan_judge.specs.Steps.{bad as bad_plan}
 use Rattle.replan.specs.declared.refusal.ReplanError.{ReplanError}
 use Rattle.replan.specs.declared.refusal.ReplanError.TheVariants.{Kept, Late}
-use Rattle.replan.specs.Kept.{kept_of, kept_places, CanBeKept}
-use Rattle.replan.specs.PartBreaks.{IsRefusal}
-use Rattle.replan.proofs.PartLemmas.{IsFirstBrokenPart-illegal, IsFirstLate-unkept}
+use Rattle.replan.specs.Kept.{kept_of, kept_places, EndsInTime, CanBeKept}
+use Rattle.replan.specs.PartBreaks.{IsFirstLate, IsRefusal}
+use Rattle.replan.proofs.PartLemmas.{IsFirstBrokenPart-illegal}
 use Rattle.run_answers.specs.Sources.{Drained, IsTooLong, AnswersBytes, AnswersSource}
 use Rattle.run_answers.specs.declared.status.Status.{Status}
 use Rattle.run_answers.specs.declared.status.Status.TheVariants.{Good, Open, Words, Refused, ReadFault, WriteFault, NoMemory, BadDossier, Unfit, PlanRefused}
@@ -84,10 +85,16 @@ open_unsure options I K text (inr t) = record {
   unsure = λ enough. turns_open t.chamber t.ships t.spent t.low (enough-optimal t.rest options.nodes options.turns (singles_of t.rest) t.found (OpenTurns t.chamber t.ships t.spent t.low) enough t.left);
 }
 
+-- a part with a late lockage can't be kept
+late-unkept : (I : Instance) (K : Plan) (p : ℕ) → IsFirstLate I K p → CanBeKept I K → ⊥
+late-unkept I K p first can =
+    let in_time : EndsInTime I (lockage_at K p) = can.in_time p no_lockage first.place in
+    absurd (omega (arith, first.late, in_time.ends))
+
 -- what can be kept isn't refused
 not_part_refused : (I : Instance) (K : Plan) (places : List ℕ) (error : ReplanError) → IsRefusal I K places error → CanBeKept I K → ⊥
 not_part_refused I K places (Kept broken) refusal can = IsFirstBrokenPart-illegal I K refusal.0 refusal.1 can.legal
-not_part_refused I K places (Late p) refusal can = IsFirstLate-unkept I K refusal.0 refusal.2 can
+not_part_refused I K places (Late p) refusal can = late-unkept I K refusal.0 refusal.2 can
 
 -- ---- `replan` over a source that is served
 
