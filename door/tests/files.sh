@@ -12,9 +12,9 @@ sed '9s/ 5$//' "$room/evening.lock" >"$room/bad.lock"
 cat "$room/evening.lock" "$room/evening-early.plan" >"$room/early.both"
 passed_on() { check "passed on: $1 < $2" passes_on "$1" "$2"; }
 rows passed_on <<'ROWS'
-solve | evening.lock
+solve --workers 1 | evening.lock
 --nodes 50 --workers 1 solve | two-chambers.lock
-solve --dossier | evening.lock
+solve --dossier --workers 1 | evening.lock
 solve | bad.lock
 check | two.dossier
 check | two.open
