@@ -3,7 +3,7 @@
 import pathlib
 import sys
 
-from runs import Wrong, is_listed
+from runs import listed
 
 sys.path.append(str(pathlib.Path(__file__).resolve().parent.parent / "second_checker"))
 from damage import Dice, damaged
@@ -43,13 +43,6 @@ def changed(command, dice):
     return data
 
 
-def case(runner, words, data):
-    def tried():
-        answer = runner.run(words, data)
-        return None if is_listed(answer) else Wrong("a damaged text", words, data, answer)
-    return tried
-
-
 def cases(runner, runs, number):
     dice = Dice(1_000_033 * number + 29)
     for command in runs:
@@ -59,4 +52,4 @@ def cases(runner, runs, number):
         if words[0] in ("solve", "replan", "resume") and "--nodes" not in words:
             words = words + SMALL
         for _ in range(COPIES):
-            yield case(runner, words, changed(command, dice))
+            yield listed(runner, "a damaged text", words, changed(command, dice))

@@ -3,7 +3,7 @@
 import pathlib
 import sys
 
-from runs import Wrong, is_listed
+from runs import listed
 
 sys.path.append(str(pathlib.Path(__file__).resolve().parent.parent / "second_checker"))
 from damage import Dice
@@ -25,15 +25,8 @@ def words_of(dice):
     return [word.replace("\\xff", "\udcff") for word in words]
 
 
-def case(runner, words, data):
-    def tried():
-        answer = runner.run(words, data)
-        return None if is_listed(answer) else Wrong("odd words", words, data, answer)
-    return tried
-
-
 def cases(runner, runs, number):
     dice = Dice(1_000_003 * number + 17)
     small = [command.data for command in runs if len(command.data) < 2000]
     for _ in range(COUNT):
-        yield case(runner, words_of(dice), dice.pick(small))
+        yield listed(runner, "odd words", words_of(dice), dice.pick(small))

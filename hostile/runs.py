@@ -85,6 +85,14 @@ def is_listed(answer):
     return begin is not None and re.match(begin, answer.text) is not None and answer.text.endswith(b"\n")
 
 
+def listed(runner, what, words, data):
+    """A case whose answer is to stand in the table of texts by status."""
+    def tried():
+        answer = runner.run(words, data)
+        return None if is_listed(answer) else Wrong(what, words, data, answer)
+    return tried
+
+
 def crowd(text, minutes):
     """The instance with all ships arriving within so many minutes."""
     lines = []
