@@ -6,6 +6,10 @@ import threading
 
 from runs import Answer, SECONDS, Wrong
 
+# A pipe that nobody reads. Its other end is closed before any program is started, since each would hold it for a while.
+READING, UNREAD = os.pipe()
+os.close(READING)
+
 
 def with_input(runner, command, how):
     if how == "folder":
@@ -49,12 +53,7 @@ def with_output(runner, command, how):
             return runner.run(command.words, command.data, stdout=full)
     if how == "closed":
         return runner.run(command.words, command.data, stdout=subprocess.DEVNULL, before="exec 1>&-")
-    reads, writes = os.pipe()
-    os.close(reads)
-    try:
-        return runner.run(command.words, command.data, stdout=writes)
-    finally:
-        os.close(writes)
+    return runner.run(command.words, command.data, stdout=UNREAD)
 
 
 def case(run, what, command, is_right):

@@ -20,7 +20,7 @@ import damaged_texts
 import little_memory
 import odd_streams
 import odd_words
-from runs import Runner, commands
+from runs import NO_STACK, Runner, commands
 
 SHOWN, AT_ONCE = 10, 4
 
@@ -36,16 +36,20 @@ def main(program, minutes=0):
     runs = commands(runner)
     end = time.monotonic() + 60 * minutes
     rounds = itertools.takewhile(lambda number: number == 0 or time.monotonic() < end, itertools.count())
-    passed, wrong = 0, []
+    passed, stackless, wrong = 0, 0, []
     with concurrent.futures.ThreadPoolExecutor(AT_ONCE) as pool:
         for number in rounds:
             for case in pool.map(lambda case: case(), cases_of(runner, runs, number)):
-                if case:
+                if case is NO_STACK:
+                    stackless += 1
+                elif case:
                     wrong.append(case)
                     if len(wrong) <= SHOWN:
                         print(keep(case), flush=True)
                 else:
                     passed += 1
+    if stackless:
+        print(f"{stackless} ended by a signal, since the stack had no room to grow")
     print(f"{passed} passed, {len(wrong)} failed")
     return 1 if wrong or not passed else 0
 

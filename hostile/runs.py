@@ -6,6 +6,7 @@ import re
 import subprocess
 
 SECONDS = 60
+NO_STACK = "no stack"
 EXAMPLES = pathlib.Path(__file__).resolve().parent.parent / "examples"
 # How the text of each status begins.
 BEGINS = {
