@@ -2,10 +2,10 @@
 use Rattle.std.proofs.Common.{◌≡◌, ℕ, suc, ◌+◌, ◌-◌, ◌<◌, ◌≤◌, inl, inr, length, sym, ap, ◌∙◌, subst, arith, Some, None, IfSome, IfNone}
 use Rattle.std.specs.declared.option.Option.{Option}
 use Rattle.std.proofs.lemmas.Bool.Decides.{leb_tells}
-use Rattle.search_rules.specs.declared.book.SlotState.TheVariants as slot
-use Rattle.search_rules.specs.Book.{Node, Book, slot_at}
-use Rattle.search_rules.specs.NextSlot.{first_child}
-use Rattle.search_rules.specs.Family.{child_count, IsChildSlot, KeepsFamily}
+use Rattle.book_rules.specs.declared.book.SlotState.TheVariants as slot
+use Rattle.book_rules.specs.Book.{Node, Book, slot_at}
+use Rattle.book_rules.specs.NextSlot.{first_child}
+use Rattle.book_rules.specs.Family.{child_count, IsChildSlot, KeepsFamily}
 
 split-same : (m n : ℕ) → slot.Split m ≡ slot.Split n → m ≡ n
 split-same m n e = ap first_child e

@@ -12,20 +12,20 @@ use Rattle.lock_rules.specs.Node.{root_lines}
 use Rattle.lock_rules.specs.Children.{children_of}
 use Rattle.refute_rules.specs.Cuts.{Cut}
 use Rattle.refute_rules.specs.Trees.{AreInOrder}
-use Rattle.search_rules.specs.declared.grounds.Ground.{Ground}
-use Rattle.search_rules.specs.declared.grounds.Ground.TheVariants as by
-use Rattle.search_rules.specs.declared.book.SlotState.{SlotState}
-use Rattle.search_rules.specs.declared.book.SlotState.TheVariants as slot
-use Rattle.search_rules.specs.declared.certificate.Mark.{Mark}
-use Rattle.search_rules.specs.declared.certificate.Mark.TheVariants as mark
-use Rattle.search_rules.specs.Book.{Node, Book, slot_at, no_slot, best_cost}
-use Rattle.search_rules.specs.Cover.{KeepsBook}
-use Rattle.search_rules.specs.States.{KeepsStates, IsHitBy}
-use Rattle.search_rules.specs.Family.{HasChildren, KeepsFamily}
-use Rattle.search_rules.specs.Certificates.{IsCutBy, Closes, IsMarkTree}
-use Rattle.search_rules.proofs.SlotLemmas.{IsAt}
-use Rattle.search_rules.proofs.MoveLemmas.{TellsAt}
-use Rattle.search_rules.proofs.StateLemmas.{state-tells}
+use Rattle.closing_rules.specs.declared.grounds.Ground.{Ground}
+use Rattle.closing_rules.specs.declared.grounds.Ground.TheVariants as by
+use Rattle.book_rules.specs.declared.book.SlotState.{SlotState}
+use Rattle.book_rules.specs.declared.book.SlotState.TheVariants as slot
+use Rattle.certificate_rules.specs.declared.certificate.Mark.{Mark}
+use Rattle.certificate_rules.specs.declared.certificate.Mark.TheVariants as mark
+use Rattle.book_rules.specs.Book.{Node, Book, slot_at, no_slot, best_cost}
+use Rattle.book_rules.specs.Cover.{KeepsBook}
+use Rattle.book_rules.specs.States.{KeepsStates, IsHitBy}
+use Rattle.book_rules.specs.Family.{HasChildren, KeepsFamily}
+use Rattle.certificate_rules.specs.Certificates.{IsCutBy, Closes, IsMarkTree}
+use Rattle.book_rules.proofs.SlotLemmas.{IsAt}
+use Rattle.book_rules.proofs.MoveLemmas.{TellsAt}
+use Rattle.book_rules.proofs.StateLemmas.{state-tells}
 use Rattle.book_certificate.specs.Preorder.{leaf_mark, AreMarksOf}
 use Rattle.book_certificate.specs.Certified.{cert_cut}
 

@@ -3,7 +3,7 @@ use Rattle.std.proofs.Common.{◌≡◌, ℕ, ◌+◌, ◌<◌, ◌≤◌, List,
 use Rattle.std.proofs.lemmas.List.{take_more, take_all, length-append, map-append}
 use Rattle.std.proofs.lemmas.Option.{slice_get_within, slice_get_cases, get_or_from_slice_get}
 use Rattle.refute_rules.specs.Cuts.{Cut}
-use Rattle.search_rules.specs.Certificates.{CertCut}
+use Rattle.closing_rules.specs.ProvedCuts.{CertCut}
 use Rattle.book_certificate.specs.Certified.{cert_cut}
 
 -- one more cut is copied

@@ -22,22 +22,23 @@ use Rattle.refute_rules.specs.Reasons.{Holds}
 use Rattle.refute_rules.specs.Refutes.{IsRefuted}
 use Rattle.refute_rules.specs.Cuts.{Cut, IsCut}
 use Rattle.refute_rules.specs.Trees.{AreInOrder}
-use Rattle.search_rules.specs.declared.grounds.Ground.{Ground}
-use Rattle.search_rules.specs.declared.grounds.Ground.TheVariants as by
-use Rattle.search_rules.specs.declared.book.SlotState.{SlotState}
-use Rattle.search_rules.specs.declared.book.SlotState.TheVariants as slot
-use Rattle.search_rules.specs.declared.certificate.Mark.{Mark}
-use Rattle.search_rules.specs.declared.certificate.Mark.TheVariants as mark
-use Rattle.search_rules.specs.Book.{Node, Book, root, slot_at, best_cost}
-use Rattle.search_rules.specs.Cover.{KeepsBook, IsOwnCut}
-use Rattle.search_rules.specs.States.{KeepsStates}
-use Rattle.search_rules.specs.Family.{KeepsFamily}
-use Rattle.search_rules.specs.Certificates.{Certificate, IsProved, Closes, IsMarkTree, Accepts}
-use Rattle.search_rules.specs.WellFormed.{IsFormedReason, IsFormedRefutation, IsFormedCut, IsFormedLockage, IsFormedGround, IsFormedMark, IsWellFormed}
-use Rattle.search_rules.proofs.LawLemmas.{contains-times}
-use Rattle.search_rules.proofs.MoveLemmas.{TellsAt}
-use Rattle.search_rules.proofs.SlotLemmas.{IsAt}
-use Rattle.search_rules.proofs.StateLemmas.{state-tells}
+use Rattle.closing_rules.specs.declared.grounds.Ground.{Ground}
+use Rattle.closing_rules.specs.declared.grounds.Ground.TheVariants as by
+use Rattle.book_rules.specs.declared.book.SlotState.{SlotState}
+use Rattle.book_rules.specs.declared.book.SlotState.TheVariants as slot
+use Rattle.certificate_rules.specs.declared.certificate.Mark.{Mark}
+use Rattle.certificate_rules.specs.declared.certificate.Mark.TheVariants as mark
+use Rattle.book_rules.specs.Book.{Node, Book, root, slot_at, best_cost}
+use Rattle.book_rules.specs.Cover.{KeepsBook, IsOwnCut}
+use Rattle.book_rules.specs.States.{KeepsStates}
+use Rattle.book_rules.specs.Family.{KeepsFamily}
+use Rattle.closing_rules.specs.ProvedCuts.{IsProved}
+use Rattle.certificate_rules.specs.Certificates.{Certificate, Closes, IsMarkTree, Accepts}
+use Rattle.certificate_rules.specs.WellFormed.{IsFormedReason, IsFormedRefutation, IsFormedCut, IsFormedLockage, IsFormedGround, IsFormedMark, IsWellFormed}
+use Rattle.closing_rules.proofs.LawLemmas.{contains-times}
+use Rattle.book_rules.proofs.MoveLemmas.{TellsAt}
+use Rattle.book_rules.proofs.SlotLemmas.{IsAt}
+use Rattle.book_rules.proofs.StateLemmas.{state-tells}
 use Rattle.book_certificate.specs.Preorder.{leaf_mark, AreMarksOf}
 use Rattle.book_certificate.specs.Certified.{cert_cut, IsCertificateOf}
 use Rattle.book_certificate.proofs.ClosingLemmas.{some-same, slot-tree}

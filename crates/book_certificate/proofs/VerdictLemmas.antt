@@ -3,11 +3,11 @@ use Rattle.std.proofs.Common.{◌≡◌, ℕ, zero, suc, ◌<◌, List, [], ◌�
 use Rattle.std.specs.declared.option.Option.{Option}
 use Rattle.std.specs.List.{list_any}
 use Rattle.lock_model.specs.declared.verdict.Verdict.TheVariants as verdict
-use Rattle.search_rules.specs.declared.book.SlotState.{SlotState}
-use Rattle.search_rules.specs.declared.book.SlotState.TheVariants as slot
-use Rattle.search_rules.specs.Book.{Node, Slot, Book, no_slot, slot_at, is_fresh, is_back, is_held, is_parked, is_live, has_slot, first_slot}
-use Rattle.search_rules.specs.Verdict.{low_of, parked_verdict, turns_verdict, verdict_of}
-use Rattle.search_rules.proofs.SlotLemmas.{first_slot-at, first_slot-none}
+use Rattle.book_rules.specs.declared.book.SlotState.{SlotState}
+use Rattle.book_rules.specs.declared.book.SlotState.TheVariants as slot
+use Rattle.book_rules.specs.Book.{Node, Slot, Book, no_slot, slot_at, is_fresh, is_back, is_held, is_parked, is_live, has_slot, first_slot}
+use Rattle.book_rules.specs.Verdict.{low_of, parked_verdict, turns_verdict, verdict_of}
+use Rattle.book_rules.proofs.SlotLemmas.{first_slot-at, first_slot-none}
 
 clash : true ≡ false → ⊥
 clash e = cc

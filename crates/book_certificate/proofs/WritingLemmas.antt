@@ -3,11 +3,11 @@ use Rattle.std.proofs.Common.{◌≡◌, ℕ, zero, suc, ◌+◌, ◌-◌, ◌<�
 use Rattle.std.specs.List.{range_with_len}
 use Rattle.std.proofs.lemmas.List.{append_assoc, append-nil}
 use Rattle.refute_rules.specs.Trees.{AreInOrder}
-use Rattle.search_rules.specs.declared.book.SlotState.TheVariants as slot
-use Rattle.search_rules.specs.declared.certificate.Mark.{Mark}
-use Rattle.search_rules.specs.declared.certificate.Mark.TheVariants as mark
-use Rattle.search_rules.specs.Book.{Node, Book, root, slot_at}
-use Rattle.search_rules.specs.Family.{child_count}
+use Rattle.book_rules.specs.declared.book.SlotState.TheVariants as slot
+use Rattle.certificate_rules.specs.declared.certificate.Mark.{Mark}
+use Rattle.certificate_rules.specs.declared.certificate.Mark.TheVariants as mark
+use Rattle.book_rules.specs.Book.{Node, Book, root, slot_at}
+use Rattle.book_rules.specs.Family.{child_count}
 use Rattle.cert_check.proofs.TreeLemmas.{in_order-append, lacks-one}
 use Rattle.book_certificate.specs.Preorder.{leaf_mark, AreMarksOf}
 use Rattle.book_certificate.specs.Writing.{lacking_at, IsWritten, AreWritten}

@@ -1,8 +1,9 @@
 -- What the certificate of a book is, and which books have one.
 use Rattle.std.specs.Prelude.{ℕ, ◌≡◌, ◌<◌, true, false, [], length, map}
 use Rattle.refute_rules.specs.Cuts.{Cut}
-use Rattle.search_rules.specs.Book.{Book, slot_at, best_cost, is_live}
-use Rattle.search_rules.specs.Certificates.{CertCut, Certificate}
+use Rattle.book_rules.specs.Book.{Book, slot_at, best_cost, is_live}
+use Rattle.closing_rules.specs.ProvedCuts.{CertCut}
+use Rattle.certificate_rules.specs.Certificates.{Certificate}
 use Rattle.book_certificate.specs.Preorder.{AreMarksOf}
 
 -- slot `id` is open, held or parked

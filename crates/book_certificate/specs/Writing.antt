@@ -2,8 +2,8 @@
 use Rattle.std.specs.Prelude.{ℕ, suc, ◌≡◌, ◌-◌, List, ◌++◌, length}
 use Rattle.std.specs.List.{range_with_len}
 use Rattle.refute_rules.specs.Trees.{AreInOrder}
-use Rattle.search_rules.specs.declared.certificate.Mark.{Mark}
-use Rattle.search_rules.specs.Book.{Book, slot_at}
+use Rattle.certificate_rules.specs.declared.certificate.Mark.{Mark}
+use Rattle.book_rules.specs.Book.{Book, slot_at}
 use Rattle.book_certificate.specs.Preorder.{AreMarksOf}
 
 -- how many ships the node of a slot lacks

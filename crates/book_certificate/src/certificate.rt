@@ -1,9 +1,9 @@
 //! The certificate of a book.
 ghost use Rattle.std.specs.Prelude.{◌≡◌, ◌↔◌, IfOk, IfErr, Err};
 ghost use Rattle.lock_model.specs.declared.verdict.Verdict.TheVariants.{Optimal};
-ghost use Rattle.search_rules.specs.Verdict.{verdict_of};
-ghost use Rattle.search_rules.specs.Certificates.{Accepts};
-ghost use Rattle.search_rules.specs.WellFormed.{IsWellFormed};
+ghost use Rattle.book_rules.specs.Verdict.{verdict_of};
+ghost use Rattle.certificate_rules.specs.Certificates.{Accepts};
+ghost use Rattle.certificate_rules.specs.WellFormed.{IsWellFormed};
 ghost use Rattle.book_certificate.specs.Certified.{HasLive, IsCertificateOf};
 
 use crate::cuts::cuts_of;

@@ -9,9 +9,9 @@
 //! `cuts_of`, `first_child` and `children_end` serve other certificates of a book.
 //!
 //! Definitions: `specs/Preorder` says which marks the slots have, and `Certified` what the
-//! certificate of a book is. `search_rules` says what a book keeps (`specs/Parts`), and which
-//! certificates are accepted (`Certificates`) and well formed (`WellFormed`). Here `Writing` says
-//! how far the marks are written.
+//! certificate of a book is. `book_rules` says what a book keeps (`specs/Parts`), and
+//! `certificate_rules` which certificates are accepted (`Certificates`) and well formed
+//! (`WellFormed`). Here `Writing` says how far the marks are written.
 #![tactic(auto)]
 
 mod certificate;

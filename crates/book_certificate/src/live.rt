@@ -1,10 +1,10 @@
 //! Slots that no mark closes.
 ghost use Rattle.std.specs.Prelude.{◌≡◌, ◌<◌, length, IfSome, IfNone};
-ghost use Rattle.search_rules.specs.Book.{slot_at, is_live};
+ghost use Rattle.book_rules.specs.Book.{slot_at, is_live};
 ghost use Rattle.book_certificate.specs.Certified.{IsLive, HasNoLive};
 
 use book_core::Book;
-use search_rules::SlotState;
+use book_rules::SlotState;
 
 // Whether a slot in this state is open, held or parked.
 fn is_live(state: SlotState) -> bool

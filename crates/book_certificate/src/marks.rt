@@ -1,17 +1,18 @@
 //! The marks of a book's slots, written in preorder of their tree.
 ghost use Rattle.std.specs.Prelude.{◌≡◌, ◌<◌, ◌+◌, false, [], length, IfOk, IfErr, IfSome, IfNone, OnOk};
-ghost use Rattle.search_rules.specs.declared.book.SlotState.TheVariants as slot;
-ghost use Rattle.search_rules.specs.Book.{slot_at};
-ghost use Rattle.search_rules.specs.Family.{child_count};
-ghost use Rattle.search_rules.specs.NextSlot.{is_split};
+ghost use Rattle.book_rules.specs.declared.book.SlotState.TheVariants as slot;
+ghost use Rattle.book_rules.specs.Book.{slot_at};
+ghost use Rattle.book_rules.specs.Family.{child_count};
+ghost use Rattle.book_rules.specs.NextSlot.{is_split};
 ghost use Rattle.book_certificate.specs.Preorder.{leaf_mark, AreMarksOf};
 ghost use Rattle.book_certificate.specs.Certified.{HasNoLive};
 ghost use Rattle.book_certificate.specs.Writing.{IsWritten};
 
 use crate::error::CertError;
 use book_core::Book;
+use book_rules::SlotState;
 use cert_check::MarkList;
-use search_rules::{Mark, SlotState};
+use certificate_rules::Mark;
 use std::alloc::Global;
 
 // The mark of a closed slot, by its state. None of one that is split, open, held or parked.

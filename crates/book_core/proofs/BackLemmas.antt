@@ -2,16 +2,16 @@
 use Rattle.std.proofs.Common.{◌≡◌, ◌≢◌, ℕ, suc, ◌<◌, ◌≤◌, List, [], ◌∷◌, length, refl, sym, ap, ◌∙◌, subst, arith, Bool, true, false, cond, inl, inr, Some, None, slice_get, drop}
 use Rattle.std.proofs.lemmas.Bool.Decides.{eqb_tells, leb_tells}
 use Rattle.lock_rules.specs.Children.{insert_number}
-use Rattle.search_rules.specs.declared.book.SlotState.{SlotState}
-use Rattle.search_rules.specs.declared.book.SlotState.TheVariants as slot
-use Rattle.search_rules.specs.Book.{Slot, is_back}
-use Rattle.search_rules.specs.Book.{Book, slot_at, first_slot}
-use Rattle.search_rules.proofs.SlotLemmas.{back-is}
-use Rattle.search_rules.proofs.NextLemmas.{first_slot-is, first_slot-empty}
+use Rattle.book_rules.specs.declared.book.SlotState.{SlotState}
+use Rattle.book_rules.specs.declared.book.SlotState.TheVariants as slot
+use Rattle.book_rules.specs.Book.{Slot, is_back}
+use Rattle.book_rules.specs.Book.{Book, slot_at, first_slot}
+use Rattle.book_rules.proofs.SlotLemmas.{back-is}
+use Rattle.book_rules.proofs.NextLemmas.{first_slot-is, first_slot-empty}
 use Rattle.book_core.proofs.HandLemmas.{state-known}
 use Rattle.book_core.specs.Tables.{state_in, IsAmong, AreAbove, AreRising, AreBack}
 use Rattle.book_core.specs.Changes.{Changes}
-use Rattle.search_rules.specs.declared.grounds.Ground.TheVariants as by
+use Rattle.closing_rules.specs.declared.grounds.Ground.TheVariants as by
 
 not-back : (state : SlotState) → is_back state ≡ false → state ≢ slot.Back
 not-back state e h = clash (sym (ap is_back h) ∙ e)

@@ -6,9 +6,9 @@ use Rattle.lock_model.specs.declared.instance.Instance.{Instance}
 use Rattle.lock_rules.specs.Arrival.{next_ship}
 use Rattle.lock_rules.specs.Bound.{bound_of, least_number}
 use Rattle.lock_rules.specs.Children.{children_of}
-use Rattle.search_rules.specs.declared.book.SlotState.TheVariants as slot
-use Rattle.search_rules.specs.Book.{Book, Node as TreeNode, Slot, slot_at}
-use Rattle.search_rules.specs.Step.{probe_at}
+use Rattle.book_rules.specs.declared.book.SlotState.TheVariants as slot
+use Rattle.book_rules.specs.Book.{Book, Node as TreeNode, Slot, slot_at}
+use Rattle.book_rules.specs.Step.{probe_at}
 use Rattle.master_branch.specs.Node.{Node}
 use Rattle.flow_bounds.proofs.ChildLemmas.{least-child}
 use Rattle.book_core.specs.declared.book.Book.TheInside.{Inside}

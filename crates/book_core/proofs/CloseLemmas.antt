@@ -3,12 +3,12 @@ use Rattle.std.proofs.Common.{◌≡◌, ℕ, suc, ◌<◌, ◌≤◌, refl, sym
 use Rattle.std.specs.declared.option.Option.{Option}
 use Rattle.std.proofs.lemmas.Bool.Decides.{leb_tells}
 use Rattle.mooring_rules.specs.declared.breaks.BrokenPlan.{BrokenPlan}
-use Rattle.search_rules.specs.declared.grounds.Ground.{Ground}
-use Rattle.search_rules.specs.declared.grounds.Ground.TheVariants as by
-use Rattle.search_rules.specs.Book.{Book, best_cost}
-use Rattle.search_rules.specs.Events as machine
-use Rattle.search_rules.specs.Events.{close}
-use Rattle.search_rules.specs.Step.{step, may_close, refusal_of, cheaper_than, close_unless, closed, hits_in, probe_at, is_missing}
+use Rattle.closing_rules.specs.declared.grounds.Ground.{Ground}
+use Rattle.closing_rules.specs.declared.grounds.Ground.TheVariants as by
+use Rattle.book_rules.specs.Book.{Book, best_cost}
+use Rattle.book_rules.specs.Events as machine
+use Rattle.book_rules.specs.Events.{close}
+use Rattle.book_rules.specs.Step.{step, may_close, refusal_of, cheaper_than, close_unless, closed, hits_in, probe_at, is_missing}
 use Rattle.book_core.specs.declared.reply.Reply.{Reply}
 use Rattle.book_core.specs.declared.reply.Reply.TheVariants as reply
 use Rattle.book_core.specs.Keeps.{IsSound}

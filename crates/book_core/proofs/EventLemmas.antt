@@ -1,12 +1,12 @@
 -- What take and release answer.
 use Rattle.std.proofs.Common.{◌≡◌, ◌≢◌, ℕ, suc, ◌≤◌, refl, sym, ap, ◌∙◌, subst, Bool, true, false, cond, nat_eq, slice_index_or, inl, inr, Some, None}
 use Rattle.std.proofs.lemmas.Bool.Decides.{eqb_tells}
-use Rattle.search_rules.specs.Book.{Book, slot_at, first_slot, has_slot, is_back, is_held, is_held_by}
-use Rattle.search_rules.specs.Events as machine
-use Rattle.search_rules.specs.Events.{Event, take, release}
-use Rattle.search_rules.specs.NextSlot.{next_fresh}
-use Rattle.search_rules.specs.Step.{step, given, take_free, take_slot, take_fresh, release_slot}
-use Rattle.search_rules.proofs.SlotLemmas.{next_fresh-at}
+use Rattle.book_rules.specs.Book.{Book, slot_at, first_slot, has_slot, is_back, is_held, is_held_by}
+use Rattle.book_rules.specs.Events as machine
+use Rattle.book_rules.specs.Events.{Event, take, release}
+use Rattle.book_rules.specs.NextSlot.{next_fresh}
+use Rattle.book_rules.specs.Step.{step, given, take_free, take_slot, take_fresh, release_slot}
+use Rattle.book_rules.proofs.SlotLemmas.{next_fresh-at}
 use Rattle.master_branch.specs.Node.{Node}
 use Rattle.book_core.specs.declared.reply.Reply.TheVariants as reply
 use Rattle.book_core.specs.Nodes.{tree_node}

@@ -3,15 +3,15 @@ use Rattle.std.proofs.Common.{◌≡◌, ◌≢◌, ℕ, zero, suc, ◌<◌, ◌
 use Rattle.std.specs.declared.option.Option.{Option}
 use Rattle.std.proofs.lemmas.Bool.Decides.{eqb_tells}
 use Rattle.std.proofs.lemmas.List.{length-set, get_or-set_same, get_or-set_other}
-use Rattle.search_rules.specs.declared.book.SlotState.{SlotState}
-use Rattle.search_rules.specs.declared.book.SlotState.TheVariants as slot
-use Rattle.search_rules.specs.Book.{Slot, no_slot, is_held}
-use Rattle.search_rules.specs.Book.{Book, first_slot, has_slot, is_held_by, slot_at}
+use Rattle.book_rules.specs.declared.book.SlotState.{SlotState}
+use Rattle.book_rules.specs.declared.book.SlotState.TheVariants as slot
+use Rattle.book_rules.specs.Book.{Slot, no_slot, is_held}
+use Rattle.book_rules.specs.Book.{Book, first_slot, has_slot, is_held_by, slot_at}
 use Rattle.std.proofs.lemmas.List.Folds.{Any-from_list_any, list_any_at}
-use Rattle.search_rules.proofs.SlotLemmas.{held-is, held_by-is, held_by-itself, first_slot-at, first_slot-none}
+use Rattle.book_rules.proofs.SlotLemmas.{held-is, held_by-is, held_by-itself, first_slot-at, first_slot-none}
 use Rattle.book_core.specs.Tables.{state_in, hand_at, AreHands}
 use Rattle.book_core.specs.Changes.{slot_in, stateless, set_state, Changes, let_go, has_some}
-use Rattle.search_rules.specs.declared.grounds.Ground.TheVariants as by
+use Rattle.closing_rules.specs.declared.grounds.Ground.TheVariants as by
 
 pub set-changes : (slots : List Slot) (id : ℕ) (state : SlotState) → id < length slots → Changes slots id state (set_state slots id state)
 set-changes slots id state known =

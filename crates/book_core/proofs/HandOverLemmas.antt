@@ -2,14 +2,14 @@
 use Rattle.std.proofs.Common.{◌≡◌, ◌≢◌, ℕ, ◌<◌, ◌≤◌, List, [], ◌∷◌, ◌++◌, length, refl, sym, ap, ◌∙◌, subst, arith, Bool, true, false, slice_index_or, slice_set, Some, None}
 use Rattle.std.specs.declared.option.Option.{Option}
 use Rattle.lock_rules.specs.Children.{insert_number}
-use Rattle.search_rules.specs.declared.book.Entry.{Entry}
-use Rattle.search_rules.specs.declared.book.Entry.TheVariants as entry
-use Rattle.search_rules.specs.declared.book.SlotState.{SlotState}
-use Rattle.search_rules.specs.declared.book.SlotState.TheVariants as slot
-use Rattle.search_rules.specs.Book.{Book, Slot, slot_at, first_slot, is_back, is_held, is_held_by}
-use Rattle.search_rules.specs.NextSlot.{is_split}
-use Rattle.search_rules.proofs.SlotLemmas.{back-is, held_by-is, first_slot-at}
-use Rattle.search_rules.proofs.TallyLemmas.{count_false-set}
+use Rattle.book_rules.specs.declared.book.Entry.{Entry}
+use Rattle.book_rules.specs.declared.book.Entry.TheVariants as entry
+use Rattle.book_rules.specs.declared.book.SlotState.{SlotState}
+use Rattle.book_rules.specs.declared.book.SlotState.TheVariants as slot
+use Rattle.book_rules.specs.Book.{Book, Slot, slot_at, first_slot, is_back, is_held, is_held_by}
+use Rattle.book_rules.specs.NextSlot.{is_split}
+use Rattle.book_rules.proofs.SlotLemmas.{back-is, held_by-is, first_slot-at}
+use Rattle.book_rules.proofs.TallyLemmas.{count_false-set}
 use Rattle.book_core.specs.declared.book.Book.TheInside.{Inside}
 use Rattle.book_core.specs.declared.stored_slot.StoredSlot.{StoredSlot}
 use Rattle.book_core.specs.declared.waiting.Waiting.{Waiting}
@@ -25,7 +25,7 @@ use Rattle.book_core.proofs.BackLemmas.{first-back, first-taken, fewer-back, bac
 use Rattle.book_core.proofs.WaitingLemmas.{settles, waiting-kept}
 use Rattle.book_core.proofs.KeptLemmas.{stored-change}
 use Rattle.book_core.proofs.SettleLemmas.{restated}
-use Rattle.search_rules.specs.declared.grounds.Ground.TheVariants as by
+use Rattle.closing_rules.specs.declared.grounds.Ground.TheVariants as by
 
 fresh-open : slot.Fresh ≢ slot.Closed by.Bound
 fresh-open e = cc

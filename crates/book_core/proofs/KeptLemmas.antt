@@ -3,11 +3,11 @@ use Rattle.std.proofs.Common.{◌≡◌, ◌≢◌, ℕ, zero, suc, ◌<◌, ◌
 use Rattle.std.specs.declared.option.Option.{Option}
 use Rattle.std.proofs.lemmas.Bool.Decides.{Decides-eqb}
 use Rattle.lock_model.specs.declared.instance.Instance.{Instance}
-use Rattle.search_rules.specs.declared.book.SlotState.{SlotState}
-use Rattle.search_rules.specs.declared.book.SlotState.TheVariants as slot
-use Rattle.search_rules.specs.Book.{Book, Slot, no_slot, is_back, is_held, is_parked}
-use Rattle.search_rules.specs.NextSlot.{is_split}
-use Rattle.search_rules.proofs.BudgetLemmas.{slots-few}
+use Rattle.book_rules.specs.declared.book.SlotState.{SlotState}
+use Rattle.book_rules.specs.declared.book.SlotState.TheVariants as slot
+use Rattle.book_rules.specs.Book.{Book, Slot, no_slot, is_back, is_held, is_parked}
+use Rattle.book_rules.specs.NextSlot.{is_split}
+use Rattle.book_rules.proofs.BudgetLemmas.{slots-few}
 use Rattle.book_core.specs.declared.stored_slot.StoredSlot.{StoredSlot}
 use Rattle.book_core.specs.declared.waiting.Waiting.{Waiting}
 use Rattle.book_core.specs.Stored.{slots_of, IsStoredAs}
@@ -18,7 +18,7 @@ use Rattle.book_core.proofs.StoredLemmas.{length-slots_after, stored-at, stored-
 use Rattle.book_core.proofs.HandLemmas.{state-known, hands-let_go}
 use Rattle.book_core.proofs.BackLemmas.{back-kept}
 use Rattle.book_core.proofs.WaitingLemmas.{settles, waiting-kept}
-use Rattle.search_rules.specs.declared.grounds.Ground.TheVariants as by
+use Rattle.closing_rules.specs.declared.grounds.Ground.TheVariants as by
 
 -- ---- what is stored of a slot
 

@@ -5,9 +5,9 @@ use Rattle.lock_model.specs.declared.group.Group.{Group}
 use Rattle.lock_rules.specs.Arrival.{order_of, missing_ships}
 use Rattle.lock_rules.specs.Node.{IsNode}
 use Rattle.lock_rules.specs.Trace.{has_number}
-use Rattle.search_rules.specs.Book.{Book, Node as TreeNode, slot_at}
-use Rattle.search_rules.specs.Step.{is_missing, probe_at}
-use Rattle.search_rules.proofs.TestLemmas.{has_number-decides}
+use Rattle.book_rules.specs.Book.{Book, Node as TreeNode, slot_at}
+use Rattle.book_rules.specs.Step.{is_missing, probe_at}
+use Rattle.book_rules.proofs.TestLemmas.{has_number-decides}
 use Rattle.flow_bounds.specs.Missing.{IsMissing}
 use Rattle.flow_bounds.proofs.ProbeLemmas.{among-missing, other-held}
 use Rattle.lock_rules.specs.Bound.{probe_of}

@@ -5,12 +5,12 @@ use Rattle.std.specs.declared.option.Option.{Option}
 use Rattle.std.proofs.lemmas.Bool.Decides.{eqb_tells, leb_tells}
 use Rattle.std.proofs.lemmas.List.{get_or-take, length-take-le}
 use Rattle.lock_model.specs.declared.instance.Instance.{Instance}
-use Rattle.search_rules.specs.declared.book.SlotState.TheVariants as slot
-use Rattle.search_rules.specs.Book.{Book, Slot, slot_at, is_fresh}
-use Rattle.search_rules.specs.NextSlot.{next_fresh}
-use Rattle.search_rules.specs.Waiting.{IsFreshChild}
-use Rattle.search_rules.proofs.SlotLemmas.{fresh-is}
-use Rattle.search_rules.proofs.NextLemmas.{next_fresh-is, next_fresh-none}
+use Rattle.book_rules.specs.declared.book.SlotState.TheVariants as slot
+use Rattle.book_rules.specs.Book.{Book, Slot, slot_at, is_fresh}
+use Rattle.book_rules.specs.NextSlot.{next_fresh}
+use Rattle.book_rules.specs.Waiting.{IsFreshChild}
+use Rattle.book_rules.proofs.SlotLemmas.{fresh-is}
+use Rattle.book_rules.proofs.NextLemmas.{next_fresh-is, next_fresh-none}
 use Rattle.book_core.specs.declared.stored_slot.StoredSlot.{StoredSlot}
 use Rattle.book_core.specs.declared.waiting.Waiting.{Waiting}
 use Rattle.book_core.specs.Stored.{slots_of, IsStoredAs}
@@ -21,7 +21,7 @@ use Rattle.book_core.specs.Keeps.{IsSound}
 use Rattle.book_core.proofs.HandLemmas.{state-known}
 use Rattle.book_core.proofs.StoredLemmas.{stored-at}
 use Rattle.book_core.proofs.KeptLemmas.{length-slots, slot-past}
-use Rattle.search_rules.specs.declared.grounds.Ground.TheVariants as by
+use Rattle.closing_rules.specs.declared.grounds.Ground.TheVariants as by
 
 stored-past : (ss : List StoredSlot) (id : ℕ) → length ss ≤ id → stored_at ss id ≡ record { bound = 0; state = slot.Closed by.Bound; parent = 0; number = 0 }
 stored-past [] id past = refl

@@ -2,8 +2,8 @@
 use Rattle.std.proofs.Common.{◌≡◌, ℕ, zero, suc, ◌+◌, ◌<◌, List, [], ◌∷◌, length, sym, ap, ◌∙◌, arith, slice_index_or, slice_get, Some, None}
 use Rattle.lock_model.specs.declared.instance.Instance.{Instance}
 use Rattle.lock_rules.specs.Node.{IsNode, root_lines}
-use Rattle.search_rules.specs.Book.{Book, Node as TreeNode, Slot, no_slot, slot_at}
-use Rattle.search_rules.specs.Family.{child_node, child_count, IsBorn, HasChildren}
+use Rattle.book_rules.specs.Book.{Book, Node as TreeNode, Slot, no_slot, slot_at}
+use Rattle.book_rules.specs.Family.{child_node, child_count, IsBorn, HasChildren}
 use Rattle.master_branch.specs.Node.{Node, children}
 use Rattle.book_core.specs.Keeps.{IsSound}
 use Rattle.book_core.specs.Nodes.{tree_node}
@@ -24,7 +24,7 @@ module _ (b : Book) (sound : IsSound b) (id : ℕ) (known : id < length b.slots)
   pub slot-node : IsNode b.case.instance (slot_at b id).node.depth (slot_at b id).node.lines
   slot-node = (sound.keeps.slots id no_slot known).node
 
-  pub slot-bound : (slot_at b id).bound ≡ Rattle.search_rules.specs.Book.bound_at b.case.instance (slot_at b id).node
+  pub slot-bound : (slot_at b id).bound ≡ Rattle.book_rules.specs.Book.bound_at b.case.instance (slot_at b id).node
   slot-bound = (sound.keeps.slots id no_slot known).bound
 
   module _ (some : 0 < id) where

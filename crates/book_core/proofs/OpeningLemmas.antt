@@ -1,15 +1,15 @@
 -- The tables of a book that is opened.
 use Rattle.std.proofs.Common.{◌≡◌, ◌≢◌, ℕ, zero, suc, ◌<◌, [], ◌∷◌, refl, sym, ◌∙◌, subst, arith, Bool, true, false, cond, replicate, Some, None}
-use Rattle.search_rules.specs.declared.book.SlotState.{SlotState}
-use Rattle.search_rules.specs.declared.book.SlotState.TheVariants as slot
-use Rattle.search_rules.specs.Book.{Slot}
+use Rattle.book_rules.specs.declared.book.SlotState.{SlotState}
+use Rattle.book_rules.specs.declared.book.SlotState.TheVariants as slot
+use Rattle.book_rules.specs.Book.{Slot}
 use Rattle.book_core.specs.Tables.{state_in, hand_at}
 use Rattle.std.specs.Prelude.{IfSome}
 use Rattle.std.proofs.Common.{List}
 use Rattle.lock_model.specs.declared.instance.Instance.{Instance}
 use Rattle.book_core.specs.Hands.{held_at, IsHand, AreNodes}
 use Rattle.book_core.specs.Keeps.{AreTables}
-use Rattle.search_rules.specs.declared.grounds.Ground.TheVariants as by
+use Rattle.closing_rules.specs.declared.grounds.Ground.TheVariants as by
 
 no-hand : (n w : ℕ) → hand_at (replicate n None) w ≡ None
 no-hand zero w = refl

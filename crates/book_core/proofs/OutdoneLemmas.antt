@@ -7,17 +7,17 @@ use Rattle.lock_model.specs.declared.instance.Instance.{Instance}
 use Rattle.lock_model.specs.declared.plan.Plan.{Plan}
 use Rattle.lock_rules.specs.Plan.{cost_of}
 use Rattle.mooring_rules.specs.declared.breaks.BrokenPlan.{BrokenPlan}
-use Rattle.search_rules.specs.declared.book.SlotState.{SlotState}
-use Rattle.search_rules.specs.declared.book.SlotState.TheVariants as slot
-use Rattle.search_rules.specs.Book.{Book, Node, Slot, best_cost, is_fresh, is_back, is_parked}
-use Rattle.search_rules.specs.Events as machine
-use Rattle.search_rules.specs.Events.{replace}
-use Rattle.search_rules.specs.Step.{step, outdone, replaced}
-use Rattle.search_rules.proofs.CoverLemmas.{got-map}
-use Rattle.search_rules.proofs.SlotLemmas.{back-is}
+use Rattle.book_rules.specs.declared.book.SlotState.{SlotState}
+use Rattle.book_rules.specs.declared.book.SlotState.TheVariants as slot
+use Rattle.book_rules.specs.Book.{Book, Node, Slot, best_cost, is_fresh, is_back, is_parked}
+use Rattle.book_rules.specs.Events as machine
+use Rattle.book_rules.specs.Events.{replace}
+use Rattle.book_rules.specs.Step.{step, outdone, replaced}
+use Rattle.book_rules.proofs.CoverLemmas.{got-map}
+use Rattle.book_rules.proofs.SlotLemmas.{back-is}
 use Rattle.book_core.specs.declared.reply.Reply.TheVariants as reply
-use Rattle.search_rules.specs.declared.book.Entry.{Entry}
-use Rattle.search_rules.specs.declared.book.Entry.TheVariants as entry
+use Rattle.book_rules.specs.declared.book.Entry.{Entry}
+use Rattle.book_rules.specs.declared.book.Entry.TheVariants as entry
 use Rattle.book_core.specs.declared.book.Book.TheInside.{Inside}
 use Rattle.book_core.specs.Seen.{seen}
 use Rattle.book_core.specs.declared.stored_slot.StoredSlot.{StoredSlot}
@@ -38,7 +38,7 @@ use Rattle.book_core.proofs.WaitingLemmas.{waiting-kept}
 use Rattle.book_core.proofs.NextLemmas.{stored-any}
 use Rattle.book_core.proofs.CloseLemmas.{Out, pick-true, pick-false}
 use Rattle.book_core.proofs.SoundLemmas.{step-sound}
-use Rattle.search_rules.specs.declared.grounds.Ground.TheVariants as by
+use Rattle.closing_rules.specs.declared.grounds.Ground.TheVariants as by
 
 -- ---- the walk over the slots
 

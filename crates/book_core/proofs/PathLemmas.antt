@@ -2,8 +2,8 @@
 use Rattle.std.proofs.Common.{◌≡◌, ℕ, zero, suc, ◌+◌, ◌-◌, ◌<◌, ◌≤◌, List, [], ◌∷◌, ◌++◌, length, take, refl, sym, ap, ◌∙◌, subst, arith, slice_index_or, slice_get, vec_capacity, inl, inr, Some}
 use Rattle.std.specs.Prelude.{◌⊎◌}
 use Rattle.lock_model.specs.declared.instance.Instance.{Instance}
-use Rattle.search_rules.specs.Book.{Book, Node as TreeNode, Slot}
-use Rattle.search_rules.specs.Family.{child_node, child_count}
+use Rattle.book_rules.specs.Book.{Book, Node as TreeNode, Slot}
+use Rattle.book_rules.specs.Family.{child_node, child_count}
 use Rattle.master_branch.specs.Node.{Node, IsNodeOf, children, root}
 use Rattle.book_core.specs.declared.path.Path.{Path}
 use Rattle.book_core.specs.declared.path.PathNode.{PathNode}

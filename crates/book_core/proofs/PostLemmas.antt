@@ -9,13 +9,13 @@ use Rattle.lock_rules.specs.Node.{line_at}
 use Rattle.refute_rules.specs.Cuts.{Cut, IsCut}
 use Rattle.refute_rules.specs.Spots.{IsSpent}
 use Rattle.mooring_rules.specs.declared.breaks.BrokenPlan.{BrokenPlan}
-use Rattle.search_rules.specs.declared.book.SlotState.TheVariants as slot
-use Rattle.search_rules.specs.declared.book.Entry.TheVariants as entry
-use Rattle.search_rules.specs.Book.{Book, Node as TreeNode, slot_at, is_held, group_at}
-use Rattle.search_rules.specs.Events as machine
-use Rattle.search_rules.specs.Events.{Event, post, park}
-use Rattle.search_rules.specs.Tests.{has_clash, is_own_cut}
-use Rattle.search_rules.specs.Step.{step, noted, with_state, posted, parked, park_group, is_lent}
+use Rattle.book_rules.specs.declared.book.SlotState.TheVariants as slot
+use Rattle.book_rules.specs.declared.book.Entry.TheVariants as entry
+use Rattle.book_rules.specs.Book.{Book, Node as TreeNode, slot_at, is_held, group_at}
+use Rattle.book_rules.specs.Events as machine
+use Rattle.book_rules.specs.Events.{Event, post, park}
+use Rattle.book_rules.specs.Tests.{has_clash, is_own_cut}
+use Rattle.book_rules.specs.Step.{step, noted, with_state, posted, parked, park_group, is_lent}
 use Rattle.book_core.specs.declared.reply.Reply.TheVariants as reply
 use Rattle.book_core.specs.Parking.{group_lent, names_lent}
 use Rattle.book_core.specs.Growing.{kept_cut}

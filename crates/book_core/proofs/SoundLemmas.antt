@@ -7,20 +7,20 @@ use Rattle.lock_model.specs.declared.plan.Plan.{Plan}
 use Rattle.lock_rules.specs.Plan.{IsLegal, cost_of}
 use Rattle.mooring_rules.specs.declared.breaks.BrokenPlan.{BrokenPlan}
 use Rattle.mooring_rules.specs.declared.breaks.BrokenPlan.TheVariants.{Double}
-use Rattle.search_rules.specs.Book.{Case, Book, best_cost, opening_book}
-use Rattle.search_rules.specs.Events as machine
-use Rattle.search_rules.specs.Events.{Event, IsOwed, take, split, close, post, park, replace, release}
-use Rattle.search_rules.specs.Step
-use Rattle.search_rules.specs.Step.{step}
-use Rattle.search_rules.specs.Laws.{TreeLaws}
-use Rattle.search_rules.specs.Cover.{KeepsBook}
-use Rattle.search_rules.proofs.CoverLemmas.{event-keeps, replaced-keeps, opening-keeps}
-use Rattle.search_rules.proofs.ReplayLemmas.{IsReplayed, event-replayed, opening-replayed}
-use Rattle.search_rules.proofs.LawLemmas.{tree-laws}
+use Rattle.book_rules.specs.Book.{Case, Book, best_cost, opening_book}
+use Rattle.book_rules.specs.Events as machine
+use Rattle.book_rules.specs.Events.{Event, IsOwed, take, split, close, post, park, replace, release}
+use Rattle.book_rules.specs.Step
+use Rattle.book_rules.specs.Step.{step}
+use Rattle.closing_rules.specs.Laws.{TreeLaws}
+use Rattle.book_rules.specs.Cover.{KeepsBook}
+use Rattle.book_rules.proofs.CoverLemmas.{event-keeps, replaced-keeps, opening-keeps}
+use Rattle.book_rules.proofs.ReplayLemmas.{IsReplayed, event-replayed, opening-replayed}
+use Rattle.closing_rules.proofs.LawLemmas.{tree-laws}
 use Rattle.deck_laws.proofs.HeredityLemmas.{hereditary}
 use Rattle.deck_laws.proofs.NormalLemmas.{has-normal}
-use Rattle.search_rules.proofs.StepLemmas.{Refused, Accepted, each-step}
-use Rattle.search_rules.proofs.PartLemmas.{parts-step, opening-parts}
+use Rattle.book_rules.proofs.StepLemmas.{Refused, Accepted, each-step}
+use Rattle.book_rules.proofs.PartLemmas.{parts-step, opening-parts}
 use Rattle.std.specs.List.{AllByRecursion}
 use Rattle.book_core.specs.Laws.{RunsTo, IsJudgeable}
 use Rattle.book_core.specs.Case.{IsCase}

@@ -4,13 +4,13 @@ use Rattle.std.specs.declared.option.Option.{Option}
 use Rattle.std.proofs.lemmas.List.{length-map, length-set}
 use Rattle.lock_rules.specs.Bound.{bound_of}
 use Rattle.lock_rules.specs.Children.{children_of}
-use Rattle.search_rules.specs.declared.book.Entry.{Entry}
-use Rattle.search_rules.specs.declared.book.Entry.TheVariants as entry
-use Rattle.search_rules.specs.declared.book.SlotState.{SlotState}
-use Rattle.search_rules.specs.declared.book.SlotState.TheVariants as slot
-use Rattle.search_rules.specs.Book.{Book, Slot, slot_at, best_cost, is_held}
-use Rattle.search_rules.specs.Step.{children_in}
-use Rattle.search_rules.proofs.SlotLemmas.{held-is}
+use Rattle.book_rules.specs.declared.book.Entry.{Entry}
+use Rattle.book_rules.specs.declared.book.Entry.TheVariants as entry
+use Rattle.book_rules.specs.declared.book.SlotState.{SlotState}
+use Rattle.book_rules.specs.declared.book.SlotState.TheVariants as slot
+use Rattle.book_rules.specs.Book.{Book, Slot, slot_at, best_cost, is_held}
+use Rattle.book_rules.specs.Step.{children_in}
+use Rattle.book_rules.proofs.SlotLemmas.{held-is}
 use Rattle.book_core.specs.declared.book.Book.TheInside.{Inside}
 use Rattle.book_core.specs.declared.stored_slot.StoredSlot.{StoredSlot}
 use Rattle.book_core.specs.declared.waiting.Waiting.{Waiting}
@@ -29,7 +29,7 @@ use Rattle.book_core.proofs.PathLemmas.{path-kept}
 use Rattle.book_core.proofs.KeptLemmas.{length-slots, is-stored, few-slots}
 use Rattle.book_core.proofs.SettleLemmas.{restated}
 use Rattle.book_core.proofs.GrowLemmas.{grown-is, tables-grown, nodes-grown, length-kids}
-use Rattle.search_rules.specs.declared.grounds.Ground.TheVariants as by
+use Rattle.closing_rules.specs.declared.grounds.Ground.TheVariants as by
 
 length-both : {X : Type 0} (xs ys : List X) → length (xs ++ ys) ≡ length xs + length ys
 length-both [] ys = omega arith

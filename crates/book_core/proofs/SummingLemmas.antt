@@ -4,11 +4,11 @@ use Rattle.std.specs.List.{list_any, position, position_or_len}
 use Rattle.lock_model.specs.declared.instance.Instance.{Instance}
 use Rattle.lock_model.specs.declared.group.Group.{Group}
 use Rattle.lock_rules.specs.Node.{line_at}
-use Rattle.search_rules.specs.declared.book.SlotState.{SlotState}
-use Rattle.search_rules.specs.declared.book.SlotState.TheVariants as slot
-use Rattle.search_rules.specs.Book.{Book, Node, Slot, no_slot, slot_at, is_live, is_parked, first_slot}
-use Rattle.search_rules.specs.States.{Tells, IsSpentGroup}
-use Rattle.search_rules.proofs.SlotLemmas.{first_slot-at}
+use Rattle.book_rules.specs.declared.book.SlotState.{SlotState}
+use Rattle.book_rules.specs.declared.book.SlotState.TheVariants as slot
+use Rattle.book_rules.specs.Book.{Book, Node, Slot, no_slot, slot_at, is_live, is_parked, first_slot}
+use Rattle.book_rules.specs.States.{Tells, IsSpentGroup}
+use Rattle.book_rules.proofs.SlotLemmas.{first_slot-at}
 use Rattle.book_core.specs.declared.stored_slot.StoredSlot.{StoredSlot}
 use Rattle.book_core.specs.Stored.{node_after, slot_with, slots_after, slots_of}
 use Rattle.book_core.specs.Summing.{live_bounds}
@@ -50,7 +50,7 @@ module _ (I : Instance) where
 -- ---- the parked group
 
 pub parked-group : (b : Book) → IsSound b → (id c p : ℕ) → id < length b.slots → (slot_at b id).state ≡ slot.Parked c p → IsSpentGroup b.case (slot_at b id).node c p
-parked-group b sound id c p known is = subst (Tells b.case b.cuts (Rattle.search_rules.specs.Book.best_cost b) (slot_at b id).node (slot_at b id).bound) is (sound.parts.states.states id no_slot known)
+parked-group b sound id c p known is = subst (Tells b.case b.cuts (Rattle.book_rules.specs.Book.best_cost b) (slot_at b id).node (slot_at b id).bound) is (sound.parts.states.states id no_slot known)
 
 line-past : (lines : List (List Group)) (c : ℕ) → length lines ≤ c → length (line_at lines c) ≡ 0
 line-past [] c past = refl

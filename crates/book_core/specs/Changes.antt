@@ -1,13 +1,13 @@
 -- What changes of the slots where one of them takes another state.
 use Rattle.std.specs.Prelude.{ℕ, Bool, ◌≡◌, ◌≢◌, ◌<◌, true, false, drop, List, [], ◌∷◌, length, slice_index_or, slice_set, Some, None}
 use Rattle.std.specs.declared.option.Option.{Option}
-use Rattle.search_rules.specs.declared.book.SlotState.{SlotState}
-use Rattle.search_rules.specs.declared.book.SlotState.TheVariants as slot
-use Rattle.search_rules.specs.declared.book.Entry.TheVariants as entry
-use Rattle.search_rules.specs.Book.{Book, Slot, no_slot, slot_at, first_slot, is_fresh, is_back, is_held}
-use Rattle.search_rules.specs.Step.{noted, with_state}
+use Rattle.book_rules.specs.declared.book.SlotState.{SlotState}
+use Rattle.book_rules.specs.declared.book.SlotState.TheVariants as slot
+use Rattle.book_rules.specs.declared.book.Entry.TheVariants as entry
+use Rattle.book_rules.specs.Book.{Book, Slot, no_slot, slot_at, first_slot, is_fresh, is_back, is_held}
+use Rattle.book_rules.specs.Step.{noted, with_state}
 use Rattle.book_core.specs.Tables.{state_in}
-use Rattle.search_rules.specs.declared.grounds.Ground.TheVariants as by
+use Rattle.closing_rules.specs.declared.grounds.Ground.TheVariants as by
 
 abbrev pub slot_in : List Slot → ℕ → Slot
 slot_in slots id = slice_index_or slots id no_slot

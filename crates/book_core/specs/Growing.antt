@@ -2,12 +2,12 @@
 use Rattle.std.specs.Prelude.{ℕ, suc, List, [], ◌∷◌, ◌++◌, nat_le, if◌then◌else◌}
 use Rattle.lock_model.specs.declared.instance.Instance.{Instance}
 use Rattle.refute_rules.specs.Cuts.{Cut}
-use Rattle.search_rules.specs.declared.book.SlotState.TheVariants as slot
-use Rattle.search_rules.specs.declared.book.Entry.TheVariants as entry
-use Rattle.search_rules.specs.Book.{Book, root, bound_at}
-use Rattle.search_rules.specs.Step.{noted, with_children}
+use Rattle.book_rules.specs.declared.book.SlotState.TheVariants as slot
+use Rattle.book_rules.specs.declared.book.Entry.TheVariants as entry
+use Rattle.book_rules.specs.Book.{Book, root, bound_at}
+use Rattle.book_rules.specs.Step.{noted, with_children}
 use Rattle.book_core.specs.declared.stored_slot.StoredSlot.{StoredSlot}
-use Rattle.search_rules.specs.declared.grounds.Ground.TheVariants as by
+use Rattle.closing_rules.specs.declared.grounds.Ground.TheVariants as by
 
 -- the book with one cut more
 abbrev pub kept_cut : Book → Cut → Book

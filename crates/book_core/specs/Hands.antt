@@ -6,7 +6,7 @@ use Rattle.lock_rules.specs.Arrival.{next_ship}
 use Rattle.lock_rules.specs.Bound.{bound_of}
 use Rattle.lock_rules.specs.Children.{children_of}
 use Rattle.master_branch.specs.Node.{Node, IsNodeOf, children}
-use Rattle.search_rules.specs.Book.{Book, Slot, no_slot, slot_at}
+use Rattle.book_rules.specs.Book.{Book, Slot, no_slot, slot_at}
 use Rattle.book_core.specs.declared.hand.Hand.{Hand}
 use Rattle.book_core.specs.Nodes.{tree_node}
 

@@ -6,12 +6,12 @@ use Rattle.lock_model.specs.declared.plan.Plan.{Plan}
 use Rattle.lock_rules.specs.Plan.{IsLegal}
 use Rattle.lock_rules.specs.Throughput.{throughput_of}
 use Rattle.mooring_rules.specs.declared.breaks.BrokenPlan.{BrokenPlan}
-use Rattle.search_rules.specs.Book.{Book, Slot, best_cost}
-use Rattle.search_rules.specs.Cover.{KeepsBook}
-use Rattle.search_rules.specs.Parts.{KeepsParts}
-use Rattle.search_rules.specs.Cheap.{opening_cost}
-use Rattle.search_rules.specs.Room.{count_false}
-use Rattle.search_rules.proofs.ReplayLemmas.{IsReplayed}
+use Rattle.book_rules.specs.Book.{Book, Slot, best_cost}
+use Rattle.book_rules.specs.Cover.{KeepsBook}
+use Rattle.book_rules.specs.Parts.{KeepsParts}
+use Rattle.book_rules.specs.Cheap.{opening_cost}
+use Rattle.book_rules.specs.Room.{count_false}
+use Rattle.book_rules.proofs.ReplayLemmas.{IsReplayed}
 use Rattle.book_core.specs.Case.{IsCase}
 use Rattle.book_core.specs.declared.waiting.Waiting.{Waiting}
 use Rattle.book_core.specs.Tables.{AreHands, AreBack, AreWaiting}

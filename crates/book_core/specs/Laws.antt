@@ -6,9 +6,9 @@ use Rattle.lock_model.specs.declared.instance.Instance.{Instance}
 use Rattle.lock_model.specs.declared.plan.Plan.{Plan}
 use Rattle.lock_rules.specs.Plan.{IsLegal}
 use Rattle.mooring_rules.specs.declared.breaks.BrokenPlan.{BrokenPlan}
-use Rattle.search_rules.specs.Book.{Case, Book, opening_book}
-use Rattle.search_rules.specs.Events.{Event, IsOwed, replace}
-use Rattle.search_rules.specs.Step.{step}
+use Rattle.book_rules.specs.Book.{Case, Book, opening_book}
+use Rattle.book_rules.specs.Events.{Event, IsOwed, replace}
+use Rattle.book_rules.specs.Step.{step}
 use Rattle.book_core.specs.Replies.{IsFirstOf}
 use Rattle.book_core.specs.Keeps.{IsSound}
 

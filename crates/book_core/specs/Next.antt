@@ -1,12 +1,12 @@
 -- The Fresh slot that is taken next, by the list of waiting splits.
 use Rattle.std.specs.Prelude.{ℕ, ◌≡◌, ◌≤◌, ◌<◌, List, slice_index_or, Some, None}
 use Rattle.std.specs.declared.option.Option.{Option}
-use Rattle.search_rules.specs.declared.book.SlotState.TheVariants as slot
-use Rattle.search_rules.specs.Book.{Slot, no_slot}
+use Rattle.book_rules.specs.declared.book.SlotState.TheVariants as slot
+use Rattle.book_rules.specs.Book.{Slot, no_slot}
 use Rattle.book_core.specs.declared.waiting.Waiting.{Waiting}
 use Rattle.book_core.specs.Tables.{state_in, IsWaiting}
 use Rattle.book_core.specs.declared.stored_slot.StoredSlot.{StoredSlot}
-use Rattle.search_rules.specs.declared.grounds.Ground.TheVariants as by
+use Rattle.closing_rules.specs.declared.grounds.Ground.TheVariants as by
 
 abbrev pub stored_at : List StoredSlot → ℕ → StoredSlot
 stored_at slots id = slice_index_or slots id (record { bound = 0; state = slot.Closed by.Bound; parent = 0; number = 0 })

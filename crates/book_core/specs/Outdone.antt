@@ -1,10 +1,10 @@
 -- What is stored of a slot once a cheaper plan is the best one.
 use Rattle.std.specs.Prelude.{ℕ, Bool, ◌&&◌, ◌||◌, List, nat_le, if◌then◌else◌}
-use Rattle.search_rules.specs.declared.book.SlotState.TheVariants as slot
-use Rattle.search_rules.specs.Book.{is_fresh, is_back, is_parked}
+use Rattle.book_rules.specs.declared.book.SlotState.TheVariants as slot
+use Rattle.book_rules.specs.Book.{is_fresh, is_back, is_parked}
 use Rattle.book_core.specs.declared.stored_slot.StoredSlot.{StoredSlot}
 use Rattle.book_core.specs.Next.{stored_at}
-use Rattle.search_rules.specs.declared.grounds.Ground.TheVariants as by
+use Rattle.closing_rules.specs.declared.grounds.Ground.TheVariants as by
 
 -- a Fresh, Back or Parked slot whose bound is at least the cost is closed
 abbrev pub outdone_stored : ℕ → StoredSlot → StoredSlot

@@ -3,8 +3,8 @@ use Rattle.std.specs.Prelude.{ℕ, Bool, false, Some, None}
 use Rattle.std.specs.declared.option.Option.{Option}
 use Rattle.lock_model.specs.Deck.{Deck}
 use Rattle.lock_model.specs.declared.group.Group.{Group}
-use Rattle.search_rules.specs.Book.{Book, slot_at, group_at}
-use Rattle.search_rules.specs.Step.{is_lent}
+use Rattle.book_rules.specs.Book.{Book, slot_at, group_at}
+use Rattle.book_rules.specs.Step.{is_lent}
 
 -- there is a group, its deck is the lent one, and the lent turns are enough
 abbrev pub group_lent : Book → ℕ → Deck → ℕ → Option Group → Bool

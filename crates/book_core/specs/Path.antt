@@ -2,9 +2,9 @@
 use Rattle.std.specs.Prelude.{ℕ, ◌≡◌, ◌-◌, ◌≤◌, ◌<◌, List, length, slice_index_or, vec_capacity}
 use Rattle.lock_model.specs.declared.instance.Instance.{Instance}
 use Rattle.master_branch.specs.Node.{root}
-use Rattle.search_rules.specs.Book.{Slot}
-use Rattle.search_rules.specs.Book.{root as tree_root}
-use Rattle.search_rules.specs.Family.{child_node, child_count}
+use Rattle.book_rules.specs.Book.{Slot}
+use Rattle.book_rules.specs.Book.{root as tree_root}
+use Rattle.book_rules.specs.Family.{child_node, child_count}
 use Rattle.book_core.specs.declared.path.Path.{Path}
 use Rattle.book_core.specs.declared.path.PathNode.{PathNode}
 use Rattle.book_core.specs.Changes.{slot_in}

@@ -7,10 +7,10 @@ use Rattle.lock_rules.specs.Plan.{IsLegal}
 use Rattle.mooring_rules.specs.declared.breaks.BrokenPlan.{BrokenPlan}
 use Rattle.mooring_rules.specs.PlanBreaks.{IsFirstBrokenPlan}
 use Rattle.master_branch.specs.Node.{IsNodeOf}
-use Rattle.search_rules.specs.Book.{Book}
-use Rattle.search_rules.specs.Events as machine
-use Rattle.search_rules.specs.Events.{Event, replace}
-use Rattle.search_rules.specs.Step.{step}
+use Rattle.book_rules.specs.Book.{Book}
+use Rattle.book_rules.specs.Events as machine
+use Rattle.book_rules.specs.Events.{Event, replace}
+use Rattle.book_rules.specs.Step.{step}
 use Rattle.book_core.specs.declared.reply.Reply.{Reply}
 use Rattle.book_core.specs.declared.reply.Reply.TheVariants as reply
 

@@ -1,6 +1,6 @@
 -- A book by its fields.
 use Rattle.std.specs.Prelude.{length, vec_capacity}
-use Rattle.search_rules.specs.Book.{Book as Told}
+use Rattle.book_rules.specs.Book.{Book as Told}
 use Rattle.book_core.specs.declared.book.Book.TheInside.{Inside}
 use Rattle.flow_bounds.specs.Roster.{IsRosterOf}
 use Rattle.book_core.specs.Stored.{slots_of}

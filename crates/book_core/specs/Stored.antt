@@ -3,7 +3,7 @@ use Rattle.std.specs.Prelude.{ℕ, suc, ◌≡◌, List, [], ◌∷◌, ◌++◌
 use Rattle.lock_model.specs.declared.instance.Instance.{Instance}
 use Rattle.lock_rules.specs.Node.{root_lines}
 use Rattle.lock_rules.specs.Children.{children_of}
-use Rattle.search_rules.specs.Book.{Node, Slot, root}
+use Rattle.book_rules.specs.Book.{Node, Slot, root}
 use Rattle.book_core.specs.declared.stored_slot.StoredSlot.{StoredSlot}
 
 -- child i of a node

@@ -1,6 +1,6 @@
 -- The bounds of the slots that aren't done with.
 use Rattle.std.specs.Prelude.{ℕ, List, map, filter}
-use Rattle.search_rules.specs.Book.{is_live}
+use Rattle.book_rules.specs.Book.{is_live}
 use Rattle.book_core.specs.declared.stored_slot.StoredSlot.{StoredSlot}
 
 -- of the open, held and parked slots

@@ -1,9 +1,9 @@
 -- The tables of a book, by which it finds slots without a walk.
 use Rattle.std.specs.Prelude.{ℕ, ◌≡◌, ◌<◌, ◌≤◌, ◌⊎◌, ⊤, List, [], ◌∷◌, length, slice_index_or, Some, None}
 use Rattle.std.specs.declared.option.Option.{Option}
-use Rattle.search_rules.specs.declared.book.SlotState.{SlotState}
-use Rattle.search_rules.specs.declared.book.SlotState.TheVariants as slot
-use Rattle.search_rules.specs.Book.{Slot, no_slot}
+use Rattle.book_rules.specs.declared.book.SlotState.{SlotState}
+use Rattle.book_rules.specs.declared.book.SlotState.TheVariants as slot
+use Rattle.book_rules.specs.Book.{Slot, no_slot}
 use Rattle.book_core.specs.declared.waiting.Waiting.{Waiting}
 
 abbrev pub state_in : List Slot → ℕ → SlotState

@@ -2,8 +2,8 @@
 ghost use Rattle.std.specs.Prelude.{◌≡◌, ◌<◌, ◌≤◌, false, length, slice_index_or, slice_get, IfSome, IfNone};
 ghost use Rattle.lock_rules.specs.Plan.{IsLegal};
 ghost use Rattle.flow_bounds.specs.Roster.{IsRosterOf};
-ghost use Rattle.search_rules.specs.Book.{best_cost, slot_at};
-ghost use Rattle.search_rules.specs.Cheap.{opening_cost};
+ghost use Rattle.book_rules.specs.Book.{best_cost, slot_at};
+ghost use Rattle.book_rules.specs.Cheap.{opening_cost};
 
 use crate::back_list::BackList;
 use crate::case::Case;
@@ -11,10 +11,10 @@ use crate::hand::Hand;
 use crate::path::Path;
 use crate::stored_slot::StoredSlot;
 use crate::waiting::Waiting;
+use book_rules::{Entry, SlotState};
 use flow_bounds::Roster;
 use lock_model::Plan;
 use place_refute::Cut;
-use search_rules::{Entry, SlotState};
 use std::marker::Model;
 
 /// The case, the opening plan, the slots, the cuts, the plans that replaced the opening one, the best
@@ -43,7 +43,7 @@ pub struct Book {
 }
 
 impl Model for Book {
-    ghost use Rattle.search_rules.specs.Book.{Book as Told};
+    ghost use Rattle.book_rules.specs.Book.{Book as Told};
 
     ghost Value = { Told };
 

@@ -3,17 +3,17 @@ ghost use Rattle.std.specs.Prelude.{◌≡◌, ◌<◌, true, false, length, IfS
 ghost use Rattle.std.specs.Bool.{OnTrue};
 ghost use Rattle.lock_rules.specs.Arrival.{next_ship};
 ghost use Rattle.master_branch.specs.Node.{IsNodeOf};
-ghost use Rattle.search_rules.specs.Book.{slot_at, is_held};
-ghost use Rattle.search_rules.specs.Step.{is_missing, probe_at};
+ghost use Rattle.book_rules.specs.Book.{slot_at, is_held};
+ghost use Rattle.book_rules.specs.Step.{is_missing, probe_at};
 ghost use Rattle.book_core.specs.Hands.{IsNextShip};
 ghost use Rattle.book_core.specs.Nodes.{tree_node};
 
 use crate::book::Book;
 use crate::hand::least_in;
 use crate::hands::fill_hand;
+use book_rules::SlotState;
 use flow_bounds::{is_missing, probe};
 use master_branch::Node;
-use search_rules::SlotState;
 
 impl Book {
     // The probe of the ship that a held slot's node lacks first: the least bound of the children.

@@ -16,7 +16,7 @@ pub struct Case {
 }
 
 impl Model for Case {
-    ghost use Rattle.search_rules.specs.Book.{Case as Told};
+    ghost use Rattle.book_rules.specs.Book.{Case as Told};
     ghost use Rattle.book_core.specs.Case.{IsCase};
 
     ghost Value = { Told };

@@ -1,15 +1,16 @@
 //! The events that close a slot.
 ghost use Rattle.std.specs.Prelude.{◌≡◌, true, None};
 ghost use Rattle.mooring_rules.specs.declared.breaks.BrokenPlan.{BrokenPlan};
-ghost use Rattle.search_rules.specs.Book.{best_cost};
-ghost use Rattle.search_rules.specs.Events.{close};
-ghost use Rattle.search_rules.specs.Step.{may_close, refusal_of, cheaper_than};
+ghost use Rattle.book_rules.specs.Book.{best_cost};
+ghost use Rattle.book_rules.specs.Events.{close};
+ghost use Rattle.book_rules.specs.Step.{may_close, refusal_of, cheaper_than};
 ghost use Rattle.book_core.specs.Keeps.{IsSound};
 ghost use Rattle.book_core.specs.Replies.{Answers};
 
 use crate::book::Book;
 use crate::reply::Reply;
-use search_rules::{Entry, Ground, SlotState};
+use book_rules::{Entry, SlotState};
+use closing_rules::Ground;
 
 impl Book {
     // Closes a slot that may be closed so.

@@ -1,7 +1,7 @@
 //! Equal decks, and ships that clash.
 ghost use Rattle.std.specs.Prelude.{◌≡◌};
 ghost use Rattle.std.specs.List.{list_any};
-ghost use Rattle.search_rules.specs.Tests.{is_clash, has_clash, same_size, same_sizes, same_deck};
+ghost use Rattle.book_rules.specs.Tests.{is_clash, has_clash, same_size, same_sizes, same_deck};
 
 use lock_model::{Deck, Size};
 

@@ -2,8 +2,8 @@
 ghost use Rattle.std.specs.Prelude.{◌≡◌, ◌<◌, ◌≤◌, length};
 ghost use Rattle.std.specs.Bool.{OnTrue};
 ghost use Rattle.lock_rules.specs.Throughput.{throughput_of};
-ghost use Rattle.search_rules.specs.Book.{slot_at, first_slot, has_slot, is_back, is_held, is_held_by};
-ghost use Rattle.search_rules.specs.Step.{may_close};
+ghost use Rattle.book_rules.specs.Book.{slot_at, first_slot, has_slot, is_back, is_held, is_held_by};
+ghost use Rattle.book_rules.specs.Step.{may_close};
 ghost use Rattle.book_core.specs.Keeps.{IsSound};
 ghost use Rattle.book_core.specs.Stored.{IsStoredAs};
 ghost use Rattle.book_core.specs.Changes.{has_some};
@@ -11,8 +11,9 @@ ghost use Rattle.book_core.specs.Changes.{has_some};
 use crate::book::Book;
 use crate::hand::{Hand, id_of};
 use crate::stored_slot::StoredSlot;
+use book_rules::SlotState;
+use closing_rules::Ground;
 use lock_model::Instance;
-use search_rules::{Ground, SlotState};
 
 impl Book {
     // The state of a slot; closed by its bound where there is no such slot.

@@ -8,10 +8,10 @@ ghost use Rattle.book_core.specs.Hands.{bounds_below, bounds_at};
 use crate::book::Book;
 use crate::comparing::{same_instance, same_node};
 use crate::hands::lay_bounds;
+use book_rules::SlotState;
 use flow_bounds::{Bounds, Roster, child_bounds};
 use lock_model::Instance;
 use master_branch::Node;
-use search_rules::SlotState;
 
 /// The bounds of all children of a node that lacks a ship, worked out without a book.
 #[derive(Debug, Drop)]

@@ -2,8 +2,8 @@
 ghost use Rattle.std.specs.Prelude.{◌≡◌, ◌+◌, ◌*◌, ◌≤◌, ◌<◌, length, IfOk, vec_len, vec_capacity};
 
 use crate::book::Book;
+use book_rules::Entry;
 use plain_text::NoMemory;
-use search_rules::Entry;
 
 // Room for so many entries of the history, and for one more of a list.
 pub(crate) fn make_room<T>(

@@ -1,15 +1,15 @@
 //! Which slot each worker holds.
 ghost use Rattle.std.specs.Prelude.{◌≡◌, ◌<◌, ◌≤◌, ◌≢◌, [], ℕ, IfSome, slice_set};
-ghost use Rattle.search_rules.specs.declared.book.SlotState.TheVariants as slot;
+ghost use Rattle.book_rules.specs.declared.book.SlotState.TheVariants as slot;
 ghost use Rattle.flow_bounds.specs.Roster.{IsRosterOf};
 ghost use Rattle.book_core.specs.Hands.{IsBounding, filled, laid, held_at};
 ghost use Rattle.book_core.specs.Changes.{let_go, leave_back};
 
 use crate::back_list::BackList;
 use crate::hand::{Hand, fill, lay};
+use book_rules::SlotState;
 use flow_bounds::{Bounds, Roster};
 use lock_model::Instance;
-use search_rules::SlotState;
 
 // A slot in this state leaves the hand of the worker who holds it, if one does.
 pub(crate) fn let_go(hands: &mut [Option<Hand>; 9], state: SlotState)

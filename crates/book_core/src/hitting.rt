@@ -2,9 +2,9 @@
 ghost use Rattle.std.specs.Prelude.{◌≡◌, ◌<◌, ◌↔◌, length, All, slice_get, IsTrue};
 ghost use Rattle.lock_rules.specs.Cut.{Hits, HitsNode};
 ghost use Rattle.master_branch.specs.Node.{IsNodeOf};
-ghost use Rattle.search_rules.specs.Book.{slot_at};
+ghost use Rattle.book_rules.specs.Book.{slot_at};
 ghost use Rattle.book_core.specs.Nodes.{tree_node};
-ghost use Rattle.search_rules.specs.Step.{hits_in};
+ghost use Rattle.book_rules.specs.Step.{hits_in};
 ghost use Rattle.book_core.specs.Hitting.{HitsLine};
 
 use crate::book::Book;

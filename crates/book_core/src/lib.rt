@@ -26,7 +26,7 @@
 //!   book (`foreseen`), which takes them where they are of its instance and of the slot's node
 //!   (`comparing`).
 //!
-//! Definitions: `search_rules` has the machine (`specs/Book`, `Events`, `Step`), the replay, the
+//! Definitions: `book_rules` has the machine (`specs/Book`, `Events`, `Step`), the replay, the
 //! cover and the counts. Here `specs/Replies` says what it is that a method is a step, `Keeps` what
 //! every book keeps, `Stored` which slots the stored ones are, `Tables`, `Hands`, `Path` and `Next`
 //! what the tables and the kept nodes say, `Laws` the law.

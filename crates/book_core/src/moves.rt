@@ -1,14 +1,14 @@
 //! What events change of a book.
 ghost use Rattle.std.specs.Prelude.{◌≡◌, ◌≤◌, true, false, slice_index_or, Some, None};
-ghost use Rattle.search_rules.specs.Book.{first_slot, is_held_by};
-ghost use Rattle.search_rules.specs.Step.{may_close, noted, with_state};
+ghost use Rattle.book_rules.specs.Book.{first_slot, is_held_by};
+ghost use Rattle.book_rules.specs.Step.{may_close, noted, with_state};
 ghost use Rattle.book_core.specs.Changes.{IsSettled, IsFree, handed, returned, finished};
 ghost use Rattle.book_core.specs.Keeps.{IsSound};
 
 use crate::book::Book;
 use crate::hand::Hand;
 use crate::hands::{leave_back, let_go};
-use search_rules::{Entry, SlotState};
+use book_rules::{Entry, SlotState};
 
 impl Book {
     // A held or parked slot is parked or closed.

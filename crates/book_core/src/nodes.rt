@@ -1,7 +1,7 @@
 //! The nodes of slots: those in hands, and those that are made again.
 ghost use Rattle.std.specs.Prelude.{◌≡◌, ◌<◌, true, false, length, IfSome, IfNone};
 ghost use Rattle.lock_rules.specs.Arrival.{next_ship};
-ghost use Rattle.search_rules.specs.Book.{slot_at, is_held};
+ghost use Rattle.book_rules.specs.Book.{slot_at, is_held};
 ghost use Rattle.master_branch.specs.Node.{IsNodeOf};
 ghost use Rattle.book_core.specs.Hands.{IsHandOf};
 ghost use Rattle.book_core.specs.Nodes.{tree_node};
@@ -9,8 +9,8 @@ ghost use Rattle.book_core.specs.Nodes.{tree_node};
 use crate::book::Book;
 use crate::hand::Hand;
 use crate::path::node_from_root;
+use book_rules::SlotState;
 use master_branch::Node;
-use search_rules::SlotState;
 
 impl Book {
     // The hand that holds a slot; None exactly where no worker holds it.

@@ -1,7 +1,7 @@
 //! The opening of a book.
 ghost use Rattle.std.specs.Prelude.{◌≡◌, IfOk};
 ghost use Rattle.lock_rules.specs.Plan.{IsLegal, cost_of};
-ghost use Rattle.search_rules.specs.Book.{opening_book};
+ghost use Rattle.book_rules.specs.Book.{opening_book};
 ghost use Rattle.book_core.specs.Growing.{stored_root};
 
 use crate::back_list::BackList;

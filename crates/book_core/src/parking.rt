@@ -1,17 +1,17 @@
 //! The event that parks a slot.
 ghost use Rattle.std.specs.Prelude.{◌≡◌, true};
 ghost use Rattle.refute_rules.specs.Spots.{IsSpotHard};
-ghost use Rattle.search_rules.specs.Book.{slot_at, is_held};
-ghost use Rattle.search_rules.specs.Events.{park};
+ghost use Rattle.book_rules.specs.Book.{slot_at, is_held};
+ghost use Rattle.book_rules.specs.Events.{park};
 ghost use Rattle.book_core.specs.Parking.{names_lent};
 ghost use Rattle.book_core.specs.Replies.{Answers};
 
 use crate::book::Book;
 use crate::decks::{deck_clashes, same_deck};
 use crate::reply::Reply;
+use book_rules::{Entry, SlotState};
 use lock_model::deck_of;
 use place_refute::Hard;
-use search_rules::{Entry, SlotState};
 
 impl Book {
     // Whether the deck of the named group of a held slot's node is the lent value's, and its turns are

@@ -2,8 +2,8 @@
 ghost use Rattle.std.specs.Prelude.{◌≡◌, ◌<◌, length, nat_lt, All, IsTrue, IfOk, IfErr};
 ghost use Rattle.std.specs.List.{list_all};
 ghost use Rattle.refute_rules.specs.Cuts.{IsCut};
-ghost use Rattle.search_rules.specs.Events.{post};
-ghost use Rattle.search_rules.specs.Tests.{is_own_cut};
+ghost use Rattle.book_rules.specs.Events.{post};
+ghost use Rattle.book_rules.specs.Tests.{is_own_cut};
 ghost use Rattle.book_core.specs.Growing.{kept_cut};
 ghost use Rattle.book_core.specs.Keeps.{IsSound};
 ghost use Rattle.book_core.specs.Replies.{Does};
@@ -12,10 +12,10 @@ use crate::book::Book;
 use crate::decks::same_deck;
 use crate::growing::make_room;
 use crate::reply::Reply;
+use book_rules::Entry;
 use lock_model::{Instance, deck_of};
 use place_refute::Cut;
 use plain_text::NoMemory;
-use search_rules::Entry;
 
 // Whether all these ships are in the instance.
 #[tactic(auto, using(crate::proofs::PostLemmas::known_ships))]

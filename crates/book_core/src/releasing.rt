@@ -1,6 +1,6 @@
 //! The event by which a worker ends.
 ghost use Rattle.std.specs.Prelude.{◌≡◌, ◌≤◌};
-ghost use Rattle.search_rules.specs.Events.{release};
+ghost use Rattle.book_rules.specs.Events.{release};
 ghost use Rattle.book_core.specs.Replies.{Answers};
 
 use crate::book::Book;

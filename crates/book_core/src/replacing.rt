@@ -1,9 +1,9 @@
 //! The event that puts a cheaper plan in the place of the best one.
 ghost use Rattle.std.specs.Prelude.{◌≡◌, ◌<◌, ◌∷◌, ◌++◌, [], ◌||◌, map, filter, length, IfOk, IfErr};
 ghost use Rattle.lock_rules.specs.Plan.{cost_of};
-ghost use Rattle.search_rules.specs.Book.{is_fresh, is_back, is_parked};
-ghost use Rattle.search_rules.specs.Events.{replace};
-ghost use Rattle.search_rules.specs.Step.{replaced};
+ghost use Rattle.book_rules.specs.Book.{is_fresh, is_back, is_parked};
+ghost use Rattle.book_rules.specs.Events.{replace};
+ghost use Rattle.book_rules.specs.Step.{replaced};
 ghost use Rattle.book_core.specs.Outdone.{outdone_stored, is_back_in};
 ghost use Rattle.book_core.specs.Keeps.{IsSound};
 ghost use Rattle.book_core.specs.Replies.{Does};
@@ -14,10 +14,11 @@ use crate::growing::make_room;
 use crate::opening::cost_of_legal;
 use crate::reply::Reply;
 use crate::stored_slot::StoredSlot;
+use book_rules::{Entry, SlotState};
+use closing_rules::Ground;
 use lock_model::Plan;
 use mooring_rules::judge_plan;
 use plain_text::NoMemory;
-use search_rules::{Entry, Ground, SlotState};
 
 // Whether a slot in this state is fresh, returned or parked.
 fn may_be_outdone(state: SlotState) -> bool

@@ -1,8 +1,8 @@
 //! The event that splits a slot into its children.
 ghost use Rattle.std.specs.Prelude.{◌≡◌, ◌+◌, ◌≤◌, ◌<◌, ◌++◌, true, false, length, nat_le, IfOk, IfErr, IfSome, IfNone, vec_len, vec_capacity};
-ghost use Rattle.search_rules.specs.Book.{slot_at, is_held};
-ghost use Rattle.search_rules.specs.declared.book.SlotState.TheVariants as slot;
-ghost use Rattle.search_rules.specs.Events.{split};
+ghost use Rattle.book_rules.specs.Book.{slot_at, is_held};
+ghost use Rattle.book_rules.specs.declared.book.SlotState.TheVariants as slot;
+ghost use Rattle.book_rules.specs.Events.{split};
 ghost use Rattle.book_core.specs.Growing.{stored_child, stored_children, with_kids};
 ghost use Rattle.book_core.specs.Hands.{bounds_at, bounds_in, held_at};
 ghost use Rattle.book_core.specs.Keeps.{IsSound};
@@ -14,8 +14,9 @@ use crate::hands::fill_hand;
 use crate::reply::Reply;
 use crate::stored_slot::StoredSlot;
 use crate::waiting::Waiting;
+use book_rules::{Entry, SlotState};
+use closing_rules::Ground;
 use plain_text::NoMemory;
-use search_rules::{Entry, Ground, SlotState};
 
 // The slot of a child: closed where its bound is at least the best cost.
 pub(crate) fn stored_child(parent: u32, number: u8, bound: u64, cost: u64) -> StoredSlot

@@ -1,6 +1,6 @@
 //! Slots as a book stores them.
 
-use search_rules::SlotState;
+use book_rules::SlotState;
 
 // A slot of a book: the child of this number of its parent's node, 0 and 0 for the root, with its
 // bound in minutes and its state. Its node isn't stored: it is found again from the parents.

@@ -7,11 +7,12 @@ mod walk;
 
 use super::*;
 use asking::{Ask, expect_given, expect_replies, expect_state, go_to_first, reply_of};
+use book_rules::SlotState;
+use closing_rules::Ground;
 use fixture::{
     SIDE, both, narrow, one_after_the_other, open, open_cheap, row_cut, side_by_side, swift,
 };
 use lock_model::Verdict;
-use search_rules::{Ground, SlotState};
 use std::process::Abort;
 use std::test::Fail;
 use walk::{instance_of_seven, slow_next};

@@ -1,15 +1,15 @@
 //! The splits that may have a fresh child, and the fresh child that is taken next.
 ghost use Rattle.std.specs.Prelude.{◌≡◌, ◌+◌, ◌≤◌, ◌<◌, length, IfSome, IfNone};
-ghost use Rattle.search_rules.specs.Book.{slot_at, is_fresh};
-ghost use Rattle.search_rules.specs.NextSlot.{next_fresh};
+ghost use Rattle.book_rules.specs.Book.{slot_at, is_fresh};
+ghost use Rattle.book_rules.specs.NextSlot.{next_fresh};
 ghost use Rattle.book_core.specs.Next.{IsLeastUpTo, IsNext, HasNoneFresh};
 ghost use Rattle.book_core.specs.Stored.{slots_of};
 ghost use Rattle.book_core.specs.Tables.{AreWaiting};
 
 use crate::book::Book;
 use crate::stored_slot::StoredSlot;
+use book_rules::SlotState;
 use lock_model::Instance;
-use search_rules::SlotState;
 
 // A split and the slots of its children: from `first` up to `end`, which is left out.
 #[derive(Clone, Copy, Debug, PartialEq, Eq)]

@@ -6,14 +6,15 @@ use Rattle.lock_rules.specs.Plan.{IsCheapest, cost_of}
 use Rattle.lock_rules.specs.Heredity.{IsHereditary}
 use Rattle.lock_model.specs.Deck.{Deck, IsDeck}
 use Rattle.refute_rules.proofs.RefuteLemmas.{HasNormal}
-use Rattle.search_rules.specs.declared.certificate.Spot2.{Spot2}
-use Rattle.search_rules.specs.declared.certificate.Spot2.TheVariants as place
-use Rattle.search_rules.specs.declared.certificate.Reason.{Reason}
-use Rattle.search_rules.specs.Certificates.{CertCut, Certificate, Accepts}
-use Rattle.search_rules.specs.Failures.{FailsAt, Fails}
-use Rattle.search_rules.proofs.FailLemmas.{fails-not_accepted}
-use Rattle.search_rules.proofs.AcceptLemmas.{accepted-cheapest}
-use Rattle.search_rules.proofs.LawLemmas.{tree-laws}
+use Rattle.certificate_rules.specs.declared.certificate.Spot2.{Spot2}
+use Rattle.certificate_rules.specs.declared.certificate.Spot2.TheVariants as place
+use Rattle.certificate_rules.specs.declared.certificate.Reason.{Reason}
+use Rattle.closing_rules.specs.ProvedCuts.{CertCut}
+use Rattle.certificate_rules.specs.Certificates.{Certificate, Accepts}
+use Rattle.certificate_rules.specs.Failures.{FailsAt, Fails}
+use Rattle.certificate_rules.proofs.FailLemmas.{fails-not_accepted}
+use Rattle.certificate_rules.proofs.AcceptLemmas.{accepted-cheapest}
+use Rattle.closing_rules.proofs.LawLemmas.{tree-laws}
 use Rattle.cert_check.specs.declared.certificate.Answer.TheVariants.{Accepted, Rejected}
 use Rattle.cert_check.specs.FirstFailure.{FailBeforeMarks}
 use Rattle.cert_check.proofs.FirstFailure.{fails-same}

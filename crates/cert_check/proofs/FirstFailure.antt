@@ -7,14 +7,15 @@ use Rattle.lock_model.specs.declared.group.Group.{Group}
 use Rattle.lock_model.specs.declared.plan.Plan.{Plan}
 use Rattle.lock_rules.specs.Node.{root_lines}
 use Rattle.lock_rules.specs.Children.{children_of}
-use Rattle.search_rules.specs.declared.certificate.Mark.TheVariants as mark
-use Rattle.search_rules.specs.declared.certificate.Spot2.{Spot2}
-use Rattle.search_rules.specs.declared.certificate.Spot2.TheVariants as place
-use Rattle.search_rules.specs.declared.certificate.Reason.{Reason}
-use Rattle.search_rules.specs.declared.certificate.Reason.TheVariants as reason
-use Rattle.search_rules.specs.Certificates.{CertCut, Certificate, IsShaped, IsProved, Closes, IsMarkTree}
-use Rattle.search_rules.specs.Failures.{FailInOrder, FailsHere, TreeFails, MarksFail, CutFails, FailsAt, reason_of, Fails}
-use Rattle.search_rules.proofs.FailLemmas.{heads, tails, tree-unique, tree-not_fails}
+use Rattle.certificate_rules.specs.declared.certificate.Mark.TheVariants as mark
+use Rattle.certificate_rules.specs.declared.certificate.Spot2.{Spot2}
+use Rattle.certificate_rules.specs.declared.certificate.Spot2.TheVariants as place
+use Rattle.certificate_rules.specs.declared.certificate.Reason.{Reason}
+use Rattle.certificate_rules.specs.declared.certificate.Reason.TheVariants as reason
+use Rattle.closing_rules.specs.ProvedCuts.{CertCut, IsShaped, IsProved}
+use Rattle.certificate_rules.specs.Certificates.{Certificate, Closes, IsMarkTree}
+use Rattle.certificate_rules.specs.Failures.{FailInOrder, FailsHere, TreeFails, MarksFail, CutFails, FailsAt, reason_of, Fails}
+use Rattle.certificate_rules.proofs.FailLemmas.{heads, tails, tree-unique, tree-not_fails}
 use Rattle.cert_check.specs.FirstFailure.{AreSameFailure}
 
 -- the same marks are left, and the reason is the same

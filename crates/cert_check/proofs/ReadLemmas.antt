@@ -8,17 +8,17 @@ use Rattle.lock_model.specs.declared.group.Group.{Group}
 use Rattle.lock_rules.specs.Bound.{bound_of}
 use Rattle.lock_rules.specs.Node.{root_lines}
 use Rattle.refute_rules.specs.Trees.{AreInOrder}
-use Rattle.search_rules.specs.declared.certificate.Mark.{Mark}
-use Rattle.search_rules.specs.declared.certificate.Mark.TheVariants as mark
-use Rattle.search_rules.specs.declared.certificate.Reason.{Reason}
-use Rattle.search_rules.specs.declared.certificate.Reason.TheVariants as reason
-use Rattle.search_rules.specs.Certificates.{Closes, IsMarkTree}
-use Rattle.search_rules.specs.Failures.{FailInOrder, TreeFails, reason_of}
+use Rattle.certificate_rules.specs.declared.certificate.Mark.{Mark}
+use Rattle.certificate_rules.specs.declared.certificate.Mark.TheVariants as mark
+use Rattle.certificate_rules.specs.declared.certificate.Reason.{Reason}
+use Rattle.certificate_rules.specs.declared.certificate.Reason.TheVariants as reason
+use Rattle.certificate_rules.specs.Certificates.{Closes, IsMarkTree}
+use Rattle.certificate_rules.specs.Failures.{FailInOrder, TreeFails, reason_of}
 use Rattle.master_branch.specs.Node.{Node, children, child_lines}
 use Rattle.cert_check.specs.Reading.{IsTreeOf, TreeSticks, IsRead, IsStuck, IsChildRead, IsChildStuck, AreRead, AreStuck}
 use Rattle.cert_check.specs.declared.closing.Claim.{Claim}
 use Rattle.cert_check.proofs.TreeLemmas.{in_order-append, in_order-fails, lacks-one, leaf-tree, wrong-tree, tree-shorter, stuck-shorter}
-use Rattle.search_rules.specs.declared.grounds.Ground.TheVariants as by
+use Rattle.closing_rules.specs.declared.grounds.Ground.TheVariants as by
 
 off : false ≡ true → ⊥
 off e = cc

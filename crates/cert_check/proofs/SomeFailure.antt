@@ -10,13 +10,14 @@ use Rattle.lock_rules.specs.Node.{root_lines}
 use Rattle.lock_rules.specs.Children.{children_of}
 use Rattle.lock_rules.specs.Plan.{IsLegal, cost_of}
 use Rattle.refute_rules.specs.Trees.{AreInOrder}
-use Rattle.search_rules.specs.declared.certificate.Mark.TheVariants as mark
-use Rattle.search_rules.specs.declared.certificate.Spot2.{Spot2}
-use Rattle.search_rules.specs.declared.certificate.Spot2.TheVariants as place
-use Rattle.search_rules.specs.declared.certificate.Reason.{Reason}
-use Rattle.search_rules.specs.declared.certificate.Reason.TheVariants as reason
-use Rattle.search_rules.specs.Certificates.{CertCut, Certificate, IsShaped, IsProved, Closes, IsMarkTree, Accepts}
-use Rattle.search_rules.specs.Failures.{FailInOrder, FailsHere, TreeFails, MarksFail, CutFails, FailsAt, reason_of, Fails}
+use Rattle.certificate_rules.specs.declared.certificate.Mark.TheVariants as mark
+use Rattle.certificate_rules.specs.declared.certificate.Spot2.{Spot2}
+use Rattle.certificate_rules.specs.declared.certificate.Spot2.TheVariants as place
+use Rattle.certificate_rules.specs.declared.certificate.Reason.{Reason}
+use Rattle.certificate_rules.specs.declared.certificate.Reason.TheVariants as reason
+use Rattle.closing_rules.specs.ProvedCuts.{CertCut, IsShaped, IsProved}
+use Rattle.certificate_rules.specs.Certificates.{Certificate, Closes, IsMarkTree, Accepts}
+use Rattle.certificate_rules.specs.Failures.{FailInOrder, FailsHere, TreeFails, MarksFail, CutFails, FailsAt, reason_of, Fails}
 
 -- it can't be otherwise
 abbrev Must : Type 0 → Type 0

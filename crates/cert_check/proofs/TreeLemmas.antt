@@ -4,9 +4,9 @@ use Rattle.lock_model.specs.declared.instance.Instance.{Instance}
 use Rattle.lock_model.specs.declared.group.Group.{Group}
 use Rattle.lock_rules.specs.Children.{children_of}
 use Rattle.refute_rules.specs.Trees.{AreInOrder}
-use Rattle.search_rules.specs.declared.certificate.Reason.{Reason}
-use Rattle.search_rules.specs.Certificates.{IsMarkTree}
-use Rattle.search_rules.specs.Failures.{FailInOrder, FailsHere, TreeFails}
+use Rattle.certificate_rules.specs.declared.certificate.Reason.{Reason}
+use Rattle.certificate_rules.specs.Certificates.{IsMarkTree}
+use Rattle.certificate_rules.specs.Failures.{FailInOrder, FailsHere, TreeFails}
 
 pub in_order-append : {X M : Type 0} (Tree : X → List M → List M → Type 0) (xs ys : List X) (a b c : List M) → AreInOrder Tree xs a b → AreInOrder Tree ys b c → AreInOrder Tree (xs ++ ys) a c
 in_order-append Tree [] ys a b c h k = subst (λ u. AreInOrder Tree ys u c) (sym h) k

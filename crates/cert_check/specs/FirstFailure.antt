@@ -3,12 +3,13 @@ use Rattle.std.specs.Prelude.{ℕ, ◌≡◌, ◌-◌, List, [], length, All}
 use Rattle.lock_model.specs.declared.instance.Instance.{Instance}
 use Rattle.lock_model.specs.declared.plan.Plan.{Plan}
 use Rattle.lock_rules.specs.Plan.{IsLegal, cost_of}
-use Rattle.search_rules.specs.declared.certificate.Spot2.{Spot2}
-use Rattle.search_rules.specs.declared.certificate.Reason.{Reason}
-use Rattle.search_rules.specs.declared.certificate.Mark.{Mark}
-use Rattle.search_rules.specs.declared.certificate.Mark.TheVariants as mark
-use Rattle.search_rules.specs.Certificates.{CertCut, Certificate, IsProved, Closes, Accepts}
-use Rattle.search_rules.specs.Failures.{MarksFail, FailsAt, reason_of, Fails}
+use Rattle.certificate_rules.specs.declared.certificate.Spot2.{Spot2}
+use Rattle.certificate_rules.specs.declared.certificate.Reason.{Reason}
+use Rattle.certificate_rules.specs.declared.certificate.Mark.{Mark}
+use Rattle.certificate_rules.specs.declared.certificate.Mark.TheVariants as mark
+use Rattle.closing_rules.specs.ProvedCuts.{CertCut, IsProved}
+use Rattle.certificate_rules.specs.Certificates.{Certificate, Closes, Accepts}
+use Rattle.certificate_rules.specs.Failures.{MarksFail, FailsAt, reason_of, Fails}
 
 -- the same place and the same reason
 pub record AreSameFailure (p q : Spot2) (r s : Reason) : Type 0 where

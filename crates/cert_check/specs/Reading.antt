@@ -4,11 +4,11 @@ use Rattle.std.specs.declared.option.Option.{Option}
 use Rattle.lock_model.specs.declared.group.Group.{Group}
 use Rattle.lock_rules.specs.Bound.{bound_of}
 use Rattle.refute_rules.specs.Trees.{AreInOrder}
-use Rattle.search_rules.specs.declared.certificate.Mark.{Mark}
-use Rattle.search_rules.specs.declared.certificate.Mark.TheVariants as mark
-use Rattle.search_rules.specs.declared.certificate.Reason.{Reason}
-use Rattle.search_rules.specs.Certificates.{Closes, IsMarkTree}
-use Rattle.search_rules.specs.Failures.{FailInOrder, TreeFails, reason_of}
+use Rattle.certificate_rules.specs.declared.certificate.Mark.{Mark}
+use Rattle.certificate_rules.specs.declared.certificate.Mark.TheVariants as mark
+use Rattle.certificate_rules.specs.declared.certificate.Reason.{Reason}
+use Rattle.certificate_rules.specs.Certificates.{Closes, IsMarkTree}
+use Rattle.certificate_rules.specs.Failures.{FailInOrder, TreeFails, reason_of}
 use Rattle.master_branch.specs.Node.{Node, children, child_lines}
 use Rattle.cert_check.specs.declared.closing.Claim.{Claim}
 

@@ -1,9 +1,9 @@
 //! Certificates, and what the checker answers to one.
 ghost use Rattle.std.specs.Prelude.{◌≡◌, [], ◌∷◌, ◌++◌, OnOk, OnErr, IfOk};
 
+use certificate_rules::{Mark, Reason, Spot2};
 use lock_model::{Plan, Ships};
 use refute_rules::Refutation;
-use search_rules::{Mark, Reason, Spot2};
 use std::alloc::{AllocError, Global};
 use std::marker::Model;
 
@@ -17,7 +17,7 @@ pub struct CertCut {
 }
 
 impl Model for CertCut {
-    ghost use Rattle.search_rules.specs.Certificates.{CertCut as Held};
+    ghost use Rattle.closing_rules.specs.ProvedCuts.{CertCut as Held};
 
     ghost Value = { Held };
 
@@ -32,7 +32,7 @@ pub struct CertCuts {
 
 impl Model for CertCuts {
     ghost use Rattle.std.specs.Prelude.{List};
-    ghost use Rattle.search_rules.specs.Certificates.{CertCut as Held};
+    ghost use Rattle.closing_rules.specs.ProvedCuts.{CertCut as Held};
 
     ghost Value = { List Held };
 
@@ -75,7 +75,7 @@ pub struct MarkList {
 
 impl Model for MarkList {
     ghost use Rattle.std.specs.Prelude.{List};
-    ghost use Rattle.search_rules.specs.declared.certificate.Mark.{Mark};
+    ghost use Rattle.certificate_rules.specs.declared.certificate.Mark.{Mark};
 
     ghost Value = { List Mark };
 
@@ -129,7 +129,7 @@ pub struct Certificate {
 }
 
 impl Model for Certificate {
-    ghost use Rattle.search_rules.specs.Certificates.{Certificate as Held};
+    ghost use Rattle.certificate_rules.specs.Certificates.{Certificate as Held};
 
     ghost Value = { Held };
 

@@ -3,16 +3,18 @@ ghost use Rattle.std.specs.Prelude.{◌≡◌, ◌↔◌, ℕ, [], length, All, 
 ghost use Rattle.lock_rules.specs.Plan.{IsLegal, IsCheapest, cost_of};
 ghost use Rattle.lock_rules.specs.Node.{root_lines};
 ghost use Rattle.lock_rules.specs.Throughput.{throughput_of};
-ghost use Rattle.search_rules.specs.Certificates.{IsShaped, IsProved, Closes, IsMarkTree, Accepts};
-ghost use Rattle.search_rules.specs.Failures.{Fails};
-ghost use Rattle.search_rules.specs.declared.certificate.Spot2.{Spot2 as Place};
-ghost use Rattle.search_rules.specs.declared.certificate.Reason.{Reason as Why};
+ghost use Rattle.closing_rules.specs.ProvedCuts.{IsShaped, IsProved};
+ghost use Rattle.certificate_rules.specs.Certificates.{Closes, IsMarkTree, Accepts};
+ghost use Rattle.certificate_rules.specs.Failures.{Fails};
+ghost use Rattle.certificate_rules.specs.declared.certificate.Spot2.{Spot2 as Place};
+ghost use Rattle.certificate_rules.specs.declared.certificate.Reason.{Reason as Why};
 ghost use Rattle.cert_check.specs.FirstFailure.{HoldBeforeMarks, FailBeforeMarks, FailAtMark};
 
 use crate::certificate::{Answer, CertCuts, Certificate};
 use crate::closing::Claim;
 use crate::cuts::first_unproved;
 use crate::reading::read_tree;
+use certificate_rules::{Mark, Reason, Spot2};
 use chamber_times::cost;
 use deck_laws::{heredity, normal_form};
 use flow_bounds::{Roster, throughput};
@@ -20,7 +22,6 @@ use lock_model::{Instance, Plan};
 use master_branch::root;
 use mooring_rules::judge_plan;
 use plain_text::NoMemory;
-use search_rules::{Mark, Reason, Spot2};
 use std::alloc::Global;
 
 // Whether the plan is legal.

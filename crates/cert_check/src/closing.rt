@@ -5,15 +5,17 @@ ghost use Rattle.lock_rules.specs.Throughput.{throughput_of};
 ghost use Rattle.master_branch.specs.Node.{IsNodeOf};
 ghost use Rattle.lock_rules.specs.Arrival.{next_ship};
 ghost use Rattle.flow_bounds.specs.Roster.{IsRosterOf};
-ghost use Rattle.search_rules.specs.Certificates.{IsShaped, IsCutBy, Closes};
-ghost use Rattle.search_rules.specs.Failures.{ground_reason, reason_of};
+ghost use Rattle.closing_rules.specs.ProvedCuts.{IsShaped};
+ghost use Rattle.certificate_rules.specs.Certificates.{IsCutBy, Closes};
+ghost use Rattle.certificate_rules.specs.Failures.{ground_reason, reason_of};
 
 use crate::certificate::CertCut;
 use crate::hitting::hits_node;
+use certificate_rules::{Mark, Reason};
+use closing_rules::Ground;
 use flow_bounds::{Roster, bound, children_reaching, is_missing, probe};
 use lock_model::Instance;
 use master_branch::Node;
-use search_rules::{Ground, Mark, Reason};
 
 /// What the marks of a certificate are held against: the instance, its roster and its throughput, and
 /// the cost in minutes and the cuts of the certificate, each about a chamber and ships of the instance.

@@ -1,14 +1,14 @@
 //! The cuts of a certificate: whether each is proved.
 ghost use Rattle.std.specs.Prelude.{◌≡◌, ◌↔◌, ◌<◌, length, All, IsTrue, IfOk, IfNone, IfSome};
-ghost use Rattle.search_rules.specs.Certificates.{IsShaped, IsProved};
-ghost use Rattle.search_rules.specs.Failures.{CutFails};
+ghost use Rattle.closing_rules.specs.ProvedCuts.{IsShaped, IsProved};
+ghost use Rattle.certificate_rules.specs.Failures.{CutFails};
 ghost use Rattle.cert_check.specs.Cuts.{IsUnproved};
 
 use crate::certificate::CertCut;
+use certificate_rules::Reason;
 use lock_model::{Instance, deck_of};
 use place_refute::check_refutation;
 use plain_text::NoMemory;
-use search_rules::Reason;
 use std::alloc::Global;
 
 // Whether all these ships are in the instance.

@@ -12,10 +12,10 @@
 //! plan, the cost and the cuts), and against a `Claim` `closes` and `reason_against` (one mark at a
 //! node), `child_reaches` and `child_of` (the children of a node).
 //!
-//! Definitions: `search_rules` says which certificates are accepted (`specs/Certificates`) and
-//! where one fails first (`Failures`). Here `specs/Cuts` says what is wrong with a cut, `Hitting`
-//! what a cut hits line by line, `Reading` what is read of a node and of its children, and
-//! `FirstFailure` what the law is.
+//! Definitions: `certificate_rules` says which certificates are accepted (`specs/Certificates`)
+//! and where one fails first (`Failures`). Here `specs/Cuts` says what is wrong with a cut,
+//! `Hitting` what a cut hits line by line, `Reading` what is read of a node and of its children,
+//! and `FirstFailure` what the law is.
 #![tactic(auto)]
 
 mod certificate;
@@ -29,8 +29,9 @@ mod reading;
 mod tests;
 
 pub use certificate::{Answer, CertCut, CertCuts, Certificate, MarkList};
+pub use certificate_rules::{Mark, Reason, Spot2};
 pub use checking::{check, first_failure_before_marks};
 pub use closing::{Claim, closes, reason_against};
+pub use closing_rules::Ground;
 pub use laws::one_first_failure;
 pub use reading::{child_of, child_reaches};
-pub use search_rules::{Ground, Mark, Reason, Spot2};

@@ -3,14 +3,15 @@ ghost use Rattle.std.specs.Prelude.{◌≡◌, ◌+◌, ◌<◌, ◌≤◌, ◌�
 ghost use Rattle.lock_rules.specs.Throughput.{throughput_of};
 ghost use Rattle.lock_rules.specs.Bound.{bound_of};
 ghost use Rattle.master_branch.specs.Node.{IsNodeOf, children, child_lines};
-ghost use Rattle.search_rules.specs.Certificates.{IsShaped};
+ghost use Rattle.closing_rules.specs.ProvedCuts.{IsShaped};
 ghost use Rattle.cert_check.specs.Reading.{IsRead, IsStuck, IsChildRead, IsChildStuck, AreRead, AreStuck, AreTold, reached_below};
 
 use crate::closing::{Claim, closes, reason_against};
+use certificate_rules::{Mark, Reason};
+use closing_rules::Ground;
 use flow_bounds::{Reached, children_reaching};
 use lock_model::Instance;
 use master_branch::{Node, child_count, descend};
-use search_rules::{Ground, Mark, Reason};
 
 // Where reading ends before its time: the marks that are left there, and why.
 #[derive(Drop)]

@@ -3,8 +3,9 @@ use Rattle.std.proofs.Common.{◌≡◌, ℕ, Bool, true, false, List, Some, ref
 use Rattle.std.specs.Prelude.{◌||◌, not, Ok}
 use Rattle.serde_json.proofs.OnLiterals.{serde_json_on_literals}
 use Rattle.lock_model.specs.declared.plan.Plan.{Plan}
-use Rattle.search_rules.specs.declared.certificate.Mark.{Mark}
-use Rattle.search_rules.specs.Certificates.{CertCut, Certificate}
+use Rattle.certificate_rules.specs.declared.certificate.Mark.{Mark}
+use Rattle.closing_rules.specs.ProvedCuts.{CertCut}
+use Rattle.certificate_rules.specs.Certificates.{Certificate}
 use Rattle.cert_text.specs.Cuts.{cuts_data, cuts_in, has_clash}
 use Rattle.cert_text.specs.Plans.{plan_data, plan_in}
 use Rattle.cert_text.specs.Marks.{tree_data, tree_in}

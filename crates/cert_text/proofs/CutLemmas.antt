@@ -3,7 +3,7 @@ use Rattle.std.proofs.Common.{◌≡◌, ℕ, List, Some, refl, subst}
 use Rattle.serde_json.proofs.OnLiterals.{serde_json_on_literals}
 use Rattle.refute_rules.specs.Why.{why_of}
 use Rattle.refute_rules.specs.declared.refutation.Refutation.{Refutation}
-use Rattle.search_rules.specs.Certificates.{CertCut}
+use Rattle.closing_rules.specs.ProvedCuts.{CertCut}
 use Rattle.cert_text.specs.Fields.{number_data, numbers_data, byte_in}
 use Rattle.cert_text.specs.Crew.{ships_in}
 use Rattle.cert_text.specs.Cuts.{cut_data, cut_in, why_in}

@@ -2,10 +2,10 @@
 use Rattle.std.proofs.Common.{[], ◌∷◌, All, arith}
 use Rattle.std.proofs.lemmas.List.Elements.{All-nil, All-cons}
 use Rattle.lock_model.specs.declared.plan.Lockage.{Lockage}
-use Rattle.search_rules.specs.Certificates.{CertCut}
-use Rattle.search_rules.specs.WellFormed.{IsFormedCut, IsFormedLockage, IsFormedMark}
-use Rattle.search_rules.specs.declared.grounds.Ground.TheVariants.{Bound, Cut}
-use Rattle.search_rules.specs.declared.certificate.Mark.TheVariants.{Split, Leaf}
+use Rattle.closing_rules.specs.ProvedCuts.{CertCut}
+use Rattle.certificate_rules.specs.WellFormed.{IsFormedCut, IsFormedLockage, IsFormedMark}
+use Rattle.closing_rules.specs.declared.grounds.Ground.TheVariants.{Bound, Cut}
+use Rattle.certificate_rules.specs.declared.certificate.Mark.TheVariants.{Split, Leaf}
 
 pub one_cut : (c : CertCut) → IsFormedCut c → All IsFormedCut (c ∷ [])
 one_cut c formed = All-cons IsFormedCut c [] formed (All-nil IsFormedCut)

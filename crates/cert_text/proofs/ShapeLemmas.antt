@@ -2,7 +2,8 @@
 use Rattle.std.proofs.Common.{◌≡◌, ◌≤◌, ℕ, suc, false, List, [], ◌∷◌, map, refl, arith}
 use Rattle.lock_model.specs.declared.plan.Lockage.{Lockage}
 use Rattle.refute_rules.specs.Why.{why_of}
-use Rattle.search_rules.specs.Certificates.{CertCut, Certificate}
+use Rattle.closing_rules.specs.ProvedCuts.{CertCut}
+use Rattle.certificate_rules.specs.Certificates.{Certificate}
 use Rattle.serde_json.specs.Data.{Data, depth}
 use Rattle.serde_json.specs.Read.{max_depth}
 use Rattle.serde_json.specs.View.{items_of}

@@ -5,7 +5,7 @@ use Rattle.std.proofs.lemmas.Str.{IsUtf8-append, is_utf8-from_IsUtf8, IsUtf8-fro
 use Rattle.json.proofs.Printed.Utf8.{IsUtf8-are_ascii}
 use Rattle.json.specs.Lex.{tokens}
 use Rattle.json.specs.Print.{print}
-use Rattle.search_rules.specs.Certificates.{Certificate}
+use Rattle.certificate_rules.specs.Certificates.{Certificate}
 use Rattle.serde_json.specs.Data.{Data, depth}
 use Rattle.serde_json.specs.Read.{read, max_depth}
 use Rattle.serde_json.specs.Written.{has_float, compact_text, IsInOrder}

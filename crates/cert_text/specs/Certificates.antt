@@ -2,7 +2,7 @@
 use Rattle.std.specs.Prelude.{ℕ, ◌&&◌, Bool, List, [], ◌∷◌, Result, Ok, codes}
 use Rattle.serde_json.specs.Data.{Data}
 use Rattle.serde_json.specs.Written.{compact_text}
-use Rattle.search_rules.specs.Certificates.{Certificate}
+use Rattle.certificate_rules.specs.Certificates.{Certificate}
 use Rattle.instance_text.specs.Steps.{◌>>=◌, ◌>>◌}
 use Rattle.cert_text.specs.Steps.{when, or_fault}
 use Rattle.cert_text.specs.Fields.{object_data, value_at, has_members, has_key}

@@ -7,7 +7,7 @@ use Rattle.refute_rules.specs.Why.{why_of}
 use Rattle.refute_rules.specs.declared.refutation.Quick.TheVariants.{Area, Row, Column}
 use Rattle.refute_rules.specs.declared.refutation.Refutation.{Refutation}
 use Rattle.refute_rules.specs.declared.refutation.Refutation.TheVariants as refutation
-use Rattle.search_rules.specs.Certificates.{CertCut}
+use Rattle.closing_rules.specs.ProvedCuts.{CertCut}
 use Rattle.cert_text.specs.Steps.{◌>>=◌, ◌>>◌, when}
 use Rattle.cert_text.specs.Fields.{number_data, list_data, numbers_data, object_data, number_in, byte_in, word_in, all_in, list_in, value_at, has_members}
 use Rattle.cert_text.specs.Crew.{crew_in, ships_in}

@@ -1,10 +1,10 @@
 -- Marks as numbers, and trees as JSON values.
 use Rattle.std.specs.Prelude.{ℕ, ◌+◌, ◌-◌, ◌==◌, List, Option, None, Some, if◌then◌else◌}
 use Rattle.lock_model.specs.Limits.{is_between}
-use Rattle.search_rules.specs.declared.grounds.Ground.{Ground}
-use Rattle.search_rules.specs.declared.grounds.Ground.TheVariants.{Bound, Throughput, Probe, Cut}
-use Rattle.search_rules.specs.declared.certificate.Mark.{Mark}
-use Rattle.search_rules.specs.declared.certificate.Mark.TheVariants.{Split, Leaf}
+use Rattle.closing_rules.specs.declared.grounds.Ground.{Ground}
+use Rattle.closing_rules.specs.declared.grounds.Ground.TheVariants.{Bound, Throughput, Probe, Cut}
+use Rattle.certificate_rules.specs.declared.certificate.Mark.{Mark}
+use Rattle.certificate_rules.specs.declared.certificate.Mark.TheVariants.{Split, Leaf}
 use Rattle.serde_json.specs.Data.{Data}
 use Rattle.cert_text.specs.Steps.{◌>>=◌}
 use Rattle.cert_text.specs.Fields.{list_data, number_data, number_in, list_in}

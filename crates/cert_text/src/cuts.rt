@@ -1,6 +1,6 @@
 //! Cuts as JSON values.
 ghost use Rattle.std.specs.Prelude.{◌≡◌, All, IfOk, IfErr, Some, None, map, codes};
-ghost use Rattle.search_rules.specs.WellFormed.{IsFormedCut};
+ghost use Rattle.certificate_rules.specs.WellFormed.{IsFormedCut};
 ghost use Rattle.serde_json.specs.View.{view, items_of, items_view};
 ghost use Rattle.cert_text.specs.Answers.{IsRefusal};
 ghost use Rattle.cert_text.specs.Fields.{all_in, value_at};

@@ -1,6 +1,6 @@
 //! Marks as numbers, and trees as JSON values.
 ghost use Rattle.std.specs.Prelude.{◌≡◌, Some, None, IfOk, IfErr};
-ghost use Rattle.search_rules.specs.WellFormed.{IsFormedMark};
+ghost use Rattle.certificate_rules.specs.WellFormed.{IsFormedMark};
 ghost use Rattle.cert_text.specs.Marks.{mark_number, mark_of};
 ghost use Rattle.cert_text.specs.declared.bad.BadDossier.TheVariants.{Shape};
 

@@ -1,6 +1,6 @@
 //! Plans as JSON values.
 ghost use Rattle.std.specs.Prelude.{◌≡◌, ◌≤◌, All, length, IfOk, IfErr, Some, None, map, codes};
-ghost use Rattle.search_rules.specs.WellFormed.{IsFormedLockage};
+ghost use Rattle.certificate_rules.specs.WellFormed.{IsFormedLockage};
 ghost use Rattle.serde_json.specs.View.{view, items_of, items_view};
 ghost use Rattle.cert_text.specs.Fields.{word_in, all_in, value_at};
 ghost use Rattle.cert_text.specs.Plans.{way_number, way_of, way_in, spots_in, lockage_data, plan_data, lockage_in, plan_items, plan_in};

@@ -1,6 +1,6 @@
 //! Printing dossiers.
 ghost use Rattle.std.specs.Prelude.{◌≡◌, ◌++◌, ◌∷◌, [], Some, Ok, IfOk, OnOk};
-ghost use Rattle.search_rules.specs.WellFormed.{IsWellFormed};
+ghost use Rattle.certificate_rules.specs.WellFormed.{IsWellFormed};
 ghost use Rattle.cert_text.specs.Certificates.{certificate_data, certificate_text, certificate_in};
 ghost use Rattle.cert_text.specs.Cuts.{has_clash};
 ghost use Rattle.cert_text.specs.Dossier.{heading_line, dossier, json_of, Reads};

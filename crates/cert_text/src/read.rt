@@ -1,7 +1,7 @@
 //! Reading dossiers.
 ghost use Rattle.std.specs.Prelude.{◌≡◌, List, ℕ, Some, None, Ok, IfOk, IfErr};
 ghost use Rattle.lock_model.specs.declared.instance.Instance.{Instance as AnyInstance};
-ghost use Rattle.search_rules.specs.Certificates.{Certificate as AnyCertificate};
+ghost use Rattle.certificate_rules.specs.Certificates.{Certificate as AnyCertificate};
 ghost use Rattle.serde_json.specs.View.{view};
 ghost use Rattle.cert_text.specs.Answers.{IsRefusal, IsFault, IsAnswer, IsFaultAnswer};
 ghost use Rattle.cert_text.specs.Dossier.{takes_clashes, json_of, rest_in, Reads, DossierFault, IsFirstFault};

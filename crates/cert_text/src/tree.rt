@@ -1,6 +1,6 @@
 //! Trees of marks as JSON values.
 ghost use Rattle.std.specs.Prelude.{◌≡◌, All, IfOk, Some, map};
-ghost use Rattle.search_rules.specs.WellFormed.{IsFormedMark};
+ghost use Rattle.certificate_rules.specs.WellFormed.{IsFormedMark};
 ghost use Rattle.serde_json.specs.View.{view, items_of, items_view};
 ghost use Rattle.cert_text.specs.Fields.{all_in};
 ghost use Rattle.cert_text.specs.Marks.{mark_data, mark_in, tree_data, tree_in};

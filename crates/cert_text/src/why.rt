@@ -1,7 +1,7 @@
 //! Refutations as JSON values.
 ghost use Rattle.std.specs.Prelude.{◌≡◌, ◌++◌, ◌≤◌, ◌<◌, List, ℕ, length, map, OnOk, IfOk, Some, None};
 ghost use Rattle.refute_rules.specs.Why.{why_of};
-ghost use Rattle.search_rules.specs.WellFormed.{IsFormedRefutation};
+ghost use Rattle.certificate_rules.specs.WellFormed.{IsFormedRefutation};
 ghost use Rattle.serde_json.specs.View.{view, items_of, items_view};
 ghost use Rattle.cert_text.specs.Fields.{number_data, numbers_data, word_in, all_in};
 ghost use Rattle.cert_text.specs.Cuts.{refutation_in, why_items, why_in};

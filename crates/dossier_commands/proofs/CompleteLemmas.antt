@@ -2,9 +2,9 @@
 use Rattle.std.proofs.Common.{ℕ, ◌≡◌, ◌<◌, List, sym, subst, ap, inl, inr, Ok, Err, Result}
 use Rattle.lock_model.specs.declared.instance.Instance.{Instance}
 use Rattle.lock_rules.specs.Unfit.{HasNoUnfit, IsFirstUnfit}
-use Rattle.search_rules.specs.OpenCertificates.{OpenCertificate, Stands}
-use Rattle.search_rules.specs.Failures.{OpenFails}
-use Rattle.search_rules.specs.Ends.{AreEnough}
+use Rattle.certificate_rules.specs.OpenCertificates.{OpenCertificate, Stands}
+use Rattle.certificate_rules.specs.Failures.{OpenFails}
+use Rattle.book_rules.specs.Ends.{AreEnough}
 use Rattle.instance_text.specs.Draft.{Draft}
 use Rattle.instance_text.proofs.InstanceLemmas.{same_instance}
 use Rattle.cert_text.specs.declared.bad.BadDossier.{BadDossier as AnyFault}

@@ -1,7 +1,7 @@
 -- What is answered to a dossier.
 use Rattle.std.proofs.Common.{ℕ, ◌≡◌, List, inr}
 use Rattle.lock_model.specs.declared.instance.Instance.{Instance}
-use Rattle.search_rules.specs.Certificates.{Certificate}
+use Rattle.certificate_rules.specs.Certificates.{Certificate}
 use Rattle.cert_text.specs.Dossier.{Reads}
 use Rattle.run_answers.specs.Sources.{IsFair}
 use Rattle.run_answers.specs.declared.status.Status.{Status}

@@ -4,8 +4,8 @@ use Rattle.std.proofs.lemmas.Bool.Decides.{leb_tells}
 use Rattle.lock_model.specs.declared.instance.Instance.{Instance}
 use Rattle.lock_model.specs.declared.plan.Plan.{Plan}
 use Rattle.lock_rules.specs.Plan.{IsCheapest, cost_of}
-use Rattle.search_rules.specs.OpenCertificates.{OpenCertificate, Stands}
-use Rattle.search_rules.proofs.LowLemmas.{least-below}
+use Rattle.certificate_rules.specs.OpenCertificates.{OpenCertificate, Stands}
+use Rattle.closing_rules.proofs.BelowLemmas.{least-below}
 use Rattle.command_words.specs.declared.commands.SolveOptions.{SolveOptions}
 use Rattle.run_answers.specs.Sources.{IsFair}
 use Rattle.run_answers.specs.declared.status.Status.{Status}

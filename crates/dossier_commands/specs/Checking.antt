@@ -3,10 +3,10 @@ use Rattle.std.specs.Prelude.{ℕ, ◌≡◌, ◌⊎◌, List}
 use Rattle.lock_model.specs.declared.instance.Instance.{Instance}
 use Rattle.lock_rules.specs.Plan.{IsCheapest, cost_of}
 use Rattle.lock_rules.specs.Unfit.{HasNoUnfit}
-use Rattle.search_rules.specs.Certificates.{Certificate, Accepts}
-use Rattle.search_rules.specs.Failures.{Fails}
-use Rattle.search_rules.specs.declared.certificate.Spot2.{Spot2}
-use Rattle.search_rules.specs.declared.certificate.Reason.{Reason}
+use Rattle.certificate_rules.specs.Certificates.{Certificate, Accepts}
+use Rattle.certificate_rules.specs.Failures.{Fails}
+use Rattle.certificate_rules.specs.declared.certificate.Spot2.{Spot2}
+use Rattle.certificate_rules.specs.declared.certificate.Reason.{Reason}
 use Rattle.cert_text.specs.Dossier.{Reads, DossierFault}
 use Rattle.cert_text.specs.declared.bad.BadDossier.{BadDossier as AnyFault}
 use Rattle.run_answers.specs.Refusals.{IsUnfitShip}

@@ -1,9 +1,9 @@
 -- What the commands that read dossiers write.
 use Rattle.std.specs.Prelude.{ℕ, List, ◌++◌, codes, decimal}
-use Rattle.search_rules.specs.declared.certificate.Spot2.{Spot2}
-use Rattle.search_rules.specs.declared.certificate.Spot2.TheVariants.{Plan, Cost, Cut, Tree}
-use Rattle.search_rules.specs.declared.certificate.Reason.{Reason}
-use Rattle.search_rules.specs.declared.certificate.Reason.TheVariants.{PlanIllegal, CostWrong, CutShape, CutUnproved, TreeShort, TreeLong, SplitFull, BoundLow, CutMisses, ThroughputLow, ProbeWrong}
+use Rattle.certificate_rules.specs.declared.certificate.Spot2.{Spot2}
+use Rattle.certificate_rules.specs.declared.certificate.Spot2.TheVariants.{Plan, Cost, Cut, Tree}
+use Rattle.certificate_rules.specs.declared.certificate.Reason.{Reason}
+use Rattle.certificate_rules.specs.declared.certificate.Reason.TheVariants.{PlanIllegal, CostWrong, CutShape, CutUnproved, TreeShort, TreeLong, SplitFull, BoundLow, CutMisses, ThroughputLow, ProbeWrong}
 use Rattle.cert_text.specs.declared.bad.BadDossier.{BadDossier}
 use Rattle.cert_text.specs.declared.bad.BadDossier.TheVariants.{Instance, NoMark, Json, Shape}
 use Rattle.run_answers.specs.Texts.{defect_text}

@@ -1,7 +1,7 @@
 -- What `lower` answers to the bytes of an open dossier: a status and what is written.
 use Rattle.std.specs.Prelude.{ℕ, ◌≡◌, ◌<◌, List}
 use Rattle.lock_model.specs.declared.instance.Instance.{Instance}
-use Rattle.search_rules.specs.OpenCertificates.{OpenCertificate}
+use Rattle.certificate_rules.specs.OpenCertificates.{OpenCertificate}
 use Rattle.run_answers.specs.Texts.{no_memory_text}
 use Rattle.run_answers.specs.declared.status.Status.{Status}
 use Rattle.run_answers.specs.declared.status.Status.TheVariants.{Good, Open, Words, Refused, ReadFault, WriteFault, NoMemory, BadDossier, Unfit, PlanRefused}

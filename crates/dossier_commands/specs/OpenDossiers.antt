@@ -4,11 +4,11 @@ use Rattle.lock_model.specs.declared.instance.Instance.{Instance}
 use Rattle.lock_model.specs.declared.plan.Plan.{Plan}
 use Rattle.lock_rules.specs.Plan.{IsLegal, cost_of}
 use Rattle.lock_rules.specs.Unfit.{HasNoUnfit}
-use Rattle.search_rules.specs.OpenCertificates.{OpenCertificate, Stands}
-use Rattle.search_rules.specs.Low.{IsLow}
-use Rattle.search_rules.specs.Failures.{OpenFails}
-use Rattle.search_rules.specs.declared.certificate.Spot2.{Spot2}
-use Rattle.search_rules.specs.declared.certificate.Reason.{Reason}
+use Rattle.certificate_rules.specs.OpenCertificates.{OpenCertificate, Stands}
+use Rattle.certificate_rules.specs.Low.{IsLow}
+use Rattle.certificate_rules.specs.Failures.{OpenFails}
+use Rattle.certificate_rules.specs.declared.certificate.Spot2.{Spot2}
+use Rattle.certificate_rules.specs.declared.certificate.Reason.{Reason}
 use Rattle.cert_text.specs.declared.bad.BadDossier.{BadDossier as AnyFault}
 use Rattle.resume_book.specs.OpenDossier.{ReadsOpen, OpenDossierFault}
 use Rattle.run_answers.specs.Refusals.{IsUnfitShip}

@@ -3,8 +3,8 @@ use Rattle.std.specs.Prelude.{ℕ, ◌≡◌, ◌+◌, ◌≤◌, List, min}
 use Rattle.lock_model.specs.declared.instance.Instance.{Instance}
 use Rattle.lock_model.specs.declared.plan.Plan.{Plan}
 use Rattle.lock_rules.specs.Plan.{IsCheapest, cost_of}
-use Rattle.search_rules.specs.Book.{Case}
-use Rattle.search_rules.specs.OpenCertificates.{OpenCertificate}
+use Rattle.book_rules.specs.Book.{Case}
+use Rattle.certificate_rules.specs.OpenCertificates.{OpenCertificate}
 use Rattle.command_words.specs.declared.commands.SolveOptions.{SolveOptions}
 use Rattle.resume_book.specs.Prior.{prior_of}
 use Rattle.run_answers.specs.Texts.{no_memory_text}

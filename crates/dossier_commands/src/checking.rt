@@ -2,8 +2,8 @@
 ghost use Rattle.std.specs.Prelude.{◌≡◌};
 ghost use Rattle.lock_rules.specs.Plan.{IsCheapest, cost_of};
 ghost use Rattle.lock_rules.specs.Unfit.{HasNoUnfit, IsFirstUnfit};
-ghost use Rattle.search_rules.specs.Certificates.{Accepts};
-ghost use Rattle.search_rules.specs.Failures.{Fails};
+ghost use Rattle.certificate_rules.specs.Certificates.{Accepts};
+ghost use Rattle.certificate_rules.specs.Failures.{Fails};
 ghost use Rattle.cert_text.specs.Dossier.{DossierFault};
 ghost use Rattle.run_answers.specs.Sources.{AnswersSource, drained};
 ghost use Rattle.run_answers.specs.Written.{bytes_in};

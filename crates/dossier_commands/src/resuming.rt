@@ -1,9 +1,9 @@
 //! What `resume` answers to a source.
 ghost use Rattle.std.specs.Prelude.{◌≡◌, All, IfOk};
 ghost use Rattle.lock_model.specs.Limits.{Within};
-ghost use Rattle.search_rules.specs.Certificates.{IsProved};
-ghost use Rattle.search_rules.specs.Cover.{IsOwnCut};
-ghost use Rattle.search_rules.specs.OpenCertificates.{Stands};
+ghost use Rattle.closing_rules.specs.ProvedCuts.{IsProved};
+ghost use Rattle.book_rules.specs.Cover.{IsOwnCut};
+ghost use Rattle.certificate_rules.specs.OpenCertificates.{Stands};
 ghost use Rattle.run_answers.specs.Sources.{AnswersSource, drained};
 ghost use Rattle.run_answers.specs.Written.{bytes_in};
 ghost use Rattle.solve_commands.specs.Options.{AreSolveNumbers};

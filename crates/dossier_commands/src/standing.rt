@@ -1,7 +1,7 @@
 //! Open dossiers that stand.
 ghost use Rattle.std.specs.Prelude.{IfOk, IfErr};
 ghost use Rattle.lock_rules.specs.Unfit.{HasNoUnfit, IsFirstUnfit};
-ghost use Rattle.search_rules.specs.Failures.{OpenFails};
+ghost use Rattle.certificate_rules.specs.Failures.{OpenFails};
 ghost use Rattle.resume_book.specs.OpenDossier.{ReadsOpen, OpenDossierFault};
 ghost use Rattle.run_answers.specs.Written.{bytes_in};
 ghost use Rattle.dossier_commands.specs.OpenDossiers.{IsStanding, HasLow, IsNoStanding};

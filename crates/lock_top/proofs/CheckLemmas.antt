@@ -2,7 +2,7 @@
 use Rattle.std.proofs.Common.{ℕ, ◌≡◌, ◌⊎◌, List, subst, ap, inl, inr, Ok, Err, Result}
 use Rattle.lock_model.specs.declared.instance.Instance.{Instance}
 use Rattle.lock_rules.specs.Unfit.{HasNoUnfit}
-use Rattle.search_rules.specs.Certificates.{Certificate}
+use Rattle.certificate_rules.specs.Certificates.{Certificate}
 use Rattle.instance_text.specs.Draft.{Draft}
 use Rattle.instance_text.proofs.InstanceLemmas.{same_instance}
 use Rattle.cert_text.specs.Dossier.{Reads, DossierFault, dossier_in}

@@ -2,7 +2,7 @@
 use Rattle.std.proofs.Common.{ℕ, ◌≡◌, ◌≢◌, ◌⊎◌, List, sym, subst, ◌∙◌, refl, inl, inr}
 use Rattle.lock_model.specs.declared.instance.Instance.{Instance}
 use Rattle.lock_rules.specs.Unfit.{HasNoUnfit, IsFirstUnfit}
-use Rattle.search_rules.specs.Certificates.{Certificate}
+use Rattle.certificate_rules.specs.Certificates.{Certificate}
 use Rattle.instance_text.specs.Reading.{Means}
 use Rattle.instance_text.proofs.InstanceLemmas.{same_instance}
 use Rattle.instance_text.proofs.ReadingLemmas.{Means-one, Means-no_defect}

@@ -3,7 +3,7 @@ use Rattle.std.proofs.Common.{ℕ, ◌≡◌, ◌≢◌, ◌++◌, Bool, true, f
 use Rattle.std.specs.declared.option.Option.{Option}
 use Rattle.std.specs.Io.KnownBytes.{Appends}
 use Rattle.std.proofs.lemmas.List.{append_cancel_left}
-use Rattle.search_rules.proofs.FailLemmas.{fails-not_accepted}
+use Rattle.certificate_rules.proofs.FailLemmas.{fails-not_accepted}
 use Rattle.cert_text.specs.Dossier.{dossier, Reads}
 use Rattle.command_words.specs.declared.commands.Command.TheVariants.{Check}
 use Rattle.lock_rules.specs.Unfit.{HasNoUnfit}

@@ -5,8 +5,8 @@ use Rattle.lock_model.specs.declared.instance.Instance.{Instance}
 use Rattle.lock_model.specs.declared.plan.Plan.{Plan}
 use Rattle.lock_model.specs.declared.verdict.Verdict.TheVariants.{Optimal}
 use Rattle.lock_rules.specs.Plan.{IsCheapest, cost_of}
-use Rattle.search_rules.specs.Certificates.{Certificate, Accepts}
-use Rattle.search_rules.specs.WellFormed.{IsWellFormed}
+use Rattle.certificate_rules.specs.Certificates.{Certificate, Accepts}
+use Rattle.certificate_rules.specs.WellFormed.{IsWellFormed}
 use Rattle.instance_text.specs.Reading.{Means}
 use Rattle.instance_text.specs.Canonical.{canonical}
 use Rattle.cert_text.specs.Dossier.{dossier, Reads}

@@ -3,12 +3,12 @@ use Rattle.std.specs.Prelude.{ℕ, ◌≢◌, List, ⊤}
 use Rattle.lock_model.specs.declared.instance.Instance.{Instance}
 use Rattle.lock_model.specs.declared.plan.Plan.{Plan}
 use Rattle.lock_rules.specs.Unfit.{HasNoUnfit}
-use Rattle.search_rules.specs.Ends.{AreEnough}
-use Rattle.search_rules.specs.Failures.{Fails}
-use Rattle.search_rules.specs.declared.certificate.Spot2.{Spot2}
-use Rattle.search_rules.specs.declared.certificate.Reason.{Reason}
-use Rattle.search_rules.specs.Certificates.{Certificate, Accepts}
-use Rattle.search_rules.specs.OpenCertificates.{OpenCertificate}
+use Rattle.book_rules.specs.Ends.{AreEnough}
+use Rattle.certificate_rules.specs.Failures.{Fails}
+use Rattle.certificate_rules.specs.declared.certificate.Spot2.{Spot2}
+use Rattle.certificate_rules.specs.declared.certificate.Reason.{Reason}
+use Rattle.certificate_rules.specs.Certificates.{Certificate, Accepts}
+use Rattle.certificate_rules.specs.OpenCertificates.{OpenCertificate}
 use Rattle.instance_text.specs.Reading.{Means}
 use Rattle.cert_text.specs.Dossier.{Reads}
 use Rattle.resume_book.specs.OpenDossier.{ReadsOpen}

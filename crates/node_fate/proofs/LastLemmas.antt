@@ -2,7 +2,7 @@
 use Rattle.std.proofs.Common.{◌≡◌, ℕ, ◌+◌, ◌<◌, List, length, sym, ap, ◌∙◌, subst, arith, Bool, false, IsTrue, ◌↔◌, Contains, slice_index_or, inl, inr}
 use Rattle.std.proofs.lemmas.Bool.Decides.{eqb_tells}
 use Rattle.lock_model.specs.declared.group.Group.{Group}
-use Rattle.search_rules.specs.Book.{no_group}
+use Rattle.book_rules.specs.Book.{no_group}
 use Rattle.lock_rules.specs.Node.{line_at}
 use Rattle.node_fate.specs.Last.{IsLacked, IsLackedBelow}
 use Rattle.node_fate.proofs.LineLemmas.{same-at}

@@ -8,7 +8,7 @@ use Rattle.lock_model.specs.declared.instance.Instance.{Instance}
 use Rattle.lock_model.specs.declared.group.Group.{Group}
 use Rattle.lock_model.specs.declared.placement.Spot.{Spot}
 use Rattle.lock_rules.specs.Node.{line_at, IsNode}
-use Rattle.search_rules.specs.Book.{no_group}
+use Rattle.book_rules.specs.Book.{no_group}
 use Rattle.leaf_plan.specs.declared.moorings.Mooring.{Mooring}
 use Rattle.leaf_plan.specs.Moorings.{IsMoored, HasMooring, AreMoored}
 use Rattle.leaf_plan.proofs.LineLemmas.{sizes_step, room_for}

@@ -9,7 +9,7 @@ use Rattle.lock_rules.specs.Cut.{HitsNode}
 use Rattle.refute_rules.specs.Spots.{IsSpent}
 use Rattle.refute_rules.specs.Cuts.{Cut, IsCut}
 use Rattle.place_refute.specs.Tried.{Tried}
-use Rattle.search_rules.specs.Cover.{IsOwnCut}
+use Rattle.book_rules.specs.Cover.{IsOwnCut}
 use Rattle.master_branch.specs.Node.{Node}
 use Rattle.leaf_plan.specs.Moorings.{AreMoored}
 use Rattle.node_fate.specs.declared.settling.Settled.{Settled}

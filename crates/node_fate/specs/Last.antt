@@ -2,7 +2,7 @@
 use Rattle.std.specs.Prelude.{ℕ, ◌<◌, List, length, Contains, slice_index_or}
 use Rattle.lock_model.specs.declared.group.Group.{Group}
 use Rattle.lock_rules.specs.Node.{line_at}
-use Rattle.search_rules.specs.Book.{no_group}
+use Rattle.book_rules.specs.Book.{no_group}
 
 -- group p of the line has the ship
 pub record IsInGroup (line : List Group) (s p : ℕ) : Type 0 where

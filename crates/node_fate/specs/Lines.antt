@@ -4,7 +4,7 @@ use Rattle.lock_model.specs.declared.instance.Instance.{Instance}
 use Rattle.lock_model.specs.declared.group.Group.{Group}
 use Rattle.lock_rules.specs.Arrival.{numbers_from}
 use Rattle.lock_rules.specs.Node.{line_at}
-use Rattle.search_rules.specs.Book.{no_group}
+use Rattle.book_rules.specs.Book.{no_group}
 use Rattle.leaf_plan.specs.declared.moorings.Mooring.{Mooring}
 use Rattle.leaf_plan.specs.Moorings.{IsMoored, HasMooring}
 

@@ -12,7 +12,7 @@ use Rattle.refute_rules.specs.declared.refutation.Refutation.{Refutation}
 use Rattle.refute_rules.specs.Cuts.{Cut, IsCut}
 use Rattle.place_refute.specs.Tried.{Tried}
 use Rattle.chamber_place.specs.Parts.{IsShrunk}
-use Rattle.search_rules.specs.Cover.{IsOwnCut}
+use Rattle.book_rules.specs.Cover.{IsOwnCut}
 use Rattle.node_fate.specs.declared.settling.Settled.{Settled}
 use Rattle.node_fate.specs.declared.settling.Settled.TheVariants.{Fits, Refuted, Spent}
 

@@ -7,7 +7,7 @@ use Rattle.lock_model.specs.declared.verdict.Verdict.TheVariants.{Optimal, OpenN
 use Rattle.lock_rules.specs.Lines.{no_lockage, lockage_at}
 use Rattle.lock_rules.specs.Singles.{singles_of}
 use Rattle.lock_rules.specs.Unfit.{IsFirstUnfit}
-use Rattle.search_rules.proofs.CompleteLemmas.{enough-optimal}
+use Rattle.book_rules.proofs.CompleteLemmas.{enough-optimal}
 use Rattle.instance_text.specs.Draft.{Draft}
 use Rattle.instance_text.specs.Reading.{Means, Defect, reading, bad, instance_part, after_instance}
 use Rattle.instance_text.specs.declared.bad.Kind.{Kind}

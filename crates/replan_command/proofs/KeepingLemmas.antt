@@ -9,7 +9,7 @@ use Rattle.lock_model.specs.declared.verdict.Verdict.TheVariants.{Optimal, OpenN
 use Rattle.lock_rules.specs.Plan.{IsLegal, IsCheapest, cost_of}
 use Rattle.lock_rules.specs.Singles.{singles_of}
 use Rattle.lock_rules.specs.Unfit.{HasNoUnfit}
-use Rattle.search_rules.specs.Ends.{IsEnd}
+use Rattle.book_rules.specs.Ends.{IsEnd}
 use Rattle.plan_print.specs.Report.{IsOfInstance, report}
 use Rattle.command_words.specs.declared.commands.ReplanOptions.{ReplanOptions}
 use Rattle.replan.specs.declared.remainder.Residual.{Residual}

@@ -4,7 +4,7 @@ use Rattle.lock_io.specs.Faults.{Rose}
 use Rattle.lock_model.specs.declared.instance.Instance.{Instance}
 use Rattle.lock_model.specs.declared.plan.Plan.{Plan}
 use Rattle.lock_rules.specs.Unfit.{HasNoUnfit}
-use Rattle.search_rules.specs.Ends.{AreEnough}
+use Rattle.book_rules.specs.Ends.{AreEnough}
 use Rattle.instance_text.specs.Reading.{Means, instance_part, after_instance}
 use Rattle.command_words.specs.declared.commands.ReplanOptions.{ReplanOptions}
 use Rattle.plan_judge.specs.Reading.{IsPlanText}

@@ -6,7 +6,7 @@ use Rattle.lock_model.specs.declared.verdict.Verdict.{Verdict}
 use Rattle.lock_model.specs.declared.verdict.Verdict.TheVariants.{Optimal, OpenNodes, OpenTurns}
 use Rattle.lock_rules.specs.Plan.{IsLegal, cost_of}
 use Rattle.lock_rules.specs.Singles.{singles_of}
-use Rattle.search_rules.specs.Ends.{IsOpenNodes, IsOpenTurns}
+use Rattle.book_rules.specs.Ends.{IsOpenNodes, IsOpenTurns}
 use Rattle.plan_print.specs.Report.{report}
 use Rattle.replan.specs.Rest.{ships_left, added_of, IsRest}
 use Rattle.replan.specs.Together.{number_of, joined, Keeps}

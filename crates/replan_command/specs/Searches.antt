@@ -6,8 +6,8 @@ use Rattle.lock_model.specs.declared.verdict.Verdict.{Verdict}
 use Rattle.lock_model.specs.declared.verdict.Verdict.TheVariants.{Optimal, OpenNodes, OpenTurns}
 use Rattle.lock_rules.specs.Singles.{singles_of}
 use Rattle.command_words.specs.declared.commands.ReplanOptions.{ReplanOptions}
-use Rattle.search_rules.specs.Book.{Book}
-use Rattle.search_rules.specs.Ends.{EndsWell}
+use Rattle.book_rules.specs.Book.{Book}
+use Rattle.book_rules.specs.Ends.{EndsWell}
 use Rattle.replan.specs.declared.remainder.Residual.{Residual}
 use Rattle.replan.specs.Kept.{kept_of}
 use Rattle.replan.specs.Rest.{IsLeft}

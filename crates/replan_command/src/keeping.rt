@@ -2,7 +2,7 @@
 ghost use Rattle.std.specs.Prelude.{◌≡◌, ◌≢◌, Some, None, IfOk};
 ghost use Rattle.lock_model.specs.declared.verdict.Verdict.TheVariants.{Optimal};
 ghost use Rattle.lock_rules.specs.Unfit.{HasNoUnfit};
-ghost use Rattle.search_rules.specs.Verdict.{verdict_of};
+ghost use Rattle.book_rules.specs.Verdict.{verdict_of};
 ghost use Rattle.run_answers.specs.Written.{bytes_in};
 ghost use Rattle.replan_command.specs.Options.{AreReplanNumbers};
 ghost use Rattle.replan_command.specs.Keeping.{PrintsKeeping, PrintsRestDossier, PrintsBest};

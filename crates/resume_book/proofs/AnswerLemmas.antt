@@ -8,18 +8,18 @@ use Rattle.lock_rules.specs.Bound.{bound_of, least_number}
 use Rattle.lock_rules.specs.Children.{children_of}
 use Rattle.lock_rules.specs.Heredity.{IsHereditary}
 use Rattle.refute_rules.proofs.RefuteLemmas.{HasNormal}
-use Rattle.search_rules.specs.declared.certificate.Mark.TheVariants as mark
-use Rattle.search_rules.specs.declared.certificate.OpenMark.{OpenMark}
-use Rattle.search_rules.specs.declared.certificate.OpenMark.TheVariants.{Closed}
-use Rattle.search_rules.specs.declared.certificate.Spot2.{Spot2}
-use Rattle.search_rules.specs.declared.certificate.Spot2.TheVariants as place
-use Rattle.search_rules.specs.declared.certificate.Reason.{Reason}
-use Rattle.search_rules.specs.OpenCertificates.{OpenCertificate, ClosesOrOpen, Stands}
-use Rattle.search_rules.specs.Low.{OpenInOrder, HasOpen, leaf_bounds, IsLow}
-use Rattle.search_rules.specs.Failures.{MarksFail, open_reason_of, OpenFails}
-use Rattle.search_rules.proofs.FailLemmas.{heads, tails, fails-not_stands}
-use Rattle.search_rules.proofs.LawLemmas.{tree-laws}
-use Rattle.search_rules.proofs.LowLemmas.{stands-low}
+use Rattle.certificate_rules.specs.declared.certificate.Mark.TheVariants as mark
+use Rattle.certificate_rules.specs.declared.certificate.OpenMark.{OpenMark}
+use Rattle.certificate_rules.specs.declared.certificate.OpenMark.TheVariants.{Closed}
+use Rattle.certificate_rules.specs.declared.certificate.Spot2.{Spot2}
+use Rattle.certificate_rules.specs.declared.certificate.Spot2.TheVariants as place
+use Rattle.certificate_rules.specs.declared.certificate.Reason.{Reason}
+use Rattle.certificate_rules.specs.OpenCertificates.{OpenCertificate, ClosesOrOpen, Stands}
+use Rattle.certificate_rules.specs.Low.{OpenInOrder, HasOpen, leaf_bounds, IsLow}
+use Rattle.certificate_rules.specs.Failures.{MarksFail, open_reason_of, OpenFails}
+use Rattle.certificate_rules.proofs.FailLemmas.{heads, tails, fails-not_stands}
+use Rattle.closing_rules.proofs.LawLemmas.{tree-laws}
+use Rattle.certificate_rules.proofs.LowLemmas.{stands-low}
 use Rattle.cert_check.specs.FirstFailure.{AreSameFailure, HoldBeforeMarks, FailBeforeMarks}
 use Rattle.cert_check.proofs.FirstFailure.{failing-same}
 use Rattle.cert_check.proofs.SomeFailure.{fails-first}

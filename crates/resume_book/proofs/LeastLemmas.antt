@@ -3,7 +3,7 @@ use Rattle.std.proofs.Common.{◌≡◌, ℕ, ◌≤◌, List, [], ◌∷◌, �
 use Rattle.std.proofs.lemmas.Bool.Decides.{leb_tells}
 use Rattle.lock_rules.specs.Bound.{least_number}
 use Rattle.lock_rules.proofs.TreeLemmas.{IsAmong}
-use Rattle.search_rules.proofs.LowLemmas.{HasBelow}
+use Rattle.closing_rules.proofs.BelowLemmas.{HasBelow}
 
 least-min : (a b : ℕ) (ys : List ℕ) → least_number (min a b ∷ ys) ≡ min a (least_number (b ∷ ys))
 least-min a b [] = refl

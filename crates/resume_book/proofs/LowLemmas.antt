@@ -6,14 +6,14 @@ use Rattle.lock_model.specs.declared.verdict.Verdict.TheVariants as verdict
 use Rattle.lock_rules.specs.Bound.{least_number}
 use Rattle.lock_rules.proofs.TreeLemmas.{IsAmong, IsAmong-left, IsAmong-right}
 use Rattle.refute_rules.proofs.Among.{among-append}
-use Rattle.search_rules.specs.declared.book.SlotState.{SlotState}
-use Rattle.search_rules.specs.declared.book.SlotState.TheVariants as slot
-use Rattle.search_rules.specs.declared.certificate.OpenMark.TheVariants.{Open}
-use Rattle.search_rules.specs.Book.{Node, Slot, Book, no_slot, slot_at, is_fresh, is_back, is_held, is_parked, is_live, has_slot, first_slot}
-use Rattle.search_rules.specs.Verdict.{low_of, parked_verdict, turns_verdict, verdict_of}
-use Rattle.search_rules.specs.Low.{leaf_bounds}
-use Rattle.search_rules.proofs.SlotLemmas.{first_slot-at}
-use Rattle.search_rules.proofs.LowLemmas.{least-below}
+use Rattle.book_rules.specs.declared.book.SlotState.{SlotState}
+use Rattle.book_rules.specs.declared.book.SlotState.TheVariants as slot
+use Rattle.certificate_rules.specs.declared.certificate.OpenMark.TheVariants.{Open}
+use Rattle.book_rules.specs.Book.{Node, Slot, Book, no_slot, slot_at, is_fresh, is_back, is_held, is_parked, is_live, has_slot, first_slot}
+use Rattle.book_rules.specs.Verdict.{low_of, parked_verdict, turns_verdict, verdict_of}
+use Rattle.certificate_rules.specs.Low.{leaf_bounds}
+use Rattle.book_rules.proofs.SlotLemmas.{first_slot-at}
+use Rattle.closing_rules.proofs.BelowLemmas.{least-below}
 use Rattle.book_certificate.proofs.VerdictLemmas.{live-verdict}
 use Rattle.resume_book.specs.Preorder.{open_mark, mark_at}
 use Rattle.resume_book.specs.Certified.{certified_low}

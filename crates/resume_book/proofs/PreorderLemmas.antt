@@ -2,10 +2,10 @@
 use Rattle.std.proofs.Common.{◌≡◌, ℕ, zero, suc, ◌+◌, ◌-◌, ◌<◌, ◌≤◌, inl, inr, length, refl, sym, ap, subst, arith}
 use Rattle.lock_rules.proofs.TreeLemmas.{IsAmong}
 use Rattle.lock_rules.proofs.SplitLemmas.{IsAmong-flat_map}
-use Rattle.search_rules.specs.declared.book.SlotState.{SlotState}
-use Rattle.search_rules.specs.declared.book.SlotState.TheVariants as slot
-use Rattle.search_rules.specs.Book.{Node, Book, slot_at}
-use Rattle.search_rules.specs.Family.{child_count, KeepsFamily}
+use Rattle.book_rules.specs.declared.book.SlotState.{SlotState}
+use Rattle.book_rules.specs.declared.book.SlotState.TheVariants as slot
+use Rattle.book_rules.specs.Book.{Node, Book, slot_at}
+use Rattle.book_rules.specs.Family.{child_count, KeepsFamily}
 use Rattle.resume_book.specs.Preorder.{children_slots, preorder, slots_in_order}
 use Rattle.resume_book.proofs.ListLemmas.{among-flat_map, range-among, among-range, all-below}
 

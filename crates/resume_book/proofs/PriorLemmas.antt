@@ -1,7 +1,7 @@
 -- Counting marks one by one.
 use Rattle.std.proofs.Common.{◌≡◌, ◌∙◌, ℕ, ◌+◌, ◌<◌, List, [], ◌∷◌, ◌++◌, length, take, filter, Bool, true, false, cond, sym, ap, ap₂, arith, slice_index_or}
 use Rattle.std.proofs.lemmas.List.{take_more}
-use Rattle.search_rules.specs.declared.certificate.OpenMark.{OpenMark}
+use Rattle.certificate_rules.specs.declared.certificate.OpenMark.{OpenMark}
 use Rattle.resume_book.specs.Prior.{is_prior, prior_of}
 
 prior-append : (xs ys : List OpenMark) → prior_of (xs ++ ys) ≡ prior_of xs + prior_of ys

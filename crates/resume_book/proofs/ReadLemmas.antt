@@ -6,22 +6,22 @@ use Rattle.lock_model.specs.declared.group.Group.{Group}
 use Rattle.lock_rules.specs.Bound.{bound_of, least_number}
 use Rattle.lock_rules.specs.Node.{root_lines}
 use Rattle.refute_rules.specs.Trees.{AreInOrder}
-use Rattle.search_rules.specs.declared.certificate.Mark.TheVariants as mark
-use Rattle.search_rules.specs.declared.certificate.OpenMark.{OpenMark}
-use Rattle.search_rules.specs.declared.certificate.OpenMark.TheVariants.{Closed}
-use Rattle.search_rules.specs.declared.certificate.Reason.{Reason}
-use Rattle.search_rules.specs.declared.certificate.Reason.TheVariants as reason
-use Rattle.search_rules.specs.Certificates.{IsMarkTree}
-use Rattle.search_rules.specs.OpenCertificates.{ClosesOrOpen}
-use Rattle.search_rules.specs.Low.{OpenInOrder, HasOpen, leaf_bounds}
-use Rattle.search_rules.specs.Failures.{FailInOrder, TreeFails, open_reason_of}
+use Rattle.certificate_rules.specs.declared.certificate.Mark.TheVariants as mark
+use Rattle.certificate_rules.specs.declared.certificate.OpenMark.{OpenMark}
+use Rattle.certificate_rules.specs.declared.certificate.OpenMark.TheVariants.{Closed}
+use Rattle.certificate_rules.specs.declared.certificate.Reason.{Reason}
+use Rattle.certificate_rules.specs.declared.certificate.Reason.TheVariants as reason
+use Rattle.certificate_rules.specs.Certificates.{IsMarkTree}
+use Rattle.certificate_rules.specs.OpenCertificates.{ClosesOrOpen}
+use Rattle.certificate_rules.specs.Low.{OpenInOrder, HasOpen, leaf_bounds}
+use Rattle.certificate_rules.specs.Failures.{FailInOrder, TreeFails, open_reason_of}
 use Rattle.master_branch.specs.Node.{Node, children, child_lines}
 use Rattle.cert_check.specs.declared.closing.Claim.{Claim}
 use Rattle.cert_check.proofs.TreeLemmas.{in_order-append, in_order-fails, lacks-one, leaf-tree, wrong-tree, tree-shorter, stuck-shorter}
 use Rattle.cert_check.proofs.ReadLemmas.{child-lines}
 use Rattle.resume_book.specs.Reading.{IsTreeOf, LeavesOf, TreeSticks, IsRead, IsStuck, IsChildRead, IsChildStuck, AreRead, AreStuck}
 use Rattle.resume_book.proofs.LeastLemmas.{least-append}
-use Rattle.search_rules.specs.declared.grounds.Ground.TheVariants as by
+use Rattle.closing_rules.specs.declared.grounds.Ground.TheVariants as by
 
 pub open_in_order-append : (Tree : List (List Group) → List OpenMark → List OpenMark → List ℕ → Type 0) (xs ys : List (List (List Group))) (a b c : List OpenMark) (bs cs : List ℕ) → OpenInOrder Tree xs a b bs → OpenInOrder Tree ys b c cs → OpenInOrder Tree (xs ++ ys) a c (bs ++ cs)
 open_in_order-append Tree [] ys a b c bs cs h k = subst (λ u. OpenInOrder Tree ys u c (bs ++ cs)) (sym h.0) (subst (λ u. OpenInOrder Tree ys b c (u ++ cs)) (sym h.1) k)

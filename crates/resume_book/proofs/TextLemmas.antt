@@ -5,9 +5,9 @@ use Rattle.json.specs.Lex.{tokens}
 use Rattle.json.specs.Print.{print}
 use Rattle.lock_model.specs.declared.instance.Instance.{Instance}
 use Rattle.lock_model.specs.declared.plan.Plan.{Plan}
-use Rattle.search_rules.specs.declared.certificate.OpenMark.{OpenMark}
-use Rattle.search_rules.specs.Certificates.{CertCut}
-use Rattle.search_rules.specs.OpenCertificates.{OpenCertificate}
+use Rattle.certificate_rules.specs.declared.certificate.OpenMark.{OpenMark}
+use Rattle.closing_rules.specs.ProvedCuts.{CertCut}
+use Rattle.certificate_rules.specs.OpenCertificates.{OpenCertificate}
 use Rattle.instance_text.specs.declared.bad.Bad.{Bad}
 use Rattle.instance_text.specs.Lines.{lines, words, content}
 use Rattle.instance_text.specs.Reading.{reading, Means, Defect, instance_part, after_instance}

@@ -8,18 +8,18 @@ use Rattle.lock_rules.specs.Node.{root_lines}
 use Rattle.lock_rules.specs.Bound.{bound_of}
 use Rattle.lock_rules.specs.Children.{children_of}
 use Rattle.refute_rules.specs.Trees.{AreInOrder}
-use Rattle.search_rules.specs.declared.book.SlotState.{SlotState}
-use Rattle.search_rules.specs.declared.book.SlotState.TheVariants as slot
-use Rattle.search_rules.specs.declared.certificate.Mark.TheVariants as mark
-use Rattle.search_rules.specs.declared.certificate.OpenMark.{OpenMark}
-use Rattle.search_rules.specs.declared.certificate.OpenMark.TheVariants.{Closed}
-use Rattle.search_rules.specs.Book.{Node, Book, no_slot, slot_at, best_cost}
-use Rattle.search_rules.specs.Cover.{KeepsBook}
-use Rattle.search_rules.specs.States.{KeepsStates}
-use Rattle.search_rules.specs.Family.{HasChildren, KeepsFamily}
-use Rattle.search_rules.specs.Certificates.{IsMarkTree}
-use Rattle.search_rules.specs.OpenCertificates.{ClosesOrOpen}
-use Rattle.search_rules.specs.Low.{OpenInOrder, HasOpen, leaf_bounds}
+use Rattle.book_rules.specs.declared.book.SlotState.{SlotState}
+use Rattle.book_rules.specs.declared.book.SlotState.TheVariants as slot
+use Rattle.certificate_rules.specs.declared.certificate.Mark.TheVariants as mark
+use Rattle.certificate_rules.specs.declared.certificate.OpenMark.{OpenMark}
+use Rattle.certificate_rules.specs.declared.certificate.OpenMark.TheVariants.{Closed}
+use Rattle.book_rules.specs.Book.{Node, Book, no_slot, slot_at, best_cost}
+use Rattle.book_rules.specs.Cover.{KeepsBook}
+use Rattle.book_rules.specs.States.{KeepsStates}
+use Rattle.book_rules.specs.Family.{HasChildren, KeepsFamily}
+use Rattle.certificate_rules.specs.Certificates.{IsMarkTree}
+use Rattle.certificate_rules.specs.OpenCertificates.{ClosesOrOpen}
+use Rattle.certificate_rules.specs.Low.{OpenInOrder, HasOpen, leaf_bounds}
 use Rattle.book_certificate.specs.Preorder.{leaf_mark}
 use Rattle.book_certificate.specs.Certified.{cert_cut}
 use Rattle.book_certificate.proofs.ClosingLemmas.{leaf-closes}

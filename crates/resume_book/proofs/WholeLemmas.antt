@@ -6,21 +6,22 @@ use Rattle.lock_model.specs.declared.instance.Instance.{Instance}
 use Rattle.lock_model.specs.declared.plan.Plan.{Plan}
 use Rattle.lock_rules.specs.Plan.{IsLegal, cost_of}
 use Rattle.lock_rules.specs.Bound.{least_number}
-use Rattle.search_rules.specs.declared.book.SlotState.{SlotState}
-use Rattle.search_rules.specs.declared.book.SlotState.TheVariants as slot
-use Rattle.search_rules.specs.declared.certificate.Mark.TheVariants as mark
-use Rattle.search_rules.specs.declared.certificate.OpenMark.{OpenMark}
-use Rattle.search_rules.specs.declared.certificate.OpenMark.TheVariants.{Closed}
-use Rattle.search_rules.specs.Book.{Node, Slot, Book, root, slot_at, best_cost, is_fresh}
-use Rattle.search_rules.specs.Verdict.{verdict_of}
-use Rattle.search_rules.specs.Cover.{KeepsBook}
-use Rattle.search_rules.specs.Parts.{KeepsParts}
-use Rattle.search_rules.specs.Cheap.{count_cheap, opening_cost}
-use Rattle.search_rules.specs.Certificates.{IsProved, IsMarkTree}
-use Rattle.search_rules.specs.OpenCertificates.{OpenCertificate, ClosesOrOpen, Stands}
-use Rattle.search_rules.specs.Low.{HasOpen, IsLow}
-use Rattle.search_rules.specs.WellFormed.{IsFormedCut, IsFormedOpenMark, IsWellFormedOpen}
-use Rattle.search_rules.proofs.CheapLemmas.{count-some}
+use Rattle.book_rules.specs.declared.book.SlotState.{SlotState}
+use Rattle.book_rules.specs.declared.book.SlotState.TheVariants as slot
+use Rattle.certificate_rules.specs.declared.certificate.Mark.TheVariants as mark
+use Rattle.certificate_rules.specs.declared.certificate.OpenMark.{OpenMark}
+use Rattle.certificate_rules.specs.declared.certificate.OpenMark.TheVariants.{Closed}
+use Rattle.book_rules.specs.Book.{Node, Slot, Book, root, slot_at, best_cost, is_fresh}
+use Rattle.book_rules.specs.Verdict.{verdict_of}
+use Rattle.book_rules.specs.Cover.{KeepsBook}
+use Rattle.book_rules.specs.Parts.{KeepsParts}
+use Rattle.book_rules.specs.Cheap.{count_cheap, opening_cost}
+use Rattle.closing_rules.specs.ProvedCuts.{IsProved}
+use Rattle.certificate_rules.specs.Certificates.{IsMarkTree}
+use Rattle.certificate_rules.specs.OpenCertificates.{OpenCertificate, ClosesOrOpen, Stands}
+use Rattle.certificate_rules.specs.Low.{HasOpen, IsLow}
+use Rattle.certificate_rules.specs.WellFormed.{IsFormedCut, IsFormedOpenMark, IsWellFormedOpen}
+use Rattle.book_rules.proofs.CheapLemmas.{count-some}
 use Rattle.book_certificate.specs.Preorder.{leaf_mark}
 use Rattle.book_certificate.specs.Certified.{cert_cut}
 use Rattle.book_certificate.proofs.FormedLemmas.{own-formed, own-proved, legal-formed, leaf-formed}

@@ -3,12 +3,12 @@ use Rattle.std.proofs.Common.{◌≡◌, ℕ, zero, suc, ◌+◌, ◌-◌, ◌<�
 use Rattle.std.specs.List.{range_with_len, flat_map}
 use Rattle.std.proofs.lemmas.List.{append_assoc, append-nil, map-append}
 use Rattle.std.proofs.lemmas.Grind.{flat_map-append}
-use Rattle.search_rules.specs.declared.book.SlotState.{SlotState}
-use Rattle.search_rules.specs.declared.book.SlotState.TheVariants as slot
-use Rattle.search_rules.specs.declared.certificate.OpenMark.{OpenMark}
-use Rattle.search_rules.specs.Book.{Node, Book, root, slot_at}
-use Rattle.search_rules.specs.Family.{child_count}
-use Rattle.search_rules.specs.NextSlot.{is_split}
+use Rattle.book_rules.specs.declared.book.SlotState.{SlotState}
+use Rattle.book_rules.specs.declared.book.SlotState.TheVariants as slot
+use Rattle.certificate_rules.specs.declared.certificate.OpenMark.{OpenMark}
+use Rattle.book_rules.specs.Book.{Node, Book, root, slot_at}
+use Rattle.book_rules.specs.Family.{child_count}
+use Rattle.book_rules.specs.NextSlot.{is_split}
 use Rattle.cert_check.proofs.TreeLemmas.{lacks-one}
 use Rattle.book_certificate.specs.Writing.{lacking_at}
 use Rattle.book_certificate.proofs.WritingLemmas.{range-more}

@@ -2,9 +2,9 @@
 use Rattle.std.specs.Prelude.{ℕ, ◌≡◌, ◌<◌, length, map, min}
 use Rattle.lock_model.specs.declared.verdict.Verdict.{Verdict}
 use Rattle.lock_model.specs.declared.verdict.Verdict.TheVariants as verdict
-use Rattle.search_rules.specs.declared.book.SlotState.TheVariants as slot
-use Rattle.search_rules.specs.Book.{Book, slot_at, best_cost}
-use Rattle.search_rules.specs.OpenCertificates.{OpenCertificate}
+use Rattle.book_rules.specs.declared.book.SlotState.TheVariants as slot
+use Rattle.book_rules.specs.Book.{Book, slot_at, best_cost}
+use Rattle.certificate_rules.specs.OpenCertificates.{OpenCertificate}
 use Rattle.book_certificate.specs.Certified.{cert_cut}
 use Rattle.resume_book.specs.Preorder.{mark_at, slots_in_order}
 

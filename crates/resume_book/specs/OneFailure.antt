@@ -3,15 +3,16 @@ use Rattle.std.specs.Prelude.{ℕ, ◌≡◌, ◌-◌, List, [], ◌∷◌, leng
 use Rattle.lock_model.specs.declared.instance.Instance.{Instance}
 use Rattle.lock_rules.specs.Node.{root_lines}
 use Rattle.lock_rules.specs.Bound.{least_number}
-use Rattle.search_rules.specs.declared.certificate.Spot2.{Spot2}
-use Rattle.search_rules.specs.declared.certificate.Reason.{Reason}
-use Rattle.search_rules.specs.declared.certificate.OpenMark.{OpenMark}
-use Rattle.search_rules.specs.declared.certificate.OpenMark.TheVariants.{Closed}
-use Rattle.search_rules.specs.declared.certificate.Mark.TheVariants as mark
-use Rattle.search_rules.specs.Certificates.{CertCut, IsMarkTree}
-use Rattle.search_rules.specs.OpenCertificates.{OpenCertificate, ClosesOrOpen, Stands}
-use Rattle.search_rules.specs.Low.{HasOpen}
-use Rattle.search_rules.specs.Failures.{MarksFail, open_reason_of, OpenFails}
+use Rattle.certificate_rules.specs.declared.certificate.Spot2.{Spot2}
+use Rattle.certificate_rules.specs.declared.certificate.Reason.{Reason}
+use Rattle.certificate_rules.specs.declared.certificate.OpenMark.{OpenMark}
+use Rattle.certificate_rules.specs.declared.certificate.OpenMark.TheVariants.{Closed}
+use Rattle.certificate_rules.specs.declared.certificate.Mark.TheVariants as mark
+use Rattle.closing_rules.specs.ProvedCuts.{CertCut}
+use Rattle.certificate_rules.specs.Certificates.{IsMarkTree}
+use Rattle.certificate_rules.specs.OpenCertificates.{OpenCertificate, ClosesOrOpen, Stands}
+use Rattle.certificate_rules.specs.Low.{HasOpen}
+use Rattle.certificate_rules.specs.Failures.{MarksFail, open_reason_of, OpenFails}
 use Rattle.cert_check.specs.FirstFailure.{AreSameFailure}
 
 -- No open certificate fails first in two ways, none that stands fails, and none neither stands nor fails.

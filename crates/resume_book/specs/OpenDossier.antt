@@ -1,7 +1,7 @@
 -- Open dossiers: the canonical one, what one means, and its first fault.
 use Rattle.std.specs.Prelude.{ℕ, ◌≡◌, ◌++◌, Bool, true, false, List, [], ◌∷◌, Result, Ok, Err, codes}
 use Rattle.lock_model.specs.declared.instance.Instance.{Instance}
-use Rattle.search_rules.specs.OpenCertificates.{OpenCertificate}
+use Rattle.certificate_rules.specs.OpenCertificates.{OpenCertificate}
 use Rattle.instance_text.specs.Steps.{◌>>=◌, ◌>>◌}
 use Rattle.instance_text.specs.Draft.{Draft}
 use Rattle.instance_text.specs.Reading.{reading, instance_part, after_instance}

@@ -1,7 +1,7 @@
 -- Open marks as numbers, and open trees as JSON values.
 use Rattle.std.specs.Prelude.{ℕ, ◌==◌, List, Option, Some, option_map, if◌then◌else◌}
-use Rattle.search_rules.specs.declared.certificate.OpenMark.{OpenMark}
-use Rattle.search_rules.specs.declared.certificate.OpenMark.TheVariants.{Closed, Open}
+use Rattle.certificate_rules.specs.declared.certificate.OpenMark.{OpenMark}
+use Rattle.certificate_rules.specs.declared.certificate.OpenMark.TheVariants.{Closed, Open}
 use Rattle.serde_json.specs.Data.{Data}
 use Rattle.cert_text.specs.Steps.{◌>>=◌}
 use Rattle.cert_text.specs.Fields.{list_data, number_data, number_in, list_in}

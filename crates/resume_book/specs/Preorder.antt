@@ -1,12 +1,12 @@
 -- The slots of a book in preorder of the tree that they make, and their marks.
 use Rattle.std.specs.Prelude.{ℕ, zero, suc, List, [], ◌∷◌, length}
 use Rattle.std.specs.List.{flat_map}
-use Rattle.search_rules.specs.declared.book.SlotState.{SlotState}
-use Rattle.search_rules.specs.declared.book.SlotState.TheVariants as slot
-use Rattle.search_rules.specs.declared.certificate.Mark.TheVariants as mark
-use Rattle.search_rules.specs.declared.certificate.OpenMark.{OpenMark}
-use Rattle.search_rules.specs.declared.certificate.OpenMark.TheVariants.{Closed, Open}
-use Rattle.search_rules.specs.Book.{Book, slot_at}
+use Rattle.book_rules.specs.declared.book.SlotState.{SlotState}
+use Rattle.book_rules.specs.declared.book.SlotState.TheVariants as slot
+use Rattle.certificate_rules.specs.declared.certificate.Mark.TheVariants as mark
+use Rattle.certificate_rules.specs.declared.certificate.OpenMark.{OpenMark}
+use Rattle.certificate_rules.specs.declared.certificate.OpenMark.TheVariants.{Closed, Open}
+use Rattle.book_rules.specs.Book.{Book, slot_at}
 use Rattle.book_certificate.specs.Preorder.{children_from}
 
 -- the mark of a slot by its state; a slot that is open, held or parked is an open leaf

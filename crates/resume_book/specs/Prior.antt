@@ -1,9 +1,9 @@
 -- The work that an open certificate holds.
 use Rattle.std.specs.Prelude.{ℕ, Bool, true, false, List, length, filter}
-use Rattle.search_rules.specs.declared.certificate.OpenMark.{OpenMark}
-use Rattle.search_rules.specs.declared.certificate.OpenMark.TheVariants.{Closed, Open}
-use Rattle.search_rules.specs.declared.certificate.Mark.TheVariants as mark
-use Rattle.search_rules.specs.declared.grounds.Ground.TheVariants as by
+use Rattle.certificate_rules.specs.declared.certificate.OpenMark.{OpenMark}
+use Rattle.certificate_rules.specs.declared.certificate.OpenMark.TheVariants.{Closed, Open}
+use Rattle.certificate_rules.specs.declared.certificate.Mark.TheVariants as mark
+use Rattle.closing_rules.specs.declared.grounds.Ground.TheVariants as by
 
 -- neither a bound mark nor an open leaf
 abbrev pub is_prior : OpenMark → Bool

@@ -3,14 +3,14 @@ use Rattle.std.specs.Prelude.{ℕ, suc, ◌-◌, ◌≡◌, List, ◌∷◌, len
 use Rattle.lock_model.specs.declared.group.Group.{Group}
 use Rattle.lock_rules.specs.Bound.{least_number}
 use Rattle.refute_rules.specs.Trees.{AreInOrder}
-use Rattle.search_rules.specs.declared.certificate.Mark.TheVariants as mark
-use Rattle.search_rules.specs.declared.certificate.OpenMark.{OpenMark}
-use Rattle.search_rules.specs.declared.certificate.OpenMark.TheVariants.{Closed}
-use Rattle.search_rules.specs.declared.certificate.Reason.{Reason}
-use Rattle.search_rules.specs.Certificates.{IsMarkTree}
-use Rattle.search_rules.specs.OpenCertificates.{ClosesOrOpen}
-use Rattle.search_rules.specs.Low.{OpenInOrder, HasOpen}
-use Rattle.search_rules.specs.Failures.{FailInOrder, TreeFails, open_reason_of}
+use Rattle.certificate_rules.specs.declared.certificate.Mark.TheVariants as mark
+use Rattle.certificate_rules.specs.declared.certificate.OpenMark.{OpenMark}
+use Rattle.certificate_rules.specs.declared.certificate.OpenMark.TheVariants.{Closed}
+use Rattle.certificate_rules.specs.declared.certificate.Reason.{Reason}
+use Rattle.certificate_rules.specs.Certificates.{IsMarkTree}
+use Rattle.certificate_rules.specs.OpenCertificates.{ClosesOrOpen}
+use Rattle.certificate_rules.specs.Low.{OpenInOrder, HasOpen}
+use Rattle.certificate_rules.specs.Failures.{FailInOrder, TreeFails, open_reason_of}
 use Rattle.master_branch.specs.Node.{Node, children, child_lines}
 use Rattle.cert_check.specs.declared.closing.Claim.{Claim}
 

@@ -1,8 +1,8 @@
 -- How far the open marks of a book are written.
 use Rattle.std.specs.Prelude.{ℕ, suc, ◌≡◌, ◌-◌, List, ◌++◌, length, map}
 use Rattle.std.specs.List.{range_with_len, flat_map}
-use Rattle.search_rules.specs.declared.certificate.OpenMark.{OpenMark}
-use Rattle.search_rules.specs.Book.{Book, slot_at}
+use Rattle.certificate_rules.specs.declared.certificate.OpenMark.{OpenMark}
+use Rattle.book_rules.specs.Book.{Book, slot_at}
 use Rattle.book_certificate.specs.Writing.{lacking_at}
 use Rattle.resume_book.specs.Preorder.{mark_at, preorder}
 

@@ -1,10 +1,10 @@
 //! The open certificate of a book.
 ghost use Rattle.std.specs.Prelude.{◌≤◌, length, IfOk};
-ghost use Rattle.search_rules.specs.Book.{best_cost};
-ghost use Rattle.search_rules.specs.Verdict.{verdict_of};
-ghost use Rattle.search_rules.specs.OpenCertificates.{Stands};
-ghost use Rattle.search_rules.specs.Low.{IsLow};
-ghost use Rattle.search_rules.specs.WellFormed.{IsWellFormedOpen};
+ghost use Rattle.book_rules.specs.Book.{best_cost};
+ghost use Rattle.book_rules.specs.Verdict.{verdict_of};
+ghost use Rattle.certificate_rules.specs.OpenCertificates.{Stands};
+ghost use Rattle.certificate_rules.specs.Low.{IsLow};
+ghost use Rattle.certificate_rules.specs.WellFormed.{IsWellFormedOpen};
 ghost use Rattle.resume_book.specs.Certified.{IsOpenCertificateOf, certified_low, HasMoreMarks};
 
 use crate::certificate::OpenCertificate;

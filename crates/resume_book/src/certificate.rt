@@ -2,8 +2,8 @@
 ghost use Rattle.std.specs.Prelude.{◌≡◌, [], ◌∷◌, ◌++◌, OnOk, OnErr, IfOk};
 
 use cert_check::CertCuts;
+use certificate_rules::{OpenMark, Reason, Spot2};
 use lock_model::Plan;
-use search_rules::{OpenMark, Reason, Spot2};
 use std::alloc::{AllocError, Global};
 use std::marker::Model;
 
@@ -16,7 +16,7 @@ pub struct OpenMarks {
 
 impl Model for OpenMarks {
     ghost use Rattle.std.specs.Prelude.{List};
-    ghost use Rattle.search_rules.specs.declared.certificate.OpenMark.{OpenMark};
+    ghost use Rattle.certificate_rules.specs.declared.certificate.OpenMark.{OpenMark};
 
     ghost Value = { List OpenMark };
 
@@ -70,7 +70,7 @@ pub struct OpenCertificate {
 }
 
 impl Model for OpenCertificate {
-    ghost use Rattle.search_rules.specs.OpenCertificates.{OpenCertificate as Held};
+    ghost use Rattle.certificate_rules.specs.OpenCertificates.{OpenCertificate as Held};
 
     ghost Value = { Held };
 

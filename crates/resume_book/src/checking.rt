@@ -2,24 +2,24 @@
 ghost use Rattle.std.specs.Prelude.{◌≡◌, ◌↔◌, ℕ, [], length, All, IfOk, IfErr};
 ghost use Rattle.lock_rules.specs.Node.{root_lines};
 ghost use Rattle.lock_rules.specs.Throughput.{throughput_of};
-ghost use Rattle.search_rules.specs.declared.certificate.Spot2.{Spot2 as Place};
-ghost use Rattle.search_rules.specs.declared.certificate.Reason.{Reason as Why};
-ghost use Rattle.search_rules.specs.Certificates.{IsProved};
-ghost use Rattle.search_rules.specs.OpenCertificates.{Stands};
-ghost use Rattle.search_rules.specs.Low.{IsLow};
-ghost use Rattle.search_rules.specs.Failures.{OpenFails};
+ghost use Rattle.certificate_rules.specs.declared.certificate.Spot2.{Spot2 as Place};
+ghost use Rattle.certificate_rules.specs.declared.certificate.Reason.{Reason as Why};
+ghost use Rattle.closing_rules.specs.ProvedCuts.{IsProved};
+ghost use Rattle.certificate_rules.specs.OpenCertificates.{Stands};
+ghost use Rattle.certificate_rules.specs.Low.{IsLow};
+ghost use Rattle.certificate_rules.specs.Failures.{OpenFails};
 ghost use Rattle.resume_book.specs.Proven.{IsProvenLow};
 ghost use Rattle.resume_book.specs.OneFailure.{IsLowOfMarks, FailAtOpenMark};
 
 use crate::certificate::{OpenAnswer, OpenCertificate};
 use crate::reading::read_tree;
 use cert_check::{Claim, first_failure_before_marks};
+use certificate_rules::{OpenMark, Reason, Spot2};
 use deck_laws::{heredity, normal_form};
 use flow_bounds::{Roster, throughput};
 use lock_model::Instance;
 use master_branch::root;
 use plain_text::NoMemory;
-use search_rules::{OpenMark, Reason, Spot2};
 use std::alloc::Global;
 
 // The low of marks that are one open tree of the root, or their first failure, by the number of the

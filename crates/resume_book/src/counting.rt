@@ -4,7 +4,7 @@ ghost use Rattle.resume_book.specs.Prior.{prior_of};
 
 use crate::certificate::OpenCertificate;
 use cert_check::{Ground, Mark};
-use search_rules::OpenMark;
+use certificate_rules::OpenMark;
 
 // 1 for a mark that is neither a bound mark nor an open leaf, and else 0.
 fn weight(mark: &OpenMark) -> u64

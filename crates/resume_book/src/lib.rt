@@ -9,10 +9,10 @@
 //! what the book's verdict says. `print_open` and `read_open` write and read open dossiers, both ways
 //! exactly. `prior` counts the work that an open certificate holds.
 //!
-//! Definitions: `search_rules` has open certificates (`specs/OpenCertificates`), their low (`Low`) and
-//! where one fails first (`Failures`). Here `Proven` says what one proves, `Preorder` and `Certified`
-//! what that of a book is, `OneFailure` the law, `OpenMarks` and `OpenDossier` the text both ways,
-//! `Prior` the work. `Reading` says what is read of a node and of its children.
+//! Definitions: `certificate_rules` has open certificates (`specs/OpenCertificates`), their low
+//! (`Low`) and where one fails first (`Failures`). Here `Proven` says what one proves, `Preorder` and
+//! `Certified` what that of a book is, `OneFailure` the law, `OpenMarks` and `OpenDossier` the text
+//! both ways, `Prior` the work. `Reading` says what is read of a node and of its children.
 #![tactic(auto)]
 
 mod book;
@@ -32,10 +32,10 @@ mod value;
 pub use book::open_certificate_of;
 pub use cert_text::{BadDossier, DossierError};
 pub use certificate::{OpenAnswer, OpenCertificate, OpenMarks};
+pub use certificate_rules::{OpenMark, Reason, Spot2};
 pub use checking::check_open;
 pub use counting::prior;
 pub use laws::one_first_open_failure;
 pub use plain_text::NoMemory;
 pub use print::print_open;
 pub use read::read_open;
-pub use search_rules::{OpenMark, Reason, Spot2};

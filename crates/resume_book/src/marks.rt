@@ -1,17 +1,18 @@
 //! The open marks of a book's slots, written in preorder of their tree.
 ghost use Rattle.std.specs.Prelude.{◌≡◌, ◌<◌, false, [], length, map, IfOk, OnOk};
-ghost use Rattle.search_rules.specs.declared.book.SlotState.TheVariants as slot;
-ghost use Rattle.search_rules.specs.Book.{slot_at};
-ghost use Rattle.search_rules.specs.NextSlot.{is_split};
+ghost use Rattle.book_rules.specs.declared.book.SlotState.TheVariants as slot;
+ghost use Rattle.book_rules.specs.Book.{slot_at};
+ghost use Rattle.book_rules.specs.NextSlot.{is_split};
 ghost use Rattle.resume_book.specs.Preorder.{open_mark, mark_at, slots_in_order};
 ghost use Rattle.resume_book.specs.Writing.{IsWritten};
 
 use crate::certificate::OpenMarks;
 use book_certificate::{children_end, first_child};
 use book_core::Book;
+use book_rules::SlotState;
 use cert_check::Mark;
+use certificate_rules::OpenMark;
 use plain_text::NoMemory;
-use search_rules::{OpenMark, SlotState};
 use std::alloc::Global;
 
 // The mark of a slot, by its state: an open leaf where it is open, held or parked.

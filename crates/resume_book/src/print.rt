@@ -1,6 +1,6 @@
 //! Printing open dossiers.
 ghost use Rattle.std.specs.Prelude.{◌≡◌, ◌++◌, ◌∷◌, [], Some, Ok, IfOk};
-ghost use Rattle.search_rules.specs.WellFormed.{IsWellFormedOpen};
+ghost use Rattle.certificate_rules.specs.WellFormed.{IsWellFormedOpen};
 ghost use Rattle.cert_text.specs.Dossier.{json_of};
 ghost use Rattle.resume_book.specs.OpenDossier.{open_data, open_text, open_certificate_in, open_dossier, ReadsOpen};
 

@@ -1,7 +1,7 @@
 //! Reading open dossiers.
 ghost use Rattle.std.specs.Prelude.{◌≡◌, Ok, IfOk, IfErr};
 ghost use Rattle.lock_model.specs.declared.instance.Instance.{Instance as AnyInstance};
-ghost use Rattle.search_rules.specs.OpenCertificates.{OpenCertificate as AnyOpen};
+ghost use Rattle.certificate_rules.specs.OpenCertificates.{OpenCertificate as AnyOpen};
 ghost use Rattle.cert_text.specs.Answers.{IsFault, IsAnswer, IsFaultAnswer};
 ghost use Rattle.cert_text.specs.declared.bad.BadDossier.{BadDossier as AnyFault};
 ghost use Rattle.resume_book.specs.OpenDossier.{is_open_heading, open_rest_in, ReadsOpen, OpenDossierFault, IsFirstOpenFault};

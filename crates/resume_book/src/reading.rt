@@ -2,18 +2,18 @@
 ghost use Rattle.std.specs.Prelude.{◌≡◌, ◌<◌, ◌↔◌, [], ◌∷◌, length, IsTrue, IfOk, IfErr, IfNone, IfSome};
 ghost use Rattle.lock_rules.specs.Bound.{bound_of};
 ghost use Rattle.master_branch.specs.Node.{IsNodeOf, children};
-ghost use Rattle.search_rules.specs.OpenCertificates.{ClosesOrOpen};
-ghost use Rattle.search_rules.specs.Failures.{open_reason_of};
-ghost use Rattle.search_rules.specs.Low.{leaf_bounds};
+ghost use Rattle.certificate_rules.specs.OpenCertificates.{ClosesOrOpen};
+ghost use Rattle.certificate_rules.specs.Failures.{open_reason_of};
+ghost use Rattle.certificate_rules.specs.Low.{leaf_bounds};
 ghost use Rattle.cert_check.specs.Reading.{AreTold};
 ghost use Rattle.lock_rules.specs.Bound.{least_number};
 ghost use Rattle.resume_book.specs.Reading.{IsRead, IsStuck, IsChildRead, IsChildStuck, AreRead, AreStuck};
 
 use cert_check::{Claim, Ground, Mark, child_of, child_reaches, closes, reason_against};
+use certificate_rules::{OpenMark, Reason};
 use flow_bounds::{Reached, bound};
 use lock_model::Instance;
 use master_branch::{Node, child_count};
-use search_rules::{OpenMark, Reason};
 
 // What was read: the marks behind it, and the least of the bounds of the open leaves so far and of
 // the number that reading began with.

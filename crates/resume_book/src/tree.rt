@@ -1,6 +1,6 @@
 //! Open marks as numbers, and open trees as JSON values.
 ghost use Rattle.std.specs.Prelude.{◌≡◌, All, IfOk, IfErr, Some, None, map};
-ghost use Rattle.search_rules.specs.WellFormed.{IsFormedOpenMark};
+ghost use Rattle.certificate_rules.specs.WellFormed.{IsFormedOpenMark};
 ghost use Rattle.serde_json.specs.View.{view, items_of, items_view};
 ghost use Rattle.cert_text.specs.Answers.{IsRefusal};
 ghost use Rattle.cert_text.specs.Fields.{all_in};
@@ -9,7 +9,7 @@ ghost use Rattle.resume_book.specs.OpenMarks.{open_number, open_mark_of, open_ma
 
 use crate::certificate::OpenMarks;
 use cert_text::{BadDossier, DossierError, mark_of, put_mark};
-use search_rules::OpenMark;
+use certificate_rules::OpenMark;
 use serde_json::Value;
 use std::alloc::{AllocError, Global};
 

@@ -1,6 +1,6 @@
 //! Open certificates as JSON values.
 ghost use Rattle.std.specs.Prelude.{◌≡◌, IfOk, IfErr, Some, None, Ok, codes};
-ghost use Rattle.search_rules.specs.WellFormed.{IsWellFormedOpen};
+ghost use Rattle.certificate_rules.specs.WellFormed.{IsWellFormedOpen};
 ghost use Rattle.serde_json.specs.View.{view};
 ghost use Rattle.cert_text.specs.Answers.{IsRefusal, IsFault};
 ghost use Rattle.cert_text.specs.Steps.{fault_under};

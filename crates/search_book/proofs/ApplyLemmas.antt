@@ -3,10 +3,10 @@ use Rattle.std.proofs.Common.{◌≡◌, ℕ, ◌+◌, List, [], ◌∷◌, ◌+
 use Rattle.std.specs.declared.option.Option.{Option}
 use Rattle.std.specs.Bool.{OnFalse}
 use Rattle.mooring_rules.specs.declared.breaks.BrokenPlan.{BrokenPlan}
-use Rattle.search_rules.specs.Book.{Book}
-use Rattle.search_rules.specs.Events as machine
-use Rattle.search_rules.specs.Step.{step}
-use Rattle.search_rules.proofs.StepLemmas.{entry_of, IsStep, Refused, Accepted, each-step}
+use Rattle.book_rules.specs.Book.{Book}
+use Rattle.book_rules.specs.Events as machine
+use Rattle.book_rules.specs.Step.{step}
+use Rattle.book_rules.proofs.StepLemmas.{entry_of, IsStep, Refused, Accepted, each-step}
 use Rattle.book_core.specs.declared.reply.Reply.{Reply}
 use Rattle.book_core.specs.declared.reply.Reply.TheVariants as reply
 use Rattle.book_core.specs.Replies.{Answers, Does, Steps, Stays, told}

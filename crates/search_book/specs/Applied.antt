@@ -1,7 +1,7 @@
 -- What an event does to a book: what the method of its name does.
 use Rattle.std.specs.Prelude.{ℕ}
-use Rattle.search_rules.specs.Book.{Book}
-use Rattle.search_rules.specs.Events as machine
+use Rattle.book_rules.specs.Book.{Book}
+use Rattle.book_rules.specs.Events as machine
 use Rattle.book_core.specs.declared.reply.Reply.{Reply}
 use Rattle.book_core.specs.Replies.{Answers, Does, HasNode}
 use Rattle.search_book.specs.declared.event.Event.{Event}

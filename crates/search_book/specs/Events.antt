@@ -1,7 +1,7 @@
 -- The machine's event of each event, and what its caller owes.
 use Rattle.std.specs.Prelude.{ℕ, ◌≤◌, ⊤}
 use Rattle.refute_rules.specs.Spots.{IsSpotHard}
-use Rattle.search_rules.specs.Events as machine
+use Rattle.book_rules.specs.Events as machine
 use Rattle.search_book.specs.declared.event.Event.{Event}
 use Rattle.search_book.specs.declared.event.Event.TheVariants as event
 

@@ -1,6 +1,6 @@
 -- What an event and a taking after it do.
 use Rattle.std.specs.Prelude.{ℕ, ◌≡◌, ◌+◌, true, false}
-use Rattle.search_rules.specs.Book.{Book}
+use Rattle.book_rules.specs.Book.{Book}
 use Rattle.book_core.specs.declared.reply.Reply.{Reply}
 use Rattle.search_book.specs.declared.event.Event.{Event}
 use Rattle.search_book.specs.declared.next.Next.{Next}

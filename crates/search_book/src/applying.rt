@@ -2,7 +2,7 @@
 ghost use Rattle.std.specs.Prelude.{◌≡◌, ◌+◌, ◌<◌, ◌≤◌, length};
 ghost use Rattle.std.specs.Bool.{OnFalse};
 ghost use Rattle.book_core.specs.Replies.{Does};
-ghost use Rattle.search_rules.specs.Events as machine;
+ghost use Rattle.book_rules.specs.Events as machine;
 ghost use Rattle.search_book.specs.Applied.{Applies};
 ghost use Rattle.search_book.specs.Events.{IsAllowed};
 ghost use Rattle.search_book.specs.Following.{Follows, counted};
@@ -13,9 +13,9 @@ use crate::kept::Kept;
 use crate::next::Next;
 use crate::replies::is_accepted;
 use book_core::{Book, Foreseen, Reply};
+use closing_rules::Ground;
 use lock_model::Plan;
 use place_refute::Cut;
-use search_rules::Ground;
 use std::sync::ledger::{Ledger, Share};
 
 // Keeps a boxed cut.

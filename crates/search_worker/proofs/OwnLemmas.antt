@@ -16,7 +16,7 @@ use Rattle.lock_rules.proofs.TreeLemmas.{times_in-hit, times_in-miss}
 use Rattle.lock_rules.proofs.ChildLemmas.{times_on-held}
 use Rattle.lock_rules.proofs.SplitLemmas.{length-order, order-known, times_in-at}
 use Rattle.lock_rules.proofs.ThroughputLemmas.{length-append, length-sum}
-use Rattle.search_rules.proofs.LawLemmas.{contains-times}
+use Rattle.closing_rules.proofs.LawLemmas.{contains-times}
 use Rattle.search_worker.specs.Owning.{IsOwnShip, IsOwnGroup, IsOwnLine}
 
 -- Of two lists that are equally long, where the one holds no number more often than the other, both hold each number equally often.

@@ -9,10 +9,10 @@ use crate::asking::end_and_take;
 use crate::taking::Held;
 use crate::worker::{Post, Worker};
 use book_core::Foreseen;
+use closing_rules::Ground;
 use flow_bounds::bound;
 use lock_io::Gate;
 use search_book::Event;
-use search_rules::Ground;
 use std::sync::Wait;
 use std::sync::ledger::Ledger;
 

@@ -13,13 +13,13 @@ use crate::stop::Stop;
 use crate::taking::Held;
 use crate::worker::{Post, Worker};
 use book_core::{Foreseen, Reply};
+use closing_rules::Ground;
 use leaf_plan::{Moorings, leaf_plan};
 use lock_io::Gate;
 use lock_model::Plan;
 use node_fate::Fate;
 use place_refute::{Cut, Hard};
 use search_book::Event;
-use search_rules::Ground;
 use std::sync::Wait;
 use std::sync::ledger::Ledger;
 

@@ -9,10 +9,10 @@ ghost use Rattle.search_worker.specs.Serving.{Serves};
 use crate::asking::end_and_take;
 use crate::taking::Held;
 use crate::worker::{Post, Worker};
+use closing_rules::Ground;
 use lock_io::Gate;
 use master_branch::Node;
 use search_book::Event;
-use search_rules::Ground;
 use std::sync::Wait;
 use std::sync::ledger::Ledger;
 

@@ -9,13 +9,13 @@ use Rattle.lock_model.specs.declared.verdict.Verdict.TheVariants.{Optimal, OpenN
 use Rattle.lock_rules.specs.Node.{line_at}
 use Rattle.lock_rules.specs.Singles.{singles_of}
 use Rattle.lock_rules.proofs.NodeLemmas.{line-known}
-use Rattle.search_rules.specs.Book.{Book}
-use Rattle.search_rules.specs.Verdict.{verdict_of}
-use Rattle.search_rules.specs.Ends.{EndsWell, IsEnd}
-use Rattle.search_rules.specs.Certificates.{Certificate, Accepts}
-use Rattle.search_rules.specs.WellFormed.{IsWellFormed}
-use Rattle.search_rules.proofs.AcceptLemmas.{accepted-cheapest}
-use Rattle.search_rules.proofs.EndLemmas.{ends}
+use Rattle.book_rules.specs.Book.{Book}
+use Rattle.book_rules.specs.Verdict.{verdict_of}
+use Rattle.book_rules.specs.Ends.{EndsWell, IsEnd}
+use Rattle.certificate_rules.specs.Certificates.{Certificate, Accepts}
+use Rattle.certificate_rules.specs.WellFormed.{IsWellFormed}
+use Rattle.certificate_rules.proofs.AcceptLemmas.{accepted-cheapest}
+use Rattle.book_rules.proofs.EndLemmas.{ends}
 use Rattle.cert_text.specs.Dossier.{dossier, Reads}
 use Rattle.book_core.specs.Keeps.{IsSound}
 use Rattle.book_core.proofs.SoundLemmas.{laws}

@@ -2,10 +2,10 @@
 use Rattle.std.proofs.Common.{ℕ, Bool, true, false, ◌≡◌, ◌<◌, ◌≤◌, List, sym, subst, inl, inr, refl}
 use Rattle.lock_model.specs.declared.verdict.Verdict.TheVariants.{Optimal, OpenNodes, OpenTurns}
 use Rattle.lock_rules.specs.Plan.{IsLegal, cost_of}
-use Rattle.search_rules.specs.Ends.{AreEnough, IsSpentBelow, IsOpenTurns}
-use Rattle.search_rules.specs.OpenCertificates.{OpenCertificate}
-use Rattle.search_rules.proofs.GrowLemmas.{law-cheap}
-use Rattle.search_rules.proofs.CompleteLemmas.{enough-optimal}
+use Rattle.book_rules.specs.Ends.{AreEnough, IsSpentBelow, IsOpenTurns}
+use Rattle.certificate_rules.specs.OpenCertificates.{OpenCertificate}
+use Rattle.book_rules.proofs.GrowLemmas.{law-cheap}
+use Rattle.book_rules.proofs.CompleteLemmas.{enough-optimal}
 use Rattle.plan_print.specs.Report.{report}
 use Rattle.solve_commands.specs.Searching.{Search, Print, PrintsOpen}
 use Rattle.solve_commands.specs.Keeping.{SpendsTurns, IsKept, PrintsLeft}

@@ -7,14 +7,14 @@ use Rattle.lock_model.specs.declared.instance.Instance.{Instance}
 use Rattle.lock_model.specs.declared.verdict.Verdict.{Verdict}
 use Rattle.lock_model.specs.declared.verdict.Verdict.TheVariants.{Optimal, OpenNodes, OpenTurns}
 use Rattle.lock_rules.specs.Plan.{IsLegal, cost_of}
-use Rattle.search_rules.specs.declared.book.SlotState.{SlotState}
-use Rattle.search_rules.specs.declared.book.SlotState.TheVariants as slot
-use Rattle.search_rules.specs.Book.{Book, Node, Slot, no_slot, slot_at, best_cost, is_fresh, is_back, is_held, is_parked, has_slot, first_slot}
-use Rattle.search_rules.specs.Verdict.{low_of, parked_verdict, turns_verdict, verdict_of}
-use Rattle.search_rules.specs.Ends.{HasNothingOpen, HoldsNothing, EndsWell, IsOpenLow, IsOpenNodes, IsOpenTurns, IsSpentBelow, IsUnderSpent, IsEnd}
-use Rattle.search_rules.specs.OpenCertificates.{OpenCertificate, Stands}
-use Rattle.search_rules.specs.Low.{IsLow}
-use Rattle.search_rules.specs.WellFormed.{IsWellFormedOpen}
+use Rattle.book_rules.specs.declared.book.SlotState.{SlotState}
+use Rattle.book_rules.specs.declared.book.SlotState.TheVariants as slot
+use Rattle.book_rules.specs.Book.{Book, Node, Slot, no_slot, slot_at, best_cost, is_fresh, is_back, is_held, is_parked, has_slot, first_slot}
+use Rattle.book_rules.specs.Verdict.{low_of, parked_verdict, turns_verdict, verdict_of}
+use Rattle.book_rules.specs.Ends.{HasNothingOpen, HoldsNothing, EndsWell, IsOpenLow, IsOpenNodes, IsOpenTurns, IsSpentBelow, IsUnderSpent, IsEnd}
+use Rattle.certificate_rules.specs.OpenCertificates.{OpenCertificate, Stands}
+use Rattle.certificate_rules.specs.Low.{IsLow}
+use Rattle.certificate_rules.specs.WellFormed.{IsWellFormedOpen}
 use Rattle.book_core.specs.Keeps.{IsSound}
 use Rattle.resume_book.specs.Certified.{IsOpenCertificateOf, certified_low, HasMoreMarks}
 use Rattle.solve_commands.specs.Searching.{search_in}

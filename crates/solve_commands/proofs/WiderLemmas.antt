@@ -1,10 +1,10 @@
 -- A search from a plan that costs at most so much, told of one that may cost more.
 use Rattle.std.proofs.Common.{ℕ, Bool, true, false, ◌≡◌, ◌≤◌, List, inl, inr, arith}
 use Rattle.lock_rules.specs.Node.{root_lines}
-use Rattle.search_rules.specs.Book.{Book}
-use Rattle.search_rules.specs.Cheap.{opening_cost}
-use Rattle.search_rules.specs.Ends.{EndsWell}
-use Rattle.search_rules.proofs.GrowLemmas.{cheap-grows}
+use Rattle.book_rules.specs.Book.{Book}
+use Rattle.book_rules.specs.Cheap.{opening_cost}
+use Rattle.book_rules.specs.Ends.{EndsWell}
+use Rattle.book_rules.proofs.GrowLemmas.{cheap-grows}
 use Rattle.plan_print.specs.Report.{report}
 use Rattle.run_answers.specs.declared.status.Status.{Status}
 use Rattle.run_answers.specs.declared.status.Status.TheVariants.{Good, Open, Words, Refused, ReadFault, WriteFault, NoMemory, BadDossier, Unfit, PlanRefused}

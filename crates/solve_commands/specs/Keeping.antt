@@ -4,10 +4,10 @@ use Rattle.lock_model.specs.declared.plan.Plan.{Plan}
 use Rattle.lock_rules.specs.Plan.{IsLegal, cost_of}
 use Rattle.lock_rules.specs.Node.{root_lines}
 use Rattle.lock_rules.specs.Cheap.{cheap_nodes}
-use Rattle.search_rules.specs.Ends.{IsOpenLow, IsSpentBelow, IsUnderSpent}
-use Rattle.search_rules.specs.OpenCertificates.{OpenCertificate, Stands}
-use Rattle.search_rules.specs.Low.{IsLow}
-use Rattle.search_rules.specs.WellFormed.{IsWellFormedOpen}
+use Rattle.book_rules.specs.Ends.{IsOpenLow, IsSpentBelow, IsUnderSpent}
+use Rattle.certificate_rules.specs.OpenCertificates.{OpenCertificate, Stands}
+use Rattle.certificate_rules.specs.Low.{IsLow}
+use Rattle.certificate_rules.specs.WellFormed.{IsWellFormedOpen}
 use Rattle.resume_book.specs.OpenDossier.{open_dossier, ReadsOpen}
 use Rattle.plan_print.specs.Report.{report}
 use Rattle.solve_commands.specs.Searching.{Search, PrintsOpen}

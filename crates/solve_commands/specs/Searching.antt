@@ -5,10 +5,10 @@ use Rattle.lock_model.specs.declared.plan.Plan.{Plan}
 use Rattle.lock_model.specs.declared.verdict.Verdict.{Verdict}
 use Rattle.lock_model.specs.declared.verdict.Verdict.TheVariants.{Optimal, OpenNodes, OpenTurns}
 use Rattle.lock_rules.specs.Plan.{IsCheapest}
-use Rattle.search_rules.specs.Book.{Book}
-use Rattle.search_rules.specs.Ends.{IsOpenNodes, IsOpenTurns}
-use Rattle.search_rules.specs.Certificates.{Certificate, Accepts}
-use Rattle.search_rules.specs.WellFormed.{IsWellFormed}
+use Rattle.book_rules.specs.Book.{Book}
+use Rattle.book_rules.specs.Ends.{IsOpenNodes, IsOpenTurns}
+use Rattle.certificate_rules.specs.Certificates.{Certificate, Accepts}
+use Rattle.certificate_rules.specs.WellFormed.{IsWellFormed}
 use Rattle.cert_text.specs.Dossier.{dossier, Reads}
 use Rattle.plan_print.specs.Report.{report}
 use Rattle.run_answers.specs.Texts.{no_memory_text}

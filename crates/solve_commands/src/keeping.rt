@@ -1,8 +1,8 @@
 //! What is answered at the end of a search that is to be gone on with.
 ghost use Rattle.std.specs.Prelude.{◌≡◌, ◌≢◌, ℕ};
 ghost use Rattle.lock_model.specs.declared.verdict.Verdict.TheVariants.{Optimal};
-ghost use Rattle.search_rules.specs.Ends.{EndsWell};
-ghost use Rattle.search_rules.specs.Verdict.{verdict_of};
+ghost use Rattle.book_rules.specs.Ends.{EndsWell};
+ghost use Rattle.book_rules.specs.Verdict.{verdict_of};
 ghost use Rattle.solve_commands.specs.Searching.{NoBest, AnswersSearch, search_in};
 ghost use Rattle.solve_commands.specs.Keeping.{IsKept, PrintsKept};
 ghost use Rattle.run_answers.specs.Written.{bytes_in};

@@ -2,10 +2,10 @@
 ghost use Rattle.std.specs.Prelude.{◌≡◌, ◌≢◌, ◌↔◌, IsTrue, ℕ, IfOk, IfErr};
 ghost use Rattle.lock_rules.specs.Singles.{singles_of};
 ghost use Rattle.lock_model.specs.declared.verdict.Verdict.TheVariants.{Optimal};
-ghost use Rattle.search_rules.specs.Certificates.{Accepts};
-ghost use Rattle.search_rules.specs.Ends.{EndsWell, IsEnd};
-ghost use Rattle.search_rules.specs.Verdict.{verdict_of};
-ghost use Rattle.search_rules.specs.WellFormed.{IsWellFormed};
+ghost use Rattle.certificate_rules.specs.Certificates.{Accepts};
+ghost use Rattle.book_rules.specs.Ends.{EndsWell, IsEnd};
+ghost use Rattle.book_rules.specs.Verdict.{verdict_of};
+ghost use Rattle.certificate_rules.specs.WellFormed.{IsWellFormed};
 ghost use Rattle.plan_print.specs.Report.{IsOfInstance, report, verdict_line};
 ghost use Rattle.solve_commands.specs.Options.{AreSolveNumbers};
 ghost use Rattle.solve_commands.specs.Searching.{PrintsOptimal, PrintsDossier, PrintsBest, PrintsOpen, NoBest, NoLeft, AnswersSearch, search_in, status_of};

@@ -5,8 +5,8 @@ use Rattle.std.proofs.lemmas.List.Folds.{list_any_none}
 use Rattle.lock_model.specs.Deck.{Deck, no_size}
 use Rattle.lock_model.specs.Cargo.{Clash, HasNoClash}
 use Rattle.lock_model.specs.declared.deck.Size.{Size}
-use Rattle.search_rules.specs.Tests.{is_clash, has_clash}
-use Rattle.search_rules.proofs.TestLemmas.{is_clash-decides}
+use Rattle.book_rules.specs.Tests.{is_clash, has_clash}
+use Rattle.book_rules.proofs.TestLemmas.{is_clash-decides}
 
 -- no size of the list clashes with a later one
 record IsClear (xs : List Size) : Type 0 where

@@ -3,17 +3,17 @@ use Rattle.std.proofs.Common.{◌≡◌, ℕ, ◌≤◌, refl, sym, ap, ◌∙�
 use Rattle.std.specs.declared.option.Option.{Option}
 use Rattle.lock_rules.specs.Cut.{HitsNode}
 use Rattle.mooring_rules.specs.declared.breaks.BrokenPlan.{BrokenPlan}
-use Rattle.search_rules.specs.declared.grounds.Ground.{Ground}
-use Rattle.search_rules.specs.declared.grounds.Ground.TheVariants as by
-use Rattle.search_rules.specs.declared.book.SlotState.TheVariants as slot
-use Rattle.search_rules.specs.Book.{Book, Node, slot_at, best_cost}
-use Rattle.search_rules.specs.Ends.{HoldsNothing}
-use Rattle.search_rules.specs.Events as machine
-use Rattle.search_rules.specs.Events.{close}
-use Rattle.search_rules.specs.Step
-use Rattle.search_rules.specs.States.{IsHitBy}
-use Rattle.search_rules.proofs.TestLemmas.{is_node_hit-decides}
-use Rattle.search_rules.proofs.ClosingLemmas.{MayRefuse, may-refuse}
+use Rattle.closing_rules.specs.declared.grounds.Ground.{Ground}
+use Rattle.closing_rules.specs.declared.grounds.Ground.TheVariants as by
+use Rattle.book_rules.specs.declared.book.SlotState.TheVariants as slot
+use Rattle.book_rules.specs.Book.{Book, Node, slot_at, best_cost}
+use Rattle.book_rules.specs.Ends.{HoldsNothing}
+use Rattle.book_rules.specs.Events as machine
+use Rattle.book_rules.specs.Events.{close}
+use Rattle.book_rules.specs.Step
+use Rattle.book_rules.specs.States.{IsHitBy}
+use Rattle.book_rules.proofs.TestLemmas.{is_node_hit-decides}
+use Rattle.book_rules.proofs.ClosingLemmas.{MayRefuse, may-refuse}
 use Rattle.book_core.specs.declared.reply.Reply.{Reply}
 use Rattle.book_core.specs.Replies.{Answers}
 use Rattle.book_core.proofs.CloseLemmas.{pick-false, not-true, high-unrefused, cut-hits}

@@ -6,17 +6,17 @@ use Rattle.lock_model.specs.declared.instance.Instance.{Instance}
 use Rattle.lock_model.specs.declared.group.Group.{Group}
 use Rattle.lock_model.specs.declared.plan.Plan.{Plan}
 use Rattle.lock_rules.specs.Plan.{cost_of}
-use Rattle.search_rules.specs.declared.grounds.Ground.{Ground}
-use Rattle.search_rules.specs.Tests.{has_clash, is_own_cut}
-use Rattle.search_rules.specs.Book.{Book, Case, first_slot, has_slot, is_held, is_held_by, is_back, group_at, slot_at, best_cost}
-use Rattle.search_rules.specs.Cheap.{opening_cost}
-use Rattle.search_rules.specs.Events.{Event, Reply, IsOwed, take, split, close, post, park, replace, release}
-use Rattle.search_rules.specs.Events.{Replaced, Ended, NodesSpent, Idle, Done, NotHeld, Whole, OtherDeck, NotCheaper, Clashes}
-use Rattle.search_rules.specs.NextSlot.{next_fresh}
-use Rattle.search_rules.specs.Room.{room_of}
-use Rattle.search_rules.specs.Step
-use Rattle.search_rules.proofs.StepLemmas.{Refused, Accepted, each-step}
-use Rattle.search_rules.proofs.RoomLemmas.{room-no_more}
+use Rattle.closing_rules.specs.declared.grounds.Ground.{Ground}
+use Rattle.book_rules.specs.Tests.{has_clash, is_own_cut}
+use Rattle.book_rules.specs.Book.{Book, Case, first_slot, has_slot, is_held, is_held_by, is_back, group_at, slot_at, best_cost}
+use Rattle.book_rules.specs.Cheap.{opening_cost}
+use Rattle.book_rules.specs.Events.{Event, Reply, IsOwed, take, split, close, post, park, replace, release}
+use Rattle.book_rules.specs.Events.{Replaced, Ended, NodesSpent, Idle, Done, NotHeld, Whole, OtherDeck, NotCheaper, Clashes}
+use Rattle.book_rules.specs.NextSlot.{next_fresh}
+use Rattle.book_rules.specs.Room.{room_of}
+use Rattle.book_rules.specs.Step
+use Rattle.book_rules.proofs.StepLemmas.{Refused, Accepted, each-step}
+use Rattle.book_rules.proofs.RoomLemmas.{room-no_more}
 use Rattle.book_core.specs.declared.reply.Reply.{Reply as BookReply}
 use Rattle.book_core.specs.Keeps.{IsSound}
 use Rattle.book_core.specs.Replies.{Answers, Does, Steps, Stays}

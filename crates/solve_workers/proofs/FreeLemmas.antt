@@ -1,15 +1,15 @@
 -- A slot that is no longer held.
 use Rattle.std.proofs.Common.{◌≡◌, ℕ, zero, suc, ◌<◌, ◌≤◌, List, [], ◌∷◌, length, inl, inr, refl, ap, ◌∙◌, arith, Bool, true, false, cond, ◌||◌, slice_index_or}
 use Rattle.std.proofs.lemmas.Bool.Decides.{leb_tells}
-use Rattle.search_rules.specs.declared.book.SlotState.{SlotState}
-use Rattle.search_rules.specs.declared.book.SlotState.TheVariants as slot
-use Rattle.search_rules.specs.Book.{Book, Slot, Node, no_slot, slot_at, is_held, is_parked}
-use Rattle.search_rules.specs.Ends.{HasNone, HoldsNothing}
-use Rattle.search_rules.specs.Step
-use Rattle.search_rules.proofs.MoveLemmas.{state-known}
-use Rattle.search_rules.proofs.TurnLemmas.{turned-at, split-at, Turned, Untouched, Parent, Old, Child, Past}
+use Rattle.book_rules.specs.declared.book.SlotState.{SlotState}
+use Rattle.book_rules.specs.declared.book.SlotState.TheVariants as slot
+use Rattle.book_rules.specs.Book.{Book, Slot, Node, no_slot, slot_at, is_held, is_parked}
+use Rattle.book_rules.specs.Ends.{HasNone, HoldsNothing}
+use Rattle.book_rules.specs.Step
+use Rattle.book_rules.proofs.MoveLemmas.{state-known}
+use Rattle.book_rules.proofs.TurnLemmas.{turned-at, split-at, Turned, Untouched, Parent, Old, Child, Past}
 use Rattle.solve_workers.specs.Holding.{HoldsOnly}
-use Rattle.search_rules.specs.declared.grounds.Ground.TheVariants as by
+use Rattle.closing_rules.specs.declared.grounds.Ground.TheVariants as by
 
 pub clash : true ≡ false → ⊥
 clash e = cc

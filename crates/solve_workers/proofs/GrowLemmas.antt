@@ -12,16 +12,16 @@ use Rattle.lock_rules.specs.Node.{line_at}
 use Rattle.lock_rules.specs.Plan.{IsLegal, cost_of}
 use Rattle.refute_rules.specs.Cuts.{Cut}
 use Rattle.mooring_rules.specs.declared.breaks.BrokenPlan.{BrokenPlan}
-use Rattle.search_rules.specs.declared.book.SlotState.TheVariants as slot
-use Rattle.search_rules.specs.Book.{Book, Slot, Node, no_slot, slot_at, best_cost, is_held, is_fresh, is_back, is_parked, group_at}
-use Rattle.search_rules.specs.Cover.{IsOwnCut}
-use Rattle.search_rules.specs.Ends.{HoldsNothing}
-use Rattle.search_rules.specs.Events as machine
-use Rattle.search_rules.specs.Events.{Event, split, post, park, replace}
-use Rattle.search_rules.specs.Step
-use Rattle.search_rules.specs.Tests.{same_deck, has_clash, is_own_cut}
-use Rattle.search_rules.proofs.TestLemmas.{is_own_cut-decides, same_deck-decides}
-use Rattle.search_rules.proofs.TurnLemmas.{outdone-at}
+use Rattle.book_rules.specs.declared.book.SlotState.TheVariants as slot
+use Rattle.book_rules.specs.Book.{Book, Slot, Node, no_slot, slot_at, best_cost, is_held, is_fresh, is_back, is_parked, group_at}
+use Rattle.book_rules.specs.Cover.{IsOwnCut}
+use Rattle.book_rules.specs.Ends.{HoldsNothing}
+use Rattle.book_rules.specs.Events as machine
+use Rattle.book_rules.specs.Events.{Event, split, post, park, replace}
+use Rattle.book_rules.specs.Step
+use Rattle.book_rules.specs.Tests.{same_deck, has_clash, is_own_cut}
+use Rattle.book_rules.proofs.TestLemmas.{is_own_cut-decides, same_deck-decides}
+use Rattle.book_rules.proofs.TurnLemmas.{outdone-at}
 use Rattle.book_core.specs.declared.reply.Reply.{Reply}
 use Rattle.book_core.specs.declared.reply.Reply.TheVariants as reply
 use Rattle.book_core.specs.Replies.{Answers, Does, Wants, Steps, Stays, told}
@@ -31,7 +31,7 @@ use Rattle.solve_workers.specs.Told.{number_in, is_made, is_parked as tells_park
 use Rattle.solve_workers.proofs.ToldLemmas.{Answer, makes, parks, number_of, told-made, told-parked, told-number}
 use Rattle.solve_workers.proofs.ClearLemmas.{no_clash-test}
 use Rattle.solve_workers.proofs.FreeLemmas.{clash, freed, split-freed, is-held}
-use Rattle.search_rules.specs.declared.grounds.Ground.TheVariants as by
+use Rattle.closing_rules.specs.declared.grounds.Ground.TheVariants as by
 
 abbrev Out : Type 0
 Out = Book × Answer

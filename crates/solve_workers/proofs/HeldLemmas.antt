@@ -13,9 +13,9 @@ use Rattle.lock_rules.specs.Plan.{IsLegal, cost_of}
 use Rattle.refute_rules.specs.Cuts.{Cut}
 use Rattle.place_refute.specs.Tried.{Tried}
 use Rattle.master_branch.specs.Node.{Node, IsNodeOf}
-use Rattle.search_rules.specs.Book.{Book, Case, Node as TreeNode, no_slot, slot_at, bound_at}
-use Rattle.search_rules.specs.Ends.{HoldsNothing}
-use Rattle.search_rules.specs.Events.{close, post, park, replace}
+use Rattle.book_rules.specs.Book.{Book, Case, Node as TreeNode, no_slot, slot_at, bound_at}
+use Rattle.book_rules.specs.Ends.{HoldsNothing}
+use Rattle.book_rules.specs.Events.{close, post, park, replace}
 use Rattle.book_core.specs.declared.reply.Reply.{Reply}
 use Rattle.book_core.specs.Keeps.{IsSound}
 use Rattle.book_core.specs.Nodes.{tree_node}
@@ -27,7 +27,7 @@ use Rattle.solve_workers.specs.Told.{number_in, is_want}
 use Rattle.solve_workers.proofs.FreeLemmas.{held-known}
 use Rattle.solve_workers.proofs.CloseLemmas.{close_shut, bound_sure, cut_sure}
 use Rattle.solve_workers.proofs.GrowLemmas.{posted_there, posted_case, parked_frees, replaced_better}
-use Rattle.search_rules.specs.declared.grounds.Ground.TheVariants as by
+use Rattle.closing_rules.specs.declared.grounds.Ground.TheVariants as by
 
 pub on_ok : {A E P Q : Type 0} (r : Result A E) → OnOk r P → (P → Q) → OnOk r Q
 on_ok (Ok a) h f = f h

@@ -11,23 +11,23 @@ use Rattle.refute_rules.specs.Cuts.{Cut}
 use Rattle.first_plan.specs.Merging.{IsRefusal}
 use Rattle.first_plan.specs.declared.opening.FirstError.{FirstError}
 use Rattle.first_plan.specs.declared.opening.FirstError.TheVariants.{Unfit}
-use Rattle.search_rules.specs.declared.book.Entry.TheVariants as entry
-use Rattle.search_rules.specs.declared.book.SlotState.TheVariants as slot
-use Rattle.search_rules.specs.Book.{Book, Case, opening_book, slot_at, is_held, root, bound_at}
-use Rattle.search_rules.specs.Cheap.{opening_cost}
-use Rattle.search_rules.specs.Cover.{IsOwnCut}
-use Rattle.search_rules.specs.Ends.{HoldsNothing, EndsWell}
-use Rattle.search_rules.specs.Events as machine
-use Rattle.search_rules.specs.Events.{post}
-use Rattle.search_rules.specs.Step
-use Rattle.search_rules.specs.Tests.{is_own_cut}
+use Rattle.book_rules.specs.declared.book.Entry.TheVariants as entry
+use Rattle.book_rules.specs.declared.book.SlotState.TheVariants as slot
+use Rattle.book_rules.specs.Book.{Book, Case, opening_book, slot_at, is_held, root, bound_at}
+use Rattle.book_rules.specs.Cheap.{opening_cost}
+use Rattle.book_rules.specs.Cover.{IsOwnCut}
+use Rattle.book_rules.specs.Ends.{HoldsNothing, EndsWell}
+use Rattle.book_rules.specs.Events as machine
+use Rattle.book_rules.specs.Events.{post}
+use Rattle.book_rules.specs.Step
+use Rattle.book_rules.specs.Tests.{is_own_cut}
 use Rattle.book_core.specs.declared.reply.Reply.{Reply}
 use Rattle.book_core.specs.Replies.{Does, Steps, Stays}
 use Rattle.solve_workers.specs.declared.solving.Solved.{Solved}
 use Rattle.solve_workers.specs.Told.{number_in}
 use Rattle.solve_workers.specs.Opening.{IsReady, with_cuts, opened_with}
 use Rattle.solve_workers.proofs.ToldLemmas.{Answer, number_of, told-number}
-use Rattle.search_rules.specs.declared.grounds.Ground.TheVariants as by
+use Rattle.closing_rules.specs.declared.grounds.Ground.TheVariants as by
 
 new-off : (t : Bool) → is_held (cond t (slot.Closed by.Bound) slot.Fresh) ≡ false
 new-off true = refl

@@ -3,18 +3,18 @@ use Rattle.std.proofs.Common.{◌≡◌, ◌≢◌, ℕ, suc, ◌<◌, ◌≤◌
 use Rattle.std.proofs.lemmas.Bool.Decides.{leb_tells}
 use Rattle.std.specs.declared.option.Option.{Option}
 use Rattle.std.proofs.lemmas.List.{get_or-set_same, get_or-set_other}
-use Rattle.search_rules.specs.declared.book.SlotState.{SlotState}
-use Rattle.search_rules.specs.declared.book.SlotState.TheVariants as slot
-use Rattle.search_rules.specs.Book.{Book, Case, slot_at, first_slot, is_held, is_held_by}
-use Rattle.search_rules.specs.Cheap.{opening_cost}
-use Rattle.search_rules.specs.Ends.{HoldsNothing}
-use Rattle.search_rules.specs.Events as machine
-use Rattle.search_rules.specs.Events.{release}
-use Rattle.search_rules.specs.Step
-use Rattle.search_rules.specs.Workers.{KeepsWorkers}
-use Rattle.search_rules.proofs.MoveLemmas.{state-known}
-use Rattle.search_rules.proofs.SlotLemmas.{held-is, held_by-itself, first_slot-at, first_slot-none}
-use Rattle.search_rules.proofs.WorkerLemmas.{turned-holds, workers-step}
+use Rattle.book_rules.specs.declared.book.SlotState.{SlotState}
+use Rattle.book_rules.specs.declared.book.SlotState.TheVariants as slot
+use Rattle.book_rules.specs.Book.{Book, Case, slot_at, first_slot, is_held, is_held_by}
+use Rattle.book_rules.specs.Cheap.{opening_cost}
+use Rattle.book_rules.specs.Ends.{HoldsNothing}
+use Rattle.book_rules.specs.Events as machine
+use Rattle.book_rules.specs.Events.{release}
+use Rattle.book_rules.specs.Step
+use Rattle.book_rules.specs.Workers.{KeepsWorkers}
+use Rattle.book_rules.proofs.MoveLemmas.{state-known}
+use Rattle.book_rules.proofs.SlotLemmas.{held-is, held_by-itself, first_slot-at, first_slot-none}
+use Rattle.book_rules.proofs.WorkerLemmas.{turned-holds, workers-step}
 use Rattle.lock_rules.specs.Plan.{cost_of}
 use Rattle.book_core.specs.declared.reply.Reply.{Reply}
 use Rattle.book_core.specs.Replies.{Answers}

@@ -4,19 +4,19 @@ use Rattle.std.specs.declared.option.Option.{Option}
 use Rattle.std.proofs.lemmas.Bool.Decides.{eqb_tells}
 use Rattle.master_branch.specs.Node.{Node as CodeNode}
 use Rattle.mooring_rules.specs.declared.breaks.BrokenPlan.{BrokenPlan}
-use Rattle.search_rules.specs.declared.book.SlotState.{SlotState}
-use Rattle.search_rules.specs.declared.book.SlotState.TheVariants as slot
-use Rattle.search_rules.specs.Book.{Book, Slot, Node, slot_at, first_slot, has_slot, is_fresh, is_back, is_held, is_held_by}
-use Rattle.search_rules.specs.Ends.{HoldsNothing, HasNothingOpen, is_open}
-use Rattle.search_rules.specs.Events as machine
-use Rattle.search_rules.specs.Events.{take}
-use Rattle.search_rules.specs.NextSlot.{next_fresh}
-use Rattle.search_rules.specs.Room.{room_of}
-use Rattle.search_rules.specs.Step
-use Rattle.search_rules.proofs.NextLemmas.{first_slot-empty, next_fresh-some}
-use Rattle.search_rules.proofs.RoomLemmas.{room-falls}
-use Rattle.search_rules.proofs.SlotLemmas.{first_slot-at, first_slot-none, next_fresh-at, fresh-is, held_by-is}
-use Rattle.search_rules.proofs.TurnLemmas.{turned-at, Turned, Untouched}
+use Rattle.book_rules.specs.declared.book.SlotState.{SlotState}
+use Rattle.book_rules.specs.declared.book.SlotState.TheVariants as slot
+use Rattle.book_rules.specs.Book.{Book, Slot, Node, slot_at, first_slot, has_slot, is_fresh, is_back, is_held, is_held_by}
+use Rattle.book_rules.specs.Ends.{HoldsNothing, HasNothingOpen, is_open}
+use Rattle.book_rules.specs.Events as machine
+use Rattle.book_rules.specs.Events.{take}
+use Rattle.book_rules.specs.NextSlot.{next_fresh}
+use Rattle.book_rules.specs.Room.{room_of}
+use Rattle.book_rules.specs.Step
+use Rattle.book_rules.proofs.NextLemmas.{first_slot-empty, next_fresh-some}
+use Rattle.book_rules.proofs.RoomLemmas.{room-falls}
+use Rattle.book_rules.proofs.SlotLemmas.{first_slot-at, first_slot-none, next_fresh-at, fresh-is, held_by-is}
+use Rattle.book_rules.proofs.TurnLemmas.{turned-at, Turned, Untouched}
 use Rattle.book_core.specs.declared.reply.Reply.{Reply}
 use Rattle.book_core.specs.Keeps.{IsSound}
 use Rattle.book_core.specs.Replies.{Answers}

@@ -2,22 +2,22 @@
 use Rattle.std.proofs.Common.{◌≡◌, ℕ, suc, ◌+◌, ◌<◌, ◌≤◌, length, inl, inr, refl, sym, ap, ◌∙◌, subst, arith, Bool, true, false, not, cond, ◌||◌, nat_lt, Some, None}
 use Rattle.std.proofs.lemmas.Bool.Decides.{leb_tells, eqb_tells}
 use Rattle.std.proofs.lemmas.List.{length-set}
-use Rattle.search_rules.specs.declared.book.SlotState.{SlotState}
-use Rattle.search_rules.specs.declared.book.SlotState.TheVariants as slot
-use Rattle.search_rules.specs.Book.{Book, Slot, slot_at, best_cost, is_back, is_held, is_parked}
-use Rattle.search_rules.specs.Cheap.{opening_cost}
-use Rattle.search_rules.specs.Ends.{HasNone, HoldsNothing, EndsWell, is_open}
-use Rattle.search_rules.specs.Events as machine
-use Rattle.search_rules.specs.Events.{close}
-use Rattle.search_rules.specs.Step
-use Rattle.search_rules.proofs.MoveLemmas.{state-known}
-use Rattle.search_rules.proofs.TurnLemmas.{turned-at, Turned, Untouched}
+use Rattle.book_rules.specs.declared.book.SlotState.{SlotState}
+use Rattle.book_rules.specs.declared.book.SlotState.TheVariants as slot
+use Rattle.book_rules.specs.Book.{Book, Slot, slot_at, best_cost, is_back, is_held, is_parked}
+use Rattle.book_rules.specs.Cheap.{opening_cost}
+use Rattle.book_rules.specs.Ends.{HasNone, HoldsNothing, EndsWell, is_open}
+use Rattle.book_rules.specs.Events as machine
+use Rattle.book_rules.specs.Events.{close}
+use Rattle.book_rules.specs.Step
+use Rattle.book_rules.proofs.MoveLemmas.{state-known}
+use Rattle.book_rules.proofs.TurnLemmas.{turned-at, Turned, Untouched}
 use Rattle.book_core.specs.declared.reply.Reply.{Reply}
 use Rattle.book_core.specs.Replies.{Answers}
 use Rattle.solve_workers.specs.Holding.{IsDone, IsTidied}
 use Rattle.solve_workers.proofs.ToldLemmas.{Answer}
 use Rattle.solve_workers.proofs.FreeLemmas.{clash, none-at}
-use Rattle.search_rules.specs.declared.grounds.Ground.TheVariants as by
+use Rattle.closing_rules.specs.declared.grounds.Ground.TheVariants as by
 
 abbrev Out : Type 0
 Out = Book × Answer

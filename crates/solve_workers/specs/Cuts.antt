@@ -3,8 +3,8 @@ use Rattle.std.specs.Prelude.{ℕ, ◌≡◌, List, slice_get, Some}
 use Rattle.lock_rules.specs.Cut.{Hits}
 use Rattle.refute_rules.specs.Cuts.{Cut}
 use Rattle.master_branch.specs.Node.{Node}
-use Rattle.search_rules.specs.Book.{Book}
-use Rattle.search_rules.specs.States.{IsHitBy}
+use Rattle.book_rules.specs.Book.{Book}
+use Rattle.book_rules.specs.States.{IsHitBy}
 
 -- the cut of this number hits a group of the node
 abbrev pub IsHitting : Book → Node → ℕ → Type 0

@@ -3,10 +3,10 @@ use Rattle.std.specs.Prelude.{◌≡◌, ◌≤◌, List, [], ◌∷◌, ⊤}
 use Rattle.std.specs.declared.option.Option.{Option}
 use Rattle.lock_model.specs.declared.instance.Instance.{Instance}
 use Rattle.mooring_rules.specs.declared.breaks.BrokenPlan.{BrokenPlan}
-use Rattle.search_rules.specs.Book.{Book}
-use Rattle.search_rules.specs.Events.{Event, IsOwed, take, release}
-use Rattle.search_rules.specs.Step.{step}
-use Rattle.search_rules.specs.Room.{room_of}
+use Rattle.book_rules.specs.Book.{Book}
+use Rattle.book_rules.specs.Events.{Event, IsOwed, take, release}
+use Rattle.book_rules.specs.Step.{step}
+use Rattle.book_rules.specs.Room.{room_of}
 use Rattle.book_core.specs.Replies.{IsFirstOf}
 
 -- an event, and what was found of its plan

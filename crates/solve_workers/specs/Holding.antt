@@ -1,8 +1,8 @@
 -- What the driver holds.
 use Rattle.std.specs.Prelude.{ℕ, ◌≡◌, ◌≢◌, ◌<◌, ◌⊎◌, false, slice_index_or}
-use Rattle.search_rules.specs.Book.{Book, Node, slot_at, best_cost, is_held}
-use Rattle.search_rules.specs.declared.book.SlotState.TheVariants as slot
-use Rattle.search_rules.specs.Ends.{HoldsNothing, HasNothingOpen, HasSpentNodes}
+use Rattle.book_rules.specs.Book.{Book, Node, slot_at, best_cost, is_held}
+use Rattle.book_rules.specs.declared.book.SlotState.TheVariants as slot
+use Rattle.book_rules.specs.Ends.{HoldsNothing, HasNothingOpen, HasSpentNodes}
 
 -- the driver holds this slot alone, and its node is this
 pub record HoldsOnly (b : Book) (id : ℕ) (node : Node) : Type 0 where

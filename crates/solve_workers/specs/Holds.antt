@@ -1,5 +1,5 @@
 -- A slot in the driver's hand.
-use Rattle.search_rules.specs.Book.{Book}
+use Rattle.book_rules.specs.Book.{Book}
 use Rattle.book_core.specs.Nodes.{tree_node}
 use Rattle.solve_workers.specs.Holding.{HoldsOnly}
 use Rattle.solve_workers.specs.declared.held.Held.{Held}

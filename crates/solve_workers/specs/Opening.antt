@@ -2,10 +2,10 @@
 use Rattle.std.specs.Prelude.{ℕ, ◌≡◌, List, ◌++◌, map}
 use Rattle.lock_model.specs.declared.plan.Plan.{Plan}
 use Rattle.refute_rules.specs.Cuts.{Cut}
-use Rattle.search_rules.specs.declared.book.Entry.TheVariants as entry
-use Rattle.search_rules.specs.Book.{Book, Case, opening_book}
-use Rattle.search_rules.specs.Cheap.{opening_cost}
-use Rattle.search_rules.specs.Ends.{HoldsNothing}
+use Rattle.book_rules.specs.declared.book.Entry.TheVariants as entry
+use Rattle.book_rules.specs.Book.{Book, Case, opening_book}
+use Rattle.book_rules.specs.Cheap.{opening_cost}
+use Rattle.book_rules.specs.Ends.{HoldsNothing}
 use Rattle.solve_workers.specs.Holding.{IsRunning}
 
 -- the book after these cuts were posted, in order

@@ -1,9 +1,9 @@
 -- What the caller tests and does once all workers have ended.
 use Rattle.std.specs.Prelude.{ℕ, ◌≡◌, ◌<◌, ◌≤◌, None}
-use Rattle.search_rules.specs.declared.book.SlotState.TheVariants as slot
-use Rattle.search_rules.specs.Book.{Book, Case, slot_at, first_slot, is_held_by}
-use Rattle.search_rules.specs.Cheap.{opening_cost}
-use Rattle.search_rules.specs.Ends.{HoldsNothing}
+use Rattle.book_rules.specs.declared.book.SlotState.TheVariants as slot
+use Rattle.book_rules.specs.Book.{Book, Case, slot_at, first_slot, is_held_by}
+use Rattle.book_rules.specs.Cheap.{opening_cost}
+use Rattle.book_rules.specs.Ends.{HoldsNothing}
 use Rattle.solve_workers.specs.Holding.{IsRunning}
 
 -- The book is of this case and its opening plan costs this much. Worker 8 has neither released nor holds a slot.

@@ -1,7 +1,7 @@
 //! Ways to close the node that the driver holds.
 ghost use Rattle.std.specs.Prelude.{◌≡◌, ◌<◌, length, All, IfSome};
 ghost use Rattle.std.specs.Bool.{OnTrue, OnFalse};
-ghost use Rattle.search_rules.specs.Ends.{HoldsNothing};
+ghost use Rattle.book_rules.specs.Ends.{HoldsNothing};
 ghost use Rattle.master_branch.specs.Node.{IsNodeOf};
 ghost use Rattle.node_fate.specs.Fates.{IsGroupAt};
 ghost use Rattle.solve_workers.specs.Cuts.{IsHitting, HitsShips};

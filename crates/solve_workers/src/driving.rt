@@ -1,7 +1,7 @@
 //! The search from where a book stands to its end.
 ghost use Rattle.std.specs.Prelude.{◌≡◌, length, OnOk};
-ghost use Rattle.search_rules.specs.Cheap.{opening_cost};
-ghost use Rattle.search_rules.specs.Ends.{HoldsNothing, EndsWell};
+ghost use Rattle.book_rules.specs.Cheap.{opening_cost};
+ghost use Rattle.book_rules.specs.Ends.{HoldsNothing, EndsWell};
 ghost use Rattle.solve_workers.specs.Driving.{IsDriven};
 ghost use Rattle.solve_workers.specs.Holding.{IsRunning, IsDone, IsTidied};
 

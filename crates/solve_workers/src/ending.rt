@@ -1,7 +1,7 @@
 //! How the node that the driver holds ends.
 ghost use Rattle.std.specs.Prelude.{◌≡◌, ◌<◌, ◌≤◌, length, OnOk, OnErr};
 ghost use Rattle.leaf_plan.specs.Moorings.{AreMoored};
-ghost use Rattle.search_rules.specs.Ends.{HoldsNothing};
+ghost use Rattle.book_rules.specs.Ends.{HoldsNothing};
 ghost use Rattle.node_fate.specs.Fates.{IsFate, IsNodeCut, IsSpentAt};
 ghost use Rattle.solve_workers.specs.Driving.{IsDriven};
 ghost use Rattle.solve_workers.specs.Holds.{Holds};

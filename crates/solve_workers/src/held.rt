@@ -1,7 +1,7 @@
 //! The slot that the driver holds.
 ghost use Rattle.std.specs.Prelude.{◌≡◌, ◌≤◌, suc, IfSome, IfNone};
-ghost use Rattle.search_rules.specs.Ends.{HoldsNothing};
-ghost use Rattle.search_rules.specs.Room.{room_of};
+ghost use Rattle.book_rules.specs.Ends.{HoldsNothing};
+ghost use Rattle.book_rules.specs.Room.{room_of};
 ghost use Rattle.solve_workers.specs.Driving.{IsDriven};
 ghost use Rattle.solve_workers.specs.Holding.{IsRunning, IsDone};
 ghost use Rattle.solve_workers.specs.Holds.{Holds};

@@ -16,7 +16,7 @@
 //!   (`fates`, by `node_fate`), and `ending` makes it so. `arriving` says which ship comes next, and
 //!   which group the last one is in.
 //!
-//! Definitions: `search_rules` says how a search ends well (`specs/Ends`) and what events change;
+//! Definitions: `book_rules` says how a search ends well (`specs/Ends`) and what events change;
 //! here `specs/Driving` (events of the driver), `Holding` and `Holds` (what it holds, and what it
 //! has tidied), `Cuts` (cuts of the book that hit a node), `Opening` (a book that was just opened),
 //! `Settling` (what the caller tests, and a book that is freed), `Told` (what replies tell).

@@ -1,7 +1,7 @@
 //! The book that a search begins with.
 ghost use Rattle.std.specs.Prelude.{◌≡◌, ◌∷◌, [], All, IfOk, OnOk};
 ghost use Rattle.lock_rules.specs.Plan.{IsLegal};
-ghost use Rattle.search_rules.specs.Cover.{IsOwnCut};
+ghost use Rattle.book_rules.specs.Cover.{IsOwnCut};
 ghost use Rattle.solve_workers.specs.Opening.{with_cuts, opened_with};
 
 use crate::cut_list::CutList;

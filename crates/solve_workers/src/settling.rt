@@ -4,8 +4,8 @@
 //! one that it opened, and that nothing stands against its driving.
 ghost use Rattle.std.specs.Prelude.{◌≡◌, ◌↔◌, All, IsTrue, IfOk, None};
 ghost use Rattle.lock_rules.specs.Plan.{IsLegal, cost_of};
-ghost use Rattle.search_rules.specs.Book.{first_slot, is_held_by};
-ghost use Rattle.search_rules.specs.Cover.{IsOwnCut};
+ghost use Rattle.book_rules.specs.Book.{first_slot, is_held_by};
+ghost use Rattle.book_rules.specs.Cover.{IsOwnCut};
 ghost use Rattle.solve_workers.specs.Holding.{IsRunning};
 ghost use Rattle.solve_workers.specs.Opening.{IsReady, opened_with};
 ghost use Rattle.solve_workers.specs.Settling.{IsOurs, IsFreed};

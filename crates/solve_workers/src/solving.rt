@@ -3,8 +3,8 @@ ghost use Rattle.std.specs.Prelude.{◌≡◌, ◌≤◌, All, IfOk};
 ghost use Rattle.lock_rules.specs.Plan.{IsLegal, cost_of};
 ghost use Rattle.lock_rules.specs.Singles.{singles_of};
 ghost use Rattle.first_plan.specs.Merging.{IsAtMost};
-ghost use Rattle.search_rules.specs.Cover.{IsOwnCut};
-ghost use Rattle.search_rules.specs.Ends.{EndsWell};
+ghost use Rattle.book_rules.specs.Cover.{IsOwnCut};
+ghost use Rattle.book_rules.specs.Ends.{EndsWell};
 
 use crate::cut_list::CutList;
 use crate::driving::drive;

@@ -1,7 +1,7 @@
 //! The work on the node that the driver holds.
 ghost use Rattle.std.specs.Prelude.{◌≡◌, ◌<◌, length, OnOk, OnErr};
 ghost use Rattle.std.specs.Bool.{OnTrue, OnFalse};
-ghost use Rattle.search_rules.specs.Ends.{HoldsNothing};
+ghost use Rattle.book_rules.specs.Ends.{HoldsNothing};
 ghost use Rattle.node_fate.specs.Fates.{IsGroupAt};
 ghost use Rattle.solve_workers.specs.Driving.{IsDriven};
 ghost use Rattle.solve_workers.specs.Holds.{Holds};

@@ -2,7 +2,8 @@
 
 use super::super::*;
 use super::fixture::given;
-use search_rules::{Ground, SlotState};
+use book_rules::SlotState;
+use closing_rules::Ground;
 use std::process::Abort;
 
 /// What is asked of a book.

@@ -4,8 +4,9 @@
 use super::super::*;
 use super::asking::{Ask, expect_given, expect_replies, expect_state, reply_of};
 use super::fixture::{both, narrow, open, open_for, row_cut, side_by_side, try_cut};
+use book_rules::SlotState;
+use closing_rules::Ground;
 use lock_model::Instance;
-use search_rules::{Ground, SlotState};
 use std::alloc::Global;
 use std::process::Abort;
 use std::test::Fail;

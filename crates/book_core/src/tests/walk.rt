@@ -2,8 +2,8 @@
 
 use super::super::*;
 use super::fixture::{chamber, ship};
+use book_rules::SlotState;
 use lock_model::{Chambers, Instance, ShipList, Way};
-use search_rules::SlotState;
 use std::test::Fail;
 
 /// Two chambers and seven ships.

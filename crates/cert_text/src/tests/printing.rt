@@ -1,6 +1,6 @@
 //! Dossiers that are printed.
 ghost use Rattle.std.specs.Prelude.{All, IfOk};
-ghost use Rattle.search_rules.specs.WellFormed.{IsFormedCut, IsFormedLockage, IsFormedMark, IsFormedRefutation, IsWellFormed};
+ghost use Rattle.certificate_rules.specs.WellFormed.{IsFormedCut, IsFormedLockage, IsFormedMark, IsFormedRefutation, IsWellFormed};
 
 use super::super::*;
 use super::fixture::{CLASH, NARROW};

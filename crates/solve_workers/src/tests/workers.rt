@@ -1,6 +1,6 @@
 //! Searches from the first plan, and from a plan and cuts that were found before.
 ghost use Rattle.std.specs.Prelude.{All, IfOk, IfSome};
-ghost use Rattle.search_rules.specs.Cover.{IsOwnCut};
+ghost use Rattle.book_rules.specs.Cover.{IsOwnCut};
 
 use super::fixture::{case_of, two_ships};
 use super::hitting::has_hit_cut;

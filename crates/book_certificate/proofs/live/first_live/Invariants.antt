@@ -1,5 +1,5 @@
 use Rattle.std.proofs.Common.{◌≡◌, ℕ, ◌<◌, false}
-use Rattle.search_rules.specs.Book.{slot_at, is_live}
+use Rattle.book_rules.specs.Book.{slot_at, is_live}
 use Rattle.book_certificate.proofs.live.first_live.Given as goal
 
 abbrev pub invariant-loop-id : goal.invariant-loop-id

@@ -1,6 +1,6 @@
 use Rattle.std.proofs.Common.{◌+◌, ◌-◌, ◌<◌, arith}
-use Rattle.search_rules.specs.Book.{slot_at}
-use Rattle.search_rules.specs.Family.{child_count}
+use Rattle.book_rules.specs.Book.{slot_at}
+use Rattle.book_rules.specs.Family.{child_count}
 use Rattle.book_certificate.proofs.ChildLemmas.{split-lacks, child-known, child-deeper}
 use Rattle.book_certificate.proofs.WritingLemmas.{more-written, split-written}
 use Rattle.book_certificate.proofs.marks.+tree.Goals as goal

@@ -1,6 +1,6 @@
 use Rattle.std.proofs.Common.{◌+◌, ◌-◌, ◌≤◌, length}
-use Rattle.search_rules.specs.Book.{slot_at}
-use Rattle.search_rules.specs.Family.{child_count}
+use Rattle.book_rules.specs.Book.{slot_at}
+use Rattle.book_rules.specs.Family.{child_count}
 use Rattle.book_certificate.proofs.marks.children_end.Given as goal
 
 abbrev pub invariant-loop-end : goal.invariant-loop-end

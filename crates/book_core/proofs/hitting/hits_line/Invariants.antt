@@ -1,5 +1,5 @@
 use Rattle.std.proofs.Common.{ℕ, ◌<◌, slice_index_or}
-use Rattle.search_rules.specs.Book.{no_group}
+use Rattle.book_rules.specs.Book.{no_group}
 use Rattle.book_core.specs.Hitting.{MissesGroup}
 use Rattle.book_core.proofs.hitting.hits_line.Given as goal
 

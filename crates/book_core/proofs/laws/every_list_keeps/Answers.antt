@@ -1,7 +1,7 @@
 use Rattle.std.proofs.Common.{subst}
 use Rattle.book_core.specs.Case.{IsCase}
 use Rattle.book_core.proofs.SoundLemmas.{opening-sound, all-sound, all-run, legal-judgeable}
-use Rattle.search_rules.specs.Book.{opening_book}
+use Rattle.book_rules.specs.Book.{opening_book}
 use Rattle.book_core.proofs.laws.every_list_keeps.Goals as goal
 
 pub returns : goal.returns

@@ -1,5 +1,5 @@
 use Rattle.std.proofs.Common.{arith, slice_index_or}
-use Rattle.search_rules.specs.declared.book.SlotState.TheVariants as slot
+use Rattle.book_rules.specs.declared.book.SlotState.TheVariants as slot
 use Rattle.book_core.specs.declared.stored_slot.StoredSlot.{StoredSlot}
 use Rattle.book_core.specs.Stored.{slots_of}
 use Rattle.book_core.proofs.KeptLemmas.{length-slots}

@@ -1,6 +1,6 @@
 use Rattle.std.proofs.Common.{rules}
-use Rattle.search_rules.specs.Certificates.{Accepts}
-use Rattle.search_rules.specs.Failures.{Fails}
+use Rattle.certificate_rules.specs.Certificates.{Accepts}
+use Rattle.certificate_rules.specs.Failures.{Fails}
 use Rattle.cert_check.proofs.AnswerLemmas.{accepted-rejected, rejected-accepted, rejected-rejected, accepted-best}
 use Rattle.cert_check.proofs.checking.check.Goals as goal
 

@@ -1,7 +1,7 @@
 use Rattle.std.proofs.Common.{All, subst, rules}
 use Rattle.std.proofs.lemmas.List.{take_all}
 use Rattle.std.proofs.lemmas.List.Elements.{All-more}
-use Rattle.search_rules.specs.Certificates.{IsProved}
+use Rattle.closing_rules.specs.ProvedCuts.{IsProved}
 use Rattle.cert_check.proofs.cuts.first_unproved.Goals as goal
 
 pub loop-number-preserved : goal.loop-number-preserved

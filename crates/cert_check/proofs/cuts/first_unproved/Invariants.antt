@@ -1,5 +1,5 @@
 use Rattle.std.proofs.Common.{All, take}
-use Rattle.search_rules.specs.Certificates.{IsProved}
+use Rattle.closing_rules.specs.ProvedCuts.{IsProved}
 use Rattle.cert_check.proofs.cuts.first_unproved.Given as goal
 
 abbrev pub invariant-loop-number : goal.invariant-loop-number

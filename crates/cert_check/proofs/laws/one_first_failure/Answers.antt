@@ -1,4 +1,4 @@
-use Rattle.search_rules.proofs.FailLemmas.{fails-not_accepted}
+use Rattle.certificate_rules.proofs.FailLemmas.{fails-not_accepted}
 use Rattle.cert_check.proofs.FirstFailure.{fails-same}
 use Rattle.cert_check.proofs.SomeFailure.{fails-somewhere}
 use Rattle.cert_check.proofs.laws.one_first_failure.Goals as goal

@@ -1,8 +1,8 @@
 use Rattle.std.proofs.Common.{◌≡◌, ◌∙◌, ◌<◌, ◌≤◌, ◌∷◌, length, sym, ap, subst, arith, rules, suc, inl, inr}
 use Rattle.std.proofs.lemmas.Bool.Decides.{leb_tells}
 use Rattle.std.proofs.lemmas.Result.{IfOk-weaker, IfErr-weaker}
-use Rattle.search_rules.specs.declared.certificate.Mark.TheVariants as mark
-use Rattle.search_rules.specs.Certificates.{Closes}
+use Rattle.certificate_rules.specs.declared.certificate.Mark.TheVariants as mark
+use Rattle.certificate_rules.specs.Certificates.{Closes}
 use Rattle.master_branch.specs.Node.{children}
 use Rattle.cert_check.specs.Reading.{IsStuck}
 use Rattle.cert_check.proofs.ReadLemmas.{bound-read, bound-stuck, child-read, child-stuck, more-read, more-stuck, split-read, split-stuck, leaf-read, leaf-stuck}

@@ -1,5 +1,5 @@
 use Rattle.std.proofs.Common.{◌≡◌, ◌<◌, ℕ, map, take, slice_index_or}
-use Rattle.search_rules.specs.Certificates.{CertCut}
+use Rattle.closing_rules.specs.ProvedCuts.{CertCut}
 use Rattle.serde_json.specs.View.{view}
 use Rattle.cert_text.specs.Cuts.{cut_data, cut_in}
 use Rattle.cert_text.proofs.FieldLemmas.{ReadsBack}

@@ -1,6 +1,6 @@
 use Rattle.std.proofs.Common.{arith}
 use Rattle.std.proofs.lemmas.Grind.{common_steps}
-use Rattle.search_rules.specs.declared.certificate.Mark.TheVariants.{Split}
+use Rattle.certificate_rules.specs.declared.certificate.Mark.TheVariants.{Split}
 use Rattle.cert_text.specs.Marks.{mark_data, mark_in}
 use Rattle.cert_text.proofs.FieldLemmas.{all_back, back_more}
 use Rattle.cert_text.proofs.tree.put_all.Goals as goal

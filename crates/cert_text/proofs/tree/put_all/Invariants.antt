@@ -1,5 +1,5 @@
 use Rattle.std.proofs.Common.{◌≡◌, ◌<◌, ℕ, map, take, slice_index_or}
-use Rattle.search_rules.specs.declared.certificate.Mark.{Mark}
+use Rattle.certificate_rules.specs.declared.certificate.Mark.{Mark}
 use Rattle.serde_json.specs.View.{view}
 use Rattle.cert_text.specs.Marks.{mark_data, mark_in}
 use Rattle.cert_text.proofs.FieldLemmas.{ReadsBack}

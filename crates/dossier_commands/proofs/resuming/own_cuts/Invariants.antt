@@ -1,5 +1,5 @@
 use Rattle.std.proofs.Common.{All}
-use Rattle.search_rules.specs.Cover.{IsOwnCut}
+use Rattle.book_rules.specs.Cover.{IsOwnCut}
 use Rattle.dossier_commands.proofs.resuming.own_cuts.Given as goal
 
 abbrev pub invariant-loop-cut : goal.invariant-loop-cut

@@ -1,4 +1,4 @@
-use Rattle.search_rules.specs.Cheap.{opening_cost}
+use Rattle.book_rules.specs.Cheap.{opening_cost}
 use Rattle.dossier_commands.proofs.resuming.search_answer.Given as goal
 
 abbrev pub ghost-best_answer : goal.ghost-best_answer

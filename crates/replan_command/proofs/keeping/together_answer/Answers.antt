@@ -1,7 +1,7 @@
 use Rattle.std.proofs.Common.{◌+◌, ◌∙◌, ap, sym, subst}
 use Rattle.lock_rules.specs.Plan.{cost_of}
 use Rattle.lock_rules.specs.Singles.{singles_of}
-use Rattle.search_rules.specs.Ends.{IsEnd}
+use Rattle.book_rules.specs.Ends.{IsEnd}
 use Rattle.plan_print.specs.Report.{IsOfInstance, report}
 use Rattle.replan.specs.Together.{joined}
 use Rattle.replan_command.proofs.KeepingLemmas.{left_rising, told_below, whole_known, whole_answers}

@@ -1,7 +1,7 @@
 use Rattle.std.proofs.Common.{ap, rules}
-use Rattle.search_rules.specs.OpenCertificates.{OpenCertificate, Stands}
-use Rattle.search_rules.specs.Low.{IsLow}
-use Rattle.search_rules.specs.Failures.{OpenFails}
+use Rattle.certificate_rules.specs.OpenCertificates.{OpenCertificate, Stands}
+use Rattle.certificate_rules.specs.Low.{IsLow}
+use Rattle.certificate_rules.specs.Failures.{OpenFails}
 use Rattle.resume_book.proofs.AnswerLemmas.{stands-stands, stands-rejected, stands-proven, rejected-stands, rejected-rejected}
 use Rattle.resume_book.proofs.checking.check_open.Goals as goal
 

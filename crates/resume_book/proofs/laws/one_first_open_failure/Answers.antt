@@ -1,4 +1,4 @@
-use Rattle.search_rules.proofs.FailLemmas.{fails-not_stands}
+use Rattle.certificate_rules.proofs.FailLemmas.{fails-not_stands}
 use Rattle.resume_book.proofs.AnswerLemmas.{open_fails-same, open_fails-somewhere}
 use Rattle.resume_book.proofs.laws.one_first_open_failure.Goals as goal
 

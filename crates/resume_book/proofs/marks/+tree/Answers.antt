@@ -1,6 +1,6 @@
 use Rattle.std.proofs.Common.{◌+◌, ◌-◌, ◌<◌, ◌++◌, [], ◌∷◌, ◌∙◌, ap, arith}
-use Rattle.search_rules.specs.Book.{slot_at}
-use Rattle.search_rules.specs.Family.{child_count}
+use Rattle.book_rules.specs.Book.{slot_at}
+use Rattle.book_rules.specs.Family.{child_count}
 use Rattle.book_certificate.proofs.ChildLemmas.{split-lacks, child-known, child-deeper}
 use Rattle.resume_book.proofs.WritingLemmas.{more-written, split-written}
 use Rattle.resume_book.proofs.marks.+tree.Goals as goal

@@ -1,6 +1,6 @@
 use Rattle.std.proofs.Common.{◌-◌, ◌*◌, ◌+◌, ◌≤◌}
-use Rattle.search_rules.specs.Book.{slot_at}
-use Rattle.search_rules.specs.Family.{child_count}
+use Rattle.book_rules.specs.Book.{slot_at}
+use Rattle.book_rules.specs.Family.{child_count}
 use Rattle.book_certificate.specs.Writing.{lacking_at}
 use Rattle.resume_book.specs.Writing.{AreWritten}
 use Rattle.resume_book.proofs.marks.+tree.Given as goal

@@ -1,9 +1,9 @@
 use Rattle.std.proofs.Common.{◌≡◌, ◌∙◌, ◌<◌, ◌≤◌, ◌∷◌, length, sym, ap, subst, arith, rules, suc, inl, inr}
 use Rattle.std.proofs.lemmas.Bool.Decides.{leb_tells}
 use Rattle.std.proofs.lemmas.Result.{IfOk-weaker, IfErr-weaker}
-use Rattle.search_rules.specs.declared.certificate.Mark.TheVariants as mark
-use Rattle.search_rules.specs.declared.certificate.OpenMark.TheVariants.{Closed}
-use Rattle.search_rules.specs.OpenCertificates.{ClosesOrOpen}
+use Rattle.certificate_rules.specs.declared.certificate.Mark.TheVariants as mark
+use Rattle.certificate_rules.specs.declared.certificate.OpenMark.TheVariants.{Closed}
+use Rattle.certificate_rules.specs.OpenCertificates.{ClosesOrOpen}
 use Rattle.master_branch.specs.Node.{children}
 use Rattle.cert_check.proofs.TreeLemmas.{not-true}
 use Rattle.resume_book.specs.Reading.{IsStuck}

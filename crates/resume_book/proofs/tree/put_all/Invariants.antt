@@ -1,5 +1,5 @@
 use Rattle.std.proofs.Common.{◌≡◌, ◌<◌, ℕ, map, take, slice_index_or}
-use Rattle.search_rules.specs.declared.certificate.OpenMark.{OpenMark}
+use Rattle.certificate_rules.specs.declared.certificate.OpenMark.{OpenMark}
 use Rattle.serde_json.specs.View.{view}
 use Rattle.cert_text.proofs.FieldLemmas.{ReadsBack}
 use Rattle.resume_book.specs.OpenMarks.{open_mark_data, open_mark_in}

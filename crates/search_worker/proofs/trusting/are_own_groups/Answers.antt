@@ -1,6 +1,6 @@
 use Rattle.std.proofs.Common.{◌≡◌, ◌∙◌, sym, subst, below_more, rules, arith, slice_index_or}
 use Rattle.std.proofs.lemmas.List.{get_or_default}
-use Rattle.search_rules.specs.Book.{no_group}
+use Rattle.book_rules.specs.Book.{no_group}
 use Rattle.search_worker.specs.Owning.{IsOwnGroup}
 use Rattle.search_worker.proofs.OwnLemmas.{all_from}
 use Rattle.search_worker.proofs.trusting.are_own_groups.Goals as goal

@@ -1,5 +1,5 @@
 use Rattle.std.proofs.Common.{◌<◌, ℕ, slice_index_or}
-use Rattle.search_rules.specs.Book.{no_group}
+use Rattle.book_rules.specs.Book.{no_group}
 use Rattle.search_worker.specs.Owning.{IsOwnGroup}
 use Rattle.search_worker.proofs.trusting.are_own_groups.Given as goal
 

@@ -1,6 +1,6 @@
 use Rattle.std.proofs.Common.{subst}
 use Rattle.plan_print.specs.Report.{verdict_line}
-use Rattle.search_rules.specs.Book.{Case}
+use Rattle.book_rules.specs.Book.{Case}
 use Rattle.solve_commands.specs.Searching.{PrintsOptimal, PrintsOpen, AnswersSearch}
 use Rattle.solve_commands.specs.Solving.{search_of}
 use Rattle.run_answers.specs.Written.{bytes_in}

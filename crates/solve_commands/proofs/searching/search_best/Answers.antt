@@ -1,5 +1,5 @@
 use Rattle.std.proofs.Common.{subst}
-use Rattle.search_rules.specs.Book.{Case}
+use Rattle.book_rules.specs.Book.{Case}
 use Rattle.run_answers.specs.Written.{bytes_in}
 use Rattle.solve_commands.specs.Searching.{PrintsBest, AnswersSearch}
 use Rattle.solve_commands.specs.Keeping.{PrintsLeft}

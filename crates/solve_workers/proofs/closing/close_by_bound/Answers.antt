@@ -1,5 +1,5 @@
-use Rattle.search_rules.specs.Ends.{HoldsNothing}
-use Rattle.search_rules.specs.Events.{close}
+use Rattle.book_rules.specs.Ends.{HoldsNothing}
+use Rattle.book_rules.specs.Events.{close}
 use Rattle.std.proofs.Common.{◌≡◌}
 use Rattle.book_core.specs.Nodes.{tree_node}
 use Rattle.solve_workers.specs.Told.{is_closed}
@@ -7,7 +7,7 @@ use Rattle.solve_workers.proofs.CloseLemmas.{close_shut, close_kept}
 use Rattle.solve_workers.proofs.DrivenLemmas.{driven_by}
 use Rattle.solve_workers.proofs.HeldLemmas.{on_true, on_false}
 use Rattle.solve_workers.proofs.closing.close_by_bound.Goals as goal
-use Rattle.search_rules.specs.declared.grounds.Ground.TheVariants as by
+use Rattle.closing_rules.specs.declared.grounds.Ground.TheVariants as by
 
 pub returns-clause-closed : goal.returns-clause-closed
 returns-clause-closed c =

@@ -1,8 +1,8 @@
-use Rattle.search_rules.specs.Events.{close}
+use Rattle.book_rules.specs.Events.{close}
 use Rattle.solve_workers.proofs.DrivenLemmas.{driven_by}
 use Rattle.solve_workers.proofs.HeldLemmas.{hit_shut}
 use Rattle.solve_workers.proofs.closing.close_by_cut.Goals as goal
-use Rattle.search_rules.specs.declared.grounds.Ground.TheVariants as by
+use Rattle.closing_rules.specs.declared.grounds.Ground.TheVariants as by
 
 pub returns-clause-freed : goal.returns-clause-freed
 returns-clause-freed c =

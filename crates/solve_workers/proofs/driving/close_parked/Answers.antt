@@ -1,9 +1,9 @@
 use Rattle.std.proofs.Common.{◌∙◌}
-use Rattle.search_rules.specs.Events.{close}
+use Rattle.book_rules.specs.Events.{close}
 use Rattle.solve_workers.proofs.DrivenLemmas.{driven_by, driven_then}
 use Rattle.solve_workers.proofs.TidyLemmas.{tidied_more, tidied_length}
 use Rattle.solve_workers.proofs.driving.close_parked.Goals as goal
-use Rattle.search_rules.specs.declared.grounds.Ground.TheVariants as by
+use Rattle.closing_rules.specs.declared.grounds.Ground.TheVariants as by
 
 pub loop-id-preserved : goal.loop-id-preserved
 loop-id-preserved c = (

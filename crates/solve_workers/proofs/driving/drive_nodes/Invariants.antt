@@ -1,5 +1,5 @@
-use Rattle.search_rules.specs.Ends.{HoldsNothing}
-use Rattle.search_rules.specs.Room.{room_of}
+use Rattle.book_rules.specs.Ends.{HoldsNothing}
+use Rattle.book_rules.specs.Room.{room_of}
 use Rattle.solve_workers.specs.Driving.{IsDriven}
 use Rattle.solve_workers.specs.Holding.{IsRunning}
 use Rattle.solve_workers.proofs.driving.drive_nodes.Given as goal

@@ -3,13 +3,13 @@ use Rattle.lock_model.specs.declared.instance.Instance.{Instance}
 use Rattle.lock_rules.specs.Bound.{bound_of}
 use Rattle.lock_rules.specs.Plan.{IsLegal, cost_of}
 use Rattle.master_branch.specs.Node.{IsNodeOf}
-use Rattle.search_rules.specs.Book.{Case}
-use Rattle.search_rules.specs.Events.{replace, close}
+use Rattle.book_rules.specs.Book.{Case}
+use Rattle.book_rules.specs.Events.{replace, close}
 use Rattle.solve_workers.proofs.DrivenLemmas.{driven_by, driven_does, driven_then}
 use Rattle.solve_workers.proofs.GrowLemmas.{want_kept}
 use Rattle.solve_workers.proofs.HeldLemmas.{held_node, complete_shut}
 use Rattle.solve_workers.proofs.ending.complete.Goals as goal
-use Rattle.search_rules.specs.declared.grounds.Ground.TheVariants as by
+use Rattle.closing_rules.specs.declared.grounds.Ground.TheVariants as by
 
 pub leaf_plan-plan-requires-clause-node : goal.leaf_plan-plan-requires-clause-node
 leaf_plan-plan-requires-clause-node c =

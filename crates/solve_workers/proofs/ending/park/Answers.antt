@@ -1,4 +1,4 @@
-use Rattle.search_rules.specs.Events.{park}
+use Rattle.book_rules.specs.Events.{park}
 use Rattle.solve_workers.proofs.DrivenLemmas.{driven_by}
 use Rattle.solve_workers.proofs.HeldLemmas.{spent_frees}
 use Rattle.solve_workers.proofs.ending.park.Goals as goal

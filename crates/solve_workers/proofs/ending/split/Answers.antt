@@ -1,4 +1,4 @@
-use Rattle.search_rules.specs.Events.{split}
+use Rattle.book_rules.specs.Events.{split}
 use Rattle.book_core.specs.Nodes.{tree_node}
 use Rattle.solve_workers.proofs.GrowLemmas.{split_granted, split_made, want_kept}
 use Rattle.solve_workers.proofs.DrivenLemmas.{driven_does}

@@ -1,5 +1,5 @@
 use Rattle.std.proofs.Common.{sym, refl, ◌∙◌}
-use Rattle.search_rules.specs.Events.{take}
+use Rattle.book_rules.specs.Events.{take}
 use Rattle.solve_workers.proofs.DrivenLemmas.{driven_by}
 use Rattle.solve_workers.proofs.TakeLemmas.{taken_holds, taken_falls, refused_done, refused_free}
 use Rattle.std.proofs.Common.{arith}

@@ -1,7 +1,7 @@
 use Rattle.std.proofs.Common.{sym, subst}
 use Rattle.book_core.specs.Nodes.{tree_node}
 use Rattle.master_branch.specs.Node.{IsNodeOf}
-use Rattle.search_rules.specs.Book.{Book, Case}
+use Rattle.book_rules.specs.Book.{Book, Case}
 use Rattle.solve_workers.specs.Holding.{HoldsOnly}
 use Rattle.solve_workers.proofs.HeldLemmas.{held_node}
 use Rattle.solve_workers.proofs.working.work_whole.Goals as goal

@@ -1,7 +1,7 @@
 use Rattle.std.proofs.Common.{sym, ap, ◌∙◌}
-use Rattle.search_rules.specs.declared.grounds.Ground.TheVariants as by
-use Rattle.search_rules.specs.Book.{best_cost}
-use Rattle.search_rules.specs.Step.{cheaper_than}
+use Rattle.closing_rules.specs.declared.grounds.Ground.TheVariants as by
+use Rattle.book_rules.specs.Book.{best_cost}
+use Rattle.book_rules.specs.Step.{cheaper_than}
 use Rattle.book_core.proofs.CloseLemmas.{missed}
 use Rattle.book_core.proofs.book.Book.close_bound.Goals as goal
 

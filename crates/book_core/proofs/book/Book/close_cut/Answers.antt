@@ -1,6 +1,6 @@
 use Rattle.std.proofs.Common.{refl, sym, ◌∙◌}
-use Rattle.search_rules.specs.declared.grounds.Ground.TheVariants as by
-use Rattle.search_rules.specs.Events as machine
+use Rattle.closing_rules.specs.declared.grounds.Ground.TheVariants as by
+use Rattle.book_rules.specs.Events as machine
 use Rattle.book_core.specs.declared.reply.Reply.TheVariants as reply
 use Rattle.book_core.proofs.CloseLemmas.{missed, refused, cut-misses, cut-hits}
 use Rattle.book_core.proofs.book.Book.close_cut.Goals as goal

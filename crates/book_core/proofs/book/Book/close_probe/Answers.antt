@@ -1,10 +1,10 @@
 use Rattle.std.proofs.Common.{◌≡◌, refl, sym, ap, ◌∙◌, subst}
 use Rattle.mooring_rules.specs.declared.breaks.BrokenPlan.{BrokenPlan}
-use Rattle.search_rules.specs.declared.grounds.Ground.TheVariants as by
-use Rattle.search_rules.specs.Book.{Book, best_cost}
-use Rattle.search_rules.specs.Events as machine
-use Rattle.search_rules.specs.Events.{close}
-use Rattle.search_rules.specs.Step.{may_close, refusal_of, cheaper_than}
+use Rattle.closing_rules.specs.declared.grounds.Ground.TheVariants as by
+use Rattle.book_rules.specs.Book.{Book, best_cost}
+use Rattle.book_rules.specs.Events as machine
+use Rattle.book_rules.specs.Events.{close}
+use Rattle.book_rules.specs.Step.{may_close, refusal_of, cheaper_than}
 use Rattle.book_core.specs.declared.reply.Reply.TheVariants as reply
 use Rattle.book_core.specs.Keeps.{IsSound}
 use Rattle.book_core.specs.Replies.{Answers}

@@ -1,5 +1,5 @@
 use Rattle.std.proofs.Common.{◌≡◌, sym, ap, ◌∙◌, subst, arith, slice_index_or, slice_set, true, false}
-use Rattle.search_rules.specs.Book.{Book}
+use Rattle.book_rules.specs.Book.{Book}
 use Rattle.book_core.specs.Stored.{slots_of}
 use Rattle.book_core.specs.Changes.{finished}
 use Rattle.book_core.specs.Hands.{ids_of}

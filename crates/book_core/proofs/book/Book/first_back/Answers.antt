@@ -1,5 +1,5 @@
 use Rattle.std.proofs.Common.{◌≡◌, ℕ, ◌<◌, List, [], ◌∷◌, length, refl, sym, ap, ◌∙◌, arith, slice_index_or, slice_get, Some, None}
-use Rattle.search_rules.specs.Book.{first_slot, is_back}
+use Rattle.book_rules.specs.Book.{first_slot, is_back}
 use Rattle.book_core.specs.Seen.{seen}
 use Rattle.book_core.proofs.KeptLemmas.{zero-is, some-is}
 use Rattle.book_core.proofs.BackLemmas.{first-back}

@@ -1,6 +1,6 @@
 use Rattle.std.proofs.Common.{sym, ap, ◌∙◌, arith}
 use Rattle.std.specs.List.{position}
-use Rattle.search_rules.specs.Book.{first_slot, is_parked}
+use Rattle.book_rules.specs.Book.{first_slot, is_parked}
 use Rattle.book_core.specs.declared.stored_slot.StoredSlot.{StoredSlot}
 use Rattle.book_core.specs.Seen.{seen}
 use Rattle.book_core.proofs.KeptLemmas.{few-slots}

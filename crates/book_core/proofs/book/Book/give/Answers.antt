@@ -1,6 +1,6 @@
 use Rattle.std.proofs.Common.{length, sym, ap, ◌∙◌, subst, arith, slice_set, Some, None}
-use Rattle.search_rules.specs.Book.{Case, first_slot, is_held_by}
-use Rattle.search_rules.specs.declared.book.SlotState.TheVariants as slot
+use Rattle.book_rules.specs.Book.{Case, first_slot, is_held_by}
+use Rattle.book_rules.specs.declared.book.SlotState.TheVariants as slot
 use Rattle.book_core.specs.Stored.{slots_of}
 use Rattle.book_core.specs.Changes.{IsFree, leave_back}
 use Rattle.book_core.specs.Keeps.{IsSound, AreTables}

@@ -1,7 +1,7 @@
 use Rattle.std.proofs.Common.{◌≡◌, ◌+◌, ◌++◌, length, refl, sym, ap, ◌∙◌, subst, arith, slice_set, None}
 use Rattle.std.specs.Prelude.{IfSome}
-use Rattle.search_rules.specs.declared.book.SlotState.TheVariants as slot
-use Rattle.search_rules.specs.Book.{Book, Case, slot_at, is_held}
+use Rattle.book_rules.specs.declared.book.SlotState.TheVariants as slot
+use Rattle.book_rules.specs.Book.{Book, Case, slot_at, is_held}
 use Rattle.book_core.specs.Changes.{let_go}
 use Rattle.book_core.specs.Growing.{stored_children}
 use Rattle.book_core.specs.Hands.{ids_of, held_at, bounds_at, IsBounding, AreNodes}

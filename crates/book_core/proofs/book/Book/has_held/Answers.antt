@@ -1,5 +1,5 @@
 use Rattle.std.proofs.Common.{ap, ◌∙◌}
-use Rattle.search_rules.specs.Book.{has_slot, is_held}
+use Rattle.book_rules.specs.Book.{has_slot, is_held}
 use Rattle.book_core.specs.Seen.{seen}
 use Rattle.book_core.specs.Hands.{ids_of}
 use Rattle.book_core.proofs.HeldLemmas.{some-ids}

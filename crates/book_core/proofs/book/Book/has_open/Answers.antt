@@ -1,5 +1,5 @@
 use Rattle.std.proofs.Common.{ap, ◌∙◌}
-use Rattle.search_rules.specs.Book.{has_slot, is_fresh, is_back, is_held}
+use Rattle.book_rules.specs.Book.{has_slot, is_fresh, is_back, is_held}
 use Rattle.book_core.proofs.SummingLemmas.{any-stored}
 use Rattle.std.specs.List.{list_any}
 use Rattle.std.specs.Prelude.{◌||◌}

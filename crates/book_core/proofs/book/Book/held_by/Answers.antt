@@ -1,5 +1,5 @@
 use Rattle.std.proofs.Common.{◌<◌, ◌≤◌, length, sym, ap, ◌∙◌, arith}
-use Rattle.search_rules.specs.Book.{first_slot, is_held_by}
+use Rattle.book_rules.specs.Book.{first_slot, is_held_by}
 use Rattle.book_core.specs.Hands.{id_of, ids_of}
 use Rattle.book_core.specs.Seen.{seen}
 use Rattle.book_core.proofs.HandLemmas.{first-held, hand-past}

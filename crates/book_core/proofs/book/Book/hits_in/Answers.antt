@@ -1,10 +1,10 @@
 use Rattle.std.proofs.Common.{sym, ap, ◌∙◌}
 use Rattle.std.specs.Bool.{one_answer}
 use Rattle.lock_model.specs.declared.instance.Instance.{Instance}
-use Rattle.search_rules.specs.Book.{Node as TreeNode}
-use Rattle.search_rules.specs.Step.{hits_in}
-use Rattle.search_rules.specs.Tests.{is_node_hit}
-use Rattle.search_rules.proofs.TestLemmas.{is_node_hit-decides}
+use Rattle.book_rules.specs.Book.{Node as TreeNode}
+use Rattle.book_rules.specs.Step.{hits_in}
+use Rattle.book_rules.specs.Tests.{is_node_hit}
+use Rattle.book_rules.proofs.TestLemmas.{is_node_hit-decides}
 use Rattle.book_core.proofs.book.Book.hits_in.Goals as goal
 
 pub returns-in-Some : goal.returns-in-Some

@@ -1,5 +1,5 @@
 use Rattle.std.proofs.Common.{ap, ◌∙◌}
-use Rattle.search_rules.specs.Verdict.{low_of}
+use Rattle.book_rules.specs.Verdict.{low_of}
 use Rattle.book_core.proofs.SummingLemmas.{live-stored}
 use Rattle.lock_rules.specs.Bound.{least_number}
 use Rattle.book_core.specs.Summing.{live_bounds}

@@ -2,7 +2,7 @@ use Rattle.std.proofs.Common.{◌≡◌, ◌<◌, length, sym, ap, ◌∙◌, su
 use Rattle.lock_model.specs.Fitting.{deck_of}
 use Rattle.lock_model.specs.declared.group.Group.{Group}
 use Rattle.lock_model.specs.declared.instance.Instance.{Instance}
-use Rattle.search_rules.specs.Tests.{same_deck}
+use Rattle.book_rules.specs.Tests.{same_deck}
 use Rattle.lock_rules.proofs.NodeLemmas.{line-known}
 use Rattle.book_core.specs.Nodes.{tree_node}
 use Rattle.book_core.proofs.PostLemmas.{lent-some}

@@ -1,6 +1,6 @@
 use Rattle.std.proofs.Common.{sym, ap, ◌∙◌}
-use Rattle.search_rules.specs.Book.{slot_at, is_fresh}
-use Rattle.search_rules.specs.NextSlot.{next_fresh}
+use Rattle.book_rules.specs.Book.{slot_at, is_fresh}
+use Rattle.book_rules.specs.NextSlot.{next_fresh}
 use Rattle.book_core.specs.Seen.{seen}
 use Rattle.book_core.specs.Stored.{slots_of}
 use Rattle.book_core.proofs.NextLemmas.{next-value}

@@ -1,9 +1,9 @@
 use Rattle.std.proofs.Common.{◌≢◌, ℕ, sym, ap, ◌∙◌, subst}
 use Rattle.std.specs.Prelude.{IfSome}
 use Rattle.lock_rules.specs.Bound.{least_number}
-use Rattle.search_rules.specs.declared.grounds.Ground.TheVariants as by
-use Rattle.search_rules.specs.declared.book.SlotState.TheVariants as slot
-use Rattle.search_rules.specs.Book.{Case}
+use Rattle.closing_rules.specs.declared.grounds.Ground.TheVariants as by
+use Rattle.book_rules.specs.declared.book.SlotState.TheVariants as slot
+use Rattle.book_rules.specs.Book.{Case}
 use Rattle.book_core.specs.Hands.{held_at, IsBounding}
 use Rattle.book_core.proofs.HandLemmas.{state-known}
 use Rattle.book_core.proofs.BoundingLemmas.{least-below, bounding, tables-filled, hands-filled, bounds-here}

@@ -1,5 +1,5 @@
 use Rattle.std.proofs.Common.{length, ap, arith}
-use Rattle.search_rules.specs.Book.{Case}
+use Rattle.book_rules.specs.Book.{Case}
 use Rattle.book_core.specs.Seen.{seen}
 use Rattle.book_core.proofs.PathLemmas.{tree-of, tree-in}
 use Rattle.book_core.proofs.SettleLemmas.{slots-known}

@@ -1,5 +1,5 @@
 use Rattle.std.proofs.Common.{sym, ap, ◌∙◌, subst}
-use Rattle.search_rules.specs.Tests.{has_clash}
+use Rattle.book_rules.specs.Tests.{has_clash}
 use Rattle.refute_rules.specs.Cases.{IsHard}
 use Rattle.place_refute.specs.Tried.{Tried}
 use Rattle.book_core.proofs.PostLemmas.{park-missed, park-other, park-clashes, park-sound, park-done}

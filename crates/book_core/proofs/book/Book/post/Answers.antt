@@ -1,6 +1,6 @@
 use Rattle.std.proofs.Common.{sym, ap, ◌∙◌}
 use Rattle.lock_model.specs.declared.instance.Instance.{Instance}
-use Rattle.search_rules.specs.Tests.{is_own_cut}
+use Rattle.book_rules.specs.Tests.{is_own_cut}
 use Rattle.book_core.proofs.PostLemmas.{post-other, post-sound, post-done}
 use Rattle.book_core.proofs.book.Book.post.Goals as goal
 

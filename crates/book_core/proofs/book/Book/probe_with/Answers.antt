@@ -1,5 +1,5 @@
 use Rattle.std.proofs.Common.{sym, ap, ◌∙◌}
-use Rattle.search_rules.specs.Step.{probe_at}
+use Rattle.book_rules.specs.Step.{probe_at}
 use Rattle.book_core.proofs.MissingLemmas.{next-true}
 use Rattle.book_core.proofs.book.Book.probe_with.Goals as goal
 

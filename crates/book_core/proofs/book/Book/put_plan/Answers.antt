@@ -1,8 +1,8 @@
 use Rattle.std.proofs.Common.{◌≡◌, suc, List, [], ◌∷◌, ◌++◌, length, map, filter, take, drop, refl, sym, ap, ◌∙◌, subst, arith}
 use Rattle.std.proofs.lemmas.List.{length-map}
 use Rattle.lock_model.specs.declared.plan.Plan.{Plan}
-use Rattle.search_rules.specs.Book.{Book}
-use Rattle.search_rules.specs.declared.book.Entry.TheVariants as entry
+use Rattle.book_rules.specs.Book.{Book}
+use Rattle.book_rules.specs.declared.book.Entry.TheVariants as entry
 use Rattle.book_core.specs.Keeps.{IsSound}
 use Rattle.book_core.specs.Outdone.{outdone_stored, is_back_in}
 use Rattle.book_core.proofs.OutdoneLemmas.{refill, cost-here, replaced-is, replaced-tables, replaced-nodes, replaced-path}

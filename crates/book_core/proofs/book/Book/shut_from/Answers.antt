@@ -1,5 +1,5 @@
 use Rattle.std.proofs.Common.{refl}
-use Rattle.search_rules.specs.Events as machine
+use Rattle.book_rules.specs.Events as machine
 use Rattle.book_core.specs.declared.reply.Reply.TheVariants as reply
 use Rattle.book_core.proofs.CloseLemmas.{refused, cheap-refused, high-unrefused}
 use Rattle.book_core.proofs.book.Book.shut_from.Goals as goal

@@ -1,5 +1,5 @@
 use Rattle.std.proofs.Common.{◌<◌, length, sym, ap, ◌∙◌, arith}
-use Rattle.search_rules.specs.Book.{Book, slot_at}
+use Rattle.book_rules.specs.Book.{Book, slot_at}
 use Rattle.book_core.proofs.KeptLemmas.{length-slots, is-stored}
 use Rattle.book_core.proofs.book.Book.slot_state.Goals as goal
 

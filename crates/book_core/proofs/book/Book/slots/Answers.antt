@@ -1,5 +1,5 @@
 use Rattle.std.proofs.Common.{length, sym, ap, ◌∙◌, arith}
-use Rattle.search_rules.specs.Book.{Book}
+use Rattle.book_rules.specs.Book.{Book}
 use Rattle.book_core.specs.Seen.{seen}
 use Rattle.book_core.proofs.KeptLemmas.{length-slots, few-slots}
 use Rattle.book_core.proofs.book.Book.slots.Goals as goal

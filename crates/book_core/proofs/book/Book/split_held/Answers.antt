@@ -3,7 +3,7 @@ use Rattle.std.proofs.lemmas.Bool.Decides.{leb_tells}
 use Rattle.std.proofs.lemmas.List.{length-map}
 use Rattle.lock_rules.specs.Bound.{bound_of}
 use Rattle.lock_rules.specs.Children.{children_of}
-use Rattle.search_rules.specs.Book.{slot_at, is_held}
+use Rattle.book_rules.specs.Book.{slot_at, is_held}
 use Rattle.book_core.proofs.GrowLemmas.{split-whole, split-sound, split-done}
 use Rattle.book_core.proofs.book.Book.split_held.Goals as goal
 

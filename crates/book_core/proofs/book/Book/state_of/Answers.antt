@@ -1,5 +1,5 @@
 use Rattle.std.proofs.Common.{◌<◌, ◌≤◌, length, sym, ap, ◌∙◌, arith}
-use Rattle.search_rules.specs.Book.{Slot, slot_at}
+use Rattle.book_rules.specs.Book.{Slot, slot_at}
 use Rattle.book_core.specs.Seen.{seen}
 use Rattle.book_core.proofs.KeptLemmas.{length-slots, is-stored, slot-past}
 use Rattle.book_core.proofs.book.Book.state_of.Goals as goal

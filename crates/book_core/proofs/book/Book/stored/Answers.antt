@@ -1,5 +1,5 @@
 use Rattle.std.proofs.Common.{subst, arith}
-use Rattle.search_rules.specs.Book.{slot_at}
+use Rattle.book_rules.specs.Book.{slot_at}
 use Rattle.book_core.specs.Stored.{IsStoredAs}
 use Rattle.book_core.proofs.KeptLemmas.{is-stored}
 use Rattle.book_core.proofs.SettleLemmas.{slots-known}

@@ -4,7 +4,7 @@ use Rattle.book_core.specs.Nodes.{tree_node}
 use Rattle.book_core.proofs.EventLemmas.{back-given, given-sound, given-answers}
 use Rattle.book_core.specs.Changes.{IsReturned}
 use Rattle.book_core.proofs.HandOverLemmas.{given-held, given-node, given-good}
-use Rattle.search_rules.specs.Step.{given}
+use Rattle.book_rules.specs.Step.{given}
 use Rattle.book_core.proofs.book.Book.take_back.Goals as goal
 
 pub give-requires-clause-sound : goal.give-requires-clause-sound

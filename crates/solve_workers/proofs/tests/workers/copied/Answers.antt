@@ -1,7 +1,7 @@
 use Rattle.std.proofs.Common.{◌≡◌, sym, subst}
 use Rattle.refute_rules.specs.Cuts.{IsCut}
-use Rattle.search_rules.specs.Cover.{IsOwnCut}
-use Rattle.search_rules.proofs.CoverLemmas.{all-got}
+use Rattle.book_rules.specs.Cover.{IsOwnCut}
+use Rattle.book_rules.proofs.CoverLemmas.{all-got}
 use Rattle.solve_workers.proofs.tests.workers.copied.Goals as goal
 
 pub returns-in_ok-copy_cut-in-Some : goal.returns-in_ok-copy_cut-in-Some

@@ -1,5 +1,5 @@
 use Rattle.std.proofs.Common.{All}
-use Rattle.search_rules.specs.Cover.{IsOwnCut}
+use Rattle.book_rules.specs.Cover.{IsOwnCut}
 use Rattle.solve_workers.proofs.tests.workers.cuts_of.Given as goal
 
 abbrev pub invariant-loop-number : goal.invariant-loop-number

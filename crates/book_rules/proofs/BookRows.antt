@@ -1,0 +1,132 @@
+-- The book machine on worked rows, by computation.
+use Rattle.std.proofs.Common.{◌≡◌, ℕ, List, [], ◌∷◌, refl, None}
+use Rattle.std.specs.declared.option.Option.{Option}
+use Rattle.lock_model.specs.Instance.{IsInstance}
+use Rattle.lock_model.specs.Deck.{Deck}
+use Rattle.lock_model.specs.declared.instance.Instance.{Instance}
+use Rattle.lock_model.specs.declared.plan.Plan.{Plan}
+use Rattle.lock_model.specs.declared.plan.Lockage.{Lockage}
+use Rattle.lock_model.specs.declared.verdict.Verdict.TheVariants as verdict
+use Rattle.lock_model.specs.declared.way.Way.TheVariants.{Up, Down}
+use Rattle.lock_rules.specs.Children.{single}
+use Rattle.lock_rules.proofs.RowInstances.{chambers-narrow, ships-narrow, narrow, chambers-side_by_side, ships-side_by_side, side_by_side, chambers-thr1, ships-thr1, thr1}
+use Rattle.refute_rules.specs.Cuts.{Cut}
+use Rattle.refute_rules.specs.declared.refutation.Refutation.TheVariants as refutation
+use Rattle.refute_rules.specs.declared.refutation.Quick.TheVariants as quick
+use Rattle.book_rules.specs.declared.book.SlotState.TheVariants as slot
+use Rattle.book_rules.specs.Book.{Book, Node as TreeNode, root, slot_at, opening_book}
+use Rattle.book_rules.specs.Verdict.{verdict_of}
+use Rattle.book_rules.specs.Events.{Event, take, split, close, park, release}
+use Rattle.book_rules.specs.Events.{Reply, Node, Made, Closed, Parked, Released, Ended, Holds, Idle, Done, NotHeld, Cheaper, NoHit, OtherDeck, Absent}
+use Rattle.book_rules.specs.Events.{post, replace, NodesSpent, Whole, Posted, Replaced, NotCheaper}
+use Rattle.book_rules.specs.Step.{step}
+use Rattle.book_rules.specs.Replay.{replay}
+use Rattle.closing_rules.specs.declared.grounds.Ground.TheVariants as by
+
+-- no plan is broken
+abbrev unbroken : Instance → Plan → Option ℕ
+unbroken I P = None
+
+-- the replies of events, one after the other
+abbrev replies : Book → List Event → List (Reply ℕ)
+replies b [] = []
+replies b (e ∷ es) = (step unbroken b e).1 ∷ replies (step unbroken b e).0 es
+
+-- the book after events
+abbrev after : Book → List Event → Book
+after b [] = b
+after b (e ∷ es) = after (step unbroken b e).0 es
+
+-- one ship after the other
+abbrev alone : ℕ → ℕ → Lockage
+alone s start = record { chamber = 0; way = Up; ships = s ∷ []; start = start; spots = [] }
+
+abbrev singles : Plan
+singles = record { lockages = alone 0 0 ∷ alone 1 50 ∷ [] }
+
+abbrev first_alone : TreeNode
+first_alone = record { depth = 1; lines = (single Up 0 ∷ []) ∷ [] ∷ [] ∷ [] ∷ [] }
+
+abbrev both : TreeNode
+both = record { depth = 2; lines = (record { way = Up; ships = 0 ∷ 1 ∷ [] } ∷ []) ∷ [] ∷ [] ∷ [] ∷ [] }
+
+abbrev three_nodes : IsInstance chambers-narrow ships-narrow → Book
+three_nodes ok = opening_book (record { instance = narrow ok; nodes = 3; turns = 20000 }) singles
+
+-- the event table
+row-events : (ok : IsInstance chambers-narrow ships-narrow) →
+    replies (three_nodes ok) (take 0 ∷ take 0 ∷ take 1 ∷ close 0 by.Bound ∷ close 0 (by.Cut 0) ∷ split 0 ∷ split 0 ∷ release 0 ∷ take 0 ∷ [])
+    ≡ Node 0 root ∷ Holds 0 ∷ Idle ∷ Cheaper 70 120 ∷ NoHit 0 ∷ Made 1 ∷ NotHeld 0 ∷ Released 0 ∷ Ended 0 ∷ []
+row-events ok = refl
+
+-- and its history is played again
+row-replay : (ok : IsInstance chambers-narrow ships-narrow) →
+    let b = after (three_nodes ok) (take 0 ∷ take 0 ∷ take 1 ∷ close 0 by.Bound ∷ close 0 (by.Cut 0) ∷ split 0 ∷ split 0 ∷ release 0 ∷ take 0 ∷ []) in
+    replay unbroken b.case b.opening b.history b.cuts b.plans ≡ b
+row-replay ok = refl
+
+-- closing by throughput and probe
+row-closing : (ok : IsInstance chambers-narrow ships-narrow) →
+    replies (three_nodes ok) (take 0 ∷ close 0 by.Throughput ∷ close 0 (by.Probe 2) ∷ close 0 (by.Probe 0) ∷ close 1 (by.Probe 0) ∷ split 0 ∷ take 0 ∷ close 1 (by.Probe 0) ∷ close 1 (by.Probe 1) ∷ [])
+    ≡ Node 0 root ∷ Cheaper 70 120 ∷ Absent 2 ∷ Cheaper 70 120 ∷ NotHeld 1 ∷ Made 1 ∷ Node 1 first_alone ∷ Absent 0 ∷ Cheaper 80 120 ∷ []
+row-closing ok = refl
+
+-- parking; h is the value of the deck with both ships and of one turn
+abbrev base_deck : Deck
+base_deck = record { length = 2000; width = 240; end = 10; gap = 20; side = 5; ships = record { length = 1100; width = 114; cargo = 0 } ∷ record { length = 1100; width = 114; cargo = 0 } ∷ [] }
+
+abbrev one_turn : IsInstance chambers-side_by_side ships-side_by_side → Book
+one_turn ok = opening_book (record { instance = side_by_side ok; nodes = 100; turns = 1 }) singles
+
+abbrev parking : List Event
+parking = take 0 ∷ split 0 ∷ take 0 ∷ park 1 0 0 base_deck 1 ∷ split 1 ∷ take 0 ∷ park 2 0 1 base_deck 1 ∷ park 2 0 0 base_deck 1 ∷ take 0 ∷ close 2 by.Bound ∷ []
+
+row-parking : (ok : IsInstance chambers-side_by_side ships-side_by_side) →
+    replies (one_turn ok) parking
+    ≡ Node 0 root ∷ Made 1 ∷ Node 1 first_alone ∷ OtherDeck ∷ Made 3 ∷ Node 2 both ∷ OtherDeck ∷ Parked ∷ Done ∷ Cheaper 80 120 ∷ []
+row-parking ok = refl
+
+row-parked : (ok : IsInstance chambers-side_by_side ships-side_by_side) →
+    verdict_of (after (one_turn ok) parking) ≡ verdict.OpenTurns 0 (0 ∷ 1 ∷ []) 1 80
+row-parked ok = refl
+
+-- the throughput closes the root
+row-throughput : (ok : IsInstance chambers-thr1 ships-thr1) →
+    let b = opening_book (record { instance = thr1 ok; nodes = 100; turns = 1 }) (record { lockages = alone 0 0 ∷ record { chamber = 0; way = Down; ships = 1 ∷ []; start = 30; spots = [] } ∷ [] }) in
+    (replies b (take 0 ∷ close 0 by.Throughput ∷ []) ≡ Node 0 root ∷ Closed ∷ [])
+    × ((slot_at (after b (take 0 ∷ close 0 by.Throughput ∷ [])) 0).state ≡ slot.Closed by.Throughput)
+    × (verdict_of (after b (take 0 ∷ close 0 by.Throughput ∷ [])) ≡ verdict.Optimal)
+row-throughput ok = (refl, refl, refl)
+
+-- a returned slot is given first, a cut that is posted closes it, and nothing is left
+abbrev narrow_cut : Cut
+narrow_cut = record {
+  chamber = 0;
+  ships = 0 ∷ 1 ∷ [];
+  deck = record { length = 2000; width = 232; end = 10; gap = 20; side = 5; ships = record { length = 1100; width = 114; cargo = 0 } ∷ record { length = 1100; width = 114; cargo = 0 } ∷ [] };
+  refutation = refutation.Quick (quick.Row (0 ∷ 1 ∷ []));
+}
+
+row-cut : (ok : IsInstance chambers-narrow ships-narrow) →
+    replies (three_nodes ok) (take 0 ∷ split 0 ∷ take 0 ∷ split 1 ∷ take 0 ∷ split 2 ∷ release 0 ∷ take 1 ∷ close 2 (by.Cut 0) ∷ post narrow_cut ∷ close 2 (by.Cut 0) ∷ take 1 ∷ [])
+    ≡ Node 0 root ∷ Made 1 ∷ Node 1 first_alone ∷ Made 3 ∷ Node 2 both ∷ Whole 2 ∷ Released 1 ∷ Node 2 both ∷ NoHit 0 ∷ Posted 0 ∷ Closed ∷ Done ∷ []
+row-cut ok = refl
+
+row-optimal : (ok : IsInstance chambers-narrow ships-narrow) →
+    verdict_of (after (three_nodes ok) (take 0 ∷ split 0 ∷ take 0 ∷ split 1 ∷ take 0 ∷ post narrow_cut ∷ close 2 (by.Cut 0) ∷ [])) ≡ verdict.Optimal
+row-optimal ok = refl
+
+-- with two nodes the third take is refused, and the verdict is open
+row-spent : (ok : IsInstance chambers-narrow ships-narrow) →
+    let b = opening_book (record { instance = narrow ok; nodes = 2; turns = 20000 }) singles in
+    (replies b (take 0 ∷ split 0 ∷ take 0 ∷ split 1 ∷ take 0 ∷ []) ≡ Node 0 root ∷ Made 1 ∷ Node 1 first_alone ∷ Made 3 ∷ NodesSpent 2 ∷ [])
+    × (verdict_of (after b (take 0 ∷ split 0 ∷ take 0 ∷ split 1 ∷ take 0 ∷ [])) ≡ verdict.OpenNodes 2 80)
+row-spent ok = (refl, refl)
+
+-- a cheaper plan is put in its place once, and closes what it outdoes
+abbrev together : Plan
+together = record { lockages = record { chamber = 0; way = Up; ships = 0 ∷ 1 ∷ []; start = 0; spots = [] } ∷ [] }
+
+row-replace : (ok : IsInstance chambers-side_by_side ships-side_by_side) →
+    replies (one_turn ok) (take 0 ∷ split 0 ∷ take 0 ∷ split 1 ∷ replace together ∷ replace together ∷ take 0 ∷ []) ≡ Node 0 root ∷ Made 1 ∷ Node 1 first_alone ∷ Made 3 ∷ Replaced 80 ∷ NotCheaper 80 80 ∷ Done ∷ []
+row-replace ok = refl

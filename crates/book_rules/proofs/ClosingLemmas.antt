@@ -1,0 +1,72 @@
+-- Closing a slot: what is refused, and what is known where nothing is refused.
+use Rattle.std.proofs.Common.{◌≡◌, ℕ, ◌≤◌, refl, Bool, true, false, not, cond, Some, None, slice_get, nat_lt}
+use Rattle.std.specs.Bool.{⊤}
+use Rattle.std.specs.declared.option.Option.{Option}
+use Rattle.lock_model.specs.declared.instance.Instance.{Instance}
+use Rattle.lock_rules.specs.Arrival.{missing_ships}
+use Rattle.lock_rules.specs.Throughput.{throughput_of}
+use Rattle.refute_rules.specs.Cuts.{Cut}
+use Rattle.closing_rules.specs.declared.grounds.Ground.{Ground}
+use Rattle.closing_rules.specs.declared.grounds.Ground.TheVariants as by
+use Rattle.closing_rules.specs.Grounds.{IsClosedBy}
+use Rattle.book_rules.specs.Book.{Book, slot_at, best_cost}
+use Rattle.book_rules.specs.Events.{Reply, is_accepted, Cheaper, NoHit, Absent}
+use Rattle.book_rules.specs.States.{IsHitBy}
+use Rattle.book_rules.specs.Step
+use Rattle.book_rules.proofs.TestLemmas.{not-not, not-below, has_number-decides, is_node_hit-decides}
+
+clash : false ≡ true → ⊥
+clash e = cc
+
+-- nothing, or a refusal
+abbrev pub MayRefuse : {Break : Type 0} → Option (Reply Break) → Type 0
+MayRefuse None = ⊤
+MayRefuse (Some r) = is_accepted r ≡ false
+
+module _ (b : Book) (id : ℕ) where
+  abbrev I : Instance
+  I = b.case.instance
+
+  -- slot id may be closed so
+  abbrev pub MayCloseBy : Ground → Type 0
+  MayCloseBy why = IsClosedBy I (IsHitBy I b.cuts) (best_cost b) (slot_at b id).bound (slot_at b id).node.depth (slot_at b id).node.lines why
+
+  hit-by : (number : ℕ) (o : Option Cut) → slice_get b.cuts number ≡ o → Step.hits_in b id o ≡ true → IsHitBy I b.cuts number (slot_at b id).node.lines
+  hit-by number None e hit = absurd (clash hit)
+  hit-by number (Some cut) e hit = record { cut = cut; there = e; hits = (is_node_hit-decides I cut (slot_at b id).node.lines).0 hit }
+
+  module _ (Break : Type 0) where
+    refuse_or : (t : Bool) (r : Reply Break) (o : Option (Reply Break)) → is_accepted r ≡ false → MayRefuse o → MayRefuse (cond t (Some r) o)
+    refuse_or true r o f h = f
+    refuse_or false r o f h = h
+
+    cheaper-refuses : (bound : ℕ) → MayRefuse {Break = Break} (Step.cheaper_than (best_cost b) bound)
+    cheaper-refuses bound = refuse_or (nat_lt bound (best_cost b)) (Cheaper bound (best_cost b)) None refl tt
+
+    pub may-refuse : (why : Ground) → MayRefuse {Break = Break} (Step.refusal_of b id why)
+    may-refuse by.Bound = cheaper-refuses (slot_at b id).bound
+    may-refuse by.Throughput = cheaper-refuses (throughput_of I)
+    may-refuse (by.Probe s) = refuse_or (not (Step.is_missing b id s)) (Absent s) (Step.cheaper_than (best_cost b) (Step.probe_at b id s)) refl (cheaper-refuses (Step.probe_at b id s))
+    may-refuse (by.Cut number) = refuse_or (not (Step.hits_in b id (slice_get b.cuts number))) (NoHit number) None refl tt
+
+  module _ {Break : Type 0} where
+    none-of : (t : Bool) (r : Reply Break) (o : Option (Reply Break)) → cond t (Some r) o ≡ None → (t ≡ false) × (o ≡ None)
+    none-of true r o e = absurd (some-none e)
+      where
+        some-none : Some r ≡ None → ⊥
+        some-none h = cc
+    none-of false r o e = (refl, e)
+
+    none-cheaper : (bound : ℕ) → Step.cheaper_than {Break = Break} (best_cost b) bound ≡ None → best_cost b ≤ bound
+    none-cheaper bound e = not-below bound (best_cost b) (none-of (nat_lt bound (best_cost b)) (Cheaper bound (best_cost b)) None e).0
+
+    -- where nothing is refused, it may be closed so
+    pub unrefused-may : (why : Ground) → Step.refusal_of {Break = Break} b id why ≡ None → MayCloseBy why
+    unrefused-may by.Bound e = none-cheaper (slot_at b id).bound e
+    unrefused-may by.Throughput e = none-cheaper (throughput_of I) e
+    unrefused-may (by.Probe s) e =
+        let both = none-of (not (Step.is_missing b id s)) (Absent s) (Step.cheaper_than (best_cost b) (Step.probe_at b id s)) e in
+        ((has_number-decides (missing_ships I (slot_at b id).node.depth) s).0 (not-not (Step.is_missing b id s) both.0), none-cheaper (Step.probe_at b id s) both.1)
+    unrefused-may (by.Cut number) e =
+        let hit = Step.hits_in b id (slice_get b.cuts number) in
+        hit-by number (slice_get b.cuts number) refl (not-not hit (none-of (not hit) (NoHit number) None e).0)

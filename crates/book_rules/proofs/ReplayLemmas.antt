@@ -1,0 +1,204 @@
+-- A book is the replay of its history, after every list of events.
+use Rattle.std.proofs.Common.{◌≡◌, ℕ, zero, suc, ◌+◌, List, [], ◌∷◌, ◌++◌, length, inl, inr, refl, sym, ap, ◌∙◌, subst, arith, Bool, true, false, not, cond, Some, None, slice_index_or, slice_get, nat_le, ◌&&◌}
+use Rattle.std.specs.declared.option.Option.{Option}
+use Rattle.std.proofs.lemmas.Bool.Decides.{leb_tells}
+use Rattle.lock_model.specs.Deck.{Deck}
+use Rattle.lock_model.specs.Fitting.{deck_of}
+use Rattle.lock_model.specs.declared.instance.Instance.{Instance}
+use Rattle.lock_model.specs.declared.group.Group.{Group}
+use Rattle.lock_model.specs.declared.plan.Plan.{Plan}
+use Rattle.lock_rules.specs.Node.{line_at}
+use Rattle.refute_rules.specs.Cuts.{Cut}
+use Rattle.book_rules.specs.declared.book.Entry.{Entry}
+use Rattle.book_rules.specs.declared.book.Entry.TheVariants as entry
+use Rattle.book_rules.specs.Tests.{same_deck, has_clash}
+use Rattle.book_rules.specs.Book.{Case, Book, slot_at, is_held, group_at, ships_at, no_group, opening_book}
+use Rattle.book_rules.specs.Events.{Event, Reply, is_accepted, take, split, close, post, park, replace, release}
+use Rattle.book_rules.specs.Events.{NotHeld, OtherDeck, Clashes}
+use Rattle.book_rules.specs.Step
+use Rattle.book_rules.specs.Replay.{replay, replay_from}
+use Rattle.book_rules.proofs.TestLemmas.{same_deck-decides}
+use Rattle.book_rules.proofs.StepLemmas.{entry_of, cuts_of, plans_of, IsAccepted, Refused, Accepted, each-step}
+
+-- how many cuts and plans the entries take
+abbrev pub posts_in : List Entry → ℕ
+posts_in [] = 0
+posts_in (entry.Post ∷ es) = suc (posts_in es)
+posts_in (_ ∷ es) = posts_in es
+
+abbrev pub replaces_in : List Entry → ℕ
+replaces_in [] = 0
+replaces_in (entry.Replace ∷ es) = suc (replaces_in es)
+replaces_in (_ ∷ es) = replaces_in es
+
+posts-append : (es : List Entry) (x : Entry) → posts_in (es ++ x ∷ []) ≡ posts_in es + posts_in (x ∷ [])
+posts-append [] x = omega arith
+posts-append (entry.Take w ∷ es) x = posts-append es x
+posts-append (entry.Split id ∷ es) x = posts-append es x
+posts-append (entry.Close id why ∷ es) x = posts-append es x
+posts-append (entry.Post ∷ es) x = let rest = posts-append es x in omega (arith, rest)
+posts-append (entry.Park id c p ∷ es) x = posts-append es x
+posts-append (entry.Replace ∷ es) x = posts-append es x
+posts-append (entry.Release w ∷ es) x = posts-append es x
+
+replaces-append : (es : List Entry) (x : Entry) → replaces_in (es ++ x ∷ []) ≡ replaces_in es + replaces_in (x ∷ [])
+replaces-append [] x = omega arith
+replaces-append (entry.Take w ∷ es) x = replaces-append es x
+replaces-append (entry.Split id ∷ es) x = replaces-append es x
+replaces-append (entry.Close id why ∷ es) x = replaces-append es x
+replaces-append (entry.Post ∷ es) x = replaces-append es x
+replaces-append (entry.Park id c p ∷ es) x = replaces-append es x
+replaces-append (entry.Replace ∷ es) x = let rest = replaces-append es x in omega (arith, rest)
+replaces-append (entry.Release w ∷ es) x = replaces-append es x
+
+posts-one : (e : Event) → posts_in (entry_of e ∷ []) ≡ length (cuts_of e)
+posts-one (take w) = refl
+posts-one (split id) = refl
+posts-one (close id why) = refl
+posts-one (post cut) = refl
+posts-one (park id c p deck turns) = refl
+posts-one (replace plan) = refl
+posts-one (release w) = refl
+
+replaces-one : (e : Event) → replaces_in (entry_of e ∷ []) ≡ length (plans_of e)
+replaces-one (take w) = refl
+replaces-one (split id) = refl
+replaces-one (close id why) = refl
+replaces-one (post cut) = refl
+replaces-one (park id c p deck turns) = refl
+replaces-one (replace plan) = refl
+replaces-one (release w) = refl
+
+length-more : {X : Type 0} (xs ys : List X) → length (xs ++ ys) ≡ length xs + length ys
+length-more [] ys = omega arith
+length-more (x ∷ xs) ys = let rest = length-more xs ys in omega (arith, rest)
+
+posts-more : (es : List Entry) (e : Event) (cs : List Cut) → posts_in es ≡ length cs → posts_in (es ++ entry_of e ∷ []) ≡ length (cs ++ cuts_of e)
+posts-more es e cs h = posts-append es (entry_of e) ∙ (λ i. h i + posts-one e i) ∙ sym (length-more cs (cuts_of e))
+
+replaces-more : (es : List Entry) (e : Event) (ps : List Plan) → replaces_in es ≡ length ps → replaces_in (es ++ entry_of e ∷ []) ≡ length (ps ++ plans_of e)
+replaces-more es e ps h = replaces-append es (entry_of e) ∙ (λ i. h i + replaces-one e i) ∙ sym (length-more ps (plans_of e))
+
+module _ {Break : Type 0} (broken : Instance → Plan → Option Break) where
+  abbrev after : Book → Event → Book
+  after b e = (Step.step broken b e).0
+
+  replay-append : (es : List Entry) (b : Book) (x : Entry) (cs ds : List Cut) (ps qs : List Plan) → posts_in es ≡ length cs → replaces_in es ≡ length ps
+      → replay_from broken b (es ++ x ∷ []) (cs ++ ds) (ps ++ qs) ≡ replay_from broken (replay_from broken b es cs ps) (x ∷ []) ds qs
+  replay-append [] b x [] ds [] qs e f = refl
+  replay-append [] b x [] ds (p ∷ ps) qs e f = absurd (omega (arith, f))
+  replay-append [] b x (c ∷ cs) ds ps qs e f = absurd (omega (arith, e))
+  replay-append (entry.Take w ∷ es) b x cs ds ps qs e f = replay-append es (after b (take w)) x cs ds ps qs e f
+  replay-append (entry.Split id ∷ es) b x cs ds ps qs e f = replay-append es (after b (split id)) x cs ds ps qs e f
+  replay-append (entry.Close id why ∷ es) b x cs ds ps qs e f = replay-append es (after b (close id why)) x cs ds ps qs e f
+  replay-append (entry.Post ∷ es) b x [] ds ps qs e f = absurd (omega (arith, e))
+  replay-append (entry.Post ∷ es) b x (c ∷ cs) ds ps qs e f = replay-append es (after b (post c)) x cs ds ps qs (omega (arith, e)) f
+  replay-append (entry.Park id c p ∷ es) b x cs ds ps qs e f = replay-append es (after b (park id c p (deck_of b.case.instance c (ships_at (slot_at b id).node c p)) b.case.turns)) x cs ds ps qs e f
+  replay-append (entry.Replace ∷ es) b x cs ds [] qs e f = absurd (omega (arith, f))
+  replay-append (entry.Replace ∷ es) b x cs ds (p ∷ ps) qs e f = replay-append es (after b (replace p)) x cs ds ps qs e (omega (arith, f))
+  replay-append (entry.Release w ∷ es) b x cs ds ps qs e f = replay-append es (after b (release w)) x cs ds ps qs e f
+
+  -- ---- parking again with the group's own deck and the case's turns
+
+  got : (gs : List Group) (p : ℕ) (g : Group) → slice_get gs p ≡ Some g → slice_index_or gs p no_group ≡ g
+  got [] p g e = absurd (none-some e)
+    where
+      none-some : None ≡ Some g → ⊥
+      none-some h = cc
+  got (h ∷ gs) zero g e = some-same e
+    where
+      some-same : Some h ≡ Some g → h ≡ g
+      some-same i = cc
+  got (h ∷ gs) (suc p) g e = got gs p g e
+
+  clash : false ≡ true → ⊥
+  clash e = cc
+
+  both-true : (p q : Bool) → (p && q) ≡ true → p ≡ true
+  both-true true q e = refl
+  both-true false q e = absurd (clash e)
+
+  -- parking, where it is known whether the lent value is the group's, and whether the slot is held
+  abbrev lent_way : Book → ℕ → ℕ → ℕ → Deck → Bool → Book × Reply Break
+  lent_way b id c p deck t = cond (not t) (b, OtherDeck) (cond (has_clash deck.ships) (b, Clashes id) (Step.parked b id c p))
+
+  abbrev held_way : Book → ℕ → Bool → Book × Reply Break → Book × Reply Break
+  held_way b id t out = cond t (b, NotHeld id) out
+
+  lent-again : (b : Book) (id c p : ℕ) (deck : Deck) (turns : ℕ) (g : Group) (t : Bool) → Step.is_lent b c g deck turns ≡ t
+      → is_accepted (lent_way b id c p deck t).1 ≡ true
+      → (lent_way b id c p (deck_of b.case.instance c g.ships) (Step.is_lent b c g (deck_of b.case.instance c g.ships) b.case.turns)).0 ≡ (lent_way b id c p deck t).0
+  lent-again b id c p deck turns g false e good = absurd (clash good)
+  lent-again b id c p deck turns g true e good =
+      let own = deck_of b.case.instance c g.ships in
+      let same : own ≡ deck = (same_deck-decides own deck).0 (both-true (same_deck own deck) (nat_le b.case.turns turns) e) in
+      let self : same_deck own own ≡ true = (same_deck-decides own own).1 refl in
+      let enough : nat_le b.case.turns b.case.turns ≡ true = elim (leb_tells b.case.turns b.case.turns) [ inl y ↦ y.0 | inr n ↦ absurd (omega (arith, n.1)) ] in
+      let lent : Step.is_lent b c g own b.case.turns ≡ true = ap (λ u. u && nat_le b.case.turns b.case.turns) self ∙ enough in
+      ap (λ u. (lent_way b id c p own u).0) lent ∙ ap (λ u. (lent_way b id c p u true).0) same
+
+  group-again : (b : Book) (id c p : ℕ) (deck : Deck) (turns : ℕ) (o : Option Group) → group_at (slot_at b id).node c p ≡ o
+      → is_accepted (Step.park_group {Break = Break} b id c p deck turns o).1 ≡ true
+      → (Step.park_group {Break = Break} b id c p (deck_of b.case.instance c (ships_at (slot_at b id).node c p)) b.case.turns o).0 ≡ (Step.park_group {Break = Break} b id c p deck turns o).0
+  group-again b id c p deck turns None e good = absurd (clash good)
+  group-again b id c p deck turns (Some g) e good =
+      let is : ships_at (slot_at b id).node c p ≡ g.ships = ap (λ (h : Group). h.ships) (got (line_at (slot_at b id).node.lines c) p g e) in
+      ap (λ ships. (Step.park_group {Break = Break} b id c p (deck_of b.case.instance c ships) b.case.turns (Some g)).0) is
+      ∙ lent-again b id c p deck turns g (Step.is_lent b c g deck turns) refl good
+
+  held-again : (b : Book) (id : ℕ) (t : Bool) (out own : Book × Reply Break) → (is_accepted out.1 ≡ true → own.0 ≡ out.0)
+      → is_accepted (held_way b id t out).1 ≡ true → (held_way b id t own).0 ≡ (held_way b id t out).0
+  held-again b id true out own f good = refl
+  held-again b id false out own f good = f good
+
+  -- one accepted event, replayed by its entry
+  replay-one : (b : Book) (e : Event) → is_accepted (Step.step broken b e).1 ≡ true → replay_from broken b (entry_of e ∷ []) (cuts_of e) (plans_of e) ≡ after b e
+  replay-one b (take w) good = refl
+  replay-one b (split id) good = refl
+  replay-one b (close id why) good = refl
+  replay-one b (post cut) good = refl
+  replay-one b (park id c p deck turns) good =
+      held-again b id (not (is_held (slot_at b id).state))
+      (Step.park_group b id c p deck turns (group_at (slot_at b id).node c p))
+      (Step.park_group b id c p (deck_of b.case.instance c (ships_at (slot_at b id).node c p)) b.case.turns (group_at (slot_at b id).node c p))
+      (group-again b id c p deck turns (group_at (slot_at b id).node c p) refl) good
+  replay-one b (replace plan) good = refl
+  replay-one b (release w) good = refl
+
+  -- ---- every list of events
+
+  pub record IsReplayed (b : Book) : Type 0 where
+    pub same : replay broken b.case b.opening b.history b.cuts b.plans ≡ b
+    pub posts : posts_in b.history ≡ length b.cuts
+    pub replaces : replaces_in b.history ≡ length b.plans
+
+  -- The opening book is replayed, and so is a replayed book after any event.
+  pub opening-replayed : (case : Case) (plan : Plan) → IsReplayed (opening_book case plan)
+  opening-replayed case plan = record { same = refl; posts = refl; replaces = refl }
+
+  accepted-replayed : (b : Book) (e : Event) → IsReplayed b → IsAccepted Break b e (Step.step broken b e) → IsReplayed (after b e)
+  accepted-replayed b e old new = record {
+    same =
+        (λ i. replay_from broken (opening_book (new.case i) (new.opening i)) (new.history i) (new.cuts i) (new.plans i))
+        ∙ replay-append b.history (opening_book b.case b.opening) (entry_of e) b.cuts (cuts_of e) b.plans (plans_of e) old.posts old.replaces
+        ∙ ap (λ u. replay_from broken u (entry_of e ∷ []) (cuts_of e) (plans_of e)) old.same
+        ∙ replay-one b e new.accepted;
+    posts = ap posts_in new.history ∙ posts-more b.history e b.cuts old.posts ∙ sym (ap length new.cuts);
+    replaces = ap replaces_in new.history ∙ replaces-more b.history e b.plans old.replaces ∙ sym (ap length new.plans);
+  }
+
+  pub event-replayed : (b : Book) (e : Event) → IsReplayed b → IsReplayed (after b e)
+  event-replayed b e old =
+      elim (each-step broken b e) [
+        | Refused r same ↦ subst IsReplayed (sym same) old
+        | Accepted new ↦ accepted-replayed b e old new
+      ]
+
+  abbrev pub after_all : Book → List Event → Book
+  after_all b [] = b
+  after_all b (e ∷ es) = after_all (after b e) es
+
+  -- after any events, accepted or refused, the book is the replay of its history
+  pub all-replayed : (b : Book) (es : List Event) → IsReplayed b → IsReplayed (after_all b es)
+  all-replayed b [] old = old
+  all-replayed b (e ∷ es) old = all-replayed (after b e) es (event-replayed b e old)

@@ -1,0 +1,61 @@
+-- Events of a book, and its replies.
+use Rattle.std.specs.Prelude.{ℕ, ◌≤◌, Bool, true, false, ⊤}
+use Rattle.lock_model.specs.Deck.{Deck}
+use Rattle.lock_model.specs.declared.plan.Plan.{Plan}
+use Rattle.refute_rules.specs.Spots.{IsSpent}
+use Rattle.refute_rules.specs.Cuts.{Cut, IsCut}
+use Rattle.closing_rules.specs.declared.grounds.Ground.{Ground}
+use Rattle.book_rules.specs.Book.{Node as TreeNode}
+
+-- The events; `park` names slot, chamber and place, and carries the deck and the turns of the lent value.
+pub data Event : Type 0 where
+  take : ℕ → Event
+  split : ℕ → Event
+  close : ℕ → Ground → Event
+  post : Cut → Event
+  park : ℕ → ℕ → ℕ → Deck → ℕ → Event
+  replace : Plan → Event
+  release : ℕ → Event
+
+-- The replies; a break is what `judge_plan` answers against a plan.
+pub data Reply (Break : Type 0) : Type 0 where
+  Node : ℕ → TreeNode → Reply Break
+  Made : ℕ → Reply Break
+  Closed : Reply Break
+  Posted : ℕ → Reply Break
+  Parked : Reply Break
+  Replaced : ℕ → Reply Break
+  Released : ℕ → Reply Break
+  Ended : ℕ → Reply Break
+  Holds : ℕ → Reply Break
+  NodesSpent : ℕ → Reply Break
+  Idle : Reply Break
+  Done : Reply Break
+  NotHeld : ℕ → Reply Break
+  Whole : ℕ → Reply Break
+  Cheaper : ℕ → ℕ → Reply Break
+  NoHit : ℕ → Reply Break
+  OtherDeck : Reply Break
+  NotLegal : Break → Reply Break
+  NotCheaper : ℕ → ℕ → Reply Break
+  Absent : ℕ → Reply Break
+  Clashes : ℕ → Reply Break
+
+-- the first seven are accepted, the others are refusals
+abbrev pub is_accepted : {Break : Type 0} → Reply Break → Bool
+is_accepted (Node id node) = true
+is_accepted (Made count) = true
+is_accepted Closed = true
+is_accepted (Posted number) = true
+is_accepted Parked = true
+is_accepted (Replaced cost) = true
+is_accepted (Released count) = true
+is_accepted _ = false
+
+-- what the caller of an event owes: a worker's number is at most 8, a lent deck is hard and spot-hard, and a cut's refutation holds
+abbrev pub IsOwed : Event → Type 0
+IsOwed (take w) = w ≤ 8
+IsOwed (release w) = w ≤ 8
+IsOwed (park id c p deck turns) = IsSpent deck turns
+IsOwed (post cut) = IsCut cut
+IsOwed _ = ⊤

@@ -1,0 +1,4 @@
+pub mod AcceptLemmas
+pub mod CertRows
+pub mod FailLemmas
+pub mod LowLemmas

@@ -1,0 +1,87 @@
+-- The first place and reason at which a certificate fails: the plan, the cost, the cuts in order, then the marks in order.
+use Rattle.std.specs.Prelude.{ℕ, zero, suc, ◌≡◌, ◌≢◌, ◌-◌, ◌<◌, ◌⊎◌, List, [], ◌∷◌, length, take, All, slice_index_or}
+use Rattle.lock_model.specs.declared.instance.Instance.{Instance}
+use Rattle.lock_model.specs.declared.group.Group.{Group}
+use Rattle.lock_model.specs.declared.plan.Plan.{Plan}
+use Rattle.lock_rules.specs.Plan.{IsLegal, cost_of}
+use Rattle.lock_rules.specs.Node.{root_lines}
+use Rattle.lock_rules.specs.Children.{children_of}
+use Rattle.closing_rules.specs.declared.grounds.Ground.{Ground}
+use Rattle.closing_rules.specs.declared.grounds.Ground.TheVariants as by
+use Rattle.certificate_rules.specs.declared.certificate.Mark.{Mark}
+use Rattle.certificate_rules.specs.declared.certificate.Mark.TheVariants as mark
+use Rattle.certificate_rules.specs.declared.certificate.OpenMark.{OpenMark}
+use Rattle.certificate_rules.specs.declared.certificate.OpenMark.TheVariants.{Closed, Open}
+use Rattle.certificate_rules.specs.declared.certificate.Spot2.{Spot2}
+use Rattle.certificate_rules.specs.declared.certificate.Spot2.TheVariants as place
+use Rattle.certificate_rules.specs.declared.certificate.Reason.{Reason}
+use Rattle.certificate_rules.specs.declared.certificate.Reason.TheVariants as reason
+use Rattle.closing_rules.specs.ProvedCuts.{CertCut, IsShaped, IsProved}
+use Rattle.certificate_rules.specs.Certificates.{Certificate, Closes, IsMarkTree}
+use Rattle.certificate_rules.specs.OpenCertificates.{OpenCertificate, ClosesOrOpen}
+
+-- why a node isn't closed so
+abbrev pub ground_reason : Ground → Reason
+ground_reason by.Bound = reason.BoundLow
+ground_reason by.Throughput = reason.ThroughputLow
+ground_reason (by.Probe s) = reason.ProbeWrong
+ground_reason (by.Cut number) = reason.CutMisses
+
+-- why a mark that should close a node doesn't; a split mark doesn't where no ship is lacking
+abbrev pub reason_of : Mark → Reason
+reason_of mark.Split = reason.SplitFull
+reason_of (mark.Leaf why) = ground_reason why
+
+-- an open leaf never fails
+abbrev pub open_reason_of : OpenMark → Reason
+open_reason_of (Closed m) = reason_of m
+open_reason_of Open = reason.SplitFull
+
+-- reading one tree after the other from the marks on, it ends at `stuck` for a reason
+abbrev pub FailInOrder : {X M : Type 0} → (X → List M → List M → Type 0) → (X → List M → List M → Reason → Type 0) → List X → List M → List M → Reason → Type 0
+FailInOrder Tree Fails [] marks stuck r = ⊥
+FailInOrder {X} {M} Tree Fails (x ∷ xs) marks stuck r =
+    Fails x marks stuck r ⊎ ((middle : List M) × Tree x marks middle × FailInOrder Tree Fails xs middle stuck r)
+
+-- no mark is left, or the first one doesn't close the node
+abbrev pub FailsHere : {M : Type 0} → (M → Type 0) → (M → Reason) → List M → List M → Reason → Type 0
+FailsHere Closing reason_by [] stuck r = (stuck ≡ []) × (r ≡ reason.TreeShort)
+FailsHere Closing reason_by (m ∷ ms) stuck r = (stuck ≡ m ∷ ms) × (Closing m → ⊥) × (r ≡ reason_by m)
+
+-- Reading a tree of a node of depth k from the marks on, it ends at `stuck` for a reason.
+abbrev pub TreeFails : {M : Type 0} → Instance → M → (ℕ → List (List Group) → M → Type 0) → (M → Reason) → ℕ → ℕ → List (List Group) → List M → List M → Reason → Type 0
+TreeFails I split Closing reason_by zero k lines marks stuck r = FailsHere (Closing k lines) reason_by marks stuck r
+TreeFails {M} I split Closing reason_by (suc lacking) k lines marks stuck r =
+    FailsHere (λ m. Closing k lines m ⊎ (m ≡ split)) reason_by marks stuck r
+    ⊎ ((inner : List M) × (marks ≡ split ∷ inner)
+    × FailInOrder (IsMarkTree I split Closing lacking (suc k)) (TreeFails I split Closing reason_by lacking (suc k)) (children_of I k lines) inner stuck r)
+
+-- The marks aren't one tree of the root: reading ends at `stuck`, or a tree is read and marks are left over.
+abbrev pub MarksFail : {M : Type 0} → Instance → M → (ℕ → List (List Group) → M → Type 0) → (M → Reason) → List M → List M → Reason → Type 0
+MarksFail I split Closing reason_by marks stuck r =
+    TreeFails I split Closing reason_by (length I.ships) 0 root_lines marks stuck r
+    ⊎ ((stuck ≢ []) × (r ≡ reason.TreeLong) × IsMarkTree I split Closing (length I.ships) 0 root_lines marks stuck)
+
+-- cut number c is the first that isn't proved: it is misshaped, or its refutation fails
+pub record CutFails (I : Instance) (cuts : List CertCut) (c : ℕ) (r : Reason) : Type 0 where
+  pub cut : CertCut
+  pub known : c < length cuts
+  pub is : slice_index_or cuts c cut ≡ cut
+  pub before : All (IsProved I) (take c cuts)
+  pub unproved : ((IsShaped I cut → ⊥) × (r ≡ reason.CutShape)) ⊎ (IsShaped I cut × (IsProved I cut → ⊥) × (r ≡ reason.CutUnproved))
+
+-- The first place and reason, where `Fail` says it of the marks that are left at the place.
+abbrev pub FailsAt : {M : Type 0} → Instance → ℕ → List CertCut → Plan → List M → (List M → Reason → Type 0) → Spot2 → Reason → Type 0
+FailsAt I cost cuts plan tree Fail place.Plan r = (IsLegal I plan → ⊥) × (r ≡ reason.PlanIllegal)
+FailsAt I cost cuts plan tree Fail place.Cost r = IsLegal I plan × (cost_of I plan ≢ cost) × (r ≡ reason.CostWrong)
+FailsAt I cost cuts plan tree Fail (place.Cut c) r = IsLegal I plan × (cost_of I plan ≡ cost) × CutFails I cuts c r
+FailsAt {M} I cost cuts plan tree Fail (place.Tree p) r =
+    IsLegal I plan × (cost_of I plan ≡ cost) × All (IsProved I) cuts
+    × (stuck : List M) × (p ≡ length tree - length stuck) × Fail stuck r
+
+-- the first failure of a certificate, and of an open one
+abbrev pub Fails : Instance → Certificate → Spot2 → Reason → Type 0
+Fails I C = FailsAt I C.cost C.cuts C.plan C.tree (MarksFail I mark.Split (Closes I C.cost C.cuts) reason_of C.tree)
+
+abbrev pub OpenFails : Instance → OpenCertificate → Spot2 → Reason → Type 0
+OpenFails I C = FailsAt I C.cost C.cuts C.plan C.tree (MarksFail I (Closed mark.Split) (ClosesOrOpen I C.cost C.cuts) open_reason_of C.tree)

@@ -1,0 +1,5 @@
+pub mod Certificates
+pub mod OpenCertificates
+pub mod Low
+pub mod WellFormed
+pub mod Failures

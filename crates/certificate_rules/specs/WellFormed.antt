@@ -1,0 +1,59 @@
+-- Certificates that can be written down.
+use Rattle.std.specs.Prelude.{◌≡◌, ◌≤◌, ◌<◌, ◌^◌, length, All, ⊤}
+use Rattle.lock_model.specs.Limits.{Within}
+use Rattle.lock_model.specs.declared.plan.Lockage.{Lockage}
+use Rattle.refute_rules.specs.declared.refutation.Quick.{Quick}
+use Rattle.refute_rules.specs.declared.refutation.Quick.TheVariants.{Area, Row, Column}
+use Rattle.refute_rules.specs.declared.refutation.Refutation.{Refutation}
+use Rattle.closing_rules.specs.declared.grounds.Ground.{Ground}
+use Rattle.closing_rules.specs.declared.grounds.Ground.TheVariants as by
+use Rattle.certificate_rules.specs.declared.certificate.Mark.{Mark}
+use Rattle.certificate_rules.specs.declared.certificate.OpenMark.{OpenMark}
+use Rattle.certificate_rules.specs.declared.certificate.OpenMark.TheVariants.{Closed, Open}
+use Rattle.closing_rules.specs.ProvedCuts.{CertCut}
+use Rattle.certificate_rules.specs.Certificates.{Certificate}
+use Rattle.certificate_rules.specs.OpenCertificates.{OpenCertificate}
+use Rattle.refute_rules.specs.declared.refutation.Refutation.TheVariants as refutation
+use Rattle.certificate_rules.specs.declared.certificate.Mark.TheVariants as mark
+
+abbrev pub IsFormedReason : Quick → Type 0
+IsFormedReason Area = ⊤
+IsFormedReason (Row S) = 1 ≤ length S
+IsFormedReason (Column S) = 1 ≤ length S
+
+abbrev pub IsFormedRefutation : Refutation → Type 0
+IsFormedRefutation (refutation.Quick q) = IsFormedReason q
+IsFormedRefutation (refutation.Cases marks) = ⊤
+IsFormedRefutation (refutation.Spots marks) = ⊤
+IsFormedRefutation (refutation.Clash i j) = i < j
+
+abbrev pub IsFormedCut : CertCut → Type 0
+IsFormedCut c = Within 1 8 (length c.ships) × IsFormedRefutation c.refutation
+
+abbrev pub IsFormedLockage : Lockage → Type 0
+IsFormedLockage l = Within 1 8 (length l.ships) × (length l.spots ≡ length l.ships)
+
+abbrev pub IsFormedGround : Ground → Type 0
+IsFormedGround (by.Probe s) = s ≤ 23
+IsFormedGround (by.Cut number) = number < 2 ^ 63
+IsFormedGround _ = ⊤
+
+abbrev pub IsFormedMark : Mark → Type 0
+IsFormedMark mark.Split = ⊤
+IsFormedMark (mark.Leaf why) = IsFormedGround why
+
+abbrev pub IsFormedOpenMark : OpenMark → Type 0
+IsFormedOpenMark (Closed m) = IsFormedMark m
+IsFormedOpenMark Open = ⊤
+
+-- what a certificate keeps that may be written down
+pub record IsWellFormed (C : Certificate) : Type 0 where
+  pub cuts : All IsFormedCut C.cuts
+  pub lockages : All IsFormedLockage C.plan.lockages
+  pub marks : All IsFormedMark C.tree
+
+-- the same of an open certificate, its open leaves aside
+pub record IsWellFormedOpen (C : OpenCertificate) : Type 0 where
+  pub cuts : All IsFormedCut C.cuts
+  pub lockages : All IsFormedLockage C.plan.lockages
+  pub marks : All IsFormedOpenMark C.tree

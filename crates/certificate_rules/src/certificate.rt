@@ -1,0 +1,42 @@
+//! Marks of a certificate, and reasons against one.
+
+use closing_rules::Ground;
+
+/// What a certificate says of a node.
+#[derive(Clone, Copy, Debug, PartialEq, Eq)]
+pub enum Mark {
+    Split,
+    Leaf(Ground),
+}
+
+/// A mark, or a node that is left open.
+#[derive(Clone, Copy, Debug, PartialEq, Eq)]
+pub enum OpenMark {
+    Closed(Mark),
+    Open,
+}
+
+/// The place at which a certificate fails.
+#[derive(Clone, Copy, Debug, PartialEq, Eq)]
+pub enum Spot2 {
+    Plan,
+    Cost,
+    Cut(u64),
+    Tree(u64),
+}
+
+/// Why it fails there.
+#[derive(Clone, Copy, Debug, PartialEq, Eq)]
+pub enum Reason {
+    PlanIllegal,
+    CostWrong,
+    CutShape,
+    CutUnproved,
+    TreeShort,
+    TreeLong,
+    SplitFull,
+    BoundLow,
+    CutMisses,
+    ThroughputLow,
+    ProbeWrong,
+}

@@ -1,0 +1,43 @@
+-- The laws of the tree hold, given heredity and normal placements.
+use Rattle.std.proofs.Common.{ℕ, zero, suc, ◌+◌, ◌≤◌, List, [], ◌∷◌, inl, inr, ap, arith, cond, Contains}
+use Rattle.std.proofs.lemmas.Bool.Decides.{eqb_tells}
+use Rattle.lock_model.specs.Deck.{Deck, IsDeck}
+use Rattle.lock_model.specs.Fitting.{deck_of}
+use Rattle.lock_model.proofs.FleetLemmas.{IsDeck-deck_of}
+use Rattle.lock_model.specs.declared.instance.Instance.{Instance}
+use Rattle.lock_rules.specs.Plan.{times_in}
+use Rattle.lock_rules.specs.Children.{children_of}
+use Rattle.lock_rules.specs.Arrival.{missing_ships}
+use Rattle.lock_rules.specs.Heredity.{IsHereditary}
+use Rattle.lock_rules.proofs.TreeLemmas.{contains-among}
+use Rattle.lock_rules.proofs.SplitLemmas.{bound-holds, probe-holds, children-split}
+use Rattle.lock_rules.proofs.ThroughputLemmas.{throughput-holds}
+use Rattle.lock_rules.proofs.NodeLemmas.{children-nodes, root-node, root-under}
+use Rattle.lock_rules.proofs.CutLemmas.{cut-holds}
+use Rattle.refute_rules.proofs.RefuteLemmas.{HasNormal, refuted-unfit}
+use Rattle.closing_rules.specs.Laws.{TreeLaws}
+
+pub contains-times : (xs : List ℕ) (s : ℕ) → Contains xs s → 1 ≤ times_in xs s
+contains-times [] s h = absurd (omega (arith, h.1))
+contains-times (x ∷ xs) s (zero, known, is) =
+    elim (eqb_tells x s) [
+      | inl y ↦ let here = ap (λ b. cond b 1 0 + times_in xs s) y.0 in omega (arith, here)
+      | inr n ↦ absurd (n.1 is)
+    ]
+contains-times (x ∷ xs) s (suc k, known, is) = let rest = contains-times xs s (k, omega (arith, known), is) in omega (arith, rest)
+
+pub tree-laws : IsHereditary → ((d : Deck) → IsDeck d → HasNormal d) → (I : Instance) → TreeLaws I
+tree-laws law normal I = record {
+  root = root-node I;
+  all = λ P legal. root-under I P;
+  child = λ k lines node lacks. children-nodes I k lines node lacks;
+  split = λ k lines P node lacks legal under.
+      let way = children-split I k lines P legal under (omega (arith, node.four, I.limits.chamber_count.1)) lacks in
+      record { child = way.0; among = contains-among (children_of I k lines) way.0 way.1; under = way.2 };
+  bound = λ k lines node. bound-holds I k lines;
+  throughput = λ P legal. throughput-holds I P legal;
+  probe = λ k lines s node missing. probe-holds I k lines s (omega (arith, node.four, I.limits.chamber_count.1)) (contains-times (missing_ships I k) s missing);
+  cut = λ c k lines P proved node hits legal under.
+      let good = IsDeck-deck_of I c.chamber c.ships proved.shaped.chamber proved.shaped.known (proved.shaped.some, proved.shaped.kept.few) in
+      cut-holds law I c.ships (deck_of I c.chamber c.ships) k lines P good (refuted-unfit (deck_of I c.chamber c.ships) c.refutation good (normal (deck_of I c.chamber c.ships) good) proved.refuted) proved.shaped.kept.rising proved.shaped.some node hits legal under;
+}

@@ -1,0 +1,32 @@
+-- The laws of the search tree that acceptance rests on.
+use Rattle.std.specs.Prelude.{ℕ, suc, ◌≤◌, ◌<◌, List, length, All, Contains}
+use Rattle.lock_model.specs.Fitting.{deck_of}
+use Rattle.lock_model.specs.declared.instance.Instance.{Instance}
+use Rattle.lock_model.specs.declared.group.Group.{Group}
+use Rattle.lock_model.specs.declared.plan.Plan.{Plan}
+use Rattle.lock_rules.specs.Plan.{IsLegal, cost_of}
+use Rattle.lock_rules.specs.Node.{IsNode, root_lines}
+use Rattle.lock_rules.specs.Trace.{IsUnder}
+use Rattle.lock_rules.specs.Children.{children_of}
+use Rattle.lock_rules.specs.Arrival.{missing_ships}
+use Rattle.lock_rules.specs.Bound.{IsLowerBound, bound_of, probe_of}
+use Rattle.lock_rules.specs.Throughput.{throughput_of}
+use Rattle.lock_rules.specs.Cut.{HitsNode}
+use Rattle.closing_rules.specs.ProvedCuts.{CertCut, IsProved}
+
+-- a child of the node under which the plan lies
+pub record IsUnderChild (I : Instance) (k : ℕ) (lines : List (List Group)) (P : Plan) : Type 0 where
+  pub child : List (List Group)
+  pub among : Contains (children_of I k lines) child
+  pub under : IsUnder I (suc k) child P
+
+-- Children split the plans, bounds hold, and cuts hold.
+pub record TreeLaws (I : Instance) : Type 0 where
+  pub root : IsNode I 0 root_lines
+  pub all : (P : Plan) → IsLegal I P → IsUnder I 0 root_lines P
+  pub child : (k : ℕ) (lines : List (List Group)) → IsNode I k lines → k < length I.ships → All (IsNode I (suc k)) (children_of I k lines)
+  pub split : (k : ℕ) (lines : List (List Group)) (P : Plan) → IsNode I k lines → k < length I.ships → IsLegal I P → IsUnder I k lines P → IsUnderChild I k lines P
+  pub bound : (k : ℕ) (lines : List (List Group)) → IsNode I k lines → IsLowerBound I k lines (bound_of I k lines)
+  pub throughput : (P : Plan) → IsLegal I P → throughput_of I ≤ cost_of I P
+  pub probe : (k : ℕ) (lines : List (List Group)) (s : ℕ) → IsNode I k lines → Contains (missing_ships I k) s → IsLowerBound I k lines (probe_of I k lines s)
+  pub cut : (c : CertCut) (k : ℕ) (lines : List (List Group)) (P : Plan) → IsProved I c → IsNode I k lines → HitsNode c.ships (deck_of I c.chamber c.ships) I lines → IsLegal I P → IsUnder I k lines P → ⊥
