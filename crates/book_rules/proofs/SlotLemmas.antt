@@ -61,10 +61,6 @@ past-step p x xs true e rest h k known = absurd (omega (arith, h))
 past-step p x xs false e rest h zero known = e
 past-step p x xs false e rest h (suc k) known = rest (omega (arith, h)) k (omega (arith, known))
 
--- no slot before the first is in such a state
-pub first_slot-before : (b : Book) (test : SlotState → Bool) (id : ℕ) → first_slot b test ≡ Some id → (k : ℕ) → k < id → test (slot_at b k).state ≡ false
-first_slot-before b test id e = (position-Some (λ (s : Slot). test s.state) b.slots id no_slot e).2
-
 position-past : (p : Slot → Bool) (xs : List Slot) → length xs ≤ position_or_len p xs → (k : ℕ) → k < length xs → p (slice_index_or xs k no_slot) ≡ false
 position-past p [] h k known = absurd (omega (arith, known))
 position-past p (x ∷ xs) h k known = past-step p x xs (p x) refl (λ g. position-past p xs g) h k known
