@@ -14,7 +14,7 @@ use Rattle.command_words.specs.declared.commands.LotOptions.{LotOptions}
 use Rattle.command_words.specs.declared.commands.TrialOptions.{TrialOptions}
 use Rattle.command_words.specs.declared.commands.ReplanOptions.{ReplanOptions}
 use Rattle.run_answers.specs.Refusals.{IsUnfitShip}
-use Rattle.run_answers.specs.Sources.{Drained, Saying, AnswersSource, IsServed}
+use Rattle.run_answers.specs.Sources.{Drained, Saying, AnswersSource, IsServed, plan_limit}
 use Rattle.run_answers.specs.declared.status.Status.{Status}
 use Rattle.run_answers.specs.declared.status.Status.TheVariants.{Good, Open, Words, Refused, ReadFault, WriteFault, NoMemory, BadDossier, Unfit, PlanRefused}
 use Rattle.run_answers.proofs.SourceLemmas.{served_says}
@@ -27,7 +27,6 @@ use Rattle.dossier_commands.specs.Lowering.{AnswersLower}
 use Rattle.dossier_commands.specs.Resuming.{AnswersResume}
 use Rattle.dossier_commands.specs.Completing.{MayLower, MayResume}
 use Rattle.dossier_commands.proofs.CompleteLemmas.{lower_ends, resume_ends}
-use Rattle.plan_commands.specs.Planned.{plan_limit}
 use Rattle.plan_commands.specs.Judging.{AnswersJudge}
 use Rattle.plan_commands.specs.Playing.{AnswersPlay}
 use Rattle.plan_commands.proofs.CompleteLemmas.{judged_good, played_good}

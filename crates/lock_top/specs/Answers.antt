@@ -4,7 +4,7 @@ use Rattle.command_words.specs.Meaning.{AreBad}
 use Rattle.command_words.specs.declared.commands.Command.{Command}
 use Rattle.command_words.specs.declared.commands.Command.TheVariants.{Solve, Check, Lot, Trial, Judge, Play, Replan, Lower, Resume}
 use Rattle.lock_io.specs.WholeWrites.{AppendsProperPrefix}
-use Rattle.run_answers.specs.Sources.{Drained, IsUnread, AnswersSource}
+use Rattle.run_answers.specs.Sources.{Drained, IsUnread, AnswersSource, plan_limit}
 use Rattle.run_answers.specs.Texts.{bad_words_text, no_memory_text}
 use Rattle.run_answers.specs.declared.status.Status.{Status}
 use Rattle.run_answers.specs.declared.status.Status.TheVariants.{Good, Open, Words, Refused, ReadFault, WriteFault, NoMemory, BadDossier, Unfit, PlanRefused}
@@ -13,10 +13,9 @@ use Rattle.solve_commands.specs.Lots.{AnswersLot, AnswersTrial}
 use Rattle.dossier_commands.specs.Checking.{dossier_limit, AnswersCheck}
 use Rattle.dossier_commands.specs.Lowering.{AnswersLower}
 use Rattle.dossier_commands.specs.Resuming.{AnswersResume}
-use Rattle.plan_commands.specs.Planned.{plan_limit}
 use Rattle.plan_commands.specs.Judging.{AnswersJudge}
 use Rattle.plan_commands.specs.Playing.{AnswersPlay}
-use Rattle.replan_command.specs.Replanning.{replan_limit, AnswersReplan}
+use Rattle.replan_command.specs.Replanning.{AnswersReplan}
 use Rattle.lock_top.specs.Asked.{MeanOnly}
 use Rattle.lock_top.specs.Runs.{Run, Got}
 
@@ -29,7 +28,7 @@ AnswersCommand (Trial options) source status text =
     IsUnread source × AnswersTrial options.lot.number options.lot.ships options.lot.chambers options.nodes options.turns status text
 AnswersCommand Judge source status text = AnswersSource plan_limit AnswersJudge source status text
 AnswersCommand Play source status text = AnswersSource plan_limit AnswersPlay source status text
-AnswersCommand (Replan options) source status text = AnswersSource replan_limit (AnswersReplan options) source status text
+AnswersCommand (Replan options) source status text = AnswersSource plan_limit (AnswersReplan options) source status text
 AnswersCommand Lower source status text = AnswersSource dossier_limit AnswersLower source status text
 AnswersCommand (Resume options) source status text = AnswersSource dossier_limit (AnswersResume options) source status text
 

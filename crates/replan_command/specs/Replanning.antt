@@ -19,10 +19,6 @@ use Rattle.run_answers.specs.declared.status.Status.{Status}
 use Rattle.run_answers.specs.declared.status.Status.TheVariants.{Good, Open, Words, Refused, ReadFault, WriteFault, NoMemory, BadDossier, Unfit, PlanRefused}
 use Rattle.replan_command.specs.Keeping.{PrintsBest, PrintsOpen}
 
--- the most bytes that `replan` reads
-abbrev pub replan_limit : ℕ
-replan_limit = 131072
-
 -- What is answered where the plan K can be kept, and `Best` is what is printed where all is shown.
 abbrev pub AnswersKept : (List ℕ → Type 0) → ReplanOptions → Instance → Plan → Status → List ℕ → Type 0
 AnswersKept Best options I K Good text = Best text
