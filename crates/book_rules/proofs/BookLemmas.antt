@@ -11,7 +11,8 @@ use Rattle.book_rules.specs.Step
 use Rattle.book_rules.specs.Cover.{KeepsBook}
 use Rattle.closing_rules.specs.Laws.{TreeLaws}
 use Rattle.book_rules.proofs.StepLemmas.{Refused, Accepted, each-step}
-use Rattle.book_rules.proofs.ReplayLemmas.{IsReplayed, after_all, opening-replayed, all-replayed}
+use Rattle.book_rules.specs.Replay.{IsReplayed}
+use Rattle.book_rules.proofs.ReplayLemmas.{after_all, opening-replayed, all-replayed}
 use Rattle.book_rules.proofs.CoverLemmas.{event-keeps, opening-keeps}
 
 module _ {Break : Type 0} (broken : Instance → Plan → Option Break) (sound : (I : Instance) (P : Plan) → broken I P ≡ None → IsLegal I P) where

@@ -1,35 +1,31 @@
 -- Every event keeps the count of cheap nodes; where the budget is spent, there are more of them than it allows.
-use Rattle.std.proofs.Common.{◌≡◌, ℕ, zero, suc, ◌+◌, ◌-◌, ◌<◌, ◌≤◌, List, [], ◌∷◌, ◌++◌, length, map, refl, sym, ap, ◌∙◌, subst, arith, Bool, true, false, cond, slice_index_or, slice_set, nat_eq, nat_le, nat_lt, All, sum_by, Some, None, inl, inr}
+use Rattle.std.proofs.Common.{◌≡◌, ℕ, zero, suc, ◌+◌, ◌-◌, ◌<◌, ◌≤◌, List, [], ◌∷◌, ◌++◌, length, map, refl, sym, ap, ◌∙◌, subst, arith, Bool, true, false, cond, slice_index_or, slice_set, nat_le, nat_lt, All, sum_by, inl, inr}
 use Rattle.std.specs.declared.option.Option.{Option}
-use Rattle.std.proofs.lemmas.Bool.Decides.{leb_tells, eqb_tells}
+use Rattle.std.proofs.lemmas.Bool.Decides.{leb_tells}
 use Rattle.std.proofs.lemmas.List.Elements.{All-head, All-tail}
 use Rattle.std.proofs.lemmas.List.Sums.{sum_by-cons}
 use Rattle.lock_model.specs.declared.instance.Instance.{Instance}
 use Rattle.lock_model.specs.declared.group.Group.{Group}
 use Rattle.lock_model.specs.declared.plan.Plan.{Plan}
 use Rattle.lock_rules.specs.Plan.{cost_of}
-use Rattle.lock_rules.specs.Node.{root_lines}
 use Rattle.lock_rules.specs.Children.{children_of}
 use Rattle.lock_rules.specs.Cheap.{is_cheap, cheap_from, cheap_nodes}
 use Rattle.book_rules.specs.declared.book.Entry.{Entry}
 use Rattle.book_rules.specs.declared.book.Entry.TheVariants as entry
 use Rattle.book_rules.specs.declared.book.SlotState.{SlotState}
 use Rattle.book_rules.specs.declared.book.SlotState.TheVariants as slot
-use Rattle.book_rules.specs.Book.{Case, Slot, Book, Node as TreeNode, no_slot, slot_at, best_cost, bound_at, root, new_slot, opening_book, first_slot, has_slot, is_fresh, is_back, is_held, is_held_by}
-use Rattle.book_rules.specs.Events.{Event, Reply, IsOwed, take, Ended, NodesSpent, Idle, Done}
-use Rattle.book_rules.specs.NextSlot.{is_split, next_fresh}
+use Rattle.book_rules.specs.Book.{Case, Slot, Book, Node as TreeNode, no_slot, slot_at, best_cost, bound_at, root, new_slot, opening_book, is_fresh}
+use Rattle.book_rules.specs.Events.{Event, IsOwed}
+use Rattle.book_rules.specs.NextSlot.{is_split}
 use Rattle.book_rules.specs.Step
 use Rattle.book_rules.specs.Room.{count_slots}
 use Rattle.book_rules.specs.Cover.{IsGoodSlot, KeepsBook}
 use Rattle.book_rules.specs.Cheap.{opening_cost, count_cheap, share_of, sum_shares, KeepsCheap}
-use Rattle.book_rules.proofs.SlotLemmas.{IsAt, next_fresh-at}
+use Rattle.book_rules.proofs.SlotLemmas.{IsAt}
 use Rattle.book_rules.proofs.MoveLemmas.{Stays, TakesBack, TakesFresh, Splits, Closes, Parks, Posts, Replaces, Ends, GivesBack, MayClose, FromHeld, FromParked, turned, each-move}
 use Rattle.book_rules.proofs.BudgetLemmas.{closing-whole}
 use Rattle.book_rules.proofs.TallyLemmas.{one, count-turned, count-append, count-outdone, open-whole, Kept, Closed, outdone-is}
 use Rattle.closing_rules.specs.declared.grounds.Ground.TheVariants as by
-
-clash : true ≡ false → ⊥
-clash e = cc
 
 -- ---- how the counts change
 
@@ -203,7 +199,7 @@ opening-cheap case plan =
     let share = whole-share I c (new_slot I c 0 0 root) (new-whole (nat_le c (bound_at I root))) in
     record { best = omega arith; used = omega (arith, fresh); all = omega (arith, share) }
 
--- ---- where the budget is spent
+-- ---- cheap slots and shares
 
 pub count-some : (test : SlotState → Bool) (xs : List Slot) (id : ℕ) → id < length xs → test (slice_index_or xs id no_slot).state ≡ true → 1 ≤ count_slots test xs
 count-some test [] id known e = absurd (omega (arith, known))
@@ -230,56 +226,3 @@ cheap-shares I c (x ∷ xs) good =
     let here = share-least I c x (All-head (IsGoodSlot I) x xs good) in
     let rest = cheap-shares I c xs (All-tail (IsGoodSlot I) x xs good) in
     omega (arith, here, rest)
-
--- a Fresh slot is left, and the budget is used up
-pub record IsSpentBudget (b : Book) : Type 0 where
-  pub id : ℕ
-  pub fresh : IsAt b id slot.Fresh
-  pub used : b.used ≡ b.case.nodes
-
-abbrev is_spent : {Break : Type 0} → Reply Break → Bool
-is_spent (NodesSpent n) = true
-is_spent _ = false
-
-module _ {Break : Type 0} (broken : Instance → Plan → Option Break) (b : Book) where
-  abbrev TellsSpent : Book × Reply Break → Type 0
-  TellsSpent out = is_spent out.1 ≡ true → IsSpentBudget b
-
-  refuse_or : (t : Bool) (r : Reply Break) (out : Book × Reply Break) → is_spent r ≡ false → TellsSpent out → TellsSpent (cond t (b, r) out)
-  refuse_or true r out f h e = absurd (clash (sym e ∙ f))
-  refuse_or false r out f h e = h e
-
-  idle-spent : (t : Bool) → TellsSpent (b, cond t Idle Done)
-  idle-spent true e = absurd (clash (sym e))
-  idle-spent false e = absurd (clash (sym e))
-
-  fresh-spent : (w : ℕ) (o : Option ℕ) → next_fresh b ≡ o → TellsSpent (Step.take_fresh b w o)
-  fresh-spent w None same = idle-spent (has_slot b is_held)
-  fresh-spent w (Some id) same = by_test (nat_eq b.used b.case.nodes) refl
-    where
-      by_test : (t : Bool) → nat_eq b.used b.case.nodes ≡ t → TellsSpent (cond t (b, NodesSpent b.used) (Step.given b w id (suc b.used)))
-      by_test false f e = absurd (clash (sym e))
-      by_test true f e = record {
-        id = id;
-        fresh = next_fresh-at b id same;
-        used = elim (eqb_tells b.used b.case.nodes) [ inl y ↦ y.1 | inr n ↦ absurd (clash (sym f ∙ n.0)) ];
-      }
-
-  slot-spent : (w : ℕ) (o : Option ℕ) → TellsSpent (Step.take_slot b w o)
-  slot-spent w (Some id) = λ e. absurd (clash (sym e))
-  slot-spent w None = fresh-spent w (next_fresh b) refl
-
-  free-spent : (w : ℕ) (o : Option ℕ) → TellsSpent (Step.take_free b w o)
-  free-spent w (Some id) = λ e. absurd (clash (sym e))
-  free-spent w None = slot-spent w (first_slot b is_back)
-
-  pub take-spent : (w n : ℕ) → (Step.step broken b (take w)).1 ≡ NodesSpent n → IsSpentBudget b
-  take-spent w n e =
-      refuse_or (slice_index_or b.ended w false) (Ended w) (Step.take_free b w (first_slot b (is_held_by w))) refl (free-spent w (first_slot b (is_held_by w))) (ap is_spent e)
-
-  -- where the budget of nodes is spent, more nodes of the tree than that have a bound below the opening cost
-  pub spent-cheap : KeepsBook b → KeepsCheap b → (w n : ℕ) → (Step.step broken b (take w)).1 ≡ NodesSpent n → b.case.nodes < cheap_nodes b.case.instance (opening_cost b) 0 root_lines
-  spent-cheap book keeps w n e =
-      let why = take-spent w n e in
-      let some = count-some is_fresh b.slots why.id why.fresh.known (ap is_fresh why.fresh.is) in
-      omega (arith, some, why.used, keeps.used, keeps.all, cheap-shares b.case.instance (opening_cost b) b.slots book.slots)

@@ -13,7 +13,7 @@ use Rattle.book_rules.specs.Book.{Case, Slot, Book, Node as TreeNode, no_slot, s
 use Rattle.book_rules.specs.Events.{Event, IsOwed}
 use Rattle.book_rules.specs.NextSlot.{is_split, first_child}
 use Rattle.book_rules.specs.Step
-use Rattle.book_rules.specs.Family.{child_count, child_node, IsChildSlot, HasChildren, IsBorn, KeepsFamily}
+use Rattle.book_rules.specs.Family.{child_count, child_node, HasChildren, IsBorn, KeepsFamily}
 use Rattle.book_rules.proofs.SlotLemmas.{IsAt}
 use Rattle.book_rules.proofs.MoveLemmas.{Stays, TakesBack, TakesFresh, Splits, Closes, Parks, Posts, Replaces, Ends, GivesBack, turned, state-known, each-move}
 use Rattle.book_rules.proofs.BudgetLemmas.{closing-whole}
@@ -332,18 +332,3 @@ opening-family case plan = record {
     none (suc id) first h = not-split (slot.Closed by.Bound) first refl h
 
 -- ---- one slot and its parent
-
--- a slot that isn't the root is the child of its parent that its number tells
-pub own-child : (b : Book) → KeepsFamily b → (id : ℕ) → 0 < id → id < length b.slots → IsChildSlot b (slot_at b id).parent (slot_at b id).number id
-own-child b keeps id low known =
-    let born = keeps.born id low known in
-    subst (IsChildSlot b (slot_at b id).parent (slot_at b id).number) born.place ((keeps.children (slot_at b id).parent born.first born.split).child (slot_at b id).number born.number)
-
-pub parent-before : (b : Book) → KeepsFamily b → (id : ℕ) → 0 < id → id < length b.slots → (slot_at b id).parent < id
-parent-before b keeps id low known =
-    let born = keeps.born id low known in
-    let kids = keeps.children (slot_at b id).parent born.first born.split in
-    omega (arith, kids.later, born.place)
-
-pub parent-lacks : (b : Book) → KeepsFamily b → (id : ℕ) → 0 < id → id < length b.slots → (slot_at b (slot_at b id).parent).node.depth < length b.case.instance.ships
-parent-lacks b keeps id low known = let born = keeps.born id low known in (keeps.children (slot_at b id).parent born.first born.split).lacks

@@ -14,12 +14,8 @@ pub mod GrowLemmas
 pub mod CaseCountLemmas
 pub mod CompleteLemmas
 pub mod EndLemmas
-pub mod AloneLemmas
-pub mod PassLemmas
 pub mod NextLemmas
 pub mod BackLemmas
-pub mod WaitingLemmas
-pub mod WaitingSteps
 pub mod RoomLemmas
 pub mod StepLemmas
 pub mod TestLemmas

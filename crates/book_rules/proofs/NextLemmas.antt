@@ -1,10 +1,11 @@
 -- Which slot is the first in a state, and which Fresh slot is next.
-use Rattle.std.proofs.Common.{◌⊎◌, ◌≡◌, ◌≢◌, ℕ, zero, suc, ◌+◌, ◌<◌, ◌≤◌, List, [], ◌∷◌, length, inl, inr, refl, sym, ap, ◌∙◌, subst, arith, Bool, true, false, not, cond, ◌&&◌, Some, None, slice_index_or, nat_eq, nat_lt}
+use Rattle.std.proofs.Common.{◌≡◌, ◌≢◌, ℕ, zero, suc, ◌+◌, ◌<◌, ◌≤◌, List, [], ◌∷◌, length, inl, inr, refl, sym, ap, ◌∙◌, subst, arith, Bool, true, false, not, cond, ◌&&◌, Some, None, slice_index_or, nat_eq, nat_lt}
 use Rattle.std.specs.declared.option.Option.{Option}
 use Rattle.std.specs.List.{position_or_len, filter}
 use Rattle.std.proofs.lemmas.Bool.Decides.{leb_tells, eqb_tells}
 use Rattle.lock_model.specs.Ships.{RisesFrom}
-use Rattle.lock_rules.proofs.TreeLemmas.{IsAmong, RisesFrom-less, RisesFrom-filter}
+use Rattle.lock_rules.specs.Among.{IsAmong}
+use Rattle.lock_rules.proofs.TreeLemmas.{RisesFrom-less, RisesFrom-filter}
 use Rattle.lock_rules.proofs.BoundLemmas.{IsAmong-filter}
 use Rattle.book_rules.specs.declared.book.SlotState.{SlotState}
 use Rattle.book_rules.specs.declared.book.SlotState.TheVariants as slot
@@ -243,16 +244,6 @@ module _ (b : Book) (family : KeepsFamily b) where
       ∙ ap (least_fresh b) (last-split shut parent first id last least.child known)
       ∙ least_fresh-is shut parent id least
 
-  -- and what is next is its child
-  pub next_fresh-child : is_fresh (slot_at b 0).state ≡ false → (parent first other : ℕ) → IsLastSplit b parent first → IsFreshChild b parent other → (id : ℕ) → next_fresh b ≡ Some id → IsFreshChild b parent id
-  next_fresh-child shut parent first other last child id next =
-      let known : parent < length b.slots = state-known b parent (slot.Split first) last.split (λ f. clash (ap is_split f)) in
-      let best : first_best (lower b) (fresh_children b parent) ≡ Some id =
-      sym (ap (least_fresh b) (last-split shut parent first other last child known))
-      ∙ sym (ap (λ t. cond t (Some 0) (below_root b)) shut)
-      ∙ next in
-      among-child shut parent id (best-among (lower b) (fresh_children b parent) id best)
-
   least-some : is_fresh (slot_at b 0).state ≡ false → (parent : ℕ) → IsAmong (waiting_splits b) parent → (m : ℕ) × (least_fresh b (Some parent) ≡ Some m)
   least-some shut parent among = let waits = waits-split shut parent among in best-some (lower b) (fresh_children b parent) waits.id (child-among parent waits.id waits.child)
 
@@ -281,37 +272,6 @@ module _ (b : Book) (family : KeepsFamily b) where
           let not_root : id ≢ 0 = λ f. clash (sym (ap is_fresh at.is) ∙ ap (λ k. is_fresh (slot_at b k).state) f ∙ e) in
           let best = best-some (later b) (waiting_splits b) (slot_at b id).parent (parent-waits id not_root at) in
           below-some e (first_best (later b) (waiting_splits b)) best.0 best.1 (best-among (later b) (waiting_splits b) best.0 best.1) h
-
--- what a look at the children of one split tells of the next Fresh slot
-pub record IsNextFresh (b : Book) (split first c : ℕ) : Type 0 where
-  pub root : is_fresh (slot_at b 0).state ≡ false
-  pub split_is : (slot_at b split).state ≡ slot.Split first
-  pub fresh : (slot_at b c).state ≡ slot.Fresh
-  pub parent : (slot_at b c).parent ≡ split
-  pub least : (k : ℕ) → (slot_at b k).state ≡ slot.Fresh → (slot_at b k).parent ≡ split → ((slot_at b c).bound < (slot_at b k).bound) ⊎ (((slot_at b c).bound ≡ (slot_at b k).bound) × (c ≤ k))
-  pub greatest : (k q f : ℕ) → (slot_at b k).state ≡ slot.Fresh → (slot_at b k).parent ≡ q → (slot_at b q).state ≡ slot.Split f → (q ≡ split) ⊎ (f < first)
-
-pub next_fresh-found : (b : Book) → KeepsFamily b → (split first c : ℕ) → IsNextFresh b split first c → next_fresh b ≡ Some c
-next_fresh-found b family split first c h =
-    next_fresh-is b family h.root split first c (record { split = h.split_is; last = λ other p f child is. at_most p f is (h.greatest other p f child.fresh child.below is) })
-    (record {
-      child = record {
-        known = state-known b c slot.Fresh h.fresh (λ e. clash (ap is_fresh e));
-        some = λ e. clash (sym (ap is_fresh h.fresh) ∙ ap (λ k. is_fresh (slot_at b k).state) e ∙ h.root);
-        fresh = h.fresh;
-        below = h.parent;
-      };
-      least = λ other child. elim (h.least other child.fresh child.below) [ inl less ↦ omega (arith, less) | inr tie ↦ omega (arith, tie.0) ];
-      tie = λ other child before. elim (h.least other child.fresh child.below) [ inl less ↦ less | inr tie ↦ absurd (omega (arith, tie.1, before)) ];
-    })
-  where
-    at_most : (p f : ℕ) → (slot_at b p).state ≡ slot.Split f → (p ≡ split) ⊎ (f < first) → f ≤ first
-    at_most p f is (inl same) = let equal = ap first_child (sym is ∙ ap (λ k. (slot_at b k).state) same ∙ h.split_is) in omega (arith, equal)
-    at_most p f is (inr less) = omega (arith, less)
-
--- the root comes first
-pub next_fresh-root : (b : Book) → is_fresh (slot_at b 0).state ≡ true → next_fresh b ≡ Some 0
-next_fresh-root b e = ap (λ t. cond t (Some 0) (below_root b)) e
 
 -- where no slot is Fresh, none is next
 pub next_fresh-none : (b : Book) → ((id : ℕ) → id < length b.slots → is_fresh (slot_at b id).state ≡ false) → next_fresh b ≡ None

@@ -1,14 +1,12 @@
 -- After every list of events a book keeps its parts.
-use Rattle.std.proofs.Common.{◌≡◌, ℕ, ◌<◌, List, [], ◌∷◌, refl, sym, ap, ◌∙◌, subst, None}
+use Rattle.std.proofs.Common.{◌≡◌, List, [], ◌∷◌, sym, ap, subst, None}
 use Rattle.std.specs.declared.option.Option.{Option}
 use Rattle.std.specs.List.{AllByRecursion}
 use Rattle.lock_model.specs.declared.instance.Instance.{Instance}
 use Rattle.lock_model.specs.declared.plan.Plan.{Plan}
-use Rattle.lock_rules.specs.Plan.{IsLegal, cost_of}
-use Rattle.lock_rules.specs.Node.{root_lines}
-use Rattle.lock_rules.specs.Cheap.{cheap_nodes}
+use Rattle.lock_rules.specs.Plan.{IsLegal}
 use Rattle.book_rules.specs.Book.{Case, Book, opening_book}
-use Rattle.book_rules.specs.Events.{Event, IsOwed, take, NodesSpent}
+use Rattle.book_rules.specs.Events.{Event, IsOwed}
 use Rattle.book_rules.specs.Step
 use Rattle.book_rules.specs.Cover.{KeepsBook}
 use Rattle.closing_rules.specs.Laws.{TreeLaws}
@@ -16,13 +14,13 @@ use Rattle.book_rules.specs.Parts.{KeepsParts}
 use Rattle.book_rules.proofs.StepLemmas.{Refused, Accepted, each-step}
 use Rattle.book_rules.proofs.ReplayLemmas.{after_all}
 use Rattle.book_rules.proofs.CoverLemmas.{event-keeps, opening-keeps}
-use Rattle.book_rules.proofs.BookLemmas.{all-keep, IsSound, every_list}
+use Rattle.book_rules.proofs.BookLemmas.{IsSound, every_list}
 use Rattle.book_rules.proofs.FamilyLemmas.{family-step, opening-family}
 use Rattle.book_rules.proofs.StateLemmas.{states-step, opening-states}
 use Rattle.book_rules.proofs.WorkerLemmas.{workers-step, opening-workers}
 use Rattle.book_rules.proofs.BudgetLemmas.{budget-step}
 use Rattle.book_rules.proofs.RoomLemmas.{room-step, opening-room, opening-budget}
-use Rattle.book_rules.proofs.CheapLemmas.{cheap-step, opening-cheap, spent-cheap}
+use Rattle.book_rules.proofs.CheapLemmas.{cheap-step, opening-cheap}
 use Rattle.book_rules.proofs.BackLemmas.{back-step, opening-back}
 
 pub opening-parts : (case : Case) (plan : Plan) → KeepsParts (opening_book case plan)
@@ -52,18 +50,6 @@ module _ {Break : Type 0} (broken : Instance → Plan → Option Break) where
   same-case : (b : Book) (e : Event) → (Step.step broken b e).0.case ≡ b.case
   same-case b e = elim (each-step broken b e) [ Refused r same ↦ ap (λ (u : Book). u.case) same | Accepted new ↦ new.case ]
 
-  same-opening : (b : Book) (e : Event) → (Step.step broken b e).0.opening ≡ b.opening
-  same-opening b e = elim (each-step broken b e) [ Refused r same ↦ ap (λ (u : Book). u.opening) same | Accepted new ↦ new.opening ]
-
-  -- no event changes the case or the opening plan
-  pub all-case : (b : Book) (es : List Event) → (after_all broken b es).case ≡ b.case
-  all-case b [] = refl
-  all-case b (e ∷ es) = all-case (Step.step broken b e).0 es ∙ same-case b e
-
-  pub all-opening : (b : Book) (es : List Event) → (after_all broken b es).opening ≡ b.opening
-  all-opening b [] = refl
-  all-opening b (e ∷ es) = all-opening (Step.step broken b e).0 es ∙ same-opening b e
-
   module _ (sound : (I : Instance) (P : Plan) → broken I P ≡ None → IsLegal I P) where
     pub all-parts : (b : Book) (es : List Event) → TreeLaws b.case.instance → AllByRecursion IsOwed es → KeepsBook b → KeepsParts b → KeepsParts (after_all broken b es)
     all-parts b [] laws owed book keeps = keeps
@@ -81,14 +67,3 @@ module _ {Break : Type 0} (broken : Instance → Plan → Option Break) where
 
     pub every_list-all : (case : Case) (plan : Plan) (es : List Event) → TreeLaws case.instance → IsLegal case.instance plan → AllByRecursion IsOwed es → KeepsAll (after_all broken (opening_book case plan) es)
     every_list-all case plan es laws legal owed = record { cover = every_list broken sound case plan es laws legal owed; parts = every_list-parts case plan es laws legal owed }
-
-    -- where the budget is spent after any list of owed events, more nodes than it allows have a bound below the opening plan's cost
-    pub every_list-spent : (case : Case) (plan : Plan) (es : List Event) → TreeLaws case.instance → IsLegal case.instance plan → AllByRecursion IsOwed es
-        → (w n : ℕ) → (Step.step broken (after_all broken (opening_book case plan) es) (take w)).1 ≡ NodesSpent n → case.nodes < cheap_nodes case.instance (cost_of case.instance plan) 0 root_lines
-    every_list-spent case plan es laws legal owed w n e =
-        let b = after_all broken (opening_book case plan) es in
-        let keeps = every_list-parts case plan es laws legal owed in
-        let book = all-keep broken sound (opening_book case plan) es laws owed (opening-keeps case plan laws legal) in
-        let more : b.case.nodes < cheap_nodes b.case.instance (cost_of b.case.instance b.opening) 0 root_lines = spent-cheap broken b book keeps.cheap w n e in
-        subst (λ (c : Case). c.nodes < cheap_nodes c.instance (cost_of c.instance plan) 0 root_lines) (all-case (opening_book case plan) es)
-        (subst (λ P. b.case.nodes < cheap_nodes b.case.instance (cost_of b.case.instance P) 0 root_lines) (all-opening (opening_book case plan) es) more)

@@ -133,10 +133,6 @@ module _ {Break : Type 0} (broken : Instance → Plan → Option Break) (b : Boo
             ]
       ]
 
-  -- the entry of an accepted event that is neither post nor replace has its room
-  pub entry-room : KeepsRoom b → (e : Event) → IsOwed e → is_growing e ≡ false → is_accepted (Step.step broken b e).1 ≡ true → suc (length b.history) ≤ 3 * b.case.nodes + 32 + length b.cuts + length b.plans
-  entry-room keeps e owed plain accepted = let falls = room-falls e owed plain accepted in omega (arith, keeps.room, falls)
-
 pub opening-room : (case : Case) (plan : Plan) → KeepsRoom (opening_book case plan)
 opening-room case plan = record { room = by_bound (nat_le (cost_of case.instance plan) (bound_at case.instance root)) }
   where

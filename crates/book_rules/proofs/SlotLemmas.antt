@@ -4,7 +4,7 @@ use Rattle.std.specs.declared.option.Option.{Option}
 use Rattle.std.specs.List.{position_or_len}
 use Rattle.std.proofs.lemmas.Bool.Decides.{leb_tells, eqb_tells}
 use Rattle.std.proofs.lemmas.List.Quantifiers.{position-Some}
-use Rattle.lock_rules.proofs.TreeLemmas.{IsAmong}
+use Rattle.lock_rules.specs.Among.{IsAmong}
 use Rattle.book_rules.specs.declared.book.SlotState.{SlotState}
 use Rattle.book_rules.specs.declared.book.SlotState.TheVariants as slot
 use Rattle.book_rules.specs.Book.{Slot, Book, no_slot, slot_at, first_slot, is_fresh, is_back, is_held, is_held_by}
@@ -60,10 +60,6 @@ past-step : (p : Slot → Bool) (x : Slot) (xs : List Slot) (t : Bool) → p x �
 past-step p x xs true e rest h k known = absurd (omega (arith, h))
 past-step p x xs false e rest h zero known = e
 past-step p x xs false e rest h (suc k) known = rest (omega (arith, h)) k (omega (arith, known))
-
--- no slot before the first is in such a state
-pub first_slot-before : (b : Book) (test : SlotState → Bool) (id : ℕ) → first_slot b test ≡ Some id → (k : ℕ) → k < id → test (slot_at b k).state ≡ false
-first_slot-before b test id e = (position-Some (λ (s : Slot). test s.state) b.slots id no_slot e).2
 
 position-past : (p : Slot → Bool) (xs : List Slot) → length xs ≤ position_or_len p xs → (k : ℕ) → k < length xs → p (slice_index_or xs k no_slot) ≡ false
 position-past p [] h k known = absurd (omega (arith, known))

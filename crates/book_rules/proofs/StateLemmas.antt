@@ -16,7 +16,6 @@ use Rattle.book_rules.specs.declared.book.SlotState.TheVariants as slot
 use Rattle.book_rules.specs.Book.{Case, Slot, Book, Node as TreeNode, no_slot, slot_at, best_cost, bound_at, root, new_slot, opening_book, is_fresh, is_back, is_parked}
 use Rattle.book_rules.specs.Events.{Event, IsOwed}
 use Rattle.book_rules.specs.Step
-use Rattle.book_rules.specs.Cover.{IsParkedWell}
 use Rattle.book_rules.specs.States.{Tells, IsTrueSlot, KeepsStates}
 use Rattle.book_rules.proofs.CoverLemmas.{all-set}
 use Rattle.book_rules.proofs.TestLemmas.{not-le}
@@ -144,9 +143,3 @@ state-tells b id state keeps at = subst (TellsAt b id) at.is (keeps.states id no
 
 pub fresh-low : (b : Book) (id : ℕ) → KeepsStates b → IsAt b id slot.Fresh → (slot_at b id).bound < best_cost b
 fresh-low b id keeps at = state-tells b id slot.Fresh keeps at
-
-pub by_bound-high : (b : Book) (id : ℕ) → KeepsStates b → IsAt b id (slot.Closed by.Bound) → best_cost b ≤ (slot_at b id).bound
-by_bound-high b id keeps at = state-tells b id (slot.Closed by.Bound) keeps at
-
-pub parked-well : (b : Book) (id c p : ℕ) → KeepsStates b → IsAt b id (slot.Parked c p) → IsParkedWell b id c p
-parked-well b id c p keeps at = let group = state-tells b id (slot.Parked c p) keeps at in record { spent = group.spent; clear = group.clear }

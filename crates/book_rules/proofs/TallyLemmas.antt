@@ -4,7 +4,7 @@ use Rattle.lock_model.specs.declared.instance.Instance.{Instance}
 use Rattle.lock_model.specs.declared.group.Group.{Group}
 use Rattle.book_rules.specs.declared.book.SlotState.{SlotState}
 use Rattle.book_rules.specs.declared.book.SlotState.TheVariants as slot
-use Rattle.book_rules.specs.Book.{Slot, Book, no_slot, slot_at, bound_at, is_fresh, is_back, is_held, is_parked}
+use Rattle.book_rules.specs.Book.{Slot, Book, no_slot, slot_at, bound_at, is_fresh, is_back, is_parked}
 use Rattle.book_rules.specs.NextSlot.{is_split}
 use Rattle.book_rules.specs.Step
 use Rattle.book_rules.specs.Room.{count_slots, count_false}
@@ -109,10 +109,6 @@ count-outdone test bound cost (x ∷ xs) =
 pub open-whole : (s : SlotState) → (is_fresh s || is_back s || is_parked s) ≡ true → is_split s ≡ false
 open-whole (slot.Split first) e = absurd (clash (sym e))
 open-whole _ e = refl
-
-pub open-not_held : (s : SlotState) → (is_fresh s || is_back s || is_parked s) ≡ true → is_held s ≡ false
-open-not_held (slot.Held w) e = absurd (clash (sym e))
-open-not_held _ e = refl
 
 -- ---- workers that haven't ended
 

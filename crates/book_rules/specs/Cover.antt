@@ -1,15 +1,13 @@
 -- What a book keeps.
 use Rattle.std.specs.Prelude.{ℕ, ◌≡◌, ◌<◌, true, List, length, slice_index_or, All}
 use Rattle.lock_model.specs.Fitting.{deck_of}
-use Rattle.lock_model.specs.Cargo.{HasNoClash}
 use Rattle.lock_model.specs.declared.instance.Instance.{Instance}
 use Rattle.lock_model.specs.declared.plan.Plan.{Plan}
 use Rattle.lock_rules.specs.Plan.{IsLegal, cost_of}
 use Rattle.lock_rules.specs.Node.{IsNode}
 use Rattle.lock_rules.specs.Trace.{IsUnder}
-use Rattle.refute_rules.specs.Spots.{IsSpent}
 use Rattle.refute_rules.specs.Cuts.{Cut, IsCut}
-use Rattle.book_rules.specs.Book.{Slot, Book, no_slot, slot_at, best_cost, bound_at, ships_at, is_live}
+use Rattle.book_rules.specs.Book.{Slot, Book, no_slot, best_cost, bound_at, is_live}
 
 -- the plan lies under a slot that is open, held or parked
 pub record IsCovered (I : Instance) (slots : List Slot) (P : Plan) : Type 0 where
@@ -28,7 +26,7 @@ pub record IsGoodSlot (I : Instance) (s : Slot) : Type 0 where
   pub node : IsNode I s.node.depth s.node.lines
   pub bound : s.bound ≡ bound_at I s.node
 
--- the cut is proved, and about a chamber and ships of the instance
+-- The cut is about a chamber and ships of the instance, and its deck is theirs. That it is proved, its type keeps (`IsCut`).
 pub record IsOwnCut (I : Instance) (cut : Cut) : Type 0 where
   pub chamber : cut.chamber < length I.chambers
   pub ships : All (λ s. s < length I.ships) cut.ships
@@ -39,8 +37,3 @@ pub record KeepsBook (b : Book) : Type 0 where
   pub slots : All (IsGoodSlot b.case.instance) b.slots
   pub cuts : All (λ cut. IsCut cut × IsOwnCut b.case.instance cut) b.cuts
   pub covers : Covers b
-
--- Group p of chamber c of the slot's node is spent for the case's turns, and no two of its ships clash.
-pub record IsParkedWell (b : Book) (id c p : ℕ) : Type 0 where
-  pub spent : IsSpent (deck_of b.case.instance c (ships_at (slot_at b id).node c p)) b.case.turns
-  pub clear : HasNoClash (deck_of b.case.instance c (ships_at (slot_at b id).node c p))

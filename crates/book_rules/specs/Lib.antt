@@ -16,4 +16,3 @@ pub mod Cheap
 pub mod Waiting
 pub mod Parts
 pub mod Ends
-pub mod Alone

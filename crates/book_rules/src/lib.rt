@@ -7,22 +7,19 @@
 //!   `specs/Parts`, which joins `Family` (the slots make a tree), `States` (each state is true of its
 //!   node), `Workers`, `Budget`, `Room` and `History` (entries that may still come), `Cheap` (cheap
 //!   nodes are counted) and `Waiting` (the slots that are taken next).
-//! - How a search ends: `specs/Ends` (what each verdict means, of an instance, a plan and numbers),
-//!   and `Alone` (one worker's last pass over the slots).
+//! - How a search ends: `specs/Ends` (what each verdict means, of an instance, a plan and numbers).
 //!
 //! The laws stand in `proofs/`: every list of events keeps the cover (`CoverLemmas`, `StepLemmas`),
 //! and a book is the replay of its history (`ReplayLemmas`, `BookLemmas`). `BookRows` holds worked
 //! rows.
 //!
 //! Each event is a refusal or one of a few moves (`MoveLemmas`), and keeps each part
-//! (`FamilyLemmas`, `StateLemmas`, `WorkerLemmas`, `BudgetLemmas`, `RoomLemmas`, `CheapLemmas`); so
-//! does every list of events (`PartLemmas`). Where the budget is spent, more nodes than it allows
-//! have a bound below the opening cost (`CheapLemmas`). `NextLemmas` tells which slot is taken,
-//! `BackLemmas` and `WaitingSteps` what each event changes of the two lists of slots to be taken.
+//! (`FamilyLemmas`, `StateLemmas`, `WorkerLemmas`, `BudgetLemmas`, `RoomLemmas`, `CheapLemmas`,
+//! `BackLemmas`); so does every list of events (`PartLemmas`). `NextLemmas` tells which slot is taken.
 //!
-//! A verdict means what it says where the search has ended well (`EndLemmas`); one worker ends it so
-//! (`AloneLemmas`, `PassLemmas`). With as many nodes as the node law says and as many turns as the
-//! turn law says the only verdict is `Optimal` (`GrowLemmas`, `CaseCountLemmas`, `CompleteLemmas`).
+//! A verdict means what it says where the search has ended well (`EndLemmas`). With as many nodes as
+//! the node law says and as many turns as the turn law says the only verdict is `Optimal`
+//! (`GrowLemmas`, `CaseCountLemmas`, `CompleteLemmas`).
 #![tactic(auto)]
 
 mod book;

@@ -1,5 +1,5 @@
 -- Certificates with open leaves.
-use Rattle.std.specs.Prelude.{ℕ, ◌≡◌, List, [], length, map, All, ⊤}
+use Rattle.std.specs.Prelude.{ℕ, ◌≡◌, List, [], length, All, ⊤}
 use Rattle.lock_model.specs.declared.instance.Instance.{Instance}
 use Rattle.lock_model.specs.declared.group.Group.{Group}
 use Rattle.lock_model.specs.declared.plan.Plan.{Plan}
@@ -8,7 +8,7 @@ use Rattle.lock_rules.specs.Node.{root_lines}
 use Rattle.certificate_rules.specs.declared.certificate.OpenMark.{OpenMark}
 use Rattle.certificate_rules.specs.declared.certificate.OpenMark.TheVariants.{Closed, Open}
 use Rattle.closing_rules.specs.ProvedCuts.{CertCut, IsProved}
-use Rattle.certificate_rules.specs.Certificates.{Certificate, Closes, IsMarkTree}
+use Rattle.certificate_rules.specs.Certificates.{Closes, IsMarkTree}
 use Rattle.certificate_rules.specs.declared.certificate.Mark.TheVariants as mark
 
 pub record OpenCertificate : Type 0 where
@@ -32,7 +32,3 @@ pub record Stands (I : Instance) (C : OpenCertificate) : Type 0 where
   pub cost : cost_of I C.plan ≡ C.cost
   pub cuts : All (IsProved I) C.cuts
   pub tree : IsOpenTree I C
-
--- a certificate as an open one
-abbrev pub opened : Certificate → OpenCertificate
-opened C = record { cost = C.cost; cuts = C.cuts; plan = C.plan; tree = map Closed C.tree }

@@ -34,7 +34,7 @@ use Rattle.replan.specs.Kept.{kept_of}
 use Rattle.replan_command.specs.Ends.{MayEndReplan}
 use Rattle.replan_command.proofs.EndsLemmas.{replan_ends}
 use Rattle.lock_top.specs.Asked.{Asks}
-use Rattle.lock_top.specs.Answers.{AnswersCommand, Answers}
+use Rattle.lock_top.specs.Answers.{AnswersCommand, RunAnswers}
 use Rattle.lock_top.specs.Complete.{MayEnd, MayCheck, MayPrint, IsComplete}
 use Rattle.lock_top.specs.Runs.{Filled}
 use Rattle.lock_top.proofs.AnswerLemmas.{by_command}
@@ -97,7 +97,7 @@ trial_ends options I lot status text told =
 
 -- ---- what was answered to the words
 
-module _ (words : List (List ℕ)) (source : Drained) (status : Status) (text : List ℕ) (answer : Answers words source status text) where
+module _ (words : List (List ℕ)) (source : Drained) (status : Status) (text : List ℕ) (answer : RunAnswers words source status text) where
   -- by what is answered to the command that they mean
   by_answer : (May : Status → Type 0) → May NoMemory → (command : Command) → Asks words command → (AnswersCommand command source status text → May status) → May status
   by_answer May want command ask ends = elim (by_command words source command status text ask.means answer) [
@@ -117,7 +117,7 @@ may_print status (inl good) = subst MayPrint (sym good) tt
 may_print status (inr want) = subst MayPrint (sym want) tt
 
 -- COMPLETENESS, from what was answered,
-pub complete : (words : List (List ℕ)) (source : Drained) (sink : Filled) (status : Status) (text : List ℕ) → Answers words source status text → IsComplete (record { words = words; source = source; sink = sink; status = status })
+pub complete : (words : List (List ℕ)) (source : Drained) (sink : Filled) (status : Status) (text : List ℕ) → RunAnswers words source status text → IsComplete (record { words = words; source = source; sink = sink; status = status })
 complete words source sink status text answer = record {
   solve = λ options bytes I ask served means fit.
       by_answer words source status text answer (MayEnd I options.nodes options.turns) tt (Solve options) ask

@@ -5,7 +5,7 @@ use Rattle.lock_model.specs.declared.plan.Plan.{Plan}
 use Rattle.lock_rules.specs.Unfit.{HasNoUnfit}
 use Rattle.book_rules.specs.Ends.{AreEnough}
 use Rattle.certificate_rules.specs.Failures.{Fails}
-use Rattle.certificate_rules.specs.declared.certificate.Spot2.{Spot2}
+use Rattle.certificate_rules.specs.declared.certificate.FailurePlace.{FailurePlace}
 use Rattle.certificate_rules.specs.declared.certificate.Reason.{Reason}
 use Rattle.certificate_rules.specs.Certificates.{Certificate, Accepts}
 use Rattle.certificate_rules.specs.OpenCertificates.{OpenCertificate}
@@ -52,7 +52,7 @@ MayCheck I C Refused = ⊥
 MayCheck I C ReadFault = ⊥
 MayCheck I C WriteFault = ⊤
 MayCheck I C NoMemory = ⊤
-MayCheck I C BadDossier = (place : Spot2) × (reason : Reason) × Fails I C place reason
+MayCheck I C BadDossier = (place : FailurePlace) × (reason : Reason) × Fails I C place reason
 MayCheck I C Unfit = ⊥
 MayCheck I C PlanRefused = ⊥
 

@@ -19,7 +19,7 @@ use Rattle.plan_judge.specs.Steps.{bad as bad_plan}
 use Rattle.replan.specs.declared.refusal.ReplanError.{ReplanError}
 use Rattle.replan.specs.declared.refusal.ReplanError.TheVariants.{Kept, Late}
 use Rattle.replan.specs.Kept.{kept_of, kept_places, EndsInTime, CanBeKept}
-use Rattle.replan.specs.PartBreaks.{IsFirstLate, IsRefusal}
+use Rattle.replan.specs.PartBreaks.{IsFirstLate, IsPartRefusal}
 use Rattle.replan.proofs.PartLemmas.{IsFirstBrokenPart-illegal}
 use Rattle.run_answers.specs.Sources.{Drained, IsTooLong, AnswersBytes, AnswersSource, plan_limit}
 use Rattle.run_answers.specs.declared.status.Status.{Status}
@@ -92,7 +92,7 @@ late-unkept I K p first can =
     absurd (omega (arith, first.late, in_time.ends))
 
 -- what can be kept isn't refused
-not_part_refused : (I : Instance) (K : Plan) (places : List ℕ) (error : ReplanError) → IsRefusal I K places error → CanBeKept I K → ⊥
+not_part_refused : (I : Instance) (K : Plan) (places : List ℕ) (error : ReplanError) → IsPartRefusal I K places error → CanBeKept I K → ⊥
 not_part_refused I K places (Kept broken) refusal can = IsFirstBrokenPart-illegal I K refusal.0 refusal.1 can.legal
 not_part_refused I K places (Late p) refusal can = late-unkept I K refusal.0 refusal.2 can
 
