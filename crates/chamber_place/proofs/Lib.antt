@@ -1,3 +1,4 @@
+pub mod CaseLaws
 pub mod OptionLemmas
 pub mod EdgeLemmas
 pub mod WayLemmas

@@ -1,3 +1,4 @@
+pub mod CaseLaws
 pub mod CaseLemmas
 pub mod StepLemmas
 pub mod OptionLemmas
