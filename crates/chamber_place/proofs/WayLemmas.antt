@@ -22,7 +22,7 @@ use Rattle.case_search.specs.Rules.{options_first}
 use Rattle.case_search.proofs.ListLemmas.{append-assoc, append-nil, length-append, length-push, flat_map-append, take-front, take-append, take-all, drop-all}
 use Rattle.refute_rules.proofs.Among.{all-append, all-map, all-weaker, all-numbers}
 use Rattle.std.specs.List.{AllByRecursion}
-use Rattle.chamber_place.proofs.CaseLaws.{fault-inconsistent}
+use Rattle.chamber_place.specs.CaseLaws.{fault-inconsistent}
 use Rattle.chamber_place.specs.Picks.{choice_of, choices_of, decision_of, IsKnownPick, IsKnownDecision}
 use Rattle.chamber_place.specs.Faults.{fault_of}
 use Rattle.chamber_place.specs.OnItsWay.{most_edges, AreChosen, no_paths, paths_at, IsSettled, IsState, IsOnItsWay}

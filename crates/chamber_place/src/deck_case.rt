@@ -95,7 +95,7 @@ impl DeckCase {
 
 impl Track for DeckCase {
     ghost use Rattle.chamber_place.specs.OnItsWay.{Progress, case_rules};
-    ghost use Rattle.chamber_place.proofs.CaseLaws.{case_laws};
+    ghost use Rattle.chamber_place.specs.CaseLaws.{case_laws};
 
     type Fault = CaseFault;
 

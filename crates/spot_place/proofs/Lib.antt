@@ -1,4 +1,3 @@
-pub mod CaseLaws
 pub mod CaseLemmas
 pub mod StepLemmas
 pub mod OptionLemmas

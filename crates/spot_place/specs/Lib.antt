@@ -3,5 +3,6 @@ pub mod Heights
 pub mod SpotCase
 pub mod Faults
 pub mod Rules
+pub mod Lawful
 pub mod ShipSpots
 pub mod Placing

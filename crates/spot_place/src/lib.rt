@@ -6,7 +6,7 @@
 //! a spot tree, and then the deck doesn't fit; or that the turns are spent.
 //! - What it answers: `specs/Placing`, by the cases, lists and trees of `refute_rules`.
 //! - What is kept of a spot case on its way: `specs/OnWay`, `Heights` and `SpotCase`.
-//! - What the search of `case_search` goes by: `specs/Faults` and `Rules`.
+//! - What the search of `case_search` goes by: `specs/Faults`, `Rules` and `Lawful`.
 //!
 //! Laws in `proofs/`: in a faultless case that decides every berth each y is known (`KnownLemmas`),
 //! and the spots of a whole spot case are legal (`WholeLemmas`).

@@ -57,7 +57,7 @@ impl SpotCase {
 impl Track for SpotCase {
     ghost use Rattle.spot_place.specs.SpotCase.{OnWay, case_on};
     ghost use Rattle.spot_place.specs.Rules.{spot_rules};
-    ghost use Rattle.spot_place.proofs.CaseLaws.{spot-lawful};
+    ghost use Rattle.spot_place.specs.Lawful.{spot-lawful};
 
     type Fault = SpotFault;
 
