@@ -6,7 +6,7 @@ ghost use Rattle.cert_text.specs.Answers.{IsCausedFault, IsFault};
 ghost use Rattle.cert_text.specs.Steps.{fault_under};
 ghost use Rattle.cert_text.specs.Fields.{value_at};
 ghost use Rattle.cert_text.specs.Cost.{cost_in};
-ghost use Rattle.cert_text.specs.Cuts.{is_clash, has_clash_cut, cuts_under};
+ghost use Rattle.cert_text.specs.Cuts.{is_by_clash, has_clash_cut, cuts_under};
 ghost use Rattle.cert_text.specs.Plans.{plan_in};
 ghost use Rattle.cert_text.specs.Marks.{tree_in};
 ghost use Rattle.cert_text.specs.Certificates.{certificate_data, is_frame, certificate_in};
@@ -45,8 +45,8 @@ pub fn put_certificate(alloc: Global, certificate: &Certificate) -> Result<Value
 }
 
 /// Whether a cut is refuted by a clash.
-fn is_clash(cut: &CertCut) -> bool
-    ensures { result ≡ is_clash cut.now.refutation }
+fn is_by_clash(cut: &CertCut) -> bool
+    ensures { result ≡ is_by_clash cut.now.refutation }
 {
     matches!(cut.refutation, Refutation::Clash(_, _))
 }
@@ -56,7 +56,7 @@ pub fn has_clash_cut(cuts: &CertCuts) -> bool
     ensures { result ≡ has_clash_cut cuts.now }
 {
     for cut in cuts.as_slice() {
-        if is_clash(cut) {
+        if is_by_clash(cut) {
             return true;
         }
     }

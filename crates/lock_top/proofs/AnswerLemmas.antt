@@ -1,6 +1,6 @@
 -- What is answered to words.
 use Rattle.std.proofs.Common.{ℕ, ◌≡◌, ◌⊎◌, List, sym, subst, refl, inl, inr}
-use Rattle.command_words.specs.Meaning.{MeanCommand as WordsMean, AreBad}
+use Rattle.command_words.specs.Meaning.{MeanCommand, AreBad}
 use Rattle.command_words.specs.declared.commands.Command.{Command}
 use Rattle.command_words.specs.declared.commands.Command.TheVariants.{Solve, Check, Lot, Trial, Judge, Play, Replan, Lower, Resume}
 use Rattle.run_answers.specs.Sources.{Drained, IsUnread}
@@ -62,11 +62,11 @@ answers_command words source command Unfit text mean answer = record { command =
 answers_command words source command PlanRefused text mean answer = record { command = command; mean = mean; answer = answer }
 
 -- what is answered to the words is answered to a command that they mean
-pub meant_answer : (words : List (List ℕ)) (source : Drained) (status : Status) (text : List ℕ) (command : Command) → AnswersMeant words source status text → WordsMean words command → AnswersCommand command source status text
+pub meant_answer : (words : List (List ℕ)) (source : Drained) (status : Status) (text : List ℕ) (command : Command) → AnswersMeant words source status text → MeanCommand words command → AnswersCommand command source status text
 meant_answer words source status text command meant means = subst (λ c. AnswersCommand c source status text) (sym (meant.mean.only command means)) meant.answer
 
 -- what was answered to the words is want of memory, or answered to the command that they mean
-pub by_command : (words : List (List ℕ)) (source : Drained) (command : Command) (status : Status) (text : List ℕ) → WordsMean words command → RunAnswers words source status text → (status ≡ NoMemory) ⊎ AnswersCommand command source status text
+pub by_command : (words : List (List ℕ)) (source : Drained) (command : Command) (status : Status) (text : List ℕ) → MeanCommand words command → RunAnswers words source status text → (status ≡ NoMemory) ⊎ AnswersCommand command source status text
 by_command words source command Good text means answer = inr (meant_answer words source Good text command answer means)
 by_command words source command Open text means answer = inr (meant_answer words source Open text command answer means)
 by_command words source command Words text means answer = absurd (answer.bad command means)
