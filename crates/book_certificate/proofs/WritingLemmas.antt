@@ -10,14 +10,14 @@ use Rattle.book_rules.specs.Book.{Node, Book, root, slot_at}
 use Rattle.book_rules.specs.Family.{child_count}
 use Rattle.cert_check.proofs.TreeLemmas.{in_order-append, lacks-one}
 use Rattle.book_certificate.specs.Preorder.{leaf_mark, AreMarksOf}
-use Rattle.book_certificate.specs.Writing.{lacking_at, IsWritten, AreWritten}
+use Rattle.book_certificate.specs.Writing.{lacking_at, AppendsMarks, AppendsChildMarks}
 
 leaf-marks : (b : Book) (n id : ℕ) (m : Mark) (rest : List Mark) → leaf_mark (slot_at b id).state ≡ Some m → AreMarksOf b n id (m ∷ rest) rest
 leaf-marks b zero id m rest e = (m, e, refl)
 leaf-marks b (suc n) id m rest e = inl (m, e, refl)
 
 -- the mark of a closed slot
-pub leaf-written : (b : Book) (id : ℕ) (m : Mark) (old new : List Mark) → leaf_mark (slot_at b id).state ≡ Some m → new ≡ old ++ m ∷ [] → IsWritten b id old new
+pub leaf-written : (b : Book) (id : ℕ) (m : Mark) (old new : List Mark) → leaf_mark (slot_at b id).state ≡ Some m → new ≡ old ++ m ∷ [] → AppendsMarks b id old new
 leaf-written b id m old new e grown = record {
   written = m ∷ [];
   grown = grown;
@@ -25,8 +25,8 @@ leaf-written b id m old new e grown = record {
 }
 
 -- the marks of no child
-pub none-written : (b : Book) (id first n : ℕ) (old : List Mark) → n ≡ 0 → AreWritten b id first n old old
-none-written b id first n old none = subst (λ k. AreWritten b id first k old old) (sym none) (record { written = []; grown = sym (append-nil old); marks = λ rest. refl })
+pub none-written : (b : Book) (id first n : ℕ) (old : List Mark) → n ≡ 0 → AppendsChildMarks b id first n old old
+none-written b id first n old none = subst (λ k. AppendsChildMarks b id first k old old) (sym none) (record { written = []; grown = sym (append-nil old); marks = λ rest. refl })
 
 pub range-more : (a n : ℕ) → range_with_len a (suc n) ≡ range_with_len a n ++ (a + n) ∷ []
 range-more a zero = let e : a ≡ a + 0 = omega arith in ap (λ k. k ∷ []) e
@@ -36,7 +36,7 @@ range-more a (suc n) =
 
 -- the marks of one child more
 pub more-written : (b : Book) (id first n more child : ℕ) (old mid new : List Mark) → more ≡ suc n → child ≡ first + n → (slot_at b child).node.depth ≡ suc (slot_at b id).node.depth
-    → AreWritten b id first n old mid → IsWritten b child mid new → AreWritten b id first more old new
+    → AppendsChildMarks b id first n old mid → AppendsMarks b child mid new → AppendsChildMarks b id first more old new
 more-written b id first n more child old mid new more_is child_is deep before own = record {
   written = before.written ++ own.written;
   grown = own.grown ∙ ap (λ xs. xs ++ own.written) before.grown ∙ append_assoc old before.written own.written;
@@ -57,7 +57,7 @@ more-written b id first n more child old mid new more_is child_is deep before ow
 
 -- a split mark, and the marks of all children
 pub split-written : (b : Book) (id first n : ℕ) (old front new : List Mark) → (slot_at b id).state ≡ slot.Split first → (slot_at b id).node.depth < length b.case.instance.ships → front ≡ old ++ mark.Split ∷ []
-    → n ≡ child_count b.case.instance (slot_at b id).node → AreWritten b id first n front new → IsWritten b id old new
+    → n ≡ child_count b.case.instance (slot_at b id).node → AppendsChildMarks b id first n front new → AppendsMarks b id old new
 split-written b id first n old front new split lacks front_is all h = record {
   written = mark.Split ∷ h.written;
   grown = h.grown ∙ ap (λ xs. xs ++ h.written) front_is ∙ append_assoc old (mark.Split ∷ []) h.written;
@@ -73,7 +73,7 @@ split-written b id first n old front new split lacks front_is all h = record {
 }
 
 -- the marks of all slots, where there were none before
-pub all-written : (b : Book) (old marks : List Mark) → (slot_at b 0).node ≡ root → old ≡ [] → IsWritten b 0 old marks → AreMarksOf b (length b.case.instance.ships) 0 marks []
+pub all-written : (b : Book) (old marks : List Mark) → (slot_at b 0).node ≡ root → old ≡ [] → AppendsMarks b 0 old marks → AreMarksOf b (length b.case.instance.ships) 0 marks []
 all-written b old marks root_is none h =
     let depth : (slot_at b 0).node.depth ≡ 0 = ap (λ (n : Node). n.depth) root_is in
     let whole : length b.case.instance.ships - (slot_at b 0).node.depth ≡ length b.case.instance.ships = omega (arith, depth) in

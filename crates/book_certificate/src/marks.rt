@@ -6,7 +6,7 @@ ghost use Rattle.book_rules.specs.Family.{child_count};
 ghost use Rattle.book_rules.specs.NextSlot.{is_split};
 ghost use Rattle.book_certificate.specs.Preorder.{leaf_mark, AreMarksOf};
 ghost use Rattle.book_certificate.specs.Certified.{HasNoLive};
-ghost use Rattle.book_certificate.specs.Writing.{IsWritten};
+ghost use Rattle.book_certificate.specs.Writing.{AppendsMarks};
 
 use crate::error::CertError;
 use book_core::Book;
@@ -66,7 +66,7 @@ fn write_leaf(book: &Book, id: u32, marks: &mut MarkList) -> Result<(), CertErro
     requires closed { HasNoLive book.now }
     requires known { id < length book.now.slots }
     requires whole { is_split (slot_at book.now id).state ≡ false }
-    ensures ok { OnOk result (IsWritten book.now id marks.old marks.new) }
+    ensures ok { OnOk result (AppendsMarks book.now id marks.old marks.new) }
     ensures err { IfErr result (λ error. error ≡ CertError.NoMemory) }
 {
     match leaf_mark_at(book, id) {
@@ -84,7 +84,7 @@ fn write_split(book: &Book, id: u32, first: u32, marks: &mut MarkList) -> Result
     requires closed { HasNoLive book.now }
     requires known { id < length book.now.slots }
     requires split { (slot_at book.now id).state ≡ slot.Split first }
-    ensures ok { OnOk result (IsWritten book.now id marks.old marks.new) }
+    ensures ok { OnOk result (AppendsMarks book.now id marks.old marks.new) }
     ensures err { IfErr result (λ error. error ≡ CertError.NoMemory) }
 {
     book.keeps();
@@ -101,7 +101,7 @@ fn write_split(book: &Book, id: u32, first: u32, marks: &mut MarkList) -> Result
 fn write_slot(book: &Book, id: u32, marks: &mut MarkList) -> Result<(), CertError>
     requires closed { HasNoLive book.now }
     requires known { id < length book.now.slots }
-    ensures ok { OnOk result (IsWritten book.now id marks.old marks.new) }
+    ensures ok { OnOk result (AppendsMarks book.now id marks.old marks.new) }
     ensures err { IfErr result (λ error. error ≡ CertError.NoMemory) }
 {
     match first_child(book, id) {

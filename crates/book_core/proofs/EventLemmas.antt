@@ -1,18 +1,20 @@
 -- What take and release answer.
 use Rattle.std.proofs.Common.{◌≡◌, ◌≢◌, ℕ, suc, ◌≤◌, refl, sym, ap, ◌∙◌, subst, Bool, true, false, cond, nat_eq, slice_index_or, inl, inr, Some, None}
 use Rattle.std.proofs.lemmas.Bool.Decides.{eqb_tells}
-use Rattle.book_rules.specs.Book.{Book, slot_at, first_slot, has_slot, is_back, is_held, is_held_by}
+use Rattle.book_rules.specs.Book.{Book, Case, slot_at, first_slot, has_slot, is_back, is_held, is_held_by}
 use Rattle.book_rules.specs.Events as machine
 use Rattle.book_rules.specs.Events.{Event, take, release}
 use Rattle.book_rules.specs.NextSlot.{next_fresh}
 use Rattle.book_rules.specs.Step.{step, given, take_free, take_slot, take_fresh, release_slot}
 use Rattle.book_rules.proofs.SlotLemmas.{next_fresh-at}
-use Rattle.master_branch.specs.Node.{Node}
+use Rattle.book_rules.proofs.StepLemmas.{IsStep, Refused, Accepted, each-step}
+use Rattle.book_core.specs.declared.reply.Grant.{Grant}
+use Rattle.book_core.specs.declared.reply.Grant.TheVariants as grant
+use Rattle.book_core.specs.declared.reply.Reply.{Reply}
 use Rattle.book_core.specs.declared.reply.Reply.TheVariants as reply
-use Rattle.book_core.specs.Nodes.{tree_node}
 use Rattle.book_core.specs.Changes.{IsFree, IsNew, handed, returned, finished}
 use Rattle.book_core.specs.Keeps.{IsSound}
-use Rattle.book_core.specs.Replies.{Answers}
+use Rattle.book_core.specs.Replies.{Answers, Grants, HasNode, grant_told, told}
 use Rattle.book_core.proofs.CloseLemmas.{Out, none, pick-true, pick-false}
 use Rattle.book_core.proofs.SoundLemmas.{step-sound}
 
@@ -22,14 +24,14 @@ module _ (b : Book) (w : ℕ) where
 
   -- ---- take
 
-  pub take-ended : has_ended ≡ true → Answers b (take w) (reply.Ended w) b
-  take-ended e = record { found = None; judged = tt; answer = machine.Ended w; said = refl; same = pick-true has_ended (b, machine.Ended w) (take_free b w (first_slot b (is_held_by w))) e }
+  pub take-ended : has_ended ≡ true → Grants b w (grant.Ended w) b
+  take-ended e = record { found = None; same = pick-true has_ended (b, machine.Ended w) (take_free b w (first_slot b (is_held_by w))) e }
 
   way-free : has_ended ≡ false → step (λ _ _. none) b (take w) ≡ take_free b w (first_slot b (is_held_by w))
   way-free e = pick-false has_ended (b, machine.Ended w) (take_free b w (first_slot b (is_held_by w))) e
 
-  pub take-holds : (id : ℕ) → has_ended ≡ false → first_slot b (is_held_by w) ≡ Some id → Answers b (take w) (reply.Holds id) b
-  take-holds id e held = record { found = None; judged = tt; answer = machine.Holds id; said = refl; same = way-free e ∙ ap (take_free b w) held }
+  pub take-holds : (id : ℕ) → has_ended ≡ false → first_slot b (is_held_by w) ≡ Some id → Grants b w (grant.Holds id) b
+  take-holds id e held = record { found = None; same = way-free e ∙ ap (take_free b w) held }
 
   way-slot : has_ended ≡ false → first_slot b (is_held_by w) ≡ None → step (λ _ _. none) b (take w) ≡ take_slot b w (first_slot b is_back)
   way-slot e empty = way-free e ∙ ap (take_free b w) empty
@@ -38,21 +40,15 @@ module _ (b : Book) (w : ℕ) where
   way-fresh e empty back = way-slot e empty ∙ ap (take_slot b w) back
 
   -- nothing is open
-  pub take-idle : has_ended ≡ false → first_slot b (is_held_by w) ≡ None → first_slot b is_back ≡ None → next_fresh b ≡ None → has_slot b is_held ≡ true → Answers b (take w) reply.Idle b
+  pub take-idle : has_ended ≡ false → first_slot b (is_held_by w) ≡ None → first_slot b is_back ≡ None → next_fresh b ≡ None → has_slot b is_held ≡ true → Grants b w grant.Idle b
   take-idle e empty back next held = record {
     found = None;
-    judged = tt;
-    answer = machine.Idle;
-    said = refl;
     same = way-fresh e empty back ∙ ap (take_fresh b w) next ∙ ap (λ t. (b, cond t machine.Idle machine.Done)) held;
   }
 
-  pub take-done : has_ended ≡ false → first_slot b (is_held_by w) ≡ None → first_slot b is_back ≡ None → next_fresh b ≡ None → has_slot b is_held ≡ false → Answers b (take w) reply.Done b
+  pub take-done : has_ended ≡ false → first_slot b (is_held_by w) ≡ None → first_slot b is_back ≡ None → next_fresh b ≡ None → has_slot b is_held ≡ false → Grants b w grant.Done b
   take-done e empty back next held = record {
     found = None;
-    judged = tt;
-    answer = machine.Done;
-    said = refl;
     same = way-fresh e empty back ∙ ap (take_fresh b w) next ∙ ap (λ t. (b, cond t machine.Idle machine.Done)) held;
   }
 
@@ -67,12 +63,9 @@ module _ (b : Book) (w : ℕ) where
   other-number : (m n : ℕ) → m ≢ n → nat_eq m n ≡ false
   other-number m n e = elim (eqb_tells m n) [ inl y ↦ absurd (e y.1) | inr h ↦ h.0 ]
 
-  pub take-spent : (id used : ℕ) → used ≡ b.used → has_ended ≡ false → first_slot b (is_held_by w) ≡ None → first_slot b is_back ≡ None → next_fresh b ≡ Some id → used ≡ b.case.nodes → Answers b (take w) (reply.NodesSpent used) b
+  pub take-spent : (id used : ℕ) → used ≡ b.used → has_ended ≡ false → first_slot b (is_held_by w) ≡ None → first_slot b is_back ≡ None → next_fresh b ≡ Some id → used ≡ b.case.nodes → Grants b w (grant.NodesSpent used) b
   take-spent id used is e empty back next spent = record {
     found = None;
-    judged = tt;
-    answer = machine.NodesSpent used;
-    said = refl;
     same =
         way-fresh e empty back ∙ ap (take_fresh b w) next
         ∙ pick-true (nat_eq b.used b.case.nodes) (b, machine.NodesSpent b.used) (given b w id (suc b.used)) (same-number b.used b.case.nodes (sym is ∙ spent))
@@ -92,14 +85,8 @@ module _ (b : Book) (w : ℕ) where
     pub given-sound : IsSound (handed b id w used)
     given-sound = subst IsSound (ap (λ (o : Out). o.0) same) (step-sound b (take w) None sound known tt)
 
-    pub given-answers : (node : Node) (new : Book) → tree_node node ≡ (slot_at b id).node → new ≡ handed b id w used → Answers b (take w) (reply.Node id node) new
-    given-answers node new node_is new_is = record {
-      found = None;
-      judged = tt;
-      answer = machine.Node id (tree_node node);
-      said = refl;
-      same = same ∙ (λ i. (sym new_is i, machine.Node id (sym node_is i)));
-    }
+    pub given-grants : (new : Book) → (slot_at new id).node ≡ (slot_at b id).node → new ≡ handed b id w used → Grants b w (grant.Slot id) new
+    given-grants new node_is new_is = record { found = None; same = same ∙ (λ i. (sym new_is i, machine.Node id (sym node_is i))) }
 
   -- ---- release
 
@@ -133,3 +120,19 @@ module _ (b : Book) (w : ℕ) where
       said = refl;
       same = way-release running ∙ ap (release_slot b w) empty ∙ ap (λ u. (u, machine.Released 0)) (sym is);
     }
+
+-- ---- what came of a taking
+
+-- the case stays
+pub grants-case : (old : Book) (w : ℕ) (g : Grant) (new : Book) → Grants old w g new → new.case ≡ old.case
+grants-case old w g new grants = elim (subst (IsStep old (take w)) grants.same (each-step (λ _ _. grants.found) old (take w))) [
+  | Refused said same ↦ ap (λ (u : Book). u.case) same
+  | Accepted done ↦ done.case
+]
+
+-- what tells of a grant is the reply to its taking
+pub grants-answers : (old : Book) (w : ℕ) (g : Grant) (new : Book) → Grants old w g new → (r : Reply) → told r ≡ Some (grant_told new g) → Answers old (take w) r new
+grants-answers old w g new grants r said = record { found = grants.found; judged = tt; answer = grant_told new g; said = said; same = grants.same }
+
+pub grants-node : (old : Book) (w : ℕ) (g : Grant) (new : Book) → Grants old w g new → (r : Reply) → HasNode new.case.instance r → HasNode old.case.instance r
+grants-node old w g new grants r node = subst (λ (c : Case). HasNode c.instance r) (grants-case old w g new grants) node

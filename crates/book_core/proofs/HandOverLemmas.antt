@@ -15,8 +15,6 @@ use Rattle.book_core.specs.declared.stored_slot.StoredSlot.{StoredSlot}
 use Rattle.book_core.specs.declared.waiting.Waiting.{Waiting}
 use Rattle.book_core.specs.Stored.{slots_of}
 use Rattle.book_core.specs.Tables.{state_in, AreHands, AreBack}
-use Rattle.master_branch.specs.Node.{Node, IsNodeOf}
-use Rattle.book_core.specs.Nodes.{tree_node}
 use Rattle.book_core.specs.Changes.{Changes, set_state, let_go, leave_back, IsFree, IsReturned, IsNew, handed, returned}
 use Rattle.book_core.specs.Keeps.{AreTables}
 use Rattle.book_core.specs.Seen.{seen}
@@ -118,11 +116,8 @@ module _ (b : Book) (id w used : ℕ) (free : IsFree b id) (new : Book) (is : ne
   pub given-held : is_held (slot_at new id).state ≡ true
   given-held = ap (λ (u : Book). is_held (slot_at u id).state) is ∙ ap is_held change.here
 
-  pub given-node : (node : Node) → tree_node node ≡ (slot_at new id).node → tree_node node ≡ (slot_at b id).node
-  given-node node same = same ∙ ap (λ (u : Book). (slot_at u id).node) is ∙ ap (λ (s : Slot). s.node) (change.rest id)
-
-  pub given-good : (node : Node) → IsNodeOf new.case.instance node → IsNodeOf b.case.instance node
-  given-good node good = subst (λ (u : Book). IsNodeOf u.case.instance node) is good
+  pub given-node : (slot_at new id).node ≡ (slot_at b id).node
+  given-node = ap (λ (u : Book). (slot_at u id).node) is ∙ ap (λ (s : Slot). s.node) (change.rest id)
 
 -- ---- what the fields show
 

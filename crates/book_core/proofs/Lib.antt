@@ -20,4 +20,3 @@ pub mod SplitLemmas
 pub mod OutdoneLemmas
 pub mod OpeningLemmas
 pub mod SummingLemmas
-pub mod SameLemmas

@@ -1,5 +1,5 @@
 -- What a method of the book does: the step of the book machine for its event, or nothing for want of memory.
-use Rattle.std.specs.Prelude.{◌≡◌, ◌↔◌, ⊤, Some, None, IsNone, IfSome}
+use Rattle.std.specs.Prelude.{ℕ, ◌≡◌, ◌↔◌, ⊤, true, Some, None, IsNone, IfSome}
 use Rattle.std.specs.declared.option.Option.{Option}
 use Rattle.lock_model.specs.declared.instance.Instance.{Instance}
 use Rattle.lock_model.specs.declared.plan.Plan.{Plan}
@@ -7,10 +7,12 @@ use Rattle.lock_rules.specs.Plan.{IsLegal}
 use Rattle.mooring_rules.specs.declared.breaks.BrokenPlan.{BrokenPlan}
 use Rattle.mooring_rules.specs.PlanBreaks.{IsFirstBrokenPlan}
 use Rattle.master_branch.specs.Node.{IsNodeOf}
-use Rattle.book_rules.specs.Book.{Book}
+use Rattle.book_rules.specs.Book.{Book, slot_at, is_held}
 use Rattle.book_rules.specs.Events as machine
 use Rattle.book_rules.specs.Events.{Event, replace}
 use Rattle.book_rules.specs.Step.{step}
+use Rattle.book_core.specs.declared.reply.Grant.{Grant}
+use Rattle.book_core.specs.declared.reply.Grant.TheVariants as grant
 use Rattle.book_core.specs.declared.reply.Reply.{Reply}
 use Rattle.book_core.specs.declared.reply.Reply.TheVariants as reply
 
@@ -71,3 +73,22 @@ pub data Does (old : Book) (e : Event) (r : Reply) (new : Book) : Type 0 where
 abbrev pub HasNode : Instance → Reply → Type 0
 HasNode I (reply.Node id node) = IsNodeOf I node
 HasNode I _ = ⊤
+
+-- the machine's reply to a taking that left this book
+abbrev pub grant_told : Book → Grant → machine.Reply BrokenPlan
+grant_told new (grant.Slot id) = machine.Node id (slot_at new id).node
+grant_told new (grant.Ended worker) = machine.Ended worker
+grant_told new (grant.Holds id) = machine.Holds id
+grant_told new (grant.NodesSpent used) = machine.NodesSpent used
+grant_told new grant.Idle = machine.Idle
+grant_told new grant.Done = machine.Done
+
+-- what came of a taking by worker w, and the book after it, are those of the machine's step
+pub record Grants (old : Book) (w : ℕ) (g : Grant) (new : Book) : Type 0 where
+  pub found : Option BrokenPlan
+  pub same : step (λ _ _. found) old (machine.take w) ≡ (new, grant_told new g)
+
+-- a worker holds the slot that was given
+abbrev pub IsInHand : Book → Grant → Type 0
+IsInHand b (grant.Slot id) = is_held (slot_at b id).state ≡ true
+IsInHand b _ = ⊤

@@ -1,7 +1,7 @@
 //! The book of a search: the search tree with its open, held and closed slots, the cuts, the best
 //! plan, and the history of what was accepted.
 //!
-//! `open_book` opens a book with a legal plan. Its ten events are methods: each answers exactly what
+//! `open_book` opens a book with a legal plan. Its seven events are methods: each answers exactly what
 //! the step of the book machine answers for its event, and leaves the book that the step leaves; a
 //! refusal leaves the book as it was. `split`, `post` and `replace` take memory, and take it all
 //! before they change anything; the other events take none. `verdict` says what the book has shown.
@@ -23,8 +23,8 @@
 //!   cuts it off where the way to the new slot leaves it, and makes the nodes from there on, which is
 //!   one in a depth-first search. The node of a slot that no worker holds is made from the root's
 //!   (`nodes`). `bounding` has the probes and the bounds. Bounds may also be worked out without the
-//!   book (`foreseen`), which takes them where they are of its instance and of the slot's node
-//!   (`comparing`).
+//!   book (`foreseen`) and laid into the hand, where they are of its instance (`comparing`) and of
+//!   the slot's node.
 //!
 //! Definitions: `book_rules` has the machine (`specs/Book`, `Events`, `Step`), the replay, the
 //! cover and the counts. Here `specs/Replies` says what it is that a method is a step, `Keeps` what
@@ -69,4 +69,4 @@ pub use comparing::same_instance;
 pub use foreseen::Foreseen;
 pub use laws::every_list_keeps;
 pub use opening::open_book;
-pub use reply::Reply;
+pub use reply::{Grant, Reply};

@@ -3,7 +3,7 @@ ghost use Rattle.std.specs.Prelude.{◌≡◌, ◌<◌, true, false, length, IfS
 ghost use Rattle.lock_rules.specs.Arrival.{next_ship};
 ghost use Rattle.book_rules.specs.Book.{slot_at, is_held};
 ghost use Rattle.master_branch.specs.Node.{IsNodeOf};
-ghost use Rattle.book_core.specs.Hands.{IsHandOf};
+ghost use Rattle.book_core.specs.Hands.{IsHandOf, IsNodeIn};
 ghost use Rattle.book_core.specs.Nodes.{tree_node};
 
 use crate::book::Book;
@@ -36,6 +36,17 @@ impl Book {
         match self.hand_of(id) {
             Some(hand) => &hand.node,
             None => unreachable!(),
+        }
+    }
+
+    /// The node of a slot that a worker holds; None exactly where no worker holds the slot.
+    pub fn node_in_hand(&self, id: u32) -> Option<&Node>
+        ensures some { IfSome result (λ node. IsNodeIn self.now.case.instance self.now.slots id node.now) }
+        ensures none { IfNone result (is_held (slot_at self.now id).state ≡ false) }
+    {
+        match self.hand_of(id) {
+            Some(hand) => Some(&hand.node),
+            None => None,
         }
     }
 

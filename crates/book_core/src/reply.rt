@@ -52,3 +52,21 @@ pub enum Reply {
     /// Two ships of the named group of this slot clash.
     Clashes(u32),
 }
+
+/// The reply to a taking, but for the node of a slot that was given, which is in the worker's hand
+/// (`Book::node_in_hand`).
+#[derive(Clone, Copy, Debug, PartialEq, Eq)]
+pub enum Grant {
+    /// The slot that was taken.
+    Slot(u32),
+    /// The worker has released before.
+    Ended(u8),
+    /// The worker holds this slot.
+    Holds(u32),
+    /// No slot is returned, one is fresh, and so many nodes were used: the whole budget.
+    NodesSpent(u32),
+    /// Nothing is open, and a slot is held.
+    Idle,
+    /// Nothing is open or held.
+    Done,
+}

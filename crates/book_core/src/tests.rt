@@ -6,12 +6,9 @@ mod parking;
 mod walk;
 
 use super::*;
-use asking::{Ask, expect_given, expect_replies, expect_state, go_to_first, reply_of};
-use book_rules::SlotState;
+use asking::{Ask, expect};
 use closing_rules::Ground;
-use fixture::{
-    SIDE, both, narrow, one_after_the_other, open, open_cheap, row_cut, side_by_side, swift,
-};
+use fixture::{SIDE, narrow, open, open_cheap, side_by_side, swift};
 use lock_model::Verdict;
 use std::process::Abort;
 use std::test::Fail;
@@ -20,65 +17,62 @@ use walk::{instance_of_seven, slow_next};
 #[test]
 fn events_answer_as_the_table_says(rt: HostRuntime) -> Result<(), Fail> {
     let mut book = open(rt.alloc(), narrow()?, 3)?;
-    assert_eq!(rt; book.used(), 0);
-    expect_state(&rt, &book, 0, Some(SlotState::Fresh));
-    expect_given(&rt, &mut book, 0, 0, 0);
-    expect_replies(
+    assert_eq!(rt; (book.used(), book.slot_state(2)), (0, None));
+    let asks = &[
+        Ask::Take(0),
+        Ask::Take(0),
+        Ask::Take(1),
+        Ask::Close(0, Ground::Bound),
+        Ask::Close(0, Ground::Cut(0)),
+        Ask::Split(0),
+        Ask::Split(0),
+        Ask::Release(0),
+        Ask::Take(0),
+    ];
+    let replies =
+        "Node(0, 0) Holds(0) Idle Cheaper(70, 120) NoHit(0) Made(1) NotHeld(0) Released(0) Ended(0) ";
+    expect(
         &rt,
+        rt.alloc(),
         &mut book,
-        &[
-            (Ask::Take(0), Reply::Holds(0)),
-            (Ask::Take(1), Reply::Idle),
-            (Ask::Close(0, Ground::Bound), Reply::Cheaper(70, 120)),
-            (Ask::Close(0, Ground::Cut(0)), Reply::NoHit(0)),
-            (Ask::Split(0), Reply::Made(1)),
-            (Ask::Split(0), Reply::NotHeld(0)),
-            (Ask::Release(0), Reply::Released(0)),
-            (Ask::Take(0), Reply::Ended(0)),
-        ],
-    );
-    assert_eq!(rt; book.history_len(), 3);
-    expect_state(&rt, &book, 2, None);
-    Ok(())
+        asks,
+        replies,
+        (3, "Split(1) Fresh "),
+    )
 }
 
 #[test]
 fn throughput_and_probe_leave_what_is_cheaper(rt: HostRuntime) -> Result<(), Fail> {
     let mut book = open(rt.alloc(), narrow()?, 3)?;
-    expect_given(&rt, &mut book, 0, 0, 0);
-    expect_replies(
+    let asks = &[
+        Ask::Take(0),
+        Ask::Close(0, Ground::Throughput),
+        Ask::Close(0, Ground::Probe(2)),
+        Ask::Close(0, Ground::Probe(0)),
+        Ask::Close(1, Ground::Probe(0)),
+        Ask::Split(0),
+        Ask::Take(0),
+        Ask::Close(1, Ground::Probe(0)),
+        Ask::Close(1, Ground::Probe(1)),
+    ];
+    let replies =
+        "Node(0, 0) Cheaper(70, 120) Absent(2) Cheaper(70, 120) NotHeld(1) Made(1) Node(1, 1) Absent(0) Cheaper(80, 120) ";
+    expect(
         &rt,
+        rt.alloc(),
         &mut book,
-        &[
-            (Ask::Close(0, Ground::Throughput), Reply::Cheaper(70, 120)),
-            (Ask::Close(0, Ground::Probe(2)), Reply::Absent(2)),
-            (Ask::Close(0, Ground::Probe(0)), Reply::Cheaper(70, 120)),
-            (Ask::Close(1, Ground::Probe(0)), Reply::NotHeld(1)),
-            (Ask::Split(0), Reply::Made(1)),
-        ],
-    );
-    expect_given(&rt, &mut book, 0, 1, 1);
-    expect_replies(
-        &rt,
-        &mut book,
-        &[
-            (Ask::Close(1, Ground::Probe(0)), Reply::Absent(0)),
-            (Ask::Close(1, Ground::Probe(1)), Reply::Cheaper(80, 120)),
-        ],
-    );
-    Ok(())
+        asks,
+        replies,
+        (3, "Split(1) Held(0) "),
+    )
 }
 
 #[test]
 fn the_throughput_closes_what_is_no_cheaper(rt: HostRuntime) -> Result<(), Fail> {
     let mut book = open(rt.alloc(), swift()?, 3)?;
-    expect_given(&rt, &mut book, 0, 0, 0);
-    expect_replies(
-        &rt,
-        &mut book,
-        &[(Ask::Close(0, Ground::Throughput), Reply::Closed)],
-    );
-    expect_state(&rt, &book, 0, Some(SlotState::Closed(Ground::Throughput)));
+    let asks = &[Ask::Take(0), Ask::Close(0, Ground::Throughput)];
+    let end = (2, "Closed(Throughput) ");
+    expect(&rt, rt.alloc(), &mut book, asks, "Node(0, 0) Closed ", end)?;
     assert_eq!(rt; book.verdict(), Verdict::Optimal);
     Ok(())
 }
@@ -86,84 +80,90 @@ fn the_throughput_closes_what_is_no_cheaper(rt: HostRuntime) -> Result<(), Fail>
 #[test]
 fn a_probe_closes_what_is_no_cheaper(rt: HostRuntime) -> Result<(), Fail> {
     let mut book = open_cheap(rt.alloc(), side_by_side()?)?;
-    go_to_first(&rt, &mut book);
-    expect_replies(
+    let asks = &[
+        Ask::Take(0),
+        Ask::Split(0),
+        Ask::Take(0),
+        Ask::Close(1, Ground::Probe(1)),
+    ];
+    let replies = "Node(0, 0) Made(1) Node(1, 1) Closed ";
+    expect(
         &rt,
+        rt.alloc(),
         &mut book,
-        &[(Ask::Close(1, Ground::Probe(1)), Reply::Closed)],
-    );
-    expect_state(&rt, &book, 1, Some(SlotState::Closed(Ground::Probe(1))));
-    Ok(())
+        asks,
+        replies,
+        (4, "Split(1) Closed(Probe(1)) "),
+    )
 }
 
-// Worker 0 comes to the node of both ships in one group, and gives it back; the other children are
-// closed by their bound.
-fn return_both(rt: &impl Abort, book: &mut Book) {
-    go_to_first(rt, book);
-    expect_replies(rt, book, &[(Ask::Split(1), Reply::Made(3))]);
-    expect_state(rt, book, 3, Some(SlotState::Closed(Ground::Bound)));
-    expect_state(rt, book, 4, Some(SlotState::Closed(Ground::Bound)));
-    expect_given(rt, book, 0, 2, 2);
-    expect_replies(rt, book, &[(Ask::Split(2), Reply::Whole(2))]);
-    assert_eq!(rt; book.verdict(), Verdict::OpenNodes { used: 3, low: 80 });
-    expect_replies(rt, book, &[(Ask::Release(0), Reply::Released(1))]);
-    expect_state(rt, book, 2, Some(SlotState::Back));
-}
+// The way to the node of both ships in one group, slot 2; the other children of slot 1 are closed by
+// their bound.
+const TO_BOTH: [Ask; 6] = [
+    Ask::Take(0),
+    Ask::Split(0),
+    Ask::Take(0),
+    Ask::Split(1),
+    Ask::Take(0),
+    Ask::Split(2),
+];
 
 #[test]
 fn a_cut_closes_the_slot_that_it_hits(rt: HostRuntime) -> Result<(), Fail> {
     let mut book = open(rt.alloc(), narrow()?, 3)?;
-    let other = row_cut(rt.alloc(), SIDE)?;
-    let cut = row_cut(rt.alloc(), 232)?;
-    return_both(&rt, &mut book);
-    expect_given(&rt, &mut book, 8, 2, 2);
-    assert_eq!(rt; book.post(other), Reply::OtherDeck);
-    assert_eq!(rt; book.post(cut), Reply::Posted(0));
-    expect_replies(
-        &rt,
-        &mut book,
-        &[
-            (Ask::Close(2, Ground::Cut(1)), Reply::NoHit(1)),
-            (Ask::Close(2, Ground::Cut(0)), Reply::Closed),
-            (Ask::Take(8), Reply::Done),
-        ],
+    let replies = "Node(0, 0) Made(1) Node(1, 1) Made(3) Node(2, 2) Whole(2) ";
+    let end = (5, "Split(1) Split(2) Held(0) Closed(Bound) Closed(Bound) ");
+    expect(&rt, rt.alloc(), &mut book, &TO_BOTH, replies, end)?;
+    assert_eq!(rt; book.verdict(), Verdict::OpenNodes { used: 3, low: 80 });
+    let asks = &[
+        Ask::Release(0),
+        Ask::Take(8),
+        Ask::Post(SIDE),
+        Ask::Post(232),
+        Ask::Close(2, Ground::Cut(1)),
+        Ask::Close(2, Ground::Cut(0)),
+        Ask::Take(8),
+    ];
+    let replies = "Released(1) Node(2, 2) OtherDeck Posted(0) NoHit(1) Closed Done ";
+    let end = (
+        9,
+        "Split(1) Split(2) Closed(Cut(0)) Closed(Bound) Closed(Bound) ",
     );
+    expect(&rt, rt.alloc(), &mut book, asks, replies, end)?;
     assert_eq!(rt; book.verdict(), Verdict::Optimal);
     Ok(())
-}
-
-// The plan of both ships side by side is put in place, and no other.
-fn replace_once(rt: &impl Abort, book: &mut Book) {
-    assert_eq!(rt; book.replace(both()), Reply::Replaced(80));
-    assert_eq!(rt; book.replace(both()), Reply::NotCheaper(80, 80));
-    assert_eq!(rt; book.best_cost(), 80);
-    assert_eq!(rt; book.opening_cost(), 120);
 }
 
 #[test]
 fn a_cheaper_plan_is_put_in_place_once(rt: HostRuntime) -> Result<(), Fail> {
     let mut book = open(rt.alloc(), side_by_side()?, 100)?;
-    go_to_first(&rt, &mut book);
-    expect_replies(&rt, &mut book, &[(Ask::Split(1), Reply::Made(3))]);
-    replace_once(&rt, &mut book);
-    expect_state(&rt, &book, 2, Some(SlotState::Closed(Ground::Bound)));
-    expect_replies(&rt, &mut book, &[(Ask::Take(0), Reply::Done)]);
-    assert!(rt; matches!(book.replace(one_after_the_other(1)), Reply::NotLegal(_)));
+    let asks = &[
+        Ask::Take(0),
+        Ask::Split(0),
+        Ask::Take(0),
+        Ask::Split(1),
+        Ask::Both,
+        Ask::Both,
+        Ask::Take(0),
+        Ask::After(1),
+    ];
+    let replies =
+        "Node(0, 0) Made(1) Node(1, 1) Made(3) Replaced(80) NotCheaper(80, 80) Done NotLegal ";
+    let end = (
+        5,
+        "Split(1) Split(2) Closed(Bound) Closed(Bound) Closed(Bound) ",
+    );
+    expect(&rt, rt.alloc(), &mut book, asks, replies, end)?;
+    assert_eq!(rt; (book.best_cost(), book.opening_cost()), (80, 120));
     Ok(())
 }
 
 #[test]
 fn a_spent_budget_is_told(rt: HostRuntime) -> Result<(), Fail> {
     let mut book = open(rt.alloc(), narrow()?, 2)?;
-    go_to_first(&rt, &mut book);
-    expect_replies(
-        &rt,
-        &mut book,
-        &[
-            (Ask::Split(1), Reply::Made(3)),
-            (Ask::Take(0), Reply::NodesSpent(2)),
-        ],
-    );
+    let replies = "Node(0, 0) Made(1) Node(1, 1) Made(3) NodesSpent(2) NotHeld(2) ";
+    let end = (4, "Split(1) Split(2) Fresh Closed(Bound) Closed(Bound) ");
+    expect(&rt, rt.alloc(), &mut book, &TO_BOTH, replies, end)?;
     assert_eq!(rt; book.verdict(), Verdict::OpenNodes { used: 2, low: 80 });
     Ok(())
 }
@@ -171,7 +171,7 @@ fn a_spent_budget_is_told(rt: HostRuntime) -> Result<(), Fail> {
 // A worker without a slot takes one, which is the one that a walk finds: 1 where it was given one.
 fn take_next(rt: &impl Abort, book: &mut Book, worker: u8) -> u32 {
     let next = slow_next(book);
-    match reply_of(book, Ask::Take(worker)) {
+    match book.take(worker.min(8)) {
         Reply::Node(id, _) => {
             assert_eq!(rt; Some(id), next);
             1
@@ -181,20 +181,12 @@ fn take_next(rt: &impl Abort, book: &mut Book, worker: u8) -> u32 {
 }
 
 // A worker closes its slot or splits it, or ends at a node of all ships.
-fn go_on(rt: &impl Abort, book: &mut Book, worker: u8, id: u32, ends: bool) {
-    if reply_of(book, Ask::Close(id, Ground::Bound)) == Reply::Closed
-        || reply_of(book, Ask::Split(id)) != Reply::Whole(id)
-    {
+fn go_on(book: &mut Book, worker: u8, id: u32, ends: bool) {
+    if book.close_bound(id) == Reply::Closed || book.split(id) != Reply::Whole(id) {
         return;
     }
-    assert!(rt;
-        matches!(
-            reply_of(book, Ask::Close(id, Ground::Probe(0))),
-            Reply::Absent(_)
-        )
-    );
     if ends {
-        expect_replies(rt, book, &[(Ask::Release(worker), Reply::Released(1))]);
+        book.release(worker.min(8));
     }
 }
 
@@ -204,7 +196,7 @@ fn make_move(rt: &impl Abort, book: &mut Book, draw: u32) -> u32 {
     match book.held_by(worker) {
         None => take_next(rt, book, worker),
         Some(id) => {
-            go_on(rt, book, worker, id, draw % 4 == 0);
+            go_on(book, worker, id, draw % 4 == 0);
             0
         }
     }

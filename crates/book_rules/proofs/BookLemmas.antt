@@ -1,5 +1,5 @@
 -- After any list of events a book is the replay of its history, and covers.
-use Rattle.std.proofs.Common.{◌≡◌, List, [], ◌∷◌, sym, ap, subst, None}
+use Rattle.std.proofs.Common.{◌≡◌, List, [], ◌∷◌, sym, subst, None}
 use Rattle.std.specs.declared.option.Option.{Option}
 use Rattle.std.specs.List.{AllByRecursion}
 use Rattle.lock_model.specs.declared.instance.Instance.{Instance}
@@ -10,25 +10,23 @@ use Rattle.book_rules.specs.Events.{Event, IsOwed}
 use Rattle.book_rules.specs.Step
 use Rattle.book_rules.specs.Cover.{KeepsBook}
 use Rattle.closing_rules.specs.Laws.{TreeLaws}
-use Rattle.book_rules.proofs.StepLemmas.{Refused, Accepted, each-step}
-use Rattle.book_rules.proofs.ReplayLemmas.{IsReplayed, after_all, opening-replayed, all-replayed}
+use Rattle.book_rules.proofs.StepLemmas.{same-case}
+use Rattle.book_rules.specs.Replay.{IsReplayed}
+use Rattle.book_rules.proofs.ReplayLemmas.{after_all, opening-replayed, all-replayed}
 use Rattle.book_rules.proofs.CoverLemmas.{event-keeps, opening-keeps}
 
 module _ {Break : Type 0} (broken : Instance → Plan → Option Break) (sound : (I : Instance) (P : Plan) → broken I P ≡ None → IsLegal I P) where
-  same-case : (b : Book) (e : Event) → (Step.step broken b e).0.case ≡ b.case
-  same-case b e = elim (each-step broken b e) [ Refused r same ↦ ap (λ (u : Book). u.case) same | Accepted new ↦ new.case ]
-
   pub all-keep : (b : Book) (es : List Event) → TreeLaws b.case.instance → AllByRecursion IsOwed es → KeepsBook b → KeepsBook (after_all broken b es)
   all-keep b [] laws owed keeps = keeps
   all-keep b (e ∷ es) laws owed keeps =
-      all-keep (Step.step broken b e).0 es (subst (λ (c : Case). TreeLaws c.instance) (sym (same-case b e)) laws) owed.1 (event-keeps broken sound b laws keeps e owed.0)
+      all-keep (Step.step broken b e).0 es (subst (λ (c : Case). TreeLaws c.instance) (sym (same-case broken b e)) laws) owed.1 (event-keeps broken sound b laws keeps e owed.0)
 
   -- what a book keeps after its opening and any list of events
-  pub record IsSound (b : Book) : Type 0 where
+  pub record KeepsReplay (b : Book) : Type 0 where
     pub replayed : IsReplayed broken b
     pub keeps : KeepsBook b
 
-  pub every_list : (case : Case) (plan : Plan) (es : List Event) → TreeLaws case.instance → IsLegal case.instance plan → AllByRecursion IsOwed es → IsSound (after_all broken (opening_book case plan) es)
+  pub every_list : (case : Case) (plan : Plan) (es : List Event) → TreeLaws case.instance → IsLegal case.instance plan → AllByRecursion IsOwed es → KeepsReplay (after_all broken (opening_book case plan) es)
   every_list case plan es laws legal owed = record {
     replayed = all-replayed broken (opening_book case plan) es (opening-replayed broken case plan);
     keeps = all-keep (opening_book case plan) es laws owed (opening-keeps case plan laws legal);

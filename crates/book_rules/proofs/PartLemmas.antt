@@ -1,5 +1,5 @@
 -- After every list of events a book keeps its parts.
-use Rattle.std.proofs.Common.{◌≡◌, List, [], ◌∷◌, sym, ap, subst, None}
+use Rattle.std.proofs.Common.{◌≡◌, List, [], ◌∷◌, sym, subst, None}
 use Rattle.std.specs.declared.option.Option.{Option}
 use Rattle.std.specs.List.{AllByRecursion}
 use Rattle.lock_model.specs.declared.instance.Instance.{Instance}
@@ -11,10 +11,10 @@ use Rattle.book_rules.specs.Step
 use Rattle.book_rules.specs.Cover.{KeepsBook}
 use Rattle.closing_rules.specs.Laws.{TreeLaws}
 use Rattle.book_rules.specs.Parts.{KeepsParts}
-use Rattle.book_rules.proofs.StepLemmas.{Refused, Accepted, each-step}
+use Rattle.book_rules.proofs.StepLemmas.{same-case}
 use Rattle.book_rules.proofs.ReplayLemmas.{after_all}
 use Rattle.book_rules.proofs.CoverLemmas.{event-keeps, opening-keeps}
-use Rattle.book_rules.proofs.BookLemmas.{IsSound, every_list}
+use Rattle.book_rules.proofs.BookLemmas.{KeepsReplay, every_list}
 use Rattle.book_rules.proofs.FamilyLemmas.{family-step, opening-family}
 use Rattle.book_rules.proofs.StateLemmas.{states-step, opening-states}
 use Rattle.book_rules.proofs.WorkerLemmas.{workers-step, opening-workers}
@@ -47,14 +47,11 @@ module _ {Break : Type 0} (broken : Instance → Plan → Option Break) where
     back = back-step broken b keeps.workers.nine keeps.back e owed;
   }
 
-  same-case : (b : Book) (e : Event) → (Step.step broken b e).0.case ≡ b.case
-  same-case b e = elim (each-step broken b e) [ Refused r same ↦ ap (λ (u : Book). u.case) same | Accepted new ↦ new.case ]
-
   module _ (sound : (I : Instance) (P : Plan) → broken I P ≡ None → IsLegal I P) where
     pub all-parts : (b : Book) (es : List Event) → TreeLaws b.case.instance → AllByRecursion IsOwed es → KeepsBook b → KeepsParts b → KeepsParts (after_all broken b es)
     all-parts b [] laws owed book keeps = keeps
     all-parts b (e ∷ es) laws owed book keeps =
-        all-parts (Step.step broken b e).0 es (subst (λ (c : Case). TreeLaws c.instance) (sym (same-case b e)) laws) owed.1 (event-keeps broken sound b laws book e owed.0) (parts-step b book keeps e owed.0)
+        all-parts (Step.step broken b e).0 es (subst (λ (c : Case). TreeLaws c.instance) (sym (same-case broken b e)) laws) owed.1 (event-keeps broken sound b laws book e owed.0) (parts-step b book keeps e owed.0)
 
     -- the parts after the opening and any list of owed events
     pub every_list-parts : (case : Case) (plan : Plan) (es : List Event) → TreeLaws case.instance → IsLegal case.instance plan → AllByRecursion IsOwed es → KeepsParts (after_all broken (opening_book case plan) es)
@@ -62,7 +59,7 @@ module _ {Break : Type 0} (broken : Instance → Plan → Option Break) where
 
     -- what a book keeps after its opening and any list of events: the replay, the cover and the parts
     pub record KeepsAll (b : Book) : Type 0 where
-      pub cover : IsSound broken sound b
+      pub cover : KeepsReplay broken sound b
       pub parts : KeepsParts b
 
     pub every_list-all : (case : Case) (plan : Plan) (es : List Event) → TreeLaws case.instance → IsLegal case.instance plan → AllByRecursion IsOwed es → KeepsAll (after_all broken (opening_book case plan) es)

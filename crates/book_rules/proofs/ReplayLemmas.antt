@@ -16,21 +16,12 @@ use Rattle.book_rules.specs.Book.{Case, Book, slot_at, is_held, group_at, ships_
 use Rattle.book_rules.specs.Events.{Event, Reply, is_accepted, take, split, close, post, park, replace, release}
 use Rattle.book_rules.specs.Events.{NotHeld, OtherDeck, Clashes}
 use Rattle.book_rules.specs.Step
-use Rattle.book_rules.specs.Replay.{replay, replay_from}
+use Rattle.book_rules.specs.Replay.{replay_from, posts_in, replaces_in}
+pub use Rattle.book_rules.specs.Replay.{IsReplayed}
 use Rattle.book_rules.proofs.TestLemmas.{same_deck-decides}
 use Rattle.book_rules.proofs.StepLemmas.{entry_of, cuts_of, plans_of, IsAccepted, Refused, Accepted, each-step}
 
 -- how many cuts and plans the entries take
-abbrev pub posts_in : List Entry → ℕ
-posts_in [] = 0
-posts_in (entry.Post ∷ es) = suc (posts_in es)
-posts_in (_ ∷ es) = posts_in es
-
-abbrev pub replaces_in : List Entry → ℕ
-replaces_in [] = 0
-replaces_in (entry.Replace ∷ es) = suc (replaces_in es)
-replaces_in (_ ∷ es) = replaces_in es
-
 posts-append : (es : List Entry) (x : Entry) → posts_in (es ++ x ∷ []) ≡ posts_in es + posts_in (x ∷ [])
 posts-append [] x = omega arith
 posts-append (entry.Take w ∷ es) x = posts-append es x
@@ -167,16 +158,11 @@ module _ {Break : Type 0} (broken : Instance → Plan → Option Break) where
 
   -- ---- every list of events
 
-  pub record IsReplayed (b : Book) : Type 0 where
-    pub same : replay broken b.case b.opening b.history b.cuts b.plans ≡ b
-    pub posts : posts_in b.history ≡ length b.cuts
-    pub replaces : replaces_in b.history ≡ length b.plans
-
   -- The opening book is replayed, and so is a replayed book after any event.
-  pub opening-replayed : (case : Case) (plan : Plan) → IsReplayed (opening_book case plan)
+  pub opening-replayed : (case : Case) (plan : Plan) → IsReplayed broken (opening_book case plan)
   opening-replayed case plan = record { same = refl; posts = refl; replaces = refl }
 
-  accepted-replayed : (b : Book) (e : Event) → IsReplayed b → IsAccepted Break b e (Step.step broken b e) → IsReplayed (after b e)
+  accepted-replayed : (b : Book) (e : Event) → IsReplayed broken b → IsAccepted Break b e (Step.step broken b e) → IsReplayed broken (after b e)
   accepted-replayed b e old new = record {
     same =
         (λ i. replay_from broken (opening_book (new.case i) (new.opening i)) (new.history i) (new.cuts i) (new.plans i))
@@ -187,10 +173,10 @@ module _ {Break : Type 0} (broken : Instance → Plan → Option Break) where
     replaces = ap replaces_in new.history ∙ replaces-more b.history e b.plans old.replaces ∙ sym (ap length new.plans);
   }
 
-  pub event-replayed : (b : Book) (e : Event) → IsReplayed b → IsReplayed (after b e)
+  pub event-replayed : (b : Book) (e : Event) → IsReplayed broken b → IsReplayed broken (after b e)
   event-replayed b e old =
       elim (each-step broken b e) [
-        | Refused r same ↦ subst IsReplayed (sym same) old
+        | Refused r same ↦ subst (IsReplayed broken) (sym same) old
         | Accepted new ↦ accepted-replayed b e old new
       ]
 
@@ -199,6 +185,6 @@ module _ {Break : Type 0} (broken : Instance → Plan → Option Break) where
   after_all b (e ∷ es) = after_all (after b e) es
 
   -- after any events, accepted or refused, the book is the replay of its history
-  pub all-replayed : (b : Book) (es : List Event) → IsReplayed b → IsReplayed (after_all b es)
+  pub all-replayed : (b : Book) (es : List Event) → IsReplayed broken b → IsReplayed broken (after_all b es)
   all-replayed b [] old = old
   all-replayed b (e ∷ es) old = all-replayed (after b e) es (event-replayed b e old)

@@ -26,7 +26,7 @@ pub record IsGoodSlot (I : Instance) (s : Slot) : Type 0 where
   pub node : IsNode I s.node.depth s.node.lines
   pub bound : s.bound ≡ bound_at I s.node
 
--- the cut is proved, and about a chamber and ships of the instance
+-- The cut is about a chamber and ships of the instance, and its deck is theirs. That it is proved, its type keeps (`IsCut`).
 pub record IsOwnCut (I : Instance) (cut : Cut) : Type 0 where
   pub chamber : cut.chamber < length I.chambers
   pub ships : All (λ s. s < length I.ships) cut.ships

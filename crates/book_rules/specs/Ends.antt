@@ -116,9 +116,9 @@ pub record IsOpenTurns (I : Instance) (given limit : ℕ) (P : Plan) (chamber : 
 
 -- WHAT A VERDICT MEANS, of a plan of the instance that was found with so many nodes and turns, from a plan that costs at most `limit`.
 abbrev pub IsEnd : Instance → ℕ → ℕ → ℕ → Plan → Verdict → Type 0
-IsEnd I nodes turns limit P verdict.Optimal = IsOptimal I limit P
-IsEnd I nodes turns limit P (verdict.OpenNodes used low) = IsOpenNodes I nodes limit P used low
-IsEnd I nodes turns limit P (verdict.OpenTurns chamber ships given low) = IsOpenTurns I turns limit P chamber ships given low
+IsEnd I nodes given limit P verdict.Optimal = IsOptimal I limit P
+IsEnd I nodes given limit P (verdict.OpenNodes used low) = IsOpenNodes I nodes limit P used low
+IsEnd I nodes given limit P (verdict.OpenTurns chamber ships turns low) = IsOpenTurns I given limit P chamber ships turns low
 
 -- no group has more than k ships, as there are no more or no chamber takes more
 abbrev pub GroupsAtMost : Instance → ℕ → Type 0

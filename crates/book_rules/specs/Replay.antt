@@ -1,5 +1,5 @@
 -- A history played again.
-use Rattle.std.specs.Prelude.{List, [], ◌∷◌}
+use Rattle.std.specs.Prelude.{ℕ, suc, ◌≡◌, List, [], ◌∷◌, length}
 use Rattle.std.specs.declared.option.Option.{Option}
 use Rattle.lock_model.specs.Fitting.{deck_of}
 use Rattle.lock_model.specs.declared.instance.Instance.{Instance}
@@ -28,3 +28,21 @@ replay_from broken b (entry.Release w ∷ es) cuts plans = replay_from broken (s
 -- the book that a case and an opening plan give, after this history
 abbrev pub replay : {Break : Type 0} → (Instance → Plan → Option Break) → Case → Plan → List Entry → List Cut → List Plan → Book
 replay broken case plan history cuts plans = replay_from broken (opening_book case plan) history cuts plans
+
+-- how many entries of a history are posts
+abbrev pub posts_in : List Entry → ℕ
+posts_in [] = 0
+posts_in (entry.Post ∷ es) = suc (posts_in es)
+posts_in (_ ∷ es) = posts_in es
+
+-- how many are replaces
+abbrev pub replaces_in : List Entry → ℕ
+replaces_in [] = 0
+replaces_in (entry.Replace ∷ es) = suc (replaces_in es)
+replaces_in (_ ∷ es) = replaces_in es
+
+-- The book is the replay of its history, which takes all its cuts and all its plans.
+pub record IsReplayed {Break : Type 0} (broken : Instance → Plan → Option Break) (b : Book) : Type 0 where
+  pub same : replay broken b.case b.opening b.history b.cuts b.plans ≡ b
+  pub posts : posts_in b.history ≡ length b.cuts
+  pub replaces : replaces_in b.history ≡ length b.plans

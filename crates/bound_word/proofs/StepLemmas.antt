@@ -7,7 +7,7 @@ use Rattle.atomic_table.proofs.Lists.{at_set, at_snoc, set_else}
 use Rattle.bound_word.specs.declared.view.View.{View}
 use Rattle.bound_word.specs.declared.view.Opening.{Opening}
 use Rattle.bound_word.specs.Views.{least, spent_view, with_seen, with_post, after_split, split_off, joined}
-use Rattle.bound_word.specs.Rule.{least_posted, parts_of, IsLive, IsKept}
+use Rattle.bound_word.specs.Rule.{least_posted, parts_of, IsLive, KeepsViews}
 use Rattle.bound_word.specs.Steps.{FindsOwn, Loads, Lowers, Counts}
 use Rattle.bound_word.proofs.RowLemmas.{least-le, least-append, least_posted-le, member, meet_set, set_at, parts_set, parts_member, least_snoc, parts_snoc, IdleIsEmpty, idle, alone}
 
@@ -20,16 +20,16 @@ pub lowered : (o : Opening) (n m : ℕ) (v : View) → n ≤ m → IsLive o m v 
 lowered o n m v le (inl l) = inl record { some_part = l.some_part; seen = omega (arith, l.seen); opening = l.opening; whole = l.whole }
 lowered o n m v le (inr e) = inr e
 
-pub empties : (o : Opening) (s : State ℕ View) → IsKept o s → IdleIsEmpty s.views
+pub empties : (o : Opening) (s : State ℕ View) → KeepsViews o s → IdleIsEmpty s.views
 empties o s kept j v at idle_v = ⊎_elim (λ (l : IsLive o (least_posted o.number s.views) v). absurd (omega (arith, l.some_part))) (λ (e : v ≡ spent_view). ap (λ (u : View). u.posted) e) (kept.each j v at)
 
 -- a view with all parts is of a seat that finds the least of what it posted
-pub finds_own : (o : Opening) (s : State ℕ View) (id : ℕ) (v : View) (n : ℕ) → IsKept o s → get_elem? s.views id ≡ some v → IsLive o (least_posted o.number s.views) v → n ≡ least_posted o.number s.views → FindsOwn v n
+pub finds_own : (o : Opening) (s : State ℕ View) (id : ℕ) (v : View) (n : ℕ) → KeepsViews o s → get_elem? s.views id ≡ some v → IsLive o (least_posted o.number s.views) v → n ≡ least_posted o.number s.views → FindsOwn v n
 finds_own o s id v n kept at old word all = word ∙ alone o.number s.views id v at (empties o s kept) (omega (arith, all, old.whole, kept.parts)) ∙ ap (λ (k : ℕ). least k v.posted) (sym old.opening)
 
 -- one view changes, and the word with it
-pub renewed : (o : Opening) (s : State ℕ View) (id : ℕ) (v w : View) (n : ℕ) → IsKept o s → get_elem? s.views id ≡ some v → n ≡ least_posted o.number (set s.views id w) → n ≤ least_posted o.number s.views → w.parts ≡ v.parts
-    → IsLive o n w → IsKept o record { words = slice_set s.words 0 n; homes = s.homes; views = set s.views id w }
+pub renewed : (o : Opening) (s : State ℕ View) (id : ℕ) (v w : View) (n : ℕ) → KeepsViews o s → get_elem? s.views id ≡ some v → n ≡ least_posted o.number (set s.views id w) → n ≤ least_posted o.number s.views → w.parts ≡ v.parts
+    → IsLive o n w → KeepsViews o record { words = slice_set s.words 0 n; homes = s.homes; views = set s.views id w }
 renewed o s id v w n kept at is less same mine = record {
   word = ap (λ ws. slice_set ws 0 n) kept.word ∙ ap (λ (k : ℕ). k ∷ []) is;
   parts = omega (arith, parts_set s.views id v w at, kept.parts);
@@ -37,7 +37,7 @@ renewed o s id v w n kept at is less same mine = record {
       (⊎_elim (λ (t : (j ≡ id) × (w ≡ u)). inl (subst (IsLive o n) t.1 mine)) (λ (t : (j ≢ id) × (get_elem? s.views j ≡ some u)). lowered o n (least_posted o.number s.views) u less (kept.each j u t.1)) (at_set s.views id j w u at'));
 }
 
-pub loads : (o : Opening) (slots id : ℕ) (v : Me ℕ View) → 0 < v.0.parts → Allows (IsKept o) slots id v 0 (λ n. n) (Loads (step slots 0 0 0 none) v)
+pub loads : (o : Opening) (slots id : ℕ) (v : Me ℕ View) → 0 < v.0.parts → Allows (KeepsViews o) slots id v 0 (λ n. n) (Loads (step slots 0 0 0 none) v)
 loads o slots id v some_part s kept len at fits =
     let n : ℕ = slice_index s.words 0 in
     let m : ℕ = least_posted o.number s.views in
@@ -54,7 +54,7 @@ loads o slots id v some_part s kept len at fits =
       (omega (arith, old.seen, word), subst (λ (k : ℕ). n ≤ least k v.0.posted) (sym old.opening) (omega (arith, own, word)), finds_own o s id v.0 n kept at old word, refl),
     )
 
-pub counts : (o : Opening) (slots id : ℕ) (v : Me ℕ View) → 0 < v.0.parts → Allows (IsKept o) slots id v 0 (λ n. n) (Counts (step slots 0 0 0 none) v)
+pub counts : (o : Opening) (slots id : ℕ) (v : Me ℕ View) → 0 < v.0.parts → Allows (KeepsViews o) slots id v 0 (λ n. n) (Counts (step slots 0 0 0 none) v)
 counts o slots id v some_part s kept len at fits =
     let n : ℕ = slice_index s.words 0 in
     let m : ℕ = least_posted o.number s.views in
@@ -70,7 +70,7 @@ counts o slots id v some_part s kept len at fits =
       (omega (arith, old.whole, kept.parts, parts_member s.views id v.0 at), refl),
     )
 
-pub lowers : (o : Opening) (slots id : ℕ) (v : Me ℕ View) (cost : ℕ) → 0 < v.0.parts → Allows (IsKept o) slots id v 0 (λ n. min n cost) (Lowers (step slots 0 cost 0 none) v)
+pub lowers : (o : Opening) (slots id : ℕ) (v : Me ℕ View) (cost : ℕ) → 0 < v.0.parts → Allows (KeepsViews o) slots id v 0 (λ n. min n cost) (Lowers (step slots 0 cost 0 none) v)
 lowers o slots id v cost some_part s kept len at fits =
     let n : ℕ = slice_index s.words 0 in
     let m : ℕ = least_posted o.number s.views in
@@ -89,7 +89,7 @@ lowers o slots id v cost some_part s kept len at fits =
       (omega (arith, old.seen, word), subst (λ (k : ℕ). n ≤ least k v.0.posted) (sym old.opening) (omega (arith, own, word)), finds_own o s id v.0 n kept at old word, refl),
     )
 
-pub splits : (o : Opening) (id : ℕ) (v : View) → 1 < v.parts → Splits (IsKept o) id v (after_split v) (split_off v)
+pub splits : (o : Opening) (id : ℕ) (v : View) → 1 < v.parts → Splits (KeepsViews o) id v (after_split v) (split_off v)
 splits o id v two s kept at =
     let m : ℕ = least_posted o.number s.views in
     let old = live o m v (omega arith) (kept.each id v at) in
@@ -108,7 +108,7 @@ splits o id v two s kept at =
           (at_snoc (set s.views id (after_split v)) (split_off v) u j at'));
     }
 
-pub joins : (o : Opening) (id : ℕ) (v : View) (other : ℕ) (w : View) → 0 < v.parts → 0 < w.parts → Joins (IsKept o) id v other w (joined v w) spent_view
+pub joins : (o : Opening) (id : ℕ) (v : View) (other : ℕ) (w : View) → 0 < v.parts → 0 < w.parts → Joins (KeepsViews o) id v other w (joined v w) spent_view
 joins o id v other w some_v some_w s kept at apart at_w =
     let n : ℕ = o.number in
     let m : ℕ = least_posted n s.views in
@@ -137,7 +137,7 @@ joins o id v other w some_v some_w s kept at apart at_w =
     }
 
 -- a view with all parts knows the word
-pub closes : (o : Opening) (id : ℕ) (v : View) (ws : List ℕ) (xs : List ℕ) → v.parts ≡ o.parts → Final (Seen (IsKept o) id v) ws xs → ws ≡ least o.number v.posted ∷ []
+pub closes : (o : Opening) (id : ℕ) (v : View) (ws : List ℕ) (xs : List ℕ) → v.parts ≡ o.parts → Final (Seen (KeepsViews o) id v) ws xs → ws ≡ least o.number v.posted ∷ []
 closes o id v ws xs all final =
     let s = final.0 in
     let kept = final.1.0 in

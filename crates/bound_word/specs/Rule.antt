@@ -25,7 +25,7 @@ pub record IsLive (o : Opening) (word : ℕ) (v : View) : Type 0 where
   pub whole : v.whole ≡ o.parts
 
 -- the word is the least of the opening number and of all that was posted, the parts sum to all parts, and each view is live or spent
-pub record IsKept (o : Opening) (s : State ℕ View) : Type 0 where
+pub record KeepsViews (o : Opening) (s : State ℕ View) : Type 0 where
   pub word : s.words ≡ least_posted o.number s.views ∷ []
   pub parts : parts_of s.views ≡ o.parts
   pub each : (j : ℕ) (v : View) → get_elem? s.views j ≡ some v → IsLive o (least_posted o.number s.views) v ⊎ (v ≡ spent_view)

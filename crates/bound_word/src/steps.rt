@@ -6,10 +6,10 @@ use atomic_table::{Join, Play, Split, TableRule};
 pub struct BoundRule;
 
 impl TableRule<u8, View, Opening> for BoundRule {
-    ghost use Rattle.bound_word.specs.Rule.{IsKept};
+    ghost use Rattle.bound_word.specs.Rule.{KeepsViews};
     ghost use Rattle.bound_word.specs.Views.{first_view};
 
-    ghost holds = { λ opening state. IsKept opening state };
+    ghost holds = { λ opening state. KeepsViews opening state };
 
     ghost first = { first_view };
 }

@@ -2,7 +2,7 @@
 use Rattle.std.proofs.Common.{◌≡◌, ℕ, ◌+◌, ◌<◌, Bool, true, false, List, [], ◌∷◌, ◌++◌, length, flat_map, cond, inl, refl, sym, subst, arith}
 use Rattle.refute_rules.specs.Choices.{Decision, Choice}
 use Rattle.refute_rules.specs.Listing.{AreThose, cases_from}
-use Rattle.case_search.specs.Rules.{Rules, AreLawful, IsReached, TakesTurn, left_of, options_first, options_at, cases_under}
+use Rattle.case_search.specs.Rules.{Rules, AreSoundRules, IsReached, TakesTurn, left_of, options_first, options_at, cases_under}
 use Rattle.case_search.specs.Visits.{after_first, cases_below}
 use Rattle.case_search.specs.Counts.{NoneIn}
 use Rattle.case_search.proofs.ListLemmas.{take-front}
@@ -23,7 +23,7 @@ module _ {F : Type 0} (r : Rules F) (case : List Choice) where
   under-split = cases-split (left_of r case)
 
   -- no extension of a faulty case takes a turn
-  pub none-extends : (lawful : AreLawful r) (counts : Bool) → r.counts_faulty ≡ counts → (fault : F) → r.IsFault case fault → (c : Choice) (more : List Choice) → TakesTurn counts r.IsGood (case ++ c ∷ more) → ⊥
+  pub none-extends : (lawful : AreSoundRules r) (counts : Bool) → r.counts_faulty ≡ counts → (fault : F) → r.IsFault case fault → (c : Choice) (more : List Choice) → TakesTurn counts r.IsGood (case ++ c ∷ more) → ⊥
   none-extends lawful false e fault is c more turn = lawful.faulty case fault is (lawful.shorter e case (c ∷ more) turn)
   none-extends lawful true e fault is c more turn = lawful.faulty case fault is (subst r.IsGood (take-front case (c ∷ more)) (turn (length case) (longer case)))
     where
@@ -32,7 +32,7 @@ module _ {F : Type 0} (r : Rules F) (case : List Choice) where
       longer (x ∷ xs) = let rest = longer xs in omega (arith, rest)
 
   -- what a faulty case counts: itself, or nothing
-  pub fault-none : (lawful : AreLawful r) (counts : Bool) → r.counts_faulty ≡ counts → (fault : F) → r.IsFault case fault → IsReached r.IsGood case → (a b : ℕ) → b ≡ a + cond counts 1 0 → NoneIn (TakesTurn counts r.IsGood) r.IsEnd a b (cases_under r case)
+  pub fault-none : (lawful : AreSoundRules r) (counts : Bool) → r.counts_faulty ≡ counts → (fault : F) → r.IsFault case fault → IsReached r.IsGood case → (a b : ℕ) → b ≡ a + cond counts 1 0 → NoneIn (TakesTurn counts r.IsGood) r.IsEnd a b (cases_under r case)
   fault-none lawful false e fault is reached a b count = record {
     found = [];
     those = none-listed r.IsGood r.options (left_of r case) case (λ more good. lawful.faulty case fault is (lawful.shorter e case more good));

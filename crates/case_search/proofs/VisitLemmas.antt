@@ -3,7 +3,7 @@ use Rattle.std.proofs.Common.{◌≡◌, ℕ, suc, ◌+◌, ◌-◌, ◌≤◌, 
 use Rattle.refute_rules.specs.Choices.{Decision, Choice, Before}
 use Rattle.refute_rules.specs.Listing.{cases_from}
 use Rattle.refute_rules.specs.Trees.{AreInOrder, IsLeaf, IsTree}
-use Rattle.case_search.specs.Rules.{Rules, AreLawful, IsReached, TakesTurn, IsTurn, left_of, options_first, options_at, with_option, cases_under}
+use Rattle.case_search.specs.Rules.{Rules, AreSoundRules, IsReached, TakesTurn, IsTurn, left_of, options_first, options_at, with_option, cases_under}
 use Rattle.case_search.specs.Counts.{NoneIn, FirstIn, MoreIn}
 use Rattle.case_search.specs.Visits.{after_first, IsTreeBelow, cases_below, IsPassed, IsRefuted, IsVisit}
 use Rattle.case_search.specs.declared.visits.Visit.{Visit}
@@ -24,7 +24,7 @@ module _ {F : Type 0} (r : Rules F) (case : List Choice) where
   leaf-tree (next ∷ left) marks rest leaf = inl leaf
 
   -- ---- the visit of a faulty case
-  pub fault-refuted : AreLawful r → IsReached r.IsGood case → (fault : F) → r.IsFault case fault → (a b : ℕ) (old new : List ℕ) → b ≡ a + cond r.counts_faulty 1 0 → new ≡ old ++ r.numbers_of fault → IsRefuted r case a b old new case
+  pub fault-refuted : AreSoundRules r → IsReached r.IsGood case → (fault : F) → r.IsFault case fault → (a b : ℕ) (old new : List ℕ) → b ≡ a + cond r.counts_faulty 1 0 → new ≡ old ++ r.numbers_of fault → IsRefuted r case a b old new case
   fault-refuted lawful reached fault is a b old new count e = record {
     grew = record { added = r.numbers_of fault; is = e; tree = λ rest. leaf-tree (left_of r case) (r.numbers_of fault ++ rest) rest (fault, is, refl) };
     none = fault-none r case lawful r.counts_faulty refl fault is reached a b count;
@@ -59,7 +59,7 @@ module _ {F : Type 0} (r : Rules F) (case : List Choice) where
   good-spent reached good a turns e = turn-spent (good-turn r.counts_faulty r.IsGood case reached good) a turns e
 
   -- ---- a whole case is found
-  pub whole-first : AreLawful r → IsReached r.IsGood case → r.IsGood case → length case ≡ length r.decisions → (a : ℕ) → FirstIn (IsTurn r) r.IsEnd a (a + 1) (cases_under r case) case
+  pub whole-first : AreSoundRules r → IsReached r.IsGood case → r.IsGood case → length case ≡ length r.decisions → (a : ℕ) → FirstIn (IsTurn r) r.IsEnd a (a + 1) (cases_under r case) case
   whole-first lawful reached good whole a = record {
     begun = [];
     left = flat_map (cases_below r case) opts;
@@ -83,7 +83,7 @@ module _ {F : Type 0} (r : Rules F) (case : List Choice) where
   under-below k h = ap (λ left. cases_from r.options left (case ++ option k ∷ [])) (left-below k h (option k))
 
   -- ---- the options in turn
-  pub passed-begin : AreLawful r → IsReached r.IsGood case → r.IsGood case → (length case ≡ length r.decisions → ⊥) → (a turns : ℕ) → a < turns → (old new : List ℕ) → new ≡ old ++ 0 ∷ [] → IsPassed r case turns a (a + 1) old new 0
+  pub passed-begin : AreSoundRules r → IsReached r.IsGood case → r.IsGood case → (length case ≡ length r.decisions → ⊥) → (a turns : ℕ) → a < turns → (old new : List ℕ) → new ≡ old ++ 0 ∷ [] → IsPassed r case turns a (a + 1) old new 0
   passed-begin lawful reached good unfinished a turns less old new e = record {
     inner = [];
     is = e;

@@ -15,7 +15,7 @@ pub record Rules (F : Type 0) : Type 1 where
   pub counts_faulty : Bool
 
 -- what the search rests on
-pub record AreLawful {F : Type 0} (r : Rules F) : Type 0 where
+pub record AreSoundRules {F : Type 0} (r : Rules F) : Type 0 where
   pub faulty : (case : List Choice) (fault : F) → r.IsFault case fault → r.IsGood case → ⊥
   pub shorter : r.counts_faulty ≡ false → (case more : List Choice) → r.IsGood (case ++ more) → r.IsGood case
   pub ends : (case : List Choice) → r.IsGood case → length case ≡ length r.decisions → r.IsEnd case

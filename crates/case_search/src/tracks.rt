@@ -8,7 +8,7 @@ pub trait Track {
     ghost use Rattle.std.specs.Prelude.{ℕ, ◌≡◌, ◌+◌, ◌<◌, ◌↔◌, IsTrue, List, [], ◌∷◌, ◌++◌, length, OnOk, MatchOption};
     ghost use Rattle.lock_model.specs.Deck.{Deck};
     ghost use Rattle.refute_rules.specs.Choices.{Choice};
-    ghost use Rattle.case_search.specs.Rules.{Rules, AreLawful, options_at, with_option};
+    ghost use Rattle.case_search.specs.Rules.{Rules, AreSoundRules, options_at, with_option};
 
     /// A fault of a case.
     type Fault: Drop;
@@ -55,5 +55,5 @@ pub trait Track {
         ensures deck { deck self.new ≡ deck self.old }
         ensures case { (before : List Choice) (last : Choice) → case self.old ≡ before ++ last ∷ [] → case self.new ≡ before };
 
-    ghost lawful: { (d : Deck) → AreLawful (rules d) };
+    ghost lawful: { (d : Deck) → AreSoundRules (rules d) };
 }

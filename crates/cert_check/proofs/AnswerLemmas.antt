@@ -5,9 +5,9 @@ use Rattle.lock_model.specs.declared.plan.Plan.{Plan}
 use Rattle.lock_rules.specs.Plan.{IsCheapest, cost_of}
 use Rattle.lock_rules.specs.Heredity.{IsHereditary}
 use Rattle.lock_model.specs.Deck.{Deck, IsDeck}
-use Rattle.refute_rules.proofs.RefuteLemmas.{HasNormal}
-use Rattle.certificate_rules.specs.declared.certificate.Spot2.{Spot2}
-use Rattle.certificate_rules.specs.declared.certificate.Spot2.TheVariants as place
+use Rattle.lock_model.specs.Normal.{HasNormal}
+use Rattle.certificate_rules.specs.declared.certificate.FailurePlace.{FailurePlace}
+use Rattle.certificate_rules.specs.declared.certificate.FailurePlace.TheVariants as place
 use Rattle.certificate_rules.specs.declared.certificate.Reason.{Reason}
 use Rattle.closing_rules.specs.ProvedCuts.{CertCut}
 use Rattle.certificate_rules.specs.Certificates.{Certificate, Accepts}
@@ -20,20 +20,20 @@ use Rattle.cert_check.specs.FirstFailure.{FailBeforeMarks}
 use Rattle.cert_check.proofs.FirstFailure.{fails-same}
 
 -- what fails before the marks fails first, whatever the marks are
-pub before-fails : {M : Type 0} (I : Instance) (cost : ℕ) (cuts : List CertCut) (plan : Plan) (tree : List M) (Fail : List M → Reason → Type 0) (p : Spot2) (r : Reason) → FailBeforeMarks I cost cuts plan p r → FailsAt I cost cuts plan tree Fail p r
+pub before-fails : {M : Type 0} (I : Instance) (cost : ℕ) (cuts : List CertCut) (plan : Plan) (tree : List M) (Fail : List M → Reason → Type 0) (p : FailurePlace) (r : Reason) → FailBeforeMarks I cost cuts plan p r → FailsAt I cost cuts plan tree Fail p r
 before-fails I cost cuts plan tree Fail place.Plan r h = h.fails
 before-fails I cost cuts plan tree Fail place.Cost r h = h.fails
 before-fails I cost cuts plan tree Fail (place.Cut c) r h = h.fails
 before-fails I cost cuts plan tree Fail (place.Tree n) r h = absurd h.fails.5
 
 module _ (I : Instance) (C : Certificate) where
-  pub accepted-rejected : Accepts I C → (n : ℕ) (place : Spot2) (why : Reason) → (Accepted n ≡ Rejected place why) ↔ Fails I C place why
+  pub accepted-rejected : Accepts I C → (n : ℕ) (place : FailurePlace) (why : Reason) → (Accepted n ≡ Rejected place why) ↔ Fails I C place why
   accepted-rejected good n place why = (λ e. absurd cc, λ f. absurd (fails-not_accepted I C place why f good))
 
-  pub rejected-accepted : (place : Spot2) (why : Reason) → Fails I C place why → (n : ℕ) → (Rejected place why ≡ Accepted n) ↔ (Accepts I C × (n ≡ C.cost))
+  pub rejected-accepted : (place : FailurePlace) (why : Reason) → Fails I C place why → (n : ℕ) → (Rejected place why ≡ Accepted n) ↔ (Accepts I C × (n ≡ C.cost))
   rejected-accepted place why f n = (λ e. absurd cc, λ h. absurd (fails-not_accepted I C place why f h.0))
 
-  pub rejected-rejected : (p : Spot2) (r : Reason) → Fails I C p r → (q : Spot2) (s : Reason) → (Rejected p r ≡ Rejected q s) ↔ Fails I C q s
+  pub rejected-rejected : (p : FailurePlace) (r : Reason) → Fails I C p r → (q : FailurePlace) (s : Reason) → (Rejected p r ≡ Rejected q s) ↔ Fails I C q s
   rejected-rejected p r f q s = (
     λ e.
         let place : p ≡ q = cc in

@@ -8,8 +8,8 @@ use Rattle.lock_model.specs.declared.plan.Plan.{Plan}
 use Rattle.lock_rules.specs.Node.{root_lines}
 use Rattle.lock_rules.specs.Children.{children_of}
 use Rattle.certificate_rules.specs.declared.certificate.Mark.TheVariants as mark
-use Rattle.certificate_rules.specs.declared.certificate.Spot2.{Spot2}
-use Rattle.certificate_rules.specs.declared.certificate.Spot2.TheVariants as place
+use Rattle.certificate_rules.specs.declared.certificate.FailurePlace.{FailurePlace}
+use Rattle.certificate_rules.specs.declared.certificate.FailurePlace.TheVariants as place
 use Rattle.certificate_rules.specs.declared.certificate.Reason.{Reason}
 use Rattle.certificate_rules.specs.declared.certificate.Reason.TheVariants as reason
 use Rattle.closing_rules.specs.ProvedCuts.{CertCut, IsShaped, IsProved}
@@ -103,10 +103,10 @@ cut-same I cuts c d p q a b =
 
 -- two first failures are the same, of a certificate or an open one
 module _ {M : Type 0} (I : Instance) (split : M) (Closing : ℕ → List (List Group) → M → Type 0) (reason_by : M → Reason) (no_split : (k : ℕ) (lines : List (List Group)) → Closing k lines split → ⊥) (cost : ℕ) (cuts : List CertCut) (plan : Plan) (tree : List M) where
-  abbrev FailsFirst : Spot2 → Reason → Type 0
+  abbrev FailsFirst : FailurePlace → Reason → Type 0
   FailsFirst = FailsAt I cost cuts plan tree (MarksFail I split Closing reason_by tree)
 
-  pub failing-same : (p q : Spot2) (r s : Reason) → FailsFirst p r → FailsFirst q s → AreSameFailure p q r s
+  pub failing-same : (p q : FailurePlace) (r s : Reason) → FailsFirst p r → FailsFirst q s → AreSameFailure p q r s
   failing-same place.Plan place.Plan r s a b = record { place = refl; reason = a.1 ∙ sym b.1 }
   failing-same place.Plan place.Cost r s a b = absurd (a.0 b.0)
   failing-same place.Plan (place.Cut d) r s a b = absurd (a.0 b.0)
@@ -128,5 +128,5 @@ module _ {M : Type 0} (I : Instance) (split : M) (Closing : ℕ → List (List G
       let same = marks-same I split Closing reason_by no_split tree a.3 b.3 r s a.5 b.5 in
       record { place = ap place.Tree (a.4 ∙ ap (λ u. length tree - length u) same.left ∙ sym b.4); reason = same.why }
 
-pub fails-same : (I : Instance) (C : Certificate) (p q : Spot2) (r s : Reason) → Fails I C p r → Fails I C q s → AreSameFailure p q r s
+pub fails-same : (I : Instance) (C : Certificate) (p q : FailurePlace) (r s : Reason) → Fails I C p r → Fails I C q s → AreSameFailure p q r s
 fails-same I C p q r s a b = failing-same I mark.Split (Closes I C.cost C.cuts) reason_of (λ k lines h. h) C.cost C.cuts C.plan C.tree p q r s a b

@@ -11,8 +11,8 @@ use Rattle.lock_rules.specs.Children.{children_of}
 use Rattle.lock_rules.specs.Plan.{IsLegal, cost_of}
 use Rattle.refute_rules.specs.Trees.{AreInOrder}
 use Rattle.certificate_rules.specs.declared.certificate.Mark.TheVariants as mark
-use Rattle.certificate_rules.specs.declared.certificate.Spot2.{Spot2}
-use Rattle.certificate_rules.specs.declared.certificate.Spot2.TheVariants as place
+use Rattle.certificate_rules.specs.declared.certificate.FailurePlace.{FailurePlace}
+use Rattle.certificate_rules.specs.declared.certificate.FailurePlace.TheVariants as place
 use Rattle.certificate_rules.specs.declared.certificate.Reason.{Reason}
 use Rattle.certificate_rules.specs.declared.certificate.Reason.TheVariants as reason
 use Rattle.closing_rules.specs.ProvedCuts.{CertCut, IsShaped, IsProved}
@@ -126,10 +126,10 @@ module _ {M : Type 0} (I : Instance) (split : M) (Closing : ℕ → List (List G
   abbrev Holds : Type 0
   Holds = IsLegal I plan × (cost_of I plan ≡ cost) × All (IsProved I) cuts × IsMarkTree I split Closing (length I.ships) 0 root_lines tree []
 
-  abbrev FailsFirst : Spot2 → Reason → Type 0
+  abbrev FailsFirst : FailurePlace → Reason → Type 0
   FailsFirst = FailsAt I cost cuts plan tree (MarksFail I split Closing reason_by tree)
 
-  holds-or_fails : Must (Holds ⊎ ((p : Spot2) × (r : Reason) × FailsFirst p r))
+  holds-or_fails : Must (Holds ⊎ ((p : FailurePlace) × (r : Reason) × FailsFirst p r))
   holds-or_fails =
       next (one-way (IsLegal I plan)) (λ lawful. elim lawful [
         | inr broken ↦ must (inr (place.Plan, reason.PlanIllegal, (broken, refl)))
@@ -146,7 +146,7 @@ module _ {M : Type 0} (I : Instance) (split : M) (Closing : ℕ → List (List G
       ])
 
   -- what doesn't hold fails
-  pub fails-first : (Holds → ⊥) → ((p : Spot2) (r : Reason) → FailsFirst p r → ⊥) → ⊥
+  pub fails-first : (Holds → ⊥) → ((p : FailurePlace) (r : Reason) → FailsFirst p r → ⊥) → ⊥
   fails-first other never =
       holds-or_fails (λ one. elim one [
         | inl good ↦ other good
@@ -154,7 +154,7 @@ module _ {M : Type 0} (I : Instance) (split : M) (Closing : ℕ → List (List G
       ])
 
 -- a certificate that isn't accepted fails
-pub fails-somewhere : (I : Instance) (C : Certificate) → (Accepts I C → ⊥) → ((p : Spot2) (r : Reason) → Fails I C p r → ⊥) → ⊥
+pub fails-somewhere : (I : Instance) (C : Certificate) → (Accepts I C → ⊥) → ((p : FailurePlace) (r : Reason) → Fails I C p r → ⊥) → ⊥
 fails-somewhere I C other never =
     fails-first I mark.Split (Closes I C.cost C.cuts) reason_of C.cost C.cuts C.plan C.tree
     (λ h. other (record { legal = h.0; cost = h.1; cuts = h.2; tree = h.3 })) never

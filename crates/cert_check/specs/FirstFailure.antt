@@ -3,7 +3,7 @@ use Rattle.std.specs.Prelude.{ℕ, ◌≡◌, ◌-◌, List, [], length, All}
 use Rattle.lock_model.specs.declared.instance.Instance.{Instance}
 use Rattle.lock_model.specs.declared.plan.Plan.{Plan}
 use Rattle.lock_rules.specs.Plan.{IsLegal, cost_of}
-use Rattle.certificate_rules.specs.declared.certificate.Spot2.{Spot2}
+use Rattle.certificate_rules.specs.declared.certificate.FailurePlace.{FailurePlace}
 use Rattle.certificate_rules.specs.declared.certificate.Reason.{Reason}
 use Rattle.certificate_rules.specs.declared.certificate.Mark.{Mark}
 use Rattle.certificate_rules.specs.declared.certificate.Mark.TheVariants as mark
@@ -12,15 +12,15 @@ use Rattle.certificate_rules.specs.Certificates.{Certificate, Closes, Accepts}
 use Rattle.certificate_rules.specs.Failures.{MarksFail, FailsAt, reason_of, Fails}
 
 -- the same place and the same reason
-pub record AreSameFailure (p q : Spot2) (r s : Reason) : Type 0 where
+pub record AreSameFailure (p q : FailurePlace) (r s : Reason) : Type 0 where
   pub place : p ≡ q
   pub reason : r ≡ s
 
 -- No certificate fails first in two ways, none that is accepted fails, and none is neither accepted nor fails.
 pub record HaveOneFailure : Type 0 where
-  pub same : (I : Instance) (C : Certificate) (p q : Spot2) (r s : Reason) → Fails I C p r → Fails I C q s → AreSameFailure p q r s
-  pub none : (I : Instance) (C : Certificate) (p : Spot2) (r : Reason) → Accepts I C → Fails I C p r → ⊥
-  pub some : (I : Instance) (C : Certificate) → (Accepts I C → ⊥) → ((p : Spot2) (r : Reason) → Fails I C p r → ⊥) → ⊥
+  pub same : (I : Instance) (C : Certificate) (p q : FailurePlace) (r s : Reason) → Fails I C p r → Fails I C q s → AreSameFailure p q r s
+  pub none : (I : Instance) (C : Certificate) (p : FailurePlace) (r : Reason) → Accepts I C → Fails I C p r → ⊥
+  pub some : (I : Instance) (C : Certificate) → (Accepts I C → ⊥) → ((p : FailurePlace) (r : Reason) → Fails I C p r → ⊥) → ⊥
 
 -- the plan is legal and has the cost, and each cut is proved
 pub record HoldBeforeMarks (I : Instance) (cost : ℕ) (cuts : List CertCut) (plan : Plan) : Type 0 where
@@ -29,7 +29,7 @@ pub record HoldBeforeMarks (I : Instance) (cost : ℕ) (cuts : List CertCut) (pl
   pub proved : All (IsProved I) cuts
 
 -- the plan, the cost or a cut fails first, whatever marks there are
-pub record FailBeforeMarks (I : Instance) (cost : ℕ) (cuts : List CertCut) (plan : Plan) (p : Spot2) (r : Reason) : Type 0 where
+pub record FailBeforeMarks (I : Instance) (cost : ℕ) (cuts : List CertCut) (plan : Plan) (p : FailurePlace) (r : Reason) : Type 0 where
   pub fails : FailsAt {M = Mark} I cost cuts plan [] (λ stuck why. ⊥) p r
 
 -- the marks fail first at mark p

@@ -1,7 +1,7 @@
 //! Certificates, and what the checker answers to one.
 ghost use Rattle.std.specs.Prelude.{◌≡◌, [], ◌∷◌, ◌++◌, OnOk, OnErr, IfOk};
 
-use certificate_rules::{Mark, Reason, Spot2};
+use certificate_rules::{FailurePlace, Mark, Reason};
 use lock_model::{Plan, Ships};
 use refute_rules::Refutation;
 use std::alloc::{AllocError, Global};
@@ -142,5 +142,5 @@ pub enum Answer {
     /// It shows that its plan is cheapest; the plan costs this many minutes.
     Accepted(u64),
     /// It doesn't, since it fails first at this place and for this reason.
-    Rejected(Spot2, Reason),
+    Rejected(FailurePlace, Reason),
 }

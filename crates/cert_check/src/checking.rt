@@ -6,7 +6,7 @@ ghost use Rattle.lock_rules.specs.Throughput.{throughput_of};
 ghost use Rattle.closing_rules.specs.ProvedCuts.{IsShaped, IsProved};
 ghost use Rattle.certificate_rules.specs.Certificates.{Closes, IsMarkTree, Accepts};
 ghost use Rattle.certificate_rules.specs.Failures.{Fails};
-ghost use Rattle.certificate_rules.specs.declared.certificate.Spot2.{Spot2 as Place};
+ghost use Rattle.certificate_rules.specs.declared.certificate.FailurePlace.{FailurePlace as Place};
 ghost use Rattle.certificate_rules.specs.declared.certificate.Reason.{Reason as Why};
 ghost use Rattle.cert_check.specs.FirstFailure.{HoldBeforeMarks, FailBeforeMarks, FailAtMark};
 
@@ -14,7 +14,7 @@ use crate::certificate::{Answer, CertCuts, Certificate};
 use crate::closing::Claim;
 use crate::cuts::first_unproved;
 use crate::reading::read_tree;
-use certificate_rules::{Mark, Reason, Spot2};
+use certificate_rules::{FailurePlace, Mark, Reason};
 use chamber_times::cost;
 use deck_laws::{heredity, normal_form};
 use flow_bounds::{Roster, throughput};
@@ -78,18 +78,18 @@ pub fn first_failure_before_marks(
     cost: u64,
     cuts: &CertCuts,
     plan: &Plan,
-) -> Result<Option<(Spot2, Reason)>, NoMemory>
+) -> Result<Option<(FailurePlace, Reason)>, NoMemory>
     ensures none { IfOk result (λ first. IfNone first (HoldBeforeMarks instance.now cost cuts.now plan.now)) }
     ensures some { IfOk result (λ first. IfSome first (λ f. FailBeforeMarks instance.now cost cuts.now plan.now f.0 f.1)) }
 {
     if !is_legal(instance, plan) {
-        return Ok(Some((Spot2::Plan, Reason::PlanIllegal)));
+        return Ok(Some((FailurePlace::Plan, Reason::PlanIllegal)));
     }
     if !costs(instance, plan, cost) {
-        return Ok(Some((Spot2::Cost, Reason::CostWrong)));
+        return Ok(Some((FailurePlace::Cost, Reason::CostWrong)));
     }
     if let Some((number, reason)) = first_unproved(alloc, instance, cuts.as_slice())? {
-        return Ok(Some((Spot2::Cut(number), reason)));
+        return Ok(Some((FailurePlace::Cut(number), reason)));
     }
     Ok(None)
 }
@@ -99,7 +99,7 @@ fn first_failure(
     alloc: Global,
     instance: &Instance,
     certificate: &Certificate,
-) -> Result<Option<(Spot2, Reason)>, NoMemory>
+) -> Result<Option<(FailurePlace, Reason)>, NoMemory>
     ensures none { IfOk result (λ first. IfNone first (Accepts instance.now certificate.now)) }
     ensures some { IfOk result (λ first. IfSome first (λ f. Fails instance.now certificate.now f.0 f.1)) }
 {
@@ -113,7 +113,7 @@ fn first_failure(
         return Ok(Some(first));
     }
     if let Some((number, reason)) = first_wrong_mark_of(instance, certificate) {
-        return Ok(Some((Spot2::Tree(number), reason)));
+        return Ok(Some((FailurePlace::Tree(number), reason)));
     }
     Ok(None)
 }

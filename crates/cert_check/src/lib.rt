@@ -29,7 +29,7 @@ mod reading;
 mod tests;
 
 pub use certificate::{Answer, CertCut, CertCuts, Certificate, MarkList};
-pub use certificate_rules::{Mark, Reason, Spot2};
+pub use certificate_rules::{FailurePlace, Mark, Reason};
 pub use checking::{check, first_failure_before_marks};
 pub use closing::{Claim, closes, reason_against};
 pub use closing_rules::Ground;

@@ -80,7 +80,7 @@ const EDITS: [Edit; 26] = [
             plan: &[(Way::Up, Who::First, 0, 10), (Way::Up, Who::Second, 49, 10)],
             ..ONE_BY_ONE
         },
-        Answer::Rejected(Spot2::Plan, Reason::PlanIllegal),
+        Answer::Rejected(FailurePlace::Plan, Reason::PlanIllegal),
     ),
     (
         NARROW,
@@ -88,7 +88,7 @@ const EDITS: [Edit; 26] = [
             plan: &[(Way::Up, Who::First, 0, 10)],
             ..ONE_BY_ONE
         },
-        Answer::Rejected(Spot2::Plan, Reason::PlanIllegal),
+        Answer::Rejected(FailurePlace::Plan, Reason::PlanIllegal),
     ),
     (
         NARROW,
@@ -104,7 +104,7 @@ const EDITS: [Edit; 26] = [
             cost: 119,
             ..ONE_BY_ONE
         },
-        Answer::Rejected(Spot2::Cost, Reason::CostWrong),
+        Answer::Rejected(FailurePlace::Cost, Reason::CostWrong),
     ),
     (
         NARROW,
@@ -112,7 +112,7 @@ const EDITS: [Edit; 26] = [
             cost: 121,
             ..ONE_BY_ONE
         },
-        Answer::Rejected(Spot2::Cost, Reason::CostWrong),
+        Answer::Rejected(FailurePlace::Cost, Reason::CostWrong),
     ),
     (
         NARROW,
@@ -120,7 +120,7 @@ const EDITS: [Edit; 26] = [
             cut: Some((7, Who::Both, Why::Row(Who::Both))),
             ..ONE_BY_ONE
         },
-        Answer::Rejected(Spot2::Cut(0), Reason::CutShape),
+        Answer::Rejected(FailurePlace::Cut(0), Reason::CutShape),
     ),
     (
         NARROW,
@@ -128,7 +128,7 @@ const EDITS: [Edit; 26] = [
             cut: Some((0, Who::Nobody, Why::Row(Who::Both))),
             ..ONE_BY_ONE
         },
-        Answer::Rejected(Spot2::Cut(0), Reason::CutShape),
+        Answer::Rejected(FailurePlace::Cut(0), Reason::CutShape),
     ),
     (
         NARROW,
@@ -136,7 +136,7 @@ const EDITS: [Edit; 26] = [
             cut: Some((0, Who::Stranger, Why::Row(Who::Both))),
             ..ONE_BY_ONE
         },
-        Answer::Rejected(Spot2::Cut(0), Reason::CutShape),
+        Answer::Rejected(FailurePlace::Cut(0), Reason::CutShape),
     ),
     (
         NARROW,
@@ -144,7 +144,7 @@ const EDITS: [Edit; 26] = [
             cut: Some((0, Who::Both, Why::Row(Who::First))),
             ..ONE_BY_ONE
         },
-        Answer::Rejected(Spot2::Cut(0), Reason::CutUnproved),
+        Answer::Rejected(FailurePlace::Cut(0), Reason::CutUnproved),
     ),
     (
         NARROW,
@@ -152,7 +152,7 @@ const EDITS: [Edit; 26] = [
             tree: &[],
             ..ONE_BY_ONE
         },
-        Answer::Rejected(Spot2::Tree(0), Reason::TreeShort),
+        Answer::Rejected(FailurePlace::Tree(0), Reason::TreeShort),
     ),
     (
         NARROW,
@@ -165,7 +165,7 @@ const EDITS: [Edit; 26] = [
             ],
             ..ONE_BY_ONE
         },
-        Answer::Rejected(Spot2::Tree(4), Reason::TreeShort),
+        Answer::Rejected(FailurePlace::Tree(4), Reason::TreeShort),
     ),
     (
         NARROW,
@@ -180,7 +180,7 @@ const EDITS: [Edit; 26] = [
             ],
             ..ONE_BY_ONE
         },
-        Answer::Rejected(Spot2::Tree(5), Reason::TreeLong),
+        Answer::Rejected(FailurePlace::Tree(5), Reason::TreeLong),
     ),
     (
         NARROW,
@@ -194,7 +194,7 @@ const EDITS: [Edit; 26] = [
             ],
             ..ONE_BY_ONE
         },
-        Answer::Rejected(Spot2::Tree(2), Reason::SplitFull),
+        Answer::Rejected(FailurePlace::Tree(2), Reason::SplitFull),
     ),
     (
         NARROW,
@@ -208,7 +208,7 @@ const EDITS: [Edit; 26] = [
             ],
             ..ONE_BY_ONE
         },
-        Answer::Rejected(Spot2::Tree(2), Reason::BoundLow),
+        Answer::Rejected(FailurePlace::Tree(2), Reason::BoundLow),
     ),
     (
         NARROW,
@@ -216,7 +216,7 @@ const EDITS: [Edit; 26] = [
             tree: &[Mark::Split, Mark::Leaf(Ground::Bound)],
             ..ONE_BY_ONE
         },
-        Answer::Rejected(Spot2::Tree(1), Reason::BoundLow),
+        Answer::Rejected(FailurePlace::Tree(1), Reason::BoundLow),
     ),
     (
         NARROW,
@@ -230,7 +230,7 @@ const EDITS: [Edit; 26] = [
             ],
             ..ONE_BY_ONE
         },
-        Answer::Rejected(Spot2::Tree(2), Reason::CutMisses),
+        Answer::Rejected(FailurePlace::Tree(2), Reason::CutMisses),
     ),
     (
         NARROW,
@@ -244,7 +244,7 @@ const EDITS: [Edit; 26] = [
             ],
             ..ONE_BY_ONE
         },
-        Answer::Rejected(Spot2::Tree(3), Reason::CutMisses),
+        Answer::Rejected(FailurePlace::Tree(3), Reason::CutMisses),
     ),
     (
         NARROW,
@@ -258,7 +258,7 @@ const EDITS: [Edit; 26] = [
             ],
             ..ONE_BY_ONE
         },
-        Answer::Rejected(Spot2::Tree(2), Reason::ThroughputLow),
+        Answer::Rejected(FailurePlace::Tree(2), Reason::ThroughputLow),
     ),
     (
         NARROW,
@@ -272,7 +272,7 @@ const EDITS: [Edit; 26] = [
             ],
             ..ONE_BY_ONE
         },
-        Answer::Rejected(Spot2::Tree(2), Reason::ProbeWrong),
+        Answer::Rejected(FailurePlace::Tree(2), Reason::ProbeWrong),
     ),
     (
         SIDE_BY_SIDE,
@@ -288,7 +288,7 @@ const EDITS: [Edit; 26] = [
             tree: &[Mark::Leaf(Ground::Probe(1))],
             ..BOTH
         },
-        Answer::Rejected(Spot2::Tree(0), Reason::ProbeWrong),
+        Answer::Rejected(FailurePlace::Tree(0), Reason::ProbeWrong),
     ),
     (
         SIDE_BY_SIDE,
@@ -296,7 +296,7 @@ const EDITS: [Edit; 26] = [
             tree: &[Mark::Split, Mark::Leaf(Ground::Probe(0))],
             ..BOTH
         },
-        Answer::Rejected(Spot2::Tree(1), Reason::ProbeWrong),
+        Answer::Rejected(FailurePlace::Tree(1), Reason::ProbeWrong),
     ),
     (
         SIDE_BY_SIDE,
@@ -304,7 +304,7 @@ const EDITS: [Edit; 26] = [
             tree: &[Mark::Split, Mark::Leaf(Ground::Probe(2))],
             ..BOTH
         },
-        Answer::Rejected(Spot2::Tree(1), Reason::ProbeWrong),
+        Answer::Rejected(FailurePlace::Tree(1), Reason::ProbeWrong),
     ),
     (
         PASSING,
@@ -312,12 +312,12 @@ const EDITS: [Edit; 26] = [
             tree: &[Mark::Leaf(Ground::Bound)],
             ..BY_THROUGHPUT
         },
-        Answer::Rejected(Spot2::Tree(0), Reason::BoundLow),
+        Answer::Rejected(FailurePlace::Tree(0), Reason::BoundLow),
     ),
     (
         Lock { most: 2, ..PASSING },
         BY_THROUGHPUT,
-        Answer::Rejected(Spot2::Tree(0), Reason::ThroughputLow),
+        Answer::Rejected(FailurePlace::Tree(0), Reason::ThroughputLow),
     ),
     (
         Lock {
@@ -325,7 +325,7 @@ const EDITS: [Edit; 26] = [
             ..SIDE_BY_SIDE
         },
         BY_CLASH,
-        Answer::Rejected(Spot2::Cut(0), Reason::CutUnproved),
+        Answer::Rejected(FailurePlace::Cut(0), Reason::CutUnproved),
     ),
 ];
 

@@ -5,9 +5,9 @@ use Rattle.cert_text.specs.declared.bad.DossierError.{DossierError}
 use Rattle.cert_text.specs.declared.bad.DossierError.TheVariants.{Fault, NoMemory}
 
 -- want of memory, or this fault and its cause
-abbrev pub IsRefusal : BadDossier → Type 0 → DossierError → Type 0
-IsRefusal f Cause NoMemory = ⊤
-IsRefusal f Cause (Fault g) = (g ≡ f) × Cause
+abbrev pub IsCausedFault : BadDossier → Type 0 → DossierError → Type 0
+IsCausedFault f Cause NoMemory = ⊤
+IsCausedFault f Cause (Fault g) = (g ≡ f) × Cause
 
 -- want of memory, or the fault that a reading ends with
 abbrev pub IsFault : {A : Type 0} → Result A BadDossier → DossierError → Type 0

@@ -70,18 +70,18 @@ abbrev pub cuts_in : Data → Option (List CertCut)
 cuts_in = list_in cut_in
 
 -- its `why` begins with 5
-abbrev pub is_clash : Refutation → Bool
-is_clash (refutation.Quick q) = false
-is_clash (refutation.Cases marks) = false
-is_clash (refutation.Spots marks) = false
-is_clash (refutation.Clash i j) = true
+abbrev pub is_by_clash : Refutation → Bool
+is_by_clash (refutation.Quick q) = false
+is_by_clash (refutation.Cases marks) = false
+is_by_clash (refutation.Spots marks) = false
+is_by_clash (refutation.Clash i j) = true
 
-abbrev pub has_clash : List CertCut → Bool
-has_clash = list_any (λ c. is_clash c.refutation)
+abbrev pub has_clash_cut : List CertCut → Bool
+has_clash_cut = list_any (λ c. is_by_clash c.refutation)
 
 -- the cuts, none of them refuted by a clash where clashes aren't taken
 abbrev pub cuts_under : Bool → Data → Option (List CertCut)
 cuts_under clashes d = do
   cuts ← cuts_in d
-  when (clashes || not (has_clash cuts))
+  when (clashes || not (has_clash_cut cuts))
   Some cuts

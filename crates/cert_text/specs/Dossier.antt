@@ -16,7 +16,7 @@ use Rattle.cert_text.specs.declared.bad.BadDossier.TheVariants as fault
 use Rattle.cert_text.specs.declared.bad.DossierError.{DossierError}
 use Rattle.cert_text.specs.declared.bad.DossierError.TheVariants.{Fault, NoMemory}
 use Rattle.cert_text.specs.Steps.{or_fault, fault_under}
-use Rattle.cert_text.specs.Cuts.{has_clash}
+use Rattle.cert_text.specs.Cuts.{has_clash_cut}
 use Rattle.cert_text.specs.Certificates.{certificate_text, certificate_in}
 use Rattle.cert_text.specs.Heading.{headed}
 
@@ -26,7 +26,7 @@ heading_line clashes = if clashes then codes "certificate 2\n" else codes "certi
 
 -- the canonical dossier of an instance and a certificate
 unfoldable pub dossier : Instance → Certificate → List ℕ
-dossier I C = canonical I ++ (heading_line (has_clash C.cuts) ++ (certificate_text C ++ 10 ∷ []))
+dossier I C = canonical I ++ (heading_line (has_clash_cut C.cuts) ++ (certificate_text C ++ 10 ∷ []))
 
 -- whether cuts may be refuted by a clash; an open dossier is none
 abbrev pub takes_clashes : Heading → Option Bool

@@ -2,11 +2,11 @@
 ghost use Rattle.std.specs.Prelude.{◌≡◌, IfOk, IfErr, Some, None, Ok, codes};
 ghost use Rattle.certificate_rules.specs.WellFormed.{IsWellFormed};
 ghost use Rattle.serde_json.specs.View.{view};
-ghost use Rattle.cert_text.specs.Answers.{IsRefusal, IsFault};
+ghost use Rattle.cert_text.specs.Answers.{IsCausedFault, IsFault};
 ghost use Rattle.cert_text.specs.Steps.{fault_under};
 ghost use Rattle.cert_text.specs.Fields.{value_at};
 ghost use Rattle.cert_text.specs.Cost.{cost_in};
-ghost use Rattle.cert_text.specs.Cuts.{is_clash, has_clash, cuts_under};
+ghost use Rattle.cert_text.specs.Cuts.{is_by_clash, has_clash_cut, cuts_under};
 ghost use Rattle.cert_text.specs.Plans.{plan_in};
 ghost use Rattle.cert_text.specs.Marks.{tree_in};
 ghost use Rattle.cert_text.specs.Certificates.{certificate_data, is_frame, certificate_in};
@@ -30,7 +30,7 @@ use std::alloc::Global;
 pub fn put_certificate(alloc: Global, certificate: &Certificate) -> Result<Value, NoMemory>
     requires { IsWellFormed certificate.now }
     ensures value { IfOk result (λ v. view v ≡ certificate_data certificate.now) }
-    ensures reads_back { IfOk result (λ _. certificate_in (has_clash certificate.now.cuts) (certificate_data certificate.now) ≡ Ok certificate.now) }
+    ensures reads_back { IfOk result (λ _. certificate_in (has_clash_cut certificate.now.cuts) (certificate_data certificate.now) ≡ Ok certificate.now) }
 {
     let cost = put_cost(certificate.cost)?;
     let cuts = put_cuts(alloc, &certificate.cuts)?;
@@ -45,18 +45,18 @@ pub fn put_certificate(alloc: Global, certificate: &Certificate) -> Result<Value
 }
 
 /// Whether a cut is refuted by a clash.
-fn is_clash(cut: &CertCut) -> bool
-    ensures { result ≡ is_clash cut.now.refutation }
+fn is_by_clash(cut: &CertCut) -> bool
+    ensures { result ≡ is_by_clash cut.now.refutation }
 {
     matches!(cut.refutation, Refutation::Clash(_, _))
 }
 
 /// Whether some cut is refuted by a clash.
-pub fn has_clash(cuts: &CertCuts) -> bool
-    ensures { result ≡ has_clash cuts.now }
+pub fn has_clash_cut(cuts: &CertCuts) -> bool
+    ensures { result ≡ has_clash_cut cuts.now }
 {
     for cut in cuts.as_slice() {
-        if is_clash(cut) {
+        if is_by_clash(cut) {
             return true;
         }
     }
@@ -89,10 +89,10 @@ pub fn cost_at(value: &Value) -> Result<u64, BadDossier>
 /// The cuts that a value lists, where clashes are taken or none is there.
 fn cuts_under(alloc: Global, clashes: bool, value: &Value) -> Result<CertCuts, DossierError>
     ensures read { IfOk result (λ cuts. cuts_under clashes (view value.now) ≡ Some cuts) }
-    ensures shape { IfErr result (IsRefusal (Shape 3) (cuts_under clashes (view value.now) ≡ None)) }
+    ensures shape { IfErr result (IsCausedFault (Shape 3) (cuts_under clashes (view value.now) ≡ None)) }
 {
     let cuts = cuts_of(alloc, value)?;
-    if clashes || !has_clash(&cuts) {
+    if clashes || !has_clash_cut(&cuts) {
         Ok(cuts)
     } else {
         Err(DossierError::Fault(BadDossier::Shape(3)))
@@ -103,7 +103,7 @@ fn cuts_under(alloc: Global, clashes: bool, value: &Value) -> Result<CertCuts, D
 /// where these are none, or else want of memory.
 pub fn cuts_at(alloc: Global, clashes: bool, value: &Value) -> Result<CertCuts, DossierError>
     ensures read { IfOk result (λ cuts. value_at (codes "cuts") (cuts_under clashes) (view value.now) ≡ Some cuts) }
-    ensures shape { IfErr result (IsRefusal (Shape 3) (value_at (codes "cuts") (cuts_under clashes) (view value.now) ≡ None)) }
+    ensures shape { IfErr result (IsCausedFault (Shape 3) (value_at (codes "cuts") (cuts_under clashes) (view value.now) ≡ None)) }
 {
     match value.get("cuts") {
         Some(cuts) => cuts_under(alloc, clashes, cuts),
@@ -125,7 +125,7 @@ pub fn plan_at(value: &Value) -> Result<Plan, BadDossier>
 /// The marks that a value lists.
 fn tree_of(alloc: Global, value: &Value) -> Result<MarkList, DossierError>
     ensures read { IfOk result (λ tree. tree_in (view value.now) ≡ Some tree) }
-    ensures shape { IfErr result (IsRefusal (Shape 5) (tree_in (view value.now) ≡ None)) }
+    ensures shape { IfErr result (IsCausedFault (Shape 5) (tree_in (view value.now) ≡ None)) }
 {
     match tree_in(alloc, value)? {
         Some(tree) => Ok(tree),
@@ -136,7 +136,7 @@ fn tree_of(alloc: Global, value: &Value) -> Result<MarkList, DossierError>
 /// The marks at the key `tree`.
 fn tree_at(alloc: Global, value: &Value) -> Result<MarkList, DossierError>
     ensures read { IfOk result (λ tree. value_at (codes "tree") tree_in (view value.now) ≡ Some tree) }
-    ensures shape { IfErr result (IsRefusal (Shape 5) (value_at (codes "tree") tree_in (view value.now) ≡ None)) }
+    ensures shape { IfErr result (IsCausedFault (Shape 5) (value_at (codes "tree") tree_in (view value.now) ≡ None)) }
 {
     match value.get("tree") {
         Some(tree) => tree_of(alloc, tree),

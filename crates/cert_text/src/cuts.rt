@@ -2,7 +2,7 @@
 ghost use Rattle.std.specs.Prelude.{◌≡◌, All, IfOk, IfErr, Some, None, map, codes};
 ghost use Rattle.certificate_rules.specs.WellFormed.{IsFormedCut};
 ghost use Rattle.serde_json.specs.View.{view, items_of, items_view};
-ghost use Rattle.cert_text.specs.Answers.{IsRefusal};
+ghost use Rattle.cert_text.specs.Answers.{IsCausedFault};
 ghost use Rattle.cert_text.specs.Fields.{all_in, value_at};
 ghost use Rattle.cert_text.specs.Cuts.{cut_data, cuts_data, cut_in, cuts_in, why_in};
 ghost use Rattle.cert_text.specs.declared.bad.BadDossier.TheVariants.{Shape};
@@ -121,7 +121,7 @@ fn cuts_in(alloc: Global, value: &Value) -> Result<Option<CertCuts>, AllocError>
 /// memory.
 pub fn cuts_of(alloc: Global, value: &Value) -> Result<CertCuts, DossierError>
     ensures read { IfOk result (λ cuts. cuts_in (view value.now) ≡ Some cuts) }
-    ensures shape { IfErr result (IsRefusal (Shape 3) (cuts_in (view value.now) ≡ None)) }
+    ensures shape { IfErr result (IsCausedFault (Shape 3) (cuts_in (view value.now) ≡ None)) }
 {
     match cuts_in(alloc, value)? {
         Some(cuts) => Ok(cuts),

@@ -2,10 +2,10 @@
 ghost use Rattle.std.specs.Prelude.{◌≡◌, ◌++◌, ◌∷◌, [], Some, Ok, IfOk, OnOk};
 ghost use Rattle.certificate_rules.specs.WellFormed.{IsWellFormed};
 ghost use Rattle.cert_text.specs.Certificates.{certificate_data, certificate_text, certificate_in};
-ghost use Rattle.cert_text.specs.Cuts.{has_clash};
+ghost use Rattle.cert_text.specs.Cuts.{has_clash_cut};
 ghost use Rattle.cert_text.specs.Dossier.{heading_line, dossier, json_of, Reads};
 
-use crate::certificate::{has_clash, put_certificate};
+use crate::certificate::{has_clash_cut, put_certificate};
 use cert_check::Certificate;
 use instance_text::print_instance;
 use lock_model::Instance;
@@ -37,7 +37,7 @@ fn json_text(alloc: Global, certificate: &Certificate) -> Result<Vec<u8>, NoMemo
     requires { IsWellFormed certificate.now }
     ensures text { IfOk result (λ text. text.items ≡ certificate_text certificate.now) }
     ensures json { IfOk result (λ text. json_of (text.items ++ 10 ∷ []) ≡ Some (certificate_data certificate.now)) }
-    ensures reads_back { IfOk result (λ _. certificate_in (has_clash certificate.now.cuts) (certificate_data certificate.now) ≡ Ok certificate.now) }
+    ensures reads_back { IfOk result (λ _. certificate_in (has_clash_cut certificate.now.cuts) (certificate_data certificate.now) ≡ Ok certificate.now) }
 {
     let value = put_certificate(alloc, certificate)?;
     let text = value.to_vec(alloc)?;
@@ -57,7 +57,7 @@ pub fn print_dossier(
     ensures reads_back { IfOk result (λ text. Reads text.items instance.now certificate.now) }
 {
     let mut out = print_instance(alloc, instance)?;
-    put_heading(&mut out, has_clash(&certificate.cuts))?;
+    put_heading(&mut out, has_clash_cut(&certificate.cuts))?;
     let text = json_text(alloc, certificate)?;
     put_line(&mut out, text.as_slice())?;
     Ok(out)

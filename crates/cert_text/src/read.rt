@@ -3,7 +3,7 @@ ghost use Rattle.std.specs.Prelude.{◌≡◌, List, ℕ, Some, None, Ok, IfOk, 
 ghost use Rattle.lock_model.specs.declared.instance.Instance.{Instance as AnyInstance};
 ghost use Rattle.certificate_rules.specs.Certificates.{Certificate as AnyCertificate};
 ghost use Rattle.serde_json.specs.View.{view};
-ghost use Rattle.cert_text.specs.Answers.{IsRefusal, IsFault, IsAnswer, IsFaultAnswer};
+ghost use Rattle.cert_text.specs.Answers.{IsCausedFault, IsFault, IsAnswer, IsFaultAnswer};
 ghost use Rattle.cert_text.specs.Dossier.{takes_clashes, json_of, rest_in, Reads, DossierFault, IsFirstFault};
 ghost use Rattle.cert_text.specs.declared.bad.BadDossier.{BadDossier as AnyFault};
 ghost use Rattle.cert_text.specs.declared.bad.BadDossier.TheVariants.{Json};
@@ -34,7 +34,7 @@ fn takes_clashes(heading: Heading) -> Option<bool>
 #[tactic(auto, using(crate::proofs::WrittenLemmas::json_found, crate::proofs::WrittenLemmas::json_none))]
 pub fn json_of(alloc: Global, bytes: &[u8]) -> Result<Value, DossierError>
     ensures read { IfOk result (λ v. json_of bytes.now ≡ Some (view v)) }
-    ensures refused { IfErr result (IsRefusal Json (json_of bytes.now ≡ None)) }
+    ensures refused { IfErr result (IsCausedFault Json (json_of bytes.now ≡ None)) }
 {
     match Value::from_slice(alloc, bytes) {
         Ok(value) => Ok(value),

@@ -7,8 +7,8 @@ use Rattle.lock_rules.specs.Children.{children_of}
 use Rattle.refute_rules.specs.Trees.{AreInOrder}
 use Rattle.certificate_rules.specs.declared.certificate.Mark.TheVariants as mark
 use Rattle.certificate_rules.specs.declared.certificate.OpenMark.TheVariants.{Closed}
-use Rattle.certificate_rules.specs.declared.certificate.Spot2.{Spot2}
-use Rattle.certificate_rules.specs.declared.certificate.Spot2.TheVariants as place
+use Rattle.certificate_rules.specs.declared.certificate.FailurePlace.{FailurePlace}
+use Rattle.certificate_rules.specs.declared.certificate.FailurePlace.TheVariants as place
 use Rattle.certificate_rules.specs.declared.certificate.Reason.{Reason}
 use Rattle.closing_rules.specs.ProvedCuts.{CertCut, IsProved}
 use Rattle.certificate_rules.specs.Certificates.{Certificate, Closes, IsMarkTree, Accepts}
@@ -81,13 +81,13 @@ cuts-not_fail I cuts c why proved f =
     elim f.unproved [ inl u ↦ u.0 good.shaped | inr u ↦ u.1 good ]
 
 -- a certificate that fails isn't accepted, and an open one doesn't stand
-pub fails-not_accepted : (I : Instance) (C : Certificate) (at : Spot2) (why : Reason) → Fails I C at why → Accepts I C → ⊥
+pub fails-not_accepted : (I : Instance) (C : Certificate) (at : FailurePlace) (why : Reason) → Fails I C at why → Accepts I C → ⊥
 fails-not_accepted I C place.Plan why f a = f.0 a.legal
 fails-not_accepted I C place.Cost why f a = f.1 a.cost
 fails-not_accepted I C (place.Cut c) why f a = cuts-not_fail I C.cuts c why a.cuts f.2
 fails-not_accepted I C (place.Tree p) why f a = marks-not_fail I mark.Split (Closes I C.cost C.cuts) reason_of (λ k lines h. h) C.tree f.3 why a.tree f.5
 
-pub fails-not_stands : (I : Instance) (C : OpenCertificate) (at : Spot2) (why : Reason) → OpenFails I C at why → Stands I C → ⊥
+pub fails-not_stands : (I : Instance) (C : OpenCertificate) (at : FailurePlace) (why : Reason) → OpenFails I C at why → Stands I C → ⊥
 fails-not_stands I C place.Plan why f a = f.0 a.legal
 fails-not_stands I C place.Cost why f a = f.1 a.cost
 fails-not_stands I C (place.Cut c) why f a = cuts-not_fail I C.cuts c why a.cuts f.2

@@ -12,8 +12,8 @@ use Rattle.certificate_rules.specs.declared.certificate.Mark.{Mark}
 use Rattle.certificate_rules.specs.declared.certificate.Mark.TheVariants as mark
 use Rattle.certificate_rules.specs.declared.certificate.OpenMark.{OpenMark}
 use Rattle.certificate_rules.specs.declared.certificate.OpenMark.TheVariants.{Closed, Open}
-use Rattle.certificate_rules.specs.declared.certificate.Spot2.{Spot2}
-use Rattle.certificate_rules.specs.declared.certificate.Spot2.TheVariants as place
+use Rattle.certificate_rules.specs.declared.certificate.FailurePlace.{FailurePlace}
+use Rattle.certificate_rules.specs.declared.certificate.FailurePlace.TheVariants as place
 use Rattle.certificate_rules.specs.declared.certificate.Reason.{Reason}
 use Rattle.certificate_rules.specs.declared.certificate.Reason.TheVariants as reason
 use Rattle.closing_rules.specs.ProvedCuts.{CertCut, IsShaped, IsProved}
@@ -71,7 +71,7 @@ pub record CutFails (I : Instance) (cuts : List CertCut) (c : ℕ) (r : Reason) 
   pub unproved : ((IsShaped I cut → ⊥) × (r ≡ reason.CutShape)) ⊎ (IsShaped I cut × (IsProved I cut → ⊥) × (r ≡ reason.CutUnproved))
 
 -- The first place and reason, where `Fail` says it of the marks that are left at the place.
-abbrev pub FailsAt : {M : Type 0} → Instance → ℕ → List CertCut → Plan → List M → (List M → Reason → Type 0) → Spot2 → Reason → Type 0
+abbrev pub FailsAt : {M : Type 0} → Instance → ℕ → List CertCut → Plan → List M → (List M → Reason → Type 0) → FailurePlace → Reason → Type 0
 FailsAt I cost cuts plan tree Fail place.Plan r = (IsLegal I plan → ⊥) × (r ≡ reason.PlanIllegal)
 FailsAt I cost cuts plan tree Fail place.Cost r = IsLegal I plan × (cost_of I plan ≢ cost) × (r ≡ reason.CostWrong)
 FailsAt I cost cuts plan tree Fail (place.Cut c) r = IsLegal I plan × (cost_of I plan ≡ cost) × CutFails I cuts c r
@@ -80,8 +80,8 @@ FailsAt {M} I cost cuts plan tree Fail (place.Tree p) r =
     × (stuck : List M) × (p ≡ length tree - length stuck) × Fail stuck r
 
 -- the first failure of a certificate, and of an open one
-abbrev pub Fails : Instance → Certificate → Spot2 → Reason → Type 0
+abbrev pub Fails : Instance → Certificate → FailurePlace → Reason → Type 0
 Fails I C = FailsAt I C.cost C.cuts C.plan C.tree (MarksFail I mark.Split (Closes I C.cost C.cuts) reason_of C.tree)
 
-abbrev pub OpenFails : Instance → OpenCertificate → Spot2 → Reason → Type 0
+abbrev pub OpenFails : Instance → OpenCertificate → FailurePlace → Reason → Type 0
 OpenFails I C = FailsAt I C.cost C.cuts C.plan C.tree (MarksFail I (Closed mark.Split) (ClosesOrOpen I C.cost C.cuts) open_reason_of C.tree)

@@ -18,7 +18,7 @@ pub enum OpenMark {
 
 /// The place at which a certificate fails.
 #[derive(Clone, Copy, Debug, PartialEq, Eq)]
-pub enum Spot2 {
+pub enum FailurePlace {
     Plan,
     Cost,
     Cut(u64),

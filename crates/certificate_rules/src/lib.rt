@@ -12,4 +12,4 @@
 
 mod certificate;
 
-pub use certificate::{Mark, OpenMark, Reason, Spot2};
+pub use certificate::{FailurePlace, Mark, OpenMark, Reason};

@@ -15,7 +15,8 @@ use Rattle.diff_rules.specs.Differences.{IsSystem, IsPositiveCycle, no_edge}
 use Rattle.refute_rules.specs.Choices.{Decision as Told, decisions}
 use Rattle.refute_rules.specs.Edges.{x_var, y_var, edge, ship_edges, berth_edges, choice_edges, case_edges}
 use Rattle.refute_rules.specs.Cases.{vars_of}
-use Rattle.refute_rules.proofs.Among.{IsAmong, IsAmong-left, IsAmong-flat_map, IsAmong-numbers, all-append, all-flat_map, all-weaker, all-numbers}
+use Rattle.lock_rules.specs.Among.{IsAmong}
+use Rattle.refute_rules.proofs.Among.{IsAmong-left, IsAmong-flat_map, IsAmong-numbers, all-append, all-flat_map, all-weaker, all-numbers}
 use Rattle.lock_rules.proofs.TreeLemmas.{contains-among}
 use Rattle.case_search.proofs.ListLemmas.{length-append}
 use Rattle.chamber_place.specs.Picks.{choice_of, choices_of, IsKnownMoor, IsKnownPick}

@@ -11,7 +11,7 @@ use Rattle.refute_rules.specs.Choices.{Choice, Lies, Before, Below, Stands, Bert
 use Rattle.refute_rules.specs.Edges.{case_edges, choice_edges, ship_edges}
 use Rattle.refute_rules.specs.Decided.{berth_in}
 use Rattle.refute_rules.specs.Cases.{IsConsistent, CaseFault, OtherRank, Walk, IsCaseFault, vars_of}
-use Rattle.case_search.specs.Rules.{AreLawful}
+use Rattle.case_search.specs.Rules.{AreSoundRules}
 use Rattle.case_search.proofs.ListLemmas.{append-assoc, flat_map-append}
 use Rattle.chamber_place.specs.Faults.{fault_of}
 use Rattle.chamber_place.specs.OnItsWay.{case_rules}
@@ -64,7 +64,7 @@ module _ (d : Deck) where
   fault-inconsistent case (OtherRank i) h is = is.ranks i h
   fault-inconsistent case (Walk numbers) h is = no_solution (case_edges d case) (vars_of d) is.values numbers is.solution h.1
 
-  pub case_laws : AreLawful (case_rules d)
+  pub case_laws : AreSoundRules (case_rules d)
   case_laws = record {
     faulty = λ case fault h is. fault-inconsistent case (fault_of fault) h is;
     shorter = λ e case more is. consistent-shorter case more is;

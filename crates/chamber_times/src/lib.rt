@@ -3,8 +3,9 @@
 //!
 //! `earliest` gives the least lawful starts of a line of groups. `judge_line` names the first
 //! lockage of a chamber's line whose start breaks a rule, and what it breaks. `cost` adds the flow
-//! times of a plan. `duration`, `first_free`, `is_free`, `stand_after` and `group_times` are the
-//! steps of a timetable, for callers that walk a line themselves. No call takes memory.
+//! times of a plan. `duration`, `first_free`, `is_free`, `last_arrival`, `ready`, `stand_after` and
+//! `group_times` are the steps of a timetable, for callers that walk a line themselves. No call takes
+//! memory.
 //!
 //! Definitions: `lock_rules` says when starts are lawful (`specs/Lawful`), what the earliest
 //! timetable is (`Timetable`), and what a plan costs (`Plan`). Here `specs/Walk` says in which
@@ -24,6 +25,6 @@ mod walk;
 pub use breaks::BrokenTime;
 pub use costs::{cost, flow_time, lockage_end};
 pub use judge::judge_line;
-pub use service::{duration, group_times, stand_after};
+pub use service::{duration, group_times, last_arrival, ready, stand_after};
 pub use spans::{first_free, is_free};
 pub use timetable::earliest;

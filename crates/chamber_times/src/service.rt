@@ -34,7 +34,7 @@ pub fn stand_after(way: Way) -> Stand
 
 /// The last arrival of these ships, or `low` where that is later.
 #[inline]
-fn last_arrival(instance: &Instance, low: u64, ships: &Ships) -> u64
+pub fn last_arrival(instance: &Instance, low: u64, ships: &Ships) -> u64
     requires { All (λ s. s < length instance.now.ships) ships.now }
     ensures value { result ≡ last_arrival instance.now low ships.now }
     ensures small { result ≤ max low 1000000 }
@@ -49,7 +49,7 @@ fn last_arrival(instance: &Instance, low: u64, ships: &Ships) -> u64
 /// The first minute at which the chamber may be ready for the way, where it stands so and is done
 /// with all before at `from`: after an empty turn where it stands on the other side.
 #[inline]
-pub(crate) fn ready(chamber: &Chamber, stand: Stand, from: u64, way: Way) -> u64
+pub fn ready(chamber: &Chamber, stand: Stand, from: u64, way: Way) -> u64
     requires from_small { from ≤ 2 ^ 61 }
     requires turn_small { chamber.now.turn ≤ 1000000 }
     ensures value { result ≡ ready_at chamber.now stand from way }

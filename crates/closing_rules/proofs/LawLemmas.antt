@@ -14,7 +14,8 @@ use Rattle.lock_rules.proofs.SplitLemmas.{bound-holds, probe-holds, children-spl
 use Rattle.lock_rules.proofs.ThroughputLemmas.{throughput-holds}
 use Rattle.lock_rules.proofs.NodeLemmas.{children-nodes, root-node, root-under}
 use Rattle.lock_rules.proofs.CutLemmas.{cut-holds}
-use Rattle.refute_rules.proofs.RefuteLemmas.{HasNormal, refuted-unfit}
+use Rattle.lock_model.specs.Normal.{HasNormal}
+use Rattle.refute_rules.proofs.RefuteLemmas.{refuted-unfit}
 use Rattle.closing_rules.specs.Laws.{TreeLaws}
 
 pub contains-times : (xs : List ℕ) (s : ℕ) → Contains xs s → 1 ≤ times_in xs s

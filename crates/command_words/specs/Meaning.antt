@@ -80,10 +80,10 @@ pub record Gives (given : Given) (command : Command) : Type 0 where
   pub options : GivesOptions command given
 
 -- the words are good, and each number of the command is in its range
-pub record Means (words : List Text) (command : Command) : Type 0 where
+pub record MeanCommand (words : List Text) (command : Command) : Type 0 where
   pub good : IsGood words
   pub gives : Gives good.given command
 
 -- the words mean no command
 abbrev pub AreBad : List Text → Type 0
-AreBad words = (command : Command) → ¬ Means words command
+AreBad words = (command : Command) → ¬ MeanCommand words command

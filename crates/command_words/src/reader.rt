@@ -1,7 +1,7 @@
 //! From words to a command.
 ghost use Rattle.std.specs.Prelude.{◌≡◌, ◌⊎◌, IfOk, IfSome, IsErrOf, map, string_bytes};
 ghost use Rattle.command_words.specs.Given.{Given};
-ghost use Rattle.command_words.specs.Meaning.{IsGood, Means, AreBad, Gives, GivesOptions, name_of_command};
+ghost use Rattle.command_words.specs.Meaning.{IsGood, MeanCommand, AreBad, Gives, GivesOptions, name_of_command};
 ghost use Rattle.command_words.specs.Parser.{Finds};
 ghost use Rattle.command_words.specs.declared.commands.Command.{Command as AnyCommand};
 
@@ -48,13 +48,13 @@ fn command_of(matches: &ArgMatches<'_>) -> Option<Command>
 /// The command that the words mean, with its options and their defaults.
 ///
 /// `words` are those after the program's name. `Ok` gives the one command that the words mean, as
-/// `Means` of `specs/Meaning.antt` says. `Bad` comes exactly where they mean none, want of memory
+/// `MeanCommand` of `specs/Meaning.antt` says. `Bad` comes exactly where they mean none, want of memory
 /// aside: they aren't good, or a number is out of its range. Words that aren't good are `Bad` at
 /// once and use no memory.
 pub fn read_words(alloc: Global, words: &[String]) -> Result<Command, WordsError>
-    ensures ok { IfOk result (λ c. Means (map string_bytes words.now) c) }
+    ensures ok { IfOk result (λ c. MeanCommand (map string_bytes words.now) c) }
     ensures bad { IsErrOf result WordsError.Bad → AreBad (map string_bytes words.now) }
-    ensures each { (c : AnyCommand) → Means (map string_bytes words.now) c
+    ensures each { (c : AnyCommand) → MeanCommand (map string_bytes words.now) c
         → (result ≡ Ok c) ⊎ IsErrOf result WordsError.NoMemory }
     ensures early { ¬ IsGood (map string_bytes words.now) → IsErrOf result WordsError.Bad }
 {

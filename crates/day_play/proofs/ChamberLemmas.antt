@@ -28,7 +28,8 @@ use Rattle.lock_rules.proofs.FreeLemmas.{first_free-from, first_free-free}
 use Rattle.lock_rules.proofs.TimetableLemmas.{turned_at-least, closures_kept}
 use Rattle.chamber_times.specs.Walk.{lockages_at}
 use Rattle.day_play.specs.Order.{IsOrdered}
-use Rattle.day_play.specs.State.{Moored, Idle, ChamberState, IsAmong, other_side, chamber_after}
+use Rattle.lock_rules.specs.Among.{IsAmong}
+use Rattle.day_play.specs.State.{Moored, Idle, ChamberState, other_side, chamber_after}
 use Rattle.day_play.specs.Lawful.{IsOf, HasMoored, MayMoor, MayTurn, ship_of, side_before}
 use Rattle.day_play.specs.Playing.{gap_to, quay_distance, moor_beats, moor_order, turn_beats, go_beat, done_beat, lockage_beats, line_beats}
 use Rattle.day_play.specs.declared.beat.Act.TheVariants.{Moor}

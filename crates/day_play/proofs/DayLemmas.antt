@@ -19,13 +19,15 @@ use Rattle.lock_rules.proofs.FreeLemmas.{first_free-from}
 use Rattle.lock_rules.proofs.TimetableLemmas.{turned_at-least}
 use Rattle.chamber_times.specs.Walk.{lockages_at, line_places}
 use Rattle.chamber_times.proofs.WalkLemmas.{lockages_at-line}
+use Rattle.lock_rules.proofs.TreeLemmas.{IsAmong-left, IsAmong-right}
 use Rattle.day_play.specs.Order.{minute_of, IsOrdered}
-use Rattle.day_play.specs.State.{IsAmong, opening, opening_chamber}
+use Rattle.lock_rules.specs.Among.{IsAmong}
+use Rattle.day_play.specs.State.{opening, opening_chamber}
 use Rattle.day_play.specs.Lawful.{IsLawfulDay}
 use Rattle.day_play.specs.Playing.{moor_beats, moor_order, turn_beats, go_beat, done_beat, lockage_beats, line_beats, chamber_beats, beats_of, day_of}
 use Rattle.day_play.specs.declared.beat.Beat.{Beat}
 use Rattle.day_play.proofs.OrderLemmas.{ordered-lower, put_each-ordered, put_each-among, length-put_each, numbers-among}
-use Rattle.day_play.proofs.RunLemmas.{beats_at, moors_in, RunsHere, IsFresh, idle_not_under, runs-lawful, runs-still, done-gone, done-served, IsAmong-left, IsAmong-right, IsAmong-cases}
+use Rattle.day_play.proofs.RunLemmas.{beats_at, moors_in, RunsHere, IsFresh, idle_not_under, runs-lawful, runs-still, done-gone, done-served, IsAmong-cases}
 use Rattle.day_play.proofs.BeatLemmas.{beats-few}
 use Rattle.day_play.proofs.ChamberLemmas.{IsGood, line-run}
 use Rattle.day_play.proofs.MixLemmas.{own-once, others-after}

@@ -5,7 +5,8 @@ use Rattle.lock_model.specs.declared.instance.Instance.{Instance}
 use Rattle.lock_model.specs.declared.plan.Lockage.{Lockage}
 use Rattle.lock_model.specs.declared.plan.Plan.{Plan}
 use Rattle.lock_rules.specs.Lines.{lockage_at}
-use Rattle.day_play.specs.State.{Moored, Going, Idle, Under, ChamberState, State, IsAmong, chamber_after, state_after, gone_after, served_after, after, after_all}
+use Rattle.lock_rules.specs.Among.{IsAmong}
+use Rattle.day_play.specs.State.{Moored, Going, Idle, Under, ChamberState, State, chamber_after, state_after, gone_after, served_after, after, after_all}
 use Rattle.day_play.specs.Lawful.{ship_of, IsStill, MayDo, MayEnter, AreLawfulBeats}
 use Rattle.day_play.specs.Playing.{done_beat}
 use Rattle.day_play.specs.declared.beat.Act.{Act}
@@ -20,15 +21,6 @@ IsAmong-cases (z ∷ xs) ys x (inr h) =
       | inl left ↦ inl (inr left)
       | inr right ↦ inr right
     ]
-
-pub IsAmong-left : {X : Type 0} (xs ys : List X) (x : X) → IsAmong xs x → IsAmong (xs ++ ys) x
-IsAmong-left [] ys x h = absurd h
-IsAmong-left (z ∷ xs) ys x (inl e) = inl e
-IsAmong-left (z ∷ xs) ys x (inr h) = inr (IsAmong-left xs ys x h)
-
-pub IsAmong-right : {X : Type 0} (xs ys : List X) (x : X) → IsAmong ys x → IsAmong (xs ++ ys) x
-IsAmong-right [] ys x h = h
-IsAmong-right (z ∷ xs) ys x h = inr (IsAmong-right xs ys x h)
 
 -- a number of a list stands at some place
 pub IsAmong-place : (xs : List ℕ) (x : ℕ) → IsAmong xs x → (k : ℕ) × (k < length xs) × (slice_index_or xs k 0 ≡ x)

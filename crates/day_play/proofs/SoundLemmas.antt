@@ -9,11 +9,13 @@ use Rattle.lock_model.specs.Cargo.{GoTogether}
 use Rattle.lock_model.specs.declared.instance.Instance.{Instance}
 use Rattle.lock_model.specs.declared.plan.Plan.{Plan}
 use Rattle.lock_rules.specs.Lines.{lockage_at}
+use Rattle.lock_rules.proofs.TreeLemmas.{IsAmong-left, IsAmong-right}
 use Rattle.day_play.specs.Rising.{AreRising}
-use Rattle.day_play.specs.State.{Moored, Going, Under, State, IsAmong}
+use Rattle.lock_rules.specs.Among.{IsAmong}
+use Rattle.day_play.specs.State.{Moored, Going, Under, State}
 use Rattle.day_play.specs.Lawful.{ship_of, IsOf, MayMoor, MayGo, MayEnd, IsWaiting}
 use Rattle.day_play.proofs.ChamberLemmas.{apart-swap, together-swap}
-use Rattle.day_play.proofs.RunLemmas.{IsAmong-cases, IsAmong-left, IsAmong-right, IsAmong-place}
+use Rattle.day_play.proofs.RunLemmas.{IsAmong-cases, IsAmong-place}
 use Rattle.day_play.proofs.TimesLemmas.{increasing-place, length-among}
 
 module _ (I : Instance) (P : Plan) where

@@ -14,7 +14,8 @@ use Rattle.lock_rules.specs.Lawful.{IsFree, HasTurn, HasTurned, IsLawfulStart, A
 use Rattle.lock_rules.specs.Lines.{lockage_at, group_of}
 use Rattle.chamber_times.specs.Walk.{lockages_at}
 use Rattle.day_play.specs.Rising.{AreRising}
-use Rattle.day_play.specs.State.{Going, Idle, Under, ChamberState, State, IsAmong, other_side, chamber_after, state_after, after}
+use Rattle.lock_rules.specs.Among.{IsAmong}
+use Rattle.day_play.specs.State.{Going, Idle, Under, ChamberState, State, other_side, chamber_after, state_after, after}
 use Rattle.day_play.specs.Lawful.{side_before, MayTurn, MayGo, MayEnd, MayDo, AreLawfulBeats}
 use Rattle.day_play.specs.declared.beat.Act.{Act}
 use Rattle.day_play.specs.declared.beat.Act.TheVariants.{Turn, Moor, Go, Done}

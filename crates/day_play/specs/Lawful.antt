@@ -16,7 +16,8 @@ use Rattle.lock_model.specs.declared.way.Way.TheVariants.{Up, Down}
 use Rattle.lock_rules.specs.Lawful.{IsFree, duration_of}
 use Rattle.lock_rules.specs.Lines.{lockage_at}
 use Rattle.day_play.specs.Order.{IsOrdered, minute_of}
-use Rattle.day_play.specs.State.{Moored, Idle, Under, ChamberState, State, IsAmong, opening, after, after_all}
+use Rattle.lock_rules.specs.Among.{IsAmong}
+use Rattle.day_play.specs.State.{Moored, Idle, Under, ChamberState, State, opening, after, after_all}
 use Rattle.day_play.specs.declared.beat.Act.{Act}
 use Rattle.day_play.specs.declared.beat.Act.TheVariants.{Turn, Moor, Go, Done}
 use Rattle.day_play.specs.declared.beat.Beat.{Beat}

@@ -1,5 +1,5 @@
 -- The state of a lock in the course of a day, and what a beat changes.
-use Rattle.std.specs.Prelude.{ℕ, ◌≡◌, ◌+◌, ◌⊎◌, List, [], ◌∷◌, ◌++◌, nat_eq, if◌then◌else◌}
+use Rattle.std.specs.Prelude.{ℕ, ◌+◌, List, [], ◌∷◌, ◌++◌, nat_eq, if◌then◌else◌}
 use Rattle.lock_model.specs.Fleet.{chamber_at}
 use Rattle.lock_model.specs.declared.instance.Instance.{Instance}
 use Rattle.lock_model.specs.declared.plan.Plan.{Plan}
@@ -33,11 +33,6 @@ pub record State : Type 0 where
   pub chamber : ℕ → ChamberState
   pub served : List ℕ
   pub gone : List ℕ
-
--- x stands in the list
-abbrev pub IsAmong : {X : Type 0} → List X → X → Type 0
-IsAmong [] x = ⊥
-IsAmong (y ∷ ys) x = (y ≡ x) ⊎ IsAmong ys x
 
 abbrev pub other_side : Stand → Stand
 other_side Low = High

@@ -5,7 +5,8 @@ use Rattle.lock_model.specs.Ships.{RisesFrom}
 use Rattle.lock_rules.specs.Arrival.{numbers_from}
 use Rattle.refute_rules.specs.Values.{put_number, rising_of}
 use Rattle.lock_rules.proofs.TreeLemmas.{RisesFrom-less}
-use Rattle.refute_rules.proofs.Among.{IsAmong, among-append}
+use Rattle.lock_rules.specs.Among.{IsAmong}
+use Rattle.refute_rules.proofs.Among.{among-append}
 use Rattle.deck_laws.proofs.ThinLemmas.{ltb_tells}
 
 pub among-filter : {X : Type 0} (p : X → Bool) (xs : List X) (x : X) → IsAmong (filter p xs) x → IsAmong xs x × (p x ≡ true)

@@ -12,7 +12,7 @@ use Rattle.lock_model.specs.declared.placement.Moor.TheVariants.{Quay, Ship}
 use Rattle.deck_laws.specs.Slack.{Keeps, HasRoom, IsTightBy, IsTight, IsLeastSlack}
 use Rattle.deck_laws.specs.Shift.{shifted, shift_from, IsNoFarther, AreNoFarther}
 use Rattle.deck_laws.specs.Rounds.{IsRootedIn, IsRooted, AreRooted, with_done, free_count}
-use Rattle.refute_rules.proofs.RefuteLemmas.{HasNormal}
+use Rattle.lock_model.specs.Normal.{HasNormal}
 use Rattle.deck_laws.proofs.PlacementLemmas.{is-moored, are-apart}
 
 true-false : true ≡ false → ⊥

@@ -9,7 +9,8 @@ use Rattle.lock_rules.specs.Arrival.{numbers_from}
 use Rattle.refute_rules.specs.Reasons.{length_at}
 use Rattle.refute_rules.specs.Values.{others, is_kept, shifts_by, shifts_of, values_after, spot_values}
 use Rattle.lock_rules.proofs.TreeLemmas.{contains-among}
-use Rattle.refute_rules.proofs.Among.{IsAmong, IsAmong-right, IsAmong-filter, IsAmong-flat_map, IsAmong-numbers, among-append}
+use Rattle.lock_rules.specs.Among.{IsAmong}
+use Rattle.refute_rules.proofs.Among.{IsAmong-right, IsAmong-filter, IsAmong-flat_map, IsAmong-numbers, among-append}
 use Rattle.refute_rules.proofs.CaseLemmas.{others-among}
 use Rattle.refute_rules.proofs.AnchorLemmas.{rising-among, values-later, anchored-spot_value}
 use Rattle.deck_laws.specs.Laws.{HoldNormalPlaces}

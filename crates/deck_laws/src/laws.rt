@@ -2,7 +2,7 @@
 //! that does nothing.
 ghost use Rattle.lock_model.specs.Deck.{Deck as Measured, IsDeck};
 ghost use Rattle.lock_rules.specs.Heredity.{IsHereditary};
-ghost use Rattle.refute_rules.proofs.RefuteLemmas.{HasNormal};
+ghost use Rattle.lock_model.specs.Normal.{HasNormal};
 ghost use Rattle.deck_laws.specs.Laws.{HaveNormalForms};
 
 /// Heredity: a deck that fits still fits without any one of its ships, and in a chamber that is

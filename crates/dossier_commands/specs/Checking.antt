@@ -5,7 +5,7 @@ use Rattle.lock_rules.specs.Plan.{IsCheapest, cost_of}
 use Rattle.lock_rules.specs.Unfit.{HasNoUnfit}
 use Rattle.certificate_rules.specs.Certificates.{Certificate, Accepts}
 use Rattle.certificate_rules.specs.Failures.{Fails}
-use Rattle.certificate_rules.specs.declared.certificate.Spot2.{Spot2}
+use Rattle.certificate_rules.specs.declared.certificate.FailurePlace.{FailurePlace}
 use Rattle.certificate_rules.specs.declared.certificate.Reason.{Reason}
 use Rattle.cert_text.specs.Dossier.{Reads, DossierFault}
 use Rattle.cert_text.specs.declared.bad.BadDossier.{BadDossier as AnyFault}
@@ -29,7 +29,7 @@ pub record PrintsAccepted (I : Instance) (C : Certificate) (text : List ℕ) : T
 -- Each ship fits some chamber, and the certificate fails first at this place and for this reason.
 pub record PrintsRejected (I : Instance) (C : Certificate) (text : List ℕ) : Type 0 where
   pub fit : HasNoUnfit I
-  pub place : Spot2
+  pub place : FailurePlace
   pub reason : Reason
   pub fails : Fails I C place reason
   pub shown : text ≡ rejected_text place reason

@@ -4,7 +4,7 @@ use Rattle.lock_model.specs.declared.instance.Instance.{Instance}
 use Rattle.certificate_rules.specs.OpenCertificates.{OpenCertificate, Stands}
 use Rattle.certificate_rules.specs.Failures.{OpenFails}
 use Rattle.book_rules.specs.Ends.{AreEnough}
-use Rattle.certificate_rules.specs.declared.certificate.Spot2.{Spot2}
+use Rattle.certificate_rules.specs.declared.certificate.FailurePlace.{FailurePlace}
 use Rattle.certificate_rules.specs.declared.certificate.Reason.{Reason}
 use Rattle.command_words.specs.declared.commands.SolveOptions.{SolveOptions}
 use Rattle.run_answers.specs.declared.status.Status.{Status}
@@ -14,7 +14,7 @@ use Rattle.dossier_commands.specs.Resuming.{budget_of}
 
 -- the certificate fails first somewhere
 abbrev pub FailsSomewhere : Instance → OpenCertificate → Type 0
-FailsSomewhere I C = (place : Spot2) × (reason : Reason) × OpenFails I C place reason
+FailsSomewhere I C = (place : FailurePlace) × (reason : Reason) × OpenFails I C place reason
 
 -- how `lower` may end
 abbrev pub MayLower : Instance → OpenCertificate → Status → Type 0

@@ -1,7 +1,7 @@
 -- What the commands that read dossiers write.
 use Rattle.std.specs.Prelude.{ℕ, List, ◌++◌, codes, decimal}
-use Rattle.certificate_rules.specs.declared.certificate.Spot2.{Spot2}
-use Rattle.certificate_rules.specs.declared.certificate.Spot2.TheVariants.{Plan, Cost, Cut, Tree}
+use Rattle.certificate_rules.specs.declared.certificate.FailurePlace.{FailurePlace}
+use Rattle.certificate_rules.specs.declared.certificate.FailurePlace.TheVariants.{Plan, Cost, Cut, Tree}
 use Rattle.certificate_rules.specs.declared.certificate.Reason.{Reason}
 use Rattle.certificate_rules.specs.declared.certificate.Reason.TheVariants.{PlanIllegal, CostWrong, CutShape, CutUnproved, TreeShort, TreeLong, SplitFull, BoundLow, CutMisses, ThroughputLow, ProbeWrong}
 use Rattle.cert_text.specs.declared.bad.BadDossier.{BadDossier}
@@ -12,7 +12,7 @@ use Rattle.run_answers.specs.Texts.{defect_text}
 unfoldable pub accepted_text : ℕ → List ℕ
 accepted_text cost = codes "accepted cost " ++ decimal cost ++ codes "\n"
 
-abbrev pub place_text : Spot2 → List ℕ
+abbrev pub place_text : FailurePlace → List ℕ
 place_text Plan = codes "plan"
 place_text Cost = codes "cost"
 place_text (Cut number) = codes "cut " ++ decimal number
@@ -46,7 +46,7 @@ name_of_reason ThroughputLow = codes "ThroughputLow"
 name_of_reason ProbeWrong = codes "ProbeWrong"
 
 -- the first failure of a certificate
-unfoldable pub rejected_text : Spot2 → Reason → List ℕ
+unfoldable pub rejected_text : FailurePlace → Reason → List ℕ
 rejected_text place reason = codes "rejected " ++ place_text place ++ codes " reason " ++ decimal (number_of_reason reason) ++ codes " " ++ name_of_reason reason ++ codes "\n"
 
 -- a part of the JSON value of a dossier that has not its form

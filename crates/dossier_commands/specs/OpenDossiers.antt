@@ -7,7 +7,7 @@ use Rattle.lock_rules.specs.Unfit.{HasNoUnfit}
 use Rattle.certificate_rules.specs.OpenCertificates.{OpenCertificate, Stands}
 use Rattle.certificate_rules.specs.Low.{IsLow}
 use Rattle.certificate_rules.specs.Failures.{OpenFails}
-use Rattle.certificate_rules.specs.declared.certificate.Spot2.{Spot2}
+use Rattle.certificate_rules.specs.declared.certificate.FailurePlace.{FailurePlace}
 use Rattle.certificate_rules.specs.declared.certificate.Reason.{Reason}
 use Rattle.cert_text.specs.declared.bad.BadDossier.{BadDossier as AnyFault}
 use Rattle.resume_book.specs.OpenDossier.{ReadsOpen, OpenDossierFault}
@@ -40,7 +40,7 @@ pub record PrintsOpenRejected (bytes text : List ℕ) : Type 0 where
   pub certificate : OpenCertificate
   pub reads : ReadsOpen bytes instance certificate
   pub fit : HasNoUnfit instance
-  pub place : Spot2
+  pub place : FailurePlace
   pub reason : Reason
   pub fails : OpenFails instance certificate place reason
   pub shown : text ≡ rejected_text place reason

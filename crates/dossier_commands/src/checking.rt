@@ -10,7 +10,7 @@ ghost use Rattle.run_answers.specs.Written.{bytes_in};
 ghost use Rattle.dossier_commands.specs.Checking.{dossier_limit, AnswersCertificate, AnswersCheck};
 
 use crate::dossier_texts::{accepted_text, fault_text, rejected_text};
-use cert_check::{Answer as Checked, Certificate, Reason, Spot2, check};
+use cert_check::{Answer as Checked, Certificate, FailurePlace, Reason, check};
 use cert_text::{BadDossier, DossierError, read_dossier};
 use first_plan::first_unfit;
 use lock_io::Source;
@@ -57,7 +57,7 @@ fn rejected_answer(
     alloc: Global,
     instance: &Instance,
     certificate: &Certificate,
-    place: Spot2,
+    place: FailurePlace,
     reason: Reason,
 ) -> Answer
     requires fit { HasNoUnfit instance.now }

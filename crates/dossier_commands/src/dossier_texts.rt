@@ -3,7 +3,7 @@ ghost use Rattle.std.specs.Prelude.{◌≡◌, ◌++◌, IfOk, OnOk};
 ghost use Rattle.dossier_commands.specs.DossierTexts.{accepted_text, lower_text, place_text, number_of_reason, name_of_reason, rejected_text, shape_text, fault_text};
 ghost use Rattle.cert_text.specs.declared.bad.BadDossier.TheVariants.{Instance as InstancePart};
 
-use cert_check::{Reason, Spot2};
+use cert_check::{FailurePlace, Reason};
 use cert_text::BadDossier;
 use instance_text::Bad;
 use plain_text::{NoMemory, put, put_number};
@@ -37,17 +37,17 @@ pub(crate) fn lower_text(alloc: Global, low: u64, cost: u64) -> Result<Vec<u8>, 
 }
 
 // Appends a place of a certificate.
-fn put_place(out: &mut Vec<u8>, place: Spot2) -> Result<(), NoMemory>
+fn put_place(out: &mut Vec<u8>, place: FailurePlace) -> Result<(), NoMemory>
     ensures { OnOk result (out.new.items ≡ out.old.items ++ place_text place) }
 {
     match place {
-        Spot2::Plan => put(out, b"plan"),
-        Spot2::Cost => put(out, b"cost"),
-        Spot2::Cut(number) => {
+        FailurePlace::Plan => put(out, b"plan"),
+        FailurePlace::Cost => put(out, b"cost"),
+        FailurePlace::Cut(number) => {
             put(out, b"cut ")?;
             put_number(out, number)
         }
-        Spot2::Tree(number) => {
+        FailurePlace::Tree(number) => {
             put(out, b"tree ")?;
             put_number(out, number)
         }
@@ -96,7 +96,7 @@ fn name_of(reason: Reason) -> &'static [u8]
 #[tactic(auto, unfolding(crate::specs::DossierTexts::rejected_text))]
 pub(crate) fn rejected_text(
     alloc: Global,
-    place: Spot2,
+    place: FailurePlace,
     reason: Reason,
 ) -> Result<Vec<u8>, NoMemory>
     ensures { IfOk result (λ text. text.items ≡ rejected_text place reason) }

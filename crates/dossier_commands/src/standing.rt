@@ -11,7 +11,8 @@ use first_plan::first_unfit;
 use lock_model::Instance;
 use plain_text::NoMemory;
 use resume_book::{
-    BadDossier, DossierError, OpenAnswer, OpenCertificate, Reason, Spot2, check_open, read_open,
+    BadDossier, DossierError, FailurePlace, OpenAnswer, OpenCertificate, Reason, check_open,
+    read_open,
 };
 use run_answers::{Answer, Status, Text, no_memory, unfit_text};
 use std::alloc::Global;
@@ -65,7 +66,7 @@ fn rejected_answer(
     bytes: &[u8],
     instance: &Instance,
     certificate: &OpenCertificate,
-    place: Spot2,
+    place: FailurePlace,
     reason: Reason,
 ) -> Answer
     requires reads { ReadsOpen bytes.now instance.now certificate.now }

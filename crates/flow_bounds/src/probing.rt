@@ -67,6 +67,17 @@ impl Bounds {
         least_number(self.items.as_slice())
     }
 
+    /// The same bounds.
+    pub fn copy(&self) -> Bounds
+        ensures { result ≡ self.now }
+    {
+        let mut items = ArrayVec::new();
+        for &bound in self.items.as_slice() {
+            items.push(bound);
+        }
+        Bounds { items }
+    }
+
     // Appends a bound.
     fn push(&mut self, bound: u64)
         requires { length self.old < 50 }

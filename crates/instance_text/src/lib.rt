@@ -41,7 +41,7 @@ pub use digits::number;
 pub use lines::{Lines, is_blank};
 pub use lot::make_lot;
 pub use plain_text::NoMemory;
-pub use print::print_instance;
+pub use print::{print_instance, way_word};
 pub use read::{read_instance, read_instance_part, split_instance};
 pub use side::way;
 pub use utf8::check_utf8;

@@ -11,8 +11,8 @@ use lock_model::{Chamber, Closure, Instance, Ship, Stand, Way};
 use plain_text::{NoMemory, put};
 use std::alloc::Global;
 
-/// The word for a way.
-fn way_word(way: Way) -> &'static [u8]
+/// The word for a way: `up` or `down`.
+pub fn way_word(way: Way) -> &'static [u8]
     ensures { result.now ≡ way_word way }
 {
     match way {

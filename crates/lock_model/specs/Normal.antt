@@ -24,3 +24,7 @@ IsAnchored d spots i = (k : ℕ) × IsAnchoredIn d spots k i
 pub record IsNormal (d : Deck) (spots : List Spot) : Type 0 where
   pub legal : IsLegalPlacement d spots
   pub anchored : (i : ℕ) → i < length d.ships → IsAnchored d spots i
+
+-- where the deck has a legal placement, it has a normal one
+abbrev pub HasNormal : Deck → Type 0
+HasNormal d = (spots : List Spot) → IsLegalPlacement d spots → (normal : List Spot) × IsNormal d normal

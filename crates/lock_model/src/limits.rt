@@ -1,6 +1,6 @@
 //! Tests of the limits, for instances and decks that are made of values from outside.
 ghost use Rattle.std.specs.Prelude.{◌≡◌, ◌≢◌, ◌<◌, ◌≤◌, ◌↔◌, ◌^◌, length, All, AllPairs, IsTrue};
-ghost use Rattle.lock_model.specs.Limits.{Within, IsName, IsFirstOf, is_name_byte};
+ghost use Rattle.lock_model.specs.Limits.{Within, IsName, HasNewName, is_name_byte};
 ghost use Rattle.lock_model.specs.Instance.{IsShip, IsChamber, IsInstance};
 ghost use Rattle.lock_model.specs.Closures.{AreClosures};
 ghost use Rattle.lock_model.specs.Deck.{IsSize};
@@ -144,7 +144,7 @@ impl Named for Chamber {
 // Whether none of the first `i` has the name of the one after them.
 fn is_first_of_name<T: Named>(items: &[T], i: usize) -> bool
     requires { i < length items.now }
-    ensures { IsTrue result ↔ IsFirstOf T.name_of items.now i }
+    ensures { IsTrue result ↔ HasNewName T.name_of items.now i }
 {
     for k in 0..i {
         if items[k].name() == items[i].name() {

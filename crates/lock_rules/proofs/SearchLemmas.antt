@@ -17,15 +17,16 @@ use Rattle.lock_rules.specs.Children.{children_of}
 use Rattle.lock_rules.specs.Node.{line_at, root_lines, IsNode}
 use Rattle.lock_rules.specs.Trace.{has_number, trace_of, IsUnder}
 use Rattle.lock_rules.specs.Leaf.{plan_of, AllFit}
-use Rattle.lock_rules.specs.Search.{LeadsTo, IsWholeNode, IsLeastBound, HasWholeNode, HasPlanAtBound, IsCheapestCost, whole_bound}
+use Rattle.lock_rules.specs.Search.{LeadsToWhole, IsWholeNode, IsLeastBound, HasWholeNode, HasPlanAtBound, IsCheapestCost, whole_bound}
 use Rattle.lock_rules.proofs.LineLemmas.{All-line, line-chamber}
-use Rattle.lock_rules.proofs.TreeLemmas.{IsAmong, contains-among}
+use Rattle.lock_rules.specs.Among.{IsAmong}
+use Rattle.lock_rules.proofs.TreeLemmas.{contains-among}
 use Rattle.lock_rules.proofs.SplitLemmas.{children-split, bound-holds}
 use Rattle.lock_rules.proofs.NodeLemmas.{children-nodes, root-node, root-under}
 use Rattle.lock_rules.proofs.LeafLemmas.{trace-whole, kept-number, leaf-legal, leaf-under, leaf-cost}
 
 -- where a node leads to is a node with all ships
-pub leads-node : (I : Instance) (left k : ℕ) (lines whole : List (List Group)) → IsNode I k lines → k + left ≡ length I.ships → LeadsTo I left k lines whole → IsNode I (length I.ships) whole
+pub leads-node : (I : Instance) (left k : ℕ) (lines whole : List (List Group)) → IsNode I k lines → k + left ≡ length I.ships → LeadsToWhole I left k lines whole → IsNode I (length I.ships) whole
 leads-node I zero k lines whole node all leads = let same : k ≡ length I.ships = omega (arith, all) in subst (IsNode I (length I.ships)) leads (subst (λ k. IsNode I k lines) same node)
 leads-node I (suc left) k lines whole node all (child, held, leads) =
     let own = subst (IsNode I (suc k)) held.2 (children-nodes I k lines node (omega (arith, all)) held.0 child held.1) in
@@ -41,7 +42,7 @@ All-among Q (x ∷ xs) each = All-cons Q x xs (each x (inl refl)) (All-among Q x
 -- a node with all ships below these lines that a plan lies under
 pub record HasLeaf (I : Instance) (left k : ℕ) (lines : List (List Group)) (P : Plan) : Type 0 where
   pub node : List (List Group)
-  pub leads : LeadsTo I left k lines node
+  pub leads : LeadsToWhole I left k lines node
   pub under : IsUnder I (length I.ships) node P
 
 module _ (I : Instance) (P : Plan) (legal : IsLegal I P) where

@@ -11,9 +11,9 @@ use Rattle.lock_rules.specs.Trace.{IsUnder}
 use Rattle.lock_rules.specs.Bound.{bound_of}
 
 -- The ships that the lines lack are put in one after the other, each by a step to a child, which gives `whole`; `left` are missing.
-abbrev pub LeadsTo : Instance → ℕ → ℕ → List (List Group) → List (List Group) → Type 0
-LeadsTo I zero k lines whole = lines ≡ whole
-LeadsTo I (suc left) k lines whole = (child : List (List Group)) × Contains (children_of I k lines) child × LeadsTo I left (suc k) child whole
+abbrev pub LeadsToWhole : Instance → ℕ → ℕ → List (List Group) → List (List Group) → Type 0
+LeadsToWhole I zero k lines whole = lines ≡ whole
+LeadsToWhole I (suc left) k lines whole = (child : List (List Group)) × Contains (children_of I k lines) child × LeadsToWhole I left (suc k) child whole
 
 -- each group of the lines fits its chamber
 pub record FitGroups (I : Instance) (lines : List (List Group)) : Type 0 where
@@ -21,7 +21,7 @@ pub record FitGroups (I : Instance) (lines : List (List Group)) : Type 0 where
 
 -- a node below these lines that holds all ships and whose groups all fit
 pub record IsWholeUnder (I : Instance) (left k : ℕ) (lines whole : List (List Group)) : Type 0 where
-  pub leads : LeadsTo I left k lines whole
+  pub leads : LeadsToWhole I left k lines whole
   pub fit : FitGroups I whole
 
 -- such a node of the tree from its root on

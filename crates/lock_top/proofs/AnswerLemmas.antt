@@ -1,6 +1,6 @@
 -- What is answered to words.
 use Rattle.std.proofs.Common.{ℕ, ◌≡◌, ◌⊎◌, List, sym, subst, refl, inl, inr}
-use Rattle.command_words.specs.Meaning.{Means as WordsMean, AreBad}
+use Rattle.command_words.specs.Meaning.{MeanCommand, AreBad}
 use Rattle.command_words.specs.declared.commands.Command.{Command}
 use Rattle.command_words.specs.declared.commands.Command.TheVariants.{Solve, Check, Lot, Trial, Judge, Play, Replan, Lower, Resume}
 use Rattle.run_answers.specs.Sources.{Drained, IsUnread}
@@ -8,11 +8,11 @@ use Rattle.run_answers.specs.Texts.{bad_words_text, no_memory_text}
 use Rattle.run_answers.specs.declared.status.Status.{Status}
 use Rattle.run_answers.specs.declared.status.Status.TheVariants.{Good, Open, Words, Refused, ReadFault, WriteFault, NoMemory, BadDossier, Unfit, PlanRefused}
 use Rattle.lock_top.specs.Asked.{MeanOnly}
-use Rattle.lock_top.specs.Answers.{AnswersCommand, AnswersMeant, Answers}
+use Rattle.lock_top.specs.Answers.{AnswersCommand, AnswersMeant, RunAnswers}
 
 -- words that are bad
-pub answers_bad : (words : List (List ℕ)) (source : Drained) (status : Status) (text : List ℕ) → status ≡ Words → text ≡ bad_words_text → AreBad words → IsUnread source → Answers words source status text
-answers_bad words source status text is shown bad unread = subst (λ s. Answers words source s text) (sym is) (record { bad = bad; unread = unread; shown = shown })
+pub answers_bad : (words : List (List ℕ)) (source : Drained) (status : Status) (text : List ℕ) → status ≡ Words → text ≡ bad_words_text → AreBad words → IsUnread source → RunAnswers words source status text
+answers_bad words source status text is shown bad unread = subst (λ s. RunAnswers words source s text) (sym is) (record { bad = bad; unread = unread; shown = shown })
 
 -- a command is never answered as bad words or as cut off, and want of memory always has its text
 never_words : (command : Command) (source : Drained) (text : List ℕ) → AnswersCommand command source Words text → ⊥
@@ -49,7 +49,7 @@ want Lower source text answer = answer
 want (Resume options) source text answer = answer
 
 -- what is answered to the only command that the words mean is answered to the words
-pub answers_command : (words : List (List ℕ)) (source : Drained) (command : Command) (status : Status) (text : List ℕ) → MeanOnly words command → AnswersCommand command source status text → Answers words source status text
+pub answers_command : (words : List (List ℕ)) (source : Drained) (command : Command) (status : Status) (text : List ℕ) → MeanOnly words command → AnswersCommand command source status text → RunAnswers words source status text
 answers_command words source command Good text mean answer = record { command = command; mean = mean; answer = answer }
 answers_command words source command Open text mean answer = record { command = command; mean = mean; answer = answer }
 answers_command words source command Words text mean answer = absurd (never_words command source text answer)
@@ -62,11 +62,11 @@ answers_command words source command Unfit text mean answer = record { command =
 answers_command words source command PlanRefused text mean answer = record { command = command; mean = mean; answer = answer }
 
 -- what is answered to the words is answered to a command that they mean
-pub meant_answer : (words : List (List ℕ)) (source : Drained) (status : Status) (text : List ℕ) (command : Command) → AnswersMeant words source status text → WordsMean words command → AnswersCommand command source status text
+pub meant_answer : (words : List (List ℕ)) (source : Drained) (status : Status) (text : List ℕ) (command : Command) → AnswersMeant words source status text → MeanCommand words command → AnswersCommand command source status text
 meant_answer words source status text command meant means = subst (λ c. AnswersCommand c source status text) (sym (meant.mean.only command means)) meant.answer
 
 -- what was answered to the words is want of memory, or answered to the command that they mean
-pub by_command : (words : List (List ℕ)) (source : Drained) (command : Command) (status : Status) (text : List ℕ) → WordsMean words command → Answers words source status text → (status ≡ NoMemory) ⊎ AnswersCommand command source status text
+pub by_command : (words : List (List ℕ)) (source : Drained) (command : Command) (status : Status) (text : List ℕ) → MeanCommand words command → RunAnswers words source status text → (status ≡ NoMemory) ⊎ AnswersCommand command source status text
 by_command words source command Good text means answer = inr (meant_answer words source Good text command answer means)
 by_command words source command Open text means answer = inr (meant_answer words source Open text command answer means)
 by_command words source command Words text means answer = absurd (answer.bad command means)

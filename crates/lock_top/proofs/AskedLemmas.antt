@@ -1,7 +1,7 @@
 -- Words that mean a command.
 use Rattle.std.proofs.Common.{ℕ, ◌≡◌, ◌⊎◌, inl, inr, List, Ok, Err, Result}
 use Rattle.std.specs.Result.{IsErrOf}
-use Rattle.command_words.specs.Meaning.{Means}
+use Rattle.command_words.specs.Meaning.{MeanCommand}
 use Rattle.command_words.specs.declared.commands.Command.{Command}
 use Rattle.command_words.specs.declared.commands.Command.TheVariants.{Solve, Check, Lot, Trial, Judge, Play, Replan, Lower, Resume}
 use Rattle.command_words.specs.declared.errors.WordsError.{WordsError}
@@ -9,7 +9,7 @@ use Rattle.command_words.specs.declared.errors.WordsError.TheVariants as error
 use Rattle.lock_top.specs.Asked.{MeanOnly, HasNumbers}
 
 -- the numbers of a command are in their ranges
-pub has_numbers : (words : List (List ℕ)) (command : Command) → Means words command → HasNumbers command
+pub has_numbers : (words : List (List ℕ)) (command : Command) → MeanCommand words command → HasNumbers command
 has_numbers words (Solve options) means =
     let given = means.gives.options in
     record { nodes = (given.nodes.low, given.nodes.high); turns = (given.turns.low, given.turns.high); workers = (given.workers.low, given.workers.high) }
@@ -46,8 +46,8 @@ wanting : (a : Command) (r : Result Command WordsError) → r ≡ Ok a → r ≡
 wanting a r e f = cc
 
 -- the command that was read is the only one that the words mean
-pub mean_only : (words : List (List ℕ)) (command : Command) (r : Result Command WordsError) → r ≡ Ok command → Means words command
-    → ((c : Command) → Means words c → (r ≡ Ok c) ⊎ IsErrOf r error.NoMemory) → MeanOnly words command
+pub mean_only : (words : List (List ℕ)) (command : Command) (r : Result Command WordsError) → r ≡ Ok command → MeanCommand words command
+    → ((c : Command) → MeanCommand words c → (r ≡ Ok c) ⊎ IsErrOf r error.NoMemory) → MeanOnly words command
 mean_only words command r is means each = record {
   means = means;
   only = λ other meant. elim (each other meant) [

@@ -24,7 +24,7 @@ use Rattle.plan_commands.specs.Judging.{AnswersJudge}
 use Rattle.plan_commands.specs.Playing.{AnswersPlay}
 use Rattle.replan_command.specs.Replanning.{AnswersReplan}
 use Rattle.lock_top.specs.Asked.{Asks}
-use Rattle.lock_top.specs.Answers.{AnswersCommand, AnswersMeant, Answers}
+use Rattle.lock_top.specs.Answers.{AnswersCommand, AnswersMeant, RunAnswers}
 use Rattle.lock_top.specs.Runs.{Filled, Run, Got}
 use Rattle.lock_top.specs.Clauses.{Did, IsSolved, IsCertified, IsSolvedAs, IsLeftOpen, IsAccepted, IsDrawn, IsTried, IsTriedOpen, KeepsItsWord}
 use Rattle.lock_top.proofs.AnswerLemmas.{meant_answer}
@@ -59,18 +59,18 @@ says_accepted bytes text told =
 
 -- ---- the text that was answered was written whole
 
-module _ (words : List (List ℕ)) (source : Drained) (sink : Filled) (status : Status) (text : List ℕ) (answer : Answers words source status text) (appended : Appends sink.held sink.held_after text) where
+module _ (words : List (List ℕ)) (source : Drained) (sink : Filled) (status : Status) (text : List ℕ) (answer : RunAnswers words source status text) (appended : Appends sink.held sink.held_after text) where
   abbrev run : Run
   run = record { words = words; source = source; sink = sink; status = status }
 
   good : (command : Command) → Asks words command → status ≡ Good → AnswersCommand command source Good text
-  good command ask is = meant_answer words source Good text command (subst (λ s. Answers words source s text) is answer) ask.means
+  good command ask is = meant_answer words source Good text command (subst (λ s. RunAnswers words source s text) is answer) ask.means
 
   left : (command : Command) → Asks words command → status ≡ Open → AnswersCommand command source Open text
-  left command ask is = meant_answer words source Open text command (subst (λ s. Answers words source s text) is answer) ask.means
+  left command ask is = meant_answer words source Open text command (subst (λ s. RunAnswers words source s text) is answer) ask.means
 
   whole : status ≡ WriteFault → ⊥
-  whole is = subst (λ s. Answers words source s text) is answer
+  whole is = subst (λ s. RunAnswers words source s text) is answer
 
   -- what was said to all the bytes was done
   did : (most : ℕ) (Says : Saying) (s : Status) (Clause : List ℕ → List ℕ → Type 0) → AnswersBytes most Says source s text → ((bytes text : List ℕ) → Says bytes s text → Clause bytes text) → Did Clause run
@@ -122,7 +122,7 @@ good_cut e = cc
 open_cut : WriteFault ≡ Open → ⊥
 open_cut e = cc
 
-pub keeps_cut : (words : List (List ℕ)) (source : Drained) (sink : Filled) (status : Status) (text : List ℕ) → Answers words source status text → AppendsProperPrefix sink.held sink.held_after text → Rose sink.faults sink.faults_after
+pub keeps_cut : (words : List (List ℕ)) (source : Drained) (sink : Filled) (status : Status) (text : List ℕ) → RunAnswers words source status text → AppendsProperPrefix sink.held sink.held_after text → Rose sink.faults sink.faults_after
     → KeepsItsWord (record { words = words; source = source; sink = sink; status = WriteFault })
 keeps_cut words source sink status text answer appended rose = record {
   solved = λ options ask is. absurd (good_cut is);

@@ -14,7 +14,7 @@ use Rattle.command_words.specs.declared.commands.LotOptions.{LotOptions}
 use Rattle.command_words.specs.declared.commands.TrialOptions.{TrialOptions}
 use Rattle.command_words.specs.declared.commands.ReplanOptions.{ReplanOptions}
 use Rattle.run_answers.specs.Refusals.{IsUnfitShip}
-use Rattle.run_answers.specs.Sources.{Drained, Saying, AnswersSource, IsServed}
+use Rattle.run_answers.specs.Sources.{Drained, Saying, AnswersSource, IsServed, plan_limit}
 use Rattle.run_answers.specs.declared.status.Status.{Status}
 use Rattle.run_answers.specs.declared.status.Status.TheVariants.{Good, Open, Words, Refused, ReadFault, WriteFault, NoMemory, BadDossier, Unfit, PlanRefused}
 use Rattle.run_answers.proofs.SourceLemmas.{served_says}
@@ -27,7 +27,6 @@ use Rattle.dossier_commands.specs.Lowering.{AnswersLower}
 use Rattle.dossier_commands.specs.Resuming.{AnswersResume}
 use Rattle.dossier_commands.specs.Completing.{MayLower, MayResume}
 use Rattle.dossier_commands.proofs.CompleteLemmas.{lower_ends, resume_ends}
-use Rattle.plan_commands.specs.Planned.{plan_limit}
 use Rattle.plan_commands.specs.Judging.{AnswersJudge}
 use Rattle.plan_commands.specs.Playing.{AnswersPlay}
 use Rattle.plan_commands.proofs.CompleteLemmas.{judged_good, played_good}
@@ -35,7 +34,7 @@ use Rattle.replan.specs.Kept.{kept_of}
 use Rattle.replan_command.specs.Ends.{MayEndReplan}
 use Rattle.replan_command.proofs.EndsLemmas.{replan_ends}
 use Rattle.lock_top.specs.Asked.{Asks}
-use Rattle.lock_top.specs.Answers.{AnswersCommand, Answers}
+use Rattle.lock_top.specs.Answers.{AnswersCommand, RunAnswers}
 use Rattle.lock_top.specs.Complete.{MayEnd, MayCheck, MayPrint, IsComplete}
 use Rattle.lock_top.specs.Runs.{Filled}
 use Rattle.lock_top.proofs.AnswerLemmas.{by_command}
@@ -98,7 +97,7 @@ trial_ends options I lot status text told =
 
 -- ---- what was answered to the words
 
-module _ (words : List (List ℕ)) (source : Drained) (status : Status) (text : List ℕ) (answer : Answers words source status text) where
+module _ (words : List (List ℕ)) (source : Drained) (status : Status) (text : List ℕ) (answer : RunAnswers words source status text) where
   -- by what is answered to the command that they mean
   by_answer : (May : Status → Type 0) → May NoMemory → (command : Command) → Asks words command → (AnswersCommand command source status text → May status) → May status
   by_answer May want command ask ends = elim (by_command words source command status text ask.means answer) [
@@ -118,7 +117,7 @@ may_print status (inl good) = subst MayPrint (sym good) tt
 may_print status (inr want) = subst MayPrint (sym want) tt
 
 -- COMPLETENESS, from what was answered,
-pub complete : (words : List (List ℕ)) (source : Drained) (sink : Filled) (status : Status) (text : List ℕ) → Answers words source status text → IsComplete (record { words = words; source = source; sink = sink; status = status })
+pub complete : (words : List (List ℕ)) (source : Drained) (sink : Filled) (status : Status) (text : List ℕ) → RunAnswers words source status text → IsComplete (record { words = words; source = source; sink = sink; status = status })
 complete words source sink status text answer = record {
   solve = λ options bytes I ask served means fit.
       by_answer words source status text answer (MayEnd I options.nodes options.turns) tt (Solve options) ask

@@ -13,7 +13,7 @@ use Rattle.run_answers.specs.declared.status.Status.TheVariants.{Good, Open, Wor
 use Rattle.run_answers.proofs.SourceLemmas.{told_says, told_refused}
 use Rattle.dossier_commands.specs.Checking.{dossier_limit, AnswersCheck}
 use Rattle.lock_top.specs.Asked.{Asks}
-use Rattle.lock_top.specs.Answers.{Answers}
+use Rattle.lock_top.specs.Answers.{RunAnswers}
 use Rattle.lock_top.specs.Runs.{Filled, Run, Got, run_of}
 use Rattle.lock_top.specs.Clauses.{Did, IsCertified, KeepsItsWord}
 use Rattle.lock_top.specs.Laws.{IsHandedOn, EndsAccepted}

@@ -4,7 +4,7 @@ use Rattle.command_words.specs.Meaning.{AreBad}
 use Rattle.command_words.specs.declared.commands.Command.{Command}
 use Rattle.command_words.specs.declared.commands.Command.TheVariants.{Solve, Check, Lot, Trial, Judge, Play, Replan, Lower, Resume}
 use Rattle.lock_io.specs.WholeWrites.{AppendsProperPrefix}
-use Rattle.run_answers.specs.Sources.{Drained, IsUnread, AnswersSource}
+use Rattle.run_answers.specs.Sources.{Drained, IsUnread, AnswersSource, plan_limit}
 use Rattle.run_answers.specs.Texts.{bad_words_text, no_memory_text}
 use Rattle.run_answers.specs.declared.status.Status.{Status}
 use Rattle.run_answers.specs.declared.status.Status.TheVariants.{Good, Open, Words, Refused, ReadFault, WriteFault, NoMemory, BadDossier, Unfit, PlanRefused}
@@ -13,10 +13,9 @@ use Rattle.solve_commands.specs.Lots.{AnswersLot, AnswersTrial}
 use Rattle.dossier_commands.specs.Checking.{dossier_limit, AnswersCheck}
 use Rattle.dossier_commands.specs.Lowering.{AnswersLower}
 use Rattle.dossier_commands.specs.Resuming.{AnswersResume}
-use Rattle.plan_commands.specs.Planned.{plan_limit}
 use Rattle.plan_commands.specs.Judging.{AnswersJudge}
 use Rattle.plan_commands.specs.Playing.{AnswersPlay}
-use Rattle.replan_command.specs.Replanning.{replan_limit, AnswersReplan}
+use Rattle.replan_command.specs.Replanning.{AnswersReplan}
 use Rattle.lock_top.specs.Asked.{MeanOnly}
 use Rattle.lock_top.specs.Runs.{Run, Got}
 
@@ -29,7 +28,7 @@ AnswersCommand (Trial options) source status text =
     IsUnread source × AnswersTrial options.lot.number options.lot.ships options.lot.chambers options.nodes options.turns status text
 AnswersCommand Judge source status text = AnswersSource plan_limit AnswersJudge source status text
 AnswersCommand Play source status text = AnswersSource plan_limit AnswersPlay source status text
-AnswersCommand (Replan options) source status text = AnswersSource replan_limit (AnswersReplan options) source status text
+AnswersCommand (Replan options) source status text = AnswersSource plan_limit (AnswersReplan options) source status text
 AnswersCommand Lower source status text = AnswersSource dossier_limit AnswersLower source status text
 AnswersCommand (Resume options) source status text = AnswersSource dossier_limit (AnswersResume options) source status text
 
@@ -40,33 +39,33 @@ pub record AnswersMeant (words : List (List ℕ)) (source : Drained) (status : S
   pub answer : AnswersCommand command source status text
 
 -- that the words are bad, where nothing is read
-pub record IsRefusal (words : List (List ℕ)) (source : Drained) (text : List ℕ) : Type 0 where
+pub record AnswersBadWords (words : List (List ℕ)) (source : Drained) (text : List ℕ) : Type 0 where
   pub bad : AreBad words
   pub unread : IsUnread source
   pub shown : text ≡ bad_words_text
 
 -- what a run answers
-abbrev pub Answers : List (List ℕ) → Drained → Status → List ℕ → Type 0
-Answers words source Good text = AnswersMeant words source Good text
-Answers words source Open text = AnswersMeant words source Open text
-Answers words source Words text = IsRefusal words source text
-Answers words source Refused text = AnswersMeant words source Refused text
-Answers words source ReadFault text = AnswersMeant words source ReadFault text
-Answers words source WriteFault text = ⊥
-Answers words source NoMemory text = text ≡ no_memory_text
-Answers words source BadDossier text = AnswersMeant words source BadDossier text
-Answers words source Unfit text = AnswersMeant words source Unfit text
-Answers words source PlanRefused text = AnswersMeant words source PlanRefused text
+abbrev pub RunAnswers : List (List ℕ) → Drained → Status → List ℕ → Type 0
+RunAnswers words source Good text = AnswersMeant words source Good text
+RunAnswers words source Open text = AnswersMeant words source Open text
+RunAnswers words source Words text = AnswersBadWords words source text
+RunAnswers words source Refused text = AnswersMeant words source Refused text
+RunAnswers words source ReadFault text = AnswersMeant words source ReadFault text
+RunAnswers words source WriteFault text = ⊥
+RunAnswers words source NoMemory text = text ≡ no_memory_text
+RunAnswers words source BadDossier text = AnswersMeant words source BadDossier text
+RunAnswers words source Unfit text = AnswersMeant words source Unfit text
+RunAnswers words source PlanRefused text = AnswersMeant words source PlanRefused text
 
 -- the answer was written whole
-pub record IsWritten (run : Run) : Type 0 where
+pub record IsWrittenWhole (run : Run) : Type 0 where
   pub text : List ℕ
-  pub answer : Answers run.words run.source run.status text
+  pub answer : RunAnswers run.words run.source run.status text
   pub appended : Got run text
 
 -- the answer of some status was cut off
 pub record IsCutOff (run : Run) : Type 0 where
   pub status : Status
   pub text : List ℕ
-  pub answer : Answers run.words run.source status text
+  pub answer : RunAnswers run.words run.source status text
   pub appended : AppendsProperPrefix run.sink.held run.sink.held_after text

@@ -1,6 +1,6 @@
 -- What the words ask for.
 use Rattle.std.specs.Prelude.{ℕ, ◌≡◌, List, ⊤}
-use Rattle.command_words.specs.Meaning.{Means}
+use Rattle.command_words.specs.Meaning.{MeanCommand}
 use Rattle.command_words.specs.declared.commands.Command.{Command}
 use Rattle.command_words.specs.declared.commands.Command.TheVariants.{Solve, Check, Lot, Trial, Judge, Play, Replan, Lower, Resume}
 use Rattle.solve_commands.specs.Options.{AreSolveNumbers, AreLotNumbers, AreTrialNumbers}
@@ -8,12 +8,12 @@ use Rattle.replan_command.specs.Options.{AreReplanNumbers}
 
 -- the words ask for this command, with these options
 pub record Asks (words : List (List ℕ)) (command : Command) : Type 0 where
-  pub means : Means words command
+  pub means : MeanCommand words command
 
 -- the words mean this command and no other
 pub record MeanOnly (words : List (List ℕ)) (command : Command) : Type 0 where
-  pub means : Means words command
-  pub only : (other : Command) → Means words other → other ≡ command
+  pub means : MeanCommand words command
+  pub only : (other : Command) → MeanCommand words other → other ≡ command
 
 -- the numbers of a command are in their ranges
 abbrev pub HasNumbers : Command → Type 0

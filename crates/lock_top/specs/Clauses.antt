@@ -30,7 +30,7 @@ use Rattle.plan_commands.specs.Playing.{PrintsPlayed}
 use Rattle.replan_command.specs.Replanning.{AnswersReplan}
 use Rattle.lock_top.specs.Asked.{Asks}
 use Rattle.lock_top.specs.Runs.{Run, Got}
-use Rattle.lock_top.specs.Answers.{IsWritten, IsCutOff}
+use Rattle.lock_top.specs.Answers.{IsWrittenWhole, IsCutOff}
 use Rattle.lock_top.specs.Complete.{IsComplete}
 
 -- These are all bytes that the source had left, read to its end, and the sink got a text of which, with these bytes, this is so.
@@ -124,6 +124,6 @@ pub record KeepsItsWord (run : Run) : Type 0 where
   pub resumed : (options : SolveOptions) → Asks run.words (Resume options) → run.status ≡ Good → Did (ResumesBest options) run
   pub resumed_open : (options : SolveOptions) → Asks run.words (Resume options) → run.status ≡ Open → Did (ResumesOpen options) run
   pub complete : IsComplete run
-  pub written : run.status ≢ WriteFault → IsWritten run
+  pub written : run.status ≢ WriteFault → IsWrittenWhole run
   pub cut_off : run.status ≡ WriteFault → IsCutOff run
   pub fault : run.status ≡ WriteFault → Rose run.sink.faults run.sink.faults_after

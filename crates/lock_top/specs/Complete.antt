@@ -5,7 +5,7 @@ use Rattle.lock_model.specs.declared.plan.Plan.{Plan}
 use Rattle.lock_rules.specs.Unfit.{HasNoUnfit}
 use Rattle.book_rules.specs.Ends.{AreEnough}
 use Rattle.certificate_rules.specs.Failures.{Fails}
-use Rattle.certificate_rules.specs.declared.certificate.Spot2.{Spot2}
+use Rattle.certificate_rules.specs.declared.certificate.FailurePlace.{FailurePlace}
 use Rattle.certificate_rules.specs.declared.certificate.Reason.{Reason}
 use Rattle.certificate_rules.specs.Certificates.{Certificate, Accepts}
 use Rattle.certificate_rules.specs.OpenCertificates.{OpenCertificate}
@@ -18,14 +18,14 @@ use Rattle.command_words.specs.declared.commands.LotOptions.{LotOptions}
 use Rattle.command_words.specs.declared.commands.TrialOptions.{TrialOptions}
 use Rattle.command_words.specs.declared.commands.ReplanOptions.{ReplanOptions}
 use Rattle.command_words.specs.declared.commands.Command.TheVariants.{Solve, Check, Lot, Trial, Judge, Play, Replan, Lower, Resume}
-use Rattle.run_answers.specs.Sources.{IsServed}
+use Rattle.run_answers.specs.Sources.{IsServed, plan_limit}
 use Rattle.run_answers.specs.declared.status.Status.{Status}
 use Rattle.run_answers.specs.declared.status.Status.TheVariants.{Good, Open, Words, Refused, ReadFault, WriteFault, NoMemory, BadDossier, Unfit, PlanRefused}
 use Rattle.solve_commands.specs.Solving.{solve_limit}
 use Rattle.solve_commands.specs.Lots.{IsLot}
 use Rattle.dossier_commands.specs.Checking.{dossier_limit}
 use Rattle.dossier_commands.specs.Completing.{MayLower, MayResume}
-use Rattle.plan_commands.specs.Planned.{plan_limit, IsLegallyPlanned}
+use Rattle.plan_commands.specs.Planned.{IsLegallyPlanned}
 use Rattle.replan_command.specs.Ends.{IsReplanServed, MayEndReplan}
 use Rattle.lock_top.specs.Asked.{Asks}
 use Rattle.lock_top.specs.Runs.{Run}
@@ -52,7 +52,7 @@ MayCheck I C Refused = ⊥
 MayCheck I C ReadFault = ⊥
 MayCheck I C WriteFault = ⊤
 MayCheck I C NoMemory = ⊤
-MayCheck I C BadDossier = (place : Spot2) × (reason : Reason) × Fails I C place reason
+MayCheck I C BadDossier = (place : FailurePlace) × (reason : Reason) × Fails I C place reason
 MayCheck I C Unfit = ⊥
 MayCheck I C PlanRefused = ⊥
 

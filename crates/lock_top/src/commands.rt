@@ -3,7 +3,7 @@ ghost use Rattle.std.specs.Prelude.{◌≡◌, map, string_bytes};
 ghost use Rattle.run_answers.specs.Sources.{drained};
 ghost use Rattle.run_answers.specs.Texts.{bad_words_text};
 ghost use Rattle.run_answers.specs.Written.{bytes_in};
-ghost use Rattle.lock_top.specs.Answers.{Answers, AnswersCommand};
+ghost use Rattle.lock_top.specs.Answers.{RunAnswers, AnswersCommand};
 ghost use Rattle.lock_top.specs.Asked.{HasNumbers};
 
 use command_words::{Command, WordsError, read_words};
@@ -57,7 +57,7 @@ pub(crate) fn words_answer<R: Threads + Wait + Sync, S: Source, G: Gate + Sync>(
     src: &mut S,
     gate: &G,
 ) -> Answer
-    ensures answer { Answers (map string_bytes words.now) (drained (S.left src.old) (S.left src.new) (S.faults src.old) (S.faults src.new)) result.status (bytes_in result.text) }
+    ensures answer { RunAnswers (map string_bytes words.now) (drained (S.left src.old) (S.left src.new) (S.faults src.old) (S.faults src.new)) result.status (bytes_in result.text) }
 {
     match read_words(alloc, words) {
         Ok(command) => command_answer(rt, alloc, &command, src, gate),

@@ -9,7 +9,7 @@ use Rattle.lock_rules.specs.Plan.{IsLegal}
 use Rattle.lock_rules.specs.Node.{line_at, IsNode, root_lines}
 use Rattle.lock_rules.specs.Trace.{IsUnder}
 use Rattle.lock_rules.specs.Size.{width_at, node_limit}
-use Rattle.lock_rules.proofs.TreeLemmas.{IsAmong}
+use Rattle.lock_rules.specs.Among.{IsAmong}
 use Rattle.lock_rules.proofs.SplitLemmas.{children-split, under-one}
 use Rattle.lock_rules.proofs.ChildLemmas.{children-distinct}
 use Rattle.lock_rules.proofs.NodeLemmas.{children-nodes}

@@ -36,9 +36,9 @@ fn ship_after(ships: &[u8], place: usize, ship: u8, i: usize) -> u8
     }
 }
 
-// The group with a ship more, its ships in rising number. It holds fewer than 8 ships, and not
-// this one.
-fn with_ship(group: &Group, ship: u8) -> Group
+/// The group with a ship more, its ships in rising number. It holds fewer than 8 ships, and not
+/// this one.
+pub fn with_ship(group: &Group, ship: u8) -> Group
     requires room { length group.now.ships < 8 }
     requires absent { times_in group.now.ships ship ≡ 0 }
     ensures { result ≡ with_ship ship group.now }

@@ -5,7 +5,8 @@
 //! `child_count`, `steps_by` lists what each child does, in the same order, and `take_step` and
 //! `descend` turn a node into a child in place. `children_split_plans` is the law: the children are
 //! nodes, they differ, and each legal plan under a node lies under exactly one of them. From the
-//! root, `node_limit` bounds the number of nodes. No call takes memory.
+//! root, `node_limit` bounds the number of nodes. `with_ship` is a group with one ship more. No call
+//! takes memory.
 //!
 //! Definitions: `specs/Node` (a node as contracts see it), `Steps` (what the children do, as a
 //! list), `Split` (a plan under exactly one child); what a node, its children, arrival order and a
@@ -24,6 +25,7 @@ mod tests;
 
 pub use arrival::{ShipOrder, arrival_order, next_ship};
 pub use branching::{child, child_count, descend, take_step};
+pub use joining::with_ship;
 pub use laws::{children_split_plans, node_limit};
 pub use node::{Node, root};
 pub use step::{Step, Steps, steps_by};

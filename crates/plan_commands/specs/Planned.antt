@@ -15,10 +15,6 @@ use Rattle.run_answers.specs.Texts.{no_memory_text}
 use Rattle.run_answers.specs.declared.status.Status.{Status}
 use Rattle.run_answers.specs.declared.status.Status.TheVariants.{Good, Open, Words, Refused, ReadFault, WriteFault, NoMemory, BadDossier, Unfit, PlanRefused}
 
--- the most bytes of an instance and a plan together
-abbrev pub plan_limit : ℕ
-plan_limit = 131072
-
 -- The bytes are an instance part of I, and then a plan text of P.
 pub record IsPlanned (bytes : List ℕ) (I : Instance) (P : Plan) : Type 0 where
   pub instance : Means (instance_part bytes) I

@@ -1,23 +1,13 @@
 //! The lines of a day.
 ghost use Rattle.std.specs.Prelude.{◌≡◌, ◌++◌, All, IfOk, OnOk};
 ghost use Rattle.std.specs.List.{flat_map};
-ghost use Rattle.instance_text.specs.Canonical.{way_word};
 ghost use Rattle.plan_commands.specs.Playing.{IsKnownAct, IsKnownBeat, act_words, beat_line, day_lines};
 
 use day_play::{Act, Beat, Day};
-use lock_model::{Instance, Plan, Way};
+use instance_text::way_word;
+use lock_model::{Instance, Plan};
 use plain_text::{NoMemory, put, put_number};
 use std::alloc::Global;
-
-// The word for a way.
-fn way_word(way: Way) -> &'static [u8]
-    ensures { result.now ≡ way_word way }
-{
-    match way {
-        Way::Up => b"up",
-        Way::Down => b"down",
-    }
-}
 
 // Appends an act.
 fn put_act(

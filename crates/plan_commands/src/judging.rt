@@ -1,12 +1,12 @@
 //! What `judge` answers to a source.
 ghost use Rattle.std.specs.Prelude.{◌≡◌, IfOk};
 ghost use Rattle.lock_rules.specs.Plan.{IsLegal};
-ghost use Rattle.run_answers.specs.Sources.{AnswersSource, drained};
+ghost use Rattle.run_answers.specs.Sources.{AnswersSource, drained, plan_limit};
 ghost use Rattle.run_answers.specs.Written.{bytes_in};
-ghost use Rattle.plan_commands.specs.Planned.{plan_limit, IsPlanned, IsLegallyPlanned};
+ghost use Rattle.plan_commands.specs.Planned.{IsPlanned, IsLegallyPlanned};
 ghost use Rattle.plan_commands.specs.Judging.{judged_text, AnswersJudge};
 
-use crate::planned::{LIMIT, break_answer, read_planned};
+use crate::planned::{break_answer, read_planned};
 use chamber_times::cost;
 use lock_io::Source;
 use lock_model::{Instance, Plan};
@@ -14,7 +14,7 @@ use mooring_rules::judge_plan;
 use plain_text::{NoMemory, put, put_number};
 use plan_judge::neat;
 use plan_print::print_lockages;
-use run_answers::{Answer, Status, Text, no_memory, read_source};
+use run_answers::{Answer, PLAN_LIMIT, Status, Text, no_memory, read_source};
 use std::alloc::Global;
 
 // The cost of a plan, and the report of another from its second line on.
@@ -84,7 +84,7 @@ fn text_answer(alloc: Global, bytes: &[u8]) -> Answer
 pub fn judge_answer<S: Source>(alloc: Global, src: &mut S) -> Answer
     ensures answer { AnswersSource plan_limit AnswersJudge (drained (S.left src.old) (S.left src.new) (S.faults src.old) (S.faults src.new)) result.status (bytes_in result.text) }
 {
-    match read_source(alloc, src, LIMIT) {
+    match read_source(alloc, src, PLAN_LIMIT) {
         Ok(bytes) => text_answer(alloc, bytes.as_slice()),
         Err(answer) => answer,
     }

@@ -15,9 +15,6 @@ use plan_texts::{break_text, fault_text};
 use run_answers::{Answer, Status, Text, defect_text, no_memory};
 use std::alloc::Global;
 
-/// The most bytes that are read.
-pub(crate) const LIMIT: u64 = 131_072;
-
 // The first defect of the instance part.
 fn defect_answer(alloc: Global, bytes: &[u8], bad: Bad) -> Answer
     requires { Defect (instance_part bytes.now) bad.line bad.kind }

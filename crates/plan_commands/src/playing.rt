@@ -2,18 +2,18 @@
 ghost use Rattle.std.specs.Prelude.{◌≡◌};
 ghost use Rattle.day_play.specs.Lawful.{IsLawfulDay};
 ghost use Rattle.day_play.specs.Playing.{day_of};
-ghost use Rattle.run_answers.specs.Sources.{AnswersSource, drained};
+ghost use Rattle.run_answers.specs.Sources.{AnswersSource, drained, plan_limit};
 ghost use Rattle.run_answers.specs.Written.{bytes_in};
-ghost use Rattle.plan_commands.specs.Planned.{plan_limit, IsPlanned, IsLegallyPlanned};
+ghost use Rattle.plan_commands.specs.Planned.{IsPlanned, IsLegallyPlanned};
 ghost use Rattle.plan_commands.specs.Playing.{AnswersPlay};
 
 use crate::day_text::day_text;
-use crate::planned::{LIMIT, break_answer, read_planned};
+use crate::planned::{break_answer, read_planned};
 use day_play::{Day, Played, play};
 use lock_io::Source;
 use lock_model::{Instance, Plan};
 use plain_text::NoMemory;
-use run_answers::{Answer, Status, Text, no_memory, read_source};
+use run_answers::{Answer, PLAN_LIMIT, Status, Text, no_memory, read_source};
 use std::alloc::Global;
 
 // The day of a legal plan.
@@ -63,7 +63,7 @@ fn text_answer(alloc: Global, bytes: &[u8]) -> Answer
 pub fn play_answer<S: Source>(alloc: Global, src: &mut S) -> Answer
     ensures answer { AnswersSource plan_limit AnswersPlay (drained (S.left src.old) (S.left src.new) (S.faults src.old) (S.faults src.new)) result.status (bytes_in result.text) }
 {
-    match read_source(alloc, src, LIMIT) {
+    match read_source(alloc, src, PLAN_LIMIT) {
         Ok(bytes) => text_answer(alloc, bytes.as_slice()),
         Err(answer) => answer,
     }

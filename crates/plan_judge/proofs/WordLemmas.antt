@@ -21,7 +21,8 @@ use Rattle.instance_text.proofs.LotLemmas.{name_digits}
 use Rattle.instance_text.proofs.TestLemmas.{all_from_test}
 use Rattle.instance_text.proofs.WordBackLemmas.{number_back as any_number_back}
 use Rattle.plan_judge.specs.Words.{number, way, rank, chamber_named, ship_named, host}
-use Rattle.plan_judge.specs.Printing.{rank_word, host_word}
+use Rattle.plan_judge.specs.Printing.{host_word}
+use Rattle.plan_print.specs.Words.{rank_word}
 use Rattle.plan_judge.specs.Writable.{IsWritableMoor}
 use Rattle.plan_judge.proofs.LayoutLemmas.{IsPlain}
 use Rattle.plan_judge.proofs.MadeLemmas.{host_at}

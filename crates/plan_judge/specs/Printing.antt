@@ -5,16 +5,11 @@ use Rattle.lock_model.specs.Fleet.{ship_at, chamber_at}
 use Rattle.lock_model.specs.declared.instance.Instance.{Instance}
 use Rattle.lock_model.specs.declared.placement.Moor.{Moor}
 use Rattle.lock_model.specs.declared.placement.Moor.TheVariants.{Quay, Ship}
-use Rattle.lock_model.specs.declared.placement.Rank.{Rank}
-use Rattle.lock_model.specs.declared.placement.Rank.TheVariants.{Left, Right}
 use Rattle.lock_model.specs.declared.placement.Spot.{Spot}
 use Rattle.lock_model.specs.declared.plan.Lockage.{Lockage}
 use Rattle.lock_model.specs.declared.plan.Plan.{Plan}
 use Rattle.instance_text.specs.Canonical.{line, way_word}
-
-abbrev pub rank_word : Rank → List ℕ
-rank_word Left = codes "left"
-rank_word Right = codes "right"
+use Rattle.plan_print.specs.Words.{rank_word}
 
 -- the quay, or the name of the ship at a place of the deck
 abbrev pub host_word : Instance → List ℕ → Moor → List ℕ

@@ -1,34 +1,16 @@
 //! Printing plan texts.
 ghost use Rattle.std.specs.Prelude.{◌≡◌, ◌++◌, ◌∷◌, ◌<◌, ◌≤◌, [], ℕ, List, length, map, All, IfOk, OnOk, codes};
 ghost use Rattle.std.specs.List.{flat_map};
-ghost use Rattle.instance_text.specs.Canonical.{line, way_word};
-ghost use Rattle.plan_judge.specs.Printing.{rank_word, host_word, head_words, berth_words, berths_of, lockage_lines, plan_text};
+ghost use Rattle.instance_text.specs.Canonical.{line};
+ghost use Rattle.plan_judge.specs.Printing.{host_word, head_words, berth_words, berths_of, lockage_lines, plan_text};
 ghost use Rattle.plan_judge.specs.Reading.{IsPlanText, HasPlanText};
 ghost use Rattle.plan_judge.specs.Writable.{IsWritableMoor, IsWritableSpot, IsWritable, AreWritable};
 
-use lock_model::{Instance, Lockage, Moor, Plan, Rank, Spot, Way};
+use instance_text::way_word;
+use lock_model::{Instance, Lockage, Moor, Plan, Spot};
 use plain_text::{NoMemory, put, put_number};
+use plan_print::rank_word;
 use std::alloc::Global;
-
-/// The word for a way.
-fn way_word(way: Way) -> &'static [u8]
-    ensures { result.now ≡ way_word way }
-{
-    match way {
-        Way::Up => b"up",
-        Way::Down => b"down",
-    }
-}
-
-/// The word for a rank.
-fn rank_word(rank: Rank) -> &'static [u8]
-    ensures { result.now ≡ rank_word rank }
-{
-    match rank {
-        Rank::Left => b"left",
-        Rank::Right => b"right",
-    }
-}
 
 /// The word for what a ship of these ships is moored to.
 fn host_word<'a>(instance: &'a Instance, ships: &[u8], moor: Moor) -> &'a [u8]

@@ -13,7 +13,8 @@ use Rattle.lock_model.specs.declared.verdict.Verdict.{Verdict}
 use Rattle.lock_model.specs.declared.verdict.Verdict.TheVariants.{Optimal, OpenNodes, OpenTurns}
 use Rattle.lock_rules.specs.Lines.{end_of}
 use Rattle.lock_rules.specs.Plan.{cost_of}
-use Rattle.plan_print.specs.Words.{letter, way_word, rank_word, moor_words}
+use Rattle.instance_text.specs.Canonical.{way_word}
+use Rattle.plan_print.specs.Words.{letter, rank_word, moor_words}
 use Rattle.plan_print.specs.Order.{in_order}
 use Rattle.plan_print.specs.Drawing.{drawing}
 

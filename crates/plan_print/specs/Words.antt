@@ -1,7 +1,5 @@
 -- The words for parts of a plan.
 use Rattle.std.specs.Prelude.{ℕ, ◌+◌, List, [], ◌∷◌, ◌++◌, codes}
-use Rattle.lock_model.specs.declared.way.Way.{Way}
-use Rattle.lock_model.specs.declared.way.Way.TheVariants.{Up, Down}
 use Rattle.lock_model.specs.declared.placement.Rank.{Rank}
 use Rattle.lock_model.specs.declared.placement.Rank.TheVariants.{Left, Right}
 use Rattle.lock_model.specs.declared.placement.Moor.{Moor}
@@ -10,10 +8,6 @@ use Rattle.lock_model.specs.declared.placement.Moor.TheVariants.{Quay, Ship}
 -- the letter of the ship at place i of a lockage, from `A` on
 abbrev pub letter : ℕ → ℕ
 letter i = 65 + i
-
-abbrev pub way_word : Way → List ℕ
-way_word Up = codes "up"
-way_word Down = codes "down"
 
 abbrev pub rank_word : Rank → List ℕ
 rank_word Left = codes "left"

@@ -8,8 +8,9 @@ ghost use Rattle.plan_print.specs.Words.{moor_words};
 ghost use Rattle.plan_print.specs.Report.{lockage_line, ship_line, ship_lines, lockage_text};
 
 use crate::drawing::put_drawing;
-use crate::text::{letter, rank_word, way_word};
+use crate::text::{letter, rank_word};
 use chamber_times::lockage_end;
+use instance_text::way_word;
 use lock_model::{Instance, Lockage, Moor, Ship, Spot, deck_of};
 use plain_text::{NoMemory, put, put_number};
 

@@ -1,8 +1,8 @@
 //! Letters and words.
 ghost use Rattle.std.specs.Prelude.{◌≡◌, ◌<◌, ◌^◌};
-ghost use Rattle.plan_print.specs.Words.{letter, way_word, rank_word};
+ghost use Rattle.plan_print.specs.Words.{letter, rank_word};
 
-use lock_model::{Moor, Rank, Way};
+use lock_model::{Moor, Rank};
 
 /// The letter of the ship at a place of a lockage.
 pub(crate) fn letter(place: u8) -> u8
@@ -12,18 +12,8 @@ pub(crate) fn letter(place: u8) -> u8
     b'A' + place
 }
 
-/// The word for a way.
-pub(crate) fn way_word(way: Way) -> &'static [u8]
-    ensures { result.now ≡ way_word way }
-{
-    match way {
-        Way::Up => b"up",
-        Way::Down => b"down",
-    }
-}
-
-/// The word for a rank.
-pub(crate) fn rank_word(rank: Rank) -> &'static [u8]
+/// The word for a rank: `left` or `right`.
+pub fn rank_word(rank: Rank) -> &'static [u8]
     ensures { result.now ≡ rank_word rank }
 {
     match rank {

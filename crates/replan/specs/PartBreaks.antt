@@ -46,6 +46,6 @@ renamed places (Clash p i j) = Clash (place_of places p) i j
 renamed places (Time c b) = Time c (renamed_time places b)
 
 -- Why a part K of a plan can't be kept, where its lockages have these places in the plan: its first break, or else its first late lockage.
-abbrev pub IsRefusal : Instance → Plan → List ℕ → ReplanError → Type 0
-IsRefusal I K places (Kept b) = (k : BrokenPlan) × IsFirstBrokenPart I K k × (b ≡ renamed places k)
-IsRefusal I K places (Late p) = (k : ℕ) × IsLegalPart I K × IsFirstLate I K k × (p ≡ place_of places k)
+abbrev pub IsPartRefusal : Instance → Plan → List ℕ → ReplanError → Type 0
+IsPartRefusal I K places (Kept b) = (k : BrokenPlan) × IsFirstBrokenPart I K k × (b ≡ renamed places k)
+IsPartRefusal I K places (Late p) = (k : ℕ) × IsLegalPart I K × IsFirstLate I K k × (p ≡ place_of places k)

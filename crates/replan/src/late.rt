@@ -1,7 +1,7 @@
 //! Whether kept lockages end when a chamber may still open.
 ghost use Rattle.std.specs.Prelude.{◌≡◌, ◌↔◌, All, IfNone, IfSome, IsNone, List};
 ghost use Rattle.replan.specs.Kept.{IsLegalPart, EndsInTime, CanBeKept};
-ghost use Rattle.replan.specs.PartBreaks.{IsFirstLate, IsRefusal};
+ghost use Rattle.replan.specs.PartBreaks.{IsFirstLate, IsPartRefusal};
 
 use crate::naming::{place_of, renamed};
 use crate::part::judge_part;
@@ -30,7 +30,7 @@ fn first_late(instance: &Instance, part: &Plan) -> Option<u8>
 /// Why the part can't be kept; its lockages have these places in the whole plan.
 pub(crate) fn refusal(instance: &Instance, part: &Plan, places: &[u8]) -> Option<ReplanError>
     ensures none { IsNone result ↔ CanBeKept instance.now part.now }
-    ensures some { IfSome result (IsRefusal instance.now part.now places.now) }
+    ensures some { IfSome result (IsPartRefusal instance.now part.now places.now) }
 {
     if let Some(broken) = judge_part(instance, part) {
         return Some(ReplanError::Kept(renamed(places, broken)));

@@ -33,4 +33,4 @@ pub use numbers::Ships24;
 pub use refusal::ReplanError;
 pub use remainder::Residual;
 pub use remaining::residual;
-pub use together::put_together;
+pub use together::{put_together, ships_of};

@@ -1,7 +1,7 @@
 //! What is left of an instance once a part of a plan is kept.
 ghost use Rattle.std.specs.Prelude.{◌≡◌, ◌≤◌, ◌↔◌, [], IfOk, IfErr, IsOk, IfSome, IsNone};
 ghost use Rattle.replan.specs.Kept.{kept_of, kept_places, CanBeKept};
-ghost use Rattle.replan.specs.PartBreaks.{IsRefusal};
+ghost use Rattle.replan.specs.PartBreaks.{IsPartRefusal};
 ghost use Rattle.replan.specs.Rest.{ships_left, IsRest, IsLeft};
 
 use crate::keeping::{kept_of, kept_places};
@@ -55,7 +55,7 @@ pub fn residual(instance: &Instance, plan: &Plan, from: u32) -> Result<Residual,
     ensures can { IsOk result ↔ CanBeKept instance.now (kept_of plan.now from) }
     ensures ok { IfOk result (IsLeft instance.now (kept_of plan.now from) from) }
     ensures err { IfErr result
-        (IsRefusal instance.now (kept_of plan.now from) (kept_places plan.now from)) }
+        (IsPartRefusal instance.now (kept_of plan.now from) (kept_places plan.now from)) }
 {
     let kept = kept_of(plan, from);
     let places = kept_places(plan, from);

@@ -12,7 +12,7 @@ use crate::remainder::Residual;
 use lock_model::{Instance, Lockage, Plan, Ships};
 
 /// Ships of the rest by their numbers in the instance.
-fn ships_of(numbers: &[u8], ships: &Ships) -> Ships
+pub fn ships_of(numbers: &[u8], ships: &Ships) -> Ships
     requires known { All (λ s. s < length numbers.now) ships.now }
     requires rising { IsStrictlyIncreasing numbers.now }
     ensures { result ≡ map (number_of numbers.now) ships.now }

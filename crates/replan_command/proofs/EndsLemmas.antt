@@ -19,13 +19,13 @@ use Rattle.plan_judge.specs.Steps.{bad as bad_plan}
 use Rattle.replan.specs.declared.refusal.ReplanError.{ReplanError}
 use Rattle.replan.specs.declared.refusal.ReplanError.TheVariants.{Kept, Late}
 use Rattle.replan.specs.Kept.{kept_of, kept_places, EndsInTime, CanBeKept}
-use Rattle.replan.specs.PartBreaks.{IsFirstLate, IsRefusal}
+use Rattle.replan.specs.PartBreaks.{IsFirstLate, IsPartRefusal}
 use Rattle.replan.proofs.PartLemmas.{IsFirstBrokenPart-illegal}
-use Rattle.run_answers.specs.Sources.{Drained, IsTooLong, AnswersBytes, AnswersSource}
+use Rattle.run_answers.specs.Sources.{Drained, IsTooLong, AnswersBytes, AnswersSource, plan_limit}
 use Rattle.run_answers.specs.declared.status.Status.{Status}
 use Rattle.run_answers.specs.declared.status.Status.TheVariants.{Good, Open, Words, Refused, ReadFault, WriteFault, NoMemory, BadDossier, Unfit, PlanRefused}
 use Rattle.replan_command.specs.Keeping.{PrintsOpen}
-use Rattle.replan_command.specs.Replanning.{replan_limit, AnswersPlanText, IsPartRefused, IsPlanTextFault, AnswersReplan}
+use Rattle.replan_command.specs.Replanning.{AnswersPlanText, IsPartRefused, IsPlanTextFault, AnswersReplan}
 use Rattle.replan_command.specs.Ends.{IsReplanServed, IsRestUnsure, MayEndReplan}
 
 -- ---- bytes mean one instance and one plan, and then have no defect and no fault
@@ -92,14 +92,14 @@ late-unkept I K p first can =
     absurd (omega (arith, first.late, in_time.ends))
 
 -- what can be kept isn't refused
-not_part_refused : (I : Instance) (K : Plan) (places : List ℕ) (error : ReplanError) → IsRefusal I K places error → CanBeKept I K → ⊥
+not_part_refused : (I : Instance) (K : Plan) (places : List ℕ) (error : ReplanError) → IsPartRefusal I K places error → CanBeKept I K → ⊥
 not_part_refused I K places (Kept broken) refusal can = IsFirstBrokenPart-illegal I K refusal.0 refusal.1 can.legal
 not_part_refused I K places (Late p) refusal can = late-unkept I K refusal.0 refusal.2 can
 
 -- ---- `replan` over a source that is served
 
 module _ (options : ReplanOptions) (source : Drained) (I : Instance) (G : Plan) (served : IsReplanServed source options.from I G) where
-  read_is : (status : Status) (text : List ℕ) (read : AnswersBytes replan_limit (AnswersReplan options) source status text) → read.bytes ≡ served.bytes
+  read_is : (status : Status) (text : List ℕ) (read : AnswersBytes plan_limit (AnswersReplan options) source status text) → read.bytes ≡ served.bytes
   read_is status text read = subst (λ left. IfSome left (λ bytes. read.bytes ≡ bytes)) served.told read.read.all
 
   -- the bytes that were read mean this instance alone
@@ -111,7 +111,7 @@ module _ (options : ReplanOptions) (source : Drained) (I : Instance) (G : Plan) 
   same_planned J bytes P is same text =
       one_plan I (after_instance served.bytes) P G (subst (λ J. IsPlanText J (after_instance served.bytes) P) same (subst (λ bytes. IsPlanText J (after_instance bytes) P) is text)) served.planned
 
-  left_ends : (text : List ℕ) → AnswersBytes replan_limit (AnswersReplan options) source Open text → IsRestUnsure options I (kept_of G options.from)
+  left_ends : (text : List ℕ) → AnswersBytes plan_limit (AnswersReplan options) source Open text → IsRestUnsure options I (kept_of G options.from)
   left_ends text read =
       let told = read.answer in
       let is = read_is Open text read in
@@ -122,7 +122,7 @@ module _ (options : ReplanOptions) (source : Drained) (I : Instance) (G : Plan) 
       (subst (λ J. IsRestUnsure options J (kept_of planned.plan options.from)) same (open_unsure options told.instance (kept_of planned.plan options.from) text planned.answer.answer))
 
   -- the named ship fits some chamber
-  not_unfit : (text : List ℕ) → AnswersBytes replan_limit (AnswersReplan options) source Unfit text → ⊥
+  not_unfit : (text : List ℕ) → AnswersBytes plan_limit (AnswersReplan options) source Unfit text → ⊥
   not_unfit text read =
       let told = read.answer in
       let same = same_read told.instance read.bytes (read_is Unfit text read) told.means in
@@ -131,9 +131,9 @@ module _ (options : ReplanOptions) (source : Drained) (I : Instance) (G : Plan) 
       first.unfit fits.chamber fits.known fits.fits
 
   -- there are few bytes, and their instance has no defect
-  not_refused : (text : List ℕ) → IsTooLong replan_limit source text ⊎ AnswersBytes replan_limit (AnswersReplan options) source Refused text → ⊥
+  not_refused : (text : List ℕ) → IsTooLong plan_limit source text ⊎ AnswersBytes plan_limit (AnswersReplan options) source Refused text → ⊥
   not_refused text (inl long) =
-      let many : replan_limit < length served.bytes = subst (λ left. IfSome left (λ bytes. replan_limit < length bytes)) served.told long.long in
+      let many : plan_limit < length served.bytes = subst (λ left. IfSome left (λ bytes. plan_limit < length bytes)) served.told long.long in
       let few = served.few in
       absurd (omega (arith, many, few))
   not_refused text (inr read) =
@@ -151,14 +151,14 @@ module _ (options : ReplanOptions) (source : Drained) (I : Instance) (G : Plan) 
       let refused : IsPartRefused I G options.from text = subst (λ P. IsPartRefused I P options.from text) plan (subst (λ J. IsPartRefused J planned.plan options.from text) same planned.answer) in
       not_part_refused I (kept_of G options.from) (kept_places G options.from) refused.error refused.refusal served.can
 
-  not_plan_refused : (text : List ℕ) → AnswersBytes replan_limit (AnswersReplan options) source PlanRefused text → ⊥
+  not_plan_refused : (text : List ℕ) → AnswersBytes plan_limit (AnswersReplan options) source PlanRefused text → ⊥
   not_plan_refused text read =
       let told = read.answer in
       let is = read_is PlanRefused text read in
       no_fault text told.instance read.bytes is (same_read told.instance read.bytes is told.means) told.answer.answer
 
   -- WHERE NOTHING IS REFUSED, `replan` ENDS WITH A CHEAPEST PLAN, OPEN, OR WANT OF MEMORY.
-  pub replan_ends : (status : Status) (text : List ℕ) → AnswersSource replan_limit (AnswersReplan options) source status text → MayEndReplan options I (kept_of G options.from) status
+  pub replan_ends : (status : Status) (text : List ℕ) → AnswersSource plan_limit (AnswersReplan options) source status text → MayEndReplan options I (kept_of G options.from) status
   replan_ends Good text answer = tt
   replan_ends Open text answer = left_ends text answer
   replan_ends Words text answer = answer

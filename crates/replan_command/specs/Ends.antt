@@ -10,16 +10,15 @@ use Rattle.command_words.specs.declared.commands.ReplanOptions.{ReplanOptions}
 use Rattle.plan_judge.specs.Reading.{IsPlanText}
 use Rattle.replan.specs.Kept.{kept_of, CanBeKept}
 use Rattle.replan.specs.Rest.{IsRest}
-use Rattle.run_answers.specs.Sources.{Drained}
+use Rattle.run_answers.specs.Sources.{Drained, plan_limit}
 use Rattle.run_answers.specs.declared.status.Status.{Status}
 use Rattle.run_answers.specs.declared.status.Status.TheVariants.{Good, Open, Words, Refused, ReadFault, WriteFault, NoMemory, BadDossier, Unfit, PlanRefused}
-use Rattle.replan_command.specs.Replanning.{replan_limit}
 
--- The source tells its bytes, which are at most `replan_limit`, mean this instance without an unfit ship and then this plan, whose lockages before minute M can be kept; and it counts no fault.
+-- The source tells its bytes, which are at most `plan_limit`, mean this instance without an unfit ship and then this plan, whose lockages before minute M can be kept; and it counts no fault.
 pub record IsReplanServed (source : Drained) (M : ℕ) (I : Instance) (G : Plan) : Type 0 where
   pub bytes : List ℕ
   pub told : source.before ≡ Some bytes
-  pub few : length bytes ≤ replan_limit
+  pub few : length bytes ≤ plan_limit
   pub means : Means (instance_part bytes) I
   pub fit : HasNoUnfit I
   pub planned : IsPlanText I (after_instance bytes) G

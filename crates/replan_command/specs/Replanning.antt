@@ -12,16 +12,12 @@ use Rattle.plan_texts.specs.BreakTexts.{break_text, late_text}
 use Rattle.replan.specs.declared.refusal.ReplanError.{ReplanError}
 use Rattle.replan.specs.declared.refusal.ReplanError.TheVariants.{Kept, Late}
 use Rattle.replan.specs.Kept.{kept_of, kept_places, CanBeKept}
-use Rattle.replan.specs.PartBreaks.{IsRefusal}
+use Rattle.replan.specs.PartBreaks.{IsPartRefusal}
 use Rattle.run_answers.specs.Refusals.{IsDefect, IsUnfitShip}
 use Rattle.run_answers.specs.Texts.{no_memory_text}
 use Rattle.run_answers.specs.declared.status.Status.{Status}
 use Rattle.run_answers.specs.declared.status.Status.TheVariants.{Good, Open, Words, Refused, ReadFault, WriteFault, NoMemory, BadDossier, Unfit, PlanRefused}
 use Rattle.replan_command.specs.Keeping.{PrintsBest, PrintsOpen}
-
--- the most bytes that `replan` reads
-abbrev pub replan_limit : ℕ
-replan_limit = 131072
 
 -- What is answered where the plan K can be kept, and `Best` is what is printed where all is shown.
 abbrev pub AnswersKept : (List ℕ → Type 0) → ReplanOptions → Instance → Plan → Status → List ℕ → Type 0
@@ -49,7 +45,7 @@ refusal_text I G (Late p) = late_text p
 -- what starts before minute M in the plan G can't be kept
 pub record IsPartRefused (I : Instance) (G : Plan) (M : ℕ) (text : List ℕ) : Type 0 where
   pub error : ReplanError
-  pub refusal : IsRefusal I (kept_of G M) (kept_places G M) error
+  pub refusal : IsPartRefusal I (kept_of G M) (kept_places G M) error
   pub shown : text ≡ refusal_text I G error
 
 -- what is answered to a plan of the instance

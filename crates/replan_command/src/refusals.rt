@@ -4,7 +4,7 @@ ghost use Rattle.instance_text.specs.Reading.{Defect, instance_part};
 ghost use Rattle.lock_rules.specs.Unfit.{IsFirstUnfit};
 ghost use Rattle.plan_judge.specs.Reading.{IsPlanFault};
 ghost use Rattle.replan.specs.Kept.{kept_of, kept_places};
-ghost use Rattle.replan.specs.PartBreaks.{IsRefusal};
+ghost use Rattle.replan.specs.PartBreaks.{IsPartRefusal};
 ghost use Rattle.run_answers.specs.Written.{bytes_in};
 ghost use Rattle.replan_command.specs.Replanning.{refusal_text, AnswersPlan, AnswersBehind, AnswersInstance, AnswersReplan};
 
@@ -100,7 +100,7 @@ pub(crate) fn refusal_answer(
     error: ReplanError,
     options: &ReplanOptions,
 ) -> Answer
-    requires { IsRefusal instance.now (kept_of plan.now options.now.from) (kept_places plan.now options.now.from) error }
+    requires { IsPartRefusal instance.now (kept_of plan.now options.now.from) (kept_places plan.now options.now.from) error }
     ensures { AnswersPlan options.now instance.now plan.now result.status (bytes_in result.text) }
 {
     match refusal_text(alloc, instance, plan, error) {

@@ -1,9 +1,9 @@
 //! What `replan` answers to a source.
 ghost use Rattle.lock_rules.specs.Unfit.{HasNoUnfit};
-ghost use Rattle.run_answers.specs.Sources.{AnswersSource, drained};
+ghost use Rattle.run_answers.specs.Sources.{AnswersSource, drained, plan_limit};
 ghost use Rattle.run_answers.specs.Written.{bytes_in};
 ghost use Rattle.replan_command.specs.Options.{AreReplanNumbers};
-ghost use Rattle.replan_command.specs.Replanning.{replan_limit, AnswersPlan, AnswersBehind, AnswersInstance, AnswersReplan};
+ghost use Rattle.replan_command.specs.Replanning.{AnswersPlan, AnswersBehind, AnswersInstance, AnswersReplan};
 
 use crate::keeping::kept_answer;
 use crate::refusals::{defect_answer, fault_answer, refusal_answer, unfit_answer};
@@ -14,13 +14,10 @@ use lock_io::{Gate, Source};
 use lock_model::{Instance, Plan};
 use plan_judge::read_plan;
 use replan::residual;
-use run_answers::{Answer, read_source};
+use run_answers::{Answer, PLAN_LIMIT, read_source};
 use std::alloc::Global;
 use std::sync::Wait;
 use std::thread::Threads;
-
-// The most bytes that are read.
-const LIMIT: u64 = 131_072;
 
 // What is answered to a plan of the instance.
 #[tactic(auto, using(crate::proofs::AnswerLemmas::kept_answers))]
@@ -118,9 +115,9 @@ pub fn replan_answer<R: Threads + Wait + Sync, S: Source, G: Gate + Sync>(
     gate: &G,
 ) -> Answer
     requires { AreReplanNumbers options.now }
-    ensures answer { AnswersSource replan_limit (AnswersReplan options.now) (drained (S.left src.old) (S.left src.new) (S.faults src.old) (S.faults src.new)) result.status (bytes_in result.text) }
+    ensures answer { AnswersSource plan_limit (AnswersReplan options.now) (drained (S.left src.old) (S.left src.new) (S.faults src.old) (S.faults src.new)) result.status (bytes_in result.text) }
 {
-    match read_source(alloc, src, LIMIT) {
+    match read_source(alloc, src, PLAN_LIMIT) {
         Ok(bytes) => text_answer(rt, alloc, bytes.as_slice(), options, gate),
         Err(answer) => answer,
     }

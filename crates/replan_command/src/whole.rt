@@ -1,27 +1,13 @@
 //! What was shown of a plan of the rest, said of the whole plan.
-ghost use Rattle.std.specs.Prelude.{◌≡◌, ◌+◌, ◌<◌, ◌^◌, length, All, map};
+ghost use Rattle.std.specs.Prelude.{◌≡◌, ◌^◌};
 ghost use Rattle.std.specs.List.Sorted.{IsStrictlyIncreasing};
-ghost use Rattle.replan.specs.Together.{number_of};
 ghost use Rattle.lock_rules.specs.Plan.{IsLegal, cost_of};
 ghost use Rattle.replan_command.specs.Keeping.{in_whole};
 ghost use Rattle.replan_command.specs.Searches.{IsToldBelow};
 
 use chamber_times::cost;
-use lock_model::{Instance, Plan, Ships, Verdict};
-use replan::Residual;
-
-// Ships of the rest by their numbers in the instance.
-fn ships_of(numbers: &[u8], ships: &Ships) -> Ships
-    requires known { All (λ s. s < length numbers.now) ships.now }
-    requires rising { IsStrictlyIncreasing numbers.now }
-    ensures { result ≡ map (number_of numbers.now) ships.now }
-{
-    let mut renumbered = Ships::new();
-    for &ship in ships.as_slice() {
-        renumbered.push(numbers[ship as usize]);
-    }
-    renumbered
-}
+use lock_model::{Instance, Plan, Verdict};
+use replan::{Residual, ships_of};
 
 // The verdict with its ships renumbered and its lower bound raised.
 fn renumbered(numbers: &[u8], added: u64, verdict: &Verdict) -> Verdict

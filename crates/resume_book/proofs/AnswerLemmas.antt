@@ -7,12 +7,12 @@ use Rattle.lock_rules.specs.Node.{root_lines}
 use Rattle.lock_rules.specs.Bound.{bound_of, least_number}
 use Rattle.lock_rules.specs.Children.{children_of}
 use Rattle.lock_rules.specs.Heredity.{IsHereditary}
-use Rattle.refute_rules.proofs.RefuteLemmas.{HasNormal}
+use Rattle.lock_model.specs.Normal.{HasNormal}
 use Rattle.certificate_rules.specs.declared.certificate.Mark.TheVariants as mark
 use Rattle.certificate_rules.specs.declared.certificate.OpenMark.{OpenMark}
 use Rattle.certificate_rules.specs.declared.certificate.OpenMark.TheVariants.{Closed}
-use Rattle.certificate_rules.specs.declared.certificate.Spot2.{Spot2}
-use Rattle.certificate_rules.specs.declared.certificate.Spot2.TheVariants as place
+use Rattle.certificate_rules.specs.declared.certificate.FailurePlace.{FailurePlace}
+use Rattle.certificate_rules.specs.declared.certificate.FailurePlace.TheVariants as place
 use Rattle.certificate_rules.specs.declared.certificate.Reason.{Reason}
 use Rattle.certificate_rules.specs.OpenCertificates.{OpenCertificate, ClosesOrOpen, Stands}
 use Rattle.certificate_rules.specs.Low.{OpenInOrder, HasOpen, leaf_bounds, IsLow}
@@ -65,17 +65,17 @@ low-same I C m n a b = a.least ∙ ap (λ bs. least_number (C.cost ∷ bs)) (bou
 module _ (I : Instance) (C : OpenCertificate) where
   -- ---- one first failure
 
-  pub open_fails-same : (p q : Spot2) (r s : Reason) → OpenFails I C p r → OpenFails I C q s → AreSameFailure p q r s
+  pub open_fails-same : (p q : FailurePlace) (r s : Reason) → OpenFails I C p r → OpenFails I C q s → AreSameFailure p q r s
   open_fails-same p q r s a b = failing-same I (Closed mark.Split) (ClosesOrOpen I C.cost C.cuts) open_reason_of (λ k lines h. h) C.cost C.cuts C.plan C.tree p q r s a b
 
-  pub open_fails-somewhere : (Stands I C → ⊥) → ((p : Spot2) (r : Reason) → OpenFails I C p r → ⊥) → ⊥
+  pub open_fails-somewhere : (Stands I C → ⊥) → ((p : FailurePlace) (r : Reason) → OpenFails I C p r → ⊥) → ⊥
   open_fails-somewhere other never =
       fails-first I (Closed mark.Split) (ClosesOrOpen I C.cost C.cuts) open_reason_of C.cost C.cuts C.plan C.tree
       (λ h. other (record { legal = h.0; cost = h.1; cuts = h.2; tree = h.3 })) never
 
   -- ---- parts of the check
 
-  pub before-open_fails : (p : Spot2) (r : Reason) → FailBeforeMarks I C.cost C.cuts C.plan p r → OpenFails I C p r
+  pub before-open_fails : (p : FailurePlace) (r : Reason) → FailBeforeMarks I C.cost C.cuts C.plan p r → OpenFails I C p r
   before-open_fails p r f = before-fails I C.cost C.cuts C.plan C.tree (MarksFail I (Closed mark.Split) (ClosesOrOpen I C.cost C.cuts) open_reason_of C.tree) p r f
 
   pub marks-open_fail : (n : ℕ) (r : Reason) → HoldBeforeMarks I C.cost C.cuts C.plan → FailAtOpenMark I C.cost C.cuts C.tree n r → OpenFails I C (place.Tree n) r
@@ -98,13 +98,13 @@ module _ (I : Instance) (C : OpenCertificate) where
     λ h. ap₂ (λ u v. answer.Stands u v) (low-same I C low m is h.1) (own ∙ sym h.2),
   )
 
-  pub stands-rejected : (low paid : ℕ) → Stands I C → (p : Spot2) (r : Reason) → (answer.Stands low paid ≡ answer.Rejected p r) ↔ OpenFails I C p r
+  pub stands-rejected : (low paid : ℕ) → Stands I C → (p : FailurePlace) (r : Reason) → (answer.Stands low paid ≡ answer.Rejected p r) ↔ OpenFails I C p r
   stands-rejected low paid good p r = (λ e. absurd cc, λ f. absurd (fails-not_stands I C p r f good))
 
-  pub rejected-stands : (p : Spot2) (r : Reason) → OpenFails I C p r → (m n : ℕ) → (answer.Rejected p r ≡ answer.Stands m n) ↔ (Stands I C × IsLow I C m × (n ≡ C.cost))
+  pub rejected-stands : (p : FailurePlace) (r : Reason) → OpenFails I C p r → (m n : ℕ) → (answer.Rejected p r ≡ answer.Stands m n) ↔ (Stands I C × IsLow I C m × (n ≡ C.cost))
   rejected-stands p r f m n = (λ e. absurd cc, λ h. absurd (fails-not_stands I C p r f h.0))
 
-  pub rejected-rejected : (p : Spot2) (r : Reason) → OpenFails I C p r → (q : Spot2) (s : Reason) → (answer.Rejected p r ≡ answer.Rejected q s) ↔ OpenFails I C q s
+  pub rejected-rejected : (p : FailurePlace) (r : Reason) → OpenFails I C p r → (q : FailurePlace) (s : Reason) → (answer.Rejected p r ≡ answer.Rejected q s) ↔ OpenFails I C q s
   rejected-rejected p r f q s = (
     λ e.
         let place : p ≡ q = cc in

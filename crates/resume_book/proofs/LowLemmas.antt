@@ -4,7 +4,8 @@ use Rattle.std.specs.declared.option.Option.{Option}
 use Rattle.std.specs.List.{list_any}
 use Rattle.lock_model.specs.declared.verdict.Verdict.TheVariants as verdict
 use Rattle.lock_rules.specs.Bound.{least_number}
-use Rattle.lock_rules.proofs.TreeLemmas.{IsAmong, IsAmong-left, IsAmong-right}
+use Rattle.lock_rules.specs.Among.{IsAmong}
+use Rattle.lock_rules.proofs.TreeLemmas.{IsAmong-left, IsAmong-right}
 use Rattle.refute_rules.proofs.Among.{among-append}
 use Rattle.book_rules.specs.declared.book.SlotState.{SlotState}
 use Rattle.book_rules.specs.declared.book.SlotState.TheVariants as slot

@@ -1,6 +1,6 @@
 -- The slots of a book in preorder: each is a slot, and each slot is among them.
 use Rattle.std.proofs.Common.{◌≡◌, ℕ, zero, suc, ◌+◌, ◌-◌, ◌<◌, ◌≤◌, inl, inr, length, refl, sym, ap, subst, arith}
-use Rattle.lock_rules.proofs.TreeLemmas.{IsAmong}
+use Rattle.lock_rules.specs.Among.{IsAmong}
 use Rattle.lock_rules.proofs.SplitLemmas.{IsAmong-flat_map}
 use Rattle.book_rules.specs.declared.book.SlotState.{SlotState}
 use Rattle.book_rules.specs.declared.book.SlotState.TheVariants as slot

@@ -13,7 +13,7 @@ use Rattle.cert_check.proofs.TreeLemmas.{lacks-one}
 use Rattle.book_certificate.specs.Writing.{lacking_at}
 use Rattle.book_certificate.proofs.WritingLemmas.{range-more}
 use Rattle.resume_book.specs.Preorder.{mark_at, children_slots, preorder, slots_in_order}
-use Rattle.resume_book.specs.Writing.{IsWritten, AreWritten}
+use Rattle.resume_book.specs.Writing.{AppendsOpenMarks, AppendsOpenChildMarks}
 
 leaf-alone : (b : Book) (lacking id : ℕ) (state : SlotState) → (slot_at b id).state ≡ state → is_split state ≡ false → preorder b lacking id ≡ id ∷ []
 leaf-alone b zero id state is whole = refl
@@ -24,20 +24,20 @@ leaf-alone b (suc lacking) id state is whole = ap (λ kids. id ∷ flat_map (pre
     none _ e = refl
 
 -- the mark of a slot that isn't split
-pub leaf-written : (b : Book) (id : ℕ) (old new : List OpenMark) → is_split (slot_at b id).state ≡ false → new ≡ old ++ mark_at b id ∷ [] → IsWritten b id old new
+pub leaf-written : (b : Book) (id : ℕ) (old new : List OpenMark) → is_split (slot_at b id).state ≡ false → new ≡ old ++ mark_at b id ∷ [] → AppendsOpenMarks b id old new
 leaf-written b id old new whole grown = record {
   grown = grown ∙ ap (λ ids. old ++ map (mark_at b) ids) (sym (leaf-alone b (lacking_at b id) id (slot_at b id).state refl whole));
 }
 
 -- the marks of no child
-pub none-written : (b : Book) (id first n : ℕ) (old : List OpenMark) → n ≡ 0 → AreWritten b id first n old old
-none-written b id first n old none = subst (λ k. AreWritten b id first k old old) (sym none) (record { grown = sym (append-nil old) })
+pub none-written : (b : Book) (id first n : ℕ) (old : List OpenMark) → n ≡ 0 → AppendsOpenChildMarks b id first n old old
+none-written b id first n old none = subst (λ k. AppendsOpenChildMarks b id first k old old) (sym none) (record { grown = sym (append-nil old) })
 
 -- the marks of one child more
 pub more-written : (b : Book) (id first n more child : ℕ) (old mid new : List OpenMark) → more ≡ suc n → child ≡ first + n → (slot_at b child).node.depth ≡ suc (slot_at b id).node.depth
-    → AreWritten b id first n old mid → IsWritten b child mid new → AreWritten b id first more old new
+    → AppendsOpenChildMarks b id first n old mid → AppendsOpenMarks b child mid new → AppendsOpenChildMarks b id first more old new
 more-written b id first n more child old mid new more_is child_is deep before own =
-    subst (λ k. AreWritten b id first k old new) (sym more_is)
+    subst (λ k. AppendsOpenChildMarks b id first k old new) (sym more_is)
     (record {
       grown =
           own.grown ∙ ap (λ ms. ms ++ map (mark_at b) (preorder b (lacking_at b child) child)) before.grown
@@ -55,7 +55,7 @@ more-written b id first n more child old mid new more_is child_is deep before ow
 
 -- the mark of a split, and the marks of all children
 pub split-written : (b : Book) (id first n : ℕ) (old front new : List OpenMark) → (slot_at b id).state ≡ slot.Split first → (slot_at b id).node.depth < length b.case.instance.ships → front ≡ old ++ mark_at b id ∷ []
-    → n ≡ child_count b.case.instance (slot_at b id).node → AreWritten b id first n front new → IsWritten b id old new
+    → n ≡ child_count b.case.instance (slot_at b id).node → AppendsOpenChildMarks b id first n front new → AppendsOpenMarks b id old new
 split-written b id first n old front new split lacks front_is all h = record {
   grown =
       h.grown ∙ ap (λ ms. ms ++ map (mark_at b) (flat_map f (range_with_len first n))) front_is ∙ append_assoc old (mark_at b id ∷ []) (map (mark_at b) (flat_map f (range_with_len first n)))
@@ -67,7 +67,7 @@ split-written b id first n old front new split lacks front_is all h = record {
     f = preorder b (length b.case.instance.ships - suc (slot_at b id).node.depth)
 
 -- the marks of all slots, where there were none before
-pub all-written : (b : Book) (old marks : List OpenMark) → (slot_at b 0).node ≡ root → old ≡ [] → IsWritten b 0 old marks → marks ≡ map (mark_at b) (slots_in_order b)
+pub all-written : (b : Book) (old marks : List OpenMark) → (slot_at b 0).node ≡ root → old ≡ [] → AppendsOpenMarks b 0 old marks → marks ≡ map (mark_at b) (slots_in_order b)
 all-written b old marks root_is none h =
     let depth : (slot_at b 0).node.depth ≡ 0 = ap (λ (n : Node). n.depth) root_is in
     let whole : length b.case.instance.ships - (slot_at b 0).node.depth ≡ length b.case.instance.ships = omega (arith, depth) in

@@ -3,7 +3,7 @@ use Rattle.std.specs.Prelude.{ℕ, ◌≡◌, ◌-◌, List, [], ◌∷◌, leng
 use Rattle.lock_model.specs.declared.instance.Instance.{Instance}
 use Rattle.lock_rules.specs.Node.{root_lines}
 use Rattle.lock_rules.specs.Bound.{least_number}
-use Rattle.certificate_rules.specs.declared.certificate.Spot2.{Spot2}
+use Rattle.certificate_rules.specs.declared.certificate.FailurePlace.{FailurePlace}
 use Rattle.certificate_rules.specs.declared.certificate.Reason.{Reason}
 use Rattle.certificate_rules.specs.declared.certificate.OpenMark.{OpenMark}
 use Rattle.certificate_rules.specs.declared.certificate.OpenMark.TheVariants.{Closed}
@@ -17,9 +17,9 @@ use Rattle.cert_check.specs.FirstFailure.{AreSameFailure}
 
 -- No open certificate fails first in two ways, none that stands fails, and none neither stands nor fails.
 pub record HaveOneOpenFailure : Type 0 where
-  pub same : (I : Instance) (C : OpenCertificate) (p q : Spot2) (r s : Reason) → OpenFails I C p r → OpenFails I C q s → AreSameFailure p q r s
-  pub none : (I : Instance) (C : OpenCertificate) (p : Spot2) (r : Reason) → Stands I C → OpenFails I C p r → ⊥
-  pub some : (I : Instance) (C : OpenCertificate) → (Stands I C → ⊥) → ((p : Spot2) (r : Reason) → OpenFails I C p r → ⊥) → ⊥
+  pub same : (I : Instance) (C : OpenCertificate) (p q : FailurePlace) (r s : Reason) → OpenFails I C p r → OpenFails I C q s → AreSameFailure p q r s
+  pub none : (I : Instance) (C : OpenCertificate) (p : FailurePlace) (r : Reason) → Stands I C → OpenFails I C p r → ⊥
+  pub some : (I : Instance) (C : OpenCertificate) → (Stands I C → ⊥) → ((p : FailurePlace) (r : Reason) → OpenFails I C p r → ⊥) → ⊥
 
 -- the marks are one open tree of the root, and `low` is the least of the cost and the bounds of its open leaves
 pub record IsLowOfMarks (I : Instance) (cost : ℕ) (cuts : List CertCut) (marks : List OpenMark) (low : ℕ) : Type 0 where

@@ -2,7 +2,7 @@
 ghost use Rattle.std.specs.Prelude.{◌≡◌, [], ◌∷◌, ◌++◌, OnOk, OnErr, IfOk};
 
 use cert_check::CertCuts;
-use certificate_rules::{OpenMark, Reason, Spot2};
+use certificate_rules::{FailurePlace, OpenMark, Reason};
 use lock_model::Plan;
 use std::alloc::{AllocError, Global};
 use std::marker::Model;
@@ -83,5 +83,5 @@ pub enum OpenAnswer {
     /// It stands: its plan costs `cost` minutes, and every legal plan at least `low`.
     Stands { low: u64, cost: u64 },
     /// It doesn't, since it fails first at this place and for this reason.
-    Rejected(Spot2, Reason),
+    Rejected(FailurePlace, Reason),
 }

@@ -2,7 +2,7 @@
 ghost use Rattle.std.specs.Prelude.{◌≡◌, ◌↔◌, ℕ, [], length, All, IfOk, IfErr};
 ghost use Rattle.lock_rules.specs.Node.{root_lines};
 ghost use Rattle.lock_rules.specs.Throughput.{throughput_of};
-ghost use Rattle.certificate_rules.specs.declared.certificate.Spot2.{Spot2 as Place};
+ghost use Rattle.certificate_rules.specs.declared.certificate.FailurePlace.{FailurePlace as Place};
 ghost use Rattle.certificate_rules.specs.declared.certificate.Reason.{Reason as Why};
 ghost use Rattle.closing_rules.specs.ProvedCuts.{IsProved};
 ghost use Rattle.certificate_rules.specs.OpenCertificates.{Stands};
@@ -14,7 +14,7 @@ ghost use Rattle.resume_book.specs.OneFailure.{IsLowOfMarks, FailAtOpenMark};
 use crate::certificate::{OpenAnswer, OpenCertificate};
 use crate::reading::read_tree;
 use cert_check::{Claim, first_failure_before_marks};
-use certificate_rules::{OpenMark, Reason, Spot2};
+use certificate_rules::{FailurePlace, OpenMark, Reason};
 use deck_laws::{heredity, normal_form};
 use flow_bounds::{Roster, throughput};
 use lock_model::Instance;
@@ -61,7 +61,7 @@ fn low_or_failure(
     alloc: Global,
     instance: &Instance,
     certificate: &OpenCertificate,
-) -> Result<Result<u64, (Spot2, Reason)>, NoMemory>
+) -> Result<Result<u64, (FailurePlace, Reason)>, NoMemory>
     ensures ok { IfOk result (λ told. IfOk told (λ low. Stands instance.now certificate.now × IsLow instance.now certificate.now low)) }
     ensures err { IfOk result (λ told. IfErr told (λ f. OpenFails instance.now certificate.now f.0 f.1)) }
 {
@@ -76,7 +76,7 @@ fn low_or_failure(
     }
     match low_of(instance, certificate) {
         Ok(low) => Ok(Ok(low)),
-        Err((number, reason)) => Ok(Err((Spot2::Tree(number), reason))),
+        Err((number, reason)) => Ok(Err((FailurePlace::Tree(number), reason))),
     }
 }
 

@@ -32,7 +32,7 @@ mod value;
 pub use book::open_certificate_of;
 pub use cert_text::{BadDossier, DossierError};
 pub use certificate::{OpenAnswer, OpenCertificate, OpenMarks};
-pub use certificate_rules::{OpenMark, Reason, Spot2};
+pub use certificate_rules::{FailurePlace, OpenMark, Reason};
 pub use checking::check_open;
 pub use counting::prior;
 pub use laws::one_first_open_failure;

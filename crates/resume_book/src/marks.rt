@@ -4,7 +4,7 @@ ghost use Rattle.book_rules.specs.declared.book.SlotState.TheVariants as slot;
 ghost use Rattle.book_rules.specs.Book.{slot_at};
 ghost use Rattle.book_rules.specs.NextSlot.{is_split};
 ghost use Rattle.resume_book.specs.Preorder.{open_mark, mark_at, slots_in_order};
-ghost use Rattle.resume_book.specs.Writing.{IsWritten};
+ghost use Rattle.resume_book.specs.Writing.{AppendsOpenMarks};
 
 use crate::certificate::OpenMarks;
 use book_certificate::{children_end, first_child};
@@ -41,7 +41,7 @@ fn mark_at(book: &Book, id: u32) -> OpenMark
 fn write_leaf(book: &Book, id: u32, marks: &mut OpenMarks) -> Result<(), NoMemory>
     requires known { id < length book.now.slots }
     requires whole { is_split (slot_at book.now id).state ≡ false }
-    ensures { OnOk result (IsWritten book.now id marks.old marks.new) }
+    ensures { OnOk result (AppendsOpenMarks book.now id marks.old marks.new) }
 {
     marks.push(mark_at(book, id))?;
     Ok(())
@@ -52,7 +52,7 @@ fn write_leaf(book: &Book, id: u32, marks: &mut OpenMarks) -> Result<(), NoMemor
 fn write_split(book: &Book, id: u32, first: u32, marks: &mut OpenMarks) -> Result<(), NoMemory>
     requires known { id < length book.now.slots }
     requires split { (slot_at book.now id).state ≡ slot.Split first }
-    ensures { OnOk result (IsWritten book.now id marks.old marks.new) }
+    ensures { OnOk result (AppendsOpenMarks book.now id marks.old marks.new) }
 {
     book.keeps();
     marks.push(mark_at(book, id))?;
@@ -67,7 +67,7 @@ fn write_split(book: &Book, id: u32, first: u32, marks: &mut OpenMarks) -> Resul
 #[cycle(tree)]
 fn write_slot(book: &Book, id: u32, marks: &mut OpenMarks) -> Result<(), NoMemory>
     requires { id < length book.now.slots }
-    ensures { OnOk result (IsWritten book.now id marks.old marks.new) }
+    ensures { OnOk result (AppendsOpenMarks book.now id marks.old marks.new) }
 {
     match first_child(book, id) {
         Some(first) => write_split(book, id, first, marks),

@@ -2,7 +2,7 @@
 ghost use Rattle.std.specs.Prelude.{◌≡◌, All, IfOk, IfErr, Some, None, map};
 ghost use Rattle.certificate_rules.specs.WellFormed.{IsFormedOpenMark};
 ghost use Rattle.serde_json.specs.View.{view, items_of, items_view};
-ghost use Rattle.cert_text.specs.Answers.{IsRefusal};
+ghost use Rattle.cert_text.specs.Answers.{IsCausedFault};
 ghost use Rattle.cert_text.specs.Fields.{all_in};
 ghost use Rattle.cert_text.specs.declared.bad.BadDossier.TheVariants.{Shape};
 ghost use Rattle.resume_book.specs.OpenMarks.{open_number, open_mark_of, open_mark_data, open_mark_in, open_tree_data, open_tree_in};
@@ -106,7 +106,7 @@ fn tree_in(alloc: Global, value: &Value) -> Result<Option<OpenMarks>, AllocError
 // The marks that a value lists, or the fault of the fifth part.
 pub(crate) fn tree_of(alloc: Global, value: &Value) -> Result<OpenMarks, DossierError>
     ensures read { IfOk result (λ tree. open_tree_in (view value.now) ≡ Some tree) }
-    ensures shape { IfErr result (IsRefusal (Shape 5) (open_tree_in (view value.now) ≡ None)) }
+    ensures shape { IfErr result (IsCausedFault (Shape 5) (open_tree_in (view value.now) ≡ None)) }
 {
     match tree_in(alloc, value)? {
         Some(tree) => Ok(tree),

@@ -2,7 +2,7 @@
 ghost use Rattle.std.specs.Prelude.{◌≡◌, IfOk, IfErr, Some, None, Ok, codes};
 ghost use Rattle.certificate_rules.specs.WellFormed.{IsWellFormedOpen};
 ghost use Rattle.serde_json.specs.View.{view};
-ghost use Rattle.cert_text.specs.Answers.{IsRefusal, IsFault};
+ghost use Rattle.cert_text.specs.Answers.{IsCausedFault, IsFault};
 ghost use Rattle.cert_text.specs.Steps.{fault_under};
 ghost use Rattle.cert_text.specs.Fields.{value_at};
 ghost use Rattle.cert_text.specs.declared.bad.BadDossier.TheVariants.{Shape};
@@ -40,7 +40,7 @@ pub(crate) fn put_open(alloc: Global, certificate: &OpenCertificate) -> Result<V
 // The marks at the key `tree`.
 fn tree_at(alloc: Global, value: &Value) -> Result<OpenMarks, DossierError>
     ensures read { IfOk result (λ tree. value_at (codes "tree") open_tree_in (view value.now) ≡ Some tree) }
-    ensures shape { IfErr result (IsRefusal (Shape 5) (value_at (codes "tree") open_tree_in (view value.now) ≡ None)) }
+    ensures shape { IfErr result (IsCausedFault (Shape 5) (value_at (codes "tree") open_tree_in (view value.now) ≡ None)) }
 {
     match value.get("tree") {
         Some(tree) => tree_of(alloc, tree),

@@ -16,6 +16,10 @@ pub record Drained : Type 0 where
 abbrev pub drained : Option (List ℕ) → Option (List ℕ) → ℕ → ℕ → Drained
 drained before after faults faults_after = record { before = before; after = after; faults = faults; faults_after = faults_after }
 
+-- the most bytes of an instance and a plan together
+abbrev pub plan_limit : ℕ
+plan_limit = 131072
+
 -- nothing was read
 pub record IsUnread (source : Drained) : Type 0 where
   pub left : source.after ≡ source.before

@@ -15,6 +15,6 @@ mod status;
 mod texts;
 
 pub use answer::{Answer, Text, fixed, no_memory};
-pub use reading::read_source;
+pub use reading::{PLAN_LIMIT, read_source};
 pub use status::Status;
 pub use texts::{defect_text, put_defect, unfit_text};

@@ -10,6 +10,9 @@ use lock_io::{ReadError, Source, read_all};
 use plain_text::NoMemory;
 use std::alloc::Global;
 
+/// The most bytes of an instance and a plan together.
+pub const PLAN_LIMIT: u64 = 131_072;
+
 // That there are more bytes than the limit, or want of memory for saying so.
 fn too_long(alloc: Global, most: u64) -> Answer
     ensures { TellsTooLong most result.status (bytes_in result.text) }

@@ -20,16 +20,17 @@ abbrev Answer : Type 0
 Answer = machine.Reply BrokenPlan
 
 -- the machine's reply accepts the event; want of memory doesn't
-abbrev is_accepting : Option Answer → Bool
+abbrev pub is_accepting : Option Answer → Bool
 is_accepting None = false
 is_accepting (Some a) = machine.is_accepted a
 
-accepted-by : (r : Reply) → is_accepting (told r) ≡ is_accepted r
+pub accepted-by : (r : Reply) → is_accepting (told r) ≡ is_accepted r
 accepted-by (reply.Node id node) = refl
 accepted-by _ = refl
 
 pub record Counts (old : Book) (r : Reply) (new : Book) : Type 0 where
   pub count : length new.history ≡ length old.history + accepted r
+  pub case : new.case ≡ old.case
   pub refused : is_accepted r ≡ false → new ≡ old
 
 clash : true ≡ false → ⊥
@@ -39,7 +40,7 @@ leaves : (old : Book) (r : Reply) (new : Book) → is_accepted r ≡ false → n
 leaves old r new said same =
     let none : accepted r ≡ 0 = ap (λ t. cond t 1 0) said in
     let long = ap (λ (b : Book). length b.history) same in
-    record { count = omega (arith, none, long); refused = λ _. same }
+    record { count = omega (arith, none, long); case = ap (λ (b : Book). b.case) same; refused = λ _. same }
 
 answers-count : (old : Book) (e : machine.Event) (r : Reply) (new : Book) → Answers old e r new → Counts old r new
 answers-count old e r new answers =
@@ -49,7 +50,7 @@ answers-count old e r new answers =
       | Accepted done ↦
           let one_more : accepted r ≡ 1 = ap (λ t. cond t 1 0) (same_test ∙ done.accepted) in
           let long = ap length done.history ∙ length-append old.history (entry_of e ∷ []) in
-          record { count = omega (arith, one_more, long); refused = λ said. absurd (clash (sym done.accepted ∙ sym same_test ∙ said)) }
+          record { count = omega (arith, one_more, long); case = done.case; refused = λ said. absurd (clash (sym done.accepted ∙ sym same_test ∙ said)) }
     ]
 
 does-count : (old : Book) (e : machine.Event) (r : Reply) (new : Book) → Does old e r new → Counts old r new

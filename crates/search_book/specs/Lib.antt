@@ -3,3 +3,5 @@ pub mod Replies
 pub mod Applied
 pub mod Shares
 pub mod Following
+pub mod Granting
+pub mod Going

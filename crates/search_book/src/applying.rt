@@ -1,11 +1,12 @@
 //! One event of a book that is kept with its total, and an event with a taking after it.
-ghost use Rattle.std.specs.Prelude.{◌≡◌, ◌+◌, ◌<◌, ◌≤◌, length};
+ghost use Rattle.std.specs.Prelude.{◌≡◌, ◌↔◌, ◌+◌, ◌<◌, ◌≤◌, IsTrue, length};
 ghost use Rattle.std.specs.Bool.{OnFalse};
 ghost use Rattle.book_core.specs.Replies.{Does};
 ghost use Rattle.book_rules.specs.Events as machine;
 ghost use Rattle.search_book.specs.Applied.{Applies};
 ghost use Rattle.search_book.specs.Events.{IsAllowed};
 ghost use Rattle.search_book.specs.Following.{Follows, counted};
+ghost use Rattle.search_book.specs.Granting.{IsHeldAt};
 ghost use Rattle.search_book.specs.Replies.{is_accepted, accepted};
 
 use crate::event::Event;
@@ -15,6 +16,7 @@ use crate::replies::is_accepted;
 use book_core::{Book, Foreseen, Reply};
 use closing_rules::Ground;
 use lock_model::Plan;
+use master_branch::Node;
 use place_refute::Cut;
 use std::sync::ledger::{Ledger, Share};
 
@@ -53,6 +55,7 @@ fn make_counted(book: &mut Book, event: Event) -> Reply
     requires { IsAllowed event }
     ensures step { Applies book.old event result book.new }
     ensures count { length book.new.history ≡ length book.old.history + accepted result }
+    ensures case { book.new.case ≡ book.old.case }
     ensures refused { OnFalse (is_accepted result) (book.new ≡ book.old) }
 {
     make(book, event)
@@ -68,6 +71,7 @@ pub fn apply<L: Ledger>(kept: &mut Kept<L>, share: &mut Share<L>, event: Event) 
     requires allowed { IsAllowed event }
     ensures step { Applies kept.old.book event result kept.new.book }
     ensures refused { OnFalse (is_accepted result) (kept.new.book ≡ kept.old.book) }
+    ensures case { kept.new.book.case ≡ kept.old.book.case }
     ensures total { kept.new.tally.total ≡ kept.old.tally.total + accepted result }
     ensures amount { share.new.amount ≡ share.old.amount + accepted result }
     ensures parts { share.new.parts ≡ share.old.parts }
@@ -79,6 +83,25 @@ pub fn apply<L: Ledger>(kept: &mut Kept<L>, share: &mut Share<L>, event: Event) 
     reply
 }
 
+// Whether a worker holds this slot, and it has this node.
+pub(crate) fn is_at(book: &Book, id: u32, node: &Node) -> bool
+    ensures { IsTrue result ↔ IsHeldAt book.now id node.now }
+{
+    match book.node_in_hand(id) {
+        Some(own) => own == node,
+        None => false,
+    }
+}
+
+// Lays bounds into the hand of the worker that holds the slot, where they are of its node's children.
+fn lay(book: &mut Book, id: u32, foreseen: &Foreseen<'_>)
+    ensures { book.new ≡ book.old }
+{
+    if is_at(book, id, &foreseen.node) && book.is_of(foreseen.instance) {
+        book.lay(id, foreseen);
+    }
+}
+
 // Hands bounds that were worked out beforehand to the book, where the event may need them.
 fn foresee(book: &mut Book, ending: &Event, foreseen: Option<Foreseen<'_>>)
     ensures { book.new ≡ book.old }
@@ -87,7 +110,7 @@ fn foresee(book: &mut Book, ending: &Event, foreseen: Option<Foreseen<'_>>)
         return;
     };
     match ending {
-        Event::Split(id) | Event::Close(id, Ground::Probe(_)) => book.foresee(*id, foreseen),
+        Event::Split(id) | Event::Close(id, Ground::Probe(_)) => lay(book, *id, &foreseen),
         _ => {}
     }
 }

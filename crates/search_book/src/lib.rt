@@ -1,24 +1,31 @@
 //! A book under a lock, for threads that search it together, and a ledger of its accepted events.
 //!
 //! `share_book` puts a book under its lock, with a share of the ledger for each worker and one for
-//! the caller. `SharedBook::with_book` makes one event of the book, `end_and_take` one and then, in
-//! the same holding of the lock, a taking, `take_or_wait` takes a slot and waits while none is open
-//! and one may come, and `into_book` gives the book back once all shares are there. Each event is
-//! made under the lock, so it is one step of the book machine for all threads. The share that it is lent grows by one exactly where the event is accepted;
-//! since the book's history is as long as the ledger's total (`Kept`), no accepted event is lost,
-//! and none comes without its entry in the history.
+//! the caller. `SharedBook::with_book` makes one event of the book. In one holding of the lock
+//! `end_and_take` makes one and then a taking, and `go_ahead` ends node after node that were worked
+//! out ahead, each with the taking of the next one, as far as the book comes to them. `take_or_wait`
+//! takes a slot, and waits while none is open and one may come. `into_book` gives the book back once
+//! all shares are there. Each event is made under the lock, so it is one step of the book machine for
+//! all threads. The share that it is lent grows by one exactly where the event is accepted; since the
+//! book's history is as long as the ledger's total (`Kept`), no accepted event is lost, and none
+//! comes without its entry in the history.
 //!
 //! - `event`: the events, each the method of `Book` of its name. `replies`: what replies say.
 //! - `kept`: the lock's value. `applying`: one event of it (`apply`), and one with a taking (`next`).
+//! - `ahead`: nodes that were worked out ahead. `going`: how a book goes through them (`gone`).
 //! - `share_list`: the shares. `sharing`: `share_book`, `into_book`. `shared`: the calls of threads.
 //!
 //! Definitions: `specs/Events` says which event of the machine an event is, and what its caller
-//! owes, `Applied` what an event does to a book, `Following` what a taking after it does, `Replies` which replies are accepted, `Shares` what
-//! a list of shares is. A share and the total take no bytes, and are there for the proof alone.
+//! owes, `Applied` what an event does to a book, `Following` what a taking after it does, `Going` what
+//! nodes ahead do, `Replies` which replies are accepted, `Shares` what a list of shares is. A share
+//! and the total take no bytes, and are there for the proof alone.
 #![tactic(auto)]
 
+mod ahead;
 mod applying;
 mod event;
+mod going;
+mod gone;
 mod kept;
 mod next;
 mod replies;
@@ -28,8 +35,11 @@ mod sharing;
 #[cfg(test)]
 mod tests;
 
+pub use ahead::{Ahead, Ending, Stretch};
 pub use applying::{apply, apply_and_take};
 pub use event::Event;
+pub use going::go_ahead;
+pub use gone::Gone;
 pub use kept::Kept;
 pub use next::Next;
 pub use share_list::ShareList;

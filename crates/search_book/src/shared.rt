@@ -1,11 +1,15 @@
 //! The book that threads share, and who waits for it.
-ghost use Rattle.std.specs.Prelude.{◌≡◌, ◌+◌, ◌<◌, ◌≤◌, false};
+ghost use Rattle.std.specs.Prelude.{◌≡◌, ◌+◌, ◌<◌, ◌≤◌, false, length};
 ghost use Rattle.search_book.specs.Events.{IsAllowed};
 ghost use Rattle.search_book.specs.Following.{counted};
+ghost use Rattle.search_book.specs.Going.{gone_count};
 ghost use Rattle.search_book.specs.Replies.{accepted, is_idle};
 
+use crate::ahead::Stretch;
 use crate::applying::{apply, apply_and_take};
 use crate::event::Event;
+use crate::going::go_ahead;
+use crate::gone::Gone;
 use crate::kept::Kept;
 use crate::next::Next;
 use crate::replies::{is_accepted, is_idle};
@@ -32,6 +36,14 @@ pub struct SharedBook<L: Ledger> {
     pub(crate) lock: Mutex<Kept<L>>,
     pub(crate) told: Condvar,
     pub(crate) nobody: Mutex<Nobody<L>>,
+}
+
+// Whether some event was accepted.
+fn has_accepted(gone: &Gone) -> bool {
+    match gone.next {
+        Next::Taken(_) => true,
+        Next::Refused(_) => gone.place > 0,
+    }
 }
 
 impl<L: Ledger> SharedBook<L> {
@@ -108,6 +120,31 @@ impl<L: Ledger> SharedBook<L> {
             self.leave(kept);
         }
         next
+    }
+
+    /// Waits for the lock, and hands nodes that were worked out ahead to the book as `go_ahead` does
+    /// in one holding of the lock, the first with this slot, which the worker holds. The share grows
+    /// by one for each event that is accepted, and then all who wait are told.
+    pub fn go_ahead<W: Wait>(
+        &self,
+        rt: &W,
+        share: &mut Share<L>,
+        worker: u8,
+        id: u32,
+        stretch: &Stretch<'_>,
+    ) -> Gone
+        requires part { 0 < share.old.parts }
+        requires worker { worker ≤ 8 }
+        requires some { 0 < length stretch.now.nodes.items }
+        ensures amount { share.new.amount ≡ share.old.amount + gone_count result }
+        ensures parts { share.new.parts ≡ share.old.parts }
+    {
+        let mut kept = self.lock_soon(rt);
+        let gone = go_ahead(&mut *kept, share, worker, id, stretch);
+        if has_accepted(&gone) {
+            self.leave(kept);
+        }
+        gone
     }
 
     /// The same as `with_book` for `Take` by a worker of 0 to 8, but that it waits, while nothing is

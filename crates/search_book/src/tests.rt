@@ -1,8 +1,8 @@
 //! Books under a lock.
+mod ahead;
 mod asking;
 mod counting;
 mod fixture;
-mod following;
 mod parking;
 mod parts;
 mod table;

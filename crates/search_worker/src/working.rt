@@ -124,7 +124,7 @@ fn work_inner<L: Ledger, W: Wait, G: Gate>(
     requires lacks { held.now.node.now.depth < length post.now.instance.now.ships }
     ensures serves { Serves post.now worker.new }
 {
-    let foreseen = Foreseen::new(post.instance, &post.roster, held.node);
+    let foreseen = Foreseen::new(post.instance, &post.roster, held.node.copy());
     if foreseen.least() < held.best {
         return work_last(post, worker, held, Some(foreseen));
     }

@@ -18,7 +18,7 @@ use Rattle.certificate_rules.specs.WellFormed.{IsWellFormedOpen}
 use Rattle.book_core.specs.Keeps.{IsSound}
 use Rattle.resume_book.specs.Certified.{IsOpenCertificateOf, certified_low, HasMoreMarks}
 use Rattle.solve_commands.specs.Searching.{search_in}
-use Rattle.solve_commands.specs.Keeping.{SpendsNodes, SpendsTurns, IsKept}
+use Rattle.solve_commands.specs.Keeping.{SpendsNodes, SpendsTurns, IsKeptCertificate}
 use Rattle.solve_commands.proofs.EndLemmas.{book_ends}
 
 -- ---- a book with nothing open isn't left for want of nodes
@@ -62,7 +62,7 @@ module _ (b : Book) (limit : ℕ) (C : OpenCertificate) (own : IsOpenCertificate
   I = b.case.instance
 
   -- its low is that of the verdict, which is below the cost
-  kept_low : (low : ℕ) → best_cost b ≤ limit → IsOpenLow I b.best low → IsLow I C (min low (best_cost b)) → SpendsNodes (search_in b limit) C ⊎ SpendsTurns (search_in b limit) C → IsKept (search_in b limit) C
+  kept_low : (low : ℕ) → best_cost b ≤ limit → IsOpenLow I b.best low → IsLow I C (min low (best_cost b)) → SpendsNodes (search_in b limit) C ⊎ SpendsTurns (search_in b limit) C → IsKeptCertificate (search_in b limit) C
   kept_low low cost lower lowest cause =
       let is = own.cost in
       let same : min low (best_cost b) ≡ low = let below = lower.below in omega (arith, below) in
@@ -77,7 +77,7 @@ module _ (b : Book) (limit : ℕ) (C : OpenCertificate) (own : IsOpenCertificate
       }
 
   -- by the verdict
-  by_verdict : (V : Verdict) → V ≢ Optimal → ((used low : ℕ) → V ≡ OpenNodes used low → b.case.nodes < length C.tree) → IsEnd I b.case.nodes b.case.turns limit b.best V → IsLow I C (certified_low (best_cost b) V) → IsKept (search_in b limit) C
+  by_verdict : (V : Verdict) → V ≢ Optimal → ((used low : ℕ) → V ≡ OpenNodes used low → b.case.nodes < length C.tree) → IsEnd I b.case.nodes b.case.turns limit b.best V → IsLow I C (certified_low (best_cost b) V) → IsKeptCertificate (search_in b limit) C
   by_verdict Optimal left marks end lowest = absurd (left refl)
   by_verdict (OpenNodes used low) left marks end lowest = kept_low low end.cost end.lower lowest (inl (record { more = end.more; marks = marks used low refl }))
   by_verdict (OpenTurns chamber ships given low) left marks end lowest =
@@ -88,7 +88,7 @@ module _ (b : Book) (limit : ℕ) (C : OpenCertificate) (own : IsOpenCertificate
         cheaper = λ Q legal cheaper. let is = own.cost in end.cheaper Q legal (omega (arith, cheaper, is));
       }))
 
-  pub certificate_kept : IsSound b → EndsWell limit b → verdict_of b ≢ Optimal → IsLow I C (certified_low (best_cost b) (verdict_of b)) → HasMoreMarks b C → IsKept (search_in b limit) C
+  pub certificate_kept : IsSound b → EndsWell limit b → verdict_of b ≢ Optimal → IsLow I C (certified_low (best_cost b) (verdict_of b)) → HasMoreMarks b C → IsKeptCertificate (search_in b limit) C
   certificate_kept sound well left lowest more =
       by_verdict (verdict_of b) left marks (book_ends b limit (verdict_of b) refl sound well) lowest
     where

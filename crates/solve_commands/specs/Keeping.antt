@@ -25,7 +25,7 @@ pub record SpendsTurns (k : Search) (C : OpenCertificate) : Type 0 where
   pub cheaper : (Q : Plan) → IsLegal k.instance Q → cost_of k.instance Q < C.cost → IsUnderSpent k.instance k.turns Q
 
 -- The certificate stands and costs at most the search's limit, its low is below its cost and no legal plan costs less than the low, and the nodes or the turns of the search were spent.
-pub record IsKept (k : Search) (C : OpenCertificate) : Type 0 where
+pub record IsKeptCertificate (k : Search) (C : OpenCertificate) : Type 0 where
   pub formed : IsWellFormedOpen C
   pub stands : Stands k.instance C
   pub cost : C.cost ≤ k.limit
@@ -37,7 +37,7 @@ pub record IsKept (k : Search) (C : OpenCertificate) : Type 0 where
 -- The open dossier of such a certificate is printed. It is read back as the same two.
 pub record PrintsKept (k : Search) (text : List ℕ) : Type 0 where
   pub certificate : OpenCertificate
-  pub kept : IsKept k certificate
+  pub kept : IsKeptCertificate k certificate
   pub shown : text ≡ open_dossier k.instance certificate
   pub reads : ReadsOpen text k.instance certificate
 

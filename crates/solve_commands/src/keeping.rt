@@ -4,7 +4,7 @@ ghost use Rattle.lock_model.specs.declared.verdict.Verdict.TheVariants.{Optimal}
 ghost use Rattle.book_rules.specs.Ends.{EndsWell};
 ghost use Rattle.book_rules.specs.Verdict.{verdict_of};
 ghost use Rattle.solve_commands.specs.Searching.{NoBest, AnswersSearch, search_in};
-ghost use Rattle.solve_commands.specs.Keeping.{IsKept, PrintsKept};
+ghost use Rattle.solve_commands.specs.Keeping.{IsKeptCertificate, PrintsKept};
 ghost use Rattle.run_answers.specs.Written.{bytes_in};
 
 use book_core::Book;
@@ -16,7 +16,7 @@ use std::alloc::Global;
 // The open dossier of the open certificate of a search.
 fn open_dossier_answer(alloc: Global, book: &Book, certificate: &OpenCertificate) -> Answer
     ghost limit: { ℕ }
-    requires { IsKept (search_in book.now limit) certificate.now }
+    requires { IsKeptCertificate (search_in book.now limit) certificate.now }
     ensures { AnswersSearch NoBest PrintsKept (search_in book.now limit) result.status (bytes_in result.text) }
 {
     match print_open(alloc, &book.case().instance, certificate) {

@@ -8,7 +8,7 @@ use Rattle.refute_rules.specs.Decided.{berth_in, x_in, HasOtherRank}
 use Rattle.refute_rules.specs.Known.{moor_host, host_of, host_and_more, hosts_within}
 use Rattle.case_search.specs.declared.berths.Berth.{Berth as Mooring}
 use Rattle.case_search.specs.Berths.{berth_of}
-use Rattle.spot_place.specs.OnWay.{berth_at, case_from, case_of, lying, LeadsTo}
+use Rattle.spot_place.specs.OnWay.{berth_at, case_from, case_of, lying, IsHostWithin}
 
 none-some : {X : Type 0} (x : X) → None ≡ Some x → ⊥
 none-some x e = cc
@@ -132,13 +132,13 @@ module _ (ms : List Mooring) (i : ℕ) where
 -- ---- chains of hosts
 
 module _ (case : List Choice) (i x : ℕ) where
-  pub leads-nowhere : (steps : ℕ) → steps ≡ 0 → LeadsTo case steps i x → ⊥
+  pub leads-nowhere : (steps : ℕ) → steps ≡ 0 → IsHostWithin case steps i x → ⊥
   leads-nowhere steps e h = go (subst (λ n. Contains (hosts_within case n i) x) e h.among)
     where
       go : Contains [] x → ⊥
       go h = omega (arith, h.1)
 
-  pub leads-quay : (steps : ℕ) → host_of (berth_in case i) ≡ None → LeadsTo case steps i x → ⊥
+  pub leads-quay : (steps : ℕ) → host_of (berth_in case i) ≡ None → IsHostWithin case steps i x → ⊥
   leads-quay zero e h = let g = h.among.1 in omega (arith, g)
   leads-quay (suc steps) e h = go (subst (λ o. Contains (host_and_more o (hosts_within case steps)) x) e h.among)
     where
@@ -146,21 +146,21 @@ module _ (case : List Choice) (i x : ℕ) where
       go h = omega (arith, h.1)
 
   module _ (steps k fewer : ℕ) (s : steps ≡ suc fewer) (host : host_of (berth_in case i) ≡ Some k) where
-    leads-host : Contains (k ∷ hosts_within case fewer k) x → LeadsTo case steps i x
+    leads-host : Contains (k ∷ hosts_within case fewer k) x → IsHostWithin case steps i x
     leads-host h = record { among = subst (λ n. Contains (hosts_within case n i) x) (sym s) (subst (λ o. Contains (host_and_more o (hosts_within case fewer)) x) (sym host) h) }
 
-    host-leads : LeadsTo case steps i x → Contains (k ∷ hosts_within case fewer k) x
+    host-leads : IsHostWithin case steps i x → Contains (k ∷ hosts_within case fewer k) x
     host-leads h = subst (λ o. Contains (host_and_more o (hosts_within case fewer)) x) host (subst (λ n. Contains (hosts_within case n i) x) s h.among)
 
-    pub leads-first : k ≡ x → LeadsTo case steps i x
+    pub leads-first : k ≡ x → IsHostWithin case steps i x
     leads-first e = leads-host (0, omega arith, e)
 
-    pub leads-later : LeadsTo case fewer k x → LeadsTo case steps i x
+    pub leads-later : IsHostWithin case fewer k x → IsHostWithin case steps i x
     leads-later h = let g = h.among.1 in leads-host (suc h.among.0, omega (arith, g), h.among.2)
 
-    pub leads-only_later : k ≢ x → LeadsTo case steps i x → LeadsTo case fewer k x
+    pub leads-only_later : k ≢ x → IsHostWithin case steps i x → IsHostWithin case fewer k x
     leads-only_later d h = tail (host-leads h)
       where
-        tail : Contains (k ∷ hosts_within case fewer k) x → LeadsTo case fewer k x
+        tail : Contains (k ∷ hosts_within case fewer k) x → IsHostWithin case fewer k x
         tail (zero, h, e) = absurd (d e)
         tail (suc n, h, e) = record { among = (n, omega (arith, h), e) }

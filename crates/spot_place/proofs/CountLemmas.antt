@@ -6,7 +6,8 @@ use Rattle.lock_model.specs.Ships.{RisesFrom}
 use Rattle.lock_model.specs.declared.deck.Size.{Size}
 use Rattle.lock_rules.specs.Bound.{least_number}
 use Rattle.refute_rules.specs.Values.{is_kept, shifts_of, values_after, spot_values}
-use Rattle.refute_rules.proofs.Among.{IsAmong, among-append}
+use Rattle.lock_rules.specs.Among.{IsAmong}
+use Rattle.refute_rules.proofs.Among.{among-append}
 use Rattle.deck_laws.proofs.MemberLemmas.{among-filter, among-rising, rising-rises}
 
 rises-few : (low n : ℕ) (xs : List ℕ) → low ≤ n → RisesFrom low xs → ((x : ℕ) → IsAmong xs x → x < n) → low + length xs ≤ n

@@ -14,7 +14,7 @@ use Rattle.case_search.specs.declared.berths.Berth.{Berth as Mooring}
 use Rattle.case_search.specs.Berths.{berth_of}
 use Rattle.spot_place.specs.OnWay.{berth_at, case_of, lying, IsKnownMoor, AreKnown}
 use Rattle.spot_place.specs.Heights.{height_at, AreHeights}
-use Rattle.spot_place.specs.SpotCase.{OnWay, case_on, IsOnWay, AreLevels, IsKept}
+use Rattle.spot_place.specs.SpotCase.{OnWay, case_on, IsOnWay, AreLevels, KeepsSpotCase}
 use Rattle.spot_place.proofs.CaseLemmas.{berth-hit, berth-miss, place-hit, place-miss, host_hit, host_miss, ship-of}
 use Rattle.spot_place.proofs.StepLemmas.{case-length, push-berth, push-place, pop-berth, pop-place, listed-more, listed-less}
 
@@ -65,7 +65,7 @@ host-in_deck d ms known i k e = elim (leb_tells (suc i) (length ms)) [
 
 -- ---- what is kept
 
-module _ (d : Deck) (values : List ℕ) (ms : List Mooring) (xs : List ℕ) (levels : List (List (Option ℤ))) (kept : IsKept d values ms xs levels) where
+module _ (d : Deck) (values : List ℕ) (ms : List Mooring) (xs : List ℕ) (levels : List (List (Option ℤ))) (kept : KeepsSpotCase d values ms xs levels) where
   known-more : (m : Mooring) → IsKnownMoor d m.moor → AreKnown d (ms ++ m ∷ [])
   known-more m known = record { each = each }
     where
@@ -105,7 +105,7 @@ module _ (d : Deck) (values : List ℕ) (ms : List Mooring) (xs : List ℕ) (lev
             | inr n ↦ old k (omega (arith, h, count, levelled, n.1))
           ]
 
-  moored : (m : Mooring) (heights : List (Option ℤ)) → length ms < length d.ships → length ms ≡ length xs → IsKnownMoor d m.moor → IsFaultless d (case_of ms xs) → AreHeights d (lying (ms ++ m ∷ [])) heights → IsKept d values (ms ++ m ∷ []) xs (levels ++ heights ∷ [])
+  moored : (m : Mooring) (heights : List (Option ℤ)) → length ms < length d.ships → length ms ≡ length xs → IsKnownMoor d m.moor → IsFaultless d (case_of ms xs) → AreHeights d (lying (ms ++ m ∷ [])) heights → KeepsSpotCase d values (ms ++ m ∷ []) xs (levels ++ heights ∷ [])
   moored m heights room step known good are =
       let count = length-push ms m in
       record {
@@ -121,7 +121,7 @@ module _ (d : Deck) (values : List ℕ) (ms : List Mooring) (xs : List ℕ) (lev
         known = levels-more m heights are;
       }
 
-  placed : (x : ℕ) → length ms ≡ suc (length xs) → IsFaultless d (case_of ms xs) → IsKept d values ms (xs ++ x ∷ []) levels
+  placed : (x : ℕ) → length ms ≡ suc (length xs) → IsFaultless d (case_of ms xs) → KeepsSpotCase d values ms (xs ++ x ∷ []) levels
   placed x step good =
       let count = length-push xs x in
       record {
@@ -137,7 +137,7 @@ module _ (d : Deck) (values : List ℕ) (ms : List Mooring) (xs : List ℕ) (lev
         known = kept.known;
       }
 
-  unmoored : (n : ℕ) → length ms ≡ suc n → length xs ≡ n → IsKept d values (take n ms) xs (take (suc n) levels)
+  unmoored : (n : ℕ) → length ms ≡ suc n → length xs ≡ n → KeepsSpotCase d values (take n ms) xs (take (suc n) levels)
   unmoored n berths places =
       let count = length-take-le n ms (omega (arith, berths)) in
       let long = case-length ms xs (omega (arith, berths, places)) in
@@ -162,7 +162,7 @@ module _ (d : Deck) (values : List ℕ) (ms : List Mooring) (xs : List ℕ) (lev
           subst (λ ns. AreHeights d (lying ns) (slice_index_or (take (suc n) levels) k [])) (sym (take-take k n ms few))
           (subst (AreHeights d (lying (take k ms))) (sym (take-at levels (suc n) k [] (omega (arith, few)))) (kept.known.each k (omega (arith, few, berths))))
 
-  unplaced : (n : ℕ) → length ms ≡ suc n → length xs ≡ suc n → IsKept d values ms (take n xs) levels
+  unplaced : (n : ℕ) → length ms ≡ suc n → length xs ≡ suc n → KeepsSpotCase d values ms (take n xs) levels
   unplaced n berths places =
       let count = length-take-le n xs (omega (arith, places)) in
       let long = case-length ms xs (omega (arith, berths, places)) in
@@ -192,17 +192,17 @@ module _ (d : Deck) (values : List ℕ) (ms : List Mooring) (xs : List ℕ) (lev
 
 -- ---- through what the type shows
 
-module _ (d : Deck) (values : List ℕ) (ms : List Mooring) (xs : List ℕ) (levels : List (List (Option ℤ))) (kept : IsKept d values ms xs levels) (s : OnWay) (shows : record { deck = d; berths = ms; places = xs } ≡ s) where
-  pub kept-moored : (m : Mooring) (more : List Mooring) (heights : List (Option ℤ)) (further : List (List (Option ℤ))) → length s.berths < length s.deck.ships → length s.berths ≡ length s.places → IsKnownMoor s.deck m.moor → IsFaultless s.deck (case_on s) → more ≡ ms ++ m ∷ [] → AreHeights d (lying more) heights → further ≡ levels ++ heights ∷ [] → IsKept d values more xs further
+module _ (d : Deck) (values : List ℕ) (ms : List Mooring) (xs : List ℕ) (levels : List (List (Option ℤ))) (kept : KeepsSpotCase d values ms xs levels) (s : OnWay) (shows : record { deck = d; berths = ms; places = xs } ≡ s) where
+  pub kept-moored : (m : Mooring) (more : List Mooring) (heights : List (Option ℤ)) (further : List (List (Option ℤ))) → length s.berths < length s.deck.ships → length s.berths ≡ length s.places → IsKnownMoor s.deck m.moor → IsFaultless s.deck (case_on s) → more ≡ ms ++ m ∷ [] → AreHeights d (lying more) heights → further ≡ levels ++ heights ∷ [] → KeepsSpotCase d values more xs further
   kept-moored m more heights further room step known good e are f =
-      subst (λ (u : OnWay). length u.berths < length u.deck.ships → length u.berths ≡ length u.places → IsKnownMoor u.deck m.moor → IsFaultless u.deck (case_on u) → IsKept d values more xs further) shows
-      (λ room step known good. subst (λ ns. IsKept d values ns xs further) (sym e) (subst (IsKept d values (ms ++ m ∷ []) xs) (sym f) (moored d values ms xs levels kept m heights room step known good (subst (λ ns. AreHeights d (lying ns) heights) e are))))
+      subst (λ (u : OnWay). length u.berths < length u.deck.ships → length u.berths ≡ length u.places → IsKnownMoor u.deck m.moor → IsFaultless u.deck (case_on u) → KeepsSpotCase d values more xs further) shows
+      (λ room step known good. subst (λ ns. KeepsSpotCase d values ns xs further) (sym e) (subst (KeepsSpotCase d values (ms ++ m ∷ []) xs) (sym f) (moored d values ms xs levels kept m heights room step known good (subst (λ ns. AreHeights d (lying ns) heights) e are))))
       room step known good
 
-  pub kept-placed : (x : ℕ) (more : List ℕ) → length s.berths ≡ suc (length s.places) → IsFaultless s.deck (case_on s) → more ≡ xs ++ x ∷ [] → IsKept d values ms more levels
+  pub kept-placed : (x : ℕ) (more : List ℕ) → length s.berths ≡ suc (length s.places) → IsFaultless s.deck (case_on s) → more ≡ xs ++ x ∷ [] → KeepsSpotCase d values ms more levels
   kept-placed x more step good e =
-      subst (λ (u : OnWay). length u.berths ≡ suc (length u.places) → IsFaultless u.deck (case_on u) → IsKept d values ms more levels) shows
-      (λ step good. subst (λ ys. IsKept d values ms ys levels) (sym e) (placed d values ms xs levels kept x step good))
+      subst (λ (u : OnWay). length u.berths ≡ suc (length u.places) → IsFaultless u.deck (case_on u) → KeepsSpotCase d values ms more levels) shows
+      (λ step good. subst (λ ys. KeepsSpotCase d values ms ys levels) (sym e) (placed d values ms xs levels kept x step good))
       step good
 
   pub kept-height : (level : List (Option ℤ)) (n i : ℕ) → n ≡ length ms → level ≡ slice_index_or levels n level → i < length s.deck.ships → height_at level i ≡ y_in s.deck (case_on s) i
@@ -211,17 +211,17 @@ module _ (d : Deck) (values : List ℕ) (ms : List Mooring) (xs : List ℕ) (lev
       (λ known. level-now d values ms xs levels kept level n i e is known)
       known
 
-  pub kept-unmoored : (n : ℕ) (fewer : List Mooring) (lower : List (List (Option ℤ))) → n ≡ length xs → length s.berths ≡ suc (length s.places) → fewer ≡ take n ms → lower ≡ take (n + 1) levels → IsKept d values fewer xs lower
+  pub kept-unmoored : (n : ℕ) (fewer : List Mooring) (lower : List (List (Option ℤ))) → n ≡ length xs → length s.berths ≡ suc (length s.places) → fewer ≡ take n ms → lower ≡ take (n + 1) levels → KeepsSpotCase d values fewer xs lower
   kept-unmoored n fewer lower a b e f =
       let next : n + 1 ≡ suc n = omega arith in
-      subst (λ (u : OnWay). length u.berths ≡ suc (length u.places) → IsKept d values fewer xs lower) shows
-      (λ b. subst (λ ns. IsKept d values ns xs lower) (sym e) (subst (IsKept d values (take n ms) xs) (sym (f ∙ ap (λ k. take k levels) next)) (unmoored d values ms xs levels kept n (b ∙ ap suc (sym a)) (sym a))))
+      subst (λ (u : OnWay). length u.berths ≡ suc (length u.places) → KeepsSpotCase d values fewer xs lower) shows
+      (λ b. subst (λ ns. KeepsSpotCase d values ns xs lower) (sym e) (subst (KeepsSpotCase d values (take n ms) xs) (sym (f ∙ ap (λ k. take k levels) next)) (unmoored d values ms xs levels kept n (b ∙ ap suc (sym a)) (sym a))))
       b
 
-  pub kept-unplaced : (n : ℕ) (fewer : List ℕ) → n ≡ length xs - 1 → 0 < length s.places → length s.berths ≡ length s.places → fewer ≡ take n xs → IsKept d values ms fewer levels
+  pub kept-unplaced : (n : ℕ) (fewer : List ℕ) → n ≡ length xs - 1 → 0 < length s.places → length s.berths ≡ length s.places → fewer ≡ take n xs → KeepsSpotCase d values ms fewer levels
   kept-unplaced n fewer a some b e =
-      subst (λ (u : OnWay). 0 < length u.places → length u.berths ≡ length u.places → IsKept d values ms fewer levels) shows
-      (λ some b. subst (λ ys. IsKept d values ms ys levels) (sym e) (unplaced d values ms xs levels kept n (omega (arith, a, b, some)) (omega (arith, a, some))))
+      subst (λ (u : OnWay). 0 < length u.places → length u.berths ≡ length u.places → KeepsSpotCase d values ms fewer levels) shows
+      (λ some b. subst (λ ys. KeepsSpotCase d values ms ys levels) (sym e) (unplaced d values ms xs levels kept n (omega (arith, a, b, some)) (omega (arith, a, some))))
       some b
 
   pub shown-way : IsOnWay s.deck s.berths s.places

@@ -8,7 +8,7 @@ use Rattle.lock_model.specs.declared.placement.Moor.TheVariants.{Quay, Ship}
 use Rattle.refute_rules.specs.Choices.{Choice, Berth}
 use Rattle.refute_rules.specs.Decided.{berth_in}
 use Rattle.refute_rules.specs.Known.{moor_host, host_of, host_and_more, hosts_within, quay_y, guest_y, moored_y, berth_y, y_within, y_in}
-use Rattle.refute_rules.proofs.Among.{IsAmong}
+use Rattle.lock_rules.specs.Among.{IsAmong}
 use Rattle.refute_rules.proofs.AnchorLemmas.{AreDistinct, few-distinct}
 use Rattle.spot_place.specs.OnWay.{HasKnownHosts}
 

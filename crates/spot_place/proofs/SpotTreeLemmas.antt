@@ -12,17 +12,17 @@ in_order-as Tree Other f [] marks rest h = h
 in_order-as Tree Other f (x ∷ xs) marks rest h = (h.0, f x marks h.0 h.1, in_order-as Tree Other f xs h.0 rest h.2)
 
 module _ (d : Deck) where
-  abbrev IsKept : List Choice → SpotFault → Type 0
-  IsKept case fault = IsSpotFault d case (fault_of fault)
+  abbrev IsKeptFault : List Choice → SpotFault → Type 0
+  IsKeptFault case fault = IsSpotFault d case (fault_of fault)
 
   abbrev kept_numbers : SpotFault → List ℕ
   kept_numbers fault = spot_fault_numbers (fault_of fault)
 
-  tree-as : (left : List Decision) (case : List Choice) (marks rest : List ℕ) → IsTree (options_of d) IsKept kept_numbers left case marks rest → IsTree (options_of d) (IsSpotFault d) spot_fault_numbers left case marks rest
+  tree-as : (left : List Decision) (case : List Choice) (marks rest : List ℕ) → IsTree (options_of d) IsKeptFault kept_numbers left case marks rest → IsTree (options_of d) (IsSpotFault d) spot_fault_numbers left case marks rest
   tree-as [] case marks rest h = (fault_of h.0, h.1, h.2)
   tree-as (next ∷ left) case marks rest (inl h) = inl (fault_of h.0, h.1, h.2)
   tree-as (next ∷ left) case marks rest (inr h) =
-      inr (h.0, h.1, in_order-as (λ choice. IsTree (options_of d) IsKept kept_numbers left (case ++ choice ∷ [])) (λ choice. IsTree (options_of d) (IsSpotFault d) spot_fault_numbers left (case ++ choice ∷ [])) (λ choice marks rest g. tree-as left (case ++ choice ∷ []) marks rest g) (options_of d next) h.0 rest h.2)
+      inr (h.0, h.1, in_order-as (λ choice. IsTree (options_of d) IsKeptFault kept_numbers left (case ++ choice ∷ [])) (λ choice. IsTree (options_of d) (IsSpotFault d) spot_fault_numbers left (case ++ choice ∷ [])) (λ choice marks rest g. tree-as left (case ++ choice ∷ []) marks rest g) (options_of d next) h.0 rest h.2)
 
-  pub spot_tree : (marks : List ℕ) → IsTree (options_of d) IsKept kept_numbers (spot_decisions (length d.ships)) [] marks [] → IsSpotTree d marks
+  pub spot_tree : (marks : List ℕ) → IsTree (options_of d) IsKeptFault kept_numbers (spot_decisions (length d.ships)) [] marks [] → IsSpotTree d marks
   spot_tree marks h = tree-as (spot_decisions (length d.ships)) [] marks [] h

@@ -2,7 +2,7 @@
 use Rattle.std.specs.Prelude.{Bool, true, false}
 use Rattle.std.proofs.Common.{subst}
 use Rattle.lock_model.specs.Deck.{Deck}
-use Rattle.case_search.specs.Rules.{AreLawful}
+use Rattle.case_search.specs.Rules.{AreSoundRules}
 use Rattle.spot_place.specs.Faults.{fault_of}
 use Rattle.spot_place.specs.Rules.{spot_rules}
 
@@ -10,7 +10,7 @@ abbrev Holds : Bool → Type 0
 Holds true = Unit {0}
 Holds false = ⊥
 
-pub spot-lawful : (d : Deck) → AreLawful (spot_rules d)
+pub spot-lawful : (d : Deck) → AreSoundRules (spot_rules d)
 spot-lawful d = record {
   faulty = λ case fault stands good. good (fault_of fault) stands;
   shorter = λ e case more good. absurd (subst Holds e tt);

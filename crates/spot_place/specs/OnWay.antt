@@ -41,12 +41,12 @@ pub record HasKnownHosts (d : Deck) (case : List Choice) : Type 0 where
   pub each : (i k : ℕ) → i < length d.ships → host_of (berth_in case i) ≡ Some k → k < length d.ships
 
 -- ship x is among the first hosts of ship i, counted towards the quay, at most so many
-pub record LeadsTo (case : List Choice) (steps i x : ℕ) : Type 0 where
+pub record IsHostWithin (case : List Choice) (steps i x : ℕ) : Type 0 where
   pub among : Contains (hosts_within case steps i) x
 
 -- the hosts of ship i, at most so many, lead back to it
 pub record IsBack (case : List Choice) (steps i : ℕ) : Type 0 where
-  pub round : LeadsTo case steps i i
+  pub round : IsHostWithin case steps i i
 
 -- none of the first n numbers has the property
 pub record NoneBelow (P : ℕ → Type 0) (n : ℕ) : Type 0 where

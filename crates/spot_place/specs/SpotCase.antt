@@ -32,7 +32,7 @@ pub record AreLevels (d : Deck) (berths : List Mooring) (levels : List (List (Op
   pub each : (k : ℕ) → k ≤ length berths → AreHeights d (lying (take k berths)) (slice_index_or levels k [])
 
 -- what the type keeps
-pub record IsKept (d : Deck) (values : List ℕ) (berths : List Mooring) (places : List ℕ) (levels : List (List (Option ℤ))) : Type 0 where
+pub record KeepsSpotCase (d : Deck) (values : List ℕ) (berths : List Mooring) (places : List ℕ) (levels : List (List (Option ℤ))) : Type 0 where
   pub limits : IsDeck d
   pub valued : values ≡ spot_values d
   pub way : IsOnWay d berths places

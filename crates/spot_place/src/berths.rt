@@ -2,7 +2,7 @@
 ghost use Rattle.std.specs.Prelude.{◌≡◌, ◌≢◌, ◌<◌, ◌≤◌, ◌↔◌, length, IsTrue, IfSome, IfNone};
 ghost use Rattle.refute_rules.specs.Decided.{berth_in, HasOtherRank};
 ghost use Rattle.refute_rules.specs.Known.{host_of};
-ghost use Rattle.spot_place.specs.OnWay.{lying, LeadsTo, IsBack, NoneBelow};
+ghost use Rattle.spot_place.specs.OnWay.{lying, IsHostWithin, IsBack, NoneBelow};
 
 use case_search::Berth;
 use lock_model::{Moor, Rank};
@@ -24,7 +24,7 @@ pub(crate) fn host_of(berths: &[Berth], ship: u8) -> Option<u8>
 
 /// Whether a ship is among the first hosts of another, counted towards the quay, at most so many.
 fn leads_to(berths: &[Berth], steps: u8, from: u8, to: u8) -> bool
-    ensures { IsTrue result ↔ LeadsTo (lying berths.now) steps from to }
+    ensures { IsTrue result ↔ IsHostWithin (lying berths.now) steps from to }
 {
     if steps == 0 {
         return false;

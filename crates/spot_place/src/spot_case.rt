@@ -29,13 +29,13 @@ pub(crate) struct SpotCase {
 }
 
 impl Model for SpotCase {
-    ghost use Rattle.spot_place.specs.SpotCase.{OnWay, IsKept};
+    ghost use Rattle.spot_place.specs.SpotCase.{OnWay, KeepsSpotCase};
 
     ghost Value = { OnWay };
 
     ghost view = { λ a. record { deck = a.deck; berths = a.berths.items; places = a.places.items } };
 
-    ghost invariant = { λ a. IsKept a.deck a.values a.berths.items a.places.items a.levels.items };
+    ghost invariant = { λ a. KeepsSpotCase a.deck a.values a.berths.items a.places.items a.levels.items };
 }
 
 impl SpotCase {

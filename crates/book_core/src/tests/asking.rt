@@ -1,10 +1,12 @@
-//! Events and replies as rows of a table.
+//! What books answer, as text.
 
 use super::super::*;
-use super::fixture::given;
-use book_rules::SlotState;
+use super::fixture::{both, one_after_the_other, row_cut};
+use super::parking::spent_both;
 use closing_rules::Ground;
+use std::alloc::Global;
 use std::process::Abort;
+use std::test::Fail;
 
 /// What is asked of a book.
 #[derive(Clone, Copy, Debug)]
@@ -13,46 +15,76 @@ pub(crate) enum Ask {
     Split(u32),
     Close(u32, Ground),
     Release(u8),
+    /// The cut of both ships in a chamber of this width.
+    Post(u32),
+    /// The slot is parked at this group of a chamber, whose deck is that of both ships.
+    Park(u32, u8, u8),
+    /// The plan of both ships side by side.
+    Both,
+    /// The plan of one ship from minute 0, and the other from this minute.
+    After(u32),
 }
 
 /// The reply of the book.
-pub(crate) fn reply_of(book: &mut Book, ask: Ask) -> Reply {
-    match ask {
-        Ask::Take(worker) if worker <= 8 => book.take(worker),
+pub(crate) fn reply_of(alloc: Global, book: &mut Book, ask: Ask) -> Result<Reply, Fail> {
+    Ok(match ask {
+        Ask::Take(worker) => book.take(worker.min(8)),
         Ask::Split(id) => book.split(id),
         Ask::Close(id, why) => book.close(id, why),
-        Ask::Release(worker) if worker <= 8 => book.release(worker),
-        _ => Reply::OtherDeck,
+        Ask::Release(worker) => book.release(worker.min(8)),
+        Ask::Post(width) => book.post(row_cut(alloc, width)?),
+        Ask::Park(id, chamber, place) => {
+            let hard = spent_both(alloc, book)?;
+            book.park(id, chamber, place, &hard)
+        }
+        Ask::Both => book.replace(both()),
+        Ask::After(start) => book.replace(one_after_the_other(start)),
+    })
+}
+
+// The reply as text; of a node the depth alone.
+fn text_of(alloc: Global, reply: Reply) -> Result<String, Fail> {
+    Ok(match reply {
+        Reply::Node(id, node) => format!(in alloc; "Node({id}, {})", node.depth())?,
+        Reply::NotLegal(_) => format!(in alloc; "NotLegal")?,
+        other => format!(in alloc; "{other:?}")?,
+    })
+}
+
+// The replies to these, one after the other.
+fn replies_to(alloc: Global, book: &mut Book, asks: &[Ask]) -> Result<String, Fail> {
+    let mut text = String::new(alloc);
+    for &ask in asks {
+        let reply = text_of(alloc, reply_of(alloc, book, ask)?)?;
+        text = format!(in alloc; "{text}{reply} ")?;
     }
+    Ok(text)
 }
 
-// One row of a table.
-fn expect(rt: &impl Abort, book: &mut Book, ask: Ask, wanted: &Reply) {
-    let reply = reply_of(book, ask);
-    assert_eq!(rt; &reply, wanted, "{ask:?}");
-}
-
-/// The book answers each row so, in this order.
-pub(crate) fn expect_replies(rt: &impl Abort, book: &mut Book, rows: &[(Ask, Reply)]) {
-    for (ask, wanted) in rows {
-        expect(rt, book, *ask, wanted);
+// The states of the slots, in order.
+fn states_of(alloc: Global, book: &Book) -> Result<String, Fail> {
+    let mut text = String::new(alloc);
+    for id in 0..book.slots() {
+        if let Some(state) = book.slot_state(id) {
+            text = format!(in alloc; "{text}{state:?} ")?;
+        }
     }
+    Ok(text)
 }
 
-/// The worker is given this slot, whose node has so many ships.
-pub(crate) fn expect_given(rt: &impl Abort, book: &mut Book, worker: u8, id: u32, depth: u8) {
-    let slot = given(reply_of(book, Ask::Take(worker)));
-    assert_eq!(rt; slot, Some((id, depth)));
-}
-
-/// The slot has this state.
-pub(crate) fn expect_state(rt: &impl Abort, book: &Book, id: u32, state: Option<SlotState>) {
-    assert_eq!(rt; book.slot_state(id), state);
-}
-
-/// Worker 0 takes the root, splits it, and takes its first child.
-pub(crate) fn go_to_first(rt: &impl Abort, book: &mut Book) {
-    expect_given(rt, book, 0, 0, 0);
-    expect(rt, book, Ask::Split(0), &Reply::Made(1));
-    expect_given(rt, book, 0, 1, 1);
+/// The replies to these, one after the other, are those of the text. Then so many events were
+/// accepted, and the slots have these states.
+pub(crate) fn expect(
+    rt: &impl Abort,
+    alloc: Global,
+    book: &mut Book,
+    asks: &[Ask],
+    replies: &str,
+    end: (u64, &str),
+) -> Result<(), Fail> {
+    let text = replies_to(alloc, book, asks)?;
+    assert_eq!(rt; text.as_str(), replies);
+    let states = states_of(alloc, book)?;
+    assert_eq!(rt; (book.history_len(), states.as_str()), end);
+    Ok(())
 }

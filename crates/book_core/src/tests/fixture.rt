@@ -178,27 +178,17 @@ pub(crate) fn open_cheap(alloc: Global, instance: Instance) -> Result<Book, Fail
     Ok(open_with(alloc, instance, 100, 128, both()).ok_or("no book")?)
 }
 
-/// The slot that was given, and the depth of its node.
-pub(crate) fn given(reply: Reply) -> Option<(u32, u8)> {
-    match reply {
-        Reply::Node(id, node) => Some((id, node.depth())),
-        _ => None,
-    }
-}
-
 /// The cut of both ships in a chamber of this width, by a row of them, if it is narrow enough; its
 /// deck is that of the narrow chamber else. None where there is no memory.
 pub(crate) fn try_cut(alloc: Global, width: u32) -> Option<Cut> {
+    let size = Size {
+        length: 1100,
+        width: 114,
+        cargo: 0,
+    };
     let mut sizes = Sizes::new();
-    for _ in 0..2 {
-        if sizes.as_slice().len() < 8 {
-            sizes.push(Size {
-                length: 1100,
-                width: 114,
-                cargo: 0,
-            });
-        }
-    }
+    sizes.push(size);
+    sizes.push(size);
     let measures = Measures {
         length: 2000,
         width: width.min(232),

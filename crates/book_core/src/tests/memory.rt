@@ -2,10 +2,7 @@
 //! --fail-alloc N` for each N.
 
 use super::super::*;
-use super::asking::{Ask, expect_given, expect_replies, expect_state, reply_of};
 use super::fixture::{both, narrow, open, open_for, row_cut, side_by_side, try_cut};
-use book_rules::SlotState;
-use closing_rules::Ground;
 use lock_model::Instance;
 use std::alloc::Global;
 use std::process::Abort;
@@ -31,14 +28,14 @@ fn opened(alloc: Global, first: Instance, again: Instance) -> Result<Book, Fail>
     open(alloc, again, 3)
 }
 
-// Slot 0 is split, where the first try may find no memory and changes nothing then.
+// Slot 0, which was taken, is split, where the first try may find no memory and changes nothing then.
 fn expect_split(rt: &impl Abort, book: &mut Book) {
     let before = told(book);
-    let mut reply = reply_of(book, Ask::Split(0));
+    let mut reply = book.split(0);
     if reply == Reply::NoMemory {
         assert_eq!(rt; told(book), before);
-        expect_state(rt, book, 0, Some(SlotState::Held(0)));
-        reply = reply_of(book, Ask::Split(0));
+        assert_eq!(rt; book.held_by(0), Some(0));
+        reply = book.split(0);
     }
     assert_eq!(rt; reply, Reply::Made(1));
 }
@@ -57,15 +54,11 @@ fn expect_replaced(rt: &impl Abort, book: &mut Book) {
 #[test]
 fn a_split_and_a_plan_wait_for_memory(rt: HostRuntime) -> Result<(), Fail> {
     let mut book = opened(rt.alloc(), side_by_side()?, side_by_side()?)?;
-    expect_given(&rt, &mut book, 0, 0, 0);
+    book.take(0);
     expect_split(&rt, &mut book);
-    expect_given(&rt, &mut book, 0, 1, 1);
+    book.take(0);
     expect_replaced(&rt, &mut book);
-    expect_replies(
-        &rt,
-        &mut book,
-        &[(Ask::Close(1, Ground::Probe(1)), Reply::Closed)],
-    );
+    assert_eq!(rt; book.close_probe(1, 1), Reply::Closed);
     Ok(())
 }
 

@@ -46,22 +46,22 @@ fn open_certificates_fail_first_at_one_place(rt: HostRuntime) -> Result<(), Fail
             (
                 "\"start\":50",
                 "\"start\":49",
-                Said::Fails(Spot2::Plan, Reason::PlanIllegal),
+                Said::Fails(FailurePlace::Plan, Reason::PlanIllegal),
             ),
             (
                 "\"cost\":120",
                 "\"cost\":121",
-                Said::Fails(Spot2::Cost, Reason::CostWrong),
+                Said::Fails(FailurePlace::Cost, Reason::CostWrong),
             ),
             (
                 "[],\"plan\"",
                 "[{\"chamber\":7,\"ships\":[0,1],\"why\":[1,0,1]}],\"plan\"",
-                Said::Fails(Spot2::Cut(0), Reason::CutShape),
+                Said::Fails(FailurePlace::Cut(0), Reason::CutShape),
             ),
             (
                 "[],\"plan\"",
                 "[{\"chamber\":0,\"ships\":[0,1],\"why\":[0]}],\"plan\"",
-                Said::Fails(Spot2::Cut(0), Reason::CutUnproved),
+                Said::Fails(FailurePlace::Cut(0), Reason::CutUnproved),
             ),
         ],
     )
@@ -76,32 +76,32 @@ fn open_marks_fail_first_at_one_mark(rt: HostRuntime) -> Result<(), Fail> {
             (
                 "[0,0,3,1,1]",
                 "[]",
-                Said::Fails(Spot2::Tree(0), Reason::TreeShort),
+                Said::Fails(FailurePlace::Tree(0), Reason::TreeShort),
             ),
             (
                 "[0,0,3,1,1]",
                 "[0,0,3,1]",
-                Said::Fails(Spot2::Tree(4), Reason::TreeShort),
+                Said::Fails(FailurePlace::Tree(4), Reason::TreeShort),
             ),
             (
                 "[0,0,3,1,1]",
                 "[3,3]",
-                Said::Fails(Spot2::Tree(1), Reason::TreeLong),
+                Said::Fails(FailurePlace::Tree(1), Reason::TreeLong),
             ),
             (
                 "[0,0,3,1,1]",
                 "[0,0,0,1,1]",
-                Said::Fails(Spot2::Tree(2), Reason::SplitFull),
+                Said::Fails(FailurePlace::Tree(2), Reason::SplitFull),
             ),
             (
                 "[0,0,3,1,1]",
                 "[0,0,1,1,1]",
-                Said::Fails(Spot2::Tree(2), Reason::BoundLow),
+                Said::Fails(FailurePlace::Tree(2), Reason::BoundLow),
             ),
             (
                 "[0,0,3,1,1]",
                 "[0,0,100,3,3]",
-                Said::Fails(Spot2::Tree(2), Reason::CutMisses),
+                Said::Fails(FailurePlace::Tree(2), Reason::CutMisses),
             ),
         ],
     )

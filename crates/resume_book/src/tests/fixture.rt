@@ -19,7 +19,7 @@ pub(crate) fn edited(alloc: Global, old: &str, new: &str) -> Result<String, Fail
 pub(crate) enum Said {
     Faulty(BadDossier),
     Stands(u64, u64, u64),
-    Fails(Spot2, Reason),
+    Fails(FailurePlace, Reason),
 }
 
 /// What is said of a text, unless memory is wanting.

@@ -1,13 +1,14 @@
 //! One event through the lock and by the method.
-ghost use Rattle.std.specs.Prelude.{◌≡◌};
+ghost use Rattle.std.specs.Prelude.{◌≡◌, IfOk};
 ghost use Rattle.search_book.specs.Events.{IsAllowed};
 
-use super::fixture::both;
-use crate::{Event, SharedBook};
+use super::ahead::{Way, go_ahead, went};
+use super::fixture::{both, row_cut};
+use super::parking::spent_both;
+use crate::{Event, Next, SharedBook};
 use book_core::{Book, Reply};
 use closing_rules::Ground;
-use lock_model::Plan;
-use place_refute::Cut;
+use std::alloc::Global;
 use std::process::Abort;
 use std::sync::Wait;
 use std::sync::ledger::{Ledger, Share};
@@ -23,105 +24,105 @@ pub(crate) enum Ask {
     TakeOther,
     Split(u32),
     Close(u32, Ground),
+    /// The cut of both ships in the narrow chamber.
+    Post,
+    /// The slot is parked at the first group of the first chamber.
+    Park(u32),
+    /// The plan of both ships side by side.
+    Replace,
     Release,
+    /// The slot is closed by its bound, and the next one is taken.
+    CloseAndTake(u32),
+    SplitAndTake(u32),
+    /// Nodes from the root on are handed over.
+    GoAhead(Way),
 }
 
-fn event_of(ask: Ask) -> Event
-    ensures { IsAllowed result }
+// The event of what is asked that is one event.
+fn event_of(alloc: Global, twin: &Book, ask: Ask) -> Result<Event, Fail>
+    ensures { IfOk result IsAllowed }
 {
-    match ask {
-        Ask::Wait | Ask::Take => Event::Take(0),
+    Ok(match ask {
         Ask::TakeOther => Event::Take(1),
-        Ask::Split(id) => Event::Split(id),
+        Ask::Split(id) | Ask::SplitAndTake(id) => Event::Split(id),
         Ask::Close(id, why) => Event::Close(id, why),
+        Ask::CloseAndTake(id) => Event::Close(id, Ground::Bound),
+        Ask::Post => Event::Post(Box::new(alloc, row_cut(alloc)?)?),
+        Ask::Park(id) => Event::Park(id, 0, 0, Box::new(alloc, spent_both(alloc, twin)?)?),
+        Ask::Replace => Event::Replace(Box::new(alloc, both())?),
         Ask::Release => Event::Release(0),
-    }
+        Ask::Wait | Ask::Take | Ask::GoAhead(_) => Event::Take(0),
+    })
 }
 
-// The reply of the method.
-fn direct(book: &mut Book, ask: Ask) -> Reply {
-    match ask {
+// The reply of the method, the last one of several.
+fn direct(alloc: Global, book: &mut Book, ask: Ask) -> Result<Reply, Fail> {
+    Ok(match ask {
         Ask::Wait | Ask::Take => book.take(0),
         Ask::TakeOther => book.take(1),
         Ask::Split(id) => book.split(id),
         Ask::Close(id, why) => book.close(id, why),
+        Ask::Post => book.post(row_cut(alloc)?),
+        Ask::Park(id) => {
+            let hard = spent_both(alloc, book)?;
+            book.park(id, 0, 0, &hard)
+        }
+        Ask::Replace => book.replace(both()),
         Ask::Release => book.release(0),
+        Ask::CloseAndTake(id) => book.close(id, Ground::Bound),
+        Ask::SplitAndTake(id) => {
+            book.split(id);
+            book.take(0)
+        }
+        Ask::GoAhead(way) => went(book, way),
+    })
+}
+
+// The reply of two events.
+fn last_of(next: Next) -> Reply {
+    match next {
+        Next::Refused(reply) | Next::Taken(reply) => reply,
     }
 }
 
-// The reply through the lock.
+// The reply through the lock, the last one of several.
 fn through<L: Ledger, R: Wait>(
     rt: &R,
+    alloc: Global,
     shared: &SharedBook<L>,
     mine: &mut Share<L>,
+    twin: &Book,
     ask: Ask,
-) -> Reply
+) -> Result<Reply, Fail>
     requires part { mine.old.parts ≡ 1 }
     ensures part { mine.new.parts ≡ 1 }
 {
-    if let Ask::Wait = ask {
-        return shared.take_or_wait(rt, mine, 0);
-    }
-    shared.with_book(rt, mine, event_of(ask))
+    let event = event_of(alloc, twin, ask)?;
+    Ok(match ask {
+        Ask::Wait => shared.take_or_wait(rt, mine, 0),
+        Ask::SplitAndTake(_) | Ask::CloseAndTake(_) => {
+            last_of(shared.end_and_take(rt, mine, 0, event, None))
+        }
+        Ask::GoAhead(way) => last_of(go_ahead(rt, alloc, shared, mine, way)?),
+        _ => shared.with_book(rt, mine, event),
+    })
 }
 
-/// The reply through the lock is this one.
-pub(crate) fn expect_reply<L: Ledger, R: Wait + Abort>(
-    rt: &R,
-    shared: &SharedBook<L>,
-    mine: &mut Share<L>,
-    ask: Ask,
-    wanted: Reply,
-)
-    requires part { mine.old.parts ≡ 1 }
-    ensures part { mine.new.parts ≡ 1 }
-{
-    let reply = through(rt, shared, mine, ask);
-    assert_eq!(rt; reply, wanted, "{ask:?}");
-}
-
-/// The reply through the lock is that of the method.
+/// The replies through the lock are those of the methods.
 pub(crate) fn expect_same<L: Ledger, R: Wait + Abort>(
     rt: &R,
+    alloc: Global,
     shared: &SharedBook<L>,
     mine: &mut Share<L>,
     twin: &mut Book,
-    ask: Ask,
-)
+    asks: &[Ask],
+) -> Result<(), Fail>
     requires part { mine.old.parts ≡ 1 }
     ensures part { mine.new.parts ≡ 1 }
 {
-    let wanted = direct(twin, ask);
-    expect_reply(rt, shared, mine, ask, wanted);
-}
-
-/// The same for two equal cuts that are posted.
-pub(crate) fn posts<L: Ledger, R: Wait + Abort>(
-    rt: &R,
-    shared: &SharedBook<L>,
-    mine: &mut Share<L>,
-    twin: &mut Book,
-    first: Box<Cut>,
-    second: Cut,
-)
-    requires part { mine.old.parts ≡ 1 }
-    ensures part { mine.new.parts ≡ 1 }
-{
-    let reply = shared.with_book(rt, mine, Event::Post(first));
-    assert_eq!(rt; reply, twin.post(second));
-}
-
-/// The same for the plan of both ships side by side.
-pub(crate) fn replaces<L: Ledger, R: Wait + Abort>(
-    rt: &R,
-    shared: &SharedBook<L>,
-    mine: &mut Share<L>,
-    twin: &mut Book,
-    plan: Box<Plan>,
-)
-    requires part { mine.old.parts ≡ 1 }
-    ensures part { mine.new.parts ≡ 1 }
-{
-    let reply = shared.with_book(rt, mine, Event::Replace(plan));
-    assert_eq!(rt; reply, twin.replace(both()));
+    for &ask in asks {
+        let reply = through(rt, alloc, shared, mine, twin, ask)?;
+        assert_eq!(rt; reply, direct(alloc, twin, ask)?, "{ask:?}");
+    }
+    Ok(())
 }

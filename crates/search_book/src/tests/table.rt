@@ -1,207 +1,19 @@
 //! The same events through the lock and by the methods.
 ghost use Rattle.std.specs.Prelude.{◌≡◌};
-ghost use Rattle.refute_rules.specs.Spots.{IsSpotHard};
 
-use super::asking::{Ask, expect_reply, expect_same, posts, replaces};
-use super::fixture::{both, narrow, open, open_cheap, row_cut, side_by_side, swift};
-use super::following::by_foreseen;
-use super::parking::spent_both;
+use super::ahead::Way;
+use super::asking::{Ask, expect_same};
+use super::fixture::{narrow, open, open_cheap, side_by_side, swift};
 use super::parts::{Part, give_back, take_part};
-use crate::{Event, SharedBook, share_book};
-use book_core::{Book, Reply};
+use crate::share_book;
+use book_core::Book;
 use closing_rules::Ground;
-use lock_model::Plan;
-use place_refute::Hard;
 use std::alloc::Global;
 use std::marker::Brand;
 use std::process::Abort;
 use std::sync::Wait;
-use std::sync::ledger::{Blank, Ledger, Share};
+use std::sync::ledger::{Blank, Ledger};
 use std::test::*;
-
-// Worker 0 takes the root, and not twice; it can't be closed.
-fn refusals<L: Ledger, R: Wait + Abort>(
-    rt: &R,
-    shared: &SharedBook<L>,
-    mine: &mut Share<L>,
-    twin: &mut Book,
-)
-    requires part { mine.old.parts ≡ 1 }
-    ensures part { mine.new.parts ≡ 1 }
-{
-    expect_same(rt, shared, mine, twin, Ask::Wait);
-    expect_same(rt, shared, mine, twin, Ask::Wait);
-    expect_same(rt, shared, mine, twin, Ask::TakeOther);
-    expect_same(rt, shared, mine, twin, Ask::Close(0, Ground::Bound));
-    expect_same(rt, shared, mine, twin, Ask::Close(0, Ground::Cut(0)));
-    expect_same(rt, shared, mine, twin, Ask::Close(0, Ground::Throughput));
-    expect_same(rt, shared, mine, twin, Ask::Close(0, Ground::Probe(1)));
-}
-
-// Worker 0 splits slot `id`, which it holds, and takes the next one.
-fn go_on<L: Ledger, R: Wait + Abort>(
-    rt: &R,
-    shared: &SharedBook<L>,
-    mine: &mut Share<L>,
-    twin: &mut Book,
-    id: u32,
-)
-    requires part { mine.old.parts ≡ 1 }
-    ensures part { mine.new.parts ≡ 1 }
-{
-    expect_same(rt, shared, mine, twin, Ask::Split(id));
-    expect_reply(rt, shared, mine, Ask::Split(id), Reply::NotHeld(id));
-    expect_same(rt, shared, mine, twin, Ask::Take);
-}
-
-// Worker 0 comes to the node of both ships in one group.
-fn go_to_both<L: Ledger, R: Wait + Abort>(
-    rt: &R,
-    shared: &SharedBook<L>,
-    mine: &mut Share<L>,
-    twin: &mut Book,
-)
-    requires part { mine.old.parts ≡ 1 }
-    ensures part { mine.new.parts ≡ 1 }
-{
-    refusals(rt, shared, mine, twin);
-    go_on(rt, shared, mine, twin, 0);
-    go_on(rt, shared, mine, twin, 1);
-}
-
-// The narrow chamber: the node of both ships in one group is closed by a cut, and worker 0 ends.
-fn by_cut<L: Ledger, R: Wait + Abort>(
-    rt: &R,
-    alloc: Global,
-    shared: &SharedBook<L>,
-    mine: &mut Share<L>,
-    twin: &mut Book,
-) -> Result<(), Fail>
-    requires part { mine.old.parts ≡ 1 }
-    ensures part { mine.new.parts ≡ 1 }
-{
-    let first = Box::new(alloc, row_cut(alloc)?)?;
-    let second = row_cut(alloc)?;
-    go_to_both(rt, shared, mine, twin);
-    expect_reply(rt, shared, mine, Ask::Split(2), Reply::Whole(2));
-    posts(rt, shared, mine, twin, first, second);
-    expect_same(rt, shared, mine, twin, Ask::Close(2, Ground::Cut(0)));
-    expect_same(rt, shared, mine, twin, Ask::Release);
-    expect_reply(rt, shared, mine, Ask::Wait, Reply::Ended(0));
-    assert_eq!(rt; twin.history_len(), 8);
-    Ok(())
-}
-
-// Slot 2 is parked for both.
-fn parks<L: Ledger, R: Wait + Abort>(
-    rt: &R,
-    shared: &SharedBook<L>,
-    mine: &mut Share<L>,
-    twin: &mut Book,
-    hard: Box<Hard>,
-)
-    requires part { mine.old.parts ≡ 1 }
-    requires hard { IsSpotHard hard.value.deck hard.value.turns }
-    ensures part { mine.new.parts ≡ 1 }
-{
-    let direct = twin.park(2, 0, 0, &*hard);
-    let through = shared.with_book(rt, mine, Event::Park(2, 0, 0, hard));
-    assert_eq!(rt; through, direct);
-}
-
-// The chamber of two ships side by side: a cheaper plan, a parked slot, and its bound.
-fn by_bound<L: Ledger, R: Wait + Abort>(
-    rt: &R,
-    shared: &SharedBook<L>,
-    mine: &mut Share<L>,
-    twin: &mut Book,
-    hard: Box<Hard>,
-    plan: Box<Plan>,
-)
-    requires part { mine.old.parts ≡ 1 }
-    requires hard { IsSpotHard hard.value.deck hard.value.turns }
-    ensures part { mine.new.parts ≡ 1 }
-{
-    go_to_both(rt, shared, mine, twin);
-    replaces(rt, shared, mine, twin, plan);
-    parks(rt, shared, mine, twin, hard);
-    expect_same(rt, shared, mine, twin, Ask::Close(2, Ground::Bound));
-    assert_eq!(rt; twin.history_len(), 8);
-}
-
-// The first child of the root is closed by the probe of ship 1.
-fn by_probe<L: Ledger, R: Wait + Abort>(
-    rt: &R,
-    shared: &SharedBook<L>,
-    mine: &mut Share<L>,
-    twin: &mut Book,
-)
-    requires part { mine.old.parts ≡ 1 }
-    ensures part { mine.new.parts ≡ 1 }
-{
-    expect_same(rt, shared, mine, twin, Ask::Wait);
-    go_on(rt, shared, mine, twin, 0);
-    expect_same(rt, shared, mine, twin, Ask::Close(1, Ground::Probe(1)));
-    assert_eq!(rt; twin.history_len(), 4);
-}
-
-// The root is closed by the throughput.
-fn by_throughput<L: Ledger, R: Wait + Abort>(
-    rt: &R,
-    shared: &SharedBook<L>,
-    mine: &mut Share<L>,
-    twin: &mut Book,
-)
-    requires part { mine.old.parts ≡ 1 }
-    ensures part { mine.new.parts ≡ 1 }
-{
-    expect_same(rt, shared, mine, twin, Ask::Wait);
-    expect_same(rt, shared, mine, twin, Ask::Close(0, Ground::Throughput));
-    assert_eq!(rt; twin.history_len(), 2);
-}
-
-// Which events are made.
-#[derive(Clone, Copy)]
-enum List {
-    ByCut,
-    ByBound,
-    ByProbe,
-    ByThroughput,
-    Foreseen,
-    ForeseenElsewhere,
-}
-
-fn make<L: Ledger, R: Wait + Abort>(
-    rt: &R,
-    alloc: Global,
-    shared: &SharedBook<L>,
-    mine: &mut Share<L>,
-    twin: &mut Book,
-    list: List,
-) -> Result<(), Fail>
-    requires part { mine.old.parts ≡ 1 }
-    ensures part { mine.new.parts ≡ 1 }
-{
-    match list {
-        List::ByCut => by_cut(rt, alloc, shared, mine, twin)?,
-        List::ByBound => {
-            let hard = Box::new(alloc, spent_both(alloc, twin)?)?;
-            let plan = Box::new(alloc, both())?;
-            by_bound(rt, shared, mine, twin, hard, plan);
-        }
-        List::ByProbe => by_probe(rt, shared, mine, twin),
-        List::ByThroughput => by_throughput(rt, shared, mine, twin),
-        List::Foreseen => {
-            let source = open(alloc, narrow()?, 128)?;
-            by_foreseen(rt, shared, mine, twin, &source);
-        }
-        List::ForeseenElsewhere => {
-            let source = open(alloc, swift()?, 128)?;
-            by_foreseen(rt, shared, mine, twin, &source);
-        }
-    }
-    Ok(())
-}
 
 // What is seen of a book but for its slots: events accepted, slots, nodes used, best cost, whether
 // there is a first cut, and whether worker 0 has ended.
@@ -216,22 +28,23 @@ fn told(book: &Book) -> (u64, u32, u32, u64, bool, bool) {
     )
 }
 
-// What both books tell is the same.
-fn expect_told(rt: &impl Abort, book: &Book, twin: &Book) {
+// What both books tell is the same, and so many events were accepted.
+fn expect_told(rt: &impl Abort, book: &Book, twin: &Book, events: u64) {
     assert_eq!(rt; told(book), told(twin));
+    assert_eq!(rt; book.history_len(), events);
     for id in 0..twin.slots() {
         assert_eq!(rt; book.slot_state(id), twin.slot_state(id));
     }
 }
 
-// The book that comes back from the lock, after the events.
+// The book that comes back from the lock, after worker 0 asked these.
 fn made<L: Ledger, R: Wait + Abort>(
     rt: &R,
     alloc: Global,
     blank: Blank,
     book: Book,
     twin: &mut Book,
-    list: List,
+    asks: &[Ask],
 ) -> Result<Book, Fail>
     requires name { blank.name ≡ L.name }
     requires parts { (blank.parts ≡ L.parts) × (blank.parts ≡ 2) }
@@ -240,77 +53,102 @@ fn made<L: Ledger, R: Wait + Abort>(
     let Some(Part { mut share, last }) = take_part(&mut shares) else {
         return Err("no share".into());
     };
-    make(rt, alloc, &shared, &mut share, twin, list)?;
+    expect_same(rt, alloc, &shared, &mut share, twin, asks)?;
     give_back(&mut shares, Part { share, last });
     Ok(shared.into_book(shares))
 }
 
-// The book that comes back is that of the methods.
-fn compare_of<L: Ledger, R: Wait + Abort>(
-    rt: &R,
-    alloc: Global,
-    blank: Blank,
-    book: Book,
-    twin: Book,
-    list: List,
-) -> Result<(), Fail>
-    requires name { blank.name ≡ L.name }
-    requires parts { (blank.parts ≡ L.parts) × (blank.parts ≡ 2) }
-{
-    let mut twin = twin;
-    let book = made::<L, R>(rt, alloc, blank, book, &mut twin, list)?;
-    expect_told(rt, &book, &twin);
-    Ok(())
-}
-
+// Two equal books, of which one is put under the lock: what comes back is that of the methods.
 fn compare<R: Wait + Abort>(
     rt: &R,
     alloc: Global,
-    book: Book,
-    twin: Book,
-    list: List,
+    books: (Book, Book),
+    asks: &[Ask],
+    events: u64,
 ) -> Result<(), Fail> {
-    compare_of::<Brand, R>(rt, alloc, Blank::new(2), book, twin, list)
+    let (book, mut twin) = books;
+    let book = made::<Brand, R>(rt, alloc, Blank::new(2), book, &mut twin, asks)?;
+    expect_told(rt, &book, &twin, events);
+    Ok(())
+}
+
+// Two books of the narrow chamber.
+fn two_narrow(alloc: Global) -> Result<(Book, Book), Fail> {
+    Ok((open(alloc, narrow()?, 128)?, open(alloc, narrow()?, 128)?))
 }
 
 #[test]
 fn a_cut_closes_through_the_lock(rt: HostRuntime) -> Result<(), Fail> {
-    let book = open(rt.alloc(), narrow()?, 128)?;
-    let twin = open(rt.alloc(), narrow()?, 128)?;
-    compare(&rt, rt.alloc(), book, twin, List::ByCut)
+    let asks = &[
+        Ask::Wait,
+        Ask::Wait,
+        Ask::TakeOther,
+        Ask::Close(0, Ground::Bound),
+        Ask::Close(0, Ground::Cut(0)),
+        Ask::Close(0, Ground::Throughput),
+        Ask::Close(0, Ground::Probe(1)),
+        Ask::CloseAndTake(0),
+        Ask::SplitAndTake(0),
+        Ask::Split(0),
+        Ask::Split(1),
+        Ask::Take,
+        Ask::Split(2),
+        Ask::Post,
+        Ask::Close(2, Ground::Cut(0)),
+        Ask::Release,
+        Ask::Wait,
+    ];
+    compare(&rt, rt.alloc(), two_narrow(rt.alloc())?, asks, 8)
 }
 
 #[test]
 fn a_bound_closes_a_parked_slot_through_the_lock(rt: HostRuntime) -> Result<(), Fail> {
+    let asks = &[
+        Ask::Wait,
+        Ask::Split(0),
+        Ask::Take,
+        Ask::Split(1),
+        Ask::Take,
+        Ask::Replace,
+        Ask::Park(2),
+        Ask::Close(2, Ground::Bound),
+    ];
     let book = open(rt.alloc(), side_by_side()?, 1)?;
     let twin = open(rt.alloc(), side_by_side()?, 1)?;
-    compare(&rt, rt.alloc(), book, twin, List::ByBound)
+    compare(&rt, rt.alloc(), (book, twin), asks, 8)
 }
 
 #[test]
 fn a_probe_closes_through_the_lock(rt: HostRuntime) -> Result<(), Fail> {
+    let asks = &[
+        Ask::Wait,
+        Ask::Split(0),
+        Ask::Take,
+        Ask::Close(1, Ground::Probe(1)),
+    ];
     let book = open_cheap(rt.alloc(), side_by_side()?)?;
     let twin = open_cheap(rt.alloc(), side_by_side()?)?;
-    compare(&rt, rt.alloc(), book, twin, List::ByProbe)
+    compare(&rt, rt.alloc(), (book, twin), asks, 4)
 }
 
 #[test]
 fn the_throughput_closes_through_the_lock(rt: HostRuntime) -> Result<(), Fail> {
+    let asks = &[Ask::Wait, Ask::Close(0, Ground::Throughput)];
     let book = open(rt.alloc(), swift()?, 128)?;
     let twin = open(rt.alloc(), swift()?, 128)?;
-    compare(&rt, rt.alloc(), book, twin, List::ByThroughput)
+    compare(&rt, rt.alloc(), (book, twin), asks, 2)
 }
 
 #[test]
-fn bounds_that_were_foreseen_change_no_reply(rt: HostRuntime) -> Result<(), Fail> {
-    let book = open(rt.alloc(), narrow()?, 128)?;
-    let twin = open(rt.alloc(), narrow()?, 128)?;
-    compare(&rt, rt.alloc(), book, twin, List::Foreseen)
-}
-
-#[test]
-fn bounds_of_another_instance_are_not_used(rt: HostRuntime) -> Result<(), Fail> {
-    let book = open(rt.alloc(), narrow()?, 128)?;
-    let twin = open(rt.alloc(), narrow()?, 128)?;
-    compare(&rt, rt.alloc(), book, twin, List::ForeseenElsewhere)
+fn nodes_ahead_are_the_same_events(rt: HostRuntime) -> Result<(), Fail> {
+    for (way, events) in [
+        (Way::Both, 5),
+        (Way::RootTwice, 3),
+        (Way::Probe, 1),
+        (Way::Swift, 5),
+    ] {
+        let asks = &[Ask::Take, Ask::GoAhead(way)];
+        compare(&rt, rt.alloc(), two_narrow(rt.alloc())?, asks, events)?;
+    }
+    Ok(())
 }

@@ -65,26 +65,6 @@ fn take_root<L: Ledger, R: Wait>(rt: &R, shared: &SharedBook<L>, part: Part<L>) 
     Part { share, last: None }
 }
 
-// Splits the root after a while.
-fn split_late<L: Ledger, R: Wait>(rt: &R, shared: &SharedBook<L>, part: Part<L>) -> Part<L> {
-    let Part { mut share, last: _ } = part;
-    for _ in 0..1000u32 {
-        yield_now();
-    }
-    shared.with_book(rt, &mut share, Event::Split(0));
-    Part { share, last: None }
-}
-
-// Lets the root go after a while: the worker ends, and then takes nothing.
-fn end_late<L: Ledger, R: Wait>(rt: &R, shared: &SharedBook<L>, part: Part<L>) -> Part<L> {
-    let Part { mut share, last: _ } = part;
-    for _ in 0..1000u32 {
-        yield_now();
-    }
-    shared.end_and_take(rt, &mut share, 0, Event::Release(0), None);
-    Part { share, last: None }
-}
-
 // Takes a slot, when there is one.
 fn take_one<L: Ledger, R: Wait>(rt: &R, shared: &SharedBook<L>, part: Part<L>) -> Part<L> {
     let Part { mut share, last: _ } = part;
@@ -95,18 +75,23 @@ fn take_one<L: Ledger, R: Wait>(rt: &R, shared: &SharedBook<L>, part: Part<L>) -
     Part { share, last }
 }
 
-// Splits the root or ends, after a while.
+// Splits the root after a while, or lets it go: the worker ends then, and takes nothing.
 fn late<L: Ledger, R: Wait>(
     rt: &R,
     shared: &SharedBook<L>,
     part: Part<L>,
     splits: bool,
 ) -> Part<L> {
-    if splits {
-        split_late(rt, shared, part)
-    } else {
-        end_late(rt, shared, part)
+    let Part { mut share, last } = part;
+    for _ in 0..1000u32 {
+        yield_now();
     }
+    if splits {
+        shared.with_book(rt, &mut share, Event::Split(0));
+    } else {
+        shared.end_and_take(rt, &mut share, 0, Event::Release(0), None);
+    }
+    Part { share, last }
 }
 
 // Worker 0 holds the root, and splits it or ends while worker 1 waits. The slot that worker 1 gets,

@@ -1,7 +1,7 @@
 use Rattle.std.proofs.Common.{◌-◌, ◌*◌, ◌+◌, ◌≤◌}
 use Rattle.book_rules.specs.Book.{slot_at}
 use Rattle.book_rules.specs.Family.{child_count}
-use Rattle.book_certificate.specs.Writing.{lacking_at, AreWritten}
+use Rattle.book_certificate.specs.Writing.{lacking_at, AppendsChildMarks}
 use Rattle.book_certificate.proofs.marks.+tree.Given as goal
 
 abbrev pub decreases-write_slot : goal.decreases-write_slot
@@ -14,5 +14,5 @@ abbrev pub invariant-write_split-loop-child : goal.invariant-write_split-loop-ch
 invariant-write_split-loop-child l = record {
   low : l.first ≤ l.child;
   high : l.child ≤ l.first + child_count l.book.case.instance (slot_at l.book l.id).node;
-  written : AreWritten l.book l.id l.first (l.child - l.first) l.initial.marks l.marks;
+  written : AppendsChildMarks l.book l.id l.first (l.child - l.first) l.initial.marks l.marks;
 }

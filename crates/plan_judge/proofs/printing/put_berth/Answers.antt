@@ -3,7 +3,8 @@ use Rattle.std.proofs.lemmas.List.{get_or_default}
 use Rattle.std.proofs.lemmas.Result.{IfOk-equal}
 use Rattle.lock_model.specs.Fleet.{no_ship, ship_at}
 use Rattle.lock_model.specs.declared.ship.Ship.{Ship}
-use Rattle.plan_judge.specs.Printing.{berth_words, rank_word, host_word}
+use Rattle.plan_judge.specs.Printing.{berth_words, host_word}
+use Rattle.plan_print.specs.Words.{rank_word}
 use Rattle.plan_judge.proofs.PrintLemmas.{berth_line}
 use Rattle.plan_judge.proofs.printing.put_berth.Goals as goal
 

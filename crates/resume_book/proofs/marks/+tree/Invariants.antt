@@ -2,7 +2,7 @@ use Rattle.std.proofs.Common.{◌-◌, ◌*◌, ◌+◌, ◌≤◌}
 use Rattle.book_rules.specs.Book.{slot_at}
 use Rattle.book_rules.specs.Family.{child_count}
 use Rattle.book_certificate.specs.Writing.{lacking_at}
-use Rattle.resume_book.specs.Writing.{AreWritten}
+use Rattle.resume_book.specs.Writing.{AppendsOpenChildMarks}
 use Rattle.resume_book.proofs.marks.+tree.Given as goal
 
 abbrev pub decreases-write_slot : goal.decreases-write_slot
@@ -15,5 +15,5 @@ abbrev pub invariant-write_split-loop-child : goal.invariant-write_split-loop-ch
 invariant-write_split-loop-child l = record {
   low : l.first ≤ l.child;
   high : l.child ≤ l.first + child_count l.book.case.instance (slot_at l.book l.id).node;
-  written : AreWritten l.book l.id l.first (l.child - l.first) l.initial.marks l.marks;
+  written : AppendsOpenChildMarks l.book l.id l.first (l.child - l.first) l.initial.marks l.marks;
 }

@@ -1,9 +1,8 @@
-use Rattle.std.proofs.Common.{sym, ◌∙◌}
-use Rattle.book_core.proofs.EventLemmas.{take-ended, take-holds}
+use Rattle.book_core.proofs.EventLemmas.{grants-answers, grants-node}
 use Rattle.book_core.proofs.book.Book.take.Goals as goal
 
-pub returns-then-ended-clause-step : goal.returns-then-ended-clause-step
-returns-then-ended-clause-step c = take-ended c.args.self.now c.args.worker (sym c.ended.ensures ∙ c.if-ended.true)
+pub returns-clause-step : goal.returns-clause-step
+returns-clause-step c = grants-answers c.args.self.now c.args.worker c.take_slot-grant.result c.take_slot-grant.new.self c.take_slot-grant.ensures.step c.grant_reply.result c.grant_reply.ensures.told
 
-pub returns-in-Some-clause-step : goal.returns-in-Some-clause-step
-returns-in-Some-clause-step c = take-holds c.args.self.now c.args.worker c.in-Some.id (sym c.ended.ensures ∙ c.if-ended.false) (sym c.held_by.ensures ∙ c.in-Some.is)
+pub returns-clause-node : goal.returns-clause-node
+returns-clause-node c = grants-node c.args.self.now c.args.worker c.take_slot-grant.result c.take_slot-grant.new.self c.take_slot-grant.ensures.step c.grant_reply.result c.grant_reply.ensures.node

@@ -1,8 +1,6 @@
-use Rattle.std.proofs.Common.{◌+◌, sym, ap, ◌∙◌, subst, arith}
-use Rattle.master_branch.specs.Node.{IsNodeOf}
-use Rattle.book_core.specs.Nodes.{tree_node}
-use Rattle.book_core.proofs.EventLemmas.{take-spent, fresh-given, is-new, given-sound, given-answers}
-use Rattle.book_core.proofs.HandOverLemmas.{given-held, given-node, given-good}
+use Rattle.std.proofs.Common.{◌+◌, sym, ◌∙◌, arith}
+use Rattle.book_core.proofs.EventLemmas.{take-spent, fresh-given, is-new, given-sound, given-grants}
+use Rattle.book_core.proofs.HandOverLemmas.{given-held, given-node}
 use Rattle.book_core.proofs.book.Book.take_fresh.Goals as goal
 
 pub returns-then-used-nodes-clause-step : goal.returns-then-used-nodes-clause-step
@@ -24,13 +22,8 @@ returns-clause-step c =
     let b = c.args.self.now in
     let used = c.used-used.ensures in
     let same = fresh-given b c.args.worker c.args.id c.used-used.result used c.requires.running c.requires.empty c.requires.back c.requires.next (λ e. c.if-used-nodes.false (e ∙ sym c.nodes.ensures)) (c.used-used.result + 1) (omega arith) in
-    given-answers b c.args.worker c.requires.sound c.requires.known c.args.id (c.used-used.result + 1) same c.copy.result c.give.new.self
-    (ap tree_node c.copy.ensures ∙ given-node b c.args.id c.args.worker (c.used-used.result + 1) (is-new b c.args.worker c.args.id c.requires.back c.requires.next) c.give.new.self c.give.ensures c.held_node.result.now c.held_node.ensures.value) c.give.ensures
+    given-grants b c.args.worker c.requires.sound c.requires.known c.args.id (c.used-used.result + 1) same c.give.new.self
+    (given-node b c.args.id c.args.worker (c.used-used.result + 1) (is-new b c.args.worker c.args.id c.requires.back c.requires.next) c.give.new.self c.give.ensures) c.give.ensures
 
-pub held_node-requires : goal.held_node-requires
-held_node-requires c = let b = c.args.self.now in given-held b c.args.id c.args.worker (c.used-used.result + 1) (is-new b c.args.worker c.args.id c.requires.back c.requires.next) c.give.new.self c.give.ensures
-
-pub returns-clause-node : goal.returns-clause-node
-returns-clause-node c =
-    let b = c.args.self.now in
-    subst (IsNodeOf b.case.instance) (sym c.copy.ensures) (given-good b c.args.id c.args.worker (c.used-used.result + 1) (is-new b c.args.worker c.args.id c.requires.back c.requires.next) c.give.new.self c.give.ensures c.held_node.result.now c.held_node.ensures.node)
+pub returns-clause-held : goal.returns-clause-held
+returns-clause-held c = let b = c.args.self.now in given-held b c.args.id c.args.worker (c.used-used.result + 1) (is-new b c.args.worker c.args.id c.requires.back c.requires.next) c.give.new.self c.give.ensures

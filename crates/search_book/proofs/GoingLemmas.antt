@@ -1,0 +1,146 @@
+-- Takings, and nodes that were worked out ahead.
+use Rattle.std.proofs.Common.{◌≡◌, ◌<◌, ℕ, zero, suc, ◌+◌, List, [], ◌∷◌, ◌++◌, length, length-append, refl, sym, ap, ◌∙◌, subst, arith, Bool, true, false, cond, Some, None, inl, inr}
+use Rattle.std.specs.declared.option.Option.{Option}
+use Rattle.mooring_rules.specs.declared.breaks.BrokenPlan.{BrokenPlan}
+use Rattle.master_branch.specs.Node.{Node, IsNodeOf}
+use Rattle.book_rules.specs.Book.{Book, Case, slot_at}
+use Rattle.book_rules.specs.Events as machine
+use Rattle.book_rules.specs.Step.{step}
+use Rattle.book_rules.proofs.StepLemmas.{entry_of, IsStep, Refused, Accepted, each-step}
+use Rattle.book_core.specs.Nodes.{tree_node}
+use Rattle.book_core.specs.declared.reply.Grant.{Grant}
+use Rattle.book_core.specs.declared.reply.Grant.TheVariants as grant
+use Rattle.book_core.specs.declared.reply.Reply.{Reply}
+use Rattle.book_core.specs.declared.reply.Reply.TheVariants as reply
+use Rattle.book_core.specs.Replies.{Answers, Grants, HasNode, IsInHand, grant_told, told}
+use Rattle.search_book.specs.declared.ahead.Ahead.{Ahead}
+use Rattle.search_book.specs.declared.event.Event.{Event}
+use Rattle.search_book.specs.declared.gone.Gone.{Gone}
+use Rattle.search_book.specs.declared.next.Next.{Next}
+use Rattle.search_book.specs.declared.next.Next.TheVariants as next
+use Rattle.search_book.specs.Applied.{Applies, Takes}
+use Rattle.search_book.specs.Following.{Follows, IsFollowed}
+use Rattle.search_book.specs.Going.{GoesAhead, IsNextAhead, IsStop, Passes, ending_of}
+use Rattle.search_book.specs.Granting.{IsAstray, IsFirstAt, IsHeldAt, granted}
+use Rattle.search_book.specs.Replies.{is_accepted, accepted}
+use Rattle.search_book.proofs.ApplyLemmas.{is_accepting, accepted-by}
+
+-- ---- a taking
+
+counts-by : (b : Book) (g : Grant) → granted g ≡ cond (machine.is_accepted (grant_told b g)) 1 0
+counts-by b (grant.Slot id) = refl
+counts-by b (grant.Ended w) = refl
+counts-by b (grant.Holds id) = refl
+counts-by b (grant.NodesSpent used) = refl
+counts-by b grant.Idle = refl
+counts-by b grant.Done = refl
+
+pub record CountsGrant (old : Book) (g : Grant) (new : Book) : Type 0 where
+  pub count : length new.history ≡ length old.history + granted g
+  pub case : new.case ≡ old.case
+
+pub grants-count : (old : Book) (w : ℕ) (g : Grant) (new : Book) → Grants old w g new → CountsGrant old g new
+grants-count old w g new grants =
+    elim (subst (IsStep old (machine.take w)) grants.same (each-step (λ _ _. grants.found) old (machine.take w))) [
+      | Refused said same ↦
+          let none : granted g ≡ 0 = counts-by new g ∙ ap (λ t. cond t 1 0) said in
+          let long = ap (λ (b : Book). length b.history) same in
+          record { count = omega (arith, none, long); case = ap (λ (b : Book). b.case) same }
+      | Accepted done ↦
+          let one_more : granted g ≡ 1 = counts-by new g ∙ ap (λ t. cond t 1 0) done.accepted in
+          let long = ap length done.history ∙ length-append old.history (entry_of (machine.take w) ∷ []) in
+          record { count = omega (arith, one_more, long); case = done.case }
+    ]
+
+-- a reply that tells what came of a taking is its reply
+pub grants-takes : (old : Book) (w : ℕ) (g : Grant) (new : Book) (r : Reply) → Grants old w g new → told r ≡ Some (grant_told new g) → HasNode new.case.instance r → Takes old w r new
+grants-takes old w g new r grants said node = record {
+  step = record { found = grants.found; judged = tt; answer = grant_told new g; said = said; same = grants.same };
+  node = subst (λ (c : Case). HasNode c.instance r) (grants-count old w g new grants).case node;
+}
+
+told-slot : (new : Book) (id : ℕ) (node : Node) → tree_node node ≡ (slot_at new id).node → told (reply.Node id node) ≡ Some (grant_told new (grant.Slot id))
+told-slot new id node same = ap (λ n. Some (machine.Node id n)) same
+
+-- a slot was given whose node is known
+pub takes-slot : (old : Book) (w id : ℕ) (new : Book) (node : Node) → Grants old w (grant.Slot id) new → IsHeldAt new id node → Takes old w (reply.Node id node) new
+takes-slot old w id new node grants is = grants-takes old w (grant.Slot id) new (reply.Node id node) grants (told-slot new id node is.same) is.node
+
+-- ---- an event and a taking
+
+pub passes : (old : Book) (e : Event) (ended : Reply) (between : Book) → Applies old e ended between → is_accepted ended ≡ true
+    → (w id : ℕ) (rest : List Ahead) (new : Book) → Grants between w (grant.Slot id) new → IsFirstAt new id rest → Passes old e w rest id new
+passes old e ended between step said w id [] new grants is = is
+passes old e ended between step said w id (a ∷ rest) new grants is =
+    record { ended = ended; between = between; step = step; accepted = said; taken = takes-slot between w id new a.foreseen.node grants is }
+
+-- the slot and the node of a reply to a taking
+record IsSlot (b : Book) (g : Grant) (id : ℕ) (node : Node) : Type 0 where
+  is : g ≡ grant.Slot id
+  same : tree_node node ≡ (slot_at b id).node
+
+some-same : {X : Type 0} (a b : X) → Some a ≡ Some b → a ≡ b
+some-same a b e = cc
+
+slot-of : (b : Book) (g : Grant) (id : ℕ) (node : Node) → machine.Node id (tree_node node) ≡ grant_told b g → IsSlot b g id node
+slot-of b (grant.Slot k) id node e =
+    let own : id ≡ k = first e in
+    record { is = ap grant.Slot (sym own); same = second e ∙ ap (λ i. (slot_at b i).node) (sym own) }
+  where
+    first : machine.Node {Break = BrokenPlan} id (tree_node node) ≡ machine.Node k (slot_at b k).node → id ≡ k
+    first h = cc
+
+    second : machine.Node {Break = BrokenPlan} id (tree_node node) ≡ machine.Node k (slot_at b k).node → tree_node node ≡ (slot_at b k).node
+    second h = cc
+slot-of b (grant.Ended k) id node e = cc
+slot-of b (grant.Holds k) id node e = cc
+slot-of b (grant.NodesSpent k) id node e = cc
+slot-of b grant.Idle id node e = cc
+slot-of b grant.Done id node e = cc
+
+held-by-grant : (b : Book) (g : Grant) (id : ℕ) (node : Node) → IsInHand b g → IsNodeOf b.case.instance node → IsSlot b g id node → IsHeldAt b id node
+held-by-grant b g id node held is slot = record { held = subst (IsInHand b) slot.is held; same = slot.same; node = is }
+
+-- a taking that gave no slot of the next node has a reply without it
+off-way : (b : Book) (g : Grant) (rest : List Ahead) → IsAstray b g rest → IsInHand b g → (r : Reply) → told r ≡ Some (grant_told b g) → HasNode b.case.instance r → IsNextAhead (next.Taken r) rest → ⊥
+off-way b g (a ∷ rest) astray held (reply.Node id node) said is same =
+    let slot = slot-of b g id node (some-same (machine.Node id (tree_node node)) (grant_told b g) said) in
+    astray.off id slot.is (subst (IsHeldAt b id) same (held-by-grant b g id node held is slot))
+off-way b g rest astray held r said is same = same
+
+pub stops : (old : Book) (e : Event) (ended : Reply) (between : Book) → Applies old e ended between → is_accepted ended ≡ true
+    → (w : ℕ) (g : Grant) (rest : List Ahead) (new : Book) → Grants between w g new → IsInHand new g → IsAstray new g rest
+    → (r : Reply) → told r ≡ Some (grant_told new g) → HasNode new.case.instance r → IsStop old e w rest (next.Taken r) new
+stops old e ended between step said w g rest new grants held astray r tells node = record {
+  step = record { ended = ended; between = between; step = step; accepted = said; taken = grants-takes between w g new r grants tells node };
+  off = off-way new g rest astray held r tells node;
+}
+
+-- and counts as much
+pub reply-counts : (b : Book) (g : Grant) (r : Reply) → told r ≡ Some (grant_told b g) → accepted r ≡ granted g
+reply-counts b g r said = ap (λ t. cond t 1 0) (sym (accepted-by r) ∙ ap is_accepting said) ∙ sym (counts-by b g)
+
+-- ---- a stretch of nodes
+
+-- what comes of the nodes that are left, from here on, comes of all of them
+pub record Went (w : ℕ) (old : Book) (id : ℕ) (all : List Ahead) (b : Book) (held : ℕ) (left : List Ahead) (place : ℕ) : Type 0 where
+  pub goes : (k : ℕ) (gone : Gone) (end : Book) → GoesAhead w b held left k gone end → GoesAhead w old id all (place + k) gone end
+
+pub went-start : (w : ℕ) (old : Book) (id : ℕ) (all : List Ahead) → Went w old id all old id all 0
+went-start w old id all = record { goes = λ k gone end h. subst (λ n. GoesAhead w old id all n gone end) (omega arith) h }
+
+pub went-on : (w : ℕ) (old : Book) (id : ℕ) (all : List Ahead) (b : Book) (held : ℕ) (one : Ahead) (rest : List Ahead) (place : ℕ) → Went w old id all b held (one ∷ rest) place
+    → (taken : ℕ) (new : Book) → Passes b (ending_of held one.ending) w rest taken new → Went w old id all new taken rest (place + 1)
+went-on w old id all b held one rest place went taken new passes = record {
+  goes = λ k gone end h. subst (λ n. GoesAhead w old id all n gone end) (omega arith) (went.goes (suc k) gone end (taken, new, passes, h));
+}
+
+pub went-all : (w : ℕ) (old : Book) (id : ℕ) (all : List Ahead) (b : Book) (held : ℕ) (one : Ahead) (rest : List Ahead) (place : ℕ) → Went w old id all b held (one ∷ rest) place
+    → (gone : Gone) (end : Book) → gone.id ≡ held → IsStop b (ending_of held one.ending) w rest gone.next end → GoesAhead w old id all place gone end
+went-all w old id all b held one rest place went gone end here stop =
+    subst (λ n. GoesAhead w old id all n gone end) (omega arith) (went.goes 0 gone end (here, stop))
+
+-- the slot that was taken has the first node of those that are left, so that there is one
+pub some-left : (b : Book) (id : ℕ) (left : List Ahead) → IsFirstAt b id left → 0 < length left
+some-left b id [] is = absurd is
+some-left b id (a ∷ rest) is = omega arith

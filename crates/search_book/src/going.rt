@@ -1,0 +1,160 @@
+//! Nodes that were worked out ahead are handed to a book, as many as it comes to.
+ghost use Rattle.std.specs.Prelude.{◌≡◌, ◌+◌, ◌<◌, ◌≤◌, length, IfOk, IfErr, IfSome, IfNone};
+ghost use Rattle.std.specs.Bool.{OnTrue};
+ghost use Rattle.book_core.specs.declared.reply.Grant.TheVariants as grant;
+ghost use Rattle.book_rules.specs.Book.{slot_at};
+ghost use Rattle.book_core.specs.Nodes.{tree_node};
+ghost use Rattle.book_core.specs.Replies.{Grants, IsInHand};
+ghost use Rattle.search_book.specs.Events.{IsAllowed};
+ghost use Rattle.search_book.specs.Going.{GoesAhead, IsStop, Passes, ending_of, gone_count};
+ghost use Rattle.search_book.specs.Granting.{IsAstray, IsFirstAt, granted, passed};
+
+use crate::ahead::{Ahead, Ending, Stretch};
+use crate::applying::{apply, is_at};
+use crate::event::Event;
+use crate::gone::Gone;
+use crate::kept::Kept;
+use crate::next::Next;
+use crate::replies::is_accepted;
+use book_core::{Book, Grant};
+use closing_rules::Ground;
+use std::sync::ledger::{Ledger, Share};
+
+// The event by which a slot ends.
+fn ending_of(id: u32, ending: Ending) -> Event
+    ensures value { result ≡ ending_of id ending }
+    ensures allowed { IsAllowed result }
+{
+    match ending {
+        Ending::Split => Event::Split(id),
+        Ending::Probe(ship) => Event::Close(id, Ground::Probe(ship)),
+    }
+}
+
+// Makes `Take` as `apply` does, but that the node of a slot that is given stays in the book.
+fn take_slot<L: Ledger>(kept: &mut Kept<L>, share: &mut Share<L>, worker: u8) -> Grant
+    requires part { 0 < share.old.parts }
+    requires worker { worker ≤ 8 }
+    ensures step { Grants kept.old.book worker result kept.new.book }
+    ensures held { IsInHand kept.new.book result }
+    ensures case { kept.new.book.case ≡ kept.old.book.case }
+    ensures total { kept.new.tally.total ≡ kept.old.tally.total + granted result }
+    ensures amount { share.new.amount ≡ share.old.amount + granted result }
+    ensures parts { share.new.parts ≡ share.old.parts }
+{
+    let grant = kept.book.take_slot(worker);
+    if let Grant::Slot(_) = grant {
+        kept.tally.add(share, 1);
+    }
+    grant
+}
+
+// The slot that was given, where it has the node that is next ahead.
+fn on_the_way(book: &Book, grant: Grant, rest: &[Ahead<'_>]) -> Option<u32>
+    ensures some { IfSome result (λ id. (grant ≡ grant.Slot id) × IsFirstAt book.now id rest.now) }
+    ensures none { IfNone result (IsAstray book.now grant rest.now) }
+{
+    match grant {
+        Grant::Slot(id) => match rest {
+            [next, ..] if is_at(book, id, &next.foreseen.node) => Some(id),
+            _ => None,
+        },
+        _ => None,
+    }
+}
+
+// The slot in the worker's hand ends by an event, and the worker takes the next one: that one, where
+// it has the node that is next ahead, else what came of both.
+fn pass<L: Ledger>(
+    kept: &mut Kept<L>,
+    share: &mut Share<L>,
+    worker: u8,
+    ending: Event,
+    rest: &[Ahead<'_>],
+) -> Result<u32, Next>
+    requires part { 0 < share.old.parts }
+    requires worker { worker ≤ 8 }
+    requires allowed { IsAllowed ending }
+    ensures on { IfOk result (λ taken. Passes kept.old.book ending worker rest.now taken kept.new.book) }
+    ensures node { IfOk result (λ taken. IsFirstAt kept.new.book taken rest.now) }
+    ensures off { IfErr result (λ next. IsStop kept.old.book ending worker rest.now next kept.new.book) }
+    ensures case { kept.new.book.case ≡ kept.old.book.case }
+    ensures total { kept.new.tally.total ≡ kept.old.tally.total + passed result }
+    ensures amount { share.new.amount ≡ share.old.amount + passed result }
+    ensures parts { share.new.parts ≡ share.old.parts }
+{
+    let reply = apply(kept, share, ending);
+    if !is_accepted(&reply) {
+        return Err(Next::Refused(reply));
+    }
+    let grant = take_slot(kept, share, worker);
+    match on_the_way(&kept.book, grant, rest) {
+        Some(id) => Ok(id),
+        None => Err(Next::Taken(kept.book.grant_reply(grant))),
+    }
+}
+
+// Whether the bounds that were worked out ahead are of the book's instance, and the first of them of
+// the children of this slot's node.
+fn may_lay(book: &Book, id: u32, stretch: &Stretch<'_>) -> bool
+    ensures instance { OnTrue result (stretch.now.instance.now ≡ book.now.case.instance) }
+    ensures node { OnTrue result (IsFirstAt book.now id stretch.now.nodes.items) }
+{
+    match stretch.nodes.as_slice() {
+        [first, ..] => is_at(book, id, &first.foreseen.node) && book.is_of(stretch.instance),
+        [] => false,
+    }
+}
+
+// Lays the bounds of a node's children into the hand that holds the slot.
+fn lay(book: &mut Book, id: u32, one: &Ahead<'_>, may: bool)
+    requires instance { OnTrue may (one.now.foreseen.instance.now ≡ book.old.case.instance) }
+    requires node { OnTrue may (tree_node one.now.foreseen.node ≡ (slot_at book.old id).node) }
+    ensures { book.new ≡ book.old }
+{
+    if may {
+        book.lay(id, &one.foreseen);
+    }
+}
+
+/// Ends the slot that the worker holds as the first of the nodes says, takes the next slot, and goes
+/// on so with the next of the nodes as long as the slot that was taken has that node; each event is
+/// made as `apply` does. It stops at the first refusal, at a slot of another node, or after the last
+/// node. The bounds spare the book that work where the stretch is of its instance.
+pub fn go_ahead<L: Ledger>(
+    kept: &mut Kept<L>,
+    share: &mut Share<L>,
+    worker: u8,
+    id: u32,
+    stretch: &Stretch<'_>,
+) -> Gone
+    requires part { 0 < share.old.parts }
+    requires worker { worker ≤ 8 }
+    requires some { 0 < length stretch.now.nodes.items }
+    ensures steps { GoesAhead worker kept.old.book id stretch.now.nodes.items result.place result kept.new.book }
+    ensures total { kept.new.tally.total ≡ kept.old.tally.total + gone_count result }
+    ensures amount { share.new.amount ≡ share.old.amount + gone_count result }
+    ensures parts { share.new.parts ≡ share.old.parts }
+{
+    let may = may_lay(&kept.book, id, stretch);
+    let mut held = id;
+    let mut place = 0;
+    let mut ahead = stretch.nodes.as_slice();
+    while let [one, rest @ ..] = ahead {
+        lay(&mut kept.book, held, one, may);
+        let ending = ending_of(held, one.ending);
+        match pass(kept, share, worker, ending, rest) {
+            Ok(taken) => held = taken,
+            Err(next) => {
+                return Gone {
+                    place,
+                    id: held,
+                    next,
+                };
+            }
+        }
+        place += 1;
+        ahead = rest;
+    }
+    unreachable!()
+}
