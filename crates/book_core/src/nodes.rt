@@ -16,6 +16,7 @@ impl Book {
     // The hand that holds a slot; None exactly where no worker holds it.
     pub(crate) fn hand_of(&self, id: u32) -> Option<&Hand>
         ensures some { IfSome result (λ hand. IsHandOf self.now id hand.now) }
+        ensures held { IfSome result (λ _. is_held (slot_at self.now id).state ≡ true) }
         ensures none { IfNone result (is_held (slot_at self.now id).state ≡ false) }
     {
         match self.state_of(id) {
@@ -42,6 +43,7 @@ impl Book {
     /// The node of a slot that a worker holds; None exactly where no worker holds the slot.
     pub fn node_in_hand(&self, id: u32) -> Option<&Node>
         ensures some { IfSome result (λ node. IsNodeIn self.now.case.instance self.now.slots id node.now) }
+        ensures held { IfSome result (λ _. is_held (slot_at self.now id).state ≡ true) }
         ensures none { IfNone result (is_held (slot_at self.now id).state ≡ false) }
     {
         match self.hand_of(id) {

@@ -4,3 +4,4 @@ pub mod JoinLemmas
 pub mod ChildSteps
 pub mod LawLemmas
 pub mod RowLemmas
+pub mod SameLemmas

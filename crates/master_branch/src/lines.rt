@@ -1,5 +1,5 @@
 //! The lines of the four chambers as one row of groups.
-ghost use Rattle.std.specs.Prelude.{◌≡◌, ◌<◌, ◌≤◌, length, All, insert, slice_set};
+ghost use Rattle.std.specs.Prelude.{◌≡◌, ◌↔◌, ◌<◌, ◌≤◌, length, All, IsTrue, insert, slice_set};
 ghost use Rattle.lock_rules.specs.Node.{line_at, root_lines};
 ghost use Rattle.master_branch.specs.Row.{part, start_from, raised, groups_held};
 
@@ -77,6 +77,14 @@ impl Lines {
         self.ends = raised(self.ends, chamber);
     }
 
+    // Whether two nodes have the same lines.
+    pub(crate) fn equals(&self, other: &Lines) -> bool
+        ensures { IsTrue result ↔ self.now ≡ other.now }
+    {
+        same_ends(&self.ends, &other.ends)
+            && same_groups(self.row.as_slice(), other.row.as_slice())
+    }
+
     // The same lines.
     pub(crate) fn copy(&self) -> Lines
         ensures { result ≡ self.now }
@@ -89,6 +97,33 @@ impl Lines {
             row,
             ends: self.ends,
         }
+    }
+}
+
+// Whether four lines end at the same places as four others.
+fn same_ends(some: &[u8; 4], others: &[u8; 4]) -> bool
+    ensures { IsTrue result ↔ some.now ≡ others.now }
+{
+    some == others
+}
+
+// Whether two groups are the same.
+fn same_group(one: &Group, other: &Group) -> bool
+    ensures { IsTrue result ↔ one.now ≡ other.now }
+{
+    one == other
+}
+
+// Whether two rows have the same groups.
+fn same_groups(some: &[Group], others: &[Group]) -> bool
+    ensures { IsTrue result ↔ some.now ≡ others.now }
+{
+    match some {
+        [] => others.is_empty(),
+        [one, rest @ ..] => match others {
+            [] => false,
+            [other, more @ ..] => same_group(one, other) && same_groups(rest, more),
+        },
     }
 }
 

@@ -1,5 +1,5 @@
 //! Nodes of the search tree.
-ghost use Rattle.std.specs.Prelude.{◌≡◌, ◌<◌, ◌≤◌, length};
+ghost use Rattle.std.specs.Prelude.{◌≡◌, ◌↔◌, ◌<◌, ◌≤◌, length, IsTrue};
 ghost use Rattle.lock_model.specs.declared.plan.Plan.{Plan as AnyPlan};
 ghost use Rattle.lock_rules.specs.Node.{KeepsNode, line_at};
 ghost use Rattle.lock_rules.specs.Trace.{IsUnder};
@@ -49,6 +49,13 @@ impl Node {
         ensures fits { length result.now ≤ 24 }
     {
         self.lines.line(chamber)
+    }
+
+    /// Whether two nodes are the same, by their rows of groups.
+    pub fn equals(&self, other: &Node) -> bool
+        ensures { IsTrue result ↔ self.now ≡ other.now }
+    {
+        self.depth == other.depth && self.lines.equals(&other.lines)
     }
 
     /// The same node.

@@ -1,6 +1,6 @@
 -- The slot that a taking gives, beside the node that is next ahead.
-use Rattle.std.specs.Prelude.{ℕ, ◌≡◌, true, List, [], ◌∷◌}
-use Rattle.std.specs.declared.result.Result.{Result, Ok, Err}
+use Rattle.std.specs.Prelude.{ℕ, ◌≡◌, true, List, [], ◌∷◌, Ok, Err}
+use Rattle.std.specs.declared.result.Result.{Result}
 use Rattle.master_branch.specs.Node.{Node, IsNodeOf}
 use Rattle.book_rules.specs.Book.{Book, slot_at, is_held}
 use Rattle.book_core.specs.Nodes.{tree_node}
@@ -19,7 +19,7 @@ granted _ = 0
 pub record IsHeldAt (b : Book) (id : ℕ) (node : Node) : Type 0 where
   pub held : is_held (slot_at b id).state ≡ true
   pub same : tree_node node ≡ (slot_at b id).node
-  pub node : IsNodeOf b.case.instance node
+  pub of : IsNodeOf b.case.instance node
 
 -- the same of the first of these
 abbrev pub IsFirstAt : Book → ℕ → List Ahead → Type 0

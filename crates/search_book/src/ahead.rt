@@ -47,7 +47,7 @@ impl<'i> Stretch<'i> {
     pub fn push(&mut self, foreseen: Foreseen<'i>, ending: Ending) -> Result<(), NoMemory>
         requires { foreseen.instance.now ≡ self.old.instance.now }
         ensures instance { self.new.instance.now ≡ self.old.instance.now }
-        ensures pushed { IfOk result (λ _. self.new.nodes.items ≡ self.old.nodes.items ++ record { foreseen = foreseen; ending = ending } ∷ []) }
+        ensures pushed { IfOk result (λ _. self.new.nodes.items ≡ self.old.nodes.items ++ record { foreseen = foreseen.entry; ending = ending } ∷ []) }
         ensures same { IfErr result (λ _. self.new.nodes.items ≡ self.old.nodes.items) }
     {
         self.nodes.try_reserve(1)?;

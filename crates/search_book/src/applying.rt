@@ -88,7 +88,7 @@ pub(crate) fn is_at(book: &Book, id: u32, node: &Node) -> bool
     ensures { IsTrue result ↔ IsHeldAt book.now id node.now }
 {
     match book.node_in_hand(id) {
-        Some(own) => own == node,
+        Some(own) => own.equals(node),
         None => false,
     }
 }

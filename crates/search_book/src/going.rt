@@ -50,11 +50,11 @@ fn take_slot<L: Ledger>(kept: &mut Kept<L>, share: &mut Share<L>, worker: u8) ->
 }
 
 // The slot that was given, where it has the node that is next ahead.
-fn on_the_way(book: &Book, grant: Grant, rest: &[Ahead<'_>]) -> Option<u32>
-    ensures some { IfSome result (λ id. (grant ≡ grant.Slot id) × IsFirstAt book.now id rest.now) }
-    ensures none { IfNone result (IsAstray book.now grant rest.now) }
+fn on_the_way(book: &Book, taken: Grant, rest: &[Ahead<'_>]) -> Option<u32>
+    ensures some { IfSome result (λ id. (taken ≡ grant.Slot id) × IsFirstAt book.now id rest.now) }
+    ensures none { IfNone result (IsAstray book.now taken rest.now) }
 {
-    match grant {
+    match taken {
         Grant::Slot(id) => match rest {
             [next, ..] if is_at(book, id, &next.foreseen.node) => Some(id),
             _ => None,
