@@ -1,0 +1,213 @@
+-- Choices by their sums, and what is enough of them.
+use Rattle.std.proofs.Common.{◌≡◌, ◌≢◌, ℕ, suc, ◌+◌, ◌*◌, ◌<◌, ◌≤◌, true, cond, ◌⊎◌, inl, inr, Some, None, List, [], ◌∷◌, ◌++◌, length, drop, filter, sum_by, All, Contains, refl, sym, ap, ◌∙◌, subst, arith, slice_index_or}
+use Rattle.std.specs.declared.option.Option.{Option}
+use Rattle.std.proofs.Math.Seq.{get_or-append_seam, drop-cons}
+use Rattle.std.proofs.lemmas.Bool.Decides.{eqb_tells, leb_tells}
+use Rattle.std.proofs.lemmas.List.{get_or_append_left, get_or_default, length-append, length-drop}
+use Rattle.std.proofs.lemmas.List.Sums.{sum_by-cons}
+use Rattle.std.proofs.lemmas.List.Elements.{All-nil, All-push, All-weaker}
+use Rattle.lock_model.specs.Fleet.{ship_at}
+use Rattle.lock_model.specs.declared.instance.Instance.{Instance}
+use Rattle.lock_model.specs.declared.group.Group.{Group}
+use Rattle.lock_model.specs.declared.way.Way.{Way}
+use Rattle.lock_model.specs.declared.way.Way.TheVariants.{Up, Down}
+use Rattle.lock_rules.specs.Arrival.{first_ships}
+use Rattle.lock_rules.specs.Node.{IsNodeGroup}
+use Rattle.lock_rules.specs.Trace.{has_number}
+use Rattle.lock_rules.proofs.CountLemmas.{sum_by-passing}
+use Rattle.lock_rules.proofs.SplitLemmas.{filter-all}
+use Rattle.price_rules.specs.Prices.{PlainCut, IsUncut, is_missing, price_at}
+use Rattle.price_bound.specs.declared.choice.Choice.{Choice}
+use Rattle.price_bound.specs.Worth.{arrivals_of, paid_on, ServeAsWell, IsKeptGroup}
+use Rattle.price_bound.specs.Sparing.{AreForbidden}
+use Rattle.price_bound.specs.Growing.{IsGrown, AreGrown}
+use Rattle.price_bound.specs.Choosing.{Keeps, rate_of, IsChoice, Serves, IsServed, IsOn, IsBaseOf, HaveMore, HasOne, HaveSome, AreSome, AreChoices}
+use Rattle.price_bound.proofs.ServeLemmas.{serve-themselves}
+
+module _ (I : Instance) (k : ℕ) (prices : List ℕ) where
+  -- the rates of ships are what they pay and 100 times their arrivals
+  pub rates-sum : (ss : List ℕ) → sum_by (rate_of I k prices) ss ≡ paid_on I k prices ss + 100 * arrivals_of I ss
+  rates-sum ss = parts ss ∙ ap (λ n. n + 100 * arrivals_of I ss) (sym (sum_by-passing (price_at prices) (is_missing I k) ss))
+    where
+      parts : (ss : List ℕ) → sum_by (rate_of I k prices) ss ≡ sum_by (λ s. cond (is_missing I k s) (price_at prices s) 0) ss + 100 * arrivals_of I ss
+      parts [] = refl
+      parts (s ∷ ss) = omega (
+        arith,
+        parts ss,
+        sum_by-cons (rate_of I k prices) s ss,
+        sum_by-cons (λ s. cond (is_missing I k s) (price_at prices s) 0) s ss,
+        sum_by-cons (λ s. (ship_at I s).arrival) s ss,
+      )
+
+  pub served-itself : (choices : List Choice) (h : Choice) → Contains choices h → IsServed I k prices choices h.joins h.group
+  served-itself choices h held = record { choice = h; held = held; joins = refl; way = refl; as_good = serve-themselves I k prices h.group.ships }
+
+  -- more choices serve what fewer do
+  pub served-more : (old new : List Choice) (to : Option ℕ) (g : Group) → ((h : Choice) → Contains old h → Contains new h) → IsServed I k prices old to g → IsServed I k prices new to g
+  served-more old new to g more served = record { choice = served.choice; held = more served.choice served.held; joins = served.joins; way = served.way; as_good = served.as_good }
+
+  heads : (x y : Group) (xs ys : List Group) → x ∷ xs ≡ y ∷ ys → x ≡ y
+  heads x y xs ys e = ap first e
+    where
+      first : List Group → Group
+      first [] = x
+      first (z ∷ zs) = z
+
+  same-kept : (line : List Group) (to : Option ℕ) (g h : Group) → Keeps I k line to g → Keeps I k line to h → filter (has_number (first_ships I k)) g.ships ≡ filter (has_number (first_ships I k)) h.ships
+  same-kept line None g h first second = first ∙ sym second
+  same-kept line (Some p) g h first second = ap (λ g. g.ships) (heads _ _ _ _ (sym first ∙ second))
+
+  module _ (c : ℕ) (cuts : List PlainCut) (line : List Group) where
+    -- sums that are no worse serve as well
+    pub serves-well : (other choice : Choice) → Serves other choice → IsChoice I c cuts k prices line other → IsChoice I c cuts k prices line choice → ServeAsWell I k prices other.group.ships choice.group.ships
+    serves-well other choice serves first second = record {
+      count = serves.count;
+      same = same-kept line choice.joins other.group choice.group (subst (λ to. Keeps I k line to other.group) serves.joins first.keeps) second.keeps;
+      early = omega (arith, serves.last, first.sums.last, second.sums.last);
+      quick = omega (arith, serves.duration, first.sums.duration, second.sums.duration);
+      pays = omega (arith, serves.pays, first.sums.pays, second.sums.pays, rates-sum other.group.ships, rates-sum choice.group.ships);
+    }
+
+    pub served-by : (choices : List Choice) (other choice : Choice) → Contains choices other → Serves other choice → IsChoice I c cuts k prices line other → IsChoice I c cuts k prices line choice → IsServed I k prices choices choice.joins choice.group
+    served-by choices other choice held serves first second = record { choice = other; held = held; joins = serves.joins; way = serves.way; as_good = serves-well other choice serves first second }
+
+    pub one-pushed : (old : List Choice) (choice : Choice) → All (IsChoice I c cuts k prices line) old → IsChoice I c cuts k prices line choice → HasOne I c cuts k prices line choice old (old ++ choice ∷ [])
+    one-pushed old choice each is = record {
+      each = All-push (IsChoice I c cuts k prices line) old choice each is;
+      kept = λ h at. (at.0, omega (arith, at.1, length-append old (choice ∷ [])), get_or_append_left old (choice ∷ []) h at.0 at.1 ∙ at.2);
+      served = served-itself (old ++ choice ∷ []) choice (length old, omega (arith, length-append old (choice ∷ [])), get_or-append_seam old choice [] choice);
+    }
+
+    pub one-served : (old : List Choice) (choice : Choice) → All (IsChoice I c cuts k prices line) old → IsServed I k prices old choice.joins choice.group → HasOne I c cuts k prices line choice old old
+    one-served old choice each served = record { each = each; kept = λ h at. at; served = served }
+
+    module _ (sets : List (List ℕ)) (are : AreForbidden I c cuts sets) (base : Group) where
+      -- what was grown is uncut unless it is empty, and all that is uncut was grown
+      pub grown-uncut : (n : ℕ) (g : Group) → IsGrown I c k sets base n g → 1 ≤ length g.ships → IsUncut I c cuts g
+      grown-uncut n g h some = record {
+        good = record { rising = h.rising; count = (some, h.few); way = All-weaker (λ s. (ship_at I s).way ≡ base.way) (λ s. (ship_at I s).way ≡ g.way) (λ s w. w ∙ sym h.way) g.ships h.ways };
+        known = h.known;
+        spared = are.spared g.ships h.known h.missed;
+      }
+
+      uncut-grown : (g : Group) → IsUncut I c cuts g → IsOn I k base g → IsGrown I c k sets base (length I.ships) g
+      uncut-grown g uncut on = record {
+        rising = uncut.good.rising;
+        known = uncut.known;
+        few = uncut.good.count.1;
+        way = on.way;
+        ways = All-weaker (λ s. (ship_at I s).way ≡ g.way) (λ s. (ship_at I s).way ≡ base.way) (λ s w. w ∙ on.way) g.ships uncut.good.way;
+        missed = are.missed g.ships uncut.known uncut.spared;
+        keeps = on.keeps;
+        allowed = All-weaker (λ s. s < length I.ships) (λ s. (has_number (first_ships I k) s ≡ true) ⊎ (s < length I.ships)) (λ s h. inr h) g.ships uncut.known;
+      }
+
+      module _ (to : Option ℕ) (groups : List Group) (grown : AreGrown I c k sets base (length I.ships) groups) where
+        pub some-start : (old : List Choice) → All (IsChoice I c cuts k prices line) old → HaveSome I c cuts k prices line to groups 0 old old
+        some-start old each = record { each = each; kept = λ h at. at; done = λ j d none here some. absurd (omega (arith, none)) }
+
+        before : (i j : ℕ) → j < suc i → j ≢ i → j < i
+        before i j less m = elim (leb_tells (suc j) i) [ inl y ↦ y.1 | inr q ↦ absurd (m (omega (arith, less, q.1))) ]
+
+        -- an empty group is no choice
+        pub some-skip : (i : ℕ) (d : Group) (old new : List Choice) → i < length groups → length (slice_index_or groups i d).ships ≡ 0 → HaveSome I c cuts k prices line to groups i old new → HaveSome I c cuts k prices line to groups (suc i) old new
+        some-skip i d old new here none have = record {
+          each = have.each;
+          kept = have.kept;
+          done = λ j e less inside some. elim (eqb_tells j i) [
+            | inl y ↦ let same = ap (λ j. slice_index_or groups j e) y.1 ∙ get_or_default groups i e d here in absurd (omega (arith, some, none, ap (λ (g : Group). length g.ships) same))
+            | inr m ↦ have.done j e (before i j less m.1) inside some
+          ];
+        }
+
+        pub some-next : (i : ℕ) (d : Group) (old now new : List Choice) (choice : Choice) → i < length groups → choice.joins ≡ to → choice.group ≡ slice_index_or groups i d
+            → HaveSome I c cuts k prices line to groups i old now → HasOne I c cuts k prices line choice now new → HaveSome I c cuts k prices line to groups (suc i) old new
+        some-next i d old now new choice here joins is have one = record {
+          each = one.each;
+          kept = λ h at. one.kept h (have.kept h at);
+          done = λ j e less inside some. elim (eqb_tells j i) [
+            | inl y ↦
+                let same : choice.group ≡ slice_index_or groups j e = is ∙ sym (ap (λ j. slice_index_or groups j e) y.1 ∙ get_or_default groups i e d here) in
+                subst (IsServed I k prices new to) same (subst (λ to. IsServed I k prices new to choice.group) joins one.served)
+            | inr m ↦ served-more now new to (slice_index_or groups j e) one.kept (have.done j e (before i j less m.1) inside some)
+          ];
+        }
+
+        pub some-done : (old new : List Choice) → HaveSome I c cuts k prices line to groups (length groups) old new → HaveMore I c cuts k prices line to base old new
+        some-done old new have = record {
+          each = have.each;
+          kept = have.kept;
+          served = λ g uncut on.
+              let at = grown.whole g (uncut-grown g uncut on) in
+              subst (IsServed I k prices new to) at.2 (have.done at.0 g at.1 at.1 (subst (λ g. 1 ≤ length g.ships) (sym at.2) uncut.good.count.0));
+        }
+
+module _ (I : Instance) (c k : ℕ) (line : List Group) where
+  -- no ship, of a way
+  pub base-none : (way : Way) → IsBaseOf I c k line None (record { way = way; ships = [] })
+  base-none way = record {
+    good = record {
+      rising = λ j here. absurd (omega (arith, here));
+      known = All-nil (λ s. s < length I.ships);
+      few = omega arith;
+      ways = All-nil (λ s. (ship_at I s).way ≡ way);
+      keeps = refl;
+    };
+    keeps = λ g on. on.keeps;
+  }
+
+  -- a group of the line
+  pub base-own : All (IsNodeGroup I c) line → All (IsKeptGroup I k) line → All (λ g. All (λ s. s < length I.ships) g.ships) line → (p : ℕ) (d : Group) → p < length line → IsBaseOf I c k line (Some p) (slice_index_or line p d)
+  base-own good kept known p d here =
+      let g = slice_index_or line p d in
+      record {
+        good = record {
+          rising = (good p d here).rising;
+          known = known p d here;
+          few = (good p d here).count.1;
+          ways = (good p d here).way;
+          keeps = filter-all (has_number (first_ships I k)) g.ships (kept p d here).kept;
+        };
+        keeps = λ h on. drop-cons line p d here ∙ (λ i. record { way = sym on.way i; ships = sym on.keeps i } ∷ drop (suc p) line);
+      }
+
+  inside : (p : ℕ) (xs ys : List Group) (y : Group) → drop p xs ≡ y ∷ ys → p < length xs
+  inside p xs ys y e = omega (arith, length-drop p xs, ap length e)
+
+  module _ (cuts : List PlainCut) (prices : List ℕ) where
+    pub some-none : (first both : List Choice) → HaveMore I c cuts k prices line None (record { way = Up; ships = [] }) [] first → HaveMore I c cuts k prices line None (record { way = Down; ships = [] }) first both → AreSome I c cuts k prices line 0 both
+    some-none first both up down = record {
+      each = down.each;
+      free = λ g uncut keeps. by_way g.way g refl uncut keeps;
+      own = λ p g less uncut keeps. absurd (omega (arith, less));
+    }
+      where
+        by_way : (way : Way) (g : Group) → g.way ≡ way → IsUncut I c cuts g → filter (has_number (first_ships I k)) g.ships ≡ [] → IsServed I k prices both None g
+        by_way Up g same uncut keeps = served-more I k prices first both None g down.kept (up.served g uncut (record { way = same; keeps = keeps }))
+        by_way Down g same uncut keeps = down.served g uncut (record { way = same; keeps = keeps })
+
+    pub own-next : (i : ℕ) (d : Group) (old new : List Choice) → i < length line → AreSome I c cuts k prices line i old → HaveMore I c cuts k prices line (Some i) (slice_index_or line i d) old new → AreSome I c cuts k prices line (suc i) new
+    own-next i d old new here some more = record {
+      each = more.each;
+      free = λ g uncut keeps. served-more I k prices old new None g more.kept (some.free g uncut keeps);
+      own = λ p g less uncut keeps. elim (eqb_tells p i) [
+        | inl y ↦ subst (λ p. IsServed I k prices new (Some p) g) (sym y.1) (more.served g uncut (on g (subst (λ p. Keeps I k line (Some p) g) y.1 keeps)))
+        | inr m ↦ served-more I k prices old new (Some p) g more.kept (some.own p g (below p i less m.1) uncut keeps)
+      ];
+    }
+      where
+        below : (p i : ℕ) → p < suc i → p ≢ i → p < i
+        below p i less m = elim (leb_tells (suc p) i) [ inl y ↦ y.1 | inr q ↦ absurd (m (omega (arith, less, q.1))) ]
+
+        on : (g : Group) → Keeps I k line (Some i) g → IsOn I k (slice_index_or line i d) g
+        on g keeps =
+            let same = heads I k prices _ _ _ _ (sym (drop-cons line i d here) ∙ keeps) in
+            record { way = ap (λ g. g.way) (sym same); keeps = ap (λ g. g.ships) (sym same) }
+
+    -- WHAT WAS PUT FOR EACH PLACE of the line is enough.
+    pub some-whole : (choices : List Choice) → AreSome I c cuts k prices line (length line) choices → AreChoices I c cuts k prices line choices
+    some-whole choices some = record { each = some.each; whole = λ to g uncut keeps. by_place to g uncut keeps }
+      where
+        by_place : (to : Option ℕ) (g : Group) → IsUncut I c cuts g → Keeps I k line to g → IsServed I k prices choices to g
+        by_place None g uncut keeps = some.free g uncut keeps
+        by_place (Some p) g uncut keeps = some.own p g (inside p line _ _ keeps) uncut keeps

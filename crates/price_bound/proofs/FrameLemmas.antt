@@ -1,0 +1,267 @@
+-- Counting choices, and remembering values.
+use Rattle.std.proofs.Common.{◌≡◌, ◌≢◌, ℕ, suc, ◌+◌, ◌-◌, ◌*◌, ◌<◌, ◌≤◌, true, false, cond, nat_eq, ℤ, pos, neg_ℤ, ◌+ℤ◌, ◌≤ℤ◌, to_z, of_z, w64, inl, inr, Some, None, List, [], ◌∷◌, length, drop, filter, All, refl, sym, ap, ◌∙◌, subst, arith, slice_index_or}
+use Rattle.std.specs.Prelude.{int_lt, IfSome}
+use Rattle.std.specs.Int.{int_min}
+use Rattle.std.specs.declared.option.Option.{Option}
+use Rattle.std.specs.HashMap.{get, HashMap, Updates}
+use Rattle.std.specs.declared.hash.FoldHasher.{FoldHasher}
+use Rattle.std.specs.declared.hash.BuildHasherDefault.{BuildHasherDefault}
+use Rattle.std.proofs.lemmas.Int.{ints, clamps}
+use Rattle.std.proofs.lemmas.Bool.Decides.{eqb_tells, leb_tells}
+use Rattle.std.proofs.lemmas.List.{get_or_default}
+use Rattle.std.proofs.lemmas.List.Elements.{All-cons, All-head, All-drop}
+use Rattle.lock_model.specs.declared.instance.Instance.{Instance}
+use Rattle.lock_model.specs.declared.group.Group.{Group}
+use Rattle.lock_model.specs.declared.way.Way.{Way}
+use Rattle.lock_model.specs.declared.way.Stand.{Stand}
+use Rattle.lock_model.specs.declared.way.Stand.TheVariants.{Low, High}
+use Rattle.lock_rules.specs.Lawful.{stand_after}
+use Rattle.lock_rules.specs.Arrival.{first_ships}
+use Rattle.lock_rules.specs.Node.{IsNodeGroup}
+use Rattle.lock_rules.specs.Trace.{has_number, with_group}
+use Rattle.lock_model.specs.Fleet.{ship_at}
+use Rattle.price_rules.specs.Prices.{PlainCut, IsUncut, IsLoose, is_missing, price_at}
+use Rattle.price_bound.specs.declared.frame.Frame.{Frame}
+use Rattle.price_bound.specs.declared.choice.Choice.{Choice}
+use Rattle.price_bound.specs.Worth.{end_after, worth_of, worth_from, IsWorth, IsLeastWorth, IsKeptGroup, IsHorizon}
+use Rattle.price_bound.specs.Choosing.{Keeps, IsChoice, Leads, IsCounted, IsValue, AreChoices}
+use Rattle.price_bound.specs.Values.{key_of, side_of, AreValues, IsBest, IsFrame}
+use Rattle.price_bound.specs.Sparing.{IsSpared, AreForbidden}
+use Rattle.price_bound.proofs.LineLemmas.{worth-next, end-later, uncut-trace}
+use Rattle.price_bound.proofs.StepLemmas.{own-worth, alone-least, choices-least}
+
+with-some : (way : Way) (ks : List ℕ) (rest : List Group) → 1 ≤ length ks → with_group way ks rest ≡ record { way = way; ships = ks } ∷ rest
+with-some way [] rest some = absurd (omega (arith, some))
+with-some way (s ∷ ss) rest some = refl
+
+abbrev pub IsFar : ℤ → Type 0
+IsFar v = (neg_ℤ (pos 1000000000000000) ≤ℤ v) × (v ≤ℤ pos 1000000000000000)
+
+-- values are far from the ends of their type
+pub value-far : (v : ℤ) (h e : ℕ) → h ≤ 1010000 → pos 0 ≤ℤ (v +ℤ pos (808000000 * (h - e))) → v ≤ℤ pos 6000000000000 → IsFar v
+value-far v h e small low high = (omega (arith, ints), omega (arith, ints))
+
+pub worth-far : (w : ℤ) → neg_ℤ (pos 808000000) ≤ℤ w → w ≤ℤ pos 30000000000 → IsFar w
+worth-far w low high = (omega (arith, ints), omega (arith, ints))
+
+pub far-rounded : (v : ℤ) → IsFar v → to_z w64 (of_z w64 v) ≡ v
+far-rounded v far = let low = far.0 in let high = far.1 in omega (arith, ints)
+
+-- so the lesser is what it is without rounding
+pub lesser-rounded : (r b w v : ℤ) → IsFar b → IsFar w → IsFar v → r ≡ int_min (to_z w64 (of_z w64 b)) (to_z w64 (of_z w64 w) +ℤ to_z w64 (of_z w64 v)) → int_min b (w +ℤ v) ≡ to_z w64 (of_z w64 r)
+lesser-rounded r b w v far-b far-w far-v is =
+    let plain : r ≡ int_min b (w +ℤ v) = is ∙ (λ i. int_min (far-rounded b far-b i) (far-rounded w far-w i +ℤ far-rounded v far-v i)) in
+    sym plain ∙ sym (last r b w v plain far-b.0 far-b.1 far-w.0 far-w.1 far-v.0 far-v.1)
+  where
+    last : (r b w v : ℤ) → r ≡ int_min b (w +ℤ v) → neg_ℤ (pos 1000000000000000) ≤ℤ b → b ≤ℤ pos 1000000000000000 → neg_ℤ (pos 1000000000000000) ≤ℤ w → w ≤ℤ pos 1000000000000000 → neg_ℤ (pos 1000000000000000) ≤ℤ v → v ≤ℤ pos 1000000000000000 → to_z w64 (of_z w64 r) ≡ r
+    last r b w v e h1 h2 h3 h4 h5 h6 = omega (arith, ints, clamps)
+
+module _ (I : Instance) (c : ℕ) (known : c < length I.chambers) (cuts : List PlainCut) (k : ℕ) (prices : List ℕ) (line : List Group) (horizon : ℕ) where
+  pub counted-less : (stand : Stand) (from p : ℕ) (best less : ℤ) (h : Choice) → less ≤ℤ best → IsCounted I c cuts k prices line stand from p best h → IsCounted I c cuts k prices line stand from p less h
+  counted-less stand from p best less h low counted = λ q leads. elim (counted q leads) [
+    | inl below ↦ inl (λ gs loose. through less best _ low (below gs loose))
+    | inr idle ↦ inr idle
+  ]
+    where
+      through : (a b w : ℤ) → a ≤ℤ b → b ≤ℤ w → a ≤ℤ w
+      through a b w h j = omega (arith, ints)
+
+  -- a choice that doesn't come next at the place
+  pub counted-other : (stand : Stand) (from p : ℕ) (best : ℤ) (h : Choice) → ((q : ℕ) → ¬ Leads h.joins p q) → IsCounted I c cuts k prices line stand from p best h
+  counted-other stand from p best h none = λ q leads. absurd (none q leads)
+
+  module _ (uncut : All (IsUncut I c cuts) line) (own : All (IsKeptGroup I k) line) where
+    -- at first the line's own groups alone
+    pub best-alone : (p : ℕ) (stand : Stand) (from : ℕ) (v : ℤ) → v ≡ worth_from I c k prices stand from (drop p line) → pos 0 ≤ℤ v → v ≤ℤ pos 6000000000000 → IsBest I c cuts k prices line horizon p stand from v
+    best-alone p stand from v is low high = record {
+      stop = reflexive v _ is;
+      reached = subst (IsWorth I c cuts k prices stand from (drop p line)) (sym is) (own-worth I c known cuts k prices stand from (drop p line) (All-drop (IsUncut I c cuts) p line uncut) (All-drop (IsKeptGroup I k) p line own));
+      low = above v (808000000 * (horizon - from)) low;
+      high = high;
+    }
+      where
+        reflexive : (v w : ℤ) → v ≡ w → v ≤ℤ w
+        reflexive v w e = omega (arith, ints)
+
+        above : (v : ℤ) (n : ℕ) → pos 0 ≤ℤ v → pos 0 ≤ℤ (v +ℤ pos n)
+        above v n h = omega (arith, ints)
+
+    -- from the horizon on that is the value
+    pub value-alone : IsHorizon I k prices horizon → (p : ℕ) (stand : Stand) (from : ℕ) (v : ℤ) → horizon ≤ from → v ≡ worth_from I c k prices stand from (drop p line) → pos 0 ≤ℤ v → v ≤ℤ pos 6000000000000 → IsValue I c cuts k prices line horizon p stand from v
+    value-alone late p stand from v past is low high = record {
+      least = subst (λ v. IsLeastWorth I c cuts k prices stand from (drop p line) (Some v)) (sym is) (alone-least I c known cuts k prices horizon late stand from (drop p line) past (All-drop (IsUncut I c cuts) p line uncut) (All-drop (IsKeptGroup I k) p line own));
+      low = (best-alone p stand from v is low high).low;
+      high = high;
+    }
+
+  module _ (own : All (IsKeptGroup I k) line) (p : ℕ) (stand : Stand) (from : ℕ) (h : Choice) (is : IsChoice I c cuts k prices line h) (q : ℕ) (leads : Leads h.joins p q) where
+    one-way : (to : Option ℕ) (p q r : ℕ) → Leads to p q → Leads to p r → q ≡ r
+    one-way None p q r first second = sym first ∙ second
+    one-way (Some j) p q r first second = sym first.1 ∙ second.1
+
+    -- what is left behind the choice joins it to the line
+    joins-line : (to : Option ℕ) (p q : ℕ) (g : Group) → Keeps I k line to g → Leads to p q → with_group g.way (filter (has_number (first_ships I k)) g.ships) (drop q line) ≡ drop p line
+    joins-line None p q g keeps leads = (λ i. with_group g.way (keeps i) (drop q line)) ∙ ap (λ q. drop q line) (sym leads)
+    joins-line (Some j) p q g keeps leads =
+        let ks = filter (has_number (first_ships I k)) g.ships in
+        let head : IsKeptGroup I k (record { way = g.way; ships = ks }) = All-head (IsKeptGroup I k) (record { way = g.way; ships = ks }) (drop (suc j) line) (subst (All (IsKeptGroup I k)) keeps (All-drop (IsKeptGroup I k) j line own)) in
+        with-some g.way ks (drop q line) head.some ∙ (λ i. record { way = g.way; ships = ks } ∷ drop (sym (ap suc leads.0 ∙ leads.1) i) line) ∙ sym keeps ∙ ap (λ p. drop p line) leads.0
+
+    pub counted-idle : (best : ℤ) → h.joins ≡ None → pos 0 ≤ℤ worth_of I c k prices stand from h.group → IsCounted I c cuts k prices line stand from p best h
+    counted-idle best none gains = λ q leads. inr (none, gains)
+
+    module _ (best w v : ℤ) (early : from < horizon) (worth : w ≡ worth_of I c k prices stand from h.group) (low : neg_ℤ (pos 808000000) ≤ℤ w) (value : IsValue I c cuts k prices line horizon q (stand_after h.group.way) (end_after I c stand from h.group) v) where
+      sum-reached : IsWorth I c cuts k prices stand from (drop p line) (w +ℤ v)
+      sum-reached =
+          let behind = value.least.reached in
+          record {
+            loose = h.group ∷ behind.loose;
+            is_loose = record {
+              uncut = All-cons (IsUncut I c cuts) h.group behind.loose is.uncut behind.is_loose.uncut;
+              trace = ap (with_group h.group.way (filter (has_number (first_ships I k)) h.group.ships)) behind.is_loose.trace ∙ joins-line h.joins p q h.group is.keeps leads;
+            };
+            worth = worth-next I c k prices stand from h.group behind.loose ∙ (λ i. sym worth i +ℤ behind.worth i);
+          }
+
+      pub best-counted : IsBest I c cuts k prices line horizon p stand from best → IsBest I c cuts k prices line horizon p stand from (int_min best (w +ℤ v))
+      best-counted was = record {
+        stop = under best (w +ℤ v) _ was.stop;
+        reached = elim (int_lt (w +ℤ v) best) as (λ t. IsWorth I c cuts k prices stand from (drop p line) (cond t (w +ℤ v) best)) [ true ↦ sum-reached | false ↦ was.reached ];
+        low = lowest best w v horizon from (end_after I c stand from h.group) early (end-later I c k prices known stand from h.group) low value.low was.low;
+        high = under best (w +ℤ v) (pos 6000000000000) was.high;
+      }
+        where
+          under : (a b u : ℤ) → a ≤ℤ u → int_min a b ≤ℤ u
+          under a b u h = omega (arith, ints, clamps)
+
+          lowest : (a w v : ℤ) (n from end : ℕ) → from < n → suc from ≤ end → neg_ℤ (pos 808000000) ≤ℤ w → pos 0 ≤ℤ (v +ℤ pos (808000000 * (n - end))) → pos 0 ≤ℤ (a +ℤ pos (808000000 * (n - from))) → pos 0 ≤ℤ (int_min a (w +ℤ v) +ℤ pos (808000000 * (n - from)))
+          lowest a w v n from end early later h j l = omega (arith, ints, clamps)
+
+      pub counted-value : IsCounted I c cuts k prices line stand from p (int_min best (w +ℤ v)) h
+      counted-value = λ r other. inl (λ gs loose.
+          let same : r ≡ q = one-way h.joins p r q other leads in
+          below best w v _ _ worth (value.least.below gs (subst (λ r. IsLoose I c cuts k (drop r line) gs) same loose)))
+        where
+          below : (a w v x y : ℤ) → w ≡ x → v ≤ℤ y → int_min a (w +ℤ v) ≤ℤ (x +ℤ y)
+          below a w v x y e h = omega (arith, ints, clamps)
+
+  -- a frame whose best is less
+  pub frame-less : (choices : List Choice) (frame : Frame) (best : ℤ) → best ≤ℤ frame.best → IsBest I c cuts k prices line horizon frame.state.place frame.state.stand frame.state.minute best
+      → IsFrame I c cuts k prices line horizon choices frame → IsFrame I c cuts k prices line horizon choices (record { state = frame.state; best = best; next = frame.next })
+  frame-less choices frame best less is was = record {
+    place = was.place;
+    early = was.early;
+    best = is;
+    counted = λ j d before here. counted-less frame.state.stand frame.state.minute frame.state.place frame.best best (slice_index_or choices j d) less (was.counted j d before here);
+  }
+
+  -- one choice more is counted
+  pub frame-next : (choices : List Choice) (frame : Frame) (best : ℤ) (h : Choice) (i : ℕ) → i < length choices → frame.next ≡ i → h ≡ slice_index_or choices i h → best ≤ℤ frame.best
+      → IsBest I c cuts k prices line horizon frame.state.place frame.state.stand frame.state.minute best → IsCounted I c cuts k prices line frame.state.stand frame.state.minute frame.state.place best h
+      → IsFrame I c cuts k prices line horizon choices frame → IsFrame I c cuts k prices line horizon choices (record { state = frame.state; best = best; next = i + 1 })
+  frame-next choices frame best h i here at held less is counted was = record {
+    place = was.place;
+    early = was.early;
+    best = is;
+    counted = λ j d before inside. elim (eqb_tells j i) [
+      | inl y ↦
+          let same : h ≡ slice_index_or choices j d = held ∙ get_or_default choices i h d here ∙ ap (λ i. slice_index_or choices i d) (sym y.1) in
+          subst (IsCounted I c cuts k prices line frame.state.stand frame.state.minute frame.state.place best) same counted
+      | inr m ↦ counted-less frame.state.stand frame.state.minute frame.state.place frame.best best (slice_index_or choices j d) less (was.counted j d (earlier j m.1 before) inside)
+    ];
+  }
+    where
+      earlier : (j : ℕ) → j ≢ i → j < i + 1 → j < frame.next
+      earlier j apart before = elim (leb_tells (suc j) i) [ inl y ↦ omega (arith, at, y.1) | inr q ↦ absurd (apart (omega (arith, before, q.1))) ]
+
+  -- THE LAST CHOICE COUNTED, the best is the value.
+  pub frame-value : (choices : List Choice) (frame : Frame) → AreChoices I c cuts k prices line choices → length choices ≤ frame.next → IsFrame I c cuts k prices line horizon choices frame
+      → IsValue I c cuts k prices line horizon frame.state.place frame.state.stand frame.state.minute frame.best
+  frame-value choices frame are all is = record {
+    least = choices-least I c known cuts k prices line choices are frame.state.stand frame.state.minute frame.state.place frame.best is.best.stop
+        (λ h held. subst (IsCounted I c cuts k prices line frame.state.stand frame.state.minute frame.state.place frame.best) held.2 (is.counted held.0 h (omega (arith, held.1, all)) held.1))
+        is.best.reached;
+    low = is.best.low;
+    high = is.best.high;
+  }
+
+  -- a value in its type
+  pub value-rounded : (p : ℕ) (stand : Stand) (from : ℕ) (v : ℤ) → horizon ≤ 1010000 → IsValue I c cuts k prices line horizon p stand from v → IsValue I c cuts k prices line horizon p stand from (to_z w64 (of_z w64 v))
+  value-rounded p stand from v small value = subst (IsValue I c cuts k prices line horizon p stand from) (sym (far-rounded v (value-far v horizon from small value.low value.high))) value
+
+  -- the key tells the state
+  same-state : (p q m n s t : ℕ) → p ≤ 24 → q ≤ 24 → s ≤ 1 → t ≤ 1 → (m * 25 + p) * 2 + s ≡ (n * 25 + q) * 2 + t → (p ≡ q) × (m ≡ n) × (s ≡ t)
+  same-state p q m n s t a b x y e = (omega (arith, a, b, x, y, e), omega (arith, a, b, x, y, e), omega (arith, a, b, x, y, e))
+
+  side-small : (stand : Stand) → side_of stand ≤ 1
+  side-small Low = omega arith
+  side-small High = omega arith
+
+  same-side : (a b : Stand) → side_of a ≡ side_of b → a ≡ b
+  same-side Low Low e = refl
+  same-side High High e = refl
+  same-side Low High e = absurd (omega (arith, e))
+  same-side High Low e = absurd (omega (arith, e))
+
+  -- one value more is remembered
+  pub values-kept : (old new : HashMap ℕ ℤ (BuildHasherDefault FoldHasher)) (p : ℕ) (stand : Stand) (minute : ℕ) (v : ℤ) → p ≤ 24 → AreValues I c cuts k prices line horizon old → IsValue I c cuts k prices line horizon p stand minute v
+      → Updates nat_eq old new (key_of p stand minute) (Some v) → AreValues I c cuts k prices line horizon new
+  values-kept old new p stand minute v small were value updates = record {
+    told = λ q other n u few e.
+        let at = updates.0 (key_of q other n) in
+        elim (eqb_tells (key_of p stand minute) (key_of q other n)) [
+          | inl y ↦
+              let parts = same-state p q minute n (side_of stand) (side_of other) small few (side-small stand) (side-small other) y.1 in
+              let is : Some v ≡ Some u = (λ i. cond (sym y.0 i) (Some v) (get nat_eq old (key_of q other n))) ∙ sym at ∙ e in
+              subst (λ u. IsValue I c cuts k prices line horizon q other n u) (some-same v u is)
+              (subst (λ q. IsValue I c cuts k prices line horizon q other n v) parts.0 (subst (λ n. IsValue I c cuts k prices line horizon p other n v) parts.1 (subst (λ s. IsValue I c cuts k prices line horizon p s minute v) (same-side stand other parts.2) value)))
+          | inr m ↦ were.told q other n u few ((λ i. cond (sym m.0 i) (Some v) (get nat_eq old (key_of q other n))) ∙ sym at ∙ e)
+        ];
+  }
+    where
+      some-same : (v u : ℤ) → Some v ≡ Some u → v ≡ u
+      some-same v u e = ap held e
+        where
+          held : Option ℤ → ℤ
+          held None = v
+          held (Some w) = w
+
+  -- what is found is the value
+  pub found-told : (held : HashMap ℕ ℤ (BuildHasherDefault FoldHasher)) (p : ℕ) (stand : Stand) (minute : ℕ) (o : Option ℤ) → p ≤ 24 → AreValues I c cuts k prices line horizon held → o ≡ get nat_eq held (key_of p stand minute)
+      → IfSome o (IsValue I c cuts k prices line horizon p stand minute)
+  found-told held p stand minute None small are e = tt
+  found-told held p stand minute (Some v) small are e = are.told p stand minute v small (sym e)
+
+-- the horizon of the ships before one more
+pub late-next : (I : Instance) (k : ℕ) (prices : List ℕ) (i old new : ℕ) → old ≤ new → (is_missing I k i ≡ true → price_at prices i + 100 * (ship_at I i).arrival ≤ 100 * new)
+    → ((s : ℕ) → s < i → is_missing I k s ≡ true → price_at prices s + 100 * (ship_at I s).arrival ≤ 100 * old)
+    → (s : ℕ) → s < i + 1 → is_missing I k s ≡ true → price_at prices s + 100 * (ship_at I s).arrival ≤ 100 * new
+late-next I k prices i old new more here before s at missing = elim (eqb_tells s i) [
+  | inl y ↦ subst (λ s. is_missing I k s ≡ true → price_at prices s + 100 * (ship_at I s).arrival ≤ 100 * new) (sym y.1) here missing
+  | inr m ↦ omega (arith, more, before s (lower m.1 (omega (arith, at))) missing)
+]
+  where
+    lower : s ≢ i → s ≤ i → s < i
+    lower apart most = elim (leb_tells (suc s) i) [ inl y ↦ y.1 | inr q ↦ absurd (apart (omega (arith, most, q.1))) ]
+
+pub lesser-less : (b w v : ℤ) → int_min b (w +ℤ v) ≤ℤ b
+lesser-less b w v = omega (arith, ints, clamps)
+
+pub rounded : (v : ℤ) → pos 0 ≤ℤ v → v ≤ℤ pos 6000000000000 → to_z w64 (of_z w64 v) ≡ v
+rounded v low high = omega (arith, ints)
+
+module _ (I : Instance) (c : ℕ) (cuts : List PlainCut) (sets : List (List ℕ)) (are : AreForbidden I c cuts sets) where
+  -- the groups of a line in which no forbidden set is are uncut
+  pub spared-uncut : (line : List Group) → All (IsNodeGroup I c) line → All (λ g. All (λ s. s < length I.ships) g.ships) line → All (IsSpared sets) line → All (IsUncut I c cuts) line
+  spared-uncut line good known spared = λ i d here.
+      let g = slice_index_or line i d in
+      record { good = good i d here; known = known i d here; spared = are.spared g.ships (known i d here) (spared i d here).missed }
+
+  -- a line with another group has no loose line
+  pub cut-least : (k : ℕ) (prices : List ℕ) (stand : Stand) (from : ℕ) (line : List Group) → All (λ g. All (λ s. s < length I.ships) g.ships) line → ¬ All (IsSpared sets) line → IsLeastWorth I c cuts k prices stand from line None
+  cut-least k prices stand from line known held = record {
+    below = λ loose is.
+        let uncut = subst (All (IsUncut I c cuts)) is.trace (uncut-trace I c cuts (has_number (first_ships I k)) loose is.uncut) in
+        held (λ i d here. let g = slice_index_or line i d in record { missed = are.missed g.ships (known i d here) (uncut i d here).spared });
+    reached = tt;
+  }

@@ -1,0 +1,10 @@
+pub mod ForbiddenLemmas
+pub mod GrowLemmas
+pub mod LineLemmas
+pub mod ChoiceLemmas
+pub mod ServeLemmas
+pub mod SumLemmas
+pub mod StepLemmas
+pub mod ServingLemmas
+pub mod FrameLemmas
+pub mod TotalLemmas

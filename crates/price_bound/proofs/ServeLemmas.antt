@@ -1,0 +1,105 @@
+-- Ships that serve as well as others make a line worth no more; so few options are enough.
+use Rattle.std.proofs.Common.{◌≡◌, ℕ, ◌+◌, ◌-◌, ◌*◌, ◌<◌, ◌≤◌, ℤ, pos, ◌+ℤ◌, ◌-ℤ◌, ◌≤ℤ◌, List, [], ◌∷◌, length, All, sum_by, refl, ◌∙◌, arith}
+use Rattle.std.proofs.lemmas.Int.{ints}
+use Rattle.std.proofs.lemmas.Nat.{mul-le}
+use Rattle.std.proofs.lemmas.List.Sums.{sum_by-cons, sum_by-le-sum_by}
+use Rattle.std.proofs.lemmas.List.Elements.{All-head, All-tail, All-weaker}
+use Rattle.lock_model.specs.Fleet.{ship_at, chamber_at}
+use Rattle.lock_model.specs.declared.instance.Instance.{Instance}
+use Rattle.lock_model.specs.declared.group.Group.{Group}
+use Rattle.lock_model.specs.declared.way.Way.{Way}
+use Rattle.lock_model.specs.declared.way.Stand.{Stand}
+use Rattle.lock_rules.specs.Lawful.{stand_after}
+use Rattle.lock_rules.specs.Timetable.{start_of, last_arrival, timetable_from}
+use Rattle.lock_rules.specs.Bound.{flow_of}
+use Rattle.lock_rules.proofs.TimetableLemmas.{start_of-lawful, closures_kept, last_arrival-least, last_arrival-each}
+use Rattle.lock_rules.proofs.TraceLemmas.{Dominates, Dominates-itself, Dominates-later, Dominates-skipped, start_of-kept}
+use Rattle.price_rules.specs.Prices.{paid_in}
+use Rattle.price_bound.specs.Worth.{end_after, worth_of, worth_from, paid_on, ServeAsWell}
+
+module _ (I : Instance) where
+  pub flow-times : (e : ℕ) (ss : List ℕ) → All (λ s. (ship_at I s).arrival ≤ e) ss → sum_by (λ s. e - (ship_at I s).arrival) ss + sum_by (λ s. (ship_at I s).arrival) ss ≡ length ss * e
+  flow-times e [] all = omega arith
+  flow-times e (s ∷ ss) all =
+      let here : (ship_at I s).arrival ≤ e = All-head (λ s. (ship_at I s).arrival ≤ e) s ss all in
+      omega (arith, here, flow-times e ss (All-tail (λ s. (ship_at I s).arrival ≤ e) s ss all), sum_by-cons (λ s. e - (ship_at I s).arrival) s ss, sum_by-cons (λ s. (ship_at I s).arrival) s ss)
+
+  pub serve-themselves : (k : ℕ) (prices ships : List ℕ) → ServeAsWell I k prices ships ships
+  serve-themselves k prices ships = record { count = omega arith; same = refl; early = omega arith; quick = omega arith; pays = omega arith }
+
+  -- what serves as well as ships that serve as well as others serves as well as these: so an option that another one serves for can go
+  pub serve-through : (k : ℕ) (prices ks hs gs : List ℕ) → ServeAsWell I k prices ks hs → ServeAsWell I k prices hs gs → ServeAsWell I k prices ks gs
+  serve-through k prices ks hs gs first second = record {
+    count = omega (arith, first.count, second.count);
+    same = first.same ∙ second.same;
+    early = omega (arith, first.early, second.early);
+    quick = omega (arith, first.quick, second.quick);
+    pays = omega (arith, first.pays, second.pays);
+  }
+
+  module _ (c : ℕ) (known : c < length I.chambers) where
+    -- from a state that is no worse a line has no more flow time
+    pub flow-dominated : (stand other : Stand) (from later : ℕ) (gs : List Group) → Dominates (chamber_at I c) stand from other later → flow_of I gs (timetable_from I c stand from gs) ≤ flow_of I gs (timetable_from I c other later gs)
+    flow-dominated stand other from later [] better = omega arith
+    flow-dominated stand other from later (g ∷ gs) better =
+        let lawful = start_of-lawful I c known other later g in
+        let first = start_of-kept I c known stand other from later (start_of I c other later g) g g.ships better lawful lawful.arrived (omega arith) in
+        let end : ℕ = end_after I c stand from g in
+        let done : ℕ = end_after I c other later g in
+        let ends : end ≤ done = omega (arith, first) in
+        let less = sum_by-le-sum_by (λ s. end - (ship_at I s).arrival) (λ s. done - (ship_at I s).arrival) g.ships (λ s. omega arith) in
+        let rest = flow-dominated (stand_after g.way) (stand_after g.way) end done gs (Dominates-later (chamber_at I c) (stand_after g.way) end done (closures_kept I c known) ends) in
+        omega (arith, less, rest)
+
+    -- a group before a line makes the line worth no less
+    pub worth-skipped : (k : ℕ) (prices : List ℕ) (stand : Stand) (from : ℕ) (g : Group) (gs : List Group) → worth_from I c k prices stand from gs ≤ℤ worth_from I c k prices (stand_after g.way) (end_after I c stand from g) gs
+    worth-skipped k prices stand from g gs =
+        step (flow_of I gs (timetable_from I c stand from gs)) (flow_of I gs (timetable_from I c (stand_after g.way) (end_after I c stand from g) gs)) (paid_in I k prices gs)
+        (flow-dominated stand (stand_after g.way) from (end_after I c stand from g) gs
+        (Dominates-skipped I c known stand stand from from (start_of I c stand from g) g (Dominates-itself (chamber_at I c) stand from) (start_of-lawful I c known stand from g)))
+      where
+        step : (x y p : ℕ) → x ≤ y → (pos (100 * x) -ℤ pos p) ≤ℤ (pos (100 * y) -ℤ pos p)
+        step x y p h = omega (arith, ints)
+
+    module _ (k : ℕ) (prices : List ℕ) (way : Way) (hs gs : List ℕ) (well : ServeAsWell I k prices hs gs) (stand : Stand) (from : ℕ) where
+      abbrev g : Group
+      g = record { way = way; ships = gs }
+
+      abbrev h : Group
+      h = record { way = way; ships = hs }
+
+      arrived : All (λ s. (ship_at I s).arrival ≤ start_of I c stand from g) hs
+      arrived =
+          let last = last_arrival-least I 0 (start_of I c stand from g) gs (omega arith) (start_of-lawful I c known stand from g).arrived in
+          All-weaker (λ s. (ship_at I s).arrival ≤ last_arrival I 0 hs) (λ s. (ship_at I s).arrival ≤ start_of I c stand from g) (λ s e. omega (arith, e, last, well.early)) hs (last_arrival-each I 0 hs)
+
+      -- they end no later
+      pub serve-end : end_after I c stand from h ≤ end_after I c stand from g
+      serve-end =
+          let start = start_of-kept I c known stand stand from from (start_of I c stand from g) g hs (Dominates-itself (chamber_at I c) stand from) (start_of-lawful I c known stand from g) arrived well.quick in
+          omega (arith, start, well.quick)
+
+      -- and are worth no more
+      pub serve-worth : worth_of I c k prices stand from h ≤ℤ worth_of I c k prices stand from g
+      serve-worth =
+          let end : ℕ = end_after I c stand from h in
+          let other : ℕ = end_after I c stand from g in
+          let ends : end ≤ other = serve-end in
+          let less = sum_by-le-sum_by (λ s. end - (ship_at I s).arrival) (λ s. other - (ship_at I s).arrival) hs (λ s. omega arith) in
+          let mine = flow-times other hs (All-weaker (λ s. (ship_at I s).arrival ≤ start_of I c stand from g) (λ s. (ship_at I s).arrival ≤ other) (λ s e. omega (arith, e)) hs arrived) in
+          let yours = flow-times other gs (All-weaker (λ s. (ship_at I s).arrival ≤ start_of I c stand from g) (λ s. (ship_at I s).arrival ≤ other) (λ s e. omega (arith, e)) gs (start_of-lawful I c known stand from g).arrived) in
+          step (sum_by (λ s. end - (ship_at I s).arrival) hs) (sum_by (λ s. other - (ship_at I s).arrival) hs) (sum_by (λ s. other - (ship_at I s).arrival) gs) (sum_by (λ s. (ship_at I s).arrival) hs) (sum_by (λ s. (ship_at I s).arrival) gs) (length hs * other) (length gs * other) (paid_on I k prices hs) (paid_on I k prices gs)
+          less mine yours (mul-le (length hs) other (length gs) other well.count (omega arith)) well.pays
+        where
+          step : (x y z a b m n p q : ℕ) → x ≤ y → y + a ≡ m → z + b ≡ n → m ≤ n → q + 100 * b ≤ p + 100 * a → (pos (100 * x) -ℤ pos p) ≤ℤ (pos (100 * z) -ℤ pos q)
+          step x y z a b m n p q h1 h2 h3 h4 h5 = omega (arith, ints)
+
+      -- so is the line that goes on behind them
+      pub serve-line : (rest : List Group) → (worth_of I c k prices stand from h +ℤ worth_from I c k prices (stand_after way) (end_after I c stand from h) rest) ≤ℤ (worth_of I c k prices stand from g +ℤ worth_from I c k prices (stand_after way) (end_after I c stand from g) rest)
+      serve-line rest =
+          step (worth_of I c k prices stand from h) (worth_of I c k prices stand from g) (flow_of I rest (timetable_from I c (stand_after way) (end_after I c stand from h) rest)) (flow_of I rest (timetable_from I c (stand_after way) (end_after I c stand from g) rest)) (paid_in I k prices rest)
+          serve-worth (flow-dominated (stand_after way) (stand_after way) (end_after I c stand from h) (end_after I c stand from g) rest
+          (Dominates-later (chamber_at I c) (stand_after way) (end_after I c stand from h) (end_after I c stand from g) (closures_kept I c known) serve-end))
+        where
+          step : (v w : ℤ) (x y p : ℕ) → v ≤ℤ w → x ≤ y → (v +ℤ (pos (100 * x) -ℤ pos p)) ≤ℤ (w +ℤ (pos (100 * y) -ℤ pos p))
+          step v w x y p e f = omega (arith, ints)

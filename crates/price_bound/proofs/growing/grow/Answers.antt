@@ -1,0 +1,14 @@
+use Rattle.std.proofs.Common.{◌≡◌, ◌+◌, suc, subst, arith, rules}
+use Rattle.price_bound.specs.Growing.{AreGrown, IsNew}
+use Rattle.price_bound.proofs.GrowLemmas.{grown-skip}
+use Rattle.price_bound.proofs.growing.grow.Goals as goal
+
+pub returns-then-not-may_grow : goal.returns-then-not-may_grow
+returns-then-not-may_grow c =
+    let I = c.args.growth.now.case.now.instance.now in
+    let n = c.args.growth.now.case.now.chamber in
+    let k = c.args.growth.now.case.now.depth in
+    let sets = c.args.growth.now.sets.now in
+    let up : suc c.args.ship ≡ c.args.ship + 1 = omega arith in
+    let old : ¬ IsNew I k c.args.base.now c.args.ship = search rules in
+    subst (λ m. AreGrown I n k sets c.args.base.now m c.args.groups.now.items) up (grown-skip I n k sets c.args.base.now c.args.ship c.args.groups.now.items old c.requires.grown)

@@ -1,0 +1,10 @@
+use Rattle.std.proofs.Common.{All}
+use Rattle.price_bound.specs.Cuts.{plain_cuts}
+use Rattle.price_bound.specs.Values.{AreValues, IsFrame}
+use Rattle.price_bound.proofs.least.worked.Given as goal
+
+abbrev pub invariant-loop : goal.invariant-loop
+invariant-loop l = record {
+  values : AreValues l.table.case.now.instance.now l.table.case.now.chamber (plain_cuts l.table.case.now.instance.now l.table.case.now.cuts.now) l.table.case.now.depth l.table.case.now.prices.now l.table.case.now.line.now l.table.horizon l.values.held;
+  frames : All (IsFrame l.table.case.now.instance.now l.table.case.now.chamber (plain_cuts l.table.case.now.instance.now l.table.case.now.cuts.now) l.table.case.now.depth l.table.case.now.prices.now l.table.case.now.line.now l.table.horizon l.table.choices.now) l.frames.items;
+}

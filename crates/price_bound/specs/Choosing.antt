@@ -1,0 +1,125 @@
+-- The groups that may come next in a loose line, and the values of the states of a chamber on its line.
+use Rattle.std.specs.Prelude.{ℕ, suc, ◌≡◌, ◌+◌, ◌-◌, ◌*◌, ◌≤◌, ◌<◌, ◌⊎◌, ℤ, pos, ◌+ℤ◌, ◌≤ℤ◌, Some, None, List, [], ◌∷◌, length, drop, All, Contains, filter, cond, sum_by, slice_index_or}
+use Rattle.std.specs.declared.option.Option.{Option}
+use Rattle.lock_model.specs.Fleet.{ship_at}
+use Rattle.lock_model.specs.declared.instance.Instance.{Instance}
+use Rattle.lock_model.specs.declared.group.Group.{Group}
+use Rattle.lock_model.specs.declared.way.Stand.{Stand}
+use Rattle.lock_rules.specs.Lawful.{duration_of, stand_after}
+use Rattle.lock_rules.specs.Timetable.{last_arrival}
+use Rattle.lock_rules.specs.Arrival.{first_ships}
+use Rattle.lock_rules.specs.Trace.{has_number}
+use Rattle.price_rules.specs.Prices.{PlainCut, IsUncut, IsLoose, is_missing, price_at}
+use Rattle.price_bound.specs.declared.choice.Choice.{Choice}
+use Rattle.price_bound.specs.Growing.{IsBase}
+use Rattle.price_bound.specs.Worth.{end_after, worth_of, worth_from, IsLeastWorth, ServeAsWell}
+
+-- The ships that the group keeps are none, or those of the line's group of the place that it joins, whose way it has.
+abbrev pub Keeps : Instance → ℕ → List Group → Option ℕ → Group → Type 0
+Keeps I k line None g = filter (has_number (first_ships I k)) g.ships ≡ []
+Keeps I k line (Some p) g = drop p line ≡ record { way = g.way; ships = filter (has_number (first_ships I k)) g.ships } ∷ drop (suc p) line
+
+-- what ship s counts: 100 times its arrival, and its price where it is missing
+abbrev pub rate_of : Instance → ℕ → List ℕ → ℕ → ℕ
+rate_of I k prices s = 100 * (ship_at I s).arrival + cond (is_missing I k s) (price_at prices s) 0
+
+-- the sums of a choice
+pub record AreSums (I : Instance) (c k : ℕ) (prices : List ℕ) (choice : Choice) : Type 0 where
+  pub duration : choice.duration ≡ duration_of I c choice.group.ships
+  pub last : choice.last ≡ last_arrival I 0 choice.group.ships
+  pub pays : choice.pays ≡ sum_by (rate_of I k prices) choice.group.ships
+  pub short : choice.duration ≤ 9000000
+  pub soon : choice.last ≤ 1000000
+  pub fair : choice.pays ≤ 808000000
+
+-- a choice is an uncut group with its sums
+pub record IsChoice (I : Instance) (c : ℕ) (cuts : List PlainCut) (k : ℕ) (prices : List ℕ) (line : List Group) (choice : Choice) : Type 0 where
+  pub uncut : IsUncut I c cuts choice.group
+  pub keeps : Keeps I k line choice.joins choice.group
+  pub sums : AreSums I c k prices choice
+
+-- The choice joins the same group as the other, has its way, and is no more ships, arrives no later, takes no longer and pays no less.
+pub record Serves (other choice : Choice) : Type 0 where
+  pub joins : other.joins ≡ choice.joins
+  pub way : other.group.way ≡ choice.group.way
+  pub count : length other.group.ships ≤ length choice.group.ships
+  pub last : other.last ≤ choice.last
+  pub duration : other.duration ≤ choice.duration
+  pub pays : choice.pays ≤ other.pays
+
+-- the group has the way of the base and keeps its ships
+pub record IsOn (I : Instance) (k : ℕ) (base g : Group) : Type 0 where
+  pub way : g.way ≡ base.way
+  pub keeps : filter (has_number (first_ships I k)) g.ships ≡ base.ships
+
+-- what groups are grown from that join there: nothing, or the line's group of that place
+pub record IsBaseOf (I : Instance) (c k : ℕ) (line : List Group) (to : Option ℕ) (base : Group) : Type 0 where
+  pub good : IsBase I c k base
+  pub keeps : (g : Group) → IsOn I k base g → Keeps I k line to g
+
+-- one of the choices joins the same group, has the same way and serves as well
+pub record IsServed (I : Instance) (k : ℕ) (prices : List ℕ) (choices : List Choice) (to : Option ℕ) (g : Group) : Type 0 where
+  pub choice : Choice
+  pub held : Contains choices choice
+  pub joins : choice.joins ≡ to
+  pub way : choice.group.way ≡ g.way
+  pub as_good : ServeAsWell I k prices choice.group.ships g.ships
+
+-- to the choices others were put, all of them right, and one that serves as well as each uncut group on the base
+pub record HaveMore (I : Instance) (c : ℕ) (cuts : List PlainCut) (k : ℕ) (prices : List ℕ) (line : List Group) (to : Option ℕ) (base : Group) (old new : List Choice) : Type 0 where
+  pub each : All (IsChoice I c cuts k prices line) new
+  pub kept : (h : Choice) → Contains old h → Contains new h
+  pub served : (g : Group) → IsUncut I c cuts g → IsOn I k base g → IsServed I k prices new to g
+
+-- the choice was put to the others, or one that serves as well is among them
+pub record HasOne (I : Instance) (c : ℕ) (cuts : List PlainCut) (k : ℕ) (prices : List ℕ) (line : List Group) (choice : Choice) (old new : List Choice) : Type 0 where
+  pub each : All (IsChoice I c cuts k prices line) new
+  pub kept : (h : Choice) → Contains old h → Contains new h
+  pub served : IsServed I k prices new choice.joins choice.group
+
+-- a choice of the group was put to the others or is served by one, or the group is empty
+pub record PutsGroup (I : Instance) (c : ℕ) (cuts : List PlainCut) (k : ℕ) (prices : List ℕ) (line : List Group) (to : Option ℕ) (g : Group) (old new : List Choice) : Type 0 where
+  pub puts : ((length g.ships ≡ 0) × (new ≡ old)) ⊎ ((choice : Choice) × (choice.joins ≡ to) × (choice.group ≡ g) × HasOne I c cuts k prices line choice old new)
+
+-- the same said of the first i of the grown groups
+pub record HaveSome (I : Instance) (c : ℕ) (cuts : List PlainCut) (k : ℕ) (prices : List ℕ) (line : List Group) (to : Option ℕ) (groups : List Group) (i : ℕ) (old new : List Choice) : Type 0 where
+  pub each : All (IsChoice I c cuts k prices line) new
+  pub kept : (h : Choice) → Contains old h → Contains new h
+  pub done : (j : ℕ) (d : Group) → j < i → j < length groups → 1 ≤ length (slice_index_or groups j d).ships → IsServed I k prices new to (slice_index_or groups j d)
+
+-- These choices are enough for the line: for each uncut group one of them serves as well.
+pub record AreChoices (I : Instance) (c : ℕ) (cuts : List PlainCut) (k : ℕ) (prices : List ℕ) (line : List Group) (choices : List Choice) : Type 0 where
+  pub each : All (IsChoice I c cuts k prices line) choices
+  pub whole : (to : Option ℕ) (g : Group) → IsUncut I c cuts g → Keeps I k line to g → IsServed I k prices choices to g
+
+-- the same for the groups that keep none, or the line's group of one of the first i places
+pub record AreSome (I : Instance) (c : ℕ) (cuts : List PlainCut) (k : ℕ) (prices : List ℕ) (line : List Group) (i : ℕ) (choices : List Choice) : Type 0 where
+  pub each : All (IsChoice I c cuts k prices line) choices
+  pub free : (g : Group) → IsUncut I c cuts g → Keeps I k line None g → IsServed I k prices choices None g
+  pub own : (p : ℕ) (g : Group) → p < i → IsUncut I c cuts g → Keeps I k line (Some p) g → IsServed I k prices choices (Some p) g
+
+-- a choice that comes next at place p leads to place q
+abbrev pub Leads : Option ℕ → ℕ → ℕ → Type 0
+Leads None p q = p ≡ q
+Leads (Some j) p q = (j ≡ p) × (suc p ≡ q)
+
+-- all lines that go on behind the group from place q are worth at least this
+abbrev pub IsBelow : Instance → ℕ → List PlainCut → ℕ → List ℕ → List Group → Stand → ℕ → ℕ → ℤ → Group → Type 0
+IsBelow I c cuts k prices line stand from q best g =
+    (gs : List Group) → IsLoose I c cuts k (drop q line) gs
+    → best ≤ℤ (worth_of I c k prices stand from g +ℤ worth_from I c k prices (stand_after g.way) (end_after I c stand from g) gs)
+
+-- missing ships alone that gain nothing may be left out
+abbrev pub IsIdle : Instance → ℕ → ℕ → List ℕ → Stand → ℕ → Choice → Type 0
+IsIdle I c k prices stand from choice = (choice.joins ≡ None) × (pos 0 ≤ℤ worth_of I c k prices stand from choice.group)
+
+-- The choice is counted: what begins with it from place p is worth at least this, or it may be left out.
+abbrev pub IsCounted : Instance → ℕ → List PlainCut → ℕ → List ℕ → List Group → Stand → ℕ → ℕ → ℤ → Choice → Type 0
+IsCounted I c cuts k prices line stand from p best choice =
+    (q : ℕ) → Leads choice.joins p q → IsBelow I c cuts k prices line stand from q best choice.group ⊎ IsIdle I c k prices stand from choice
+
+-- The value of a state: the least worth of what is left of the line from place p on.
+pub record IsValue (I : Instance) (c : ℕ) (cuts : List PlainCut) (k : ℕ) (prices : List ℕ) (line : List Group) (horizon : ℕ) (p : ℕ) (stand : Stand) (from : ℕ) (v : ℤ) : Type 0 where
+  pub least : IsLeastWorth I c cuts k prices stand from (drop p line) (Some v)
+  pub low : pos 0 ≤ℤ (v +ℤ pos (808000000 * (horizon - from)))
+  pub high : v ≤ℤ pos 6000000000000

@@ -1,0 +1,40 @@
+-- Values that are remembered for states.
+use Rattle.std.specs.Prelude.{ℕ, ◌≡◌, ◌+◌, ◌-◌, ◌*◌, ◌≤◌, ◌<◌, nat_eq, ℤ, pos, ◌+ℤ◌, ◌≤ℤ◌, Some, List, length, drop, slice_index_or}
+use Rattle.std.specs.HashMap.{get, HashMap}
+use Rattle.std.specs.declared.hash.FoldHasher.{FoldHasher}
+use Rattle.std.specs.declared.hash.BuildHasherDefault.{BuildHasherDefault}
+use Rattle.lock_model.specs.declared.instance.Instance.{Instance}
+use Rattle.lock_model.specs.declared.group.Group.{Group}
+use Rattle.lock_model.specs.declared.way.Stand.{Stand}
+use Rattle.lock_model.specs.declared.way.Stand.TheVariants.{Low, High}
+use Rattle.price_rules.specs.Prices.{PlainCut}
+use Rattle.price_bound.specs.declared.choice.Choice.{Choice}
+use Rattle.price_bound.specs.declared.frame.Frame.{Frame}
+use Rattle.price_bound.specs.Worth.{worth_from, IsWorth}
+use Rattle.price_bound.specs.Choosing.{IsCounted, IsValue}
+
+abbrev pub side_of : Stand → ℕ
+side_of Low = 0
+side_of High = 1
+
+-- a number that no other state has: the place is at most 24
+abbrev pub key_of : ℕ → Stand → ℕ → ℕ
+key_of place stand minute = (minute * 25 + place) * 2 + side_of stand
+
+-- what is remembered for a state is its value
+pub record AreValues (I : Instance) (c : ℕ) (cuts : List PlainCut) (k : ℕ) (prices : List ℕ) (line : List Group) (horizon : ℕ) (held : HashMap ℕ ℤ (BuildHasherDefault FoldHasher)) : Type 0 where
+  pub told : (p : ℕ) (stand : Stand) (minute : ℕ) (v : ℤ) → p ≤ 24 → get nat_eq held (key_of p stand minute) ≡ Some v → IsValue I c cuts k prices line horizon p stand minute v
+
+-- What a state is worth at most so far: some loose line is worth it, and the line's own groups alone are worth no less.
+pub record IsBest (I : Instance) (c : ℕ) (cuts : List PlainCut) (k : ℕ) (prices : List ℕ) (line : List Group) (horizon : ℕ) (p : ℕ) (stand : Stand) (minute : ℕ) (best : ℤ) : Type 0 where
+  pub stop : best ≤ℤ worth_from I c k prices stand minute (drop p line)
+  pub reached : IsWorth I c cuts k prices stand minute (drop p line) best
+  pub low : pos 0 ≤ℤ (best +ℤ pos (808000000 * (horizon - minute)))
+  pub high : best ≤ℤ pos 6000000000000
+
+-- a state before the horizon, of which the first choices are counted
+pub record IsFrame (I : Instance) (c : ℕ) (cuts : List PlainCut) (k : ℕ) (prices : List ℕ) (line : List Group) (horizon : ℕ) (choices : List Choice) (frame : Frame) : Type 0 where
+  pub place : frame.state.place ≤ length line
+  pub early : frame.state.minute < horizon
+  pub best : IsBest I c cuts k prices line horizon frame.state.place frame.state.stand frame.state.minute frame.best
+  pub counted : (j : ℕ) (d : Choice) → j < frame.next → j < length choices → IsCounted I c cuts k prices line frame.state.stand frame.state.minute frame.state.place frame.best (slice_index_or choices j d)

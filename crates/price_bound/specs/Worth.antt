@@ -1,0 +1,72 @@
+-- What a loose line is worth to a chamber that stands so and is free at a minute, and the least of that.
+use Rattle.std.specs.Prelude.{ℕ, ◌≡◌, ◌+◌, ◌-◌, ◌*◌, ◌≤◌, ◌<◌, true, ℤ, pos, ◌-ℤ◌, ◌≤ℤ◌, Some, None, List, length, All, sum_by, filter, ⊤}
+use Rattle.std.specs.declared.option.Option.{Option}
+use Rattle.std.specs.Option.{MatchOption}
+use Rattle.lock_model.specs.Fleet.{ship_at, chamber_at}
+use Rattle.lock_model.specs.declared.instance.Instance.{Instance}
+use Rattle.lock_model.specs.declared.group.Group.{Group}
+use Rattle.lock_model.specs.declared.way.Stand.{Stand}
+use Rattle.lock_rules.specs.Lawful.{duration_of}
+use Rattle.lock_rules.specs.Timetable.{start_of, last_arrival, timetable_from}
+use Rattle.lock_rules.specs.Arrival.{first_ships}
+use Rattle.lock_rules.specs.Trace.{has_number}
+use Rattle.lock_rules.specs.Bound.{flow_of}
+use Rattle.price_rules.specs.Prices.{PlainCut, IsLoose, is_missing, price_at, paid_by, paid_in}
+
+-- the prices of the missing ships among these
+abbrev pub paid_on : Instance → ℕ → List ℕ → List ℕ → ℕ
+paid_on I k prices ships = sum_by (price_at prices) (filter (is_missing I k) ships)
+
+-- the arrivals of these ships, added
+abbrev pub arrivals_of : Instance → List ℕ → ℕ
+arrivals_of I ships = sum_by (λ s. (ship_at I s).arrival) ships
+
+-- the earliest end of a group that comes next
+abbrev pub end_after : Instance → ℕ → Stand → ℕ → Group → ℕ
+end_after I c stand from g = start_of I c stand from g + duration_of I c g.ships
+
+-- of a group that comes next, 100 times its ships' flow time minus what it pays
+abbrev pub worth_of : Instance → ℕ → ℕ → List ℕ → Stand → ℕ → Group → ℤ
+worth_of I c k prices stand from g =
+    pos (100 * sum_by (λ s. end_after I c stand from g - (ship_at I s).arrival) g.ships) -ℤ pos (paid_by I k prices g)
+
+-- of a line in its earliest timetable, 100 times the ships' flow time minus what it pays
+abbrev pub worth_from : Instance → ℕ → ℕ → List ℕ → Stand → ℕ → List Group → ℤ
+worth_from I c k prices stand from gs = pos (100 * flow_of I gs (timetable_from I c stand from gs)) -ℤ pos (paid_in I k prices gs)
+
+-- there is a number, and it is at most v
+abbrev pub AtMost : Option ℤ → ℤ → Type 0
+AtMost None v = ⊥
+AtMost (Some a) v = a ≤ℤ v
+
+-- some loose line is worth this
+pub record IsWorth (I : Instance) (c : ℕ) (cuts : List PlainCut) (k : ℕ) (prices : List ℕ) (stand : Stand) (from : ℕ) (line : List Group) (v : ℤ) : Type 0 where
+  pub loose : List Group
+  pub is_loose : IsLoose I c cuts k line loose
+  pub worth : worth_from I c k prices stand from loose ≡ v
+
+-- The least worth of the loose lines from this state on; nothing where there is no loose line.
+pub record IsLeastWorth (I : Instance) (c : ℕ) (cuts : List PlainCut) (k : ℕ) (prices : List ℕ) (stand : Stand) (from : ℕ) (line : List Group) (least : Option ℤ) : Type 0 where
+  pub below : (loose : List Group) → IsLoose I c cuts k line loose → AtMost least (worth_from I c k prices stand from loose)
+  pub reached : MatchOption least ⊤ (IsWorth I c cuts k prices stand from line)
+
+-- the least worth from the chamber's first state
+abbrev pub IsLeastOn : Instance → ℕ → List PlainCut → ℕ → List ℕ → List Group → Option ℤ → Type 0
+IsLeastOn I c cuts k prices line least = IsLeastWorth I c cuts k prices (chamber_at I c).stands (chamber_at I c).opens line least
+
+-- a group of a node's line: some of the first k ships
+pub record IsKeptGroup (I : Instance) (k : ℕ) (g : Group) : Type 0 where
+  pub some : 1 ≤ length g.ships
+  pub kept : All (λ s. has_number (first_ships I k) s ≡ true) g.ships
+
+-- from this minute on each missing ship is served for at least its price
+pub record IsHorizon (I : Instance) (k : ℕ) (prices : List ℕ) (horizon : ℕ) : Type 0 where
+  pub late : (s : ℕ) → s < length I.ships → is_missing I k s ≡ true → price_at prices s + 100 * (ship_at I s).arrival ≤ 100 * horizon
+
+-- The ships hs serve as well as the ships gs: they are no more and keep the same ships, arrive no later, take no longer, and pay no less, with 100 for each minute of their arrivals.
+pub record ServeAsWell (I : Instance) (k : ℕ) (prices : List ℕ) (hs gs : List ℕ) : Type 0 where
+  pub count : length hs ≤ length gs
+  pub same : filter (has_number (first_ships I k)) hs ≡ filter (has_number (first_ships I k)) gs
+  pub early : last_arrival I 0 hs ≤ last_arrival I 0 gs
+  pub quick : sum_by (λ s. (ship_at I s).handling) hs ≤ sum_by (λ s. (ship_at I s).handling) gs
+  pub pays : paid_on I k prices gs + 100 * arrivals_of I gs ≤ paid_on I k prices hs + 100 * arrivals_of I hs

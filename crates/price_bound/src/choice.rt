@@ -1,0 +1,17 @@
+//! Groups that may come next in a loose line.
+use lock_model::Group;
+
+/// A group that may come next, with the sums by which it is compared and served.
+#[derive(Debug, Drop)]
+pub struct Choice {
+    pub group: Group,
+    /// The place in the chamber's line of the group that it joins; None where all its ships are
+    /// missing.
+    pub joins: Option<u8>,
+    /// How many minutes it takes.
+    pub duration: u32,
+    /// The minute of its last arrival.
+    pub last: u32,
+    /// The prices of its missing ships and 100 times its arrivals, in hundredths of a minute.
+    pub pays: u32,
+}

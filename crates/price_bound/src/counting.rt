@@ -1,0 +1,159 @@
+//! The table of a chamber's line, one choice after another.
+ghost use Rattle.std.specs.Prelude.{◌≡◌, ◌+◌, ◌-◌, ◌*◌, ◌<◌, ◌≤◌, ◌≤ℤ◌, ◌+ℤ◌, pos, neg_ℤ, length, drop, All, IfSome, IfNone, ℕ, IsTrue, None, slice_index_or};
+ghost use Rattle.std.specs.Int.{int_min};
+ghost use Rattle.price_bound.specs.Choosing.{IsChoice, IsCounted, IsValue, Leads};
+ghost use Rattle.price_bound.specs.Values.{AreValues, IsBest, IsFrame};
+ghost use Rattle.price_bound.specs.Cuts.{plain_cuts};
+
+use crate::choice::Choice;
+use crate::frame::Frame;
+use crate::serving::{Served, alone, serve};
+use crate::state::State;
+use crate::table::Table;
+use crate::values::Values;
+use chamber_times::stand_after;
+
+/// A state of which no choice is counted.
+pub(crate) fn opened(table: &Table, state: State) -> Frame
+    requires place { state.place ≤ length table.now.case.now.line.now }
+    requires early { state.minute < table.now.horizon }
+    ensures { IsFrame table.now.case.now.instance.now table.now.case.now.chamber (plain_cuts table.now.case.now.instance.now table.now.case.now.cuts.now) table.now.case.now.depth table.now.case.now.prices.now table.now.case.now.line.now table.now.horizon table.now.choices.now result }
+{
+    Frame {
+        state,
+        best: alone(table.case, &state),
+        next: 0,
+    }
+}
+
+// The place that a choice leads to from a place, where it may come next there.
+fn led(choice: &Choice, place: u8) -> Option<u8>
+    requires { place ≤ 24 }
+    ensures some { IfSome result (λ q. Leads choice.now.joins place q) }
+    ensures none { IfNone result ((q : ℕ) → ¬ Leads choice.now.joins place q) }
+{
+    match choice.joins {
+        None => Some(place),
+        Some(own) => { if own == place { Some(place + 1) } else { None } }
+    }
+}
+
+// The value of a state, where it is known.
+fn known(table: &Table, values: &Values, state: &State) -> Option<i64>
+    requires values { AreValues table.now.case.now.instance.now table.now.case.now.chamber (plain_cuts table.now.case.now.instance.now table.now.case.now.cuts.now) table.now.case.now.depth table.now.case.now.prices.now table.now.case.now.line.now table.now.horizon values.now.held }
+    requires place { state.now.place ≤ length table.now.case.now.line.now }
+    requires minute { state.now.minute ≤ 14000000 }
+    ensures some { IfSome result (IsValue table.now.case.now.instance.now table.now.case.now.chamber (plain_cuts table.now.case.now.instance.now table.now.case.now.cuts.now) table.now.case.now.depth table.now.case.now.prices.now table.now.case.now.line.now table.now.horizon state.now.place state.now.stand state.now.minute) }
+    ensures none { IfNone result (state.now.minute < table.now.horizon) }
+{
+    if state.minute >= table.horizon {
+        Some(alone(table.case, state))
+    } else {
+        values.find(state)
+    }
+}
+
+// Whether a choice may be left out: missing ships alone that gain nothing.
+fn is_idle(choice: &Choice, worth: i64) -> bool
+    ensures { IsTrue result → (choice.now.joins ≡ None) × (pos 0 ≤ℤ worth) }
+{
+    choice.joins.is_none() && worth >= 0
+}
+
+// The lesser of a value and of what a choice comes to with the value behind it.
+fn lesser(best: i64, worth: i64, behind: i64) -> i64
+    requires worth_low { neg_ℤ (pos 1000000000000000) ≤ℤ worth }
+    requires worth_high { worth ≤ℤ pos 1000000000000000 }
+    requires behind_low { neg_ℤ (pos 1000000000000000) ≤ℤ behind }
+    requires behind_high { behind ≤ℤ pos 1000000000000000 }
+    ensures { result ≡ int_min best (worth +ℤ behind) }
+{
+    best.min(worth + behind)
+}
+
+// Counts a choice that leads to a place, or names the state behind it whose value isn't known yet.
+fn count_to(
+    table: &Table,
+    values: &Values,
+    state: &State,
+    best: &mut i64,
+    choice: &Choice,
+    place: u8,
+) -> Option<State>
+    requires values { AreValues table.now.case.now.instance.now table.now.case.now.chamber (plain_cuts table.now.case.now.instance.now table.now.case.now.cuts.now) table.now.case.now.depth table.now.case.now.prices.now table.now.case.now.line.now table.now.horizon values.now.held }
+    requires early { state.now.minute < table.now.horizon }
+    requires best { IsBest table.now.case.now.instance.now table.now.case.now.chamber (plain_cuts table.now.case.now.instance.now table.now.case.now.cuts.now) table.now.case.now.depth table.now.case.now.prices.now table.now.case.now.line.now table.now.horizon state.now.place state.now.stand state.now.minute best.old }
+    requires is { IsChoice table.now.case.now.instance.now table.now.case.now.chamber (plain_cuts table.now.case.now.instance.now table.now.case.now.cuts.now) table.now.case.now.depth table.now.case.now.prices.now table.now.case.now.line.now choice.now }
+    requires leads { Leads choice.now.joins state.now.place place }
+    requires place { place ≤ length table.now.case.now.line.now }
+    ensures best { IsBest table.now.case.now.instance.now table.now.case.now.chamber (plain_cuts table.now.case.now.instance.now table.now.case.now.cuts.now) table.now.case.now.depth table.now.case.now.prices.now table.now.case.now.line.now table.now.horizon state.now.place state.now.stand state.now.minute best.new }
+    ensures less { best.new ≤ℤ best.old }
+    ensures none { IfNone result (IsCounted table.now.case.now.instance.now table.now.case.now.chamber (plain_cuts table.now.case.now.instance.now table.now.case.now.cuts.now) table.now.case.now.depth table.now.case.now.prices.now table.now.case.now.line.now state.now.stand state.now.minute state.now.place best.new choice.now) }
+    ensures some { IfSome result (λ s. (s.place ≤ length table.now.case.now.line.now) × (s.minute < table.now.horizon)) }
+{
+    let served = serve(table.case, state, choice);
+    if is_idle(choice, served.worth) {
+        return None;
+    }
+    let behind = State {
+        place,
+        stand: stand_after(choice.group.way),
+        minute: served.end,
+    };
+    match known(table, values, &behind) {
+        None => Some(behind),
+        Some(value) => {
+            *best = lesser(*best, served.worth, value);
+            None
+        }
+    }
+}
+
+// Counts a choice, or names the state behind it whose value isn't known yet.
+fn count(
+    table: &Table,
+    values: &Values,
+    state: &State,
+    best: &mut i64,
+    choice: &Choice,
+) -> Option<State>
+    requires values { AreValues table.now.case.now.instance.now table.now.case.now.chamber (plain_cuts table.now.case.now.instance.now table.now.case.now.cuts.now) table.now.case.now.depth table.now.case.now.prices.now table.now.case.now.line.now table.now.horizon values.now.held }
+    requires early { state.now.minute < table.now.horizon }
+    requires place { state.now.place ≤ length table.now.case.now.line.now }
+    requires best { IsBest table.now.case.now.instance.now table.now.case.now.chamber (plain_cuts table.now.case.now.instance.now table.now.case.now.cuts.now) table.now.case.now.depth table.now.case.now.prices.now table.now.case.now.line.now table.now.horizon state.now.place state.now.stand state.now.minute best.old }
+    requires is { IsChoice table.now.case.now.instance.now table.now.case.now.chamber (plain_cuts table.now.case.now.instance.now table.now.case.now.cuts.now) table.now.case.now.depth table.now.case.now.prices.now table.now.case.now.line.now choice.now }
+    ensures best { IsBest table.now.case.now.instance.now table.now.case.now.chamber (plain_cuts table.now.case.now.instance.now table.now.case.now.cuts.now) table.now.case.now.depth table.now.case.now.prices.now table.now.case.now.line.now table.now.horizon state.now.place state.now.stand state.now.minute best.new }
+    ensures less { best.new ≤ℤ best.old }
+    ensures none { IfNone result (IsCounted table.now.case.now.instance.now table.now.case.now.chamber (plain_cuts table.now.case.now.instance.now table.now.case.now.cuts.now) table.now.case.now.depth table.now.case.now.prices.now table.now.case.now.line.now state.now.stand state.now.minute state.now.place best.new choice.now) }
+    ensures some { IfSome result (λ s. (s.place ≤ length table.now.case.now.line.now) × (s.minute < table.now.horizon)) }
+{
+    match led(choice, state.place) {
+        None => None,
+        Some(place) => count_to(table, values, state, best, choice, place),
+    }
+}
+
+/// Counts choices one after another, until all are counted or the value of a state behind one isn't
+/// known yet; that state.
+pub(crate) fn advance(table: &Table, values: &Values, frame: &mut Frame) -> Option<State>
+    requires values { AreValues table.now.case.now.instance.now table.now.case.now.chamber (plain_cuts table.now.case.now.instance.now table.now.case.now.cuts.now) table.now.case.now.depth table.now.case.now.prices.now table.now.case.now.line.now table.now.horizon values.now.held }
+    requires choices { All (IsChoice table.now.case.now.instance.now table.now.case.now.chamber (plain_cuts table.now.case.now.instance.now table.now.case.now.cuts.now) table.now.case.now.depth table.now.case.now.prices.now table.now.case.now.line.now) table.now.choices.now }
+    requires frame { IsFrame table.now.case.now.instance.now table.now.case.now.chamber (plain_cuts table.now.case.now.instance.now table.now.case.now.cuts.now) table.now.case.now.depth table.now.case.now.prices.now table.now.case.now.line.now table.now.horizon table.now.choices.now frame.old }
+    ensures frame { IsFrame table.now.case.now.instance.now table.now.case.now.chamber (plain_cuts table.now.case.now.instance.now table.now.case.now.cuts.now) table.now.case.now.depth table.now.case.now.prices.now table.now.case.now.line.now table.now.horizon table.now.choices.now frame.new }
+    ensures none { IfNone result (length table.now.choices.now ≤ frame.new.next) }
+    ensures some { IfSome result (λ s. (s.place ≤ length table.now.case.now.line.now) × (s.minute < table.now.horizon)) }
+{
+    for place in frame.next..table.choices.len() {
+        match count(
+            table,
+            values,
+            &frame.state,
+            &mut frame.best,
+            &table.choices[place],
+        ) {
+            Some(state) => return Some(state),
+            None => frame.next = place + 1,
+        }
+    }
+    None
+}

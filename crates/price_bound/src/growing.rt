@@ -1,0 +1,127 @@
+//! Uncut groups, listed by growing them ship by ship.
+ghost use Rattle.std.specs.Prelude.{◌≡◌, ◌+◌, ◌<◌, ◌≤◌, ◌↔◌, length, All, IsTrue, IfSome, IfNone, OnOk, IfOk};
+ghost use Rattle.lock_model.specs.Fleet.{ship_at, chamber_at};
+ghost use Rattle.lock_rules.specs.Plan.{times_in};
+ghost use Rattle.lock_rules.specs.Children.{with_ship};
+ghost use Rattle.price_rules.specs.Prices.{is_missing};
+ghost use Rattle.master_branch.specs.Steps.{group_at};
+ghost use Rattle.price_bound.specs.Sparing.{Misses};
+ghost use Rattle.price_bound.specs.Growing.{IsGrown, AreGrown, MayJoin, IsJoined, IsNew, IsBase};
+
+use crate::error::{PriceError, append};
+use crate::forbidden::misses_all;
+use crate::line_case::LineCase;
+use lock_model::{Group, Ships};
+use master_branch::with_ship;
+use std::alloc::Global;
+
+/// What groups are grown by: the case, the ship sets that the cuts forbid, and the greatest number
+/// of groups.
+#[derive(Drop)]
+pub(crate) struct Growth<'a> {
+    pub(crate) case: &'a LineCase<'a>,
+    pub(crate) sets: &'a [Ships],
+    pub(crate) most: usize,
+}
+
+// Whether the node lacks the ship and it has the way of the group.
+fn may_grow(case: &LineCase, base: &Group, ship: u8) -> bool
+    requires { ship < length case.now.instance.now.ships }
+    ensures { IsTrue result ↔ IsNew case.now.instance.now case.now.depth base.now ship }
+{
+    case.instance.ships.as_slice()[ship as usize].way == base.way && case.lacks(ship)
+}
+
+// The group with a ship more, where the chamber may serve them together and no forbidden set is
+// among them.
+fn joined(growth: &Growth, group: &Group, ship: u8) -> Option<Group>
+    requires absent { times_in group.now.ships ship ≡ 0 }
+    requires few { length group.now.ships ≤ 8 }
+    ensures some { IfSome result (λ g. MayJoin growth.now.case.now.instance.now growth.now.case.now.chamber growth.now.sets.now ship group.now × (g ≡ with_ship ship group.now)) }
+    ensures none { IfNone result (¬ MayJoin growth.now.case.now.instance.now growth.now.case.now.chamber growth.now.sets.now ship group.now) }
+{
+    if group.ships.len() >= growth.case.lock().most as usize {
+        return None;
+    }
+    let joined = with_ship(group, ship);
+    if misses_all(growth.sets, joined.ships.as_slice()) {
+        Some(joined)
+    } else {
+        None
+    }
+}
+
+// Joins a ship to the group at a place, where that may be.
+fn join(growth: &Growth, groups: &mut Vec<Group>, place: usize, ship: u8) -> Result<(), PriceError>
+    requires place { place < length groups.old.items }
+    requires absent { times_in (group_at groups.old.items place).ships ship ≡ 0 }
+    requires few { length (group_at groups.old.items place).ships ≤ 8 }
+    ensures { OnOk result (IsJoined growth.now.case.now.instance.now growth.now.case.now.chamber growth.now.sets.now ship (group_at groups.old.items place) groups.old.items groups.new.items) }
+{
+    match joined(growth, &groups[place], ship) {
+        None => Ok(()),
+        Some(group) => {
+            if groups.len() >= growth.most {
+                return Err(PriceError::TooMany);
+            }
+            append(groups, group)
+        }
+    }
+}
+
+// Joins a ship to each of the groups that have not met it.
+fn join_each(
+    growth: &Growth,
+    base: &Group,
+    groups: &mut Vec<Group>,
+    ship: u8,
+) -> Result<(), PriceError>
+    requires known { ship < length growth.now.case.now.instance.now.ships }
+    requires new { IsNew growth.now.case.now.instance.now growth.now.case.now.depth base.now ship }
+    requires grown { AreGrown growth.now.case.now.instance.now growth.now.case.now.chamber growth.now.case.now.depth growth.now.sets.now base.now ship groups.old.items }
+    ensures { OnOk result (AreGrown growth.now.case.now.instance.now growth.now.case.now.chamber growth.now.case.now.depth growth.now.sets.now base.now (ship + 1) groups.new.items) }
+{
+    for place in 0..groups.len() {
+        join(growth, groups, place, ship)?;
+    }
+    Ok(())
+}
+
+// Joins a ship to each of the groups, where the node lacks it and it has their way.
+fn grow(growth: &Growth, base: &Group, groups: &mut Vec<Group>, ship: u8) -> Result<(), PriceError>
+    requires known { ship < length growth.now.case.now.instance.now.ships }
+    requires grown { AreGrown growth.now.case.now.instance.now growth.now.case.now.chamber growth.now.case.now.depth growth.now.sets.now base.now ship groups.old.items }
+    ensures { OnOk result (AreGrown growth.now.case.now.instance.now growth.now.case.now.chamber growth.now.case.now.depth growth.now.sets.now base.now (ship + 1) groups.new.items) }
+{
+    if !may_grow(growth.case, base, ship) {
+        return Ok(());
+    }
+    join_each(growth, base, groups, ship)
+}
+
+// The base alone, where no forbidden set is in it.
+fn ungrown(alloc: Global, growth: &Growth, base: &Group) -> Result<Vec<Group>, PriceError>
+    requires { IsBase growth.now.case.now.instance.now growth.now.case.now.chamber growth.now.case.now.depth base.now }
+    ensures { IfOk result (λ groups. AreGrown growth.now.case.now.instance.now growth.now.case.now.chamber growth.now.case.now.depth growth.now.sets.now base.now 0 groups.items) }
+{
+    let mut groups = Vec::new(alloc);
+    if !misses_all(growth.sets, base.ships.as_slice()) {
+        return Ok(groups);
+    }
+    append(&mut groups, base.copy())?;
+    Ok(groups)
+}
+
+/// The base joined by missing ships of its way, or by none, in all ways that the chamber may serve
+/// and that hold no forbidden set; the empty group among them where the base is empty.
+pub(crate) fn grown(alloc: Global, growth: &Growth, base: &Group) -> Result<Vec<Group>, PriceError>
+    requires { IsBase growth.now.case.now.instance.now growth.now.case.now.chamber growth.now.case.now.depth base.now }
+    ensures { IfOk result (λ groups. AreGrown growth.now.case.now.instance.now growth.now.case.now.chamber growth.now.case.now.depth growth.now.sets.now base.now (length growth.now.case.now.instance.now.ships) groups.items) }
+{
+    let count = growth.case.instance.ships.as_slice().len() as u8;
+    let mut groups = ungrown(alloc, growth, base)?;
+    for ship in 0..count {
+        grow(growth, base, &mut groups, ship)?;
+    }
+    Ok(groups)
+}

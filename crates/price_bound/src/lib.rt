@@ -1,0 +1,45 @@
+//! Lower bounds by prices, worked out: the Lagrangian relaxation of a set partition by chamber lines.
+//!
+//! `reaches` says whether a node reaches a cost by prices and cuts, exactly; `price_sum` is the sum
+//! by which it does; `show` makes a `Shown`, the value that carries the fact. For each chamber the
+//! least of `100 * flow - paid` over its loose lines is found apart: the uncut groups of missing ships
+//! are grown ship by ship, those that another one serves for as well are left out, and the states of
+//! the chamber that can be reached are worked out with their values remembered, up to the minute from
+//! which on missing ships may be left out of a line.
+//!
+//! No call changes what it is given. Refused are want of memory, and more groups or turns than the
+//! caller's `Limits` allow.
+//!
+//! Definitions: `price_rules` says what loose lines are, what they pay and what a node reaches. Here
+//! `specs/Cuts` says what cuts are by chamber and ships, `Claim` what a `Shown` carries, `Worth` what
+//! lines are worth and their least, `Total` the sum over the chambers; `Sparing`, `Growing`,
+//! `Choosing` and `Values` are of the steps.
+#![tactic(auto)]
+
+mod choice;
+mod choosing;
+mod counting;
+mod cut;
+mod error;
+mod forbidden;
+mod frame;
+mod growing;
+mod horizon;
+mod least;
+mod line_case;
+mod prices;
+mod reaching;
+mod serving;
+mod shown;
+mod state;
+mod table;
+#[cfg(test)]
+mod tests;
+mod values;
+mod weighing;
+
+pub use cut::ChamberCut;
+pub use error::{Limits, PriceError};
+pub use prices::Prices;
+pub use reaching::{PricedNode, price_sum, reaches};
+pub use shown::{Shown, show};

@@ -1,0 +1,46 @@
+//! One chamber's part of the bound.
+ghost use Rattle.std.specs.Prelude.{◌≡◌, ◌<◌, ◌≤◌, length, All};
+ghost use Rattle.lock_model.specs.Fleet.{chamber_at};
+ghost use Rattle.lock_rules.specs.Arrival.{first_ships};
+ghost use Rattle.lock_rules.specs.Node.{IsNodeGroup};
+ghost use Rattle.price_rules.specs.Prices.{is_missing};
+ghost use Rattle.price_bound.specs.Worth.{IsKeptGroup};
+
+use crate::cut::ChamberCut;
+use crate::prices::Prices;
+use lock_model::{Chamber, Group, Instance};
+
+/// A chamber and its line at a node of a depth, the ships that the node holds, the prices and the
+/// cuts.
+#[derive(Drop)]
+pub(crate) struct LineCase<'a> {
+    pub(crate) instance: &'a Instance,
+    pub(crate) cuts: &'a [ChamberCut],
+    pub(crate) prices: &'a Prices,
+    pub(crate) depth: u8,
+    pub(crate) held: &'a [u8],
+    pub(crate) chamber: u8,
+    pub(crate) line: &'a [Group],
+    pub(crate) ghost chamber_in: { chamber < length instance.now.chambers },
+    pub(crate) ghost holds: { held.now ≡ first_ships instance.now depth },
+    pub(crate) ghost kept: { All (IsKeptGroup instance.now depth) line.now },
+    pub(crate) ghost ships_in: { All (λ g. All (λ s. s < length instance.now.ships) g.ships) line.now },
+    pub(crate) ghost good: { All (IsNodeGroup instance.now chamber) line.now },
+    pub(crate) ghost few: { length line.now ≤ 24 },
+}
+
+impl LineCase<'_> {
+    // The chamber.
+    pub(crate) fn lock(&self) -> &Chamber
+        ensures { result.now ≡ chamber_at self.now.instance.now self.now.chamber }
+    {
+        &self.instance.chambers.as_slice()[self.chamber as usize]
+    }
+
+    // Whether the node lacks a ship.
+    pub(crate) fn lacks(&self, ship: u8) -> bool
+        ensures { result ≡ is_missing self.now.instance.now self.now.depth ship }
+    {
+        !self.held.contains(&ship)
+    }
+}

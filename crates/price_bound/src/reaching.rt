@@ -1,0 +1,134 @@
+//! The costs that a node reaches by prices.
+ghost use Rattle.std.specs.Prelude.{◌≡◌, ◌+◌, ◌*◌, ◌<◌, ◌≤◌, ◌↔◌, ◌≤ℤ◌, ◌<ℤ◌, ◌+ℤ◌, pos, neg_ℤ, length, All, IsTrue, IfOk, IfSome, IfNone, sum_by};
+ghost use Rattle.lock_rules.specs.Arrival.{first_ships};
+ghost use Rattle.lock_rules.specs.Node.{line_at};
+ghost use Rattle.master_branch.specs.Node.{IsNodeOf};
+ghost use Rattle.price_rules.specs.Prices.{Reaches, price_at};
+ghost use Rattle.price_bound.specs.Worth.{IsLeastOn};
+ghost use Rattle.price_bound.specs.Total.{IsSum, IsNodeSum};
+ghost use Rattle.price_bound.specs.Cuts.{plain_cuts};
+
+use crate::cut::ChamberCut;
+use crate::error::{Limits, PriceError};
+use crate::least::line_least;
+use crate::line_case::LineCase;
+use crate::prices::Prices;
+use lock_model::Instance;
+use master_branch::{Node, arrival_order};
+use std::alloc::Global;
+
+/// A node of an instance, prices and cuts.
+#[derive(Drop)]
+pub struct PricedNode<'a> {
+    pub instance: &'a Instance,
+    pub node: &'a Node,
+    pub prices: &'a Prices,
+    pub cuts: &'a [ChamberCut],
+    pub ghost is: { IsNodeOf instance.now node.now },
+}
+
+// The least worth of one chamber's loose lines.
+fn chamber_least(
+    alloc: Global,
+    asked: &PricedNode,
+    held: &[u8],
+    chamber: u8,
+    limits: Limits,
+) -> Result<Option<i64>, PriceError>
+    requires chamber_in { chamber < length asked.now.instance.now.chambers }
+    requires held { held.now ≡ first_ships asked.now.instance.now asked.now.node.now.depth }
+    ensures least { IfOk result (IsLeastOn asked.now.instance.now chamber (plain_cuts asked.now.instance.now asked.now.cuts.now) asked.now.node.now.depth asked.now.prices.now (line_at asked.now.node.now.lines chamber)) }
+    ensures low { IfOk result (λ least. IfSome least (λ v. neg_ℤ (pos 816080000000000) ≤ℤ v)) }
+    ensures high { IfOk result (λ least. IfSome least (λ v. v ≤ℤ pos 6000000000000)) }
+{
+    let case = LineCase {
+        instance: asked.instance,
+        cuts: asked.cuts,
+        prices: asked.prices,
+        depth: asked.node.depth(),
+        held,
+        chamber,
+        line: asked.node.line(chamber),
+    };
+    line_least(alloc, &case, limits)
+}
+
+// The least worths of all chambers, added; None where one has no loose line.
+fn added(
+    alloc: Global,
+    asked: &PricedNode,
+    held: &[u8],
+    limits: Limits,
+) -> Result<Option<i64>, PriceError>
+    requires { held.now ≡ first_ships asked.now.instance.now asked.now.node.now.depth }
+    ensures value { IfOk result (IsSum asked.now.instance.now (plain_cuts asked.now.instance.now asked.now.cuts.now) asked.now.node.now.depth asked.now.node.now.lines asked.now.prices.now) }
+    ensures low { IfOk result (λ least. IfSome least (λ v. neg_ℤ (pos 3264320000000000) ≤ℤ v)) }
+    ensures high { IfOk result (λ least. IfSome least (λ v. v ≤ℤ pos 24000000000000)) }
+{
+    let mut sum = 0;
+    for chamber in 0..asked.instance.chambers.as_slice().len() as u8 {
+        match chamber_least(alloc, asked, held, chamber, limits)? {
+            None => return Ok(None),
+            Some(least) => sum += least,
+        }
+    }
+    Ok(Some(sum))
+}
+
+// The prices of some ships, added.
+fn prices_of(prices: &Prices, ships: &[u8]) -> u64
+    requires { length ships.now ≤ 24 }
+    ensures value { result ≡ sum_by (price_at prices.now) ships.now }
+    ensures small { result ≤ 24000000 }
+{
+    let mut sum = 0;
+    for &ship in ships {
+        sum += prices.at(ship) as u64;
+    }
+    sum
+}
+
+/// The least of `100 * flow - paid` over a loose line for each chamber, and the prices of the missing
+/// ships, in hundredths of a minute; None where some chamber has no loose line.
+pub fn price_sum(
+    alloc: Global,
+    asked: &PricedNode,
+    limits: Limits,
+) -> Result<Option<i64>, PriceError>
+    ensures value { IfOk result (IsNodeSum asked.now.instance.now (plain_cuts asked.now.instance.now asked.now.cuts.now) asked.now.node.now.depth asked.now.node.now.lines asked.now.prices.now) }
+    ensures low { IfOk result (λ sum. IfSome sum (λ v. neg_ℤ (pos 4000000000000000) ≤ℤ v)) }
+    ensures high { IfOk result (λ sum. IfSome sum (λ v. v ≤ℤ pos 40000000000000)) }
+{
+    let order = arrival_order(asked.instance);
+    let (held, missing) = order.as_slice().split_at(asked.node.depth() as usize);
+    match added(alloc, asked, held, limits)? {
+        None => Ok(None),
+        Some(least) => Ok(Some(least + prices_of(asked.prices, missing) as i64)),
+    }
+}
+
+// Whether 100 times the cost is less than the sum and 100.
+fn is_high(sum: i64, cost: u64) -> bool
+    requires { sum ≤ℤ pos 40000000000000 }
+    ensures { IsTrue result ↔ (pos (100 * cost) <ℤ (sum +ℤ pos 100)) }
+{
+    let room = sum + 100;
+    room > 0 && cost <= (room as u64 - 1) / 100
+}
+
+/// Whether a node reaches a cost, in minutes, by prices and cuts: exactly, by the Lagrangian
+/// relaxation of a set partition by chamber lines. Refused are only want of memory, and more uncut
+/// groups or more turns than the limits allow.
+pub fn reaches(
+    alloc: Global,
+    asked: &PricedNode,
+    cost: u64,
+    limits: Limits,
+) -> Result<bool, PriceError>
+    ensures { IfOk result (λ reached. IsTrue reached ↔ Reaches asked.now.instance.now (plain_cuts asked.now.instance.now asked.now.cuts.now) asked.now.node.now.depth asked.now.node.now.lines asked.now.prices.now cost) }
+{
+    match price_sum(alloc, asked, limits)? {
+        None => Ok(true),
+        Some(sum) => Ok(is_high(sum, cost)),
+    }
+}

@@ -1,0 +1,100 @@
+//! What a choice is worth that comes next, and what a line's own groups are worth alone.
+ghost use Rattle.std.specs.Prelude.{◌≡◌, ◌+◌, ◌-◌, ◌*◌, ◌<◌, ◌≤◌, ◌≤ℤ◌, neg_ℤ, pos, length, drop, All, max, sum_by};
+ghost use Rattle.lock_model.specs.Fleet.{ship_at};
+ghost use Rattle.price_bound.specs.Worth.{end_after, worth_of, worth_from, IsKeptGroup};
+ghost use Rattle.price_bound.specs.Choosing.{IsChoice};
+ghost use Rattle.price_bound.specs.Cuts.{plain_cuts};
+
+use crate::choice::Choice;
+use crate::line_case::LineCase;
+use crate::state::State;
+use chamber_times::{first_free, group_times, ready, stand_after};
+use lock_model::{Group, Instance};
+
+/// The minute at which a choice ends that comes next, and what it is worth, in hundredths of a
+/// minute.
+#[derive(Clone, Copy, Debug, PartialEq, Eq)]
+pub(crate) struct Served {
+    pub(crate) end: u64,
+    pub(crate) worth: i64,
+}
+
+// The product of a number of ships and a minute.
+fn product(count: u64, end: u64) -> u64
+    requires count { count ≤ 8 }
+    requires end { end ≤ 30000000 }
+    ensures value { result ≡ count * end }
+    ensures small { result ≤ 240000000 }
+{
+    count * end
+}
+
+/// Serves a choice next.
+pub(crate) fn serve(case: &LineCase, state: &State, choice: &Choice) -> Served
+    requires is { IsChoice case.now.instance.now case.now.chamber (plain_cuts case.now.instance.now case.now.cuts.now) case.now.depth case.now.prices.now case.now.line.now choice.now }
+    requires minute { state.now.minute ≤ 14000000 }
+    ensures end { result.end ≡ end_after case.now.instance.now case.now.chamber state.now.stand state.now.minute choice.now.group }
+    ensures worth { result.worth ≡ worth_of case.now.instance.now case.now.chamber case.now.depth case.now.prices.now state.now.stand state.now.minute choice.now.group }
+    ensures small { result.end ≤ max state.now.minute 1000000 + 12000000 }
+    ensures low { neg_ℤ (pos 808000000) ≤ℤ result.worth }
+    ensures high { result.worth ≤ℤ pos 30000000000 }
+{
+    let lock = case.lock();
+    let ready = ready(lock, state.stand, state.minute, choice.group.way);
+    let long = choice.duration as u64;
+    let end = first_free(&lock.closures, long, ready.max(choice.last as u64)) + long;
+    let sum = product(choice.group.ships.len() as u64, end);
+    Served {
+        end,
+        worth: (100 * sum) as i64 - choice.pays as i64,
+    }
+}
+
+// The flow times of ships that end at this minute, added.
+fn flow_until(instance: &Instance, end: u64, ships: &[u8]) -> u64
+    requires known { All (λ s. s < length instance.now.ships) ships.now }
+    requires arrived { All (λ s. (ship_at instance.now s).arrival ≤ end) ships.now }
+    requires end_small { end ≤ 1000000000 }
+    requires few { length ships.now ≤ 8 }
+    ensures value { result ≡ sum_by (λ s. end - (ship_at instance.now s).arrival) ships.now }
+    ensures small { result ≤ 8 * end }
+{
+    let mut sum = 0;
+    for &ship in ships {
+        sum += end - instance.ships.as_slice()[ship as usize].arrival as u64;
+    }
+    sum
+}
+
+// What some of the line's own groups are worth alone, in hundredths of a minute.
+fn alone_on(case: &LineCase, state: &State, line: &[Group]) -> i64
+    requires kept { All (IsKeptGroup case.now.instance.now case.now.depth) line.now }
+    requires ships_in { All (λ g. All (λ s. s < length case.now.instance.now.ships) g.ships) line.now }
+    requires few { length line.now ≤ 24 }
+    requires minute { state.now.minute ≤ 14000000 }
+    ensures value { result ≡ worth_from case.now.instance.now case.now.chamber case.now.depth case.now.prices.now state.now.stand state.now.minute line.now }
+    ensures low { pos 0 ≤ℤ result }
+    ensures high { result ≤ℤ pos 6000000000000 }
+{
+    let mut stand = state.stand;
+    let mut minute = state.minute;
+    let mut flow = 0;
+    for group in line {
+        let (_, end) = group_times(case.instance, case.chamber, stand, minute, group);
+        flow += flow_until(case.instance, end, group.ships.as_slice());
+        stand = stand_after(group.way);
+        minute = end;
+    }
+    (100 * flow) as i64
+}
+
+/// What the line's own groups from the state's place on are worth alone, in hundredths of a minute.
+pub(crate) fn alone(case: &LineCase, state: &State) -> i64
+    requires place { state.now.place ≤ length case.now.line.now }
+    requires minute { state.now.minute ≤ 14000000 }
+    ensures value { result ≡ worth_from case.now.instance.now case.now.chamber case.now.depth case.now.prices.now state.now.stand state.now.minute (drop state.now.place case.now.line.now) }
+    ensures low { pos 0 ≤ℤ result }
+    ensures high { result ≤ℤ pos 6000000000000 }
+{
+    alone_on(case, state, &case.line[state.place as usize..])
+}
