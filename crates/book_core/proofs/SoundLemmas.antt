@@ -15,7 +15,8 @@ use Rattle.book_rules.specs.Step.{step}
 use Rattle.closing_rules.specs.Laws.{TreeLaws}
 use Rattle.book_rules.specs.Cover.{KeepsBook}
 use Rattle.book_rules.proofs.CoverLemmas.{event-keeps, replaced-keeps, opening-keeps}
-use Rattle.book_rules.proofs.ReplayLemmas.{IsReplayed, event-replayed, opening-replayed}
+use Rattle.book_rules.specs.Replay.{IsReplayed}
+use Rattle.book_rules.proofs.ReplayLemmas.{event-replayed, opening-replayed}
 use Rattle.closing_rules.proofs.LawLemmas.{tree-laws}
 use Rattle.deck_laws.proofs.HeredityLemmas.{hereditary}
 use Rattle.deck_laws.proofs.NormalLemmas.{has-normal}

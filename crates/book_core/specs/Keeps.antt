@@ -11,7 +11,7 @@ use Rattle.book_rules.specs.Cover.{KeepsBook}
 use Rattle.book_rules.specs.Parts.{KeepsParts}
 use Rattle.book_rules.specs.Cheap.{opening_cost}
 use Rattle.book_rules.specs.Room.{count_false}
-use Rattle.book_rules.proofs.ReplayLemmas.{IsReplayed}
+use Rattle.book_rules.specs.Replay.{IsReplayed}
 use Rattle.book_core.specs.Case.{IsCase}
 use Rattle.book_core.specs.declared.waiting.Waiting.{Waiting}
 use Rattle.book_core.specs.Tables.{AreHands, AreBack, AreWaiting}
