@@ -81,8 +81,7 @@ impl Lines {
     pub(crate) fn equals(&self, other: &Lines) -> bool
         ensures { IsTrue result ↔ self.now ≡ other.now }
     {
-        same_ends(&self.ends, &other.ends)
-            && same_groups(self.row.as_slice(), other.row.as_slice())
+        same_ends(&self.ends, &other.ends) && same_groups(self.row.as_slice(), other.row.as_slice())
     }
 
     // The same lines.
