@@ -4,6 +4,8 @@ use Rattle.std.specs.declared.option.Option.{Option}
 use Rattle.std.proofs.Math.Seq.{get_or-append_seam, drop-cons}
 use Rattle.std.proofs.lemmas.Bool.Decides.{eqb_tells, leb_tells}
 use Rattle.std.proofs.lemmas.List.{get_or_append_left, get_or_default, length-append, length-drop}
+use Rattle.std.specs.List.Sorted.{IsPermutation}
+use Rattle.std.proofs.lemmas.List.Sorted.{All-permutation, Contains-permutation}
 use Rattle.std.proofs.lemmas.List.Sums.{sum_by-cons}
 use Rattle.std.proofs.lemmas.List.Elements.{All-nil, All-push, All-weaker}
 use Rattle.lock_model.specs.Fleet.{ship_at}
@@ -21,8 +23,8 @@ use Rattle.price_bound.specs.declared.choice.Choice.{Choice}
 use Rattle.price_bound.specs.Worth.{arrivals_of, paid_on, ServeAsWell, IsKeptGroup}
 use Rattle.price_bound.specs.Sparing.{AreForbidden}
 use Rattle.price_bound.specs.Growing.{IsGrown, AreGrown}
-use Rattle.price_bound.specs.Choosing.{Keeps, rate_of, IsChoice, Serves, IsServed, IsOn, IsBaseOf, HaveMore, HasOne, HaveSome, AreSome, AreChoices}
-use Rattle.price_bound.proofs.ServeLemmas.{serve-themselves}
+use Rattle.price_bound.specs.Choosing.{Keeps, rate_of, IsChoice, Serves, IsServed, IsOn, IsBaseOf, HaveMore, HasOne, HavePut, HaveSome, AreSome, AreChoices}
+use Rattle.price_bound.proofs.ServeLemmas.{serve-themselves, serve-through}
 
 module _ (I : Instance) (k : ℕ) (prices : List ℕ) where
   -- the rates of ships are what they pay and 100 times their arrivals
@@ -80,6 +82,53 @@ module _ (I : Instance) (k : ℕ) (prices : List ℕ) where
 
     pub one-served : (old : List Choice) (choice : Choice) → All (IsChoice I c cuts k prices line) old → IsServed I k prices old choice.joins choice.group → HasOne I c cuts k prices line choice old old
     one-served old choice each served = record { each = each; kept = λ h at. at; served = served }
+
+    -- choices put one after another
+    pub put-start : (more old : List Choice) → All (IsChoice I c cuts k prices line) old → HavePut I c cuts k prices line more 0 old old
+    put-start more old each = record { each = each; kept = λ h at. at; done = λ j d none here. absurd (omega (arith, none)) }
+
+    pub put-next : (more : List Choice) (i : ℕ) (h : Choice) (old now new : List Choice) → i < length more → h ≡ slice_index_or more i h
+        → HavePut I c cuts k prices line more i old now → HasOne I c cuts k prices line h now new → HavePut I c cuts k prices line more (i + 1) old new
+    put-next more i h old now new here is have one = record {
+      each = one.each;
+      kept = λ g at. one.kept g (have.kept g at);
+      done = λ j d less inside. elim (eqb_tells j i) [
+        | inl y ↦
+            let same : h ≡ slice_index_or more j d = is ∙ get_or_default more i h d here ∙ ap (λ i. slice_index_or more i d) (sym y.1) in
+            subst (λ h. IsServed I k prices new h.joins h.group) same one.served
+        | inr m ↦ served-more now new (slice_index_or more j d).joins (slice_index_or more j d).group one.kept (have.done j d (earlier i j less m.1) inside)
+      ];
+    }
+      where
+        earlier : (i j : ℕ) → j < i + 1 → j ≢ i → j < i
+        earlier i j less m = elim (leb_tells (suc j) i) [ inl y ↦ y.1 | inr q ↦ absurd (m (omega (arith, less, q.1))) ]
+
+    module _ (to : Option ℕ) (base : Group) where
+      -- the order doesn't matter
+      pub more-ordered : (old more other : List Choice) → IsPermutation more other → HaveMore I c cuts k prices line to base old more → HaveMore I c cuts k prices line to base old other
+      more-ordered old more other moved have = record {
+        each = All-permutation (IsChoice I c cuts k prices line) more other moved have.each;
+        kept = λ h at. Contains-permutation more other h moved (have.kept h at);
+        served = λ g uncut on. served-more more other to g (λ h at. Contains-permutation more other h moved at) (have.served g uncut on);
+      }
+
+      -- WHAT SERVES FOR ENOUGH CHOICES is enough.
+      pub put-done : (more old new : List Choice) → HaveMore I c cuts k prices line to base [] more → HavePut I c cuts k prices line more (length more) old new → HaveMore I c cuts k prices line to base old new
+      put-done more old new have put = record {
+        each = put.each;
+        kept = put.kept;
+        served = λ g uncut on.
+            let first = have.served g uncut on in
+            let at = first.held in
+            let then = subst (λ h. IsServed I k prices new h.joins h.group) at.2 (put.done at.0 first.choice at.1 at.1) in
+            record {
+              choice = then.choice;
+              held = then.held;
+              joins = then.joins ∙ first.joins;
+              way = then.way ∙ first.way;
+              as_good = serve-through I k prices then.choice.group.ships first.choice.group.ships g.ships then.as_good first.as_good;
+            };
+      }
 
     module _ (sets : List (List ℕ)) (are : AreForbidden I c cuts sets) (base : Group) where
       -- what was grown is uncut unless it is empty, and all that is uncut was grown

@@ -77,6 +77,12 @@ pub record HasOne (I : Instance) (c : ℕ) (cuts : List PlainCut) (k : ℕ) (pri
   pub kept : (h : Choice) → Contains old h → Contains new h
   pub served : IsServed I k prices new choice.joins choice.group
 
+-- the first i of the choices `more` were put to the others, or are served by them
+pub record HavePut (I : Instance) (c : ℕ) (cuts : List PlainCut) (k : ℕ) (prices : List ℕ) (line : List Group) (more : List Choice) (i : ℕ) (old new : List Choice) : Type 0 where
+  pub each : All (IsChoice I c cuts k prices line) new
+  pub kept : (h : Choice) → Contains old h → Contains new h
+  pub done : (j : ℕ) (d : Choice) → j < i → j < length more → IsServed I k prices new (slice_index_or more j d).joins (slice_index_or more j d).group
+
 -- a choice of the group was put to the others or is served by one, or the group is empty
 pub record PutsGroup (I : Instance) (c : ℕ) (cuts : List PlainCut) (k : ℕ) (prices : List ℕ) (line : List Group) (to : Option ℕ) (g : Group) (old new : List Choice) : Type 0 where
   pub puts : ((length g.ships ≡ 0) × (new ≡ old)) ⊎ ((choice : Choice) × (choice.joins ≡ to) × (choice.group ≡ g) × HasOne I c cuts k prices line choice old new)

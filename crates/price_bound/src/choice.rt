@@ -1,4 +1,6 @@
 //! Groups that may come next in a loose line.
+ghost use Rattle.std.specs.Prelude.{◌≡◌};
+
 use lock_model::Group;
 
 /// A group that may come next, with the sums by which it is compared and served.
@@ -14,4 +16,19 @@ pub struct Choice {
     pub last: u32,
     /// The prices of its missing ships and 100 times its arrivals, in hundredths of a minute.
     pub pays: u32,
+}
+
+impl Choice {
+    // The same choice.
+    pub(crate) fn copy(&self) -> Choice
+        ensures { result ≡ self.now }
+    {
+        Choice {
+            group: self.group.copy(),
+            joins: self.joins,
+            duration: self.duration,
+            last: self.last,
+            pays: self.pays,
+        }
+    }
 }

@@ -4,57 +4,20 @@ ghost use Rattle.lock_rules.specs.Arrival.{first_ships};
 ghost use Rattle.price_rules.specs.Prices.{IsUncut};
 ghost use Rattle.price_bound.specs.Sparing.{Misses, AreForbidden};
 ghost use Rattle.price_bound.specs.Growing.{AreGrown, IsBase};
-ghost use Rattle.price_bound.specs.Choosing.{Keeps, IsChoice, Serves, IsServed, IsOn, IsBaseOf, HaveMore, HasOne, PutsGroup, AreSome, AreChoices};
+ghost use Rattle.price_bound.specs.Choosing.{Keeps, IsChoice, IsBaseOf, HaveMore, PutsGroup, AreSome, AreChoices};
 ghost use Rattle.price_bound.specs.Cuts.{plain_cuts};
 
 use crate::choice::Choice;
-use crate::error::{PriceError, append};
+use crate::error::PriceError;
 use crate::growing::{Growth, grown};
 use crate::line_case::LineCase;
+use crate::pruning::{add, order, put_each};
 use crate::weighing::weighed;
 use lock_model::{Group, Ships, Way};
 use std::alloc::Global;
 
-// Whether a choice joins the same group as another, has its way and is no worse by its sums.
-fn serves(other: &Choice, choice: &Choice) -> bool
-    ensures { IsTrue result → Serves other.now choice.now }
-{
-    other.joins == choice.joins
-        && other.group.way == choice.group.way
-        && other.group.ships.len() <= choice.group.ships.len()
-        && other.last <= choice.last
-        && other.duration <= choice.duration
-        && other.pays >= choice.pays
-}
-
-// Whether one of the choices serves as well as a choice.
-fn is_served(case: &LineCase, choices: &[Choice], choice: &Choice) -> bool
-    requires each { All (IsChoice case.now.instance.now case.now.chamber (plain_cuts case.now.instance.now case.now.cuts.now) case.now.depth case.now.prices.now case.now.line.now) choices.now }
-    requires is { IsChoice case.now.instance.now case.now.chamber (plain_cuts case.now.instance.now case.now.cuts.now) case.now.depth case.now.prices.now case.now.line.now choice.now }
-    ensures { IsTrue result → IsServed case.now.instance.now case.now.depth case.now.prices.now choices.now choice.now.joins choice.now.group }
-{
-    for other in choices {
-        if serves(other, choice) {
-            return true;
-        }
-    }
-    false
-}
-
-// Puts a choice to the others, unless one of them serves as well.
-fn put(case: &LineCase, choices: &mut Vec<Choice>, choice: Choice) -> Result<(), PriceError>
-    requires each { All (IsChoice case.now.instance.now case.now.chamber (plain_cuts case.now.instance.now case.now.cuts.now) case.now.depth case.now.prices.now case.now.line.now) choices.old.items }
-    requires is { IsChoice case.now.instance.now case.now.chamber (plain_cuts case.now.instance.now case.now.cuts.now) case.now.depth case.now.prices.now case.now.line.now choice }
-    ensures { OnOk result (HasOne case.now.instance.now case.now.chamber (plain_cuts case.now.instance.now case.now.cuts.now) case.now.depth case.now.prices.now case.now.line.now choice choices.old.items choices.new.items) }
-{
-    if is_served(case, choices, &choice) {
-        return Ok(());
-    }
-    append(choices, choice)
-}
-
-// Puts the choice of a grown group to the others, unless it is empty.
-fn put_group(
+// Appends the choice of a grown group, unless it is empty.
+fn add_group(
     case: &LineCase,
     choices: &mut Vec<Choice>,
     group: &Group,
@@ -69,7 +32,44 @@ fn put_group(
     if group.ships.len() == 0 {
         return Ok(());
     }
-    put(case, choices, weighed(case, group.copy(), joins))
+    add(case, choices, weighed(case, group.copy(), joins))
+}
+
+// Appends the choices that join a group, or that join none.
+fn add_grown(
+    alloc: Global,
+    growth: &Growth,
+    choices: &mut Vec<Choice>,
+    base: &Group,
+    joins: Option<u8>,
+) -> Result<(), PriceError>
+    requires each { All (IsChoice growth.now.case.now.instance.now growth.now.case.now.chamber (plain_cuts growth.now.case.now.instance.now growth.now.case.now.cuts.now) growth.now.case.now.depth growth.now.case.now.prices.now growth.now.case.now.line.now) choices.old.items }
+    requires sets { AreForbidden growth.now.case.now.instance.now growth.now.case.now.chamber (plain_cuts growth.now.case.now.instance.now growth.now.case.now.cuts.now) growth.now.sets.now }
+    requires base { IsBaseOf growth.now.case.now.instance.now growth.now.case.now.chamber growth.now.case.now.depth growth.now.case.now.line.now joins base.now }
+    ensures { OnOk result (HaveMore growth.now.case.now.instance.now growth.now.case.now.chamber (plain_cuts growth.now.case.now.instance.now growth.now.case.now.cuts.now) growth.now.case.now.depth growth.now.case.now.prices.now growth.now.case.now.line.now joins base.now choices.old.items choices.new.items) }
+{
+    let groups = grown(alloc, growth, base)?;
+    for group in &groups {
+        add_group(growth.case, choices, group, joins)?;
+    }
+    Ok(())
+}
+
+// The choices that join a group, or that join none, those that pay most first.
+fn ordered(
+    alloc: Global,
+    growth: &Growth,
+    base: &Group,
+    joins: Option<u8>,
+) -> Result<Vec<Choice>, PriceError>
+    requires sets { AreForbidden growth.now.case.now.instance.now growth.now.case.now.chamber (plain_cuts growth.now.case.now.instance.now growth.now.case.now.cuts.now) growth.now.sets.now }
+    requires base { IsBaseOf growth.now.case.now.instance.now growth.now.case.now.chamber growth.now.case.now.depth growth.now.case.now.line.now joins base.now }
+    ensures { IfOk result (λ more. HaveMore growth.now.case.now.instance.now growth.now.case.now.chamber (plain_cuts growth.now.case.now.instance.now growth.now.case.now.cuts.now) growth.now.case.now.depth growth.now.case.now.prices.now growth.now.case.now.line.now joins base.now [] more.items) }
+{
+    let mut choices = Vec::new(alloc);
+    add_grown(alloc, growth, &mut choices, base, joins)?;
+    order(&mut choices)?;
+    Ok(choices)
 }
 
 // Puts the choices that join a group, or that join none, to the others.
@@ -85,11 +85,8 @@ fn put_grown(
     requires base { IsBaseOf growth.now.case.now.instance.now growth.now.case.now.chamber growth.now.case.now.depth growth.now.case.now.line.now joins base.now }
     ensures { OnOk result (HaveMore growth.now.case.now.instance.now growth.now.case.now.chamber (plain_cuts growth.now.case.now.instance.now growth.now.case.now.cuts.now) growth.now.case.now.depth growth.now.case.now.prices.now growth.now.case.now.line.now joins base.now choices.old.items choices.new.items) }
 {
-    let groups = grown(alloc, growth, base)?;
-    for group in &groups {
-        put_group(growth.case, choices, group, joins)?;
-    }
-    Ok(())
+    let more = ordered(alloc, growth, base, joins)?;
+    put_each(growth.case, choices, &more)
 }
 
 // No ship, of a way.

@@ -28,6 +28,7 @@ mod horizon;
 mod least;
 mod line_case;
 mod prices;
+mod pruning;
 mod reaching;
 mod serving;
 mod shown;

@@ -1,52 +1,21 @@
-use Rattle.std.proofs.Common.{◌≡◌, ◌+◌, suc, length, inl, inr, sym, ap, ◌∙◌, subst, arith, rules}
-use Rattle.lock_model.specs.declared.group.Group.{Group}
+use Rattle.std.proofs.Common.{◌≡◌, [], length, All, sym, subst, rules}
+use Rattle.std.proofs.lemmas.Result.{on_ok_weaker}
+use Rattle.price_bound.specs.Choosing.{HaveMore, IsChoice}
 use Rattle.price_bound.specs.Cuts.{plain_cuts}
-use Rattle.price_bound.specs.Growing.{IsGrown, AreGrown}
-use Rattle.price_bound.specs.Choosing.{HaveSome, PutsGroup}
-use Rattle.price_bound.proofs.ChoiceLemmas.{grown-uncut, some-skip, some-next, some-done}
+use Rattle.price_bound.proofs.ChoiceLemmas.{put-done}
 use Rattle.price_bound.proofs.choosing.put_grown.Goals as goal
 
-pub put_group-requires-clause-uncut : goal.put_group-requires-clause-uncut
-put_group-requires-clause-uncut c = λ some.
+pub put_each-requires-clause-others : goal.put_each-requires-clause-others
+put_each-requires-clause-others c =
     let case = c.args.growth.now.case.now in
     let I = case.instance.now in
-    let sets = c.args.growth.now.sets.now in
-    let same : c.deref-group-items.result.now ≡ c.in_ok-groups.groups.items = search rules in
-    let grown = subst (AreGrown I case.chamber case.depth sets c.args.base.now (length I.ships)) (sym same) c.in_ok-groups.ensures in
-    let own : IsGrown I case.chamber case.depth sets c.args.base.now (length I.ships) c.group-item.result =
-    subst (IsGrown I case.chamber case.depth sets c.args.base.now (length I.ships)) (sym c.group-item.is) (grown.each c.loop-group.group-index c.group-item.result c.loop-group-test.true) in
-    grown-uncut I case.depth case.prices.now case.chamber (plain_cuts case.instance.now case.cuts.now) case.line.now sets c.requires.sets c.args.base.now (length I.ships) c.group-item.result own some
-
-pub loop-group-preserved : goal.loop-group-preserved
-loop-group-preserved c =
-    let case = c.args.growth.now.case.now in
-    let I = case.instance.now in
-    let sets = c.args.growth.now.sets.now in
-    let groups = c.deref-group-items.result.now in
-    let i = c.loop-group.group-index in
-    let up : suc i ≡ i + 1 = omega arith in
-    let same : groups ≡ c.in_ok-groups.groups.items = search rules in
-    let grown = subst (AreGrown I case.chamber case.depth sets c.args.base.now (length I.ships)) (sym same) c.in_ok-groups.ensures in
-    let puts : PutsGroup I case.chamber (plain_cuts case.instance.now case.cuts.now) case.depth case.prices.now case.line.now c.args.joins c.group-item.result c.loop-group.choices.items c.put_group.new.choices.items = c.in_ok-put_group.ensures in
-    let have = c.loop-group.invariant in
-    subst (λ i. HaveSome I case.chamber (plain_cuts case.instance.now case.cuts.now) case.depth case.prices.now case.line.now c.args.joins groups i c.args.choices.now.items c.put_group.new.choices.items) up
-    (elim puts.puts [
-      | inl none ↦
-          subst (HaveSome I case.chamber (plain_cuts case.instance.now case.cuts.now) case.depth case.prices.now case.line.now c.args.joins groups (suc i) c.args.choices.now.items) (sym none.1)
-          (some-skip I case.depth case.prices.now case.chamber (plain_cuts case.instance.now case.cuts.now) case.line.now sets c.requires.sets c.args.base.now c.args.joins groups grown i c.group-item.result c.args.choices.now.items c.loop-group.choices.items c.loop-group-test.true
-          (ap (λ (g : Group). length g.ships) (sym c.group-item.is) ∙ none.0) have)
-      | inr one ↦
-          some-next I case.depth case.prices.now case.chamber (plain_cuts case.instance.now case.cuts.now) case.line.now sets c.requires.sets c.args.base.now c.args.joins groups grown i c.group-item.result c.args.choices.now.items c.loop-group.choices.items c.put_group.new.choices.items one.0 c.loop-group-test.true one.1 (one.2 ∙ c.group-item.is) have one.3
-    ])
+    let same : c.deref.result.now ≡ c.in_ok-more.more.items = search rules in
+    subst (All (IsChoice I case.chamber (plain_cuts I case.cuts.now) case.depth case.prices.now case.line.now)) (sym same) c.in_ok-more.ensures.each
 
 pub returns : goal.returns
 returns c =
     let case = c.args.growth.now.case.now in
     let I = case.instance.now in
-    let sets = c.args.growth.now.sets.now in
-    let groups = c.deref-group-items.result.now in
-    let same : groups ≡ c.in_ok-groups.groups.items = search rules in
-    let grown = subst (AreGrown I case.chamber case.depth sets c.args.base.now (length I.ships)) (sym same) c.in_ok-groups.ensures in
-    let all : c.loop-group.group-index ≡ length groups = omega (arith, c.loop-group-test.false, c.loop-group.auto.group-index-end) in
-    some-done I case.depth case.prices.now case.chamber (plain_cuts case.instance.now case.cuts.now) case.line.now sets c.requires.sets c.args.base.now c.args.joins groups grown c.args.choices.now.items c.loop-group.choices.items
-    (subst (λ i. HaveSome I case.chamber (plain_cuts case.instance.now case.cuts.now) case.depth case.prices.now case.line.now c.args.joins groups i c.args.choices.now.items c.loop-group.choices.items) all c.loop-group.invariant)
+    let same : c.deref.result.now ≡ c.in_ok-more.more.items = search rules in
+    let more = subst (HaveMore I case.chamber (plain_cuts I case.cuts.now) case.depth case.prices.now case.line.now c.args.joins c.args.base.now []) (sym same) c.in_ok-more.ensures in
+    on_ok_weaker c.put_each.result (put-done I case.depth case.prices.now case.chamber (plain_cuts I case.cuts.now) case.line.now c.args.joins c.args.base.now c.deref.result.now c.args.choices.now.items c.put_each.new.choices.items more) c.put_each.ensures

@@ -1,6 +1,6 @@
 use Rattle.price_bound.specs.Cuts.{plain_cuts}
 use Rattle.price_bound.specs.Choosing.{HaveSome}
-use Rattle.price_bound.proofs.choosing.put_grown.Given as goal
+use Rattle.price_bound.proofs.choosing.add_grown.Given as goal
 
 abbrev pub invariant-loop-group : goal.invariant-loop-group
 invariant-loop-group l =

@@ -3,7 +3,7 @@ use Rattle.std.proofs.lemmas.Result.{on_ok_weaker}
 use Rattle.price_bound.specs.Cuts.{plain_cuts}
 use Rattle.price_bound.specs.Choosing.{HasOne}
 use Rattle.price_bound.proofs.ChoiceLemmas.{one-pushed}
-use Rattle.price_bound.proofs.choosing.put.Goals as goal
+use Rattle.price_bound.proofs.pruning.add.Goals as goal
 
 pub returns : goal.returns
 returns c =

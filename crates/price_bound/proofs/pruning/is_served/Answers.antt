@@ -2,7 +2,7 @@ use Rattle.std.proofs.Common.{Contains, sym, subst, rules}
 use Rattle.price_bound.specs.Cuts.{plain_cuts}
 use Rattle.price_bound.specs.Choosing.{Serves, IsChoice}
 use Rattle.price_bound.proofs.ChoiceLemmas.{served-by}
-use Rattle.price_bound.proofs.choosing.is_served.Goals as goal
+use Rattle.price_bound.proofs.pruning.is_served.Goals as goal
 
 pub returns-then-serves : goal.returns-then-serves
 returns-then-serves c = λ _.

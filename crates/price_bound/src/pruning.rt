@@ -1,0 +1,87 @@
+//! Choices that are left out, since others serve as well.
+ghost use Rattle.std.specs.Prelude.{◌≡◌, ◌↔◌, length, All, IsTrue, OnOk};
+ghost use Rattle.std.specs.List.Sorted.{IsPermutation};
+ghost use Rattle.price_bound.specs.Choosing.{IsChoice, Serves, IsServed, HasOne, HavePut};
+ghost use Rattle.price_bound.specs.Cuts.{plain_cuts};
+
+use crate::choice::Choice;
+use crate::error::{PriceError, append};
+use crate::line_case::LineCase;
+
+// Whether a choice joins the same group as another, has its way and is no worse by its sums.
+fn serves(other: &Choice, choice: &Choice) -> bool
+    ensures { IsTrue result → Serves other.now choice.now }
+{
+    other.joins == choice.joins
+        && other.group.way == choice.group.way
+        && other.group.ships.len() <= choice.group.ships.len()
+        && other.last <= choice.last
+        && other.duration <= choice.duration
+        && other.pays >= choice.pays
+}
+
+// Whether one of the choices serves as well as a choice.
+fn is_served(case: &LineCase, choices: &[Choice], choice: &Choice) -> bool
+    requires each { All (IsChoice case.now.instance.now case.now.chamber (plain_cuts case.now.instance.now case.now.cuts.now) case.now.depth case.now.prices.now case.now.line.now) choices.now }
+    requires is { IsChoice case.now.instance.now case.now.chamber (plain_cuts case.now.instance.now case.now.cuts.now) case.now.depth case.now.prices.now case.now.line.now choice.now }
+    ensures { IsTrue result → IsServed case.now.instance.now case.now.depth case.now.prices.now choices.now choice.now.joins choice.now.group }
+{
+    for other in choices {
+        if serves(other, choice) {
+            return true;
+        }
+    }
+    false
+}
+
+/// Appends a choice to the others.
+pub(crate) fn add(
+    case: &LineCase,
+    choices: &mut Vec<Choice>,
+    choice: Choice,
+) -> Result<(), PriceError>
+    requires each { All (IsChoice case.now.instance.now case.now.chamber (plain_cuts case.now.instance.now case.now.cuts.now) case.now.depth case.now.prices.now case.now.line.now) choices.old.items }
+    requires is { IsChoice case.now.instance.now case.now.chamber (plain_cuts case.now.instance.now case.now.cuts.now) case.now.depth case.now.prices.now case.now.line.now choice }
+    ensures { OnOk result (HasOne case.now.instance.now case.now.chamber (plain_cuts case.now.instance.now case.now.cuts.now) case.now.depth case.now.prices.now case.now.line.now choice choices.old.items choices.new.items) }
+{
+    append(choices, choice)
+}
+
+// Puts a choice to the others, unless one of them serves as well.
+fn put(case: &LineCase, choices: &mut Vec<Choice>, choice: Choice) -> Result<(), PriceError>
+    requires each { All (IsChoice case.now.instance.now case.now.chamber (plain_cuts case.now.instance.now case.now.cuts.now) case.now.depth case.now.prices.now case.now.line.now) choices.old.items }
+    requires is { IsChoice case.now.instance.now case.now.chamber (plain_cuts case.now.instance.now case.now.cuts.now) case.now.depth case.now.prices.now case.now.line.now choice }
+    ensures { OnOk result (HasOne case.now.instance.now case.now.chamber (plain_cuts case.now.instance.now case.now.cuts.now) case.now.depth case.now.prices.now case.now.line.now choice choices.old.items choices.new.items) }
+{
+    if is_served(case, choices, &choice) {
+        return Ok(());
+    }
+    add(case, choices, choice)
+}
+
+/// Puts choices to the others, one after another, each unless one of them serves as well.
+pub(crate) fn put_each(
+    case: &LineCase,
+    choices: &mut Vec<Choice>,
+    more: &[Choice],
+) -> Result<(), PriceError>
+    requires each { All (IsChoice case.now.instance.now case.now.chamber (plain_cuts case.now.instance.now case.now.cuts.now) case.now.depth case.now.prices.now case.now.line.now) choices.old.items }
+    requires others { All (IsChoice case.now.instance.now case.now.chamber (plain_cuts case.now.instance.now case.now.cuts.now) case.now.depth case.now.prices.now case.now.line.now) more.now }
+    ensures { OnOk result (HavePut case.now.instance.now case.now.chamber (plain_cuts case.now.instance.now case.now.cuts.now) case.now.depth case.now.prices.now case.now.line.now more.now (length more.now) choices.old.items choices.new.items) }
+{
+    for choice in more {
+        put(case, choices, choice.copy())?;
+    }
+    Ok(())
+}
+
+/// Puts the choices that pay most first: one serves as well as others only where it pays no less, so
+/// that in this order none is kept for which a later one serves.
+pub(crate) fn order(choices: &mut Vec<Choice>) -> Result<(), PriceError>
+    ensures { OnOk result (IsPermutation choices.old.items choices.new.items) }
+{
+    match choices.sort_by_key(|choice| u32::MAX - choice.pays) {
+        Ok(()) => Ok(()),
+        Err(_) => Err(PriceError::NoMemory),
+    }
+}
