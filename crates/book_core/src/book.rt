@@ -137,6 +137,18 @@ impl Book {
         }
     }
 
+    /// The bound of a slot's node in minutes. None exactly where there is no such slot.
+    pub fn bound(&self, id: u32) -> Option<u64>
+        ensures some { IfSome result (λ bound. (id < length self.now.slots) × ((slot_at self.now id).bound ≡ bound)) }
+        ensures none { IfNone result (length self.now.slots ≤ id) }
+    {
+        if (id as usize) < self.slots.len() {
+            Some(self.slots[id as usize].bound)
+        } else {
+            None
+        }
+    }
+
     /// Whether the worker has released.
     pub fn ended(&self, worker: u8) -> bool
         ensures { result ≡ slice_index_or self.now.ended worker false }

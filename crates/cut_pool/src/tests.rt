@@ -101,19 +101,34 @@ fn row(alloc: Global, first: u8, second: u8) -> Result<Cut, Fail> {
     make_cut(alloc, 0, ships, deck, refutation).map_err(|_| "no cut".into())
 }
 
+// Posts the cut of the first two ships under this number.
+fn posted<W: Wait>(rt: &W, alloc: Global, pool: &Pool, number: u64) -> Result<Token, Fail>
+    ensures { IfOk result (Shows pool.now) }
+{
+    let cut = row(alloc, 0, 1)?;
+    pool.post(rt, cut, number).map_err(|_| "no memory".into())
+}
+
+// The number that is found for two of the ships, or for one that is named twice, in a chamber of
+// this width.
+fn found(pool: &Pool, mine: &Tokens, width: u32, first: u8, second: u8) -> Result<Option<u64>, Fail>
+    requires { All (λ token. Shows pool.now token) mine.now }
+{
+    let lock = lock(width).ok_or("no instance")?;
+    let ships = pair(first, second);
+    if !are_known(ships.as_slice(), lock.ships.as_slice().len()) {
+        return Err("ships that aren't known".into());
+    }
+    Ok(pool.find(mine, &lock, 0, &ships))
+}
+
 #[test]
 fn a_cut_is_found_for_what_it_hits(rt: HostRuntime) -> Result<(), Fail> {
     let pool = Pool::new(rt.alloc()).map_err(|_| "no memory")?;
     let none = Tokens::new(rt.alloc());
-    let narrow = lock(232).ok_or("no instance")?;
-    assert!(rt; pool.find(&none, &narrow, 0, &Ships::single(0)).is_none());
-    let early = pool
-        .post(&rt, row(rt.alloc(), 0, 1)?, 7)
-        .map_err(|_| "no memory")?;
-    let late = pool
-        .post(&rt, row(rt.alloc(), 0, 1)?, 9)
-        .map_err(|_| "no memory")?;
-    assert_eq!(rt; pool.get(&early).number, 7);
+    assert_eq!(rt; found(&pool, &none, 232, 0, 0)?, None);
+    posted(&rt, rt.alloc(), &pool, 7)?;
+    let late = posted(&rt, rt.alloc(), &pool, 9)?;
     let mut mine = Tokens::new(rt.alloc());
     mine.add(late).map_err(|_| "no memory")?;
     for (width, first, second, known, any) in [
@@ -123,43 +138,36 @@ fn a_cut_is_found_for_what_it_hits(rt: HostRuntime) -> Result<(), Fail> {
         (232, 1, 2, None, None),
         (232, 0, 0, None, None),
     ] {
-        let lock = lock(width).ok_or("no instance")?;
-        let ships = pair(first, second);
-        assert!(rt; are_known(ships.as_slice(), lock.ships.as_slice().len()));
-        assert_eq!(rt; pool.find(&mine, &lock, 0, &ships), known, "at {width}");
-        assert_eq!(rt; pool.find(&none, &lock, 0, &ships), any, "at {width}");
+        assert_eq!(rt; found(&pool, &mine, width, first, second)?, known);
+        assert_eq!(rt; found(&pool, &none, width, first, second)?, any);
     }
     Ok(())
 }
 
-// Posts a cut in one thread, and reads it in another.
-fn handed_over<R: Threads + Wait + Sync>(rt: &R, alloc: Global) -> Result<Option<u64>, Fail> {
-    let pool = Pool::new(alloc).map_err(|_| "no memory")?;
-    let shared = &pool;
+// A cut that is posted in one thread, as another thread reads it: its number and its ships.
+fn read_beside<R: Threads + Wait + Sync>(
+    rt: &R,
+    alloc: Global,
+    pool: &Pool,
+) -> Result<(u64, Ships), Fail> {
     let cut = row(alloc, 0, 1)?;
-    let (posted, _) = join(rt, move || shared.post(rt, cut, 0), || ());
+    let (posted, _) = join(rt, move || pool.post(rt, cut, 7), || ());
     let token = posted.map_err(|_| "no memory")?;
-    let (_, number) = join(rt, || (), || shared.get(&token).number);
-    if number != 0 || pool.get(&token).cut.ships.as_slice() != [0, 1].as_slice() {
-        return Err("another entry".into());
-    }
-    let lock = lock(232).ok_or("no instance")?;
-    let ships = pair(0, 1);
-    if !are_known(ships.as_slice(), lock.ships.as_slice().len()) {
-        return Err("ships that aren't known".into());
-    }
-    let none = Tokens::new(alloc);
-    let found = pool.find(&none, &lock, 0, &ships);
-    let mut mine = Tokens::new(alloc);
-    mine.add(token).map_err(|_| "no memory")?;
-    if pool.find(&mine, &lock, 0, &ships) != found {
-        return Err("found by the token alone".into());
-    }
-    Ok(found)
+    let (_, entry) = join(
+        rt,
+        || (),
+        || {
+            let entry = pool.get(&token);
+            (entry.number, entry.cut.ships.copy())
+        },
+    );
+    Ok(entry)
 }
 
 #[test]
 fn a_cut_is_read_in_another_thread(rt: HostRuntime) -> Result<(), Fail> {
-    assert_eq!(rt; handed_over(&rt, rt.alloc())?, Some(0));
+    let pool = Pool::new(rt.alloc()).map_err(|_| "no memory")?;
+    assert_eq!(rt; read_beside(&rt, rt.alloc(), &pool)?, (7, pair(0, 1)));
+    assert_eq!(rt; found(&pool, &Tokens::new(rt.alloc()), 232, 0, 1)?, Some(7));
     Ok(())
 }

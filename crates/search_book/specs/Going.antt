@@ -1,6 +1,5 @@
 -- What nodes that were worked out ahead do to a book, one after the other.
 use Rattle.std.specs.Prelude.{ℕ, zero, suc, ◌≡◌, ◌+◌, ◌*◌, List, [], ◌∷◌}
-use Rattle.closing_rules.specs.declared.grounds.Ground.TheVariants as by
 use Rattle.book_rules.specs.Book.{Book}
 use Rattle.book_core.specs.declared.reply.Reply.TheVariants as reply
 use Rattle.search_book.specs.declared.ahead.Ahead.{Ahead}
@@ -16,7 +15,7 @@ use Rattle.search_book.specs.Following.{Follows, counted}
 -- the event by which slot id ends
 abbrev pub ending_of : ℕ → Ending → Event
 ending_of id ending.Split = event.Split id
-ending_of id (ending.Probe ship) = event.Close id (by.Probe ship)
+ending_of id (ending.Close why) = event.Close id why
 
 -- the slot that was taken has the node that is next ahead
 abbrev pub IsNextAhead : Next → List Ahead → Type 0

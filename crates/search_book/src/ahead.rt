@@ -2,6 +2,7 @@
 ghost use Rattle.std.specs.Prelude.{◌≡◌, ◌++◌, ◌∷◌, [], All, IfOk, IfErr};
 
 use book_core::Foreseen;
+use closing_rules::Ground;
 use lock_model::Instance;
 use plain_text::NoMemory;
 use std::alloc::Global;
@@ -11,8 +12,8 @@ use std::alloc::Global;
 pub enum Ending {
     /// It is split.
     Split,
-    /// It is closed by the probe of its node and this ship.
-    Probe(u8),
+    /// It is closed on this ground.
+    Close(Ground),
 }
 
 /// A node that was worked out ahead, and how its slot is to end.

@@ -1,22 +1,19 @@
 //! One event of a book that is kept with its total, and an event with a taking after it.
-ghost use Rattle.std.specs.Prelude.{◌≡◌, ◌↔◌, ◌+◌, ◌<◌, ◌≤◌, IsTrue, length};
+ghost use Rattle.std.specs.Prelude.{◌≡◌, ◌+◌, ◌<◌, ◌≤◌, length};
 ghost use Rattle.std.specs.Bool.{OnFalse};
 ghost use Rattle.book_core.specs.Replies.{Does};
 ghost use Rattle.book_rules.specs.Events as machine;
 ghost use Rattle.search_book.specs.Applied.{Applies};
 ghost use Rattle.search_book.specs.Events.{IsAllowed};
 ghost use Rattle.search_book.specs.Following.{Follows, counted};
-ghost use Rattle.search_book.specs.Granting.{IsHeldAt};
 ghost use Rattle.search_book.specs.Replies.{is_accepted, accepted};
 
 use crate::event::Event;
 use crate::kept::Kept;
 use crate::next::Next;
 use crate::replies::is_accepted;
-use book_core::{Book, Foreseen, Reply};
-use closing_rules::Ground;
+use book_core::{Book, Reply};
 use lock_model::Plan;
-use master_branch::Node;
 use place_refute::Cut;
 use std::sync::ledger::{Ledger, Share};
 
@@ -83,46 +80,12 @@ pub fn apply<L: Ledger>(kept: &mut Kept<L>, share: &mut Share<L>, event: Event) 
     reply
 }
 
-// Whether a worker holds this slot, and it has this node.
-pub(crate) fn is_at(book: &Book, id: u32, node: &Node) -> bool
-    ensures { IsTrue result ↔ IsHeldAt book.now id node.now }
-{
-    match book.node_in_hand(id) {
-        Some(own) => own.equals(node),
-        None => false,
-    }
-}
-
-// Lays bounds into the hand of the worker that holds the slot, where they are of its node's children.
-fn lay(book: &mut Book, id: u32, foreseen: &Foreseen<'_>)
-    ensures { book.new ≡ book.old }
-{
-    if is_at(book, id, &foreseen.node) && book.is_of(foreseen.instance) {
-        book.lay(id, foreseen);
-    }
-}
-
-// Hands bounds that were worked out beforehand to the book, where the event may need them.
-fn foresee(book: &mut Book, ending: &Event, foreseen: Option<Foreseen<'_>>)
-    ensures { book.new ≡ book.old }
-{
-    let Some(foreseen) = foreseen else {
-        return;
-    };
-    match ending {
-        Event::Split(id) | Event::Close(id, Ground::Probe(_)) => lay(book, *id, &foreseen),
-        _ => {}
-    }
-}
-
-/// Makes an event and, where it is accepted, `Take` of this worker, each as `apply` does. Bounds of
-/// the children of the event's slot, which were worked out beforehand, spare the book that work.
+/// Makes an event and, where it is accepted, `Take` of this worker, each as `apply` does.
 pub fn apply_and_take<L: Ledger>(
     kept: &mut Kept<L>,
     share: &mut Share<L>,
     worker: u8,
     ending: Event,
-    foreseen: Option<Foreseen<'_>>,
 ) -> Next
     requires part { 0 < share.old.parts }
     requires worker { worker ≤ 8 }
@@ -132,7 +95,6 @@ pub fn apply_and_take<L: Ledger>(
     ensures amount { share.new.amount ≡ share.old.amount + counted result }
     ensures parts { share.new.parts ≡ share.old.parts }
 {
-    foresee(&mut kept.book, &ending, foreseen);
     let reply = apply(kept, share, ending);
     if !is_accepted(&reply) {
         return Next::Refused(reply);

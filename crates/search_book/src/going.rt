@@ -1,5 +1,5 @@
 //! Nodes that were worked out ahead are handed to a book, as many as it comes to.
-ghost use Rattle.std.specs.Prelude.{◌≡◌, ◌+◌, ◌<◌, ◌≤◌, length, IfOk, IfErr, IfSome, IfNone};
+ghost use Rattle.std.specs.Prelude.{◌≡◌, ◌↔◌, ◌+◌, ◌<◌, ◌≤◌, length, IsTrue, IfOk, IfErr, IfSome, IfNone};
 ghost use Rattle.std.specs.Bool.{OnTrue};
 ghost use Rattle.book_core.specs.declared.reply.Grant.TheVariants as grant;
 ghost use Rattle.book_rules.specs.Book.{slot_at};
@@ -7,10 +7,10 @@ ghost use Rattle.book_core.specs.Nodes.{tree_node};
 ghost use Rattle.book_core.specs.Replies.{Grants, IsInHand};
 ghost use Rattle.search_book.specs.Events.{IsAllowed};
 ghost use Rattle.search_book.specs.Going.{GoesAhead, IsStop, Passes, ending_of, gone_count};
-ghost use Rattle.search_book.specs.Granting.{IsAstray, IsFirstAt, granted, passed};
+ghost use Rattle.search_book.specs.Granting.{IsAstray, IsFirstAt, IsHeldAt, granted, passed};
 
 use crate::ahead::{Ahead, Ending, Stretch};
-use crate::applying::{apply, is_at};
+use crate::applying::apply;
 use crate::event::Event;
 use crate::gone::Gone;
 use crate::kept::Kept;
@@ -18,6 +18,7 @@ use crate::next::Next;
 use crate::replies::is_accepted;
 use book_core::{Book, Grant};
 use closing_rules::Ground;
+use master_branch::Node;
 use std::sync::ledger::{Ledger, Share};
 
 // The event by which a slot ends.
@@ -47,6 +48,16 @@ fn take_slot<L: Ledger>(kept: &mut Kept<L>, share: &mut Share<L>, worker: u8) ->
         kept.tally.add(share, 1);
     }
     grant
+}
+
+// Whether a worker holds this slot, and it has this node.
+fn is_at(book: &Book, id: u32, node: &Node) -> bool
+    ensures { IsTrue result ↔ IsHeldAt book.now id node.now }
+{
+    match book.node_in_hand(id) {
+        Some(own) => own.equals(node),
+        None => false,
+    }
 }
 
 // The slot that was given, where it has the node that is next ahead.

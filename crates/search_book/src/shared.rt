@@ -13,7 +13,7 @@ use crate::gone::Gone;
 use crate::kept::Kept;
 use crate::next::Next;
 use crate::replies::{is_accepted, is_idle};
-use book_core::{Foreseen, Reply};
+use book_core::Reply;
 use std::hint::spin_loop;
 use std::sync::ledger::{Ledger, Share};
 use std::sync::{Condvar, Mutex, MutexGuard, Wait};
@@ -106,7 +106,6 @@ impl<L: Ledger> SharedBook<L> {
         share: &mut Share<L>,
         worker: u8,
         ending: Event,
-        foreseen: Option<Foreseen<'_>>,
     ) -> Next
         requires part { 0 < share.old.parts }
         requires worker { worker ≤ 8 }
@@ -115,7 +114,7 @@ impl<L: Ledger> SharedBook<L> {
         ensures parts { share.new.parts ≡ share.old.parts }
     {
         let mut kept = self.lock_soon(rt);
-        let next = apply_and_take(&mut *kept, share, worker, ending, foreseen);
+        let next = apply_and_take(&mut *kept, share, worker, ending);
         if let Next::Taken(_) = next {
             self.leave(kept);
         }

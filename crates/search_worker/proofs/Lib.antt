@@ -1,1 +1,3 @@
-mod OwnLemmas
+pub mod OwnLemmas
+pub mod FateLemmas
+pub mod ChildLemmas

@@ -1,2 +1,3 @@
 pub mod Owning
 pub mod Serving
+pub mod Ending

@@ -1,7 +1,7 @@
 -- What ties a worker to its post.
 use Rattle.std.specs.Prelude.{◌≡◌, All}
 use Rattle.boxcar.specs.Table.{Shows}
-use Rattle.search_worker.specs.declared.worker.Post.{Post}
+use Rattle.search_worker.specs.declared.post.Post.{Post}
 use Rattle.search_worker.specs.declared.worker.Worker.{Worker}
 
 -- its seat is of the shared word, and its tokens are of the shared pool

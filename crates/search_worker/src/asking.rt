@@ -1,12 +1,14 @@
 //! What a worker asks of the shared book, under its lock, and of the word beside it.
-ghost use Rattle.std.specs.Prelude.{◌≡◌};
+ghost use Rattle.std.specs.Prelude.{◌≡◌, ◌<◌, length};
 ghost use Rattle.search_book.specs.Events.{IsAllowed};
 ghost use Rattle.search_worker.specs.Serving.{Serves};
 
-use crate::worker::{Post, Worker};
-use book_core::{Foreseen, Reply};
+use crate::post::Post;
+use crate::stop::Stop;
+use crate::worker::Worker;
+use book_core::Reply;
 use lock_io::Gate;
-use search_book::{Event, Next};
+use search_book::{Event, Gone, Next, Stretch};
 use std::sync::Wait;
 use std::sync::ledger::Ledger;
 
@@ -23,29 +25,63 @@ pub(crate) fn ask<L: Ledger, W: Wait, G: Gate>(
     post.book.with_book(post.rt, &mut worker.hands.share, event)
 }
 
-/// Ends the held node by this event, with the bounds of its children, if they are known and were not
-/// handed over yet. Where the book accepts it, the next slot is taken at once.
-pub(crate) fn end_and_take<L: Ledger, W: Wait, G: Gate>(
+// Keeps what the book answered to the taking after an ending that it accepted.
+fn go_on<L: Ledger, W: Wait, G: Gate>(
+    post: &Post<'_, L, W, G>,
+    worker: &mut Worker<L>,
+    next: Next,
+) -> Result<(), Stop>
+    requires serves { Serves post.now worker.old }
+    ensures serves { Serves post.now worker.new }
+{
+    let _ = post;
+    match next {
+        Next::Taken(reply) => {
+            worker.taken = reply;
+            Ok(())
+        }
+        Next::Refused(_) => Err(Stop),
+    }
+}
+
+/// Ends the held node by an event for which the book has what it takes, and takes the next slot.
+pub(crate) fn finish<L: Ledger, W: Wait, G: Gate>(
     post: &Post<'_, L, W, G>,
     worker: &mut Worker<L>,
     ending: Event,
-    foreseen: Option<Foreseen<'_>>,
-) -> bool
+) -> Result<(), Stop>
     requires serves { Serves post.now worker.old }
     requires allowed { IsAllowed ending }
     ensures serves { Serves post.now worker.new }
 {
     let share = &mut worker.hands.share;
-    match post
+    let next = post
         .book
-        .end_and_take(post.rt, share, post.number, ending, foreseen)
-    {
-        Next::Taken(reply) => {
-            worker.taken = reply;
-            true
-        }
-        Next::Refused(_) => false,
-    }
+        .end_and_take(post.rt, share, worker.number, ending, None);
+    go_on(post, worker, next)
+}
+
+/// Ends the held node and the nodes after it as far as the book comes to them, and takes the next
+/// slot.
+pub(crate) fn go_ahead<L: Ledger, W: Wait, G: Gate>(
+    post: &Post<'_, L, W, G>,
+    worker: &mut Worker<L>,
+    id: u32,
+    stretch: &Stretch<'_>,
+) -> Result<(), Stop>
+    requires serves { Serves post.now worker.old }
+    requires some { 0 < length stretch.now.nodes.items }
+    ensures serves { Serves post.now worker.new }
+{
+    let share = &mut worker.hands.share;
+    let Gone {
+        place: _,
+        id: _,
+        next,
+    } = post
+        .book
+        .go_ahead(post.rt, share, worker.number, id, stretch);
+    go_on(post, worker, next)
 }
 
 /// Takes a slot.
@@ -53,7 +89,8 @@ pub(crate) fn take<L: Ledger, W: Wait, G: Gate>(post: &Post<'_, L, W, G>, worker
     requires serves { Serves post.now worker.old }
     ensures serves { Serves post.now worker.new }
 {
-    worker.taken = ask(post, worker, Event::Take(post.number));
+    let number = worker.number;
+    worker.taken = ask(post, worker, Event::Take(number));
 }
 
 /// Takes a slot, and waits while none is open and one may come.
@@ -64,9 +101,10 @@ pub(crate) fn take_or_wait<L: Ledger, W: Wait, G: Gate>(
     requires serves { Serves post.now worker.old }
     ensures serves { Serves post.now worker.new }
 {
+    let number = worker.number;
     worker.taken = post
         .book
-        .take_or_wait(post.rt, &mut worker.hands.share, post.number);
+        .take_or_wait(post.rt, &mut worker.hands.share, number);
 }
 
 /// The best cost, as far as it is seen from here.

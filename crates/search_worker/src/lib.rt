@@ -13,7 +13,7 @@
 //!
 //! For each node that was taken (`taking`) `working` reads the best cost and goes through the ways
 //! to end the node: `closing` without the placers, `knowing` by a known cut, then what becomes of it
-//! by `node_fate`, which `ending` makes so. `sharing` posts what the others are to see.
+//! by `node_work`, which `ending` makes so. `sharing` posts what the others are to see.
 //!
 //! `asking` makes each event, and waits. `worker` is what a worker has, and its post, which stays.
 //!
@@ -21,22 +21,24 @@
 //! ties a worker to its post. A thread makes its own `Shared`, since it is of references alone.
 #![tactic(auto)]
 
-mod arriving;
 mod asking;
-mod closing;
 mod ending;
 mod hands;
 mod knowing;
+mod post;
 mod searching;
 mod sharing;
 mod stop;
 mod taking;
 #[cfg(test)]
 mod tests;
+mod trail;
 mod trusting;
+mod walking;
 mod worker;
 mod working;
 
-pub use hands::{Hands, Shared};
+pub use hands::Hands;
+pub use post::Post;
 pub use searching::search;
 pub use trusting::is_node_of;

@@ -3,32 +3,34 @@ ghost use Rattle.std.specs.Prelude.{◌≡◌, ◌<◌};
 ghost use Rattle.search_worker.specs.Serving.{Serves};
 
 use crate::asking::{ask, take};
-use crate::hands::{Hands, Shared};
+use crate::hands::Hands;
+use crate::post::Post;
 use crate::stop::Stop;
 use crate::taking::taken;
-use crate::worker::{Post, Worker};
+use crate::worker::Worker;
 use crate::working::work;
 use lock_io::{Gate, Point};
-use search_book::Event;
-use std::alloc::Global;
+use search_book::{Event, Stretch};
 use std::sync::Wait;
 use std::sync::ledger::Ledger;
 
 // Takes slots and works on them, until nothing is open or held or the nodes are spent. After a
 // refusal a slot may be held still.
-fn search_slots<L: Ledger, W: Wait, G: Gate>(
-    post: &Post<'_, L, W, G>,
+fn search_slots<'s, L: Ledger, W: Wait, G: Gate>(
+    post: &Post<'s, L, W, G>,
     worker: &mut Worker<L>,
+    stretch: &mut Stretch<'s>,
 ) -> Result<(), Stop>
     requires serves { Serves post.now worker.old }
+    requires stretch { stretch.old.instance.now ≡ post.now.search.instance.now }
     ensures serves { Serves post.now worker.new }
 {
     take(post, worker);
     for _ in post.rt.forever() {
         match taken(post, worker)? {
-            Some((id, node)) => {
-                work(post, worker, id, &node)?;
-                post.gate.at(post.number, Point::Closed);
+            Some(held) => {
+                work(post, worker, stretch, held)?;
+                post.gate.at(worker.number, Point::Closed);
             }
             None => return Ok(()),
         }
@@ -36,27 +38,24 @@ fn search_slots<L: Ledger, W: Wait, G: Gate>(
     unreachable!()
 }
 
-/// Searches as worker `worker`, 0 to 7, until nothing is open or held or the nodes are spent. It has
+/// Searches as worker `number`, 0 to 7, until nothing is open or held or the nodes are spent. It has
 /// no refusal: where memory is refused, or the book answers what it answers no worker of these rules,
 /// the worker releases and ends, so that no other waits for a node in its hand. That is done here
 /// alone, whatever stopped the search. The hands come back, and their seat is of the same table. It
 /// waits for the lock, and for other workers while no slot is open and one is held.
 pub fn search<L: Ledger, W: Wait, G: Gate>(
-    rt: &W,
-    alloc: Global,
-    gate: &G,
-    shared: &Shared<'_, L>,
-    worker: u8,
+    post: &Post<'_, L, W, G>,
+    number: u8,
     hands: Hands<L>,
 ) -> Hands<L>
-    requires worker { worker < 8 }
-    requires seat { hands.seat.table ≡ shared.now.word.now.table }
+    requires number { number < 8 }
+    requires seat { hands.seat.table ≡ post.now.word.now.table }
     ensures seat { result.seat.table ≡ hands.seat.table }
 {
-    let post = Post::new(rt, alloc, gate, shared, worker);
-    let mut worker = Worker::new(alloc, hands);
-    if let Err(Stop) = search_slots(&post, &mut worker) {
-        ask(&post, &mut worker, Event::Release(post.number));
+    let mut worker = Worker::new(post.alloc, number, hands);
+    let mut stretch = Stretch::new(post.alloc, post.search.instance);
+    if let Err(Stop) = search_slots(post, &mut worker, &mut stretch) {
+        ask(post, &mut worker, Event::Release(number));
     }
     worker.hands
 }

@@ -2,8 +2,9 @@
 ghost use Rattle.search_worker.specs.Serving.{Serves};
 
 use crate::asking::ask;
+use crate::post::Post;
 use crate::stop::Stop;
-use crate::worker::{Post, Worker};
+use crate::worker::Worker;
 use book_core::Reply;
 use lock_io::Gate;
 use place_refute::{Cut, copy_cut};
@@ -31,13 +32,12 @@ fn show_cut<L: Ledger, W: Wait, G: Gate>(
 pub(crate) fn post_cut<L: Ledger, W: Wait, G: Gate>(
     post: &Post<'_, L, W, G>,
     worker: &mut Worker<L>,
-    cut: Cut,
+    cut: Box<Cut>,
 ) -> Result<u64, Stop>
     requires serves { Serves post.now worker.old }
     ensures serves { Serves post.now worker.new }
 {
-    let copy = copy_cut(&cut).ok();
-    let cut = Box::new(post.alloc, cut)?;
+    let copy = copy_cut(&*cut).ok();
     let Reply::Posted(number) = ask(post, worker, Event::Post(cut)) else {
         return Err(Stop);
     };

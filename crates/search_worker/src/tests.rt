@@ -1,4 +1,5 @@
 //! One worker alone.
 mod alone;
 mod fixture;
+mod hitting;
 mod nodes;

@@ -1,198 +1,141 @@
 //! The work on the node in the worker's hand.
-ghost use Rattle.std.specs.Prelude.{◌≡◌, ◌<◌, length, IfOk, IfSome};
+ghost use Rattle.std.specs.Prelude.{◌≡◌, ◌<◌, length, IfOk};
 ghost use Rattle.master_branch.specs.Node.{IsNodeOf};
-ghost use Rattle.node_fate.specs.Fates.{IsFate, IsGroupAt};
 ghost use Rattle.search_worker.specs.Serving.{Serves};
 
-use crate::arriving::group_of_last;
-use crate::closing::{close_by_probe, close_early};
-use crate::ending::end;
-use crate::knowing::{close_any_if_new, close_by_known_cut};
+use crate::asking::{best_cost, go_ahead};
+use crate::ending::{close, end};
+use crate::knowing::posted_cuts;
+use crate::post::Post;
 use crate::stop::Stop;
-use crate::taking::{Held, hold};
 use crate::trusting::is_node_of;
-use crate::worker::{Post, Worker};
+use crate::walking::{append, foreseen_fate, simple_ending, walk};
+use crate::worker::{Held, Worker};
 use book_core::Foreseen;
-use lock_io::Gate;
-use master_branch::Node;
-use node_fate::{Fate, group_fate, leaf_fate, remembered_fate};
+use flow_bounds::bound;
+use lock_io::{Gate, Point};
+use node_work::{Fate, closed_early, whole_fate};
+use search_book::{Ending, Stretch};
 use std::sync::Wait;
 use std::sync::ledger::Ledger;
 
-// Works on the held node, which lacks a ship, by one of its groups of which nothing is remembered.
-fn work_new<L: Ledger, W: Wait, G: Gate>(
-    post: &Post<'_, L, W, G>,
-    worker: &mut Worker<L>,
-    held: &Held<'_>,
-    foreseen: Option<Foreseen<'_>>,
-    chamber: u8,
-    place: u8,
-) -> Result<(), Stop>
-    requires serves { Serves post.now worker.old }
-    requires node { IsNodeOf post.now.instance.now held.now.node.now }
-    requires lacks { held.now.node.now.depth < length post.now.instance.now.ships }
-    requires at { IsGroupAt post.now.instance.now held.now.node.now chamber place }
-    ensures serves { Serves post.now worker.new }
-{
-    if close_by_known_cut(post, worker, held, chamber, place) {
-        return Ok(());
-    }
-    let fate = group_fate(
-        post.alloc,
-        post.instance,
-        held.node,
-        chamber,
-        place,
-        post.turns,
-        &mut worker.memory,
-    )?;
-    end(post, worker, held, foreseen, fate)
-}
+// How many nodes a worker goes ahead at the most, once the others have had time to find work.
+const LONG: u32 = 256;
 
-// What becomes of the held node, which lacks a ship, by what is remembered of one of its groups.
-fn remembered<L: Ledger, W: Wait, G: Gate>(
-    post: &Post<'_, L, W, G>,
-    worker: &Worker<L>,
-    held: &Held<'_>,
-    chamber: u8,
-    place: u8,
-) -> Option<Fate>
-    requires node { IsNodeOf post.now.instance.now held.now.node.now }
-    requires lacks { held.now.node.now.depth < length post.now.instance.now.ships }
-    requires at { IsGroupAt post.now.instance.now held.now.node.now chamber place }
-    ensures { IfSome result (IsFate post.now.instance.now post.now.turns held.now.node.now) }
-{
-    remembered_fate(
-        post.instance,
-        held.node,
-        chamber,
-        place,
-        post.turns,
-        &worker.memory,
-    )
-}
-
-// Works on the held node, which lacks a ship, by one of its groups.
-fn work_group<L: Ledger, W: Wait, G: Gate>(
-    post: &Post<'_, L, W, G>,
-    worker: &mut Worker<L>,
-    held: &Held<'_>,
-    foreseen: Option<Foreseen<'_>>,
-    chamber: u8,
-    place: u8,
-) -> Result<(), Stop>
-    requires serves { Serves post.now worker.old }
-    requires node { IsNodeOf post.now.instance.now held.now.node.now }
-    requires lacks { held.now.node.now.depth < length post.now.instance.now.ships }
-    requires at { IsGroupAt post.now.instance.now held.now.node.now chamber place }
-    ensures serves { Serves post.now worker.new }
-{
-    match remembered(post, worker, held, chamber, place) {
-        Some(fate) => end(post, worker, held, foreseen, fate),
-        None => work_new(post, worker, held, foreseen, chamber, place),
-    }
-}
-
-// Works on the held node, which lacks a ship: only the group of its last ship is looked at, since
-// the nodes above had the others.
-fn work_last<L: Ledger, W: Wait, G: Gate>(
-    post: &Post<'_, L, W, G>,
-    worker: &mut Worker<L>,
-    held: &Held<'_>,
-    foreseen: Option<Foreseen<'_>>,
-) -> Result<(), Stop>
-    requires serves { Serves post.now worker.old }
-    requires node { IsNodeOf post.now.instance.now held.now.node.now }
-    requires lacks { held.now.node.now.depth < length post.now.instance.now.ships }
-    ensures serves { Serves post.now worker.new }
-{
-    match group_of_last(post, held.node) {
-        Some((chamber, place)) => work_group(post, worker, held, foreseen, chamber, place),
-        None => end(post, worker, held, foreseen, Fate::Splits),
-    }
-}
-
-// Works on the held node, which lacks a ship: first the bounds of its children are worked out, and
-// the node is closed where the least of them reaches the best cost.
-fn work_inner<L: Ledger, W: Wait, G: Gate>(
-    post: &Post<'_, L, W, G>,
-    worker: &mut Worker<L>,
-    held: &Held<'_>,
-) -> Result<(), Stop>
-    requires serves { Serves post.now worker.old }
-    requires node { IsNodeOf post.now.instance.now held.now.node.now }
-    requires lacks { held.now.node.now.depth < length post.now.instance.now.ships }
-    ensures serves { Serves post.now worker.new }
-{
-    let foreseen = Foreseen::new(post.instance, &post.roster, held.node.copy());
-    if foreseen.least() < held.best {
-        return work_last(post, worker, held, Some(foreseen));
-    }
-    if close_by_probe(post, worker, held, foreseen) {
-        return Ok(());
-    }
-    work_last(post, worker, held, None)
-}
-
-// Works on the held node, which holds all ships: every group is looked at, since its plan needs the
-// spots of all.
+#[tactic(auto, using(crate::proofs::FateLemmas::may_end_anyway))]
+// Works on the held node, which holds all ships.
 fn work_whole<L: Ledger, W: Wait, G: Gate>(
     post: &Post<'_, L, W, G>,
     worker: &mut Worker<L>,
-    held: &Held<'_>,
+    held: &Held,
 ) -> Result<(), Stop>
     requires serves { Serves post.now worker.old }
-    requires node { IsNodeOf post.now.instance.now held.now.node.now }
-    requires whole { held.now.node.now.depth ≡ length post.now.instance.now.ships }
+    requires node { IsNodeOf post.now.search.instance.now held.now.node }
+    requires whole { held.now.node.depth ≡ length post.now.search.instance.now.ships }
     ensures serves { Serves post.now worker.new }
 {
-    if close_any_if_new(post, worker, held) {
-        return Ok(());
-    }
-    let fate = leaf_fate(
-        post.alloc,
-        post.instance,
-        held.node,
-        post.turns,
-        &mut worker.memory,
-    )?;
-    end(post, worker, held, None, fate)
+    let known = posted_cuts(post.pool, &worker.tokens);
+    let memory = &mut worker.memory;
+    let fate = whole_fate(post.alloc, &post.search, &held.node, &known, memory)?;
+    end(post, worker, held.id, fate)
 }
 
-// Works on the held node by its children's bounds and its groups.
-fn work_on<L: Ledger, W: Wait, G: Gate>(
-    post: &Post<'_, L, W, G>,
+// Begins a stretch with the held node, and works out the nodes below it.
+fn go_below<'s, L: Ledger, W: Wait, G: Gate>(
+    post: &Post<'s, L, W, G>,
     worker: &mut Worker<L>,
-    held: &Held<'_>,
+    stretch: &mut Stretch<'s>,
+    foreseen: Foreseen<'s>,
+    ending: Ending,
+    best: u64,
 ) -> Result<(), Stop>
     requires serves { Serves post.now worker.old }
-    requires node { IsNodeOf post.now.instance.now held.now.node.now }
+    requires stretch { stretch.old.instance.now ≡ post.now.search.instance.now }
+    requires instance { foreseen.instance.now ≡ post.now.search.instance.now }
     ensures serves { Serves post.now worker.new }
+    ensures stretch { stretch.new.instance.now ≡ post.now.search.instance.now }
+    ensures some { IfOk result (λ _. 0 < length stretch.new.nodes.items) }
 {
-    if (held.node.depth() as usize) < post.instance.ships.as_slice().len() {
-        work_inner(post, worker, held)
+    stretch.clear();
+    worker.trail.clear();
+    append(post, worker, stretch, foreseen, ending)?;
+    let most = worker.reach;
+    worker.reach = (2 * most).min(LONG);
+    walk(post, worker, stretch, best, most)
+}
+
+// Works on the held node, which lacks ships, and on the nodes below it.
+fn work_inner<'s, L: Ledger, W: Wait, G: Gate>(
+    post: &Post<'s, L, W, G>,
+    worker: &mut Worker<L>,
+    stretch: &mut Stretch<'s>,
+    held: Held,
+    best: u64,
+) -> Result<(), Stop>
+    requires serves { Serves post.now worker.old }
+    requires stretch { stretch.old.instance.now ≡ post.now.search.instance.now }
+    requires node { IsNodeOf post.now.search.instance.now held.node }
+    requires lacks { held.node.depth < length post.now.search.instance.now.ships }
+    ensures serves { Serves post.now worker.new }
+    ensures stretch { stretch.new.instance.now ≡ post.now.search.instance.now }
+{
+    let Held { id, node } = held;
+    let foreseen = Foreseen::new(post.search.instance, &post.search.roster, node);
+    let fate = foreseen_fate(post, worker, &foreseen, best)?;
+    if let Fate::Spent(_, _, _) = fate {
+        return end(post, worker, id, fate);
+    }
+    let Some(ending) = simple_ending(post, worker, fate)? else {
+        return Err(Stop);
+    };
+    go_below(post, worker, stretch, foreseen, ending, best)?;
+    go_ahead(post, worker, id, stretch)
+}
+
+// Works on the held node, where the best plan costs so much as far as it is seen from here.
+fn work_on<'s, L: Ledger, W: Wait, G: Gate>(
+    post: &Post<'s, L, W, G>,
+    worker: &mut Worker<L>,
+    stretch: &mut Stretch<'s>,
+    held: Held,
+    best: u64,
+) -> Result<(), Stop>
+    requires serves { Serves post.now worker.old }
+    requires stretch { stretch.old.instance.now ≡ post.now.search.instance.now }
+    requires node { IsNodeOf post.now.search.instance.now held.node }
+    ensures serves { Serves post.now worker.new }
+    ensures stretch { stretch.new.instance.now ≡ post.now.search.instance.now }
+{
+    let instance = post.search.instance;
+    if let Some(why) = closed_early(&post.search, bound(instance, &held.node), best) {
+        return close(post, worker, held.id, why);
+    }
+    if (held.node.depth() as usize) < instance.ships.as_slice().len() {
+        work_inner(post, worker, stretch, held, best)
     } else {
-        work_whole(post, worker, held)
+        work_whole(post, worker, &held)
     }
 }
 
-/// Works on a node that was taken until it is closed, split or parked, and takes the next slot. After
-/// a refusal it may be held still.
-pub(crate) fn work<L: Ledger, W: Wait, G: Gate>(
-    post: &Post<'_, L, W, G>,
+/// Works on a node that was taken until it is closed, split or parked, and on nodes below it, and
+/// takes the next slot. The gate is told of the node, and of the best cost that is read for it. After
+/// a refusal a node may be held still.
+pub(crate) fn work<'s, L: Ledger, W: Wait, G: Gate>(
+    post: &Post<'s, L, W, G>,
     worker: &mut Worker<L>,
-    id: u32,
-    node: &Node,
+    stretch: &mut Stretch<'s>,
+    held: Held,
 ) -> Result<(), Stop>
     requires serves { Serves post.now worker.old }
+    requires stretch { stretch.old.instance.now ≡ post.now.search.instance.now }
     ensures serves { Serves post.now worker.new }
+    ensures stretch { stretch.new.instance.now ≡ post.now.search.instance.now }
 {
-    let held = hold(post, worker, id, node);
-    if !is_node_of(&post.order, post.instance, held.node) {
+    post.gate.at(worker.number, Point::Took(held.node.depth()));
+    let best = best_cost(post, worker);
+    post.gate.at(worker.number, Point::Read(best));
+    if !is_node_of(&post.order, post.search.instance, &held.node) {
         return Err(Stop);
     }
-    if close_early(post, worker, &held) {
-        return Ok(());
-    }
-    work_on(post, worker, &held)
+    work_on(post, worker, stretch, held, best)
 }

@@ -1,7 +1,8 @@
 -- Closing the held slot.
 use Rattle.std.proofs.Common.{◌≡◌, ℕ, ◌≤◌, refl, sym, ap, ◌∙◌, subst, Bool, true, false, not, cond, slice_get, Some, None}
 use Rattle.std.specs.declared.option.Option.{Option}
-use Rattle.lock_rules.specs.Cut.{HitsNode}
+use Rattle.lock_rules.specs.Arrival.{missing_ships}
+use Rattle.lock_rules.specs.Throughput.{throughput_of}
 use Rattle.mooring_rules.specs.declared.breaks.BrokenPlan.{BrokenPlan}
 use Rattle.closing_rules.specs.declared.grounds.Ground.{Ground}
 use Rattle.closing_rules.specs.declared.grounds.Ground.TheVariants as by
@@ -12,11 +13,12 @@ use Rattle.book_rules.specs.Events as machine
 use Rattle.book_rules.specs.Events.{close}
 use Rattle.book_rules.specs.Step
 use Rattle.book_rules.specs.States.{IsHitBy}
-use Rattle.book_rules.proofs.TestLemmas.{is_node_hit-decides}
+use Rattle.closing_rules.specs.Grounds.{IsClosedBy}
+use Rattle.book_rules.proofs.TestLemmas.{has_number-decides, is_node_hit-decides}
 use Rattle.book_rules.proofs.ClosingLemmas.{MayRefuse, may-refuse}
 use Rattle.book_core.specs.declared.reply.Reply.{Reply}
 use Rattle.book_core.specs.Replies.{Answers}
-use Rattle.book_core.proofs.CloseLemmas.{pick-false, not-true, high-unrefused, cut-hits}
+use Rattle.book_core.proofs.CloseLemmas.{pick-false, not-true, high-unrefused, probe-asked, cut-hits}
 use Rattle.solve_workers.specs.Holding.{HoldsOnly}
 use Rattle.solve_workers.specs.Told.{is_closed}
 use Rattle.solve_workers.proofs.ToldLemmas.{Answer, closes, told-closed}
@@ -83,11 +85,18 @@ module _ (b : Book) (id : ℕ) (node : Node) (holds : HoldsOnly b id node) (r : 
       ∙ pick-false (not (Step.may_close b id)) (b, machine.NotHeld id) (Step.close_unless b id why (Step.refusal_of b id why)) (not-true (Step.may_close b id) (may-close b id node holds))
       ∙ ap (Step.close_unless b id why) unrefused)
 
-  pub bound_sure : best_cost b ≤ (slot_at b id).bound → Answers b (close id by.Bound) r new → is_closed r ≡ true
-  bound_sure high = sure by.Bound (high-unrefused b id by.Bound (slot_at b id).bound (best_cost b) refl refl high)
+  -- ---- a ground that holds of the node
 
-  pub cut_sure : (number : ℕ) → IsHitBy b.case.instance b.cuts number node.lines → Answers b (close id (by.Cut number)) r new → is_closed r ≡ true
-  cut_sure number h =
+  unrefused : (why : Ground) → IsClosedBy b.case.instance (IsHitBy b.case.instance b.cuts) (best_cost b) (slot_at b id).bound (slot_at b id).node.depth (slot_at b id).node.lines why → Step.refusal_of {Break = BrokenPlan} b id why ≡ None
+  unrefused by.Bound high = high-unrefused b id by.Bound (slot_at b id).bound (best_cost b) refl refl high
+  unrefused by.Throughput high = high-unrefused b id by.Throughput (throughput_of b.case.instance) (best_cost b) refl refl high
+  unrefused (by.Probe s) is =
+      let missing : Step.is_missing b id s ≡ true = (has_number-decides (missing_ships b.case.instance (slot_at b id).node.depth) s).1 is.0 in
+      high-unrefused b id (by.Probe s) (Step.probe_at b id s) (best_cost b) refl (probe-asked b id s (Step.probe_at b id s) missing refl) is.1
+  unrefused (by.Cut number) h =
       let hit : Step.hits_in b id (slice_get b.cuts number) ≡ true =
-      ap (Step.hits_in b id) h.there ∙ (is_node_hit-decides b.case.instance h.cut (slot_at b id).node.lines).1 (subst (λ (n : Node). HitsNode h.cut.ships h.cut.deck b.case.instance n.lines) (sym holds.node_is) h.hits) in
-      sure (by.Cut number) (cut-hits b id number hit)
+      ap (Step.hits_in b id) h.there ∙ (is_node_hit-decides b.case.instance h.cut (slot_at b id).node.lines).1 h.hits in
+      cut-hits b id number hit
+
+  pub sure_shut : (why : Ground) → IsClosedBy b.case.instance (IsHitBy b.case.instance b.cuts) (best_cost b) (slot_at b id).bound (slot_at b id).node.depth (slot_at b id).node.lines why → Answers b (close id why) r new → HoldsNothing new
+  sure_shut why is answers = close_shut why answers (sure why (unrefused why is) answers)

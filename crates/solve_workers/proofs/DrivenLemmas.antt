@@ -20,6 +20,8 @@ use Rattle.book_rules.proofs.RoomLemmas.{room-no_more}
 use Rattle.book_core.specs.declared.reply.Reply.{Reply as BookReply}
 use Rattle.book_core.specs.Keeps.{IsSound}
 use Rattle.book_core.specs.Replies.{Answers, Does, Steps, Stays}
+use Rattle.node_work.specs.declared.search.Search.{Search}
+use Rattle.solve_workers.specs.Closable.{IsOwnSearch}
 use Rattle.solve_workers.specs.Driving.{Deed, IsDrivers, AreDeeds, after_deeds, IsDriven}
 
 -- ---- who has ended stays, for the driver doesn't release
@@ -126,3 +128,10 @@ driven_does b e r new sound owed drivers (Stays wants) = subst (IsDriven b) (sym
 
 pub driven_cost : (a b : Book) → IsDriven a b → opening_cost b ≡ opening_cost a
 driven_cost a b driven = (λ j. cost_of (driven.case j).instance (driven.opening j))
+
+-- the search is still that of the book
+pub own_still : (a b : Book) (search : Search) → IsDriven a b → IsOwnSearch a search → IsOwnSearch b search
+own_still a b search driven own = record {
+  instance_is = own.instance_is ∙ sym (ap (λ (k : Case). k.instance) driven.case);
+  turns_are = own.turns_are ∙ sym (ap (λ (k : Case). k.turns) driven.case);
+}

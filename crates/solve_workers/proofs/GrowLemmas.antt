@@ -219,13 +219,6 @@ outdone-node cost s = by_test ((is_fresh s.state || is_back s.state || is_parked
     by_test true = refl
     by_test false = refl
 
-outdone-bound : (cost : ℕ) (s : Slot) → (Step.outdone cost s).bound ≡ s.bound
-outdone-bound cost s = by_test ((is_fresh s.state || is_back s.state || is_parked s.state) && nat_le cost s.bound)
-  where
-    by_test : (t : Bool) → (cond t (record s { state = slot.Closed by.Bound }) s).bound ≡ s.bound
-    by_test true = refl
-    by_test false = refl
-
 outdone-held : (cost w : ℕ) (s : Slot) → s.state ≡ slot.Held w → (Step.outdone cost s).state ≡ slot.Held w
 outdone-held cost w s e = ap (λ t. (cond t (record s { state = slot.Closed by.Bound }) s).state) off ∙ e
   where
@@ -243,7 +236,7 @@ outdone-off cost s e = by_test ((is_fresh s.state || is_back s.state || is_parke
 pub record IsBettered (b : Book) (id : ℕ) (node : Node) (cost : ℕ) (new : Book) : Type 0 where
   pub holds : HoldsOnly new id node
   pub best : best_cost new ≤ cost
-  pub bound : (slot_at new id).bound ≡ (slot_at b id).bound
+  pub case : new.case ≡ b.case
 
 module _ (b : Book) (id : ℕ) (node : Node) (plan : Plan) (holds : HoldsOnly b id node) where
   abbrev cost : ℕ
@@ -257,12 +250,12 @@ module _ (b : Book) (id : ℕ) (node : Node) (plan : Plan) (holds : HoldsOnly b 
       node_is = ap (λ (s : Slot). s.node) (outdone-at cost b.slots id) ∙ outdone-node cost (slot_at b id) ∙ holds.node_is;
     };
     best = omega arith;
-    bound = ap (λ (s : Slot). s.bound) (outdone-at cost b.slots id) ∙ outdone-bound cost (slot_at b id);
+    case = refl;
   }
 
   by_cost : (t : Bool) → nat_le (best_cost b) cost ≡ t → IsBettered b id node cost (cond {A = Out} t (b, machine.NotCheaper cost (best_cost b)) (Step.replaced b plan, machine.Replaced cost)).0
   by_cost true e = elim (leb_tells (best_cost b) cost) [
-    | inl y ↦ record { holds = holds; best = y.1; bound = refl }
+    | inl y ↦ record { holds = holds; best = y.1; case = refl }
     | inr n ↦ absurd (clash (sym e ∙ n.0))
   ]
   by_cost false e = replaced-is

@@ -1,5 +1,5 @@
 -- What the driver knows of the node in its hand, and how the node leaves it.
-use Rattle.std.proofs.Common.{◌≡◌, ℕ, ◌<◌, List, length, refl, sym, ap, ◌∙◌, subst, arith, Bool, true, false, slice_index_or, Some, None, IfSome, Contains, Ok, Err, OnOk, OnErr}
+use Rattle.std.proofs.Common.{◌≡◌, ℕ, ◌<◌, ◌≤◌, List, length, refl, sym, ap, ◌∙◌, subst, arith, Bool, true, false, slice_index_or, Some, None, IfSome, Contains, Ok, Err, OnOk, OnErr}
 use Rattle.std.specs.declared.option.Option.{Option}
 use Rattle.std.specs.declared.result.Result.{Result}
 use Rattle.std.specs.Bool.{OnTrue, OnFalse}
@@ -13,19 +13,28 @@ use Rattle.lock_rules.specs.Plan.{IsLegal, cost_of}
 use Rattle.refute_rules.specs.Cuts.{Cut}
 use Rattle.place_refute.specs.Tried.{Tried}
 use Rattle.master_branch.specs.Node.{Node, IsNodeOf}
-use Rattle.book_rules.specs.Book.{Book, Case, Node as TreeNode, no_slot, slot_at, bound_at}
+use Rattle.book_rules.specs.Book.{Book, Case, Node as TreeNode, best_cost, no_slot, slot_at, bound_at}
 use Rattle.book_rules.specs.Ends.{HoldsNothing}
 use Rattle.book_rules.specs.Events.{close, post, park, replace}
 use Rattle.book_core.specs.declared.reply.Reply.{Reply}
 use Rattle.book_core.specs.Keeps.{IsSound}
 use Rattle.book_core.specs.Nodes.{tree_node}
 use Rattle.book_core.specs.Replies.{Answers, Does}
-use Rattle.node_fate.specs.Fates.{IsNodeCut, IsSpentAt, IsGroupAt}
-use Rattle.solve_workers.specs.Cuts.{IsHitting, HitsShips}
+use Rattle.lock_model.specs.declared.instance.Instance.{Instance}
+use Rattle.lock_rules.specs.Throughput.{throughput_of}
+use Rattle.closing_rules.specs.declared.grounds.Ground.{Ground}
+use Rattle.closing_rules.specs.Grounds.{IsClosedBy}
+use Rattle.book_rules.specs.States.{IsHitBy}
+use Rattle.node_work.specs.declared.fate.Fate.{Fate}
+use Rattle.node_work.specs.declared.fate.Fate.TheVariants as fate
+use Rattle.node_work.specs.declared.search.Search.{Search}
+use Rattle.node_work.specs.Fates.{IsAnyway, IsEarly, IsFate, IsKnownHit, IsNodeCut, IsPlanAt, IsSpentAt}
+use Rattle.node_work.specs.Known.{HitsShips}
+use Rattle.solve_workers.specs.Closable.{IsClosable, IsDriversFate, IsOwnSearch}
 use Rattle.solve_workers.specs.Holding.{HoldsOnly}
 use Rattle.solve_workers.specs.Told.{number_in, is_want}
 use Rattle.solve_workers.proofs.FreeLemmas.{held-known}
-use Rattle.solve_workers.proofs.CloseLemmas.{close_shut, bound_sure, cut_sure}
+use Rattle.solve_workers.proofs.CloseLemmas.{sure_shut}
 use Rattle.solve_workers.proofs.GrowLemmas.{posted_there, posted_case, parked_frees, replaced_better}
 use Rattle.closing_rules.specs.declared.grounds.Ground.TheVariants as by
 
@@ -61,20 +70,24 @@ module _ (b : Book) (id : ℕ) (n : Node) (holds : HoldsOnly b id (tree_node n))
       let good = sound.keeps.slots id no_slot (held-known b id (tree_node n) holds) in
       good.bound ∙ ap (bound_at b.case.instance) holds.node_is
 
-  -- a cut of the book that hits the node closes it
-  pub hit_shut : (number : ℕ) (r : Reply) (new : Book) → IsHitting b n number → Answers b (close id (by.Cut number)) r new → HoldsNothing new
-  hit_shut number r new hit answers =
-      close_shut b id (tree_node n) holds r new (by.Cut number) answers (cut_sure b id (tree_node n) holds r new number hit answers)
+  pub search_node : IsSound b → (search : Search) → IsOwnSearch b search → IsNodeOf search.instance.now n
+  search_node sound search own = subst (λ (I : Instance). IsNodeOf I n) (sym own.instance_is) (held_node sound)
+
+  -- a ground that holds of the node closes it
+  pub closable_shut : (why : Ground) (r : Reply) (new : Book) → IsSound b → IsClosable b n why → Answers b (close id why) r new → HoldsNothing new
+  closable_shut why r new sound is answers =
+      let slot_is : IsClosedBy b.case.instance (IsHitBy b.case.instance b.cuts) (best_cost b) (slot_at b id).bound (slot_at b id).node.depth (slot_at b id).node.lines why =
+      subst (λ bound. IsClosedBy b.case.instance (IsHitBy b.case.instance b.cuts) (best_cost b) bound (slot_at b id).node.depth (slot_at b id).node.lines why) (sym (held_bound sound))
+      (subst (λ (t : TreeNode). IsClosedBy b.case.instance (IsHitBy b.case.instance b.cuts) (best_cost b) (bound_of b.case.instance n.depth n.lines) t.depth t.lines why) (sym holds.node_is) is.closed) in
+      sure_shut b id (tree_node n) holds r new why slot_is answers
 
   -- the plan of the node makes its bound too high
-  pub complete_shut : (plan : Plan) (r : Reply) (mid : Book) (s : Reply) (new : Book) → IsSound b → IsLegal b.case.instance plan → cost_of b.case.instance plan ≡ bound_of b.case.instance n.depth n.lines
-      → is_want r ≡ false → Does b (replace plan) r mid → Answers mid (close id by.Bound) s new → HoldsNothing new
-  complete_shut plan r mid s new sound legal cost told does answers =
-      let better = replaced_better b id (tree_node n) plan holds r mid legal told does in
-      let bound = held_bound sound in
+  pub complete_closable : (plan : Plan) (r : Reply) (mid : Book) → IsSound b → IsPlanAt b.case.instance n plan → is_want r ≡ false → Does b (replace plan) r mid → IsClosable mid n by.Bound
+  complete_closable plan r mid sound is told does =
+      let better = replaced_better b id (tree_node n) plan holds r mid is.legal told does in
       let best = better.best in
-      let own = better.bound in
-      close_shut mid id (tree_node n) better.holds s new by.Bound answers (bound_sure mid id (tree_node n) better.holds s new (omega (arith, best, own, bound, cost)) answers)
+      let cost = is.cost in
+      record { closed = subst (λ (k : Case). best_cost mid ≤ bound_of k.instance n.depth n.lines) (sym better.case) (omega (arith, best, cost)) }
 
   pub complete_holds : (plan : Plan) (r : Reply) (mid : Book) → IsLegal b.case.instance plan → is_want r ≡ false → Does b (replace plan) r mid → HoldsOnly mid id (tree_node n)
   complete_holds plan r mid legal told does = (replaced_better b id (tree_node n) plan holds r mid legal told does).holds
@@ -84,29 +97,42 @@ module _ (b : Book) (id : ℕ) (n : Node) (holds : HoldsOnly b id (tree_node n))
   spent_frees c p told r new spent answers =
       parked_frees b id (tree_node n) c p told.deck told.turns spent.group r new holds spent.there spent.deck (let same = spent.turns_are in omega (arith, same)) spent.clear answers
 
--- a cut that was kept
-pub posted_hits : (b : Book) (n : Node) (cut : Cut) (r : Reply) (new : Book) (number : ℕ) → Does b (post cut) r new → number_in r ≡ Some number → IsNodeCut b.case.instance n.lines cut → IsHitting new n number
-posted_hits b n cut r new number does e is = record {
-  cut = cut;
-  there = posted_there b cut r new number does e;
-  hits = subst (λ (k : Case). HitsNode cut.ships cut.deck k.instance n.lines) (sym (posted_case b cut r new number does e)) is.hits;
-}
-
--- a cut that hits a group of a node hits the node
-pub group_hit : (b : Book) (n : Node) (c p : ℕ) (gs : List Group) (g : Group) (number : ℕ) → gs ≡ line_at n.lines c → IsGroupAt b.case.instance n c p → HitsShips b c (slice_index_or gs p g).ships number → IsHitting b n number
-group_hit b n c p gs g number line at hit = record {
-  cut = hit.cut;
-  there = hit.there;
-  hits = record {
-    chamber = c;
-    group = slice_index_or gs p g;
-    known = at.chamber;
-    held = subst (λ l. Contains l (slice_index_or gs p g)) line (Contains-get_or gs p g (subst (λ l. p < length l) (sym line) at.place));
-    hits = hit.hits;
+-- a cut that was kept and hits the node
+pub posted_closable : (b : Book) (n : Node) (cut : Cut) (r : Reply) (new : Book) (number : ℕ) → Does b (post cut) r new → number_in r ≡ Some number → IsNodeCut b.case.instance n.lines cut → IsClosable new n (by.Cut number)
+posted_closable b n cut r new number does e is = record {
+  closed = record {
+    cut = cut;
+    there = posted_there b cut r new number does e;
+    hits = subst (λ (k : Case). HitsNode cut.ships cut.deck k.instance n.lines) (sym (posted_case b cut r new number does e)) is.hits;
   };
 }
 
--- where some cut hits the group
-pub hits_some : (b : Book) (n : Node) (c p : ℕ) (gs : List Group) (g : Group) → gs ≡ line_at n.lines c → IsGroupAt b.case.instance n c p → (o : Option ℕ) → IfSome o (HitsShips b c (slice_index_or gs p g).ships) → IfSome o (IsHitting b n)
-hits_some b n c p gs g line at (Some number) hit = group_hit b n c p gs g number line at hit
-hits_some b n c p gs g line at None hit = hit
+-- what becomes of the node by a ground
+known-hit : (b : Book) (number : ℕ) (lines : List (List Group)) → IsKnownHit (HitsShips b b.case.instance) b.case.instance number lines → IsHitBy b.case.instance b.cuts number lines
+known-hit b number lines hit = record {
+  cut = hit.hits.cut;
+  there = hit.hits.there;
+  hits = record { chamber = hit.chamber; group = hit.group; known = hit.known; held = hit.held; hits = hit.hits.hits };
+}
+
+pub fate_closable : (b : Book) (n : Node) (why : Ground) → IsDriversFate b n (fate.Closed why) → IsClosable b n why
+fate_closable b n by.Bound is = record { closed = is }
+fate_closable b n by.Throughput is = record { closed = is }
+fate_closable b n (by.Probe s) is = record { closed = is }
+fate_closable b n (by.Cut number) is = record { closed = known-hit b number n.lines is }
+
+pub early_closable : (b : Book) (n : Node) (bound best : ℕ) (why : Ground) → best ≡ best_cost b → bound ≡ bound_of b.case.instance n.depth n.lines → IsEarly b.case.instance bound best why → IsClosable b n why
+early_closable b n bound best by.Bound best_is bound_is is = record { closed = omega (arith, is, best_is, bound_is) }
+early_closable b n bound best by.Throughput best_is bound_is is = record { closed = subst (λ m. m ≤ throughput_of b.case.instance) best_is is }
+early_closable b n bound best (by.Probe s) best_is bound_is is = absurd is
+early_closable b n bound best (by.Cut number) best_is bound_is is = absurd is
+
+-- what becomes of the node by the search of the book
+pub own_fate : (b : Book) (search : Search) (n : Node) (best : ℕ) (f : Fate) → IsOwnSearch b search → best ≡ best_cost b → IsFate (HitsShips b search.instance.now) search.instance.now search.turns best n f → IsDriversFate b n f
+own_fate b search n best f own best_is is =
+    subst (λ m. IsFate (HitsShips b b.case.instance) b.case.instance b.case.turns m n f) best_is
+    (subst (λ turns. IsFate (HitsShips b b.case.instance) b.case.instance turns best n f) own.turns_are
+    (subst (λ (I : Instance). IsFate (HitsShips b I) I search.turns best n f) own.instance_is is))
+
+pub own_anyway : (b : Book) (search : Search) (n : Node) (f : Fate) → IsOwnSearch b search → IsAnyway (HitsShips b search.instance.now) search.instance.now search.turns n f → IsDriversFate b n f
+own_anyway b search n f own is = own_fate b search n (best_cost b) f own refl (is.fate_is (best_cost b))

@@ -2,6 +2,6 @@ pub mod Told
 pub mod Driving
 pub mod Holding
 pub mod Holds
-pub mod Cuts
+pub mod Closable
 pub mod Opening
 pub mod Settling

@@ -3,26 +3,34 @@ ghost use Rattle.std.specs.Prelude.{◌≡◌, length, OnOk};
 ghost use Rattle.book_rules.specs.Cheap.{opening_cost};
 ghost use Rattle.book_rules.specs.Ends.{HoldsNothing, EndsWell};
 ghost use Rattle.solve_workers.specs.Driving.{IsDriven};
+ghost use Rattle.solve_workers.specs.Closable.{IsOwnSearch};
 ghost use Rattle.solve_workers.specs.Holding.{IsRunning, IsDone, IsTidied};
 
 use crate::held::take;
 use crate::working::work;
 use book_core::Book;
+use node_work::Search;
 use placed_groups::Memory;
 use plain_text::NoMemory;
 use std::alloc::Global;
 
-#[tactic(auto, using(crate::proofs::DrivenLemmas::driven_then, crate::proofs::DrivenLemmas::driven_none))]
+#[tactic(auto, using(crate::proofs::DrivenLemmas::driven_then, crate::proofs::DrivenLemmas::driven_none, crate::proofs::DrivenLemmas::own_still))]
 // Takes slots and works on them, until nothing is open or the nodes are spent.
-fn drive_nodes(alloc: Global, book: &mut Book, memory: &mut Memory) -> Result<(), NoMemory>
+fn drive_nodes(
+    alloc: Global,
+    book: &mut Book,
+    search: &Search<'_>,
+    memory: &mut Memory,
+) -> Result<(), NoMemory>
     requires free { HoldsNothing book.old }
     requires running { IsRunning book.old }
+    requires own { IsOwnSearch book.old search.now }
     ensures free { OnOk result (HoldsNothing book.new) }
     ensures done { OnOk result (IsDone book.new) }
     ensures driven { IsDriven book.old book.new }
 {
     'slots: while let Some(held) = take(book) {
-        work(alloc, book, &held, memory)?;
+        work(alloc, book, search, &held, memory)?;
     }
     Ok(())
 }
@@ -54,8 +62,10 @@ pub fn drive(alloc: Global, book: &mut Book) -> Result<(), NoMemory>
     ensures opening { opening_cost book.new ≡ opening_cost book.old }
     ensures driven { IsDriven book.old book.new }
 {
+    let case = book.case().copy();
+    let search = Search::new(&case.instance, case.turns);
     let mut memory = Memory::new(alloc);
-    drive_nodes(alloc, book, &mut memory)?;
+    drive_nodes(alloc, book, &search, &mut memory)?;
     close_parked(book);
     Ok(())
 }

@@ -13,7 +13,7 @@
 //!   then closes the parked slots whose bound is at least the best cost: the book ends well. All that
 //!   it does to the book is a list of events of worker 8, also where memory runs out. For each node
 //!   `held` takes it, `closing` tries what needs no placer, `working` asks what becomes of it
-//!   (`fates`, by `node_fate`), and `ending` makes it so. `arriving` says which ship comes next, and
+//!   (`fates`, by `node_work`), and `ending` makes it so. `arriving` says which ship comes next, and
 //!   which group the last one is in.
 //!
 //! Definitions: `book_rules` says how a search ends well (`specs/Ends`) and what events change;
@@ -22,14 +22,11 @@
 //! `Settling` (what the caller tests, and a book that is freed), `Told` (what replies tell).
 #![tactic(auto)]
 
-mod arriving;
-mod closing;
 mod comparing;
 mod crew;
 mod cut_list;
 mod driving;
 mod ending;
-mod fates;
 mod held;
 mod opening;
 mod running;

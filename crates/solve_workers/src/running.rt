@@ -3,8 +3,7 @@ ghost use Rattle.std.specs.Prelude.{◌≡◌, ◌+◌, ◌<◌, ◌≤◌, vec_
 
 use bound_word::BoundTable;
 use lock_io::Gate;
-use search_worker::{Hands, Shared, search};
-use std::alloc::Global;
+use search_worker::{Hands, Post, search};
 use std::snapshot::Snapshot;
 use std::sync::Wait;
 use std::sync::ledger::Ledger;
@@ -25,26 +24,23 @@ pub(crate) type Running<L> = PromisedHandle<Hands<L>, OfTable>;
 // Starts a worker, or runs it on this thread where no other can be made.
 fn start<'s, E, L: Ledger + Send + Sync, R: Threads + Wait + Sync, G: Gate + Sync>(
     scope: &Scope<'s, E>,
-    rt: &'s R,
-    alloc: Global,
-    gate: &'s G,
-    shared: &'s Shared<'s, L>,
+    post: &'s Post<'s, L, R, G>,
     worker: u8,
     hands: Hands<L>,
     running: &mut Vec<Running<L>>,
     ended: &mut Vec<Hands<L>>,
 )
     requires worker { worker < 8 }
-    requires seat { hands.seat.table ≡ shared.now.word.now.table }
+    requires seat { hands.seat.table ≡ post.now.word.now.table }
     requires room_running { vec_len running.old < vec_capacity running.old }
     requires room_ended { vec_len ended.old < vec_capacity ended.old }
     ensures count { vec_len running.new + vec_len ended.new ≡ vec_len running.old + vec_len ended.old + 1 }
     ensures room { (vec_capacity running.new ≡ vec_capacity running.old) × (vec_capacity ended.new ≡ vec_capacity ended.old) }
-    ensures running { All (λ h. h.promise.0.value.table ≡ shared.now.word.now.table) running.old.items → All (λ h. h.promise.0.value.table ≡ shared.now.word.now.table) running.new.items }
-    ensures ended { All (λ h. h.seat.table ≡ shared.now.word.now.table) ended.old.items → All (λ h. h.seat.table ≡ shared.now.word.now.table) ended.new.items }
+    ensures running { All (λ h. h.promise.0.value.table ≡ post.now.word.now.table) running.old.items → All (λ h. h.promise.0.value.table ≡ post.now.word.now.table) running.new.items }
+    ensures ended { All (λ h. h.seat.table ≡ post.now.word.now.table) ended.old.items → All (λ h. h.seat.table ≡ post.now.word.now.table) ended.new.items }
 {
-    match scope.spawn_with(OfTable(Snapshot::of(shared.word)), move || {
-        search(rt, alloc, gate, shared, worker, hands)
+    match scope.spawn_with(OfTable(Snapshot::of(post.word)), move || {
+        search(post, worker, hands)
     }) {
         Ok(handle) => running.push_reserved(handle),
         Err(refused) => ended.push_reserved((refused.value)()),
@@ -54,47 +50,40 @@ fn start<'s, E, L: Ledger + Send + Sync, R: Threads + Wait + Sync, G: Gate + Syn
 // Starts all workers.
 fn start_all<'s, E, L: Ledger + Send + Sync, R: Threads + Wait + Sync, G: Gate + Sync>(
     scope: &Scope<'s, E>,
-    rt: &'s R,
-    alloc: Global,
-    gate: &'s G,
-    shared: &'s Shared<'s, L>,
+    post: &'s Post<'s, L, R, G>,
     mut crew: Vec<Hands<L>>,
     running: &mut Vec<Running<L>>,
     ended: &mut Vec<Hands<L>>,
 )
     requires few { vec_len crew ≤ 8 }
-    requires seats { All (λ h. h.seat.table ≡ shared.now.word.now.table) crew.items }
+    requires seats { All (λ h. h.seat.table ≡ post.now.word.now.table) crew.items }
     requires empty { (vec_len running.old ≡ 0) × (vec_len ended.old ≡ 0) }
     requires room { (vec_len crew ≤ vec_capacity running.old) × (vec_len crew ≤ vec_capacity ended.old) }
     ensures count { vec_len running.new + vec_len ended.new ≡ vec_len crew }
     ensures room { vec_len crew ≤ vec_capacity ended.new }
-    ensures running { All (λ h. h.promise.0.value.table ≡ shared.now.word.now.table) running.new.items }
-    ensures ended { All (λ h. h.seat.table ≡ shared.now.word.now.table) ended.new.items }
+    ensures running { All (λ h. h.promise.0.value.table ≡ post.now.word.now.table) running.new.items }
+    ensures ended { All (λ h. h.seat.table ≡ post.now.word.now.table) ended.new.items }
 {
     while let Some(hands) = crew.pop() {
         let worker = crew.len() as u8;
-        start(
-            scope, rt, alloc, gate, shared, worker, hands, running, ended,
-        );
+        start(scope, post, worker, hands, running, ended);
     }
 }
 
 // Waits for all threads, and puts what they hand back to what has ended.
-fn join_all<L: Ledger, R: Threads>(
-    rt: &R,
-    shared: &Shared<'_, L>,
+fn join_all<L: Ledger, R: Threads + Wait, G: Gate>(
+    post: &Post<'_, L, R, G>,
     mut running: Vec<Running<L>>,
     mut ended: Vec<Hands<L>>,
 ) -> Vec<Hands<L>>
     requires room { vec_len running + vec_len ended ≤ vec_capacity ended }
-    requires running { All (λ h. h.promise.0.value.table ≡ shared.now.word.now.table) running.items }
-    requires ended { All (λ h. h.seat.table ≡ shared.now.word.now.table) ended.items }
+    requires running { All (λ h. h.promise.0.value.table ≡ post.now.word.now.table) running.items }
+    requires ended { All (λ h. h.seat.table ≡ post.now.word.now.table) ended.items }
     ensures count { vec_len result ≡ vec_len running + vec_len ended }
-    ensures seats { All (λ h. h.seat.table ≡ shared.now.word.now.table) result.items }
+    ensures seats { All (λ h. h.seat.table ≡ post.now.word.now.table) result.items }
 {
-    let _ = shared;
     while let Some(handle) = running.pop() {
-        ended.push_reserved(handle.join(rt));
+        ended.push_reserved(handle.join(post.rt));
     }
     ended
 }
@@ -102,62 +91,47 @@ fn join_all<L: Ledger, R: Threads>(
 // Starts all workers and waits for them.
 fn run_in<'s, E, L: Ledger + Send + Sync, R: Threads + Wait + Sync, G: Gate + Sync>(
     scope: &Scope<'s, E>,
-    rt: &'s R,
-    alloc: Global,
-    gate: &'s G,
-    shared: &'s Shared<'s, L>,
+    post: &'s Post<'s, L, R, G>,
     crew: Vec<Hands<L>>,
     mut running: Vec<Running<L>>,
     mut ended: Vec<Hands<L>>,
 ) -> Vec<Hands<L>>
     requires few { vec_len crew ≤ 8 }
-    requires seats { All (λ h. h.seat.table ≡ shared.now.word.now.table) crew.items }
+    requires seats { All (λ h. h.seat.table ≡ post.now.word.now.table) crew.items }
     requires empty { (vec_len running ≡ 0) × (vec_len ended ≡ 0) }
     requires room { (vec_len crew ≤ vec_capacity running) × (vec_len crew ≤ vec_capacity ended) }
     ensures count { vec_len result ≡ vec_len crew }
-    ensures seats { All (λ h. h.seat.table ≡ shared.now.word.now.table) result.items }
+    ensures seats { All (λ h. h.seat.table ≡ post.now.word.now.table) result.items }
 {
-    start_all(
-        scope,
-        rt,
-        alloc,
-        gate,
-        shared,
-        crew,
-        &mut running,
-        &mut ended,
-    );
-    join_all(rt, shared, running, ended)
+    start_all(scope, post, crew, &mut running, &mut ended);
+    join_all(post, running, ended)
 }
 
 /// Runs a worker for each of up to eight hands, each in a thread of its own where one can be made,
 /// and waits for all. What they hand back is of the same table.
 pub(crate) fn run_all<'s, L: Ledger + Send + Sync, R: Threads + Wait + Sync, G: Gate + Sync>(
-    rt: &R,
-    alloc: Global,
-    gate: &G,
-    shared: &Shared<'s, L>,
+    post: &Post<'s, L, R, G>,
     crew: Vec<Hands<L>>,
     running: Vec<Running<L>>,
     ended: Vec<Hands<L>>,
 ) -> Vec<Hands<L>>
     requires few { vec_len crew ≤ 8 }
-    requires seats { All (λ h. h.seat.table ≡ shared.now.word.now.table) crew.items }
+    requires seats { All (λ h. h.seat.table ≡ post.now.word.now.table) crew.items }
     requires empty { (vec_len running ≡ 0) × (vec_len ended ≡ 0) }
     requires room { (vec_len crew ≤ vec_capacity running) × (vec_len crew ≤ vec_capacity ended) }
     ensures count { vec_len result ≡ vec_len crew }
-    ensures seats { All (λ h. h.seat.table ≡ shared.now.word.now.table) result.items }
+    ensures seats { All (λ h. h.seat.table ≡ post.now.word.now.table) result.items }
 {
     thread::scope(
         thread::scope_env(),
-        rt,
+        post.rt,
         |scope| -> Vec<Hands<L>>
             requires few { vec_len crew ≤ 8 }
-            requires seats { All (λ h. h.seat.table ≡ shared.now.word.now.table) crew.items }
+            requires seats { All (λ h. h.seat.table ≡ post.now.word.now.table) crew.items }
             requires empty { (vec_len running ≡ 0) × (vec_len ended ≡ 0) }
             requires room { (vec_len crew ≤ vec_capacity running) × (vec_len crew ≤ vec_capacity ended) }
             ensures count { vec_len result ≡ vec_len crew }
-            ensures seats { All (λ h. h.seat.table ≡ shared.entry.now.word.now.table) result.items }
-        { run_in(scope, rt, alloc, gate, shared, crew, running, ended) },
+            ensures seats { All (λ h. h.seat.table ≡ post.entry.now.word.now.table) result.items }
+        { run_in(scope, post, crew, running, ended) },
     )
 }

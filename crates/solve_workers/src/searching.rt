@@ -9,10 +9,12 @@ use book_core::{Book, Case};
 use bound_word::BoundTable;
 use cut_pool::{Pool, Token};
 use lock_io::Gate;
+use master_branch::arrival_order;
+use node_work::Search;
 use place_refute::{Cut, copy_cut};
 use plain_text::NoMemory;
 use search_book::share_book;
-use search_worker::Shared;
+use search_worker::Post;
 use std::alloc::Global;
 use std::sync::Wait;
 use std::sync::ledger::{Blank, Ledger};
@@ -35,41 +37,54 @@ fn post_given<W: Wait>(rt: &W, pool: &Pool, cuts: &CutList) {
     }
 }
 
-/// Lets 1 to 8 workers search a book of a case, in which the given cuts are posted, and gives it back
+/// What a search is lent: handles, the case and the given cuts, and how many workers it has, 1 to 8.
+#[derive(Drop)]
+pub(crate) struct Lent<'s, R: Threads + Wait + Sync, G: Gate + Sync> {
+    pub(crate) rt: &'s R,
+    pub(crate) alloc: Global,
+    pub(crate) gate: &'s G,
+    pub(crate) case: &'s Case,
+    pub(crate) cuts: &'s CutList,
+    pub(crate) workers: u8,
+    pub(crate) ghost some_workers: { 1 ≤ workers },
+    pub(crate) ghost few_workers: { workers ≤ 8 },
+}
+
+/// Lets the workers search a book of the case, in which the given cuts are posted, and gives it back
 /// when all have ended. Of the book that comes back nothing but its type is known. Refuses want of
 /// memory alone, and before any worker began.
 pub(crate) fn searched<L: Ledger + Send + Sync, R: Threads + Wait + Sync, G: Gate + Sync>(
-    rt: &R,
-    alloc: Global,
+    lent: &Lent<'_, R, G>,
     blank: Blank,
     book: Book,
-    case: &Case,
-    cuts: &CutList,
-    workers: u8,
-    gate: &G,
 ) -> Result<Book, NoMemory>
-    requires some_workers { 1 ≤ workers }
-    requires few_workers { workers ≤ 8 }
     requires name { blank.name ≡ L.name }
     requires parts { blank.parts ≡ L.parts }
-    requires one_each { blank.parts ≡ workers + 1 }
+    requires one_each { blank.parts ≡ lent.now.workers + 1 }
 {
+    let workers = lent.workers;
+    let alloc = lent.alloc;
     let mut crew = Vec::with_capacity(alloc, workers as usize)?;
     let running = Vec::with_capacity(alloc, workers as usize)?;
     let ended = Vec::with_capacity(alloc, workers as usize)?;
     let pool = Pool::new(alloc)?;
-    post_given(rt, &pool, cuts);
+    post_given(lent.rt, &pool, lent.cuts);
     let (word, mut seat) = BoundTable::new(alloc, book.opening_cost(), workers + 1)?;
-    let (lent, mut shares) = share_book::<L>(blank, book, workers);
+    let (shared, mut shares) = share_book::<L>(blank, book, workers);
     deal(&mut shares, &word, &mut seat, &mut crew, workers);
-    let shared = Shared {
-        case,
-        book: &lent,
+    let instance = &lent.case.instance;
+    let post = Post {
+        rt: lent.rt,
+        alloc,
+        gate: lent.gate,
+        search: Search::new(instance, lent.case.turns),
+        order: arrival_order(instance),
+        book: &shared,
         pool: &pool,
         word: &word,
     };
-    let ended = run_all(rt, alloc, gate, &shared, crew, running, ended);
+    let ended = run_all(&post, crew, running, ended);
     gather(ended, &mut shares, &word, &mut seat);
     word.close(seat);
-    Ok(lent.into_book(shares))
+    Ok(shared.into_book(shares))
 }

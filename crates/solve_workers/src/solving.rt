@@ -9,7 +9,7 @@ ghost use Rattle.book_rules.specs.Ends.{EndsWell};
 use crate::cut_list::CutList;
 use crate::driving::drive;
 use crate::opening::opened;
-use crate::searching::searched;
+use crate::searching::{Lent, searched};
 use crate::settling::settled;
 use book_core::{Book, Case};
 use first_plan::{FirstError, first_plan};
@@ -43,22 +43,14 @@ fn opening_plan(alloc: Global, case: &Case) -> Result<Plan, NoMemory>
 // The book as the workers leave it. One worker alone is the caller, who drives without a lock: no
 // other thread is started for it.
 fn worked<R: Threads + Wait + Sync, G: Gate + Sync>(
-    rt: &R,
-    alloc: Global,
+    lent: &Lent<'_, R, G>,
     book: Book,
-    case: &Case,
-    cuts: &CutList,
-    workers: u8,
-    gate: &G,
-) -> Result<Book, NoMemory>
-    requires some_workers { 1 ≤ workers }
-    requires few_workers { workers ≤ 8 }
-{
-    if workers == 1 {
+) -> Result<Book, NoMemory> {
+    if lent.workers == 1 {
         return Ok(book);
     }
-    let blank = Blank::new(workers as u64 + 1);
-    searched::<Brand, R, G>(rt, alloc, blank, book, case, cuts, workers, gate)
+    let blank = Blank::new(lent.workers as u64 + 1);
+    searched::<Brand, R, G>(lent, blank, book)
 }
 
 #[tactic(auto, using(crate::proofs::OpeningLemmas::ends_within_ok))]
@@ -104,7 +96,15 @@ pub fn solve_from<R: Threads + Wait + Sync, G: Gate + Sync>(
 {
     let first = opened(alloc, case, plan.copy(), &cuts)?;
     let cost = first.opening_cost();
-    let left = worked(rt, alloc, first, case, &cuts, workers, gate)?;
+    let lent = Lent {
+        rt,
+        alloc,
+        gate,
+        case,
+        cuts: &cuts,
+        workers,
+    };
+    let left = worked(&lent, first)?;
     let mut book = settled(alloc, left, case, cost, plan, &cuts)?;
     drive(alloc, &mut book)?;
     Ok(Solved { book })

@@ -1,6 +1,5 @@
 //! Searches.
 mod driving;
 mod fixture;
-mod hitting;
 mod threads;
 mod workers;

@@ -2,7 +2,7 @@
 ghost use Rattle.std.specs.Prelude.{◌≤◌};
 
 use crate::{Status, run};
-use lock_io::{MemorySink, MemorySource, OpenGate};
+use lock_io::{Gate, MemorySink, MemorySource, OpenGate};
 use std::alloc::Global;
 use std::process::Abort;
 use std::sync::Wait;
@@ -54,13 +54,15 @@ fn only(alloc: Global, number: u64) -> Result<Vec<u64>, Fail> {
     Ok(list)
 }
 
-/// Runs over a source that hands out at most `bite` bytes a call, and a sink that takes as many.
-pub(super) fn run_with<R: Threads + Wait + Sync>(
+/// Runs past a gate, over a source that hands out at most `bite` bytes a call, and a sink that takes
+/// as many.
+pub(super) fn run_past<R: Threads + Wait + Sync, G: Gate + Sync>(
     rt: &R,
     alloc: Global,
     words: &[&str],
     text: &[u8],
     calls: Calls,
+    gate: &G,
 ) -> Result<Ran, Fail>
     requires { 1 ≤ calls.bite }
 {
@@ -71,20 +73,33 @@ pub(super) fn run_with<R: Threads + Wait + Sync>(
     let mut sink = MemorySink::new(alloc, calls.bite, sink_faults).map_err(
         |_| "no memory for the sink",
     )?;
-    let status = run(
-        rt,
-        alloc,
-        list.as_slice(),
-        &mut source,
-        &mut sink,
-        &OpenGate,
-    );
+    let status = run(rt, alloc, list.as_slice(), &mut source, &mut sink, gate);
     Ok(Ran {
         status,
         text: sink.into_bytes(),
         left: source.as_slice().len(),
     })
 }
+
+/// The same past an open gate.
+pub(super) fn run_with<R: Threads + Wait + Sync>(
+    rt: &R,
+    alloc: Global,
+    words: &[&str],
+    text: &[u8],
+    calls: Calls,
+) -> Result<Ran, Fail>
+    requires { 1 ≤ calls.bite }
+{
+    run_past(rt, alloc, words, text, calls, &OpenGate)
+}
+
+/// Calls that move much, and never fail.
+pub(super) const LARGE: Calls = Calls {
+    bite: 4096,
+    source_fault: NEVER,
+    sink_fault: NEVER,
+};
 
 /// Runs with no fault.
 pub(super) fn run_over<R: Threads + Wait + Sync>(
@@ -93,12 +108,7 @@ pub(super) fn run_over<R: Threads + Wait + Sync>(
     words: &[&str],
     text: &[u8],
 ) -> Result<Ran, Fail> {
-    let calls = Calls {
-        bite: 4096,
-        source_fault: NEVER,
-        sink_fault: NEVER,
-    };
-    run_with(rt, alloc, words, text, calls)
+    run_with(rt, alloc, words, text, LARGE)
 }
 
 /// The run of this row ended with this code, and wrote this text.

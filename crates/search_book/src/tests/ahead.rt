@@ -4,6 +4,7 @@ ghost use Rattle.std.specs.Prelude.{◌≡◌, IfSome};
 use super::fixture::{narrow, open, swift};
 use crate::{Ending, Next, SharedBook, Stretch};
 use book_core::{Book, Foreseen, Grant, Reply};
+use closing_rules::Ground;
 use lock_model::Instance;
 use std::alloc::Global;
 use std::sync::Wait;
@@ -65,7 +66,7 @@ fn stretch_of<'i>(alloc: Global, instance: &'i Instance, way: Way) -> Result<Str
 
 fn first_ending(way: Way) -> Ending {
     match way {
-        Way::Probe => Ending::Probe(0),
+        Way::Probe => Ending::Close(Ground::Probe(0)),
         _ => Ending::Split,
     }
 }

@@ -101,7 +101,7 @@ fn through<L: Ledger, R: Wait>(
     Ok(match ask {
         Ask::Wait => shared.take_or_wait(rt, mine, 0),
         Ask::SplitAndTake(_) | Ask::CloseAndTake(_) => {
-            last_of(shared.end_and_take(rt, mine, 0, event, None))
+            last_of(shared.end_and_take(rt, mine, 0, event))
         }
         Ask::GoAhead(way) => last_of(go_ahead(rt, alloc, shared, mine, way)?),
         _ => shared.with_book(rt, mine, event),

@@ -89,7 +89,7 @@ fn late<L: Ledger, R: Wait>(
     if splits {
         shared.with_book(rt, &mut share, Event::Split(0));
     } else {
-        shared.end_and_take(rt, &mut share, 0, Event::Release(0), None);
+        shared.end_and_take(rt, &mut share, 0, Event::Release(0));
     }
     Part { share, last }
 }

@@ -1,13 +1,15 @@
 //! Books of one chamber and two ships, and a worker that searches one alone.
 ghost use Rattle.std.specs.Prelude.{◌≡◌, ◌+◌, length, sum_by, All, IfSome};
 
-use crate::{Hands, Shared, search};
+use crate::{Hands, Post, search};
 use book_core::{Book, Case, open_book};
 use bound_word::{BoundSeat, BoundTable};
 use cut_pool::Pool;
 use first_plan::{first_unfit, singles_plan};
 use lock_io::{Gate, Point};
 use lock_model::{Chamber, Chambers, Closures, Instance, Name, Ship, ShipList, Stand, Way};
+use master_branch::arrival_order;
+use node_work::Search;
 use search_book::{ShareList, share_book};
 use std::alloc::Global;
 use std::marker::Brand;
@@ -95,19 +97,20 @@ fn hands_of<L: Ledger>(shares: &mut ShareList<L>, seat: BoundSeat) -> Option<Han
     Some(Hands { share, seat })
 }
 
-// The book after one worker has searched it under a ledger of two parts, and the least cost that was
-// posted.
+// The book after one worker has searched it for this instance under a ledger of two parts, and the
+// least cost that was posted.
 fn searched_by<L: Ledger, W: Wait, G: Gate>(
     rt: &W,
     alloc: Global,
     gate: &G,
     blank: Blank,
     book: Book,
+    instance: &Instance,
 ) -> Result<(Book, u64), Fail>
     requires name { blank.name ≡ L.name }
     requires parts { (blank.parts ≡ L.parts) × (blank.parts ≡ 2) }
 {
-    let case = book.case().copy();
+    let turns = book.case().turns;
     let pool = Pool::new(alloc)?;
     let (word, mut seat) = BoundTable::new(alloc, book.opening_cost(), 2)?;
     let own = word.split(&mut seat);
@@ -115,37 +118,54 @@ fn searched_by<L: Ledger, W: Wait, G: Gate>(
     let Some(hands) = hands_of(&mut shares, own) else {
         return Err(Fail::from("no share"));
     };
-    let shared = Shared {
-        case: &case,
+    let post = Post {
+        rt,
+        alloc,
+        gate,
+        search: Search::new(instance, turns),
+        order: arrival_order(instance),
         book: &book,
         pool: &pool,
         word: &word,
     };
-    let Hands { share, seat: own } = search(rt, alloc, gate, &shared, 0, hands);
+    let Hands { share, seat: own } = search(&post, 0, hands);
     shares.push(share);
     word.join(&mut seat, own);
     Ok((book.into_book(shares), word.close(seat)))
 }
 
-/// The book after one worker has searched it alone, and the least cost that was posted.
+/// The book after one worker has searched it alone for this instance, and the least cost that was
+/// posted.
+pub(crate) fn searched_as<W: Wait, G: Gate>(
+    rt: &W,
+    alloc: Global,
+    gate: &G,
+    book: Book,
+    instance: &Instance,
+) -> Result<(Book, u64), Fail> {
+    searched_by::<Brand, W, G>(rt, alloc, gate, Blank::new(2), book, instance)
+}
+
+/// The same for the instance of the book.
 pub(crate) fn searched<W: Wait, G: Gate>(
     rt: &W,
     alloc: Global,
     gate: &G,
     book: Book,
 ) -> Result<(Book, u64), Fail> {
-    searched_by::<Brand, W, G>(rt, alloc, gate, Blank::new(2), book)
+    let instance = book.case().instance.copy();
+    searched_as(rt, alloc, gate, book, &instance)
 }
 
 /// A gate that keeps the points at which one worker called it.
 #[derive(Drop)]
-pub(crate) struct Trail {
+pub(crate) struct PointGate {
     points: Mutex<Vec<Point>>,
 }
 
-impl Trail {
-    pub(crate) fn new(alloc: Global) -> Trail {
-        Trail {
+impl PointGate {
+    pub(crate) fn new(alloc: Global) -> PointGate {
+        PointGate {
             points: Mutex::new(Vec::new(alloc)),
         }
     }
@@ -155,7 +175,7 @@ impl Trail {
     }
 }
 
-impl Gate for Trail {
+impl Gate for PointGate {
     fn at(&self, _worker: u8, point: Point) {
         if let Some(mut points) = self.points.try_lock() {
             let _ = points.push(point);

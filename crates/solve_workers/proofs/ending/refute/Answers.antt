@@ -2,23 +2,23 @@ use Rattle.book_rules.specs.Events.{post}
 use Rattle.book_core.specs.Nodes.{tree_node}
 use Rattle.solve_workers.proofs.GrowLemmas.{post_granted, posted_holds, want_kept}
 use Rattle.solve_workers.proofs.DrivenLemmas.{driven_does, driven_then}
-use Rattle.solve_workers.proofs.HeldLemmas.{posted_hits, err_of}
+use Rattle.solve_workers.proofs.HeldLemmas.{posted_closable, err_of}
 use Rattle.solve_workers.proofs.ending.refute.Goals as goal
 
 pub posted-requires : goal.posted-requires
 posted-requires c = post_granted c.args.book.now c.args.cut c.post-reply.result c.post-reply.new.self c.requires.cut.own c.post-reply.ensures
 
-pub close_by_cut-requires-clause-holds : goal.close_by_cut-requires-clause-holds
-close_by_cut-requires-clause-holds c =
+pub close-requires-clause-holds : goal.close-requires-clause-holds
+close-requires-clause-holds c =
     posted_holds c.args.book.now c.args.cut c.post-reply.result c.post-reply.new.self c.in_ok-number.number c.post-reply.ensures c.in_ok-number.ensures.posted c.args.held.now.id (tree_node c.args.held.now.node) c.requires.holds
 
-pub close_by_cut-requires-clause-hits : goal.close_by_cut-requires-clause-hits
-close_by_cut-requires-clause-hits c =
-    posted_hits c.args.book.now c.args.held.now.node c.args.cut c.post-reply.result c.post-reply.new.self c.in_ok-number.number c.post-reply.ensures c.in_ok-number.ensures.posted c.requires.cut
+pub close-requires-clause-closed : goal.close-requires-clause-closed
+close-requires-clause-closed c =
+    posted_closable c.args.book.now c.args.held.now.node c.args.cut c.post-reply.result c.post-reply.new.self c.in_ok-number.number c.post-reply.ensures c.in_ok-number.ensures.posted c.requires.cut
 
 pub returns-clause-driven : goal.returns-clause-driven
 returns-clause-driven c =
-    driven_then c.args.book.now c.post-reply.new.self c.close_by_cut.new.book (driven_does c.args.book.now (post c.args.cut) c.post-reply.result c.post-reply.new.self c.keeps.ensures c.requires.cut.proved tt c.post-reply.ensures) c.close_by_cut.ensures.driven
+    driven_then c.args.book.now c.post-reply.new.self c.close.new.book (driven_does c.args.book.now (post c.args.cut) c.post-reply.result c.post-reply.new.self c.keeps.ensures c.requires.cut.proved tt c.post-reply.ensures) c.close.ensures.driven
 
 pub returns-in_err-number-clause-kept : goal.returns-in_err-number-clause-kept
 returns-in_err-number-clause-kept c = err_of c.from_residual.result (want_kept c.args.book.now (post c.args.cut) c.post-reply.result c.post-reply.new.self c.post-reply.ensures c.in_err-number.ensures.want)

@@ -1,6 +1,0 @@
-pub mod CutLemmas
-pub mod RecallLemmas
-pub mod FateLemmas
-pub mod LineLemmas
-pub mod LastLemmas
-pub mod DeckLemmas

@@ -1,4 +1,0 @@
-pub mod Settling
-pub mod Fates
-pub mod Last
-pub mod Lines

@@ -1,0 +1,5 @@
+pub mod Settling
+pub mod Known
+pub mod Fates
+pub mod Last
+pub mod Lines

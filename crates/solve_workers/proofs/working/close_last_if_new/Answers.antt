@@ -1,5 +1,0 @@
-use Rattle.solve_workers.proofs.HeldLemmas.{held_node}
-use Rattle.solve_workers.proofs.working.close_last_if_new.Goals as goal
-
-pub group_of_last-requires : goal.group_of_last-requires
-group_of_last-requires c = held_node c.args.book.now c.args.held.now.id c.args.held.now.node c.requires c.keeps.ensures
