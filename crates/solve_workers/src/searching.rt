@@ -72,12 +72,13 @@ pub(crate) fn searched<L: Ledger + Send + Sync, R: Threads + Wait + Sync, G: Gat
     let (word, mut seat) = BoundTable::new(alloc, book.opening_cost(), workers + 1)?;
     let (shared, mut shares) = share_book::<L>(blank, book, workers);
     deal(&mut shares, &word, &mut seat, &mut crew, workers);
-    let instance = &lent.case.instance;
+    let case = lent.case;
+    let instance = &case.instance;
     let post = Post {
         rt: lent.rt,
         alloc,
         gate: lent.gate,
-        search: Search::new(instance, lent.case.turns),
+        search: Search::new(instance, case.turns),
         order: arrival_order(instance),
         book: &shared,
         pool: &pool,
