@@ -17,7 +17,6 @@ use crate::kept::Kept;
 use crate::next::Next;
 use crate::replies::is_accepted;
 use book_core::{Book, Grant};
-use closing_rules::Ground;
 use master_branch::Node;
 use std::sync::ledger::{Ledger, Share};
 
@@ -28,7 +27,7 @@ fn ending_of(id: u32, ending: Ending) -> Event
 {
     match ending {
         Ending::Split => Event::Split(id),
-        Ending::Probe(ship) => Event::Close(id, Ground::Probe(ship)),
+        Ending::Close(why) => Event::Close(id, why),
     }
 }
 

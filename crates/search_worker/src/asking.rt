@@ -57,7 +57,7 @@ pub(crate) fn finish<L: Ledger, W: Wait, G: Gate>(
     let share = &mut worker.hands.share;
     let next = post
         .book
-        .end_and_take(post.rt, share, worker.number, ending, None);
+        .end_and_take(post.rt, share, worker.number, ending);
     go_on(post, worker, next)
 }
 
