@@ -12,12 +12,10 @@ use Rattle.refute_rules.specs.Spots.{IsSpent}
 use Rattle.place_refute.specs.Tried.{Tried}
 use Rattle.master_branch.specs.Node.{Node}
 use Rattle.closing_rules.specs.declared.grounds.Ground.TheVariants as by
-use Rattle.node_work.specs.declared.settling.Settled.{Settled}
-use Rattle.node_work.specs.declared.settling.Settled.TheVariants as settled
 use Rattle.node_work.specs.declared.fate.Fate.{Fate}
 use Rattle.node_work.specs.declared.fate.Fate.TheVariants as fate
-use Rattle.node_work.specs.Settling.{IsSettled, IsCutOf, IsTooHard}
-use Rattle.node_work.specs.Fates.{IsNodeCut, IsSpentAt, IsKnownHit, IsAnyway, IsFate, IsRefutedBy, IsSpentBy}
+use Rattle.node_work.specs.Settling.{IsCutOf, IsTooHard}
+use Rattle.node_work.specs.Fates.{IsNodeCut, IsSpentAt, IsAnyway, IsRefutedBy, IsSpentBy}
 
 there-at : (gs : List Group) (p : ℕ) (g : Group) → p < length gs → slice_get gs p ≡ Some (slice_index_or gs p g)
 there-at [] p g here = absurd (omega (arith, here))

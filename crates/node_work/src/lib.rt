@@ -1,15 +1,15 @@
 //! The work on one node of the search tree.
 //!
-//! `fate_of` says what becomes of a node, where the best cost is known: it is closed by its bound,
-//! by the throughput, by the probe of the next ship or by a known cut; it is split; it gives its
-//! plan; a new cut hits it; or a group of it is spent. A search only carries that out. What is the
-//! same for all nodes stands in `Search`, and what is known of cuts is asked through `KnownCuts`,
-//! which a book is by its list of cuts.
+//! `closed_early`, `inner_fate` (of a node that lacks ships) and `whole_fate` (of one that holds all)
+//! say what becomes of a node, where the best cost is known: it is closed on a ground, it is split,
+//! it gives its plan, a new cut hits it, or a group of it is spent. A search only carries that out.
+//! What is the same for all nodes stands in `Search`, and what is known of cuts is asked through
+//! `KnownCuts`, which a book is by its list of cuts.
 //!
-//! Of a node that lacks ships one group is looked at, the one that its parent doesn't have (`last`);
-//! of a node that holds all ships every group, since its plan needs the spots of all (`leaf`). What
-//! is remembered is tested again before a fact rests on it (`recalling`), but for a group of a node
-//! that is only split: there nothing rests on it.
+//! Of a node that lacks ships one group is looked at, the one that its parent doesn't have (`last`,
+//! `inner`); of a node that holds all ships every group, since its plan needs the spots of all
+//! (`whole`). What is remembered is tested again before a fact rests on it (`recalling`), but for a
+//! group of a node that is only split: there nothing rests on it.
 //!
 //! Definitions: `specs/Fates` (what becomes of a node), `Known` (cuts of a book), `Settling` (what is
 //! found of a group), `Last` (the group that a ship is in), `Lines` (the moorings of a node as they

@@ -17,7 +17,7 @@ struct Row<'a> {
     greatest: Option<u64>,
 }
 
-fn row<'a>(path: &'a [u32], prices: &'a [u32], sum: i64, greatest: Option<u64>) -> Row<'a> {
+fn sum_row<'a>(path: &'a [u32], prices: &'a [u32], sum: i64, greatest: Option<u64>) -> Row<'a> {
     Row {
         path,
         prices,
@@ -54,17 +54,17 @@ fn check(
 fn one_ship(rt: HostRuntime) -> Result<(), Fail> {
     let instance = one().ok_or("no instance")?;
     for case in [
-        row(&[], &[0], 0, Some(0)),
-        row(&[], &[2000], 2000, Some(20)),
-        row(&[], &[3400], 3400, Some(34)),
-        row(&[], &[3401], 3401, Some(35)),
-        row(&[], &[3500], 3500, Some(35)),
-        row(&[], &[5000], 3500, Some(35)),
-        row(&[], &[8500], 3500, Some(35)),
-        row(&[], &[9000], 3000, Some(30)),
-        row(&[], &[1_000_000], -98_800_000, None),
-        row(&[0], &[0], 3500, Some(35)),
-        row(&[0], &[9000], 3500, Some(35)),
+        sum_row(&[], &[0], 0, Some(0)),
+        sum_row(&[], &[2000], 2000, Some(20)),
+        sum_row(&[], &[3400], 3400, Some(34)),
+        sum_row(&[], &[3401], 3401, Some(35)),
+        sum_row(&[], &[3500], 3500, Some(35)),
+        sum_row(&[], &[5000], 3500, Some(35)),
+        sum_row(&[], &[8500], 3500, Some(35)),
+        sum_row(&[], &[9000], 3000, Some(30)),
+        sum_row(&[], &[1_000_000], -98_800_000, None),
+        sum_row(&[0], &[0], 3500, Some(35)),
+        sum_row(&[0], &[9000], 3500, Some(35)),
     ] {
         check(&rt, rt.alloc(), &instance, &[], &case)?;
     }
@@ -75,16 +75,16 @@ fn one_ship(rt: HostRuntime) -> Result<(), Fail> {
 fn two_ships_side_by_side(rt: HostRuntime) -> Result<(), Fail> {
     let instance = pair(240).ok_or("no instance")?;
     for case in [
-        row(&[], &[4000, 4000], 7500, Some(75)),
-        row(&[], &[3500, 4500], 7000, Some(70)),
-        row(&[], &[4500, 4500], 8000, Some(80)),
-        row(&[], &[8500, 8500], 8000, Some(80)),
-        row(&[0], &[0, 4500], 8000, Some(80)),
-        row(&[0], &[0, 4499], 7999, Some(80)),
-        row(&[0], &[0, 3000], 6500, Some(65)),
-        row(&[0, 0], &[0, 0], 8000, Some(80)),
-        row(&[0, 1], &[0, 0], 12000, Some(120)),
-        row(&[0, 1], &[7, 7], 12000, Some(120)),
+        sum_row(&[], &[4000, 4000], 7500, Some(75)),
+        sum_row(&[], &[3500, 4500], 7000, Some(70)),
+        sum_row(&[], &[4500, 4500], 8000, Some(80)),
+        sum_row(&[], &[8500, 8500], 8000, Some(80)),
+        sum_row(&[0], &[0, 4500], 8000, Some(80)),
+        sum_row(&[0], &[0, 4499], 7999, Some(80)),
+        sum_row(&[0], &[0, 3000], 6500, Some(65)),
+        sum_row(&[0, 0], &[0, 0], 8000, Some(80)),
+        sum_row(&[0, 1], &[0, 0], 12000, Some(120)),
+        sum_row(&[0, 1], &[7, 7], 12000, Some(120)),
     ] {
         check(&rt, rt.alloc(), &instance, &[], &case)?;
     }
@@ -98,17 +98,17 @@ fn two_ships_and_their_cut(rt: HostRuntime) -> Result<(), Fail> {
     ships.push(1);
     let cuts = [ChamberCut { chamber: 0, ships }];
     for case in [
-        row(&[], &[3500, 8500], 7000, Some(70)),
-        row(&[], &[6000, 6000], 9500, Some(95)),
-        row(&[], &[8400, 8400], 11900, Some(119)),
-        row(&[], &[8401, 8401], 11901, Some(120)),
-        row(&[], &[8500, 8500], 12000, Some(120)),
-        row(&[], &[8600, 8600], 12000, Some(120)),
-        row(&[], &[13500, 13500], 12000, Some(120)),
-        row(&[0], &[0, 8500], 12000, Some(120)),
-        row(&[0], &[8500, 8500], 12000, Some(120)),
-        row(&[0], &[0, 8400], 11900, Some(119)),
-        row(&[0], &[0, 8401], 11901, Some(120)),
+        sum_row(&[], &[3500, 8500], 7000, Some(70)),
+        sum_row(&[], &[6000, 6000], 9500, Some(95)),
+        sum_row(&[], &[8400, 8400], 11900, Some(119)),
+        sum_row(&[], &[8401, 8401], 11901, Some(120)),
+        sum_row(&[], &[8500, 8500], 12000, Some(120)),
+        sum_row(&[], &[8600, 8600], 12000, Some(120)),
+        sum_row(&[], &[13500, 13500], 12000, Some(120)),
+        sum_row(&[0], &[0, 8500], 12000, Some(120)),
+        sum_row(&[0], &[8500, 8500], 12000, Some(120)),
+        sum_row(&[0], &[0, 8400], 11900, Some(119)),
+        sum_row(&[0], &[0, 8401], 11901, Some(120)),
     ] {
         check(&rt, rt.alloc(), &instance, &cuts, &case)?;
     }
@@ -129,13 +129,13 @@ fn two_ships_and_their_cut(rt: HostRuntime) -> Result<(), Fail> {
 fn a_closure(rt: HostRuntime) -> Result<(), Fail> {
     let instance = closed().ok_or("no instance")?;
     for case in [
-        row(&[], &[7500, 10000], 14000, Some(140)),
-        row(&[], &[7500, 9999], 14000, Some(140)),
-        row(&[], &[7400, 9900], 13900, Some(139)),
-        row(&[], &[9000, 11500], 15500, Some(155)),
-        row(&[0], &[0, 10000], 17500, Some(175)),
-        row(&[0], &[0, 6500], 14000, Some(140)),
-        row(&[0], &[0, 20000], 9500, Some(95)),
+        sum_row(&[], &[7500, 10000], 14000, Some(140)),
+        sum_row(&[], &[7500, 9999], 14000, Some(140)),
+        sum_row(&[], &[7400, 9900], 13900, Some(139)),
+        sum_row(&[], &[9000, 11500], 15500, Some(155)),
+        sum_row(&[0], &[0, 10000], 17500, Some(175)),
+        sum_row(&[0], &[0, 6500], 14000, Some(140)),
+        sum_row(&[0], &[0, 20000], 9500, Some(95)),
     ] {
         check(&rt, rt.alloc(), &instance, &[], &case)?;
     }
@@ -146,14 +146,14 @@ fn a_closure(rt: HostRuntime) -> Result<(), Fail> {
 fn two_chambers_add_up(rt: HostRuntime) -> Result<(), Fail> {
     let instance = two_chambers().ok_or("no instance")?;
     for case in [
-        row(&[], &[3500, 2600, 3000], 9100, Some(91)),
-        row(&[], &[3500, 2600, 4000], 8600, Some(86)),
-        row(&[], &[0, 0, 0], 0, Some(0)),
-        row(&[0], &[0, 2600, 3500], 9300, Some(93)),
-        row(&[0], &[0, 2600, 4800], 9200, Some(92)),
-        row(&[0, 2], &[0, 0, 4000], 10100, Some(101)),
-        row(&[0, 2], &[0, 0, 3900], 10000, Some(100)),
-        row(&[0, 2], &[0, 0, 6000], 9400, Some(94)),
+        sum_row(&[], &[3500, 2600, 3000], 9100, Some(91)),
+        sum_row(&[], &[3500, 2600, 4000], 8600, Some(86)),
+        sum_row(&[], &[0, 0, 0], 0, Some(0)),
+        sum_row(&[0], &[0, 2600, 3500], 9300, Some(93)),
+        sum_row(&[0], &[0, 2600, 4800], 9200, Some(92)),
+        sum_row(&[0, 2], &[0, 0, 4000], 10100, Some(101)),
+        sum_row(&[0, 2], &[0, 0, 3900], 10000, Some(100)),
+        sum_row(&[0, 2], &[0, 0, 6000], 9400, Some(94)),
     ] {
         check(&rt, rt.alloc(), &instance, &[], &case)?;
     }

@@ -1,24 +1,27 @@
 //! One worker thread that searches a book which several share.
 //!
-//! `search` takes nodes of a shared book and works on each until it is closed, split or parked, as
-//! long as any is open or held and the budget lasts. It looks at the best cost and at the cuts of
-//! other workers, and works out bounds, beside the lock. It takes the lock once for most nodes, to
-//! end one and take the next; a cut or a plan is an event before that. Where memory is refused,
-//! it releases the node in its hand and ends, so that nobody waits for it. It hands back what it was
+//! `search` takes nodes of a shared book and works on each, and on the nodes below it, as long as any
+//! is open or held and the budget lasts. It works out nodes ahead of the book, beside the lock, and
+//! hands them over in one holding of it; a plan, a cut or a park is an event of its own. It looks at
+//! the best cost and at the cuts of other workers beside the lock too. Where memory is refused, it
+//! releases the node in its hand and ends, so that nobody waits for it. It hands back what it was
 //! given (`Hands`), one part of the ledger of accepted events and one part of the shared best cost.
 //!
 //! Of what the shared book answers nothing is known but its type. So the worker tests that a node is
 //! one of the instance (`trusting`), and takes every answer that doesn't come to a worker of these
 //! rules for a reason to end. The book stays the authority: it accepts an event or refuses it.
 //!
-//! For each node that was taken (`taking`) `working` reads the best cost and goes through the ways
-//! to end the node: `closing` without the placers, `knowing` by a known cut, then what becomes of it
-//! by `node_work`, which `ending` makes so. `sharing` posts what the others are to see.
+//! For each node that was taken (`taking`) `working` reads the best cost and asks `node_work` what
+//! becomes of the node. One that is split or closed begins a stretch: `walking` works out the nodes
+//! below it, depth first and in the book's order (`trail`), up to one for which the book needs more
+//! than bounds. Any other one ends as `ending` says. `sharing` posts what the others are to see, and
+//! `knowing` is what a worker knows of cuts.
 //!
-//! `asking` makes each event, and waits. `worker` is what a worker has, and its post, which stays.
+//! `asking` makes each event, and waits. `post` is what workers share, `hands` and `worker` what each
+//! has.
 //!
-//! Definitions: `specs/Owning` says, ship by ship, what the test of a node tests, and `Serving` what
-//! ties a worker to its post. A thread makes its own `Shared`, since it is of references alone.
+//! Definitions: `specs/Owning` says, ship by ship, what the test of a node tests, `Serving` what ties
+//! a worker to its post, and `Ending` how a node may end.
 #![tactic(auto)]
 
 mod asking;

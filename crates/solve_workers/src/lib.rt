@@ -12,13 +12,11 @@
 //! - `drive` works on a book as worker 8 until nothing is open or the budget of nodes is spent, and
 //!   then closes the parked slots whose bound is at least the best cost: the book ends well. All that
 //!   it does to the book is a list of events of worker 8, also where memory runs out. For each node
-//!   `held` takes it, `closing` tries what needs no placer, `working` asks what becomes of it
-//!   (`fates`, by `node_work`), and `ending` makes it so. `arriving` says which ship comes next, and
-//!   which group the last one is in.
+//!   `held` takes it, `working` asks `node_work` what becomes of it, and `ending` makes it so.
 //!
 //! Definitions: `book_rules` says how a search ends well (`specs/Ends`) and what events change;
 //! here `specs/Driving` (events of the driver), `Holding` and `Holds` (what it holds, and what it
-//! has tidied), `Cuts` (cuts of the book that hit a node), `Opening` (a book that was just opened),
+//! has tidied), `Closable` (how a held node may end), `Opening` (a book that was just opened),
 //! `Settling` (what the caller tests, and a book that is freed), `Told` (what replies tell).
 #![tactic(auto)]
 

@@ -4,40 +4,37 @@ use super::fixture::{PointGate, lock, open, searched, searched_as, two_ships};
 use super::hitting::has_hit_cut;
 use instance_text::make_lot;
 use lock_io::{OpenGate, Point};
-use lock_model::{Verdict, Way};
+use lock_model::{Ships, Verdict, Way};
 use std::test::Fail;
+
+// The group of both ships, which one turn leaves hard and spot-hard.
+fn spent() -> Verdict {
+    let mut ships = Ships::single(0);
+    ships.push(1);
+    Verdict::OpenTurns {
+        chamber: 0,
+        ships,
+        turns: 1,
+        low: 80,
+    }
+}
 
 // The ships fit side by side from width 233 on.
 #[test]
-fn one_worker_empties_the_book(rt: HostRuntime) -> Result<(), Fail> {
-    for (width, cost) in [(232, 120), (233, 80)] {
-        let book = open(rt.alloc(), two_ships(width)?, 100, 20000)?;
+fn one_worker_searches_to_the_end(rt: HostRuntime) -> Result<(), Fail> {
+    for (width, nodes, turns, cost, verdict) in [
+        (232, 100, 20000, 120, Verdict::Optimal),
+        (233, 100, 20000, 80, Verdict::Optimal),
+        (232, 1, 20000, 120, Verdict::OpenNodes { used: 1, low: 70 }),
+        (232, 2, 20000, 120, Verdict::OpenNodes { used: 2, low: 80 }),
+        (240, 100, 1, 120, spent()),
+    ] {
+        let book = open(rt.alloc(), two_ships(width)?, nodes, turns)?;
         let (book, least) = searched(&rt, rt.alloc(), &OpenGate, book)?;
-        assert_eq!(rt; book.verdict(), Verdict::Optimal);
+        assert_eq!(rt; book.verdict(), verdict);
         assert_eq!(rt; (book.best_cost(), least), (cost, cost));
         assert_eq!(rt; (book.held_by(0), book.ended(0)), (None, false));
     }
-    Ok(())
-}
-
-#[test]
-fn a_worker_ends_where_the_nodes_are_spent(rt: HostRuntime) -> Result<(), Fail> {
-    for (nodes, low) in [(1, 70), (2, 80)] {
-        let book = open(rt.alloc(), two_ships(232)?, nodes, 20000)?;
-        let (book, _) = searched(&rt, rt.alloc(), &OpenGate, book)?;
-        assert_eq!(rt; book.verdict(), Verdict::OpenNodes { used: nodes, low });
-        assert_eq!(rt; book.held_by(0), None);
-    }
-    Ok(())
-}
-
-// With one turn the deck of both ships is hard and spot-hard.
-#[test]
-fn a_worker_parks_what_spends_its_turns(rt: HostRuntime) -> Result<(), Fail> {
-    let book = open(rt.alloc(), two_ships(240)?, 100, 1)?;
-    let (book, least) = searched(&rt, rt.alloc(), &OpenGate, book)?;
-    assert!(rt; matches!(book.verdict(), Verdict::OpenTurns { .. }));
-    assert_eq!(rt; least, 120);
     Ok(())
 }
 

@@ -1,5 +1,4 @@
-use Rattle.std.proofs.Common.{◌≡◌, ◌<◌, length, arith, ap, slice_index_or, refl, List, ℕ, subst}
-use Rattle.lock_model.specs.declared.group.Group.{Group}
+use Rattle.std.proofs.Common.{◌≡◌, ◌<◌, length, arith, ap, slice_index_or, refl, List, ℕ}
 use Rattle.lock_rules.specs.Node.{line_at}
 use Rattle.node_work.proofs.LineLemmas.{moored_more}
 use Rattle.node_work.proofs.RecallLemmas.{fits_at}
