@@ -1,0 +1,5 @@
+pub mod CaseLemmas
+pub mod LookupLemmas
+pub mod PairLemmas
+pub mod FaultLemmas
+pub mod CrowdLemmas

@@ -1,0 +1,84 @@
+-- Looking up what a case has decided.
+use Rattle.std.proofs.Common.{◌≡◌, ◌≢◌, ℕ, ◌+◌, ◌<◌, ◌≤◌, true, false, cond, nat_eq, List, [], ◌∷◌, length, map, drop, get_or, inl, inr, sym, ap, ◌∙◌, subst, Some, None, unwrap_or}
+use Rattle.std.proofs.lemmas.List.{drop_more, drop_all}
+use Rattle.std.proofs.lemmas.Bool.Decides.{eqb_tells}
+use Rattle.lock_model.specs.declared.placement.Rank.{Rank}
+use Rattle.lock_model.specs.declared.placement.Moor.{Moor}
+use Rattle.lock_model.specs.declared.placement.Moor.TheVariants.{Quay, Ship}
+use Rattle.refute_rules.specs.Choices.{Berth as Decided, Choice, Lies}
+use Rattle.refute_rules.specs.Decided.{berth_in, HasOtherRank}
+use Rattle.berth_case.specs.declared.case.Pick.{Pick}
+use Rattle.berth_case.specs.declared.decided.Berth.{Berth}
+use Rattle.berth_case.specs.Picks.{choice_of}
+use Rattle.berth_case.specs.Lookups.{PassesBerth, GivesBerth, IsOfOtherRank}
+
+equal : (j i : ℕ) → j ≡ i → nat_eq j i ≡ true
+equal j i e = elim (eqb_tells j i) [ inl y ↦ y.0 | inr n ↦ absurd (n.1 e) ]
+
+differ : (j i : ℕ) → j ≢ i → nat_eq j i ≡ false
+differ j i n = elim (eqb_tells j i) [ inl y ↦ absurd (n y.1) | inr d ↦ d.0 ]
+
+pub berth_hit : (j i : ℕ) (b : Berth) → j ≡ i → GivesBerth (Lies j (record { rank = b.rank; moor = b.moor })) i b
+berth_hit j i b e = record { give = λ rest. ap (λ t. cond t (Some (record { rank = b.rank; moor = b.moor })) (berth_in rest i)) (equal j i e) }
+
+pub berth_miss : (j i : ℕ) (b : Decided) → j ≢ i → PassesBerth (Lies j b) i
+berth_miss j i b n = record { pass = λ rest. ap (λ t. cond t (Some b) (berth_in rest i)) (differ j i n) }
+
+-- the options that are left
+abbrev pub left_from : List Pick → ℕ → List Choice
+left_from ps k = map choice_of (drop k ps)
+
+pub left-more : (ps : List Pick) (k : ℕ) (d : Pick) → k < length ps → left_from ps k ≡ choice_of (get_or ps k d) ∷ left_from ps (k + 1)
+left-more ps k d here = ap (map choice_of) (drop_more ps k d here)
+
+pub left-none : (ps : List Pick) (k : ℕ) → length ps ≤ k → left_from ps k ≡ []
+left-none ps k long = ap (map choice_of) (drop_all k ps long)
+
+pub berth_passed : (ps : List Pick) (k i : ℕ) (p : Pick) → k < length ps → p ≡ get_or ps k p → PassesBerth (choice_of p) i → berth_in (left_from ps k) i ≡ berth_in (left_from ps (k + 1)) i
+berth_passed ps k i p here e passes = ap (λ cs. berth_in cs i) (left-more ps k p here ∙ ap (λ q. choice_of q ∷ left_from ps (k + 1)) (sym e)) ∙ passes.pass (left_from ps (k + 1))
+
+pub berth_given : (ps : List Pick) (k i : ℕ) (p : Pick) (b : Berth) → k < length ps → p ≡ get_or ps k p → GivesBerth (choice_of p) i b → berth_in (left_from ps k) i ≡ Some (record { rank = b.rank; moor = b.moor })
+berth_given ps k i p b here e gives = ap (λ cs. berth_in cs i) (left-more ps k p here ∙ ap (λ q. choice_of q ∷ left_from ps (k + 1)) (sym e)) ∙ gives.give (left_from ps (k + 1))
+
+pub berth_absent : (ps : List Pick) (k i : ℕ) → length ps ≤ k → berth_in (left_from ps k) i ≡ None
+berth_absent ps k i long = ap (λ cs. berth_in cs i) (left-none ps k long)
+
+pub some-same : {X : Type 0} (a b : X) → Some a ≡ Some b → a ≡ b
+some-same a b e = ap (λ o. unwrap_or o a) e
+
+pub none-some : {X : Type 0} (b : X) → None ≡ Some b → ⊥
+none-some b e = cc
+
+-- a decided berth of another rank
+pub other_none : (case : List Choice) (i : ℕ) (rank : Rank) → None ≡ berth_in case i → IsOfOtherRank case i rank → ⊥
+other_none case i rank e h = none-some h.berth (e ∙ h.decided)
+
+pub other_some : (case : List Choice) (i : ℕ) (rank : Rank) (b : Decided) → Some b ≡ berth_in case i → b.rank ≢ rank → IsOfOtherRank case i rank
+other_some case i rank b e n = record { berth = b; decided = sym e; differ = n }
+
+pub other_rank : (case : List Choice) (i : ℕ) (rank : Rank) (b : Decided) → Some b ≡ berth_in case i → IsOfOtherRank case i rank → b.rank ≢ rank
+other_rank case i rank b e h same = h.differ (ap (λ (u : Decided). u.rank) (sym (some-same b h.berth (e ∙ h.decided))) ∙ same)
+
+-- a decided host of the other rank
+pub host_rank : (case : List Choice) (i host : ℕ) (rank : Rank) → Some (record { rank = rank; moor = Ship host }) ≡ berth_in case i → IsOfOtherRank case host rank → HasOtherRank case i
+host_rank case i host rank e h = record { host = host; own = rank; berth = h.berth; lies = sym e; decided = h.decided; differ = h.differ }
+
+abbrev ship-of : Moor → ℕ
+ship-of Quay = 0
+ship-of (Ship k) = k
+
+pub rank_host : (case : List Choice) (i host : ℕ) (rank : Rank) → Some (record { rank = rank; moor = Ship host }) ≡ berth_in case i → HasOtherRank case i → IsOfOtherRank case host rank
+rank_host case i host rank e h =
+    let same : record { rank = rank; moor = Ship host } ≡ record { rank = h.own; moor = Ship h.host } = some-same {X = Decided} _ _ (e ∙ h.lies) in
+    let own : h.own ≡ rank = sym (ap (λ (u : Decided). u.rank) same) in
+    let at : h.host ≡ host = sym (ap (λ (u : Decided). ship-of u.moor) same) in
+    record { berth = h.berth; decided = subst (λ k. berth_in case k ≡ Some h.berth) at h.decided; differ = subst (λ r. h.berth.rank ≢ r) own h.differ }
+
+pub quay_none : (case : List Choice) (i : ℕ) (rank : Rank) → Some (record { rank = rank; moor = Quay }) ≡ berth_in case i → HasOtherRank case i → ⊥
+quay_none case i rank e h = quay-ship (ap (λ (u : Decided). u.moor) (some-same {X = Decided} _ _ (e ∙ h.lies)))
+  where
+    quay-ship : Quay ≡ Ship h.host → ⊥
+    quay-ship e = cc
+
+pub berth_none : (case : List Choice) (i : ℕ) → None ≡ berth_in case i → HasOtherRank case i → ⊥
+berth_none case i e h = none-some _ (e ∙ h.lies)

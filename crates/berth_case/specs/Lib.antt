@@ -1,0 +1,4 @@
+pub mod Picks
+pub mod Lookups
+pub mod PairReads
+pub mod CrowdReads

@@ -1,0 +1,3 @@
+pub mod Raises
+pub mod Fronts
+pub mod Pending
