@@ -1,0 +1,10 @@
+use Rattle.std.proofs.Common.{IfSome, IfNone}
+use Rattle.berth_rules.specs.BerthTrees.{OfBerth, IsOpen}
+use Rattle.berth_place.specs.Known.{AreDecided}
+use Rattle.berth_place.proofs.deciding.next_ship.Given as goal
+
+abbrev pub invariant-loop-ship : goal.invariant-loop-ship
+invariant-loop-ship l = record {
+  some : IfSome l.next (λ i. IsOpen l.deck l.case (OfBerth i));
+  none : IfNone l.next (AreDecided l.case l.ship);
+}

@@ -1,0 +1,31 @@
+use Rattle.std.proofs.Common.{rules, refl, sym, subst, arith}
+use Rattle.lock_model.specs.Deck.{IsDeck}
+use Rattle.diff_rules.specs.Differences.{IsSystem}
+use Rattle.berth_place.specs.declared.search.Search.{Search}
+use Rattle.berth_place.specs.Visits.{IsOrdering}
+use Rattle.berth_place.proofs.OrderingLemmas.{ordering_begun, ordering_system}
+use Rattle.berth_place.proofs.ordering.order_ships.Goals as goal
+
+pub of-solved-requires : goal.of-solved-requires
+of-solved-requires c =
+    let d = c.args.deck.now in
+    let s = c.args.search.now in
+    let limits : IsDeck d = search rules in
+    let drawn : Search = record { case = s.case; edges = c.add_berths.new.edges; turns = s.turns; tried = s.tried; marks = s.marks; spots = s.spots } in
+    let ordering : IsOrdering d drawn = ordering_begun d s.case drawn limits c.requires.berthing.known c.requires.berthing.berths c.requires.decided c.in_default.ensures.none refl c.add_berths.ensures.value c.requires.berthing.few in
+    subst (IsSystem c.add_berths.new.edges) (sym c.place_count.ensures) (ordering_system d drawn ordering)
+
+pub order_pairs-requires-clause-ordered : goal.order_pairs-requires-clause-ordered
+order_pairs-requires-clause-ordered c =
+    let d = c.args.deck.now in
+    let s = c.args.search.now in
+    let limits : IsDeck d = search rules in
+    let drawn : Search = record { case = s.case; edges = c.add_berths.new.edges; turns = s.turns; tried = s.tried; marks = s.marks; spots = s.spots } in
+    let few = c.overlapping-pairs.ensures.few in
+    let room = c.add_berths.ensures.room in
+    record {
+      ordering = ordering_begun d s.case drawn limits c.requires.berthing.known c.requires.berthing.berths c.requires.decided c.in_default.ensures.none refl c.add_berths.ensures.value c.requires.berthing.few;
+      pairs = c.overlapping-pairs.ensures.pairs;
+      all = c.overlapping-pairs.ensures.all;
+      room = omega (arith, few, room);
+    }

@@ -1,0 +1,7 @@
+pub mod Faults
+pub mod Along
+pub mod Known
+pub mod Pairs
+pub mod Spotting
+pub mod Visits
+pub mod Placing
