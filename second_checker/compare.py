@@ -2,7 +2,8 @@
 
 Without dossiers the program writes some: of lots of several sizes, as they are, with all ships in a queue, and with
 cargo classes and closures; open ones too where it knows `solve --keep`, which are compared with its `lower`. To them
-comes trees.dossier, whose cuts have a case tree and a spot tree. Each is compared as it is and in damaged copies.
+come trees.dossier, whose cuts have a case tree and a spot tree, and prices.dossier, whose cut has a berth tree and whose
+root is closed by prices. Each is compared as it is and in damaged copies.
 Prints the first differences and `N equal, M different`; the status is 0 where something was compared and nothing
 differs."""
 
@@ -39,8 +40,9 @@ def with_classes(words, number):
 
 
 def written(glock):
-    """trees.dossier and dossiers that the program writes, each with its name."""
-    yield "trees.dossier", pathlib.Path(__file__).with_name("trees.dossier").read_bytes()
+    """The dossiers that stand here and those that the program writes, each with its name."""
+    for name in ("trees.dossier", "prices.dossier"):
+        yield name, pathlib.Path(__file__).with_name(name).read_bytes()
     count = 0
     for ships in (2, 4, 6, 8, 10, 12):
         lot, _ = run(glock, ["lot", "--number", ships, "--ships", ships, "--chambers", 1 + ships // 2 % 3])
@@ -68,7 +70,7 @@ def main():
     given = [(name, pathlib.Path(name).read_bytes()) for name in sys.argv[2:]]
     equal = different = 0
     for name, dossier in given or written(glock):
-        is_open, dice = b"\ncertificate open\n" in dossier, Dice(len(dossier))
+        is_open, dice = b"\ncertificate open" in dossier, Dice(len(dossier))
         for damage, data in [("as written", dossier)] + [damaged(dossier, dice) for _ in range(COPIES)]:
             text, status = run(glock, ["lower" if is_open else "check"], data)
             first, second = (text.removesuffix("\n"), status), second_answer(data, is_open)

@@ -12,7 +12,8 @@ VALUES = [0, 1, 2, 7, 10, 11, 100, 255, 256, 257, 2**32, -1, 1.5, True, None, ""
           [3, 0], [5, 0, 1], [5, 1, 0], [0, 0], [3], [4], [1], [[]], {"chamber": 0}]
 STRINGS = [r'"cost"', r'"\u0063ost"', r'"\ud800"', r'"\udc00"', r'"\ud83d\ude00"', r'"\ud83d\u0041"', r'"\x"', r'"\u12g4"',
            '"a\tb"', '"é"', '"', "true", "null", "Infinity", "{}", "[", "]", "[]", ",", ":", " ", "\n", "[" * 127 + "]" * 127]
-LINES = [b"certificate", b"certificate 2", b"certificate open", b"certificate 3", b"certificate 02", b"Certificate",
+LINES = [b"certificate", b"certificate 2", b"certificate open", b"certificate 3", b"certificate open 3", b"certificate 4",
+         b"certificate open 2", b"certificate 02", b"Certificate",
          b" \tcertificate\t2 # words", b"# only a comment", b"", b"\r", b"certificate 2 3", b"\xff", b"# \xff", b"end",
          b"end # here", b"end end", b"glock 1", b"glock 2", b"glock 3", b"close c1 0 20", b"close c1 10 30", b"close c9 0 1",
          b"close c1 5 5", b"close c1 900000 1000000", b"ship s99 up 100 20 0 5", b"ship s98 down 100 20 0 5 3", b"chamber c1",
@@ -137,7 +138,7 @@ def a_value(data, dice):
 def a_mark(data, dice):
     head, value = parts(data)
     tree = value["tree"]
-    marks = [0, 1, 2, 3, *range(10, 14), *range(100, 100 + len(value["cuts"]) + 1)]
+    marks = [0, 1, 2, 3, 4, *range(10, 14), *range(100, 100 + len(value["cuts"]) + 1)]
     if not tree:
         return a_value(data, dice)
     at, kind = dice.below(len(tree)), dice.below(7)
@@ -147,6 +148,25 @@ def a_mark(data, dice):
         tree.insert(at, dice.pick(marks))
     else:
         tree[at] = dice.pick(marks)
+    return joined(head, value)
+
+
+def a_price(data, dice):
+    head, value = parts(data)
+    if not value.get("prices"):
+        return a_value(data, dice)
+    prices, kind = dice.pick(value["prices"]), dice.below(7)
+    at = dice.below(len(prices))
+    if kind == 0:
+        del prices[at]
+    elif kind == 1:
+        prices.insert(at, dice.below(9000))
+    elif kind == 2:
+        value["prices"].insert(0, list(prices))
+    elif kind == 3:
+        value["prices"].pop()
+    else:
+        prices[at] = max(0, prices[at] + dice.pick([-1000, -100, -1, 1, 100, 2000, 1_000_000]))
     return joined(head, value)
 
 
@@ -173,11 +193,12 @@ def a_refutation(data, dice):
     elif kind == 1:
         cut["ships"] = sorted(set(cut["ships"]) ^ {dice.below(12)})
     elif kind == 2:
-        cut["why"] = dice.pick([[0], [1, 0], [1, 0, 1], [2, 0, 1], [1, 1, 2], [5, 0, 1], [4, 0], [3, 1, 0], [1, 7], [2, 250]])
+        cut["why"] = dice.pick([[0], [1, 0], [1, 0, 1], [2, 0, 1], [1, 1, 2], [5, 0, 1], [4, 0], [3, 1, 0], [1, 7], [2, 250],
+                                 [6, 8], [6, 0, 0, 8, 8]])
     elif kind == 3 and len(why) > 1:
         del why[at]
     elif kind == 4:
-        why.insert(at, dice.below(6))
+        why.insert(at, dice.below(9))
     else:
         why[at] = max(0, why[at] + dice.pick([-2, -1, 1, 2, 4]))
     return joined(head, value)
@@ -204,8 +225,8 @@ def a_lockage(data, dice):
     return joined(head, value)
 
 
-DAMAGES = [a_byte, cut_short, lines, a_number, a_string, a_key_twice, a_word, a_value, a_value, a_mark, a_mark, a_cost,
-           a_refutation, a_refutation, a_lockage, a_lockage]
+DAMAGES = [a_byte, cut_short, lines, a_number, a_string, a_key_twice, a_word, a_value, a_value, a_mark, a_mark, a_price,
+           a_price, a_cost, a_refutation, a_refutation, a_lockage, a_lockage]
 
 
 def damaged(data, dice):

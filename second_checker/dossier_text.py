@@ -159,20 +159,26 @@ def read_json(data):
 # The form of a dossier (dossier.md, The object; What has the form) ---------------------------------------------------
 
 # The line that begins a dossier's second part says what the object may hold.
-Form = namedtuple("Form", "keys reasons open_leaves")
+Form = namedtuple("Form", "keys reasons open_leaves has_prices")
 KEYS = ("cost", "cuts", "plan", "tree")
-CLOSED_FORMS = {(b"certificate",): Form(KEYS, range(5), False), (b"certificate", b"2"): Form(KEYS, range(6), False)}
-OPEN_FORMS = {(b"certificate", b"open"): Form(KEYS, range(6), True)}
+PRICED_KEYS = KEYS + ("prices",)
+CLOSED_FORMS = {(b"certificate",): Form(KEYS, range(5), False, False),
+                (b"certificate", b"2"): Form(KEYS, range(6), False, False),
+                (b"certificate", b"3"): Form(PRICED_KEYS, range(7), False, True)}
+OPEN_FORMS = {(b"certificate", b"open"): Form(KEYS, range(6), True, False),
+              (b"certificate", b"open", b"3"): Form(PRICED_KEYS, range(7), True, True)}
 
-Certificate = namedtuple("Certificate", KEYS)
+Certificate = namedtuple("Certificate", PRICED_KEYS, defaults=[()])
 Cut = namedtuple("Cut", "chamber ships why")  # why: the number of its kind, and the rest
 Lockage = namedtuple("Lockage", "chamber ships spots start way")
 Spot = namedtuple("Spot", "x y rank moor")
 
 BYTE, WORD, LONG = 2**8, 2**32, 2**64
-AREA, ROW, COLUMN, CASE_TREE, SPOT_TREE, CLASH = range(6)
+AREA, ROW, COLUMN, CASE_TREE, SPOT_TREE, CLASH, BERTH_TREE = range(7)
 NAMED_SHIPS = {AREA: (0, 0), ROW: (1, 8), COLUMN: (1, 8), CLASH: (2, 2)}
-SPLIT, BOUND, THROUGHPUT, OPEN_LEAF, FIRST_PROBE, LAST_PROBE, FIRST_CUT = 0, 1, 2, 3, 10, 33, 100
+SPLIT, BOUND, THROUGHPUT, OPEN_LEAF, PRICE, FIRST_PROBE, LAST_PROBE, FIRST_CUT = 0, 1, 2, 3, 4, 10, 33, 100
+GREATEST_PRICE = 1_000_000
+Priced = namedtuple("Priced", "number")  # the mark of two numbers: PRICE, and which prices
 
 
 def whole(value, limit):
@@ -205,7 +211,7 @@ def read_cost(value, form):
 def read_why(value, form):
     kind, rest = items(value, 1)[0], value[1:]
     require(type(kind) is int and kind in form.reasons)
-    if kind in (CASE_TREE, SPOT_TREE):
+    if kind in (CASE_TREE, SPOT_TREE, BERTH_TREE):
         return kind, [whole(number, WORD) for number in rest]
     return kind, rising(rest, *NAMED_SHIPS[kind])
 
@@ -231,14 +237,23 @@ def read_plan(value, form):
 
 
 def read_tree(value, form):
-    for mark in items(value):
-        whole(mark, FIRST_CUT + 2**63)
-        require(mark in (SPLIT, BOUND, THROUGHPUT) or mark == OPEN_LEAF and form.open_leaves
-                or FIRST_PROBE <= mark <= LAST_PROBE or mark >= FIRST_CUT)
-    return value
+    marks, numbers = [], iter(items(value))
+    for mark in numbers:
+        if form.has_prices and type(mark) is int and mark == PRICE:
+            mark = Priced(whole(next(numbers, None), 2**63))
+        else:
+            whole(mark, FIRST_CUT + 2**63)
+            require(mark in (SPLIT, BOUND, THROUGHPUT) or mark == OPEN_LEAF and form.open_leaves
+                    or FIRST_PROBE <= mark <= LAST_PROBE or mark >= FIRST_CUT)
+        marks.append(mark)
+    return marks
 
 
-READERS = {"cost": read_cost, "cuts": read_cuts, "plan": read_plan, "tree": read_tree}
+def read_prices(value, form):
+    return [[whole(price, GREATEST_PRICE + 1) for price in items(prices, 1, 24)] for prices in items(value)]
+
+
+READERS = {"cost": read_cost, "cuts": read_cuts, "plan": read_plan, "tree": read_tree, "prices": read_prices}
 
 
 def read_object(value, form):

@@ -10,6 +10,10 @@ import sys
 sys.dont_write_bytecode = True
 from check_dossier import answer
 
+ROWS = pathlib.Path(__file__).parent.with_name("rows")
+sys.path.append(str(ROWS))
+from read_rows import rows_of
+
 NARROW = """glock 1
 chamber c1 2000 232 10 20 5 4 30 15 low 0
 ship s1 up 1100 114 0 5
@@ -227,6 +231,13 @@ OPENED = [
 ]
 
 
+def priced_rows():
+    """The rows of dossiers with prices that both checkers are held against: data, line, status, and whether it is open."""
+    for _, words, data, asked in rows_of(ROWS / "priced_dossiers.rows", ("status", "line", "first")):
+        if words[0] in (b"check", b"lower"):
+            yield data, (asked["line"][0], int(asked["status"][0])), words[0] == b"lower"
+
+
 def status_of(line):
     words = line.split()
     if words[0] == "lower":
@@ -253,7 +264,13 @@ def main():
             different += 1
             print(f"row {number}: {old!r} by {new[:60]!r}: {said}, not {line!r}")
     assert as_process(OPEN.encode(), "--open") == ("lower 80 cost 120\n", 1)
-    print(f"{len(rows)} rows, {different} different")
+    priced = list(priced_rows())
+    for data, told, is_open in priced:
+        said = answer(data, is_open)
+        if said != told:
+            different += 1
+            print(f"{data.decode()}{said}, not {told}")
+    print(f"{len(rows) + len(priced)} rows, {different} different")
     return 1 if different else 0
 
 

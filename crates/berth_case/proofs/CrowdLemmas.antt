@@ -11,7 +11,7 @@ use Rattle.refute_rules.specs.Reasons.{length_at}
 use Rattle.refute_rules.specs.Choices.{Choice}
 use Rattle.refute_rules.proofs.Packing.{Each}
 use Rattle.refute_rules.proofs.ReasonLemmas.{each-from_pairs}
-use Rattle.berth_rules.specs.BerthFaults.{ships_in}
+use Rattle.refute_rules.specs.BerthFaults.{ships_in}
 use Rattle.berth_case.specs.PairReads.{AreClose}
 use Rattle.berth_case.specs.CrowdReads.{has, AreAllClose}
 

@@ -3,8 +3,8 @@ use Rattle.std.proofs.Common.{◌≡◌, ℕ, ◌<◌, List, sym, ◌∙◌, sub
 use Rattle.lock_model.specs.Deck.{Deck}
 use Rattle.refute_rules.specs.Reasons.{length_at}
 use Rattle.refute_rules.specs.Choices.{Choice}
-use Rattle.berth_rules.specs.BerthCases.{host_in}
-use Rattle.berth_rules.specs.BerthFaults.{IsTooLong}
+use Rattle.refute_rules.specs.BerthCases.{host_in}
+use Rattle.refute_rules.specs.BerthFaults.{IsTooLong}
 use Rattle.berth_case.proofs.LookupLemmas.{some-same, none-some}
 
 module _ (d : Deck) (case : List Choice) (i : ℕ) where

@@ -12,10 +12,10 @@ use Rattle.berth_case.specs.declared.decided.Berth.{Berth}
 use Rattle.berth_case.specs.Picks.{choice_of}
 use Rattle.berth_case.specs.Lookups.{PassesBerth, GivesBerth, IsOfOtherRank}
 
-equal : (j i : ℕ) → j ≡ i → nat_eq j i ≡ true
+pub equal : (j i : ℕ) → j ≡ i → nat_eq j i ≡ true
 equal j i e = elim (eqb_tells j i) [ inl y ↦ y.0 | inr n ↦ absurd (n.1 e) ]
 
-differ : (j i : ℕ) → j ≢ i → nat_eq j i ≡ false
+pub differ : (j i : ℕ) → j ≢ i → nat_eq j i ≡ false
 differ j i n = elim (eqb_tells j i) [ inl y ↦ absurd (n y.1) | inr d ↦ d.0 ]
 
 pub berth_hit : (j i : ℕ) (b : Berth) → j ≡ i → GivesBerth (Lies j (record { rank = b.rank; moor = b.moor })) i b

@@ -4,7 +4,7 @@ use Rattle.std.proofs.lemmas.List.{get_or-map, length-map}
 use Rattle.lock_model.specs.Deck.{Deck}
 use Rattle.refute_rules.specs.Choices.{Choice, Before}
 use Rattle.refute_rules.specs.Known.{y_in}
-use Rattle.berth_rules.specs.BerthCases.{host_in, HasOrder, DoOverlap, ShareHost}
+use Rattle.refute_rules.specs.BerthCases.{host_in, HasOrder, DoOverlap, ShareHost}
 use Rattle.berth_case.specs.declared.case.Pick.{Pick}
 use Rattle.berth_case.specs.Picks.{choice_of}
 use Rattle.berth_case.specs.PairReads.{ArePassing, IsOrderLater}

@@ -1,4 +1,5 @@
 pub mod Picks
 pub mod Lookups
+pub mod Reach
 pub mod PairReads
 pub mod CrowdReads

@@ -1,15 +1,16 @@
 //! What a berth case says of two ships. Numbers of ships may be any numbers.
 ghost use Rattle.std.specs.Prelude.{◌≡◌, ◌≢◌, ◌<◌, ◌↔◌, ◌⊎◌, IsTrue, length};
 ghost use Rattle.refute_rules.specs.Choices.{Before};
-ghost use Rattle.berth_rules.specs.BerthCases.{DoOverlap, ShareHost, HasOrder};
-ghost use Rattle.berth_rules.specs.BerthTrees.{AreUnordered};
-ghost use Rattle.place_refute.specs.SpotReads.{IsWithinReach};
+ghost use Rattle.refute_rules.specs.BerthCases.{DoOverlap, ShareHost, HasOrder};
+ghost use Rattle.refute_rules.specs.BerthTrees.{AreUnordered};
+ghost use Rattle.berth_case.specs.Reach.{IsWithinReach};
 ghost use Rattle.berth_case.specs.Picks.{choice_of};
 ghost use Rattle.berth_case.specs.PairReads.{ArePassing, AreClose};
 
+use crate::across::is_below;
 use crate::case::{BerthCase, Pick};
 use crate::decided::host_of;
-use crate::known::{is_below, y_of};
+use crate::known::y_of;
 use lock_model::Deck;
 
 // Whether one of two ships at known y lies below the other.

@@ -1,8 +1,8 @@
 //! How long ships are one after the other, and whether they are too long.
 ghost use Rattle.std.specs.Prelude.{◌≡◌, ◌+◌, ◌*◌, ◌<◌, ◌≤◌, ◌↔◌, ◌^◌, true, IsTrue, length, sum_by, if◌then◌else◌};
 ghost use Rattle.refute_rules.specs.Reasons.{length_at};
-ghost use Rattle.berth_rules.specs.BerthCases.{host_in, is_ship, guests_of};
-ghost use Rattle.berth_rules.specs.BerthFaults.{IsTooLong, AreTooMany, IsCrowd, ships_in};
+ghost use Rattle.refute_rules.specs.BerthCases.{host_in, is_ship, guests_of};
+ghost use Rattle.refute_rules.specs.BerthFaults.{IsTooLong, AreTooMany, IsCrowd, ships_in};
 ghost use Rattle.berth_case.specs.CrowdReads.{has, IsCloseIfHas, AreCloseTo, IsLastIfHas, AreAllClose};
 
 use crate::case::BerthCase;

@@ -9,7 +9,7 @@ use Rattle.refute_rules.specs.Choices.{Choice, Lies, Berth, berths_of}
 use Rattle.refute_rules.specs.Values.{others}
 use Rattle.refute_rules.proofs.Among.{all-append, all-map, all-flat_map, all-weaker, all-numbers}
 use Rattle.refute_rules.proofs.Packing.{all-filter}
-use Rattle.berth_rules.specs.BerthTrees.{Split, OfBerth, OfOrder, IsOpen, split_options}
+use Rattle.refute_rules.specs.BerthTrees.{Split, OfBerth, OfOrder, IsOpen, split_options}
 use Rattle.berth_check.specs.Raises.{IsKnownChoice, AreKnown}
 use Rattle.berth_check.proofs.RaiseLemmas.{known_pair}
 

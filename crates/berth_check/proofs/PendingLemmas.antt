@@ -6,7 +6,7 @@ use Rattle.lock_model.specs.declared.placement.Rank.TheVariants.{Left, Right}
 use Rattle.lock_model.specs.declared.placement.Moor.TheVariants.{Quay, Ship}
 use Rattle.lock_rules.specs.Arrival.{numbers_from}
 use Rattle.refute_rules.specs.Choices.{Choice, Lies, Berth}
-use Rattle.berth_rules.specs.BerthTrees.{OfBerth}
+use Rattle.refute_rules.specs.BerthTrees.{OfBerth}
 use Rattle.berth_check.specs.declared.pending.Branch.{Branch}
 use Rattle.berth_case.specs.Picks.{choice_of}
 use Rattle.berth_check.specs.Pending.{AreKept, cases_after, extensions, with_berth, host_cases}

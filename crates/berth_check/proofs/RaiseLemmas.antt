@@ -16,8 +16,8 @@ use Rattle.std.proofs.Common.{ℤ, ◌⊎◌, cond, map, get_or, set, ◌≡◌,
 use Rattle.lock_model.specs.Deck.{Deck}
 use Rattle.refute_rules.specs.Reasons.{length_at}
 use Rattle.refute_rules.specs.Choices.{Choice, Lies, Before, Below, Stands, Berth}
-use Rattle.berth_rules.specs.BerthCases.{host_in}
-use Rattle.berth_rules.specs.BerthTrees.{AreUnordered}
+use Rattle.refute_rules.specs.BerthCases.{host_in}
+use Rattle.refute_rules.specs.BerthTrees.{AreUnordered}
 use Rattle.berth_check.specs.Raises.{x_at, IsForced, IsHostObeyed, IsOrderObeyed, AreOrdersObeyed, AreSettled, AreBelow, AreInside, HasPlaces, room_of, IsKnownChoice, AreKnown, IsOf}
 use Rattle.berth_case.proofs.LookupLemmas.{some-same, none-some}
 

@@ -6,10 +6,10 @@ use Rattle.std.specs.List.{AllByRecursion}
 use Rattle.std.specs.declared.result.Result.{Result}
 use Rattle.lock_model.specs.Deck.{Deck, IsDeck}
 use Rattle.lock_model.specs.Fitting.{Fits}
-use Rattle.berth_rules.proofs.BerthLaw.{berth_tree-unfit}
+use Rattle.refute_rules.proofs.BerthLaw.{berth_tree-unfit}
 use Rattle.refute_rules.specs.Choices.{Choice}
 use Rattle.refute_rules.proofs.Among.{all-append, all-map, all-weaker}
-use Rattle.berth_rules.specs.BerthTrees.{Split, split_options, IsBerthTree, BeginsWithTree}
+use Rattle.refute_rules.specs.BerthTrees.{Split, split_options, IsBerthTree, BeginsWithTree}
 use Rattle.berth_check.specs.Raises.{IsKnownChoice, AreKnown}
 use Rattle.berth_check.specs.Fronts.{IsLeafUpTo, IsSplitUpTo, HasNoTreeAt, AreAllKnown}
 use Rattle.berth_check.specs.Pending.{AreTrees, extensions, IsRead, IsNoTree}

@@ -3,12 +3,12 @@ use Rattle.std.proofs.Common.{◌≡◌, ℕ, zero, suc, List, [], ◌∷◌, �
 use Rattle.lock_model.specs.Deck.{Deck}
 use Rattle.refute_rules.specs.Choices.{Choice}
 use Rattle.refute_rules.specs.Trees.{AreInOrder, IsLeaf}
-use Rattle.place_refute.proofs.LeafLemmas.{HasKind, leaf-same}
-use Rattle.berth_rules.specs.BerthFaults.{BerthFault, OtherRank, LeadsBack, TooLong, Outside, Guests, Crowd, NoPlaces, IsBerthFault, berth_fault_numbers}
-use Rattle.berth_rules.specs.BerthTrees.{Split, OfBerth, OfOrder, IsOpen, split_options, split_numbers, IsTreeWithin, BeginsWithTree}
+use Rattle.refute_rules.proofs.LeafLemmas.{HasKind, leaf-same}
+use Rattle.refute_rules.specs.BerthFaults.{BerthFault, OtherRank, LeadsBack, TooLong, Outside, Guests, Crowd, NoPlaces, IsBerthFault, berth_fault_numbers}
+use Rattle.refute_rules.specs.BerthTrees.{Split, OfBerth, OfOrder, IsOpen, split_options, split_numbers, IsTreeWithin, BeginsWithTree}
 use Rattle.berth_check.specs.Pending.{AreTrees, extensions}
-use Rattle.berth_rules.proofs.OrderLemmas.{order-weaker, order-join, order-part, order-map, map-order}
-use Rattle.berth_rules.proofs.TreeLemmas.{split_tree}
+use Rattle.refute_rules.proofs.OrderLemmas.{order-weaker, order-join, order-part, order-map, map-order}
+use Rattle.refute_rules.proofs.BerthTreeLemmas.{split_tree}
 
 abbrev head : List ℕ → ℕ
 head ns = get_or ns 0 0

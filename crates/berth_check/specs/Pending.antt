@@ -8,7 +8,7 @@ use Rattle.lock_model.specs.declared.placement.Moor.{Moor}
 use Rattle.lock_model.specs.declared.placement.Moor.TheVariants.{Ship}
 use Rattle.refute_rules.specs.Choices.{Choice, Lies}
 use Rattle.refute_rules.specs.Trees.{AreInOrder}
-use Rattle.berth_rules.specs.BerthTrees.{Split, split_options, BeginsWithTree}
+use Rattle.refute_rules.specs.BerthTrees.{Split, split_options, BeginsWithTree}
 use Rattle.berth_case.specs.Picks.{choice_of}
 use Rattle.berth_check.specs.Fronts.{AreAllKnown}
 use Rattle.berth_check.specs.declared.pending.Branch.{Branch}

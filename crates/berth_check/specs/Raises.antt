@@ -5,7 +5,7 @@ use Rattle.lock_model.specs.Deck.{Deck}
 use Rattle.refute_rules.specs.Reasons.{length_at}
 use Rattle.refute_rules.specs.Choices.{Choice, Lies, Before, Below, Stands}
 use Rattle.refute_rules.specs.SpotFaults.{IsInsideAlong}
-use Rattle.berth_rules.specs.BerthCases.{host_in, ObeyAlong}
+use Rattle.refute_rules.specs.BerthCases.{host_in, ObeyAlong}
 use Rattle.berth_case.specs.Picks.{IsKnownMoor}
 
 abbrev pub x_at : List ℕ → ℕ → ℕ

@@ -9,7 +9,7 @@
 //! - `places` says whether some places along the chamber obey a case, for the leaf that names no
 //!   walk. The other leaves are those of `berth_case`.
 //!
-//! Definitions: `berth_rules`. Here `specs/Pending` and `Fronts` say what is read and what is left,
+//! Definitions: `refute_rules`. Here `specs/Pending` and `Fronts` say what is read and what is left,
 //! and `Raises` how places are raised.
 #![tactic(auto)]
 

@@ -1,7 +1,7 @@
 //! The cases whose trees are still to be read: the case at hand, and those after it.
 ghost use Rattle.std.specs.Prelude.{◌≡◌, [], ◌∷◌, ◌++◌, length, flat_map, IfOk, OnOk};
 ghost use Rattle.lock_rules.specs.Arrival.{numbers_from};
-ghost use Rattle.berth_rules.specs.BerthTrees.{OfBerth, OfOrder};
+ghost use Rattle.refute_rules.specs.BerthTrees.{OfBerth, OfOrder};
 ghost use Rattle.berth_case.specs.Picks.{choice_of};
 ghost use Rattle.berth_check.specs.Pending.{extensions, host_cases, IsAdvanced};
 

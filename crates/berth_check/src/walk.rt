@@ -1,7 +1,7 @@
 //! The walk over the marks: the case at hand is read, and its options are put before the others.
 ghost use Rattle.std.specs.Prelude.{◌≡◌, ◌↔◌, ◌≤◌, ◌∷◌, length, drop, IfOk, IsTrue};
 ghost use Rattle.lock_model.specs.Fitting.{Fits};
-ghost use Rattle.berth_rules.specs.BerthTrees.{IsBerthTree};
+ghost use Rattle.refute_rules.specs.BerthTrees.{IsBerthTree};
 ghost use Rattle.berth_check.specs.Raises.{AreKnown};
 ghost use Rattle.berth_check.specs.Fronts.{AreAllKnown};
 ghost use Rattle.berth_check.specs.Pending.{AreTrees, IsStep};

@@ -16,7 +16,7 @@ use Rattle.refute_rules.specs.Choices.{Choice, Lies, Before, Below, Stands}
 use Rattle.refute_rules.specs.Edges.{edge}
 use Rattle.refute_rules.proofs.Among.{IsAmong-left, IsAmong-right, IsAmong-flat_map, IsAmong-numbers, all-append, all-flat_map, all-weaker, all-numbers}
 use Rattle.case_search.proofs.ListLemmas.{append-nil, flat_map-append, flat_map-one}
-use Rattle.berth_rules.specs.BerthCases.{host_in, HasOrder, ObeyAlong}
+use Rattle.refute_rules.specs.BerthCases.{host_in, HasOrder, ObeyAlong}
 use Rattle.berth_check.specs.Raises.{IsKnownChoice, AreKnown}
 use Rattle.berth_check.proofs.RaiseLemmas.{host-known}
 use Rattle.berth_place.specs.Along.{place_var, place_count, inside_edges, host_edges, berth_edges, order_edge, order_edges, first_edges, along_edges, AreValuesOf}

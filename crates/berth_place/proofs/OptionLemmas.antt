@@ -7,7 +7,7 @@ use Rattle.refute_rules.specs.Choices.{Choice, Lies, Before, Berth, berths_of}
 use Rattle.refute_rules.proofs.Among.{all-append}
 use Rattle.case_search.specs.Berths.{first_berth}
 use Rattle.case_search.proofs.BerthLemmas.{berths-length}
-use Rattle.berth_rules.specs.BerthTrees.{Split, OfBerth, IsOpen, split_options}
+use Rattle.refute_rules.specs.BerthTrees.{Split, OfBerth, IsOpen, split_options}
 use Rattle.berth_check.specs.Raises.{IsKnownChoice, AreKnown}
 use Rattle.berth_check.proofs.KnownLemmas.{options-known, extended-known}
 use Rattle.berth_place.specs.Known.{IsBerth, AreBerths}

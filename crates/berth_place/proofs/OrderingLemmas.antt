@@ -7,8 +7,8 @@ use Rattle.diff_rules.specs.Differences.{IsSystem, IsSimpleCycle}
 use Rattle.diff_system.specs.PathTree.{PathTree, AreLongest}
 use Rattle.refute_rules.specs.Choices.{Choice, Before}
 use Rattle.case_search.proofs.ListLemmas.{length-append}
-use Rattle.berth_rules.specs.BerthCases.{HasOrder, ObeyAlong}
-use Rattle.berth_rules.specs.BerthTrees.{OfOrder, AreUnordered, split_options}
+use Rattle.refute_rules.specs.BerthCases.{HasOrder, ObeyAlong}
+use Rattle.refute_rules.specs.BerthTrees.{OfOrder, AreUnordered, split_options}
 use Rattle.berth_check.specs.Raises.{AreKnown}
 use Rattle.berth_check.proofs.KnownLemmas.{extended-known}
 use Rattle.berth_place.specs.declared.pairs.Pair.{Pair}

@@ -7,7 +7,7 @@ use Rattle.lock_rules.specs.Among.{IsAmong}
 use Rattle.diff_system.specs.PathTree.{IsSmall}
 use Rattle.refute_rules.specs.Choices.{Choice, Before}
 use Rattle.refute_rules.proofs.Among.{IsAmong-left, IsAmong-right, all-append}
-use Rattle.berth_rules.specs.BerthCases.{DoOverlap, HasOrder}
+use Rattle.refute_rules.specs.BerthCases.{DoOverlap, HasOrder}
 use Rattle.berth_place.specs.declared.pairs.Pair.{Pair}
 use Rattle.berth_place.specs.Along.{place_var}
 use Rattle.berth_place.specs.Pairs.{IsPair, pair, ArePairs, AreAllPairs, AreApartAlong, AreAllApart, AreSmallValues, ArePairsBut, ArePartlyPairs}

@@ -12,9 +12,9 @@ use Rattle.diff_system.specs.PathTree.{PathTree, AreLongest}
 use Rattle.refute_rules.specs.Reasons.{length_at}
 use Rattle.refute_rules.specs.Choices.{Choice}
 use Rattle.refute_rules.specs.Known.{host_of}
-use Rattle.berth_rules.specs.BerthCases.{host_in, HasOrder, ObeyAlong}
-use Rattle.berth_rules.specs.BerthTrees.{AreUnordered}
-use Rattle.berth_rules.proofs.BerthFit.{berths-legal}
+use Rattle.refute_rules.specs.BerthCases.{host_in, HasOrder, ObeyAlong}
+use Rattle.refute_rules.specs.BerthTrees.{AreUnordered}
+use Rattle.refute_rules.proofs.BerthFit.{berths-legal}
 use Rattle.berth_check.specs.Raises.{AreKnown}
 use Rattle.berth_check.proofs.RaiseLemmas.{host-known}
 use Rattle.berth_place.specs.declared.pairs.Pair.{Pair}

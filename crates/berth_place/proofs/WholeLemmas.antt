@@ -13,7 +13,7 @@ use Rattle.refute_rules.specs.Decided.{berth_in}
 use Rattle.refute_rules.specs.Known.{host_of, host_and_more, hosts_within, guest_y, moored_y, berth_y, y_within, y_in}
 use Rattle.spot_place.specs.OnWay.{HasKnownHosts}
 use Rattle.spot_place.proofs.KnownLemmas as chain
-use Rattle.berth_rules.specs.BerthCases.{host_in, HasOrder, DoOverlap}
+use Rattle.refute_rules.specs.BerthCases.{host_in, HasOrder, DoOverlap}
 use Rattle.berth_check.specs.Raises.{AreKnown}
 use Rattle.berth_check.proofs.RaiseLemmas.{host-known, y-known}
 use Rattle.berth_place.specs.Known.{AreDecided, AreSoundShips, IsWhole}

@@ -8,7 +8,7 @@ use Rattle.diff_rules.specs.Differences.{value_at}
 use Rattle.refute_rules.specs.Reasons.{length_at}
 use Rattle.refute_rules.specs.Choices.{Choice, Lies, Before, Below, Stands}
 use Rattle.refute_rules.specs.Edges.{edge}
-use Rattle.berth_rules.specs.BerthCases.{host_in}
+use Rattle.refute_rules.specs.BerthCases.{host_in}
 
 -- the variable of ship i's x; variable 0 is the origin
 abbrev pub place_var : ℕ → ℕ

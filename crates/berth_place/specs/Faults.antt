@@ -1,5 +1,5 @@
 -- Faults as the code keeps them.
-use Rattle.berth_rules.specs.BerthFaults as told
+use Rattle.refute_rules.specs.BerthFaults as told
 use Rattle.berth_place.specs.declared.faults.BerthFault.{BerthFault}
 use Rattle.berth_place.specs.declared.faults.BerthFault.TheVariants.{OtherRank, LeadsBack, TooLong, Outside, Guests, Crowd, NoPlaces}
 

@@ -6,7 +6,7 @@ use Rattle.refute_rules.specs.Choices.{Choice, Lies, Before, Below, Stands, Bert
 use Rattle.refute_rules.specs.Decided.{berth_in, HasOtherRank}
 use Rattle.refute_rules.specs.Known.{hosts_within, y_in}
 use Rattle.refute_rules.specs.SpotFaults.{IsOutsideAcross}
-use Rattle.berth_rules.specs.BerthCases.{host_in}
+use Rattle.refute_rules.specs.BerthCases.{host_in}
 
 -- an option that is a berth
 abbrev pub IsBerth : Choice → Type 0

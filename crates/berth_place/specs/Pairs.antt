@@ -6,7 +6,7 @@ use Rattle.lock_rules.specs.Among.{IsAmong}
 use Rattle.diff_rules.specs.Differences.{value_at}
 use Rattle.refute_rules.specs.Reasons.{length_at}
 use Rattle.refute_rules.specs.Choices.{Choice}
-use Rattle.berth_rules.specs.BerthCases.{DoOverlap, HasOrder}
+use Rattle.refute_rules.specs.BerthCases.{DoOverlap, HasOrder}
 use Rattle.diff_system.specs.PathTree.{IsSmall}
 use Rattle.berth_place.specs.Along.{place_var, place_count}
 use Rattle.berth_place.specs.declared.pairs.Pair.{Pair}

@@ -1,14 +1,15 @@
 -- What the visit of a case does.
-use Rattle.std.specs.Prelude.{ℕ, ◌≡◌, ◌≤◌, ◌<◌, List, [], ◌∷◌, ◌++◌, ◌+◌, zero, Bool, true, false, length, slice_index_or, take}
+use Rattle.std.specs.Prelude.{ℕ, ◌≡◌, ◌≤◌, ◌<◌, ◌⊎◌, List, [], ◌∷◌, ◌++◌, ◌+◌, zero, Bool, true, false, length, slice_index_or, take}
 use Rattle.lock_model.specs.Deck.{Deck, IsDeck}
 use Rattle.lock_model.specs.Placement.{IsLegalPlacement}
 use Rattle.refute_rules.specs.Choices.{Choice, Before}
 use Rattle.refute_rules.specs.Trees.{AreInOrder}
-use Rattle.berth_rules.specs.BerthTrees.{Split, split_options, split_numbers, BeginsWithTree}
+use Rattle.refute_rules.specs.BerthTrees.{Split, split_options, split_numbers, BeginsWithTree}
 use Rattle.berth_place.specs.Along.{along_edges, order_edges}
 use Rattle.berth_check.specs.Raises.{AreKnown}
 use Rattle.berth_place.specs.Known.{AreBerths, IsWhole}
 use Rattle.berth_place.specs.Pairs.{pair, ArePairs, AreAllPairs, ArePairsBut}
+use Rattle.berth_place.specs.Unfinished.{node_count, IsUnfinished}
 use Rattle.berth_place.specs.declared.pairs.Pair.{Pair}
 use Rattle.berth_place.specs.declared.search.Search.{Search}
 use Rattle.berth_place.specs.declared.search.Visit.{Visit}
@@ -19,12 +20,14 @@ pub record GrewByTree (d : Deck) (case : List Choice) (old new : List ℕ) : Typ
   pub added : List ℕ
   pub is : new ≡ old ++ added
   pub tree : (rest : List ℕ) → BeginsWithTree d case (added ++ rest) rest
+  pub nodes : (rest : List ℕ) → node_count (added ++ rest) ≡ node_count added + node_count rest
 
 -- the marks grew by the numbers of a split and trees of its first options
 pub record IsPassed (d : Deck) (case : List Choice) (split : Split) (old new : List ℕ) (count : ℕ) : Type 0 where
   pub inner : List ℕ
   pub is : new ≡ old ++ (split_numbers split ++ inner)
   pub trees : (rest : List ℕ) → AreInOrder (λ choice. BeginsWithTree d (case ++ choice ∷ [])) (take count (split_options d split)) (inner ++ rest) rest
+  pub nodes : (rest : List ℕ) → node_count ((split_numbers split ++ inner) ++ rest) ≡ node_count (split_numbers split ++ inner) + node_count rest
 
 -- the search goes on with the same case within its turns
 pub record GoesOn (old new : Search) : Type 0 where
@@ -34,10 +37,23 @@ pub record GoesOn (old new : Search) : Type 0 where
   pub more : old.tried ≤ new.tried
   pub few : new.tried ≤ new.turns
 
--- more options were tried than the turns allow
-pub record IsSpent (old new : Search) : Type 0 where
+-- One option more than the turns was tried. The marks grew by an unfinished tree of the case with a node for the case and for each other option.
+pub record IsSpent (d : Deck) (old new : Search) : Type 0 where
   pub turns : new.turns ≡ old.turns
-  pub more : new.turns < new.tried
+  pub more : new.tried ≡ new.turns + 1
+  pub added : List ℕ
+  pub is : new.marks ≡ old.marks ++ added
+  pub unfinished : IsUnfinished d old.case added
+  pub nodes : new.tried ≡ old.tried + node_count added
+
+-- the same of the case with one option more, which may be the one that was too many
+pub record IsOptionSpent (d : Deck) (choice : Choice) (old new : Search) : Type 0 where
+  pub turns : new.turns ≡ old.turns
+  pub more : new.tried ≡ new.turns + 1
+  pub added : List ℕ
+  pub is : new.marks ≡ old.marks ++ added
+  pub unfinished : (added ≡ []) ⊎ IsUnfinished d (old.case ++ choice ∷ []) added
+  pub nodes : new.tried ≡ old.tried + 1 + node_count added
 
 -- one option more is counted
 pub record IsCounted (old new : Search) : Type 0 where
@@ -50,7 +66,7 @@ pub record IsCounted (old new : Search) : Type 0 where
 -- and the turns allow it, or they don't
 abbrev pub IsTry : Search → Search → Bool → Type 0
 IsTry old new true = IsCounted old new × (new.tried ≤ new.turns)
-IsTry old new false = IsSpent old new
+IsTry old new false = IsCounted old new × (new.tried ≡ new.turns + 1)
 
 -- the order of a pair that an option stands for
 abbrev pub order_of : Pair → ℕ → Choice
@@ -69,11 +85,13 @@ pub record TakesOrder (d : Deck) (p : Pair) (option : ℕ) (old new : Search) : 
 pub record IsUnder (d : Deck) (old new : Search) (split : Split) (count : ℕ) : Type 0 where
   pub on : GoesOn old new
   pub passed : IsPassed d old.case split old.marks new.marks count
+  pub tried : new.tried + 1 ≡ old.tried + node_count (split_numbers split ++ passed.inner)
 
 -- the case is closed by a tree
 pub record IsClosed (d : Deck) (old new : Search) : Type 0 where
   pub grew : GrewByTree d old.case old.marks new.marks
   pub on : GoesOn old new
+  pub tried : new.tried + 1 ≡ old.tried + node_count grew.added
 
 -- a case that decides all berths, with its edges along the chamber
 pub record IsOrdering (d : Deck) (s : Search) : Type 0 where
@@ -110,14 +128,15 @@ pub record IsBerthing (d : Deck) (s : Search) : Type 0 where
 pub record IsOptionClosed (d : Deck) (choice : Choice) (old new : Search) : Type 0 where
   pub grew : GrewByTree d (old.case ++ choice ∷ []) old.marks new.marks
   pub on : GoesOn old new
+  pub tried : new.tried ≡ old.tried + node_count grew.added
 
 -- what the visit of that case does
 abbrev pub IsVisitOf : Deck → Choice → Search → Search → Visit → Type 0
 IsVisitOf d choice old new Closed = IsOptionClosed d choice old new
 IsVisitOf d choice old new Placed = IsLegalPlacement d new.spots
-IsVisitOf d choice old new Spent = IsSpent old new
+IsVisitOf d choice old new Spent = IsOptionSpent d choice old new
 
 abbrev pub IsVisit : Deck → Search → Search → Visit → Type 0
 IsVisit d old new Closed = IsClosed d old new
 IsVisit d old new Placed = IsLegalPlacement d new.spots
-IsVisit d old new Spent = IsSpent old new
+IsVisit d old new Spent = IsSpent d old new

@@ -2,7 +2,7 @@
 ghost use Rattle.std.specs.Prelude.{◌≡◌, ◌+◌, ◌*◌, ◌<◌, ◌≤◌, ◌-ℤ◌, ◌≤ℤ◌, neg_ℤ, pos, [], ◌∷◌, ◌++◌, length};
 ghost use Rattle.lock_model.specs.Deck.{Deck as Measured};
 ghost use Rattle.refute_rules.specs.Reasons.{length_at};
-ghost use Rattle.berth_rules.specs.BerthCases.{host_in};
+ghost use Rattle.refute_rules.specs.BerthCases.{host_in};
 ghost use Rattle.berth_place.specs.Along.{place_var, place_count, inside_edges, host_edges, berth_edges, first_edges, order_edge};
 ghost use Rattle.berth_check.specs.Raises.{AreKnown};
 

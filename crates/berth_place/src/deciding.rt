@@ -1,7 +1,7 @@
 //! The berths of a deck's ships, the longest first.
 ghost use Rattle.std.specs.Prelude.{◌≡◌, ◌<◌, ◌*◌, ◌≤◌, [], ◌∷◌, ◌++◌, None, length, slice_index_or, OnOk, IfOk, IfSome, IfNone};
 ghost use Rattle.refute_rules.specs.Choices.{Before};
-ghost use Rattle.berth_rules.specs.BerthTrees.{OfBerth, IsOpen, split_options, split_numbers};
+ghost use Rattle.refute_rules.specs.BerthTrees.{OfBerth, IsOpen, split_options, split_numbers};
 ghost use Rattle.berth_place.specs.Known.{IsDecided, AreDecided};
 ghost use Rattle.berth_place.specs.Visits.{IsBerthing, IsVisit, IsVisitOf};
 

@@ -1,6 +1,6 @@
 //! Faults of a berth case.
 ghost use Rattle.std.specs.Prelude.{◌≡◌, [], ◌∷◌, ◌++◌, IsTrue, OnOk};
-ghost use Rattle.berth_rules.specs.BerthFaults.{IsBerthFault, berth_fault_numbers};
+ghost use Rattle.refute_rules.specs.BerthFaults.{IsBerthFault, berth_fault_numbers};
 ghost use Rattle.berth_place.specs.Faults.{fault_of};
 
 use berth_case::{

@@ -1,9 +1,10 @@
 //! The placer by berths: decides the berths of a deck's ships, the longest first, and then the order
 //! of each two that overlap, or refutes the deck.
 //!
-//! `place_by_berths` answers with legal spots, with a berth tree of the deck, or once more options
-//! were tried than it has turns.
-//! - What it answers: `specs/Placing`, by the trees of `berth_rules`.
+//! `place_by_berths` answers with legal spots, with a berth tree of the deck, or where its turns are
+//! too few.
+//! - What it answers: `specs/Placing`, by the trees of `refute_rules`, and `Unfinished` for a tree that
+//!   the turns cut off.
 //! - `deciding` splits by berths and `ordering` by orders; what the visit of a case does stands in
 //!   `specs/Visits`. `search` is the case at hand and what the search has come to.
 //! - `likely`, `lanes` and `crowds` guess a fault of the last berth; `faults` tests it before it is

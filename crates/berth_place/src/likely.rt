@@ -1,7 +1,7 @@
 //! Faults that the last berth of a case is likely to have brought about. Each is tested before it is
 //! told, so how it is found plays no part in what holds of it.
 ghost use Rattle.std.specs.Prelude.{◌<◌, IfSome};
-ghost use Rattle.berth_rules.specs.BerthFaults.{IsBerthFault};
+ghost use Rattle.refute_rules.specs.BerthFaults.{IsBerthFault};
 ghost use Rattle.berth_place.specs.Faults.{fault_of};
 
 use crate::crowds::{likely_crowd, span_of};

@@ -2,7 +2,7 @@
 ghost use Rattle.std.specs.Prelude.{◌≡◌, ◌<◌, ◌++◌, length, OnOk, IfOk, IfErr};
 ghost use Rattle.diff_rules.specs.Differences.{IsSimpleCycle};
 ghost use Rattle.diff_system.specs.PathTree.{AreLongest};
-ghost use Rattle.berth_rules.specs.BerthTrees.{OfOrder, split_numbers};
+ghost use Rattle.refute_rules.specs.BerthTrees.{OfOrder, split_numbers};
 ghost use Rattle.berth_place.specs.Along.{place_count};
 ghost use Rattle.berth_place.specs.Known.{AreDecided};
 ghost use Rattle.berth_place.specs.Pairs.{AreTouching};

@@ -16,15 +16,16 @@ pub enum BerthPlaced {
     Fits(Spots),
     /// This berth tree refutes the deck, so it doesn't fit.
     Refuted(Marks),
-    /// So many options were tried, more than the turns.
-    Spent(u64),
+    /// The turns were too few. This berth tree is unfinished, and has as many options as turns.
+    Spent(Marks),
 }
 
 /// Places the ships of a deck, or refutes it, and tries at most so many options. An option is a
 /// berth of a ship, or which of two ships lies before the other. Cargo plays no part.
 /// - `Fits` with spots that are legal.
 /// - `Refuted` with a berth tree of the deck. Then the deck doesn't fit.
-/// - `Spent` only where one option more than the turns was tried.
+/// - `Spent` where one option more than the turns would be needed, with the berth tree so far, which
+///   has a node for the deck and for each of as many options as turns.
 ///
 /// Refuses want of memory alone.
 pub fn place_by_berths(alloc: Global, deck: &Deck, turns: u32) -> Result<BerthPlaced, NoMemory>
@@ -37,6 +38,6 @@ pub fn place_by_berths(alloc: Global, deck: &Deck, turns: u32) -> Result<BerthPl
     match decide(&mut search, deck)? {
         Visit::Closed => Ok(BerthPlaced::Refuted(search.marks)),
         Visit::Placed => Ok(BerthPlaced::Fits(search.spots)),
-        Visit::Spent => Ok(BerthPlaced::Spent(search.tried)),
+        Visit::Spent => Ok(BerthPlaced::Spent(search.marks)),
     }
 }

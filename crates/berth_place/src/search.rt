@@ -1,6 +1,6 @@
 //! What a search through berth cases holds.
 ghost use Rattle.std.specs.Prelude.{◌≡◌, ◌+◌, ◌≤◌, [], true, false, IfOk};
-ghost use Rattle.berth_rules.specs.BerthFaults.{IsBerthFault};
+ghost use Rattle.refute_rules.specs.BerthFaults.{IsBerthFault};
 ghost use Rattle.berth_place.specs.Faults.{fault_of};
 ghost use Rattle.berth_place.specs.Visits.{IsVisit, IsTry};
 
@@ -59,7 +59,7 @@ pub(crate) fn try_option(search: &mut Search) -> bool
 }
 
 /// Closes the case at hand by a fault that stands in it.
-#[tactic(auto, using(crate::proofs::VisitLemmas::fault_grew))]
+#[tactic(auto, using(crate::proofs::VisitLemmas::fault_closed))]
 pub(crate) fn close(search: &mut Search, deck: &Deck, fault: BerthFault) -> Result<Visit, NoMemory>
     requires stands { IsBerthFault deck.now search.old.case (fault_of fault) }
     requires few { search.old.tried ≤ search.old.turns }

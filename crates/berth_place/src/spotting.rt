@@ -4,7 +4,7 @@ ghost use Rattle.refute_rules.specs.Decided.{berth_in};
 ghost use Rattle.refute_rules.specs.Known.{y_in};
 ghost use Rattle.berth_case.specs.Lookups.{told_berth};
 ghost use Rattle.diff_rules.specs.Differences.{value_at};
-ghost use Rattle.berth_rules.specs.BerthFaults.{IsBerthFault};
+ghost use Rattle.refute_rules.specs.BerthFaults.{IsBerthFault};
 ghost use Rattle.berth_place.specs.Along.{place_var};
 ghost use Rattle.berth_place.specs.Faults.{fault_of};
 ghost use Rattle.berth_place.specs.Known.{IsSoundShip, AreSoundShips, IsWhole};

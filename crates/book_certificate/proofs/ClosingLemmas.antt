@@ -11,6 +11,8 @@ use Rattle.lock_rules.specs.Cut.{HitsNode}
 use Rattle.lock_rules.specs.Node.{root_lines}
 use Rattle.lock_rules.specs.Children.{children_of}
 use Rattle.refute_rules.specs.Cuts.{Cut}
+use Rattle.price_rules.specs.Prices.{Reaches}
+use Rattle.closing_rules.specs.ListedPrices.{cut_in}
 use Rattle.refute_rules.specs.Trees.{AreInOrder}
 use Rattle.closing_rules.specs.declared.grounds.Ground.{Ground}
 use Rattle.closing_rules.specs.declared.grounds.Ground.TheVariants as by
@@ -20,9 +22,10 @@ use Rattle.certificate_rules.specs.declared.certificate.Mark.{Mark}
 use Rattle.certificate_rules.specs.declared.certificate.Mark.TheVariants as mark
 use Rattle.book_rules.specs.Book.{Node, Book, slot_at, no_slot, best_cost}
 use Rattle.book_rules.specs.Cover.{KeepsBook}
+use Rattle.book_rules.specs.States as book_states
 use Rattle.book_rules.specs.States.{KeepsStates, IsHitBy}
 use Rattle.book_rules.specs.Family.{HasChildren, KeepsFamily}
-use Rattle.certificate_rules.specs.Certificates.{IsCutBy, Closes, IsMarkTree}
+use Rattle.certificate_rules.specs.Certificates.{cuts_in, IsCutBy, Closes, IsMarkTree}
 use Rattle.book_rules.proofs.SlotLemmas.{IsAt}
 use Rattle.book_rules.proofs.MoveLemmas.{TellsAt}
 use Rattle.book_rules.proofs.StateLemmas.{state-tells}
@@ -49,12 +52,17 @@ in_order-kids {X} {M} Numbered Tree d (x ∷ xs) first each marks rest h =
           h.0 rest h.2,
     )
 
+-- a book's cuts and those of its certificate are the same to prices
+same-cuts : (I : Instance) (cuts : List Cut) → book_states.cuts_in I cuts ≡ cuts_in I (map cert_cut cuts)
+same-cuts I [] = refl
+same-cuts I (c ∷ cs) = ap (λ rest. cut_in I c.chamber c.ships ∷ rest) (same-cuts I cs)
+
 module _ (b : Book) (keeps : KeepsBook b) (family : KeepsFamily b) (states : KeepsStates b) where
   abbrev I : Instance
   I = b.case.instance
 
   abbrev pub Closing : ℕ → List (List Group) → Mark → Type 0
-  Closing = Closes I (best_cost b) (map cert_cut b.cuts)
+  Closing = Closes I (best_cost b) (map cert_cut b.cuts) b.prices
 
   -- the cut that closes a slot, in the certificate
   hit-cut : (number : ℕ) (lines : List (List Group)) → IsHitBy I b.cuts number lines → IsCutBy I (map cert_cut b.cuts) number lines
@@ -88,6 +96,8 @@ module _ (b : Book) (keeps : KeepsBook b) (family : KeepsFamily b) (states : Kee
       ground-closes by.Throughput h = h
       ground-closes (by.Probe s) h = h
       ground-closes (by.Cut number) h = hit-cut number node.lines h
+      ground-closes (by.Price number) h =
+          record { own = h.own; there = h.there; reached = subst (λ cuts. Reaches I cuts node.depth node.lines h.own (best_cost b)) (same-cuts I b.cuts) h.reached }
 
       by_state : (state : SlotState) → (slot_at b id).state ≡ state → leaf_mark state ≡ Some m → Closing node.depth node.lines m
       by_state (slot.Closed why) is f = from (mark.Leaf why) f (ground-closes why (state-tells b id (slot.Closed why) states (at (slot.Closed why) is)))

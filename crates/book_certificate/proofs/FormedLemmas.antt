@@ -2,7 +2,7 @@
 use Rattle.std.proofs.Common.{◌≡◌, ℕ, zero, suc, ◌+◌, ◌^◌, ◌<◌, List, [], inl, inr, length, map, refl, sym, ap, ◌∙◌, subst, arith, Some, None, All, slice_index_or}
 use Rattle.std.specs.List.{range_with_len}
 use Rattle.std.proofs.lemmas.List.{length-map}
-use Rattle.std.proofs.lemmas.List.Elements.{All-map, All-cons, All-nil}
+use Rattle.std.proofs.lemmas.List.Elements.{All-map, All-weaker, All-cons, All-nil}
 use Rattle.std.proofs.lemmas.Option.{slice_get_within}
 use Rattle.lock_model.specs.Fitting.{size_of}
 use Rattle.lock_model.specs.Fleet.{ship_at}
@@ -33,8 +33,9 @@ use Rattle.book_rules.specs.Cover.{KeepsBook, IsOwnCut}
 use Rattle.book_rules.specs.States.{KeepsStates}
 use Rattle.book_rules.specs.Family.{KeepsFamily}
 use Rattle.closing_rules.specs.ProvedCuts.{IsProved}
+use Rattle.closing_rules.specs.ListedPrices.{ArePrices, AreShapedPrices}
 use Rattle.certificate_rules.specs.Certificates.{Certificate, Closes, IsMarkTree, Accepts}
-use Rattle.certificate_rules.specs.WellFormed.{IsFormedReason, IsFormedRefutation, IsFormedCut, IsFormedLockage, IsFormedGround, IsFormedMark, IsWellFormed}
+use Rattle.certificate_rules.specs.WellFormed.{IsFormedReason, IsFormedRefutation, IsFormedCut, IsFormedLockage, AreFormedPrices, IsFormedGround, IsFormedMark, IsWellFormed}
 use Rattle.closing_rules.proofs.LawLemmas.{contains-times}
 use Rattle.book_rules.proofs.MoveLemmas.{TellsAt}
 use Rattle.book_rules.proofs.SlotLemmas.{IsAt}
@@ -55,6 +56,7 @@ formed-refutation d (refutation.Quick q) h = formed-reason d q h
 formed-refutation d (refutation.Cases marks) h = tt
 formed-refutation d (refutation.Spots marks) h = tt
 formed-refutation d (refutation.Clash i j) h = h.rises
+formed-refutation d (refutation.Berths marks) h = tt
 
 pub own-formed : (cut : Cut) → IsCut cut → IsFormedCut (cert_cut cut)
 own-formed cut is =
@@ -102,7 +104,7 @@ in_order-formed Numbered (suc n) first each marks rest h formed =
 less-trans : (k m n : ℕ) → k < m → m < n → k < n
 less-trans k m n low high = omega (arith, low, high)
 
-module _ (b : Book) (family : KeepsFamily b) (states : KeepsStates b) (few : length b.cuts < 2 ^ 63) where
+module _ (b : Book) (family : KeepsFamily b) (states : KeepsStates b) (few_prices : length b.prices < 2 ^ 63) (few : length b.cuts < 2 ^ 63) where
   pub leaf-formed : (id : ℕ) → id < length b.slots → (m : Mark) → leaf_mark (slot_at b id).state ≡ Some m → IsFormedMark m
   leaf-formed id known m e = by_state (slot_at b id).state refl e
     where
@@ -125,6 +127,7 @@ module _ (b : Book) (family : KeepsFamily b) (states : KeepsStates b) (few : len
           let ships = I.limits.ship_count.1 in
           omega (arith, ship, ships)
       ground-formed (by.Cut number) h = less-trans number (length b.cuts) (2 ^ 63) (slice_get_within b.cuts number h.cut h.there) few
+      ground-formed (by.Price number) h = less-trans number (length b.prices) (2 ^ 63) (slice_get_within b.prices number h.own h.there) few_prices
 
       by_state : (state : SlotState) → (slot_at b id).state ≡ state → leaf_mark state ≡ Some m → IsFormedMark m
       by_state (slot.Closed why) is f = from (mark.Leaf why) f (ground-formed why (state-tells b id (slot.Closed why) states (at (slot.Closed why) is)))
@@ -151,9 +154,9 @@ module _ (b : Book) (keeps : KeepsBook b) (family : KeepsFamily b) (states : Kee
   formed-cuts : All IsFormedCut (map cert_cut b.cuts)
   formed-cuts = All-map IsFormedCut cert_cut b.cuts (λ k d known. own-formed (slice_index_or b.cuts k d) (keeps.cuts k d known).0)
 
-  tree : IsMarkTree I mark.Split (Closes I (best_cost b) (map cert_cut b.cuts)) (length I.ships) 0 root.lines C.tree []
+  tree : IsMarkTree I mark.Split (Closes I (best_cost b) (map cert_cut b.cuts) b.prices) (length I.ships) 0 root.lines C.tree []
   tree =
-      subst (λ (n : Node). IsMarkTree I mark.Split (Closes I (best_cost b) (map cert_cut b.cuts)) (length I.ships) n.depth n.lines C.tree []) family.root_is
+      subst (λ (n : Node). IsMarkTree I mark.Split (Closes I (best_cost b) (map cert_cut b.cuts) b.prices) (length I.ships) n.depth n.lines C.tree []) family.root_is
       (slot-tree b keeps family states (length I.ships) 0 family.some C.tree [] is.marks)
 
   pub is-accepted : Accepts I C
@@ -161,14 +164,19 @@ module _ (b : Book) (keeps : KeepsBook b) (family : KeepsFamily b) (states : Kee
     legal = subst (IsLegal I) (sym is.plan) keeps.covers.legal;
     cost = ap (λ (P : Plan). cost_of I P) is.plan ∙ sym is.cost;
     cuts = subst (All (IsProved I)) (sym is.cuts) own-cuts;
+    prices = subst (All (AreShapedPrices I)) (sym is.prices) (All-weaker (λ u. ArePrices u × AreShapedPrices I u) (AreShapedPrices I) (λ u own. own.1) b.prices keeps.prices);
     tree =
-        subst (λ cuts. IsMarkTree I mark.Split (Closes I C.cost cuts) (length I.ships) 0 root.lines C.tree []) (sym is.cuts)
-        (subst (λ cost. IsMarkTree I mark.Split (Closes I cost (map cert_cut b.cuts)) (length I.ships) 0 root.lines C.tree []) (sym is.cost) tree);
+        subst (λ prices. IsMarkTree I mark.Split (Closes I C.cost C.cuts prices) (length I.ships) 0 root.lines C.tree []) (sym is.prices)
+        (subst (λ cuts. IsMarkTree I mark.Split (Closes I C.cost cuts b.prices) (length I.ships) 0 root.lines C.tree []) (sym is.cuts)
+        (subst (λ cost. IsMarkTree I mark.Split (Closes I cost (map cert_cut b.cuts) b.prices) (length I.ships) 0 root.lines C.tree []) (sym is.cost) tree));
   }
 
-  pub is-formed : length b.cuts < 2 ^ 63 → IsWellFormed C
-  is-formed few = record {
+  pub is-formed : length b.prices < 2 ^ 63 → length b.cuts < 2 ^ 63 → IsWellFormed C
+  is-formed few_prices few = record {
     cuts = subst (All IsFormedCut) (sym is.cuts) formed-cuts;
     lockages = λ k d known. legal-formed I (slice_index_or C.plan.lockages k d) (is-accepted.legal.lockage k d known);
-    marks = slot-formed b family states few (length I.ships) 0 family.some C.tree [] is.marks (All-nil IsFormedMark);
+    prices =
+        subst (All AreFormedPrices) (sym is.prices)
+        (All-weaker (λ u. ArePrices u × AreShapedPrices I u) AreFormedPrices (λ u own. (omega (arith, own.1.count, I.limits.ship_count.0), own.0)) b.prices keeps.prices);
+    marks = slot-formed b family states few_prices few (length I.ships) 0 family.some C.tree [] is.marks (All-nil IsFormedMark);
   }

@@ -24,9 +24,10 @@ pub record HasNoLive (b : Book) : Type 0 where
 abbrev pub cert_cut : Cut → CertCut
 cert_cut cut = record { chamber = cut.chamber; ships = cut.ships; refutation = cut.refutation }
 
--- The certificate has the best plan with its cost, all cuts in order, and the marks of all slots in preorder.
+-- The certificate has the best plan with its cost, all cuts and prices in order, and the marks of all slots in preorder.
 pub record IsCertificateOf (b : Book) (C : Certificate) : Type 0 where
   pub cost : C.cost ≡ best_cost b
   pub cuts : C.cuts ≡ map cert_cut b.cuts
   pub plan : C.plan ≡ b.best
+  pub prices : C.prices ≡ b.prices
   pub marks : AreMarksOf b (length b.case.instance.ships) 0 C.tree []

@@ -10,12 +10,13 @@ use crate::cuts::cuts_of;
 use crate::error::CertError;
 use crate::live::first_live;
 use crate::marks::marks_of;
+use crate::prices::prices_of;
 use book_core::Book;
 use cert_check::Certificate;
 use std::alloc::Global;
 
-/// The certificate of a finished book: its best plan, the plan's cost in minutes, its cuts in order,
-/// and the marks of its slots in preorder of their tree. It is well formed, and accepted for the
+/// The certificate of a finished book: its best plan, the plan's cost in minutes, its cuts and its
+/// prices in order, and the marks of its slots in preorder of their tree. It is well formed, and accepted for the
 /// instance of the book, so the checker never rejects it.
 ///
 /// `StillOpen` exactly where a slot is open, held or parked, so never where the verdict is
@@ -36,6 +37,7 @@ pub fn certificate_of(alloc: Global, book: &Book) -> Result<Certificate, CertErr
         cost: book.best_cost(),
         cuts: cuts_of(alloc, book)?,
         plan: book.best().copy(),
+        prices: prices_of(alloc, book)?,
         tree: marks_of(alloc, book)?,
     })
 }

@@ -5,10 +5,12 @@ use super::*;
 use book_core::{Book, Reply};
 use cert_check::{Answer, Certificate, Ground, Mark, check};
 use fixture::{
-    Lock, NARROW, SIDE_BY_SIDE, TWIN, both, one_after_the_other, one_each, open, row_cut,
+    Lock, NARROW, SIDE_BY_SIDE, TWIN, both, instance, one_after_the_other, one_each, open, row_cut,
 };
-use lock_model::Plan;
+use lock_model::{Plan, Ships};
+use master_branch::root;
 use place_refute::{Quick, Refutation};
+use price_bound::{ChamberCut, Limits, PricedNode, Prices, show};
 use std::alloc::Global;
 use std::test::Fail;
 
@@ -20,10 +22,40 @@ enum Deed {
     CloseThroughput(u32),
     CloseProbe(u32, u8),
     PostAndClose(u32),
+    CloseRootByPrices,
     Replace,
 }
 
 use Deed::*;
+
+// Posts the cut and prices, and closes the root by them; whether the book accepted all of it.
+fn closes_root_by_prices(alloc: Global, book: &mut Book) -> Result<bool, Fail> {
+    let prices = Prices::new(&[8500, 8500]).ok_or("no prices")?;
+    if book.post(row_cut(alloc)?) != Reply::Posted(0)
+        || book.post_prices(prices.copy()) != Reply::Priced(0)
+    {
+        return Ok(false);
+    }
+    let instance = instance(NARROW)?;
+    let mut cuts = Vec::new(alloc);
+    let mut ships = Ships::single(0);
+    ships.push(1);
+    cuts.push(ChamberCut { chamber: 0, ships })?;
+    let asked = PricedNode {
+        instance: &instance,
+        node: &root(&instance),
+        prices: &prices,
+        cuts: cuts.as_slice(),
+    };
+    let limits = Limits {
+        groups: 1000,
+        turns: 1000,
+    };
+    let Ok(Some(shown)) = show(alloc, &asked, 120, limits) else {
+        return Ok(false);
+    };
+    Ok(book.close_price(0, 0, &shown) == Reply::Closed)
+}
 
 // Does one deed; whether the book accepted it.
 fn does(alloc: Global, book: &mut Book, deed: Deed) -> Result<bool, Fail> {
@@ -35,6 +67,7 @@ fn does(alloc: Global, book: &mut Book, deed: Deed) -> Result<bool, Fail> {
         PostAndClose(id) => {
             book.post(row_cut(alloc)?) == Reply::Posted(0) && book.close_cut(id, 0) == Reply::Closed
         }
+        CloseRootByPrices => closes_root_by_prices(alloc, book)?,
         Replace => matches!(book.replace(one_each()), Reply::Replaced(_)),
     })
 }
@@ -89,7 +122,7 @@ fn a_book_of_the_narrow_chamber_gives_its_certificate(rt: HostRuntime) -> Result
 
 #[test]
 fn finished_books_give_marks_in_preorder(rt: HostRuntime) -> Result<(), Fail> {
-    let books: [(Lock, Plan, &[Deed], u64, &[Mark]); 3] = [
+    let books: [(Lock, Plan, &[Deed], u64, &[Mark]); 4] = [
         (
             SIDE_BY_SIDE,
             both(),
@@ -98,6 +131,13 @@ fn finished_books_give_marks_in_preorder(rt: HostRuntime) -> Result<(), Fail> {
             &[Mark::Split, Mark::Leaf(Ground::Probe(1))],
         ),
         (TWIN, one_each(), &[], 70, &[Mark::Leaf(Ground::Bound)]),
+        (
+            NARROW,
+            one_after_the_other(),
+            &[Take(0), CloseRootByPrices],
+            120,
+            &[Mark::Leaf(Ground::Price(0))],
+        ),
         (
             TWIN,
             one_after_the_other(),

@@ -1,18 +1,18 @@
 -- The events that close a slot.
-use Rattle.std.proofs.Common.{◌≡◌, ℕ, suc, ◌<◌, ◌≤◌, refl, sym, ap, ◌∙◌, subst, arith, Bool, true, false, not, cond, nat_lt, inl, inr, Some, None, slice_get}
+use Rattle.std.proofs.Common.{◌≡◌, ◌≢◌, ℕ, suc, ◌<◌, ◌≤◌, refl, sym, ap, ◌∙◌, subst, arith, Bool, true, false, not, cond, nat_eq, nat_lt, inl, inr, Some, None, slice_get}
 use Rattle.std.specs.declared.option.Option.{Option}
-use Rattle.std.proofs.lemmas.Bool.Decides.{leb_tells}
+use Rattle.std.proofs.lemmas.Bool.Decides.{eqb_tells, leb_tells}
 use Rattle.mooring_rules.specs.declared.breaks.BrokenPlan.{BrokenPlan}
 use Rattle.closing_rules.specs.declared.grounds.Ground.{Ground}
 use Rattle.closing_rules.specs.declared.grounds.Ground.TheVariants as by
 use Rattle.book_rules.specs.Book.{Book, best_cost}
 use Rattle.book_rules.specs.Events as machine
-use Rattle.book_rules.specs.Events.{close}
+use Rattle.book_rules.specs.Events.{Event, IsOwed, close}
 use Rattle.book_rules.specs.Step.{step, may_close, refusal_of, cheaper_than, close_unless, closed, hits_in, probe_at, is_missing}
 use Rattle.book_core.specs.declared.reply.Reply.{Reply}
 use Rattle.book_core.specs.declared.reply.Reply.TheVariants as reply
 use Rattle.book_core.specs.Keeps.{IsSound}
-use Rattle.book_core.specs.Replies.{told, Answers}
+use Rattle.book_core.specs.Replies.{told, IsFirstOf, Answers}
 use Rattle.book_core.proofs.SoundLemmas.{step-sound}
 
 abbrev pub Out : Type 0
@@ -30,6 +30,12 @@ not-true t e = ap not e
 pub not-false : (t : Bool) → t ≡ false → not t ≡ true
 not-false t e = ap not e
 
+pub same-number : (m n : ℕ) → m ≡ n → nat_eq m n ≡ true
+same-number m n e = elim (eqb_tells m n) [ inl y ↦ y.0 | inr h ↦ absurd (h.1 e) ]
+
+pub other-number : (m n : ℕ) → m ≢ n → nat_eq m n ≡ false
+other-number m n e = elim (eqb_tells m n) [ inl y ↦ absurd (e y.1) | inr h ↦ h.0 ]
+
 pub is-less : (a b : ℕ) → a < b → nat_lt a b ≡ true
 is-less a b h = elim (leb_tells (suc a) b) [ inl y ↦ y.0 | inr n ↦ absurd (omega (arith, h, n.1)) ]
 
@@ -40,52 +46,64 @@ is-not_less a b h = elim (leb_tells (suc a) b) [ inl y ↦ absurd (omega (arith,
 abbrev pub none : Option BrokenPlan
 none = None
 
-module _ (b : Book) (id : ℕ) (why : Ground) where
-  abbrev answer : Out
-  answer = step (λ _ _. none) b (close id why)
+-- ---- an event that closes slot id so, unless it is refused
 
-  abbrev refusal : Option (machine.Reply BrokenPlan)
-  refusal = refusal_of b id why
-
+module _ (b : Book) (id : ℕ) (why : Ground) (e : Event) (refusal : Option (machine.Reply BrokenPlan)) (is : step (λ _ _. none) b e ≡ cond (not (may_close b id)) (b, machine.NotHeld id) (close_unless b id why refusal)) (unjudged : IsFirstOf b.case.instance e None) where
   abbrev not_held : Out
   not_held = (b, machine.NotHeld id)
 
-  pub missed : may_close b id ≡ false → Answers b (close id why) (reply.NotHeld id) b
-  missed e = record {
+  pub event-missed : may_close b id ≡ false → Answers b e (reply.NotHeld id) b
+  event-missed missing = record {
     found = None;
-    judged = tt;
+    judged = unjudged;
     answer = machine.NotHeld id;
     said = refl;
-    same = pick-true (not (may_close b id)) not_held (close_unless b id why refusal) (not-false (may_close b id) e);
+    same = is ∙ pick-true (not (may_close b id)) not_held (close_unless b id why refusal) (not-false (may_close b id) missing);
   }
 
-  past-held : may_close b id ≡ true → answer ≡ close_unless b id why refusal
-  past-held e = pick-false (not (may_close b id)) not_held (close_unless b id why refusal) (not-true (may_close b id) e)
+  past-held : may_close b id ≡ true → step (λ _ _. none) b e ≡ close_unless b id why refusal
+  past-held may = is ∙ pick-false (not (may_close b id)) not_held (close_unless b id why refusal) (not-true (may_close b id) may)
 
-  pub refused : (r : Reply) (o : machine.Reply BrokenPlan) → told r ≡ Some o → may_close b id ≡ true → refusal ≡ Some o → Answers b (close id why) r b
-  refused r o said may is = record { found = None; judged = tt; answer = o; said = said; same = past-held may ∙ ap (close_unless b id why) is }
+  pub event-refused : (r : Reply) (o : machine.Reply BrokenPlan) → told r ≡ Some o → may_close b id ≡ true → refusal ≡ Some o → Answers b e r b
+  event-refused r o said may why_not = record { found = None; judged = unjudged; answer = o; said = said; same = past-held may ∙ ap (close_unless b id why) why_not }
 
   -- where nothing is refused, the book after it is sound, and it is the answer
   module _ (may : may_close b id ≡ true) (unrefused : refusal ≡ None) where
-    shut : answer ≡ (closed b id why, machine.Closed)
-    shut = past-held may ∙ ap (close_unless b id why) unrefused
+    event-shut : step (λ _ _. none) b e ≡ (closed b id why, machine.Closed)
+    event-shut = past-held may ∙ ap (close_unless b id why) unrefused
 
+    pub event-sound : IsSound b → IsOwed e → IsSound (closed b id why)
+    event-sound sound owed = subst IsSound (ap (λ (o : Out). o.0) event-shut) (step-sound b e None sound owed unjudged)
+
+    pub event-answers : (new : Book) → new ≡ closed b id why → Answers b e reply.Closed new
+    event-answers new new_is = record { found = None; judged = unjudged; answer = machine.Closed; said = refl; same = event-shut ∙ ap (λ u. (u, machine.Closed)) (sym new_is) }
+
+-- a number that has to be at least the best cost
+module _ (b : Book) (refusal : Option (machine.Reply BrokenPlan)) (n best : ℕ) (best_is : best ≡ best_cost b) (asked : refusal ≡ cheaper_than (best_cost b) n) where
+  abbrev test : Bool → Option (machine.Reply BrokenPlan)
+  test t = cond t (Some (machine.Cheaper n (best_cost b))) None
+
+  pub cheap-refused : n < best → refusal ≡ Some (machine.Cheaper n best)
+  cheap-refused low = asked ∙ ap test (is-less n (best_cost b) (omega (arith, low, best_is))) ∙ ap (λ m. Some (machine.Cheaper n m)) (sym best_is)
+
+  pub high-unrefused : best ≤ n → refusal ≡ None
+  high-unrefused high = asked ∙ ap test (is-not_less n (best_cost b) (omega (arith, high, best_is)))
+
+-- ---- a slot is closed by the book alone
+
+module _ (b : Book) (id : ℕ) (why : Ground) where
+  pub missed : may_close b id ≡ false → Answers b (close id why) (reply.NotHeld id) b
+  missed = event-missed b id why (close id why) (refusal_of b id why) refl tt
+
+  pub refused : (r : Reply) (o : machine.Reply BrokenPlan) → told r ≡ Some o → may_close b id ≡ true → refusal_of {Break = BrokenPlan} b id why ≡ Some o → Answers b (close id why) r b
+  refused = event-refused b id why (close id why) (refusal_of b id why) refl tt
+
+  module _ (may : may_close b id ≡ true) (unrefused : refusal_of {Break = BrokenPlan} b id why ≡ None) where
     pub shut-sound : IsSound b → IsSound (closed b id why)
-    shut-sound sound = subst IsSound (ap (λ (o : Out). o.0) shut) (step-sound b (close id why) None sound tt tt)
+    shut-sound sound = event-sound b id why (close id why) (refusal_of b id why) refl tt may unrefused sound tt
 
     pub shut-answers : (new : Book) → new ≡ closed b id why → Answers b (close id why) reply.Closed new
-    shut-answers new is = record { found = None; judged = tt; answer = machine.Closed; said = refl; same = shut ∙ ap (λ u. (u, machine.Closed)) (sym is) }
-
-  -- a number that has to be at least the best cost
-  module _ (n best : ℕ) (best_is : best ≡ best_cost b) (asked : refusal ≡ cheaper_than (best_cost b) n) where
-    abbrev test : Bool → Option (machine.Reply BrokenPlan)
-    test t = cond t (Some (machine.Cheaper n (best_cost b))) None
-
-    pub cheap-refused : n < best → refusal ≡ Some (machine.Cheaper n best)
-    cheap-refused low = asked ∙ ap test (is-less n (best_cost b) (omega (arith, low, best_is))) ∙ ap (λ m. Some (machine.Cheaper n m)) (sym best_is)
-
-    pub high-unrefused : best ≤ n → refusal ≡ None
-    high-unrefused high = asked ∙ ap test (is-not_less n (best_cost b) (omega (arith, high, best_is)))
+    shut-answers = event-answers b id why (close id why) (refusal_of b id why) refl tt may unrefused
 
 module _ (b : Book) (id : ℕ) where
   -- a ship that the node holds, and one that it lacks

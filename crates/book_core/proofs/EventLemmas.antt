@@ -1,6 +1,5 @@
 -- What take and release answer.
-use Rattle.std.proofs.Common.{◌≡◌, ◌≢◌, ℕ, suc, ◌≤◌, refl, sym, ap, ◌∙◌, subst, Bool, true, false, cond, nat_eq, slice_index_or, inl, inr, Some, None}
-use Rattle.std.proofs.lemmas.Bool.Decides.{eqb_tells}
+use Rattle.std.proofs.Common.{◌≡◌, ◌≢◌, ℕ, suc, ◌≤◌, refl, sym, ap, ◌∙◌, subst, Bool, true, false, cond, nat_eq, slice_index_or, Some, None}
 use Rattle.book_rules.specs.Book.{Book, Case, slot_at, first_slot, has_slot, is_back, is_held, is_held_by}
 use Rattle.book_rules.specs.Events as machine
 use Rattle.book_rules.specs.Events.{Event, take, release}
@@ -15,7 +14,7 @@ use Rattle.book_core.specs.declared.reply.Reply.TheVariants as reply
 use Rattle.book_core.specs.Changes.{IsFree, IsNew, handed, returned, finished}
 use Rattle.book_core.specs.Keeps.{IsSound}
 use Rattle.book_core.specs.Replies.{Answers, Grants, HasNode, grant_told, told}
-use Rattle.book_core.proofs.CloseLemmas.{Out, none, pick-true, pick-false}
+use Rattle.book_core.proofs.CloseLemmas.{Out, none, pick-true, pick-false, same-number, other-number}
 use Rattle.book_core.proofs.SoundLemmas.{step-sound}
 
 module _ (b : Book) (w : ℕ) where
@@ -57,12 +56,6 @@ module _ (b : Book) (w : ℕ) where
   back-given id e empty back = way-slot e empty ∙ ap (take_slot b w) back
 
   -- a fresh one, if the budget isn't spent
-  same-number : (m n : ℕ) → m ≡ n → nat_eq m n ≡ true
-  same-number m n e = elim (eqb_tells m n) [ inl y ↦ y.0 | inr h ↦ absurd (h.1 e) ]
-
-  other-number : (m n : ℕ) → m ≢ n → nat_eq m n ≡ false
-  other-number m n e = elim (eqb_tells m n) [ inl y ↦ absurd (e y.1) | inr h ↦ h.0 ]
-
   pub take-spent : (id used : ℕ) → used ≡ b.used → has_ended ≡ false → first_slot b (is_held_by w) ≡ None → first_slot b is_back ≡ None → next_fresh b ≡ Some id → used ≡ b.case.nodes → Grants b w (grant.NodesSpent used) b
   take-spent id used is e empty back next spent = record {
     found = None;

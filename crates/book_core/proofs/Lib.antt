@@ -10,6 +10,7 @@ pub mod PathLemmas
 pub mod BoundingLemmas
 pub mod SettleLemmas
 pub mod CloseLemmas
+pub mod ShowingLemmas
 pub mod MissingLemmas
 pub mod HandOverLemmas
 pub mod EventLemmas

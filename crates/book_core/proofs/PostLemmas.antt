@@ -1,5 +1,5 @@
--- Posting, and parking.
-use Rattle.std.proofs.Common.{◌≡◌, ℕ, zero, suc, ◌<◌, ◌≤◌, List, [], ◌∷◌, length, refl, sym, ap, ◌∙◌, subst, arith, true, false, not, cond, nat_lt, slice_get, slice_index_or, Some, None, All}
+-- Posting, of cuts and prices, and parking.
+use Rattle.std.proofs.Common.{◌≡◌, ◌≢◌, ℕ, zero, suc, ◌<◌, ◌≤◌, List, [], ◌∷◌, length, refl, sym, ap, ◌∙◌, subst, arith, Bool, true, false, not, cond, nat_eq, nat_lt, slice_get, slice_index_or, Some, None, All}
 use Rattle.std.specs.declared.option.Option.{Option}
 use Rattle.std.specs.List.{list_all}
 use Rattle.std.proofs.lemmas.Bool.Decides.{Decides-ltb, Decides-by_and}
@@ -9,19 +9,20 @@ use Rattle.lock_rules.specs.Node.{line_at}
 use Rattle.refute_rules.specs.Cuts.{Cut, IsCut}
 use Rattle.refute_rules.specs.Spots.{IsSpent}
 use Rattle.mooring_rules.specs.declared.breaks.BrokenPlan.{BrokenPlan}
+use Rattle.closing_rules.specs.ListedPrices.{ArePrices}
 use Rattle.book_rules.specs.declared.book.SlotState.TheVariants as slot
 use Rattle.book_rules.specs.declared.book.Entry.TheVariants as entry
 use Rattle.book_rules.specs.Book.{Book, Node as TreeNode, slot_at, is_held, group_at}
 use Rattle.book_rules.specs.Events as machine
-use Rattle.book_rules.specs.Events.{Event, post, park}
+use Rattle.book_rules.specs.Events.{Event, post, post_prices, park}
 use Rattle.book_rules.specs.Tests.{has_clash, is_own_cut}
-use Rattle.book_rules.specs.Step.{step, noted, with_state, posted, parked, park_group, is_lent}
+use Rattle.book_rules.specs.Step.{step, noted, with_state, posted, priced, parked, park_group, is_lent}
 use Rattle.book_core.specs.declared.reply.Reply.TheVariants as reply
 use Rattle.book_core.specs.Parking.{group_lent, names_lent}
-use Rattle.book_core.specs.Growing.{kept_cut}
+use Rattle.book_core.specs.Growing.{kept_cut, kept_prices}
 use Rattle.book_core.specs.Keeps.{IsSound}
 use Rattle.book_core.specs.Replies.{Answers, Does, Steps}
-use Rattle.book_core.proofs.CloseLemmas.{Out, none, pick-true, pick-false, not-true, not-false}
+use Rattle.book_core.proofs.CloseLemmas.{Out, none, pick-true, pick-false, not-true, not-false, same-number, other-number}
 use Rattle.book_core.proofs.SoundLemmas.{step-sound}
 
 pub known_ships : (n : ℕ) (ships : List ℕ) → list_all (λ s. nat_lt s n) ships ≡ true → All (λ s. s < n) ships
@@ -52,6 +53,39 @@ post-done b cut number new e number_is is = Steps (record {
   said = refl;
   same = way-post b cut e ∙ (λ i. (sym is i, machine.Posted (sym number_is i)));
 })
+
+-- ---- post_prices
+
+module _ (b : Book) (prices : List ℕ) where
+  abbrev are_one_each : Bool
+  are_one_each = nat_eq (length prices) (length b.case.instance.ships)
+
+  abbrev kept_so : Out
+  kept_so = priced {Break = BrokenPlan} b prices
+
+  pub prices-other : length prices ≢ length b.case.instance.ships → Does b (post_prices prices) reply.OtherPrices b
+  prices-other other = Steps (record {
+    found = None;
+    judged = tt;
+    answer = machine.OtherPrices;
+    said = refl;
+    same = pick-true (not are_one_each) (b, machine.OtherPrices) kept_so (not-false are_one_each (other-number (length prices) (length b.case.instance.ships) other));
+  })
+
+  way-prices : length prices ≡ length b.case.instance.ships → step (λ _ _. none) b (post_prices prices) ≡ kept_so
+  way-prices e = pick-false (not are_one_each) (b, machine.OtherPrices) kept_so (not-true are_one_each (same-number (length prices) (length b.case.instance.ships) e))
+
+  pub prices-sound : IsSound b → ArePrices prices → length prices ≡ length b.case.instance.ships → IsSound (kept_prices b prices)
+  prices-sound sound good e = subst IsSound (ap (λ (o : Out). o.0) (way-prices e)) (step-sound b (post_prices prices) None sound good tt)
+
+  pub prices-done : (number : ℕ) (new : Book) → length prices ≡ length b.case.instance.ships → number ≡ length b.prices → new ≡ kept_prices b prices → Does b (post_prices prices) (reply.Priced number) new
+  prices-done number new e number_is is = Steps (record {
+    found = None;
+    judged = tt;
+    answer = machine.Priced number;
+    said = refl;
+    same = way-prices e ∙ (λ i. (sym is i, machine.Priced (sym number_is i)));
+  })
 
 -- ---- park
 

@@ -50,7 +50,7 @@ module _ (I : Instance) where
 -- ---- the parked group
 
 pub parked-group : (b : Book) → IsSound b → (id c p : ℕ) → id < length b.slots → (slot_at b id).state ≡ slot.Parked c p → IsSpentGroup b.case (slot_at b id).node c p
-parked-group b sound id c p known is = subst (Tells b.case b.cuts (Rattle.book_rules.specs.Book.best_cost b) (slot_at b id).node (slot_at b id).bound) is (sound.parts.states.states id no_slot known)
+parked-group b sound id c p known is = subst (Tells b.case b.cuts b.prices (Rattle.book_rules.specs.Book.best_cost b) (slot_at b id).node (slot_at b id).bound) is (sound.parts.states.states id no_slot known)
 
 line-past : (lines : List (List Group)) (c : ℕ) → length lines ≤ c → length (line_at lines c) ≡ 0
 line-past [] c past = refl

@@ -13,6 +13,10 @@ use Rattle.closing_rules.specs.declared.grounds.Ground.TheVariants as by
 abbrev pub kept_cut : Book → Cut → Book
 kept_cut b cut = noted (record b { cuts = b.cuts ++ cut ∷ [] }) entry.Post
 
+-- the book with prices more
+abbrev pub kept_prices : Book → List ℕ → Book
+kept_prices b prices = noted (record b { prices = b.prices ++ prices ∷ [] }) entry.Prices
+
 -- what is stored of a child with this bound
 abbrev pub stored_child : ℕ → ℕ → ℕ → ℕ → StoredSlot
 stored_child cost parent number bound = record { bound = bound; state = if nat_le cost bound then (slot.Closed by.Bound) else slot.Fresh; parent = parent; number = number }

@@ -44,6 +44,6 @@ pub record AreCosts (b : Book) (best opening throughput : ℕ) : Type 0 where
   pub opening_is : opening ≡ opening_cost b
   pub throughput_is : throughput ≡ throughput_of b.case.instance
 
--- room for the history: what was taken at opening, and one entry for each post and each replace
-pub record HasRoom (nodes cuts plans capacity : ℕ) : Type 0 where
-  pub enough : 3 * nodes + 32 + cuts + plans ≤ capacity
+-- room for the history: what was taken at opening, and one entry for each posting, of cuts or prices, and each replace
+pub record HasRoom (nodes cuts plans prices capacity : ℕ) : Type 0 where
+  pub enough : 3 * nodes + 32 + cuts + plans + prices ≤ capacity

@@ -2,6 +2,7 @@ pub mod Case
 pub mod Stored
 pub mod Nodes
 pub mod Replies
+pub mod Telling
 pub mod Hands
 pub mod Tables
 pub mod Keeps

@@ -22,6 +22,7 @@ told (reply.Node id node) = Some (machine.Node id (record { depth = node.depth; 
 told (reply.Made count) = Some (machine.Made count)
 told reply.Closed = Some machine.Closed
 told (reply.Posted number) = Some (machine.Posted number)
+told (reply.Priced number) = Some (machine.Priced number)
 told reply.Parked = Some machine.Parked
 told (reply.Replaced cost) = Some (machine.Replaced cost)
 told (reply.Released count) = Some (machine.Released count)
@@ -40,6 +41,9 @@ told (reply.NotCheaper cost best) = Some (machine.NotCheaper cost best)
 told reply.NoMemory = None
 told (reply.Absent ship) = Some (machine.Absent ship)
 told (reply.Clashes id) = Some (machine.Clashes id)
+told reply.OtherPrices = Some machine.OtherPrices
+told (reply.NoPrices number) = Some (machine.NoPrices number)
+told reply.NotShown = Some machine.NotShown
 
 -- what `judge_plan` says of a plan: nothing of a legal one, else its first break
 pub record IsJudged (I : Instance) (P : Plan) (found : Option BrokenPlan) : Type 0 where

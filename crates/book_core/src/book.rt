@@ -15,10 +15,12 @@ use book_rules::{Entry, SlotState};
 use flow_bounds::Roster;
 use lock_model::Plan;
 use place_refute::Cut;
+use price_bound::Prices;
 use std::marker::Model;
 
-/// The case, the opening plan, the slots, the cuts, the plans that replaced the opening one, the best
-/// plan, the number of nodes used, which of nine workers ended, and the history of accepted events.
+/// The case, the opening plan, the slots, the cuts, the prices, the plans that replaced the opening
+/// one, the best plan, the number of nodes used, which of nine workers ended, and the history of
+/// accepted events.
 /// It keeps all that `specs/Keeps` names. Slots are numbered from 0, the root; they store no nodes,
 /// and take 32 bytes each.
 #[derive(Debug, Drop)]
@@ -30,6 +32,7 @@ pub struct Book {
     pub(crate) roster: Roster,
     pub(crate) slots: Vec<StoredSlot>,
     pub(crate) cuts: Vec<Cut>,
+    pub(crate) prices: Vec<Prices>,
     pub(crate) plans: Vec<Plan>,
     pub(crate) best: Plan,
     pub(crate) best_cost: u64,
@@ -162,5 +165,13 @@ impl Book {
         ensures none { IfNone result (slice_get self.now.cuts number ≡ None) }
     {
         self.cuts.get(number as usize)
+    }
+
+    /// The prices that were posted, in their order: lists of one price for each ship, in hundredths of
+    /// a minute.
+    pub fn prices(&self) -> &[Prices]
+        ensures { result.now ≡ self.now.prices }
+    {
+        self.prices.as_slice()
     }
 }

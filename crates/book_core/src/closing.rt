@@ -93,7 +93,19 @@ impl Book {
         self.shut(id, Ground::Cut(number))
     }
 
-    /// Closes a slot as the method of its ground does.
+    // Refuses to close a slot by prices of which nothing was shown: `NotHeld`, then `NotShown`.
+    fn close_unshown(&mut self, id: u32, number: u64) -> Reply
+        ensures { Answers self.old (close id (Ground.Price number)) result self.new }
+    {
+        let _number = number;
+        if !self.may_close(id) {
+            return Reply::NotHeld(id);
+        }
+        Reply::NotShown
+    }
+
+    /// Closes a slot as the method of its ground does. Refuses `NotShown` where it is to be closed by
+    /// prices, after `NotHeld`.
     pub fn close(&mut self, id: u32, why: Ground) -> Reply
         ensures { Answers self.old (close id why) result self.new }
     {
@@ -102,6 +114,7 @@ impl Book {
             Ground::Throughput => self.close_throughput(id),
             Ground::Probe(ship) => self.close_probe(id, ship),
             Ground::Cut(number) => self.close_cut(id, number),
+            Ground::Price(number) => self.close_unshown(id, number),
         }
     }
 }

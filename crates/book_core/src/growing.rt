@@ -25,15 +25,16 @@ pub(crate) fn make_room<T>(
 }
 
 impl Book {
-    // How many entries the history needs room for once a cut or a plan is kept.
+    // How many entries the history needs room for once a cut, prices or a plan are kept.
     pub(crate) fn entries_needed(&self) -> Result<usize, NoMemory>
-        ensures count { IfOk result (λ n. n ≡ 3 * self.now.case.nodes + 33 + length self.now.cuts + length self.now.plans) }
+        ensures count { IfOk result (λ n. n ≡ 3 * self.now.case.nodes + 33 + length self.now.cuts + length self.now.plans + length self.now.prices) }
         ensures more { IfOk result (λ n. length self.now.history < n) }
     {
         let most = u32::MAX as usize;
-        if self.cuts.len() >= most || self.plans.len() >= most {
+        if self.cuts.len() >= most || self.plans.len() >= most || self.prices.len() >= most {
             return Err(NoMemory);
         }
-        Ok(3 * self.nodes() as usize + 33 + self.cuts.len() + self.plans.len())
+        let kept = self.cuts.len() + self.plans.len() + self.prices.len();
+        Ok(3 * self.nodes() as usize + 33 + kept)
     }
 }

@@ -1,17 +1,18 @@
-//! The book of a search: the search tree with its open, held and closed slots, the cuts, the best
-//! plan, and the history of what was accepted.
+//! The book of a search: the search tree with its open, held and closed slots, the cuts, the prices,
+//! the best plan, and the history of what was accepted.
 //!
-//! `open_book` opens a book with a legal plan. Its seven events are methods: each answers exactly what
+//! `open_book` opens a book with a legal plan. Its nine events are methods: each answers exactly what
 //! the step of the book machine answers for its event, and leaves the book that the step leaves; a
-//! refusal leaves the book as it was. `split`, `post` and `replace` take memory, and take it all
-//! before they change anything; the other events take none. `verdict` says what the book has shown.
-//! The type keeps what every event keeps (`Book::keeps`): the book is the replay of its history, the
-//! best plan is legal, and every legal plan cheaper than it lies under a slot that is open, held or
-//! parked. `every_list_keeps` is that law over every list of events.
+//! refusal leaves the book as it was. `split`, `post`, `post_prices` and `replace` take memory, and
+//! take it all before they change anything; the other events take none. `verdict` says what the book
+//! has shown. The type keeps what every event keeps (`Book::keeps`): the book is the replay of its
+//! history, the best plan is legal, and every legal plan cheaper than it lies under a slot that is
+//! open, held or parked. `every_list_keeps` is that law over every list of events.
 //!
 //! - Fields, opening and readers: `book`, `opening`, `finding`, `summing` (the verdict).
-//! - Events: `taking`, `splitting`, `closing`, `parking`, `posting`, `replacing`, `releasing`. What
-//!   they change together: `moves`, `growing`.
+//! - Events: `taking`, `splitting`, `closing`, `showing` (what was shown beside the book, by prices),
+//!   `parking`, `posting`, `pricing`, `replacing`, `releasing`. What they change together: `moves`,
+//!   `growing`.
 //! - Tables by which no event walks all slots but `replace`: `hands` (the slot that each worker
 //!   holds, a `hand`), `back_list` (the returned slots, nine at most, by rising number), `waiting`
 //!   (the splits that may have a fresh child, by rising first child). A split that has none leaves
@@ -27,9 +28,10 @@
 //!   the slot's node.
 //!
 //! Definitions: `book_rules` has the machine (`specs/Book`, `Events`, `Step`), the replay, the
-//! cover and the counts. Here `specs/Replies` says what it is that a method is a step, `Keeps` what
-//! every book keeps, `Stored` which slots the stored ones are, `Tables`, `Hands`, `Path` and `Next`
-//! what the tables and the kept nodes say, `Laws` the law.
+//! cover and the counts. Here `specs/Replies` says what it is that a method is a step, `Telling` what
+//! the machine sees of what was shown, `Keeps` what every book keeps, `Stored` which slots the stored
+//! ones are, `Tables`, `Hands`, `Path` and `Next` what the tables and the kept nodes say, `Laws` the
+//! law.
 #![tactic(auto)]
 
 mod back_list;
@@ -52,9 +54,11 @@ mod opening;
 mod parking;
 mod path;
 mod posting;
+mod pricing;
 mod releasing;
 mod replacing;
 mod reply;
+mod showing;
 mod splitting;
 mod stored_slot;
 mod summing;

@@ -53,6 +53,7 @@ pub fn open_book(alloc: Global, case: &Case, plan: Plan) -> Result<Book, NoMemor
         roster: Roster::of(&case.instance),
         slots,
         cuts: Vec::new(alloc),
+        prices: Vec::new(alloc),
         plans: Vec::new(alloc),
         best: plan,
         best_cost,

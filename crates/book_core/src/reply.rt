@@ -3,7 +3,7 @@
 use master_branch::Node;
 use mooring_rules::BrokenPlan;
 
-/// The reply to an event. The first seven are accepted; the others are refusals, and leave the book
+/// The reply to an event. The first eight are accepted; the others are refusals, and leave the book
 /// as it was.
 #[derive(Debug, PartialEq, Eq, Drop)]
 pub enum Reply {
@@ -15,6 +15,8 @@ pub enum Reply {
     Closed,
     /// The cut was kept under this number.
     Posted(u64),
+    /// The prices were kept under this number.
+    Priced(u64),
     /// The slot was parked.
     Parked,
     /// The plan is the best one; this is its cost in minutes.
@@ -35,7 +37,8 @@ pub enum Reply {
     NotHeld(u32),
     /// The slot's node holds all ships.
     Whole(u32),
-    /// The bound, which is below the best cost, and the best cost, in minutes.
+    /// The bound, or the cost that was shown, which is below the best cost, and the best cost, in
+    /// minutes.
     Cheaper(u64, u64),
     /// No cut has this number, or it hits no group of the node.
     NoHit(u64),
@@ -51,6 +54,13 @@ pub enum Reply {
     Absent(u8),
     /// Two ships of the named group of this slot clash.
     Clashes(u32),
+    /// The prices aren't one for each ship.
+    OtherPrices,
+    /// No prices have this number.
+    NoPrices(u64),
+    /// What was shown isn't of the instance, of the slot's node, of the prices of the number and of
+    /// the first cuts of the book; or nothing was shown.
+    NotShown,
 }
 
 /// The reply to a taking, but for the node of a slot that was given, which is in the worker's hand

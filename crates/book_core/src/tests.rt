@@ -3,6 +3,7 @@ mod asking;
 mod fixture;
 mod memory;
 mod parking;
+mod pricing;
 mod walk;
 
 use super::*;

@@ -14,11 +14,13 @@ use Rattle.refute_rules.specs.Cuts.{Cut}
 use Rattle.refute_rules.specs.declared.refutation.Refutation.TheVariants as refutation
 use Rattle.refute_rules.specs.declared.refutation.Quick.TheVariants as quick
 use Rattle.book_rules.specs.declared.book.SlotState.TheVariants as slot
+use Rattle.book_rules.specs.declared.book.Entry.TheVariants as entry
 use Rattle.book_rules.specs.Book.{Book, Node as TreeNode, root, slot_at, opening_book}
 use Rattle.book_rules.specs.Verdict.{verdict_of}
 use Rattle.book_rules.specs.Events.{Event, take, split, close, park, release}
 use Rattle.book_rules.specs.Events.{Reply, Node, Made, Closed, Parked, Released, Ended, Holds, Idle, Done, NotHeld, Cheaper, NoHit, OtherDeck, Absent}
-use Rattle.book_rules.specs.Events.{post, replace, NodesSpent, Whole, Posted, Replaced, NotCheaper}
+use Rattle.book_rules.specs.Events.{post, post_prices, close_price, replace, NodesSpent, Whole, Posted, Priced, Replaced, NotCheaper, OtherPrices, NoPrices, NotShown}
+use Rattle.book_rules.specs.Shown.{ChamberCut, Shown}
 use Rattle.book_rules.specs.Step.{step}
 use Rattle.book_rules.specs.Replay.{replay}
 use Rattle.closing_rules.specs.declared.grounds.Ground.TheVariants as by
@@ -62,7 +64,7 @@ row-events ok = refl
 -- and its history is played again
 row-replay : (ok : IsInstance chambers-narrow ships-narrow) →
     let b = after (three_nodes ok) (take 0 ∷ take 0 ∷ take 1 ∷ close 0 by.Bound ∷ close 0 (by.Cut 0) ∷ split 0 ∷ split 0 ∷ release 0 ∷ take 0 ∷ []) in
-    replay unbroken b.case b.opening b.history b.cuts b.plans ≡ b
+    replay unbroken b.case b.opening b.history b.cuts b.plans b.prices ≡ b
 row-replay ok = refl
 
 -- closing by throughput and probe
@@ -130,3 +132,30 @@ together = record { lockages = record { chamber = 0; way = Up; ships = 0 ∷ 1 �
 row-replace : (ok : IsInstance chambers-side_by_side ships-side_by_side) →
     replies (one_turn ok) (take 0 ∷ split 0 ∷ take 0 ∷ split 1 ∷ replace together ∷ replace together ∷ take 0 ∷ []) ≡ Node 0 root ∷ Made 1 ∷ Node 1 first_alone ∷ Made 3 ∷ Replaced 80 ∷ NotCheaper 80 80 ∷ Done ∷ []
 row-replace ok = refl
+
+-- closing the root by prices and the cut: what is shown is compared, and nothing is worked out
+abbrev narrow_shown : IsInstance chambers-narrow ships-narrow → ℕ → ℕ → Shown
+narrow_shown ok price cost = record { instance = narrow ok; node = root; prices = price ∷ price ∷ []; cuts = record { chamber = 0; ships = 0 ∷ 1 ∷ [] } ∷ []; cost = cost }
+
+abbrev pricing : IsInstance chambers-narrow ships-narrow → List Event
+pricing ok =
+    post_prices (8500 ∷ []) ∷ post_prices (8500 ∷ 8500 ∷ []) ∷ close_price 0 0 (narrow_shown ok 8500 120) ∷ take 0 ∷ close_price 0 1 (narrow_shown ok 8500 120)
+    ∷ close_price 0 0 (narrow_shown ok 8500 120) ∷ post narrow_cut ∷ close_price 0 0 (narrow_shown ok 8400 120) ∷ close_price 0 0 (narrow_shown ok 8500 119)
+    ∷ close 0 (by.Price 0) ∷ close_price 0 0 (narrow_shown ok 8500 121) ∷ close 0 (by.Price 0) ∷ take 0 ∷ []
+
+row-pricing : (ok : IsInstance chambers-narrow ships-narrow) →
+    replies (three_nodes ok) (pricing ok)
+    ≡ OtherPrices ∷ Priced 0 ∷ NotHeld 0 ∷ Node 0 root ∷ NoPrices 1 ∷ NotShown ∷ Posted 0 ∷ NotShown ∷ Cheaper 119 120 ∷ NotShown ∷ Closed ∷ NotHeld 0 ∷ Done ∷ []
+row-pricing ok = refl
+
+-- what is shown of an instance that is wider
+row-other : (ok : IsInstance chambers-narrow ships-narrow) (wide : IsInstance chambers-side_by_side ships-side_by_side) →
+    replies (three_nodes ok) (post_prices (8500 ∷ 8500 ∷ []) ∷ take 0 ∷ close_price 0 0 (record { instance = side_by_side wide; node = root; prices = 8500 ∷ 8500 ∷ []; cuts = []; cost = 120 }) ∷ [])
+    ≡ Priced 0 ∷ Node 0 root ∷ NotShown ∷ []
+row-other ok wide = refl
+
+-- the slot is closed by them, and the history names it and their number alone
+row-priced : (ok : IsInstance chambers-narrow ships-narrow) →
+    let b = after (three_nodes ok) (post_prices (8500 ∷ 8500 ∷ []) ∷ take 0 ∷ post narrow_cut ∷ close_price 0 0 (narrow_shown ok 8500 120) ∷ []) in
+    ((slot_at b 0).state ≡ slot.Closed (by.Price 0)) × (b.history ≡ entry.Prices ∷ entry.Take 0 ∷ entry.Post ∷ entry.Close 0 (by.Price 0) ∷ [])
+row-priced ok = (refl, refl)

@@ -19,7 +19,7 @@ use Rattle.book_rules.specs.Cover.{KeepsBook}
 use Rattle.book_rules.specs.Room.{count_slots}
 use Rattle.book_rules.specs.Budget.{is_taken, KeepsBudget}
 use Rattle.book_rules.proofs.SlotLemmas.{IsAt}
-use Rattle.book_rules.proofs.MoveLemmas.{Stays, TakesBack, TakesFresh, Splits, Closes, Parks, Posts, Replaces, Ends, GivesBack, MayClose, FromHeld, FromParked, turned, each-move}
+use Rattle.book_rules.proofs.MoveLemmas.{Stays, TakesBack, TakesFresh, Splits, Closes, Parks, Posts, Prices, Replaces, Ends, GivesBack, MayClose, FromHeld, FromParked, turned, each-move}
 use Rattle.book_rules.proofs.TallyLemmas.{one, count-turned, count-append, count-children, count-weaker, count-outdone_same, count-outdone, open-whole, length-children, length-append}
 
 -- ---- the budget of nodes
@@ -85,6 +85,7 @@ module _ {Break : Type 0} (broken : Instance → Plan → Option Break) (b : Boo
             subst KeepsBudget (sym same) (turned-budget b id old (slot.Closed why) b.used b.ended _ keeps at was.0 refl (omega (arith, ap one was.1)) keeps.used)
         | Parks w id c p at tells same ↦ subst KeepsBudget (sym same) (turned-budget b id (slot.Held w) (slot.Parked c p) b.used b.ended _ keeps at refl refl (omega arith) keeps.used)
         | Posts cut grows good own same ↦ subst KeepsBudget (sym same) (record { used = keeps.used; taken = keeps.taken; few = keeps.few })
+        | Prices prices grows good own same ↦ subst KeepsBudget (sym same) (record { used = keeps.used; taken = keeps.taken; few = keeps.few })
         | Replaces plan grows cheaper same ↦ subst KeepsBudget (sym same) (record {
           used = keeps.used;
           taken = omega (arith, keeps.taken, count-outdone is_taken refl (cost_of b.case.instance plan) b.slots);

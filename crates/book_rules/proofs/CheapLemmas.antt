@@ -22,7 +22,7 @@ use Rattle.book_rules.specs.Room.{count_slots}
 use Rattle.book_rules.specs.Cover.{IsGoodSlot, KeepsBook}
 use Rattle.book_rules.specs.Cheap.{opening_cost, count_cheap, share_of, sum_shares, KeepsCheap}
 use Rattle.book_rules.proofs.SlotLemmas.{IsAt}
-use Rattle.book_rules.proofs.MoveLemmas.{Stays, TakesBack, TakesFresh, Splits, Closes, Parks, Posts, Replaces, Ends, GivesBack, MayClose, FromHeld, FromParked, turned, each-move}
+use Rattle.book_rules.proofs.MoveLemmas.{Stays, TakesBack, TakesFresh, Splits, Closes, Parks, Posts, Prices, Replaces, Ends, GivesBack, MayClose, FromHeld, FromParked, turned, each-move}
 use Rattle.book_rules.proofs.BudgetLemmas.{closing-whole}
 use Rattle.book_rules.proofs.TallyLemmas.{one, count-turned, count-append, count-outdone, open-whole, Kept, Closed, outdone-is}
 use Rattle.closing_rules.specs.declared.grounds.Ground.TheVariants as by
@@ -186,6 +186,7 @@ module _ {Break : Type 0} (broken : Instance → Plan → Option Break) (b : Boo
             (turned-cheap b id old (slot.Closed why) b.used b.ended (entry.Close id why) keeps at (closing-whole old from).0 refl (omega (arith, ap one (closing-fresh old from))))
         | Parks w id c p at tells same ↦ subst KeepsCheap (sym same) (turned-cheap b id (slot.Held w) (slot.Parked c p) b.used b.ended (entry.Park id c p) keeps at refl refl (omega arith))
         | Posts cut grows good own same ↦ subst KeepsCheap (sym same) (record { best = keeps.best; used = keeps.used; all = keeps.all })
+        | Prices prices grows good own same ↦ subst KeepsCheap (sym same) (record { best = keeps.best; used = keeps.used; all = keeps.all })
         | Replaces plan grows cheaper same ↦ subst KeepsCheap (sym same) (replaced-cheap b plan keeps cheaper)
         | Ends w runs none same ↦ subst KeepsCheap (sym same) (record { best = keeps.best; used = keeps.used; all = keeps.all })
         | GivesBack w id runs at same ↦ subst KeepsCheap (sym same) (turned-cheap b id (slot.Held w) slot.Back b.used (slice_set b.ended w true) (entry.Release w) keeps at refl refl (omega arith))

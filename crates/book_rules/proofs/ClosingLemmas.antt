@@ -1,5 +1,5 @@
 -- Closing a slot: what is refused, and what is known where nothing is refused.
-use Rattle.std.proofs.Common.{◌≡◌, ℕ, ◌≤◌, refl, Bool, true, false, not, cond, Some, None, slice_get, nat_lt}
+use Rattle.std.proofs.Common.{◌≡◌, ℕ, List, ◌≤◌, refl, Bool, true, false, not, cond, Some, None, slice_get, nat_lt}
 use Rattle.std.specs.Bool.{⊤}
 use Rattle.std.specs.declared.option.Option.{Option}
 use Rattle.lock_model.specs.declared.instance.Instance.{Instance}
@@ -10,9 +10,12 @@ use Rattle.closing_rules.specs.declared.grounds.Ground.{Ground}
 use Rattle.closing_rules.specs.declared.grounds.Ground.TheVariants as by
 use Rattle.closing_rules.specs.Grounds.{IsClosedBy}
 use Rattle.book_rules.specs.Book.{Book, slot_at, best_cost}
-use Rattle.book_rules.specs.Events.{Reply, is_accepted, Cheaper, NoHit, Absent}
-use Rattle.book_rules.specs.States.{IsHitBy}
+use Rattle.closing_rules.specs.ListedPrices.{IsPricedBy}
+use Rattle.book_rules.specs.Events.{Reply, is_accepted, Cheaper, NoHit, Absent, NoPrices, NotShown}
+use Rattle.book_rules.specs.Shown.{Shown, IsShown}
+use Rattle.book_rules.specs.States.{IsHitBy, cuts_in}
 use Rattle.book_rules.specs.Step
+use Rattle.book_rules.proofs.ShownLemmas.{shown-holds}
 use Rattle.book_rules.proofs.TestLemmas.{not-not, not-below, has_number-decides, is_node_hit-decides}
 
 clash : false ≡ true → ⊥
@@ -29,7 +32,7 @@ module _ (b : Book) (id : ℕ) where
 
   -- slot id may be closed so
   abbrev pub MayCloseBy : Ground → Type 0
-  MayCloseBy why = IsClosedBy I (IsHitBy I b.cuts) (best_cost b) (slot_at b id).bound (slot_at b id).node.depth (slot_at b id).node.lines why
+  MayCloseBy why = IsClosedBy I (IsHitBy I b.cuts) (IsPricedBy I (cuts_in I b.cuts) b.prices) (best_cost b) (slot_at b id).bound (slot_at b id).node.depth (slot_at b id).node.lines why
 
   hit-by : (number : ℕ) (o : Option Cut) → slice_get b.cuts number ≡ o → Step.hits_in b id o ≡ true → IsHitBy I b.cuts number (slot_at b id).node.lines
   hit-by number None e hit = absurd (clash hit)
@@ -48,13 +51,18 @@ module _ (b : Book) (id : ℕ) where
     may-refuse by.Throughput = cheaper-refuses (throughput_of I)
     may-refuse (by.Probe s) = refuse_or (not (Step.is_missing b id s)) (Absent s) (Step.cheaper_than (best_cost b) (Step.probe_at b id s)) refl (cheaper-refuses (Step.probe_at b id s))
     may-refuse (by.Cut number) = refuse_or (not (Step.hits_in b id (slice_get b.cuts number))) (NoHit number) None refl tt
+    may-refuse (by.Price number) = refl
+
+    pub may-refuse_price : (number : ℕ) (shown : Shown) (o : Option (List ℕ)) → MayRefuse {Break = Break} (Step.price_refusal b id number shown o)
+    may-refuse_price number shown None = refl
+    may-refuse_price number shown (Some prices) = refuse_or (not (Step.is_shown b id prices shown)) NotShown (Step.cheaper_than (best_cost b) shown.cost) refl (cheaper-refuses shown.cost)
 
   module _ {Break : Type 0} where
+    some-none : (r : Reply Break) → Some r ≡ None → ⊥
+    some-none r h = cc
+
     none-of : (t : Bool) (r : Reply Break) (o : Option (Reply Break)) → cond t (Some r) o ≡ None → (t ≡ false) × (o ≡ None)
-    none-of true r o e = absurd (some-none e)
-      where
-        some-none : Some r ≡ None → ⊥
-        some-none h = cc
+    none-of true r o e = absurd (some-none r e)
     none-of false r o e = (refl, e)
 
     none-cheaper : (bound : ℕ) → Step.cheaper_than {Break = Break} (best_cost b) bound ≡ None → best_cost b ≤ bound
@@ -70,3 +78,12 @@ module _ (b : Book) (id : ℕ) where
     unrefused-may (by.Cut number) e =
         let hit = Step.hits_in b id (slice_get b.cuts number) in
         hit-by number (slice_get b.cuts number) refl (not-not hit (none-of (not hit) (NoHit number) None e).0)
+    unrefused-may (by.Price number) e = absurd (some-none NotShown e)
+
+    -- where what was shown isn't refused, slot id may be closed by the prices
+    pub shown-may : (number : ℕ) (shown : Shown) → IsShown shown → (o : Option (List ℕ)) → slice_get b.prices number ≡ o → Step.price_refusal {Break = Break} b id number shown o ≡ None → MayCloseBy (by.Price number)
+    shown-may number shown reached None there e = absurd (some-none (NoPrices number) e)
+    shown-may number shown reached (Some prices) there e =
+        let own = Step.is_shown b id prices shown in
+        let both = none-of (not own) NotShown (Step.cheaper_than (best_cost b) shown.cost) e in
+        shown-holds b id number prices there shown reached (not-not own both.0) (none-cheaper shown.cost both.1)

@@ -1,7 +1,7 @@
 -- Every event keeps the cover: each legal plan cheaper than the best one lies under an open, held or parked slot.
 use Rattle.std.proofs.Common.{◌≡◌, ◌≢◌, ℕ, zero, suc, ◌+◌, ◌<◌, ◌≤◌, List, [], ◌∷◌, ◌++◌, length, map, ◌⊎◌, inl, inr, refl, sym, ap, ◌∙◌, subst, arith, Bool, true, false, not, cond, ◌&&◌, ◌||◌, Some, None, slice_index_or, slice_get, slice_set, nat_eq, nat_le, All, Contains}
 use Rattle.std.specs.declared.option.Option.{Option}
-use Rattle.std.proofs.lemmas.Bool.Decides.{leb_tells, eqb_tells}
+use Rattle.std.proofs.lemmas.Bool.Decides.{Decides-eqb, leb_tells, eqb_tells}
 use Rattle.std.proofs.lemmas.List.{length-map, length-set, get_or-set_same, get_or-set_other, get_or-append-add}
 use Rattle.std.proofs.lemmas.List.Elements.{All-push, All-append, All-cons, All-nil, All-head, All-tail, All-map, All-weaker}
 use Rattle.std.proofs.Math.ListN.{get_or-append}
@@ -25,16 +25,19 @@ use Rattle.book_rules.specs.declared.book.Entry.{Entry}
 use Rattle.book_rules.specs.declared.book.Entry.TheVariants as entry
 use Rattle.book_rules.specs.Tests.{has_clash, is_own_cut}
 use Rattle.book_rules.specs.Book.{Case, Slot, Book, Node as TreeNode, root, no_slot, slot_at, best_cost, bound_at, new_slot, opening_book, is_fresh, is_back, is_held, is_held_by, is_parked, is_live, first_slot, group_at}
-use Rattle.book_rules.specs.Events.{Event, Reply, IsOwed, take, split, close, post, park, replace, release}
-use Rattle.book_rules.specs.Events.{Replaced, Ended, NodesSpent, NotHeld, Whole, OtherDeck, NotCheaper, Clashes}
+use Rattle.book_rules.specs.Events.{Event, Reply, IsOwed, take, split, close, post, post_prices, close_price, park, replace, release}
+use Rattle.book_rules.specs.Events.{Replaced, Ended, NodesSpent, NotHeld, Whole, OtherDeck, OtherPrices, NotCheaper, Clashes}
 use Rattle.book_rules.specs.NextSlot
 use Rattle.book_rules.specs.Step
 use Rattle.book_rules.specs.Cover.{IsCovered, IsGoodSlot, IsOwnCut, KeepsBook}
 use Rattle.closing_rules.specs.ProvedCuts.{CertCut, IsProved}
 use Rattle.closing_rules.specs.Laws.{TreeLaws}
-use Rattle.book_rules.specs.States.{IsHitBy}
+use Rattle.price_rules.specs.Prices.{CutHolds}
+use Rattle.closing_rules.specs.ListedPrices.{ArePrices, AreShapedPrices, cut_in}
+use Rattle.book_rules.specs.Shown.{Shown, IsShown}
+use Rattle.book_rules.specs.States.{IsHitBy, cuts_in}
 use Rattle.book_rules.proofs.TestLemmas.{not-not, not-le, is_own_cut-decides}
-use Rattle.book_rules.proofs.ClosingLemmas.{MayCloseBy, unrefused-may}
+use Rattle.book_rules.proofs.ClosingLemmas.{MayCloseBy, unrefused-may, shown-may}
 
 clash : true ≡ false → ⊥
 clash e = cc
@@ -227,7 +230,7 @@ module _ {Break : Type 0} (broken : Instance → Plan → Option Break) (sound :
   -- any book with these slots and else the same plan, case and cuts
   state-keeps : (id : ℕ) (state : SlotState) (used : ℕ) (ended : List Bool) (history : List Entry) → MayTake id state
       → KeepsBook (record b { slots = (Step.with_state b id state).slots; used = used; ended = ended; history = history })
-  state-keeps id state used ended history may = record { slots = slots-kept id state; cuts = old.cuts; covers = record { legal = old.covers.legal; covered = state-covered id state may } }
+  state-keeps id state used ended history may = record { slots = slots-kept id state; cuts = old.cuts; prices = old.prices; covers = record { legal = old.covers.legal; covered = state-covered id state may } }
 
   given-keeps : (w id used : ℕ) → KeepsBook (Step.given {Break = Break} b w id used).0
   given-keeps w id used = state-keeps id (slot.Held w) used b.ended (b.history ++ entry.Take w ∷ []) (inl refl)
@@ -244,18 +247,31 @@ module _ {Break : Type 0} (broken : Instance → Plan → Option Break) (sound :
   take_free-keeps w (Some id) = old
   take_free-keeps w None = take_slot-keeps w (first_slot b is_back)
 
+  -- a cut of the book, as a certificate has it, is proved
+  cut-proved : (c : Cut) → IsCut c × IsOwnCut I c → IsProved I (record { chamber = c.chamber; ships = c.ships; refutation = c.refutation })
+  cut-proved c good = record {
+    shaped = record {
+      chamber = good.1.chamber;
+      some = omega (arith, good.0.count, good.0.deck.count.0);
+      known = good.1.ships;
+      kept = record { rising = good.0.rising; few = omega (arith, good.0.count, good.0.deck.count.1) };
+    };
+    refuted = subst (λ d. IsRefuted d c.refutation) good.1.deck good.0.refuted;
+  }
+
   hit-dead : (id number : ℕ) → IsHitBy I b.cuts number (slot_at b id).node.lines → (P : Plan) → IsCheaper P → id < length b.slots → Under I P (slot_at b id) → ⊥
   hit-dead id number h P c known under =
       let cut = h.cut in
       let good = all-got (λ c. IsCut c × IsOwnCut I c) b.cuts number cut old.cuts h.there in
-      let some : 1 ≤ length cut.ships = omega (arith, good.0.count, good.0.deck.count.0) in
       let own : CertCut = record { chamber = cut.chamber; ships = cut.ships; refutation = cut.refutation } in
-      let proved : IsProved I own = record {
-        shaped = record { chamber = good.1.chamber; some = some; known = good.1.ships; kept = record { rising = good.0.rising; few = omega (arith, good.0.count, good.0.deck.count.1) } };
-        refuted = subst (λ d. IsRefuted d cut.refutation) good.1.deck good.0.refuted;
-      } in
       let hits : HitsNode cut.ships (deck_of I cut.chamber cut.ships) I (slot_at b id).node.lines = subst (λ d. HitsNode cut.ships d I (slot_at b id).node.lines) good.1.deck h.hits in
-      laws.cut own (slot_at b id).node.depth (slot_at b id).node.lines P proved (old.slots id no_slot known).node hits c.0 under
+      laws.cut own (slot_at b id).node.depth (slot_at b id).node.lines P (cut-proved cut good) (old.slots id no_slot known).node hits c.0 under
+
+  -- all cuts of the book hold
+  cuts-hold : All CutHolds (cuts_in I b.cuts)
+  cuts-hold =
+      All-map CutHolds (λ (c : Cut). cut_in I c.chamber c.ships) b.cuts
+      (All-weaker (λ c. IsCut c × IsOwnCut I c) (λ (c : Cut). CutHolds (cut_in I c.chamber c.ships)) (λ c good. laws.holds (record { chamber = c.chamber; ships = c.ships; refutation = c.refutation }) (cut-proved c good)) b.cuts old.cuts)
 
   -- under a slot that may be closed lies no cheaper legal plan
   closed-dead : (id : ℕ) (why : Ground) → MayCloseBy b id why → (P : Plan) → IsCheaper P → id < length b.slots → Under I P (slot_at b id) → ⊥
@@ -265,10 +281,18 @@ module _ {Break : Type 0} (broken : Instance → Plan → Option Break) (sound :
       let low = laws.probe (slot_at b id).node.depth (slot_at b id).node.lines s (old.slots id no_slot known).node h.0 P c.0 under in
       omega (arith, h.1, low, c.1)
   closed-dead id (by.Cut number) h P c known under = hit-dead id number h P c known under
+  closed-dead id (by.Price number) h P c known under =
+      let low = laws.price (cuts_in I b.cuts) (slot_at b id).node.depth (slot_at b id).node.lines h.own (best_cost b) cuts-hold h.reached P c.0 under in
+      omega (arith, low, c.1)
 
   close-keeps : (id : ℕ) (why : Ground) (o : Option (Reply Break)) → Step.refusal_of b id why ≡ o → KeepsBook (Step.close_unless b id why o).0
   close-keeps id why (Some r) e = old
   close-keeps id why None e = state-keeps id (slot.Closed why) b.used b.ended (b.history ++ entry.Close id why ∷ []) (inr (closed-dead id why (unrefused-may b id why e)))
+
+  close_price-keeps : (id number : ℕ) (shown : Shown) → IsShown shown → (o : Option (Reply Break)) → Step.price_refusal b id number shown (slice_get b.prices number) ≡ o → KeepsBook (Step.close_unless b id (by.Price number) o).0
+  close_price-keeps id number shown reached (Some r) e = old
+  close_price-keeps id number shown reached None e =
+      state-keeps id (slot.Closed (by.Price number)) b.used b.ended (b.history ++ entry.Close id (by.Price number) ∷ []) (inr (closed-dead id (by.Price number) (shown-may b id number shown reached (slice_get b.prices number) refl e)))
 
   -- ---- splitting
 
@@ -292,6 +316,7 @@ module _ {Break : Type 0} (broken : Instance → Plan → Option Break) (sound :
     slots = All-append (IsGoodSlot I) (Step.with_state b id (slot.Split (length b.slots))).slots (Step.children_in b id) (slots-kept id (slot.Split (length b.slots)))
         (children-good I (best_cost b) id (suc (slot_at b id).node.depth) 0 (children_of I (slot_at b id).node.depth (slot_at b id).node.lines) (laws.child (slot_at b id).node.depth (slot_at b id).node.lines (old.slots id no_slot here).node lacks));
     cuts = old.cuts;
+    prices = old.prices;
     covers = record { legal = old.covers.legal; covered = split-covered id here lacks };
   }
 
@@ -301,6 +326,15 @@ module _ {Break : Type 0} (broken : Instance → Plan → Option Break) (sound :
   posted-keeps cut good own = record {
     slots = old.slots;
     cuts = All-push (λ c. IsCut c × IsOwnCut I c) b.cuts cut old.cuts (good, (is_own_cut-decides I cut).0 own);
+    prices = old.prices;
+    covers = record { legal = old.covers.legal; covered = old.covers.covered };
+  }
+
+  priced-keeps : (prices : List ℕ) → ArePrices prices → nat_eq (length prices) (length I.ships) ≡ true → KeepsBook (Step.priced {Break = Break} b prices).0
+  priced-keeps prices good own = record {
+    slots = old.slots;
+    cuts = old.cuts;
+    prices = All-push (λ u. ArePrices u × AreShapedPrices I u) b.prices prices old.prices (good, record { count = (Decides-eqb (length prices) (length I.ships)).0 own });
     covers = record { legal = old.covers.legal; covered = old.covers.covered };
   }
 
@@ -315,6 +349,7 @@ module _ {Break : Type 0} (broken : Instance → Plan → Option Break) (sound :
   replaced-keeps plan legal cheaper = record {
     slots = All-map (IsGoodSlot I) (Step.outdone (cost_of I plan)) b.slots (All-weaker (IsGoodSlot I) (λ s. IsGoodSlot I (Step.outdone (cost_of I plan) s)) (λ s good. outdone-good I (cost_of I plan) s good ((is_fresh s.state || is_back s.state || is_parked s.state) && nat_le (cost_of I plan) s.bound)) b.slots old.slots);
     cuts = old.cuts;
+    prices = old.prices;
     covers = record {
       legal = legal;
       covered = λ P good less. outdone-covered I laws P good (cost_of I plan) b.slots less old.slots (old.covers.covered P good (omega (arith, less, cheaper)));
@@ -327,7 +362,7 @@ module _ {Break : Type 0} (broken : Instance → Plan → Option Break) (sound :
       keep_or (nat_le (best_cost b) (cost_of I plan)) (NotCheaper (cost_of I plan) (best_cost b)) (Step.replaced b plan, Replaced (cost_of I plan)) (λ f. replaced-keeps plan (sound I plan e) (not-le (best_cost b) (cost_of I plan) f))
 
   release_slot-keeps : (w : ℕ) (o : Option ℕ) → KeepsBook (Step.release_slot {Break = Break} b w o).0
-  release_slot-keeps w None = record { slots = old.slots; cuts = old.cuts; covers = record { legal = old.covers.legal; covered = old.covers.covered } }
+  release_slot-keeps w None = record { slots = old.slots; cuts = old.cuts; prices = old.prices; covers = record { legal = old.covers.legal; covered = old.covers.covered } }
   release_slot-keeps w (Some id) = state-keeps id slot.Back b.used (slice_set b.ended w true) (b.history ++ entry.Release w ∷ []) (inl refl)
 
   -- ---- each event
@@ -343,6 +378,12 @@ module _ {Break : Type 0} (broken : Instance → Plan → Option Break) (sound :
       keep_or (not (Step.may_close b id)) (NotHeld id) (Step.close_unless b id why (Step.refusal_of b id why)) (λ e. close-keeps id why (Step.refusal_of b id why) refl)
   event-keeps (post cut) owed =
       keep_or (not (is_own_cut I cut)) OtherDeck (Step.posted b cut) (λ e. posted-keeps cut owed (not-not (is_own_cut I cut) e))
+  event-keeps (post_prices prices) owed =
+      let shaped = nat_eq (length prices) (length I.ships) in
+      keep_or (not shaped) OtherPrices (Step.priced b prices) (λ e. priced-keeps prices owed (not-not shaped e))
+  event-keeps (close_price id number shown) owed =
+      let refusal = Step.price_refusal b id number shown (slice_get b.prices number) in
+      keep_or (not (Step.may_close b id)) (NotHeld id) (Step.close_unless b id (by.Price number) refusal) (λ e. close_price-keeps id number shown owed refusal refl)
   event-keeps (park id c p deck turns) owed =
       keep_or (not (is_held (slot_at b id).state)) (NotHeld id) (Step.park_group b id c p deck turns (group_at (slot_at b id).node c p)) (λ e. park_group-keeps id c p deck turns (group_at (slot_at b id).node c p))
   event-keeps (replace plan) owed = replace_by-keeps plan (broken I plan) refl
@@ -354,6 +395,7 @@ pub opening-keeps : (case : Case) (plan : Plan) → TreeLaws case.instance → I
 opening-keeps case plan laws legal = record {
   slots = All-cons (IsGoodSlot case.instance) (new_slot case.instance (cost_of case.instance plan) 0 0 root) [] (record { node = laws.root; bound = refl }) (All-nil (IsGoodSlot case.instance));
   cuts = All-nil (λ cut. IsCut cut × IsOwnCut case.instance cut);
+  prices = All-nil (λ u. ArePrices u × AreShapedPrices case.instance u);
   covers = record {
     legal = legal;
     covered = λ P good cheaper. record {

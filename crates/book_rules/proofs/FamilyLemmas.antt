@@ -15,7 +15,7 @@ use Rattle.book_rules.specs.NextSlot.{is_split, first_child}
 use Rattle.book_rules.specs.Step
 use Rattle.book_rules.specs.Family.{child_count, child_node, HasChildren, IsBorn, KeepsFamily}
 use Rattle.book_rules.proofs.SlotLemmas.{IsAt}
-use Rattle.book_rules.proofs.MoveLemmas.{Stays, TakesBack, TakesFresh, Splits, Closes, Parks, Posts, Replaces, Ends, GivesBack, turned, state-known, each-move}
+use Rattle.book_rules.proofs.MoveLemmas.{Stays, TakesBack, TakesFresh, Splits, Closes, Parks, Posts, Prices, Replaces, Ends, GivesBack, turned, state-known, each-move}
 use Rattle.book_rules.proofs.BudgetLemmas.{closing-whole}
 use Rattle.book_rules.proofs.TallyLemmas.{Kept, Closed, outdone-is, open-whole}
 use Rattle.book_rules.proofs.TurnLemmas.{Turned, Untouched, turned-at, Parent, Old, Child, Past, split-at, kid, kid-at, length-split, outdone-at}
@@ -307,6 +307,9 @@ module _ {Break : Type 0} (broken : Instance → Plan → Option Break) (b : Boo
         | Parks w id c p at tells same ↦ subst KeepsFamily (sym same) (turned-family id (slot.Held w) (slot.Parked c p) b.used b.ended (entry.Park id c p) keeps at refl refl)
         | Posts cut grows good own same ↦
             let new = Step.noted (record b { cuts = b.cuts ++ cut ∷ [] }) entry.Post in
+            subst KeepsFamily (sym same) (shape-family b new (like-shape b new refl refl) keeps)
+        | Prices prices grows good own same ↦
+            let new = Step.noted (record b { prices = b.prices ++ prices ∷ [] }) entry.Prices in
             subst KeepsFamily (sym same) (shape-family b new (like-shape b new refl refl) keeps)
         | Replaces plan grows cheaper same ↦ subst KeepsFamily (sym same) (shape-family b (Step.replaced b plan) (replaced-shape b plan) keeps)
         | Ends w runs none same ↦

@@ -1,5 +1,7 @@
 pub mod BookRows
 pub mod SlotLemmas
+pub mod SameLemmas
+pub mod ShownLemmas
 pub mod ClosingLemmas
 pub mod MoveLemmas
 pub mod TallyLemmas

@@ -1,7 +1,7 @@
--- What an event does to a book: a refusal leaves it, and each accepted event is one of nine moves.
+-- What an event does to a book: a refusal leaves it, and each accepted event is one of ten moves.
 use Rattle.std.proofs.Common.{◌≡◌, ◌≢◌, ℕ, zero, suc, ◌<◌, ◌≤◌, List, [], ◌∷◌, ◌++◌, length, inl, inr, refl, sym, ap, ◌∙◌, subst, arith, Bool, true, false, not, cond, ◌&&◌, ◌||◌, Some, None, slice_index_or, slice_get, slice_set, nat_eq, nat_le}
 use Rattle.std.specs.declared.option.Option.{Option}
-use Rattle.std.proofs.lemmas.Bool.Decides.{eqb_tells, leb_tells}
+use Rattle.std.proofs.lemmas.Bool.Decides.{Decides-eqb, eqb_tells, leb_tells}
 use Rattle.lock_model.specs.Deck.{Deck}
 use Rattle.lock_model.specs.Fitting.{deck_of}
 use Rattle.lock_model.specs.Cargo.{HasNoClash}
@@ -19,12 +19,14 @@ use Rattle.book_rules.specs.declared.book.SlotState.{SlotState}
 use Rattle.book_rules.specs.declared.book.SlotState.TheVariants as slot
 use Rattle.book_rules.specs.Tests.{same_deck, has_clash, is_own_cut}
 use Rattle.book_rules.specs.Book.{Slot, Book, no_slot, slot_at, best_cost, first_slot, has_slot, is_back, is_held, is_held_by, is_parked, group_at, ships_at, no_group}
-use Rattle.book_rules.specs.Events.{Event, Reply, IsOwed, is_accepted, take, split, close, post, park, replace, release}
-use Rattle.book_rules.specs.Events.{Replaced, Ended, NodesSpent, Idle, Done, NotHeld, Whole, OtherDeck, NotCheaper, Clashes}
+use Rattle.book_rules.specs.Events.{Event, Reply, IsOwed, is_accepted, take, split, close, post, post_prices, close_price, park, replace, release}
+use Rattle.book_rules.specs.Events.{Replaced, Ended, NodesSpent, Idle, Done, NotHeld, Whole, OtherDeck, OtherPrices, NotCheaper, Clashes}
 use Rattle.book_rules.specs.NextSlot.{next_fresh}
 use Rattle.book_rules.specs.Step
+use Rattle.closing_rules.specs.ListedPrices.{ArePrices, AreShapedPrices}
+use Rattle.book_rules.specs.Shown.{Shown, IsShown}
 use Rattle.book_rules.specs.States.{Tells}
-use Rattle.book_rules.proofs.ClosingLemmas.{MayRefuse, may-refuse, unrefused-may}
+use Rattle.book_rules.proofs.ClosingLemmas.{MayRefuse, may-refuse, may-refuse_price, unrefused-may, shown-may}
 use Rattle.book_rules.proofs.CoverLemmas.{held-known}
 use Rattle.book_rules.proofs.TestLemmas.{not-not, not-le, same_deck-decides, HasNoClash-test, is_own_cut-decides}
 use Rattle.book_rules.specs.Cover.{IsOwnCut}
@@ -52,11 +54,12 @@ pub data MayClose : SlotState → Type 0 where
 
 -- what the new state of slot id tells is true
 abbrev pub TellsAt : Book → ℕ → SlotState → Type 0
-TellsAt b id state = Tells b.case b.cuts (best_cost b) (slot_at b id).node (slot_at b id).bound state
+TellsAt b id state = Tells b.case b.cuts b.prices (best_cost b) (slot_at b id).node (slot_at b id).bound state
 
 -- the event takes room for its own entry
 abbrev pub is_growing : Event → Bool
 is_growing (post cut) = true
+is_growing (post_prices prices) = true
 is_growing (replace plan) = true
 is_growing _ = false
 
@@ -68,6 +71,7 @@ pub data IsMove {Break : Type 0} (b : Book) (e : Event) (out : Book × Reply Bre
   Closes : (old : SlotState) (why : Ground) (id : ℕ) → MayClose old → IsAt b id old → TellsAt b id (slot.Closed why) → out.0 ≡ turned b id (slot.Closed why) b.used b.ended (entry.Close id why) → IsMove b e out
   Parks : (w id c p : ℕ) → IsAt b id (slot.Held w) → TellsAt b id (slot.Parked c p) → out.0 ≡ turned b id (slot.Parked c p) b.used b.ended (entry.Park id c p) → IsMove b e out
   Posts : (cut : Cut) → is_growing e ≡ true → IsCut cut → IsOwnCut b.case.instance cut → out.0 ≡ Step.noted (record b { cuts = b.cuts ++ cut ∷ [] }) entry.Post → IsMove b e out
+  Prices : (prices : List ℕ) → is_growing e ≡ true → ArePrices prices → AreShapedPrices b.case.instance prices → out.0 ≡ Step.noted (record b { prices = b.prices ++ prices ∷ [] }) entry.Prices → IsMove b e out
   Replaces : (plan : Plan) → is_growing e ≡ true → cost_of b.case.instance plan < best_cost b → out.0 ≡ Step.replaced b plan → IsMove b e out
   Ends : (w : ℕ) → IsRunning b w → HoldsNone b w → out.0 ≡ Step.noted (record b { ended = slice_set b.ended w true }) (entry.Release w) → IsMove b e out
   GivesBack : (w id : ℕ) → IsRunning b w → IsAt b id (slot.Held w) → out.0 ≡ turned b id slot.Back b.used (slice_set b.ended w true) (entry.Release w) → IsMove b e out
@@ -153,6 +157,13 @@ module _ {Break : Type 0} (broken : Instance → Plan → Option Break) (b : Boo
       let old = from_state id (slot_at b id).state refl may in
       Closes (slot_at b id).state why id old.0 old.1 (unrefused-may b id why e) refl
 
+  close_price-move : (id number : ℕ) (shown : Shown) → IsShown shown → Step.may_close b id ≡ true → (o : Option (Reply Break)) → Step.price_refusal b id number shown (slice_get b.prices number) ≡ o → MayRefuse o
+      → Is (close_price id number shown) (Step.close_unless b id (by.Price number) o)
+  close_price-move id number shown reached may (Some r) e refuses = Stays refuses refl
+  close_price-move id number shown reached may None e refuses =
+      let old = from_state id (slot_at b id).state refl may in
+      Closes (slot_at b id).state (by.Price number) id old.0 old.1 (shown-may b id number shown reached (slice_get b.prices number) refl e) refl
+
   -- ---- parking
 
   got-known : (gs : List Group) (p : ℕ) (g : Group) → slice_get gs p ≡ Some g → (p < length gs) × (slice_index_or gs p no_group ≡ g)
@@ -213,6 +224,14 @@ module _ {Break : Type 0} (broken : Instance → Plan → Option Break) (b : Boo
   each-move (post cut) owed =
       refuse_or (post cut) (not (is_own_cut I cut)) OtherDeck (Step.posted b cut) refl (λ f.
       Posts cut refl owed ((is_own_cut-decides I cut).0 (not-not (is_own_cut I cut) f)) refl)
+  each-move (post_prices prices) owed =
+      let shaped = nat_eq (length prices) (length I.ships) in
+      refuse_or (post_prices prices) (not shaped) OtherPrices (Step.priced b prices) refl (λ f.
+      Prices prices refl owed (record { count = (Decides-eqb (length prices) (length I.ships)).0 (not-not shaped f) }) refl)
+  each-move (close_price id number shown) owed =
+      let refusal = Step.price_refusal b id number shown (slice_get b.prices number) in
+      refuse_or (close_price id number shown) (not (Step.may_close b id)) (NotHeld id) (Step.close_unless b id (by.Price number) refusal) refl (λ f.
+      close_price-move id number shown owed (not-not (Step.may_close b id) f) refusal refl (may-refuse_price b id Break number shown (slice_get b.prices number)))
   each-move (park id c p deck turns) owed =
       refuse_or (park id c p deck turns) (not (is_held (slot_at b id).state)) (NotHeld id) (Step.park_group b id c p deck turns (group_at (slot_at b id).node c p)) refl (λ f.
       let held = held-at b id (not-not (is_held (slot_at b id).state) f) in

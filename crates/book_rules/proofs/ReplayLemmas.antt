@@ -1,5 +1,5 @@
 -- A book is the replay of its history, after every list of events.
-use Rattle.std.proofs.Common.{◌≡◌, ℕ, zero, suc, ◌+◌, List, [], ◌∷◌, ◌++◌, length, inl, inr, refl, sym, ap, ◌∙◌, subst, arith, Bool, true, false, not, cond, Some, None, slice_index_or, slice_get, nat_le, ◌&&◌}
+use Rattle.std.proofs.Common.{◌≡◌, ℕ, zero, suc, ◌+◌, List, [], ◌∷◌, ◌++◌, length, inl, inr, refl, sym, ap, ◌∙◌, subst, arith, Bool, true, false, not, cond, Some, None, slice_index_or, slice_get, nat_lt, nat_le, ◌&&◌}
 use Rattle.std.specs.declared.option.Option.{Option}
 use Rattle.std.proofs.lemmas.Bool.Decides.{leb_tells}
 use Rattle.lock_model.specs.Deck.{Deck}
@@ -12,22 +12,28 @@ use Rattle.refute_rules.specs.Cuts.{Cut}
 use Rattle.book_rules.specs.declared.book.Entry.{Entry}
 use Rattle.book_rules.specs.declared.book.Entry.TheVariants as entry
 use Rattle.book_rules.specs.Tests.{same_deck, has_clash}
-use Rattle.book_rules.specs.Book.{Case, Book, slot_at, is_held, group_at, ships_at, no_group, opening_book}
-use Rattle.book_rules.specs.Events.{Event, Reply, is_accepted, take, split, close, post, park, replace, release}
-use Rattle.book_rules.specs.Events.{NotHeld, OtherDeck, Clashes}
+use Rattle.book_rules.specs.Book.{Case, Book, slot_at, best_cost, is_held, group_at, ships_at, no_group, opening_book}
+use Rattle.book_rules.specs.Events.{Event, Reply, is_accepted, take, split, close, post, post_prices, close_price, park, replace, release}
+use Rattle.book_rules.specs.Events.{NotHeld, OtherDeck, Clashes, Cheaper, NotShown}
+use Rattle.closing_rules.specs.declared.grounds.Ground.{Ground}
+use Rattle.closing_rules.specs.declared.grounds.Ground.TheVariants as by
+use Rattle.book_rules.specs.Shown.{Shown}
 use Rattle.book_rules.specs.Step
-use Rattle.book_rules.specs.Replay.{replay_from, posts_in, replaces_in}
+use Rattle.book_rules.specs.Replay.{own_shown, closing_of, replay_from, posts_in, replaces_in, pricings_in}
 pub use Rattle.book_rules.specs.Replay.{IsReplayed}
 use Rattle.book_rules.proofs.TestLemmas.{same_deck-decides}
-use Rattle.book_rules.proofs.StepLemmas.{entry_of, cuts_of, plans_of, IsAccepted, Refused, Accepted, each-step}
+use Rattle.book_rules.proofs.ShownLemmas.{own-shown}
+use Rattle.book_rules.proofs.ClosingLemmas.{MayRefuse, may-refuse_price}
+use Rattle.book_rules.proofs.StepLemmas.{entry_of, cuts_of, plans_of, prices_of, IsAccepted, Refused, Accepted, each-step}
 
--- how many cuts and plans the entries take
+-- how many cuts, plans and prices the entries take
 posts-append : (es : List Entry) (x : Entry) → posts_in (es ++ x ∷ []) ≡ posts_in es + posts_in (x ∷ [])
 posts-append [] x = omega arith
 posts-append (entry.Take w ∷ es) x = posts-append es x
 posts-append (entry.Split id ∷ es) x = posts-append es x
 posts-append (entry.Close id why ∷ es) x = posts-append es x
 posts-append (entry.Post ∷ es) x = let rest = posts-append es x in omega (arith, rest)
+posts-append (entry.Prices ∷ es) x = posts-append es x
 posts-append (entry.Park id c p ∷ es) x = posts-append es x
 posts-append (entry.Replace ∷ es) x = posts-append es x
 posts-append (entry.Release w ∷ es) x = posts-append es x
@@ -38,15 +44,29 @@ replaces-append (entry.Take w ∷ es) x = replaces-append es x
 replaces-append (entry.Split id ∷ es) x = replaces-append es x
 replaces-append (entry.Close id why ∷ es) x = replaces-append es x
 replaces-append (entry.Post ∷ es) x = replaces-append es x
+replaces-append (entry.Prices ∷ es) x = replaces-append es x
 replaces-append (entry.Park id c p ∷ es) x = replaces-append es x
 replaces-append (entry.Replace ∷ es) x = let rest = replaces-append es x in omega (arith, rest)
 replaces-append (entry.Release w ∷ es) x = replaces-append es x
+
+pricings-append : (es : List Entry) (x : Entry) → pricings_in (es ++ x ∷ []) ≡ pricings_in es + pricings_in (x ∷ [])
+pricings-append [] x = omega arith
+pricings-append (entry.Take w ∷ es) x = pricings-append es x
+pricings-append (entry.Split id ∷ es) x = pricings-append es x
+pricings-append (entry.Close id why ∷ es) x = pricings-append es x
+pricings-append (entry.Post ∷ es) x = pricings-append es x
+pricings-append (entry.Prices ∷ es) x = let rest = pricings-append es x in omega (arith, rest)
+pricings-append (entry.Park id c p ∷ es) x = pricings-append es x
+pricings-append (entry.Replace ∷ es) x = pricings-append es x
+pricings-append (entry.Release w ∷ es) x = pricings-append es x
 
 posts-one : (e : Event) → posts_in (entry_of e ∷ []) ≡ length (cuts_of e)
 posts-one (take w) = refl
 posts-one (split id) = refl
 posts-one (close id why) = refl
 posts-one (post cut) = refl
+posts-one (post_prices prices) = refl
+posts-one (close_price id number shown) = refl
 posts-one (park id c p deck turns) = refl
 posts-one (replace plan) = refl
 posts-one (release w) = refl
@@ -56,9 +76,22 @@ replaces-one (take w) = refl
 replaces-one (split id) = refl
 replaces-one (close id why) = refl
 replaces-one (post cut) = refl
+replaces-one (post_prices prices) = refl
+replaces-one (close_price id number shown) = refl
 replaces-one (park id c p deck turns) = refl
 replaces-one (replace plan) = refl
 replaces-one (release w) = refl
+
+pricings-one : (e : Event) → pricings_in (entry_of e ∷ []) ≡ length (prices_of e)
+pricings-one (take w) = refl
+pricings-one (split id) = refl
+pricings-one (close id why) = refl
+pricings-one (post cut) = refl
+pricings-one (post_prices prices) = refl
+pricings-one (close_price id number shown) = refl
+pricings-one (park id c p deck turns) = refl
+pricings-one (replace plan) = refl
+pricings-one (release w) = refl
 
 length-more : {X : Type 0} (xs ys : List X) → length (xs ++ ys) ≡ length xs + length ys
 length-more [] ys = omega arith
@@ -70,24 +103,31 @@ posts-more es e cs h = posts-append es (entry_of e) ∙ (λ i. h i + posts-one e
 replaces-more : (es : List Entry) (e : Event) (ps : List Plan) → replaces_in es ≡ length ps → replaces_in (es ++ entry_of e ∷ []) ≡ length (ps ++ plans_of e)
 replaces-more es e ps h = replaces-append es (entry_of e) ∙ (λ i. h i + replaces-one e i) ∙ sym (length-more ps (plans_of e))
 
+pricings-more : (es : List Entry) (e : Event) (us : List (List ℕ)) → pricings_in es ≡ length us → pricings_in (es ++ entry_of e ∷ []) ≡ length (us ++ prices_of e)
+pricings-more es e us h = pricings-append es (entry_of e) ∙ (λ i. h i + pricings-one e i) ∙ sym (length-more us (prices_of e))
+
 module _ {Break : Type 0} (broken : Instance → Plan → Option Break) where
   abbrev after : Book → Event → Book
   after b e = (Step.step broken b e).0
 
-  replay-append : (es : List Entry) (b : Book) (x : Entry) (cs ds : List Cut) (ps qs : List Plan) → posts_in es ≡ length cs → replaces_in es ≡ length ps
-      → replay_from broken b (es ++ x ∷ []) (cs ++ ds) (ps ++ qs) ≡ replay_from broken (replay_from broken b es cs ps) (x ∷ []) ds qs
-  replay-append [] b x [] ds [] qs e f = refl
-  replay-append [] b x [] ds (p ∷ ps) qs e f = absurd (omega (arith, f))
-  replay-append [] b x (c ∷ cs) ds ps qs e f = absurd (omega (arith, e))
-  replay-append (entry.Take w ∷ es) b x cs ds ps qs e f = replay-append es (after b (take w)) x cs ds ps qs e f
-  replay-append (entry.Split id ∷ es) b x cs ds ps qs e f = replay-append es (after b (split id)) x cs ds ps qs e f
-  replay-append (entry.Close id why ∷ es) b x cs ds ps qs e f = replay-append es (after b (close id why)) x cs ds ps qs e f
-  replay-append (entry.Post ∷ es) b x [] ds ps qs e f = absurd (omega (arith, e))
-  replay-append (entry.Post ∷ es) b x (c ∷ cs) ds ps qs e f = replay-append es (after b (post c)) x cs ds ps qs (omega (arith, e)) f
-  replay-append (entry.Park id c p ∷ es) b x cs ds ps qs e f = replay-append es (after b (park id c p (deck_of b.case.instance c (ships_at (slot_at b id).node c p)) b.case.turns)) x cs ds ps qs e f
-  replay-append (entry.Replace ∷ es) b x cs ds [] qs e f = absurd (omega (arith, f))
-  replay-append (entry.Replace ∷ es) b x cs ds (p ∷ ps) qs e f = replay-append es (after b (replace p)) x cs ds ps qs e (omega (arith, f))
-  replay-append (entry.Release w ∷ es) b x cs ds ps qs e f = replay-append es (after b (release w)) x cs ds ps qs e f
+  replay-append : (es : List Entry) (b : Book) (x : Entry) (cs ds : List Cut) (ps qs : List Plan) (us vs : List (List ℕ)) → posts_in es ≡ length cs → replaces_in es ≡ length ps → pricings_in es ≡ length us
+      → replay_from broken b (es ++ x ∷ []) (cs ++ ds) (ps ++ qs) (us ++ vs) ≡ replay_from broken (replay_from broken b es cs ps us) (x ∷ []) ds qs vs
+  replay-append [] b x [] ds [] qs [] vs e f g = refl
+  replay-append [] b x [] ds [] qs (u ∷ us) vs e f g = absurd (omega (arith, g))
+  replay-append [] b x [] ds (p ∷ ps) qs us vs e f g = absurd (omega (arith, f))
+  replay-append [] b x (c ∷ cs) ds ps qs us vs e f g = absurd (omega (arith, e))
+  replay-append (entry.Take w ∷ es) b x cs ds ps qs us vs e f g = replay-append es (after b (take w)) x cs ds ps qs us vs e f g
+  replay-append (entry.Split id ∷ es) b x cs ds ps qs us vs e f g = replay-append es (after b (split id)) x cs ds ps qs us vs e f g
+  replay-append (entry.Close id why ∷ es) b x cs ds ps qs us vs e f g = replay-append es (after b (closing_of b id why)) x cs ds ps qs us vs e f g
+  replay-append (entry.Post ∷ es) b x [] ds ps qs us vs e f g = absurd (omega (arith, e))
+  replay-append (entry.Post ∷ es) b x (c ∷ cs) ds ps qs us vs e f g = replay-append es (after b (post c)) x cs ds ps qs us vs (omega (arith, e)) f g
+  replay-append (entry.Prices ∷ es) b x cs ds ps qs [] vs e f g = absurd (omega (arith, g))
+  replay-append (entry.Prices ∷ es) b x cs ds ps qs (u ∷ us) vs e f g = replay-append es (after b (post_prices u)) x cs ds ps qs us vs e f (omega (arith, g))
+  replay-append (entry.Park id c p ∷ es) b x cs ds ps qs us vs e f g =
+      replay-append es (after b (park id c p (deck_of b.case.instance c (ships_at (slot_at b id).node c p)) b.case.turns)) x cs ds ps qs us vs e f g
+  replay-append (entry.Replace ∷ es) b x cs ds [] qs us vs e f g = absurd (omega (arith, f))
+  replay-append (entry.Replace ∷ es) b x cs ds (p ∷ ps) qs us vs e f g = replay-append es (after b (replace p)) x cs ds ps qs us vs e (omega (arith, f)) g
+  replay-append (entry.Release w ∷ es) b x cs ds ps qs us vs e f g = replay-append es (after b (release w)) x cs ds ps qs us vs e f g
 
   -- ---- parking again with the group's own deck and the case's turns
 
@@ -142,12 +182,52 @@ module _ {Break : Type 0} (broken : Instance → Plan → Option Break) where
   held-again b id true out own f good = refl
   held-again b id false out own f good = f good
 
+  -- ---- closing again by prices, with what the book itself says
+
+  -- what isn't refused closes the slot
+  unrefused-closed : (b : Book) (id : ℕ) (why : Ground) (o : Option (Reply Break)) → MayRefuse o → is_accepted (Step.close_unless b id why o).1 ≡ true → (Step.close_unless b id why o).0 ≡ Step.closed b id why
+  unrefused-closed b id why (Some r) refuses good = absurd (clash (sym refuses ∙ good))
+  unrefused-closed b id why None refuses good = refl
+
+  -- the book's own closing isn't refused
+  own-unrefused : (b : Book) (id number : ℕ) (prices : List ℕ) → slice_get b.prices number ≡ Some prices → Step.price_refusal {Break = Break} b id number (own_shown b id number) (Some prices) ≡ None
+  own-unrefused b id number prices there =
+      let best = best_cost b in
+      let same : nat_lt best best ≡ false = elim (leb_tells (suc best) best) [ inl y ↦ absurd (omega (arith, y.1)) | inr n ↦ n.0 ] in
+      ap (λ t. cond (not t) (Some NotShown) (Step.cheaper_than best best)) (own-shown b id number prices there) ∙ ap (λ t. cond t (Some (Cheaper best best)) None) same
+
+  prices-again : (b : Book) (id number : ℕ) (shown : Shown) (o : Option (List ℕ)) → slice_get b.prices number ≡ o
+      → is_accepted (Step.close_unless {Break = Break} b id (by.Price number) (Step.price_refusal b id number shown o)).1 ≡ true
+      → (Step.close_unless {Break = Break} b id (by.Price number) (Step.price_refusal b id number (own_shown b id number) o)).0 ≡ (Step.close_unless {Break = Break} b id (by.Price number) (Step.price_refusal b id number shown o)).0
+  prices-again b id number shown None there good = refl
+  prices-again b id number shown (Some prices) there good =
+      ap (λ o. (Step.close_unless {Break = Break} b id (by.Price number) o).0) (own-unrefused b id number prices there)
+      ∙ sym (unrefused-closed b id (by.Price number) (Step.price_refusal b id number shown (Some prices)) (may-refuse_price b id Break number shown (Some prices)) good)
+
+  -- closing by prices is refused where nothing was shown
+  unshown : (b : Book) (id : ℕ) (t : Bool) → is_accepted (held_way b id t (b, NotShown)).1 ≡ true → ⊥
+  unshown b id true good = clash good
+  unshown b id false good = clash good
+
+  closing-again : (b : Book) (id : ℕ) (why : Ground) → is_accepted (Step.step broken b (close id why)).1 ≡ true → after b (closing_of b id why) ≡ after b (close id why)
+  closing-again b id (by.Price number) good = absurd (unshown b id (not (Step.may_close b id)) good)
+  closing-again b id by.Bound good = refl
+  closing-again b id by.Throughput good = refl
+  closing-again b id (by.Probe s) good = refl
+  closing-again b id (by.Cut number) good = refl
+
   -- one accepted event, replayed by its entry
-  replay-one : (b : Book) (e : Event) → is_accepted (Step.step broken b e).1 ≡ true → replay_from broken b (entry_of e ∷ []) (cuts_of e) (plans_of e) ≡ after b e
+  replay-one : (b : Book) (e : Event) → is_accepted (Step.step broken b e).1 ≡ true → replay_from broken b (entry_of e ∷ []) (cuts_of e) (plans_of e) (prices_of e) ≡ after b e
   replay-one b (take w) good = refl
   replay-one b (split id) good = refl
-  replay-one b (close id why) good = refl
+  replay-one b (close id why) good = closing-again b id why good
   replay-one b (post cut) good = refl
+  replay-one b (post_prices prices) good = refl
+  replay-one b (close_price id number shown) good =
+      held-again b id (not (Step.may_close b id))
+      (Step.close_unless b id (by.Price number) (Step.price_refusal b id number shown (slice_get b.prices number)))
+      (Step.close_unless b id (by.Price number) (Step.price_refusal b id number (own_shown b id number) (slice_get b.prices number)))
+      (prices-again b id number shown (slice_get b.prices number) refl) good
   replay-one b (park id c p deck turns) good =
       held-again b id (not (is_held (slot_at b id).state))
       (Step.park_group b id c p deck turns (group_at (slot_at b id).node c p))
@@ -160,17 +240,18 @@ module _ {Break : Type 0} (broken : Instance → Plan → Option Break) where
 
   -- The opening book is replayed, and so is a replayed book after any event.
   pub opening-replayed : (case : Case) (plan : Plan) → IsReplayed broken (opening_book case plan)
-  opening-replayed case plan = record { same = refl; posts = refl; replaces = refl }
+  opening-replayed case plan = record { same = refl; posts = refl; replaces = refl; pricings = refl }
 
   accepted-replayed : (b : Book) (e : Event) → IsReplayed broken b → IsAccepted Break b e (Step.step broken b e) → IsReplayed broken (after b e)
   accepted-replayed b e old new = record {
     same =
-        (λ i. replay_from broken (opening_book (new.case i) (new.opening i)) (new.history i) (new.cuts i) (new.plans i))
-        ∙ replay-append b.history (opening_book b.case b.opening) (entry_of e) b.cuts (cuts_of e) b.plans (plans_of e) old.posts old.replaces
-        ∙ ap (λ u. replay_from broken u (entry_of e ∷ []) (cuts_of e) (plans_of e)) old.same
+        (λ i. replay_from broken (opening_book (new.case i) (new.opening i)) (new.history i) (new.cuts i) (new.plans i) (new.prices i))
+        ∙ replay-append b.history (opening_book b.case b.opening) (entry_of e) b.cuts (cuts_of e) b.plans (plans_of e) b.prices (prices_of e) old.posts old.replaces old.pricings
+        ∙ ap (λ u. replay_from broken u (entry_of e ∷ []) (cuts_of e) (plans_of e) (prices_of e)) old.same
         ∙ replay-one b e new.accepted;
     posts = ap posts_in new.history ∙ posts-more b.history e b.cuts old.posts ∙ sym (ap length new.cuts);
     replaces = ap replaces_in new.history ∙ replaces-more b.history e b.plans old.replaces ∙ sym (ap length new.plans);
+    pricings = ap pricings_in new.history ∙ pricings-more b.history e b.prices old.pricings ∙ sym (ap length new.prices);
   }
 
   pub event-replayed : (b : Book) (e : Event) → IsReplayed broken b → IsReplayed broken (after b e)

@@ -1,4 +1,4 @@
--- Every event keeps the room of the history: each accepted event but post and replace uses one entry of it.
+-- Every event keeps the room of the history: each accepted event but a posting and a replace uses one entry of it.
 use Rattle.std.proofs.Common.{◌≡◌, ℕ, suc, ◌+◌, ◌-◌, ◌*◌, ◌≤◌, List, [], ◌∷◌, length, refl, sym, ap, ◌∙◌, subst, arith, Bool, true, false, cond, nat_le, slice_set}
 use Rattle.std.specs.declared.option.Option.{Option}
 use Rattle.lock_model.specs.declared.instance.Instance.{Instance}
@@ -10,14 +10,14 @@ use Rattle.book_rules.specs.declared.book.Entry.TheVariants as entry
 use Rattle.book_rules.specs.declared.book.SlotState.{SlotState}
 use Rattle.book_rules.specs.declared.book.SlotState.TheVariants as slot
 use Rattle.book_rules.specs.Book.{Case, Slot, Book, slot_at, best_cost, bound_at, root, opening_book, is_back, is_held, is_parked}
-use Rattle.book_rules.specs.Events.{Event, Reply, IsOwed, is_accepted, post, replace}
+use Rattle.book_rules.specs.Events.{Event, Reply, IsOwed, is_accepted, post, post_prices, replace}
 use Rattle.book_rules.specs.Step
 use Rattle.book_rules.specs.Room.{count_slots, count_false, room_of}
 use Rattle.book_rules.specs.Budget.{is_taken, KeepsBudget}
 use Rattle.book_rules.specs.History.{KeepsRoom}
 use Rattle.book_rules.proofs.SlotLemmas.{IsAt}
-use Rattle.book_rules.proofs.StepLemmas.{Refused, Accepted, each-step, entry_of, cuts_of, plans_of}
-use Rattle.book_rules.proofs.MoveLemmas.{Stays, TakesBack, TakesFresh, Splits, Closes, Parks, Posts, Replaces, Ends, GivesBack, IsRunning, MayClose, FromHeld, FromParked, is_growing, each-move}
+use Rattle.book_rules.proofs.StepLemmas.{Refused, Accepted, each-step, entry_of, cuts_of, plans_of, prices_of}
+use Rattle.book_rules.proofs.MoveLemmas.{Stays, TakesBack, TakesFresh, Splits, Closes, Parks, Posts, Prices, Replaces, Ends, GivesBack, IsRunning, MayClose, FromHeld, FromParked, is_growing, each-move}
 use Rattle.book_rules.proofs.TallyLemmas.{one, count-turned, count-append, count-children, count-outdone, length-append, count_false-set}
 use Rattle.closing_rules.specs.declared.grounds.Ground.TheVariants as by
 
@@ -84,6 +84,7 @@ module _ {Break : Type 0} (broken : Instance → Plan → Option Break) (b : Boo
             let slots = slots_room-turned b id (slot.Held w) (slot.Parked c p) at in
             Less (subst (λ (u : Book). suc (room_of u) ≤ room_of b) (sym same) (omega (arith, slots)))
         | Posts cut grows good own same ↦ Own grows (subst (λ (u : Book). room_of u ≤ room_of b) (sym same) (omega arith))
+        | Prices prices grows good own same ↦ Own grows (subst (λ (u : Book). room_of u ≤ room_of b) (sym same) (omega arith))
         | Replaces plan grows cheaper same ↦
             let cost = cost_of b.case.instance plan in
             Own grows (subst (λ (u : Book). room_of u ≤ room_of b) (sym same)
@@ -94,7 +95,7 @@ module _ {Break : Type 0} (broken : Instance → Plan → Option Break) (b : Boo
             Less (subst (λ (u : Book). suc (room_of u) ≤ room_of b) (sym same) (omega (arith, slots, ends-count b w nine runs)))
       ]
 
-  -- an accepted event that is neither post nor replace uses one entry of the room
+  -- an accepted event that is neither a posting nor a replace uses one entry of the room
   pub room-falls : (e : Event) → IsOwed e → is_growing e ≡ false → is_accepted (Step.step broken b e).1 ≡ true → suc (room_of (Step.step broken b e).0) ≤ room_of b
   room-falls e owed plain accepted =
       elim (room-left e owed) [
@@ -112,8 +113,9 @@ module _ {Break : Type 0} (broken : Instance → Plan → Option Break) (b : Boo
         | Refusal refused same ↦ omega (arith, ap room_of same)
       ]
 
-  own-entry : (e : Event) → is_growing e ≡ true → length (cuts_of e) + length (plans_of e) ≡ 1
+  own-entry : (e : Event) → is_growing e ≡ true → length (cuts_of e) + length (plans_of e) + length (prices_of e) ≡ 1
   own-entry (post cut) grows = refl
+  own-entry (post_prices prices) grows = refl
   own-entry (replace plan) grows = refl
   own-entry _ grows = absurd (clash (sym grows))
 
@@ -125,10 +127,11 @@ module _ {Break : Type 0} (broken : Instance → Plan → Option Break) (b : Boo
             let long = ap length new.history ∙ length-append b.history (entry_of e ∷ []) in
             let cuts = ap length new.cuts ∙ length-append b.cuts (cuts_of e) in
             let plans = ap length new.plans ∙ length-append b.plans (plans_of e) in
+            let prices = ap length new.prices ∙ length-append b.prices (prices_of e) in
             let nodes = ap (λ (c : Case). c.nodes) new.case in
             elim (room-left e owed) [
-              | Less h ↦ record { room = omega (arith, keeps.room, h, long, cuts, plans, nodes) }
-              | Own grows h ↦ record { room = omega (arith, keeps.room, h, long, cuts, plans, nodes, own-entry e grows) }
+              | Less h ↦ record { room = omega (arith, keeps.room, h, long, cuts, plans, prices, nodes) }
+              | Own grows h ↦ record { room = omega (arith, keeps.room, h, long, cuts, plans, prices, nodes, own-entry e grows) }
               | Refusal refused same ↦ subst KeepsRoom (sym same) keeps
             ]
       ]
@@ -136,7 +139,7 @@ module _ {Break : Type 0} (broken : Instance → Plan → Option Break) (b : Boo
 pub opening-room : (case : Case) (plan : Plan) → KeepsRoom (opening_book case plan)
 opening-room case plan = record { room = by_bound (nat_le (cost_of case.instance plan) (bound_at case.instance root)) }
   where
-    by_bound : (t : Bool) → 0 + (3 * (case.nodes - 0) + 3 * (one (is_back (cond t (slot.Closed by.Bound) slot.Fresh)) + 0) + 2 * (one (is_held (cond t (slot.Closed by.Bound) slot.Fresh)) + 0) + (one (is_parked (cond t (slot.Closed by.Bound) slot.Fresh)) + 0) + 2 * 9) ≤ 3 * case.nodes + 32 + 0 + 0
+    by_bound : (t : Bool) → 0 + (3 * (case.nodes - 0) + 3 * (one (is_back (cond t (slot.Closed by.Bound) slot.Fresh)) + 0) + 2 * (one (is_held (cond t (slot.Closed by.Bound) slot.Fresh)) + 0) + (one (is_parked (cond t (slot.Closed by.Bound) slot.Fresh)) + 0) + 2 * 9) ≤ 3 * case.nodes + 32 + 0 + 0 + 0
     by_bound true = omega arith
     by_bound false = omega arith
 

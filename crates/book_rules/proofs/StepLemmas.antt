@@ -1,5 +1,5 @@
 -- What every step of the book machine keeps.
-use Rattle.std.proofs.Common.{◌≡◌, ℕ, suc, List, [], ◌∷◌, ◌++◌, length, refl, sym, ap, ◌∙◌, Bool, true, false, not, cond, Some, None, slice_index_or, nat_eq, nat_le}
+use Rattle.std.proofs.Common.{◌≡◌, ℕ, suc, List, [], ◌∷◌, ◌++◌, length, refl, sym, ap, ◌∙◌, Bool, true, false, not, cond, Some, None, slice_index_or, slice_get, nat_eq, nat_le}
 use Rattle.std.specs.declared.option.Option.{Option}
 use Rattle.lock_model.specs.Deck.{Deck}
 use Rattle.lock_model.specs.declared.instance.Instance.{Instance}
@@ -10,21 +10,25 @@ use Rattle.book_rules.specs.declared.book.Entry.{Entry}
 use Rattle.book_rules.specs.Events.{Event, Reply, is_accepted}
 use Rattle.book_rules.specs.declared.book.Entry.TheVariants as entry
 use Rattle.book_rules.specs.Book.{Book, slot_at, best_cost, first_slot, has_slot, is_back, is_held, is_held_by, group_at}
-use Rattle.book_rules.specs.Events.{take, split, close, post, park, replace, release}
-use Rattle.book_rules.specs.Events.{Node, Made, Closed, Parked, Replaced, Released, Ended, NodesSpent, Idle, Done, NotHeld, Whole, OtherDeck, NotCheaper, Clashes}
+use Rattle.book_rules.specs.Events.{take, split, close, post, post_prices, close_price, park, replace, release}
+use Rattle.book_rules.specs.Events.{Node, Made, Closed, Parked, Replaced, Released, Ended, NodesSpent, Idle, Done, NotHeld, Whole, OtherDeck, OtherPrices, NotCheaper, Clashes}
 use Rattle.lock_rules.specs.Plan.{cost_of}
 use Rattle.book_rules.specs.Tests.{has_clash, is_own_cut}
+use Rattle.book_rules.specs.Shown.{Shown}
 use Rattle.book_rules.specs.NextSlot
 use Rattle.book_rules.specs.Step
-use Rattle.book_rules.proofs.ClosingLemmas.{MayRefuse, may-refuse}
+use Rattle.book_rules.proofs.ClosingLemmas.{MayRefuse, may-refuse, may-refuse_price}
 use Rattle.closing_rules.specs.declared.grounds.Ground.{Ground}
+use Rattle.closing_rules.specs.declared.grounds.Ground.TheVariants as by
 
--- the entry of an event, and the cuts and plans that it brings
+-- the entry of an event, and the cuts, plans and prices that it brings
 abbrev pub entry_of : Event → Entry
 entry_of (take w) = entry.Take w
 entry_of (split id) = entry.Split id
 entry_of (close id why) = entry.Close id why
 entry_of (post cut) = entry.Post
+entry_of (post_prices prices) = entry.Prices
+entry_of (close_price id number shown) = entry.Close id (by.Price number)
 entry_of (park id c p deck turns) = entry.Park id c p
 entry_of (replace plan) = entry.Replace
 entry_of (release w) = entry.Release w
@@ -37,12 +41,17 @@ abbrev pub plans_of : Event → List Plan
 plans_of (replace plan) = plan ∷ []
 plans_of _ = []
 
--- an accepted event: one entry more, its cuts and plans, and the same case and opening plan
+abbrev pub prices_of : Event → List (List ℕ)
+prices_of (post_prices prices) = prices ∷ []
+prices_of _ = []
+
+-- an accepted event: one entry more, its cuts, plans and prices, and the same case and opening plan
 pub record IsAccepted (Break : Type 0) (old : Book) (e : Event) (out : Book × Reply Break) : Type 0 where
   pub accepted : is_accepted out.1 ≡ true
   pub history : out.0.history ≡ old.history ++ entry_of e ∷ []
   pub cuts : out.0.cuts ≡ old.cuts ++ cuts_of e
   pub plans : out.0.plans ≡ old.plans ++ plans_of e
+  pub prices : out.0.prices ≡ old.prices ++ prices_of e
   pub case : out.0.case ≡ old.case
   pub opening : out.0.opening ≡ old.opening
 
@@ -68,19 +77,20 @@ module _ {Break : Type 0} (broken : Instance → Plan → Option Break) (b : Boo
   refuse_or : (e : Event) (t : Bool) (r : Reply Break) (out : Book × Reply Break) → is_accepted r ≡ false → Is e out → Is e (cond t (b, r) out)
   refuse_or e t r out f h = by_test b e t (b, r) out (Refused f refl) h
 
-  -- an accepted event that brings neither cut nor plan
-  plain : (e : Event) (new : Book) (r : Reply Break) → cuts_of e ≡ [] → plans_of e ≡ [] → is_accepted r ≡ true → new.history ≡ b.history ++ entry_of e ∷ [] → new.cuts ≡ b.cuts → new.plans ≡ b.plans → new.case ≡ b.case → new.opening ≡ b.opening → Is e (new, r)
-  plain e new r no_cut no_plan good history cuts plans case opening = Accepted (record {
+  -- an accepted event that brings neither cut nor plan nor prices
+  plain : (e : Event) (new : Book) (r : Reply Break) → cuts_of e ≡ [] → plans_of e ≡ [] → prices_of e ≡ [] → is_accepted r ≡ true → new.history ≡ b.history ++ entry_of e ∷ [] → new.cuts ≡ b.cuts → new.plans ≡ b.plans → new.prices ≡ b.prices → new.case ≡ b.case → new.opening ≡ b.opening → Is e (new, r)
+  plain e new r no_cut no_plan no_prices good history cuts plans prices case opening = Accepted (record {
     accepted = good;
     history = history;
     cuts = cuts ∙ append-nil b.cuts ∙ ap (λ ds. b.cuts ++ ds) (sym no_cut);
     plans = plans ∙ append-nil b.plans ∙ ap (λ qs. b.plans ++ qs) (sym no_plan);
+    prices = prices ∙ append-nil b.prices ∙ ap (λ us. b.prices ++ us) (sym no_prices);
     case = case;
     opening = opening;
   })
 
   given-step : (w id used : ℕ) → Is (take w) (Step.given b w id used)
-  given-step w id used = plain (take w) (Step.given {Break = Break} b w id used).0 (Node id (slot_at b id).node) refl refl refl refl refl refl refl refl
+  given-step w id used = plain (take w) (Step.given {Break = Break} b w id used).0 (Node id (slot_at b id).node) refl refl refl refl refl refl refl refl refl refl
 
   idle-step : (w : ℕ) (t : Bool) → Is (take w) (b, cond t Idle Done)
   idle-step w true = Refused refl refl
@@ -100,38 +110,48 @@ module _ {Break : Type 0} (broken : Instance → Plan → Option Break) (b : Boo
 
   close-step : (id : ℕ) (why : Ground) (o : Option (Reply Break)) → MayRefuse o → Is (close id why) (Step.close_unless b id why o)
   close-step id why (Some r) refuses = Refused refuses refl
-  close-step id why None refuses = plain (close id why) (Step.closed b id why) Closed refl refl refl refl refl refl refl refl
+  close-step id why None refuses = plain (close id why) (Step.closed b id why) Closed refl refl refl refl refl refl refl refl refl refl
+
+  close_price-step : (id number : ℕ) (shown : Shown) (o : Option (Reply Break)) → MayRefuse o → Is (close_price id number shown) (Step.close_unless b id (by.Price number) o)
+  close_price-step id number shown (Some r) refuses = Refused refuses refl
+  close_price-step id number shown None refuses = plain (close_price id number shown) (Step.closed b id (by.Price number)) Closed refl refl refl refl refl refl refl refl refl refl
 
   park_group-step : (id c p : ℕ) (deck : Deck) (turns : ℕ) (o : Option Group) → Is (park id c p deck turns) (Step.park_group b id c p deck turns o)
   park_group-step id c p deck turns None = Refused refl refl
   park_group-step id c p deck turns (Some g) =
       refuse_or (park id c p deck turns) (not (Step.is_lent b c g deck turns)) OtherDeck (cond (has_clash deck.ships) (b, Clashes id) (Step.parked b id c p)) refl
       (refuse_or (park id c p deck turns) (has_clash deck.ships) (Clashes id) (Step.parked b id c p) refl
-      (plain (park id c p deck turns) (Step.parked {Break = Break} b id c p).0 Parked refl refl refl refl refl refl refl refl))
+      (plain (park id c p deck turns) (Step.parked {Break = Break} b id c p).0 Parked refl refl refl refl refl refl refl refl refl refl))
 
   replace_by-step : (plan : Plan) (o : Option Break) → Is (replace plan) (Step.replace_by b plan o)
   replace_by-step plan (Some found) = Refused refl refl
   replace_by-step plan None =
       refuse_or (replace plan) (nat_le (best_cost b) (cost_of b.case.instance plan)) (NotCheaper (cost_of b.case.instance plan) (best_cost b)) (Step.replaced b plan, Replaced (cost_of b.case.instance plan)) refl
-      (Accepted (record { accepted = refl; history = refl; cuts = append-nil b.cuts; plans = refl; case = refl; opening = refl }))
+      (Accepted (record { accepted = refl; history = refl; cuts = append-nil b.cuts; plans = refl; prices = append-nil b.prices; case = refl; opening = refl }))
 
   release_slot-step : (w : ℕ) (o : Option ℕ) → Is (release w) (Step.release_slot b w o)
-  release_slot-step w None = plain (release w) (Step.release_slot {Break = Break} b w None).0 (Released 0) refl refl refl refl refl refl refl refl
-  release_slot-step w (Some id) = plain (release w) (Step.release_slot {Break = Break} b w (Some id)).0 (Released 1) refl refl refl refl refl refl refl refl
+  release_slot-step w None = plain (release w) (Step.release_slot {Break = Break} b w None).0 (Released 0) refl refl refl refl refl refl refl refl refl refl
+  release_slot-step w (Some id) = plain (release w) (Step.release_slot {Break = Break} b w (Some id)).0 (Released 1) refl refl refl refl refl refl refl refl refl refl
 
-  -- A refused event leaves the book as it was; an accepted one appends its entry, its cuts and its plans, and keeps the case and the opening plan.
+  -- A refused event leaves the book as it was; an accepted one appends its entry, its cuts, its plans and its prices, and keeps the case and the opening plan.
   pub each-step : (e : Event) → IsStep {Break = Break} b e (Step.step broken b e)
   each-step (take w) = refuse_or (take w) (slice_index_or b.ended w false) (Ended w) (Step.take_free b w (first_slot b (is_held_by w))) refl (take_free-step w (first_slot b (is_held_by w)))
   each-step (split id) =
       let whole = nat_le (length b.case.instance.ships) (slot_at b id).node.depth in
       refuse_or (split id) (not (is_held (slot_at b id).state)) (NotHeld id) (cond whole (b, Whole id) (Step.split_slot b id)) refl
       (refuse_or (split id) whole (Whole id) (Step.split_slot b id) refl
-      (plain (split id) (Step.split_slot {Break = Break} b id).0 (Made (length (Step.children_in b id))) refl refl refl refl refl refl refl refl))
+      (plain (split id) (Step.split_slot {Break = Break} b id).0 (Made (length (Step.children_in b id))) refl refl refl refl refl refl refl refl refl refl))
   each-step (close id why) =
       refuse_or (close id why) (not (Step.may_close b id)) (NotHeld id) (Step.close_unless b id why (Step.refusal_of b id why)) refl (close-step id why (Step.refusal_of b id why) (may-refuse b id Break why))
   each-step (post cut) =
       refuse_or (post cut) (not (is_own_cut b.case.instance cut)) OtherDeck (Step.posted b cut) refl
-      (Accepted (record { accepted = refl; history = refl; cuts = refl; plans = append-nil b.plans; case = refl; opening = refl }))
+      (Accepted (record { accepted = refl; history = refl; cuts = refl; plans = append-nil b.plans; prices = append-nil b.prices; case = refl; opening = refl }))
+  each-step (post_prices prices) =
+      refuse_or (post_prices prices) (not (nat_eq (length prices) (length b.case.instance.ships))) OtherPrices (Step.priced b prices) refl
+      (Accepted (record { accepted = refl; history = refl; cuts = append-nil b.cuts; plans = append-nil b.plans; prices = refl; case = refl; opening = refl }))
+  each-step (close_price id number shown) =
+      let refusal = Step.price_refusal b id number shown (slice_get b.prices number) in
+      refuse_or (close_price id number shown) (not (Step.may_close b id)) (NotHeld id) (Step.close_unless b id (by.Price number) refusal) refl (close_price-step id number shown refusal (may-refuse_price b id Break number shown (slice_get b.prices number)))
   each-step (park id c p deck turns) =
       let onwards = Step.park_group b id c p deck turns (group_at (slot_at b id).node c p) in
       refuse_or (park id c p deck turns) (not (is_held (slot_at b id).state)) (NotHeld id) onwards refl (park_group-step id c p deck turns (group_at (slot_at b id).node c p))

@@ -13,7 +13,7 @@ use Rattle.book_rules.specs.Book.{Case, Slot, Book, no_slot, best_cost, bound_at
 use Rattle.book_rules.specs.Events.{Event, IsOwed}
 use Rattle.book_rules.specs.Step
 use Rattle.book_rules.specs.Workers.{KeepsWorkers}
-use Rattle.book_rules.proofs.MoveLemmas.{Stays, TakesBack, TakesFresh, Splits, Closes, Parks, Posts, Replaces, Ends, GivesBack, IsRunning, HoldsNone, turned, each-move}
+use Rattle.book_rules.proofs.MoveLemmas.{Stays, TakesBack, TakesFresh, Splits, Closes, Parks, Posts, Prices, Replaces, Ends, GivesBack, IsRunning, HoldsNone, turned, each-move}
 use Rattle.book_rules.proofs.TallyLemmas.{Kept, Closed, outdone-is}
 use Rattle.book_rules.proofs.TurnLemmas.{Turned, Untouched, turned-at, Parent, Old, Child, Past, split-at, kid, outdone-at}
 use Rattle.closing_rules.specs.declared.grounds.Ground.TheVariants as by
@@ -119,6 +119,7 @@ module _ {Break : Type 0} (broken : Instance → Plan → Option Break) (b : Boo
         | Parks w id c p at tells same ↦
             subst KeepsWorkers (sym same) (same-workers b (turned b id (slot.Parked c p) b.used b.ended (entry.Park id c p)) keeps refl (λ other v h. (turned-holds b id (slot.Parked c p) at.known refl other v h).0))
         | Posts cut grows good own same ↦ subst KeepsWorkers (sym same) (same-workers b (Step.noted (record b { cuts = b.cuts ++ cut ∷ [] }) entry.Post) keeps refl (λ other v h. h))
+        | Prices prices grows good own same ↦ subst KeepsWorkers (sym same) (same-workers b (Step.noted (record b { prices = b.prices ++ prices ∷ [] }) entry.Prices) keeps refl (λ other v h. h))
         | Replaces plan grows cheaper same ↦ subst KeepsWorkers (sym same) (same-workers b (Step.replaced b plan) keeps refl (outdone-holds (cost_of b.case.instance plan) b.slots))
         | Ends w runs none same ↦
             subst KeepsWorkers (sym same) (ended-workers b (Step.noted (record b { ended = slice_set b.ended w true }) (entry.Release w)) w keeps refl (λ other v h. (h, λ e. none other (subst (λ u. Holds b.slots other u) e h))))

@@ -40,6 +40,7 @@ pub record Book : Type 0 where
   pub opening : Plan
   pub slots : List Slot
   pub cuts : List Cut
+  pub prices : List (List ℕ)
   pub plans : List Plan
   pub best : Plan
   pub used : ℕ
@@ -80,6 +81,7 @@ opening_book case plan = record {
   opening = plan;
   slots = new_slot case.instance (cost_of case.instance plan) 0 0 root ∷ [];
   cuts = [];
+  prices = [];
   plans = [];
   best = plan;
   used = 0;

@@ -7,6 +7,7 @@ use Rattle.lock_rules.specs.Plan.{IsLegal, cost_of}
 use Rattle.lock_rules.specs.Node.{IsNode}
 use Rattle.lock_rules.specs.Trace.{IsUnder}
 use Rattle.refute_rules.specs.Cuts.{Cut, IsCut}
+use Rattle.closing_rules.specs.ListedPrices.{ArePrices, AreShapedPrices}
 use Rattle.book_rules.specs.Book.{Slot, Book, no_slot, best_cost, bound_at, is_live}
 
 -- the plan lies under a slot that is open, held or parked
@@ -32,8 +33,9 @@ pub record IsOwnCut (I : Instance) (cut : Cut) : Type 0 where
   pub ships : All (λ s. s < length I.ships) cut.ships
   pub deck : cut.deck ≡ deck_of I cut.chamber cut.ships
 
--- What every book keeps: its slots and cuts are good, and it covers.
+-- What every book keeps: its slots, cuts and prices are good, and it covers.
 pub record KeepsBook (b : Book) : Type 0 where
   pub slots : All (IsGoodSlot b.case.instance) b.slots
   pub cuts : All (λ cut. IsCut cut × IsOwnCut b.case.instance cut) b.cuts
+  pub prices : All (λ u. ArePrices u × AreShapedPrices b.case.instance u) b.prices
   pub covers : Covers b

@@ -1,18 +1,22 @@
 -- Events of a book, and its replies.
-use Rattle.std.specs.Prelude.{ℕ, ◌≤◌, Bool, true, false, ⊤}
+use Rattle.std.specs.Prelude.{ℕ, ◌≤◌, List, Bool, true, false, ⊤}
 use Rattle.lock_model.specs.Deck.{Deck}
 use Rattle.lock_model.specs.declared.plan.Plan.{Plan}
 use Rattle.refute_rules.specs.Spots.{IsSpent}
 use Rattle.refute_rules.specs.Cuts.{Cut, IsCut}
 use Rattle.closing_rules.specs.declared.grounds.Ground.{Ground}
+use Rattle.closing_rules.specs.ListedPrices.{ArePrices}
 use Rattle.book_rules.specs.Book.{Node as TreeNode}
+use Rattle.book_rules.specs.Shown.{Shown, IsShown}
 
--- The events; `park` names slot, chamber and place, and carries the deck and the turns of the lent value.
+-- The events; `park` names slot, chamber and place, and carries the deck and the turns of the lent value; `close_price` names slot and prices, and carries what was shown.
 pub data Event : Type 0 where
   take : ℕ → Event
   split : ℕ → Event
   close : ℕ → Ground → Event
   post : Cut → Event
+  post_prices : List ℕ → Event
+  close_price : ℕ → ℕ → Shown → Event
   park : ℕ → ℕ → ℕ → Deck → ℕ → Event
   replace : Plan → Event
   release : ℕ → Event
@@ -23,6 +27,7 @@ pub data Reply (Break : Type 0) : Type 0 where
   Made : ℕ → Reply Break
   Closed : Reply Break
   Posted : ℕ → Reply Break
+  Priced : ℕ → Reply Break
   Parked : Reply Break
   Replaced : ℕ → Reply Break
   Released : ℕ → Reply Break
@@ -40,22 +45,28 @@ pub data Reply (Break : Type 0) : Type 0 where
   NotCheaper : ℕ → ℕ → Reply Break
   Absent : ℕ → Reply Break
   Clashes : ℕ → Reply Break
+  OtherPrices : Reply Break
+  NoPrices : ℕ → Reply Break
+  NotShown : Reply Break
 
--- the first seven are accepted, the others are refusals
+-- the first eight are accepted, the others are refusals
 abbrev pub is_accepted : {Break : Type 0} → Reply Break → Bool
 is_accepted (Node id node) = true
 is_accepted (Made count) = true
 is_accepted Closed = true
 is_accepted (Posted number) = true
+is_accepted (Priced number) = true
 is_accepted Parked = true
 is_accepted (Replaced cost) = true
 is_accepted (Released count) = true
 is_accepted _ = false
 
--- what the caller of an event owes: a worker's number is at most 8, a lent deck is hard and spot-hard, and a cut's refutation holds
+-- what the caller of an event owes: a worker's number is at most 8, a lent deck is hard and spot-hard, a cut's refutation holds, prices are within their limits, and what is shown is reached
 abbrev pub IsOwed : Event → Type 0
 IsOwed (take w) = w ≤ 8
 IsOwed (release w) = w ≤ 8
 IsOwed (park id c p deck turns) = IsSpent deck turns
 IsOwed (post cut) = IsCut cut
+IsOwed (post_prices prices) = ArePrices prices
+IsOwed (close_price id number shown) = IsShown shown
 IsOwed _ = ⊤

@@ -1,6 +1,8 @@
 pub mod Tests
 pub mod Book
 pub mod Verdict
+pub mod Same
+pub mod Shown
 pub mod Events
 pub mod NextSlot
 pub mod Step

@@ -1,33 +1,53 @@
 -- A history played again.
-use Rattle.std.specs.Prelude.{ℕ, suc, ◌≡◌, List, [], ◌∷◌, length}
+use Rattle.std.specs.Prelude.{ℕ, suc, ◌≡◌, List, [], ◌∷◌, length, map, slice_index_or}
 use Rattle.std.specs.declared.option.Option.{Option}
 use Rattle.lock_model.specs.Fitting.{deck_of}
 use Rattle.lock_model.specs.declared.instance.Instance.{Instance}
 use Rattle.lock_model.specs.declared.plan.Plan.{Plan}
 use Rattle.refute_rules.specs.Cuts.{Cut}
+use Rattle.closing_rules.specs.declared.grounds.Ground.{Ground}
+use Rattle.closing_rules.specs.declared.grounds.Ground.TheVariants as by
 use Rattle.book_rules.specs.declared.book.Entry.{Entry}
 use Rattle.book_rules.specs.declared.book.Entry.TheVariants as entry
-use Rattle.book_rules.specs.Book.{Case, Book, slot_at, ships_at, opening_book}
-use Rattle.book_rules.specs.Events.{take, split, close, post, park, replace, release}
+use Rattle.book_rules.specs.Book.{Case, Book, slot_at, best_cost, ships_at, opening_book}
+use Rattle.book_rules.specs.Events.{Event, take, split, close, post, post_prices, close_price, park, replace, release}
+use Rattle.book_rules.specs.Shown.{Shown, chamber_cut}
 use Rattle.book_rules.specs.Step.{step}
 
--- The book after the entries; a post takes the next cut, a replace the next plan, a park the group's deck and the case's turns.
-abbrev pub replay_from : {Break : Type 0} → (Instance → Plan → Option Break) → Book → List Entry → List Cut → List Plan → Book
-replay_from broken b [] cuts plans = b
-replay_from broken b (entry.Take w ∷ es) cuts plans = replay_from broken (step broken b (take w)).0 es cuts plans
-replay_from broken b (entry.Split id ∷ es) cuts plans = replay_from broken (step broken b (split id)).0 es cuts plans
-replay_from broken b (entry.Close id why ∷ es) cuts plans = replay_from broken (step broken b (close id why)).0 es cuts plans
-replay_from broken b (entry.Post ∷ es) [] plans = b
-replay_from broken b (entry.Post ∷ es) (cut ∷ cuts) plans = replay_from broken (step broken b (post cut)).0 es cuts plans
-replay_from broken b (entry.Park id c p ∷ es) cuts plans =
-    replay_from broken (step broken b (park id c p (deck_of b.case.instance c (ships_at (slot_at b id).node c p)) b.case.turns)).0 es cuts plans
-replay_from broken b (entry.Replace ∷ es) cuts [] = b
-replay_from broken b (entry.Replace ∷ es) cuts (plan ∷ plans) = replay_from broken (step broken b (replace plan)).0 es cuts plans
-replay_from broken b (entry.Release w ∷ es) cuts plans = replay_from broken (step broken b (release w)).0 es cuts plans
+-- what the book itself says of slot id and the prices of a number: its own cuts and its best cost
+abbrev pub own_shown : Book → ℕ → ℕ → Shown
+own_shown b id number = record {
+  instance = b.case.instance;
+  node = (slot_at b id).node;
+  prices = slice_index_or b.prices number [];
+  cuts = map chamber_cut b.cuts;
+  cost = best_cost b;
+}
+
+-- the event that closes slot id so
+abbrev pub closing_of : Book → ℕ → Ground → Event
+closing_of b id (by.Price number) = close_price id number (own_shown b id number)
+closing_of b id why = close id why
+
+-- The book after the entries; a post takes the next cut or prices, a replace the next plan, a park the group's deck and the case's turns, and a closing by prices what the book itself says.
+abbrev pub replay_from : {Break : Type 0} → (Instance → Plan → Option Break) → Book → List Entry → List Cut → List Plan → List (List ℕ) → Book
+replay_from broken b [] cuts plans prices = b
+replay_from broken b (entry.Take w ∷ es) cuts plans prices = replay_from broken (step broken b (take w)).0 es cuts plans prices
+replay_from broken b (entry.Split id ∷ es) cuts plans prices = replay_from broken (step broken b (split id)).0 es cuts plans prices
+replay_from broken b (entry.Close id why ∷ es) cuts plans prices = replay_from broken (step broken b (closing_of b id why)).0 es cuts plans prices
+replay_from broken b (entry.Post ∷ es) [] plans prices = b
+replay_from broken b (entry.Post ∷ es) (cut ∷ cuts) plans prices = replay_from broken (step broken b (post cut)).0 es cuts plans prices
+replay_from broken b (entry.Prices ∷ es) cuts plans [] = b
+replay_from broken b (entry.Prices ∷ es) cuts plans (own ∷ prices) = replay_from broken (step broken b (post_prices own)).0 es cuts plans prices
+replay_from broken b (entry.Park id c p ∷ es) cuts plans prices =
+    replay_from broken (step broken b (park id c p (deck_of b.case.instance c (ships_at (slot_at b id).node c p)) b.case.turns)).0 es cuts plans prices
+replay_from broken b (entry.Replace ∷ es) cuts [] prices = b
+replay_from broken b (entry.Replace ∷ es) cuts (plan ∷ plans) prices = replay_from broken (step broken b (replace plan)).0 es cuts plans prices
+replay_from broken b (entry.Release w ∷ es) cuts plans prices = replay_from broken (step broken b (release w)).0 es cuts plans prices
 
 -- the book that a case and an opening plan give, after this history
-abbrev pub replay : {Break : Type 0} → (Instance → Plan → Option Break) → Case → Plan → List Entry → List Cut → List Plan → Book
-replay broken case plan history cuts plans = replay_from broken (opening_book case plan) history cuts plans
+abbrev pub replay : {Break : Type 0} → (Instance → Plan → Option Break) → Case → Plan → List Entry → List Cut → List Plan → List (List ℕ) → Book
+replay broken case plan history cuts plans prices = replay_from broken (opening_book case plan) history cuts plans prices
 
 -- how many entries of a history are posts
 abbrev pub posts_in : List Entry → ℕ
@@ -41,8 +61,15 @@ replaces_in [] = 0
 replaces_in (entry.Replace ∷ es) = suc (replaces_in es)
 replaces_in (_ ∷ es) = replaces_in es
 
--- The book is the replay of its history, which takes all its cuts and all its plans.
+-- how many are postings of prices
+abbrev pub pricings_in : List Entry → ℕ
+pricings_in [] = 0
+pricings_in (entry.Prices ∷ es) = suc (pricings_in es)
+pricings_in (_ ∷ es) = pricings_in es
+
+-- The book is the replay of its history, which takes all its cuts, plans and prices.
 pub record IsReplayed {Break : Type 0} (broken : Instance → Plan → Option Break) (b : Book) : Type 0 where
-  pub same : replay broken b.case b.opening b.history b.cuts b.plans ≡ b
+  pub same : replay broken b.case b.opening b.history b.cuts b.plans b.prices ≡ b
   pub posts : posts_in b.history ≡ length b.cuts
   pub replaces : replaces_in b.history ≡ length b.plans
+  pub pricings : pricings_in b.history ≡ length b.prices

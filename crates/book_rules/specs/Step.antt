@@ -1,6 +1,7 @@
 -- The book machine: what each event changes, and what is answered. A refusal changes nothing.
 use Rattle.std.specs.Prelude.{ℕ, suc, Bool, true, false, not, ◌&&◌, ◌||◌, List, [], ◌∷◌, ◌++◌, length, map, slice_index_or, slice_set, slice_get, nat_eq, nat_le, nat_lt, if◌then◌else◌, Some, None}
 use Rattle.std.specs.declared.option.Option.{Option}
+use Rattle.std.specs.Cmp.Lexicographic.{pointwise}
 use Rattle.lock_model.specs.Deck.{Deck}
 use Rattle.lock_model.specs.Fitting.{deck_of}
 use Rattle.lock_model.specs.declared.instance.Instance.{Instance}
@@ -17,9 +18,11 @@ use Rattle.closing_rules.specs.declared.grounds.Ground.{Ground}
 use Rattle.closing_rules.specs.declared.grounds.Ground.TheVariants as by
 use Rattle.book_rules.specs.declared.book.SlotState.{SlotState}
 use Rattle.book_rules.specs.declared.book.Entry.{Entry}
+use Rattle.book_rules.specs.Same.{same_instance, same_node}
+use Rattle.book_rules.specs.Shown.{Shown, are_first_cuts}
 use Rattle.book_rules.specs.Tests.{same_deck, has_clash, is_node_hit, is_own_cut}
 use Rattle.book_rules.specs.Book.{Slot, Book, slot_at, best_cost, new_slot, is_fresh, is_back, is_held, is_held_by, is_parked, has_slot, first_slot, group_at}
-use Rattle.book_rules.specs.Events.{Event, Reply, take, split, close, post, park, replace, release, Node, Made, Closed, Posted, Parked, Replaced, Released, Ended, Holds, NodesSpent, Idle, Done, NotHeld, Whole, Cheaper, NoHit, OtherDeck, NotLegal, NotCheaper, Absent, Clashes}
+use Rattle.book_rules.specs.Events.{Event, Reply, take, split, close, post, post_prices, close_price, park, replace, release, Node, Made, Closed, Posted, Priced, Parked, Replaced, Released, Ended, Holds, NodesSpent, Idle, Done, NotHeld, Whole, Cheaper, NoHit, OtherDeck, NotLegal, NotCheaper, Absent, Clashes, OtherPrices, NoPrices, NotShown}
 use Rattle.book_rules.specs.NextSlot.{next_fresh}
 use Rattle.book_rules.specs.declared.book.SlotState.TheVariants as slot
 use Rattle.book_rules.specs.declared.book.Entry.TheVariants as entry
@@ -95,12 +98,24 @@ is_missing b id s = has_number (missing_ships b.case.instance (slot_at b id).nod
 abbrev pub cheaper_than : {Break : Type 0} → ℕ → ℕ → Option (Reply Break)
 cheaper_than best bound = if nat_lt bound best then Some (Cheaper bound best) else None
 
--- why slot id isn't closed so, where it may be closed
+-- why slot id isn't closed so, where it may be closed; by prices it is closed by what was shown alone (`price_refusal`)
 abbrev pub refusal_of : {Break : Type 0} → Book → ℕ → Ground → Option (Reply Break)
 refusal_of b id by.Bound = cheaper_than (best_cost b) (slot_at b id).bound
 refusal_of b id by.Throughput = cheaper_than (best_cost b) (throughput_of b.case.instance)
 refusal_of b id (by.Probe s) = if not (is_missing b id s) then Some (Absent s) else cheaper_than (best_cost b) (probe_at b id s)
 refusal_of b id (by.Cut number) = if not (hits_in b id (slice_get b.cuts number)) then Some (NoHit number) else None
+refusal_of b id (by.Price number) = Some NotShown
+
+-- what was shown is of the case's instance, of slot id's node, by these prices and by the first cuts of the book
+abbrev pub is_shown : Book → ℕ → List ℕ → Shown → Bool
+is_shown b id prices shown =
+    same_instance shown.instance b.case.instance && same_node shown.node (slot_at b id).node && pointwise nat_eq shown.prices prices
+    && are_first_cuts shown.cuts b.cuts
+
+-- why slot id isn't closed by the prices of this number, where it may be closed
+abbrev pub price_refusal : {Break : Type 0} → Book → ℕ → ℕ → Shown → Option (List ℕ) → Option (Reply Break)
+price_refusal b id number shown None = Some (NoPrices number)
+price_refusal b id number shown (Some prices) = if not (is_shown b id prices shown) then Some NotShown else cheaper_than (best_cost b) shown.cost
 
 -- slot id is closed
 abbrev pub closed : Book → ℕ → Ground → Book
@@ -112,6 +127,17 @@ close_unless b id why None = (closed b id why, Closed)
 
 abbrev pub close_step : {Break : Type 0} → Book → ℕ → Ground → Book × Reply Break
 close_step b id why = if not (may_close b id) then (b, NotHeld id) else close_unless b id why (refusal_of b id why)
+
+abbrev pub close_price_step : {Break : Type 0} → Book → ℕ → ℕ → Shown → Book × Reply Break
+close_price_step b id number shown =
+    if not (may_close b id) then (b, NotHeld id)
+    else close_unless b id (by.Price number) (price_refusal b id number shown (slice_get b.prices number))
+
+abbrev pub priced : {Break : Type 0} → Book → List ℕ → Book × Reply Break
+priced b prices = (noted (record b { prices = b.prices ++ prices ∷ [] }) entry.Prices, Priced (length b.prices))
+
+abbrev pub post_prices_step : {Break : Type 0} → Book → List ℕ → Book × Reply Break
+post_prices_step b prices = if not (nat_eq (length prices) (length b.case.instance.ships)) then (b, OtherPrices) else priced b prices
 
 abbrev pub posted : {Break : Type 0} → Book → Cut → Book × Reply Break
 posted b cut = (noted (record b { cuts = b.cuts ++ cut ∷ [] }) entry.Post, Posted (length b.cuts))
@@ -168,6 +194,8 @@ step first_break b (take w) = take_step b w
 step first_break b (split id) = split_step b id
 step first_break b (close id why) = close_step b id why
 step first_break b (post cut) = post_step b cut
+step first_break b (post_prices prices) = post_prices_step b prices
+step first_break b (close_price id number shown) = close_price_step b id number shown
 step first_break b (park id c p deck turns) = park_step b id c p deck turns
 step first_break b (replace plan) = replace_by b plan (first_break b.case.instance plan)
 step first_break b (release w) = release_step b w

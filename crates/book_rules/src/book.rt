@@ -20,6 +20,7 @@ pub enum Entry {
     Split(u32),
     Close(u32, Ground),
     Post,
+    Prices,
     Park(u32, u8, u8),
     Replace,
     Release(u8),

@@ -1,8 +1,9 @@
 //! The search as a machine, the book: plain types, definitions and laws.
 //!
-//! - The machine: `specs/Book` (slots, cuts, plans, history), `Events`, `Tests`, `NextSlot` (which
-//!   slot is taken), `Step` (what each event changes and answers, and what is refused), `Replay`,
-//!   `Verdict`. Where no closing is refused, the node is as its ground asks (`ClosingLemmas`).
+//! - The machine: `specs/Book` (slots, cuts, prices, plans, history), `Events`, `Tests`, `Same`,
+//!   `Shown` (what is shown beside a book of prices), `NextSlot` (which slot is taken), `Step` (what
+//!   each event changes and answers, and what is refused), `Replay`, `Verdict`. Where no closing is
+//!   refused, the node is as its ground asks (`ClosingLemmas`, `ShownLemmas`).
 //! - What every book keeps: `specs/Cover` (every cheaper plan is under a live slot), and
 //!   `specs/Parts`, which joins `Family` (the slots make a tree), `States` (each state is true of its
 //!   node), `Workers`, `Budget`, `Room` and `History` (entries that may still come), `Cheap` (cheap

@@ -13,8 +13,9 @@ use Rattle.certificate_rules.specs.declared.certificate.FailurePlace.TheVariants
 use Rattle.certificate_rules.specs.declared.certificate.Reason.{Reason}
 use Rattle.certificate_rules.specs.declared.certificate.Reason.TheVariants as reason
 use Rattle.closing_rules.specs.ProvedCuts.{CertCut, IsShaped, IsProved}
+use Rattle.closing_rules.specs.ListedPrices.{AreShapedPrices}
 use Rattle.certificate_rules.specs.Certificates.{Certificate, Closes, IsMarkTree}
-use Rattle.certificate_rules.specs.Failures.{FailInOrder, FailsHere, TreeFails, MarksFail, CutFails, FailsAt, reason_of, Fails}
+use Rattle.certificate_rules.specs.Failures.{FailInOrder, FailsHere, TreeFails, MarksFail, CutFails, PricesFail, FailsAt, reason_of, Fails}
 use Rattle.certificate_rules.proofs.FailLemmas.{heads, tails, tree-unique, tree-not_fails}
 use Rattle.cert_check.specs.FirstFailure.{AreSameFailure}
 
@@ -101,32 +102,60 @@ cut-same I cuts c d p q a b =
       ]
     ]
 
+-- no prices before the first that fail are others
+prices-earlier : (I : Instance) (prices : List (List ℕ)) (u v : ℕ) (p q : Reason) → PricesFail I prices u p → PricesFail I prices v q → u < v → ⊥
+prices-earlier I prices u v p q a b less =
+    let here : u < length (take v prices) = omega (arith, length-take v prices, less, a.known) in
+    let read : slice_index_or (take v prices) u a.own ≡ a.own = get_or-take v prices u a.own less ∙ a.is in
+    a.misshaped (subst (AreShapedPrices I) read (b.before u a.own here))
+
+prices-same : (I : Instance) (prices : List (List ℕ)) (u v : ℕ) (p q : Reason) → PricesFail I prices u p → PricesFail I prices v q → (u ≡ v) × (p ≡ q)
+prices-same I prices u v p q a b =
+    elim (leb_tells (suc u) v) [
+      | inl earlier ↦ absurd (prices-earlier I prices u v p q a b (omega (arith, earlier.1)))
+      | inr later ↦ elim (leb_tells (suc v) u) [
+        | inl earlier ↦ absurd (prices-earlier I prices v u q p b a (omega (arith, earlier.1)))
+        | inr same ↦ (omega (arith, later.1, same.1), a.reason ∙ sym b.reason)
+      ]
+    ]
+
 -- two first failures are the same, of a certificate or an open one
-module _ {M : Type 0} (I : Instance) (split : M) (Closing : ℕ → List (List Group) → M → Type 0) (reason_by : M → Reason) (no_split : (k : ℕ) (lines : List (List Group)) → Closing k lines split → ⊥) (cost : ℕ) (cuts : List CertCut) (plan : Plan) (tree : List M) where
+module _ {M : Type 0} (I : Instance) (split : M) (Closing : ℕ → List (List Group) → M → Type 0) (reason_by : M → Reason) (no_split : (k : ℕ) (lines : List (List Group)) → Closing k lines split → ⊥) (cost : ℕ) (cuts : List CertCut) (prices : List (List ℕ)) (plan : Plan) (tree : List M) where
   abbrev FailsFirst : FailurePlace → Reason → Type 0
-  FailsFirst = FailsAt I cost cuts plan tree (MarksFail I split Closing reason_by tree)
+  FailsFirst = FailsAt I cost cuts prices plan tree (MarksFail I split Closing reason_by tree)
 
   pub failing-same : (p q : FailurePlace) (r s : Reason) → FailsFirst p r → FailsFirst q s → AreSameFailure p q r s
   failing-same place.Plan place.Plan r s a b = record { place = refl; reason = a.1 ∙ sym b.1 }
   failing-same place.Plan place.Cost r s a b = absurd (a.0 b.0)
   failing-same place.Plan (place.Cut d) r s a b = absurd (a.0 b.0)
+  failing-same place.Plan (place.Prices v) r s a b = absurd (a.0 b.0)
   failing-same place.Plan (place.Tree n) r s a b = absurd (a.0 b.0)
   failing-same place.Cost place.Plan r s a b = absurd (b.0 a.0)
   failing-same place.Cost place.Cost r s a b = record { place = refl; reason = a.2 ∙ sym b.2 }
   failing-same place.Cost (place.Cut d) r s a b = absurd (a.1 b.1)
+  failing-same place.Cost (place.Prices v) r s a b = absurd (a.1 b.1)
   failing-same place.Cost (place.Tree n) r s a b = absurd (a.1 b.1)
   failing-same (place.Cut c) place.Plan r s a b = absurd (b.0 a.0)
   failing-same (place.Cut c) place.Cost r s a b = absurd (b.1 a.1)
   failing-same (place.Cut c) (place.Cut d) r s a b =
       let same = cut-same I cuts c d r s a.2 b.2 in
       record { place = ap place.Cut same.0; reason = same.1 }
+  failing-same (place.Cut c) (place.Prices v) r s a b = absurd (unproved-is I cuts c r a.2 (subst (IsProved I) a.2.is (b.2 c a.2.cut a.2.known)))
   failing-same (place.Cut c) (place.Tree n) r s a b = absurd (unproved-is I cuts c r a.2 (subst (IsProved I) a.2.is (b.2 c a.2.cut a.2.known)))
+  failing-same (place.Prices u) place.Plan r s a b = absurd (b.0 a.0)
+  failing-same (place.Prices u) place.Cost r s a b = absurd (b.1 a.1)
+  failing-same (place.Prices u) (place.Cut d) r s a b = absurd (unproved-is I cuts d s b.2 (subst (IsProved I) b.2.is (a.2 d b.2.cut b.2.known)))
+  failing-same (place.Prices u) (place.Prices v) r s a b =
+      let same = prices-same I prices u v r s a.3 b.3 in
+      record { place = ap place.Prices same.0; reason = same.1 }
+  failing-same (place.Prices u) (place.Tree n) r s a b = absurd (a.3.misshaped (subst (AreShapedPrices I) a.3.is (b.3 u a.3.own a.3.known)))
   failing-same (place.Tree m) place.Plan r s a b = absurd (b.0 a.0)
   failing-same (place.Tree m) place.Cost r s a b = absurd (b.1 a.1)
   failing-same (place.Tree m) (place.Cut d) r s a b = absurd (unproved-is I cuts d s b.2 (subst (IsProved I) b.2.is (a.2 d b.2.cut b.2.known)))
+  failing-same (place.Tree m) (place.Prices v) r s a b = absurd (b.3.misshaped (subst (AreShapedPrices I) b.3.is (a.3 v b.3.own b.3.known)))
   failing-same (place.Tree m) (place.Tree n) r s a b =
-      let same = marks-same I split Closing reason_by no_split tree a.3 b.3 r s a.5 b.5 in
-      record { place = ap place.Tree (a.4 ∙ ap (λ u. length tree - length u) same.left ∙ sym b.4); reason = same.why }
+      let same = marks-same I split Closing reason_by no_split tree a.4 b.4 r s a.6 b.6 in
+      record { place = ap place.Tree (a.5 ∙ ap (λ u. length tree - length u) same.left ∙ sym b.5); reason = same.why }
 
 pub fails-same : (I : Instance) (C : Certificate) (p q : FailurePlace) (r s : Reason) → Fails I C p r → Fails I C q s → AreSameFailure p q r s
-fails-same I C p q r s a b = failing-same I mark.Split (Closes I C.cost C.cuts) reason_of (λ k lines h. h) C.cost C.cuts C.plan C.tree p q r s a b
+fails-same I C p q r s a b = failing-same I mark.Split (Closes I C.cost C.cuts C.prices) reason_of (λ k lines h. h) C.cost C.cuts C.prices C.plan C.tree p q r s a b

@@ -35,7 +35,7 @@ module _ (claim : Claim) where
   I = claim.instance.now
 
   abbrev Closing : ℕ → List (List Group) → Mark → Type 0
-  Closing = Closes I claim.cost claim.cuts.now
+  Closing = Closes I claim.cost claim.cuts.now claim.prices.now
 
   -- a mark that closes the node is a tree of it
   pub leaf-read : (node : Node) (m : Mark) (marks rest : List Mark) → marks ≡ m ∷ rest → Closing node.depth node.lines m → IsRead claim node marks rest

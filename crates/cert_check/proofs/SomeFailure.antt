@@ -16,8 +16,9 @@ use Rattle.certificate_rules.specs.declared.certificate.FailurePlace.TheVariants
 use Rattle.certificate_rules.specs.declared.certificate.Reason.{Reason}
 use Rattle.certificate_rules.specs.declared.certificate.Reason.TheVariants as reason
 use Rattle.closing_rules.specs.ProvedCuts.{CertCut, IsShaped, IsProved}
+use Rattle.closing_rules.specs.ListedPrices.{AreShapedPrices}
 use Rattle.certificate_rules.specs.Certificates.{Certificate, Closes, IsMarkTree, Accepts}
-use Rattle.certificate_rules.specs.Failures.{FailInOrder, FailsHere, TreeFails, MarksFail, CutFails, FailsAt, reason_of, Fails}
+use Rattle.certificate_rules.specs.Failures.{FailInOrder, FailsHere, TreeFails, MarksFail, CutFails, PricesFail, FailsAt, reason_of, Fails}
 
 -- it can't be otherwise
 abbrev Must : Type 0 → Type 0
@@ -121,13 +122,35 @@ cuts-end I before (c ∷ cs) proved =
       ])
     ])
 
+-- the first prices behind these that aren't one for each ship
+prices-fail : (I : Instance) (before after : List (List ℕ)) (own : List ℕ) → All (AreShapedPrices I) before → (AreShapedPrices I own → ⊥) → PricesFail I (before ++ own ∷ after) (length before) reason.PricesShape
+prices-fail I before after own shaped other = record {
+  own = own;
+  known = omega (arith, length-append before (own ∷ after));
+  is = get_or-append_seam before own after own;
+  before = All-same (AreShapedPrices I) (take (length before) (before ++ own ∷ after)) before (take-append_seam before (own ∷ after)) shaped;
+  misshaped = other;
+  reason = refl;
+}
+
+prices-end : (I : Instance) (before after : List (List ℕ)) → All (AreShapedPrices I) before → Must (All (AreShapedPrices I) (before ++ after) ⊎ ((v : ℕ) × (r : Reason) × PricesFail I (before ++ after) v r))
+prices-end I before [] shaped = must (inl (All-same (AreShapedPrices I) (before ++ []) before (append-nil before) shaped))
+prices-end I before (own ∷ us) shaped =
+    next (one-way (AreShapedPrices I own)) (λ one. elim one [
+      | inl good ↦
+          let whole : (before ++ own ∷ []) ++ us ≡ before ++ own ∷ us = append_assoc before (own ∷ []) us in
+          subst (λ prices. Must (All (AreShapedPrices I) prices ⊎ ((v : ℕ) × (r : Reason) × PricesFail I prices v r))) whole
+          (prices-end I (before ++ own ∷ []) us (All-push (AreShapedPrices I) before own shaped good))
+      | inr other ↦ must (inr (length before, reason.PricesShape, prices-fail I before us own shaped other))
+    ])
+
 -- what holds or fails is told whole, of a certificate or an open one
-module _ {M : Type 0} (I : Instance) (split : M) (Closing : ℕ → List (List Group) → M → Type 0) (reason_by : M → Reason) (cost : ℕ) (cuts : List CertCut) (plan : Plan) (tree : List M) where
+module _ {M : Type 0} (I : Instance) (split : M) (Closing : ℕ → List (List Group) → M → Type 0) (reason_by : M → Reason) (cost : ℕ) (cuts : List CertCut) (prices : List (List ℕ)) (plan : Plan) (tree : List M) where
   abbrev Holds : Type 0
-  Holds = IsLegal I plan × (cost_of I plan ≡ cost) × All (IsProved I) cuts × IsMarkTree I split Closing (length I.ships) 0 root_lines tree []
+  Holds = IsLegal I plan × (cost_of I plan ≡ cost) × All (IsProved I) cuts × All (AreShapedPrices I) prices × IsMarkTree I split Closing (length I.ships) 0 root_lines tree []
 
   abbrev FailsFirst : FailurePlace → Reason → Type 0
-  FailsFirst = FailsAt I cost cuts plan tree (MarksFail I split Closing reason_by tree)
+  FailsFirst = FailsAt I cost cuts prices plan tree (MarksFail I split Closing reason_by tree)
 
   holds-or_fails : Must (Holds ⊎ ((p : FailurePlace) × (r : Reason) × FailsFirst p r))
   holds-or_fails =
@@ -137,9 +160,12 @@ module _ {M : Type 0} (I : Instance) (split : M) (Closing : ℕ → List (List G
           | inr wrong ↦ must (inr (place.Cost, reason.CostWrong, (legal, wrong, refl)))
           | inl costs ↦ next (cuts-end I [] cuts (All-nil (IsProved I))) (λ told. elim told [
             | inr f ↦ must (inr (place.Cut f.0, f.1, (legal, costs, f.2)))
-            | inl proved ↦ next (marks-end I split Closing reason_by tree) (λ marks. elim marks [
-              | inl whole ↦ must (inl (legal, costs, proved, whole))
-              | inr f ↦ must (inr (place.Tree (length tree - length f.0), f.1, (legal, costs, proved, f.0, refl, f.2)))
+            | inl proved ↦ next (prices-end I [] prices (All-nil (AreShapedPrices I))) (λ priced. elim priced [
+              | inr f ↦ must (inr (place.Prices f.0, f.1, (legal, costs, proved, f.2)))
+              | inl shaped ↦ next (marks-end I split Closing reason_by tree) (λ marks. elim marks [
+                | inl whole ↦ must (inl (legal, costs, proved, shaped, whole))
+                | inr f ↦ must (inr (place.Tree (length tree - length f.0), f.1, (legal, costs, proved, shaped, f.0, refl, f.2)))
+              ])
             ])
           ])
         ])
@@ -156,5 +182,5 @@ module _ {M : Type 0} (I : Instance) (split : M) (Closing : ℕ → List (List G
 -- a certificate that isn't accepted fails
 pub fails-somewhere : (I : Instance) (C : Certificate) → (Accepts I C → ⊥) → ((p : FailurePlace) (r : Reason) → Fails I C p r → ⊥) → ⊥
 fails-somewhere I C other never =
-    fails-first I mark.Split (Closes I C.cost C.cuts) reason_of C.cost C.cuts C.plan C.tree
-    (λ h. other (record { legal = h.0; cost = h.1; cuts = h.2; tree = h.3 })) never
+    fails-first I mark.Split (Closes I C.cost C.cuts C.prices) reason_of C.cost C.cuts C.prices C.plan C.tree
+    (λ h. other (record { legal = h.0; cost = h.1; cuts = h.2; prices = h.3; tree = h.4 })) never

@@ -8,6 +8,7 @@ use Rattle.certificate_rules.specs.declared.certificate.Reason.{Reason}
 use Rattle.certificate_rules.specs.declared.certificate.Mark.{Mark}
 use Rattle.certificate_rules.specs.declared.certificate.Mark.TheVariants as mark
 use Rattle.closing_rules.specs.ProvedCuts.{CertCut, IsProved}
+use Rattle.closing_rules.specs.ListedPrices.{AreShapedPrices}
 use Rattle.certificate_rules.specs.Certificates.{Certificate, Closes, Accepts}
 use Rattle.certificate_rules.specs.Failures.{MarksFail, FailsAt, reason_of, Fails}
 
@@ -22,18 +23,19 @@ pub record HaveOneFailure : Type 0 where
   pub none : (I : Instance) (C : Certificate) (p : FailurePlace) (r : Reason) → Accepts I C → Fails I C p r → ⊥
   pub some : (I : Instance) (C : Certificate) → (Accepts I C → ⊥) → ((p : FailurePlace) (r : Reason) → Fails I C p r → ⊥) → ⊥
 
--- the plan is legal and has the cost, and each cut is proved
-pub record HoldBeforeMarks (I : Instance) (cost : ℕ) (cuts : List CertCut) (plan : Plan) : Type 0 where
+-- the plan is legal and has the cost, each cut is proved, and each prices are one for each ship
+pub record HoldBeforeMarks (I : Instance) (cost : ℕ) (cuts : List CertCut) (prices : List (List ℕ)) (plan : Plan) : Type 0 where
   pub legal : IsLegal I plan
   pub costs : cost_of I plan ≡ cost
   pub proved : All (IsProved I) cuts
+  pub shaped : All (AreShapedPrices I) prices
 
--- the plan, the cost or a cut fails first, whatever marks there are
-pub record FailBeforeMarks (I : Instance) (cost : ℕ) (cuts : List CertCut) (plan : Plan) (p : FailurePlace) (r : Reason) : Type 0 where
-  pub fails : FailsAt {M = Mark} I cost cuts plan [] (λ stuck why. ⊥) p r
+-- the plan, the cost, a cut or prices fail first, whatever marks there are
+pub record FailBeforeMarks (I : Instance) (cost : ℕ) (cuts : List CertCut) (prices : List (List ℕ)) (plan : Plan) (p : FailurePlace) (r : Reason) : Type 0 where
+  pub fails : FailsAt {M = Mark} I cost cuts prices plan [] (λ stuck why. ⊥) p r
 
 -- the marks fail first at mark p
-pub record FailAtMark (I : Instance) (cost : ℕ) (cuts : List CertCut) (marks : List Mark) (p : ℕ) (r : Reason) : Type 0 where
+pub record FailAtMark (I : Instance) (cost : ℕ) (cuts : List CertCut) (prices : List (List ℕ)) (marks : List Mark) (p : ℕ) (r : Reason) : Type 0 where
   pub stuck : List Mark
   pub place : p ≡ length marks - length stuck
-  pub fails : MarksFail I mark.Split (Closes I cost cuts) reason_of marks stuck r
+  pub fails : MarksFail I mark.Split (Closes I cost cuts prices) reason_of marks stuck r

@@ -15,11 +15,11 @@ use Rattle.cert_check.specs.declared.closing.Claim.{Claim}
 module _ (claim : Claim) where
   -- the marks begin with a tree of a node of this depth, and the rest follows
   abbrev pub IsTreeOf : ℕ → List (List Group) → List Mark → List Mark → Type 0
-  IsTreeOf k lines = IsMarkTree claim.instance.now mark.Split (Closes claim.instance.now claim.cost claim.cuts.now) (length claim.instance.now.ships - k) k lines
+  IsTreeOf k lines = IsMarkTree claim.instance.now mark.Split (Closes claim.instance.now claim.cost claim.cuts.now claim.prices.now) (length claim.instance.now.ships - k) k lines
 
   -- reading a tree of a node of this depth ends at `stuck`
   abbrev pub TreeSticks : ℕ → List (List Group) → List Mark → List Mark → Reason → Type 0
-  TreeSticks k lines = TreeFails claim.instance.now mark.Split (Closes claim.instance.now claim.cost claim.cuts.now) reason_of (length claim.instance.now.ships - k) k lines
+  TreeSticks k lines = TreeFails claim.instance.now mark.Split (Closes claim.instance.now claim.cost claim.cuts.now claim.prices.now) reason_of (length claim.instance.now.ships - k) k lines
 
   -- the marks begin with a tree of the node, and the rest follows
   pub record IsRead (node : Node) (marks rest : List Mark) : Type 0 where

@@ -3,6 +3,7 @@ ghost use Rattle.std.specs.Prelude.{◌≡◌, [], ◌∷◌, ◌++◌, OnOk, On
 
 use certificate_rules::{FailurePlace, Mark, Reason};
 use lock_model::{Plan, Ships};
+use price_bound::Prices;
 use refute_rules::Refutation;
 use std::alloc::{AllocError, Global};
 use std::marker::Model;
@@ -66,6 +67,47 @@ impl CertCuts {
     }
 }
 
+/// The prices of a certificate, numbered from 0: each a list of prices of ships.
+#[derive(Debug, Drop)]
+pub struct PriceLists {
+    items: Vec<Prices>,
+}
+
+impl Model for PriceLists {
+    ghost use Rattle.std.specs.Prelude.{ℕ, List};
+
+    ghost Value = { List (List ℕ) };
+
+    ghost view = { λ a. a.items.items };
+}
+
+impl PriceLists {
+    /// No prices.
+    pub fn new(alloc: Global) -> PriceLists
+        ensures { result ≡ [] }
+    {
+        PriceLists {
+            items: Vec::new(alloc),
+        }
+    }
+
+    /// The prices in order.
+    pub fn as_slice(&self) -> &[Prices]
+        ensures { result.now ≡ self.now }
+    {
+        self.items.as_slice()
+    }
+
+    /// Appends prices. After want of memory the prices are as before.
+    pub fn push(&mut self, prices: Prices) -> Result<(), AllocError>
+        ensures ok { OnOk result (self.new ≡ self.old ++ prices ∷ []) }
+        ensures err { OnErr result (self.new ≡ self.old) }
+    {
+        self.items.push(prices)?;
+        Ok(())
+    }
+}
+
 /// The marks of a certificate, numbered from 0: one for each node of its tree, each node before its
 /// children.
 #[derive(Debug, Drop)]
@@ -119,12 +161,13 @@ impl MarkList {
 }
 
 /// That a plan is cheapest, and why: the plan and its cost in minutes, cuts with their refutations,
-/// and the marks of a search tree.
+/// prices, numbered from 0, and the marks of a search tree.
 #[derive(Debug, Drop)]
 pub struct Certificate {
     pub cost: u64,
     pub cuts: CertCuts,
     pub plan: Plan,
+    pub prices: PriceLists,
     pub tree: MarkList,
 }
 
@@ -133,7 +176,7 @@ impl Model for Certificate {
 
     ghost Value = { Held };
 
-    ghost view = { λ a. record { cost = a.cost; cuts = a.cuts; plan = a.plan; tree = a.tree } };
+    ghost view = { λ a. record { cost = a.cost; cuts = a.cuts; plan = a.plan; prices = a.prices; tree = a.tree } };
 }
 
 /// What the checker says of a certificate.

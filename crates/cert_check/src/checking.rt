@@ -13,6 +13,7 @@ ghost use Rattle.cert_check.specs.FirstFailure.{HoldBeforeMarks, FailBeforeMarks
 use crate::certificate::{Answer, CertCuts, Certificate};
 use crate::closing::Claim;
 use crate::cuts::first_unproved;
+use crate::prices::{chamber_cuts, first_misshaped};
 use crate::reading::read_tree;
 use certificate_rules::{FailurePlace, Mark, Reason};
 use chamber_times::cost;
@@ -22,6 +23,7 @@ use lock_model::{Instance, Plan};
 use master_branch::root;
 use mooring_rules::judge_plan;
 use plain_text::NoMemory;
+use price_bound::Prices;
 use std::alloc::Global;
 
 // Whether the plan is legal.
@@ -41,46 +43,56 @@ fn costs(instance: &Instance, plan: &Plan, wanted: u64) -> bool
 
 // The first failure of the marks, by the number of the mark where it comes. None where they are
 // one tree of the root.
-fn first_wrong_mark(claim: &Claim, marks: &[Mark]) -> Option<(u64, Reason)>
-    ensures none { IfNone result (IsMarkTree claim.now.instance.now Mark.Split (Closes claim.now.instance.now claim.now.cost claim.now.cuts.now) (length claim.now.instance.now.ships) 0 root_lines marks.now []) }
-    ensures some { IfSome result (λ f. FailAtMark claim.now.instance.now claim.now.cost claim.now.cuts.now marks.now f.0 f.1) }
+fn first_wrong_mark(claim: &Claim, marks: &[Mark]) -> Result<Option<(u64, Reason)>, NoMemory>
+    ensures none { IfOk result (λ first. IfNone first (IsMarkTree claim.now.instance.now Mark.Split (Closes claim.now.instance.now claim.now.cost claim.now.cuts.now claim.now.prices.now) (length claim.now.instance.now.ships) 0 root_lines marks.now [])) }
+    ensures some { IfOk result (λ first. IfSome first (λ f. FailAtMark claim.now.instance.now claim.now.cost claim.now.cuts.now claim.now.prices.now marks.now f.0 f.1)) }
 {
-    match read_tree(claim, &root(claim.instance), marks) {
-        Ok([]) => None,
-        Ok(rest) => Some(((marks.len() - rest.len()) as u64, Reason::TreeLong)),
-        Err(stuck) => Some(((marks.len() - stuck.marks.len()) as u64, stuck.reason)),
+    match read_tree(claim, &root(claim.instance), marks)? {
+        Ok([]) => Ok(None),
+        Ok(rest) => Ok(Some(((marks.len() - rest.len()) as u64, Reason::TreeLong))),
+        Err(stuck) => Ok(Some(((marks.len() - stuck.marks.len()) as u64, stuck.reason))),
     }
 }
 
 // The first failure of the marks of a certificate whose cuts are proved.
-fn first_wrong_mark_of(instance: &Instance, certificate: &Certificate) -> Option<(u64, Reason)>
+fn first_wrong_mark_of(
+    alloc: Global,
+    instance: &Instance,
+    certificate: &Certificate,
+) -> Result<Option<(u64, Reason)>, NoMemory>
     requires { All (IsProved instance.now) certificate.now.cuts }
-    ensures none { IfNone result (IsMarkTree instance.now Mark.Split (Closes instance.now certificate.now.cost certificate.now.cuts) (length instance.now.ships) 0 root_lines certificate.now.tree []) }
-    ensures some { IfSome result (λ f. FailAtMark instance.now certificate.now.cost certificate.now.cuts certificate.now.tree f.0 f.1) }
+    ensures none { IfOk result (λ first. IfNone first (IsMarkTree instance.now Mark.Split (Closes instance.now certificate.now.cost certificate.now.cuts certificate.now.prices) (length instance.now.ships) 0 root_lines certificate.now.tree [])) }
+    ensures some { IfOk result (λ first. IfSome first (λ f. FailAtMark instance.now certificate.now.cost certificate.now.cuts certificate.now.prices certificate.now.tree f.0 f.1)) }
 {
     let roster = Roster::of(instance);
+    let cuts = certificate.cuts.as_slice();
+    let chamber_cuts = chamber_cuts(alloc, instance, cuts)?;
     let claim = Claim {
+        alloc,
         instance,
         roster: &roster,
         throughput: throughput(instance),
         cost: certificate.cost,
-        cuts: certificate.cuts.as_slice(),
+        cuts,
+        prices: certificate.prices.as_slice(),
+        chamber_cuts: chamber_cuts.as_slice(),
     };
     first_wrong_mark(&claim, certificate.tree.as_slice())
 }
 
 /// The first failure of what comes before the marks of a certificate: its plan, then its cost in
-/// minutes, then its cuts in order. None where the plan is legal and costs as much, and each cut is
-/// proved. Refuses want of memory alone.
+/// minutes, then its cuts in order, then its prices in order. None where the plan is legal and costs as
+/// much, each cut is proved, and each prices are one for each ship. Refuses want of memory alone.
 pub fn first_failure_before_marks(
     alloc: Global,
     instance: &Instance,
     cost: u64,
     cuts: &CertCuts,
+    prices: &[Prices],
     plan: &Plan,
 ) -> Result<Option<(FailurePlace, Reason)>, NoMemory>
-    ensures none { IfOk result (λ first. IfNone first (HoldBeforeMarks instance.now cost cuts.now plan.now)) }
-    ensures some { IfOk result (λ first. IfSome first (λ f. FailBeforeMarks instance.now cost cuts.now plan.now f.0 f.1)) }
+    ensures none { IfOk result (λ first. IfNone first (HoldBeforeMarks instance.now cost cuts.now prices.now plan.now)) }
+    ensures some { IfOk result (λ first. IfSome first (λ f. FailBeforeMarks instance.now cost cuts.now prices.now plan.now f.0 f.1)) }
 {
     if !is_legal(instance, plan) {
         return Ok(Some((FailurePlace::Plan, Reason::PlanIllegal)));
@@ -90,6 +102,9 @@ pub fn first_failure_before_marks(
     }
     if let Some((number, reason)) = first_unproved(alloc, instance, cuts.as_slice())? {
         return Ok(Some((FailurePlace::Cut(number), reason)));
+    }
+    if let Some(number) = first_misshaped(instance, prices) {
+        return Ok(Some((FailurePlace::Prices(number), Reason::PricesShape)));
     }
     Ok(None)
 }
@@ -107,19 +122,21 @@ fn first_failure(
         cost,
         cuts,
         plan,
+        prices,
         ..
     } = certificate;
-    if let Some(first) = first_failure_before_marks(alloc, instance, *cost, cuts, plan)? {
+    let prices = prices.as_slice();
+    if let Some(first) = first_failure_before_marks(alloc, instance, *cost, cuts, prices, plan)? {
         return Ok(Some(first));
     }
-    if let Some((number, reason)) = first_wrong_mark_of(instance, certificate) {
+    if let Some((number, reason)) = first_wrong_mark_of(alloc, instance, certificate)? {
         return Ok(Some((FailurePlace::Tree(number), reason)));
     }
     Ok(None)
 }
 
 /// Checks a certificate of an instance without any search: its plan, then its cost, then its cuts
-/// in order, then its marks in order, each mark once.
+/// in order, then its prices in order, then its marks in order, each mark once.
 ///
 /// `Accepted` exactly where the certificate is accepted; then its plan is legal, costs as much, and
 /// no legal plan costs less. `Rejected` exactly with the first place and reason at which it fails.

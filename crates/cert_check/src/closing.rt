@@ -1,12 +1,13 @@
 //! Which marks close a node.
-ghost use Rattle.std.specs.Prelude.{◌≡◌, ◌<◌, ◌↔◌, length, All, IsTrue};
+ghost use Rattle.std.specs.Prelude.{◌≡◌, ◌<◌, ◌↔◌, length, All, IsTrue, IfOk};
 ghost use Rattle.std.specs.Bool.{OnTrue};
 ghost use Rattle.lock_rules.specs.Throughput.{throughput_of};
 ghost use Rattle.master_branch.specs.Node.{IsNodeOf};
 ghost use Rattle.lock_rules.specs.Arrival.{next_ship};
 ghost use Rattle.flow_bounds.specs.Roster.{IsRosterOf};
+ghost use Rattle.price_bound.specs.Cuts.{plain_cuts};
 ghost use Rattle.closing_rules.specs.ProvedCuts.{IsShaped};
-ghost use Rattle.certificate_rules.specs.Certificates.{IsCutBy, Closes};
+ghost use Rattle.certificate_rules.specs.Certificates.{IsCutBy, cuts_in, Closes};
 ghost use Rattle.certificate_rules.specs.Failures.{ground_reason, reason_of};
 
 use crate::certificate::CertCut;
@@ -16,19 +17,27 @@ use closing_rules::Ground;
 use flow_bounds::{Roster, bound, children_reaching, is_missing, probe};
 use lock_model::Instance;
 use master_branch::Node;
+use plain_text::NoMemory;
+use price_bound::{ChamberCut, Limits, PricedNode, Prices, reaches};
+use std::alloc::Global;
 
 /// What the marks of a certificate are held against: the instance, its roster and its throughput, and
-/// the cost in minutes and the cuts of the certificate, each about a chamber and ships of the instance.
+/// the cost in minutes, the prices and the cuts of the certificate, each cut about a chamber and ships
+/// of the instance, and the cuts as prices see them.
 #[derive(Drop)]
 pub struct Claim<'c> {
+    pub alloc: Global,
     pub instance: &'c Instance,
     pub roster: &'c Roster,
     pub throughput: u64,
     pub cost: u64,
     pub cuts: &'c [CertCut],
+    pub prices: &'c [Prices],
+    pub chamber_cuts: &'c [ChamberCut],
     pub ghost rostered: { IsRosterOf instance.now roster.now },
     pub ghost told: { throughput ≡ throughput_of instance.now },
     pub ghost shaped: { All (IsShaped instance.now) cuts.now },
+    pub ghost same_cuts: { plain_cuts instance.now chamber_cuts.now ≡ cuts_in instance.now cuts.now },
 }
 
 // Whether there is a cut of this number, and it hits a group of the node.
@@ -52,7 +61,7 @@ fn is_next(claim: &Claim, node: &Node, ship: u8) -> bool
 // the roster spares work, and nearly all that are asked for are that one.
 fn is_probed(claim: &Claim, node: &Node, ship: u8) -> bool
     requires { IsNodeOf claim.now.instance.now node.now }
-    ensures { IsTrue result ↔ Closes claim.now.instance.now claim.now.cost claim.now.cuts.now node.now.depth node.now.lines (Mark.Leaf (Ground.Probe ship)) }
+    ensures { IsTrue result ↔ Closes claim.now.instance.now claim.now.cost claim.now.cuts.now claim.now.prices.now node.now.depth node.now.lines (Mark.Leaf (Ground.Probe ship)) }
 {
     if is_next(claim, node, ship) {
         return children_reaching(claim.instance, claim.roster, node, claim.cost).all();
@@ -60,26 +69,53 @@ fn is_probed(claim: &Claim, node: &Node, ship: u8) -> bool
     is_missing(claim.instance, node, ship) && probe(claim.instance, node, ship) >= claim.cost
 }
 
-// Whether the node is closed so.
-fn is_closed_by(claim: &Claim, node: &Node, why: Ground) -> bool
+// Memory ends before a node has so many groups or takes so many turns.
+const NO_LIMITS: Limits = Limits {
+    groups: usize::MAX,
+    turns: u64::MAX,
+};
+
+// Whether there are prices of this number, and the node reaches the cost by them and the cuts.
+fn is_priced_by(claim: &Claim, node: &Node, number: u64) -> Result<bool, NoMemory>
     requires { IsNodeOf claim.now.instance.now node.now }
-    ensures { IsTrue result ↔ Closes claim.now.instance.now claim.now.cost claim.now.cuts.now node.now.depth node.now.lines (Mark.Leaf why) }
+    ensures { IfOk result (λ priced. IsTrue priced ↔ Closes claim.now.instance.now claim.now.cost claim.now.cuts.now claim.now.prices.now node.now.depth node.now.lines (Mark.Leaf (Ground.Price number))) }
 {
-    match why {
-        Ground::Bound => bound(claim.instance, node) >= claim.cost,
-        Ground::Throughput => claim.throughput >= claim.cost,
-        Ground::Probe(ship) => is_probed(claim, node, ship),
-        Ground::Cut(number) => is_cut_by(claim, node, number),
+    if number >= claim.prices.len() as u64 {
+        return Ok(false);
+    }
+    let asked = PricedNode {
+        instance: claim.instance,
+        node,
+        prices: &claim.prices[number as usize],
+        cuts: claim.chamber_cuts,
+    };
+    match reaches(claim.alloc, &asked, claim.cost, NO_LIMITS) {
+        Ok(reached) => Ok(reached),
+        Err(_) => Err(NoMemory),
     }
 }
 
-/// Whether a mark closes the node.
-pub fn closes(claim: &Claim, node: &Node, mark: Mark) -> bool
+// Whether the node is closed so.
+fn is_closed_by(claim: &Claim, node: &Node, why: Ground) -> Result<bool, NoMemory>
     requires { IsNodeOf claim.now.instance.now node.now }
-    ensures { IsTrue result ↔ Closes claim.now.instance.now claim.now.cost claim.now.cuts.now node.now.depth node.now.lines mark }
+    ensures { IfOk result (λ closed. IsTrue closed ↔ Closes claim.now.instance.now claim.now.cost claim.now.cuts.now claim.now.prices.now node.now.depth node.now.lines (Mark.Leaf why)) }
+{
+    match why {
+        Ground::Bound => Ok(bound(claim.instance, node) >= claim.cost),
+        Ground::Throughput => Ok(claim.throughput >= claim.cost),
+        Ground::Probe(ship) => Ok(is_probed(claim, node, ship)),
+        Ground::Cut(number) => Ok(is_cut_by(claim, node, number)),
+        Ground::Price(number) => is_priced_by(claim, node, number),
+    }
+}
+
+/// Whether a mark closes the node. Refuses want of memory alone, and only of a price mark.
+pub fn closes(claim: &Claim, node: &Node, mark: Mark) -> Result<bool, NoMemory>
+    requires { IsNodeOf claim.now.instance.now node.now }
+    ensures { IfOk result (λ closed. IsTrue closed ↔ Closes claim.now.instance.now claim.now.cost claim.now.cuts.now claim.now.prices.now node.now.depth node.now.lines mark) }
 {
     match mark {
-        Mark::Split => false,
+        Mark::Split => Ok(false),
         Mark::Leaf(why) => is_closed_by(claim, node, why),
     }
 }
@@ -93,6 +129,7 @@ fn reason_by(why: Ground) -> Reason
         Ground::Throughput => Reason::ThroughputLow,
         Ground::Probe(_) => Reason::ProbeWrong,
         Ground::Cut(_) => Reason::CutMisses,
+        Ground::Price(_) => Reason::PriceLow,
     }
 }
 

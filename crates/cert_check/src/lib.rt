@@ -1,7 +1,7 @@
 //! The checker of certificates: whether a plan is cheapest, told without any search.
 //!
-//! A `Certificate` is a cost, cuts with their refutations, a plan, and one mark for each node of a
-//! search tree. `check` answers `Accepted` exactly where the certificate is accepted; then its plan
+//! A `Certificate` is a cost, cuts with their refutations, a plan, prices, and one mark for each node of
+//! a search tree. `check` answers `Accepted` exactly where the certificate is accepted; then its plan
 //! is legal, has this cost, and no legal plan costs less. Else it answers `Rejected` with the first
 //! place and reason at which the certificate fails, and only want of memory keeps it from an
 //! answer. `one_first_failure` is the law that a certificate that isn't accepted fails first at one
@@ -9,8 +9,9 @@
 //! the search but definitions.
 //!
 //! The parts of the check serve checkers of other certificates: `first_failure_before_marks` (the
-//! plan, the cost and the cuts), and against a `Claim` `closes` and `reason_against` (one mark at a
-//! node), `child_reaches` and `child_of` (the children of a node).
+//! plan, the cost, the cuts and the prices), and against a `Claim`, with `chamber_cuts` for it,
+//! `closes` and `reason_against` (one mark at a node), `child_reaches` and `child_of` (the children of
+//! a node).
 //!
 //! Definitions: `certificate_rules` says which certificates are accepted (`specs/Certificates`)
 //! and where one fails first (`Failures`). Here `specs/Cuts` says what is wrong with a cut,
@@ -24,14 +25,16 @@ mod closing;
 mod cuts;
 mod hitting;
 mod laws;
+mod prices;
 mod reading;
 #[cfg(test)]
 mod tests;
 
-pub use certificate::{Answer, CertCut, CertCuts, Certificate, MarkList};
+pub use certificate::{Answer, CertCut, CertCuts, Certificate, MarkList, PriceLists};
 pub use certificate_rules::{FailurePlace, Mark, Reason};
 pub use checking::{check, first_failure_before_marks};
 pub use closing::{Claim, closes, reason_against};
 pub use closing_rules::Ground;
 pub use laws::one_first_failure;
+pub use prices::chamber_cuts;
 pub use reading::{child_of, child_reaches};

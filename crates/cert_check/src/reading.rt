@@ -12,6 +12,7 @@ use closing_rules::Ground;
 use flow_bounds::{Reached, children_reaching};
 use lock_model::Instance;
 use master_branch::{Node, child_count, descend};
+use plain_text::NoMemory;
 
 // Where reading ends before its time: the marks that are left there, and why.
 #[derive(Drop)]
@@ -19,6 +20,9 @@ pub(crate) struct Stuck<'m> {
     pub(crate) marks: &'m [Mark],
     pub(crate) reason: Reason,
 }
+
+// The marks behind a tree, or where reading it ends before its time.
+pub(crate) type Reading<'m> = Result<&'m [Mark], Stuck<'m>>;
 
 // The first mark and those behind it.
 fn first_mark(marks: &[Mark]) -> Option<(Mark, &[Mark])>
@@ -100,12 +104,12 @@ fn read_made_child<'m>(
     node: &Node,
     i: u32,
     marks: &'m [Mark],
-) -> Result<&'m [Mark], Stuck<'m>>
+) -> Result<Reading<'m>, NoMemory>
     requires node { IsNodeOf claim.now.instance.now node.now }
     requires lacks { node.now.depth < length claim.now.instance.now.ships }
     requires within { i < length (children claim.now.instance.now node.now) }
-    ensures ok { IfOk result (λ rest. IsChildRead claim.now node.now i marks.now rest.now) }
-    ensures err { IfErr result (λ stuck. IsChildStuck claim.now node.now i marks.now stuck.marks.now stuck.reason) }
+    ensures read { IfOk result (λ reading. IfOk reading (λ rest. IsChildRead claim.now node.now i marks.now rest.now)) }
+    ensures stuck { IfOk result (λ reading. IfErr reading (λ stuck. IsChildStuck claim.now node.now i marks.now stuck.marks.now stuck.reason)) }
 {
     read_tree(claim, &child_of(claim, node, i), marks)
 }
@@ -119,41 +123,44 @@ fn read_child<'m>(
     told: &mut Option<Reached>,
     i: u32,
     marks: &'m [Mark],
-) -> Result<&'m [Mark], Stuck<'m>>
+) -> Result<Reading<'m>, NoMemory>
     requires node { IsNodeOf claim.now.instance.now node.now }
     requires lacks { node.now.depth < length claim.now.instance.now.ships }
     requires within { i < length (children claim.now.instance.now node.now) }
     requires told { AreTold claim.now node.now told.old }
-    ensures ok { IfOk result (λ rest. IsChildRead claim.now node.now i marks.now rest.now) }
-    ensures err { IfErr result (λ stuck. IsChildStuck claim.now node.now i marks.now stuck.marks.now stuck.reason) }
+    ensures read { IfOk result (λ reading. IfOk reading (λ rest. IsChildRead claim.now node.now i marks.now rest.now)) }
+    ensures stuck { IfOk result (λ reading. IfErr reading (λ stuck. IsChildStuck claim.now node.now i marks.now stuck.marks.now stuck.reason)) }
     ensures told { AreTold claim.now node.now told.new }
 {
     if let Some(rest) = behind_bound(marks) {
         if child_reaches(claim, node, told, i) {
-            return Ok(rest);
+            return Ok(Ok(rest));
         }
-        return Err(Stuck {
+        return Ok(Err(Stuck {
             marks,
             reason: Reason::BoundLow,
-        });
+        }));
     }
     read_made_child(claim, node, i, marks)
 }
 
 // Reads trees of all children of a node: the marks behind them.
 #[cycle(tree)]
-fn read_children<'m>(claim: &Claim, node: &Node, marks: &'m [Mark]) -> Result<&'m [Mark], Stuck<'m>>
+fn read_children<'m>(claim: &Claim, node: &Node, marks: &'m [Mark]) -> Result<Reading<'m>, NoMemory>
     requires node { IsNodeOf claim.now.instance.now node.now }
     requires lacks { node.now.depth < length claim.now.instance.now.ships }
-    ensures ok { IfOk result (λ rest. AreRead claim.now node.now (length (children claim.now.instance.now node.now)) marks.now rest.now) }
-    ensures err { IfErr result (λ stuck. AreStuck claim.now node.now marks.now stuck.marks.now stuck.reason) }
+    ensures read { IfOk result (λ reading. IfOk reading (λ rest. AreRead claim.now node.now (length (children claim.now.instance.now node.now)) marks.now rest.now)) }
+    ensures stuck { IfOk result (λ reading. IfErr reading (λ stuck. AreStuck claim.now node.now marks.now stuck.marks.now stuck.reason)) }
 {
     let mut told = None;
     let mut rest = marks;
     for i in 0..child_count(claim.instance, node) {
-        rest = read_child(claim, node, &mut told, i, rest)?;
+        match read_child(claim, node, &mut told, i, rest)? {
+            Ok(behind) => rest = behind,
+            Err(stuck) => return Ok(Err(stuck)),
+        }
     }
-    Ok(rest)
+    Ok(Ok(rest))
 }
 
 // Reads a tree of a node: the marks behind it. It calls itself no deeper than the instance has
@@ -163,25 +170,25 @@ pub(crate) fn read_tree<'m>(
     claim: &Claim,
     node: &Node,
     marks: &'m [Mark],
-) -> Result<&'m [Mark], Stuck<'m>>
+) -> Result<Reading<'m>, NoMemory>
     requires { IsNodeOf claim.now.instance.now node.now }
-    ensures ok { IfOk result (λ rest. IsRead claim.now node.now marks.now rest.now) }
-    ensures err { IfErr result (λ stuck. IsStuck claim.now node.now marks.now stuck.marks.now stuck.reason) }
+    ensures read { IfOk result (λ reading. IfOk reading (λ rest. IsRead claim.now node.now marks.now rest.now)) }
+    ensures stuck { IfOk result (λ reading. IfErr reading (λ stuck. IsStuck claim.now node.now marks.now stuck.marks.now stuck.reason)) }
 {
     let Some((mark, rest)) = first_mark(marks) else {
-        return Err(Stuck {
+        return Ok(Err(Stuck {
             marks,
             reason: Reason::TreeShort,
-        });
+        }));
     };
     if splits(claim.instance, node, mark) {
         return read_children(claim, node, rest);
     }
-    if closes(claim, node, mark) {
-        return Ok(rest);
+    if closes(claim, node, mark)? {
+        return Ok(Ok(rest));
     }
-    Err(Stuck {
+    Ok(Err(Stuck {
         marks,
         reason: reason_against(mark),
-    })
+    }))
 }

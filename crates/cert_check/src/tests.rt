@@ -13,6 +13,7 @@ const BOTH: Draft = Draft {
     cost: 80,
     cut: None,
     plan: &[(Way::Up, Who::Both, 0, 10)],
+    prices: &[],
     tree: &[
         Mark::Split,
         Mark::Split,
@@ -32,6 +33,7 @@ const ONE_BY_ONE: Draft = Draft {
     cost: 120,
     cut: Some((0, Who::Both, Why::Row(Who::Both))),
     plan: &[(Way::Up, Who::First, 0, 10), (Way::Up, Who::Second, 50, 10)],
+    prices: &[],
     tree: &[
         Mark::Split,
         Mark::Split,
@@ -57,6 +59,7 @@ const BY_THROUGHPUT: Draft = Draft {
         (Way::Up, Who::First, 0, 10),
         (Way::Down, Who::Second, 30, 10),
     ],
+    prices: &[],
     tree: &[Mark::Leaf(Ground::Throughput)],
 };
 
@@ -67,6 +70,12 @@ const CLASHING: Lock = Lock {
 
 const BY_CLASH: Draft = Draft {
     cut: Some((0, Who::Both, Why::Clash)),
+    ..ONE_BY_ONE
+};
+
+const BY_PRICE: Draft = Draft {
+    prices: &[&[8500, 8500]],
+    tree: &[Mark::Leaf(Ground::Price(0))],
     ..ONE_BY_ONE
 };
 
@@ -329,6 +338,86 @@ const EDITS: [Edit; 26] = [
     ),
 ];
 
+const PRICE_EDITS: [Edit; 8] = [
+    (
+        NARROW,
+        Draft {
+            tree: &[Mark::Leaf(Ground::Price(1))],
+            ..BY_PRICE
+        },
+        Answer::Rejected(FailurePlace::Tree(0), Reason::PriceLow),
+    ),
+    (
+        NARROW,
+        Draft {
+            tree: &[
+                Mark::Split,
+                Mark::Split,
+                Mark::Leaf(Ground::Price(0)),
+                Mark::Leaf(Ground::Price(0)),
+                Mark::Leaf(Ground::Price(0)),
+            ],
+            ..BY_PRICE
+        },
+        Answer::Accepted(120),
+    ),
+    (
+        NARROW,
+        Draft {
+            tree: &[
+                Mark::Split,
+                Mark::Split,
+                Mark::Leaf(Ground::Cut(0)),
+                Mark::Leaf(Ground::Price(1)),
+                Mark::Leaf(Ground::Bound),
+            ],
+            ..BY_PRICE
+        },
+        Answer::Rejected(FailurePlace::Tree(3), Reason::PriceLow),
+    ),
+    (
+        NARROW,
+        Draft {
+            prices: &[&[8401, 8401]],
+            ..BY_PRICE
+        },
+        Answer::Accepted(120),
+    ),
+    (
+        NARROW,
+        Draft {
+            prices: &[&[8400, 8401]],
+            ..BY_PRICE
+        },
+        Answer::Rejected(FailurePlace::Tree(0), Reason::PriceLow),
+    ),
+    (
+        NARROW,
+        Draft {
+            prices: &[&[8500, 8500], &[1]],
+            ..BY_PRICE
+        },
+        Answer::Rejected(FailurePlace::Prices(1), Reason::PricesShape),
+    ),
+    (
+        NARROW,
+        Draft {
+            cost: 119,
+            prices: &[&[8500]],
+            ..BY_PRICE
+        },
+        Answer::Rejected(FailurePlace::Cost, Reason::CostWrong),
+    ),
+    (
+        NARROW,
+        Draft {
+            cut: None,
+            ..BY_PRICE
+        },
+        Answer::Rejected(FailurePlace::Tree(0), Reason::PriceLow),
+    ),
+];
+
 // What the checker says of a certificate of a lock.
 fn answer(alloc: Global, lock: &Lock, draft: &Draft) -> Result<Answer, Fail> {
     let instance = instance(lock).ok_or("no instance")?;
@@ -346,6 +435,7 @@ fn a_certificate_that_shows_a_cheapest_plan_is_accepted(rt: HostRuntime) -> Resu
         (NARROW, ONE_BY_ONE),
         (PASSING, BY_THROUGHPUT),
         (CLASHING, BY_CLASH),
+        (NARROW, BY_PRICE),
     ] {
         let answer = answer(rt.alloc(), &lock, &draft)?;
         assert_eq!(rt; answer, Answer::Accepted(draft.cost));
@@ -357,6 +447,15 @@ fn a_certificate_that_shows_a_cheapest_plan_is_accepted(rt: HostRuntime) -> Resu
 fn an_edit_is_rejected_where_it_is_made(rt: HostRuntime) -> Result<(), Fail> {
     one_first_failure();
     for (lock, draft, wanted) in EDITS {
+        let answer = answer(rt.alloc(), &lock, &draft)?;
+        assert_eq!(rt; answer, wanted);
+    }
+    Ok(())
+}
+
+#[test]
+fn an_edit_of_prices_is_rejected_where_it_is_made(rt: HostRuntime) -> Result<(), Fail> {
+    for (lock, draft, wanted) in PRICE_EDITS {
         let answer = answer(rt.alloc(), &lock, &draft)?;
         assert_eq!(rt; answer, wanted);
     }

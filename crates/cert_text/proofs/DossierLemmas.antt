@@ -1,5 +1,5 @@
 -- The canonical dossier is read back, and a text has one meaning.
-use Rattle.std.proofs.Common.{◌≡◌, ◌∙◌, ◌++◌, ℕ, Bool, true, false, List, [], ◌∷◌, Some, Result, Ok, Err, IfOk, IfErr, refl, sym, ap, ap₂, append_assoc}
+use Rattle.std.proofs.Common.{◌≡◌, ◌∙◌, ◌++◌, ℕ, List, [], ◌∷◌, Some, Result, Ok, Err, IfOk, IfErr, refl, sym, ap, ap₂, append_assoc}
 use Rattle.lock_model.specs.declared.instance.Instance.{Instance}
 use Rattle.certificate_rules.specs.Certificates.{Certificate}
 use Rattle.instance_text.specs.declared.bad.Bad.{Bad}
@@ -10,36 +10,33 @@ use Rattle.instance_text.proofs.PartBackLemmas.{canonical_part, canonical_rest}
 use Rattle.cert_text.specs.Answers.{IsFault, IsAnswer, IsFaultAnswer}
 use Rattle.cert_text.specs.declared.bad.DossierError.{DossierError}
 use Rattle.cert_text.specs.declared.bad.DossierError.TheVariants.{Fault, NoMemory}
-use Rattle.cert_text.specs.Cuts.{has_clash_cut}
+use Rattle.cert_text.specs.declared.heading.Version.{Version}
+use Rattle.cert_text.specs.Versions.{version_of}
 use Rattle.cert_text.specs.Certificates.{certificate_data, certificate_text, certificate_in}
-use Rattle.cert_text.specs.Dossier.{heading_line, dossier, takes_clashes, json_of, rest_in, dossier_in, Reads, DossierFault, IsFirstFault}
+use Rattle.cert_text.specs.Dossier.{heading_line, dossier, json_of, rest_in, dossier_in, Reads, DossierFault, IsFirstFault}
 use Rattle.cert_text.specs.declared.bad.BadDossier.{BadDossier}
 use Rattle.cert_text.specs.declared.bad.BadDossier.TheVariants as fault
-use Rattle.cert_text.proofs.HeadingLemmas.{heading_for, heading_back}
+use Rattle.cert_text.proofs.HeadingLemmas.{heading_back}
 use Rattle.cert_text.proofs.PairLemmas.{made, each_answer, each_fault_answer}
 
 -- what is printed step by step
-pub printed : (I : Instance) (C : Certificate) (clashes : Bool) (a b c d json : List ℕ) → a ≡ canonical I → clashes ≡ has_clash_cut C.cuts → b ≡ a ++ heading_line clashes → json ≡ certificate_text C → c ≡ b ++ json → d ≡ c ++ 10 ∷ [] → d ≡ dossier I C
+pub printed : (I : Instance) (C : Certificate) (version : Version) (a b c d json : List ℕ) → a ≡ canonical I → version ≡ version_of C → b ≡ a ++ heading_line version → json ≡ certificate_text C → c ≡ b ++ json → d ≡ c ++ 10 ∷ [] → d ≡ dossier I C
 unfolding dossier
-printed I C clashes a b c d json first clash second text third last =
-    last ∙ ap (λ l. l ++ 10 ∷ []) (third ∙ ap (λ l. l ++ json) (second ∙ ap (λ l. l ++ heading_line clashes) first) ∙ ap (λ l. (canonical I ++ heading_line clashes) ++ l) text)
-    ∙ append_assoc (canonical I ++ heading_line clashes) (certificate_text C) (10 ∷ []) ∙ append_assoc (canonical I) (heading_line clashes) (certificate_text C ++ 10 ∷ [])
-    ∙ ap (λ b. canonical I ++ (heading_line b ++ (certificate_text C ++ 10 ∷ []))) clash
+printed I C version a b c d json first is second text third last =
+    last ∙ ap (λ l. l ++ 10 ∷ []) (third ∙ ap (λ l. l ++ json) (second ∙ ap (λ l. l ++ heading_line version) first) ∙ ap (λ l. (canonical I ++ heading_line version) ++ l) text)
+    ∙ append_assoc (canonical I ++ heading_line version) (certificate_text C) (10 ∷ []) ∙ append_assoc (canonical I) (heading_line version) (certificate_text C ++ 10 ∷ [])
+    ∙ ap (λ v. canonical I ++ (heading_line v ++ (certificate_text C ++ 10 ∷ []))) is
 
-taken : (clashes : Bool) → takes_clashes (heading_for clashes) ≡ Some clashes
-taken true = refl
-taken false = refl
-
-rest_back : (C : Certificate) (clashes : Bool) (json : List ℕ) → json_of json ≡ Some (certificate_data C) → certificate_in clashes (certificate_data C) ≡ Ok C → rest_in (heading_line clashes ++ json) ≡ Ok C
+rest_back : (C : Certificate) (version : Version) (json : List ℕ) → json_of json ≡ Some (certificate_data C) → certificate_in version (certificate_data C) ≡ Ok C → rest_in (heading_line version ++ json) ≡ Ok C
 unfolding rest_in
-rest_back C clashes json value certificate = rw (heading_back clashes json, taken clashes, value, certificate) refl
+rest_back C version json value certificate = rw (heading_back version json, value, certificate) refl
 
 -- the canonical dossier is read as the pair
-pub dossier_back : (I : Instance) (C : Certificate) → json_of (certificate_text C ++ 10 ∷ []) ≡ Some (certificate_data C) → certificate_in (has_clash_cut C.cuts) (certificate_data C) ≡ Ok C → Reads (dossier I C) I C
+pub dossier_back : (I : Instance) (C : Certificate) → json_of (certificate_text C ++ 10 ∷ []) ≡ Some (certificate_data C) → certificate_in (version_of C) (certificate_data C) ≡ Ok C → Reads (dossier I C) I C
 unfolding Reads dossier_in dossier Means
 dossier_back I C value certificate =
-    let more = heading_line (has_clash_cut C.cuts) ++ (certificate_text C ++ 10 ∷ []) in
-    ap₂ made (ap reading (canonical_part I more) ∙ canonical_means I) (ap rest_in (canonical_rest I more) ∙ rest_back C (has_clash_cut C.cuts) (certificate_text C ++ 10 ∷ []) value certificate)
+    let more = heading_line (version_of C) ++ (certificate_text C ++ 10 ∷ []) in
+    ap₂ made (ap reading (canonical_part I more) ∙ canonical_means I) (ap rest_in (canonical_rest I more) ∙ rest_back C (version_of C) (certificate_text C ++ 10 ∷ []) value certificate)
 
 -- ---- one meaning, or one first fault
 

@@ -8,8 +8,10 @@ use Rattle.instance_text.proofs.LeftLemmas.{joined}
 use Rattle.instance_text.proofs.PartBackLemmas.{lines-append, join-lines}
 use Rattle.cert_text.specs.Heading.{after_heading, heading_of, headed}
 use Rattle.cert_text.specs.Dossier.{heading_line}
+use Rattle.cert_text.specs.declared.heading.Version.{Version}
+use Rattle.cert_text.specs.declared.heading.Version.TheVariants.{First, Second, Third}
 use Rattle.cert_text.specs.declared.heading.Heading.{Heading}
-use Rattle.cert_text.specs.declared.heading.Heading.TheVariants.{First, Second}
+use Rattle.cert_text.specs.declared.heading.Heading.TheVariants.{Whole}
 
 on_line : (line : List ℕ) (more : List (List ℕ)) (b : Bool) → (length (words line) == 0) ≡ b → after_heading (line ∷ more) ≡ cond b (after_heading more) (option_map (λ h. (h, more)) (heading_of (words line)))
 on_line line more b is = ap (λ t. cond t (after_heading more) (option_map (λ h. (h, more)) (heading_of (words line)))) is
@@ -33,13 +35,21 @@ second_words : words (codes "certificate 2") ≡ codes "certificate" ∷ codes "
 unfolding words content
 second_words = refl
 
-first_is : heading_of (codes "certificate" ∷ []) ≡ Some First
+third_words : words (codes "certificate 3") ≡ codes "certificate" ∷ codes "3" ∷ []
+unfolding words content
+third_words = refl
+
+first_is : heading_of (codes "certificate" ∷ []) ≡ Some (Whole First)
 unfolding heading_of
 first_is = refl
 
-second_is : heading_of (codes "certificate" ∷ codes "2" ∷ []) ≡ Some Second
+second_is : heading_of (codes "certificate" ∷ codes "2" ∷ []) ≡ Some (Whole Second)
 unfolding heading_of
 second_is = refl
+
+third_is : heading_of (codes "certificate" ∷ codes "3" ∷ []) ≡ Some (Whole Third)
+unfolding heading_of
+third_is = refl
 
 lines_of_first : lines (codes "certificate") ≡ codes "certificate" ∷ []
 unfolding lines
@@ -48,6 +58,10 @@ lines_of_first = refl
 lines_of_second : lines (codes "certificate 2") ≡ codes "certificate 2" ∷ []
 unfolding lines
 lines_of_second = refl
+
+lines_of_third : lines (codes "certificate 3") ≡ codes "certificate 3" ∷ []
+unfolding lines
+lines_of_third = refl
 
 -- a text that begins with a heading
 pub begins : (text line rest : List ℕ) (ws : List (List ℕ)) (h : Heading) → lines line ≡ line ∷ [] → words line ≡ ws → (length ws == 0) ≡ false → heading_of ws ≡ Some h → text ≡ line ++ 10 ∷ rest → headed text ≡ Some (h, rest)
@@ -58,10 +72,8 @@ begins text line rest ws h one is some heading whole =
     ∙ ap (option_map (λ f. (f.0, join_with_byte 10 f.1))) (on_line line (lines rest) false (ap (λ w. length w == 0) is ∙ some) ∙ ap (λ w. option_map (λ g. (g, lines rest)) (heading_of w)) is ∙ ap (option_map (λ g. (g, lines rest))) heading)
     ∙ ap (λ r. Some (h, r)) (join-lines rest)
 
-abbrev pub heading_for : Bool → Heading
-heading_for clashes = cond clashes Second First
-
 -- the heading that is printed is found
-pub heading_back : (clashes : Bool) (rest : List ℕ) → headed (heading_line clashes ++ rest) ≡ Some (heading_for clashes, rest)
-heading_back true rest = begins (heading_line true ++ rest) (codes "certificate 2") rest (codes "certificate" ∷ codes "2" ∷ []) Second lines_of_second second_words refl second_is refl
-heading_back false rest = begins (heading_line false ++ rest) (codes "certificate") rest (codes "certificate" ∷ []) First lines_of_first certificate_words refl first_is refl
+pub heading_back : (version : Version) (rest : List ℕ) → headed (heading_line version ++ rest) ≡ Some (Whole version, rest)
+heading_back First rest = begins (heading_line First ++ rest) (codes "certificate") rest (codes "certificate" ∷ []) (Whole First) lines_of_first certificate_words refl first_is refl
+heading_back Second rest = begins (heading_line Second ++ rest) (codes "certificate 2") rest (codes "certificate" ∷ codes "2" ∷ []) (Whole Second) lines_of_second second_words refl second_is refl
+heading_back Third rest = begins (heading_line Third ++ rest) (codes "certificate 3") rest (codes "certificate" ∷ codes "3" ∷ []) (Whole Third) lines_of_third third_words refl third_is refl

@@ -5,6 +5,9 @@ pub mod WhyLemmas
 pub mod CutLemmas
 pub mod SpotLemmas
 pub mod PlanLemmas
+pub mod PriceLemmas
+pub mod MarkLemmas
+pub mod VersionLemmas
 pub mod CertificateLemmas
 pub mod HeadingLemmas
 pub mod JsonLemmas

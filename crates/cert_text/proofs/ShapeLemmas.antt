@@ -1,6 +1,8 @@
 -- The value of a certificate has no floats and is shallow.
 use Rattle.std.proofs.Common.{◌≡◌, ◌≤◌, ℕ, suc, false, List, [], ◌∷◌, map, refl, arith}
+use Rattle.std.specs.List.{flat_map}
 use Rattle.lock_model.specs.declared.plan.Lockage.{Lockage}
+use Rattle.lock_model.specs.declared.plan.Plan.{Plan}
 use Rattle.refute_rules.specs.Why.{why_of}
 use Rattle.closing_rules.specs.ProvedCuts.{CertCut}
 use Rattle.certificate_rules.specs.Certificates.{Certificate}
@@ -11,8 +13,11 @@ use Rattle.serde_json.specs.Written.{has_float, items_have_float}
 use Rattle.cert_text.specs.Fields.{number_data, numbers_data, list_data}
 use Rattle.cert_text.specs.Cuts.{cut_data}
 use Rattle.cert_text.specs.Plans.{spot_data, lockage_data}
-use Rattle.cert_text.specs.Marks.{mark_data}
-use Rattle.cert_text.specs.Certificates.{certificate_data}
+use Rattle.cert_text.specs.declared.heading.Version.{Version}
+use Rattle.cert_text.specs.declared.heading.Version.TheVariants.{First, Second, Third}
+use Rattle.cert_text.specs.Versions.{version_of}
+use Rattle.cert_text.specs.Marks.{mark_numbers, tree_data}
+use Rattle.cert_text.specs.Certificates.{parts_data, certificate_data}
 
 pub list_no_float : {A : Type 0} (f : A → Data) → ((x : A) → has_float (f x) ≡ false) → (xs : List A) → items_have_float (items_of (map f xs)) ≡ false
 list_no_float f each [] = refl
@@ -25,10 +30,10 @@ list_depth f k each (x ∷ xs) =
     let rest = list_depth f k each xs in
     omega arith
 
-numbers_no_float : (ns : List ℕ) → has_float (numbers_data ns) ≡ false
+pub numbers_no_float : (ns : List ℕ) → has_float (numbers_data ns) ≡ false
 numbers_no_float ns = list_no_float number_data (λ n. refl) ns
 
-numbers_depth : (ns : List ℕ) → depth (numbers_data ns) ≤ 1
+pub numbers_depth : (ns : List ℕ) → depth (numbers_data ns) ≤ 1
 numbers_depth ns = list_depth number_data 0 (λ n. omega arith) ns
 
 pub cut_no_float : (c : CertCut) → has_float (cut_data c) ≡ false
@@ -49,12 +54,33 @@ lockage_depth l =
     let spots = list_depth spot_data 1 (λ s. omega arith) l.spots in
     omega arith
 
+-- the parts of a certificate, whatever its marks
+pub parts_no_float : (version : Version) (cost : ℕ) (cuts : List CertCut) (plan : Plan) (prices : List (List ℕ)) (tree : Data) → has_float tree ≡ false → has_float (parts_data version cost cuts plan prices tree) ≡ false
+parts_no_float First cost cuts plan prices tree flat = rw (list_no_float cut_data cut_no_float cuts, list_no_float lockage_data lockage_no_float plan.lockages, flat) refl
+parts_no_float Second cost cuts plan prices tree flat = rw (list_no_float cut_data cut_no_float cuts, list_no_float lockage_data lockage_no_float plan.lockages, flat) refl
+parts_no_float Third cost cuts plan prices tree flat =
+    rw (list_no_float cut_data cut_no_float cuts, list_no_float lockage_data lockage_no_float plan.lockages, list_no_float numbers_data numbers_no_float prices, flat) refl
+
+pub parts_shallow : (version : Version) (cost : ℕ) (cuts : List CertCut) (plan : Plan) (prices : List (List ℕ)) (tree : Data) → depth tree ≤ 1 → depth (parts_data version cost cuts plan prices tree) ≤ max_depth
+parts_shallow version cost cuts plan prices tree flat = go version
+  where
+    go : (v : Version) → depth (parts_data v cost cuts plan prices tree) ≤ max_depth
+    go First =
+        let cuts_depth = list_depth cut_data 2 cut_depth cuts in
+        let plan_depth = list_depth lockage_data 3 lockage_depth plan.lockages in
+        omega (arith, cuts_depth, plan_depth, flat)
+    go Second =
+        let cuts_depth = list_depth cut_data 2 cut_depth cuts in
+        let plan_depth = list_depth lockage_data 3 lockage_depth plan.lockages in
+        omega (arith, cuts_depth, plan_depth, flat)
+    go Third =
+        let cuts_depth = list_depth cut_data 2 cut_depth cuts in
+        let plan_depth = list_depth lockage_data 3 lockage_depth plan.lockages in
+        let prices_depth = list_depth numbers_data 1 numbers_depth prices in
+        omega (arith, cuts_depth, plan_depth, prices_depth, flat)
+
 pub no_float : (C : Certificate) → has_float (certificate_data C) ≡ false
-no_float C = rw (list_no_float cut_data cut_no_float C.cuts, list_no_float lockage_data lockage_no_float C.plan.lockages, list_no_float mark_data (λ m. refl) C.tree) refl
+no_float C = parts_no_float (version_of C) C.cost C.cuts C.plan C.prices (tree_data C.tree) (numbers_no_float (flat_map mark_numbers C.tree))
 
 pub shallow : (C : Certificate) → depth (certificate_data C) ≤ max_depth
-shallow C =
-    let cuts = list_depth cut_data 2 cut_depth C.cuts in
-    let plan = list_depth lockage_data 3 lockage_depth C.plan.lockages in
-    let tree = list_depth mark_data 0 (λ m. omega arith) C.tree in
-    omega arith
+shallow C = parts_shallow (version_of C) C.cost C.cuts C.plan C.prices (tree_data C.tree) (numbers_depth (flat_map mark_numbers C.tree))

@@ -2,32 +2,55 @@
 use Rattle.std.specs.Prelude.{ℕ, ◌&&◌, Bool, List, [], ◌∷◌, Result, Ok, codes}
 use Rattle.serde_json.specs.Data.{Data}
 use Rattle.serde_json.specs.Written.{compact_text}
+use Rattle.lock_model.specs.declared.plan.Plan.{Plan}
+use Rattle.closing_rules.specs.ProvedCuts.{CertCut}
 use Rattle.certificate_rules.specs.Certificates.{Certificate}
 use Rattle.instance_text.specs.Steps.{◌>>=◌, ◌>>◌}
+use Rattle.cert_text.specs.declared.heading.Version.{Version}
+use Rattle.cert_text.specs.declared.heading.Version.TheVariants.{First, Second, Third}
+use Rattle.cert_text.specs.Versions.{is_third, version_of}
 use Rattle.cert_text.specs.Steps.{when, or_fault}
 use Rattle.cert_text.specs.Fields.{object_data, value_at, has_members, has_key}
 use Rattle.cert_text.specs.Cost.{cost_data, cost_in}
 use Rattle.cert_text.specs.Cuts.{cuts_data, cuts_under}
 use Rattle.cert_text.specs.Plans.{plan_data, plan_in}
+use Rattle.cert_text.specs.Prices.{price_lists_data, prices_under}
 use Rattle.cert_text.specs.Marks.{tree_data, tree_in}
 
+-- the keys behind the plan: only the third version has prices
+abbrev pub end_members : Version → List (List ℕ) → Data → List (List ℕ × Data)
+end_members First prices tree = (codes "tree", tree) ∷ []
+end_members Second prices tree = (codes "tree", tree) ∷ []
+end_members Third prices tree = (codes "prices", price_lists_data prices) ∷ (codes "tree", tree) ∷ []
+
+-- the object of a version with these parts
+abbrev pub parts_data : Version → ℕ → List CertCut → Plan → List (List ℕ) → Data → Data
+parts_data version cost cuts plan prices tree =
+    object_data ((codes "cost", cost_data cost) ∷ (codes "cuts", cuts_data cuts) ∷ (codes "plan", plan_data plan) ∷ end_members version prices tree)
+
 abbrev pub certificate_data : Certificate → Data
-certificate_data C = object_data ((codes "cost", cost_data C.cost) ∷ (codes "cuts", cuts_data C.cuts) ∷ (codes "plan", plan_data C.plan) ∷ (codes "tree", tree_data C.tree) ∷ [])
+certificate_data C = parts_data (version_of C) C.cost C.cuts C.plan C.prices (tree_data C.tree)
 
 -- the same as JSON text without white space
 unfoldable pub certificate_text : Certificate → List ℕ
 certificate_text C = compact_text (certificate_data C)
 
--- an object of the four keys
-abbrev pub is_frame : Data → Bool
-is_frame d = has_members 4 d && has_key d (codes "cost") && has_key d (codes "cuts") && has_key d (codes "plan") && has_key d (codes "tree")
+-- an object of the four keys, or of the five of the third version
+abbrev pub has_keys : Data → Bool
+has_keys d = has_key d (codes "cost") && has_key d (codes "cuts") && has_key d (codes "plan") && has_key d (codes "tree")
 
--- The certificate, or the number of the first part at fault: 1 the keys, 2 the cost, 3 the cuts, 4 the plan, 5 the tree.
-unfoldable pub certificate_in : Bool → Data → Result Certificate ℕ
-certificate_in clashes d = do
-  or_fault 1 (when (is_frame d))
+abbrev pub is_frame : Version → Data → Bool
+is_frame First d = has_members 4 d && has_keys d
+is_frame Second d = has_members 4 d && has_keys d
+is_frame Third d = has_members 5 d && (has_keys d && has_key d (codes "prices"))
+
+-- The certificate, or the number of the first part at fault: 1 the keys, 2 the cost, 3 the cuts, 4 the plan, 5 the tree, 6 the prices.
+unfoldable pub certificate_in : Version → Data → Result Certificate ℕ
+certificate_in version d = do
+  or_fault 1 (when (is_frame version d))
   cost ← or_fault 2 (value_at (codes "cost") cost_in d)
-  cuts ← or_fault 3 (value_at (codes "cuts") (cuts_under clashes) d)
+  cuts ← or_fault 3 (value_at (codes "cuts") (cuts_under version) d)
   plan ← or_fault 4 (value_at (codes "plan") plan_in d)
-  tree ← or_fault 5 (value_at (codes "tree") tree_in d)
-  Ok (record { cost = cost; cuts = cuts; plan = plan; tree = tree })
+  tree ← or_fault 5 (value_at (codes "tree") (tree_in (is_third version)) d)
+  prices ← or_fault 6 (prices_under version d)
+  Ok (record { cost = cost; cuts = cuts; plan = plan; prices = prices; tree = tree })

@@ -1,6 +1,5 @@
 -- Cuts as JSON values.
-use Rattle.std.specs.Prelude.{◌||◌, not, ℕ, zero, suc, Bool, true, false, List, [], ◌∷◌, nat_lt, Option, None, Some, codes}
-use Rattle.std.specs.List.{list_any}
+use Rattle.std.specs.Prelude.{not, ℕ, zero, suc, List, [], ◌∷◌, nat_lt, Option, None, Some, codes}
 use Rattle.serde_json.specs.Data.{Data, Items, no_items, item}
 use Rattle.serde_json.specs.Find.{as_array}
 use Rattle.refute_rules.specs.Why.{why_of}
@@ -8,6 +7,8 @@ use Rattle.refute_rules.specs.declared.refutation.Quick.TheVariants.{Area, Row, 
 use Rattle.refute_rules.specs.declared.refutation.Refutation.{Refutation}
 use Rattle.refute_rules.specs.declared.refutation.Refutation.TheVariants as refutation
 use Rattle.closing_rules.specs.ProvedCuts.{CertCut}
+use Rattle.cert_text.specs.declared.heading.Version.{Version}
+use Rattle.cert_text.specs.Versions.{has_outside}
 use Rattle.cert_text.specs.Steps.{◌>>=◌, ◌>>◌, when}
 use Rattle.cert_text.specs.Fields.{number_data, list_data, numbers_data, object_data, number_in, byte_in, word_in, all_in, list_in, value_at, has_members}
 use Rattle.cert_text.specs.Crew.{crew_in, ships_in}
@@ -44,6 +45,9 @@ refutation_in (suc (suc (suc (suc zero)))) rest = do
 refutation_in (suc (suc (suc (suc (suc zero))))) rest = do
   places ← all_in byte_in rest
   clash_of places
+refutation_in (suc (suc (suc (suc (suc (suc zero)))))) rest = do
+  marks ← all_in word_in rest
+  Some (refutation.Berths marks)
 refutation_in _ rest = None
 
 -- a list of numbers, the first of which tells the kind of refutation
@@ -69,19 +73,9 @@ cut_in d = do
 abbrev pub cuts_in : Data → Option (List CertCut)
 cuts_in = list_in cut_in
 
--- its `why` begins with 5
-abbrev pub is_by_clash : Refutation → Bool
-is_by_clash (refutation.Quick q) = false
-is_by_clash (refutation.Cases marks) = false
-is_by_clash (refutation.Spots marks) = false
-is_by_clash (refutation.Clash i j) = true
-
-abbrev pub has_clash_cut : List CertCut → Bool
-has_clash_cut = list_any (λ c. is_by_clash c.refutation)
-
--- the cuts, none of them refuted by a clash where clashes aren't taken
-abbrev pub cuts_under : Bool → Data → Option (List CertCut)
-cuts_under clashes d = do
+-- the cuts, none of them with a refutation of a later version
+abbrev pub cuts_under : Version → Data → Option (List CertCut)
+cuts_under version d = do
   cuts ← cuts_in d
-  when (clashes || not (has_clash_cut cuts))
+  when (not (has_outside version cuts))
   Some cuts

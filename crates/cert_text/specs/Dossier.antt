@@ -1,5 +1,5 @@
 -- Dossiers: the canonical one, what one means, and its first fault.
-use Rattle.std.specs.Prelude.{ℕ, ◌≡◌, ◌++◌, Bool, true, false, List, [], ◌∷◌, Option, None, Some, Result, Ok, Err, codes, if◌then◌else◌, ⊤}
+use Rattle.std.specs.Prelude.{ℕ, ◌≡◌, ◌++◌, List, [], ◌∷◌, Option, None, Some, Result, Ok, Err, codes, if◌then◌else◌, ⊤}
 use Rattle.std.specs.Str.{is_utf8}
 use Rattle.lock_model.specs.declared.instance.Instance.{Instance}
 use Rattle.certificate_rules.specs.Certificates.{Certificate}
@@ -10,29 +10,32 @@ use Rattle.instance_text.specs.Canonical.{canonical}
 use Rattle.serde_json.specs.Data.{Data}
 use Rattle.serde_json.specs.Read.{read}
 use Rattle.cert_text.specs.declared.heading.Heading.{Heading}
-use Rattle.cert_text.specs.declared.heading.Heading.TheVariants.{First, Second, Open}
+use Rattle.cert_text.specs.declared.heading.Heading.TheVariants.{Whole, Open}
+use Rattle.cert_text.specs.declared.heading.Version.{Version}
+use Rattle.cert_text.specs.declared.heading.Version.TheVariants.{First, Second, Third}
 use Rattle.cert_text.specs.declared.bad.BadDossier.{BadDossier}
 use Rattle.cert_text.specs.declared.bad.BadDossier.TheVariants as fault
 use Rattle.cert_text.specs.declared.bad.DossierError.{DossierError}
 use Rattle.cert_text.specs.declared.bad.DossierError.TheVariants.{Fault, NoMemory}
 use Rattle.cert_text.specs.Steps.{or_fault, fault_under}
-use Rattle.cert_text.specs.Cuts.{has_clash_cut}
+use Rattle.cert_text.specs.Versions.{version_of}
 use Rattle.cert_text.specs.Certificates.{certificate_text, certificate_in}
 use Rattle.cert_text.specs.Heading.{headed}
 
--- the second heading exactly where some cut is refuted by a clash
-abbrev pub heading_line : Bool → List ℕ
-heading_line clashes = if clashes then codes "certificate 2\n" else codes "certificate\n"
+-- the heading of a version
+abbrev pub heading_line : Version → List ℕ
+heading_line First = codes "certificate\n"
+heading_line Second = codes "certificate 2\n"
+heading_line Third = codes "certificate 3\n"
 
 -- the canonical dossier of an instance and a certificate
 unfoldable pub dossier : Instance → Certificate → List ℕ
-dossier I C = canonical I ++ (heading_line (has_clash_cut C.cuts) ++ (certificate_text C ++ 10 ∷ []))
+dossier I C = canonical I ++ (heading_line (version_of C) ++ (certificate_text C ++ 10 ∷ []))
 
--- whether cuts may be refuted by a clash; an open dossier is none
-abbrev pub takes_clashes : Heading → Option Bool
-takes_clashes First = Some false
-takes_clashes Second = Some true
-takes_clashes Open = None
+-- the version of a dossier; an open one is none
+abbrev pub whole_version : Heading → Option Version
+whole_version (Whole version) = Some version
+whole_version (Open version) = None
 
 -- the JSON value of bytes
 unfoldable pub json_of : List ℕ → Option Data
@@ -42,9 +45,9 @@ json_of bytes = if is_utf8 bytes then read bytes else None
 unfoldable pub rest_in : List ℕ → Result Certificate BadDossier
 rest_in bytes = do
   found ← or_fault fault.NoMark (headed bytes)
-  clashes ← or_fault fault.NoMark (takes_clashes found.0)
+  version ← or_fault fault.NoMark (whole_version found.0)
   value ← or_fault fault.Json (json_of found.1)
-  fault_under fault.Shape (certificate_in clashes value)
+  fault_under fault.Shape (certificate_in version value)
 
 -- the instance and the certificate of a dossier, or its first fault
 unfoldable pub dossier_in : List ℕ → Result (Draft × Certificate) BadDossier

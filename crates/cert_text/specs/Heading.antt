@@ -1,21 +1,30 @@
 -- The line between an instance and its certificate.
-use Rattle.std.specs.Prelude.{ℕ, ◌==◌, List, [], ◌∷◌, length, Option, None, Some, option_map, codes, if◌then◌else◌}
+use Rattle.std.specs.Prelude.{ℕ, ◌==◌, ◌&&◌, List, [], ◌∷◌, length, Option, None, Some, option_map, codes, if◌then◌else◌}
 use Rattle.std.specs.Str.{bytes_eq}
 use Rattle.std.specs.List.{join_with_byte}
 use Rattle.instance_text.specs.Lines.{lines, words}
 use Rattle.instance_text.specs.Chamber.{word_at}
+use Rattle.cert_text.specs.declared.heading.Version.TheVariants.{First, Second, Third}
 use Rattle.cert_text.specs.declared.heading.Heading.{Heading}
-use Rattle.cert_text.specs.declared.heading.Heading.TheVariants.{First, Second, Open}
+use Rattle.cert_text.specs.declared.heading.Heading.TheVariants.{Whole, Open}
 
--- what a second word says
+-- what a second word says, where it is the last one
 abbrev pub second_word : List ℕ → Option Heading
-second_word word = if bytes_eq word (codes "2") then Some Second else (if bytes_eq word (codes "open") then Some Open else None)
+second_word word =
+    if bytes_eq word (codes "2") then Some (Whole Second)
+    else (if bytes_eq word (codes "3") then Some (Whole Third) else (if bytes_eq word (codes "open") then Some (Open Second) else None))
 
--- `certificate`, `certificate 2` or `certificate open`
+-- what a second and a third word say
+abbrev pub third_word : List ℕ → List ℕ → Option Heading
+third_word second third = if bytes_eq second (codes "open") && bytes_eq third (codes "3") then Some (Open Third) else None
+
+-- `certificate`, `certificate 2`, `certificate 3`, `certificate open` or `certificate open 3`
 unfoldable pub heading_of : List (List ℕ) → Option Heading
 heading_of words =
     if bytes_eq (word_at words 0) (codes "certificate")
-    then (if length words == 1 then Some First else (if length words == 2 then second_word (word_at words 1) else None))
+    then (if length words == 1 then Some (Whole First)
+    else (if length words == 2 then second_word (word_at words 1)
+    else (if length words == 3 then third_word (word_at words 1) (word_at words 2) else None)))
     else None
 
 -- the first line with words, which is a heading, and the lines after it

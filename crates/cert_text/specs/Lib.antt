@@ -3,9 +3,11 @@ pub mod Fields
 pub mod Answers
 pub mod Crew
 pub mod Cost
+pub mod Versions
 pub mod Cuts
 pub mod Plans
 pub mod Marks
+pub mod Prices
 pub mod Certificates
 pub mod Heading
 pub mod Dossier

@@ -1,25 +1,29 @@
 -- Marks as numbers, and trees as JSON values.
-use Rattle.std.specs.Prelude.{ℕ, ◌+◌, ◌-◌, ◌==◌, List, Option, None, Some, if◌then◌else◌}
+use Rattle.std.specs.Prelude.{ℕ, ◌+◌, ◌-◌, ◌==◌, ◌&&◌, ◌++◌, Bool, true, false, List, [], ◌∷◌, Option, None, Some, option_map, is_none, if◌then◌else◌}
+use Rattle.std.specs.List.{flat_map}
 use Rattle.lock_model.specs.Limits.{is_between}
 use Rattle.closing_rules.specs.declared.grounds.Ground.{Ground}
-use Rattle.closing_rules.specs.declared.grounds.Ground.TheVariants.{Bound, Throughput, Probe, Cut}
+use Rattle.closing_rules.specs.declared.grounds.Ground.TheVariants.{Bound, Throughput, Probe, Cut, Price}
 use Rattle.certificate_rules.specs.declared.certificate.Mark.{Mark}
 use Rattle.certificate_rules.specs.declared.certificate.Mark.TheVariants.{Split, Leaf}
-use Rattle.serde_json.specs.Data.{Data}
+use Rattle.serde_json.specs.Data.{Data, Items, no_items, item}
+use Rattle.serde_json.specs.Find.{as_array}
 use Rattle.cert_text.specs.Steps.{◌>>=◌}
-use Rattle.cert_text.specs.Fields.{list_data, number_data, number_in, list_in}
+use Rattle.cert_text.specs.Fields.{numbers_data, number_in, number_below}
 
-abbrev pub ground_number : Ground → ℕ
-ground_number Bound = 1
-ground_number Throughput = 2
-ground_number (Probe s) = 10 + s
-ground_number (Cut c) = 100 + c
+-- a mark that names prices is two numbers
+abbrev pub ground_numbers : Ground → List ℕ
+ground_numbers Bound = 1 ∷ []
+ground_numbers Throughput = 2 ∷ []
+ground_numbers (Probe s) = (10 + s) ∷ []
+ground_numbers (Cut c) = (100 + c) ∷ []
+ground_numbers (Price v) = 4 ∷ v ∷ []
 
-abbrev pub mark_number : Mark → ℕ
-mark_number Split = 0
-mark_number (Leaf why) = ground_number why
+abbrev pub mark_numbers : Mark → List ℕ
+mark_numbers Split = 0 ∷ []
+mark_numbers (Leaf why) = ground_numbers why
 
--- the mark of a number: 3 to 9, 34 to 99 and those above 2^63 + 99 have none
+-- the mark that is one number: 3 to 9, 34 to 99 and those above 2^63 + 99 are none
 unfoldable pub mark_of : ℕ → Option Mark
 mark_of n =
     if n == 0 then Some Split
@@ -28,16 +32,36 @@ mark_of n =
     else (if is_between 10 33 n then Some (Leaf (Probe (n - 10)))
     else (if is_between 100 9223372036854775907 n then Some (Leaf (Cut (n - 100))) else None))))
 
-abbrev pub mark_in : Data → Option Mark
-mark_in d = do
-  n ← number_in d
-  mark_of n
+-- the mark of the second number of two
+abbrev pub price_mark_in : Data → Option Mark
+price_mark_in d = do
+  number ← number_below 9223372036854775808 d
+  Some (Leaf (Price number))
 
-abbrev pub mark_data : Mark → Data
-mark_data m = number_data (mark_number m)
+-- What a number of a tree says: the mark that it ends, or no mark where it is the 4 that begins one of two numbers, which only the third version has. `begun` says that such a 4 stands before it.
+abbrev pub mark_in : Bool → Bool → Data → Option (Option Mark)
+mark_in third true d = option_map Some (price_mark_in d)
+mark_in third false d = do
+  n ← number_in d
+  if third && n == 4 then Some None else option_map Some (mark_of n)
+
+abbrev pub listed : {M : Type 0} → Option M → List M
+listed None = []
+listed (Some m) = m ∷ []
+
+-- the marks that numbers say, the last of which ends one
+abbrev pub marks_in : {M : Type 0} → (Bool → Data → Option (Option M)) → Bool → Items → Option (List M)
+marks_in told true no_items = None
+marks_in told false no_items = Some []
+marks_in told begun (item d more) = do
+  mark ← told begun d
+  marks ← marks_in told (is_none mark) more
+  Some (listed mark ++ marks)
 
 abbrev pub tree_data : List Mark → Data
-tree_data = list_data mark_data
+tree_data marks = numbers_data (flat_map mark_numbers marks)
 
-abbrev pub tree_in : Data → Option (List Mark)
-tree_in = list_in mark_in
+abbrev pub tree_in : Bool → Data → Option (List Mark)
+tree_in third d = do
+  items ← as_array d
+  marks_in (mark_in third) false items

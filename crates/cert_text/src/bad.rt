@@ -14,7 +14,7 @@ pub enum BadDossier {
     /// What follows the heading is not one JSON text.
     Json,
     /// A part of the JSON value has not its form: 1 the object and its keys, 2 the cost, 3 the
-    /// cuts, 4 the plan, 5 the tree.
+    /// cuts, 4 the plan, 5 the tree, 6 the prices.
     Shape(u8),
 }
 

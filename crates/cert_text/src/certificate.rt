@@ -6,72 +6,72 @@ ghost use Rattle.cert_text.specs.Answers.{IsCausedFault, IsFault};
 ghost use Rattle.cert_text.specs.Steps.{fault_under};
 ghost use Rattle.cert_text.specs.Fields.{value_at};
 ghost use Rattle.cert_text.specs.Cost.{cost_in};
-ghost use Rattle.cert_text.specs.Cuts.{is_by_clash, has_clash_cut, cuts_under};
+ghost use Rattle.cert_text.specs.Cuts.{cuts_under};
 ghost use Rattle.cert_text.specs.Plans.{plan_in};
 ghost use Rattle.cert_text.specs.Marks.{tree_in};
-ghost use Rattle.cert_text.specs.Certificates.{certificate_data, is_frame, certificate_in};
+ghost use Rattle.cert_text.specs.Versions.{version_of};
+ghost use Rattle.cert_text.specs.Certificates.{certificate_data, has_keys, is_frame, certificate_in};
 ghost use Rattle.cert_text.specs.declared.bad.BadDossier.TheVariants.{Shape};
 
 use crate::bad::{BadDossier, DossierError};
-use crate::cost::{cost_of, put_cost};
-use crate::cuts::{cuts_of, put_cuts};
-use crate::plan::{plan_of, put_plan};
+use crate::cost::cost_of;
+use crate::cuts::cuts_of;
+use crate::heading::Version;
+use crate::parts::{Parts, put_parts};
+use crate::plan::plan_of;
+use crate::prices::prices_at;
 use crate::tree::{put_tree, tree_in};
 use crate::value::has_members;
-use cert_check::{CertCut, CertCuts, Certificate, MarkList};
+use crate::version::{has_outside, is_third};
+use cert_check::{CertCuts, Certificate, MarkList};
 use lock_model::Plan;
 use plain_text::NoMemory;
-use refute_rules::Refutation;
-use serde_json::{Map, Value};
+use serde_json::Value;
 use std::alloc::Global;
 
-/// A certificate as a value.
-#[tactic(auto, unfolding(serde_json::proofs::OnLiterals::serde_json_on_literals))]
-pub fn put_certificate(alloc: Global, certificate: &Certificate) -> Result<Value, NoMemory>
-    requires { IsWellFormed certificate.now }
+/// A certificate as a value, in its version.
+pub fn put_certificate(
+    alloc: Global,
+    version: Version,
+    certificate: &Certificate,
+) -> Result<Value, NoMemory>
+    requires formed { IsWellFormed certificate.now }
+    requires version { version ≡ version_of certificate.now }
     ensures value { IfOk result (λ v. view v ≡ certificate_data certificate.now) }
-    ensures reads_back { IfOk result (λ _. certificate_in (has_clash_cut certificate.now.cuts) (certificate_data certificate.now) ≡ Ok certificate.now) }
+    ensures reads_back { IfOk result (λ _. certificate_in version (certificate_data certificate.now) ≡ Ok certificate.now) }
 {
-    let cost = put_cost(certificate.cost)?;
-    let cuts = put_cuts(alloc, &certificate.cuts)?;
-    let plan = put_plan(alloc, &certificate.plan)?;
     let tree = put_tree(alloc, &certificate.tree)?;
-    let mut map = Map::new(alloc);
-    serde_json::put(&mut map, alloc, "cost", cost)?;
-    serde_json::put(&mut map, alloc, "cuts", cuts)?;
-    serde_json::put(&mut map, alloc, "plan", plan)?;
-    serde_json::put(&mut map, alloc, "tree", tree)?;
-    Ok(Value::Object(map))
+    let parts = Parts {
+        cost: certificate.cost,
+        cuts: &certificate.cuts,
+        plan: &certificate.plan,
+        prices: certificate.prices.as_slice(),
+    };
+    let value = put_parts(alloc, version, &parts, tree)?;
+    Ok(value)
 }
 
-/// Whether a cut is refuted by a clash.
-fn is_by_clash(cut: &CertCut) -> bool
-    ensures { result ≡ is_by_clash cut.now.refutation }
+/// Whether a value has the four keys that each certificate has.
+fn has_keys(value: &Value) -> bool
+    ensures { result ≡ has_keys (view value.now) }
 {
-    matches!(cut.refutation, Refutation::Clash(_, _))
-}
-
-/// Whether some cut is refuted by a clash.
-pub fn has_clash_cut(cuts: &CertCuts) -> bool
-    ensures { result ≡ has_clash_cut cuts.now }
-{
-    for cut in cuts.as_slice() {
-        if is_by_clash(cut) {
-            return true;
-        }
-    }
-    false
-}
-
-/// Whether a value is an object of the four keys of a certificate. Takes no memory.
-pub fn is_frame(value: &Value) -> bool
-    ensures { result ≡ is_frame (view value.now) }
-{
-    has_members(value, 4)
-        && value.get("cost").is_some()
+    value.get("cost").is_some()
         && value.get("cuts").is_some()
         && value.get("plan").is_some()
         && value.get("tree").is_some()
+}
+
+/// Whether a value is an object of the four keys of a certificate, or of the five of the third version.
+/// Takes no memory.
+pub fn is_frame(version: Version, value: &Value) -> bool
+    ensures { result ≡ is_frame version (view value.now) }
+{
+    match version {
+        Version::First | Version::Second => has_members(value, 4) && has_keys(value),
+        Version::Third => {
+            has_members(value, 5) && (has_keys(value) && value.get("prices").is_some())
+        }
+    }
 }
 
 /// The cost, in minutes, at the key `cost`. Answers `Shape(2)` exactly where there is none. Takes no
@@ -86,27 +86,27 @@ pub fn cost_at(value: &Value) -> Result<u64, BadDossier>
     }
 }
 
-/// The cuts that a value lists, where clashes are taken or none is there.
-fn cuts_under(alloc: Global, clashes: bool, value: &Value) -> Result<CertCuts, DossierError>
-    ensures read { IfOk result (λ cuts. cuts_under clashes (view value.now) ≡ Some cuts) }
-    ensures shape { IfErr result (IsCausedFault (Shape 3) (cuts_under clashes (view value.now) ≡ None)) }
+/// The cuts that a value lists, none with a refutation of a later version.
+fn cuts_under(alloc: Global, version: Version, value: &Value) -> Result<CertCuts, DossierError>
+    ensures read { IfOk result (λ cuts. cuts_under version (view value.now) ≡ Some cuts) }
+    ensures shape { IfErr result (IsCausedFault (Shape 3) (cuts_under version (view value.now) ≡ None)) }
 {
     let cuts = cuts_of(alloc, value)?;
-    if clashes || !has_clash_cut(&cuts) {
-        Ok(cuts)
-    } else {
+    if has_outside(version, &cuts) {
         Err(DossierError::Fault(BadDossier::Shape(3)))
+    } else {
+        Ok(cuts)
     }
 }
 
-/// The cuts at the key `cuts`, where clashes are taken or none is there. Answers `Shape(3)` exactly
+/// The cuts at the key `cuts`, none with a refutation of a later version. Answers `Shape(3)` exactly
 /// where these are none, or else want of memory.
-pub fn cuts_at(alloc: Global, clashes: bool, value: &Value) -> Result<CertCuts, DossierError>
-    ensures read { IfOk result (λ cuts. value_at (codes "cuts") (cuts_under clashes) (view value.now) ≡ Some cuts) }
-    ensures shape { IfErr result (IsCausedFault (Shape 3) (value_at (codes "cuts") (cuts_under clashes) (view value.now) ≡ None)) }
+pub fn cuts_at(alloc: Global, version: Version, value: &Value) -> Result<CertCuts, DossierError>
+    ensures read { IfOk result (λ cuts. value_at (codes "cuts") (cuts_under version) (view value.now) ≡ Some cuts) }
+    ensures shape { IfErr result (IsCausedFault (Shape 3) (value_at (codes "cuts") (cuts_under version) (view value.now) ≡ None)) }
 {
     match value.get("cuts") {
-        Some(cuts) => cuts_under(alloc, clashes, cuts),
+        Some(cuts) => cuts_under(alloc, version, cuts),
         None => Err(DossierError::Fault(BadDossier::Shape(3))),
     }
 }
@@ -123,23 +123,23 @@ pub fn plan_at(value: &Value) -> Result<Plan, BadDossier>
 }
 
 /// The marks that a value lists.
-fn tree_of(alloc: Global, value: &Value) -> Result<MarkList, DossierError>
-    ensures read { IfOk result (λ tree. tree_in (view value.now) ≡ Some tree) }
-    ensures shape { IfErr result (IsCausedFault (Shape 5) (tree_in (view value.now) ≡ None)) }
+fn tree_of(alloc: Global, third: bool, value: &Value) -> Result<MarkList, DossierError>
+    ensures read { IfOk result (λ tree. tree_in third (view value.now) ≡ Some tree) }
+    ensures shape { IfErr result (IsCausedFault (Shape 5) (tree_in third (view value.now) ≡ None)) }
 {
-    match tree_in(alloc, value)? {
+    match tree_in(alloc, third, value)? {
         Some(tree) => Ok(tree),
         None => Err(DossierError::Fault(BadDossier::Shape(5))),
     }
 }
 
 /// The marks at the key `tree`.
-fn tree_at(alloc: Global, value: &Value) -> Result<MarkList, DossierError>
-    ensures read { IfOk result (λ tree. value_at (codes "tree") tree_in (view value.now) ≡ Some tree) }
-    ensures shape { IfErr result (IsCausedFault (Shape 5) (value_at (codes "tree") tree_in (view value.now) ≡ None)) }
+fn tree_at(alloc: Global, third: bool, value: &Value) -> Result<MarkList, DossierError>
+    ensures read { IfOk result (λ tree. value_at (codes "tree") (tree_in third) (view value.now) ≡ Some tree) }
+    ensures shape { IfErr result (IsCausedFault (Shape 5) (value_at (codes "tree") (tree_in third) (view value.now) ≡ None)) }
 {
     match value.get("tree") {
-        Some(tree) => tree_of(alloc, tree),
+        Some(tree) => tree_of(alloc, third, tree),
         None => Err(DossierError::Fault(BadDossier::Shape(5))),
     }
 }
@@ -148,23 +148,25 @@ fn tree_at(alloc: Global, value: &Value) -> Result<MarkList, DossierError>
 #[tactic(auto, unfolding(crate::specs::Certificates::certificate_in))]
 pub fn certificate_in(
     alloc: Global,
-    clashes: bool,
+    version: Version,
     value: &Value,
 ) -> Result<Certificate, DossierError>
-    ensures read { IfOk result (λ c. certificate_in clashes (view value.now) ≡ Ok c) }
-    ensures shape { IfErr result (IsFault (fault_under Shape (certificate_in clashes (view value.now)))) }
+    ensures read { IfOk result (λ c. certificate_in version (view value.now) ≡ Ok c) }
+    ensures shape { IfErr result (IsFault (fault_under Shape (certificate_in version (view value.now)))) }
 {
-    if !is_frame(value) {
+    if !is_frame(version, value) {
         return Err(DossierError::Fault(BadDossier::Shape(1)));
     }
     let cost = cost_at(value)?;
-    let cuts = cuts_at(alloc, clashes, value)?;
+    let cuts = cuts_at(alloc, version, value)?;
     let plan = plan_at(value)?;
-    let tree = tree_at(alloc, value)?;
+    let tree = tree_at(alloc, is_third(version), value)?;
+    let prices = prices_at(alloc, version, value)?;
     Ok(Certificate {
         cost,
         cuts,
         plan,
+        prices,
         tree,
     })
 }

@@ -1,29 +1,51 @@
 //! The line between an instance and its certificate.
 ghost use Rattle.std.specs.Prelude.{◌≡◌, option_map};
 ghost use Rattle.instance_text.specs.Lines.{words};
-ghost use Rattle.cert_text.specs.Heading.{second_word, heading_of, headed};
+ghost use Rattle.cert_text.specs.Heading.{second_word, third_word, heading_of, headed};
 
 use instance_text::{Lines, is_blank, word_at, words_of};
 
-/// What the line between an instance and its certificate says.
+/// Which parts the text of a certificate may have.
 #[derive(Clone, Copy, Debug, PartialEq, Eq)]
-pub enum Heading {
-    /// `certificate`: no cut is refuted by a clash.
+pub enum Version {
+    /// Cuts that are refuted by a quick reason, a case tree or a spot tree.
     First,
-    /// `certificate 2`: cuts may be refuted by a clash.
+    /// Cuts that are refuted by a clash besides.
     Second,
-    /// `certificate open`: the certificate leaves nodes open.
-    Open,
+    /// Cuts that are refuted by a berth tree besides, prices, and marks for them.
+    Third,
 }
 
-/// What a second word says.
+/// What the line between an instance and its certificate says: the version, and whether the
+/// certificate may leave nodes open.
+#[derive(Clone, Copy, Debug, PartialEq, Eq)]
+pub enum Heading {
+    /// `certificate`, `certificate 2` or `certificate 3`.
+    Whole(Version),
+    /// `certificate open`, which is of the second version, or `certificate open 3`.
+    Open(Version),
+}
+
+/// What a second word says, where it is the last one.
 fn second_word(word: &[u8]) -> Option<Heading>
     ensures { result ≡ second_word word.now }
 {
     match word {
-        b"2" => Some(Heading::Second),
-        b"open" => Some(Heading::Open),
+        b"2" => Some(Heading::Whole(Version::Second)),
+        b"3" => Some(Heading::Whole(Version::Third)),
+        b"open" => Some(Heading::Open(Version::Second)),
         _ => None,
+    }
+}
+
+/// What a second and a third word say.
+fn third_word(second: &[u8], third: &[u8]) -> Option<Heading>
+    ensures { result ≡ third_word second.now third.now }
+{
+    if second == b"open".as_slice() && third == b"3".as_slice() {
+        Some(Heading::Open(Version::Third))
+    } else {
+        None
     }
 }
 
@@ -38,8 +60,9 @@ fn heading_of(line: &[u8]) -> Option<Heading>
         return None;
     }
     match words.len() {
-        1 => Some(Heading::First),
+        1 => Some(Heading::Whole(Version::First)),
         2 => second_word(word_at(words, 1)),
+        3 => third_word(word_at(words, 1), word_at(words, 2)),
         _ => None,
     }
 }

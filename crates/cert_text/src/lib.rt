@@ -4,15 +4,15 @@
 //! same certificate. `read_dossier` answers for all bytes: the instance and the certificate that
 //! they mean, or their first fault exactly where they mean none, or else want of memory.
 //!
-//! The writers `put_cost`, `put_cuts`, `put_plan` and `put_mark` and the readers `cost_of`,
-//! `cuts_of`, `plan_of` and `mark_of` serve one part each, `cost_at`, `cuts_at` and `plan_at` the part
-//! at its key, and `headed`, `json_of`, `has_members`, `is_frame` and `put_line` the frame, so that
-//! other texts with these parts may be built of them.
+//! The writers `put_parts` and `push_mark` and the readers `cost_at`, `cuts_at`, `plan_at`, `prices_at`
+//! and `mark_in` serve one part each, and `headed`, `json_of`, `has_members`, `is_frame`, `needs_third`
+//! and `put_line` the frame, so that other texts with these parts may be built of them.
 //!
 //! Definitions: `specs/Dossier` (the canonical dossier, what a text means, its first fault),
-//! `Heading` (the line before the certificate), `Certificates` (a certificate as a JSON value, and
-//! the first part at fault), `Cost`, `Cuts`, `Plans` and `Marks` (its parts, both ways), `Crew`
-//! (lists of ships) and `Fields` (numbers, lists and keys).
+//! `Heading` (the line before the certificate), `Versions` (which version a certificate is written
+//! in), `Certificates` (a certificate as a JSON value, and the first part at fault), `Cost`, `Cuts`,
+//! `Plans`, `Prices` and `Marks` (its parts, both ways), `Crew` (lists of ships) and `Fields` (numbers,
+//! lists and keys).
 #![tactic(auto)]
 
 mod bad;
@@ -22,25 +22,31 @@ mod crew;
 mod cuts;
 mod heading;
 mod marks;
+mod parts;
 mod plan;
+mod prices;
 mod print;
 mod read;
 mod spots;
 mod tree;
 mod value;
+mod version;
 mod why;
 
 pub use bad::{BadDossier, DossierError};
 pub use certificate::{cost_at, cuts_at, is_frame, plan_at};
 pub use cost::{cost_of, put_cost};
 pub use cuts::{cuts_of, put_cuts};
-pub use heading::{Heading, headed};
-pub use marks::{mark_of, put_mark};
+pub use heading::{Heading, Version, headed};
+pub use marks::{mark_in, push_mark};
+pub use parts::{Parts, put_parts};
 pub use plain_text::NoMemory;
 pub use plan::{plan_of, put_plan};
+pub use prices::prices_at;
 pub use print::{print_dossier, put_line};
 pub use read::{json_of, read_dossier};
 pub use value::has_members;
+pub use version::{is_price_mark, is_third, needs_third};
 
 #[cfg(test)]
 mod tests;

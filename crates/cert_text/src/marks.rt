@@ -1,40 +1,86 @@
-//! Marks as numbers, and trees as JSON values.
-ghost use Rattle.std.specs.Prelude.{◌≡◌, Some, None, IfOk, IfErr};
-ghost use Rattle.certificate_rules.specs.WellFormed.{IsFormedMark};
-ghost use Rattle.cert_text.specs.Marks.{mark_number, mark_of};
-ghost use Rattle.cert_text.specs.declared.bad.BadDossier.TheVariants.{Shape};
+//! Marks as numbers.
+ghost use Rattle.std.specs.Prelude.{◌≡◌, ◌++◌, false, Some, None, map, OnOk};
+ghost use Rattle.certificate_rules.specs.WellFormed.{IsFormedGround, IsFormedMark};
+ghost use Rattle.serde_json.specs.View.{view};
+ghost use Rattle.cert_text.specs.Fields.{number_data};
+ghost use Rattle.cert_text.specs.Marks.{ground_numbers, mark_numbers, mark_of, price_mark_in, mark_in};
 
-use crate::bad::BadDossier;
+use crate::value::{number_below, push_number};
 use cert_check::{Ground, Mark};
+use serde_json::Value;
+use std::alloc::AllocError;
 
-/// The number of a mark, which `mark_of` reads back. Takes no memory.
-#[tactic(auto, unfolding(crate::specs::Marks::mark_of))]
-pub fn put_mark(mark: &Mark) -> u64
-    requires { IsFormedMark mark.now }
-    ensures value { result ≡ mark_number mark.now }
-    ensures reads_back { mark_of result ≡ Some mark.now }
+/// Appends the number of a ground, or its two numbers.
+fn push_ground(list: &mut Vec<Value>, why: Ground) -> Result<(), AllocError>
+    requires { IsFormedGround why }
+    ensures { OnOk result (map view list.new.items ≡ map view list.old.items ++ map number_data (ground_numbers why)) }
 {
-    match *mark {
-        Mark::Split => 0,
-        Mark::Leaf(Ground::Bound) => 1,
-        Mark::Leaf(Ground::Throughput) => 2,
-        Mark::Leaf(Ground::Probe(ship)) => 10 + u64::from(ship),
-        Mark::Leaf(Ground::Cut(number)) => 100 + number,
+    match why {
+        Ground::Bound => push_number(list, 1),
+        Ground::Throughput => push_number(list, 2),
+        Ground::Probe(ship) => push_number(list, 10 + u64::from(ship)),
+        Ground::Cut(number) => push_number(list, 100 + number),
+        Ground::Price(number) => {
+            push_number(list, 4)?;
+            push_number(list, number)
+        }
     }
 }
 
-/// The mark of a number. Answers `Shape(5)` exactly where the number has none. Takes no memory.
+/// Appends the number of a mark, or the two numbers of one that names prices.
+pub fn push_mark(list: &mut Vec<Value>, mark: Mark) -> Result<(), AllocError>
+    requires { IsFormedMark mark }
+    ensures { OnOk result (map view list.new.items ≡ map view list.old.items ++ map number_data (mark_numbers mark)) }
+{
+    match mark {
+        Mark::Split => push_number(list, 0),
+        Mark::Leaf(why) => push_ground(list, why),
+    }
+}
+
+/// The mark that is one number.
 #[tactic(auto, unfolding(crate::specs::Marks::mark_of))]
-pub fn mark_of(number: u64) -> Result<Mark, BadDossier>
-    ensures read { IfOk result (λ mark. mark_of number ≡ Some mark) }
-    ensures shape { IfErr result (λ f. (f ≡ Shape 5) × (mark_of number ≡ None)) }
+fn mark_of(number: u64) -> Option<Mark>
+    ensures { result ≡ mark_of number }
 {
     match number {
-        0 => Ok(Mark::Split),
-        1 => Ok(Mark::Leaf(Ground::Bound)),
-        2 => Ok(Mark::Leaf(Ground::Throughput)),
-        10..=33 => Ok(Mark::Leaf(Ground::Probe((number - 10) as u8))),
-        100..=9_223_372_036_854_775_907 => Ok(Mark::Leaf(Ground::Cut(number - 100))),
-        _ => Err(BadDossier::Shape(5)),
+        0 => Some(Mark::Split),
+        1 => Some(Mark::Leaf(Ground::Bound)),
+        2 => Some(Mark::Leaf(Ground::Throughput)),
+        10..=33 => Some(Mark::Leaf(Ground::Probe((number - 10) as u8))),
+        100..=9_223_372_036_854_775_907 => Some(Mark::Leaf(Ground::Cut(number - 100))),
+        _ => None,
+    }
+}
+
+/// The mark of the second number of two.
+fn price_mark_in(value: &Value) -> Option<Mark>
+    ensures { result ≡ price_mark_in (view value.now) }
+{
+    let number = number_below(value, 9_223_372_036_854_775_808)?;
+    Some(Mark::Leaf(Ground::Price(number)))
+}
+
+/// What a number says that isn't the second of two.
+fn first_in(third: bool, value: &Value) -> Option<Option<Mark>>
+    ensures { result ≡ mark_in third false (view value.now) }
+{
+    let number = value.as_u64()?;
+    if third && number == 4 {
+        return Some(None);
+    }
+    Some(Some(mark_of(number)?))
+}
+
+/// What a number of a tree says: the mark that it ends, or no mark where it is the 4 that begins one of
+/// two numbers, which only the third version has. `begun` says that such a 4 stands before it. None
+/// where it says nothing. Takes no memory.
+pub fn mark_in(third: bool, begun: bool, value: &Value) -> Option<Option<Mark>>
+    ensures { result ≡ mark_in third begun (view value.now) }
+{
+    if begun {
+        Some(Some(price_mark_in(value)?))
+    } else {
+        first_in(third, value)
     }
 }

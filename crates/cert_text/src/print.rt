@@ -2,10 +2,12 @@
 ghost use Rattle.std.specs.Prelude.{◌≡◌, ◌++◌, ◌∷◌, [], Some, Ok, IfOk, OnOk};
 ghost use Rattle.certificate_rules.specs.WellFormed.{IsWellFormed};
 ghost use Rattle.cert_text.specs.Certificates.{certificate_data, certificate_text, certificate_in};
-ghost use Rattle.cert_text.specs.Cuts.{has_clash_cut};
+ghost use Rattle.cert_text.specs.Versions.{version_of};
 ghost use Rattle.cert_text.specs.Dossier.{heading_line, dossier, json_of, Reads};
 
-use crate::certificate::{has_clash_cut, put_certificate};
+use crate::certificate::put_certificate;
+use crate::heading::Version;
+use crate::version::version_of;
 use cert_check::Certificate;
 use instance_text::print_instance;
 use lock_model::Instance;
@@ -13,13 +15,13 @@ use plain_text::{NoMemory, put};
 use std::alloc::Global;
 
 /// Appends the heading.
-fn put_heading(out: &mut Vec<u8>, clashes: bool) -> Result<(), NoMemory>
-    ensures { OnOk result (out.new.items ≡ out.old.items ++ heading_line clashes) }
+fn put_heading(out: &mut Vec<u8>, version: Version) -> Result<(), NoMemory>
+    ensures { OnOk result (out.new.items ≡ out.old.items ++ heading_line version) }
 {
-    if clashes {
-        put(out, b"certificate 2\n")
-    } else {
-        put(out, b"certificate\n")
+    match version {
+        Version::First => put(out, b"certificate\n"),
+        Version::Second => put(out, b"certificate 2\n"),
+        Version::Third => put(out, b"certificate 3\n"),
     }
 }
 
@@ -33,20 +35,25 @@ pub fn put_line(out: &mut Vec<u8>, text: &[u8]) -> Result<(), NoMemory>
 }
 
 /// The JSON text of a certificate, without a line feed.
-fn json_text(alloc: Global, certificate: &Certificate) -> Result<Vec<u8>, NoMemory>
-    requires { IsWellFormed certificate.now }
+fn json_text(
+    alloc: Global,
+    version: Version,
+    certificate: &Certificate,
+) -> Result<Vec<u8>, NoMemory>
+    requires formed { IsWellFormed certificate.now }
+    requires version { version ≡ version_of certificate.now }
     ensures text { IfOk result (λ text. text.items ≡ certificate_text certificate.now) }
     ensures json { IfOk result (λ text. json_of (text.items ++ 10 ∷ []) ≡ Some (certificate_data certificate.now)) }
-    ensures reads_back { IfOk result (λ _. certificate_in (has_clash_cut certificate.now.cuts) (certificate_data certificate.now) ≡ Ok certificate.now) }
+    ensures reads_back { IfOk result (λ _. certificate_in version (certificate_data certificate.now) ≡ Ok certificate.now) }
 {
-    let value = put_certificate(alloc, certificate)?;
+    let value = put_certificate(alloc, version, certificate)?;
     let text = value.to_vec(alloc)?;
     Ok(text)
 }
 
 /// The canonical dossier of an instance and a certificate, which is read back as the same two. The
-/// heading is `certificate 2` exactly where some cut is refuted by a clash. Its only refusal is
-/// want of memory.
+/// heading is that of the first version that has all parts of the certificate. Its only refusal is want
+/// of memory.
 pub fn print_dossier(
     alloc: Global,
     instance: &Instance,
@@ -56,9 +63,10 @@ pub fn print_dossier(
     ensures text { IfOk result (λ text. text.items ≡ dossier instance.now certificate.now) }
     ensures reads_back { IfOk result (λ text. Reads text.items instance.now certificate.now) }
 {
+    let version = version_of(certificate);
     let mut out = print_instance(alloc, instance)?;
-    put_heading(&mut out, has_clash_cut(&certificate.cuts))?;
-    let text = json_text(alloc, certificate)?;
+    put_heading(&mut out, version)?;
+    let text = json_text(alloc, version, certificate)?;
     put_line(&mut out, text.as_slice())?;
     Ok(out)
 }

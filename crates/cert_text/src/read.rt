@@ -4,28 +4,27 @@ ghost use Rattle.lock_model.specs.declared.instance.Instance.{Instance as AnyIns
 ghost use Rattle.certificate_rules.specs.Certificates.{Certificate as AnyCertificate};
 ghost use Rattle.serde_json.specs.View.{view};
 ghost use Rattle.cert_text.specs.Answers.{IsCausedFault, IsFault, IsAnswer, IsFaultAnswer};
-ghost use Rattle.cert_text.specs.Dossier.{takes_clashes, json_of, rest_in, Reads, DossierFault, IsFirstFault};
+ghost use Rattle.cert_text.specs.Dossier.{whole_version, json_of, rest_in, Reads, DossierFault, IsFirstFault};
 ghost use Rattle.cert_text.specs.declared.bad.BadDossier.{BadDossier as AnyFault};
 ghost use Rattle.cert_text.specs.declared.bad.BadDossier.TheVariants.{Json};
 
 use crate::bad::{BadDossier, DossierError};
 use crate::certificate::certificate_in;
-use crate::heading::{Heading, headed};
+use crate::heading::{Heading, Version, headed};
 use cert_check::Certificate;
 use instance_text::split_instance;
 use lock_model::Instance;
 use serde_json::Value;
 use std::alloc::Global;
 
-/// Whether a dossier of this heading may have cuts that are refuted by a clash. None where an open
-/// certificate follows, which is no dossier.
-fn takes_clashes(heading: Heading) -> Option<bool>
-    ensures { result ≡ takes_clashes heading }
+/// The version of a dossier of this heading. None where an open certificate follows, which is no
+/// dossier.
+fn whole_version(heading: Heading) -> Option<Version>
+    ensures { result ≡ whole_version heading }
 {
     match heading {
-        Heading::First => Some(false),
-        Heading::Second => Some(true),
-        Heading::Open => None,
+        Heading::Whole(version) => Some(version),
+        Heading::Open(_) => None,
     }
 }
 
@@ -57,11 +56,11 @@ fn rest_in(alloc: Global, bytes: &[u8]) -> Result<Certificate, DossierError>
     let Some((heading, rest)) = headed(bytes) else {
         return Err(DossierError::Fault(BadDossier::NoMark));
     };
-    let Some(clashes) = takes_clashes(heading) else {
+    let Some(version) = whole_version(heading) else {
         return Err(DossierError::Fault(BadDossier::NoMark));
     };
     let value = json_of(alloc, rest)?;
-    certificate_in(alloc, clashes, &value)
+    certificate_in(alloc, version, &value)
 }
 
 /// The instance and the certificate of a text.
@@ -78,8 +77,8 @@ fn read_text(alloc: Global, bytes: &[u8]) -> Result<(Instance, Certificate), Dos
     Ok((instance, certificate))
 }
 
-/// The instance and the certificate of a dossier of either heading, `certificate` or
-/// `certificate 2`. Answers the first fault exactly where the bytes are no dossier, or else want of
+/// The instance and the certificate of a dossier of any heading, `certificate`, `certificate 2` or
+/// `certificate 3`. Answers the first fault exactly where the bytes are no dossier, or else want of
 /// memory. JSON may nest 127 deep, so no input needs a deeper stack.
 pub fn read_dossier(alloc: Global, bytes: &[u8]) -> Result<(Instance, Certificate), DossierError>
     ensures read { IfOk result (λ r. Reads bytes.now r.0 r.1) }

@@ -1,9 +1,10 @@
 //! Numbers, lists and keys of JSON values.
-ghost use Rattle.std.specs.Prelude.{◌≡◌, Some, codes};
+ghost use Rattle.std.specs.Prelude.{◌≡◌, ◌++◌, ◌∷◌, [], Some, map, OnOk, codes};
 ghost use Rattle.serde_json.specs.View.{view};
 ghost use Rattle.cert_text.specs.Fields.{number_data, number_below, byte_in, word_in, has_members, value_at};
 
 use serde_json::Value;
+use std::alloc::AllocError;
 
 /// A u8 as a value.
 #[tactic(auto, using(crate::proofs::FieldLemmas::below_back))]
@@ -21,6 +22,14 @@ pub fn put_word(number: u32) -> Value
     ensures reads_back { word_in (number_data number) ≡ Some number }
 {
     Value::from(number)
+}
+
+/// Appends a number.
+pub fn push_number(list: &mut Vec<Value>, number: u64) -> Result<(), AllocError>
+    ensures { OnOk result (map view list.new.items ≡ map view list.old.items ++ number_data number ∷ []) }
+{
+    list.push(Value::from(number))?;
+    Ok(())
 }
 
 /// The number below a bound that a value writes in digits alone.

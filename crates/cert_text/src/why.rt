@@ -21,7 +21,7 @@ fn push_marks(list: &mut Vec<Value>, marks: &Marks) -> Result<(), AllocError>
 }
 
 /// Appends numbers.
-fn push_words(list: &mut Vec<Value>, numbers: &[u32]) -> Result<(), AllocError>
+pub(crate) fn push_words(list: &mut Vec<Value>, numbers: &[u32]) -> Result<(), AllocError>
     ensures words { OnOk result (all_in word_in (items_of (map number_data numbers.now)) ≡ Some numbers.now) }
     ensures values { OnOk result (map view list.new.items ≡ map view list.old.items ++ map number_data numbers.now) }
 {
@@ -58,6 +58,10 @@ fn push_numbers(list: &mut Vec<Value>, refutation: &Refutation) -> Result<(), Al
             push_marks(list, marks)
         }
         Refutation::Clash(first, second) => push_bytes(list, &[5, *first, *second]),
+        Refutation::Berths(marks) => {
+            push_bytes(list, &[6])?;
+            push_marks(list, marks)
+        }
     }
 }
 
@@ -142,6 +146,7 @@ fn refutation_in(alloc: Global, kind: u64, list: &[Value]) -> Result<Option<Refu
         3 => Ok(marks_in(alloc, list)?.map(Refutation::Cases)),
         4 => Ok(marks_in(alloc, list)?.map(Refutation::Spots)),
         5 => Ok(clash_in(list)),
+        6 => Ok(marks_in(alloc, list)?.map(Refutation::Berths)),
         _ => Ok(None),
     }
 }

@@ -11,9 +11,10 @@ use Rattle.certificate_rules.specs.declared.certificate.FailurePlace.{FailurePla
 use Rattle.certificate_rules.specs.declared.certificate.FailurePlace.TheVariants as place
 use Rattle.certificate_rules.specs.declared.certificate.Reason.{Reason}
 use Rattle.closing_rules.specs.ProvedCuts.{CertCut, IsProved}
+use Rattle.closing_rules.specs.ListedPrices.{AreShapedPrices}
 use Rattle.certificate_rules.specs.Certificates.{Certificate, Closes, IsMarkTree, Accepts}
 use Rattle.certificate_rules.specs.OpenCertificates.{OpenCertificate, ClosesOrOpen, Stands}
-use Rattle.certificate_rules.specs.Failures.{FailInOrder, FailsHere, TreeFails, MarksFail, CutFails, reason_of, open_reason_of, Fails, OpenFails}
+use Rattle.certificate_rules.specs.Failures.{FailInOrder, FailsHere, TreeFails, MarksFail, CutFails, PricesFail, reason_of, open_reason_of, Fails, OpenFails}
 
 nil-cons : {X : Type 0} (x : X) (xs : List X) → [] ≡ x ∷ xs → ⊥
 nil-cons x xs e = cc
@@ -80,15 +81,20 @@ cuts-not_fail I cuts c why proved f =
     let good : IsProved I f.cut = subst (IsProved I) f.is (proved c f.cut f.known) in
     elim f.unproved [ inl u ↦ u.0 good.shaped | inr u ↦ u.1 good ]
 
+prices-not_fail : (I : Instance) (prices : List (List ℕ)) (v : ℕ) (why : Reason) → All (AreShapedPrices I) prices → PricesFail I prices v why → ⊥
+prices-not_fail I prices v why shaped f = f.misshaped (subst (AreShapedPrices I) f.is (shaped v f.own f.known))
+
 -- a certificate that fails isn't accepted, and an open one doesn't stand
 pub fails-not_accepted : (I : Instance) (C : Certificate) (at : FailurePlace) (why : Reason) → Fails I C at why → Accepts I C → ⊥
 fails-not_accepted I C place.Plan why f a = f.0 a.legal
 fails-not_accepted I C place.Cost why f a = f.1 a.cost
 fails-not_accepted I C (place.Cut c) why f a = cuts-not_fail I C.cuts c why a.cuts f.2
-fails-not_accepted I C (place.Tree p) why f a = marks-not_fail I mark.Split (Closes I C.cost C.cuts) reason_of (λ k lines h. h) C.tree f.3 why a.tree f.5
+fails-not_accepted I C (place.Prices v) why f a = prices-not_fail I C.prices v why a.prices f.3
+fails-not_accepted I C (place.Tree p) why f a = marks-not_fail I mark.Split (Closes I C.cost C.cuts C.prices) reason_of (λ k lines h. h) C.tree f.4 why a.tree f.6
 
 pub fails-not_stands : (I : Instance) (C : OpenCertificate) (at : FailurePlace) (why : Reason) → OpenFails I C at why → Stands I C → ⊥
 fails-not_stands I C place.Plan why f a = f.0 a.legal
 fails-not_stands I C place.Cost why f a = f.1 a.cost
 fails-not_stands I C (place.Cut c) why f a = cuts-not_fail I C.cuts c why a.cuts f.2
-fails-not_stands I C (place.Tree p) why f a = marks-not_fail I (Closed mark.Split) (ClosesOrOpen I C.cost C.cuts) open_reason_of (λ k lines h. h) C.tree f.3 why a.tree f.5
+fails-not_stands I C (place.Prices v) why f a = prices-not_fail I C.prices v why a.prices f.3
+fails-not_stands I C (place.Tree p) why f a = marks-not_fail I (Closed mark.Split) (ClosesOrOpen I C.cost C.cuts C.prices) open_reason_of (λ k lines h. h) C.tree f.4 why a.tree f.6

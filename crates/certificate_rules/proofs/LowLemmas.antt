@@ -31,9 +31,9 @@ below-right : (v : ℕ) (xs ys : List ℕ) → HasBelow v ys → HasBelow v (xs 
 below-right v [] ys h = h
 below-right v (x ∷ xs) ys h = inr (below-right v xs ys h)
 
-module _ (I : Instance) (cost : ℕ) (cuts : List CertCut) where
+module _ (I : Instance) (cost : ℕ) (cuts : List CertCut) (prices : List (List ℕ)) where
   abbrev Tree : ℕ → ℕ → List (List Group) → List OpenMark → List OpenMark → Type 0
-  Tree = IsMarkTree I (Closed mark.Split) (ClosesOrOpen I cost cuts)
+  Tree = IsMarkTree I (Closed mark.Split) (ClosesOrOpen I cost cuts prices)
 
   order-unique : (lacking k : ℕ) → ((x : List (List Group)) (m r s : List OpenMark) (bs : List ℕ) → Tree lacking (suc k) x m r → HasOpen I lacking (suc k) x m s bs → r ≡ s)
       → (xs : List (List (List Group))) (m r s : List OpenMark) (bs : List ℕ) → AreInOrder (Tree lacking (suc k)) xs m r → OpenInOrder (HasOpen I lacking (suc k)) xs m s bs → r ≡ s
@@ -45,7 +45,7 @@ module _ (I : Instance) (cost : ℕ) (cuts : List CertCut) where
   open-unique : (lacking k : ℕ) (lines : List (List Group)) (m r s : List OpenMark) (bs : List ℕ) → Tree lacking k lines m r → HasOpen I lacking k lines m s bs → r ≡ s
   open-unique zero k lines m r s bs a b = tails a.0 b.0 r s (sym a.2 ∙ b.1)
   open-unique (suc lacking) k lines m r s bs (inl a) (inl b) = tails a.0 b.0 r s (sym a.2 ∙ b.2)
-  open-unique (suc lacking) k lines m r s bs (inl a) (inr b) = absurd (subst (ClosesOrOpen I cost cuts k lines) (heads a.0 (Closed mark.Split) r b.0 (sym a.2 ∙ b.1)) a.1)
+  open-unique (suc lacking) k lines m r s bs (inl a) (inr b) = absurd (subst (ClosesOrOpen I cost cuts prices k lines) (heads a.0 (Closed mark.Split) r b.0 (sym a.2 ∙ b.1)) a.1)
   open-unique (suc lacking) k lines m r s bs (inr a) (inl b) = absurd (b.1 (heads b.0 (Closed mark.Split) s a.0 (sym b.2 ∙ a.1)))
   open-unique (suc lacking) k lines m r s bs (inr a) (inr b) =
       let same : a.0 ≡ b.0 = tails (Closed mark.Split) (Closed mark.Split) a.0 b.0 (sym a.1 ∙ b.1) in
@@ -56,11 +56,11 @@ module _ (I : Instance) (cost : ℕ) (cuts : List CertCut) where
     abbrev v : ℕ
     v = cost_of I P
 
-    leaf-low : (k : ℕ) (lines : List (List Group)) (m : OpenMark) → IsNode I k lines → IsUnder I k lines P → ClosesOrOpen I cost cuts k lines m → (cost ≤ v) ⊎ HasBelow v (leaf_bounds (bound_of I k lines) m)
-    leaf-low k lines (Closed m) node under h = inl (closes-holds I laws cost cuts proved P legal k lines m node under h)
+    leaf-low : (k : ℕ) (lines : List (List Group)) (m : OpenMark) → IsNode I k lines → IsUnder I k lines P → ClosesOrOpen I cost cuts prices k lines m → (cost ≤ v) ⊎ HasBelow v (leaf_bounds (bound_of I k lines) m)
+    leaf-low k lines (Closed m) node under h = inl (closes-holds I laws cost cuts prices proved P legal k lines m node under h)
     leaf-low k lines Open node under h = inr (inl (laws.bound k lines node P legal under))
 
-    leaves-low : (k : ℕ) (lines : List (List Group)) (m n : OpenMark) (marks r s : List OpenMark) (bs : List ℕ) → IsNode I k lines → IsUnder I k lines P → ClosesOrOpen I cost cuts k lines m → marks ≡ m ∷ r → marks ≡ n ∷ s → bs ≡ leaf_bounds (bound_of I k lines) n → (cost ≤ v) ⊎ HasBelow v bs
+    leaves-low : (k : ℕ) (lines : List (List Group)) (m n : OpenMark) (marks r s : List OpenMark) (bs : List ℕ) → IsNode I k lines → IsUnder I k lines P → ClosesOrOpen I cost cuts prices k lines m → marks ≡ m ∷ r → marks ≡ n ∷ s → bs ≡ leaf_bounds (bound_of I k lines) n → (cost ≤ v) ⊎ HasBelow v bs
     leaves-low k lines m n marks r s bs node under h e f g =
         subst (λ u. (cost ≤ v) ⊎ HasBelow v u) (ap (leaf_bounds (bound_of I k lines)) (heads m n r s (sym e ∙ f)) ∙ sym g) (leaf-low k lines m node under h)
 
@@ -81,7 +81,7 @@ module _ (I : Instance) (cost : ℕ) (cuts : List CertCut) where
     tree-low : (lacking k : ℕ) (lines : List (List Group)) (m r s : List OpenMark) (bs : List ℕ) → lacking + k ≡ length I.ships → IsNode I k lines → IsUnder I k lines P → Tree lacking k lines m r → HasOpen I lacking k lines m s bs → (cost ≤ v) ⊎ HasBelow v bs
     tree-low zero k lines m r s bs count node under a b = leaves-low k lines a.0 b.0 m r s bs node under a.1 a.2 b.1 b.2
     tree-low (suc lacking) k lines m r s bs count node under (inl a) (inl b) = leaves-low k lines a.0 b.0 m r s bs node under a.1 a.2 b.2 b.3
-    tree-low (suc lacking) k lines m r s bs count node under (inl a) (inr b) = absurd (subst (ClosesOrOpen I cost cuts k lines) (heads a.0 (Closed mark.Split) r b.0 (sym a.2 ∙ b.1)) a.1)
+    tree-low (suc lacking) k lines m r s bs count node under (inl a) (inr b) = absurd (subst (ClosesOrOpen I cost cuts prices k lines) (heads a.0 (Closed mark.Split) r b.0 (sym a.2 ∙ b.1)) a.1)
     tree-low (suc lacking) k lines m r s bs count node under (inr a) (inl b) = absurd (b.1 (heads b.0 (Closed mark.Split) s a.0 (sym b.2 ∙ a.1)))
     tree-low (suc lacking) k lines m r s bs count node under (inr a) (inr b) =
         let same : a.0 ≡ b.0 = tails (Closed mark.Split) (Closed mark.Split) a.0 b.0 (sym a.1 ∙ b.1) in
@@ -93,7 +93,7 @@ module _ (I : Instance) (cost : ℕ) (cuts : List CertCut) where
 -- every legal plan costs at least the low
 pub stands-low : (I : Instance) (C : OpenCertificate) (low : ℕ) → TreeLaws I → Stands I C → IsLow I C low → (P : Plan) → IsLegal I P → low ≤ cost_of I P
 stands-low I C low laws stands is P legal =
-    let found = tree-low I C.cost C.cuts laws stands.cuts P legal (length I.ships) 0 root_lines C.tree [] [] is.bounds (omega arith) laws.root (laws.all P legal) stands.tree is.leaves in
+    let found = tree-low I C.cost C.cuts C.prices laws stands.cuts P legal (length I.ships) 0 root_lines C.tree [] [] is.bounds (omega arith) laws.root (laws.all P legal) stands.tree is.leaves in
     let below = least-below (cost_of I P) (C.cost ∷ is.bounds) found in
     let same = is.least in
     omega (arith, below, same)

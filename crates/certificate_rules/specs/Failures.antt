@@ -1,4 +1,4 @@
--- The first place and reason at which a certificate fails: the plan, the cost, the cuts in order, then the marks in order.
+-- The first place and reason at which a certificate fails: the plan, the cost, the cuts in order, the prices in order, then the marks in order.
 use Rattle.std.specs.Prelude.{ℕ, zero, suc, ◌≡◌, ◌≢◌, ◌-◌, ◌<◌, ◌⊎◌, List, [], ◌∷◌, length, take, All, slice_index_or}
 use Rattle.lock_model.specs.declared.instance.Instance.{Instance}
 use Rattle.lock_model.specs.declared.group.Group.{Group}
@@ -17,6 +17,7 @@ use Rattle.certificate_rules.specs.declared.certificate.FailurePlace.TheVariants
 use Rattle.certificate_rules.specs.declared.certificate.Reason.{Reason}
 use Rattle.certificate_rules.specs.declared.certificate.Reason.TheVariants as reason
 use Rattle.closing_rules.specs.ProvedCuts.{CertCut, IsShaped, IsProved}
+use Rattle.closing_rules.specs.ListedPrices.{AreShapedPrices}
 use Rattle.certificate_rules.specs.Certificates.{Certificate, Closes, IsMarkTree}
 use Rattle.certificate_rules.specs.OpenCertificates.{OpenCertificate, ClosesOrOpen}
 
@@ -26,6 +27,7 @@ ground_reason by.Bound = reason.BoundLow
 ground_reason by.Throughput = reason.ThroughputLow
 ground_reason (by.Probe s) = reason.ProbeWrong
 ground_reason (by.Cut number) = reason.CutMisses
+ground_reason (by.Price number) = reason.PriceLow
 
 -- why a mark that should close a node doesn't; a split mark doesn't where no ship is lacking
 abbrev pub reason_of : Mark → Reason
@@ -70,18 +72,28 @@ pub record CutFails (I : Instance) (cuts : List CertCut) (c : ℕ) (r : Reason) 
   pub before : All (IsProved I) (take c cuts)
   pub unproved : ((IsShaped I cut → ⊥) × (r ≡ reason.CutShape)) ⊎ (IsShaped I cut × (IsProved I cut → ⊥) × (r ≡ reason.CutUnproved))
 
+-- prices number v are the first that aren't one for each ship
+pub record PricesFail (I : Instance) (prices : List (List ℕ)) (v : ℕ) (r : Reason) : Type 0 where
+  pub own : List ℕ
+  pub known : v < length prices
+  pub is : slice_index_or prices v own ≡ own
+  pub before : All (AreShapedPrices I) (take v prices)
+  pub misshaped : AreShapedPrices I own → ⊥
+  pub reason : r ≡ reason.PricesShape
+
 -- The first place and reason, where `Fail` says it of the marks that are left at the place.
-abbrev pub FailsAt : {M : Type 0} → Instance → ℕ → List CertCut → Plan → List M → (List M → Reason → Type 0) → FailurePlace → Reason → Type 0
-FailsAt I cost cuts plan tree Fail place.Plan r = (IsLegal I plan → ⊥) × (r ≡ reason.PlanIllegal)
-FailsAt I cost cuts plan tree Fail place.Cost r = IsLegal I plan × (cost_of I plan ≢ cost) × (r ≡ reason.CostWrong)
-FailsAt I cost cuts plan tree Fail (place.Cut c) r = IsLegal I plan × (cost_of I plan ≡ cost) × CutFails I cuts c r
-FailsAt {M} I cost cuts plan tree Fail (place.Tree p) r =
-    IsLegal I plan × (cost_of I plan ≡ cost) × All (IsProved I) cuts
+abbrev pub FailsAt : {M : Type 0} → Instance → ℕ → List CertCut → List (List ℕ) → Plan → List M → (List M → Reason → Type 0) → FailurePlace → Reason → Type 0
+FailsAt I cost cuts prices plan tree Fail place.Plan r = (IsLegal I plan → ⊥) × (r ≡ reason.PlanIllegal)
+FailsAt I cost cuts prices plan tree Fail place.Cost r = IsLegal I plan × (cost_of I plan ≢ cost) × (r ≡ reason.CostWrong)
+FailsAt I cost cuts prices plan tree Fail (place.Cut c) r = IsLegal I plan × (cost_of I plan ≡ cost) × CutFails I cuts c r
+FailsAt I cost cuts prices plan tree Fail (place.Prices v) r = IsLegal I plan × (cost_of I plan ≡ cost) × All (IsProved I) cuts × PricesFail I prices v r
+FailsAt {M} I cost cuts prices plan tree Fail (place.Tree p) r =
+    IsLegal I plan × (cost_of I plan ≡ cost) × All (IsProved I) cuts × All (AreShapedPrices I) prices
     × (stuck : List M) × (p ≡ length tree - length stuck) × Fail stuck r
 
 -- the first failure of a certificate, and of an open one
 abbrev pub Fails : Instance → Certificate → FailurePlace → Reason → Type 0
-Fails I C = FailsAt I C.cost C.cuts C.plan C.tree (MarksFail I mark.Split (Closes I C.cost C.cuts) reason_of C.tree)
+Fails I C = FailsAt I C.cost C.cuts C.prices C.plan C.tree (MarksFail I mark.Split (Closes I C.cost C.cuts C.prices) reason_of C.tree)
 
 abbrev pub OpenFails : Instance → OpenCertificate → FailurePlace → Reason → Type 0
-OpenFails I C = FailsAt I C.cost C.cuts C.plan C.tree (MarksFail I (Closed mark.Split) (ClosesOrOpen I C.cost C.cuts) open_reason_of C.tree)
+OpenFails I C = FailsAt I C.cost C.cuts C.prices C.plan C.tree (MarksFail I (Closed mark.Split) (ClosesOrOpen I C.cost C.cuts C.prices) open_reason_of C.tree)

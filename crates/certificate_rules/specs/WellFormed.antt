@@ -1,5 +1,5 @@
 -- Certificates that can be written down.
-use Rattle.std.specs.Prelude.{◌≡◌, ◌≤◌, ◌<◌, ◌^◌, length, All, ⊤}
+use Rattle.std.specs.Prelude.{ℕ, ◌≡◌, ◌≤◌, ◌<◌, ◌^◌, List, length, All, ⊤}
 use Rattle.lock_model.specs.Limits.{Within}
 use Rattle.lock_model.specs.declared.plan.Lockage.{Lockage}
 use Rattle.refute_rules.specs.declared.refutation.Quick.{Quick}
@@ -11,6 +11,7 @@ use Rattle.certificate_rules.specs.declared.certificate.Mark.{Mark}
 use Rattle.certificate_rules.specs.declared.certificate.OpenMark.{OpenMark}
 use Rattle.certificate_rules.specs.declared.certificate.OpenMark.TheVariants.{Closed, Open}
 use Rattle.closing_rules.specs.ProvedCuts.{CertCut}
+use Rattle.closing_rules.specs.ListedPrices.{ArePrices}
 use Rattle.certificate_rules.specs.Certificates.{Certificate}
 use Rattle.certificate_rules.specs.OpenCertificates.{OpenCertificate}
 use Rattle.refute_rules.specs.declared.refutation.Refutation.TheVariants as refutation
@@ -26,6 +27,7 @@ IsFormedRefutation (refutation.Quick q) = IsFormedReason q
 IsFormedRefutation (refutation.Cases marks) = ⊤
 IsFormedRefutation (refutation.Spots marks) = ⊤
 IsFormedRefutation (refutation.Clash i j) = i < j
+IsFormedRefutation (refutation.Berths marks) = ⊤
 
 abbrev pub IsFormedCut : CertCut → Type 0
 IsFormedCut c = Within 1 8 (length c.ships) × IsFormedRefutation c.refutation
@@ -33,9 +35,14 @@ IsFormedCut c = Within 1 8 (length c.ships) × IsFormedRefutation c.refutation
 abbrev pub IsFormedLockage : Lockage → Type 0
 IsFormedLockage l = Within 1 8 (length l.ships) × (length l.spots ≡ length l.ships)
 
+-- 1 to 24 prices, none above 1,000,000
+abbrev pub AreFormedPrices : List ℕ → Type 0
+AreFormedPrices prices = (1 ≤ length prices) × ArePrices prices
+
 abbrev pub IsFormedGround : Ground → Type 0
 IsFormedGround (by.Probe s) = s ≤ 23
 IsFormedGround (by.Cut number) = number < 2 ^ 63
+IsFormedGround (by.Price number) = number < 2 ^ 63
 IsFormedGround _ = ⊤
 
 abbrev pub IsFormedMark : Mark → Type 0
@@ -50,10 +57,12 @@ IsFormedOpenMark Open = ⊤
 pub record IsWellFormed (C : Certificate) : Type 0 where
   pub cuts : All IsFormedCut C.cuts
   pub lockages : All IsFormedLockage C.plan.lockages
+  pub prices : All AreFormedPrices C.prices
   pub marks : All IsFormedMark C.tree
 
 -- the same of an open certificate, its open leaves aside
 pub record IsWellFormedOpen (C : OpenCertificate) : Type 0 where
   pub cuts : All IsFormedCut C.cuts
   pub lockages : All IsFormedLockage C.plan.lockages
+  pub prices : All AreFormedPrices C.prices
   pub marks : All IsFormedOpenMark C.tree

@@ -22,6 +22,7 @@ pub enum FailurePlace {
     Plan,
     Cost,
     Cut(u64),
+    Prices(u64),
     Tree(u64),
 }
 
@@ -39,4 +40,6 @@ pub enum Reason {
     CutMisses,
     ThroughputLow,
     ProbeWrong,
+    PricesShape,
+    PriceLow,
 }

@@ -222,6 +222,7 @@ begun-kept d (refutation.Clash i j) turns begun kept refuted begins some smaller
 begun-kept d (refutation.Quick q) turns begun kept refuted begins some smaller = tt
 begun-kept d (refutation.Cases marks) turns begun kept refuted begins some smaller = tt
 begun-kept d (refutation.Spots marks) turns begun kept refuted begins some smaller = tt
+begun-kept d (refutation.Berths marks) turns begun kept refuted begins some smaller = tt
 
 -- ---- the ships at places
 pub ships-below : (ships places : List ℕ) (i : ℕ) → i < length places → IsStrictlyIncreasing ships → IsStrictlyIncreasing places → All (λ k. k < length ships) places → All (λ s. s < slice_index_or ships (slice_index_or places i 0) 0) (map (λ k. slice_index_or ships k 0) (take i places))

@@ -25,6 +25,7 @@ KeepsClash d turns (refutation.Clash i j) kept =
 KeepsClash d turns (refutation.Quick q) kept = Unit {0}
 KeepsClash d turns (refutation.Cases marks) kept = Unit {0}
 KeepsClash d turns (refutation.Spots marks) kept = Unit {0}
+KeepsClash d turns (refutation.Berths marks) kept = Unit {0}
 
 -- The cut has the given chamber, some of the given ships, and their sizes in a deck of the given measures, and is no larger than it has to be.
 pub record IsShrunk (chamber : ℕ) (ships : List ℕ) (d : Deck) (r : Refutation) (turns : ℕ) (cut : Cut) : Type 0 where
@@ -51,6 +52,7 @@ BeginsWithClash (refutation.Clash i j) places = places ≡ i ∷ j ∷ []
 BeginsWithClash (refutation.Quick q) places = Unit {0}
 BeginsWithClash (refutation.Cases marks) places = Unit {0}
 BeginsWithClash (refutation.Spots marks) places = Unit {0}
+BeginsWithClash (refutation.Berths marks) places = Unit {0}
 
 -- `place` refutes the deck with the ships at these places alone, and this is its refutation
 pub record IsRefutedPart (d : Deck) (turns : ℕ) (places found : List ℕ) (r : Refutation) : Type 0 where

@@ -36,6 +36,7 @@ IsRefutedWithin d turns (refutation.Quick q) = IsFirstReason d q
 IsRefutedWithin d turns (refutation.Cases marks) = IsRefutedBy d turns marks
 IsRefutedWithin d turns (refutation.Spots marks) = ⊥
 IsRefutedWithin d turns (refutation.Clash i j) = ⊥
+IsRefutedWithin d turns (refutation.Berths marks) = ⊥
 
 -- more cases are consistent than there are turns, none of the first is whole, and it is told of this deck and these turns
 pub record IsSpentBy (d : Deck) (turns : ℕ) (tried : Tried) : Type 0 where

@@ -155,6 +155,7 @@ fn first_part(
         Refutation::Quick(reason) => named_part(alloc, deck, Refutation::Quick(reason), turns),
         Refutation::Cases(marks) => Ok(whole_part(deck, Refutation::Cases(marks))),
         Refutation::Spots(marks) => Ok(whole_part(deck, Refutation::Spots(marks))),
+        Refutation::Berths(marks) => Ok(whole_part(deck, Refutation::Berths(marks))),
     }
 }
 

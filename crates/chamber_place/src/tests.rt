@@ -107,6 +107,7 @@ fn reason_of(placed: Placed) -> Option<Quick> {
             Refutation::Cases(_marks) => None,
             Refutation::Spots(_marks) => None,
             Refutation::Clash(_first, _second) => None,
+            Refutation::Berths(_marks) => None,
         },
         Placed::Fits(_spots) => None,
         Placed::Spent(_hard) => None,

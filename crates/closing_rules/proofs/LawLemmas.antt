@@ -16,6 +16,10 @@ use Rattle.lock_rules.proofs.NodeLemmas.{children-nodes, root-node, root-under}
 use Rattle.lock_rules.proofs.CutLemmas.{cut-holds}
 use Rattle.lock_model.specs.Normal.{HasNormal}
 use Rattle.refute_rules.proofs.RefuteLemmas.{refuted-unfit}
+use Rattle.price_rules.specs.Prices.{CutHolds}
+use Rattle.price_rules.proofs.ReachLemmas.{reached-holds}
+use Rattle.closing_rules.specs.ProvedCuts.{CertCut, IsProved}
+use Rattle.closing_rules.specs.ListedPrices.{cut_in}
 use Rattle.closing_rules.specs.Laws.{TreeLaws}
 
 pub contains-times : (xs : List ℕ) (s : ℕ) → Contains xs s → 1 ≤ times_in xs s
@@ -26,6 +30,18 @@ contains-times (x ∷ xs) s (zero, known, is) =
       | inr n ↦ absurd (n.1 is)
     ]
 contains-times (x ∷ xs) s (suc k, known, is) = let rest = contains-times xs s (k, omega (arith, known), is) in omega (arith, rest)
+
+-- a proved cut holds
+pub proved-holds : ((d : Deck) → IsDeck d → HasNormal d) → (I : Instance) (c : CertCut) → IsProved I c → CutHolds (cut_in I c.chamber c.ships)
+proved-holds normal I c proved =
+    let deck = deck_of I c.chamber c.ships in
+    let good = IsDeck-deck_of I c.chamber c.ships proved.shaped.chamber proved.shaped.known (proved.shaped.some, proved.shaped.kept.few) in
+    record {
+      limits = good;
+      some = proved.shaped.some;
+      rising = proved.shaped.kept.rising;
+      unfit = refuted-unfit deck c.refutation good (normal deck good) proved.refuted;
+    }
 
 pub tree-laws : IsHereditary → ((d : Deck) → IsDeck d → HasNormal d) → (I : Instance) → TreeLaws I
 tree-laws law normal I = record {
@@ -39,6 +55,8 @@ tree-laws law normal I = record {
   throughput = λ P legal. throughput-holds I P legal;
   probe = λ k lines s node missing. probe-holds I k lines s (omega (arith, node.four, I.limits.chamber_count.1)) (contains-times (missing_ships I k) s missing);
   cut = λ c k lines P proved node hits legal under.
-      let good = IsDeck-deck_of I c.chamber c.ships proved.shaped.chamber proved.shaped.known (proved.shaped.some, proved.shaped.kept.few) in
-      cut-holds law I c.ships (deck_of I c.chamber c.ships) k lines P good (refuted-unfit (deck_of I c.chamber c.ships) c.refutation good (normal (deck_of I c.chamber c.ships) good) proved.refuted) proved.shaped.kept.rising proved.shaped.some node hits legal under;
+      let holds = proved-holds normal I c proved in
+      cut-holds law I c.ships (deck_of I c.chamber c.ships) k lines P holds.limits holds.unfit holds.rising holds.some node hits legal under;
+  holds = proved-holds normal I;
+  price = λ cuts k lines prices cost hold reached. reached-holds law I cuts hold k lines prices cost reached;
 }

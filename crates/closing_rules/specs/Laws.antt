@@ -12,7 +12,9 @@ use Rattle.lock_rules.specs.Arrival.{missing_ships}
 use Rattle.lock_rules.specs.Bound.{IsLowerBound, bound_of, probe_of}
 use Rattle.lock_rules.specs.Throughput.{throughput_of}
 use Rattle.lock_rules.specs.Cut.{HitsNode}
+use Rattle.price_rules.specs.Prices.{PlainCut, CutHolds, Reaches}
 use Rattle.closing_rules.specs.ProvedCuts.{CertCut, IsProved}
+use Rattle.closing_rules.specs.ListedPrices.{cut_in}
 
 -- a child of the node under which the plan lies
 pub record IsUnderChild (I : Instance) (k : ℕ) (lines : List (List Group)) (P : Plan) : Type 0 where
@@ -20,7 +22,7 @@ pub record IsUnderChild (I : Instance) (k : ℕ) (lines : List (List Group)) (P 
   pub among : Contains (children_of I k lines) child
   pub under : IsUnder I (suc k) child P
 
--- Children split the plans, bounds hold, and cuts hold.
+-- Children split the plans, bounds hold, cuts hold, and what is reached by prices and cuts that hold is a lower bound.
 pub record TreeLaws (I : Instance) : Type 0 where
   pub root : IsNode I 0 root_lines
   pub all : (P : Plan) → IsLegal I P → IsUnder I 0 root_lines P
@@ -30,3 +32,5 @@ pub record TreeLaws (I : Instance) : Type 0 where
   pub throughput : (P : Plan) → IsLegal I P → throughput_of I ≤ cost_of I P
   pub probe : (k : ℕ) (lines : List (List Group)) (s : ℕ) → IsNode I k lines → Contains (missing_ships I k) s → IsLowerBound I k lines (probe_of I k lines s)
   pub cut : (c : CertCut) (k : ℕ) (lines : List (List Group)) (P : Plan) → IsProved I c → IsNode I k lines → HitsNode c.ships (deck_of I c.chamber c.ships) I lines → IsLegal I P → IsUnder I k lines P → ⊥
+  pub holds : (c : CertCut) → IsProved I c → CutHolds (cut_in I c.chamber c.ships)
+  pub price : (cuts : List PlainCut) (k : ℕ) (lines : List (List Group)) (prices : List ℕ) (cost : ℕ) → All CutHolds cuts → Reaches I cuts k lines prices cost → IsLowerBound I k lines cost

@@ -1,3 +1,4 @@
 pub mod Grounds
 pub mod ProvedCuts
+pub mod ListedPrices
 pub mod Laws

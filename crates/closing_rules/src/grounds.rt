@@ -11,4 +11,6 @@ pub enum Ground {
     Probe(u8),
     /// The cut of this number hits one of its groups.
     Cut(u64),
+    /// It reaches the cost by the prices of this number and all cuts.
+    Price(u64),
 }

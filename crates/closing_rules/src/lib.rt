@@ -2,8 +2,10 @@
 //!
 //! - `Ground` is why, and `specs/Grounds` what it asks of the node.
 //! - `specs/ProvedCuts`: a cut with its refutation, and when it is proved.
+//! - `specs/ListedPrices`: prices and cuts by their numbers, and what a node reaches by them.
 //! - `specs/Laws`: what a book and a certificate both rest on, that children split the plans, that
-//!   bounds hold, and that no legal plan is under a node that a proved cut hits.
+//!   bounds hold, that no legal plan is under a node that a proved cut hits, and that a cost that a
+//!   node reaches by prices and cuts that hold is a lower bound.
 //!
 //! The laws stand in `proofs/`: those of the tree hold, given heredity and normal placements
 //! (`LawLemmas`), and a number at or below one of a list is at or above the list's least

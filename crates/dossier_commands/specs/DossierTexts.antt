@@ -1,9 +1,9 @@
 -- What the commands that read dossiers write.
 use Rattle.std.specs.Prelude.{ℕ, List, ◌++◌, codes, decimal}
 use Rattle.certificate_rules.specs.declared.certificate.FailurePlace.{FailurePlace}
-use Rattle.certificate_rules.specs.declared.certificate.FailurePlace.TheVariants.{Plan, Cost, Cut, Tree}
+use Rattle.certificate_rules.specs.declared.certificate.FailurePlace.TheVariants.{Plan, Cost, Cut, Prices, Tree}
 use Rattle.certificate_rules.specs.declared.certificate.Reason.{Reason}
-use Rattle.certificate_rules.specs.declared.certificate.Reason.TheVariants.{PlanIllegal, CostWrong, CutShape, CutUnproved, TreeShort, TreeLong, SplitFull, BoundLow, CutMisses, ThroughputLow, ProbeWrong}
+use Rattle.certificate_rules.specs.declared.certificate.Reason.TheVariants.{PlanIllegal, CostWrong, CutShape, CutUnproved, TreeShort, TreeLong, SplitFull, BoundLow, CutMisses, ThroughputLow, ProbeWrong, PricesShape, PriceLow}
 use Rattle.cert_text.specs.declared.bad.BadDossier.{BadDossier}
 use Rattle.cert_text.specs.declared.bad.BadDossier.TheVariants.{Instance, NoMark, Json, Shape}
 use Rattle.run_answers.specs.Texts.{defect_text}
@@ -16,6 +16,7 @@ abbrev pub place_text : FailurePlace → List ℕ
 place_text Plan = codes "plan"
 place_text Cost = codes "cost"
 place_text (Cut number) = codes "cut " ++ decimal number
+place_text (Prices number) = codes "prices " ++ decimal number
 place_text (Tree number) = codes "tree " ++ decimal number
 
 -- the reasons, numbered from 1
@@ -31,6 +32,8 @@ number_of_reason BoundLow = 8
 number_of_reason CutMisses = 9
 number_of_reason ThroughputLow = 10
 number_of_reason ProbeWrong = 11
+number_of_reason PricesShape = 12
+number_of_reason PriceLow = 13
 
 abbrev pub name_of_reason : Reason → List ℕ
 name_of_reason PlanIllegal = codes "PlanIllegal"
@@ -44,6 +47,8 @@ name_of_reason BoundLow = codes "BoundLow"
 name_of_reason CutMisses = codes "CutMisses"
 name_of_reason ThroughputLow = codes "ThroughputLow"
 name_of_reason ProbeWrong = codes "ProbeWrong"
+name_of_reason PricesShape = codes "PricesShape"
+name_of_reason PriceLow = codes "PriceLow"
 
 -- the first failure of a certificate
 unfoldable pub rejected_text : FailurePlace → Reason → List ℕ

@@ -47,6 +47,10 @@ fn put_place(out: &mut Vec<u8>, place: FailurePlace) -> Result<(), NoMemory>
             put(out, b"cut ")?;
             put_number(out, number)
         }
+        FailurePlace::Prices(number) => {
+            put(out, b"prices ")?;
+            put_number(out, number)
+        }
         FailurePlace::Tree(number) => {
             put(out, b"tree ")?;
             put_number(out, number)
@@ -70,6 +74,8 @@ fn number_of(reason: Reason) -> u64
         Reason::CutMisses => 9,
         Reason::ThroughputLow => 10,
         Reason::ProbeWrong => 11,
+        Reason::PricesShape => 12,
+        Reason::PriceLow => 13,
     }
 }
 
@@ -89,6 +95,8 @@ fn name_of(reason: Reason) -> &'static [u8]
         Reason::CutMisses => b"CutMisses",
         Reason::ThroughputLow => b"ThroughputLow",
         Reason::ProbeWrong => b"ProbeWrong",
+        Reason::PricesShape => b"PricesShape",
+        Reason::PriceLow => b"PriceLow",
     }
 }
 

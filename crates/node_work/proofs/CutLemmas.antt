@@ -1,5 +1,5 @@
 -- The cut of some ships of a refuted deck hits the ships.
-use Rattle.std.proofs.Common.{◌≡◌, ℕ, ◌<◌, List, [], ◌∷◌, length, map, refl, sym, ap, ◌∙◌, subst, arith, All, Contains, slice_index_or}
+use Rattle.std.proofs.Common.{◌≡◌, ℕ, ◌<◌, ◌≤◌, List, [], ◌∷◌, length, map, refl, sym, ap, ◌∙◌, subst, arith, All, Contains, slice_index_or}
 use Rattle.std.proofs.lemmas.List.{get_or-map, length-map}
 use Rattle.std.proofs.lemmas.List.Elements.{All-map, All-head, All-tail, Contains-get_or}
 use Rattle.lock_model.specs.Deck.{Deck, size_at, no_size}
@@ -8,11 +8,10 @@ use Rattle.lock_model.specs.Fleet.{ship_at, chamber_at}
 use Rattle.lock_model.specs.declared.deck.Size.{Size}
 use Rattle.lock_model.specs.declared.instance.Instance.{Instance}
 use Rattle.refute_rules.specs.declared.refutation.Refutation.{Refutation}
+use Rattle.refute_rules.specs.Refutes.{IsRefuted}
 use Rattle.refute_rules.specs.Cuts.{Cut, IsCut}
 use Rattle.chamber_place.specs.Parts.{IsShrunk}
-use Rattle.node_work.specs.declared.settling.Settled.{Settled}
-use Rattle.node_work.specs.declared.settling.Settled.TheVariants.{Fits, Refuted, Spent}
-use Rattle.node_work.specs.Settling.{IsCutOf, IsFound, IsSettled}
+use Rattle.node_work.specs.Settling.{IsCutOf, IsPartOf, IsCutFrom, shrink_turns}
 
 module _ (I : Instance) (c : ℕ) (S : List ℕ) where
   abbrev d : Deck
@@ -63,12 +62,49 @@ module _ (I : Instance) (c : ℕ) (S : List ℕ) where
 pub as_many : (I : Instance) (c : ℕ) (S : List ℕ) (d : Deck) → d ≡ deck_of I c S → length S ≡ length d.ships
 as_many I c S d is = sym (ap (λ (e : Deck). length e.ships) is ∙ length-map S (size I c S))
 
--- what is found of the deck of the ships is so of the ships
-found : (I : Instance) (c : ℕ) (S : List ℕ) (turns : ℕ) (settled : Settled) → c < length I.chambers → All (λ s. s < length I.ships) S → IsFound c S (deck_of I c S) turns settled → IsSettled I c S turns settled
-found I c S turns (Fits spots) inside ships is = is
-found I c S turns (Refuted cut) inside ships is = shrunk-hits I c S is.refutation turns cut inside ships is.shrunk is.proved
-found I c S turns (Spent hard spots) inside ships is = is
+-- ships among known ones are known
+pub known_among : (I : Instance) (S part : List ℕ) → All (λ s. s < length I.ships) S → All (Contains S) part → All (λ s. s < length I.ships) part
+known_among I S part known among k z here =
+    let found = among k z here in
+    subst (λ s. s < length I.ships) found.2 (known found.0 (slice_index_or part k z) found.1)
 
-pub found_settles : (I : Instance) (c : ℕ) (S : List ℕ) (d : Deck) (turns : ℕ) (settled : Settled)
-    → d ≡ deck_of I c S → c < length I.chambers → All (λ s. s < length I.ships) S → IsFound c S d turns settled → IsSettled I c S turns settled
-found_settles I c S d turns settled is inside ships known = found I c S turns settled inside ships (subst (λ e. IsFound c S e turns settled) is known)
+pub fewer_among : (S part fewer : List ℕ) → All (Contains S) part → All (Contains part) fewer → All (Contains S) fewer
+fewer_among S part fewer among within k z here =
+    let found = within k z here in
+    subst (Contains S) found.2 (among found.0 (slice_index_or fewer k z) found.1)
+
+-- all of the ships are a part
+pub whole_is : (I : Instance) (c : ℕ) (S part : List ℕ) (r : Refutation) → part ≡ S → 1 ≤ length S → IsRefuted (deck_of I c S) r → IsPartOf I c S part r
+whole_is I c S part r same some refuted = record {
+  among = subst (λ ps. All (Contains S) ps) (sym same) (λ k z here. Contains-get_or S k z here);
+  some = let e = ap length same in omega (arith, e, some);
+  refuted = subst (λ ps. IsRefuted (deck_of I c ps) r) (sym same) refuted;
+}
+
+-- a part with its berth tree
+pub part_is : (I : Instance) (c : ℕ) (S part : List ℕ) (d : Deck) (r : Refutation) → d ≡ deck_of I c part → All (Contains S) part → 1 ≤ length part → IsRefuted d r → IsPartOf I c S part r
+part_is I c S part d r is among some refuted = record { among = among; some = some; refuted = subst (λ e. IsRefuted e r) is refuted }
+
+-- a cut that was shrunk from a part
+pub cut_from : (I : Instance) (c : ℕ) (S part : List ℕ) (d : Deck) (r : Refutation) (turns few : ℕ) (cut : Cut) → IsPartOf I c S part r → d ≡ deck_of I c part → few ≡ shrink_turns turns r → IsShrunk c part d r few cut → IsCut cut → IsCutFrom I c S turns cut
+cut_from I c S part d r turns few cut is_part is same shrunk proved = record {
+  proved = proved;
+  part = part;
+  refutation = r;
+  is_part = is_part;
+  shrunk = subst (λ e. IsShrunk c part e r (shrink_turns turns r) cut) is (subst (λ n. IsShrunk c part d r n cut) same shrunk);
+}
+
+-- it hits all of the ships
+pub cut_settles : (I : Instance) (c : ℕ) (S : List ℕ) (turns : ℕ) (cut : Cut) → c < length I.chambers → All (λ s. s < length I.ships) S → IsCutFrom I c S turns cut → IsCutOf I c S cut
+cut_settles I c S turns cut inside ships from =
+    let own = shrunk-hits I c from.part from.refutation (shrink_turns turns from.refutation) cut inside (known_among I S from.part ships from.is_part.among) from.shrunk from.proved in
+    record {
+      proved = own.proved;
+      own = own.own;
+      hits = record {
+        among = fewer_among S from.part cut.ships from.is_part.among own.hits.among;
+        sizes = own.hits.sizes;
+        tight = own.hits.tight;
+      };
+    }

@@ -8,8 +8,8 @@ ghost use Rattle.node_work.specs.Last.{IsInGroup, IsLacked, IsLackedBelow};
 use lock_model::{Group, Instance};
 use master_branch::Node;
 
-// Whether a ship is among these.
-fn is_among(ship: u8, ships: &[u8]) -> bool
+/// Whether a ship is among these.
+pub(crate) fn is_among(ship: u8, ships: &[u8]) -> bool
     ensures { IsTrue result ↔ Contains ships.now ship }
 {
     ships.contains(&ship)

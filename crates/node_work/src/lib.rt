@@ -11,12 +11,16 @@
 //! (`whole`). What is remembered is tested again before a fact rests on it (`recalling`), but for a
 //! group of a node that is only split: there nothing rests on it.
 //!
+//! What is found of a group's ships (`settle_known`) comes from three placers, asked one after the
+//! other (`settling`), and the cut of what one of them refutes is shrunk (`cutting`).
+//!
 //! Definitions: `specs/Fates` (what becomes of a node), `Known` (cuts of a book), `Settling` (what is
 //! found of a group), `Last` (the group that a ship is in), `Lines` (the moorings of a node as they
 //! are made).
 #![tactic(auto)]
 
 mod boxed;
+mod cutting;
 mod fate;
 mod group_fate;
 mod inner;
@@ -30,5 +34,7 @@ mod whole;
 pub use fate::Fate;
 pub use inner::{closed_early, inner_fate};
 pub use known_cuts::KnownCuts;
+pub use recalling::settle_known;
 pub use search::Search;
+pub use settling::Settled;
 pub use whole::whole_fate;

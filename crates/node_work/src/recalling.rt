@@ -179,7 +179,7 @@ pub(crate) fn settle_anew(
 /// Finds out whether ships fit a chamber, within so many turns of each placer, and remembers it;
 /// what was found before is tested again, and no placer is asked. Its only refusal is want of
 /// memory.
-pub(crate) fn settle_known(
+pub fn settle_known(
     alloc: Global,
     instance: &Instance,
     chamber: u8,

@@ -3,10 +3,11 @@ ghost use Rattle.std.specs.Prelude.{◌≡◌, ◌<◌, ◌≤◌, length, All, 
 ghost use Rattle.lock_model.specs.Placement.{IsLegalPlacement};
 ghost use Rattle.lock_model.specs.Cargo.{HasNoClash};
 ghost use Rattle.refute_rules.specs.Cases.{IsHard};
-ghost use Rattle.refute_rules.specs.Refutes.{IsRefuted};
-ghost use Rattle.node_work.specs.Settling.{IsFound, IsSettled};
+ghost use Rattle.node_work.specs.Settling.{IsAnswered, IsSettled};
 
-use chamber_place::{Placed, place, shrink};
+use crate::cutting::{Asked, cut_of};
+use berth_place::{BerthPlaced, place_by_berths};
+use chamber_place::{Placed, place};
 use lock_model::{Deck, Instance, Moor, Rank, Ships, Spot, Spots, deck_of};
 use mooring_rules::{first_clash, judge_spots};
 use place_refute::{Cut, Hard, HardSpots};
@@ -22,27 +23,23 @@ pub enum Settled {
     Fits(Spots),
     /// The ships don't fit; this cut hits them.
     Refuted(Cut),
-    /// Neither placer came to an end within the turns.
+    /// No placer came to an end within the turns.
     Spent(Hard, HardSpots),
 }
 
-// The cut of some of these ships, whose deck is refuted.
-fn refuted(
-    alloc: Global,
-    chamber: u8,
-    ships: &Ships,
-    deck: &Deck,
-    refutation: Refutation,
-    turns: u32,
-) -> Result<Settled, NoMemory>
-    requires sizes { length ships.now ≡ length deck.now.ships }
-    requires turns { 1 ≤ turns }
-    requires refuted { IsRefuted deck.now refutation }
-    ensures { IfOk result (IsFound chamber ships.now deck.now turns) }
-{
-    let cut = shrink(alloc, chamber, ships, deck, refutation, turns)?;
-    Ok(Settled::Refuted(cut))
+/// What the placers say of a deck.
+#[derive(Drop)]
+pub(crate) enum Answer {
+    /// The ships fit; these are legal spots.
+    Fits(Spots),
+    /// This keeps the ships from fitting.
+    Refuted(Refutation),
+    /// No placer came to an end within the turns.
+    Spent(Hard, HardSpots),
 }
+
+// The most turns that `place` is asked before the placer by berths.
+const FIRST_TURNS: u32 = 500;
 
 // The spot of a ship alone: at the near end of the left quay.
 fn alone(deck: &Deck) -> Spots {
@@ -71,81 +68,92 @@ fn spots_alone(deck: &Deck) -> Option<Spots>
     }
 }
 
-// Asks the placer by spots, where the other one has spent its turns.
-fn settle_hard(
-    alloc: Global,
-    chamber: u8,
-    ships: &Ships,
-    deck: &Deck,
-    turns: u32,
-    hard: Hard,
-) -> Result<Settled, NoMemory>
-    requires sizes { length ships.now ≡ length deck.now.ships }
+// How many of these turns `place` is asked before the placer by berths: at most 500.
+fn first_turns(turns: u32) -> u32
+    requires { 1 ≤ turns }
+    ensures { 1 ≤ result }
+{
+    if turns < FIRST_TURNS {
+        turns
+    } else {
+        FIRST_TURNS
+    }
+}
+
+// Asks the placer by spots, where the one by cases has spent its turns.
+fn ask_by_spots(alloc: Global, deck: &Deck, turns: u32, hard: Hard) -> Result<Answer, NoMemory>
     requires turns { 1 ≤ turns }
     requires clear { HasNoClash deck.now }
     requires spent { IsHard deck.now turns }
     requires told { hard ≡ record { deck = deck.now; turns = turns } }
-    ensures { IfOk result (IsFound chamber ships.now deck.now turns) }
+    ensures { IfOk result (IsAnswered deck.now turns) }
 {
     match place_by_spots(alloc, deck, turns)? {
-        SpotPlaced::Fits(spots) => Ok(Settled::Fits(spots)),
-        SpotPlaced::Spent(spots) => Ok(Settled::Spent(hard, spots)),
-        SpotPlaced::Refuted(marks) => {
-            let refutation = Refutation::Spots(marks);
-            refuted(alloc, chamber, ships, deck, refutation, turns)
-        }
+        SpotPlaced::Fits(spots) => Ok(Answer::Fits(spots)),
+        SpotPlaced::Refuted(marks) => Ok(Answer::Refuted(Refutation::Spots(marks))),
+        SpotPlaced::Spent(spots) => Ok(Answer::Spent(hard, spots)),
     }
 }
 
-// Asks the placers about ships of which no two clash.
-fn settle_clear(
-    alloc: Global,
-    chamber: u8,
-    ships: &Ships,
-    deck: &Deck,
-    turns: u32,
-) -> Result<Settled, NoMemory>
-    requires sizes { length ships.now ≡ length deck.now.ships }
+// Asks the placers by cases and by spots with all turns, where the one by berths has spent them.
+fn ask_all(alloc: Global, deck: &Deck, turns: u32) -> Result<Answer, NoMemory>
     requires turns { 1 ≤ turns }
     requires clear { HasNoClash deck.now }
-    ensures { IfOk result (IsFound chamber ships.now deck.now turns) }
+    ensures { IfOk result (IsAnswered deck.now turns) }
+{
+    match place(alloc, deck, turns)? {
+        Placed::Fits(spots) => Ok(Answer::Fits(spots)),
+        Placed::Refuted(refutation) => Ok(Answer::Refuted(refutation)),
+        Placed::Spent(hard) => ask_by_spots(alloc, deck, turns, hard),
+    }
+}
+
+// Asks the placer by berths, where the one by cases has spent its first turns.
+fn ask_by_berths(alloc: Global, deck: &Deck, turns: u32) -> Result<Answer, NoMemory>
+    requires turns { 1 ≤ turns }
+    requires clear { HasNoClash deck.now }
+    ensures { IfOk result (IsAnswered deck.now turns) }
+{
+    match place_by_berths(alloc, deck, turns)? {
+        BerthPlaced::Fits(spots) => Ok(Answer::Fits(spots)),
+        BerthPlaced::Refuted(marks) => Ok(Answer::Refuted(Refutation::Berths(marks))),
+        BerthPlaced::Spent(_) => ask_all(alloc, deck, turns),
+    }
+}
+
+// Asks the placers about ships of which no two clash, the one by cases with its first turns alone.
+fn ask_in_turn(alloc: Global, deck: &Deck, turns: u32) -> Result<Answer, NoMemory>
+    requires turns { 1 ≤ turns }
+    requires clear { HasNoClash deck.now }
+    ensures { IfOk result (IsAnswered deck.now turns) }
 {
     if let Some(spots) = spots_alone(deck) {
-        return Ok(Settled::Fits(spots));
+        return Ok(Answer::Fits(spots));
     }
-    match place(alloc, deck, turns)? {
-        Placed::Fits(spots) => Ok(Settled::Fits(spots)),
-        Placed::Refuted(refutation) => refuted(alloc, chamber, ships, deck, refutation, turns),
-        Placed::Spent(hard) => settle_hard(alloc, chamber, ships, deck, turns, hard),
+    match place(alloc, deck, first_turns(turns))? {
+        Placed::Fits(spots) => Ok(Answer::Fits(spots)),
+        Placed::Refuted(refutation) => Ok(Answer::Refuted(refutation)),
+        Placed::Spent(_) => ask_by_berths(alloc, deck, turns),
     }
 }
 
 // Finds out whether the ships of this deck fit it.
-fn settle_deck(
-    alloc: Global,
-    chamber: u8,
-    ships: &Ships,
-    deck: &Deck,
-    turns: u32,
-) -> Result<Settled, NoMemory>
-    requires sizes { length ships.now ≡ length deck.now.ships }
-    requires turns { 1 ≤ turns }
-    ensures { IfOk result (IsFound chamber ships.now deck.now turns) }
+fn ask(alloc: Global, deck: &Deck, turns: u32) -> Result<Answer, NoMemory>
+    requires { 1 ≤ turns }
+    ensures { IfOk result (IsAnswered deck.now turns) }
 {
     match first_clash(deck) {
-        Some((first, second)) => {
-            let refutation = Refutation::Clash(first, second);
-            refuted(alloc, chamber, ships, deck, refutation, turns)
-        }
-        None => settle_clear(alloc, chamber, ships, deck, turns),
+        Some((first, second)) => Ok(Answer::Refuted(Refutation::Clash(first, second))),
+        None => ask_in_turn(alloc, deck, turns),
     }
 }
 
-#[tactic(auto, using(crate::proofs::CutLemmas::as_many, crate::proofs::CutLemmas::found_settles))]
+#[tactic(auto, using(crate::proofs::CutLemmas::cut_settles))]
 /// Finds out whether ships fit a chamber, within so many turns of each placer. Two ships that clash
-/// refute it, and a ship that fits alone lies at the near end of the left quay; for all others the
-/// placers are asked, the one by spots where the first has spent its turns. Its only refusal is
-/// want of memory.
+/// refute it, and a ship that fits alone lies at the near end of the left quay. For all others the
+/// placers are asked, each where those before it were spent: `place` with at most 500 of the turns,
+/// then `place_by_berths`, `place` and `place_by_spots` with all turns. So `Spent` comes only where
+/// all three gave up. Its only refusal is want of memory.
 pub(crate) fn settle(
     alloc: Global,
     instance: &Instance,
@@ -160,5 +168,17 @@ pub(crate) fn settle(
     ensures { IfOk result (IsSettled instance.now chamber ships.now turns) }
 {
     let deck = deck_of(instance, chamber, ships);
-    settle_deck(alloc, chamber, ships, &deck, turns)
+    match ask(alloc, &deck, turns)? {
+        Answer::Fits(spots) => Ok(Settled::Fits(spots)),
+        Answer::Spent(hard, spots) => Ok(Settled::Spent(hard, spots)),
+        Answer::Refuted(refutation) => {
+            let asked = Asked {
+                instance,
+                chamber,
+                ships,
+            };
+            let cut = cut_of(alloc, &asked, refutation, turns)?;
+            Ok(Settled::Refuted(cut))
+        }
+    }
 }

@@ -1,6 +1,6 @@
--- Reading a leaf: its kind tells how many numbers follow, so at most one rest is left.
+-- Reading a leaf at a place of the marks.
 use Rattle.std.proofs.Common.{◌≡◌, ◌≢◌, ℕ, ◌+◌, ◌<◌, ◌≤◌, List, [], ◌∷◌, ◌++◌, length, take, drop, get_or, Contains, Bool, IsTrue, ◌↔◌, ◌⊎◌, inl, inr, refl, sym, ap, ◌∙◌, subst, arith}
-use Rattle.std.proofs.lemmas.List.{drop_more, drop-drop, drop_at, take_at, take-append-drop, length-append, length-drop}
+use Rattle.std.proofs.lemmas.List.{drop_more, drop-drop, take_at, take-append-drop, length-drop}
 use Rattle.std.proofs.lemmas.Bool.Decides.{eqb_tells}
 use Rattle.lock_model.specs.Deck.{Deck}
 use Rattle.diff_rules.specs.Differences.{IsPositiveCycle}
@@ -11,58 +11,22 @@ use Rattle.refute_rules.specs.Known.{hosts_within}
 use Rattle.refute_rules.specs.Cases.{CaseFault, OtherRank, Walk, IsCaseFault, case_fault_numbers}
 use Rattle.refute_rules.specs.SpotFaults.{SpotFault, OtherRank as OtherRankAt, LeadsBack, Outside, PastHost, Touching, IsSpotFault, spot_fault_numbers, IsOutsideAlong, IsOutsideAcross, IsPastHost, AreTouching}
 use Rattle.refute_rules.specs.Trees.{IsLeaf}
+use Rattle.refute_rules.proofs.LeafLemmas.{head, HasKind, kind-is, tail-is, sized-is, leaf-same, leaf-kind, leaf-long}
 use Rattle.place_refute.specs.declared.leaf.Trees.{Trees}
 use Rattle.place_refute.specs.declared.leaf.Trees.TheVariants.{OfCases, OfSpots}
 use Rattle.place_refute.specs.Drawn.{Drawn, IsDrawn}
 use Rattle.place_refute.specs.Reading.{IsFaultBy, IsFaultOf, count_of, IsLeafOf, IsLeafAt, HasNoLeafAt}
 
-abbrev head : List ℕ → ℕ
-head xs = get_or xs 0 0
-
--- the numbers of a fault are its kind and as many numbers as that tells
-pub record HasKind {F : Type 0} (numbers_of : F → List ℕ) (size : ℕ → ℕ) (fault : F) : Type 0 where
-  pub kind : ℕ
-  pub tail : List ℕ
-  pub told : numbers_of fault ≡ kind ∷ tail
-  pub sized : length tail ≡ size kind
-  pub some : kind ≢ 0
-
 module _ {F : Type 0} (IsFault : List Choice → F → Type 0) (numbers_of : F → List ℕ) (size : ℕ → ℕ)
     (law : (case : List Choice) (fault : F) → IsFault case fault → HasKind numbers_of size fault) where
-  pub leaf-split : (case : List Choice) (marks rest : List ℕ) (leaf : IsLeaf IsFault numbers_of case marks rest) → marks ≡ (law case leaf.0 leaf.1).kind ∷ ((law case leaf.0 leaf.1).tail ++ rest)
-  leaf-split case marks rest leaf = leaf.2 ∙ ap (λ ns. ns ++ rest) (law case leaf.0 leaf.1).told
-
-  kind-is : (case : List Choice) (marks rest : List ℕ) (leaf : IsLeaf IsFault numbers_of case marks rest) → head marks ≡ (law case leaf.0 leaf.1).kind
-  kind-is case marks rest leaf = ap head (leaf-split case marks rest leaf)
-
-  tail-is : (case : List Choice) (marks rest : List ℕ) (leaf : IsLeaf IsFault numbers_of case marks rest) → drop 1 marks ≡ (law case leaf.0 leaf.1).tail ++ rest
-  tail-is case marks rest leaf = ap (drop 1) (leaf-split case marks rest leaf)
-
-  sized-is : (case : List Choice) (marks rest : List ℕ) (leaf : IsLeaf IsFault numbers_of case marks rest) → length (law case leaf.0 leaf.1).tail ≡ size (head marks)
-  sized-is case marks rest leaf = (law case leaf.0 leaf.1).sized ∙ ap size (sym (kind-is case marks rest leaf))
-
-  pub leaf-rest : (case : List Choice) (marks rest : List ℕ) → IsLeaf IsFault numbers_of case marks rest → rest ≡ drop (size (head marks)) (drop 1 marks)
-  leaf-rest case marks rest leaf =
-      sym (ap (drop (size (head marks))) (tail-is case marks rest leaf) ∙ drop_at (law case leaf.0 leaf.1).tail rest (size (head marks)) (sized-is case marks rest leaf))
-
-  pub leaf-same : (case : List Choice) (marks r s : List ℕ) → IsLeaf IsFault numbers_of case marks r → IsLeaf IsFault numbers_of case marks s → r ≡ s
-  leaf-same case marks r s a b = leaf-rest case marks r a ∙ sym (leaf-rest case marks s b)
-
-  pub leaf-kind : (case : List Choice) (marks rest : List ℕ) → IsLeaf IsFault numbers_of case marks rest → head marks ≢ 0
-  leaf-kind case marks rest leaf e = (law case leaf.0 leaf.1).some (sym (kind-is case marks rest leaf) ∙ e)
-
-  pub leaf-long : (case : List Choice) (marks rest : List ℕ) → IsLeaf IsFault numbers_of case marks rest → size (head marks) ≤ length (drop 1 marks)
-  leaf-long case marks rest leaf =
-      omega (arith, sized-is case marks rest leaf, ap length (tail-is case marks rest leaf), length-append (law case leaf.0 leaf.1).tail rest)
-
   pub leaf-by : (case : List Choice) (marks rest : List ℕ) → IsLeaf IsFault numbers_of case marks rest → IsFaultBy IsFault numbers_of case (head marks ∷ take (size (head marks)) (drop 1 marks))
   leaf-by case marks rest leaf = record {
     fault = leaf.0;
     stands = leaf.1;
     told =
         (law case leaf.0 leaf.1).told
-        ∙ ap (λ k. k ∷ (law case leaf.0 leaf.1).tail) (sym (kind-is case marks rest leaf))
-        ∙ ap (λ ns. head marks ∷ ns) (sym (ap (take (size (head marks))) (tail-is case marks rest leaf) ∙ take_at (law case leaf.0 leaf.1).tail rest (size (head marks)) (sized-is case marks rest leaf)));
+        ∙ ap (λ k. k ∷ (law case leaf.0 leaf.1).tail) (sym (kind-is IsFault numbers_of size law case marks rest leaf))
+        ∙ ap (λ ns. head marks ∷ ns) (sym (ap (take (size (head marks))) (tail-is IsFault numbers_of size law case marks rest leaf) ∙ take_at (law case leaf.0 leaf.1).tail rest (size (head marks)) (sized-is IsFault numbers_of size law case marks rest leaf)));
   }
 
   pub by-leaf : (case : List Choice) (marks rest : List ℕ) (kind : ℕ) (numbers : List ℕ) → IsFaultBy IsFault numbers_of case (kind ∷ numbers) → marks ≡ kind ∷ (numbers ++ rest) → IsLeaf IsFault numbers_of case marks rest

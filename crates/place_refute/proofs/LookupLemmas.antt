@@ -1,25 +1,14 @@
 -- Looking up what a case has decided.
-use Rattle.std.proofs.Common.{◌≡◌, ◌≢◌, ℕ, ◌+◌, ◌<◌, ◌≤◌, true, false, cond, nat_eq, List, [], ◌∷◌, length, map, drop, get_or, inl, inr, sym, ap, ◌∙◌, Some, None, unwrap_or}
+use Rattle.std.proofs.Common.{◌≡◌, ◌≢◌, ℕ, ◌+◌, ◌<◌, ◌≤◌, cond, List, [], ◌∷◌, length, map, drop, get_or, sym, ap, ◌∙◌, Some, None}
 use Rattle.std.proofs.lemmas.List.{drop_more, drop_all}
-use Rattle.std.proofs.lemmas.Bool.Decides.{eqb_tells}
-use Rattle.refute_rules.specs.Choices.{Berth as Decided, Choice, Lies, Stands}
+use Rattle.refute_rules.specs.Choices.{Choice, Stands}
 use Rattle.refute_rules.specs.Decided.{berth_in, x_in}
 use Rattle.place_refute.specs.declared.decision.Pick.{Pick}
-use Rattle.place_refute.specs.declared.decided.Berth.{Berth}
+use Rattle.berth_case.specs.declared.decided.Berth.{Berth}
+use Rattle.berth_case.specs.Lookups.{PassesBerth, GivesBerth}
+use Rattle.berth_case.proofs.LookupLemmas.{equal, differ}
 use Rattle.place_refute.specs.Picks.{choice_of}
-use Rattle.place_refute.specs.Lookups.{PassesBerth, GivesBerth, PassesPlace, GivesPlace}
-
-equal : (j i : ℕ) → j ≡ i → nat_eq j i ≡ true
-equal j i e = elim (eqb_tells j i) [ inl y ↦ y.0 | inr n ↦ absurd (n.1 e) ]
-
-differ : (j i : ℕ) → j ≢ i → nat_eq j i ≡ false
-differ j i n = elim (eqb_tells j i) [ inl y ↦ absurd (n y.1) | inr d ↦ d.0 ]
-
-pub berth_hit : (j i : ℕ) (b : Berth) → j ≡ i → GivesBerth (Lies j (record { rank = b.rank; moor = b.moor })) i b
-berth_hit j i b e = record { give = λ rest. ap (λ t. cond t (Some (record { rank = b.rank; moor = b.moor })) (berth_in rest i)) (equal j i e) }
-
-pub berth_miss : (j i : ℕ) (b : Decided) → j ≢ i → PassesBerth (Lies j b) i
-berth_miss j i b n = record { pass = λ rest. ap (λ t. cond t (Some b) (berth_in rest i)) (differ j i n) }
+use Rattle.place_refute.specs.Lookups.{PassesPlace, GivesPlace}
 
 pub place_hit : (j i x : ℕ) → j ≡ i → GivesPlace (Stands j x) i x
 place_hit j i x e = record { give = λ rest. ap (λ t. cond t (Some x) (x_in rest i)) (equal j i e) }
@@ -54,9 +43,3 @@ place_given ps k i p x here e gives = ap (λ cs. x_in cs i) (left-more ps k p he
 
 pub place_absent : (ps : List Pick) (k i : ℕ) → length ps ≤ k → x_in (left_from ps k) i ≡ None
 place_absent ps k i long = ap (λ cs. x_in cs i) (left-none ps k long)
-
-pub some-same : {X : Type 0} (a b : X) → Some a ≡ Some b → a ≡ b
-some-same a b e = ap (λ o. unwrap_or o a) e
-
-pub none-some : {X : Type 0} (b : X) → None ≡ Some b → ⊥
-none-some b e = cc

@@ -1,15 +1,10 @@
 -- What is read of a spot case on the way to its faults.
-use Rattle.std.specs.Prelude.{ℕ, ◌≡◌, ◌+◌, ◌*◌, ◌≤◌, ℤ, pos, neg_ℤ, ◌≤ℤ◌, List, Some}
+use Rattle.std.specs.Prelude.{ℕ, ◌≡◌, ◌+◌, ◌≤◌, ℤ, List, Some}
 use Rattle.lock_model.specs.Deck.{Deck}
 use Rattle.refute_rules.specs.Reasons.{length_at}
 use Rattle.refute_rules.specs.Choices.{Choice}
 use Rattle.refute_rules.specs.Decided.{x_in}
 use Rattle.refute_rules.specs.Known.{y_in}
-
--- y after so many ships is within what their widths and gaps sum up to
-pub record IsWithinReach (steps : ℕ) (y : ℤ) : Type 0 where
-  pub low : neg_ℤ (pos (17179869184 * steps)) ≤ℤ y
-  pub high : y ≤ℤ pos (17179869184 * steps)
 
 -- the length of a ship at x is inside that of a host at host_x
 abbrev pub IsWithinHost : Deck → ℕ → ℕ → ℕ → ℕ → Type 0

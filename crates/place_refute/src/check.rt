@@ -13,6 +13,7 @@ use crate::case::Case;
 use crate::decision::{case_decisions, spot_decisions};
 use crate::leaf::Trees;
 use crate::tree::{Reading, tree_end};
+use berth_check::check_berth_tree;
 use deck_laws::spot_values;
 use lock_model::{Deck, Size};
 use plain_text::NoMemory;
@@ -94,13 +95,17 @@ fn is_refuted(alloc: Global, deck: &Deck, refutation: &Refutation) -> Result<boo
             Ok(is_spot_tree(deck, values.as_slice(), marks.as_slice()))
         }
         Refutation::Clash(first, second) => Ok(is_clashing_pair(deck, *first, *second)),
+        Refutation::Berths(marks) => {
+            let holds = check_berth_tree(alloc, deck, marks.as_slice())?;
+            Ok(holds)
+        }
     }
 }
 
 /// Whether a refutation holds for a deck: a quick reason that holds, marks that are exactly one
-/// case tree or exactly one spot tree of the deck, or two ships of the deck, the first before the
-/// second, that clash. Then the deck doesn't fit. Numbers out of range are just no refutation.
-/// Refuses want of memory alone, and only where it asks for the spot values.
+/// case tree, exactly one spot tree or exactly one berth tree of the deck, or two ships of the deck,
+/// the first before the second, that clash. Then the deck doesn't fit. Numbers out of range are just
+/// no refutation. Refuses want of memory alone, and only at spot trees and berth trees.
 pub fn check_refutation(
     alloc: Global,
     deck: &Deck,

@@ -1,39 +1,21 @@
 //! The faults of a spot case beside hosts of the other rank. Numbers of ships may be any numbers.
-ghost use Rattle.std.specs.Prelude.{◌≡◌, ◌<◌, ◌≤◌, ◌↔◌, Contains, ◌⊎◌, IsTrue, IfSome, IfNone, pos, ◌+ℤ◌, ◌≤ℤ◌, ◌+◌, length};
-ghost use Rattle.refute_rules.specs.Reasons.{length_at, width_at};
-ghost use Rattle.refute_rules.specs.Known.{hosts_within, y_within, y_in, quay_y, guest_y};
-ghost use Rattle.refute_rules.specs.SpotFaults.{IsOutsideAlong, IsOutsideAcross, IsPastHost, AreTouching, AreApartAt, IsInsideAlong, IsInsideAcross};
-ghost use Rattle.place_refute.specs.SpotReads.{IsWithinReach, IsWithinHost, IsPast, HasNoPlace, LiesAt};
+ghost use Rattle.std.specs.Prelude.{◌≡◌, ◌≤◌, ◌↔◌, Contains, ◌⊎◌, IsTrue, IfSome, IfNone, ◌+◌, length};
+ghost use Rattle.refute_rules.specs.Reasons.{length_at};
+ghost use Rattle.refute_rules.specs.Known.{hosts_within, y_within, y_in};
+ghost use Rattle.refute_rules.specs.SpotFaults.{IsOutsideAlong, IsOutsideAcross, IsPastHost, AreTouching, AreApartAt, IsInsideAlong};
+ghost use Rattle.berth_case.specs.Reach.{IsWithinReach};
+ghost use Rattle.place_refute.specs.SpotReads.{IsWithinHost, IsPast, HasNoPlace, LiesAt};
 
 use crate::case::Case;
 use crate::decided::{berth_of, host_of, x_of};
-use lock_model::{Deck, Moor, Rank};
+use berth_case::{guest_y, is_below, is_inside_across, length_of, quay_y};
+use lock_model::{Deck, Moor};
 
 // Where a ship lies, in decimetres.
 #[derive(Clone, Copy)]
 struct Place {
     x: u32,
     y: i64,
-}
-
-// The length of a ship, 0 where there is none of this number.
-fn length_of(deck: &Deck, ship: u32) -> u32
-    ensures { result ≡ length_at deck.now ship }
-{
-    match deck.ships.as_slice().get(ship as usize) {
-        Some(size) => size.length,
-        None => 0,
-    }
-}
-
-// The width of a ship, 0 where there is none of this number.
-fn width_of(deck: &Deck, ship: u32) -> u32
-    ensures { result ≡ width_at deck.now ship }
-{
-    match deck.ships.as_slice().get(ship as usize) {
-        Some(size) => size.width,
-        None => 0,
-    }
 }
 
 // Whether a ship is among the first hosts from another on.
@@ -56,37 +38,8 @@ pub(crate) fn leads_back(deck: &Deck, case: &Case, ship: u32) -> bool
     leads_to(case, deck.ships.as_slice().len() as u8, ship, ship)
 }
 
-// y at the quay of a rank.
-fn quay_y(deck: &Deck, ship: u32, rank: Rank) -> i64
-    ensures value { result ≡ quay_y deck.now ship rank }
-    ensures bound { IsWithinReach 1 result }
-{
-    match rank {
-        Rank::Left => 0,
-        Rank::Right => deck.width as i64 - width_of(deck, ship) as i64,
-    }
-}
-
-// y at a host that lies at a known y.
-fn guest_y(deck: &Deck, ship: u32, host: u8, rank: Rank, y: i64, steps: u8) -> i64
-    requires few { steps < 8 }
-    requires bound { IsWithinReach steps y }
-    ensures value { result ≡ guest_y deck.now ship host rank y }
-    ensures bound { IsWithinReach (steps + 1) result }
-{
-    let wide = match rank {
-        Rank::Left => width_of(deck, host as u32),
-        Rank::Right => width_of(deck, ship),
-    };
-    let beside = (wide as u64 + deck.side as u64) as i64;
-    match rank {
-        Rank::Left => y + beside,
-        Rank::Right => y - beside,
-    }
-}
-
 // A ship's y, where at most so many ships lead down to a quay.
-#[tactic(auto, using(crate::proofs::SpotLemmas::y_host))]
+#[tactic(auto, using(berth_case::proofs::KnownLemmas::y_host))]
 fn y_within(deck: &Deck, case: &Case, steps: u8, ship: u32) -> Option<i64>
     requires { steps ≤ 8 }
     ensures value { result ≡ y_within deck.now case.now.choices steps ship }
@@ -121,15 +74,6 @@ fn is_inside_along(deck: &Deck, ship: u32, x: u32) -> bool
     deck.end <= x && far + deck.end as u64 <= deck.length as u64
 }
 
-// Whether a ship is inside across the chamber.
-fn is_inside_across(deck: &Deck, ship: u32, y: i64) -> bool
-    requires { IsWithinReach 8 y }
-    ensures { IsTrue result ↔ IsInsideAcross deck.now ship y }
-{
-    let far = y + width_of(deck, ship) as i64;
-    0 <= y && far <= deck.width as i64
-}
-
 // Whether a ship's x is decided and it isn't inside along the chamber.
 #[tactic(auto, using(crate::proofs::SpotLemmas::along_outside, crate::proofs::SpotLemmas::along_inside, crate::proofs::SpotLemmas::along_open))]
 fn is_outside_along(deck: &Deck, case: &Case, ship: u32) -> bool
@@ -142,7 +86,7 @@ fn is_outside_along(deck: &Deck, case: &Case, ship: u32) -> bool
 }
 
 // Whether a ship's y is known and it isn't inside across the chamber.
-#[tactic(auto, using(crate::proofs::SpotLemmas::across_outside, crate::proofs::SpotLemmas::across_inside, crate::proofs::SpotLemmas::across_open))]
+#[tactic(auto, using(berth_case::proofs::KnownLemmas::across_outside, berth_case::proofs::KnownLemmas::across_inside, berth_case::proofs::KnownLemmas::across_open))]
 fn is_outside_across(deck: &Deck, case: &Case, ship: u32) -> bool
     ensures { IsTrue result ↔ IsOutsideAcross deck.now case.now.choices ship }
 {
@@ -193,15 +137,6 @@ fn is_before(deck: &Deck, ship: u32, x: u32, other_x: u32) -> bool
     ensures { IsTrue result ↔ x + length_at deck.now ship + deck.now.gap ≤ other_x }
 {
     x as u64 + length_of(deck, ship) as u64 + deck.gap as u64 <= other_x as u64
-}
-
-// Whether a ship at y is below another across the chamber.
-fn is_below(deck: &Deck, ship: u32, y: i64, other_y: i64) -> bool
-    requires { IsWithinReach 8 y }
-    ensures { IsTrue result ↔ (y +ℤ pos (width_at deck.now ship + deck.now.side)) ≤ℤ other_y }
-{
-    let wide = (width_of(deck, ship) as u64 + deck.side as u64) as i64;
-    y + wide <= other_y
 }
 
 // Whether two ships at known places are apart.

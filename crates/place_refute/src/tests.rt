@@ -36,7 +36,7 @@ const WIDE: &[Fleet] = &[(80, 60, 0)];
 
 const FLUSH: &[Fleet] = &[(80, 50, 0)];
 
-const WORKED: [Worked; 34] = [
+const WORKED: [Worked; 38] = [
     // edge 0 leads from the origin to x, and edge 1 back
     (SHORT, LONG, Told::Cases(&[2, 0, 1]), true),
     (SHORT, LONG, Told::Cases(&[2, 1, 0]), true),
@@ -67,6 +67,11 @@ const WORKED: [Worked; 34] = [
     (SHORT, WIDE, Told::Spots(&[0, 3, 1, 3, 1]), false),
     (SHORT, WIDE, Told::Spots(&[0, 5, 0, 0, 5, 0, 0]), false),
     (SHORT, WIDE, Told::Spots(&[0, 6, 0, 6, 0]), false),
+    // one tree of each berth, or a leaf at once
+    (SHORT, WIDE, Told::Berths(&[0, 0, 4, 0, 4, 0]), true),
+    (SHORT, WIDE, Told::Berths(&[0, 0, 4, 0]), false),
+    (SHORT, LONG, Told::Berths(&[8]), true),
+    (SHORT, FLUSH, Told::Berths(&[8]), false),
     (NARROW, TWO, Told::Row(0, 0), false),
     (NARROW, TWO, Told::Row(0, 1), true),
     (NARROW, TWO, Told::Row(0, 2), false),

@@ -7,7 +7,7 @@ use Rattle.std.proofs.lemmas.List.{get_or_append_left, get_or_default, length-ap
 use Rattle.std.specs.List.Sorted.{IsPermutation}
 use Rattle.std.proofs.lemmas.List.Sorted.{All-permutation, Contains-permutation}
 use Rattle.std.proofs.lemmas.List.Sums.{sum_by-cons}
-use Rattle.std.proofs.lemmas.List.Elements.{All-nil, All-push, All-weaker}
+use Rattle.std.proofs.lemmas.List.Elements.{All-nil, All-push, All-weaker, All-drop, All-contains, All-contains_itself}
 use Rattle.lock_model.specs.Fleet.{ship_at}
 use Rattle.lock_model.specs.declared.instance.Instance.{Instance}
 use Rattle.lock_model.specs.declared.group.Group.{Group}
@@ -25,6 +25,10 @@ use Rattle.price_bound.specs.Sparing.{AreForbidden}
 use Rattle.price_bound.specs.Growing.{IsGrown, AreGrown}
 use Rattle.price_bound.specs.Choosing.{Keeps, rate_of, IsChoice, Serves, IsServed, IsOn, IsBaseOf, HaveMore, HasOne, HavePut, HaveSome, AreSome, AreChoices}
 use Rattle.price_bound.proofs.ServeLemmas.{serve-themselves, serve-through}
+
+-- what is behind a place is among all
+pub contains-drop : {X : Type 0} (n : ℕ) (xs : List X) (x : X) → Contains (drop n xs) x → Contains xs x
+contains-drop n xs x held = All-contains (Contains xs) (drop n xs) x (All-drop (Contains xs) n xs (All-contains_itself xs)) held
 
 module _ (I : Instance) (k : ℕ) (prices : List ℕ) where
   -- the rates of ships are what they pay and 100 times their arrivals

@@ -3,9 +3,6 @@ use Rattle.std.proofs.Common.{◌≡◌, ◌≢◌, ℕ, suc, ◌+◌, ◌-◌, 
 use Rattle.std.specs.Prelude.{int_lt, IfSome}
 use Rattle.std.specs.Int.{int_min}
 use Rattle.std.specs.declared.option.Option.{Option}
-use Rattle.std.specs.HashMap.{get, HashMap, Updates}
-use Rattle.std.specs.declared.hash.FoldHasher.{FoldHasher}
-use Rattle.std.specs.declared.hash.BuildHasherDefault.{BuildHasherDefault}
 use Rattle.std.proofs.lemmas.Int.{ints, clamps}
 use Rattle.std.proofs.lemmas.Bool.Decides.{eqb_tells, leb_tells}
 use Rattle.std.proofs.lemmas.List.{get_or_default}
@@ -23,11 +20,13 @@ use Rattle.lock_model.specs.Fleet.{ship_at}
 use Rattle.price_rules.specs.Prices.{PlainCut, IsUncut, IsLoose, is_missing, price_at}
 use Rattle.price_bound.specs.declared.frame.Frame.{Frame}
 use Rattle.price_bound.specs.declared.choice.Choice.{Choice}
+use Rattle.price_bound.specs.declared.values.Values.{Values}
 use Rattle.price_bound.specs.Worth.{end_after, worth_of, worth_from, IsWorth, IsLeastWorth, IsKeptGroup, IsHorizon}
-use Rattle.price_bound.specs.Choosing.{Keeps, IsChoice, Leads, IsCounted, IsValue, AreChoices}
-use Rattle.price_bound.specs.Values.{key_of, side_of, AreValues, IsBest, IsFrame}
+use Rattle.price_bound.specs.Choosing.{Keeps, IsChoice, Leads, IsCounted, IsValue, AreChoices, AreLate, list_at}
+use Rattle.price_bound.specs.Values.{key_of, side_of, AreEmpty, Holds, Remembers, AreValues, IsBest, IsFrame}
 use Rattle.price_bound.specs.Sparing.{IsSpared, AreForbidden}
 use Rattle.price_bound.proofs.LineLemmas.{worth-next, end-later, uncut-trace}
+use Rattle.price_bound.proofs.LateLemmas.{counted-listed}
 use Rattle.price_bound.proofs.StepLemmas.{own-worth, alone-least, choices-least}
 
 with-some : (way : Way) (ks : List ℕ) (rest : List Group) → 1 ≤ length ks → with_group way ks rest ≡ record { way = way; ships = ks } ∷ rest
@@ -111,17 +110,22 @@ module _ (I : Instance) (c : ℕ) (known : c < length I.chambers) (cuts : List P
     counted-idle best none gains = λ q leads. inr (none, gains)
 
     module _ (best w v : ℤ) (early : from < horizon) (worth : w ≡ worth_of I c k prices stand from h.group) (low : neg_ℤ (pos 808000000) ≤ℤ w) (value : IsValue I c cuts k prices line horizon q (stand_after h.group.way) (end_after I c stand from h.group) v) where
+      -- whatever goes on behind the choice goes on with it before
+      pub choice-goes : (gs : List Group) → IsLoose I c cuts k (drop q line) gs → worth_from I c k prices (stand_after h.group.way) (end_after I c stand from h.group) gs ≡ v
+          → IsLoose I c cuts k (drop p line) (h.group ∷ gs) × (worth_from I c k prices stand from (h.group ∷ gs) ≡ (w +ℤ v))
+      choice-goes gs loose behind = (
+        record {
+          uncut = All-cons (IsUncut I c cuts) h.group gs is.uncut loose.uncut;
+          trace = ap (with_group h.group.way (filter (has_number (first_ships I k)) h.group.ships)) loose.trace ∙ joins-line h.joins p q h.group is.keeps leads;
+        },
+        worth-next I c k prices stand from h.group gs ∙ (λ i. sym worth i +ℤ behind i),
+      )
+
       sum-reached : IsWorth I c cuts k prices stand from (drop p line) (w +ℤ v)
       sum-reached =
           let behind = value.least.reached in
-          record {
-            loose = h.group ∷ behind.loose;
-            is_loose = record {
-              uncut = All-cons (IsUncut I c cuts) h.group behind.loose is.uncut behind.is_loose.uncut;
-              trace = ap (with_group h.group.way (filter (has_number (first_ships I k)) h.group.ships)) behind.is_loose.trace ∙ joins-line h.joins p q h.group is.keeps leads;
-            };
-            worth = worth-next I c k prices stand from h.group behind.loose ∙ (λ i. sym worth i +ℤ behind.worth i);
-          }
+          let goes = choice-goes behind.loose behind.is_loose behind.worth in
+          record { loose = h.group ∷ behind.loose; is_loose = goes.0; worth = goes.1 }
 
       pub best-counted : IsBest I c cuts k prices line horizon p stand from best → IsBest I c cuts k prices line horizon p stand from (int_min best (w +ℤ v))
       best-counted was = record {
@@ -145,45 +149,59 @@ module _ (I : Instance) (c : ℕ) (known : c < length I.chambers) (cuts : List P
           below : (a w v x y : ℤ) → w ≡ x → v ≤ℤ y → int_min a (w +ℤ v) ≤ℤ (x +ℤ y)
           below a w v x y e h = omega (arith, ints, clamps)
 
-  -- a frame whose best is less
-  pub frame-less : (choices : List Choice) (frame : Frame) (best : ℤ) → best ≤ℤ frame.best → IsBest I c cuts k prices line horizon frame.state.place frame.state.stand frame.state.minute best
-      → IsFrame I c cuts k prices line horizon choices frame → IsFrame I c cuts k prices line horizon choices (record { state = frame.state; best = best; next = frame.next })
-  frame-less choices frame best less is was = record {
-    place = was.place;
-    early = was.early;
-    best = is;
-    counted = λ j d before here. counted-less frame.state.stand frame.state.minute frame.state.place frame.best best (slice_index_or choices j d) less (was.counted j d before here);
-  }
+      -- the choice comes to the value or to more
+      pub choice-least : (u : ℤ) → IsValue I c cuts k prices line horizon p stand from u → u ≤ℤ (w +ℤ v)
+      choice-least u least =
+          let reached = sum-reached in
+          subst (λ x. u ≤ℤ x) reached.worth (least.least.below reached.loose reached.is_loose)
 
-  -- one choice more is counted
-  pub frame-next : (choices : List Choice) (frame : Frame) (best : ℤ) (h : Choice) (i : ℕ) → i < length choices → frame.next ≡ i → h ≡ slice_index_or choices i h → best ≤ℤ frame.best
-      → IsBest I c cuts k prices line horizon frame.state.place frame.state.stand frame.state.minute best → IsCounted I c cuts k prices line frame.state.stand frame.state.minute frame.state.place best h
-      → IsFrame I c cuts k prices line horizon choices frame → IsFrame I c cuts k prices line horizon choices (record { state = frame.state; best = best; next = i + 1 })
-  frame-next choices frame best h i here at held less is counted was = record {
-    place = was.place;
-    early = was.early;
-    best = is;
-    counted = λ j d before inside. elim (eqb_tells j i) [
-      | inl y ↦
-          let same : h ≡ slice_index_or choices j d = held ∙ get_or_default choices i h d here ∙ ap (λ i. slice_index_or choices i d) (sym y.1) in
-          subst (IsCounted I c cuts k prices line frame.state.stand frame.state.minute frame.state.place best) same counted
-      | inr m ↦ counted-less frame.state.stand frame.state.minute frame.state.place frame.best best (slice_index_or choices j d) less (was.counted j d (earlier j m.1 before) inside)
-    ];
-  }
-    where
-      earlier : (j : ℕ) → j ≢ i → j < i + 1 → j < frame.next
-      earlier j apart before = elim (leb_tells (suc j) i) [ inl y ↦ omega (arith, at, y.1) | inr q ↦ absurd (apart (omega (arith, before, q.1))) ]
+      -- a choice that comes to no less than a number is counted with it
+      pub counted-more : best ≤ℤ (w +ℤ v) → IsCounted I c cuts k prices line stand from p best h
+      counted-more more = subst (λ x. IsCounted I c cuts k prices line stand from p x h) (smaller best (w +ℤ v) more) counted-value
+        where
+          smaller : (a b : ℤ) → a ≤ℤ b → int_min a b ≡ a
+          smaller a b h = omega (arith, ints, clamps)
 
-  -- THE LAST CHOICE COUNTED, the best is the value.
-  pub frame-value : (choices : List Choice) (frame : Frame) → AreChoices I c cuts k prices line choices → length choices ≤ frame.next → IsFrame I c cuts k prices line horizon choices frame
-      → IsValue I c cuts k prices line horizon frame.state.place frame.state.stand frame.state.minute frame.best
-  frame-value choices frame are all is = record {
-    least = choices-least I c known cuts k prices line choices are frame.state.stand frame.state.minute frame.state.place frame.best is.best.stop
-        (λ h held. subst (IsCounted I c cuts k prices line frame.state.stand frame.state.minute frame.state.place frame.best) held.2 (is.counted held.0 h (omega (arith, held.1, all)) held.1))
-        is.best.reached;
-    low = is.best.low;
-    high = is.best.high;
-  }
+  module _ (late : ℕ) (choices lates : List Choice) where
+    -- a frame whose best is less
+    pub frame-less : (frame : Frame) (best : ℤ) → best ≤ℤ frame.best → IsBest I c cuts k prices line horizon frame.state.place frame.state.stand frame.state.minute best
+        → IsFrame I c cuts k prices line horizon late choices lates frame → IsFrame I c cuts k prices line horizon late choices lates (record { state = frame.state; best = best; next = frame.next })
+    frame-less frame best less is was = record {
+      place = was.place;
+      early = was.early;
+      best = is;
+      counted = λ j d before here. counted-less frame.state.stand frame.state.minute frame.state.place frame.best best (slice_index_or (list_at late choices lates frame.state.minute) j d) less (was.counted j d before here);
+    }
+
+    -- one choice more is counted
+    pub frame-next : (frame : Frame) (best : ℤ) (h : Choice) (i : ℕ) (listed : List Choice) → listed ≡ list_at late choices lates frame.state.minute → i < length listed → frame.next ≡ i → h ≡ slice_index_or listed i h → best ≤ℤ frame.best
+        → IsBest I c cuts k prices line horizon frame.state.place frame.state.stand frame.state.minute best → IsCounted I c cuts k prices line frame.state.stand frame.state.minute frame.state.place best h
+        → IsFrame I c cuts k prices line horizon late choices lates frame → IsFrame I c cuts k prices line horizon late choices lates (record { state = frame.state; best = best; next = i + 1 })
+    frame-next frame best h i listed same here at held less is counted was = record {
+      place = was.place;
+      early = was.early;
+      best = is;
+      counted = subst (λ listed. (j : ℕ) (d : Choice) → j < i + 1 → j < length listed → IsCounted I c cuts k prices line frame.state.stand frame.state.minute frame.state.place best (slice_index_or listed j d)) same (λ j d before inside. elim (eqb_tells j i) [
+        | inl y ↦ subst (IsCounted I c cuts k prices line frame.state.stand frame.state.minute frame.state.place best) (held ∙ get_or_default listed i h d here ∙ ap (λ i. slice_index_or listed i d) (sym y.1)) counted
+        | inr m ↦ counted-less frame.state.stand frame.state.minute frame.state.place frame.best best (slice_index_or listed j d) less
+            (subst (λ listed. j < length listed → IsCounted I c cuts k prices line frame.state.stand frame.state.minute frame.state.place frame.best (slice_index_or listed j d)) (sym same) (was.counted j d (earlier j m.1 before)) inside)
+      ]);
+    }
+      where
+        earlier : (j : ℕ) → j ≢ i → j < i + 1 → j < frame.next
+        earlier j apart before = elim (leb_tells (suc j) i) [ inl y ↦ omega (arith, at, y.1) | inr q ↦ absurd (apart (omega (arith, before, q.1))) ]
+
+    -- THE LAST CHOICE COUNTED, the best is the value.
+    pub frame-value : (frame : Frame) → AreChoices I c cuts k prices line choices → AreLate I c cuts k prices line late choices lates → length (list_at late choices lates frame.state.minute) ≤ frame.next
+        → IsFrame I c cuts k prices line horizon late choices lates frame → IsValue I c cuts k prices line horizon frame.state.place frame.state.stand frame.state.minute frame.best
+    frame-value frame are served all is = record {
+      least = choices-least I c known cuts k prices line choices are frame.state.stand frame.state.minute frame.state.place frame.best is.best.stop
+          (counted-listed I c known cuts k prices line frame.state.stand frame.state.minute frame.state.place frame.best late choices lates are.each served
+          (λ h held. subst (IsCounted I c cuts k prices line frame.state.stand frame.state.minute frame.state.place frame.best) held.2 (is.counted held.0 h (omega (arith, held.1, all)) held.1)))
+          is.best.reached;
+      low = is.best.low;
+      high = is.best.high;
+    }
 
   -- a value in its type
   pub value-rounded : (p : ℕ) (stand : Stand) (from : ℕ) (v : ℤ) → horizon ≤ 1010000 → IsValue I c cuts k prices line horizon p stand from v → IsValue I c cuts k prices line horizon p stand from (to_z w64 (of_z w64 v))
@@ -204,33 +222,27 @@ module _ (I : Instance) (c : ℕ) (known : c < length I.chambers) (cuts : List P
   same-side High Low e = absurd (omega (arith, e))
 
   -- one value more is remembered
-  pub values-kept : (old new : HashMap ℕ ℤ (BuildHasherDefault FoldHasher)) (p : ℕ) (stand : Stand) (minute : ℕ) (v : ℤ) → p ≤ 24 → AreValues I c cuts k prices line horizon old → IsValue I c cuts k prices line horizon p stand minute v
-      → Updates nat_eq old new (key_of p stand minute) (Some v) → AreValues I c cuts k prices line horizon new
-  values-kept old new p stand minute v small were value updates = record {
-    told = λ q other n u few e.
-        let at = updates.0 (key_of q other n) in
-        elim (eqb_tells (key_of p stand minute) (key_of q other n)) [
-          | inl y ↦
-              let parts = same-state p q minute n (side_of stand) (side_of other) small few (side-small stand) (side-small other) y.1 in
-              let is : Some v ≡ Some u = (λ i. cond (sym y.0 i) (Some v) (get nat_eq old (key_of q other n))) ∙ sym at ∙ e in
-              subst (λ u. IsValue I c cuts k prices line horizon q other n u) (some-same v u is)
-              (subst (λ q. IsValue I c cuts k prices line horizon q other n v) parts.0 (subst (λ n. IsValue I c cuts k prices line horizon p other n v) parts.1 (subst (λ s. IsValue I c cuts k prices line horizon p s minute v) (same-side stand other parts.2) value)))
-          | inr m ↦ were.told q other n u few ((λ i. cond (sym m.0 i) (Some v) (get nat_eq old (key_of q other n))) ∙ sym at ∙ e)
-        ];
+  pub values-kept : (old new : Values) (p : ℕ) (stand : Stand) (minute : ℕ) (v : ℤ) → p ≤ 24 → AreValues I c cuts k prices line horizon old → IsValue I c cuts k prices line horizon p stand minute v
+      → Remembers old new (key_of p stand minute) v → AreValues I c cuts k prices line horizon new
+  values-kept old new p stand minute v small were value more = record {
+    told = λ q other n u few e. elim (more.told (key_of q other n) u e) [
+      | inl y ↦
+          let parts = same-state p q minute n (side_of stand) (side_of other) small few (side-small stand) (side-small other) y.0 in
+          subst (λ u. IsValue I c cuts k prices line horizon q other n u) y.1
+          (subst (λ q. IsValue I c cuts k prices line horizon q other n v) parts.0 (subst (λ n. IsValue I c cuts k prices line horizon p other n v) parts.1 (subst (λ s. IsValue I c cuts k prices line horizon p s minute v) (same-side stand other parts.2) value)))
+      | inr held ↦ were.told q other n u few held
+    ];
   }
-    where
-      some-same : (v u : ℤ) → Some v ≡ Some u → v ≡ u
-      some-same v u e = ap held e
-        where
-          held : Option ℤ → ℤ
-          held None = v
-          held (Some w) = w
 
   -- what is found is the value
-  pub found-told : (held : HashMap ℕ ℤ (BuildHasherDefault FoldHasher)) (p : ℕ) (stand : Stand) (minute : ℕ) (o : Option ℤ) → p ≤ 24 → AreValues I c cuts k prices line horizon held → o ≡ get nat_eq held (key_of p stand minute)
+  pub found-told : (values : Values) (p : ℕ) (stand : Stand) (minute : ℕ) (o : Option ℤ) → p ≤ 24 → AreValues I c cuts k prices line horizon values → IfSome o (Holds values (key_of p stand minute))
       → IfSome o (IsValue I c cuts k prices line horizon p stand minute)
-  found-told held p stand minute None small are e = tt
-  found-told held p stand minute (Some v) small are e = are.told p stand minute v small (sym e)
+  found-told values p stand minute None small are e = tt
+  found-told values p stand minute (Some v) small are e = are.told p stand minute v small e
+
+  -- nothing is remembered at first
+  pub values-none : (values : Values) → AreEmpty values → AreValues I c cuts k prices line horizon values
+  values-none values none = record { told = λ p stand minute v small held. absurd (none.none (key_of p stand minute) v held) }
 
 -- the horizon of the ships before one more
 pub late-next : (I : Instance) (k : ℕ) (prices : List ℕ) (i old new : ℕ) → old ≤ new → (is_missing I k i ≡ true → price_at prices i + 100 * (ship_at I i).arrival ≤ 100 * new)

@@ -6,5 +6,8 @@ pub mod ServeLemmas
 pub mod SumLemmas
 pub mod StepLemmas
 pub mod ServingLemmas
+pub mod LateLemmas
 pub mod FrameLemmas
 pub mod TotalLemmas
+pub mod WalkLemmas
+pub mod MaskLemmas

@@ -15,7 +15,7 @@ use Rattle.lock_rules.specs.Bound.{flow_of}
 use Rattle.lock_rules.proofs.TimetableLemmas.{start_of-lawful, closures_kept, last_arrival-least, last_arrival-each}
 use Rattle.lock_rules.proofs.TraceLemmas.{Dominates, Dominates-itself, Dominates-later, Dominates-skipped, start_of-kept}
 use Rattle.price_rules.specs.Prices.{paid_in}
-use Rattle.price_bound.specs.Worth.{end_after, worth_of, worth_from, paid_on, ServeAsWell}
+use Rattle.price_bound.specs.Worth.{end_after, worth_of, worth_from, paid_on, ServeAsWell, ServeFrom}
 
 module _ (I : Instance) where
   pub flow-times : (e : ℕ) (ss : List ℕ) → All (λ s. (ship_at I s).arrival ≤ e) ss → sum_by (λ s. e - (ship_at I s).arrival) ss + sum_by (λ s. (ship_at I s).arrival) ss ≡ length ss * e
@@ -36,6 +36,10 @@ module _ (I : Instance) where
     quick = omega (arith, first.quick, second.quick);
     pays = omega (arith, first.pays, second.pays);
   }
+
+  -- from any minute on
+  pub serve-from : (k : ℕ) (prices hs gs : List ℕ) (from : ℕ) → ServeAsWell I k prices hs gs → ServeFrom I k prices from hs gs
+  serve-from k prices hs gs from well = record { count = well.count; early = omega (arith, well.early); quick = well.quick; pays = well.pays }
 
   module _ (c : ℕ) (known : c < length I.chambers) where
     -- from a state that is no worse a line has no more flow time
@@ -61,7 +65,7 @@ module _ (I : Instance) where
         step : (x y p : ℕ) → x ≤ y → (pos (100 * x) -ℤ pos p) ≤ℤ (pos (100 * y) -ℤ pos p)
         step x y p h = omega (arith, ints)
 
-    module _ (k : ℕ) (prices : List ℕ) (way : Way) (hs gs : List ℕ) (well : ServeAsWell I k prices hs gs) (stand : Stand) (from : ℕ) where
+    module _ (k : ℕ) (prices : List ℕ) (way : Way) (hs gs : List ℕ) (stand : Stand) (from : ℕ) (well : ServeFrom I k prices from hs gs) where
       abbrev g : Group
       g = record { way = way; ships = gs }
 
@@ -70,8 +74,9 @@ module _ (I : Instance) where
 
       arrived : All (λ s. (ship_at I s).arrival ≤ start_of I c stand from g) hs
       arrived =
-          let last = last_arrival-least I 0 (start_of I c stand from g) gs (omega arith) (start_of-lawful I c known stand from g).arrived in
-          All-weaker (λ s. (ship_at I s).arrival ≤ last_arrival I 0 hs) (λ s. (ship_at I s).arrival ≤ start_of I c stand from g) (λ s e. omega (arith, e, last, well.early)) hs (last_arrival-each I 0 hs)
+          let lawful = start_of-lawful I c known stand from g in
+          let last = last_arrival-least I 0 (start_of I c stand from g) gs (omega arith) lawful.arrived in
+          All-weaker (λ s. (ship_at I s).arrival ≤ last_arrival I 0 hs) (λ s. (ship_at I s).arrival ≤ start_of I c stand from g) (λ s e. omega (arith, e, last, lawful.later, well.early)) hs (last_arrival-each I 0 hs)
 
       -- they end no later
       pub serve-end : end_after I c stand from h ≤ end_after I c stand from g

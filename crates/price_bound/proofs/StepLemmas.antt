@@ -15,7 +15,7 @@ use Rattle.price_rules.specs.Prices.{PlainCut, IsUncut, IsLoose}
 use Rattle.price_bound.specs.declared.choice.Choice.{Choice}
 use Rattle.price_bound.specs.Worth.{end_after, worth_of, worth_from, IsWorth, IsLeastWorth, IsKeptGroup, IsHorizon}
 use Rattle.price_bound.specs.Choosing.{Keeps, Leads, IsServed, AreChoices, IsBelow, IsCounted}
-use Rattle.price_bound.proofs.ServeLemmas.{serve-line, worth-skipped}
+use Rattle.price_bound.proofs.ServeLemmas.{serve-from, serve-line, worth-skipped}
 use Rattle.price_bound.proofs.LineLemmas.{worth-next, late-least}
 
 abbrev IsThere : Option ℕ → Type 0
@@ -71,7 +71,7 @@ module _ (I : Instance) (c : ℕ) (known : c < length I.chambers) (cuts : List P
     served-below g gs to q leads loose skip served =
         let h : Group = record { way = g.way; ships = served.choice.group.ships } in
         let same : served.choice.group ≡ h = λ i. record { way = served.way i; ships = served.choice.group.ships } in
-        let here = serve-line I c known k prices g.way served.choice.group.ships g.ships served.as_good stand from gs in
+        let here = serve-line I c known k prices g.way served.choice.group.ships g.ships stand from (serve-from I k prices served.choice.group.ships g.ships from served.as_good) gs in
         let next = worth-next I c k prices stand from g gs in
         elim (counted served.choice served.held q (subst (λ to. Leads to p q) (sym served.joins) leads)) [
           | inl below ↦ under best (worth_from I c k prices stand from (g ∷ gs)) (worth_of I c k prices stand from g +ℤ worth_from I c k prices (stand_after g.way) (end_after I c stand from g) gs)
@@ -87,7 +87,8 @@ module _ (I : Instance) (c : ℕ) (known : c < length I.chambers) (cuts : List P
         over : (b w v x y z : ℤ) → w ≡ v → (x +ℤ y) ≤ℤ v → pos 0 ≤ℤ x → z ≤ℤ y → b ≤ℤ z → b ≤ℤ w
         over b w v x y z e h j l m = omega (arith, ints)
 
-    all-below : (loose : List Group) → IsLoose I c cuts k (drop p line) loose → best ≤ℤ worth_from I c k prices stand from loose
+    -- no loose line is worth less
+    pub all-below : (loose : List Group) → IsLoose I c cuts k (drop p line) loose → best ≤ℤ worth_from I c k prices stand from loose
     all-below [] is = subst (λ line. best ≤ℤ worth_from I c k prices stand from line) (sym is.trace) stop
     all-below (g ∷ gs) is = next (filter kept_test g.ships) refl is.trace (all-below gs)
       where

@@ -1,5 +1,5 @@
 -- The groups that may come next in a loose line, and the values of the states of a chamber on its line.
-use Rattle.std.specs.Prelude.{ℕ, suc, ◌≡◌, ◌+◌, ◌-◌, ◌*◌, ◌≤◌, ◌<◌, ◌⊎◌, ℤ, pos, ◌+ℤ◌, ◌≤ℤ◌, Some, None, List, [], ◌∷◌, length, drop, All, Contains, filter, cond, sum_by, slice_index_or}
+use Rattle.std.specs.Prelude.{ℕ, suc, ◌≡◌, ◌+◌, ◌-◌, ◌*◌, ◌≤◌, ◌<◌, ◌⊎◌, ℤ, pos, ◌+ℤ◌, ◌≤ℤ◌, Some, None, List, [], ◌∷◌, ◌++◌, length, drop, All, Contains, filter, cond, nat_lt, sum_by, slice_index_or}
 use Rattle.std.specs.declared.option.Option.{Option}
 use Rattle.lock_model.specs.Fleet.{ship_at}
 use Rattle.lock_model.specs.declared.instance.Instance.{Instance}
@@ -52,6 +52,35 @@ pub record IsOn (I : Instance) (k : ℕ) (base g : Group) : Type 0 where
   pub way : g.way ≡ base.way
   pub keeps : filter (has_number (first_ships I k)) g.ships ≡ base.ships
 
+-- The choice joins the same group as the other, has its way, and is no more ships, takes no longer and pays no less; it has arrived by the minute.
+pub record ServesLate (late : ℕ) (other choice : Choice) : Type 0 where
+  pub joins : other.joins ≡ choice.joins
+  pub way : other.group.way ≡ choice.group.way
+  pub count : length other.group.ships ≤ length choice.group.ships
+  pub last : other.last ≤ late
+  pub duration : other.duration ≤ choice.duration
+  pub pays : choice.pays ≤ other.pays
+
+-- from the minute on one of these choices serves as well as the choice
+pub record IsServedLate (late : ℕ) (lates : List Choice) (choice : Choice) : Type 0 where
+  pub other : Choice
+  pub held : Contains lates other
+  pub serves : ServesLate late other choice
+
+-- from the minute on one of these choices serves as well as each of the others
+pub record AreLate (I : Instance) (c : ℕ) (cuts : List PlainCut) (k : ℕ) (prices : List ℕ) (line : List Group) (late : ℕ) (choices lates : List Choice) : Type 0 where
+  pub each : All (IsChoice I c cuts k prices line) lates
+  pub served : All (IsServedLate late lates) choices
+
+-- the choice was put to the others behind all, or one that serves as well from the minute on is among them
+pub record HasLate (late : ℕ) (choice : Choice) (old new : List Choice) : Type 0 where
+  pub served : IsServedLate late new choice
+  pub more : (new ≡ old) ⊎ (new ≡ old ++ choice ∷ [])
+
+-- the choices that are looked at in a state of this minute
+abbrev pub list_at : ℕ → List Choice → List Choice → ℕ → List Choice
+list_at late choices lates minute = cond (nat_lt minute late) choices lates
+
 -- what groups are grown from that join there: nothing, or the line's group of that place
 pub record IsBaseOf (I : Instance) (c k : ℕ) (line : List Group) (to : Option ℕ) (base : Group) : Type 0 where
   pub good : IsBase I c k base
@@ -97,6 +126,11 @@ pub record HaveSome (I : Instance) (c : ℕ) (cuts : List PlainCut) (k : ℕ) (p
 pub record AreChoices (I : Instance) (c : ℕ) (cuts : List PlainCut) (k : ℕ) (prices : List ℕ) (line : List Group) (choices : List Choice) : Type 0 where
   pub each : All (IsChoice I c cuts k prices line) choices
   pub whole : (to : Option ℕ) (g : Group) → IsUncut I c cuts g → Keeps I k line to g → IsServed I k prices choices to g
+
+-- choices that are enough for the line, and those that are from the minute on
+pub record AreListed (I : Instance) (c : ℕ) (cuts : List PlainCut) (k : ℕ) (prices : List ℕ) (line : List Group) (late : ℕ) (choices lates : List Choice) : Type 0 where
+  pub enough : AreChoices I c cuts k prices line choices
+  pub late_enough : AreLate I c cuts k prices line late choices lates
 
 -- the same for the groups that keep none, or the line's group of one of the first i places
 pub record AreSome (I : Instance) (c : ℕ) (cuts : List PlainCut) (k : ℕ) (prices : List ℕ) (line : List Group) (i : ℕ) (choices : List Choice) : Type 0 where

@@ -2,7 +2,9 @@ pub mod Cuts
 pub mod Worth
 pub mod Sparing
 pub mod Growing
+pub mod Masks
 pub mod Choosing
 pub mod Values
 pub mod Total
+pub mod Lines
 pub mod Claim

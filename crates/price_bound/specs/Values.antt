@@ -1,8 +1,6 @@
 -- Values that are remembered for states.
-use Rattle.std.specs.Prelude.{ℕ, ◌≡◌, ◌+◌, ◌-◌, ◌*◌, ◌≤◌, ◌<◌, nat_eq, ℤ, pos, ◌+ℤ◌, ◌≤ℤ◌, Some, List, length, drop, slice_index_or}
-use Rattle.std.specs.HashMap.{get, HashMap}
-use Rattle.std.specs.declared.hash.FoldHasher.{FoldHasher}
-use Rattle.std.specs.declared.hash.BuildHasherDefault.{BuildHasherDefault}
+use Rattle.std.specs.Prelude.{ℕ, ◌≡◌, ◌+◌, ◌-◌, ◌*◌, ◌≤◌, ◌<◌, nat_eq, ℤ, pos, ◌+ℤ◌, ◌≤ℤ◌, ◌⊎◌, Some, None, List, length, drop, slice_index_or}
+use Rattle.std.specs.HashMap.{get}
 use Rattle.lock_model.specs.declared.instance.Instance.{Instance}
 use Rattle.lock_model.specs.declared.group.Group.{Group}
 use Rattle.lock_model.specs.declared.way.Stand.{Stand}
@@ -10,8 +8,9 @@ use Rattle.lock_model.specs.declared.way.Stand.TheVariants.{Low, High}
 use Rattle.price_rules.specs.Prices.{PlainCut}
 use Rattle.price_bound.specs.declared.choice.Choice.{Choice}
 use Rattle.price_bound.specs.declared.frame.Frame.{Frame}
+use Rattle.price_bound.specs.declared.values.Values.{Values}
 use Rattle.price_bound.specs.Worth.{worth_from, IsWorth}
-use Rattle.price_bound.specs.Choosing.{IsCounted, IsValue}
+use Rattle.price_bound.specs.Choosing.{IsCounted, IsValue, list_at}
 
 abbrev pub side_of : Stand → ℕ
 side_of Low = 0
@@ -21,9 +20,21 @@ side_of High = 1
 abbrev pub key_of : ℕ → Stand → ℕ → ℕ
 key_of place stand minute = (minute * 25 + place) * 2 + side_of stand
 
+-- the value is remembered under the key, in the row or among the others
+abbrev pub Holds : Values → ℕ → ℤ → Type 0
+Holds values key v = ((place : ℕ) × (key ≡ values.start + place) × (place < length values.row.items) × (slice_index_or values.row.items place None ≡ Some v)) ⊎ (get nat_eq values.others key ≡ Some v)
+
+-- nothing is remembered
+pub record AreEmpty (values : Values) : Type 0 where
+  pub none : (key : ℕ) (v : ℤ) → ¬ Holds values key v
+
+-- what is remembered is the new value under its key, and what was remembered before
+pub record Remembers (old new : Values) (key : ℕ) (v : ℤ) : Type 0 where
+  pub told : (other : ℕ) (u : ℤ) → Holds new other u → ((key ≡ other) × (v ≡ u)) ⊎ Holds old other u
+
 -- what is remembered for a state is its value
-pub record AreValues (I : Instance) (c : ℕ) (cuts : List PlainCut) (k : ℕ) (prices : List ℕ) (line : List Group) (horizon : ℕ) (held : HashMap ℕ ℤ (BuildHasherDefault FoldHasher)) : Type 0 where
-  pub told : (p : ℕ) (stand : Stand) (minute : ℕ) (v : ℤ) → p ≤ 24 → get nat_eq held (key_of p stand minute) ≡ Some v → IsValue I c cuts k prices line horizon p stand minute v
+pub record AreValues (I : Instance) (c : ℕ) (cuts : List PlainCut) (k : ℕ) (prices : List ℕ) (line : List Group) (horizon : ℕ) (values : Values) : Type 0 where
+  pub told : (p : ℕ) (stand : Stand) (minute : ℕ) (v : ℤ) → p ≤ 24 → Holds values (key_of p stand minute) v → IsValue I c cuts k prices line horizon p stand minute v
 
 -- What a state is worth at most so far: some loose line is worth it, and the line's own groups alone are worth no less.
 pub record IsBest (I : Instance) (c : ℕ) (cuts : List PlainCut) (k : ℕ) (prices : List ℕ) (line : List Group) (horizon : ℕ) (p : ℕ) (stand : Stand) (minute : ℕ) (best : ℤ) : Type 0 where
@@ -32,9 +43,9 @@ pub record IsBest (I : Instance) (c : ℕ) (cuts : List PlainCut) (k : ℕ) (pri
   pub low : pos 0 ≤ℤ (best +ℤ pos (808000000 * (horizon - minute)))
   pub high : best ≤ℤ pos 6000000000000
 
--- a state before the horizon, of which the first choices are counted
-pub record IsFrame (I : Instance) (c : ℕ) (cuts : List PlainCut) (k : ℕ) (prices : List ℕ) (line : List Group) (horizon : ℕ) (choices : List Choice) (frame : Frame) : Type 0 where
+-- a state before the horizon, of which the first choices that are looked at are counted
+pub record IsFrame (I : Instance) (c : ℕ) (cuts : List PlainCut) (k : ℕ) (prices : List ℕ) (line : List Group) (horizon late : ℕ) (choices lates : List Choice) (frame : Frame) : Type 0 where
   pub place : frame.state.place ≤ length line
   pub early : frame.state.minute < horizon
   pub best : IsBest I c cuts k prices line horizon frame.state.place frame.state.stand frame.state.minute frame.best
-  pub counted : (j : ℕ) (d : Choice) → j < frame.next → j < length choices → IsCounted I c cuts k prices line frame.state.stand frame.state.minute frame.state.place frame.best (slice_index_or choices j d)
+  pub counted : (j : ℕ) (d : Choice) → j < frame.next → j < length (list_at late choices lates frame.state.minute) → IsCounted I c cuts k prices line frame.state.stand frame.state.minute frame.state.place frame.best (slice_index_or (list_at late choices lates frame.state.minute) j d)

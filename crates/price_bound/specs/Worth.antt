@@ -1,5 +1,5 @@
 -- What a loose line is worth to a chamber that stands so and is free at a minute, and the least of that.
-use Rattle.std.specs.Prelude.{ℕ, ◌≡◌, ◌+◌, ◌-◌, ◌*◌, ◌≤◌, ◌<◌, true, ℤ, pos, ◌-ℤ◌, ◌≤ℤ◌, Some, None, List, length, All, sum_by, filter, ⊤}
+use Rattle.std.specs.Prelude.{ℕ, ◌≡◌, ◌+◌, ◌-◌, ◌*◌, ◌≤◌, ◌<◌, max, true, ℤ, pos, ◌-ℤ◌, ◌≤ℤ◌, Some, None, List, length, All, sum_by, filter, ⊤}
 use Rattle.std.specs.declared.option.Option.{Option}
 use Rattle.std.specs.Option.{MatchOption}
 use Rattle.lock_model.specs.Fleet.{ship_at, chamber_at}
@@ -68,5 +68,12 @@ pub record ServeAsWell (I : Instance) (k : ℕ) (prices : List ℕ) (hs gs : Lis
   pub count : length hs ≤ length gs
   pub same : filter (has_number (first_ships I k)) hs ≡ filter (has_number (first_ships I k)) gs
   pub early : last_arrival I 0 hs ≤ last_arrival I 0 gs
+  pub quick : sum_by (λ s. (ship_at I s).handling) hs ≤ sum_by (λ s. (ship_at I s).handling) gs
+  pub pays : paid_on I k prices gs + 100 * arrivals_of I gs ≤ paid_on I k prices hs + 100 * arrivals_of I hs
+
+-- The same from a minute on, where arrivals until then make no difference, and whatever ships they keep.
+pub record ServeFrom (I : Instance) (k : ℕ) (prices : List ℕ) (from : ℕ) (hs gs : List ℕ) : Type 0 where
+  pub count : length hs ≤ length gs
+  pub early : last_arrival I 0 hs ≤ max from (last_arrival I 0 gs)
   pub quick : sum_by (λ s. (ship_at I s).handling) hs ≤ sum_by (λ s. (ship_at I s).handling) gs
   pub pays : paid_on I k prices gs + 100 * arrivals_of I gs ≤ paid_on I k prices hs + 100 * arrivals_of I hs

@@ -1,7 +1,7 @@
 //! The table of a chamber's line, one choice after another.
 ghost use Rattle.std.specs.Prelude.{◌≡◌, ◌+◌, ◌-◌, ◌*◌, ◌<◌, ◌≤◌, ◌≤ℤ◌, ◌+ℤ◌, pos, neg_ℤ, length, drop, All, IfSome, IfNone, ℕ, IsTrue, None, slice_index_or};
 ghost use Rattle.std.specs.Int.{int_min};
-ghost use Rattle.price_bound.specs.Choosing.{IsChoice, IsCounted, IsValue, Leads};
+ghost use Rattle.price_bound.specs.Choosing.{AreListed, IsChoice, IsCounted, IsValue, Leads, list_at};
 ghost use Rattle.price_bound.specs.Values.{AreValues, IsBest, IsFrame};
 ghost use Rattle.price_bound.specs.Cuts.{plain_cuts};
 
@@ -17,7 +17,7 @@ use chamber_times::stand_after;
 pub(crate) fn opened(table: &Table, state: State) -> Frame
     requires place { state.place ≤ length table.now.case.now.line.now }
     requires early { state.minute < table.now.horizon }
-    ensures { IsFrame table.now.case.now.instance.now table.now.case.now.chamber (plain_cuts table.now.case.now.instance.now table.now.case.now.cuts.now) table.now.case.now.depth table.now.case.now.prices.now table.now.case.now.line.now table.now.horizon table.now.choices.now result }
+    ensures { IsFrame table.now.case.now.instance.now table.now.case.now.chamber (plain_cuts table.now.case.now.instance.now table.now.case.now.cuts.now) table.now.case.now.depth table.now.case.now.prices.now table.now.case.now.line.now table.now.horizon table.now.last table.now.choices.now table.now.lates.now result }
 {
     Frame {
         state,
@@ -26,8 +26,8 @@ pub(crate) fn opened(table: &Table, state: State) -> Frame
     }
 }
 
-// The place that a choice leads to from a place, where it may come next there.
-fn led(choice: &Choice, place: u8) -> Option<u8>
+/// The place that a choice leads to from a place, where it may come next there.
+pub(crate) fn led(choice: &Choice, place: u8) -> Option<u8>
     requires { place ≤ 24 }
     ensures some { IfSome result (λ q. Leads choice.now.joins place q) }
     ensures none { IfNone result ((q : ℕ) → ¬ Leads choice.now.joins place q) }
@@ -38,9 +38,9 @@ fn led(choice: &Choice, place: u8) -> Option<u8>
     }
 }
 
-// The value of a state, where it is known.
-fn known(table: &Table, values: &Values, state: &State) -> Option<i64>
-    requires values { AreValues table.now.case.now.instance.now table.now.case.now.chamber (plain_cuts table.now.case.now.instance.now table.now.case.now.cuts.now) table.now.case.now.depth table.now.case.now.prices.now table.now.case.now.line.now table.now.horizon values.now.held }
+/// The value of a state, where it is known.
+pub(crate) fn known(table: &Table, values: &Values, state: &State) -> Option<i64>
+    requires values { AreValues table.now.case.now.instance.now table.now.case.now.chamber (plain_cuts table.now.case.now.instance.now table.now.case.now.cuts.now) table.now.case.now.depth table.now.case.now.prices.now table.now.case.now.line.now table.now.horizon values.now }
     requires place { state.now.place ≤ length table.now.case.now.line.now }
     requires minute { state.now.minute ≤ 14000000 }
     ensures some { IfSome result (IsValue table.now.case.now.instance.now table.now.case.now.chamber (plain_cuts table.now.case.now.instance.now table.now.case.now.cuts.now) table.now.case.now.depth table.now.case.now.prices.now table.now.case.now.line.now table.now.horizon state.now.place state.now.stand state.now.minute) }
@@ -53,8 +53,8 @@ fn known(table: &Table, values: &Values, state: &State) -> Option<i64>
     }
 }
 
-// Whether a choice may be left out: missing ships alone that gain nothing.
-fn is_idle(choice: &Choice, worth: i64) -> bool
+/// Whether a choice may be left out: missing ships alone that gain nothing.
+pub(crate) fn is_idle(choice: &Choice, worth: i64) -> bool
     ensures { IsTrue result → (choice.now.joins ≡ None) × (pos 0 ≤ℤ worth) }
 {
     choice.joins.is_none() && worth >= 0
@@ -80,7 +80,7 @@ fn count_to(
     choice: &Choice,
     place: u8,
 ) -> Option<State>
-    requires values { AreValues table.now.case.now.instance.now table.now.case.now.chamber (plain_cuts table.now.case.now.instance.now table.now.case.now.cuts.now) table.now.case.now.depth table.now.case.now.prices.now table.now.case.now.line.now table.now.horizon values.now.held }
+    requires values { AreValues table.now.case.now.instance.now table.now.case.now.chamber (plain_cuts table.now.case.now.instance.now table.now.case.now.cuts.now) table.now.case.now.depth table.now.case.now.prices.now table.now.case.now.line.now table.now.horizon values.now }
     requires early { state.now.minute < table.now.horizon }
     requires best { IsBest table.now.case.now.instance.now table.now.case.now.chamber (plain_cuts table.now.case.now.instance.now table.now.case.now.cuts.now) table.now.case.now.depth table.now.case.now.prices.now table.now.case.now.line.now table.now.horizon state.now.place state.now.stand state.now.minute best.old }
     requires is { IsChoice table.now.case.now.instance.now table.now.case.now.chamber (plain_cuts table.now.case.now.instance.now table.now.case.now.cuts.now) table.now.case.now.depth table.now.case.now.prices.now table.now.case.now.line.now choice.now }
@@ -117,7 +117,7 @@ fn count(
     best: &mut i64,
     choice: &Choice,
 ) -> Option<State>
-    requires values { AreValues table.now.case.now.instance.now table.now.case.now.chamber (plain_cuts table.now.case.now.instance.now table.now.case.now.cuts.now) table.now.case.now.depth table.now.case.now.prices.now table.now.case.now.line.now table.now.horizon values.now.held }
+    requires values { AreValues table.now.case.now.instance.now table.now.case.now.chamber (plain_cuts table.now.case.now.instance.now table.now.case.now.cuts.now) table.now.case.now.depth table.now.case.now.prices.now table.now.case.now.line.now table.now.horizon values.now }
     requires early { state.now.minute < table.now.horizon }
     requires place { state.now.place ≤ length table.now.case.now.line.now }
     requires best { IsBest table.now.case.now.instance.now table.now.case.now.chamber (plain_cuts table.now.case.now.instance.now table.now.case.now.cuts.now) table.now.case.now.depth table.now.case.now.prices.now table.now.case.now.line.now table.now.horizon state.now.place state.now.stand state.now.minute best.old }
@@ -136,20 +136,21 @@ fn count(
 /// Counts choices one after another, until all are counted or the value of a state behind one isn't
 /// known yet; that state.
 pub(crate) fn advance(table: &Table, values: &Values, frame: &mut Frame) -> Option<State>
-    requires values { AreValues table.now.case.now.instance.now table.now.case.now.chamber (plain_cuts table.now.case.now.instance.now table.now.case.now.cuts.now) table.now.case.now.depth table.now.case.now.prices.now table.now.case.now.line.now table.now.horizon values.now.held }
-    requires choices { All (IsChoice table.now.case.now.instance.now table.now.case.now.chamber (plain_cuts table.now.case.now.instance.now table.now.case.now.cuts.now) table.now.case.now.depth table.now.case.now.prices.now table.now.case.now.line.now) table.now.choices.now }
-    requires frame { IsFrame table.now.case.now.instance.now table.now.case.now.chamber (plain_cuts table.now.case.now.instance.now table.now.case.now.cuts.now) table.now.case.now.depth table.now.case.now.prices.now table.now.case.now.line.now table.now.horizon table.now.choices.now frame.old }
-    ensures frame { IsFrame table.now.case.now.instance.now table.now.case.now.chamber (plain_cuts table.now.case.now.instance.now table.now.case.now.cuts.now) table.now.case.now.depth table.now.case.now.prices.now table.now.case.now.line.now table.now.horizon table.now.choices.now frame.new }
-    ensures none { IfNone result (length table.now.choices.now ≤ frame.new.next) }
+    requires values { AreValues table.now.case.now.instance.now table.now.case.now.chamber (plain_cuts table.now.case.now.instance.now table.now.case.now.cuts.now) table.now.case.now.depth table.now.case.now.prices.now table.now.case.now.line.now table.now.horizon values.now }
+    requires choices { AreListed table.now.case.now.instance.now table.now.case.now.chamber (plain_cuts table.now.case.now.instance.now table.now.case.now.cuts.now) table.now.case.now.depth table.now.case.now.prices.now table.now.case.now.line.now table.now.last table.now.choices.now table.now.lates.now }
+    requires frame { IsFrame table.now.case.now.instance.now table.now.case.now.chamber (plain_cuts table.now.case.now.instance.now table.now.case.now.cuts.now) table.now.case.now.depth table.now.case.now.prices.now table.now.case.now.line.now table.now.horizon table.now.last table.now.choices.now table.now.lates.now frame.old }
+    ensures frame { IsFrame table.now.case.now.instance.now table.now.case.now.chamber (plain_cuts table.now.case.now.instance.now table.now.case.now.cuts.now) table.now.case.now.depth table.now.case.now.prices.now table.now.case.now.line.now table.now.horizon table.now.last table.now.choices.now table.now.lates.now frame.new }
+    ensures none { IfNone result (length (list_at table.now.last table.now.choices.now table.now.lates.now frame.new.state.minute) ≤ frame.new.next) }
     ensures some { IfSome result (λ s. (s.place ≤ length table.now.case.now.line.now) × (s.minute < table.now.horizon)) }
 {
-    for place in frame.next..table.choices.len() {
+    let choices = table.list(frame.state.minute);
+    for place in frame.next..choices.len() {
         match count(
             table,
             values,
             &frame.state,
             &mut frame.best,
-            &table.choices[place],
+            &choices[place],
         ) {
             Some(state) => return Some(state),
             None => frame.next = place + 1,

@@ -11,8 +11,8 @@ use crate::line_case::LineCase;
 use lock_model::{Chamber, Group, Instance, Ships};
 use std::alloc::Global;
 
-// Whether all these ships are the instance's.
-fn are_known(instance: &Instance, ships: &[u8]) -> bool
+/// Whether all these ships are the instance's.
+pub(crate) fn are_known(instance: &Instance, ships: &[u8]) -> bool
     ensures { IsTrue result ↔ All (λ s. s < length instance.now.ships) ships.now }
 {
     let count = instance.ships.as_slice().len();
@@ -76,8 +76,8 @@ pub(crate) fn forbidden(alloc: Global, case: &LineCase) -> Result<Vec<Ships>, Pr
     Ok(sets)
 }
 
-// Whether a ship is among these.
-fn is_in(ships: &[u8], ship: u8) -> bool
+/// Whether a ship is among these.
+pub(crate) fn is_in(ships: &[u8], ship: u8) -> bool
     ensures { IsTrue result ↔ Contains ships.now ship }
 {
     ships.contains(&ship)

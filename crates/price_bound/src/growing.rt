@@ -5,12 +5,14 @@ ghost use Rattle.lock_rules.specs.Plan.{times_in};
 ghost use Rattle.lock_rules.specs.Children.{with_ship};
 ghost use Rattle.price_rules.specs.Prices.{is_missing};
 ghost use Rattle.master_branch.specs.Steps.{group_at};
-ghost use Rattle.price_bound.specs.Sparing.{Misses};
+ghost use Rattle.price_bound.specs.Sparing.{IsSpared};
+ghost use Rattle.price_bound.specs.Masks.{AreNear};
 ghost use Rattle.price_bound.specs.Growing.{IsGrown, AreGrown, MayJoin, IsJoined, IsNew, IsBase};
 
 use crate::error::{PriceError, append};
 use crate::forbidden::misses_all;
 use crate::line_case::LineCase;
+use crate::masks::{mask_of, misses_all_of, near};
 use lock_model::{Group, Ships};
 use master_branch::with_ship;
 use std::alloc::Global;
@@ -34,7 +36,11 @@ fn may_grow(case: &LineCase, base: &Group, ship: u8) -> bool
 
 // The group with a ship more, where the chamber may serve them together and no forbidden set is
 // among them.
-fn joined(growth: &Growth, group: &Group, ship: u8) -> Option<Group>
+fn joined(growth: &Growth, near: &[u32], group: &Group, ship: u8) -> Option<Group>
+    requires near { AreNear growth.now.case.now.instance.now growth.now.sets.now (length growth.now.sets.now) ship near.now }
+    requires known { ship < length growth.now.case.now.instance.now.ships }
+    requires ships_in { All (λ s. s < length growth.now.case.now.instance.now.ships) group.now.ships }
+    requires spared { IsSpared growth.now.sets.now group.now }
     requires absent { times_in group.now.ships ship ≡ 0 }
     requires few { length group.now.ships ≤ 8 }
     ensures some { IfSome result (λ g. MayJoin growth.now.case.now.instance.now growth.now.case.now.chamber growth.now.sets.now ship group.now × (g ≡ with_ship ship group.now)) }
@@ -44,7 +50,7 @@ fn joined(growth: &Growth, group: &Group, ship: u8) -> Option<Group>
         return None;
     }
     let joined = with_ship(group, ship);
-    if misses_all(growth.sets, joined.ships.as_slice()) {
+    if misses_all_of(near, mask_of(joined.ships.as_slice())) {
         Some(joined)
     } else {
         None
@@ -52,13 +58,23 @@ fn joined(growth: &Growth, group: &Group, ship: u8) -> Option<Group>
 }
 
 // Joins a ship to the group at a place, where that may be.
-fn join(growth: &Growth, groups: &mut Vec<Group>, place: usize, ship: u8) -> Result<(), PriceError>
+fn join(
+    growth: &Growth,
+    near: &[u32],
+    groups: &mut Vec<Group>,
+    place: usize,
+    ship: u8,
+) -> Result<(), PriceError>
+    requires near { AreNear growth.now.case.now.instance.now growth.now.sets.now (length growth.now.sets.now) ship near.now }
+    requires known { ship < length growth.now.case.now.instance.now.ships }
+    requires ships_in { All (λ s. s < length growth.now.case.now.instance.now.ships) (group_at groups.old.items place).ships }
+    requires spared { IsSpared growth.now.sets.now (group_at groups.old.items place) }
     requires place { place < length groups.old.items }
     requires absent { times_in (group_at groups.old.items place).ships ship ≡ 0 }
     requires few { length (group_at groups.old.items place).ships ≤ 8 }
     ensures { OnOk result (IsJoined growth.now.case.now.instance.now growth.now.case.now.chamber growth.now.sets.now ship (group_at groups.old.items place) groups.old.items groups.new.items) }
 {
-    match joined(growth, &groups[place], ship) {
+    match joined(growth, near, &groups[place], ship) {
         None => Ok(()),
         Some(group) => {
             if groups.len() >= growth.most {
@@ -72,23 +88,31 @@ fn join(growth: &Growth, groups: &mut Vec<Group>, place: usize, ship: u8) -> Res
 // Joins a ship to each of the groups that have not met it.
 fn join_each(
     growth: &Growth,
+    near: &[u32],
     base: &Group,
     groups: &mut Vec<Group>,
     ship: u8,
 ) -> Result<(), PriceError>
+    requires near { AreNear growth.now.case.now.instance.now growth.now.sets.now (length growth.now.sets.now) ship near.now }
     requires known { ship < length growth.now.case.now.instance.now.ships }
     requires new { IsNew growth.now.case.now.instance.now growth.now.case.now.depth base.now ship }
     requires grown { AreGrown growth.now.case.now.instance.now growth.now.case.now.chamber growth.now.case.now.depth growth.now.sets.now base.now ship groups.old.items }
     ensures { OnOk result (AreGrown growth.now.case.now.instance.now growth.now.case.now.chamber growth.now.case.now.depth growth.now.sets.now base.now (ship + 1) groups.new.items) }
 {
     for place in 0..groups.len() {
-        join(growth, groups, place, ship)?;
+        join(growth, near, groups, place, ship)?;
     }
     Ok(())
 }
 
 // Joins a ship to each of the groups, where the node lacks it and it has their way.
-fn grow(growth: &Growth, base: &Group, groups: &mut Vec<Group>, ship: u8) -> Result<(), PriceError>
+fn grow(
+    alloc: Global,
+    growth: &Growth,
+    base: &Group,
+    groups: &mut Vec<Group>,
+    ship: u8,
+) -> Result<(), PriceError>
     requires known { ship < length growth.now.case.now.instance.now.ships }
     requires grown { AreGrown growth.now.case.now.instance.now growth.now.case.now.chamber growth.now.case.now.depth growth.now.sets.now base.now ship groups.old.items }
     ensures { OnOk result (AreGrown growth.now.case.now.instance.now growth.now.case.now.chamber growth.now.case.now.depth growth.now.sets.now base.now (ship + 1) groups.new.items) }
@@ -96,7 +120,8 @@ fn grow(growth: &Growth, base: &Group, groups: &mut Vec<Group>, ship: u8) -> Res
     if !may_grow(growth.case, base, ship) {
         return Ok(());
     }
-    join_each(growth, base, groups, ship)
+    let near = near(alloc, growth.case.instance, growth.sets, ship)?;
+    join_each(growth, &near, base, groups, ship)
 }
 
 // The base alone, where no forbidden set is in it.
@@ -121,7 +146,7 @@ pub(crate) fn grown(alloc: Global, growth: &Growth, base: &Group) -> Result<Vec<
     let count = growth.case.instance.ships.as_slice().len() as u8;
     let mut groups = ungrown(alloc, growth, base)?;
     for ship in 0..count {
-        grow(growth, base, &mut groups, ship)?;
+        grow(alloc, growth, base, &mut groups, ship)?;
     }
     Ok(groups)
 }

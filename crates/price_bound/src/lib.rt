@@ -25,8 +25,13 @@ mod forbidden;
 mod frame;
 mod growing;
 mod horizon;
+mod lateness;
 mod least;
 mod line_case;
+mod line_least;
+mod loose_line;
+mod masks;
+mod next_group;
 mod prices;
 mod pruning;
 mod reaching;
@@ -37,10 +42,12 @@ mod table;
 #[cfg(test)]
 mod tests;
 mod values;
+mod walking;
 mod weighing;
 
 pub use cut::ChamberCut;
 pub use error::{Limits, PriceError};
+pub use loose_line::{LooseLine, LooseLines};
 pub use prices::Prices;
-pub use reaching::{PricedNode, price_sum, reaches};
+pub use reaching::{PricedNode, least_lines, price_sum, reaches};
 pub use shown::{Shown, show};

@@ -63,6 +63,18 @@ impl Prices {
         }
     }
 
+    /// These prices, but 1,000,000 in the place of all that are above it.
+    pub fn capped(prices: &[u32]) -> Prices
+        requires { length prices.now ≤ 24 }
+        ensures { length result ≡ length prices.now }
+    {
+        let mut items = ArrayVec::new();
+        for &price in prices {
+            items.push(price.min(1_000_000));
+        }
+        Prices { items }
+    }
+
     /// The prices in the order of the ships.
     pub fn as_slice(&self) -> &[u32]
         ensures value { result.now ≡ self.now }

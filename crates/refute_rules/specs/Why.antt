@@ -12,3 +12,4 @@ why_of (refutation.Quick (Column S)) = 2 ∷ S
 why_of (refutation.Cases marks) = 3 ∷ marks
 why_of (refutation.Spots marks) = 4 ∷ marks
 why_of (refutation.Clash i j) = 5 ∷ i ∷ j ∷ []
+why_of (refutation.Berths marks) = 6 ∷ marks

@@ -66,24 +66,24 @@ module _ (I : Instance) (C : OpenCertificate) where
   -- ---- one first failure
 
   pub open_fails-same : (p q : FailurePlace) (r s : Reason) → OpenFails I C p r → OpenFails I C q s → AreSameFailure p q r s
-  open_fails-same p q r s a b = failing-same I (Closed mark.Split) (ClosesOrOpen I C.cost C.cuts) open_reason_of (λ k lines h. h) C.cost C.cuts C.plan C.tree p q r s a b
+  open_fails-same p q r s a b = failing-same I (Closed mark.Split) (ClosesOrOpen I C.cost C.cuts C.prices) open_reason_of (λ k lines h. h) C.cost C.cuts C.prices C.plan C.tree p q r s a b
 
   pub open_fails-somewhere : (Stands I C → ⊥) → ((p : FailurePlace) (r : Reason) → OpenFails I C p r → ⊥) → ⊥
   open_fails-somewhere other never =
-      fails-first I (Closed mark.Split) (ClosesOrOpen I C.cost C.cuts) open_reason_of C.cost C.cuts C.plan C.tree
-      (λ h. other (record { legal = h.0; cost = h.1; cuts = h.2; tree = h.3 })) never
+      fails-first I (Closed mark.Split) (ClosesOrOpen I C.cost C.cuts C.prices) open_reason_of C.cost C.cuts C.prices C.plan C.tree
+      (λ h. other (record { legal = h.0; cost = h.1; cuts = h.2; prices = h.3; tree = h.4 })) never
 
   -- ---- parts of the check
 
-  pub before-open_fails : (p : FailurePlace) (r : Reason) → FailBeforeMarks I C.cost C.cuts C.plan p r → OpenFails I C p r
-  before-open_fails p r f = before-fails I C.cost C.cuts C.plan C.tree (MarksFail I (Closed mark.Split) (ClosesOrOpen I C.cost C.cuts) open_reason_of C.tree) p r f
+  pub before-open_fails : (p : FailurePlace) (r : Reason) → FailBeforeMarks I C.cost C.cuts C.prices C.plan p r → OpenFails I C p r
+  before-open_fails p r f = before-fails I C.cost C.cuts C.prices C.plan C.tree (MarksFail I (Closed mark.Split) (ClosesOrOpen I C.cost C.cuts C.prices) open_reason_of C.tree) p r f
 
-  pub marks-open_fail : (n : ℕ) (r : Reason) → HoldBeforeMarks I C.cost C.cuts C.plan → FailAtOpenMark I C.cost C.cuts C.tree n r → OpenFails I C (place.Tree n) r
-  marks-open_fail n r h f = (h.legal, h.costs, h.proved, f.stuck, f.place, f.fails)
+  pub marks-open_fail : (n : ℕ) (r : Reason) → HoldBeforeMarks I C.cost C.cuts C.prices C.plan → FailAtOpenMark I C.cost C.cuts C.prices C.tree n r → OpenFails I C (place.Tree n) r
+  marks-open_fail n r h f = (h.legal, h.costs, h.proved, h.shaped, f.stuck, f.place, f.fails)
 
-  pub all-stands : (low : ℕ) → HoldBeforeMarks I C.cost C.cuts C.plan → IsLowOfMarks I C.cost C.cuts C.tree low → Stands I C × IsLow I C low
+  pub all-stands : (low : ℕ) → HoldBeforeMarks I C.cost C.cuts C.prices C.plan → IsLowOfMarks I C.cost C.cuts C.prices C.tree low → Stands I C × IsLow I C low
   all-stands low h f = (
-    record { legal = h.legal; cost = h.costs; cuts = h.proved; tree = f.tree },
+    record { legal = h.legal; cost = h.costs; cuts = h.proved; prices = h.shaped; tree = f.tree },
     record { bounds = f.bounds; leaves = f.leaves; least = f.least },
   )
 

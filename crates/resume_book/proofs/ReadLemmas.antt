@@ -37,7 +37,7 @@ module _ (claim : Claim) where
   I = claim.instance.now
 
   abbrev Closing : ℕ → List (List Group) → OpenMark → Type 0
-  Closing = ClosesOrOpen I claim.cost claim.cuts.now
+  Closing = ClosesOrOpen I claim.cost claim.cuts.now claim.prices.now
 
   abbrev split : OpenMark
   split = Closed mark.Split

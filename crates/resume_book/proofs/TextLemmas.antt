@@ -1,12 +1,15 @@
 -- The canonical open dossier is read back, and a text is read part by part.
-use Rattle.std.proofs.Common.{◌≡◌, ◌∙◌, ◌++◌, ◌≤◌, ℕ, false, List, [], ◌∷◌, codes, Some, Result, Ok, IfOk, IfErr, refl, sym, ap, ap₂, subst, append_assoc, arith}
+use Rattle.std.proofs.Common.{◌≡◌, ◌∙◌, ◌++◌, ◌≤◌, ℕ, Bool, true, false, cond, List, [], ◌∷◌, codes, Some, Result, Ok, IfOk, IfErr, refl, sym, ap, ap₂, subst, append_assoc, All, inl, inr}
 use Rattle.std.specs.Str.{IsUtf8}
 use Rattle.json.specs.Lex.{tokens}
 use Rattle.json.specs.Print.{print}
 use Rattle.lock_model.specs.declared.instance.Instance.{Instance}
+use Rattle.std.specs.List.{flat_map}
 use Rattle.lock_model.specs.declared.plan.Plan.{Plan}
-use Rattle.certificate_rules.specs.declared.certificate.OpenMark.{OpenMark}
 use Rattle.closing_rules.specs.ProvedCuts.{CertCut}
+use Rattle.certificate_rules.specs.declared.certificate.OpenMark.{OpenMark}
+use Rattle.certificate_rules.specs.declared.certificate.OpenMark.TheVariants.{Closed, Open}
+use Rattle.certificate_rules.specs.WellFormed.{IsFormedOpenMark, IsWellFormedOpen}
 use Rattle.certificate_rules.specs.OpenCertificates.{OpenCertificate}
 use Rattle.instance_text.specs.declared.bad.Bad.{Bad}
 use Rattle.instance_text.specs.Lines.{lines, words, content}
@@ -24,37 +27,74 @@ use Rattle.cert_text.specs.declared.bad.BadDossier.TheVariants as fault
 use Rattle.cert_text.specs.declared.bad.DossierError.{DossierError}
 use Rattle.cert_text.specs.declared.bad.DossierError.TheVariants.{Fault, NoMemory}
 use Rattle.cert_text.specs.declared.heading.Heading.TheVariants as heading
-use Rattle.cert_text.specs.Cuts.{cut_data, cuts_data, cuts_in}
-use Rattle.cert_text.specs.Plans.{lockage_data, plan_data, plan_in}
+use Rattle.cert_text.specs.declared.heading.Version.{Version}
+use Rattle.cert_text.specs.declared.heading.Version.TheVariants.{First, Second, Third}
+use Rattle.cert_text.specs.Versions.{is_third, needs_third}
+use Rattle.cert_text.specs.Cuts.{cuts_data, cuts_in, cuts_under}
+use Rattle.cert_text.specs.Plans.{plan_data, plan_in}
+use Rattle.cert_text.specs.Prices.{price_lists_data, price_lists_in}
+use Rattle.cert_text.specs.Certificates.{parts_data}
 use Rattle.cert_text.specs.Heading.{heading_of, headed}
 use Rattle.cert_text.specs.Dossier.{json_of}
-use Rattle.cert_text.proofs.ShapeLemmas.{list_no_float, list_depth, cut_no_float, cut_depth, lockage_no_float, lockage_depth}
+use Rattle.cert_text.proofs.ShapeLemmas.{numbers_no_float, numbers_depth, parts_no_float, parts_shallow}
+use Rattle.cert_text.proofs.MarkLemmas.{ReadsFirst, numbers_back, one_number, two_numbers, Numbers, mark_told, none_passes}
+use Rattle.cert_text.proofs.PriceLemmas.{lists_back}
+use Rattle.cert_text.proofs.VersionLemmas.{Suits, suits_third, suits_second}
+use Rattle.cert_text.proofs.CertificateLemmas.{cuts_suit}
 use Rattle.cert_text.proofs.WrittenLemmas.{data_back}
 use Rattle.cert_text.proofs.HeadingLemmas.{begins}
 use Rattle.cert_text.proofs.PairLemmas.{made, each_answer, each_fault_answer}
-use Rattle.resume_book.specs.OpenMarks.{open_mark_data, open_tree_data, open_tree_in}
-use Rattle.resume_book.specs.OpenDossier.{open_data, open_text, open_certificate_in, open_dossier, open_rest_in, open_dossier_in, ReadsOpen, OpenDossierFault, IsFirstOpenFault}
+use Rattle.resume_book.specs.OpenMarks.{open_numbers, open_mark_in, open_tree_data, open_tree_in, is_open_price_mark, has_open_price_mark}
+use Rattle.resume_book.specs.OpenDossier.{open_version, open_line, open_data, open_text, open_certificate_in, open_dossier, open_rest_in, open_dossier_in, ReadsOpen, OpenDossierFault, IsFirstOpenFault}
 
 -- ---- the value of an open certificate
 
-record_back : (C : OpenCertificate) → cuts_in (cuts_data C.cuts) ≡ Some C.cuts → plan_in (plan_data C.plan) ≡ Some C.plan → open_tree_in (open_tree_data C.tree) ≡ Some C.tree → open_certificate_in (open_data C) ≡ Ok C
-unfolding open_certificate_in serde_json_on_literals
-record_back C cuts plan tree = rw (cuts, plan, tree) refl
+open_mark_back : (third : Bool) (m : OpenMark) → IsFormedOpenMark m → (third ≡ false → is_open_price_mark m ≡ false) → ReadsFirst (open_mark_in third) open_numbers m
+open_mark_back third Open formed plain = one_number (open_mark_in third) open_numbers Open 3 refl refl
+open_mark_back third (Closed m) formed plain = go (mark_told third m formed plain)
+  where
+    go : Numbers third m → ReadsFirst (open_mark_in third) open_numbers (Closed m)
+    go (inl one) = one_number (open_mark_in third) open_numbers (Closed m) one.0 one.1 (rw (one.2, one.3) refl)
+    go (inr two) = two_numbers (open_mark_in third) open_numbers (Closed m) 4 two.0 two.1 (rw two.2 refl) (rw two.3 refl)
 
-pub open_back : (C : OpenCertificate) (cost : ℕ) (cuts : List CertCut) (plan : Plan) (tree : List OpenMark) → (let made : OpenCertificate = record { cost = cost; cuts = cuts; plan = plan; tree = tree } in made ≡ C) → cuts_in (cuts_data cuts) ≡ Some cuts → plan_in (plan_data plan) ≡ Some plan → open_tree_in (open_tree_data tree) ≡ Some tree → open_certificate_in (open_data C) ≡ Ok C
-open_back C cost cuts plan tree is cuts_back plan_back tree_back =
-    subst (λ k. open_certificate_in (open_data k) ≡ Ok k) is (record_back (record { cost = cost; cuts = cuts; plan = plan; tree = tree }) cuts_back plan_back tree_back)
+open_tree_back : (third : Bool) (ms : List OpenMark) → All IsFormedOpenMark ms → (third ≡ false → has_open_price_mark ms ≡ false) → open_tree_in third (open_tree_data ms) ≡ Some ms
+open_tree_back third ms formed plain =
+    numbers_back (open_mark_in third) open_numbers ms (λ k d low. open_mark_back third _ (formed k d low) (λ e. none_passes is_open_price_mark ms (plain e) k d low))
+
+suited : (C : OpenCertificate) → Suits (open_version C) C.cuts C.prices (has_open_price_mark C.tree)
+unfolding open_version
+suited C = go (needs_third C.cuts C.prices (has_open_price_mark C.tree)) refl
+  where
+    go : (third : Bool) → needs_third C.cuts C.prices (has_open_price_mark C.tree) ≡ third → Suits (cond third Third Second) C.cuts C.prices (has_open_price_mark C.tree)
+    go true is = suits_third C.cuts C.prices (has_open_price_mark C.tree)
+    go false is = suits_second C.cuts C.prices (has_open_price_mark C.tree) is
+
+parts_back : (version : Version) (C : OpenCertificate) → Suits version C.cuts C.prices (has_open_price_mark C.tree) → cuts_under version (cuts_data C.cuts) ≡ Some C.cuts → plan_in (plan_data C.plan) ≡ Some C.plan
+    → open_tree_in (is_third version) (open_tree_data C.tree) ≡ Some C.tree → price_lists_in (price_lists_data C.prices) ≡ Some C.prices
+    → open_certificate_in version (parts_data version C.cost C.cuts C.plan C.prices (open_tree_data C.tree)) ≡ Ok C
+unfolding open_certificate_in serde_json_on_literals
+parts_back First C suits cuts plan tree prices =
+    rw (cuts, plan, tree) (ap (λ (ps : List (List ℕ)). let made : OpenCertificate = record { cost = C.cost; cuts = C.cuts; plan = C.plan; prices = ps; tree = C.tree } in Ok made) (sym (suits.unpriced refl)))
+parts_back Second C suits cuts plan tree prices =
+    rw (cuts, plan, tree) (ap (λ (ps : List (List ℕ)). let made : OpenCertificate = record { cost = C.cost; cuts = C.cuts; plan = C.plan; prices = ps; tree = C.tree } in Ok made) (sym (suits.unpriced refl)))
+parts_back Third C suits cuts plan tree prices = rw (cuts, plan, tree, prices) refl
+
+pub open_back : (C : OpenCertificate) (version : Version) (cost : ℕ) (cuts : List CertCut) (plan : Plan) (prices : List (List ℕ)) (tree : List OpenMark)
+    → (let made : OpenCertificate = record { cost = cost; cuts = cuts; plan = plan; prices = prices; tree = tree } in made ≡ C) → version ≡ open_version C → IsWellFormedOpen C
+    → cuts_in (cuts_data cuts) ≡ Some cuts → plan_in (plan_data plan) ≡ Some plan → open_certificate_in version (open_data C) ≡ Ok C
+open_back C version cost cuts plan prices tree made is formed cuts_back plan_back =
+    let suits = suited C in
+    let own_cuts : cuts_in (cuts_data C.cuts) ≡ Some C.cuts = subst (λ (k : OpenCertificate). cuts_in (cuts_data k.cuts) ≡ Some k.cuts) made cuts_back in
+    let own_plan : plan_in (plan_data C.plan) ≡ Some C.plan = subst (λ (k : OpenCertificate). plan_in (plan_data k.plan) ≡ Some k.plan) made plan_back in
+    ap (λ v. open_certificate_in v (open_data C)) is
+    ∙ parts_back (open_version C) C suits (cuts_suit (open_version C) C.cuts own_cuts suits.inside) own_plan (open_tree_back (is_third (open_version C)) C.tree formed.marks suits.unmarked) (lists_back C.prices formed.prices)
 
 -- it has no floats and is shallow
 pub no_float : (C : OpenCertificate) → has_float (open_data C) ≡ false
-no_float C = rw (list_no_float cut_data cut_no_float C.cuts, list_no_float lockage_data lockage_no_float C.plan.lockages, list_no_float open_mark_data (λ m. refl) C.tree) refl
+no_float C = parts_no_float (open_version C) C.cost C.cuts C.plan C.prices (open_tree_data C.tree) (numbers_no_float (flat_map open_numbers C.tree))
 
 pub shallow : (C : OpenCertificate) → depth (open_data C) ≤ max_depth
-shallow C =
-    let cuts = list_depth cut_data 2 cut_depth C.cuts in
-    let plan = list_depth lockage_data 3 lockage_depth C.plan.lockages in
-    let tree = list_depth open_mark_data 0 (λ m. omega arith) C.tree in
-    omega arith
+shallow C = parts_shallow (open_version C) C.cost C.cuts C.plan C.prices (open_tree_data C.tree) (numbers_depth (flat_map open_numbers C.tree))
 
 pub written : (C : OpenCertificate) (d : Data) (text : List ℕ) → d ≡ open_data C → (has_float d ≡ false → text ≡ compact_text d) → text ≡ open_text C
 unfolding open_text
@@ -68,36 +108,60 @@ json_back C d text is compact utf8 order reads =
 -- ---- the text
 
 -- what is printed step by step
-pub printed : (I : Instance) (C : OpenCertificate) (a b c d json : List ℕ) → a ≡ canonical I → b ≡ a ++ codes "certificate open\n" → json ≡ open_text C → c ≡ b ++ json → d ≡ c ++ 10 ∷ [] → d ≡ open_dossier I C
+pub printed : (I : Instance) (C : OpenCertificate) (version : Version) (a b c d json : List ℕ) → a ≡ canonical I → version ≡ open_version C → b ≡ a ++ open_line version → json ≡ open_text C → c ≡ b ++ json → d ≡ c ++ 10 ∷ [] → d ≡ open_dossier I C
 unfolding open_dossier
-printed I C a b c d json first second text third last =
-    last ∙ ap (λ l. l ++ 10 ∷ []) (third ∙ ap (λ l. l ++ json) (second ∙ ap (λ l. l ++ codes "certificate open\n") first) ∙ ap (λ l. (canonical I ++ codes "certificate open\n") ++ l) text)
-    ∙ append_assoc (canonical I ++ codes "certificate open\n") (open_text C) (10 ∷ []) ∙ append_assoc (canonical I) (codes "certificate open\n") (open_text C ++ 10 ∷ [])
+printed I C version a b c d json first is second text third last =
+    last ∙ ap (λ l. l ++ 10 ∷ []) (third ∙ ap (λ l. l ++ json) (second ∙ ap (λ l. l ++ open_line version) first) ∙ ap (λ l. (canonical I ++ open_line version) ++ l) text)
+    ∙ append_assoc (canonical I ++ open_line version) (open_text C) (10 ∷ []) ∙ append_assoc (canonical I) (open_line version) (open_text C ++ 10 ∷ [])
+    ∙ ap (λ v. canonical I ++ (open_line v ++ (open_text C ++ 10 ∷ []))) is
 
 open_words : words (codes "certificate open") ≡ codes "certificate" ∷ codes "open" ∷ []
 unfolding words content
 open_words = refl
 
-open_is : heading_of (codes "certificate" ∷ codes "open" ∷ []) ≡ Some heading.Open
+third_words : words (codes "certificate open 3") ≡ codes "certificate" ∷ codes "open" ∷ codes "3" ∷ []
+unfolding words content
+third_words = refl
+
+open_is : heading_of (codes "certificate" ∷ codes "open" ∷ []) ≡ Some (heading.Open Second)
 unfolding heading_of
 open_is = refl
+
+third_is : heading_of (codes "certificate" ∷ codes "open" ∷ codes "3" ∷ []) ≡ Some (heading.Open Third)
+unfolding heading_of
+third_is = refl
 
 lines_of_open : lines (codes "certificate open") ≡ codes "certificate open" ∷ []
 unfolding lines
 lines_of_open = refl
 
-heading_back : (rest : List ℕ) → headed (codes "certificate open\n" ++ rest) ≡ Some (heading.Open, rest)
-heading_back rest = begins (codes "certificate open\n" ++ rest) (codes "certificate open") rest (codes "certificate" ∷ codes "open" ∷ []) heading.Open lines_of_open open_words refl open_is refl
+lines_of_third : lines (codes "certificate open 3") ≡ codes "certificate open 3" ∷ []
+unfolding lines
+lines_of_third = refl
 
-rest_back : (C : OpenCertificate) (json : List ℕ) → json_of json ≡ Some (open_data C) → open_certificate_in (open_data C) ≡ Ok C → open_rest_in (codes "certificate open\n" ++ json) ≡ Ok C
+-- the heading that is printed is found
+heading_back : (version : Version) (rest : List ℕ) → (version ≡ First → ⊥) → headed (open_line version ++ rest) ≡ Some (heading.Open version, rest)
+heading_back First rest other = absurd (other refl)
+heading_back Second rest other = begins (open_line Second ++ rest) (codes "certificate open") rest (codes "certificate" ∷ codes "open" ∷ []) (heading.Open Second) lines_of_open open_words refl open_is refl
+heading_back Third rest other = begins (open_line Third ++ rest) (codes "certificate open 3") rest (codes "certificate" ∷ codes "open" ∷ codes "3" ∷ []) (heading.Open Third) lines_of_third third_words refl third_is refl
+
+not_first : (C : OpenCertificate) → open_version C ≡ First → ⊥
+unfolding open_version
+not_first C = go (needs_third C.cuts C.prices (has_open_price_mark C.tree))
+  where
+    go : (third : Bool) → cond third Third Second ≡ First → ⊥
+    go true is = cc
+    go false is = cc
+
+rest_back : (C : OpenCertificate) (json : List ℕ) → json_of json ≡ Some (open_data C) → open_certificate_in (open_version C) (open_data C) ≡ Ok C → open_rest_in (open_line (open_version C) ++ json) ≡ Ok C
 unfolding open_rest_in
-rest_back C json value certificate = rw (heading_back json, value, certificate) refl
+rest_back C json value certificate = rw (heading_back (open_version C) json (not_first C), value, certificate) refl
 
 -- the canonical open dossier is read as the pair
-pub dossier_back : (I : Instance) (C : OpenCertificate) → json_of (open_text C ++ 10 ∷ []) ≡ Some (open_data C) → open_certificate_in (open_data C) ≡ Ok C → ReadsOpen (open_dossier I C) I C
+pub dossier_back : (I : Instance) (C : OpenCertificate) → json_of (open_text C ++ 10 ∷ []) ≡ Some (open_data C) → open_certificate_in (open_version C) (open_data C) ≡ Ok C → ReadsOpen (open_dossier I C) I C
 unfolding ReadsOpen open_dossier_in open_dossier Means
 dossier_back I C value certificate =
-    let more = codes "certificate open\n" ++ (open_text C ++ 10 ∷ []) in
+    let more = open_line (open_version C) ++ (open_text C ++ 10 ∷ []) in
     ap₂ made (ap reading (canonical_part I more) ∙ canonical_means I) (ap open_rest_in (canonical_rest I more) ∙ rest_back C (open_text C ++ 10 ∷ []) value certificate)
 
 -- ---- reading part by part

@@ -99,7 +99,7 @@ module _ (b : Book) (keeps : KeepsBook b) (family : KeepsFamily b) (states : Kee
   split = Closed mark.Split
 
   abbrev pub Closing : ℕ → List (List Group) → OpenMark → Type 0
-  Closing = ClosesOrOpen I (best_cost b) (map cert_cut b.cuts)
+  Closing = ClosesOrOpen I (best_cost b) (map cert_cut b.cuts) b.prices
 
   -- the mark of a slot that isn't split ends its node
   slot-ends : (id : ℕ) → id < length b.slots → (mark_at b id ≡ split → ⊥) → Closing (slot_at b id).node.depth (slot_at b id).node.lines (mark_at b id)

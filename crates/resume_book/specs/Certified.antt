@@ -8,11 +8,12 @@ use Rattle.certificate_rules.specs.OpenCertificates.{OpenCertificate}
 use Rattle.book_certificate.specs.Certified.{cert_cut}
 use Rattle.resume_book.specs.Preorder.{mark_at, slots_in_order}
 
--- The certificate has the best plan with its cost, all cuts in order, and the marks of all slots in preorder.
+-- The certificate has the best plan with its cost, all cuts and prices in order, and the marks of all slots in preorder.
 pub record IsOpenCertificateOf (b : Book) (C : OpenCertificate) : Type 0 where
   pub cost : C.cost ≡ best_cost b
   pub cuts : C.cuts ≡ map cert_cut b.cuts
   pub plan : C.plan ≡ b.best
+  pub prices : C.prices ≡ b.prices
   pub marks : C.tree ≡ map (mark_at b) (slots_in_order b)
 
 -- the best cost, or a low of the verdict that is less

@@ -22,14 +22,14 @@ pub record HaveOneOpenFailure : Type 0 where
   pub some : (I : Instance) (C : OpenCertificate) → (Stands I C → ⊥) → ((p : FailurePlace) (r : Reason) → OpenFails I C p r → ⊥) → ⊥
 
 -- the marks are one open tree of the root, and `low` is the least of the cost and the bounds of its open leaves
-pub record IsLowOfMarks (I : Instance) (cost : ℕ) (cuts : List CertCut) (marks : List OpenMark) (low : ℕ) : Type 0 where
-  pub tree : IsMarkTree I (Closed mark.Split) (ClosesOrOpen I cost cuts) (length I.ships) 0 root_lines marks []
+pub record IsLowOfMarks (I : Instance) (cost : ℕ) (cuts : List CertCut) (prices : List (List ℕ)) (marks : List OpenMark) (low : ℕ) : Type 0 where
+  pub tree : IsMarkTree I (Closed mark.Split) (ClosesOrOpen I cost cuts prices) (length I.ships) 0 root_lines marks []
   pub bounds : List ℕ
   pub leaves : HasOpen I (length I.ships) 0 root_lines marks [] bounds
   pub least : low ≡ least_number (cost ∷ bounds)
 
 -- the marks fail first at mark p
-pub record FailAtOpenMark (I : Instance) (cost : ℕ) (cuts : List CertCut) (marks : List OpenMark) (p : ℕ) (r : Reason) : Type 0 where
+pub record FailAtOpenMark (I : Instance) (cost : ℕ) (cuts : List CertCut) (prices : List (List ℕ)) (marks : List OpenMark) (p : ℕ) (r : Reason) : Type 0 where
   pub stuck : List OpenMark
   pub place : p ≡ length marks - length stuck
-  pub fails : MarksFail I (Closed mark.Split) (ClosesOrOpen I cost cuts) open_reason_of marks stuck r
+  pub fails : MarksFail I (Closed mark.Split) (ClosesOrOpen I cost cuts prices) open_reason_of marks stuck r

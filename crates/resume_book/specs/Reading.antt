@@ -17,7 +17,7 @@ use Rattle.cert_check.specs.declared.closing.Claim.{Claim}
 module _ (claim : Claim) where
   -- the marks begin with an open tree of a node of this depth, and the rest follows
   abbrev pub IsTreeOf : ℕ → List (List Group) → List OpenMark → List OpenMark → Type 0
-  IsTreeOf k lines = IsMarkTree claim.instance.now (Closed mark.Split) (ClosesOrOpen claim.instance.now claim.cost claim.cuts.now) (length claim.instance.now.ships - k) k lines
+  IsTreeOf k lines = IsMarkTree claim.instance.now (Closed mark.Split) (ClosesOrOpen claim.instance.now claim.cost claim.cuts.now claim.prices.now) (length claim.instance.now.ships - k) k lines
 
   -- these are the bounds of its open leaves
   abbrev pub LeavesOf : ℕ → List (List Group) → List OpenMark → List OpenMark → List ℕ → Type 0
@@ -25,7 +25,7 @@ module _ (claim : Claim) where
 
   -- reading an open tree of a node of this depth ends at `stuck`
   abbrev pub TreeSticks : ℕ → List (List Group) → List OpenMark → List OpenMark → Reason → Type 0
-  TreeSticks k lines = TreeFails claim.instance.now (Closed mark.Split) (ClosesOrOpen claim.instance.now claim.cost claim.cuts.now) open_reason_of (length claim.instance.now.ships - k) k lines
+  TreeSticks k lines = TreeFails claim.instance.now (Closed mark.Split) (ClosesOrOpen claim.instance.now claim.cost claim.cuts.now claim.prices.now) open_reason_of (length claim.instance.now.ships - k) k lines
 
   -- The marks begin with an open tree of the node, and the rest follows; of `low` and the bounds of the open leaves the least is `least`.
   pub record IsRead (node : Node) (low : ℕ) (marks rest : List OpenMark) (least : ℕ) : Type 0 where

@@ -9,13 +9,13 @@ ghost use Rattle.resume_book.specs.Certified.{IsOpenCertificateOf, certified_low
 
 use crate::certificate::OpenCertificate;
 use crate::marks::marks_of;
-use book_certificate::cuts_of;
+use book_certificate::{cuts_of, prices_of};
 use book_core::Book;
 use plain_text::NoMemory;
 use std::alloc::Global;
 
-/// The open certificate of a book: its best plan, the plan's cost in minutes, its cuts in order, and
-/// the marks of its slots in preorder of their tree, where slots that are open, held or parked become
+/// The open certificate of a book: its best plan, the plan's cost in minutes, its cuts and its prices
+/// in order, and the marks of its slots in preorder of their tree, where slots that are open, held or parked become
 /// open leaves. It is well formed, and it stands for the instance of the book, so the checker never
 /// rejects it.
 ///
@@ -35,6 +35,7 @@ pub fn open_certificate_of(alloc: Global, book: &Book) -> Result<OpenCertificate
         cost: book.best_cost(),
         cuts: cuts_of(alloc, book)?,
         plan: book.best().copy(),
+        prices: prices_of(alloc, book)?,
         tree: marks_of(alloc, book)?,
     })
 }

@@ -1,7 +1,7 @@
 //! Open certificates, and what the checker answers to one.
 ghost use Rattle.std.specs.Prelude.{◌≡◌, [], ◌∷◌, ◌++◌, OnOk, OnErr, IfOk};
 
-use cert_check::CertCuts;
+use cert_check::{CertCuts, PriceLists};
 use certificate_rules::{FailurePlace, OpenMark, Reason};
 use lock_model::Plan;
 use std::alloc::{AllocError, Global};
@@ -60,12 +60,13 @@ impl OpenMarks {
 }
 
 /// A certificate that may leave nodes open: a plan and its cost in minutes, cuts with their
-/// refutations, and the marks of a search tree.
+/// refutations, prices, numbered from 0, and the marks of a search tree.
 #[derive(Debug, Drop)]
 pub struct OpenCertificate {
     pub cost: u64,
     pub cuts: CertCuts,
     pub plan: Plan,
+    pub prices: PriceLists,
     pub tree: OpenMarks,
 }
 
@@ -74,7 +75,7 @@ impl Model for OpenCertificate {
 
     ghost Value = { Held };
 
-    ghost view = { λ a. record { cost = a.cost; cuts = a.cuts; plan = a.plan; tree = a.tree } };
+    ghost view = { λ a. record { cost = a.cost; cuts = a.cuts; plan = a.plan; prices = a.prices; tree = a.tree } };
 }
 
 /// What the checker says of an open certificate.

@@ -13,7 +13,7 @@ ghost use Rattle.resume_book.specs.OneFailure.{IsLowOfMarks, FailAtOpenMark};
 
 use crate::certificate::{OpenAnswer, OpenCertificate};
 use crate::reading::read_tree;
-use cert_check::{Claim, first_failure_before_marks};
+use cert_check::{Claim, chamber_cuts, first_failure_before_marks};
 use certificate_rules::{FailurePlace, OpenMark, Reason};
 use deck_laws::{heredity, normal_form};
 use flow_bounds::{Roster, throughput};
@@ -22,36 +22,48 @@ use master_branch::root;
 use plain_text::NoMemory;
 use std::alloc::Global;
 
+// The low of marks, or the number of the mark where they fail first, and why.
+type LowOrFailure = Result<u64, (u64, Reason)>;
+
 // The low of marks that are one open tree of the root, or their first failure, by the number of the
 // mark where it comes.
-fn low_of_marks(claim: &Claim, marks: &[OpenMark]) -> Result<u64, (u64, Reason)>
-    ensures ok { IfOk result (IsLowOfMarks claim.now.instance.now claim.now.cost claim.now.cuts.now marks.now) }
-    ensures err { IfErr result (λ f. FailAtOpenMark claim.now.instance.now claim.now.cost claim.now.cuts.now marks.now f.0 f.1) }
+fn low_of_marks(claim: &Claim, marks: &[OpenMark]) -> Result<LowOrFailure, NoMemory>
+    ensures low { IfOk result (λ told. IfOk told (IsLowOfMarks claim.now.instance.now claim.now.cost claim.now.cuts.now claim.now.prices.now marks.now)) }
+    ensures failure { IfOk result (λ told. IfErr told (λ f. FailAtOpenMark claim.now.instance.now claim.now.cost claim.now.cuts.now claim.now.prices.now marks.now f.0 f.1)) }
 {
-    let read = match read_tree(claim, &root(claim.instance), claim.cost, marks) {
+    let read = match read_tree(claim, &root(claim.instance), claim.cost, marks)? {
         Ok(read) => read,
-        Err(stuck) => return Err(((marks.len() - stuck.marks.len()) as u64, stuck.reason)),
+        Err(stuck) => return Ok(Err(((marks.len() - stuck.marks.len()) as u64, stuck.reason))),
     };
     if read.marks.is_empty() {
-        Ok(read.low)
+        Ok(Ok(read.low))
     } else {
-        Err(((marks.len() - read.marks.len()) as u64, Reason::TreeLong))
+        Ok(Err(((marks.len() - read.marks.len()) as u64, Reason::TreeLong)))
     }
 }
 
 // The same of the marks of an open certificate whose cuts are proved.
-fn low_of(instance: &Instance, certificate: &OpenCertificate) -> Result<u64, (u64, Reason)>
+fn low_of(
+    alloc: Global,
+    instance: &Instance,
+    certificate: &OpenCertificate,
+) -> Result<LowOrFailure, NoMemory>
     requires { All (IsProved instance.now) certificate.now.cuts }
-    ensures ok { IfOk result (IsLowOfMarks instance.now certificate.now.cost certificate.now.cuts certificate.now.tree) }
-    ensures err { IfErr result (λ f. FailAtOpenMark instance.now certificate.now.cost certificate.now.cuts certificate.now.tree f.0 f.1) }
+    ensures low { IfOk result (λ told. IfOk told (IsLowOfMarks instance.now certificate.now.cost certificate.now.cuts certificate.now.prices certificate.now.tree)) }
+    ensures failure { IfOk result (λ told. IfErr told (λ f. FailAtOpenMark instance.now certificate.now.cost certificate.now.cuts certificate.now.prices certificate.now.tree f.0 f.1)) }
 {
     let roster = Roster::of(instance);
+    let cuts = certificate.cuts.as_slice();
+    let chamber_cuts = chamber_cuts(alloc, instance, cuts)?;
     let claim = Claim {
+        alloc,
         instance,
         roster: &roster,
         throughput: throughput(instance),
         cost: certificate.cost,
-        cuts: certificate.cuts.as_slice(),
+        cuts,
+        prices: certificate.prices.as_slice(),
+        chamber_cuts: chamber_cuts.as_slice(),
     };
     low_of_marks(&claim, certificate.tree.as_slice())
 }
@@ -69,19 +81,21 @@ fn low_or_failure(
         cost,
         cuts,
         plan,
+        prices,
         ..
     } = certificate;
-    if let Some(first) = first_failure_before_marks(alloc, instance, *cost, cuts, plan)? {
+    let prices = prices.as_slice();
+    if let Some(first) = first_failure_before_marks(alloc, instance, *cost, cuts, prices, plan)? {
         return Ok(Err(first));
     }
-    match low_of(instance, certificate) {
+    match low_of(alloc, instance, certificate)? {
         Ok(low) => Ok(Ok(low)),
         Err((number, reason)) => Ok(Err((FailurePlace::Tree(number), reason))),
     }
 }
 
 /// Checks an open certificate of an instance without any search: its plan, then its cost, then its
-/// cuts in order, then its marks in order, each mark once. An open leaf ends its node.
+/// cuts in order, then its prices in order, then its marks in order, each mark once. An open leaf ends its node.
 ///
 /// `Stands` exactly where the open certificate stands, with its low and its cost in minutes; then its
 /// plan is legal and costs as much, and every legal plan costs at least the low. `Rejected` exactly

@@ -4,22 +4,22 @@ ghost use Rattle.lock_model.specs.declared.instance.Instance.{Instance as AnyIns
 ghost use Rattle.certificate_rules.specs.OpenCertificates.{OpenCertificate as AnyOpen};
 ghost use Rattle.cert_text.specs.Answers.{IsFault, IsAnswer, IsFaultAnswer};
 ghost use Rattle.cert_text.specs.declared.bad.BadDossier.{BadDossier as AnyFault};
-ghost use Rattle.resume_book.specs.OpenDossier.{is_open_heading, open_rest_in, ReadsOpen, OpenDossierFault, IsFirstOpenFault};
+ghost use Rattle.resume_book.specs.OpenDossier.{version_in, open_rest_in, ReadsOpen, OpenDossierFault, IsFirstOpenFault};
 
 use crate::certificate::OpenCertificate;
 use crate::value::open_certificate_in;
-use cert_text::{BadDossier, DossierError, Heading, headed, json_of};
+use cert_text::{BadDossier, DossierError, Heading, Version, headed, json_of};
 use instance_text::split_instance;
 use lock_model::Instance;
 use std::alloc::Global;
 
-// Whether an open certificate follows.
-fn is_open_heading(heading: Heading) -> bool
-    ensures { result ≡ is_open_heading heading }
+// The version of an open dossier of this heading. None where a whole certificate follows.
+fn version_in(heading: Heading) -> Option<Version>
+    ensures { result ≡ version_in heading }
 {
     match heading {
-        Heading::First | Heading::Second => false,
-        Heading::Open => true,
+        Heading::Whole(_) => None,
+        Heading::Open(version) => Some(version),
     }
 }
 
@@ -32,11 +32,11 @@ fn rest_in(alloc: Global, bytes: &[u8]) -> Result<OpenCertificate, DossierError>
     let Some((heading, rest)) = headed(bytes) else {
         return Err(DossierError::Fault(BadDossier::NoMark));
     };
-    if !is_open_heading(heading) {
+    let Some(version) = version_in(heading) else {
         return Err(DossierError::Fault(BadDossier::NoMark));
-    }
+    };
     let value = json_of(alloc, rest)?;
-    open_certificate_in(alloc, &value)
+    open_certificate_in(alloc, version, &value)
 }
 
 // The instance and the open certificate of a text.
@@ -54,7 +54,7 @@ fn read_text(alloc: Global, bytes: &[u8]) -> Result<(Instance, OpenCertificate),
 }
 
 /// The instance and the open certificate of an open dossier. Its faults are those of a dossier, with
-/// the line `certificate open`: `NoMark` comes for the lines `certificate` and `certificate 2` too.
+/// the line `certificate open` or `certificate open 3`: `NoMark` comes for the lines of a dossier too.
 /// Answers the first fault exactly where the bytes are no open dossier, or else want of memory. JSON
 /// may nest 127 deep, so no input needs a deeper stack.
 pub fn read_open(alloc: Global, bytes: &[u8]) -> Result<(Instance, OpenCertificate), DossierError>

@@ -14,6 +14,7 @@ use certificate_rules::{OpenMark, Reason};
 use flow_bounds::{Reached, bound};
 use lock_model::Instance;
 use master_branch::{Node, child_count};
+use plain_text::NoMemory;
 
 // What was read: the marks behind it, and the least of the bounds of the open leaves so far and of
 // the number that reading began with.
@@ -29,6 +30,9 @@ pub(crate) struct Stuck<'m> {
     pub(crate) marks: &'m [OpenMark],
     pub(crate) reason: Reason,
 }
+
+// What was read, or where reading ended before its time.
+pub(crate) type Reading<'m> = Result<Read<'m>, Stuck<'m>>;
 
 // The first mark and those behind it.
 fn first_mark(marks: &[OpenMark]) -> Option<(OpenMark, &[OpenMark])>
@@ -60,13 +64,13 @@ fn splits(instance: &Instance, node: &Node, mark: OpenMark) -> bool
 }
 
 // Whether a mark closes the node or leaves it open.
-fn ends(claim: &Claim, node: &Node, mark: OpenMark) -> bool
+fn ends(claim: &Claim, node: &Node, mark: OpenMark) -> Result<bool, NoMemory>
     requires { IsNodeOf claim.now.instance.now node.now }
-    ensures { IsTrue result ↔ ClosesOrOpen claim.now.instance.now claim.now.cost claim.now.cuts.now node.now.depth node.now.lines mark }
+    ensures { IfOk result (λ ended. IsTrue ended ↔ ClosesOrOpen claim.now.instance.now claim.now.cost claim.now.cuts.now claim.now.prices.now node.now.depth node.now.lines mark) }
 {
     match mark {
         OpenMark::Closed(mark) => closes(claim, node, mark),
-        OpenMark::Open => true,
+        OpenMark::Open => Ok(true),
     }
 }
 
@@ -99,12 +103,12 @@ fn read_made_child<'m>(
     i: u32,
     low: u64,
     marks: &'m [OpenMark],
-) -> Result<Read<'m>, Stuck<'m>>
+) -> Result<Reading<'m>, NoMemory>
     requires node { IsNodeOf claim.now.instance.now node.now }
     requires lacks { node.now.depth < length claim.now.instance.now.ships }
     requires within { i < length (children claim.now.instance.now node.now) }
-    ensures ok { IfOk result (λ read. IsChildRead claim.now node.now i low marks.now read.marks.now read.low) }
-    ensures err { IfErr result (λ stuck. IsChildStuck claim.now node.now i marks.now stuck.marks.now stuck.reason) }
+    ensures read { IfOk result (λ reading. IfOk reading (λ read. IsChildRead claim.now node.now i low marks.now read.marks.now read.low)) }
+    ensures stuck { IfOk result (λ reading. IfErr reading (λ stuck. IsChildStuck claim.now node.now i marks.now stuck.marks.now stuck.reason)) }
 {
     read_tree(claim, &child_of(claim, node, i), low, marks)
 }
@@ -119,23 +123,23 @@ fn read_child<'m>(
     i: u32,
     low: u64,
     marks: &'m [OpenMark],
-) -> Result<Read<'m>, Stuck<'m>>
+) -> Result<Reading<'m>, NoMemory>
     requires node { IsNodeOf claim.now.instance.now node.now }
     requires lacks { node.now.depth < length claim.now.instance.now.ships }
     requires within { i < length (children claim.now.instance.now node.now) }
     requires told { AreTold claim.now node.now told.old }
-    ensures ok { IfOk result (λ read. IsChildRead claim.now node.now i low marks.now read.marks.now read.low) }
-    ensures err { IfErr result (λ stuck. IsChildStuck claim.now node.now i marks.now stuck.marks.now stuck.reason) }
+    ensures read { IfOk result (λ reading. IfOk reading (λ read. IsChildRead claim.now node.now i low marks.now read.marks.now read.low)) }
+    ensures stuck { IfOk result (λ reading. IfErr reading (λ stuck. IsChildStuck claim.now node.now i marks.now stuck.marks.now stuck.reason)) }
     ensures told { AreTold claim.now node.now told.new }
 {
     if let Some(rest) = behind_bound(marks) {
         if child_reaches(claim, node, told, i) {
-            return Ok(Read { marks: rest, low });
+            return Ok(Ok(Read { marks: rest, low }));
         }
-        return Err(Stuck {
+        return Ok(Err(Stuck {
             marks,
             reason: Reason::BoundLow,
-        });
+        }));
     }
     read_made_child(claim, node, i, low, marks)
 }
@@ -147,24 +151,28 @@ fn read_children<'m>(
     node: &Node,
     low: u64,
     marks: &'m [OpenMark],
-) -> Result<Read<'m>, Stuck<'m>>
+) -> Result<Reading<'m>, NoMemory>
     requires node { IsNodeOf claim.now.instance.now node.now }
     requires lacks { node.now.depth < length claim.now.instance.now.ships }
-    ensures ok { IfOk result (λ read. AreRead claim.now node.now (length (children claim.now.instance.now node.now)) low marks.now read.marks.now read.low) }
-    ensures err { IfErr result (λ stuck. AreStuck claim.now node.now marks.now stuck.marks.now stuck.reason) }
+    ensures read { IfOk result (λ reading. IfOk reading (λ read. AreRead claim.now node.now (length (children claim.now.instance.now node.now)) low marks.now read.marks.now read.low)) }
+    ensures stuck { IfOk result (λ reading. IfErr reading (λ stuck. AreStuck claim.now node.now marks.now stuck.marks.now stuck.reason)) }
 {
     let mut told = None;
     let mut rest = marks;
     let mut least = low;
     for i in 0..child_count(claim.instance, node) {
-        let read = read_child(claim, node, &mut told, i, least, rest)?;
-        rest = read.marks;
-        least = read.low;
+        match read_child(claim, node, &mut told, i, least, rest)? {
+            Ok(read) => {
+                rest = read.marks;
+                least = read.low;
+            }
+            Err(stuck) => return Ok(Err(stuck)),
+        }
     }
-    Ok(Read {
+    Ok(Ok(Read {
         marks: rest,
         low: least,
-    })
+    }))
 }
 
 // Reads an open tree of a node. It calls itself no deeper than the instance has ships.
@@ -174,28 +182,28 @@ pub(crate) fn read_tree<'m>(
     node: &Node,
     low: u64,
     marks: &'m [OpenMark],
-) -> Result<Read<'m>, Stuck<'m>>
+) -> Result<Reading<'m>, NoMemory>
     requires { IsNodeOf claim.now.instance.now node.now }
-    ensures ok { IfOk result (λ read. IsRead claim.now node.now low marks.now read.marks.now read.low) }
-    ensures err { IfErr result (λ stuck. IsStuck claim.now node.now marks.now stuck.marks.now stuck.reason) }
+    ensures read { IfOk result (λ reading. IfOk reading (λ read. IsRead claim.now node.now low marks.now read.marks.now read.low)) }
+    ensures stuck { IfOk result (λ reading. IfErr reading (λ stuck. IsStuck claim.now node.now marks.now stuck.marks.now stuck.reason)) }
 {
     let Some((mark, rest)) = first_mark(marks) else {
-        return Err(Stuck {
+        return Ok(Err(Stuck {
             marks,
             reason: Reason::TreeShort,
-        });
+        }));
     };
     if splits(claim.instance, node, mark) {
         return read_children(claim, node, low, rest);
     }
-    if ends(claim, node, mark) {
-        return Ok(Read {
+    if ends(claim, node, mark)? {
+        return Ok(Ok(Read {
             marks: rest,
             low: lowered(claim.instance, node, mark, low),
-        });
+        }));
     }
-    Err(Stuck {
+    Ok(Err(Stuck {
         marks,
         reason: reason_of(mark),
-    })
+    }))
 }

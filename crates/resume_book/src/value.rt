@@ -7,43 +7,65 @@ ghost use Rattle.cert_text.specs.Steps.{fault_under};
 ghost use Rattle.cert_text.specs.Fields.{value_at};
 ghost use Rattle.cert_text.specs.declared.bad.BadDossier.TheVariants.{Shape};
 ghost use Rattle.resume_book.specs.OpenMarks.{open_tree_in};
-ghost use Rattle.resume_book.specs.OpenDossier.{open_data, open_certificate_in};
+ghost use Rattle.resume_book.specs.OpenDossier.{open_version, open_data, open_certificate_in};
 
 use crate::certificate::{OpenCertificate, OpenMarks};
-use crate::tree::{put_tree, tree_of};
+use crate::tree::{has_open_price_mark, put_tree, tree_of};
 use cert_text::{
-    BadDossier, DossierError, cost_at, cuts_at, is_frame, plan_at, put_cost, put_cuts, put_plan,
+    BadDossier, DossierError, Parts, Version, cost_at, cuts_at, is_frame, is_third, needs_third,
+    plan_at, prices_at, put_parts,
 };
 use plain_text::NoMemory;
-use serde_json::{Map, Value};
+use serde_json::Value;
 use std::alloc::Global;
 
-// An open certificate as a value.
-#[tactic(auto, unfolding(serde_json::proofs::OnLiterals::serde_json_on_literals))]
-pub(crate) fn put_open(alloc: Global, certificate: &OpenCertificate) -> Result<Value, NoMemory>
-    requires { IsWellFormedOpen certificate.now }
-    ensures value { IfOk result (λ v. view v ≡ open_data certificate.now) }
-    ensures reads_back { IfOk result (λ _. open_certificate_in (open_data certificate.now) ≡ Ok certificate.now) }
+// The version of an open certificate, which is the second or the third.
+#[tactic(auto, unfolding(crate::specs::OpenDossier::open_version))]
+pub(crate) fn open_version(certificate: &OpenCertificate) -> Version
+    ensures { result ≡ open_version certificate.now }
 {
-    let cost = put_cost(certificate.cost)?;
-    let cuts = put_cuts(alloc, &certificate.cuts)?;
-    let plan = put_plan(alloc, &certificate.plan)?;
+    let OpenCertificate {
+        cuts,
+        prices,
+        tree,
+        ..
+    } = certificate;
+    if needs_third(cuts, prices.as_slice(), has_open_price_mark(tree)) {
+        Version::Third
+    } else {
+        Version::Second
+    }
+}
+
+// An open certificate as a value, in its version.
+pub(crate) fn put_open(
+    alloc: Global,
+    version: Version,
+    certificate: &OpenCertificate,
+) -> Result<Value, NoMemory>
+    requires formed { IsWellFormedOpen certificate.now }
+    requires version { version ≡ open_version certificate.now }
+    ensures value { IfOk result (λ v. view v ≡ open_data certificate.now) }
+    ensures reads_back { IfOk result (λ _. open_certificate_in version (open_data certificate.now) ≡ Ok certificate.now) }
+{
     let tree = put_tree(alloc, &certificate.tree)?;
-    let mut map = Map::new(alloc);
-    serde_json::put(&mut map, alloc, "cost", cost)?;
-    serde_json::put(&mut map, alloc, "cuts", cuts)?;
-    serde_json::put(&mut map, alloc, "plan", plan)?;
-    serde_json::put(&mut map, alloc, "tree", tree)?;
-    Ok(Value::Object(map))
+    let parts = Parts {
+        cost: certificate.cost,
+        cuts: &certificate.cuts,
+        plan: &certificate.plan,
+        prices: certificate.prices.as_slice(),
+    };
+    let value = put_parts(alloc, version, &parts, tree)?;
+    Ok(value)
 }
 
 // The marks at the key `tree`.
-fn tree_at(alloc: Global, value: &Value) -> Result<OpenMarks, DossierError>
-    ensures read { IfOk result (λ tree. value_at (codes "tree") open_tree_in (view value.now) ≡ Some tree) }
-    ensures shape { IfErr result (IsCausedFault (Shape 5) (value_at (codes "tree") open_tree_in (view value.now) ≡ None)) }
+fn tree_at(alloc: Global, third: bool, value: &Value) -> Result<OpenMarks, DossierError>
+    ensures read { IfOk result (λ tree. value_at (codes "tree") (open_tree_in third) (view value.now) ≡ Some tree) }
+    ensures shape { IfErr result (IsCausedFault (Shape 5) (value_at (codes "tree") (open_tree_in third) (view value.now) ≡ None)) }
 {
     match value.get("tree") {
-        Some(tree) => tree_of(alloc, tree),
+        Some(tree) => tree_of(alloc, third, tree),
         None => Err(DossierError::Fault(BadDossier::Shape(5))),
     }
 }
@@ -52,22 +74,25 @@ fn tree_at(alloc: Global, value: &Value) -> Result<OpenMarks, DossierError>
 #[tactic(auto, unfolding(crate::specs::OpenDossier::open_certificate_in))]
 pub(crate) fn open_certificate_in(
     alloc: Global,
+    version: Version,
     value: &Value,
 ) -> Result<OpenCertificate, DossierError>
-    ensures read { IfOk result (λ c. open_certificate_in (view value.now) ≡ Ok c) }
-    ensures shape { IfErr result (IsFault (fault_under Shape (open_certificate_in (view value.now)))) }
+    ensures read { IfOk result (λ c. open_certificate_in version (view value.now) ≡ Ok c) }
+    ensures shape { IfErr result (IsFault (fault_under Shape (open_certificate_in version (view value.now)))) }
 {
-    if !is_frame(value) {
+    if !is_frame(version, value) {
         return Err(DossierError::Fault(BadDossier::Shape(1)));
     }
     let cost = cost_at(value)?;
-    let cuts = cuts_at(alloc, true, value)?;
+    let cuts = cuts_at(alloc, version, value)?;
     let plan = plan_at(value)?;
-    let tree = tree_at(alloc, value)?;
+    let tree = tree_at(alloc, is_third(version), value)?;
+    let prices = prices_at(alloc, version, value)?;
     Ok(OpenCertificate {
         cost,
         cuts,
         plan,
+        prices,
         tree,
     })
 }

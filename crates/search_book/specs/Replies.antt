@@ -8,6 +8,7 @@ is_accepted (reply.Node id node) = true
 is_accepted (reply.Made count) = true
 is_accepted reply.Closed = true
 is_accepted (reply.Posted number) = true
+is_accepted (reply.Priced number) = true
 is_accepted reply.Parked = true
 is_accepted (reply.Replaced cost) = true
 is_accepted (reply.Released count) = true

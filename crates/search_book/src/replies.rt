@@ -14,6 +14,7 @@ pub(crate) fn is_accepted(reply: &Reply) -> bool
         | Reply::Made(_)
         | Reply::Closed
         | Reply::Posted(_)
+        | Reply::Priced(_)
         | Reply::Parked
         | Reply::Replaced(_)
         | Reply::Released(_) => true,

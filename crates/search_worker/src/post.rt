@@ -13,7 +13,8 @@ use std::sync::Wait;
 use std::sync::ledger::Ledger;
 
 /// What workers share: the handles that they were lent, what is the same for all nodes, with the
-/// ships by arrival, the book under its lock, and the cuts and the best cost beside it.
+/// ships by arrival, after how many nodes each ends, the book under its lock, and the cuts and the
+/// best cost beside it.
 #[derive(Drop)]
 pub struct Post<'s, L: Ledger, W: Wait, G: Gate> {
     pub rt: &'s W,
@@ -21,6 +22,7 @@ pub struct Post<'s, L: Ledger, W: Wait, G: Gate> {
     pub gate: &'s G,
     pub search: Search<'s>,
     pub order: ShipOrder,
+    pub quota: u32,
     pub book: &'s SharedBook<L>,
     pub pool: &'s Pool,
     pub word: &'s BoundTable,

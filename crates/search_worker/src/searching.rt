@@ -14,8 +14,8 @@ use search_book::{Event, Stretch};
 use std::sync::Wait;
 use std::sync::ledger::Ledger;
 
-// Takes slots and works on them, until nothing is open or held or the nodes are spent. After a
-// refusal a slot may be held still.
+// Takes slots and works on them, until nothing is open or held, the nodes are spent, or the worker has
+// worked on as many nodes as it is to. After a refusal a slot may be held still.
 fn search_slots<'s, L: Ledger, W: Wait, G: Gate>(
     post: &Post<'s, L, W, G>,
     worker: &mut Worker<L>,
@@ -31,6 +31,9 @@ fn search_slots<'s, L: Ledger, W: Wait, G: Gate>(
             Some(held) => {
                 work(post, worker, stretch, held)?;
                 post.gate.at(worker.number, Point::Closed);
+                if worker.worked >= post.quota {
+                    return Err(Stop);
+                }
             }
             None => return Ok(()),
         }
@@ -38,11 +41,13 @@ fn search_slots<'s, L: Ledger, W: Wait, G: Gate>(
     unreachable!()
 }
 
-/// Searches as worker `number`, 0 to 7, until nothing is open or held or the nodes are spent. It has
-/// no refusal: where memory is refused, or the book answers what it answers no worker of these rules,
-/// the worker releases and ends, so that no other waits for a node in its hand. That is done here
-/// alone, whatever stopped the search. The hands come back, and their seat is of the same table. It
-/// waits for the lock, and for other workers while no slot is open and one is held.
+/// Searches as worker `number`, 0 to 7, until nothing is open or held, the nodes are spent, or it has
+/// worked on the post's quota of nodes. It has no refusal: where the quota is reached or memory is
+/// refused, or the book answers what it answers no worker of these rules, the worker releases and
+/// ends, so that no other waits for a node in its hand. That is done here alone, whatever stopped the
+/// search. The quota is looked at once a stretch of nodes is handed over, so it may be passed by a
+/// stretch. The hands come back, and their seat is of the same table. It waits for the lock, and for
+/// other workers while no slot is open and one is held.
 pub fn search<L: Ledger, W: Wait, G: Gate>(
     post: &Post<'_, L, W, G>,
     number: u8,

@@ -3,8 +3,8 @@
 use plain_text::NoMemory;
 use std::alloc::AllocFailed;
 
-/// The worker is to release and to end: memory was refused, or the book answered what it doesn't
-/// answer a worker that keeps the rules.
+/// The worker is to release and to end: it has worked on its quota of nodes, memory was refused, or
+/// the book answered what it doesn't answer a worker that keeps the rules.
 #[derive(Debug, Drop)]
 pub(crate) struct Stop;
 

@@ -73,6 +73,7 @@ pub(crate) fn append<'s, L: Ledger, W: Wait, G: Gate>(
     ensures some { IfOk result (λ _. 0 < length stretch.new.nodes.items) }
 {
     let _ = post;
+    worker.worked = worker.worked.saturating_add(1);
     if let Ending::Split = ending {
         worker.trail.enter(stretch.nodes.len())?;
     }

@@ -22,7 +22,7 @@ pub(crate) const SHORT: u32 = 16;
 
 /// What one worker has as it searches: its number, what it owns, the tokens of the cuts that it
 /// posted, what the placers told it, what the book answered when it took a slot last, where it is on
-/// its way ahead of the book, and how many nodes it goes ahead at the most.
+/// its way ahead of the book, how many nodes it goes ahead at the most, and on how many it worked.
 #[derive(Drop)]
 pub(crate) struct Worker<L: Ledger> {
     pub(crate) number: u8,
@@ -32,6 +32,7 @@ pub(crate) struct Worker<L: Ledger> {
     pub(crate) taken: Reply,
     pub(crate) trail: Trail,
     pub(crate) reach: u32,
+    pub(crate) worked: u32,
     pub(crate) ghost numbered: { number < 8 },
     pub(crate) ghost within: { reach ≤ 256 },
 }
@@ -51,6 +52,7 @@ impl<L: Ledger> Worker<L> {
             taken: Reply::Idle,
             trail: Trail::new(alloc),
             reach: SHORT,
+            worked: 0,
         }
     }
 }

@@ -34,6 +34,7 @@ fn work_whole<L: Ledger, W: Wait, G: Gate>(
     requires whole { held.now.node.depth ≡ length post.now.search.instance.now.ships }
     ensures serves { Serves post.now worker.new }
 {
+    worker.worked = worker.worked.saturating_add(1);
     let known = posted_cuts(post.pool, &worker.tokens);
     let memory = &mut worker.memory;
     let fate = whole_fate(post.alloc, &post.search, &held.node, &known, memory)?;

@@ -14,6 +14,7 @@ use Rattle.book_rules.specs.Events.{close}
 use Rattle.book_rules.specs.Step
 use Rattle.book_rules.specs.States.{IsHitBy}
 use Rattle.closing_rules.specs.Grounds.{IsClosedBy}
+use Rattle.node_work.specs.Fates.{IsNeverPriced}
 use Rattle.book_rules.proofs.TestLemmas.{has_number-decides, is_node_hit-decides}
 use Rattle.book_rules.proofs.ClosingLemmas.{MayRefuse, may-refuse}
 use Rattle.book_core.specs.declared.reply.Reply.{Reply}
@@ -38,7 +39,7 @@ module _ (b : Book) (id : ℕ) (why : Ground) where
   refusing machine.Closed e = absurd (clash e)
   refusing _ e = refl
 
-  unless-out : (o : Option Answer) → MayRefuse o → CloseOut b id (Step.close_unless b id why o)
+  pub unless-out : (o : Option Answer) → MayRefuse o → CloseOut b id (Step.close_unless b id why o)
   unless-out (Some r) refuses = Kept (refusing r refuses) refl
   unless-out None refuses = Shut why refl
 
@@ -50,9 +51,9 @@ module _ (b : Book) (id : ℕ) (why : Ground) where
       by_test false = Kept refl refl
 
 -- what such an answer leaves
-record Leaves (b new : Book) (t : Bool) : Type 0 where
-  shut : t ≡ true → HoldsNothing new
-  kept : t ≡ false → new ≡ b
+pub record Leaves (b new : Book) (t : Bool) : Type 0 where
+  pub shut : t ≡ true → HoldsNothing new
+  pub kept : t ≡ false → new ≡ b
 
 leaves-by : (b : Book) (id : ℕ) (node : Node) (out : Out) → HoldsOnly b id node → CloseOut b id out → Leaves b out.0 (closes out.1)
 leaves-by b id node out holds (Shut why same) = record {
@@ -61,7 +62,7 @@ leaves-by b id node out holds (Shut why same) = record {
 }
 leaves-by b id node out holds (Kept off same) = record { shut = λ e. absurd (clash (sym e ∙ off)); kept = λ e. same }
 
-leaves-answer : (b : Book) (id : ℕ) (node : Node) (out : Out) (r : Reply) (new : Book) (a : Answer) → HoldsOnly b id node → CloseOut b id out → out ≡ (new, a) → closes a ≡ is_closed r → Leaves b new (is_closed r)
+pub leaves-answer : (b : Book) (id : ℕ) (node : Node) (out : Out) (r : Reply) (new : Book) (a : Answer) → HoldsOnly b id node → CloseOut b id out → out ≡ (new, a) → closes a ≡ is_closed r → Leaves b new (is_closed r)
 leaves-answer b id node out r new a holds way same said =
     subst (Leaves b new) said (subst (λ (o : Out). Leaves b o.0 (closes o.1)) same (leaves-by b id node out holds way))
 
@@ -87,16 +88,17 @@ module _ (b : Book) (id : ℕ) (node : Node) (holds : HoldsOnly b id node) (r : 
 
   -- ---- a ground that holds of the node
 
-  unrefused : (why : Ground) → IsClosedBy b.case.instance (IsHitBy b.case.instance b.cuts) (best_cost b) (slot_at b id).bound (slot_at b id).node.depth (slot_at b id).node.lines why → Step.refusal_of {Break = BrokenPlan} b id why ≡ None
-  unrefused by.Bound high = high-unrefused b id by.Bound (slot_at b id).bound (best_cost b) refl refl high
-  unrefused by.Throughput high = high-unrefused b id by.Throughput (throughput_of b.case.instance) (best_cost b) refl refl high
+  unrefused : (why : Ground) → IsClosedBy b.case.instance (IsHitBy b.case.instance b.cuts) IsNeverPriced (best_cost b) (slot_at b id).bound (slot_at b id).node.depth (slot_at b id).node.lines why → Step.refusal_of {Break = BrokenPlan} b id why ≡ None
+  unrefused by.Bound high = high-unrefused b (Step.refusal_of b id by.Bound) (slot_at b id).bound (best_cost b) refl refl high
+  unrefused by.Throughput high = high-unrefused b (Step.refusal_of b id by.Throughput) (throughput_of b.case.instance) (best_cost b) refl refl high
   unrefused (by.Probe s) is =
       let missing : Step.is_missing b id s ≡ true = (has_number-decides (missing_ships b.case.instance (slot_at b id).node.depth) s).1 is.0 in
-      high-unrefused b id (by.Probe s) (Step.probe_at b id s) (best_cost b) refl (probe-asked b id s (Step.probe_at b id s) missing refl) is.1
+      high-unrefused b (Step.refusal_of b id (by.Probe s)) (Step.probe_at b id s) (best_cost b) refl (probe-asked b id s (Step.probe_at b id s) missing refl) is.1
   unrefused (by.Cut number) h =
       let hit : Step.hits_in b id (slice_get b.cuts number) ≡ true =
       ap (Step.hits_in b id) h.there ∙ (is_node_hit-decides b.case.instance h.cut (slot_at b id).node.lines).1 h.hits in
       cut-hits b id number hit
+  unrefused (by.Price number) h = absurd h
 
-  pub sure_shut : (why : Ground) → IsClosedBy b.case.instance (IsHitBy b.case.instance b.cuts) (best_cost b) (slot_at b id).bound (slot_at b id).node.depth (slot_at b id).node.lines why → Answers b (close id why) r new → HoldsNothing new
+  pub sure_shut : (why : Ground) → IsClosedBy b.case.instance (IsHitBy b.case.instance b.cuts) IsNeverPriced (best_cost b) (slot_at b id).bound (slot_at b id).node.depth (slot_at b id).node.lines why → Answers b (close id why) r new → HoldsNothing new
   sure_shut why is answers = close_shut why answers (sure why (unrefused why is) answers)

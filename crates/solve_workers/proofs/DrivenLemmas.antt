@@ -1,5 +1,5 @@
 -- Events of the driver, one after the other.
-use Rattle.std.proofs.Common.{◌≡◌, ℕ, suc, ◌≤◌, List, [], ◌∷◌, ◌++◌, length, refl, sym, ap, ◌∙◌, subst, arith, Bool, true, false, not, cond, Some, None, nat_eq, nat_le, slice_index_or}
+use Rattle.std.proofs.Common.{◌≡◌, ℕ, suc, ◌≤◌, List, [], ◌∷◌, ◌++◌, length, refl, sym, ap, ◌∙◌, subst, arith, Bool, true, false, not, cond, Some, None, nat_eq, nat_le, slice_get, slice_index_or}
 use Rattle.std.specs.declared.option.Option.{Option}
 use Rattle.lock_model.specs.Deck.{Deck}
 use Rattle.lock_model.specs.declared.instance.Instance.{Instance}
@@ -7,11 +7,12 @@ use Rattle.lock_model.specs.declared.group.Group.{Group}
 use Rattle.lock_model.specs.declared.plan.Plan.{Plan}
 use Rattle.lock_rules.specs.Plan.{cost_of}
 use Rattle.closing_rules.specs.declared.grounds.Ground.{Ground}
+use Rattle.closing_rules.specs.declared.grounds.Ground.TheVariants as by
 use Rattle.book_rules.specs.Tests.{has_clash, is_own_cut}
 use Rattle.book_rules.specs.Book.{Book, Case, first_slot, has_slot, is_held, is_held_by, is_back, group_at, slot_at, best_cost}
 use Rattle.book_rules.specs.Cheap.{opening_cost}
-use Rattle.book_rules.specs.Events.{Event, Reply, IsOwed, take, split, close, post, park, replace, release}
-use Rattle.book_rules.specs.Events.{Replaced, Ended, NodesSpent, Idle, Done, NotHeld, Whole, OtherDeck, NotCheaper, Clashes}
+use Rattle.book_rules.specs.Events.{Event, Reply, IsOwed, take, split, close, post, post_prices, close_price, park, replace, release}
+use Rattle.book_rules.specs.Events.{Replaced, Ended, NodesSpent, Idle, Done, NotHeld, Whole, OtherDeck, OtherPrices, NotCheaper, Clashes}
 use Rattle.book_rules.specs.NextSlot.{next_fresh}
 use Rattle.book_rules.specs.Room.{room_of}
 use Rattle.book_rules.specs.Step
@@ -71,6 +72,10 @@ module _ {Break : Type 0} (broken : Instance → Plan → Option Break) (b : Boo
       keep_or (not (is_held (slot_at b id).state)) (NotHeld id) (cond whole (b, Whole id) (Step.split_slot b id)) (keep_or whole (Whole id) (Step.split_slot b id) refl)
   ended-stays (close id why) is = keep_or (not (Step.may_close b id)) (NotHeld id) (Step.close_unless b id why (Step.refusal_of b id why)) (close-ended id why (Step.refusal_of b id why))
   ended-stays (post cut) is = keep_or (not (is_own_cut b.case.instance cut)) OtherDeck (Step.posted b cut) refl
+  ended-stays (post_prices prices) is = keep_or (not (nat_eq (length prices) (length b.case.instance.ships))) OtherPrices (Step.priced b prices) refl
+  ended-stays (close_price id number shown) is =
+      let refusal = Step.price_refusal b id number shown (slice_get b.prices number) in
+      keep_or (not (Step.may_close b id)) (NotHeld id) (Step.close_unless b id (by.Price number) refusal) (close-ended id (by.Price number) refusal)
   ended-stays (park id c p deck turns) is =
       keep_or (not (is_held (slot_at b id).state)) (NotHeld id) (Step.park_group b id c p deck turns (group_at (slot_at b id).node c p)) (group-ended id c p deck turns (group_at (slot_at b id).node c p))
   ended-stays (replace plan) is = replace-ended plan (broken b.case.instance plan)

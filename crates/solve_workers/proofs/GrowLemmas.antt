@@ -264,6 +264,19 @@ module _ (b : Book) (id : ℕ) (node : Node) (plan : Plan) (holds : HoldsOnly b 
   by_break None h = by_cost (nat_le (best_cost b) cost) refl
   by_break (Some found) h = absurd (clash h)
 
+  held-cost : (t : Bool) → HoldsOnly (cond {A = Out} t (b, machine.NotCheaper cost (best_cost b)) (Step.replaced b plan, machine.Replaced cost)).0 id node
+  held-cost true = holds
+  held-cost false = replaced-is.holds
+
+  held-break : (o : Option BrokenPlan) → HoldsOnly (Step.replace_by b plan o).0 id node
+  held-break None = held-cost (nat_le (best_cost b) cost)
+  held-break (Some found) = holds
+
+  -- whatever becomes of the plan, the slot is still held
+  pub replaced_holds : (r : Reply) (new : Book) → Does b (replace plan) r new → HoldsOnly new id node
+  replaced_holds r new (Stays wants) = subst (λ (x : Book). HoldsOnly x id node) (sym wants.same) holds
+  replaced_holds r new (Steps answers) = subst (λ (x : Book). HoldsOnly x id node) (ap (λ (o : Out). o.0) answers.same) (held-break answers.found)
+
   pub replaced_better : (r : Reply) (new : Book) → IsLegal b.case.instance plan → is_want r ≡ false → Does b (replace plan) r new → IsBettered b id node cost new
   replaced_better r new legal said (Stays wants) = absurd (clash (ap is_want (sym wants.want) ∙ said))
   replaced_better r new legal said (Steps answers) = subst (IsBettered b id node cost) (ap (λ (o : Out). o.0) answers.same) (by_break answers.found (answers.judged.none.1 legal))

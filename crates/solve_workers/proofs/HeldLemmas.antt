@@ -28,7 +28,7 @@ use Rattle.book_rules.specs.States.{IsHitBy}
 use Rattle.node_work.specs.declared.fate.Fate.{Fate}
 use Rattle.node_work.specs.declared.fate.Fate.TheVariants as fate
 use Rattle.node_work.specs.declared.search.Search.{Search}
-use Rattle.node_work.specs.Fates.{IsAnyway, IsEarly, IsFate, IsKnownHit, IsNodeCut, IsPlanAt, IsSpentAt}
+use Rattle.node_work.specs.Fates.{IsNeverPriced, IsAnyway, IsEarly, IsFate, IsKnownHit, IsNodeCut, IsPlanAt, IsSpentAt}
 use Rattle.node_work.specs.Known.{HitsShips}
 use Rattle.solve_workers.specs.Closable.{IsClosable, IsDriversFate, IsOwnSearch}
 use Rattle.solve_workers.specs.Holding.{HoldsOnly}
@@ -76,9 +76,9 @@ module _ (b : Book) (id : ℕ) (n : Node) (holds : HoldsOnly b id (tree_node n))
   -- a ground that holds of the node closes it
   pub closable_shut : (why : Ground) (r : Reply) (new : Book) → IsSound b → IsClosable b n why → Answers b (close id why) r new → HoldsNothing new
   closable_shut why r new sound is answers =
-      let slot_is : IsClosedBy b.case.instance (IsHitBy b.case.instance b.cuts) (best_cost b) (slot_at b id).bound (slot_at b id).node.depth (slot_at b id).node.lines why =
-      subst (λ bound. IsClosedBy b.case.instance (IsHitBy b.case.instance b.cuts) (best_cost b) bound (slot_at b id).node.depth (slot_at b id).node.lines why) (sym (held_bound sound))
-      (subst (λ (t : TreeNode). IsClosedBy b.case.instance (IsHitBy b.case.instance b.cuts) (best_cost b) (bound_of b.case.instance n.depth n.lines) t.depth t.lines why) (sym holds.node_is) is.closed) in
+      let slot_is : IsClosedBy b.case.instance (IsHitBy b.case.instance b.cuts) IsNeverPriced (best_cost b) (slot_at b id).bound (slot_at b id).node.depth (slot_at b id).node.lines why =
+      subst (λ bound. IsClosedBy b.case.instance (IsHitBy b.case.instance b.cuts) IsNeverPriced (best_cost b) bound (slot_at b id).node.depth (slot_at b id).node.lines why) (sym (held_bound sound))
+      (subst (λ (t : TreeNode). IsClosedBy b.case.instance (IsHitBy b.case.instance b.cuts) IsNeverPriced (best_cost b) (bound_of b.case.instance n.depth n.lines) t.depth t.lines why) (sym holds.node_is) is.closed) in
       sure_shut b id (tree_node n) holds r new why slot_is answers
 
   -- the plan of the node makes its bound too high
@@ -120,12 +120,14 @@ fate_closable b n by.Bound is = record { closed = is }
 fate_closable b n by.Throughput is = record { closed = is }
 fate_closable b n (by.Probe s) is = record { closed = is }
 fate_closable b n (by.Cut number) is = record { closed = known-hit b number n.lines is }
+fate_closable b n (by.Price number) is = absurd is
 
 pub early_closable : (b : Book) (n : Node) (bound best : ℕ) (why : Ground) → best ≡ best_cost b → bound ≡ bound_of b.case.instance n.depth n.lines → IsEarly b.case.instance bound best why → IsClosable b n why
 early_closable b n bound best by.Bound best_is bound_is is = record { closed = omega (arith, is, best_is, bound_is) }
 early_closable b n bound best by.Throughput best_is bound_is is = record { closed = subst (λ m. m ≤ throughput_of b.case.instance) best_is is }
 early_closable b n bound best (by.Probe s) best_is bound_is is = absurd is
 early_closable b n bound best (by.Cut number) best_is bound_is is = absurd is
+early_closable b n bound best (by.Price number) best_is bound_is is = absurd is
 
 -- what becomes of the node by the search of the book
 pub own_fate : (b : Book) (search : Search) (n : Node) (best : ℕ) (f : Fate) → IsOwnSearch b search → best ≡ best_cost b → IsFate (HitsShips b search.instance.now) search.instance.now search.turns best n f → IsDriversFate b n f

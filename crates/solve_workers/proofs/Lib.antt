@@ -9,3 +9,4 @@ pub mod TidyLemmas
 pub mod OpeningLemmas
 pub mod HeldLemmas
 pub mod SettleLemmas
+pub mod PriceLemmas

@@ -6,33 +6,52 @@ ghost use Rattle.solve_workers.specs.Driving.{IsDriven};
 ghost use Rattle.solve_workers.specs.Closable.{IsOwnSearch};
 ghost use Rattle.solve_workers.specs.Holding.{IsRunning, IsDone, IsTidied};
 
+use crate::driver::Driver;
 use crate::held::take;
 use crate::working::work;
 use book_core::Book;
 use node_work::Search;
-use placed_groups::Memory;
 use plain_text::NoMemory;
 use std::alloc::Global;
 
 #[tactic(auto, using(crate::proofs::DrivenLemmas::driven_then, crate::proofs::DrivenLemmas::driven_none, crate::proofs::DrivenLemmas::own_still))]
 // Takes slots and works on them, until nothing is open or the nodes are spent.
-fn drive_nodes(
-    alloc: Global,
-    book: &mut Book,
-    search: &Search<'_>,
-    memory: &mut Memory,
-) -> Result<(), NoMemory>
+fn drive_nodes(driver: &mut Driver<'_>, book: &mut Book) -> Result<(), NoMemory>
     requires free { HoldsNothing book.old }
     requires running { IsRunning book.old }
-    requires own { IsOwnSearch book.old search.now }
+    requires own { IsOwnSearch book.old driver.old.search }
     ensures free { OnOk result (HoldsNothing book.new) }
     ensures done { OnOk result (IsDone book.new) }
     ensures driven { IsDriven book.old book.new }
 {
     'slots: while let Some(held) = take(book) {
-        work(alloc, book, search, &held, memory)?;
+        work(driver, book, &held)?;
     }
     Ok(())
+}
+
+#[tactic(auto, using(crate::proofs::DrivenLemmas::driven_then, crate::proofs::DrivenLemmas::driven_none, crate::proofs::DrivenLemmas::own_still))]
+/// Takes slots and works on them as long as fewer nodes are used than `most`. True where it came to an
+/// end before: nothing is open, or the budget is spent.
+pub(crate) fn drive_some(
+    driver: &mut Driver<'_>,
+    book: &mut Book,
+    most: u32,
+) -> Result<bool, NoMemory>
+    requires free { HoldsNothing book.old }
+    requires running { IsRunning book.old }
+    requires own { IsOwnSearch book.old driver.old.search }
+    ensures free { OnOk result (HoldsNothing book.new) }
+    ensures driven { IsDriven book.old book.new }
+    ensures search { driver.new.search ≡ driver.old.search }
+{
+    'slots: while book.used() < most {
+        match take(book) {
+            Some(held) => work(driver, book, &held)?,
+            None => return Ok(true),
+        }
+    }
+    Ok(false)
 }
 
 #[tactic(auto, using(crate::proofs::DrivenLemmas::driven_none, crate::proofs::TidyLemmas::tidied_none))]
@@ -50,6 +69,21 @@ fn close_parked(book: &mut Book)
 }
 
 #[tactic(auto, using(crate::proofs::TidyLemmas::tidied_ends, crate::proofs::DrivenLemmas::driven_then, crate::proofs::DrivenLemmas::driven_cost))]
+/// Drives the search of a book to its end, as `drive` does, with what a driver has.
+pub(crate) fn finish(driver: &mut Driver<'_>, book: &mut Book) -> Result<(), NoMemory>
+    requires free { HoldsNothing book.old }
+    requires running { IsRunning book.old }
+    requires own { IsOwnSearch book.old driver.old.search }
+    ensures ends { OnOk result (EndsWell (opening_cost book.old) book.new) }
+    ensures case { book.new.case ≡ book.old.case }
+    ensures opening { opening_cost book.new ≡ opening_cost book.old }
+    ensures driven { IsDriven book.old book.new }
+{
+    drive_nodes(driver, book)?;
+    close_parked(book);
+    Ok(())
+}
+
 /// Drives the search of a book to its end on this thread, as worker 8, which hasn't released; no
 /// slot is held. It takes slots until nothing is open or the budget is spent, and then closes the
 /// parked slots whose bound is at least the best cost. All that it does to the book is events of
@@ -63,9 +97,6 @@ pub fn drive(alloc: Global, book: &mut Book) -> Result<(), NoMemory>
     ensures driven { IsDriven book.old book.new }
 {
     let case = book.case().copy();
-    let search = Search::new(&case.instance, case.turns);
-    let mut memory = Memory::new(alloc);
-    drive_nodes(alloc, book, &search, &mut memory)?;
-    close_parked(book);
-    Ok(())
+    let mut driver = Driver::new(alloc, Search::new(&case.instance, case.turns));
+    finish(&mut driver, book)
 }

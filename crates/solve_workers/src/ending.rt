@@ -26,8 +26,8 @@ pub(crate) fn close(book: &mut Book, held: &Held, why: Ground)
     book.close(held.id, why);
 }
 
-// Splits the held node, which lacks a ship.
-fn split(book: &mut Book, held: &Held) -> Result<(), NoMemory>
+/// Splits the held node, which lacks a ship.
+pub(crate) fn split(book: &mut Book, held: &Held) -> Result<(), NoMemory>
     requires holds { Holds book.old held.now }
     requires lacks { held.now.node.depth < length book.old.case.instance.ships }
     ensures freed { OnOk result (HoldsNothing book.new) }

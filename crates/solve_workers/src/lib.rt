@@ -23,10 +23,14 @@
 mod comparing;
 mod crew;
 mod cut_list;
+mod driver;
 mod driving;
 mod ending;
+mod hardness;
 mod held;
+mod offering;
 mod opening;
+mod pricing;
 mod running;
 mod searching;
 mod settling;

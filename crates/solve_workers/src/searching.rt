@@ -4,6 +4,7 @@ ghost use Rattle.boxcar.specs.Table.{Shows};
 
 use crate::crew::{deal, gather};
 use crate::cut_list::CutList;
+use crate::hardness::plain_nodes;
 use crate::running::run_all;
 use book_core::{Book, Case};
 use bound_word::BoundTable;
@@ -80,6 +81,7 @@ pub(crate) fn searched<L: Ledger + Send + Sync, R: Threads + Wait + Sync, G: Gat
         gate: lent.gate,
         search: Search::new(instance, case.turns),
         order: arrival_order(instance),
+        quota: plain_nodes(case) / workers as u32,
         book: &shared,
         pool: &pool,
         word: &word,

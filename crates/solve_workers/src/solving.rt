@@ -7,7 +7,7 @@ ghost use Rattle.book_rules.specs.Cover.{IsOwnCut};
 ghost use Rattle.book_rules.specs.Ends.{EndsWell};
 
 use crate::cut_list::CutList;
-use crate::driving::drive;
+use crate::hardness::driven;
 use crate::opening::opened;
 use crate::searching::{Lent, searched};
 use crate::settling::settled;
@@ -105,7 +105,7 @@ pub fn solve_from<R: Threads + Wait + Sync, G: Gate + Sync>(
         workers,
     };
     let left = worked(&lent, first)?;
-    let mut book = settled(alloc, left, case, cost, plan, &cuts)?;
-    drive(alloc, &mut book)?;
+    let book = settled(alloc, left, case, cost, plan, &cuts)?;
+    let book = driven(alloc, case, book, cost)?;
     Ok(Solved { book })
 }

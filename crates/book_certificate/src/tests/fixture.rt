@@ -70,7 +70,8 @@ fn ship(letter: u8) -> Ship {
     }
 }
 
-fn instance(lock: Lock) -> Result<Instance, Fail> {
+/// The instance of a lock.
+pub(crate) fn instance(lock: Lock) -> Result<Instance, Fail> {
     let mut chambers = Chambers::new();
     chambers.push(chamber(b'c', lock.width));
     if lock.twin {

@@ -3,6 +3,7 @@
 use super::super::*;
 use super::fixture::{both, one_after_the_other, row_cut};
 use super::parking::spent_both;
+use super::pricing::{Claimed, close_shown, prices_of};
 use closing_rules::Ground;
 use std::alloc::Global;
 use std::process::Abort;
@@ -19,6 +20,10 @@ pub(crate) enum Ask {
     Post(u32),
     /// The slot is parked at this group of a chamber, whose deck is that of both ships.
     Park(u32, u8, u8),
+    /// So many prices, all the same.
+    Prices(u8, u32),
+    /// The slot is closed by the prices of this number, of which so much is shown.
+    ClosePrice(u32, u64, Claimed),
     /// The plan of both ships side by side.
     Both,
     /// The plan of one ship from minute 0, and the other from this minute.
@@ -37,6 +42,8 @@ pub(crate) fn reply_of(alloc: Global, book: &mut Book, ask: Ask) -> Result<Reply
             let hard = spent_both(alloc, book)?;
             book.park(id, chamber, place, &hard)
         }
+        Ask::Prices(count, price) => book.post_prices(prices_of(count, price)?),
+        Ask::ClosePrice(id, number, claimed) => close_shown(alloc, book, id, number, claimed)?,
         Ask::Both => book.replace(both()),
         Ask::After(start) => book.replace(one_after_the_other(start)),
     })

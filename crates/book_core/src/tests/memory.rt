@@ -3,20 +3,22 @@
 
 use super::super::*;
 use super::fixture::{both, narrow, open, open_for, row_cut, side_by_side, try_cut};
+use super::pricing::prices_of;
 use lock_model::Instance;
 use std::alloc::Global;
 use std::process::Abort;
 use std::test::Fail;
 
 // What is seen of a book but for its slots' states: events accepted, slots, nodes used, best cost,
-// and whether there is a first cut.
-fn told(book: &Book) -> (u64, u32, u32, u64, bool) {
+// whether there is a first cut, and how many prices.
+fn told(book: &Book) -> (u64, u32, u32, u64, bool, usize) {
     (
         book.history_len(),
         book.slots(),
         book.used(),
         book.best_cost(),
         book.cut(0).is_some(),
+        book.prices().len(),
     )
 }
 
@@ -70,8 +72,20 @@ fn post_tried(alloc: Global, book: &mut Book) -> Reply {
     }
 }
 
+// Prices are posted likewise.
+fn expect_priced(rt: &impl Abort, book: &mut Book) -> Result<(), Fail> {
+    let before = told(book);
+    let mut reply = book.post_prices(prices_of(2, 8500)?);
+    if reply == Reply::NoMemory {
+        assert_eq!(rt; told(book), before);
+        reply = book.post_prices(prices_of(2, 8500)?);
+    }
+    assert_eq!(rt; reply, Reply::Priced(0));
+    Ok(())
+}
+
 #[test]
-fn a_cut_waits_for_memory(rt: HostRuntime) -> Result<(), Fail> {
+fn a_cut_and_prices_wait_for_memory(rt: HostRuntime) -> Result<(), Fail> {
     let mut book = opened(rt.alloc(), narrow()?, narrow()?)?;
     let before = told(&book);
     let mut reply = post_tried(rt.alloc(), &mut book);
@@ -80,5 +94,5 @@ fn a_cut_waits_for_memory(rt: HostRuntime) -> Result<(), Fail> {
         reply = book.post(row_cut(rt.alloc(), 232)?);
     }
     assert_eq!(rt; reply, Reply::Posted(0));
-    Ok(())
+    expect_priced(&rt, &mut book)
 }

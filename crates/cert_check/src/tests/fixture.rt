@@ -2,6 +2,7 @@
 
 use super::*;
 use lock_model::*;
+use price_bound::Prices;
 use refute_rules::{Quick, Refutation};
 use std::alloc::{AllocError, Global};
 
@@ -129,12 +130,13 @@ pub(crate) enum Why {
     Clash,
 }
 
-/// A certificate: its cost, its cut by chamber, ships and reason, its plan and its marks.
+/// A certificate: its cost, its cut by chamber, ships and reason, its plan, its prices and its marks.
 #[derive(Clone, Copy)]
 pub(crate) struct Draft {
     pub(crate) cost: u64,
     pub(crate) cut: Option<(u8, Who, Why)>,
     pub(crate) plan: &'static [Passage],
+    pub(crate) prices: &'static [&'static [u32]],
     pub(crate) tree: &'static [Mark],
 }
 
@@ -171,6 +173,12 @@ pub(crate) fn certificate(alloc: Global, draft: &Draft) -> Result<Certificate, A
             refutation: refutation(why),
         })?;
     }
+    let mut prices = PriceLists::new(alloc);
+    for &own in draft.prices {
+        if let Some(own) = Prices::new(own) {
+            prices.push(own)?;
+        }
+    }
     let mut tree = MarkList::new(alloc);
     for &mark in draft.tree {
         tree.push(mark)?;
@@ -179,6 +187,7 @@ pub(crate) fn certificate(alloc: Global, draft: &Draft) -> Result<Certificate, A
         cost: draft.cost,
         cuts,
         plan: plan(draft.plan),
+        prices,
         tree,
     })
 }

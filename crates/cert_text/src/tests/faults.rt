@@ -1,7 +1,7 @@
 //! The first fault of a dossier.
 
 use super::super::*;
-use super::fixture::{CLASH, NARROW, SIDE, edited, fault_of};
+use super::fixture::{CLASH, NARROW, PRICED, SIDE, edited, fault_of};
 use instance_text::{Bad, Kind};
 use std::alloc::Global;
 use std::process::Abort;
@@ -201,6 +201,84 @@ fn a_fault_of_the_heading_is_named(rt: HostRuntime) -> Result<(), Fail> {
                 BadDossier::NoMark,
             ),
             (SIDE, "certificate\n", "", BadDossier::NoMark),
+            (SIDE, "certificate\n", "certificate 4\n", BadDossier::NoMark),
+            (
+                SIDE,
+                "certificate\n",
+                "certificate 03\n",
+                BadDossier::NoMark,
+            ),
+            (
+                SIDE,
+                "certificate\n",
+                "certificate open 3\n",
+                BadDossier::NoMark,
+            ),
+        ],
+    )
+}
+
+#[test]
+fn a_fault_of_the_third_version_is_named(rt: HostRuntime) -> Result<(), Fail> {
+    expect_faults(
+        &rt,
+        rt.alloc(),
+        &[
+            (
+                PRICED,
+                "certificate 3",
+                "certificate 2",
+                BadDossier::Shape(1),
+            ),
+            (
+                PRICED,
+                "\"prices\":[[8500,8500]],",
+                "",
+                BadDossier::Shape(1),
+            ),
+            (
+                PRICED,
+                "{\"cost\"",
+                "{\"extra\":0,\"cost\"",
+                BadDossier::Shape(1),
+            ),
+            (PRICED, "[6,0,0,8]", "[7,0]", BadDossier::Shape(3)),
+            (PRICED, "[4,0]", "[4]", BadDossier::Shape(5)),
+            (PRICED, "[4,0]", "[4,0,4]", BadDossier::Shape(5)),
+            (PRICED, "[4,0]", "[3]", BadDossier::Shape(5)),
+            (
+                PRICED,
+                "[4,0]",
+                "[4,9223372036854775808]",
+                BadDossier::Shape(5),
+            ),
+            (
+                PRICED,
+                "[[8500,8500]],\"tree\":[4,0]",
+                "[[1000001]],\"tree\":[4]",
+                BadDossier::Shape(5),
+            ),
+            (
+                PRICED,
+                "[[8500,8500]]",
+                "[[1000001,8500]]",
+                BadDossier::Shape(6),
+            ),
+            (PRICED, "[[8500,8500]]", "[[8500,-1]]", BadDossier::Shape(6)),
+            (
+                PRICED,
+                "[[8500,8500]]",
+                "[[8500.0,8500]]",
+                BadDossier::Shape(6),
+            ),
+            (PRICED, "[[8500,8500]]", "[[]]", BadDossier::Shape(6)),
+            (PRICED, "[[8500,8500]]", "[8500,8500]", BadDossier::Shape(6)),
+            (
+                PRICED,
+                "[[8500,8500]]",
+                "[[0,0,0,0,0,0,0,0,0,0,0,0,0,0,0,0,0,0,0,0,0,0,0,0,0]]",
+                BadDossier::Shape(6),
+            ),
         ],
     )
 }

@@ -40,9 +40,21 @@ fn an_empty_list_is_no_cuts_and_no_lockages(rt: HostRuntime) -> Result<(), Fail>
     Ok(())
 }
 
+// What a number of a tree says, with a price begun before it or not.
+fn told(alloc: Global, begun: bool, text: &str) -> Result<Option<Option<Mark>>, Fail> {
+    Ok(mark_in(true, begun, &value_of(alloc, text)?))
+}
+
 #[test]
-fn marks_are_read_and_written(rt: HostRuntime) {
-    assert!(rt; mark_of(110) == Ok(Mark::Leaf(Ground::Cut(10))));
-    assert!(rt; mark_of(34) == Err(BadDossier::Shape(5)));
-    assert!(rt; put_mark(&Mark::Leaf(Ground::Probe(23))) == 33);
+fn marks_are_read_and_written(rt: HostRuntime) -> Result<(), Fail> {
+    let cut = Mark::Leaf(Ground::Cut(10));
+    assert!(rt; told(rt.alloc(), false, "110")? == Some(Some(cut)));
+    assert!(rt; told(rt.alloc(), false, "34")?.is_none());
+    assert!(rt; told(rt.alloc(), false, "4")? == Some(None));
+    let price = Mark::Leaf(Ground::Price(34));
+    assert!(rt; told(rt.alloc(), true, "34")? == Some(Some(price)));
+    let mut list = Vec::new(rt.alloc());
+    push_mark(&mut list, Mark::Leaf(Ground::Price(7)))?;
+    assert!(rt; list.len() == 2 && list[1].as_u64() == Some(7));
+    Ok(())
 }

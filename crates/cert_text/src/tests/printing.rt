@@ -1,13 +1,14 @@
 //! Dossiers that are printed.
 ghost use Rattle.std.specs.Prelude.{All, IfOk};
-ghost use Rattle.certificate_rules.specs.WellFormed.{IsFormedCut, IsFormedLockage, IsFormedMark, IsFormedRefutation, IsWellFormed};
+ghost use Rattle.certificate_rules.specs.WellFormed.{IsFormedCut, IsFormedLockage, AreFormedPrices, IsFormedMark, IsFormedRefutation, IsWellFormed};
 
 use super::super::*;
-use super::fixture::{CLASH, NARROW};
-use cert_check::{CertCut, CertCuts, Certificate, Ground, Mark, MarkList};
+use super::fixture::{CLASH, NARROW, PRICED};
+use cert_check::{CertCut, CertCuts, Certificate, Ground, Mark, MarkList, PriceLists};
 use instance_text::read_instance_part;
 use lock_model::{Lockage, Lockages, Moor, Plan, Rank, Ships, Spot, Spots, Way};
-use refute_rules::{Quick, Refutation};
+use price_bound::Prices;
+use refute_rules::{Marks, Quick, Refutation};
 use std::alloc::Global;
 use std::test::Fail;
 
@@ -86,6 +87,48 @@ fn certificate_by(alloc: Global, refutation: Refutation) -> Result<Certificate, 
         cost: 120,
         cuts,
         plan: Plan { lockages },
+        prices: PriceLists::new(alloc),
+        tree,
+    })
+}
+
+/// 8500 for each of the two ships.
+#[tactic(auto, using(crate::proofs::FixtureLemmas::one_prices))]
+fn two_prices(alloc: Global) -> Result<PriceLists, Fail>
+    ensures { IfOk result (All AreFormedPrices) }
+{
+    let mut prices = PriceLists::new(alloc);
+    prices.push(Prices::new(&[8500, 8500]).ok_or("no prices")?)?;
+    Ok(prices)
+}
+
+/// The mark that closes the root by these prices.
+#[tactic(auto, using(crate::proofs::FixtureLemmas::one_mark))]
+fn price_mark(alloc: Global) -> Result<MarkList, Fail>
+    ensures { IfOk result (All IsFormedMark) }
+{
+    let mut tree = MarkList::new(alloc);
+    tree.push(Mark::Leaf(Ground::Price(0)))?;
+    Ok(tree)
+}
+
+/// The same by prices, since a berth tree keeps the ships from lying side by side.
+fn priced(alloc: Global) -> Result<Certificate, Fail>
+    ensures { IfOk result (λ c. IsWellFormed c) }
+{
+    let mut marks = Marks::new(alloc);
+    for number in [0, 0, 8] {
+        marks.push(number)?;
+    }
+    let cuts = cut_of(alloc, Refutation::Berths(marks))?;
+    let prices = two_prices(alloc)?;
+    let tree = price_mark(alloc)?;
+    let lockages = one_by_one();
+    Ok(Certificate {
+        cost: 120,
+        cuts,
+        plan: Plan { lockages },
+        prices,
         tree,
     })
 }
@@ -116,8 +159,10 @@ fn a_dossier_is_printed(rt: HostRuntime) -> Result<(), Fail> {
 }
 
 #[test]
-fn a_dossier_with_a_clash_is_printed(rt: HostRuntime) -> Result<(), Fail> {
+fn a_dossier_of_a_later_version_is_printed(rt: HostRuntime) -> Result<(), Fail> {
     let certificate = certificate_by(rt.alloc(), Refutation::Clash(0, 1))?;
     assert!(rt; prints(rt.alloc(), &certificate, CLASH)?);
+    let certificate = priced(rt.alloc())?;
+    assert!(rt; prints(rt.alloc(), &certificate, PRICED)?);
     Ok(())
 }

@@ -1,7 +1,7 @@
 //! Dossiers that are read.
 
 use super::super::*;
-use super::fixture::{CLASH, NARROW, SIDE, counts_of, edited, fault_of};
+use super::fixture::{CLASH, NARROW, PRICED, SIDE, counts_of, edited, fault_of};
 use std::alloc::Global;
 use std::process::Abort;
 use std::test::Fail;
@@ -12,27 +12,28 @@ fn dossiers_are_read(rt: HostRuntime) {
         (SIDE, (80, 0, 1, 5, 2)),
         (NARROW, (120, 1, 2, 5, 2)),
         (CLASH, (120, 1, 2, 5, 2)),
+        (PRICED, (120, 1, 2, 1, 2)),
     ] {
         let read = counts_of(rt.alloc(), dossier.as_bytes());
         assert!(rt; read == Some(counts), "{dossier}");
     }
 }
 
-// The edited dossier of the narrow chamber is read.
-fn expect_read(rt: &impl Abort, alloc: Global, old: &str, new: &str) -> Result<(), Fail> {
-    let text = edited(alloc, NARROW, old, new)?;
+// A dossier, a text in it, and what stands in its place.
+type Edit = (&'static str, &'static str, &'static str);
+
+// The edited dossier is read.
+fn expect_read(rt: &impl Abort, alloc: Global, edit: &Edit) -> Result<(), Fail> {
+    let (dossier, old, new) = edit;
+    let text = edited(alloc, dossier, old, new)?;
     let read = counts_of(alloc, text.as_bytes());
     assert!(rt; read.is_some_and(|counts| counts.0 == 120), "{new}");
     Ok(())
 }
 
-fn expect_all_read(
-    rt: &impl Abort,
-    alloc: Global,
-    rows: &[(&'static str, &'static str)],
-) -> Result<(), Fail> {
-    for (old, new) in rows {
-        expect_read(rt, alloc, old, new)?;
+fn expect_all_read(rt: &impl Abort, alloc: Global, rows: &[Edit]) -> Result<(), Fail> {
+    for edit in rows {
+        expect_read(rt, alloc, edit)?;
     }
     Ok(())
 }
@@ -43,20 +44,34 @@ fn reading_is_lenient(rt: HostRuntime) -> Result<(), Fail> {
         &rt,
         rt.alloc(),
         &[
-            ("certificate\n", "\n # x\n\t certificate # y\r\n"),
-            ("certificate\n", "\r\ncertificate\n"),
-            ("certificate\n", "certificate 2\n"),
-            ("{\"cost\"", " \n { \"cost\""),
-            ("\"cost\":120", "\"cost\":1,\"cost\":120"),
-            ("\"cost\"", "\"\\u0063ost\""),
-            ("[[10,0,0,0]],\"start\":0", "[[10,0,0,256]],\"start\":0"),
+            (NARROW, "certificate\n", "\n # x\n\t certificate # y\r\n"),
+            (NARROW, "certificate\n", "\r\ncertificate\n"),
+            (NARROW, "certificate\n", "certificate 2\n"),
+            (NARROW, "{\"cost\"", " \n { \"cost\""),
+            (NARROW, "\"cost\":120", "\"cost\":1,\"cost\":120"),
+            (NARROW, "\"cost\"", "\"\\u0063ost\""),
             (
+                NARROW,
+                "[[10,0,0,0]],\"start\":0",
+                "[[10,0,0,256]],\"start\":0",
+            ),
+            (
+                NARROW,
                 "{\"chamber\":0,\"ships\":[0,1]",
                 "{\"chamber\":7,\"ships\":[0,1]",
             ),
-            ("\"why\":[1,0,1]", "\"why\":[3,0,4294967295]"),
-            ("\"why\":[1,0,1]", "\"why\":[4]"),
-            ("[0,0,100,1,1]", "[33,9223372036854775907]"),
+            (NARROW, "\"why\":[1,0,1]", "\"why\":[3,0,4294967295]"),
+            (NARROW, "\"why\":[1,0,1]", "\"why\":[4]"),
+            (NARROW, "[0,0,100,1,1]", "[33,9223372036854775907]"),
+            (PRICED, "certificate 3\n", " certificate\t3 # a comment\n"),
+            (
+                PRICED,
+                "\"prices\":[[8500,8500]],\"tree\":[4,0]",
+                "\"tree\":[4,0],\"prices\":[[8500,8500]]",
+            ),
+            (PRICED, "[4,0]", "[0,4,9223372036854775807,1]"),
+            (PRICED, "[6,0,0,8]", "[6]"),
+            (PRICED, "[[8500,8500]]", "[[0],[1000000,1,2]]"),
         ],
     )
 }

@@ -14,6 +14,7 @@ pub(crate) enum Told {
     Row(u8, u8),
     Cases(&'static [u32]),
     Spots(&'static [u32]),
+    Berths(&'static [u32]),
     Clash(u8, u8),
 }
 
@@ -75,6 +76,7 @@ pub(crate) fn refutation(alloc: Global, told: Told) -> Result<Refutation, AllocE
         Told::Row(first, second) => Ok(Refutation::Quick(Quick::Row(pair(first, second)))),
         Told::Cases(numbers) => Ok(Refutation::Cases(marks(alloc, numbers)?)),
         Told::Spots(numbers) => Ok(Refutation::Spots(marks(alloc, numbers)?)),
+        Told::Berths(numbers) => Ok(Refutation::Berths(marks(alloc, numbers)?)),
         Told::Clash(first, second) => Ok(Refutation::Clash(first, second)),
     }
 }

@@ -116,10 +116,16 @@ fn faults_are_those_of_a_dossier(rt: HostRuntime) -> Result<(), Fail> {
         &[
             (heading, "certificate", Said::Faulty(BadDossier::NoMark)),
             (heading, "certificate 2", Said::Faulty(BadDossier::NoMark)),
+            (heading, "certificate 3", Said::Faulty(BadDossier::NoMark)),
+            (
+                heading,
+                "certificate open 2",
+                Said::Faulty(BadDossier::NoMark),
+            ),
             (
                 heading,
                 "certificate open 3",
-                Said::Faulty(BadDossier::NoMark),
+                Said::Faulty(BadDossier::Shape(1)),
             ),
             ("{\"cost\"", "\"cost\"", Said::Faulty(BadDossier::Json)),
             (
@@ -140,6 +146,44 @@ fn faults_are_those_of_a_dossier(rt: HostRuntime) -> Result<(), Fail> {
             ("[[10,0,0,0]]", "[]", Said::Faulty(BadDossier::Shape(4))),
             ("[0,0,3,1,1]", "[4]", Said::Faulty(BadDossier::Shape(5))),
             ("[0,0,3,1,1]", "[34]", Said::Faulty(BadDossier::Shape(5))),
+            ("[0,0,3,1,1]", "[4,0]", Said::Faulty(BadDossier::Shape(5))),
         ],
     )
+}
+
+#[test]
+fn open_certificates_may_have_prices(rt: HostRuntime) -> Result<(), Fail> {
+    let text = edited(rt.alloc(), "certificate open", "certificate open 3")?;
+    let (front, _) = text.split_once("[],\"plan\"").ok_or("no cuts")?;
+    let (_, plan) = text.split_once("\"plan\"").ok_or("no plan")?;
+    let (plan, _) = plan.split_once("\"tree\"").ok_or("no tree")?;
+    for (end, said) in [
+        ("[[8500,8500]],\"tree\":[4,0]}", Said::Stands(120, 120, 1)),
+        (
+            "[[8500,8500]],\"tree\":[0,0,3,4,0,3]}",
+            Said::Stands(80, 120, 3),
+        ),
+        (
+            "[[8400,8400]],\"tree\":[4,0]}",
+            Said::Fails(FailurePlace::Tree(0), Reason::PriceLow),
+        ),
+        (
+            "[[8500,8500]],\"tree\":[4,3]}",
+            Said::Fails(FailurePlace::Tree(0), Reason::PriceLow),
+        ),
+        (
+            "[[8500]],\"tree\":[3]}",
+            Said::Fails(FailurePlace::Prices(0), Reason::PricesShape),
+        ),
+        (
+            "[[8500,8500]],\"tree\":[3,4]}",
+            Said::Faulty(BadDossier::Shape(5)),
+        ),
+        ("[[]],\"tree\":[3]}", Said::Faulty(BadDossier::Shape(6))),
+    ] {
+        let cut = "[{\"chamber\":0,\"ships\":[0,1],\"why\":[1,0,1]}],\"plan\"";
+        let priced = format!(in rt.alloc(); "{front}{cut}{plan}\"prices\":{end}")?;
+        assert!(rt; said_of(rt.alloc(), priced.as_bytes())? == said, "{end}");
+    }
+    Ok(())
 }

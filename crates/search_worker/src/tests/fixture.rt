@@ -124,6 +124,7 @@ fn searched_by<L: Ledger, W: Wait, G: Gate>(
         gate,
         search: Search::new(instance, turns),
         order: arrival_order(instance),
+        quota: u32::MAX,
         book: &book,
         pool: &pool,
         word: &word,

@@ -1,6 +1,6 @@
 use Rattle.std.proofs.Common.{◌≡◌, ◌≤◌, ◌*◌, sum_by, filter}
 use Rattle.lock_rules.specs.Arrival.{numbers_from}
-use Rattle.berth_rules.specs.BerthCases.{host_in, is_ship}
+use Rattle.refute_rules.specs.BerthCases.{host_in, is_ship}
 use Rattle.berth_case.proofs.CrowdLemmas.{span}
 use Rattle.berth_case.proofs.spans.guests_span.Given as goal
 

@@ -1,5 +1,5 @@
 use Rattle.std.proofs.Common.{subst}
-use Rattle.berth_rules.specs.BerthTrees.{OfBerth, OfOrder}
+use Rattle.refute_rules.specs.BerthTrees.{OfBerth, OfOrder}
 use Rattle.berth_check.specs.Fronts.{IsSplitUpTo}
 use Rattle.berth_check.proofs.StepLemmas.{step_split}
 use Rattle.berth_check.proofs.walk.step.Goals as goal

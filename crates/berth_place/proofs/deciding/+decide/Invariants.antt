@@ -1,5 +1,5 @@
 use Rattle.std.proofs.Common.{◌+◌, ◌-◌, ◌*◌}
-use Rattle.berth_rules.specs.BerthTrees.{OfBerth}
+use Rattle.refute_rules.specs.BerthTrees.{OfBerth}
 use Rattle.berth_place.specs.Visits.{IsUnder}
 use Rattle.berth_place.proofs.deciding.+decide.Given as goal
 

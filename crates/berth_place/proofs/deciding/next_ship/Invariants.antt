@@ -1,5 +1,5 @@
 use Rattle.std.proofs.Common.{IfSome, IfNone}
-use Rattle.berth_rules.specs.BerthTrees.{OfBerth, IsOpen}
+use Rattle.refute_rules.specs.BerthTrees.{OfBerth, IsOpen}
 use Rattle.berth_place.specs.Known.{AreDecided}
 use Rattle.berth_place.proofs.deciding.next_ship.Given as goal
 

@@ -1,5 +1,5 @@
 use Rattle.std.proofs.Common.{◌+◌, ◌*◌, length}
-use Rattle.berth_rules.specs.BerthTrees.{OfOrder}
+use Rattle.refute_rules.specs.BerthTrees.{OfOrder}
 use Rattle.berth_place.specs.Visits.{IsUnder}
 use Rattle.berth_place.proofs.ordering.+order_pairs.Given as goal
 

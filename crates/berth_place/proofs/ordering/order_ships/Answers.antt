@@ -1,9 +1,10 @@
-use Rattle.std.proofs.Common.{rules, refl, sym, subst, arith}
+use Rattle.std.proofs.Common.{◌≡◌, [], rules, refl, sym, ◌∙◌, subst, arith}
 use Rattle.lock_model.specs.Deck.{IsDeck}
 use Rattle.diff_rules.specs.Differences.{IsSystem}
 use Rattle.berth_place.specs.declared.search.Search.{Search}
 use Rattle.berth_place.specs.Visits.{IsOrdering}
 use Rattle.berth_place.proofs.OrderingLemmas.{ordering_begun, ordering_system}
+use Rattle.berth_place.proofs.VisitLemmas.{visit_same}
 use Rattle.berth_place.proofs.ordering.order_ships.Goals as goal
 
 pub of-solved-requires : goal.of-solved-requires
@@ -29,3 +30,8 @@ order_pairs-requires-clause-ordered c =
       all = c.overlapping-pairs.ensures.all;
       room = omega (arith, few, room);
     }
+
+pub returns : goal.returns
+returns c =
+    let none : c.truncate.new.self ≡ [] = search rules in
+    visit_same c.args.deck.now c.args.search.now _ c.order_pairs.new.search _ c.in_ok-visit.visit refl refl refl refl refl (none ∙ sym c.requires.berthing.edges) refl refl refl refl c.in_ok-visit.ensures

@@ -1,7 +1,7 @@
 use Rattle.std.proofs.Common.{rules, subst}
 use Rattle.lock_model.specs.Deck.{IsDeck}
-use Rattle.berth_rules.specs.BerthTrees.{IsBerthTree}
-use Rattle.berth_rules.proofs.BerthLaw.{berth_tree-unfit}
+use Rattle.refute_rules.specs.BerthTrees.{IsBerthTree}
+use Rattle.refute_rules.proofs.BerthLaw.{berth_tree-unfit}
 use Rattle.berth_place.specs.declared.search.Search.{Search}
 use Rattle.berth_place.specs.Visits.{GrewByTree, IsClosed, IsVisit}
 use Rattle.berth_place.proofs.VisitLemmas.{grew_whole}

@@ -1,4 +1,4 @@
-use Rattle.std.proofs.Common.{◌<◌, sym, ◌∙◌, subst, length, All}
+use Rattle.std.proofs.Common.{◌<◌, sym, subst, length, All}
 use Rattle.lock_model.specs.declared.group.Group.{Group}
 use Rattle.lock_rules.proofs.NodeLemmas.{line-known}
 use Rattle.book_core.proofs.hitting.hits_node.Goals as goal

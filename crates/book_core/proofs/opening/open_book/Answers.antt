@@ -29,7 +29,8 @@ invariant_of-result c =
       opening = c.copy-2.result;
       slots = slots_of c.copy.result.instance c.push_reserved.new.self.items;
       cuts = c.new.result.items;
-      plans = c.new-2.result.items;
+      prices = c.new-2.result.items;
+      plans = c.new-3.result.items;
       best = plan;
       used = 0;
       ended = replicate 9 false;
@@ -40,7 +41,8 @@ invariant_of-result c =
       opening = c.copy-2.ensures i;
       slots = slots i;
       cuts = c.new.ensures.items i;
-      plans = c.new-2.ensures.items i;
+      prices = c.new-2.ensures.items i;
+      plans = c.new-3.ensures.items i;
       best = plan;
       used = 0;
       ended = replicate 9 false;
@@ -49,8 +51,8 @@ invariant_of-result c =
     let good : IsCase case = subst IsCase c.case.view_is c.case.invariant in
     record {
       sound = subst IsSound (sym same) (opening-sound case plan good c.requires);
-      tables = subst (λ b. AreTables (slots_of c.copy.result.instance c.push_reserved.new.self.items) (replicate 9 false) (replicate 9 None) b c.new-4.result.items) (sym c.new-3.ensures)
-          (subst (AreTables (slots_of c.copy.result.instance c.push_reserved.new.self.items) (replicate 9 false) (replicate 9 None) []) (sym c.new-4.ensures.items)
+      tables = subst (λ b. AreTables (slots_of c.copy.result.instance c.push_reserved.new.self.items) (replicate 9 false) (replicate 9 None) b c.new-5.result.items) (sym c.new-4.ensures)
+          (subst (AreTables (slots_of c.copy.result.instance c.push_reserved.new.self.items) (replicate 9 false) (replicate 9 None) []) (sym c.new-5.ensures.items)
           (subst (λ l. AreTables l (replicate 9 false) (replicate 9 None) [] []) (sym slots) (opening-tables first (nat_le (cost_of case.instance plan) (bound_at case.instance root)) refl)));
       nodes = opening-nodes c.copy.result.instance (slots_of c.copy.result.instance c.push_reserved.new.self.items);
       path = path-new c.copy.result.instance (slots_of c.copy.result.instance c.push_reserved.new.self.items) c.in_ok-path.path c.in_ok-path.ensures.nodes c.in_ok-path.ensures.room;
@@ -60,5 +62,5 @@ invariant_of-result c =
         opening_is = cost_is ∙ (λ i. cost_of (sym c.copy.ensures i).instance (sym c.copy-2.ensures i));
         throughput_is = c.throughput.ensures.value ∙ ap (λ (k : Case). throughput_of k.instance) (c.case.view_is ∙ sym c.copy.ensures);
       };
-      room = record { enough = omega (arith, c.in_ok-history.ensures.exact, ap length c.new.ensures.items, ap length c.new-2.ensures.items, ap (λ (k : Case). k.nodes) c.case.view_is, ap (λ (k : Case). k.nodes) c.copy.ensures) };
+      room = record { enough = omega (arith, c.in_ok-history.ensures.exact, ap length c.new.ensures.items, ap length c.new-2.ensures.items, ap length c.new-3.ensures.items, ap (λ (k : Case). k.nodes) c.case.view_is, ap (λ (k : Case). k.nodes) c.copy.ensures) };
     }

@@ -4,72 +4,72 @@ use Rattle.std.proofs.lemmas.Result.{IfOk-weaker, IfErr-weaker}
 use Rattle.certificate_rules.specs.declared.certificate.Mark.TheVariants as mark
 use Rattle.certificate_rules.specs.Certificates.{Closes}
 use Rattle.master_branch.specs.Node.{children}
-use Rattle.cert_check.specs.Reading.{IsStuck}
-use Rattle.cert_check.proofs.ReadLemmas.{bound-read, bound-stuck, child-read, child-stuck, more-read, more-stuck, split-read, split-stuck, leaf-read, leaf-stuck}
+use Rattle.cert_check.specs.Reading.{IsStuck, IsChildRead, IsChildStuck}
+use Rattle.cert_check.proofs.ReadLemmas.{bound-read, bound-stuck, child-read, child-stuck, more-read, more-stuck, split-read, split-stuck, leaf-stuck}
 use Rattle.cert_check.proofs.TreeLemmas.{not-true}
 use Rattle.cert_check.proofs.reading.+tree.Goals as goal
 
-pub read_child-returns-then-child_reaches-clause-ok : goal.read_child-returns-then-child_reaches-clause-ok
-read_child-returns-then-child_reaches-clause-ok n c =
+pub read_child-returns-then-child_reaches-clause-read : goal.read_child-returns-then-child_reaches-clause-read
+read_child-returns-then-child_reaches-clause-read n c =
     bound-read c.args.claim.now c.args.node.now c.args.i c.args.marks.now c.in-Some.rest.now c.in-Some.ensures (c.child_reaches.ensures.value.0 c.if-child_reaches.true)
 
-pub read_child-returns-in-Some-clause-err : goal.read_child-returns-in-Some-clause-err
-read_child-returns-in-Some-clause-err n c =
+pub read_child-returns-in-Some-clause-stuck : goal.read_child-returns-in-Some-clause-stuck
+read_child-returns-in-Some-clause-stuck n c =
     bound-stuck c.args.claim.now c.args.node.now c.args.i c.args.marks.now c.in-Some.rest.now c.in-Some.ensures
     (λ high. absurd (not-true c.child_reaches.result c.if-child_reaches.false (c.child_reaches.ensures.value.1 high)))
 
-pub read_made_child-returns-clause-ok : goal.read_made_child-returns-clause-ok
-read_made_child-returns-clause-ok n c =
+pub read_made_child-returns-clause-read : goal.read_made_child-returns-clause-read
+read_made_child-returns-clause-read n c =
     IfOk-weaker c.read_tree.result _ _
-    (λ rest h. child-read c.args.claim.now c.args.node.now c.child_of.result c.args.i c.args.marks.now rest.now c.requires.within c.child_of.ensures.depth c.child_of.ensures.lines h)
-    c.read_tree.ensures.ok
+    (λ reading. IfOk-weaker reading _ _
+    (λ rest h. child-read c.args.claim.now c.args.node.now c.child_of.result c.args.i c.args.marks.now rest.now c.requires.within c.child_of.ensures.depth c.child_of.ensures.lines h))
+    c.read_tree.ensures.read
 
-pub read_made_child-returns-clause-err : goal.read_made_child-returns-clause-err
-read_made_child-returns-clause-err n c =
-    IfErr-weaker c.read_tree.result _ _
-    (λ stuck h. child-stuck c.args.claim.now c.args.node.now c.child_of.result c.args.i c.args.marks.now stuck.marks.now stuck.reason c.requires.within c.child_of.ensures.depth c.child_of.ensures.lines h)
-    c.read_tree.ensures.err
+pub read_made_child-returns-clause-stuck : goal.read_made_child-returns-clause-stuck
+read_made_child-returns-clause-stuck n c =
+    IfOk-weaker c.read_tree.result _ _
+    (λ reading. IfErr-weaker reading _ _
+    (λ stuck h. child-stuck c.args.claim.now c.args.node.now c.child_of.result c.args.i c.args.marks.now stuck.marks.now stuck.reason c.requires.within c.child_of.ensures.depth c.child_of.ensures.lines h))
+    c.read_tree.ensures.stuck
 
-pub read_children-returns-in_err-rest-clause-err : goal.read_children-returns-in_err-rest-clause-err
-read_children-returns-in_err-rest-clause-err n c =
+pub read_children-returns-in-Err-clause-stuck : goal.read_children-returns-in-Err-clause-stuck
+read_children-returns-in-Err-clause-stuck n c =
     let within : c.loop-i.i < length (children c.args.claim.now.instance.now c.args.node.now) = omega (arith, c.loop-i-test.true, c.child_count-i-end.ensures) in
-    let all = more-stuck c.args.claim.now c.args.node.now c.loop-i.i c.args.marks.now c.loop-i.rest.now _ _ within c.loop-i.invariant.read c.in_err-rest.ensures.err in
-    search (rules, all)
+    let own : IsChildStuck c.args.claim.now c.args.node.now c.loop-i.i c.loop-i.rest.now c.in-Err.stuck.marks.now c.in-Err.stuck.reason = search rules in
+    more-stuck c.args.claim.now c.args.node.now c.loop-i.i c.args.marks.now c.loop-i.rest.now _ _ within c.loop-i.invariant.read own
 
 pub read_children-loop-i-preserved : goal.read_children-loop-i-preserved
 read_children-loop-i-preserved n c =
     let within : c.loop-i.i < length (children c.args.claim.now.instance.now c.args.node.now) = omega (arith, c.loop-i-test.true, c.child_count-i-end.ensures) in
+    let own : IsChildRead c.args.claim.now c.args.node.now c.loop-i.i c.loop-i.rest.now c.in-Ok.behind.now = search rules in
     record {
-      read = more-read c.args.claim.now c.args.node.now c.loop-i.i c.args.marks.now c.loop-i.rest.now c.in_ok-rest.rest.now within c.loop-i.invariant.read c.in_ok-rest.ensures.ok;
+      read = more-read c.args.claim.now c.args.node.now c.loop-i.i c.args.marks.now c.loop-i.rest.now c.in-Ok.behind.now within c.loop-i.invariant.read own;
       told = c.read_child.ensures.told;
     }
 
-pub read_tree-returns-then-splits-clause-ok : goal.read_tree-returns-then-splits-clause-ok
-read_tree-returns-then-splits-clause-ok n c =
+pub read_tree-returns-then-splits-clause-read : goal.read_tree-returns-then-splits-clause-read
+read_tree-returns-then-splits-clause-read n c =
     let split : (c.in-Some.mark ≡ mark.Split) × (c.args.node.now.depth < length c.args.claim.now.instance.now.ships) = search rules in
     let front : c.args.marks.now ≡ mark.Split ∷ c.in-Some.rest.now = c.in-Some.ensures.some ∙ ap (λ m. m ∷ c.in-Some.rest.now) split.0 in
     IfOk-weaker c.read_children.result _ _
-    (λ rest h. split-read c.args.claim.now c.args.node.now c.args.marks.now c.in-Some.rest.now rest.now split.1 front h)
-    c.read_children.ensures.ok
+    (λ reading. IfOk-weaker reading _ _
+    (λ rest h. split-read c.args.claim.now c.args.node.now c.args.marks.now c.in-Some.rest.now rest.now split.1 front h))
+    c.read_children.ensures.read
 
-pub read_tree-returns-then-splits-clause-err : goal.read_tree-returns-then-splits-clause-err
-read_tree-returns-then-splits-clause-err n c =
+pub read_tree-returns-then-splits-clause-stuck : goal.read_tree-returns-then-splits-clause-stuck
+read_tree-returns-then-splits-clause-stuck n c =
     let split : (c.in-Some.mark ≡ mark.Split) × (c.args.node.now.depth < length c.args.claim.now.instance.now.ships) = search rules in
     let front : c.args.marks.now ≡ mark.Split ∷ c.in-Some.rest.now = c.in-Some.ensures.some ∙ ap (λ m. m ∷ c.in-Some.rest.now) split.0 in
-    IfErr-weaker c.read_children.result _ _
-    (λ stuck h. split-stuck c.args.claim.now c.args.node.now c.args.marks.now c.in-Some.rest.now stuck.marks.now stuck.reason split.1 front h)
-    c.read_children.ensures.err
+    IfOk-weaker c.read_children.result _ _
+    (λ reading. IfErr-weaker reading _ _
+    (λ stuck h. split-stuck c.args.claim.now c.args.node.now c.args.marks.now c.in-Some.rest.now stuck.marks.now stuck.reason split.1 front h))
+    c.read_children.ensures.stuck
 
-pub read_tree-returns-then-closes-clause-ok : goal.read_tree-returns-then-closes-clause-ok
-read_tree-returns-then-closes-clause-ok n c =
-    let closed : Closes c.args.claim.now.instance.now c.args.claim.now.cost c.args.claim.now.cuts.now c.args.node.now.depth c.args.node.now.lines c.in-Some.mark = c.closes.ensures.0 c.if-closes.true in
-    leaf-read c.args.claim.now c.args.node.now c.in-Some.mark c.args.marks.now c.in-Some.rest.now c.in-Some.ensures.some closed
-
-pub read_tree-returns-clause-err : goal.read_tree-returns-clause-err
-read_tree-returns-clause-err n c =
+pub read_tree-returns-clause-stuck : goal.read_tree-returns-clause-stuck
+read_tree-returns-clause-stuck n c =
     let I = c.args.claim.now.instance.now in
     let node = c.args.node.now in
-    let open' : Closes I c.args.claim.now.cost c.args.claim.now.cuts.now node.depth node.lines c.in-Some.mark → ⊥ = λ h. absurd (not-true c.closes.result c.if-closes.false (c.closes.ensures.1 h)) in
+    let open' : Closes I c.args.claim.now.cost c.args.claim.now.cuts.now c.args.claim.now.prices.now node.depth node.lines c.in-Some.mark → ⊥ = search rules in
     let whole : c.in-Some.mark ≡ mark.Split → length I.ships ≤ node.depth =
     λ e. elim (leb_tells (suc node.depth) (length I.ships)) [
       | inl less ↦ absurd (not-true c.splits.result c.if-splits.false (c.splits.ensures.1 (e, less.1)))

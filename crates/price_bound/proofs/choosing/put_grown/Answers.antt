@@ -1,4 +1,4 @@
-use Rattle.std.proofs.Common.{◌≡◌, [], length, All, sym, subst, rules}
+use Rattle.std.proofs.Common.{◌≡◌, [], All, sym, subst, rules}
 use Rattle.std.proofs.lemmas.Result.{on_ok_weaker}
 use Rattle.price_bound.specs.Choosing.{HaveMore, IsChoice}
 use Rattle.price_bound.specs.Cuts.{plain_cuts}

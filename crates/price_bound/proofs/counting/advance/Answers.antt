@@ -1,15 +1,25 @@
-use Rattle.std.proofs.Common.{refl, sym, subst}
+use Rattle.std.proofs.Common.{All, refl, sym, subst}
 use Rattle.price_bound.specs.Cuts.{plain_cuts}
-use Rattle.price_bound.specs.Choosing.{IsCounted}
+use Rattle.price_bound.specs.Choosing.{IsChoice}
+use Rattle.price_bound.proofs.LateLemmas.{listed-each}
 use Rattle.price_bound.proofs.FrameLemmas.{frame-less, frame-next}
 use Rattle.price_bound.proofs.counting.advance.Goals as goal
+
+pub count-requires-clause-is : goal.count-requires-clause-is
+count-requires-clause-is c =
+    let table = c.args.table.now in
+    let case = table.case.now in
+    let I = case.instance.now in
+    let each = listed-each I case.chamber case.chamber_in (plain_cuts I case.cuts.now) case.depth case.prices.now case.line.now table.last table.choices.now table.lates.now c.args.frame.now.state.minute c.requires.choices.enough.each c.requires.choices.late_enough in
+    let own = subst (All (IsChoice I case.chamber (plain_cuts I case.cuts.now) case.depth case.prices.now case.line.now)) (sym c.list-choices.ensures) each in
+    subst (IsChoice I case.chamber (plain_cuts I case.cuts.now) case.depth case.prices.now case.line.now) (sym c.index-choices-place.is) (own c.loop-place.place c.index-choices-place.result c.loop-place-test.true)
 
 pub returns-in-Some-clause-frame : goal.returns-in-Some-clause-frame
 returns-in-Some-clause-frame c =
     let table = c.args.table.now in
     let case = table.case.now in
     let I = case.instance.now in
-    frame-less I case.chamber case.chamber_in (plain_cuts I case.cuts.now) case.depth case.prices.now case.line.now table.horizon table.choices.now c.loop-place.frame c.count.new.best c.count.ensures.less c.count.ensures.best c.loop-place.invariant.frame
+    frame-less I case.chamber case.chamber_in (plain_cuts I case.cuts.now) case.depth case.prices.now case.line.now table.horizon table.last table.choices.now table.lates.now c.loop-place.frame c.count.new.best c.count.ensures.less c.count.ensures.best c.loop-place.invariant.frame
 
 pub loop-place-preserved : goal.loop-place-preserved
 loop-place-preserved c =
@@ -18,9 +28,9 @@ loop-place-preserved c =
     let I = case.instance.now in
     let told = c.in-None.ensures in
     let state = c.loop-place.frame.state in
-    let counted : IsCounted I case.chamber (plain_cuts I case.cuts.now) case.depth case.prices.now case.line.now state.stand state.minute state.place c.count.new.best c.index-table-place.result =
-    subst (IsCounted I case.chamber (plain_cuts I case.cuts.now) case.depth case.prices.now case.line.now state.stand state.minute state.place c.count.new.best) (sym c.index-table-place.is) told.none in
+    let before = c.loop-place.invariant in
     record {
-      frame = frame-next I case.chamber case.chamber_in (plain_cuts I case.cuts.now) case.depth case.prices.now case.line.now table.horizon table.choices.now c.loop-place.frame c.count.new.best c.index-table-place.result c.loop-place.place c.loop-place-test.true c.loop-place.invariant.next c.index-table-place.is told.less told.best counted c.loop-place.invariant.frame;
+      frame = frame-next I case.chamber case.chamber_in (plain_cuts I case.cuts.now) case.depth case.prices.now case.line.now table.horizon table.last table.choices.now table.lates.now c.loop-place.frame c.count.new.best c.index-choices-place.result c.loop-place.place c.list-choices.result.now before.listed c.loop-place-test.true before.next c.index-choices-place.is told.less told.best told.none before.frame;
       next = refl;
+      listed = before.listed;
     }

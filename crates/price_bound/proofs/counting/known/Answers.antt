@@ -19,5 +19,5 @@ returns-else-state-table-clause-some c =
     let table = c.args.table.now in
     let case = table.case.now in
     let state = c.args.state.now in
-    found-told case.instance.now case.chamber case.chamber_in (plain_cuts case.instance.now case.cuts.now) case.depth case.prices.now case.line.now table.horizon c.args.values.now.held state.place state.stand state.minute c.find.result
+    found-told case.instance.now case.chamber case.chamber_in (plain_cuts case.instance.now case.cuts.now) case.depth case.prices.now case.line.now table.horizon c.args.values.now state.place state.stand state.minute c.find.result
     (omega (arith, c.requires.place, case.few)) c.requires.values c.find.ensures

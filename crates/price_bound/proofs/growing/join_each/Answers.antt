@@ -3,6 +3,7 @@ use Rattle.lock_rules.specs.Plan.{times_in}
 use Rattle.lock_model.specs.Fleet.{no_chamber}
 use Rattle.lock_model.specs.declared.way.Way.TheVariants.{Up}
 use Rattle.master_branch.specs.Steps.{group_at}
+use Rattle.price_bound.specs.Sparing.{IsSpared}
 use Rattle.price_bound.specs.Growing.{AreGrown, AreJoining, IsJoined}
 use Rattle.price_bound.proofs.GrowLemmas.{joining-start, joining-next, joining-done, grown-absent, missing-fresh}
 use Rattle.price_bound.proofs.growing.join_each.Goals as goal
@@ -36,6 +37,14 @@ join-requires-clause-absent c =
     let here : place < length old = omega (arith, c.loop-place-test.true, c.len-place-end.ensures, c.args.groups.now.ok) in
     subst (λ g. times_in g.ships c.args.ship ≡ 0) (sym (c.loop-place.invariant.first place _ here))
     (grown-absent I n k sets c.args.base.now c.args.ship (missing-fresh I k c.args.ship c.requires.new.missing) (group_at old place) (c.requires.grown.each place _ here))
+
+pub join-requires-clause-spared : goal.join-requires-clause-spared
+join-requires-clause-spared c =
+    let sets = c.args.growth.now.sets.now in
+    let old = c.args.groups.now.items in
+    let place = c.loop-place.place in
+    let here : place < length old = omega (arith, c.loop-place-test.true, c.len-place-end.ensures, c.args.groups.now.ok) in
+    subst (IsSpared sets) (sym (c.loop-place.invariant.first place _ here)) (record { missed = (c.requires.grown.each place _ here).missed })
 
 pub join-requires-clause-few : goal.join-requires-clause-few
 join-requires-clause-few c =

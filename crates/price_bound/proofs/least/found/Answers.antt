@@ -1,4 +1,4 @@
-use Rattle.std.proofs.Common.{sym, ◌∙◌, arith}
+use Rattle.std.proofs.Common.{arith}
 use Rattle.price_bound.specs.Cuts.{plain_cuts}
 use Rattle.price_bound.proofs.FrameLemmas.{value-rounded}
 use Rattle.price_bound.proofs.least.found.Goals as goal
@@ -10,4 +10,4 @@ returns-in-Some c =
     let I = case.instance.now in
     let first = c.args.first.now in
     value-rounded I case.chamber case.chamber_in (plain_cuts I case.cuts.now) case.depth case.prices.now case.line.now table.horizon first.place first.stand first.minute c.in-Some.value table.small
-    (c.requires.values.told first.place first.stand first.minute c.in-Some.value (omega (arith, c.requires.place, case.few)) (sym c.find.ensures ∙ c.in-Some.is))
+    (c.requires.values.told first.place first.stand first.minute c.in-Some.value (omega (arith, c.requires.place, case.few)) c.in-Some.ensures)

@@ -1,4 +1,4 @@
-use Rattle.std.proofs.Common.{◌≡◌, ◌<◌, ◌≤◌, length, sym, ◌∙◌, subst, arith}
+use Rattle.std.proofs.Common.{◌≡◌, length, sym, ◌∙◌, subst, arith}
 use Rattle.price_bound.specs.Choosing.{HasOne, HavePut, IsChoice}
 use Rattle.price_bound.specs.Cuts.{plain_cuts}
 use Rattle.price_bound.proofs.ChoiceLemmas.{put-start, put-next}

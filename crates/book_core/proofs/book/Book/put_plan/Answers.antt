@@ -54,6 +54,7 @@ invariant_of-self-2 c =
           ap (λ (u : Book). u.case.nodes) c.self.view_is,
           ap (λ (u : Book). length u.cuts) c.self.view_is,
           ap (λ (u : Book). length u.plans) c.self.view_is,
+          ap (λ (u : Book). length u.prices) c.self.view_is,
           ap length plans,
           length-one-more a.plans.items c.args.plan,
         );

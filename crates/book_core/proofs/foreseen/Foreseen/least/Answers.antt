@@ -1,4 +1,4 @@
-use Rattle.std.proofs.Common.{sym, ap, ◌∙◌}
+use Rattle.std.proofs.Common.{ap, ◌∙◌}
 use Rattle.lock_rules.specs.Bound.{least_number}
 use Rattle.flow_bounds.proofs.ChildLemmas.{least-child}
 use Rattle.book_core.proofs.foreseen.Foreseen.least.Goals as goal

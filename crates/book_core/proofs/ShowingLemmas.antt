@@ -1,0 +1,116 @@
+-- What was shown beside a book, compared with the book.
+use Rattle.std.proofs.Common.{◌≡◌, ℕ, zero, suc, ◌<◌, ◌≤◌, List, [], ◌∷◌, length, map, drop, refl, sym, ap, ◌∙◌, subst, arith, Bool, true, false, not, cond, ◌&&◌, slice_index_or, slice_get, nat_eq, Some, None}
+use Rattle.std.specs.declared.option.Option.{Option}
+use Rattle.std.specs.Bool.{Decides}
+use Rattle.std.specs.Cmp.Lexicographic.{pointwise}
+use Rattle.std.proofs.lemmas.Bool.Decides.{Decides-like, same_from_decides}
+use Rattle.std.proofs.lemmas.List.{drop_all}
+use Rattle.lock_model.specs.declared.instance.Instance.{Instance}
+use Rattle.master_branch.specs.Node.{Node}
+use Rattle.mooring_rules.specs.declared.breaks.BrokenPlan.{BrokenPlan}
+use Rattle.price_rules.specs.Prices.{Reaches}
+use Rattle.price_bound.specs.Claim.{Claim, IsReached}
+use Rattle.price_bound.specs.Cuts.{plain_cut, plain_cuts}
+use Rattle.price_bound.specs.declared.cut.ChamberCut.{ChamberCut}
+use Rattle.refute_rules.specs.Cuts.{Cut}
+use Rattle.closing_rules.specs.declared.grounds.Ground.TheVariants as by
+use Rattle.book_rules.specs.Book.{Book, Node as TreeNode, best_cost}
+use Rattle.book_rules.specs.Events as machine
+use Rattle.book_rules.specs.Events.{close_price}
+use Rattle.book_rules.specs.Same.{same_instance, same_node}
+use Rattle.book_rules.specs.Shown.{Shown, shown_cuts, IsShown, are_first_cuts}
+use Rattle.book_rules.specs.Step.{may_close, is_shown, price_refusal, cheaper_than, closed}
+use Rattle.book_rules.proofs.SameLemmas.{same_instance-decides, same_node-decides}
+use Rattle.book_core.specs.declared.reply.Reply.TheVariants as reply
+use Rattle.book_core.specs.Keeps.{IsSound}
+use Rattle.book_core.specs.Nodes.{tree_node}
+use Rattle.book_core.specs.Replies.{Answers}
+use Rattle.book_core.specs.Telling.{told_cut, told_shown}
+use Rattle.book_core.proofs.CloseLemmas.{cheap-refused, high-unrefused, event-refused, event-sound, event-answers}
+
+-- ---- what is claimed of a node is shown of it
+
+told-cuts : (I : Instance) (cuts : List ChamberCut) → shown_cuts I (map told_cut cuts) ≡ plain_cuts I cuts
+told-cuts I [] = refl
+told-cuts I (c ∷ cs) = ap (λ l. plain_cut I c ∷ l) (told-cuts I cs)
+
+pub reached-shown : (claim : Claim) → IsReached claim → IsShown (told_shown claim)
+reached-shown claim reached = subst (λ cuts. Reaches claim.instance cuts claim.node.depth claim.node.lines claim.prices claim.cost) (sym (told-cuts claim.instance claim.cuts)) reached
+
+-- ---- cuts
+
+-- the cut is another's, without its refutation
+abbrev pub same_cut : ChamberCut → Cut → Bool
+same_cut c d = nat_eq c.chamber d.chamber && pointwise nat_eq c.ships d.ships
+
+-- the same, from place i on
+abbrev pub first_from : List ChamberCut → List Cut → ℕ → Bool
+first_from shown cuts i = are_first_cuts (map told_cut (drop i shown)) (drop i cuts)
+
+pub first-step : (shown : List ChamberCut) (cuts : List Cut) (i : ℕ) (c : ChamberCut) (d : Cut) → i < length shown → i < length cuts
+    → first_from shown cuts i ≡ (same_cut (slice_index_or shown i c) (slice_index_or cuts i d) && first_from shown cuts (suc i))
+first-step [] cuts i c d known own = absurd (omega (arith, known))
+first-step (x ∷ xs) [] i c d known own = absurd (omega (arith, own))
+first-step (x ∷ xs) (y ∷ ys) zero c d known own = refl
+first-step (x ∷ xs) (y ∷ ys) (suc i) c d known own = first-step xs ys i c d (omega (arith, known)) (omega (arith, own))
+
+pub first-end : (shown : List ChamberCut) (cuts : List Cut) (i : ℕ) → length shown ≤ i → first_from shown cuts i ≡ true
+first-end shown cuts i past = ap (λ l. are_first_cuts (map told_cut l) (drop i cuts)) (drop_all i shown past)
+
+pub first-more : (shown : List ChamberCut) (cuts : List Cut) → length cuts < length shown → are_first_cuts (map told_cut shown) cuts ≡ false
+first-more [] cuts more = absurd (omega (arith, more))
+first-more (x ∷ xs) [] more = refl
+first-more (x ∷ xs) (y ∷ ys) more = neither (same_cut x y) (first-more xs ys (omega (arith, more)))
+  where
+    neither : (t : Bool) {u : Bool} → u ≡ false → (t && u) ≡ false
+    neither true e = e
+    neither false e = refl
+
+-- ---- instances and nodes
+
+pub told-instance : (r : Bool) (I J : Instance) → Decides r (I ≡ J) → r ≡ same_instance I J
+told-instance r I J decides = same_from_decides r (same_instance I J) decides (same_instance-decides I J)
+
+pub told-node : (r : Bool) (m n : Node) (t : TreeNode) → Decides r (m ≡ n) → tree_node n ≡ t → r ≡ same_node (tree_node m) t
+told-node r m n t decides is =
+    same_from_decides r (same_node (tree_node m) t) decides
+    (Decides-like (same_node (tree_node m) t) (λ e i. record { depth = ((e ∙ sym is) i).depth; lines = ((e ∙ sym is) i).lines }) (λ e. ap tree_node e ∙ is) (same_node-decides (tree_node m) t))
+
+-- ---- the four tests, one after the other
+
+abbrev pub all_four : Bool → Bool → Bool → Bool → Bool
+all_four i n p f = i && n && p && f
+
+-- ---- why a slot isn't closed by prices
+
+module _ (b : Book) (id number : ℕ) (shown : Shown) where
+  abbrev pub refusal : Option (machine.Reply BrokenPlan)
+  refusal = price_refusal b id number shown (slice_get b.prices number)
+
+  pub no-prices : slice_get b.prices number ≡ None → refusal ≡ Some (machine.NoPrices number)
+  no-prices none = ap (price_refusal b id number shown) none
+
+  module _ (prices : List ℕ) (there : slice_get b.prices number ≡ Some prices) where
+    abbrev tested : Bool → Option (machine.Reply BrokenPlan)
+    tested t = cond (not t) (Some machine.NotShown) (cheaper_than (best_cost b) shown.cost)
+
+    pub not-shown : is_shown b id prices shown ≡ false → refusal ≡ Some machine.NotShown
+    not-shown e = ap (price_refusal b id number shown) there ∙ ap tested e
+
+    pub was-shown : is_shown b id prices shown ≡ true → refusal ≡ cheaper_than (best_cost b) shown.cost
+    was-shown e = ap (price_refusal b id number shown) there ∙ ap tested e
+
+    module _ (shown_is : is_shown b id prices shown ≡ true) (may : may_close b id ≡ true) (cost best : ℕ) (cost_is : cost ≡ shown.cost) (best_is : best ≡ best_cost b) where
+      asked : refusal ≡ cheaper_than (best_cost b) cost
+      asked = was-shown shown_is ∙ ap (cheaper_than (best_cost b)) (sym cost_is)
+
+      pub shown-cheaper : cost < best → Answers b (close_price id number shown) (reply.Cheaper cost best) b
+      shown-cheaper low =
+          event-refused b id (by.Price number) (close_price id number shown) refusal refl tt (reply.Cheaper cost best) (machine.Cheaper cost best) refl may
+          (cheap-refused b refusal cost best best_is asked low)
+
+      pub shown-sound : best ≤ cost → IsShown shown → IsSound b → IsSound (closed b id (by.Price number))
+      shown-sound high owed sound = event-sound b id (by.Price number) (close_price id number shown) refusal refl tt may (high-unrefused b refusal cost best best_is asked high) sound owed
+
+      pub shown-answers : best ≤ cost → (new : Book) → new ≡ closed b id (by.Price number) → Answers b (close_price id number shown) reply.Closed new
+      shown-answers high = event-answers b id (by.Price number) (close_price id number shown) refusal refl tt may (high-unrefused b refusal cost best best_is asked high)

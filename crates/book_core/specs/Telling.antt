@@ -1,0 +1,18 @@
+-- What is shown beside a book, as the book machine sees it.
+use Rattle.std.specs.Prelude.{map}
+use Rattle.price_bound.specs.Claim.{Claim}
+use Rattle.price_bound.specs.declared.cut.ChamberCut.{ChamberCut}
+use Rattle.book_rules.specs.Shown.{Shown, ChamberCut as ToldCut}
+use Rattle.book_core.specs.Nodes.{tree_node}
+
+abbrev pub told_cut : ChamberCut → ToldCut
+told_cut cut = record { chamber = cut.chamber; ships = cut.ships }
+
+abbrev pub told_shown : Claim → Shown
+told_shown claim = record {
+  instance = claim.instance;
+  node = tree_node claim.node;
+  prices = claim.prices;
+  cuts = map told_cut claim.cuts;
+  cost = claim.cost;
+}

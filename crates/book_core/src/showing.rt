@@ -1,0 +1,137 @@
+//! The event that closes a slot by what was shown of it beside the book: under its lock a book only
+//! compares, and works nothing out.
+ghost use Rattle.std.specs.Prelude.{◌≡◌, ◌&&◌, true, map, Some, None, slice_get, nat_eq, IfSome, IfNone};
+ghost use Rattle.std.specs.Cmp.Lexicographic.{pointwise};
+ghost use Rattle.mooring_rules.specs.declared.breaks.BrokenPlan.{BrokenPlan};
+ghost use Rattle.book_rules.specs.Book.{slot_at, best_cost};
+ghost use Rattle.book_rules.specs.Events.{close_price};
+ghost use Rattle.book_rules.specs.Same.{same_node};
+ghost use Rattle.book_rules.specs.Shown.{are_first_cuts};
+ghost use Rattle.book_rules.specs.Step.{may_close, is_shown, price_refusal};
+ghost use Rattle.book_core.specs.Nodes.{tree_node};
+ghost use Rattle.book_core.specs.Keeps.{IsSound};
+ghost use Rattle.book_core.specs.Replies.{Answers};
+ghost use Rattle.book_core.specs.Telling.{told_cut, told_shown};
+
+use crate::book::Book;
+use crate::reply::Reply;
+use book_rules::{Entry, SlotState};
+use closing_rules::Ground;
+use master_branch::Node;
+use place_refute::Cut;
+use price_bound::{ChamberCut, Prices, Shown};
+
+// Whether a cut is another, but for its refutation.
+fn same_cut(one: &ChamberCut, other: &Cut) -> bool
+    ensures { result ≡ (nat_eq one.now.chamber other.now.chamber && pointwise nat_eq one.now.ships other.now.ships) }
+{
+    one.chamber == other.chamber && one.ships == other.ships
+}
+
+// Whether the cuts are the first ones of these.
+fn are_first_cuts(shown: &[ChamberCut], cuts: &[Cut]) -> bool
+    ensures { result ≡ are_first_cuts (map told_cut shown.now) cuts.now }
+{
+    if shown.len() > cuts.len() {
+        return false;
+    }
+    for i in 0..shown.len() {
+        if !same_cut(&shown[i], &cuts[i]) {
+            return false;
+        }
+    }
+    true
+}
+
+// Whether two lists of prices are the same.
+fn same_prices(one: &Prices, other: &Prices) -> bool
+    ensures { result ≡ pointwise nat_eq one.now other.now }
+{
+    one.as_slice() == other.as_slice()
+}
+
+impl Book {
+    // The prices of this number; None exactly where there are none.
+    fn prices_of(&self, number: u64) -> Option<&Prices>
+        ensures some { IfSome result (λ prices. slice_get self.now.prices number ≡ Some prices.now) }
+        ensures none { IfNone result (slice_get self.now.prices number ≡ None) }
+    {
+        self.prices.get(number as usize)
+    }
+
+    // Whether the cuts are the first ones of the book.
+    fn has_first_cuts(&self, shown: &[ChamberCut]) -> bool
+        ensures { result ≡ are_first_cuts (map told_cut shown.now) self.now.cuts }
+    {
+        are_first_cuts(shown, &self.cuts)
+    }
+
+    // Whether this is the node of a held or parked slot.
+    fn has_node(&self, id: u32, node: &Node) -> bool
+        requires { may_close self.now id ≡ true }
+        ensures { result ≡ same_node (tree_node node.now) (slot_at self.now id).node }
+    {
+        match self.hand_of(id) {
+            Some(hand) => node.equals(&hand.node),
+            None => node.equals(&self.node_of(id)),
+        }
+    }
+
+    // Whether what was shown is of the book's instance, of this slot's node, of these prices and of
+    // the first cuts of the book.
+    fn is_shown(&self, id: u32, prices: &Prices, shown: &Shown) -> bool
+        requires { may_close self.now id ≡ true }
+        ensures { result ≡ is_shown self.now id prices.now (told_shown shown.now) }
+    {
+        if !self.is_of(shown.instance()) {
+            return false;
+        }
+        if !self.has_node(id, shown.node()) {
+            return false;
+        }
+        if !same_prices(shown.prices(), prices) {
+            return false;
+        }
+        self.has_first_cuts(shown.cuts())
+    }
+
+    // Closes a held or parked slot by the prices of this number, of which so much was shown, where
+    // the cost that was shown is at least the best cost.
+    fn shut_shown(&mut self, id: u32, number: u64, shown: &Shown) -> Reply
+        requires held { may_close self.old id ≡ true }
+        requires shown { (prices : _) × (slice_get self.old.prices number ≡ Some prices) × (is_shown self.old id prices (told_shown shown.now) ≡ true) }
+        requires sound { IsSound self.old }
+        ensures { Answers self.old (close_price id number (told_shown shown.now)) result self.new }
+    {
+        let cost = shown.cost();
+        let best = self.best_cost();
+        if cost < best {
+            return Reply::Cheaper(cost, best);
+        }
+        let why = Ground::Price(number);
+        self.settle(id, SlotState::Closed(why), Entry::Close(id, why));
+        Reply::Closed
+    }
+
+    /// Closes a held or parked slot by the prices of this number, of which it was shown that its node
+    /// reaches a cost of at least the best cost by them and by the first cuts of the book. Refuses
+    /// `NotHeld`, then `NoPrices` where no prices have this number, then `NotShown` where the
+    /// instance, the node, the prices or the cuts that were shown are others, by value, then `Cheaper`
+    /// with the cost that was shown. Takes no memory.
+    pub fn close_price(&mut self, id: u32, number: u64, shown: &Shown) -> Reply
+        ensures { Answers self.old (close_price id number (told_shown shown.now)) result self.new }
+    {
+        if !self.may_close(id) {
+            return Reply::NotHeld(id);
+        }
+        match self.prices_of(number) {
+            Some(prices) => {
+                if !self.is_shown(id, prices, shown) {
+                    return Reply::NotShown;
+                }
+                self.shut_shown(id, number, shown)
+            }
+            None => Reply::NoPrices(number),
+        }
+    }
+}

@@ -1,0 +1,162 @@
+-- Marks are read back, and read from numbers one after the other.
+use Rattle.std.proofs.Common.{◌≡◌, ◌∙◌, ◌++◌, ◌+◌, ◌-◌, ◌<◌, ◌≤◌, ◌^◌, ℕ, suc, Bool, true, false, List, [], ◌∷◌, Option, Some, None, refl, sym, ap, subst, arith, length, map, drop, option_map, slice_index_or, All, ◌⊎◌, inl, inr}
+use Rattle.std.specs.Prelude.{◌&&◌, ◌||◌, ◌==◌, is_none, if◌then◌else◌}
+use Rattle.std.specs.List.{flat_map, list_any}
+use Rattle.std.proofs.lemmas.Bool.Decides.{nat_tests}
+use Rattle.std.proofs.lemmas.Bool.{lt-ltb}
+use Rattle.std.proofs.Math.Seq.{drop-cons}
+use Rattle.std.proofs.lemmas.List.{append_assoc, append-nil, drop_all}
+use Rattle.std.proofs.lemmas.List.Elements.{All-head, All-tail, All-nil, All-cons}
+use Rattle.lock_model.specs.Limits.{is_between}
+use Rattle.closing_rules.specs.declared.grounds.Ground.TheVariants.{Bound, Throughput, Probe, Cut, Price}
+use Rattle.certificate_rules.specs.declared.certificate.Mark.{Mark}
+use Rattle.certificate_rules.specs.declared.certificate.Mark.TheVariants.{Split, Leaf}
+use Rattle.certificate_rules.specs.WellFormed.{IsFormedMark}
+use Rattle.serde_json.specs.Data.{Data}
+use Rattle.serde_json.specs.View.{view, items_of, items_view}
+use Rattle.serde_json.specs.declared.value.Value.{Value}
+use Rattle.cert_text.specs.Steps.{◌>>=◌}
+use Rattle.cert_text.specs.Fields.{number_data}
+use Rattle.cert_text.specs.Versions.{is_price_mark, has_price_mark}
+use Rattle.cert_text.specs.Marks.{mark_numbers, mark_of, mark_in, listed, marks_in, tree_data, tree_in}
+
+-- ---- reading numbers one after the other
+
+module _ {M : Type 0} (told : Bool → Data → Option (Option M)) where
+  -- the marks that were found, and then those of the rest
+  abbrev pub rest_told : List M → Bool → List Value → Option (List M)
+  rest_told found begun more = option_map (λ ms. found ++ ms) (marks_in told begun (items_view more))
+
+  here : (begun : Bool) (xs : List Value) (i : ℕ) (v : Value) → i < length xs → v ≡ slice_index_or xs i v
+      → marks_in told begun (items_view (drop i xs)) ≡ (told begun (view v) >>= λ m. marks_in told (is_none m) (items_view (drop (suc i) xs)) >>= λ ms. Some (listed m ++ ms))
+  here true xs i v lt is =
+      ap (λ l. marks_in told true (items_view l)) (drop-cons xs i v lt) ∙ ap (λ w. told true (view w) >>= λ m. marks_in told (is_none m) (items_view (drop (suc i) xs)) >>= λ ms. Some (listed m ++ ms)) (sym is)
+  here false xs i v lt is =
+      ap (λ l. marks_in told false (items_view l)) (drop-cons xs i v lt) ∙ ap (λ w. told false (view w) >>= λ m. marks_in told (is_none m) (items_view (drop (suc i) xs)) >>= λ ms. Some (listed m ++ ms)) (sym is)
+
+  -- a number that says nothing
+  pub stops : (found : List M) (begun : Bool) (xs : List Value) (i : ℕ) (v : Value) (o : Option (List M)) → i < length xs → v ≡ slice_index_or xs i v
+      → o ≡ rest_told found begun (drop i xs) → told begun (view v) ≡ None → o ≡ None
+  stops found begun xs i v o lt is e none = e ∙ (ap (option_map (λ ms. found ++ ms)) (here begun xs i v lt is) ∙ rw none refl)
+
+  added : (found : List M) (m : Option M) (o : Option (List M)) → option_map (λ ms. found ++ ms) (o >>= λ ms. Some (listed m ++ ms)) ≡ option_map (λ ms. (found ++ listed m) ++ ms) o
+  added found m None = refl
+  added found m (Some ms) = ap Some (sym (append_assoc found (listed m) ms))
+
+  -- one that says something
+  pub goes_on : (found : List M) (begun : Bool) (xs : List Value) (i : ℕ) (v : Value) (m : Option M) (o : Option (List M)) → i < length xs → v ≡ slice_index_or xs i v
+      → o ≡ rest_told found begun (drop i xs) → told begun (view v) ≡ Some m → o ≡ rest_told (found ++ listed m) (is_none m) (drop (i + 1) xs)
+  goes_on found begun xs i v m o lt is e some =
+      let next : suc i ≡ i + 1 = omega arith in
+      subst (λ j. o ≡ rest_told (found ++ listed m) (is_none m) (drop j xs)) next
+      (e ∙ (ap (option_map (λ ms. found ++ ms)) (here begun xs i v lt is ∙ ap (λ r. r >>= λ n. marks_in told (is_none n) (items_view (drop (suc i) xs)) >>= λ ms. Some (listed n ++ ms)) some)
+      ∙ added found m (marks_in told (is_none m) (items_view (drop (suc i) xs)))))
+
+  -- at the end all are found, where none is begun
+  pub ends : (found : List M) (begun : Bool) (o : Option (List M)) (xs : List Value) (i : ℕ) → length xs ≤ i → o ≡ rest_told found begun (drop i xs) → begun ≡ false → o ≡ Some found
+  ends found begun o xs i past e none = e ∙ ap (rest_told found begun) (drop_all i xs past) ∙ ap (λ b. rest_told found b []) none ∙ ap Some (append-nil found)
+
+  pub unfinished : (found : List M) (begun : Bool) (o : Option (List M)) (xs : List Value) (i : ℕ) → length xs ≤ i → o ≡ rest_told found begun (drop i xs) → begun ≡ true → o ≡ None
+  unfinished found begun o xs i past e some = e ∙ ap (rest_told found begun) (drop_all i xs past) ∙ ap (λ b. rest_told found b []) some
+
+-- ---- reading back
+
+-- the numbers of a mark are read as this mark, whatever follows
+pub record ReadsFirst {M : Type 0} (told : Bool → Data → Option (Option M)) (numbers : M → List ℕ) (m : M) : Type 0 where
+  pub first : (more : List ℕ) → marks_in told false (items_of (map number_data (numbers m ++ more))) ≡ (marks_in told false (items_of (map number_data more)) >>= λ ms. Some (m ∷ ms))
+
+pub numbers_back : {M : Type 0} (told : Bool → Data → Option (Option M)) (numbers : M → List ℕ) (ms : List M) → All (ReadsFirst told numbers) ms → marks_in told false (items_of (map number_data (flat_map numbers ms))) ≡ Some ms
+numbers_back told numbers [] each = refl
+numbers_back told numbers (m ∷ ms) each =
+    (All-head (ReadsFirst told numbers) m ms each).first (flat_map numbers ms) ∙ ap (λ o. o >>= λ ns. Some (m ∷ ns)) (numbers_back told numbers ms (All-tail (ReadsFirst told numbers) m ms each))
+
+-- a mark that is one number
+pub one_number : {M : Type 0} (told : Bool → Data → Option (Option M)) (numbers : M → List ℕ) (m : M) (n : ℕ) → numbers m ≡ n ∷ [] → told false (number_data n) ≡ Some (Some m) → ReadsFirst told numbers m
+one_number told numbers m n one is = record { first = λ more. rw (one, is) refl }
+
+-- a mark that is two
+pub two_numbers : {M : Type 0} (told : Bool → Data → Option (Option M)) (numbers : M → List ℕ) (m : M) (n v : ℕ) → numbers m ≡ n ∷ v ∷ [] → told false (number_data n) ≡ Some None → told true (number_data v) ≡ Some (Some m) → ReadsFirst told numbers m
+two_numbers {M = M} told numbers m n v two sign is = record { first = λ more. rw (two, sign) (rw is (joined (marks_in told false (items_of (map number_data more))))) }
+  where
+    joined : (o : Option (List M)) → ((o >>= λ ms. Some (m ∷ ms)) >>= λ ms. Some ms) ≡ (o >>= λ ms. Some (m ∷ ms))
+    joined None = refl
+    joined (Some ms) = refl
+
+off : (b : Bool) → (b && false) ≡ false
+off true = refl
+off false = refl
+
+-- the mark is one number, which is no 3, or 4 and another
+abbrev pub Numbers : Bool → Mark → Type 0
+Numbers third m =
+    ((n : ℕ) × (mark_numbers m ≡ n ∷ []) × ((n == 3) ≡ false) × (mark_in third false (number_data n) ≡ Some (Some m)))
+    ⊎ ((v : ℕ) × (mark_numbers m ≡ 4 ∷ v ∷ []) × (mark_in third false (number_data 4) ≡ Some None) × (mark_in third true (number_data v) ≡ Some (Some m)))
+
+split_told : (third : Bool) → mark_in third false (number_data 0) ≡ Some (Some Split)
+unfolding mark_of
+split_told third = rw (off third) refl
+
+bound_told : (third : Bool) → mark_in third false (number_data 1) ≡ Some (Some (Leaf Bound))
+unfolding mark_of
+bound_told third = rw (off third) refl
+
+throughput_told : (third : Bool) → mark_in third false (number_data 2) ≡ Some (Some (Leaf Throughput))
+unfolding mark_of
+throughput_told third = rw (off third) refl
+
+above : (n m : ℕ) → m < n → (n == m) ≡ false
+above n m less = grind (arith, nat_tests)
+
+-- a number above 9
+told_above : (third : Bool) (n : ℕ) → 9 < n → mark_in third false (number_data n)
+    ≡ option_map Some (if is_between 10 33 n then Some (Leaf (Probe (n - 10))) else (if is_between 100 9223372036854775907 n then Some (Leaf (Cut (n - 100))) else None))
+unfolding mark_of
+told_above third n high =
+    rw (above n 4 (omega (arith, high)), off third, above n 0 (omega (arith, high)), above n 1 (omega (arith, high)), above n 2 (omega (arith, high))) refl
+
+probe_told : (third : Bool) (s : ℕ) → s ≤ 23 → mark_in third false (number_data (10 + s)) ≡ Some (Some (Leaf (Probe s)))
+probe_told third s low =
+    let in_range : is_between 10 33 (10 + s) ≡ true = grind (arith, nat_tests) in
+    let back : (10 + s) - 10 ≡ s = omega arith in
+    told_above third (10 + s) (omega arith) ∙ rw (in_range, back) refl
+
+cut_told : (third : Bool) (c : ℕ) → c < 2 ^ 63 → mark_in third false (number_data (100 + c)) ≡ Some (Some (Leaf (Cut c)))
+cut_told third c low =
+    let out : is_between 10 33 (100 + c) ≡ false = grind (arith, nat_tests) in
+    let in_range : is_between 100 9223372036854775907 (100 + c) ≡ true = grind (arith, nat_tests) in
+    let back : (100 + c) - 100 ≡ c = omega arith in
+    told_above third (100 + c) (omega arith) ∙ rw (out, in_range, back) refl
+
+price_told : (third : Bool) (v : ℕ) → v < 2 ^ 63 → mark_in third true (number_data v) ≡ Some (Some (Leaf (Price v)))
+price_told third v low =
+    let small : v < 9223372036854775808 = omega (arith, low) in
+    rw (lt-ltb v 9223372036854775808 small) refl
+
+-- one that may be written down, where only the third version names prices
+pub mark_told : (third : Bool) (m : Mark) → IsFormedMark m → (third ≡ false → is_price_mark m ≡ false) → Numbers third m
+mark_told third Split formed plain = inl (0, refl, refl, split_told third)
+mark_told third (Leaf Bound) formed plain = inl (1, refl, refl, bound_told third)
+mark_told third (Leaf Throughput) formed plain = inl (2, refl, refl, throughput_told third)
+mark_told third (Leaf (Probe s)) formed plain = inl (10 + s, refl, above (10 + s) 3 (omega arith), probe_told third s formed)
+mark_told third (Leaf (Cut c)) formed plain = inl (100 + c, refl, above (100 + c) 3 (omega arith), cut_told third c formed)
+mark_told true (Leaf (Price v)) formed plain = inr (v, refl, refl, price_told true v formed)
+mark_told false (Leaf (Price v)) formed plain = absurd (let named = plain refl in cc)
+
+mark_back : (third : Bool) (m : Mark) → Numbers third m → ReadsFirst (mark_in third) mark_numbers m
+mark_back third m (inl one) = one_number (mark_in third) mark_numbers m one.0 one.1 one.3
+mark_back third m (inr two) = two_numbers (mark_in third) mark_numbers m 4 two.0 two.1 two.2 two.3
+
+either_off : (a b : Bool) → (a || b) ≡ false → (a ≡ false) × (b ≡ false)
+either_off true b off = absurd cc
+either_off false b off = (refl, off)
+
+-- no item passes a test that none passes
+pub none_passes : {A : Type 0} (f : A → Bool) (xs : List A) → list_any f xs ≡ false → All (λ x. f x ≡ false) xs
+none_passes f [] none = All-nil (λ x. f x ≡ false)
+none_passes f (x ∷ xs) none =
+    let each = either_off (f x) (list_any f xs) none in
+    All-cons (λ y. f y ≡ false) x xs each.0 (none_passes f xs each.1)
+
+pub tree_back : (third : Bool) (ms : List Mark) → All IsFormedMark ms → (third ≡ false → has_price_mark ms ≡ false) → tree_in third (tree_data ms) ≡ Some ms
+tree_back third ms formed plain =
+    numbers_back (mark_in third) mark_numbers ms (λ k d low. mark_back third _ (mark_told third _ (formed k d low) (λ e. none_passes is_price_mark ms (plain e) k d low)))

@@ -1,0 +1,54 @@
+-- Lists of prices are read back, and read one after the other.
+use Rattle.std.proofs.Common.{◌≡◌, ◌∙◌, ◌<◌, ◌≤◌, ℕ, true, false, List, Option, Some, None, refl, sym, ap, arith, length, All}
+use Rattle.std.proofs.lemmas.Bool.Decides.{nat_tests}
+use Rattle.lock_model.specs.Limits.{is_between}
+use Rattle.serde_json.specs.View.{items_view}
+use Rattle.serde_json.specs.declared.value.Value.{Value}
+use Rattle.certificate_rules.specs.WellFormed.{AreFormedPrices}
+use Rattle.cert_text.specs.Steps.{◌>>=◌, ◌>>◌, when}
+use Rattle.cert_text.specs.Fields.{number_data, numbers_data, all_in}
+use Rattle.cert_text.specs.Prices.{price_lists_data, price_in, items_prices, prices_in, price_lists_in}
+use Rattle.cert_text.proofs.FieldLemmas.{ReadsBack, all_back, below_back}
+use Rattle.cert_text.proofs.ListLemmas.{all_in-length}
+
+abbrev if_few : Option (List ℕ) → Option (List ℕ)
+if_few o = o >>= λ prices. when (is_between 1 24 (length prices)) >> Some prices
+
+one_back : (prices : List ℕ) → AreFormedPrices prices → prices_in (numbers_data prices) ≡ Some prices
+one_back prices formed =
+    let some = formed.0 in
+    let few = formed.1.few in
+    let between : is_between 1 24 (length prices) ≡ true = grind (arith, nat_tests) in
+    let each : All (ReadsBack number_data price_in) prices = λ k d low. record { same = below_back 1000001 _ (let small = formed.1.small k d low in omega (arith, small)) } in
+    ap if_few (all_back number_data price_in prices each) ∙ ap (λ b. when b >> Some prices) between
+
+pub lists_back : (prices : List (List ℕ)) → All AreFormedPrices prices → price_lists_in (price_lists_data prices) ≡ Some prices
+lists_back prices formed = all_back numbers_data prices_in prices (λ k d low. record { same = one_back _ (formed k d low) })
+
+-- the prices of as many items
+pub priced : (vs : List Value) (prices : List ℕ) → 1 ≤ length vs → length vs ≤ 24 → all_in price_in (items_view vs) ≡ Some prices → items_prices (items_view vs) ≡ Some prices
+priced vs prices some few is =
+    let count = all_in-length price_in vs prices is in
+    let between : is_between 1 24 (length prices) ≡ true = grind (arith, nat_tests) in
+    ap if_few is ∙ ap (λ b. when b >> Some prices) between
+
+pub unpriced : (vs : List Value) → all_in price_in (items_view vs) ≡ None → items_prices (items_view vs) ≡ None
+unpriced vs is = ap if_few is
+
+-- items of another count
+wrong_count : (vs : List Value) → is_between 1 24 (length vs) ≡ false → items_prices (items_view vs) ≡ None
+wrong_count vs out = go (all_in price_in (items_view vs)) refl
+  where
+    go : (o : Option (List ℕ)) → all_in price_in (items_view vs) ≡ o → items_prices (items_view vs) ≡ None
+    go None is = ap if_few is
+    go (Some prices) is =
+        let wrong : is_between 1 24 (length prices) ≡ false = ap (is_between 1 24) (all_in-length price_in vs prices is) ∙ out in
+        ap if_few is ∙ ap (λ b. when b >> Some prices) wrong
+
+pub none_priced : (vs : List Value) → length vs ≡ 0 → None ≡ items_prices (items_view vs)
+none_priced vs none = sym (wrong_count vs (ap (is_between 1 24) none))
+
+pub too_many : (vs : List Value) → 24 < length vs → None ≡ items_prices (items_view vs)
+too_many vs many =
+    let out : is_between 1 24 (length vs) ≡ false = grind (arith, nat_tests) in
+    sym (wrong_count vs out)

@@ -1,0 +1,76 @@
+//! The object of a certificate from its parts.
+ghost use Rattle.std.specs.Prelude.{◌≡◌, [], ◌∷◌, All, IfOk, Some, codes};
+ghost use Rattle.certificate_rules.specs.WellFormed.{IsFormedCut, IsFormedLockage, AreFormedPrices};
+ghost use Rattle.serde_json.specs.View.{view, members_view};
+ghost use Rattle.cert_text.specs.Fields.{members};
+ghost use Rattle.cert_text.specs.Cost.{cost_data};
+ghost use Rattle.cert_text.specs.Cuts.{cuts_data, cuts_in};
+ghost use Rattle.cert_text.specs.Plans.{plan_data, plan_in};
+ghost use Rattle.cert_text.specs.Certificates.{parts_data};
+
+use crate::cost::put_cost;
+use crate::cuts::put_cuts;
+use crate::heading::Version;
+use crate::plan::put_plan;
+use crate::prices::put_prices;
+use cert_check::CertCuts;
+use lock_model::Plan;
+use plain_text::NoMemory;
+use price_bound::Prices;
+use serde_json::{Map, Value};
+use std::alloc::Global;
+
+/// What a certificate has besides its marks: its cost in minutes, its cuts, its plan and its prices.
+#[derive(Drop)]
+pub struct Parts<'a> {
+    pub cost: u64,
+    pub cuts: &'a CertCuts,
+    pub plan: &'a Plan,
+    pub prices: &'a [Prices],
+}
+
+/// The members that each certificate has, by their keys.
+#[tactic(auto, unfolding(serde_json::proofs::OnLiterals::serde_json_on_literals))]
+fn put_members(alloc: Global, parts: &Parts, tree: Value) -> Result<Map<String, Value>, NoMemory>
+    requires cuts { All IsFormedCut parts.now.cuts.now }
+    requires lockages { All IsFormedLockage parts.now.plan.now.lockages }
+    ensures members { IfOk result (λ map. members_view map.entries ≡ members ((codes "cost", cost_data parts.now.cost) ∷ (codes "cuts", cuts_data parts.now.cuts.now) ∷ (codes "plan", plan_data parts.now.plan.now) ∷ (codes "tree", view tree) ∷ [])) }
+    ensures cuts_back { IfOk result (λ _. cuts_in (cuts_data parts.now.cuts.now) ≡ Some parts.now.cuts.now) }
+    ensures plan_back { IfOk result (λ _. plan_in (plan_data parts.now.plan.now) ≡ Some parts.now.plan.now) }
+{
+    let cost = put_cost(parts.cost)?;
+    let cuts = put_cuts(alloc, parts.cuts)?;
+    let plan = put_plan(alloc, parts.plan)?;
+    let mut map = Map::new(alloc);
+    serde_json::put(&mut map, alloc, "cost", cost)?;
+    serde_json::put(&mut map, alloc, "cuts", cuts)?;
+    serde_json::put(&mut map, alloc, "plan", plan)?;
+    serde_json::put(&mut map, alloc, "tree", tree)?;
+    Ok(map)
+}
+
+/// The object of a version with these parts and this tree. Its only refusal is want of memory.
+#[tactic(auto, unfolding(serde_json::proofs::OnLiterals::serde_json_on_literals))]
+pub fn put_parts(
+    alloc: Global,
+    version: Version,
+    parts: &Parts,
+    tree: Value,
+) -> Result<Value, NoMemory>
+    requires cuts { All IsFormedCut parts.now.cuts.now }
+    requires lockages { All IsFormedLockage parts.now.plan.now.lockages }
+    requires prices { All AreFormedPrices parts.now.prices.now }
+    ensures value { IfOk result (λ v. view v ≡ parts_data version parts.now.cost parts.now.cuts.now parts.now.plan.now parts.now.prices.now (view tree)) }
+    ensures cuts_back { IfOk result (λ _. cuts_in (cuts_data parts.now.cuts.now) ≡ Some parts.now.cuts.now) }
+    ensures plan_back { IfOk result (λ _. plan_in (plan_data parts.now.plan.now) ≡ Some parts.now.plan.now) }
+{
+    let mut map = put_members(alloc, parts, tree)?;
+    match version {
+        Version::First | Version::Second => Ok(Value::Object(map)),
+        Version::Third => {
+            let prices = put_prices(alloc, parts.prices)?;
+            serde_json::put(&mut map, alloc, "prices", prices)?;
+            Ok(Value::Object(map))
+        }
+    }
+}

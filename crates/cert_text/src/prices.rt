@@ -1,0 +1,144 @@
+//! Lists of prices as JSON values.
+ghost use Rattle.std.specs.Prelude.{◌≡◌, ◌≤◌, length, All, IfOk, IfErr, Some, None, map, codes};
+ghost use Rattle.certificate_rules.specs.WellFormed.{AreFormedPrices};
+ghost use Rattle.serde_json.specs.View.{view, items_of, items_view};
+ghost use Rattle.cert_text.specs.Answers.{IsCausedFault};
+ghost use Rattle.cert_text.specs.Fields.{numbers_data, all_in, value_at};
+ghost use Rattle.cert_text.specs.Prices.{price_lists_data, price_in, items_prices, prices_in, price_lists_in, prices_under};
+ghost use Rattle.cert_text.specs.declared.bad.BadDossier.TheVariants.{Shape};
+
+use crate::bad::{BadDossier, DossierError};
+use crate::heading::Version;
+use crate::value::number_below;
+use crate::why::push_words;
+use arrayvec::ArrayVec;
+use cert_check::PriceLists;
+use price_bound::Prices;
+use serde_json::Value;
+use std::alloc::{AllocError, Global};
+
+/// Prices as a value.
+fn put_one(alloc: Global, prices: &Prices) -> Result<Value, AllocError>
+    ensures { IfOk result (λ v. view v ≡ numbers_data prices.now) }
+{
+    let mut list = Vec::new(alloc);
+    push_words(&mut list, prices.as_slice())?;
+    Ok(Value::Array(list))
+}
+
+/// The values of prices in order.
+fn put_all(alloc: Global, prices: &[Prices]) -> Result<Vec<Value>, AllocError>
+    requires { All AreFormedPrices prices.now }
+    ensures values { IfOk result (λ list. map view list.items ≡ map numbers_data prices.now) }
+    ensures reads_back { IfOk result (λ _. all_in prices_in (items_of (map numbers_data prices.now)) ≡ Some prices.now) }
+{
+    let mut list = Vec::with_capacity(alloc, prices.len())?;
+    for own in prices {
+        list.push(put_one(alloc, own)?)?;
+    }
+    Ok(list)
+}
+
+/// Prices, each with its 1 to 24 numbers, as a value that `prices_at` reads back.
+pub(crate) fn put_prices(alloc: Global, prices: &[Prices]) -> Result<Value, AllocError>
+    requires { All AreFormedPrices prices.now }
+    ensures value { IfOk result (λ v. view v ≡ price_lists_data prices.now) }
+    ensures reads_back { IfOk result (λ v. price_lists_in (view v) ≡ Some prices.now) }
+{
+    let list = put_all(alloc, prices)?;
+    Ok(Value::Array(list))
+}
+
+/// The prices that 1 to 24 values write.
+fn read_prices(list: &[Value]) -> Option<Prices>
+    requires some { 1 ≤ length list.now }
+    requires few { length list.now ≤ 24 }
+    ensures { result ≡ items_prices (items_view list.now) }
+{
+    let mut prices: ArrayVec<u32, 24> = ArrayVec::new();
+    for value in list {
+        let price = number_below(value, 1_000_001)?;
+        prices.push(price as u32);
+    }
+    Prices::new(prices.as_slice())
+}
+
+/// The prices that values write, if they are 1 to 24.
+fn items_prices(list: &[Value]) -> Option<Prices>
+    ensures { result ≡ items_prices (items_view list.now) }
+{
+    if list.is_empty() {
+        return None;
+    }
+    if list.len() > 24 {
+        return None;
+    }
+    read_prices(list)
+}
+
+/// The prices that a value lists.
+fn prices_in(value: &Value) -> Option<Prices>
+    ensures { result ≡ prices_in (view value.now) }
+{
+    items_prices(value.as_array()?.as_slice())
+}
+
+/// The lists of prices that values write.
+fn all_in(alloc: Global, list: &[Value]) -> Result<Option<PriceLists>, AllocError>
+    ensures { IfOk result (λ o. o ≡ all_in prices_in (items_view list.now)) }
+{
+    let mut found = PriceLists::new(alloc);
+    for value in list {
+        match prices_in(value) {
+            Some(prices) => found.push(prices)?,
+            None => return Ok(None),
+        }
+    }
+    Ok(Some(found))
+}
+
+/// The lists of prices that a value lists.
+fn price_lists_in(alloc: Global, value: &Value) -> Result<Option<PriceLists>, AllocError>
+    ensures { IfOk result (λ o. o ≡ price_lists_in (view value.now)) }
+{
+    match value.as_array() {
+        Some(list) => all_in(alloc, list.as_slice()),
+        None => Ok(None),
+    }
+}
+
+/// The lists of prices at the key `prices`.
+fn third_prices(alloc: Global, value: &Value) -> Result<Option<PriceLists>, AllocError>
+    ensures { IfOk result (λ o. o ≡ value_at (codes "prices") price_lists_in (view value.now)) }
+{
+    match value.get("prices") {
+        Some(prices) => price_lists_in(alloc, prices),
+        None => Ok(None),
+    }
+}
+
+/// The lists of prices of a version, which no version before the third has.
+fn prices_under(
+    alloc: Global,
+    version: Version,
+    value: &Value,
+) -> Result<Option<PriceLists>, AllocError>
+    ensures { IfOk result (λ o. o ≡ prices_under version (view value.now)) }
+{
+    match version {
+        Version::First | Version::Second => Ok(Some(PriceLists::new(alloc))),
+        Version::Third => third_prices(alloc, value),
+    }
+}
+
+/// The lists of prices at the key `prices`, each of 1 to 24 numbers up to 1,000,000; before the third
+/// version none. Answers `Shape(6)` exactly where there are no such lists, or else want of memory.
+pub fn prices_at(alloc: Global, version: Version, value: &Value) -> Result<PriceLists, DossierError>
+    ensures read { IfOk result (λ prices. prices_under version (view value.now) ≡ Some prices) }
+    ensures shape { IfErr result (IsCausedFault (Shape 6) (prices_under version (view value.now) ≡ None)) }
+{
+    match prices_under(alloc, version, value)? {
+        Some(prices) => Ok(prices),
+        None => Err(DossierError::Fault(BadDossier::Shape(6))),
+    }
+}

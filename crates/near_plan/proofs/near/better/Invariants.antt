@@ -1,0 +1,5 @@
+use Rattle.std.proofs.Common.{◌≡◌}
+use Rattle.near_plan.proofs.near.better.Given as goal
+
+abbrev pub invariant-loop-ship : goal.invariant-loop-ship
+invariant-loop-ship g l = g.F.Fitting.instance l.fitting ≡ l.instance

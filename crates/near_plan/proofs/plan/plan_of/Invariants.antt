@@ -1,0 +1,5 @@
+use Rattle.std.proofs.Common.{◌≡◌}
+use Rattle.near_plan.proofs.plan.plan_of.Given as goal
+
+abbrev pub invariant-loop-chamber : goal.invariant-loop-chamber
+invariant-loop-chamber g l = g.F.Fitting.instance l.fitting ≡ l.instance

@@ -1,0 +1,111 @@
+//! What is kept of loose lines.
+ghost use Rattle.std.specs.Prelude.{◌≡◌, ◌<◌, ◌≤◌, length, All};
+
+use crate::draft::Draft;
+use crate::fitting::{Fitting, fits};
+use crate::sets::without;
+use lock_model::{Group, Instance, Ships};
+use plain_text::NoMemory;
+use price_bound::LooseLines;
+
+// The ships of a group that the draft lacks.
+fn lacking(draft: &Draft, ships: &Ships) -> Ships {
+    let mut kept = ships.copy();
+    for &ship in ships.as_slice() {
+        if draft.has(ship) {
+            kept = without(&kept, ship);
+        }
+    }
+    kept
+}
+
+// The last of these ships that fit a chamber together, as many as can be.
+fn fitting_ships<F: Fitting>(
+    instance: &Instance,
+    chamber: u8,
+    ships: Ships,
+    fitting: &mut F,
+) -> Result<Ships, NoMemory>
+    requires same { F.instance fitting.old ≡ instance.now }
+    ensures same { F.instance fitting.new ≡ instance.now }
+{
+    let mut kept = ships;
+    for _ in 0..8 {
+        if fits(instance, chamber, &kept, fitting)?.is_some() {
+            return Ok(kept);
+        }
+        kept = match kept.as_slice() {
+            [first, ..] => without(&kept, *first),
+            [] => return Ok(kept),
+        };
+    }
+    Ok(kept)
+}
+
+// Puts what is kept of a group behind the groups of its chamber.
+fn keep_group<F: Fitting>(
+    instance: &Instance,
+    draft: &mut Draft,
+    chamber: u8,
+    group: &Group,
+    fitting: &mut F,
+) -> Result<(), NoMemory>
+    requires chamber { chamber < 4 }
+    requires same { F.instance fitting.old ≡ instance.now }
+    ensures same { F.instance fitting.new ≡ instance.now }
+{
+    let kept = lacking(draft, &group.ships);
+    let ships = fitting_ships(instance, chamber, kept, fitting)?;
+    let mut line = draft.line(chamber).copy();
+    if ships.len() > 0 && line.as_slice().len() < 24 {
+        line.push(Group {
+            way: group.way,
+            ships,
+        });
+        draft.set_line(chamber, line);
+    }
+    Ok(())
+}
+
+// Puts what is kept of a line into the draft.
+fn keep_line<F: Fitting>(
+    instance: &Instance,
+    draft: &mut Draft,
+    chamber: u8,
+    groups: &[Group],
+    fitting: &mut F,
+) -> Result<(), NoMemory>
+    requires chamber { chamber < 4 }
+    requires same { F.instance fitting.old ≡ instance.now }
+    ensures same { F.instance fitting.new ≡ instance.now }
+{
+    for group in groups {
+        keep_group(instance, draft, chamber, group, fitting)?;
+    }
+    Ok(())
+}
+
+/// The groups of loose lines, each ship in the first of its groups, and without those that don't fit
+/// together.
+pub(crate) fn kept<F: Fitting>(
+    instance: &Instance,
+    lines: &LooseLines,
+    fitting: &mut F,
+) -> Result<Draft, NoMemory>
+    requires same { F.instance fitting.old ≡ instance.now }
+    ensures same { F.instance fitting.new ≡ instance.now }
+{
+    let mut draft = Draft::new();
+    for (chamber, line) in lines.lines.as_slice().iter().enumerate() {
+        if chamber < 4 {
+            keep_line(
+                instance,
+                &mut draft,
+                chamber as u8,
+                line.groups.as_slice(),
+                fitting,
+            )?;
+        }
+    }
+    Ok(draft)
+}

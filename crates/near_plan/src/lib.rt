@@ -1,0 +1,27 @@
+//! A plan near loose lines.
+//!
+//! In loose lines a missing ship may stand several times, or not at all. `near_plan` keeps each ship in
+//! the first of its groups, puts those that lack in where they cost least and fit, and then takes each
+//! ship out and puts it in again, as long as that gains. Whether ships fit a chamber is asked of the
+//! caller (`Fitting`). By good prices the plan is often a cheapest one.
+//!
+//! - `draft`: lines of groups as they are made. `keeping`: what is kept of loose lines. `putting`: where
+//!   a ship costs least. `near`: the whole.
+//!
+//! The plan that comes out is legal and costs less than the caller asked; of how it is found nothing
+//! is claimed.
+#![tactic(auto)]
+
+mod draft;
+mod fitting;
+mod flow;
+mod keeping;
+mod near;
+mod plan;
+mod putting;
+mod sets;
+#[cfg(test)]
+mod tests;
+
+pub use fitting::{Fitting, fits};
+pub use near::near_plan;

@@ -1,0 +1,99 @@
+//! The plan of a draft.
+ghost use Rattle.std.specs.Prelude.{◌≡◌, ◌<◌, ◌≤◌, ◌↔◌, length, All, IfOk, IfSome, IsTrue};
+ghost use Rattle.std.specs.Bool.{OnTrue};
+ghost use Rattle.lock_rules.specs.Plan.{IsLegal, cost_of};
+
+use crate::draft::Draft;
+use crate::fitting::{Fitting, fits};
+use crate::flow::are_known;
+use chamber_times::{cost, earliest};
+use lock_model::{Group, Instance, Lockage, Lockages, Plan};
+use mooring_rules::judge_plan;
+use plain_text::NoMemory;
+
+// Whether all groups are of the instance.
+fn are_all_known(instance: &Instance, chamber: u8, groups: &[Group]) -> bool
+    ensures { OnTrue result (All (λ g. All (λ s. s < length instance.now.ships) g.ships) groups.now) }
+{
+    for group in groups {
+        if !are_known(instance, chamber, &group.ships) {
+            return false;
+        }
+    }
+    true
+}
+
+// Appends the lockages of a line at the earliest; false where a group has no spots.
+fn add_line<F: Fitting>(
+    instance: &Instance,
+    chamber: u8,
+    groups: &[Group],
+    lockages: &mut Lockages,
+    fitting: &mut F,
+) -> Result<bool, NoMemory>
+    requires same { F.instance fitting.old ≡ instance.now }
+    requires chamber_in { chamber < length instance.now.chambers }
+    requires few { length groups.now ≤ 24 }
+    ensures same { F.instance fitting.new ≡ instance.now }
+{
+    if !are_all_known(instance, chamber, groups) {
+        return Ok(false);
+    }
+    let times = earliest(instance, chamber, groups);
+    for (place, group) in groups.iter().enumerate() {
+        let spots = fits(instance, chamber, &group.ships, fitting)?;
+        let (start, _) = times.as_slice()[place];
+        match spots {
+            Some(spots) if lockages.as_slice().len() < 24 => lockages.push(Lockage {
+                chamber,
+                way: group.way,
+                ships: group.ships.copy(),
+                start: start as u32,
+                spots,
+            }),
+            _ => return Ok(false),
+        }
+    }
+    Ok(true)
+}
+
+// Whether a legal plan costs less than so many minutes.
+fn costs_less(instance: &Instance, plan: &Plan, below: u64) -> bool
+    requires { IsLegal instance.now plan.now }
+    ensures { IsTrue result ↔ (cost_of instance.now plan.now < below) }
+{
+    cost(instance, plan) < below
+}
+
+// The plan, if it is legal and costs less than so many minutes.
+fn cheaper(instance: &Instance, plan: Plan, below: u64) -> Option<Plan>
+    ensures legal { IfSome result (IsLegal instance.now) }
+    ensures cheaper { IfSome result (λ plan. cost_of instance.now plan < below) }
+{
+    if judge_plan(instance, &plan).is_some() || !costs_less(instance, &plan, below) {
+        return None;
+    }
+    Some(plan)
+}
+
+/// The plan of a draft at the earliest, if it is legal and costs less than so many minutes.
+pub(crate) fn plan_of<F: Fitting>(
+    instance: &Instance,
+    draft: &Draft,
+    below: u64,
+    fitting: &mut F,
+) -> Result<Option<Plan>, NoMemory>
+    requires same { F.instance fitting.old ≡ instance.now }
+    ensures same { F.instance fitting.new ≡ instance.now }
+    ensures legal { IfOk result (λ found. IfSome found (IsLegal instance.now)) }
+    ensures cheaper { IfOk result (λ found. IfSome found (λ plan. cost_of instance.now plan < below)) }
+{
+    let mut lockages = Lockages::new();
+    for chamber in 0..instance.chambers.as_slice().len() as u8 {
+        let groups = draft.line(chamber).as_slice();
+        if !add_line(instance, chamber, groups, &mut lockages, fitting)? {
+            return Ok(None);
+        }
+    }
+    Ok(cheaper(instance, Plan { lockages }, below))
+}

@@ -1,0 +1,188 @@
+//! Cuts of what the placers refute.
+ghost use Rattle.std.specs.Prelude.{◌≡◌, ◌<◌, ◌≤◌, ◌+◌, length, All, Contains, IfOk, IfSome};
+ghost use Rattle.refute_rules.specs.Refutes.{IsRefuted};
+ghost use Rattle.lock_model.specs.Fitting.{deck_of};
+ghost use Rattle.node_work.specs.Settling.{shrink_turns, IsPartOf, IsCutFrom};
+
+use crate::last::is_among;
+use berth_place::{BerthPlaced, place_by_berths};
+use chamber_place::shrink;
+use lock_model::{Instance, Ships, deck_of};
+use place_refute::Cut;
+use plain_text::NoMemory;
+use refute_rules::Refutation;
+use std::alloc::Global;
+
+/// Ships that are asked about, and their chamber.
+#[derive(Clone, Copy)]
+pub(crate) struct Asked<'i> {
+    pub(crate) instance: &'i Instance,
+    pub(crate) chamber: u8,
+    pub(crate) ships: &'i Ships,
+}
+
+// Some of the ships, and a refutation of their deck.
+#[derive(Drop)]
+struct Part {
+    ships: Ships,
+    refutation: Refutation,
+}
+
+// The greatest number of ships of an instance, and of a group.
+const SHIPS: u8 = 24;
+
+const MOST: usize = 8;
+
+// Appends a ship of these, unless it is the one that is left out.
+fn add_kept(ships: &Ships, gone: u8, ship: u8, fewer: &mut Ships)
+    requires below { All (λ s. s < ship) fewer.old }
+    requires among { All (Contains ships.now) fewer.old }
+    ensures below { All (λ s. s < ship + 1) fewer.new }
+    ensures among { All (Contains ships.now) fewer.new }
+{
+    if ship != gone && is_among(ship, ships.as_slice()) && fewer.len() < MOST {
+        fewer.push(ship);
+    }
+}
+
+// These ships but one.
+fn without(ships: &Ships, gone: u8) -> Ships
+    ensures { All (Contains ships.now) result }
+{
+    let mut fewer = Ships::new();
+    for ship in 0..SHIPS {
+        add_kept(ships, gone, ship, &mut fewer);
+    }
+    fewer
+}
+
+// The part of these ships, where the placer by berths refutes them.
+#[tactic(auto, using(crate::proofs::CutLemmas::part_is))]
+fn berth_part(
+    alloc: Global,
+    asked: &Asked<'_>,
+    ships: Ships,
+    turns: u32,
+) -> Result<Option<Part>, NoMemory>
+    requires chamber_in { asked.now.chamber < length asked.now.instance.now.chambers }
+    requires ships_in { All (λ s. s < length asked.now.instance.now.ships) asked.now.ships.now }
+    requires among { All (Contains asked.now.ships.now) ships }
+    requires some { 1 ≤ length ships }
+    ensures { IfOk result (λ found. IfSome found (λ part. IsPartOf asked.now.instance.now asked.now.chamber asked.now.ships.now part.ships part.refutation)) }
+{
+    let deck = deck_of(asked.instance, asked.chamber, &ships);
+    match place_by_berths(alloc, &deck, turns)? {
+        BerthPlaced::Refuted(marks) => Ok(Some(Part {
+            ships,
+            refutation: Refutation::Berths(marks),
+        })),
+        BerthPlaced::Fits(_) => Ok(None),
+        BerthPlaced::Spent(_) => Ok(None),
+    }
+}
+
+// The part without a ship, where the placer by berths refutes what is left, or the part itself.
+fn left_out(
+    alloc: Global,
+    asked: &Asked<'_>,
+    part: Part,
+    gone: u8,
+    turns: u32,
+) -> Result<Part, NoMemory>
+    requires chamber_in { asked.now.chamber < length asked.now.instance.now.chambers }
+    requires ships_in { All (λ s. s < length asked.now.instance.now.ships) asked.now.ships.now }
+    requires part { IsPartOf asked.now.instance.now asked.now.chamber asked.now.ships.now part.ships part.refutation }
+    ensures { IfOk result (λ left. IsPartOf asked.now.instance.now asked.now.chamber asked.now.ships.now left.ships left.refutation) }
+{
+    let fewer = without(&part.ships, gone);
+    if fewer.len() == 0 {
+        return Ok(part);
+    }
+    match berth_part(alloc, asked, fewer, turns)? {
+        Some(smaller) => Ok(smaller),
+        None => Ok(part),
+    }
+}
+
+// Leaves each ship out in turn, as long as the placer by berths refutes what is left.
+fn least_part(alloc: Global, asked: &Asked<'_>, part: Part, turns: u32) -> Result<Part, NoMemory>
+    requires chamber_in { asked.now.chamber < length asked.now.instance.now.chambers }
+    requires ships_in { All (λ s. s < length asked.now.instance.now.ships) asked.now.ships.now }
+    requires part { IsPartOf asked.now.instance.now asked.now.chamber asked.now.ships.now part.ships part.refutation }
+    ensures { IfOk result (λ least. IsPartOf asked.now.instance.now asked.now.chamber asked.now.ships.now least.ships least.refutation) }
+{
+    let mut least = part;
+    for &ship in asked.ships.as_slice() {
+        least = left_out(alloc, asked, least, ship, turns)?;
+    }
+    Ok(least)
+}
+
+// The least part where a berth tree refutes the ships, or all of them.
+#[tactic(auto, using(crate::proofs::CutLemmas::whole_is))]
+fn begun_part(
+    alloc: Global,
+    asked: &Asked<'_>,
+    refutation: Refutation,
+    turns: u32,
+) -> Result<Part, NoMemory>
+    requires chamber_in { asked.now.chamber < length asked.now.instance.now.chambers }
+    requires ships_in { All (λ s. s < length asked.now.instance.now.ships) asked.now.ships.now }
+    requires some { 1 ≤ length asked.now.ships.now }
+    requires refuted { IsRefuted (deck_of asked.now.instance.now asked.now.chamber asked.now.ships.now) refutation }
+    ensures { IfOk result (λ begun. IsPartOf asked.now.instance.now asked.now.chamber asked.now.ships.now begun.ships begun.refutation) }
+{
+    let is_by_berths = matches!(&refutation, Refutation::Berths(_));
+    let part = Part {
+        ships: asked.ships.copy(),
+        refutation,
+    };
+    if is_by_berths {
+        least_part(alloc, asked, part, turns)
+    } else {
+        Ok(part)
+    }
+}
+
+// How many turns `place` has for each smaller deck where a cut is shrunk. What the placer by berths
+// couldn't make smaller `place` seldom can, so there it gets one, and still finds quick reasons.
+fn shrink_turns(refutation: &Refutation, turns: u32) -> u32
+    requires { 1 ≤ turns }
+    ensures value { result ≡ shrink_turns turns refutation.now }
+    ensures some { 1 ≤ result }
+{
+    match refutation {
+        Refutation::Berths(_) => 1,
+        Refutation::Quick(_) => turns,
+        Refutation::Cases(_) => turns,
+        Refutation::Spots(_) => turns,
+        Refutation::Clash(_, _) => turns,
+    }
+}
+
+/// The cut of ships whose deck is refuted. Where a berth tree refutes it, ships are left out first as
+/// long as the placer by berths refutes the rest, with these turns each time. Then the cut is no
+/// larger than it has to be for `place`: with all turns, or with one of a berth tree.
+#[tactic(auto, using(crate::proofs::CutLemmas::as_many, crate::proofs::CutLemmas::cut_from))]
+pub(crate) fn cut_of(
+    alloc: Global,
+    asked: &Asked<'_>,
+    refutation: Refutation,
+    turns: u32,
+) -> Result<Cut, NoMemory>
+    requires chamber_in { asked.now.chamber < length asked.now.instance.now.chambers }
+    requires ships_in { All (λ s. s < length asked.now.instance.now.ships) asked.now.ships.now }
+    requires some { 1 ≤ length asked.now.ships.now }
+    requires turns { 1 ≤ turns }
+    requires refuted { IsRefuted (deck_of asked.now.instance.now asked.now.chamber asked.now.ships.now) refutation }
+    ensures { IfOk result (IsCutFrom asked.now.instance.now asked.now.chamber asked.now.ships.now turns) }
+{
+    let begun = begun_part(alloc, asked, refutation, turns)?;
+    let Part {
+        ships: own,
+        refutation: why,
+    } = begun;
+    let deck = deck_of(asked.instance, asked.chamber, &own);
+    let few = shrink_turns(&why, turns);
+    shrink(alloc, asked.chamber, &own, &deck, why, few)
+}

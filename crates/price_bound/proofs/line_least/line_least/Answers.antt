@@ -1,0 +1,27 @@
+use Rattle.std.proofs.Common.{◌≡◌, All, refl, subst, rules}
+use Rattle.lock_model.specs.Fleet.{chamber_at}
+use Rattle.price_bound.specs.Cuts.{plain_cuts}
+use Rattle.price_bound.specs.Sparing.{IsSpared}
+use Rattle.price_bound.proofs.FrameLemmas.{spared-uncut, cut-least}
+use Rattle.price_bound.proofs.line_least.line_least.Goals as goal
+
+pub returns-then-not-are_spared-clause-least : goal.returns-then-not-are_spared-clause-least
+returns-then-not-are_spared-clause-least c =
+    let case = c.args.case.now in
+    let I = case.instance.now in
+    let same : c.deref.result.now ≡ c.in_ok-sets.sets.items = search rules in
+    let held : ¬ All (IsSpared c.deref.result.now) case.line.now = search rules in
+    cut-least I case.chamber (plain_cuts I case.cuts.now) c.in_ok-sets.sets.items c.in_ok-sets.ensures case.depth case.prices.now (chamber_at I case.chamber).stands (chamber_at I case.chamber).opens case.line.now case.ships_in
+    (subst (λ sets. ¬ All (IsSpared sets) case.line.now) same held)
+
+pub invariant_of-table : goal.invariant_of-table
+invariant_of-table c =
+    let case = c.args.case.now in
+    let I = case.instance.now in
+    let same : c.deref.result.now ≡ c.in_ok-sets.sets.items = search rules in
+    let spared = subst (λ sets. All (IsSpared sets) case.line.now) same (c.if-not-are_spared.ensures.0 refl) in
+    record {
+      uncut = spared-uncut I case.chamber (plain_cuts I case.cuts.now) c.in_ok-sets.sets.items c.in_ok-sets.ensures case.line.now case.good case.ships_in spared;
+      late = c.horizon.ensures.late;
+      small = c.horizon.ensures.small;
+    }

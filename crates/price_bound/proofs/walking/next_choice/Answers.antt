@@ -1,0 +1,58 @@
+use Rattle.std.proofs.Common.{◌≡◌, ◌≤ℤ◌, ◌<ℤ◌, pos, ◌+ℤ◌, IfNone, sym, ◌∙◌, subst, arith}
+use Rattle.std.proofs.lemmas.Int.{ints}
+use Rattle.price_bound.specs.Cuts.{plain_cuts}
+use Rattle.price_bound.specs.Choosing.{IsChoice, IsCounted}
+use Rattle.price_bound.proofs.FrameLemmas.{value-far}
+use Rattle.price_bound.proofs.WalkLemmas.{value-below, none-more, counted-next}
+use Rattle.price_bound.proofs.walking.next_choice.Goals as goal
+
+pub returns-then-alone-from-clause-none : goal.returns-then-alone-from-clause-none
+returns-then-alone-from-clause-none c =
+    let table = c.args.table.now in
+    let case = table.case.now in
+    let I = case.instance.now in
+    let from = c.args.from.now in
+    let told = c.alone.ensures in
+    let v = from.value in
+    let far = value-far v table.horizon from.state.minute table.small c.requires.value.low c.requires.value.high in
+    let below = value-below I case.chamber case.chamber_in (plain_cuts I case.cuts.now) case.depth case.prices.now case.line.now table.uncut case.kept table.horizon from.state.place from.state.stand from.state.minute v c.requires.value in
+    let here : v ≤ℤ c.alone.result = subst (λ x. v ≤ℤ x) (sym told.value) below in
+    let same : c.alone.result ≡ v = omega (arith, ints, here, c.if-alone-from.true, told.low, told.high, far.0, far.1) in
+    sym told.value ∙ same
+
+pub next_by-requires-clause-is : goal.next_by-requires-clause-is
+next_by-requires-clause-is c =
+    let table = c.args.table.now in
+    let case = table.case.now in
+    let I = case.instance.now in
+    subst (IsChoice I case.chamber (plain_cuts I case.cuts.now) case.depth case.prices.now case.line.now) (sym c.choice-item.is) (c.requires.choices.enough.each c.loop-choice.choice-index c.choice-item.result c.loop-choice-test.true)
+
+pub loop-choice-init : goal.loop-choice-init
+loop-choice-init c = record { values = c.requires.values; counted = λ j d none here. absurd (omega (arith, none)) }
+
+pub loop-choice-preserved : goal.loop-choice-preserved
+loop-choice-preserved c =
+    let table = c.args.table.now in
+    let case = table.case.now in
+    let I = case.instance.now in
+    let from = c.args.from.now in
+    let i = c.loop-choice.choice-index in
+    let counted = subst (λ o. IfNone o (IsCounted I case.chamber (plain_cuts I case.cuts.now) case.depth case.prices.now case.line.now from.state.stand from.state.minute from.state.place (from.value +ℤ pos 1) c.choice-item.result)) c.in-None.is c.in_ok-next.ensures.none in
+    record {
+      values = c.in_ok-next.ensures.values;
+      counted = counted-next I case.chamber case.chamber_in (plain_cuts I case.cuts.now) case.depth case.prices.now case.line.now from.state.stand from.state.minute from.state.place (from.value +ℤ pos 1) table.choices.now i c.choice-item.result c.loop-choice-test.true c.choice-item.is counted c.loop-choice.invariant.counted;
+    }
+
+pub returns-clause-none : goal.returns-clause-none
+returns-clause-none c =
+    let table = c.args.table.now in
+    let case = table.case.now in
+    let I = case.instance.now in
+    let from = c.args.from.now in
+    let told = c.alone.ensures in
+    let v = from.value in
+    let far = value-far v table.horizon from.state.minute table.small c.requires.value.low c.requires.value.high in
+    let over : v <ℤ c.alone.result = omega (arith, ints, c.if-alone-from.false, told.low, told.high, far.0, far.1) in
+    absurd (none-more I case.chamber case.chamber_in (plain_cuts I case.cuts.now) case.depth case.prices.now case.line.now table.uncut case.kept table.horizon table.choices.now c.requires.choices.enough from.state.place from.state.stand from.state.minute v c.requires.value
+    (subst (λ x. v <ℤ x) told.value over)
+    (λ h held. subst (IsCounted I case.chamber (plain_cuts I case.cuts.now) case.depth case.prices.now case.line.now from.state.stand from.state.minute from.state.place (v +ℤ pos 1)) held.2 (c.loop-choice.invariant.counted held.0 h (omega (arith, held.1, c.loop-choice-test.false, c.loop-choice.auto.choice-index-end)) held.1)))

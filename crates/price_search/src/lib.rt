@@ -1,0 +1,25 @@
+//! What prices find at a node of the search tree.
+//!
+//! `Pricing` keeps prices from node to node: those of the nodes on the way from the root to the one in
+//! hand, with which each node below begins. At a node a search makes rounds (`Pricing::round`). A round
+//! works out the least loose lines by the prices of the node, asks the placers about their groups, and
+//! raises the prices. The search carries out what it found: it posts the new cuts, gives the plan to
+//! its book, and closes the node where prices reach the best cost. At the first node that prices can
+//! serve, mostly the root, many rounds are made, at any other few.
+//!
+//! Nothing is claimed of prices: what a node reaches by them is worked out again by who closes it
+//! (`price_bound::show`). So a round promises no more than that its parts are of their types, and that
+//! a search comes to an end: all rounds together are limited.
+//!
+//! - `pricing`: what is kept. `round`: one round. `placing`: groups of loose lines, placed.
+#![tactic(auto)]
+
+mod appending;
+mod placing;
+mod pricing;
+mod round;
+#[cfg(test)]
+mod tests;
+
+pub use pricing::Pricing;
+pub use round::{Asked, LIMITS, Round, RoundEnd};

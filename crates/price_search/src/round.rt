@@ -1,0 +1,204 @@
+//! One round at a node.
+ghost use Rattle.std.specs.Prelude.{◌≡◌, ◌≤◌, ◌<◌, length};
+ghost use Rattle.master_branch.specs.Node.{IsNodeOf};
+
+use crate::placing::Placer;
+use crate::pricing::Pricing;
+use lock_model::{Group, Instance, Plan};
+use master_branch::{Node, arrival_order};
+use near_plan::{fits, near_plan};
+use node_work::{KnownCuts, Search};
+use place_refute::Cut;
+use placed_groups::Memory;
+use plain_text::NoMemory;
+use price_bound::{Limits, LooseLines, PriceError, PricedNode, Prices, least_lines};
+use price_raise::Stands;
+use std::alloc::Global;
+
+/// The limits of the tables that a search works out: some five milliseconds for a chamber.
+pub const LIMITS: Limits = Limits {
+    groups: 20_000,
+    turns: 400_000,
+};
+
+/// A node of a search where the best plan costs so many minutes, and the known cuts.
+#[derive(Drop)]
+pub struct Asked<'a, K: KnownCuts> {
+    pub search: &'a Search<'a>,
+    pub node: &'a Node,
+    pub best: u64,
+    pub known: &'a K,
+    pub ghost is: { IsNodeOf search.now.instance.now node.now },
+}
+
+/// How a round ends.
+#[derive(Debug, Drop)]
+pub enum RoundEnd {
+    /// The node reaches the best cost by these prices.
+    Reached(Prices),
+    /// Another round may show more.
+    Again,
+    /// Prices show no more here.
+    Open,
+}
+
+/// What a round found: new cuts, a plan that may be cheaper than the best one, and how it ended.
+#[derive(Debug, Drop)]
+pub struct Round {
+    pub cuts: Vec<Cut>,
+    pub plan: Option<Plan>,
+    pub end: RoundEnd,
+}
+
+// What is found of the least lines of a node.
+#[derive(Debug, Drop)]
+enum Least {
+    Lines(LooseLines),
+    // A chamber has no loose line, so that no legal plan lies under the node.
+    NoLine,
+    TooMany,
+}
+
+// A round that found nothing.
+fn round_of(alloc: Global, end: RoundEnd) -> Round {
+    Round {
+        cuts: Vec::new(alloc),
+        plan: None,
+        end,
+    }
+}
+
+// Whether this sum of least lines and prices shows that all plans cost as much, in minutes.
+fn is_reached(sum: i64, cost: u64) -> bool {
+    let cost = cost.min(1_000_000_000_000) as i64 * 100;
+    cost < sum.saturating_add(100)
+}
+
+// How often each ship stands in the lines.
+fn stands_in(lines: &LooseLines) -> Stands {
+    let mut stands = Stands::new();
+    for line in lines.lines.as_slice() {
+        for group in line.groups.as_slice() {
+            stands.add(&group.ships);
+        }
+    }
+    stands
+}
+
+// Places the groups of a chamber's line.
+fn place_line<K: KnownCuts>(
+    instance: &Instance,
+    chamber: u8,
+    groups: &[Group],
+    placer: &mut Placer<'_, '_, K>,
+) -> Result<(), NoMemory>
+    requires { placer.old.search.now.instance.now ≡ instance.now }
+    ensures { placer.new.search.now.instance.now ≡ instance.now }
+{
+    for group in groups {
+        fits(instance, chamber, &group.ships, placer)?;
+    }
+    Ok(())
+}
+
+// Places the groups of the lines; those that don't fit are among the placer's cuts then.
+fn place_groups<K: KnownCuts>(
+    instance: &Instance,
+    lines: &LooseLines,
+    placer: &mut Placer<'_, '_, K>,
+) -> Result<(), NoMemory>
+    requires { placer.old.search.now.instance.now ≡ instance.now }
+    ensures { placer.new.search.now.instance.now ≡ instance.now }
+{
+    for (chamber, line) in lines.lines.as_slice().iter().enumerate() {
+        if chamber < 4 {
+            place_line(instance, chamber as u8, line.groups.as_slice(), placer)?;
+        }
+    }
+    Ok(())
+}
+
+impl Pricing {
+    // Goes on from least lines that don't reach the best cost: at the first node their groups are
+    // placed. Then the prices are raised; where they can't be, a plan is tried, since each missing ship
+    // may stand in the lines once.
+    fn go_on<K: KnownCuts>(
+        &mut self,
+        alloc: Global,
+        asked: &Asked<'_, K>,
+        memory: &mut Memory,
+        lines: &LooseLines,
+    ) -> Result<Round, NoMemory> {
+        let Search { instance, .. } = asked.search;
+        let mut placer = Placer::new(alloc, asked, memory);
+        if self.is_first {
+            place_groups(instance, lines, &mut placer)?;
+        }
+        let near = self.is_near_time();
+        let order = arrival_order(instance);
+        let missing = &order.as_slice()[asked.node.depth() as usize..];
+        let again = self
+            .ascent
+            .raise(missing, &stands_in(lines), lines.sum, asked.best);
+        let plan = if near || !again {
+            near_plan(alloc, instance, lines, asked.best, &mut placer)?
+        } else {
+            None
+        };
+        let end = if again {
+            RoundEnd::Again
+        } else {
+            self.is_first = false;
+            RoundEnd::Open
+        };
+        Ok(Round {
+            cuts: placer.found,
+            plan,
+            end,
+        })
+    }
+
+    /// Makes a round at a node to which the pricing went, and which has the book's first cuts. The node
+    /// is asked for no more where the sets of ships or the states are too many (`LIMITS`), or all rounds
+    /// of the search were made. Its only refusal is want of memory.
+    pub fn round<K: KnownCuts>(
+        &mut self,
+        alloc: Global,
+        asked: &Asked<'_, K>,
+        memory: &mut Memory,
+    ) -> Result<Round, NoMemory> {
+        if is_reached(self.ascent.best_sum(), asked.best) {
+            return Ok(round_of(alloc, RoundEnd::Reached(self.ascent.best().copy())));
+        }
+        if self.left == 0 {
+            return Ok(round_of(alloc, RoundEnd::Open));
+        }
+        self.left -= 1;
+        match self.least(alloc, asked)? {
+            Least::TooMany => {
+                self.from = asked.node.depth().saturating_add(1);
+                Ok(round_of(alloc, RoundEnd::Open))
+            }
+            Least::Lines(lines) if !is_reached(lines.sum, asked.best) => {
+                self.go_on(alloc, asked, memory, &lines)
+            }
+            _ => Ok(round_of(alloc, RoundEnd::Reached(self.ascent.tried().copy()))),
+        }
+    }
+
+    // The least lines of the node by the prices that are tried.
+    fn least<K: KnownCuts>(&self, alloc: Global, asked: &Asked<'_, K>) -> Result<Least, NoMemory> {
+        let priced = PricedNode {
+            instance: asked.search.instance,
+            node: asked.node,
+            prices: self.ascent.tried(),
+            cuts: self.cuts.as_slice(),
+        };
+        match least_lines(alloc, &priced, LIMITS) {
+            Ok(Some(lines)) => Ok(Least::Lines(lines)),
+            Ok(None) => Ok(Least::NoLine),
+            Err(PriceError::TooMany) => Ok(Least::TooMany),
+            Err(PriceError::NoMemory) => Err(NoMemory),
+        }
+    }
+}

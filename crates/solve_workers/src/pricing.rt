@@ -1,0 +1,200 @@
+//! What the driver makes of prices at the node that it holds.
+ghost use Rattle.std.specs.Prelude.{◌≡◌, IfOk};
+ghost use Rattle.std.specs.Bool.{OnTrue, OnFalse};
+ghost use Rattle.master_branch.specs.Node.{IsNodeOf};
+ghost use Rattle.book_rules.specs.Ends.{HoldsNothing};
+ghost use Rattle.solve_workers.specs.Closable.{IsOwnSearch};
+ghost use Rattle.solve_workers.specs.Driving.{IsDriven};
+ghost use Rattle.solve_workers.specs.Holds.{Holds};
+
+use crate::driver::Driver;
+use crate::held::Held;
+use crate::offering::{close_shown, give, post, post_prices};
+use book_core::Book;
+use lock_model::Instance;
+use node_work::Search;
+use place_refute::Cut;
+use placed_groups::Memory;
+use plain_text::NoMemory;
+use price_bound::{PricedNode, Prices, show};
+use price_search::{Asked, LIMITS, Pricing, Round, RoundEnd};
+use std::alloc::Global;
+
+// With fewer missing ships a node is searched faster than prices are worked out.
+const FEWEST_MISSING: usize = 5;
+// The most rounds at a node; the pricing makes fewer.
+const MOST_ROUNDS: u32 = 1_000;
+
+// Learns the cuts that the book has got since the last time.
+fn learn(pricing: &mut Pricing, book: &Book) -> Result<(), NoMemory> {
+    for number in pricing.known_cuts()..u64::MAX {
+        match book.cut(number) {
+            Some(cut) => pricing.learn(cut)?,
+            None => return Ok(()),
+        }
+    }
+    Ok(())
+}
+
+#[tactic(auto, using(crate::proofs::DrivenLemmas::driven_none))]
+// Posts a cut, if there is one.
+fn post_some(book: &mut Book, held: &Held, cut: Option<Cut>)
+    requires holds { Holds book.old held.now }
+    ensures holds { Holds book.new held.now }
+    ensures driven { IsDriven book.old book.new }
+{
+    match cut {
+        Some(cut) => post(book, held, cut),
+        None => {}
+    }
+}
+
+#[tactic(auto, using(crate::proofs::DrivenLemmas::driven_then, crate::proofs::DrivenLemmas::driven_none))]
+// Posts the cuts that were found.
+fn post_all(book: &mut Book, held: &Held, mut cuts: Vec<Cut>)
+    requires holds { Holds book.old held.now }
+    ensures holds { Holds book.new held.now }
+    ensures driven { IsDriven book.old book.new }
+{
+    for _ in 0..cuts.len() {
+        post_some(book, held, cuts.pop());
+    }
+}
+
+#[tactic(auto, using(crate::proofs::DrivenLemmas::driven_none))]
+// The number under which the book keeps these prices; they are posted where it doesn't yet.
+fn number_of(pricing: &mut Pricing, book: &mut Book, held: &Held, prices: &Prices) -> Option<u64>
+    requires holds { Holds book.old held.now }
+    ensures holds { Holds book.new held.now }
+    ensures driven { IsDriven book.old book.new }
+{
+    if let Some(number) = pricing.number_of(prices) {
+        return Some(number);
+    }
+    let number = post_prices(book, held, prices.copy())?;
+    pricing.posted(prices, number);
+    Some(number)
+}
+
+#[tactic(auto, using(crate::proofs::DrivenLemmas::driven_then, crate::proofs::DrivenLemmas::driven_none))]
+// Closes the held node by prices, where it reaches the best cost by them and by the book's first cuts.
+fn close_by(
+    alloc: Global,
+    instance: &Instance,
+    pricing: &mut Pricing,
+    book: &mut Book,
+    held: &Held,
+    prices: &Prices,
+) -> bool
+    requires holds { Holds book.old held.now }
+    requires node { IsNodeOf instance.now held.now.node }
+    ensures closed { OnTrue result (HoldsNothing book.new) }
+    ensures held { OnFalse result (Holds book.new held.now) }
+    ensures driven { IsDriven book.old book.new }
+{
+    let best = book.best_cost();
+    let Some(number) = number_of(pricing, book, held, prices) else {
+        return false;
+    };
+    let asked = PricedNode {
+        instance,
+        node: &held.node,
+        prices,
+        cuts: pricing.cuts(),
+    };
+    match show(alloc, &asked, best, LIMITS) {
+        Ok(Some(shown)) => close_shown(book, held, number, &shown),
+        _ => false,
+    }
+}
+
+#[tactic(auto, using(crate::proofs::DrivenLemmas::driven_then, crate::proofs::DrivenLemmas::driven_none))]
+// Makes one round and carries out what it found; how it ended.
+fn make_round(
+    alloc: Global,
+    search: &Search<'_>,
+    memory: &mut Memory,
+    pricing: &mut Pricing,
+    book: &mut Book,
+    held: &Held,
+) -> Result<RoundEnd, NoMemory>
+    requires holds { Holds book.old held.now }
+    requires own { IsOwnSearch book.old search.now }
+    ensures holds { Holds book.new held.now }
+    ensures driven { IsDriven book.old book.new }
+{
+    book.keeps();
+    learn(pricing, book)?;
+    let asked = Asked {
+        search,
+        node: &held.node,
+        best: book.best_cost(),
+        known: &*book,
+    };
+    let Round { cuts, plan, end } = pricing.round(alloc, &asked, memory)?;
+    post_all(book, held, cuts);
+    if let Some(plan) = plan {
+        give(book, held, plan);
+    }
+    Ok(end)
+}
+
+#[tactic(auto, using(crate::proofs::DrivenLemmas::driven_then, crate::proofs::DrivenLemmas::driven_none, crate::proofs::DrivenLemmas::own_still))]
+// Makes rounds until the node is closed or prices show no more; whether it was closed.
+fn make_rounds(
+    alloc: Global,
+    search: &Search<'_>,
+    memory: &mut Memory,
+    pricing: &mut Pricing,
+    book: &mut Book,
+    held: &Held,
+) -> bool
+    requires holds { Holds book.old held.now }
+    requires own { IsOwnSearch book.old search.now }
+    ensures closed { OnTrue result (HoldsNothing book.new) }
+    ensures held { OnFalse result (Holds book.new held.now) }
+    ensures driven { IsDriven book.old book.new }
+{
+    book.keeps();
+    for _ in 0..MOST_ROUNDS {
+        match make_round(alloc, search, memory, pricing, book, held) {
+            Ok(RoundEnd::Again) => {}
+            Ok(RoundEnd::Reached(prices)) => {
+                return close_by(alloc, search.instance, pricing, book, held, &prices);
+            }
+            Ok(RoundEnd::Open) => {
+                let _ = pricing.keep(held.node.depth());
+                return false;
+            }
+            Err(NoMemory) => return false,
+        }
+    }
+    false
+}
+
+/// Asks prices about the held node, where there are any, and carries out what they find; whether the
+/// node was closed. Where memory is refused the node stays open.
+pub(crate) fn price(driver: &mut Driver<'_>, book: &mut Book, held: &Held) -> bool
+    requires holds { Holds book.old held.now }
+    requires own { IsOwnSearch book.old driver.old.search }
+    ensures closed { OnTrue result (HoldsNothing book.new) }
+    ensures held { OnFalse result (Holds book.new held.now) }
+    ensures driven { IsDriven book.old book.new }
+    ensures search { driver.new.search ≡ driver.old.search }
+{
+    let depth = held.node.depth();
+    let ships = driver.search.instance.ships.as_slice().len();
+    let Some(pricing) = &mut driver.pricing else {
+        return false;
+    };
+    if ships.saturating_sub(depth as usize) < FEWEST_MISSING || !pricing.go_to(depth) {
+        return false;
+    }
+    let Driver {
+        alloc,
+        search,
+        memory,
+        ..
+    } = driver;
+    make_rounds(*alloc, search, memory, pricing, book, held)
+}
