@@ -48,37 +48,3 @@ some-same a b e = ap (λ o. unwrap_or o a) e
 
 pub none-some : {X : Type 0} (b : X) → None ≡ Some b → ⊥
 none-some b e = cc
-
--- a decided berth of another rank
-pub other_none : (case : List Choice) (i : ℕ) (rank : Rank) → None ≡ berth_in case i → IsOfOtherRank case i rank → ⊥
-other_none case i rank e h = none-some h.berth (e ∙ h.decided)
-
-pub other_some : (case : List Choice) (i : ℕ) (rank : Rank) (b : Decided) → Some b ≡ berth_in case i → b.rank ≢ rank → IsOfOtherRank case i rank
-other_some case i rank b e n = record { berth = b; decided = sym e; differ = n }
-
-pub other_rank : (case : List Choice) (i : ℕ) (rank : Rank) (b : Decided) → Some b ≡ berth_in case i → IsOfOtherRank case i rank → b.rank ≢ rank
-other_rank case i rank b e h same = h.differ (ap (λ (u : Decided). u.rank) (sym (some-same b h.berth (e ∙ h.decided))) ∙ same)
-
--- a decided host of the other rank
-pub host_rank : (case : List Choice) (i host : ℕ) (rank : Rank) → Some (record { rank = rank; moor = Ship host }) ≡ berth_in case i → IsOfOtherRank case host rank → HasOtherRank case i
-host_rank case i host rank e h = record { host = host; own = rank; berth = h.berth; lies = sym e; decided = h.decided; differ = h.differ }
-
-abbrev ship-of : Moor → ℕ
-ship-of Quay = 0
-ship-of (Ship k) = k
-
-pub rank_host : (case : List Choice) (i host : ℕ) (rank : Rank) → Some (record { rank = rank; moor = Ship host }) ≡ berth_in case i → HasOtherRank case i → IsOfOtherRank case host rank
-rank_host case i host rank e h =
-    let same : record { rank = rank; moor = Ship host } ≡ record { rank = h.own; moor = Ship h.host } = some-same {X = Decided} _ _ (e ∙ h.lies) in
-    let own : h.own ≡ rank = sym (ap (λ (u : Decided). u.rank) same) in
-    let at : h.host ≡ host = sym (ap (λ (u : Decided). ship-of u.moor) same) in
-    record { berth = h.berth; decided = subst (λ k. berth_in case k ≡ Some h.berth) at h.decided; differ = subst (λ r. h.berth.rank ≢ r) own h.differ }
-
-pub quay_none : (case : List Choice) (i : ℕ) (rank : Rank) → Some (record { rank = rank; moor = Quay }) ≡ berth_in case i → HasOtherRank case i → ⊥
-quay_none case i rank e h = quay-ship (ap (λ (u : Decided). u.moor) (some-same {X = Decided} _ _ (e ∙ h.lies)))
-  where
-    quay-ship : Quay ≡ Ship h.host → ⊥
-    quay-ship e = cc
-
-pub berth_none : (case : List Choice) (i : ℕ) → None ≡ berth_in case i → HasOtherRank case i → ⊥
-berth_none case i e h = none-some _ (e ∙ h.lies)

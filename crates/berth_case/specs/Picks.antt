@@ -15,7 +15,3 @@ choice_of (Before i j) = IsBefore i j
 abbrev pub IsKnownMoor : Deck → Moor → Type 0
 IsKnownMoor d Quay = Unit {0}
 IsKnownMoor d (Ship k) = k < length d.ships
-
-abbrev pub IsKnownPick : Deck → Pick → Type 0
-IsKnownPick d (Lies i rank moor) = (i < length d.ships) × IsKnownMoor d moor
-IsKnownPick d (Before i j) = (i < length d.ships) × (j < length d.ships)

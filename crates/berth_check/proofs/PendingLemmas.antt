@@ -35,9 +35,6 @@ module _ (case : List Choice) (before after : List Branch) (b : Branch) (more : 
       let all : take b.kept case ≡ case = take_all b.kept case (omega (arith, whole)) in
       ap (cases_after case) last-first ∙ ap (λ cs. (cs ++ choice_of b.pick ∷ []) ∷ cases_after case (reverse before)) all
 
-  pub branch_kept : b.kept ≡ length case → AreKept (length case) (reverse before) → AreKept (length case) (reverse after)
-  branch_kept whole kept = subst (AreKept (length case)) (sym last-first) (omega (arith, whole), subst (λ n. AreKept n (reverse before)) (sym whole) kept)
-
   -- the last branch goes
   told : AreKept (length case) (reverse after) → (b.kept ≤ length case) × AreKept b.kept (reverse before)
   told kept = subst (AreKept (length case)) last-first kept

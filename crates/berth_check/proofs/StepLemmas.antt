@@ -61,12 +61,6 @@ module _ (d : Deck) (marks : List ℕ) where
   pub walk_left : (at : ℕ) → IsWalked d [] marks at → IsBerthTree d marks → at ≡ length marks
   walk_left at w tree = let none = ap length (w.same.0 tree) in let inside = w.inside in omega (arith, none, inside, length-drop at marks)
 
-  pub next_known : (case : List Choice) (cases : List (List Choice)) (at : ℕ) → IsWalked d (case ∷ cases) marks at → AreKnown d case
-  next_known case cases at w = w.known.all.0
-
-  pub others_known : (case : List Choice) (cases : List (List Choice)) (at : ℕ) → IsWalked d (case ∷ cases) marks at → AreAllKnown d cases
-  others_known case cases at w = record { all = w.known.all.1 }
-
   pub walk_ends : (cases : List (List Choice)) (at : ℕ) → cases ≡ [] → IsWalked d cases marks at → IsTrue (nat_eq at (length marks)) ↔ IsBerthTree d marks
   walk_ends cases at e w =
       let walked = subst (λ cs. IsWalked d cs marks at) e w in

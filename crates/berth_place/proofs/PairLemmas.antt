@@ -90,10 +90,6 @@ same-at [] k z u h = absurd (omega (arith, h))
 same-at (p ∷ ps) zero z u h = refl
 same-at (p ∷ ps) (suc k) z u h = same-at ps k z u (omega (arith, h))
 
--- a pair that was read is the one of that number
-pub pair_read : (ps : List Pair) (k : ℕ) (z p : Pair) → k < length ps → p ≡ slice_index_or ps k z → p ≡ pair_at ps k
-pair_read ps k z p h e = e ∙ same-at ps k z (pair 0 0) h
-
 pub apart_begun : (d : Deck) (values : List ℤ) (ps : List Pair) → AreAllApart d values ps 0
 apart_begun d values ps = record { each = λ k h. absurd (omega (arith, h)) }
 

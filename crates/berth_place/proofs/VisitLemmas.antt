@@ -90,21 +90,6 @@ module _ (d : Deck) (case : List Choice) where
     nodes = passed.nodes;
   }
 
--- the tree of the case that decides nothing is left unfinished
-pub spent_whole : (d : Deck) (turns : ℕ) (marks : List ℕ) (old new : Search) → old ≡ record { case = []; edges = []; turns = turns; tried = 0; marks = []; spots = [] } → marks ≡ new.marks → IsSpent d old new → IsSpentBy d turns marks
-spent_whole d turns marks old new begun same h =
-    let all : marks ≡ h.added = same ∙ h.is ∙ ap (λ (s : Search). s.marks ++ h.added) begun in
-    let none = ap (λ (s : Search). s.tried) begun in
-    let few = ap (λ (s : Search). s.turns) begun in
-    let more = h.more in
-    let own = h.turns in
-    let nodes = h.nodes in
-    let count : node_count h.added ≡ turns + 1 = omega (arith, none, few, more, own, nodes) in
-    record {
-      unfinished = subst (λ ms. IsUnfinished d [] ms) (sym all) (subst (λ (s : Search). IsUnfinished d s.case h.added) begun h.unfinished);
-      nodes = ap node_count all ∙ count;
-    }
-
 pub grew_whole : (d : Deck) (marks : List ℕ) → GrewByTree d [] [] marks → IsBerthTree d marks
 grew_whole d marks grew = subst (IsBerthTree d) (append-nil grew.added ∙ sym grew.is) (grew.tree [])
 
@@ -179,30 +164,6 @@ option_closed d choice old inner after last case marks turns counted closed back
     }
 
 -- ---- a visit that isn't closed
-
--- the option that was one too many
-pub option_spent : (d : Deck) (choice : Choice) (old new : Search) → IsCounted old new → new.tried ≡ new.turns + 1 → IsOptionSpent d choice old new
-option_spent d choice old new counted more = record {
-  turns = counted.turns;
-  more = more;
-  added = [];
-  is = counted.marks ∙ sym (append-nil old.marks);
-  unfinished = inl refl;
-  nodes = let tried = counted.tried in omega (arith, tried);
-}
-
--- of an option
-pub visit_out : (d : Deck) (choice : Choice) (old inner new : Search) (visit : Visit) → (visit ≡ Closed → ⊥) → inner.case ≡ old.case ++ choice ∷ [] → inner.marks ≡ old.marks → inner.turns ≡ old.turns → inner.tried ≡ old.tried + 1 → IsVisit d inner new visit → IsVisitOf d choice old new visit
-visit_out d choice old inner new Closed n case marks turns counted h = absurd (n refl)
-visit_out d choice old inner new Placed n case marks turns counted h = h
-visit_out d choice old inner new Spent n case marks turns counted h = record {
-  turns = h.turns ∙ turns;
-  more = h.more;
-  added = h.added;
-  is = h.is ∙ ap (λ ms. ms ++ h.added) marks;
-  unfinished = inr (subst (λ cs. IsUnfinished d cs h.added) case h.unfinished);
-  nodes = let nodes = h.nodes in omega (arith, counted, nodes);
-}
 
 -- of a split
 pub visit_over : (d : Deck) (split : Split) (k : ℕ) (old middle new : Search) (visit : Visit) → (visit ≡ Closed → ⊥) → IsOpen d old.case split → k < length (split_options d split) → IsUnder d old middle split k → IsVisitOf d (option_at d old.case split k) middle new visit → IsVisit d old new visit

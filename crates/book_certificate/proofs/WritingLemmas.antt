@@ -24,10 +24,6 @@ leaf-written b id m old new e grown = record {
   marks = λ rest. leaf-marks b (lacking_at b id) id m rest e;
 }
 
--- the marks of no child
-pub none-written : (b : Book) (id first n : ℕ) (old : List Mark) → n ≡ 0 → AppendsChildMarks b id first n old old
-none-written b id first n old none = subst (λ k. AppendsChildMarks b id first k old old) (sym none) (record { written = []; grown = sym (append-nil old); marks = λ rest. refl })
-
 pub range-more : (a n : ℕ) → range_with_len a (suc n) ≡ range_with_len a n ++ (a + n) ∷ []
 range-more a zero = let e : a ≡ a + 0 = omega arith in ap (λ k. k ∷ []) e
 range-more a (suc n) =

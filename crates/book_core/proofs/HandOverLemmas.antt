@@ -28,9 +28,6 @@ use Rattle.closing_rules.specs.declared.grounds.Ground.TheVariants as by
 fresh-open : slot.Fresh ≢ slot.Closed by.Bound
 fresh-open e = cc
 
-held-open : (w : ℕ) → slot.Held w ≢ slot.Closed by.Bound
-held-open w e = cc
-
 -- a free slot is Back or Fresh
 free-state : (b : Book) (id : ℕ) (P : SlotState → Type 0) → IsFree b id → P slot.Back → P slot.Fresh → P (slot_at b id).state
 free-state b id P (IsReturned first) back fresh = subst P (sym (back-is (slot_at b id).state (first_slot-at b is_back id first).1)) back

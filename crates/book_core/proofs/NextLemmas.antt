@@ -130,9 +130,6 @@ module _ (I : Instance) (ss : List StoredSlot) (ws : List Waiting) (good : AreWa
                 omega (arith, rises, same)
           ]
 
-pub none-waits : (slots : List Slot) (ws : List Waiting) → AreWaiting slots ws → length ws ≡ 0 → HasNoneFresh slots
-none-waits slots ws good count = record { each = λ id some e. let found = good.all id some e in let known = found.1.known in absurd (omega (arith, known, count)) }
-
 some-number : (n : ℕ) → n ≢ 0 → 0 < n
 some-number zero other = absurd (other refl)
 some-number (suc n) other = omega arith

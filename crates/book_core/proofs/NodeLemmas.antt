@@ -24,9 +24,6 @@ module _ (b : Book) (sound : IsSound b) (id : ℕ) (known : id < length b.slots)
   pub slot-node : IsNode b.case.instance (slot_at b id).node.depth (slot_at b id).node.lines
   slot-node = (sound.keeps.slots id no_slot known).node
 
-  pub slot-bound : (slot_at b id).bound ≡ Rattle.book_rules.specs.Book.bound_at b.case.instance (slot_at b id).node
-  slot-bound = (sound.keeps.slots id no_slot known).bound
-
   module _ (some : 0 < id) where
     born : IsBorn b id
     born = sound.parts.family.born id some known

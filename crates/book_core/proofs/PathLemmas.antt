@@ -123,9 +123,6 @@ module _ (I : Instance) (slots : List Slot) where
       first zero known = entry
       first (suc k) known = absurd (omega (arith, known))
 
-  pub started-ends : (nodes : List PathNode) → nodes ≡ root_entry ∷ [] → EndsAt 0 nodes
-  started-ends nodes items = subst (EndsAt 0) (sym items) (record { some = omega arith; last = refl })
-
   -- ---- the last entry
 
   module _ (path : Path) (is : IsPath I slots path) (id : ℕ) (ends : EndsAt id path.nodes.items) where
@@ -138,9 +135,6 @@ module _ (I : Instance) (slots : List Slot) where
   -- ---- a step from the node of a slot's parent to the slot's
 
   module _ (id : ℕ) (child : IsChild I slots id) (node : Node) (own : IsNodeIn I slots (slot_in slots id).parent node) where
-    pub step-lacks : node.depth < length I.ships
-    step-lacks = let lacks = child.lacks in let depth = ap (λ (n : TreeNode). n.depth) own.same in omega (arith, lacks, depth)
-
     pub step-within : (number : ℕ) → (slot_in slots id).number ≡ number → number < length (children I node)
     step-within number number_is =
         let within = child.within in
@@ -157,14 +151,8 @@ module _ (I : Instance) (slots : List Slot) where
   -- ---- a path that goes on
 
   module _ (path : Path) (is : IsPath I slots path) (parent : ℕ) (ends : EndsAt parent path.nodes.items) (node : Node) (node_is : node ≡ (last_on path.nodes.items).node) where
-    pub next-from : IsNodeIn I slots parent node
-    next-from = subst (IsNodeIn I slots parent) (sym node_is) (last-in path is parent ends)
-
     deep : node.depth ≡ length path.nodes.items - 1
     deep = ap (λ (n : Node). n.depth) node_is ∙ (last-entry path is parent ends).deep
-
-    pub next-room : node.depth < length I.ships → length path.nodes.items < 25
-    next-room lacks = let few = I.limits.ship_count.1 in let place = deep in omega (arith, lacks, few, place)
 
     module _ (id : ℕ) (new : Node) (depth : new.depth ≡ node.depth + 1) (new_in : IsNodeIn I slots id new) where
       there : (k : ℕ) → k ≡ length path.nodes.items → IsEntry I slots k (record { id = id; node = new })
@@ -181,12 +169,6 @@ module _ (I : Instance) (slots : List Slot) where
             | inl earlier ↦ subst (IsEntry I slots k) (sym (at-old k path.nodes.items (record { id = id; node = new }) earlier)) (is.each k earlier)
             | inr here ↦ subst (IsEntry I slots k) (sym (at-new k path.nodes.items (record { id = id; node = new }) here)) (there k here)
           ]
-
-  pub next-ends : (nodes old : List PathNode) (entry : PathNode) → nodes ≡ old ++ entry ∷ [] → EndsAt entry.id nodes
-  next-ends nodes old entry items = subst (EndsAt entry.id) (sym items) (record {
-    some = omega (arith, longer old entry);
-    last = ap (λ (n : PathNode). n.id) (at-new (length (old ++ entry ∷ []) - 1) old entry (omega (arith, longer old entry)));
-  })
 
 -- the same of an equal instance and equal stored slots
 module _ (J I : Instance) (J_is : J ≡ I) (xs ss : List StoredSlot) (all : xs ≡ ss) where

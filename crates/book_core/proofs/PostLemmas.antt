@@ -94,19 +94,11 @@ got-some [] k x known is = absurd (omega (arith, known))
 got-some (y ∷ ys) zero x known is = ap Some (sym is)
 got-some (y ∷ ys) (suc k) x known is = got-some ys k x (omega (arith, known)) is
 
-got-none : (xs : List Group) (k : ℕ) → length xs ≤ k → slice_get xs k ≡ None
-got-none [] k past = refl
-got-none (y ∷ ys) zero past = absurd (omega (arith, past))
-got-none (y ∷ ys) (suc k) past = got-none ys k (omega (arith, past))
-
 module _ (b : Book) (id c p : ℕ) (deck : Deck) (turns : ℕ) where
   -- the line of the slot's node
   module _ (lines : List (List Group)) (node : TreeNode) (same : node ≡ (slot_at b id).node) (line : List Group) (line_is : line ≡ line_at node.lines c) where
     at-node : group_at (slot_at b id).node c p ≡ slice_get line p
     at-node = sym (ap (λ (n : TreeNode). slice_get (line_at n.lines c) p) same) ∙ ap (λ l. slice_get l p) (sym line_is)
-
-    pub lent-none : length line ≤ p → names_lent b id c p deck turns ≡ false
-    lent-none past = ap (group_lent b c deck turns) (at-node ∙ got-none line p past)
 
     pub lent-some : (g : Group) → p < length line → g ≡ slice_index_or line p g → names_lent b id c p deck turns ≡ is_lent b c g deck turns
     lent-some g known is = ap (group_lent b c deck turns) (at-node ∙ got-some line p g known is)

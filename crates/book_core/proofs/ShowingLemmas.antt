@@ -47,16 +47,6 @@ same_cut c d = nat_eq c.chamber d.chamber && pointwise nat_eq c.ships d.ships
 abbrev pub first_from : List ChamberCut → List Cut → ℕ → Bool
 first_from shown cuts i = are_first_cuts (map told_cut (drop i shown)) (drop i cuts)
 
-pub first-step : (shown : List ChamberCut) (cuts : List Cut) (i : ℕ) (c : ChamberCut) (d : Cut) → i < length shown → i < length cuts
-    → first_from shown cuts i ≡ (same_cut (slice_index_or shown i c) (slice_index_or cuts i d) && first_from shown cuts (suc i))
-first-step [] cuts i c d known own = absurd (omega (arith, known))
-first-step (x ∷ xs) [] i c d known own = absurd (omega (arith, own))
-first-step (x ∷ xs) (y ∷ ys) zero c d known own = refl
-first-step (x ∷ xs) (y ∷ ys) (suc i) c d known own = first-step xs ys i c d (omega (arith, known)) (omega (arith, own))
-
-pub first-end : (shown : List ChamberCut) (cuts : List Cut) (i : ℕ) → length shown ≤ i → first_from shown cuts i ≡ true
-first-end shown cuts i past = ap (λ l. are_first_cuts (map told_cut l) (drop i cuts)) (drop_all i shown past)
-
 pub first-more : (shown : List ChamberCut) (cuts : List Cut) → length cuts < length shown → are_first_cuts (map told_cut shown) cuts ≡ false
 first-more [] cuts more = absurd (omega (arith, more))
 first-more (x ∷ xs) [] more = refl

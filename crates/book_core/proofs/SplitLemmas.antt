@@ -75,15 +75,6 @@ module _ (a : Inside) (kept : IsKept a) (b : Book) (same : seen a ≡ b) (id : �
     pub held-state : r.state ≡ slot.Held holder.0
     held-state = sym (is-stored a.case.instance a.slots.items id r held-known stored).state ∙ holder.1
 
-    same-worker : (v w : ℕ) → slot.Held v ≡ slot.Held w → v ≡ w
-    same-worker v w e = cc
-
-    pub held-worker : (w : ℕ) → r.state ≡ slot.Held w → w < 9
-    held-worker w e =
-        let in_hand = kept.tables.hands_are.hand w id (holder.1 ∙ sym held-state ∙ e) in
-        let known = hand-known (ids_of a.hands) w id in_hand in
-        omega (arith, known, kept.tables.hands_are.nine)
-
     module _ (bounds : List ℕ) (are : bounds ≡ map (bound_of b.case.instance ((slot_at b id).node.depth + 1)) (children_of b.case.instance (slot_at b id).node.depth (slot_at b id).node.lines)) (n : ℕ) (count : n ≡ length ss) where
       kids_are : bounds ≡ map (bound_of a.case.instance (suc (slot_in S id).node.depth)) (children_of a.case.instance (slot_in S id).node.depth (slot_in S id).node.lines)
       kids_are =

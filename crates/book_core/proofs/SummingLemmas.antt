@@ -49,29 +49,5 @@ module _ (I : Instance) where
 
 -- ---- the parked group
 
-pub parked-group : (b : Book) → IsSound b → (id c p : ℕ) → id < length b.slots → (slot_at b id).state ≡ slot.Parked c p → IsSpentGroup b.case (slot_at b id).node c p
-parked-group b sound id c p known is = subst (Tells b.case b.cuts b.prices (Rattle.book_rules.specs.Book.best_cost b) (slot_at b id).node (slot_at b id).bound) is (sound.parts.states.states id no_slot known)
-
-line-past : (lines : List (List Group)) (c : ℕ) → length lines ≤ c → length (line_at lines c) ≡ 0
-line-past [] c past = refl
-line-past (l ∷ ls) zero past = absurd (omega (arith, past))
-line-past (l ∷ ls) (suc c) past = line-past ls c (omega (arith, past))
-
-pub parked-chamber : (b : Book) → IsSound b → (id c p : ℕ) → id < length b.slots → (slot_at b id).state ≡ slot.Parked c p → c < 4
-parked-chamber b sound id c p known is =
-    let node = slot-node b sound id known in
-    let there = (parked-group b sound id c p known is).there in
-    by-length (slot_at b id).node.lines c p node.four there
-  where
-    by-length : (lines : List (List Group)) (c p : ℕ) → length lines ≡ 4 → p < length (line_at lines c) → c < 4
-    by-length lines zero p four there = omega arith
-    by-length [] (suc c) p four there = absurd (omega (arith, four))
-    by-length (l ∷ ls) (suc c) p four there = let rest = within ls c p there in omega (arith, four, rest)
-      where
-        within : (ls : List (List Group)) (c p : ℕ) → p < length (line_at ls c) → c < length ls
-        within [] c p there = absurd (omega (arith, there))
-        within (l ∷ ls) zero p there = omega arith
-        within (l ∷ ls) (suc c) p there = let rest = within ls c p there in omega (arith, rest)
-
 pub parked-at : (b : Book) (id : ℕ) → first_slot b is_parked ≡ Some id → id < length b.slots
 parked-at b id first = (first_slot-at b is_parked id first).0

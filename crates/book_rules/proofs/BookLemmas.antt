@@ -16,18 +16,3 @@ use Rattle.book_rules.proofs.ReplayLemmas.{after_all, opening-replayed, all-repl
 use Rattle.book_rules.proofs.CoverLemmas.{event-keeps, opening-keeps}
 
 module _ {Break : Type 0} (broken : Instance → Plan → Option Break) (sound : (I : Instance) (P : Plan) → broken I P ≡ None → IsLegal I P) where
-  pub all-keep : (b : Book) (es : List Event) → TreeLaws b.case.instance → AllByRecursion IsOwed es → KeepsBook b → KeepsBook (after_all broken b es)
-  all-keep b [] laws owed keeps = keeps
-  all-keep b (e ∷ es) laws owed keeps =
-      all-keep (Step.step broken b e).0 es (subst (λ (c : Case). TreeLaws c.instance) (sym (same-case broken b e)) laws) owed.1 (event-keeps broken sound b laws keeps e owed.0)
-
-  -- what a book keeps after its opening and any list of events
-  pub record KeepsReplay (b : Book) : Type 0 where
-    pub replayed : IsReplayed broken b
-    pub keeps : KeepsBook b
-
-  pub every_list : (case : Case) (plan : Plan) (es : List Event) → TreeLaws case.instance → IsLegal case.instance plan → AllByRecursion IsOwed es → KeepsReplay (after_all broken (opening_book case plan) es)
-  every_list case plan es laws legal owed = record {
-    replayed = all-replayed broken (opening_book case plan) es (opening-replayed broken case plan);
-    keeps = all-keep (opening_book case plan) es laws owed (opening-keeps case plan laws legal);
-  }

@@ -48,19 +48,3 @@ module _ {Break : Type 0} (broken : Instance → Plan → Option Break) where
   }
 
   module _ (sound : (I : Instance) (P : Plan) → broken I P ≡ None → IsLegal I P) where
-    pub all-parts : (b : Book) (es : List Event) → TreeLaws b.case.instance → AllByRecursion IsOwed es → KeepsBook b → KeepsParts b → KeepsParts (after_all broken b es)
-    all-parts b [] laws owed book keeps = keeps
-    all-parts b (e ∷ es) laws owed book keeps =
-        all-parts (Step.step broken b e).0 es (subst (λ (c : Case). TreeLaws c.instance) (sym (same-case broken b e)) laws) owed.1 (event-keeps broken sound b laws book e owed.0) (parts-step b book keeps e owed.0)
-
-    -- the parts after the opening and any list of owed events
-    pub every_list-parts : (case : Case) (plan : Plan) (es : List Event) → TreeLaws case.instance → IsLegal case.instance plan → AllByRecursion IsOwed es → KeepsParts (after_all broken (opening_book case plan) es)
-    every_list-parts case plan es laws legal owed = all-parts (opening_book case plan) es laws owed (opening-keeps case plan laws legal) (opening-parts case plan)
-
-    -- what a book keeps after its opening and any list of events: the replay, the cover and the parts
-    pub record KeepsAll (b : Book) : Type 0 where
-      pub cover : KeepsReplay broken sound b
-      pub parts : KeepsParts b
-
-    pub every_list-all : (case : Case) (plan : Plan) (es : List Event) → TreeLaws case.instance → IsLegal case.instance plan → AllByRecursion IsOwed es → KeepsAll (after_all broken (opening_book case plan) es)
-    every_list-all case plan es laws legal owed = record { cover = every_list broken sound case plan es laws legal owed; parts = every_list-parts case plan es laws legal owed }

@@ -260,12 +260,3 @@ module _ {Break : Type 0} (broken : Instance → Plan → Option Break) where
         | Refused r same ↦ subst (IsReplayed broken) (sym same) old
         | Accepted new ↦ accepted-replayed b e old new
       ]
-
-  abbrev pub after_all : Book → List Event → Book
-  after_all b [] = b
-  after_all b (e ∷ es) = after_all (after b e) es
-
-  -- after any events, accepted or refused, the book is the replay of its history
-  pub all-replayed : (b : Book) (es : List Event) → IsReplayed broken b → IsReplayed broken (after_all b es)
-  all-replayed b [] old = old
-  all-replayed b (e ∷ es) old = all-replayed (after b e) es (event-replayed b e old)

@@ -157,7 +157,3 @@ module _ {Break : Type 0} (broken : Instance → Plan → Option Break) (b : Boo
       refuse_or (park id c p deck turns) (not (is_held (slot_at b id).state)) (NotHeld id) onwards refl (park_group-step id c p deck turns (group_at (slot_at b id).node c p))
   each-step (replace plan) = replace_by-step plan (broken b.case.instance plan)
   each-step (release w) = refuse_or (release w) (slice_index_or b.ended w false) (Ended w) (Step.release_slot b w (first_slot b (is_held_by w))) refl (release_slot-step w (first_slot b (is_held_by w)))
-
-  -- no event changes the case
-  pub same-case : (e : Event) → (Step.step broken b e).0.case ≡ b.case
-  same-case e = elim (each-step e) [ Refused r same ↦ ap (λ (u : Book). u.case) same | Accepted new ↦ new.case ]

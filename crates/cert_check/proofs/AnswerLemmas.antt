@@ -19,14 +19,6 @@ use Rattle.cert_check.specs.declared.certificate.Answer.TheVariants.{Accepted, R
 use Rattle.cert_check.specs.FirstFailure.{FailBeforeMarks}
 use Rattle.cert_check.proofs.FirstFailure.{fails-same}
 
--- what fails before the marks fails first, whatever the marks are
-pub before-fails : {M : Type 0} (I : Instance) (cost : ℕ) (cuts : List CertCut) (prices : List (List ℕ)) (plan : Plan) (tree : List M) (Fail : List M → Reason → Type 0) (p : FailurePlace) (r : Reason) → FailBeforeMarks I cost cuts prices plan p r → FailsAt I cost cuts prices plan tree Fail p r
-before-fails I cost cuts prices plan tree Fail place.Plan r h = h.fails
-before-fails I cost cuts prices plan tree Fail place.Cost r h = h.fails
-before-fails I cost cuts prices plan tree Fail (place.Cut c) r h = h.fails
-before-fails I cost cuts prices plan tree Fail (place.Prices v) r h = h.fails
-before-fails I cost cuts prices plan tree Fail (place.Tree n) r h = absurd h.fails.6
-
 module _ (I : Instance) (C : Certificate) where
   pub accepted-rejected : Accepts I C → (n : ℕ) (place : FailurePlace) (why : Reason) → (Accepted n ≡ Rejected place why) ↔ Fails I C place why
   accepted-rejected good n place why = (λ e. absurd cc, λ f. absurd (fails-not_accepted I C place why f good))

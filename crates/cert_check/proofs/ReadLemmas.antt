@@ -37,10 +37,6 @@ module _ (claim : Claim) where
   abbrev Closing : ℕ → List (List Group) → Mark → Type 0
   Closing = Closes I claim.cost claim.cuts.now claim.prices.now
 
-  -- a mark that closes the node is a tree of it
-  pub leaf-read : (node : Node) (m : Mark) (marks rest : List Mark) → marks ≡ m ∷ rest → Closing node.depth node.lines m → IsRead claim node marks rest
-  leaf-read node m marks rest is closes = record { tree = subst (λ u. IsTreeOf claim node.depth node.lines u rest) (sym is) (leaf-tree I mark.Split Closing reason_of (length I.ships - node.depth) node.depth node.lines m rest closes) }
-
   -- reading ends at a mark that doesn't close the node, a split where no ship is lacking among them
   pub leaf-stuck : (node : Node) (m : Mark) (marks rest : List Mark) → marks ≡ m ∷ rest → (Closing node.depth node.lines m → ⊥) → (m ≡ mark.Split → length I.ships ≤ node.depth) → IsStuck claim node marks marks (reason_of m)
   leaf-stuck node m marks rest is open' whole = record {

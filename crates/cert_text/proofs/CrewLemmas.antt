@@ -25,40 +25,6 @@ and_false : (b : Bool) → (b && false) ≡ false
 and_false true = refl
 and_false false = refl
 
-pub rises_none : Rises [] 0
-rises_none = record { so_far = λ more. refl }
-
-pub rises_more : (ships : List ℕ) (low ship : ℕ) → Rises ships low → low ≤ ship → Rises (ships ++ ship ∷ []) (ship + 1)
-rises_more ships low ship rises above = record { so_far = each }
-  where
-    each : (more : List ℕ) → rises_from 0 ((ships ++ ship ∷ []) ++ more) ≡ rises_from (ship + 1) more
-    each more =
-        let test : nat_le low ship ≡ true = grind (arith, nat_tests) in
-        let next : suc ship ≡ ship + 1 = omega arith in
-        ap (rises_from 0) (append_assoc ships (ship ∷ []) more) ∙ rises.so_far (ship ∷ more) ∙ ap (λ b. b && rises_from (suc ship) more) test ∙ ap (λ n. rises_from n more) next
-
--- a ship that doesn't rise
-pub falls : (ships : List ℕ) (low ship : ℕ) (o rest : Option (List ℕ)) → Rises ships low → ship < low → o ≡ option_map (λ more. (ships ++ ship ∷ []) ++ more) rest → if_crew o ≡ None
-falls ships low ship o None rises under is = ap if_crew is
-falls ships low ship o (Some more) rises under is = ap if_crew is ∙ ap (λ b. when b >> Some ((ships ++ ship ∷ []) ++ more)) (ap (λ b. is_between 1 8 (length ((ships ++ ship ∷ []) ++ more)) && b) fall ∙ and_false _)
-  where
-    fall : rises_from 0 ((ships ++ ship ∷ []) ++ more) ≡ false
-    fall =
-        let test : nat_le low ship ≡ false = grind (arith, nat_tests) in
-        ap (rises_from 0) (append_assoc ships (ship ∷ []) more) ∙ rises.so_far (ship ∷ more) ∙ ap (λ b. b && rises_from (suc ship) more) test
-
-is_crew-rising : (ships : List ℕ) (low : ℕ) → Rises ships low → 1 ≤ length ships → length ships ≤ 8 → is_crew ships ≡ true
-is_crew-rising ships low rises some few =
-    let rising : rises_from 0 ships ≡ true = ap (rises_from 0) (sym (append-nil ships)) ∙ rises.so_far [] in
-    let between : is_between 1 8 (length ships) ≡ true = grind (arith, nat_tests) in
-    rw (between, rising) refl
-
--- the ships of as many items
-pub crewed : (vs : List Value) (ships : List ℕ) (low : ℕ) → Rises ships low → 1 ≤ length vs → length vs ≤ 8 → all_in byte_in (items_view vs) ≡ Some ships → crew_in (items_view vs) ≡ Some ships
-crewed vs ships low rises some few is =
-    let count = all_in-length byte_in vs ships is in
-    ap if_crew is ∙ ap (λ b. when b >> Some ships) (is_crew-rising ships low rises (omega arith) (omega arith))
-
 -- items of another count
 wrong_count : (vs : List Value) → is_between 1 8 (length vs) ≡ false → crew_in (items_view vs) ≡ None
 wrong_count vs out = go (all_in byte_in (items_view vs)) refl
@@ -68,9 +34,6 @@ wrong_count vs out = go (all_in byte_in (items_view vs)) refl
     go (Some ships) is =
         let wrong : is_between 1 8 (length ships) ≡ false = ap (is_between 1 8) (all_in-length byte_in vs ships is) ∙ out in
         ap if_crew is ∙ ap (λ b. when (b && rises_from 0 ships) >> Some ships) wrong
-
-pub none_crewed : (vs : List Value) → length vs ≡ 0 → None ≡ crew_in (items_view vs)
-none_crewed vs none = sym (wrong_count vs (ap (is_between 1 8) none))
 
 pub too_many : (vs : List Value) → 8 < length vs → None ≡ crew_in (items_view vs)
 too_many vs many =

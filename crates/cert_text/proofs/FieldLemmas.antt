@@ -27,10 +27,3 @@ bytes_back ns fits = numbers_back 256 ns (λ k. let fit = fits k in omega arith)
 
 pub words_back : (ns : List ℕ) → ((k : ℕ) → Fits w32 (get_or ns k 0)) → all_in word_in (items_of (map number_data ns)) ≡ Some ns
 words_back ns fits = numbers_back 4294967296 ns (λ k. let fit = fits k in omega arith)
-
--- one more that is read back
-pub back_more : {A : Type 0} (data_of : A → Data) (f : Data → Option A) (xs : List A) (i : ℕ) (e : A) → ((k : ℕ) (d : A) → k < i → ReadsBack data_of f (get_or xs k d)) → i < length xs → f (data_of (get_or xs i e)) ≡ Some (get_or xs i e) → (k : ℕ) (d : A) → k < i + 1 → ReadsBack data_of f (get_or xs k d)
-back_more data_of f xs i e before within here k d low = ⊎_elim (λ (under : k < i). before k d under) (λ (over : i ≤ k). last (omega arith)) (cases_lt k i)
-  where
-    last : k ≡ i → ReadsBack data_of f (get_or xs k d)
-    last is = subst (λ x. ReadsBack data_of f x) (get_or_default xs i e d within ∙ ap (λ j. get_or xs j d) (sym is)) (record { same = here })

@@ -14,31 +14,6 @@ use Rattle.cert_text.specs.Steps.{◌>>=◌, ◌>>◌, when}
 abbrev pub rest_in : {A : Type 0} → (Data → Option A) → List A → List Value → Option (List A)
 rest_in f found more = option_map (λ xs. found ++ xs) (all_in f (items_view more))
 
-here : {A : Type 0} (f : Data → Option A) (xs : List Value) (i : ℕ) (v : Value) → i < length xs → v ≡ slice_index_or xs i v
-    → all_in f (items_view (drop i xs)) ≡ (f (view v) >>= λ x. all_in f (items_view (drop (suc i) xs)) >>= λ more. Some (x ∷ more))
-here f xs i v lt is = ap (λ l. all_in f (items_view l)) (drop-cons xs i v lt) ∙ ap (λ w. f (view w) >>= λ x. all_in f (items_view (drop (suc i) xs)) >>= λ more. Some (x ∷ more)) (sym is)
-
--- an item that f doesn't read
-pub stops : {A : Type 0} (f : Data → Option A) (found : List A) (xs : List Value) (i : ℕ) (v : Value) (o : Option (List A)) → i < length xs → v ≡ slice_index_or xs i v
-    → o ≡ rest_in f found (drop i xs) → f (view v) ≡ None → o ≡ None
-stops f found xs i v o lt is e none = e ∙ (ap (option_map (λ ns. found ++ ns)) (here f xs i v lt is) ∙ rw none refl)
-
-added : {A : Type 0} (found : List A) (x : A) (o : Option (List A)) → option_map (λ ns. found ++ ns) (o >>= λ more. Some (x ∷ more)) ≡ option_map (λ ns. (found ++ x ∷ []) ++ ns) o
-added found x None = refl
-added found x (Some ns) = ap Some (sym (append_assoc found (x ∷ []) ns))
-
--- one that it reads
-pub goes_on : {A : Type 0} (f : Data → Option A) (found : List A) (xs : List Value) (i : ℕ) (v : Value) (x : A) (o : Option (List A)) → i < length xs → v ≡ slice_index_or xs i v
-    → o ≡ rest_in f found (drop i xs) → f (view v) ≡ Some x → o ≡ rest_in f (found ++ x ∷ []) (drop (i + 1) xs)
-goes_on f found xs i v x o lt is e some =
-    let next : suc i ≡ i + 1 = omega arith in
-    subst (λ j. o ≡ rest_in f (found ++ x ∷ []) (drop j xs)) next (e ∙ (ap (option_map (λ ns. found ++ ns)) (here f xs i v lt is ∙ ap (λ r. r >>= λ y. all_in f (items_view (drop (suc i) xs)) >>= λ more. Some (y ∷ more)) some)
-    ∙ added found x (all_in f (items_view (drop (suc i) xs)))))
-
--- at the end all are found
-pub ends : {A : Type 0} (f : Data → Option A) (found : List A) (o : Option (List A)) (xs : List Value) (i : ℕ) → length xs ≤ i → o ≡ rest_in f found (drop i xs) → o ≡ Some found
-ends f found o xs i past e = e ∙ ap (rest_in f found) (drop_all i xs past) ∙ ap Some (append-nil found)
-
 -- as many are found as there are items
 pub all_in-length : {A : Type 0} (f : Data → Option A) (vs : List Value) (xs : List A) → all_in f (items_view vs) ≡ Some xs → length xs ≡ length vs
 all_in-length f [] [] e = refl

@@ -27,38 +27,6 @@ module _ {M : Type 0} (told : Bool → Data → Option (Option M)) where
   abbrev pub rest_told : List M → Bool → List Value → Option (List M)
   rest_told found begun more = option_map (λ ms. found ++ ms) (marks_in told begun (items_view more))
 
-  here : (begun : Bool) (xs : List Value) (i : ℕ) (v : Value) → i < length xs → v ≡ slice_index_or xs i v
-      → marks_in told begun (items_view (drop i xs)) ≡ (told begun (view v) >>= λ m. marks_in told (is_none m) (items_view (drop (suc i) xs)) >>= λ ms. Some (listed m ++ ms))
-  here true xs i v lt is =
-      ap (λ l. marks_in told true (items_view l)) (drop-cons xs i v lt) ∙ ap (λ w. told true (view w) >>= λ m. marks_in told (is_none m) (items_view (drop (suc i) xs)) >>= λ ms. Some (listed m ++ ms)) (sym is)
-  here false xs i v lt is =
-      ap (λ l. marks_in told false (items_view l)) (drop-cons xs i v lt) ∙ ap (λ w. told false (view w) >>= λ m. marks_in told (is_none m) (items_view (drop (suc i) xs)) >>= λ ms. Some (listed m ++ ms)) (sym is)
-
-  -- a number that says nothing
-  pub stops : (found : List M) (begun : Bool) (xs : List Value) (i : ℕ) (v : Value) (o : Option (List M)) → i < length xs → v ≡ slice_index_or xs i v
-      → o ≡ rest_told found begun (drop i xs) → told begun (view v) ≡ None → o ≡ None
-  stops found begun xs i v o lt is e none = e ∙ (ap (option_map (λ ms. found ++ ms)) (here begun xs i v lt is) ∙ rw none refl)
-
-  added : (found : List M) (m : Option M) (o : Option (List M)) → option_map (λ ms. found ++ ms) (o >>= λ ms. Some (listed m ++ ms)) ≡ option_map (λ ms. (found ++ listed m) ++ ms) o
-  added found m None = refl
-  added found m (Some ms) = ap Some (sym (append_assoc found (listed m) ms))
-
-  -- one that says something
-  pub goes_on : (found : List M) (begun : Bool) (xs : List Value) (i : ℕ) (v : Value) (m : Option M) (o : Option (List M)) → i < length xs → v ≡ slice_index_or xs i v
-      → o ≡ rest_told found begun (drop i xs) → told begun (view v) ≡ Some m → o ≡ rest_told (found ++ listed m) (is_none m) (drop (i + 1) xs)
-  goes_on found begun xs i v m o lt is e some =
-      let next : suc i ≡ i + 1 = omega arith in
-      subst (λ j. o ≡ rest_told (found ++ listed m) (is_none m) (drop j xs)) next
-      (e ∙ (ap (option_map (λ ms. found ++ ms)) (here begun xs i v lt is ∙ ap (λ r. r >>= λ n. marks_in told (is_none n) (items_view (drop (suc i) xs)) >>= λ ms. Some (listed n ++ ms)) some)
-      ∙ added found m (marks_in told (is_none m) (items_view (drop (suc i) xs)))))
-
-  -- at the end all are found, where none is begun
-  pub ends : (found : List M) (begun : Bool) (o : Option (List M)) (xs : List Value) (i : ℕ) → length xs ≤ i → o ≡ rest_told found begun (drop i xs) → begun ≡ false → o ≡ Some found
-  ends found begun o xs i past e none = e ∙ ap (rest_told found begun) (drop_all i xs past) ∙ ap (λ b. rest_told found b []) none ∙ ap Some (append-nil found)
-
-  pub unfinished : (found : List M) (begun : Bool) (o : Option (List M)) (xs : List Value) (i : ℕ) → length xs ≤ i → o ≡ rest_told found begun (drop i xs) → begun ≡ true → o ≡ None
-  unfinished found begun o xs i past e some = e ∙ ap (rest_told found begun) (drop_all i xs past) ∙ ap (λ b. rest_told found b []) some
-
 -- ---- reading back
 
 -- the numbers of a mark are read as this mark, whatever follows

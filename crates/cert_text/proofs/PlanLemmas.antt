@@ -17,11 +17,6 @@ pub lockage_back : (l : Lockage) → byte_in (number_data l.chamber) ≡ Some l.
 unfolding lockage_in serde_json_on_literals
 lockage_back l chamber ships spots as_many start way = rw (chamber, ships, spots, eq-eqb (length l.spots) (length l.ships) as_many, start, way) refl
 
-pub plan_back : (p : Plan) → all_in lockage_in (items_of (map lockage_data p.lockages)) ≡ Some p.lockages → length p.lockages ≤ 24 → plan_in (plan_data p) ≡ Some p
-plan_back p back few =
-    let test : nat_le (length p.lockages) 24 ≡ true = grind (arith, nat_tests) in
-    rw (back, test) refl
-
 abbrev few_of : Option (List Lockage) → Option Plan
 few_of o = o >>= λ lockages. when (nat_le (length lockages) 24) >> Some (record { lockages = lockages })
 
@@ -35,10 +30,3 @@ too_long vs many = go (all_in lockage_in (items_view vs)) (all_in-length lockage
         let size = count ls refl in
         let test : nat_le (length ls) 24 ≡ false = grind (arith, nat_tests) in
         rw test refl
-
--- and no more
-pub short : (vs : List Value) (ls : List Lockage) → length vs ≤ 24 → all_in lockage_in (items_view vs) ≡ Some ls → plan_items (items_view vs) ≡ Some (record { lockages = ls })
-short vs ls few is =
-    let size = all_in-length lockage_in vs ls is in
-    let test : nat_le (length ls) 24 ≡ true = grind (arith, nat_tests) in
-    rw (is, test) refl

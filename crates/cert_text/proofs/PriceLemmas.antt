@@ -25,16 +25,6 @@ one_back prices formed =
 pub lists_back : (prices : List (List ℕ)) → All AreFormedPrices prices → price_lists_in (price_lists_data prices) ≡ Some prices
 lists_back prices formed = all_back numbers_data prices_in prices (λ k d low. record { same = one_back _ (formed k d low) })
 
--- the prices of as many items
-pub priced : (vs : List Value) (prices : List ℕ) → 1 ≤ length vs → length vs ≤ 24 → all_in price_in (items_view vs) ≡ Some prices → items_prices (items_view vs) ≡ Some prices
-priced vs prices some few is =
-    let count = all_in-length price_in vs prices is in
-    let between : is_between 1 24 (length prices) ≡ true = grind (arith, nat_tests) in
-    ap if_few is ∙ ap (λ b. when b >> Some prices) between
-
-pub unpriced : (vs : List Value) → all_in price_in (items_view vs) ≡ None → items_prices (items_view vs) ≡ None
-unpriced vs is = ap if_few is
-
 -- items of another count
 wrong_count : (vs : List Value) → is_between 1 24 (length vs) ≡ false → items_prices (items_view vs) ≡ None
 wrong_count vs out = go (all_in price_in (items_view vs)) refl
@@ -44,9 +34,6 @@ wrong_count vs out = go (all_in price_in (items_view vs)) refl
     go (Some prices) is =
         let wrong : is_between 1 24 (length prices) ≡ false = ap (is_between 1 24) (all_in-length price_in vs prices is) ∙ out in
         ap if_few is ∙ ap (λ b. when b >> Some prices) wrong
-
-pub none_priced : (vs : List Value) → length vs ≡ 0 → None ≡ items_prices (items_view vs)
-none_priced vs none = sym (wrong_count vs (ap (is_between 1 24) none))
 
 pub too_many : (vs : List Value) → 24 < length vs → None ≡ items_prices (items_view vs)
 too_many vs many =

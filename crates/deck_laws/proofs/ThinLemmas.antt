@@ -434,30 +434,3 @@ module _ (d : Deck) (spots : List Spot) (legal : IsLegalPlacement d spots) (limi
     };
     berthed = λ j kj. subst (λ p. IsMoored (thin_deck d b) after j p.moor) (sym (spot-after j kj)) (moored-after j (moor (raised b j)) kj refl);
   }
-
-  -- ---- the ships that move are exactly those moored to b through any number of hosts
-  abbrev IsOnB : ℕ → Type 0
-  IsOnB i = (k : ℕ) × IsMooredThrough spots b k i
-
-  on-in : (f i : ℕ) → i < length d.ships → low i < f → moves i ≡ true → IsOnB i
-  on-in zero i ki small goes = absurd (omega (arith, small))
-  on-in (suc f) i ki small goes =
-      let on = moves-host i ki goes in
-      let at = low-host i on.0 ki on.1 in
-      elim on.2 [
-        | inl is ↦ (0, on.1 ∙ ap Ship is)
-        | inr g ↦ let rest = on-in f on.0 at.0 (omega (arith, at.1, small)) g in (suc rest.0, (on.0, on.1, rest.1))
-      ]
-
-  pub moves-on : (i : ℕ) → i < length d.ships → moves i ≡ true → (k : ℕ) × IsMooredThrough spots b k i
-  moves-on i ki goes = on-in (suc (low i)) i ki (omega arith) goes
-
-  or-right : (a c : Bool) → c ≡ true → (a || c) ≡ true
-  or-right true c e = refl
-  or-right false c e = e
-
-  pub on-moves : (k i : ℕ) → i < length d.ships → IsMooredThrough spots b k i → moves i ≡ true
-  on-moves zero i ki e = moves-step i b ki e ∙ elim (eqb_tells b b) [ inl y ↦ ap (λ c. c || moves b) y.0 | inr n ↦ absurd (n.1 refl) ]
-  on-moves (suc k) i ki h =
-      let at = low-host i h.0 ki h.1 in
-      moves-step i h.0 ki h.1 ∙ or-right (nat_eq h.0 b) (moves h.0) (on-moves k h.0 at.0 h.2)

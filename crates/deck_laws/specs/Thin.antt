@@ -47,8 +47,3 @@ thin_deck d b = record { length = d.length; width = d.width; end = d.end; gap = 
 
 abbrev pub thin_spots : Deck → List Spot → ℕ → List Spot
 thin_spots d spots b = map (thin_spot d spots b) (remove spots b)
-
--- ship i is moored to ship b, with k hosts between
-abbrev pub IsMooredThrough : List Spot → ℕ → ℕ → ℕ → Type 0
-IsMooredThrough spots b zero i = (spot_at spots i).moor ≡ Ship b
-IsMooredThrough spots b (suc k) i = (j : ℕ) × ((spot_at spots i).moor ≡ Ship j) × IsMooredThrough spots b k j

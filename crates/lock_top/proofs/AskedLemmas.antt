@@ -8,37 +8,6 @@ use Rattle.command_words.specs.declared.errors.WordsError.{WordsError}
 use Rattle.command_words.specs.declared.errors.WordsError.TheVariants as error
 use Rattle.lock_top.specs.Asked.{MeanOnly, HasNumbers}
 
--- the numbers of a command are in their ranges
-pub has_numbers : (words : List (List ℕ)) (command : Command) → MeanCommand words command → HasNumbers command
-has_numbers words (Solve options) means =
-    let given = means.gives.options in
-    record { nodes = (given.nodes.low, given.nodes.high); turns = (given.turns.low, given.turns.high); workers = (given.workers.low, given.workers.high) }
-has_numbers words Check means = tt
-has_numbers words (Lot options) means =
-    let given = means.gives.options in
-    record { ships = (given.ships.low, given.ships.high); chambers = (given.chambers.low, given.chambers.high) }
-has_numbers words (Trial options) means =
-    let given = means.gives.options in
-    record {
-      lot = record { ships = (given.lot.ships.low, given.lot.ships.high); chambers = (given.lot.chambers.low, given.lot.chambers.high) };
-      nodes = (given.nodes.low, given.nodes.high);
-      turns = (given.turns.low, given.turns.high);
-    }
-has_numbers words Judge means = tt
-has_numbers words Play means = tt
-has_numbers words (Replan options) means =
-    let given = means.gives.options in
-    record {
-      from = given.from.high;
-      nodes = (given.nodes.low, given.nodes.high);
-      turns = (given.turns.low, given.turns.high);
-      workers = (given.workers.low, given.workers.high);
-    }
-has_numbers words Lower means = tt
-has_numbers words (Resume options) means =
-    let given = means.gives.options in
-    record { nodes = (given.nodes.low, given.nodes.high); turns = (given.turns.low, given.turns.high); workers = (given.workers.low, given.workers.high) }
-
 same : (a b : Command) (r : Result Command WordsError) → r ≡ Ok a → r ≡ Ok b → b ≡ a
 same a b r e f = cc
 

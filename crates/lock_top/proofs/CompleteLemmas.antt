@@ -142,17 +142,3 @@ complete words source sink status text answer = record {
       by_answer words source status text answer (MayResume options I C) tt (Resume options) ask
       (by_bytes words source status text answer (MayResume options I C) tt dossier_limit (AnswersResume options) bytes served (resume_ends bytes I C reads fit options));
 }
-
--- and where the sink failed.
-pub cut_complete : (words : List (List ℕ)) (source : Drained) (sink : Filled) → IsComplete (record { words = words; source = source; sink = sink; status = WriteFault })
-cut_complete words source sink = record {
-  solve = λ options bytes I ask served means fit. tt;
-  check = λ bytes I C ask served reads fit. tt;
-  lot = λ options ask. tt;
-  trial = λ options I ask lot. tt;
-  judge = λ bytes I P ask served planned. tt;
-  play = λ bytes I P ask served planned. tt;
-  replan = λ options I G ask served whole. absurd (whole refl);
-  lower = λ bytes I C ask served reads fit. tt;
-  resume = λ options bytes I C ask served reads fit. tt;
-}

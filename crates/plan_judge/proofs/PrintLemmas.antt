@@ -23,19 +23,6 @@ eleven o p q r s t u v w x y z = simp append_assoc
 pub berth_line : (o n x y r h : List ℕ) → o ++ codes "berth " ++ n ++ codes " " ++ x ++ codes " " ++ y ++ codes " " ++ r ++ codes " " ++ h ++ codes "\n" ≡ o ++ line (codes "berth" ∷ n ∷ x ∷ y ∷ r ∷ h ∷ [])
 berth_line o n x y r h = eleven o (codes "berth ") n (codes " ") x (codes " ") y (codes " ") r (codes " ") h (codes "\n") ∙ ap (λ xs. o ++ xs) (sym (line_is (codes "berth" ∷ n ∷ x ∷ y ∷ r ∷ h ∷ []) (10 ∷ [])))
 
--- one berth more
-pub berths_step : (I : Instance) (ships : List ℕ) (spots : List Spot) (o new whole : List ℕ) (k : ℕ) (s : ℕ) (p d : Spot) → k < length ships → k < length spots → s ≡ get_or ships k 0 → p ≡ get_or spots k d
-    → o ++ flat_map line (berths_of I ships (drop k ships) (drop k spots)) ≡ whole → new ≡ o ++ line (berth_words I ships s p) → new ++ flat_map line (berths_of I ships (drop (k + 1) ships) (drop (k + 1) spots)) ≡ whole
-berths_step I ships spots o new whole k s p d low within ship spot before is =
-    let rest : List ℕ = flat_map line (berths_of I ships (drop (k + 1) ships) (drop (k + 1) spots)) in
-    ap (λ xs. xs ++ rest) is
-    ∙ append_assoc o (line (berth_words I ships s p)) rest
-    ∙ ap (λ x. o ++ (line (berth_words I ships x p) ++ rest)) ship
-    ∙ ap (λ x. o ++ (line (berth_words I ships (get_or ships k 0) x) ++ rest)) spot
-    ∙ ap (λ xs. o ++ flat_map line (berths_of I ships xs (get_or spots k d ∷ drop (k + 1) spots))) (sym (drop_more ships k 0 low))
-    ∙ ap (λ xs. o ++ flat_map line (berths_of I ships (drop k ships) xs)) (sym (drop_more spots k d within))
-    ∙ before
-
 -- a line and the lines after it
 pub lockage_is : (I : Instance) (l : Lockage) (o first last ships : List ℕ) (spots : List Spot) → ships ≡ l.ships → spots ≡ l.spots → first ≡ o ++ line (head_words I l) → last ≡ first ++ flat_map line (berths_of I ships ships spots) → last ≡ o ++ flat_map line (lockage_lines I l)
 unfolding lockage_lines

@@ -84,9 +84,6 @@ module _ (I : Instance) (k : ℕ) (prices : List ℕ) where
       served = served-itself (old ++ choice ∷ []) choice (length old, omega (arith, length-append old (choice ∷ [])), get_or-append_seam old choice [] choice);
     }
 
-    pub one-served : (old : List Choice) (choice : Choice) → All (IsChoice I c cuts k prices line) old → IsServed I k prices old choice.joins choice.group → HasOne I c cuts k prices line choice old old
-    one-served old choice each served = record { each = each; kept = λ h at. at; served = served }
-
     -- choices put one after another
     pub put-start : (more old : List Choice) → All (IsChoice I c cuts k prices line) old → HavePut I c cuts k prices line more 0 old old
     put-start more old each = record { each = each; kept = λ h at. at; done = λ j d none here. absurd (omega (arith, none)) }
@@ -156,9 +153,6 @@ module _ (I : Instance) (k : ℕ) (prices : List ℕ) where
       }
 
       module _ (to : Option ℕ) (groups : List Group) (grown : AreGrown I c k sets base (length I.ships) groups) where
-        pub some-start : (old : List Choice) → All (IsChoice I c cuts k prices line) old → HaveSome I c cuts k prices line to groups 0 old old
-        some-start old each = record { each = each; kept = λ h at. at; done = λ j d none here some. absurd (omega (arith, none)) }
-
         before : (i j : ℕ) → j < suc i → j ≢ i → j < i
         before i j less m = elim (leb_tells (suc j) i) [ inl y ↦ y.1 | inr q ↦ absurd (m (omega (arith, less, q.1))) ]
 
@@ -196,19 +190,6 @@ module _ (I : Instance) (k : ℕ) (prices : List ℕ) where
         }
 
 module _ (I : Instance) (c k : ℕ) (line : List Group) where
-  -- no ship, of a way
-  pub base-none : (way : Way) → IsBaseOf I c k line None (record { way = way; ships = [] })
-  base-none way = record {
-    good = record {
-      rising = λ j here. absurd (omega (arith, here));
-      known = All-nil (λ s. s < length I.ships);
-      few = omega arith;
-      ways = All-nil (λ s. (ship_at I s).way ≡ way);
-      keeps = refl;
-    };
-    keeps = λ g on. on.keeps;
-  }
-
   -- a group of the line
   pub base-own : All (IsNodeGroup I c) line → All (IsKeptGroup I k) line → All (λ g. All (λ s. s < length I.ships) g.ships) line → (p : ℕ) (d : Group) → p < length line → IsBaseOf I c k line (Some p) (slice_index_or line p d)
   base-own good kept known p d here =
@@ -256,11 +237,3 @@ module _ (I : Instance) (c k : ℕ) (line : List Group) where
         on g keeps =
             let same = heads I k prices _ _ _ _ (sym (drop-cons line i d here) ∙ keeps) in
             record { way = ap (λ g. g.way) (sym same); keeps = ap (λ g. g.ships) (sym same) }
-
-    -- WHAT WAS PUT FOR EACH PLACE of the line is enough.
-    pub some-whole : (choices : List Choice) → AreSome I c cuts k prices line (length line) choices → AreChoices I c cuts k prices line choices
-    some-whole choices some = record { each = some.each; whole = λ to g uncut keeps. by_place to g uncut keeps }
-      where
-        by_place : (to : Option ℕ) (g : Group) → IsUncut I c cuts g → Keeps I k line to g → IsServed I k prices choices to g
-        by_place None g uncut keeps = some.free g uncut keeps
-        by_place (Some p) g uncut keeps = some.own p g (inside p line _ _ keeps) uncut keeps

@@ -65,10 +65,6 @@ module _ (I : Instance) (c : ℕ) (known : c < length I.chambers) (cuts : List P
       through : (a b w : ℤ) → a ≤ℤ b → b ≤ℤ w → a ≤ℤ w
       through a b w h j = omega (arith, ints)
 
-  -- a choice that doesn't come next at the place
-  pub counted-other : (stand : Stand) (from p : ℕ) (best : ℤ) (h : Choice) → ((q : ℕ) → ¬ Leads h.joins p q) → IsCounted I c cuts k prices line stand from p best h
-  counted-other stand from p best h none = λ q leads. absurd (none q leads)
-
   module _ (uncut : All (IsUncut I c cuts) line) (own : All (IsKeptGroup I k) line) where
     -- at first the line's own groups alone
     pub best-alone : (p : ℕ) (stand : Stand) (from : ℕ) (v : ℤ) → v ≡ worth_from I c k prices stand from (drop p line) → pos 0 ≤ℤ v → v ≤ℤ pos 6000000000000 → IsBest I c cuts k prices line horizon p stand from v

@@ -70,9 +70,6 @@ later-served late h old new has g served = elim has.more [
 ]
 
 module _ (I : Instance) (c : ℕ) (cuts : List PlainCut) (k : ℕ) (prices : List ℕ) (line : List Group) (late : ℕ) where
-  pub late-first : AreLate I c cuts k prices line late [] []
-  late-first = record { each = All-nil (IsChoice I c cuts k prices line); served = All-nil (IsServedLate late []) }
-
   pub late-next : (choices : List Choice) (h : Choice) (old new : List Choice) → IsChoice I c cuts k prices line h → HasLate late h old new → AreLate I c cuts k prices line late choices old → AreLate I c cuts k prices line late (choices ++ h ∷ []) new
   late-next choices h old new is has are = record {
     each = elim has.more [

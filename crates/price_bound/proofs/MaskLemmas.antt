@@ -35,10 +35,6 @@ one-of xs x y at apart = elim (leb_tells (suc at.0) (length xs)) [
       absurd (apart (sym at.2 ∙ ap (λ i. slice_index_or (xs ++ x ∷ []) i y) seam ∙ get_or-append_seam xs x [] y))
 ]
 
--- no ships
-pub mask-none : IsMask 0 []
-mask-none = record { small = omega arith; has = λ s at. absurd (omega (arith, at.1)); only = λ s within bit. absurd (omega (arith, bit, bit_at-zero s)) }
-
 -- one ship more
 pub mask-next : (mask s : ℕ) (xs : List ℕ) → s < 32 → IsMask mask xs → IsMask (bit_or mask (1 * 2 ^ s % 2 ^ 32)) (xs ++ s ∷ [])
 mask-next mask s xs within is = record {

@@ -22,15 +22,6 @@ use Rattle.price_bound.specs.Lines.{IsLineWorth, IsLeastLine, AreLeastLines, IsB
 use Rattle.price_bound.proofs.StepLemmas.{own-loose, all-below}
 
 module _ (I : Instance) (c : ℕ) (known : c < length I.chambers) (cuts : List PlainCut) (k : ℕ) (prices : List ℕ) (line : List Group) where
-  -- at first no group is taken
-  pub begun-first : (first : ValuedState) → first.state.place ≡ 0 → first.state.stand ≡ (chamber_at I c).stands → first.state.minute ≡ (chamber_at I c).opens → IsBegun I c cuts k prices line [] first first.value
-  begun-first first place stand minute = record {
-    goes_on = λ gs loose worth. record {
-      is_loose = subst (λ p. IsLoose I c cuts k (drop p line) gs) place loose;
-      worth = (λ i. worth_from I c k prices (sym stand i) (sym minute i) gs) ∙ worth;
-    };
-  }
-
   -- one group more
   pub begun-next : (horizon : ℕ) (taken : List Group) (at : ValuedState) (next : NextGroup) (total : ℤ) → IsNext I c cuts k prices line horizon at next → IsBegun I c cuts k prices line taken at total → IsBegun I c cuts k prices line (taken ++ next.group ∷ []) next.behind total
   begun-next horizon taken at next total is begun = record {

@@ -75,18 +75,6 @@ module _ (I : Instance) (C : OpenCertificate) where
 
   -- ---- parts of the check
 
-  pub before-open_fails : (p : FailurePlace) (r : Reason) → FailBeforeMarks I C.cost C.cuts C.prices C.plan p r → OpenFails I C p r
-  before-open_fails p r f = before-fails I C.cost C.cuts C.prices C.plan C.tree (MarksFail I (Closed mark.Split) (ClosesOrOpen I C.cost C.cuts C.prices) open_reason_of C.tree) p r f
-
-  pub marks-open_fail : (n : ℕ) (r : Reason) → HoldBeforeMarks I C.cost C.cuts C.prices C.plan → FailAtOpenMark I C.cost C.cuts C.prices C.tree n r → OpenFails I C (place.Tree n) r
-  marks-open_fail n r h f = (h.legal, h.costs, h.proved, h.shaped, f.stuck, f.place, f.fails)
-
-  pub all-stands : (low : ℕ) → HoldBeforeMarks I C.cost C.cuts C.prices C.plan → IsLowOfMarks I C.cost C.cuts C.prices C.tree low → Stands I C × IsLow I C low
-  all-stands low h f = (
-    record { legal = h.legal; cost = h.costs; cuts = h.proved; prices = h.shaped; tree = f.tree },
-    record { bounds = f.bounds; leaves = f.leaves; least = f.least },
-  )
-
   -- ---- what each answer says
 
   pub stands-stands : (low paid : ℕ) → paid ≡ C.cost → Stands I C → IsLow I C low → (m n : ℕ) → (answer.Stands low paid ≡ answer.Stands m n) ↔ (Stands I C × IsLow I C m × (n ≡ C.cost))

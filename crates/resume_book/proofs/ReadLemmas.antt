@@ -86,10 +86,6 @@ module _ (claim : Claim) where
         (inr (inner, is, h.stick));
   }
 
-  -- no child is read
-  pub none-read : (node : Node) (low : ℕ) (marks : List OpenMark) → AreRead claim node 0 low marks marks low
-  none-read node low marks = record { trees = refl; bounds = []; leaves = (refl, refl); is = refl }
-
   -- one more child is read
   pub more-read : (node : Node) (i low : ℕ) (marks middle rest : List OpenMark) (least less : ℕ) → i < length (children I node) → AreRead claim node i low marks middle least → IsChildRead claim node i least middle rest less → AreRead claim node (i + 1) low marks rest less
   more-read node i low marks middle rest least less within before own =

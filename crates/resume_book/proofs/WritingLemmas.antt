@@ -29,10 +29,6 @@ leaf-written b id old new whole grown = record {
   grown = grown ∙ ap (λ ids. old ++ map (mark_at b) ids) (sym (leaf-alone b (lacking_at b id) id (slot_at b id).state refl whole));
 }
 
--- the marks of no child
-pub none-written : (b : Book) (id first n : ℕ) (old : List OpenMark) → n ≡ 0 → AppendsOpenChildMarks b id first n old old
-none-written b id first n old none = subst (λ k. AppendsOpenChildMarks b id first k old old) (sym none) (record { grown = sym (append-nil old) })
-
 -- the marks of one child more
 pub more-written : (b : Book) (id first n more child : ℕ) (old mid new : List OpenMark) → more ≡ suc n → child ≡ first + n → (slot_at b child).node.depth ≡ suc (slot_at b id).node.depth
     → AppendsOpenChildMarks b id first n old mid → AppendsOpenMarks b child mid new → AppendsOpenChildMarks b id first more old new

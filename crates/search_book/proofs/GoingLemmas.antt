@@ -32,27 +32,6 @@ use Rattle.search_book.proofs.ApplyLemmas.{is_accepting, accepted-by}
 
 -- ---- a taking
 
-counts-by : (b : Book) (g : Grant) → granted g ≡ cond (machine.is_accepted (grant_told b g)) 1 0
-counts-by b (grant.Slot id) = refl
-counts-by b (grant.Ended w) = refl
-counts-by b (grant.Holds id) = refl
-counts-by b (grant.NodesSpent used) = refl
-counts-by b grant.Idle = refl
-counts-by b grant.Done = refl
-
-pub grants-count : (old : Book) (w : ℕ) (g : Grant) (new : Book) → Grants old w g new → length new.history ≡ length old.history + granted g
-grants-count old w g new grants =
-    elim (subst (IsStep old (machine.take w)) grants.same (each-step (λ _ _. grants.found) old (machine.take w))) [
-      | Refused said same ↦
-          let none : granted g ≡ 0 = counts-by new g ∙ ap (λ t. cond t 1 0) said in
-          let long = ap (λ (b : Book). length b.history) same in
-          omega (arith, none, long)
-      | Accepted done ↦
-          let one_more : granted g ≡ 1 = counts-by new g ∙ ap (λ t. cond t 1 0) done.accepted in
-          let long = ap length done.history ∙ length-append old.history (entry_of (machine.take w) ∷ []) in
-          omega (arith, one_more, long)
-    ]
-
 -- a reply that tells what came of a taking is its reply
 pub grants-takes : (old : Book) (w : ℕ) (g : Grant) (new : Book) (r : Reply) → Grants old w g new → told r ≡ Some (grant_told new g) → HasNode new.case.instance r → Takes old w r new
 grants-takes old w g new r grants said node = record { step = grants-answers old w g new grants r said; node = grants-node old w g new grants r node }
@@ -123,18 +102,11 @@ stops old e ended between step said w g rest new grants held astray r tells node
   off = off-way new g rest astray held r tells node;
 }
 
--- and counts as much
-pub reply-counts : (b : Book) (g : Grant) (r : Reply) → told r ≡ Some (grant_told b g) → accepted r ≡ granted g
-reply-counts b g r said = ap (λ t. cond t 1 0) (sym (accepted-by r) ∙ ap is_accepting said) ∙ sym (counts-by b g)
-
 -- ---- a stretch of nodes
 
 -- what comes of the nodes that are left, from here on, comes of all of them
 pub record Went (w : ℕ) (old : Book) (id : ℕ) (all : List Ahead) (b : Book) (held : ℕ) (left : List Ahead) (place : ℕ) : Type 0 where
   pub goes : (k : ℕ) (gone : Gone) (end : Book) → GoesAhead w b held left k gone end → GoesAhead w old id all (place + k) gone end
-
-pub went-start : (w : ℕ) (old : Book) (id : ℕ) (all : List Ahead) → Went w old id all old id all 0
-went-start w old id all = record { goes = λ k gone end h. subst (λ n. GoesAhead w old id all n gone end) (omega arith) h }
 
 -- a list by its first item and the others
 first-rest : (left : List Ahead) (one : Ahead) → one ≡ slice_index_or left 0 one → 0 < length left → left ≡ one ∷ take (length left - 1) (drop 1 left)
@@ -163,15 +135,6 @@ module _ (w : ℕ) (old : Book) (id : ℕ) (all : List Ahead) (b : Book) (held :
       let own = subst (λ (u : Book). IsStop u (ending_of held one.ending) w rest last end) same (subst (λ (f : Event). IsStop laid f w rest last end) e_is stop) in
       let gone : Gone = record { place = place; id = held; next = last } in
       subst (λ n. GoesAhead w old id all n gone end) (omega arith) (goes-from 0 gone end (refl, own))
-
--- the slot that was taken has the first node of those that are left, so that there is one
-pub some-left : (b : Book) (id : ℕ) (left : List Ahead) → IsFirstAt b id left → 0 < length left
-some-left b id [] is = absurd is
-some-left b id (a ∷ rest) is = omega arith
-
-pub first-at : (b : Book) (id : ℕ) (left : List Ahead) (one : Ahead) → one ≡ slice_index_or left 0 one → IsFirstAt b id left → IsHeldAt b id one.foreseen.node
-first-at b id [] one is first = absurd first
-first-at b id (a ∷ rest) one is first = subst (λ (x : Ahead). IsHeldAt b id x.foreseen.node) (sym is) first
 
 -- equal nodes of the machine are equal nodes
 pub held-own : (b : Book) (id : ℕ) (own node : Node) → is_held (slot_at b id).state ≡ true → IsNodeIn b.case.instance b.slots id own → own ≡ node → IsHeldAt b id node

@@ -205,9 +205,6 @@ own_group I first most g ss same rising some few own = record {
 pub own_ships : (I : Instance) (first : List ℕ) (most : ℕ) (g : Group) (ss : List ℕ) → ss ≡ g.ships → IsOwnGroup I first most g → All (IsOwnShip I first g.way) ss
 own_ships I first most g ss same own = subst (All (IsOwnShip I first g.way)) (sym same) own.ships
 
-pub own_some : (I : Instance) (first : List ℕ) (most : ℕ) (g : Group) (ss : List ℕ) → ss ≡ g.ships → IsOwnGroup I first most g → (1 ≤ length ss) × (length ss ≤ most)
-own_some I first most g ss same own = let long = ap length same in let count = own.count in (omega (arith, long, count.0), omega (arith, long, count.1))
-
 -- the same of a node, with the order and the depth as the code reads them
 module _ (I : Instance) (k d : ℕ) (order : List ℕ) (lines : List (List Group)) (by_arrival : order ≡ order_of I) (depth : d ≡ k) where
   firsts : take d order ≡ first_ships I k

@@ -56,25 +56,6 @@ dossier_printed I C text accepts formed shown reads =
 
 -- ---- what its status tells
 
--- only a cheapest plan ends as good,
-pub not_good : (b : Book) (V : Verdict) (status : Status) → V ≡ verdict_of b → status ≡ status_of V → verdict_of b ≢ Optimal → status ≢ Good
-not_good b V status shown is left good = by_verdict V (λ best. left (sym shown ∙ best)) (sym is ∙ good)
-  where
-    open_good : Open ≡ Good → ⊥
-    open_good e = cc
-
-    by_verdict : (V : Verdict) → V ≢ Optimal → status_of V ≡ Good → ⊥
-    by_verdict Optimal other e = other refl
-    by_verdict (OpenNodes used low) other e = open_good e
-    by_verdict (OpenTurns chamber ships given low) other e = open_good e
-
--- and none ends as open
-pub not_open : (b : Book) (V : Verdict) (status : Status) → V ≡ verdict_of b → status ≡ status_of V → verdict_of b ≡ Optimal → status ≢ Open
-not_open b V status shown is best left = good_open (ap status_of (sym best ∙ sym shown) ∙ sym is ∙ left)
-  where
-    good_open : Good ≡ Open → ⊥
-    good_open e = cc
-
 -- ---- one answer for another
 
 -- what is printed of a cheapest plan, and of an open one, is told otherwise
@@ -91,13 +72,6 @@ answers_as Best Other Left Rest k NoMemory text best left answer = answer
 answers_as Best Other Left Rest k BadDossier text best left answer = answer
 answers_as Best Other Left Rest k Unfit text best left answer = answer
 answers_as Best Other Left Rest k PlanRefused text best left answer = answer
-
--- where nothing is printed of an open plan, or nothing of a cheapest one
-pub best_answers : (dossier keep : Bool) (k : Search) (status : Status) (text : List ℕ) → AnswersSearch (PrintsBest dossier) NoLeft k status text → AnswersSearch (PrintsBest dossier) (PrintsLeft keep) k status text
-best_answers dossier keep k status text = answers_as (PrintsBest dossier) (PrintsBest dossier) NoLeft (PrintsLeft keep) k status text (λ _ best. best) (λ _ none. absurd none)
-
-pub left_answers : (dossier keep : Bool) (k : Search) (status : Status) (text : List ℕ) → AnswersSearch NoBest (PrintsLeft keep) k status text → AnswersSearch (PrintsBest dossier) (PrintsLeft keep) k status text
-left_answers dossier keep k status text = answers_as NoBest (PrintsBest dossier) (PrintsLeft keep) (PrintsLeft keep) k status text (λ _ none. absurd none) (λ _ left. left)
 
 -- ---- by what is asked for
 

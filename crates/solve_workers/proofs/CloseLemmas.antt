@@ -73,9 +73,6 @@ module _ (b : Book) (id : ℕ) (node : Node) (holds : HoldsOnly b id node) (r : 
   pub close_shut : (why : Ground) → Answers b (close id why) r new → is_closed r ≡ true → HoldsNothing new
   close_shut why answers = (leaves why answers).shut
 
-  pub close_kept : (why : Ground) → Answers b (close id why) r new → is_closed r ≡ false → new ≡ b
-  close_kept why answers = (leaves why answers).kept
-
   -- ---- closings that can't be refused
 
   sure : (why : Ground) → Step.refusal_of {Break = BrokenPlan} b id why ≡ None → Answers b (close id why) r new → is_closed r ≡ true

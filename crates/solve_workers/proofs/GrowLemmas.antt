@@ -207,9 +207,6 @@ module _ (b : Book) (id : ℕ) (node : Node) (c p : ℕ) (deck : Deck) (turns : 
   pub parked_frees : Answers b (park id c p deck turns) r new → HoldsNothing new
   parked_frees answers = freed b id node (slot.Parked c p) new holds refl (ap (λ (o : Out). o.0.slots) (sym answers.same ∙ way))
 
-  pub parked_told : Answers b (park id c p deck turns) r new → tells_parked r ≡ true
-  parked_told answers = sym (told-parked r answers.answer answers.said) ∙ ap (λ (o : Out). parks o.1) (sym answers.same ∙ way)
-
 -- ---- replace
 
 outdone-node : (cost : ℕ) (s : Slot) → (Step.outdone cost s).node ≡ s.node

@@ -107,21 +107,6 @@ posted_closable b n cut r new number does e is = record {
   };
 }
 
--- what becomes of the node by a ground
-known-hit : (b : Book) (number : ℕ) (lines : List (List Group)) → IsKnownHit (HitsShips b b.case.instance) b.case.instance number lines → IsHitBy b.case.instance b.cuts number lines
-known-hit b number lines hit = record {
-  cut = hit.hits.cut;
-  there = hit.hits.there;
-  hits = record { chamber = hit.chamber; group = hit.group; known = hit.known; held = hit.held; hits = hit.hits.hits };
-}
-
-pub fate_closable : (b : Book) (n : Node) (why : Ground) → IsDriversFate b n (fate.Closed why) → IsClosable b n why
-fate_closable b n by.Bound is = record { closed = is }
-fate_closable b n by.Throughput is = record { closed = is }
-fate_closable b n (by.Probe s) is = record { closed = is }
-fate_closable b n (by.Cut number) is = record { closed = known-hit b number n.lines is }
-fate_closable b n (by.Price number) is = absurd is
-
 pub early_closable : (b : Book) (n : Node) (bound best : ℕ) (why : Ground) → best ≡ best_cost b → bound ≡ bound_of b.case.instance n.depth n.lines → IsEarly b.case.instance bound best why → IsClosable b n why
 early_closable b n bound best by.Bound best_is bound_is is = record { closed = omega (arith, is, best_is, bound_is) }
 early_closable b n bound best by.Throughput best_is bound_is is = record { closed = subst (λ m. m ≤ throughput_of b.case.instance) best_is is }

@@ -94,10 +94,6 @@ pub ends_within_ok : {E : Type 0} (low high : ℕ) (r : Result Solved E) → low
 ends_within_ok low high (Ok solved) less ends = ends_within low high solved.book less ends
 ends_within_ok low high (Err e) less ends = tt
 
--- a ready book that was driven has ended well from the cost of its opening plan
-pub driven_ends : (case : Case) (cost limit : ℕ) (b new : Book) → IsReady case cost b → cost ≡ limit → EndsWell (opening_cost b) new → EndsWell limit new
-driven_ends case cost limit b new ready costs ends = subst (λ n. EndsWell n new) (ready.opening ∙ costs) ends
-
 -- where each ship fits some chamber, none is refused
 never-unfit : (I : Instance) (s : ℕ) → HasNoUnfit I → IsFirstUnfit I s → ⊥
 never-unfit I s fit first = let some = fit.fit s first.known in first.unfit some.chamber some.known some.fits

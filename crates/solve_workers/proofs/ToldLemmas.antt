@@ -21,10 +21,6 @@ abbrev pub makes : Answer → Bool
 makes (machine.Made count) = true
 makes _ = false
 
-abbrev pub parks : Answer → Bool
-parks machine.Parked = true
-parks _ = false
-
 -- of an answer that may be missing
 abbrev among : (Answer → Bool) → Option Answer → Bool
 among test None = false
@@ -61,10 +57,6 @@ made-by : (r : Reply) → among makes (told r) ≡ is_made r
 made-by (reply.Made count) = refl
 made-by _ = refl
 
-parked-by : (r : Reply) → among parks (told r) ≡ is_parked r
-parked-by reply.Parked = refl
-parked-by _ = refl
-
 node-by : (r : Reply) → given (told r) ≡ as_tree (node_in r)
 node-by (reply.Node id node) = refl
 node-by _ = refl
@@ -79,9 +71,6 @@ module _ (r : Reply) (a : Answer) (said : told r ≡ Some a) where
 
   pub told-made : makes a ≡ is_made r
   told-made = sym (ap (among makes) said) ∙ made-by r
-
-  pub told-parked : parks a ≡ is_parked r
-  told-parked = sym (ap (among parks) said) ∙ parked-by r
 
   pub told-node : given_in a ≡ as_tree (node_in r)
   told-node = sym (ap given said) ∙ node-by r

@@ -23,10 +23,6 @@ abbrev pub is_made : Reply → Bool
 is_made (reply.Made count) = true
 is_made _ = false
 
-abbrev pub is_parked : Reply → Bool
-is_parked reply.Parked = true
-is_parked _ = false
-
 abbrev pub is_want : Reply → Bool
 is_want reply.NoMemory = true
 is_want _ = false
