@@ -42,7 +42,7 @@ leaves old r new said same =
     let long = ap (λ (b : Book). length b.history) same in
     record { count = omega (arith, none, long); case = ap (λ (b : Book). b.case) same; refused = λ _. same }
 
-answers-count : (old : Book) (e : machine.Event) (r : Reply) (new : Book) → Answers old e r new → Counts old r new
+pub answers-count : (old : Book) (e : machine.Event) (r : Reply) (new : Book) → Answers old e r new → Counts old r new
 answers-count old e r new answers =
     let same_test : is_accepted r ≡ machine.is_accepted answers.answer = sym (accepted-by r) ∙ ap is_accepting answers.said in
     elim (subst (IsStep old e) answers.same (each-step (λ _ _. answers.found) old e)) [
@@ -64,9 +64,10 @@ applies-count old (event.Close id why) r new h = answers-count old (machine.clos
 applies-count old (event.Post cut) r new h = does-count old (machine.post cut.value) r new h
 applies-count old (event.Park id chamber place hard) r new h = answers-count old (machine.park id chamber place hard.value.deck hard.value.turns) r new h
 applies-count old (event.Replace plan) r new h = does-count old (machine.replace plan.value) r new h
+applies-count old (event.PostPrices prices) r new h = does-count old (machine.post_prices prices.value) r new h
 applies-count old (event.Release w) r new h = answers-count old (machine.release w) r new h
 
-on-false : (t : Bool) (P : Type 0) → (t ≡ false → P) → OnFalse t P
+pub on-false : (t : Bool) (P : Type 0) → (t ≡ false → P) → OnFalse t P
 on-false true P h = tt
 on-false false P h = h refl
 

@@ -1,3 +1,4 @@
 pub mod ShareLemmas
 pub mod ApplyLemmas
 pub mod GoingLemmas
+pub mod LearningLemmas

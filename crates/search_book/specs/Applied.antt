@@ -13,10 +13,11 @@ pub record Takes (old : Book) (w : ℕ) (r : Reply) (new : Book) : Type 0 where
   pub step : Answers old (machine.take w) r new
   pub node : HasNode old.case.instance r
 
--- Splitting, posting and replacing may find no memory, and then the book is as it was; each other event is a step of the machine.
+-- Splitting, posting (cuts or prices) and replacing may find no memory, and then the book is as it was; each other event is a step of the machine.
 abbrev pub Applies : Book → Event → Reply → Book → Type 0
 Applies old (event.Take w) r new = Takes old w r new
 Applies old (event.Split id) r new = Does old (machine.split id) r new
 Applies old (event.Post cut) r new = Does old (machine.post cut.value) r new
 Applies old (event.Replace plan) r new = Does old (machine.replace plan.value) r new
+Applies old (event.PostPrices prices) r new = Does old (machine.post_prices prices.value) r new
 Applies old e r new = Answers old (event_of e) r new

@@ -12,6 +12,7 @@ event_of (event.Close id why) = machine.close id why
 event_of (event.Post cut) = machine.post cut.value
 event_of (event.Park id chamber place hard) = machine.park id chamber place hard.value.deck hard.value.turns
 event_of (event.Replace plan) = machine.replace plan.value
+event_of (event.PostPrices prices) = machine.post_prices prices.value
 event_of (event.Release w) = machine.release w
 
 -- a worker's number is at most 8, and a lent deck, which is hard by its type, is spot-hard too

@@ -3,5 +3,7 @@ pub mod Replies
 pub mod Applied
 pub mod Shares
 pub mod Following
+pub mod Shutting
+pub mod Learning
 pub mod Granting
 pub mod Going

@@ -15,6 +15,7 @@ use crate::replies::is_accepted;
 use book_core::{Book, Reply};
 use lock_model::Plan;
 use place_refute::Cut;
+use price_bound::Prices;
 use std::sync::ledger::{Ledger, Share};
 
 // Keeps a boxed cut.
@@ -31,6 +32,13 @@ fn replace(book: &mut Book, plan: Box<Plan>) -> Reply
     book.replace(Box::into_inner(plan))
 }
 
+// Keeps boxed prices.
+fn post_prices(book: &mut Book, prices: Box<Prices>) -> Reply
+    ensures { Does book.old (machine.post_prices prices.value) result book.new }
+{
+    book.post_prices(Box::into_inner(prices))
+}
+
 // Makes one event by the method of its name.
 fn make(book: &mut Book, event: Event) -> Reply
     requires { IsAllowed event }
@@ -43,6 +51,7 @@ fn make(book: &mut Book, event: Event) -> Reply
         Event::Post(cut) => post(book, cut),
         Event::Park(id, chamber, place, hard) => book.park(id, chamber, place, &*hard),
         Event::Replace(plan) => replace(book, plan),
+        Event::PostPrices(prices) => post_prices(book, prices),
         Event::Release(worker) => book.release(worker),
     }
 }

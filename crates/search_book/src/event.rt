@@ -3,6 +3,7 @@
 use closing_rules::Ground;
 use lock_model::Plan;
 use place_refute::{Cut, Hard};
+use price_bound::Prices;
 
 /// What is asked of a book: each event is the method of `Book` of its name, with its arguments.
 /// `Take` and `Release` have a worker of 0 to 8; of `Park` the deck is spot-hard for the turns too.
@@ -22,6 +23,8 @@ pub enum Event {
     Park(u32, u8, u8, Box<Hard>),
     /// The plan is to be the best one.
     Replace(Box<Plan>),
+    /// The prices are to be kept.
+    PostPrices(Box<Prices>),
     /// The worker ends.
     Release(u8),
 }

@@ -11,9 +11,13 @@ use crate::event::Event;
 use crate::going::go_ahead;
 use crate::gone::Gone;
 use crate::kept::Kept;
+use crate::learning::learn_cuts;
 use crate::next::Next;
 use crate::replies::{is_accepted, is_idle};
+use crate::shutting::{ByPrice, close_price_and_take};
 use book_core::Reply;
+use plain_text::NoMemory;
+use price_bound::ChamberCut;
 use std::hint::spin_loop;
 use std::sync::ledger::{Ledger, Share};
 use std::sync::{Condvar, Mutex, MutexGuard, Wait};
@@ -119,6 +123,42 @@ impl<L: Ledger> SharedBook<L> {
             self.leave(kept);
         }
         next
+    }
+
+    /// Waits for the lock, and closes a slot by prices and, where that is accepted, takes one for this
+    /// worker, as `close_price_and_take` does in one holding of the lock. The share grows by one for
+    /// each of the two that is accepted, and then all who wait are told. The share needs a part, and
+    /// keeps its parts.
+    pub fn close_price_and_take<W: Wait>(
+        &self,
+        rt: &W,
+        share: &mut Share<L>,
+        worker: u8,
+        closing: &ByPrice<'_>,
+    ) -> Next
+        requires part { 0 < share.old.parts }
+        requires worker { worker ≤ 8 }
+        ensures amount { share.new.amount ≡ share.old.amount + counted result }
+        ensures parts { share.new.parts ≡ share.old.parts }
+    {
+        let mut kept = self.lock_soon(rt);
+        let next = close_price_and_take(&mut *kept, share, worker, closing);
+        if let Next::Taken(_) = next {
+            self.leave(kept);
+        }
+        next
+    }
+
+    /// Waits for the lock, and gives the slot whose child a slot is, as `Book::parent` does.
+    pub fn parent<W: Wait>(&self, rt: &W, id: u32) -> Option<u32> {
+        let kept = self.lock_soon(rt);
+        kept.book.parent(id)
+    }
+
+    /// Waits for the lock, and appends the book's cuts to the known ones, as `learn_cuts` does.
+    pub fn learn_cuts<W: Wait>(&self, rt: &W, known: &mut Vec<ChamberCut>) -> Result<(), NoMemory> {
+        let kept = self.lock_soon(rt);
+        learn_cuts(&kept.book, known)
     }
 
     /// Waits for the lock, and hands nodes that were worked out ahead to the book as `go_ahead` does

@@ -1,0 +1,12 @@
+use Rattle.std.proofs.Common.{rules, ◌≡◌, true, false}
+use Rattle.search_book.specs.Replies.{is_accepted}
+use Rattle.search_book.proofs.shutting.close_price_and_take.Goals as goal
+
+pub returns-clause-steps : goal.returns-clause-steps
+returns-clause-steps g c = record {
+  ended = c.close_counted-reply.result;
+  between = c.close_counted-reply.new.book;
+  step = c.close_counted-reply.ensures.step;
+  accepted = search rules;
+  taken = c.apply.ensures.step;
+}

@@ -1,0 +1,34 @@
+-- What closing a slot by prices and a taking after it do.
+use Rattle.std.specs.Prelude.{ℕ, ◌≡◌, true, false}
+use Rattle.book_rules.specs.Book.{Book}
+use Rattle.book_rules.specs.Events as machine
+use Rattle.book_core.specs.declared.reply.Reply.{Reply}
+use Rattle.book_core.specs.Replies.{Answers}
+use Rattle.book_core.specs.Telling.{told_shown}
+use Rattle.search_book.specs.declared.next.Next.{Next}
+use Rattle.search_book.specs.declared.next.Next.TheVariants as next
+use Rattle.search_book.specs.declared.shutting.ByPrice.{ByPrice}
+use Rattle.search_book.specs.Applied.{Takes}
+use Rattle.search_book.specs.Replies.{is_accepted}
+
+-- the machine's event
+abbrev pub closing_of : ByPrice → machine.Event
+closing_of closing = machine.close_price closing.id closing.number (told_shown closing.shown.now)
+
+-- the closing was refused, and that is all
+pub record IsShutRefused (old : Book) (closing : ByPrice) (r : Reply) (new : Book) : Type 0 where
+  pub step : Answers old (closing_of closing) r new
+  pub refused : is_accepted r ≡ false
+  pub same : new ≡ old
+
+-- the slot was closed, and then worker w took a slot or was refused
+pub record IsShut (old : Book) (closing : ByPrice) (w : ℕ) (r : Reply) (new : Book) : Type 0 where
+  pub ended : Reply
+  pub between : Book
+  pub step : Answers old (closing_of closing) ended between
+  pub accepted : is_accepted ended ≡ true
+  pub taken : Takes between w r new
+
+abbrev pub Shuts : Book → ByPrice → ℕ → Next → Book → Type 0
+Shuts old closing w (next.Refused r) new = IsShutRefused old closing r new
+Shuts old closing w (next.Taken r) new = IsShut old closing w r new

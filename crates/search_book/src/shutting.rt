@@ -1,0 +1,57 @@
+//! A slot that is closed by what was shown of it beside the book, and a taking after it.
+ghost use Rattle.std.specs.Prelude.{◌≡◌, ◌+◌, ◌<◌, ◌≤◌, length};
+ghost use Rattle.std.specs.Bool.{OnFalse};
+ghost use Rattle.book_core.specs.Replies.{Answers};
+ghost use Rattle.search_book.specs.Following.{counted};
+ghost use Rattle.search_book.specs.Replies.{is_accepted, accepted};
+ghost use Rattle.search_book.specs.Shutting.{Shuts, closing_of};
+
+use crate::applying::apply;
+use crate::event::Event;
+use crate::kept::Kept;
+use crate::next::Next;
+use crate::replies::is_accepted;
+use book_core::{Book, Reply};
+use price_bound::Shown;
+use std::sync::ledger::{Ledger, Share};
+
+/// How a slot is closed by prices: its number and theirs, and what was shown of its node and of them.
+#[derive(Drop)]
+pub struct ByPrice<'a> {
+    pub id: u32,
+    pub number: u64,
+    pub shown: &'a Shown<'a>,
+}
+
+// Closes a slot by prices, and says how that changes the history.
+fn close_counted(book: &mut Book, closing: &ByPrice<'_>) -> Reply
+    ensures step { Answers book.old (closing_of closing.now) result book.new }
+    ensures count { length book.new.history ≡ length book.old.history + accepted result }
+    ensures refused { OnFalse (is_accepted result) (book.new ≡ book.old) }
+{
+    book.close_price(closing.id, closing.number, closing.shown)
+}
+
+/// Closes a slot by prices as `Book::close_price` does and, where that is accepted, makes `Take` of this
+/// worker as `apply` does. The total and the amount of the share grow by one for each of the two that
+/// is accepted.
+pub fn close_price_and_take<L: Ledger>(
+    kept: &mut Kept<L>,
+    share: &mut Share<L>,
+    worker: u8,
+    closing: &ByPrice<'_>,
+) -> Next
+    requires part { 0 < share.old.parts }
+    requires worker { worker ≤ 8 }
+    ensures steps { Shuts kept.old.book closing.now worker result kept.new.book }
+    ensures total { kept.new.tally.total ≡ kept.old.tally.total + counted result }
+    ensures amount { share.new.amount ≡ share.old.amount + counted result }
+    ensures parts { share.new.parts ≡ share.old.parts }
+{
+    let reply = close_counted(&mut kept.book, closing);
+    if !is_accepted(&reply) {
+        return Next::Refused(reply);
+    }
+    kept.tally.add(share, 1);
+    Next::Taken(apply(kept, share, Event::Take(worker)))
+}
