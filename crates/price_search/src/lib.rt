@@ -11,15 +11,17 @@
 //! (`price_bound::show`). So a round promises no more than that its parts are of their types, and that
 //! a search comes to an end: all rounds together are limited.
 //!
-//! - `pricing`: what is kept. `round`: one round. `placing`: groups of loose lines, placed.
+//! - `pricing`: what is kept, `offers`: what nodes leave to those below them. `round`: one round. `placing`: groups of loose lines, placed.
 #![tactic(auto)]
 
 mod appending;
+mod offers;
 mod placing;
 mod pricing;
 mod round;
 #[cfg(test)]
 mod tests;
 
-pub use pricing::Pricing;
+pub use offers::{Offer, Offers};
+pub use pricing::{MOST_AT_A_NODE, Pricing};
 pub use round::{Asked, LIMITS, Round, RoundEnd};

@@ -2,6 +2,7 @@
 ghost use Rattle.std.specs.Prelude.{◌≡◌, ◌≤◌, length};
 
 use crate::appending::append;
+use crate::offers::Offer;
 use place_refute::Cut;
 use plain_text::NoMemory;
 use price_bound::{ChamberCut, Prices};
@@ -10,6 +11,10 @@ use std::alloc::Global;
 
 // The most rounds in a search, and the most at the first node that prices can serve and at any other.
 const MOST_ROUNDS: u32 = 10_000;
+/// The most rounds that a search need try at a node; the pricing ends them before.
+pub const MOST_AT_A_NODE: u32 = 1_000;
+// With fewer missing ships a node is searched faster than prices are worked out.
+const FEWEST_MISSING: usize = 5;
 
 const FIRST_PACE: Pace = Pace {
     steps: 200,
@@ -21,21 +26,19 @@ const PACE: Pace = Pace {
     patience: 5,
 };
 
-/// Prices, and the number under which the book keeps them, where it does.
-#[derive(Debug, Drop)]
-pub struct Offer {
-    pub prices: Prices,
-    pub number: Option<u64>,
-}
-
-impl Offer {
-    // Prices that the book doesn't have yet.
-    fn new(prices: Prices) -> Offer {
-        Offer {
-            prices,
-            number: None,
-        }
+// The same cuts.
+fn copy_cuts(alloc: Global, cuts: &[ChamberCut]) -> Result<Vec<ChamberCut>, NoMemory> {
+    let mut copies = Vec::new(alloc);
+    for cut in cuts {
+        append(
+            &mut copies,
+            ChamberCut {
+                chamber: cut.chamber,
+                ships: cut.ships.copy(),
+            },
+        )?;
     }
+    Ok(copies)
 }
 
 /// The prices of the nodes on the way from the root to the one in hand, those that are raised at the
@@ -71,18 +74,45 @@ impl Pricing {
         self.path.truncate((depth as usize).max(1));
     }
 
+    // Begins a node with the prices of the node above it.
+    fn begin(&mut self) {
+        let pace = if self.is_first { FIRST_PACE } else { PACE };
+        if let [.., last] = self.path.as_slice() {
+            self.ascent = Ascent::new(last.prices.copy(), pace);
+        }
+    }
+
+    /// Whether rounds may be made at a node of this depth of a search for so many ships: not where few
+    /// are missing, all rounds were made, or the sets of ships were too many at a node of this depth.
+    pub fn serves(&self, depth: u8, ships: usize) -> bool {
+        ships.saturating_sub(depth as usize) >= FEWEST_MISSING
+            && self.left > 0
+            && depth >= self.from
+    }
+
     /// Goes to a node of this depth, whose prices are those of the node above it. Whether rounds may
     /// be made there: not where all were made, nor where the sets of ships were too many at a node of
     /// this depth.
     pub fn go_to(&mut self, depth: u8) -> bool {
         self.go_up(depth);
-        match self.path.as_slice() {
-            [.., last] => {
-                let pace = if self.is_first { FIRST_PACE } else { PACE };
-                self.ascent = Ascent::new(last.prices.copy(), pace);
-                self.left > 0 && depth >= self.from
-            }
-            [] => false,
+        self.begin();
+        self.left > 0 && depth >= self.from
+    }
+
+    /// Goes to a node that begins with what is offered, or with what the last one began with.
+    pub fn go_with(&mut self, offer: Option<Offer>) {
+        if let (Some(offer), [.., last]) = (offer, self.path.as_mut_slice()) {
+            *last = offer;
+        }
+        self.begin();
+    }
+
+    /// The best prices of the node in hand, as they are offered to the nodes below it.
+    pub fn offer(&self) -> Offer {
+        let best = self.ascent.best();
+        Offer {
+            prices: best.copy(),
+            number: self.number_of(best),
         }
     }
 
@@ -103,6 +133,25 @@ impl Pricing {
         } else {
             self.ascent.is_last()
         }
+    }
+
+    /// The same, as it is to go on below the node in hand, with all rounds to be made still.
+    pub fn copy(&self, alloc: Global) -> Result<Pricing, NoMemory> {
+        let mut path = Vec::new(alloc);
+        append(&mut path, self.offer())?;
+        Ok(Pricing {
+            path,
+            ascent: Ascent::new(self.ascent.best().copy(), PACE),
+            left: MOST_ROUNDS,
+            is_first: self.is_first,
+            from: self.from,
+            cuts: copy_cuts(alloc, &self.cuts)?,
+        })
+    }
+
+    /// The first cuts of the book, to which the next ones may be appended.
+    pub fn cuts_mut(&mut self) -> &mut Vec<ChamberCut> {
+        &mut self.cuts
     }
 
     /// How many cuts of the book are known.
@@ -135,12 +184,15 @@ impl Pricing {
         }
     }
 
-    /// Keeps that the book has these prices under this number.
-    pub fn posted(&mut self, prices: &Prices, number: u64) {
-        if let [.., last] = self.path.as_mut_slice() {
-            if last.prices == *prices {
+    /// Keeps that the book has these prices under this number, where they are those of the node above:
+    /// whether they are.
+    pub fn posted(&mut self, prices: &Prices, number: u64) -> bool {
+        match self.path.as_mut_slice() {
+            [.., last] if last.prices == *prices => {
                 last.number = Some(number);
+                true
             }
+            _ => false,
         }
     }
 }
