@@ -2,7 +2,7 @@
 ghost use Rattle.std.specs.Prelude.{◌≤◌, ◌<◌, length, IsTrue};
 ghost use Rattle.refute_rules.specs.Clashes.{IsClashingPair};
 
-use crate::fixture::{Laden, LEFT, NARROW, Place, QUAY, RIGHT, TIGHT, TWINS, laden_deck, spots_of};
+use crate::fixture::{LEFT, Laden, NARROW, Place, QUAY, RIGHT, TIGHT, TWINS, laden_deck, spots_of};
 use case_search::{Berth, berth_option};
 use chamber_place::{Placed, place, shrink};
 use lock_model::{Deck, Measures, Moor, Ships};
@@ -68,10 +68,7 @@ fn two_ships_take_five_turns(rt: HostRuntime) -> Result<(), Fail> {
         }
         other => panic!(&rt; "{other:?}"),
     }
-    let places = [
-        (10, 0, LEFT, QUAY),
-        (10, 126, RIGHT, QUAY),
-    ];
+    let places = [(10, 0, LEFT, QUAY), (10, 126, RIGHT, QUAY)];
     expect_fits(&rt, rt.alloc(), &deck, 5, &places)
 }
 
@@ -155,11 +152,7 @@ fn is_clash(deck: &Deck) -> bool
 }
 
 /// What is left of two ships whose cargo clashes.
-fn clash_left(
-    rt: &impl Abort,
-    alloc: Global,
-    ships: &[Laden],
-) -> Result<Ships, Fail> {
+fn clash_left(rt: &impl Abort, alloc: Global, ships: &[Laden]) -> Result<Ships, Fail> {
     let deck = laden_deck(BASE, ships).ok_or("no deck")?;
     let numbers = pair(4, 6);
     assert_eq!(rt; deck.ships.as_slice().len(), 2);
