@@ -23,6 +23,7 @@ fn a_ship_may_lie_at_each_quay_and_at_each_other_ship(rt: HostRuntime) {
         (4, LEFT, Moor::Ship(2)),
         (5, RIGHT, Moor::Ship(2)),
     ] {
+        assert!(rt; option < 6);
         assert_eq!(rt;
             berth_option(3, 1, option),
             Berth { rank, moor },
