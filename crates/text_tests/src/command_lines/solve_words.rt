@@ -1,5 +1,5 @@
 //! Words of `solve`.
-use crate::SolveOptions;
+use command_words::SolveOptions;
 
 // What `solve` has by default.
 pub const SOLVE: SolveOptions = SolveOptions {

@@ -1,23 +1,20 @@
-//! Worked texts of refused plans.
+//! What is written where a plan is refused.
 ghost use Rattle.std.specs.Prelude.{◌≡◌};
 
-use super::*;
+use crate::worked::{SIDE, instance_of, plan_of};
 use chamber_times::BrokenTime;
-use instance_text::read_instance;
 use mooring_rules::{Broken, BrokenPlan};
-use plan_judge::{BadPlan, PlanKind, read_plan};
+use plan_judge::{BadPlan, PlanKind};
+use plan_texts::{break_text, fault_text, late_text};
 use std::test::Fail;
-
-const INSTANCE: &[u8] =
-    b"glock 1\nchamber c1 2000 240 10 20 5 4 30 15 low 0\nship s1 up 1100 114 0 5\nship s2 up 1100 114 0 5\nend\n";
 
 const PLAN: &[u8] =
     b"plan\nlockage c1 up 0\nberth s1 10 0 left *\nlockage c1 up 50\nberth s2 10 0 left *\nend\n";
 
 #[test]
 fn breaks_are_written_with_their_ships(rt: HostRuntime) -> Result<(), Fail> {
-    let instance = read_instance(INSTANCE).map_err(|_| "no instance")?;
-    let plan = read_plan(&instance, PLAN).map_err(|_| "no plan")?;
+    let instance = instance_of(SIDE)?;
+    let plan = plan_of(&instance, PLAN)?;
     for (broken, want) in [
         (
             BrokenPlan::Deck(1, Broken::Adrift(0)),

@@ -1,19 +1,13 @@
-//! Worked plan texts.
+//! Plan texts.
 ghost use Rattle.std.specs.Prelude.{IfSome};
-ghost use Rattle.lock_rules.specs.Plan.{IsLegal};
 ghost use Rattle.plan_judge.specs.Reading.{HasPlanText};
 
-use super::*;
-use instance_text::read_instance;
+use crate::worked::{SIDE, instance_of, legal_plan_of};
 use lock_model::{Instance, Lockage, Moor, Plan};
-use mooring_rules::judge_plan;
+use plan_judge::{BadPlan, PlanKind, neat, print_plan, read_plan};
 use std::alloc::Global;
 use std::process::Abort;
 use std::test::Fail;
-
-/// Two ships that lie side by side.
-const SIDE: &[u8] =
-    b"glock 1\nchamber c1 2000 240 10 20 5 4 30 15 low 0\nship s1 up 1100 114 0 5\nship s2 up 1100 114 0 5\nend\n";
 
 const EVENING: &[u8] =
     b"glock 1\nchamber main 2000 240 10 20 5 6 30 15 low 0\nchamber side 1360 160 10 20 5 4 20 10 high 0\nship alva up 1100 114 0 5\nship brio up 1100 114 0 5\nship cora down 800 95 120 5\nship dina down 670 82 120 5\nship eddy down 380 50 125 5\nship fram up 1000 105 200 5\nship gull down 900 90 240 5\nship hero up 500 60 280 5\nship iris down 380 50 330 5\nend\n";
@@ -98,11 +92,6 @@ const HOSTS: &[Refused] = &[
     ),
 ];
 
-/// The instance of a text.
-fn instance_of(text: &[u8]) -> Result<Instance, Fail> {
-    Ok(read_instance(text).map_err(|_| "no instance")?)
-}
-
 /// The plan of a text, if it is a plan text.
 fn plan_of(instance: &Instance, text: &[u8]) -> Option<Plan>
     ensures { IfSome result (HasPlanText instance.now) }
@@ -163,8 +152,7 @@ fn is_guest(lockage: &Lockage) -> bool {
 #[test]
 fn the_plan_of_the_evening_is_legal(rt: HostRuntime) -> Result<(), Fail> {
     let instance = instance_of(EVENING)?;
-    let plan = plan_of(&instance, EVENING_PLAN).ok_or("no plan")?;
-    assert!(rt; judge_plan(&instance, &plan).is_none());
+    let plan = legal_plan_of(&instance, EVENING_PLAN)?;
     let shared = plan.lockages.as_slice().get(2).ok_or("no third lockage")?;
     assert!(rt; shared.ships.as_slice() == [2, 4].as_slice());
     assert!(rt; is_guest(shared));
@@ -201,16 +189,6 @@ fn plans_are_printed(rt: HostRuntime) -> Result<(), Fail> {
     Ok(())
 }
 
-/// The neat plan of a legal one.
-fn neat_of(instance: &Instance, plan: &Plan) -> Option<Plan>
-    ensures { IfSome result (IsLegal instance.now) }
-{
-    match judge_plan(instance, plan) {
-        None => Some(neat(instance, plan)),
-        Some(_) => None,
-    }
-}
-
 /// Whether all ships of a lockage lie at this x.
 fn lies_at(lockage: &Lockage, x: u32) -> bool {
     lockage.spots.as_slice().iter().all(|spot| spot.x == x)
@@ -219,8 +197,8 @@ fn lies_at(lockage: &Lockage, x: u32) -> bool {
 #[test]
 fn a_legal_plan_is_made_neat(rt: HostRuntime) -> Result<(), Fail> {
     let instance = instance_of(SIDE)?;
-    let plan = plan_of(&instance, SIDE_PLAN).ok_or("no plan")?;
-    let neat = neat_of(&instance, &plan).ok_or("not legal")?;
+    let plan = legal_plan_of(&instance, SIDE_PLAN)?;
+    let neat = neat(&instance, &plan);
     let lockage = neat.lockages.as_slice().first().ok_or("no lockage")?;
     assert!(rt; lies_at(lockage, 10));
     Ok(())

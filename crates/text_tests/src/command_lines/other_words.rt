@@ -1,6 +1,6 @@
 //! Words of the other commands.
 use super::solve_words::SOLVE;
-use crate::{Command, LotOptions, ReplanOptions, SolveOptions, TrialOptions};
+use command_words::{Command, LotOptions, ReplanOptions, SolveOptions, TrialOptions};
 
 const LOT: LotOptions = LotOptions {
     number: 1,

@@ -1,10 +1,8 @@
-//! Worked days.
-mod fixture;
+//! Days: what is done minute by minute.
 
-use super::*;
+use crate::worked::{GUEST, GUEST_PLAN, instance_of, plan_of};
 use chamber_times::BrokenTime;
-use fixture::{Lock, guest_up, one_ship, one_up, three_ships};
-use lock_model::{Instance, Plan, Stand};
+use day_play::{Act, Beat, Played, play};
 use mooring_rules::BrokenPlan;
 use std::test::Fail;
 
@@ -35,19 +33,24 @@ fn tells(played: &Played, beats: &[Told]) -> bool {
     true
 }
 
-const HIGH: Lock = Lock {
-    length: 2000,
-    stands: Stand::High,
-    closed: (0, 0),
-};
+/// What is played of a plan text in the instance of another text.
+fn played(instance: &[u8], plan: &[u8]) -> Result<Played, Fail> {
+    let instance = instance_of(instance)?;
+    let plan = plan_of(&instance, plan)?;
+    Ok(play(&instance, &plan))
+}
 
-/// The closure, the start, and the beats of the day.
-type Turned = ((u32, u32), u32, [Told; 4]);
+/// A chamber that stands on the other side of its ship.
+const HIGH: &[u8] =
+    b"glock 1\nchamber c1 2000 240 10 20 5 4 30 15 high 0\nship s1 up 1100 114 0 5\nend\n";
+
+/// An instance, a plan, and the beats of its day.
+type Turned = (&'static [u8], &'static [u8], [Told; 4]);
 
 const TURNS: [Turned; 3] = [
     (
-        (0, 0),
-        15,
+        HIGH,
+        b"plan\nlockage c1 up 15\nberth s1 10 0 left *\nend\n",
         [
             (0, Act::Turn),
             (15, Act::Moor(0)),
@@ -56,8 +59,8 @@ const TURNS: [Turned; 3] = [
         ],
     ),
     (
-        (10, 20),
-        35,
+        b"glock 2\nchamber c1 2000 240 10 20 5 4 30 15 high 0\nclose c1 10 20\nship s1 up 1100 114 0 5\nend\n",
+        b"plan\nlockage c1 up 35\nberth s1 10 0 left *\nend\n",
         [
             (20, Act::Turn),
             (35, Act::Moor(0)),
@@ -66,8 +69,8 @@ const TURNS: [Turned; 3] = [
         ],
     ),
     (
-        (15, 20),
-        20,
+        b"glock 2\nchamber c1 2000 240 10 20 5 4 30 15 high 0\nclose c1 15 20\nship s1 up 1100 114 0 5\nend\n",
+        b"plan\nlockage c1 up 20\nberth s1 10 0 left *\nend\n",
         [
             (0, Act::Turn),
             (20, Act::Moor(0)),
@@ -79,23 +82,21 @@ const TURNS: [Turned; 3] = [
 
 #[test]
 fn a_turn_comes_at_the_least_free_minute(rt: HostRuntime) -> Result<(), Fail> {
-    for &(closed, start, beats) in &TURNS {
-        let lock = Lock { closed, ..HIGH };
-        let instance = one_ship(&lock).ok_or("no instance")?;
-        assert!(rt; tells(&play(&instance, &one_up(start)), &beats));
+    for (instance, plan, beats) in &TURNS {
+        assert!(rt; tells(&played(instance, plan)?, beats));
     }
     Ok(())
 }
 
 #[test]
 fn a_plan_too_soon_for_its_turn_is_stuck(rt: HostRuntime) -> Result<(), Fail> {
-    let instance = one_ship(&HIGH).ok_or("no instance")?;
+    let plan = b"plan\nlockage c1 up 14\nberth s1 10 0 left *\nend\n";
     let stuck = Played::Stuck(BrokenPlan::Time(0, BrokenTime::Soon(0)));
-    assert!(rt; play(&instance, &one_up(14)) == stuck);
+    assert!(rt; played(HIGH, plan)? == stuck);
     Ok(())
 }
 
-const GUEST: [Told; 5] = [
+const GUEST_DAY: [Told; 5] = [
     (0, Act::Moor(0)),
     (0, Act::Moor(1)),
     (0, Act::Moor(2)),
@@ -105,12 +106,6 @@ const GUEST: [Told; 5] = [
 
 #[test]
 fn hosts_are_moored_before_their_guests(rt: HostRuntime) -> Result<(), Fail> {
-    let lock = Lock {
-        length: 1140,
-        stands: Stand::Low,
-        closed: (0, 0),
-    };
-    let instance = three_ships(&lock).ok_or("no instance")?;
-    assert!(rt; tells(&play(&instance, &guest_up()), &GUEST));
+    assert!(rt; tells(&played(GUEST, GUEST_PLAN)?, &GUEST_DAY));
     Ok(())
 }

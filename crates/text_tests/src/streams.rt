@@ -1,18 +1,17 @@
-//! Whole reads and writes at every bite and every fault, and gates with one worker and with two.
+//! Whole reads and writes at every bite and every fault.
 ghost use Rattle.std.specs.Prelude.{◌≢◌, ◌≤◌, Err};
 ghost use Rattle.lock_io.specs.declared.read.ReadError.{ReadError};
 ghost use Rattle.lock_io.specs.declared.read.ReadError.TheVariants.{ReadFault};
 
-use crate::{
-    FixedSink, Gate, LastGate, MeetGate, MemorySink, MemorySource, OpenGate, Point, ReadError,
-    StdSink, StdSource, SteadySource, WriteFault, read_all, write_all_of,
+use lock_io::{
+    FixedSink, MemorySink, MemorySource, ReadError, StdSink, StdSource, SteadySource, WriteFault,
+    read_all, write_all_of,
 };
 use std::alloc::Global;
 use std::io;
 use std::io::{ErrorKind, Read, Write};
 use std::process::Abort;
 use std::test::Fail;
-use std::thread::join;
 
 const INPUT: &[u8; 78] =
     b"glock 1\nchamber c1 2000 240 10 20 5 4 30 15 low 0\nship s1 up 1100 114 0 5\nend\n";
@@ -247,62 +246,4 @@ fn std_readers_and_writers_are_a_source_and_a_sink(rt: HostRuntime) -> Result<()
     drop(full);
     assert_eq!(rt; room.as_slice(), &INPUT[..16]);
     Ok(())
-}
-
-#[test]
-fn one_worker_is_let_go_and_meets_nobody(rt: HostRuntime) {
-    for limit in [0, 1, 3] {
-        let meet = MeetGate::new(limit);
-        let last = LastGate::new(limit);
-        let points = [
-            (0, Point::Took(0)),
-            (0, Point::Took(1)),
-            (1, Point::Took(2)),
-            (1, Point::Idle),
-            (0, Point::Read(35)),
-            (0, Point::Took(1)),
-            (0, Point::Closed),
-        ];
-        for (worker, point) in points {
-            OpenGate.at(worker, point);
-            meet.at(worker, point);
-            last.at(worker, point);
-        }
-        assert!(rt; !meet.met());
-        assert!(rt; !last.freed());
-        assert_eq!(rt; last.heard(), None);
-    }
-}
-
-// What a worker does that takes a node, works on it and is done.
-fn works<G: Gate>(gate: &G, worker: u8) {
-    gate.at(worker, Point::Took(0));
-    gate.at(worker, Point::Took(1));
-    gate.at(worker, Point::Read(210));
-    gate.at(worker, Point::Read(270));
-    gate.at(worker, Point::Closed);
-    gate.at(worker, Point::Idle);
-}
-
-#[test]
-fn two_workers_meet(rt: HostRuntime) {
-    let meet = MeetGate::new(10_000_000);
-    join(&rt, || works(&meet, 0), || works(&meet, 1));
-    assert!(rt; meet.met());
-    let last = LastGate::new(10_000_000);
-    join(&rt, || works(&last, 7), || works(&last, 200));
-    assert!(rt; last.freed());
-    assert_eq!(rt; last.heard(), Some(210));
-}
-
-#[test]
-fn any_worker_that_followed_frees_the_held_one(rt: HostRuntime) {
-    let last = LastGate::new(10_000_000);
-    let two = || {
-        last.at(1, Point::Took(1));
-        last.at(2, Point::Took(1));
-        last.at(2, Point::Idle);
-    };
-    join(&rt, || works(&last, 0), two);
-    assert!(rt; last.freed());
 }

@@ -1,9 +1,11 @@
+//! Command lines, and the commands that they mean.
+
 mod bad_words;
 mod other_words;
 mod solve_words;
 
-use crate::{Command, WordsError, good_words, read_words};
 use bad_words::{BAD, OUT_OF_RANGE};
+use command_words::{Command, WordsError, good_words, read_words};
 use other_words::OTHERS;
 use solve_words::SOLVES;
 use std::alloc::{AllocError, Global};

@@ -1,6 +1,9 @@
-//! Worked texts.
+//! Instance texts, and other texts of lines and words.
 
-use super::*;
+use instance_text::{
+    Bad, Kind, Lines, check_utf8, is_blank, make_lot, number, print_instance, read_instance,
+    read_instance_part, split_instance, way, word_at, words_of,
+};
 use lock_model::Way;
 use std::test::Fail;
 
@@ -245,7 +248,7 @@ fn another_text_is_read_line_by_line(rt: HostRuntime) -> Result<(), Fail> {
             .next()
             .is_some_and(|line| words_of(line).as_slice().len() == 1)
     );
-    assert!(rt; lines.next().is_some_and(is_blank));
+    assert!(rt; lines.next().is_some_and(|line| is_blank(line)));
     let line = lines.next().ok_or("no third line")?;
     let words = words_of(line);
     let words = words.as_slice();
