@@ -1,7 +1,7 @@
 //! Parts of a dossier, one by one.
 
-use super::super::*;
 use cert_check::{Ground, Mark};
+use cert_text::{BadDossier, cost_of, cuts_of, mark_in, plan_of, push_mark, put_cost};
 use serde_json::Value;
 use std::alloc::Global;
 use std::process::Abort;

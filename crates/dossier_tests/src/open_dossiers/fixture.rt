@@ -1,17 +1,15 @@
-//! An open dossier, edits of it, and what is said of them.
+//! Edits of the open dossier, and what is said of them.
 
-use super::super::*;
+use crate::texts::{self, OPEN};
+use resume_book::{
+    BadDossier, DossierError, FailurePlace, OpenAnswer, Reason, check_open, prior, read_open,
+};
 use std::alloc::Global;
 use std::test::Fail;
 
-/// Two ships one after the other in a chamber that is just too narrow for both; a node is left open.
-pub(crate) const NARROW: &str =
-    "glock 1\nchamber c1 2000 232 10 20 5 4 30 15 low 0\nship s1 up 1100 114 0 5\nship s2 up 1100 114 0 5\nend\ncertificate open\n{\"cost\":120,\"cuts\":[],\"plan\":[{\"chamber\":0,\"ships\":[0],\"spots\":[[10,0,0,0]],\"start\":0,\"way\":0},{\"chamber\":0,\"ships\":[1],\"spots\":[[10,0,0,0]],\"start\":50,\"way\":0}],\"tree\":[0,0,3,1,1]}\n";
-
 /// The open dossier with one text in the place of another.
 pub(crate) fn edited(alloc: Global, old: &str, new: &str) -> Result<String, Fail> {
-    let (front, back) = NARROW.split_once(old).ok_or("nothing to edit")?;
-    Ok(format!(in alloc; "{front}{new}{back}")?)
+    texts::edited(alloc, OPEN, old, new)
 }
 
 /// What is said of a text: its fault, or the checker's answer and the prior work.

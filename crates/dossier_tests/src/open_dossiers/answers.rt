@@ -1,7 +1,7 @@
 //! Open certificates that stand, and edits that fail.
 
-use super::super::*;
 use super::fixture::{Said, edited, said_of};
+use resume_book::{BadDossier, FailurePlace, Reason};
 use std::alloc::Global;
 use std::process::Abort;
 use std::test::Fail;

@@ -1,7 +1,8 @@
 //! The first fault of a dossier.
 
-use super::super::*;
-use super::fixture::{CLASH, NARROW, PRICED, SIDE, edited, fault_of};
+use super::fixture::fault_of;
+use crate::texts::{CLASH, NARROW, PRICED, SIDE, edited};
+use cert_text::BadDossier;
 use instance_text::{Bad, Kind};
 use std::alloc::Global;
 use std::process::Abort;

@@ -3,4 +3,4 @@
 mod answers;
 mod books;
 mod fixture;
-mod texts;
+mod reading;

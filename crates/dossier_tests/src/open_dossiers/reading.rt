@@ -1,6 +1,5 @@
 //! Open dossiers that are read leniently.
 
-use super::super::*;
 use super::fixture::{Said, edited, said_of};
 use std::alloc::Global;
 use std::process::Abort;

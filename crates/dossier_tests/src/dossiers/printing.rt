@@ -2,9 +2,9 @@
 ghost use Rattle.std.specs.Prelude.{All, IfOk};
 ghost use Rattle.certificate_rules.specs.WellFormed.{IsFormedCut, IsFormedLockage, AreFormedPrices, IsFormedMark, IsFormedRefutation, IsWellFormed};
 
-use super::super::*;
-use super::fixture::{CLASH, NARROW, PRICED};
+use crate::texts::{CLASH, NARROW, PRICED};
 use cert_check::{CertCut, CertCuts, Certificate, Ground, Mark, MarkList, PriceLists};
+use cert_text::print_dossier;
 use instance_text::read_instance_part;
 use lock_model::{Lockage, Lockages, Moor, Plan, Rank, Ships, Spot, Spots, Way};
 use price_bound::Prices;

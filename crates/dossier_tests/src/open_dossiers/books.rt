@@ -1,11 +1,11 @@
 //! The open certificate of a book, printed.
 
-use super::super::*;
-use super::fixture::NARROW;
+use crate::texts::OPEN;
 use book_core::{Book, Case, Reply, open_book};
 use first_plan::first_unfit;
 use lock_model::{Instance, Plan};
 use mooring_rules::judge_plan;
+use resume_book::{open_certificate_of, print_open, read_open};
 use std::alloc::Global;
 use std::test::Fail;
 
@@ -23,7 +23,7 @@ fn opened(alloc: Global, instance: Instance, plan: Plan) -> Result<Book, Fail> {
 
 // The open dossier of the book in which the first two slots were split.
 fn kept(alloc: Global) -> Result<Vec<u8>, Fail> {
-    let (instance, read) = read_open(alloc, NARROW.as_bytes()).map_err(|_| "no dossier")?;
+    let (instance, read) = read_open(alloc, OPEN.as_bytes()).map_err(|_| "no dossier")?;
     let mut book = opened(alloc, instance, read.plan)?;
     for id in 0..2 {
         if !matches!(book.take(0), Reply::Node(_, _)) || !matches!(book.split(id), Reply::Made(_)) {
@@ -37,6 +37,6 @@ fn kept(alloc: Global) -> Result<Vec<u8>, Fail> {
 #[test]
 fn a_book_that_spent_its_nodes_is_kept_as_an_open_dossier(rt: HostRuntime) -> Result<(), Fail> {
     let text = kept(rt.alloc())?;
-    assert_eq!(rt; text.as_slice(), NARROW.as_bytes());
+    assert_eq!(rt; text.as_slice(), OPEN.as_bytes());
     Ok(())
 }

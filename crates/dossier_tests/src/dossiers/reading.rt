@@ -1,7 +1,8 @@
 //! Dossiers that are read.
 
-use super::super::*;
-use super::fixture::{CLASH, NARROW, PRICED, SIDE, counts_of, edited, fault_of};
+use super::fixture::{counts_of, fault_of};
+use crate::texts::{CLASH, NARROW, PRICED, SIDE, edited};
+use cert_text::BadDossier;
 use std::alloc::Global;
 use std::process::Abort;
 use std::test::Fail;

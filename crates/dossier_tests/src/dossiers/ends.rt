@@ -1,7 +1,8 @@
 //! Dossiers that end too soon, or are too deep.
 
-use super::super::*;
-use super::fixture::{NARROW, SIDE, fault_of};
+use super::fixture::fault_of;
+use crate::texts::{NARROW, SIDE};
+use cert_text::BadDossier;
 use std::alloc::Global;
 use std::process::Abort;
 use std::test::Fail;
