@@ -1,9 +1,10 @@
-//! Answers to sources in memory. Other texts stand with the rows of whole runs.
+//! Plans that are made anew. Other texts stand with the rows of whole runs.
 
 mod fixture;
 
+use crate::worked::{expect, lines_of};
 use command_words::ReplanOptions;
-use fixture::{ASKED, KEPT, LATER, answer_to, expect_text, lines_of};
+use fixture::{ASKED, KEPT, LATER, answer_to};
 use std::test::Fail;
 
 /// From minute 10 on, with nothing else asked.
@@ -27,7 +28,7 @@ fn the_report_has_the_kept_and_the_planned_lockages(rt: HostRuntime) -> Result<(
             ("end\n", 1),
         ],
     )?;
-    expect_text(&rt, &answer, 0, one.as_slice());
+    expect(&rt, &answer, 0, one.as_slice());
     Ok(())
 }
 
@@ -40,6 +41,6 @@ fn the_dossier_is_that_of_the_rest(rt: HostRuntime) -> Result<(), Fail> {
     let answer = answer_to(&rt, rt.alloc(), LATER, KEPT, &options)?;
     let text =
         b"glock 1\nchamber c1 2000 240 10 20 5 4 30 15 high 35\nship s2 up 1100 114 10 5\nend\ncertificate\n{\"cost\":75,\"cuts\":[],\"plan\":[{\"chamber\":0,\"ships\":[0],\"spots\":[[10,0,0,0]],\"start\":50,\"way\":0}],\"tree\":[1]}\n";
-    expect_text(&rt, &answer, 0, text);
+    expect(&rt, &answer, 0, text);
     Ok(())
 }

@@ -1,11 +1,10 @@
 //! Sources in memory, and what is answered to them.
 
-use crate::replan_answer;
 use command_words::ReplanOptions;
 use lock_io::{MemorySource, OpenGate};
+use replan_command::replan_answer;
 use run_answers::Answer;
 use std::alloc::Global;
-use std::process::Abort;
 use std::sync::Wait;
 use std::test::Fail;
 use std::thread::Threads;
@@ -45,21 +44,4 @@ pub(super) fn answer_to<R: Threads + Wait + Sync>(
     text.extend_from_slice(plan.as_bytes())?;
     let mut source = MemorySource::new(text, 4096, Vec::new(alloc));
     Ok(replan_answer(rt, alloc, options, &mut source, &OpenGate))
-}
-
-/// The answer has the status of this number and this text.
-pub(super) fn expect_text(rt: &impl Abort, answer: &Answer, code: u8, text: &[u8]) {
-    assert_eq!(rt; answer.text.as_slice(), text);
-    assert_eq!(rt; answer.status.code(), code);
-}
-
-/// These lines, each so many times.
-pub(super) fn lines_of(alloc: Global, lines: &[(&str, usize)]) -> Result<Vec<u8>, Fail> {
-    let mut text = Vec::new(alloc);
-    for &(line, times) in lines {
-        for _ in 0..times {
-            text.extend_from_slice(line.as_bytes())?;
-        }
-    }
-    Ok(text)
 }

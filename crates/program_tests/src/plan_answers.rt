@@ -1,11 +1,12 @@
-//! Worked texts, judged and played. The faults and the breaks stand with the rows of whole runs.
+//! Texts that are judged and played. The faults and the breaks stand with the rows of whole runs.
 ghost use Rattle.std.specs.Prelude.{◌≡◌};
 
 mod fixture;
 
-use fixture::{HIGH, OPPOSITE, SIDE, expect, judged, played};
+use crate::worked::{expect, lines_of};
+use fixture::{HIGH, OPPOSITE, SIDE, judged, played};
 use lock_io::MemorySource;
-use std::alloc::Global;
+use plan_commands::judge_answer;
 use std::test::Fail;
 
 /// An instance, a plan of it, and the lines of its day.
@@ -43,32 +44,21 @@ const SIDE_PLAN: &[u8] =
 const ZEROS_PLAN: &[u8] =
     b"plan\nlockage c1 up 000\nberth s1 0040 0 left *\nberth s2 040 0126 right *\nend\n";
 
-/// The report of the two ships side by side.
-const HEAD: &[u8] =
-    b"legal cost 80\nlockage 1 chamber c1 up start 0 end 40\n  A s1 x 10 y 0 left quay flow 40\n  B s2 x 10 y 126 right quay flow 40\n";
-
-/// How often each row is drawn.
-const ROWS: &[(u8, &[u8])] = &[
-    (12, b"  |.AAAAAAAAAAAAAAAAAAAAAA.................|\n"),
-    (1, b"  |........................................|\n"),
-    (11, b"  |.BBBBBBBBBBBBBBBBBBBBBB.................|\n"),
+/// What is said of the plan of two ships side by side.
+const SIDE_LINES: &[(&str, usize)] = &[
+    ("legal cost 80\n", 1),
+    ("lockage 1 chamber c1 up start 0 end 40\n", 1),
+    ("  A s1 x 10 y 0 left quay flow 40\n", 1),
+    ("  B s2 x 10 y 126 right quay flow 40\n", 1),
+    ("  |.AAAAAAAAAAAAAAAAAAAAAA.................|\n", 12),
+    ("  |........................................|\n", 1),
+    ("  |.BBBBBBBBBBBBBBBBBBBBBB.................|\n", 11),
+    ("end\n", 1),
 ];
-
-// What is said of the plan of two ships side by side.
-fn side_text(alloc: Global) -> Result<Vec<u8>, Fail> {
-    let mut text = HEAD.to_vec(alloc)?;
-    for &(count, row) in ROWS {
-        for _ in 0..count {
-            text.extend_from_slice(row)?;
-        }
-    }
-    text.extend_from_slice(b"end\n")?;
-    Ok(text)
-}
 
 #[test]
 fn a_legal_plan_is_made_neat(rt: HostRuntime) -> Result<(), Fail> {
-    let want = side_text(rt.alloc())?;
+    let want = lines_of(rt.alloc(), SIDE_LINES)?;
     for plan in [SIDE_PLAN, ZEROS_PLAN] {
         let answer = judged(rt.alloc(), &[SIDE, plan])?;
         expect(&rt, &answer, 0, want.as_slice());
@@ -90,7 +80,7 @@ fn a_failing_source_is_told(rt: HostRuntime) -> Result<(), Fail> {
     let mut fails = Vec::new(rt.alloc());
     fails.push(1)?;
     let mut source = MemorySource::new(SIDE.to_vec(rt.alloc())?, 16, fails);
-    let answer = crate::judge_answer(rt.alloc(), &mut source);
+    let answer = judge_answer(rt.alloc(), &mut source);
     expect(&rt, &answer, 4, b"read fault\n");
     Ok(())
 }

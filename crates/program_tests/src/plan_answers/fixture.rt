@@ -2,9 +2,9 @@
 ghost use Rattle.std.specs.Prelude.{◌≡◌};
 
 use lock_io::SteadySource;
+use plan_commands::{judge_answer, play_answer};
 use run_answers::Answer;
 use std::alloc::Global;
-use std::process::Abort;
 use std::test::Fail;
 
 /// Two ships that lie side by side.
@@ -36,17 +36,11 @@ fn source_of(alloc: Global, parts: &[&[u8]]) -> Result<SteadySource, Fail> {
 /// What `judge` answers to these bytes.
 pub(super) fn judged(alloc: Global, parts: &[&[u8]]) -> Result<Answer, Fail> {
     let mut source = source_of(alloc, parts)?;
-    Ok(crate::judge_answer(alloc, &mut source))
+    Ok(judge_answer(alloc, &mut source))
 }
 
 /// What `play` answers to these bytes.
 pub(super) fn played(alloc: Global, parts: &[&[u8]]) -> Result<Answer, Fail> {
     let mut source = source_of(alloc, parts)?;
-    Ok(crate::play_answer(alloc, &mut source))
-}
-
-/// The answer has this code and this text.
-pub(super) fn expect(rt: &impl Abort, answer: &Answer, code: u8, text: &[u8]) {
-    assert_eq!(rt; answer.text.as_slice(), text);
-    assert_eq!(rt; answer.status.code(), code);
+    Ok(play_answer(alloc, &mut source))
 }

@@ -1,17 +1,13 @@
 //! Runs over a source and a sink in memory.
 ghost use Rattle.std.specs.Prelude.{◌≤◌};
 
-use crate::{Status, run};
 use lock_io::{Gate, MemorySink, MemorySource, OpenGate};
+use lock_top::{Status, run};
 use std::alloc::Global;
 use std::process::Abort;
 use std::sync::Wait;
 use std::test::Fail;
 use std::thread::Threads;
-
-/// One ship, and a chamber that takes it.
-pub(super) const ONE_SHIP: &str =
-    "glock 1\nchamber c1 2000 240 10 20 5 4 30 15 low 0\nship s1 up 1100 114 0 5\nend\n";
 
 /// What `lot` prints for one ship and one chamber.
 pub(super) const LOT_OF_ONE: &str =

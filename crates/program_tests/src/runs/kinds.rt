@@ -1,7 +1,8 @@
 //! One run of each kind.
 ghost use Rattle.std.specs.Prelude.{◌≤◌};
 
-use super::fixture::{Calls, LOT_OF_ONE, NEVER, ONE_SHIP, Ran, expect_ran, run_over, run_with};
+use super::fixture::{Calls, LOT_OF_ONE, NEVER, Ran, expect_ran, run_over, run_with};
+use crate::worked::{ONE_SHIP, lines_of};
 use std::alloc::Global;
 use std::process::Abort;
 use std::sync::Wait;
@@ -17,20 +18,14 @@ const CERTIFICATE: &str =
     "certificate\n{\"cost\":120,\"cuts\":[{\"chamber\":0,\"ships\":[0,1],\"why\":[1,0,1]}],\"plan\":[{\"chamber\":0,\"ships\":[0],\"spots\":[[10,0,0,0]],\"start\":0,\"way\":0},{\"chamber\":0,\"ships\":[1],\"spots\":[[10,0,0,0]],\"start\":50,\"way\":0}],\"tree\":[0,0,100,1,1]}\n";
 
 // The report of one ship.
-fn report_of_one(alloc: Global) -> Result<Vec<u8>, Fail> {
-    let mut text = Vec::new(alloc);
-    text.extend_from_slice(
-        b"optimal cost 35\nlockage 1 chamber c1 up start 0 end 35\n  A s1 x 10 y 0 left quay flow 35\n",
-    )?;
-    for _ in 0..12 {
-        text.extend_from_slice(b"  |.AAAAAAAAAAAAAAAAAAAAAA.................|\n")?;
-    }
-    for _ in 0..12 {
-        text.extend_from_slice(b"  |........................................|\n")?;
-    }
-    text.extend_from_slice(b"end\n")?;
-    Ok(text)
-}
+const REPORT_OF_ONE: &[(&str, usize)] = &[
+    ("optimal cost 35\n", 1),
+    ("lockage 1 chamber c1 up start 0 end 35\n", 1),
+    ("  A s1 x 10 y 0 left quay flow 35\n", 1),
+    ("  |.AAAAAAAAAAAAAAAAAAAAAA.................|\n", 12),
+    ("  |........................................|\n", 12),
+    ("end\n", 1),
+];
 
 // The report comes whole where each call moves at most so many bytes, and all is read.
 fn expect_report<R: Threads + Wait + Sync + Abort>(
@@ -46,7 +41,13 @@ fn expect_report<R: Threads + Wait + Sync + Abort>(
         sink_fault: NEVER,
     };
     let ran = run_with(rt, alloc, &["solve"], ONE_SHIP.as_bytes(), calls)?;
-    expect_ran(rt, &ran, 0, report_of_one(alloc)?.as_slice(), "one ship");
+    expect_ran(
+        rt,
+        &ran,
+        0,
+        lines_of(alloc, REPORT_OF_ONE)?.as_slice(),
+        "one ship",
+    );
     assert_eq!(rt; ran.left, 0);
     Ok(())
 }

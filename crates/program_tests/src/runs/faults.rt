@@ -1,9 +1,9 @@
 //! Sources and sinks that fail.
 
 use super::fixture::{
-    Calls, LOT_OF_ONE, NEVER, ONE_SHIP, Ran, expect_cut_off, expect_ran, run_cut_off, run_over,
-    run_with,
+    Calls, LOT_OF_ONE, NEVER, Ran, expect_cut_off, expect_ran, run_cut_off, run_over, run_with,
 };
+use crate::worked::ONE_SHIP;
 use std::alloc::Global;
 use std::process::Abort;
 use std::sync::Wait;
