@@ -3,7 +3,7 @@ ghost use Rattle.std.specs.Prelude.{◌≡◌, ◌+◌, ◌<◌, ◌≤◌, ◌�
 ghost use Rattle.refute_rules.specs.Reasons.{length_at};
 ghost use Rattle.refute_rules.specs.SpotFaults.{IsInsideAlong};
 ghost use Rattle.refute_rules.specs.BerthCases.{host_in, ObeyAlong, HasOrder};
-ghost use Rattle.berth_case.specs.Picks.{choice_of, IsKnownPick};
+ghost use Rattle.berth_case.specs.Picks.{choice_of};
 ghost use Rattle.berth_check.specs.Raises.{AreKnown, IsKnownChoice, IsOf, IsForced, IsHostObeyed, IsOrderObeyed, AreHostsObeyed, AreOrdersObeyed, AreSettled, AreBelow, AreInside, HasPlaces, x_at};
 
 use berth_case::{BerthCase, Pick, host_of, length_of};

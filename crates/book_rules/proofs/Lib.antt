@@ -23,4 +23,3 @@ pub mod StepLemmas
 pub mod TestLemmas
 pub mod ReplayLemmas
 pub mod CoverLemmas
-pub mod BookLemmas

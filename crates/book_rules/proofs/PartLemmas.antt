@@ -11,10 +11,7 @@ use Rattle.book_rules.specs.Step
 use Rattle.book_rules.specs.Cover.{KeepsBook}
 use Rattle.closing_rules.specs.Laws.{TreeLaws}
 use Rattle.book_rules.specs.Parts.{KeepsParts}
-use Rattle.book_rules.proofs.StepLemmas.{same-case}
-use Rattle.book_rules.proofs.ReplayLemmas.{after_all}
 use Rattle.book_rules.proofs.CoverLemmas.{event-keeps, opening-keeps}
-use Rattle.book_rules.proofs.BookLemmas.{KeepsReplay, every_list}
 use Rattle.book_rules.proofs.FamilyLemmas.{family-step, opening-family}
 use Rattle.book_rules.proofs.StateLemmas.{states-step, opening-states}
 use Rattle.book_rules.proofs.WorkerLemmas.{workers-step, opening-workers}
@@ -46,5 +43,3 @@ module _ {Break : Type 0} (broken : Instance → Plan → Option Break) where
     cheap = cheap-step broken b book keeps.cheap e owed;
     back = back-step broken b keeps.workers.nine keeps.back e owed;
   }
-
-  module _ (sound : (I : Instance) (P : Plan) → broken I P ≡ None → IsLegal I P) where

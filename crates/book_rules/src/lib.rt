@@ -10,13 +10,12 @@
 //!   nodes are counted) and `Waiting` (the slots that are taken next).
 //! - How a search ends: `specs/Ends` (what each verdict means, of an instance, a plan and numbers).
 //!
-//! The laws stand in `proofs/`: every list of events keeps the cover (`CoverLemmas`, `StepLemmas`),
-//! and a book is the replay of its history (`ReplayLemmas`, `BookLemmas`). `BookRows` holds worked
-//! rows.
+//! The laws stand in `proofs/`: each event keeps the cover (`CoverLemmas`, `StepLemmas`), and the replay
+//! of the history with it (`ReplayLemmas`). `BookRows` holds worked rows.
 //!
 //! Each event is a refusal or one of a few moves (`MoveLemmas`), and keeps each part
 //! (`FamilyLemmas`, `StateLemmas`, `WorkerLemmas`, `BudgetLemmas`, `RoomLemmas`, `CheapLemmas`,
-//! `BackLemmas`); so does every list of events (`PartLemmas`). `NextLemmas` tells which slot is taken.
+//! `BackLemmas`); `PartLemmas` joins them. `NextLemmas` tells which slot is taken.
 //!
 //! A verdict means what it says where the search has ended well (`EndLemmas`). With as many nodes as
 //! the node law says and as many turns as the turn law says the only verdict is `Optimal`

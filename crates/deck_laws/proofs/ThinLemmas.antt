@@ -13,7 +13,7 @@ use Rattle.lock_model.specs.declared.placement.Rank.TheVariants.{Left, Right}
 use Rattle.lock_model.specs.declared.placement.Moor.{Moor}
 use Rattle.lock_model.specs.declared.placement.Moor.TheVariants.{Quay, Ship}
 use Rattle.refute_rules.proofs.FitLemmas.{rank-tells}
-use Rattle.deck_laws.specs.Thin.{fallen, fallen_moor, moor_without, leads_to, nearer, thin_spot, thin_deck, thin_spots, IsMooredThrough}
+use Rattle.deck_laws.specs.Thin.{fallen, fallen_moor, moor_without, leads_to, nearer, thin_spot, thin_deck, thin_spots}
 use Rattle.deck_laws.proofs.HostLemmas.{above, thin-apart, thin-host, thin-guest, host-stays}
 use Rattle.deck_laws.proofs.PlacementLemmas.{length_of, width_of, x_at, rank_at, moor_at, depth_of, is-wide, is-moored, apart-by, quay-by, host-by}
 

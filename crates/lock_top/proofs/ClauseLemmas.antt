@@ -28,7 +28,7 @@ use Rattle.lock_top.specs.Answers.{AnswersCommand, AnswersMeant, RunAnswers}
 use Rattle.lock_top.specs.Runs.{Filled, Run, Got}
 use Rattle.lock_top.specs.Clauses.{Did, IsSolved, IsCertified, IsSolvedAs, IsLeftOpen, IsAccepted, IsDrawn, IsTried, IsTriedOpen, KeepsItsWord}
 use Rattle.lock_top.proofs.AnswerLemmas.{meant_answer}
-use Rattle.lock_top.proofs.CompleteLemmas.{complete, cut_complete}
+use Rattle.lock_top.proofs.CompleteLemmas.{complete}
 
 -- ---- what is said to the bytes, in the words of the clauses
 

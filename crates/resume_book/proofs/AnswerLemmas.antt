@@ -23,7 +23,6 @@ use Rattle.certificate_rules.proofs.LowLemmas.{stands-low}
 use Rattle.cert_check.specs.FirstFailure.{AreSameFailure, HoldBeforeMarks, FailBeforeMarks}
 use Rattle.cert_check.proofs.FirstFailure.{failing-same}
 use Rattle.cert_check.proofs.SomeFailure.{fails-first}
-use Rattle.cert_check.proofs.AnswerLemmas.{before-fails}
 use Rattle.resume_book.specs.Proven.{IsProvenLow}
 use Rattle.resume_book.specs.OneFailure.{IsLowOfMarks, FailAtOpenMark}
 use Rattle.resume_book.specs.declared.certificate.OpenAnswer.TheVariants as answer

@@ -27,8 +27,8 @@ use Rattle.book_core.specs.declared.reply.Reply.TheVariants as reply
 use Rattle.book_core.specs.Replies.{Answers, Does, Wants, Steps, Stays, told}
 use Rattle.book_core.proofs.CloseLemmas.{pick-false, not-true}
 use Rattle.solve_workers.specs.Holding.{HoldsOnly}
-use Rattle.solve_workers.specs.Told.{number_in, is_made, is_parked as tells_parked, is_want, IsMadeOrWant, IsPostedOrWant}
-use Rattle.solve_workers.proofs.ToldLemmas.{Answer, makes, parks, number_of, told-made, told-parked, told-number}
+use Rattle.solve_workers.specs.Told.{number_in, is_made, is_want, IsMadeOrWant, IsPostedOrWant}
+use Rattle.solve_workers.proofs.ToldLemmas.{Answer, makes, number_of, told-made, told-number}
 use Rattle.solve_workers.proofs.ClearLemmas.{no_clash-test}
 use Rattle.solve_workers.proofs.FreeLemmas.{clash, freed, split-freed, is-held}
 use Rattle.closing_rules.specs.declared.grounds.Ground.TheVariants as by

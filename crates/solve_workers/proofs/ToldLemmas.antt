@@ -8,7 +8,7 @@ use Rattle.book_core.specs.declared.reply.Reply.{Reply}
 use Rattle.book_core.specs.declared.reply.Reply.TheVariants as reply
 use Rattle.book_core.specs.Replies.{told}
 use Rattle.master_branch.specs.Node.{Node}
-use Rattle.solve_workers.specs.Told.{node_in, number_in, is_closed, is_made, is_parked}
+use Rattle.solve_workers.specs.Told.{node_in, number_in, is_closed, is_made}
 
 abbrev pub Answer : Type 0
 Answer = machine.Reply BrokenPlan
