@@ -1,88 +1,33 @@
-//! Books of one chamber and two ships, and a worker that searches one alone.
+//! Locks of one chamber and two ships, and a worker that searches a book alone.
 ghost use Rattle.std.specs.Prelude.{◌≡◌, ◌+◌, length, sum_by, All, IfSome};
 
-use crate::{Hands, Post, search};
-use book_core::{Book, Case, open_book};
+use book_core::Book;
 use bound_word::{BoundSeat, BoundTable};
 use cut_pool::Pool;
-use first_plan::{first_unfit, singles_plan};
 use lock_io::{Gate, Point};
-use lock_model::{Chamber, Chambers, Closures, Instance, Name, Ship, ShipList, Stand, Way};
+use lock_model::{Instance, Way};
 use master_branch::arrival_order;
 use node_work::Search;
 use search_book::{ShareList, share_book};
+use search_worker::{Hands, Post, search};
 use std::alloc::Global;
 use std::marker::Brand;
 use std::sync::ledger::{Blank, Ledger};
 use std::sync::{Mutex, Wait};
 use std::test::Fail;
-
-fn named(letter: u8) -> Name {
-    let mut name = Name::new();
-    name.push(letter);
-    name
-}
-
-fn chamber(width: u32, most: u8) -> Chamber {
-    Chamber {
-        name: named(b'c'),
-        length: 2000,
-        width,
-        end: 10,
-        gap: 20,
-        side: 5,
-        most,
-        pass: 30,
-        turn: 15,
-        stands: Stand::Low,
-        opens: 0,
-        closures: Closures::new(),
-    }
-}
-
-fn ship(letter: u8, way: Way) -> Ship {
-    Ship {
-        name: named(letter),
-        way,
-        length: 1100,
-        width: 114,
-        arrival: 0,
-        handling: 5,
-        cargo: 0,
-    }
-}
+use worked_locks::{chamber, one_chamber, ship, two_ships};
 
 /// Two ships that come at once, the first up, and a chamber of this width for so many ships.
 pub(crate) fn lock(width: u32, most: u8, second: Way) -> Result<Instance, Fail> {
-    let mut chambers = Chambers::new();
-    chambers.push(chamber(width, most));
-    let mut ships = ShipList::new();
-    ships.push(ship(b's', Way::Up));
-    ships.push(ship(b't', second));
-    Ok(Instance::new(chambers, ships).ok_or("no instance")?)
+    let mut only = chamber(b'c', width);
+    only.most = most;
+    let (first, second) = (ship(b's', Way::Up, 0), ship(b't', second, 0));
+    Ok(one_chamber(only, first, second).ok_or("no instance")?)
 }
 
 /// Two ships that want up at once, and a chamber of this width.
-pub(crate) fn two_ships(width: u32) -> Result<Instance, Fail> {
-    lock(width, 4, Way::Up)
-}
-
-/// The book of an instance whose ships fit some chamber each, opened with its singles plan.
-pub(crate) fn open(
-    alloc: Global,
-    instance: Instance,
-    nodes: u32,
-    turns: u32,
-) -> Result<Book, Fail> {
-    if nodes < 1 || nodes > 1000000 || turns < 1 || turns > 200000 {
-        return Err(Fail::from("out of range"));
-    }
-    if first_unfit(&instance).is_some() {
-        return Err(Fail::from("an unfit ship"));
-    }
-    let plan = singles_plan(&instance);
-    let case = Case::new(instance, nodes, turns);
-    Ok(open_book(alloc, &case, plan)?)
+pub(crate) fn two_up(width: u32) -> Result<Instance, Fail> {
+    Ok(two_ships(width).ok_or("no instance")?)
 }
 
 // A worker's hands: the last share of a list of single parts, and a seat of one part.

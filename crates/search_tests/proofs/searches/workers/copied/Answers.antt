@@ -2,7 +2,7 @@ use Rattle.std.proofs.Common.{◌≡◌, sym, subst}
 use Rattle.refute_rules.specs.Cuts.{IsCut}
 use Rattle.book_rules.specs.Cover.{IsOwnCut}
 use Rattle.book_rules.proofs.CoverLemmas.{all-got}
-use Rattle.solve_workers.proofs.tests.workers.copied.Goals as goal
+use Rattle.search_tests.proofs.searches.workers.copied.Goals as goal
 
 pub returns-in_ok-copy_cut-in-Some : goal.returns-in_ok-copy_cut-in-Some
 returns-in_ok-copy_cut-in-Some c =

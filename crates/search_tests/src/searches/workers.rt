@@ -2,15 +2,16 @@
 ghost use Rattle.std.specs.Prelude.{◌≡◌, All, IfOk, IfSome};
 ghost use Rattle.book_rules.specs.Cover.{IsOwnCut};
 
-use super::fixture::{case_of, two_ships};
-use crate::{CutList, solve, solve_from};
+use crate::fixture::case_of;
 use book_core::{Book, Case};
 use lock_io::OpenGate;
 use lock_model::Verdict;
 use place_refute::{Cut, copy_cut};
 use plain_text::NoMemory;
+use solve_workers::{CutList, solve, solve_from};
 use std::alloc::Global;
 use std::test::Fail;
+use worked_locks::two_ships;
 
 // A copy of a cut of a book; None where it has none of this number.
 fn copied(book: &Book, number: u64) -> Result<Option<Cut>, NoMemory>

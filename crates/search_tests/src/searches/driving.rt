@@ -1,29 +1,18 @@
 //! Small searches of one worker, worked out by hand.
 
-use super::fixture::{case_of, two_ships};
-use crate::drive;
-use book_core::{Book, Case, open_book};
-use first_plan::{first_unfit, singles_plan};
-use lock_model::{Ships, Verdict};
+use crate::fixture::{case_of, opened};
+use book_core::{Book, Case};
+use lock_model::Verdict;
+use solve_workers::drive;
 use std::alloc::Global;
 use std::test::Fail;
+use worked_locks::{pair, two_ships};
 
 // The book of a search from the singles plan, driven to its end.
 fn driven(alloc: Global, case: &Case) -> Result<Book, Fail> {
-    if first_unfit(&case.instance).is_some() {
-        return Err(Fail::from("an unfit ship"));
-    }
-    let plan = singles_plan(&case.instance);
-    let mut book = open_book(alloc, case, plan)?;
+    let mut book = opened(alloc, case)?;
     drive(alloc, &mut book)?;
     Ok(book)
-}
-
-// The group of both ships.
-fn both() -> Ships {
-    let mut ships = Ships::single(0);
-    ships.push(1);
-    ships
 }
 
 // The root and its one child have bound 70. Of the child's three children the one that joins the
@@ -33,7 +22,7 @@ fn both() -> Ships {
 fn small_searches_end_as_worked_out_by_hand(rt: HostRuntime) -> Result<(), Fail> {
     let spent = Verdict::OpenTurns {
         chamber: 0,
-        ships: both(),
+        ships: pair(0, 1),
         turns: 1,
         low: 80,
     };

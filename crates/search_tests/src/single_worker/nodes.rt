@@ -1,10 +1,11 @@
 //! Nodes of an instance, and nodes of none.
 
-use super::fixture::{lock, open, two_ships};
-use crate::is_node_of;
+use super::fixture::{lock, two_up};
+use crate::fixture::open;
 use book_core::{Book, Reply};
 use lock_model::Way;
 use master_branch::{Node, arrival_order};
+use search_worker::is_node_of;
 use std::test::Fail;
 
 // The node of both ships in one group.
@@ -21,7 +22,7 @@ fn both(book: &mut Book) -> Option<Node> {
 
 #[test]
 fn a_node_is_one_of_the_instance_that_may_serve_its_groups(rt: HostRuntime) -> Result<(), Fail> {
-    let mut book = open(rt.alloc(), two_ships(232)?, 100, 20000)?;
+    let mut book = open(rt.alloc(), two_up(232)?, 100, 20000)?;
     let node = both(&mut book).ok_or("no node")?;
     assert_eq!(rt; node.depth(), 2);
     for (most, second, own) in [

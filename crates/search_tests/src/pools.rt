@@ -1,99 +1,37 @@
 //! Cuts posted and found again, in one thread and in two.
-ghost use Rattle.std.specs.Prelude.{◌≡◌, ◌<◌, All, IsTrue, IfOk};
+ghost use Rattle.std.specs.Prelude.{All, IfOk};
 ghost use Rattle.boxcar.specs.Table.{Shows};
 
-use super::*;
-use lock_model::*;
+use cut_pool::{Pool, Token, Tokens};
+use lock_model::{Chambers, Deck, Instance, Measures, ShipList, Ships, Way};
 use place_refute::{Cut, Quick, Refutation, make_cut};
 use std::alloc::Global;
 use std::sync::Wait;
 use std::test::Fail;
 use std::thread::{Threads, join};
-
-fn named(letter: u8) -> Name {
-    let mut name = Name::new();
-    name.push(letter);
-    name
-}
-
-fn chamber(width: u32) -> Chamber {
-    Chamber {
-        name: named(b'c'),
-        length: 2000,
-        width,
-        end: 10,
-        gap: 20,
-        side: 5,
-        most: 4,
-        pass: 30,
-        turn: 15,
-        stands: Stand::Low,
-        opens: 0,
-        closures: Closures::new(),
-    }
-}
-
-fn ship(letter: u8) -> Ship {
-    Ship {
-        name: named(letter),
-        way: Way::Up,
-        length: 1100,
-        width: 114,
-        arrival: 0,
-        handling: 5,
-        cargo: 0,
-    }
-}
+use worked_locks::{BASE, are_known, chamber, deck_of, pair, ship};
 
 // Three equal ships, and a chamber of this width.
 fn lock(width: u32) -> Option<Instance> {
     let mut chambers = Chambers::new();
-    chambers.push(chamber(width));
+    chambers.push(chamber(b'c', width));
     let mut ships = ShipList::new();
-    ships.push(ship(b's'));
-    ships.push(ship(b't'));
-    ships.push(ship(b'u'));
+    for letter in [b's', b't', b'u'] {
+        ships.push(ship(letter, Way::Up, 0));
+    }
     Instance::new(chambers, ships)
 }
 
-// Two ships, of which the first comes first; else one.
-fn pair(first: u8, second: u8) -> Ships {
-    let mut ships = Ships::single(first);
-    if first < second {
-        ships.push(second);
-    }
-    ships
-}
-
-// Whether all ships are below a count.
-fn are_known(ships: &[u8], count: usize) -> bool
-    ensures { IsTrue result → All (λ s. s < count) ships.now }
-{
-    for &ship in ships {
-        if ship as usize >= count {
-            return false;
-        }
-    }
-    true
-}
-
 // The deck of two of the ships in a chamber of width 232.
-fn deck() -> Option<Deck> {
-    let size = Size {
-        length: 1100,
-        width: 114,
-        cargo: 0,
-    };
-    let mut sizes = Sizes::new();
-    sizes.push(size);
-    sizes.push(size);
-    Deck::new(chamber(232).measures(), sizes)
+fn narrow_deck() -> Option<Deck> {
+    let measures = Measures { width: 232, ..BASE };
+    deck_of(measures, &[(1100, 114), (1100, 114)])
 }
 
 // The cut of two of the ships, which are too broad to lie beside each other.
 fn row(alloc: Global, first: u8, second: u8) -> Result<Cut, Fail> {
     let ships = pair(first, second);
-    let deck = deck().ok_or("no deck")?;
+    let deck = narrow_deck().ok_or("no deck")?;
     if ships.len() != deck.ships.as_slice().len() {
         return Err("not one size a ship".into());
     }

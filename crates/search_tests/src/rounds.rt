@@ -1,12 +1,13 @@
 //! Rounds at the root.
-use super::*;
-use lock_model::{Chamber, Chambers, Closures, Instance, Name, Ship, ShipList, Ships, Stand, Way};
+use lock_model::{Instance, Ships};
 use master_branch::root;
 use node_work::{KnownCuts, Search};
 use placed_groups::Memory;
 use price_bound::Prices;
+use price_search::{Asked, Pricing, RoundEnd};
 use std::process::Abort;
 use std::test::Fail;
+use worked_locks::two_ships;
 
 // No cut is known.
 #[derive(Drop)]
@@ -22,50 +23,9 @@ impl KnownCuts for NoCut {
     }
 }
 
-fn named(letter: u8) -> Name {
-    let mut name = Name::new();
-    name.push(letter);
-    name
-}
-
-fn ship(letter: u8) -> Ship {
-    Ship {
-        name: named(letter),
-        way: Way::Up,
-        length: 1100,
-        width: 114,
-        arrival: 0,
-        handling: 5,
-        cargo: 0,
-    }
-}
-
-// Two ships of one way that don't fit together.
-fn pair() -> Option<Instance> {
-    let mut chambers = Chambers::new();
-    chambers.push(Chamber {
-        name: named(b'a'),
-        length: 2000,
-        width: 232,
-        end: 10,
-        gap: 20,
-        side: 5,
-        most: 4,
-        pass: 30,
-        turn: 15,
-        stands: Stand::Low,
-        opens: 0,
-        closures: Closures::new(),
-    });
-    let mut ships = ShipList::new();
-    ships.push(ship(b's'));
-    ships.push(ship(b't'));
-    Instance::new(chambers, ships)
-}
-
 #[test]
 fn rounds_find_the_cut_the_plan_and_the_cost(rt: HostRuntime) -> Result<(), Fail> {
-    let instance = pair().ok_or("no instance")?;
+    let instance = two_ships(232).ok_or("no instance")?;
     let node = root(&instance);
     let search = Search::new(&instance, 1000);
     let mut memory = Memory::new(rt.alloc());

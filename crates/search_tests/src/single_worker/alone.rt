@@ -1,19 +1,19 @@
 //! What one worker makes of a book.
 
-use super::fixture::{PointGate, lock, open, searched, searched_as, two_ships};
+use super::fixture::{PointGate, lock, searched, searched_as, two_up};
 use super::hitting::has_hit_cut;
+use crate::fixture::open;
 use instance_text::make_lot;
 use lock_io::{OpenGate, Point};
-use lock_model::{Ships, Verdict, Way};
+use lock_model::{Verdict, Way};
 use std::test::Fail;
+use worked_locks::pair;
 
 // The group of both ships, which one turn leaves hard and spot-hard.
 fn spent() -> Verdict {
-    let mut ships = Ships::single(0);
-    ships.push(1);
     Verdict::OpenTurns {
         chamber: 0,
-        ships,
+        ships: pair(0, 1),
         turns: 1,
         low: 80,
     }
@@ -29,7 +29,7 @@ fn one_worker_searches_to_the_end(rt: HostRuntime) -> Result<(), Fail> {
         (232, 2, 20000, 120, Verdict::OpenNodes { used: 2, low: 80 }),
         (240, 100, 1, 120, spent()),
     ] {
-        let book = open(rt.alloc(), two_ships(width)?, nodes, turns)?;
+        let book = open(rt.alloc(), two_up(width)?, nodes, turns)?;
         let (book, least) = searched(&rt, rt.alloc(), &OpenGate, book)?;
         assert_eq!(rt; book.verdict(), verdict);
         assert_eq!(rt; (book.best_cost(), least), (cost, cost));
@@ -43,7 +43,7 @@ fn one_worker_searches_to_the_end(rt: HostRuntime) -> Result<(), Fail> {
 #[test]
 fn a_worker_calls_the_gate_as_it_goes(rt: HostRuntime) -> Result<(), Fail> {
     let gate = PointGate::new(rt.alloc());
-    let book = open(rt.alloc(), two_ships(232)?, 100, 20000)?;
+    let book = open(rt.alloc(), two_up(232)?, 100, 20000)?;
     searched(&rt, rt.alloc(), &gate, book)?;
     let mut points = gate.points().into_iter();
     for depth in [0, 2] {
@@ -72,7 +72,7 @@ fn no_cut_of_a_worker_hits_a_later_one(rt: HostRuntime) -> Result<(), Fail> {
 // ships for none of its own. That the slot is back says that the others can take it.
 #[test]
 fn a_worker_that_cannot_go_on_gives_its_slot_back(rt: HostRuntime) -> Result<(), Fail> {
-    let book = open(rt.alloc(), two_ships(232)?, 100, 20000)?;
+    let book = open(rt.alloc(), two_up(232)?, 100, 20000)?;
     let other = lock(232, 1, Way::Up)?;
     let (book, _) = searched_as(&rt, rt.alloc(), &OpenGate, book, &other)?;
     assert_eq!(rt; (book.held_by(0), book.ended(0)), (None, true));

@@ -1,10 +1,10 @@
 //! Searches in which one worker waits for another.
 
-use super::fixture::case_of;
-use crate::solve;
+use crate::fixture::case_of;
 use book_core::Case;
 use instance_text::read_instance;
 use lock_io::{LastGate, MeetGate};
+use solve_workers::solve;
 use std::test::Fail;
 
 // Three ships of which no two fit a chamber together, and two equal chambers: a cut for each pair

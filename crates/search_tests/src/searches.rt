@@ -1,5 +1,4 @@
 //! Searches.
 mod driving;
-mod fixture;
 mod threads;
 mod workers;

@@ -1,7 +1,7 @@
 //! Seats of one table, in one thread and in two.
 ghost use Rattle.std.specs.Prelude.{◌≡◌};
 
-use super::*;
+use bound_word::{BoundSeat, BoundTable};
 use std::test::Fail;
 use std::thread::join;
 
