@@ -18,8 +18,6 @@ mod appending;
 mod placing;
 mod pricing;
 mod round;
-#[cfg(test)]
-mod tests;
 
 pub use pricing::Pricing;
 pub use round::{Asked, LIMITS, Round, RoundEnd};

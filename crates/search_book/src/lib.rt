@@ -32,8 +32,6 @@ mod replies;
 mod share_list;
 mod shared;
 mod sharing;
-#[cfg(test)]
-mod tests;
 
 pub use ahead::{Ahead, Ending, Stretch};
 pub use applying::{apply, apply_and_take};

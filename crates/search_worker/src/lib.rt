@@ -33,8 +33,6 @@ mod searching;
 mod sharing;
 mod stop;
 mod taking;
-#[cfg(test)]
-mod tests;
 mod trail;
 mod trusting;
 mod walking;

@@ -35,8 +35,6 @@ mod running;
 mod searching;
 mod settling;
 mod solving;
-#[cfg(test)]
-mod tests;
 mod told;
 mod working;
 
