@@ -16,8 +16,6 @@
 mod front;
 mod pending;
 mod places;
-#[cfg(test)]
-mod tests;
 mod walk;
 
 pub use walk::check_berth_tree;

@@ -27,7 +27,5 @@ mod pairs;
 mod placing;
 mod search;
 mod spotting;
-#[cfg(test)]
-mod tests;
 
 pub use placing::{BerthPlaced, place_by_berths};

@@ -20,8 +20,6 @@ mod error;
 mod live;
 mod marks;
 mod prices;
-#[cfg(test)]
-mod tests;
 
 pub use certificate::certificate_of;
 pub use cuts::cuts_of;

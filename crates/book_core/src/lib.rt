@@ -63,8 +63,6 @@ mod splitting;
 mod stored_slot;
 mod summing;
 mod taking;
-#[cfg(test)]
-mod tests;
 mod waiting;
 
 pub use book::Book;

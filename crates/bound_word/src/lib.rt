@@ -22,8 +22,6 @@
 mod seat;
 mod steps;
 mod table;
-#[cfg(test)]
-mod tests;
 mod view;
 
 pub use seat::BoundSeat;

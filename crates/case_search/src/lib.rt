@@ -12,8 +12,6 @@
 
 mod berths;
 mod searching;
-#[cfg(test)]
-mod tests;
 mod tracks;
 mod visits;
 

@@ -27,8 +27,6 @@ mod hitting;
 mod laws;
 mod prices;
 mod reading;
-#[cfg(test)]
-mod tests;
 
 pub use certificate::{Answer, CertCut, CertCuts, Certificate, MarkList, PriceLists};
 pub use certificate_rules::{FailurePlace, Mark, Reason};

@@ -15,4 +15,3 @@ pub mod ShapeLemmas
 pub mod WrittenLemmas
 pub mod PairLemmas
 pub mod DossierLemmas
-pub mod FixtureLemmas

@@ -47,6 +47,3 @@ pub use print::{print_dossier, put_line};
 pub use read::{json_of, read_dossier};
 pub use value::has_members;
 pub use version::{is_price_mark, is_third, needs_third};
-
-#[cfg(test)]
-mod tests;

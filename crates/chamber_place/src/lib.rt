@@ -24,8 +24,6 @@ mod ranks;
 mod shrinking;
 mod solving;
 mod spotting;
-#[cfg(test)]
-mod tests;
 
 pub use placing::{Placed, place};
 pub use shrinking::shrink;

@@ -17,8 +17,6 @@ mod costs;
 mod judge;
 mod service;
 mod spans;
-#[cfg(test)]
-mod tests;
 mod timetable;
 mod walk;
 

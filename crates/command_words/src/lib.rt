@@ -25,6 +25,3 @@ pub use commands::{Command, LotOptions, ReplanOptions, SolveOptions, TrialOption
 pub use errors::WordsError;
 pub use judge::good_words;
 pub use reader::read_words;
-
-#[cfg(test)]
-mod tests;

@@ -19,8 +19,6 @@
 
 mod entry;
 mod pool;
-#[cfg(test)]
-mod tests;
 mod tokens;
 
 pub use entry::{Back, Entry, Token};

@@ -14,8 +14,6 @@ mod lines;
 mod order;
 mod playing;
 mod rising;
-#[cfg(test)]
-mod tests;
 mod walk;
 
 pub use beat::{Act, Beat};

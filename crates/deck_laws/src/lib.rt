@@ -18,8 +18,6 @@ mod laws;
 mod normal;
 mod reach;
 mod spot_list;
-#[cfg(test)]
-mod tests;
 mod thinning;
 mod values;
 mod widening;

@@ -13,8 +13,6 @@ mod origin;
 mod paths;
 mod rounds;
 mod solve;
-#[cfg(test)]
-mod tests;
 
 pub use diff_rules::Edge;
 pub use lists::{Edges, Numbers, Values};

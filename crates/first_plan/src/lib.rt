@@ -15,8 +15,6 @@ mod merging;
 mod opening;
 mod singles;
 mod standing;
-#[cfg(test)]
-mod tests;
 mod unfit;
 
 pub use opening::{FirstError, first_plan, singles_plan};

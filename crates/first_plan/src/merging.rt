@@ -61,6 +61,10 @@ fn found_spots(placed: Placed) -> Option<Spots> {
     }
 }
 
+// The most turns that the placer is asked about one merge. On crowded decks it could take seconds, and
+// a better plan to begin with saves few nodes.
+const MOST_TURNS: u32 = 500;
+
 // Spots of ships of which no two clash, where the placer finds any.
 fn spots_for(
     alloc: Global,
@@ -78,7 +82,7 @@ fn spots_for(
     if first_clash(&deck).is_some() {
         return Ok(None);
     }
-    let placed = place(alloc, &deck, turns)?;
+    let placed = place(alloc, &deck, turns.min(MOST_TURNS))?;
     Ok(found_spots(placed))
 }
 

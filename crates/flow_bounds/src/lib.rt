@@ -27,8 +27,6 @@ mod places;
 mod probing;
 mod reaching;
 mod roster;
-#[cfg(test)]
-mod tests;
 mod walk;
 
 pub use capacity::throughput;

@@ -46,6 +46,3 @@ pub use read::{read_instance, read_instance_part, split_instance};
 pub use side::way;
 pub use utf8::check_utf8;
 pub use words::{Words, word_at, words_of};
-
-#[cfg(test)]
-mod tests;

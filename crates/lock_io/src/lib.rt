@@ -21,8 +21,6 @@ mod sink;
 mod source;
 mod standard;
 mod steady_source;
-#[cfg(test)]
-mod tests;
 mod unread;
 mod worker_set;
 mod write;

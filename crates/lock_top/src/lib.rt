@@ -15,8 +15,6 @@
 
 mod commands;
 mod laws;
-#[cfg(test)]
-mod tests;
 mod top;
 
 pub use laws::written_dossiers_are_accepted;

@@ -20,8 +20,6 @@ mod laws;
 mod lines;
 mod node;
 mod step;
-#[cfg(test)]
-mod tests;
 
 pub use arrival::{ShipOrder, arrival_order, next_ship};
 pub use branching::{child, child_count, descend, take_step};

@@ -16,8 +16,6 @@ mod placement;
 mod plan;
 mod service;
 mod shape;
-#[cfg(test)]
-mod tests;
 
 pub use breaks::{Broken, BrokenPlan};
 pub use cargo::first_clash;

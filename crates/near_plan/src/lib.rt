@@ -20,8 +20,6 @@ mod near;
 mod plan;
 mod putting;
 mod sets;
-#[cfg(test)]
-mod tests;
 
 pub use fitting::{Fitting, fits};
 pub use near::near_plan;

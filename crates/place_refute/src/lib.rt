@@ -27,8 +27,6 @@ mod leaf;
 mod make;
 mod options;
 mod spot_faults;
-#[cfg(test)]
-mod tests;
 mod tree;
 mod walk;
 

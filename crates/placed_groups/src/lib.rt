@@ -9,7 +9,5 @@
 
 mod group_key;
 mod memory;
-#[cfg(test)]
-mod tests;
 
 pub use memory::{Memory, Said};

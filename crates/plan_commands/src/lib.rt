@@ -14,8 +14,6 @@ mod day_text;
 mod judging;
 mod planned;
 mod playing;
-#[cfg(test)]
-mod tests;
 
 pub use judging::judge_answer;
 pub use playing::play_answer;

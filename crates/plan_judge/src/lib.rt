@@ -32,6 +32,3 @@ pub use plain_text::NoMemory;
 pub use printing::print_plan;
 pub use pushing::neat;
 pub use reading::read_plan;
-
-#[cfg(test)]
-mod tests;

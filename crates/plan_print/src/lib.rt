@@ -20,6 +20,3 @@ mod verdict;
 pub use plain_text::NoMemory;
 pub use report::{print_lockages, print_report, print_verdict_line};
 pub use text::rank_word;
-
-#[cfg(test)]
-mod tests;

@@ -11,8 +11,6 @@
 
 mod breaks;
 mod faults;
-#[cfg(test)]
-mod tests;
 
 pub use breaks::{break_text, late_text};
 pub use faults::fault_text;

@@ -39,8 +39,6 @@ mod serving;
 mod shown;
 mod state;
 mod table;
-#[cfg(test)]
-mod tests;
 mod values;
 mod walking;
 mod weighing;

@@ -19,8 +19,6 @@
 mod ascent;
 mod first;
 mod stands;
-#[cfg(test)]
-mod tests;
 
 pub use ascent::{Ascent, Pace};
 pub use first::first_prices;

@@ -19,8 +19,6 @@ mod offers;
 mod placing;
 mod pricing;
 mod round;
-#[cfg(test)]
-mod tests;
 
 pub use offers::{Offer, Offers};
 pub use pricing::{MOST_AT_A_NODE, Pricing};

@@ -125,14 +125,10 @@ impl Pricing {
         append(&mut self.path, Offer::new(prices))
     }
 
-    // Whether a plan is to be made of the least lines: at the first node in every fourth round, at any
-    // other in the last one.
+    // Whether a plan is to be made of the least lines: at the first node in every second round, at any
+    // other in each one.
     pub(crate) fn is_near_time(&self) -> bool {
-        if self.is_first {
-            self.left % 4 == 0
-        } else {
-            self.ascent.is_last()
-        }
+        !self.is_first || self.left % 2 == 0
     }
 
     /// The same, as it is to go on below the node in hand, with all rounds to be made still.

@@ -24,8 +24,6 @@ mod remainder;
 mod remaining;
 mod service;
 mod standing;
-#[cfg(test)]
-mod tests;
 mod together;
 
 pub use laws::{cheapest_that_keeps, plans_that_keep};

@@ -12,8 +12,6 @@
 mod keeping;
 mod refusals;
 mod replanning;
-#[cfg(test)]
-mod tests;
 mod whole;
 
 pub use replanning::replan_answer;

@@ -24,8 +24,6 @@ mod marks;
 mod print;
 mod read;
 mod reading;
-#[cfg(test)]
-mod tests;
 mod tree;
 mod value;
 

@@ -38,8 +38,6 @@ mod share_list;
 mod shared;
 mod sharing;
 mod shutting;
-#[cfg(test)]
-mod tests;
 
 pub use ahead::{Ahead, Ending, Stretch};
 pub use applying::{apply, apply_and_take};

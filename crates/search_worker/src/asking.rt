@@ -8,7 +8,8 @@ use crate::stop::Stop;
 use crate::worker::Worker;
 use book_core::Reply;
 use lock_io::Gate;
-use search_book::{Event, Gone, Next, Stretch};
+use price_bound::Shown;
+use search_book::{ByPrice, Event, Gone, Next, Stretch};
 use std::sync::Wait;
 use std::sync::ledger::Ledger;
 
@@ -59,6 +60,32 @@ pub(crate) fn finish<L: Ledger, W: Wait, G: Gate>(
         .book
         .end_and_take(post.rt, share, worker.number, ending);
     go_on(post, worker, next)
+}
+
+/// Closes the held node by the prices of this number, of which this was shown, and takes the next slot.
+/// False where the book refused that, and the node is held still.
+pub(crate) fn finish_by_price<L: Ledger, W: Wait, G: Gate>(
+    post: &Post<'_, L, W, G>,
+    worker: &mut Worker<L>,
+    id: u32,
+    number: u64,
+    shown: &Shown<'_>,
+) -> bool
+    requires serves { Serves post.now worker.old }
+    ensures serves { Serves post.now worker.new }
+{
+    let closing = ByPrice { id, number, shown };
+    let share = &mut worker.hands.share;
+    match post
+        .book
+        .close_price_and_take(post.rt, share, worker.number, &closing)
+    {
+        Next::Taken(reply) => {
+            worker.taken = reply;
+            true
+        }
+        Next::Refused(_) => false,
+    }
 }
 
 /// Ends the held node and the nodes after it as far as the book comes to them, and takes the next

@@ -4,12 +4,11 @@ ghost use Rattle.search_book.specs.Events.{IsAllowed};
 ghost use Rattle.search_worker.specs.Ending.{MayEnd};
 ghost use Rattle.search_worker.specs.Serving.{Serves};
 
-use crate::asking::{ask, finish};
+use crate::asking::finish;
 use crate::post::Post;
-use crate::sharing::{post_cut, show_cost};
+use crate::sharing::{give, post_cut};
 use crate::stop::Stop;
 use crate::worker::Worker;
-use book_core::Reply;
 use closing_rules::Ground;
 use lock_io::Gate;
 use lock_model::Plan;
@@ -32,8 +31,7 @@ pub(crate) fn close<L: Ledger, W: Wait, G: Gate>(
     finish(post, worker, Event::Close(id, why))
 }
 
-// Gives the plan of the held node to the book, which may have one that is as cheap, and closes the
-// node: its bound is the plan's cost.
+// Gives the plan of the held node to the book, and closes the node: its bound is the plan's cost.
 fn complete<L: Ledger, W: Wait, G: Gate>(
     post: &Post<'_, L, W, G>,
     worker: &mut Worker<L>,
@@ -43,11 +41,7 @@ fn complete<L: Ledger, W: Wait, G: Gate>(
     requires serves { Serves post.now worker.old }
     ensures serves { Serves post.now worker.new }
 {
-    match ask(post, worker, Event::Replace(plan)) {
-        Reply::Replaced(cost) => show_cost(post, worker, cost),
-        Reply::NotCheaper(_, _) => {}
-        _ => return Err(Stop),
-    }
+    give(post, worker, plan)?;
     close(post, worker, id, Ground::Bound)
 }
 

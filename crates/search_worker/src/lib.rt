@@ -14,33 +14,36 @@
 //! For each node that was taken (`taking`) `working` reads the best cost and asks `node_work` what
 //! becomes of the node. One that is split or closed begins a stretch: `walking` works out the nodes
 //! below it, depth first and in the book's order (`trail`), up to one for which the book needs more
-//! than bounds. Any other one ends as `ending` says. `sharing` posts what the others are to see, and
+//! than bounds. Any other one ends as `ending` says. Where the workers have prices (`board`), a node
+//! that would be split is priced first (`pricing`): it begins with the prices that its parent left,
+//! whoever split that, and is closed where it reaches the best cost by them. `sharing` posts what the others are to see, and
 //! `knowing` is what a worker knows of cuts.
 //!
 //! `asking` makes each event, and waits. `post` is what workers share, `hands` and `worker` what each
-//! has.
+//! has. Nothing is claimed of prices: the book takes a closing by them only for what was shown.
 //!
 //! Definitions: `specs/Owning` says, ship by ship, what the test of a node tests, `Serving` what ties
 //! a worker to its post, and `Ending` how a node may end.
 #![tactic(auto)]
 
 mod asking;
+mod board;
 mod ending;
 mod hands;
 mod knowing;
 mod post;
+mod pricing;
 mod searching;
 mod sharing;
 mod stop;
 mod taking;
-#[cfg(test)]
-mod tests;
 mod trail;
 mod trusting;
 mod walking;
 mod worker;
 mod working;
 
+pub use board::Board;
 pub use hands::Hands;
 pub use post::Post;
 pub use searching::search;

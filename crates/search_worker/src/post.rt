@@ -2,6 +2,7 @@
 ghost use Rattle.lock_rules.specs.Arrival.{order_of};
 ghost use Rattle.std.specs.Prelude.{◌≡◌};
 
+use crate::board::Board;
 use bound_word::BoundTable;
 use cut_pool::Pool;
 use lock_io::Gate;
@@ -13,8 +14,8 @@ use std::sync::Wait;
 use std::sync::ledger::Ledger;
 
 /// What workers share: the handles that they were lent, what is the same for all nodes, with the
-/// ships by arrival, after how many nodes each ends, the book under its lock, and the cuts and the
-/// best cost beside it.
+/// ships by arrival, after how many nodes each ends, the prices that they leave each other, if any,
+/// the book under its lock, and the cuts and the best cost beside it.
 #[derive(Drop)]
 pub struct Post<'s, L: Ledger, W: Wait, G: Gate> {
     pub rt: &'s W,
@@ -23,6 +24,7 @@ pub struct Post<'s, L: Ledger, W: Wait, G: Gate> {
     pub search: Search<'s>,
     pub order: ShipOrder,
     pub quota: u32,
+    pub board: Option<&'s Board>,
     pub book: &'s SharedBook<L>,
     pub pool: &'s Pool,
     pub word: &'s BoundTable,
@@ -37,6 +39,7 @@ pub(crate) fn may_search_beside<L: Ledger + Send + Sync, W: Wait + Sync, G: Gate
     post: &Post<'_, L, W, G>,
 ) {
     may_share(post.search.instance);
+    may_share(&post.board);
     may_share(post.book);
     may_share(post.pool);
     may_share(post.word);

@@ -10,6 +10,7 @@ use crate::taking::taken;
 use crate::worker::Worker;
 use crate::working::work;
 use lock_io::{Gate, Point};
+use price_search::Pricing;
 use search_book::{Event, Stretch};
 use std::sync::Wait;
 use std::sync::ledger::Ledger;
@@ -41,6 +42,11 @@ fn search_slots<'s, L: Ledger, W: Wait, G: Gate>(
     unreachable!()
 }
 
+// A worker's own prices, if there are any; without memory it searches without.
+fn pricing_of<L: Ledger, W: Wait, G: Gate>(post: &Post<'_, L, W, G>) -> Option<Pricing> {
+    post.board?.pricing(post.alloc)
+}
+
 /// Searches as worker `number`, 0 to 7, until nothing is open or held, the nodes are spent, or it has
 /// worked on the post's quota of nodes. It has no refusal: where the quota is reached or memory is
 /// refused, or the book answers what it answers no worker of these rules, the worker releases and
@@ -57,7 +63,7 @@ pub fn search<L: Ledger, W: Wait, G: Gate>(
     requires seat { hands.seat.table ≡ post.now.word.now.table }
     ensures seat { result.seat.table ≡ hands.seat.table }
 {
-    let mut worker = Worker::new(post.alloc, number, hands);
+    let mut worker = Worker::new(post.alloc, number, hands, pricing_of(post));
     let mut stretch = Stretch::new(post.alloc, post.search.instance);
     if let Err(Stop) = search_slots(post, &mut worker, &mut stretch) {
         ask(post, &mut worker, Event::Release(number));

@@ -7,6 +7,7 @@ use crate::stop::Stop;
 use crate::worker::Worker;
 use book_core::Reply;
 use lock_io::Gate;
+use lock_model::Plan;
 use place_refute::{Cut, copy_cut};
 use search_book::Event;
 use std::sync::Wait;
@@ -47,8 +48,8 @@ pub(crate) fn post_cut<L: Ledger, W: Wait, G: Gate>(
     Ok(number)
 }
 
-/// Lowers the shared best cost to that of a plan which the book took.
-pub(crate) fn show_cost<L: Ledger, W: Wait, G: Gate>(
+// Lowers the shared best cost to that of a plan which the book took.
+fn show_cost<L: Ledger, W: Wait, G: Gate>(
     post: &Post<'_, L, W, G>,
     worker: &mut Worker<L>,
     cost: u64,
@@ -57,4 +58,21 @@ pub(crate) fn show_cost<L: Ledger, W: Wait, G: Gate>(
     ensures serves { Serves post.now worker.new }
 {
     post.word.lower(&mut worker.hands.seat, cost);
+}
+
+/// Gives a plan to the book, which may have one that is as cheap.
+pub(crate) fn give<L: Ledger, W: Wait, G: Gate>(
+    post: &Post<'_, L, W, G>,
+    worker: &mut Worker<L>,
+    plan: Box<Plan>,
+) -> Result<(), Stop>
+    requires serves { Serves post.now worker.old }
+    ensures serves { Serves post.now worker.new }
+{
+    match ask(post, worker, Event::Replace(plan)) {
+        Reply::Replaced(cost) => show_cost(post, worker, cost),
+        Reply::NotCheaper(_, _) => {}
+        _ => return Err(Stop),
+    }
+    Ok(())
 }

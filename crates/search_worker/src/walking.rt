@@ -6,6 +6,7 @@ ghost use Rattle.search_worker.specs.Serving.{Serves};
 
 use crate::knowing::posted_cuts;
 use crate::post::Post;
+use crate::pricing::is_for_prices;
 use crate::sharing::post_cut;
 use crate::stop::Stop;
 use crate::worker::Worker;
@@ -81,8 +82,8 @@ pub(crate) fn append<'s, L: Ledger, W: Wait, G: Gate>(
     Ok(())
 }
 
-// Works out one node more, if there is one, it lacks ships and it ends simply; says whether that is
-// so.
+// Works out one node more, if there is one, it lacks ships, and it ends simply and without prices;
+// says whether that is so.
 fn step<'s, L: Ledger, W: Wait, G: Gate>(
     post: &Post<'s, L, W, G>,
     worker: &mut Worker<L>,
@@ -105,6 +106,9 @@ fn step<'s, L: Ledger, W: Wait, G: Gate>(
     }
     let foreseen = Foreseen::new(search.instance, &search.roster, node);
     let fate = foreseen_fate(post, worker, &foreseen, best)?;
+    if is_for_prices(post, worker, &fate, foreseen.node.depth()) {
+        return Ok(false);
+    }
     match simple_ending(post, worker, fate)? {
         Some(ending) => {
             append(post, worker, stretch, foreseen, ending)?;
@@ -115,7 +119,7 @@ fn step<'s, L: Ledger, W: Wait, G: Gate>(
 }
 
 /// Works out the nodes below those of the stretch, in the book's order: so many at the most, and up
-/// to the first one for which the book needs more than bounds.
+/// to the first one for which the book needs more than bounds, or prices are to be asked.
 pub(crate) fn walk<'s, L: Ledger, W: Wait, G: Gate>(
     post: &Post<'s, L, W, G>,
     worker: &mut Worker<L>,

@@ -7,6 +7,7 @@ use book_core::Reply;
 use cut_pool::Tokens;
 use master_branch::Node;
 use placed_groups::Memory;
+use price_search::Pricing;
 use std::alloc::Global;
 use std::sync::ledger::Ledger;
 
@@ -22,7 +23,8 @@ pub(crate) const SHORT: u32 = 16;
 
 /// What one worker has as it searches: its number, what it owns, the tokens of the cuts that it
 /// posted, what the placers told it, what the book answered when it took a slot last, where it is on
-/// its way ahead of the book, how many nodes it goes ahead at the most, and on how many it worked.
+/// its way ahead of the book, how many nodes it goes ahead at the most, on how many it worked, and its
+/// prices, where it has any.
 #[derive(Drop)]
 pub(crate) struct Worker<L: Ledger> {
     pub(crate) number: u8,
@@ -33,13 +35,19 @@ pub(crate) struct Worker<L: Ledger> {
     pub(crate) trail: Trail,
     pub(crate) reach: u32,
     pub(crate) worked: u32,
+    pub(crate) pricing: Option<Pricing>,
     pub(crate) ghost numbered: { number < 8 },
     pub(crate) ghost within: { reach ≤ 256 },
 }
 
 impl<L: Ledger> Worker<L> {
     /// A worker that has posted nothing, was told nothing and has taken nothing yet.
-    pub(crate) fn new(alloc: Global, number: u8, hands: Hands<L>) -> Worker<L>
+    pub(crate) fn new(
+        alloc: Global,
+        number: u8,
+        hands: Hands<L>,
+        pricing: Option<Pricing>,
+    ) -> Worker<L>
         requires { number < 8 }
         ensures hands { result.hands ≡ hands }
         ensures tokens { result.tokens ≡ [] }
@@ -53,6 +61,7 @@ impl<L: Ledger> Worker<L> {
             trail: Trail::new(alloc),
             reach: SHORT,
             worked: 0,
+            pricing,
         }
     }
 }

@@ -15,8 +15,6 @@ mod lane;
 mod lanes;
 mod reason;
 mod search;
-#[cfg(test)]
-mod tests;
 
 pub use reason::{find_reason, holds};
 pub use refute_rules::Quick;

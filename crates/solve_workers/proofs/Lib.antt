@@ -8,5 +8,6 @@ pub mod TakeLemmas
 pub mod TidyLemmas
 pub mod OpeningLemmas
 pub mod HeldLemmas
+pub mod ReadyLemmas
 pub mod SettleLemmas
 pub mod PriceLemmas

@@ -79,10 +79,10 @@ pub own_still : (old b : Book) (cs : List Cut) (c : Cut) → b ≡ with_cuts old
 own_still old b cs c is own = subst (λ (x : Book). IsOwnCut x.case.instance c) (sym is) own
 
 -- the driver may take on a book that was just opened
-pub opened_ready : (case : Case) (plan : Plan) (cuts : List Cut) (cost : ℕ) (b : Book) → cost ≡ cost_of case.instance plan → b ≡ opened_with case plan cuts → IsReady case cost b
-opened_ready case plan cuts cost b costs is = subst (IsReady case cost) (sym is) (record { case_is = refl; opening = sym costs; free = record { none = (free case plan).none }; running = record { running = refl } })
+pub opened_ready : (case : Case) (plan : Plan) (cuts : List Cut) (cost : ℕ) (b : Book) → cost_of case.instance plan ≤ cost → b ≡ opened_with case plan cuts → IsReady case cost b
+opened_ready case plan cuts cost b costs is = subst (IsReady case cost) (sym is) (record { case_is = refl; opening = costs; free = record { none = (free case plan).none }; running = record { running = refl } })
 
-pub opened_ready_ok : {E : Type 0} (case : Case) (plan : Plan) (cuts : List Cut) (cost : ℕ) (r : Result Book E) → cost ≡ cost_of case.instance plan → IfOk r (λ b. b ≡ opened_with case plan cuts) → IfOk r (IsReady case cost)
+pub opened_ready_ok : {E : Type 0} (case : Case) (plan : Plan) (cuts : List Cut) (cost : ℕ) (r : Result Book E) → cost_of case.instance plan ≤ cost → IfOk r (λ b. b ≡ opened_with case plan cuts) → IfOk r (IsReady case cost)
 opened_ready_ok case plan cuts cost (Ok b) costs is = opened_ready case plan cuts cost b costs is
 opened_ready_ok case plan cuts cost (Err e) costs is = tt
 

@@ -131,7 +131,7 @@ opening_cost-stays old new back = (λ j. cost_of (back.case j).instance (back.op
 pub freed_ready : (case : Case) (cost : ℕ) (old new : Book) → IsOurs case cost old → IsFreed old new → IsReady case cost new
 freed_ready case cost old new ours freed = record {
   case_is = freed.back.case ∙ ours.case_is;
-  opening = opening_cost-stays old new freed.back ∙ ours.opening;
+  opening = let same = opening_cost-stays old new freed.back in let old_cost = ours.opening in omega (arith, same, old_cost);
   free = freed.free;
   running = freed.back.running;
 }

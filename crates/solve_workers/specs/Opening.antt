@@ -1,5 +1,5 @@
 -- A book that was just opened, and one that the driver may take on.
-use Rattle.std.specs.Prelude.{ℕ, ◌≡◌, List, ◌++◌, map}
+use Rattle.std.specs.Prelude.{ℕ, ◌≡◌, ◌≤◌, List, ◌++◌, map}
 use Rattle.lock_model.specs.declared.plan.Plan.{Plan}
 use Rattle.refute_rules.specs.Cuts.{Cut}
 use Rattle.book_rules.specs.declared.book.Entry.TheVariants as entry
@@ -16,9 +16,9 @@ with_cuts b cuts = record b { cuts = b.cuts ++ cuts; history = b.history ++ map 
 abbrev pub opened_with : Case → Plan → List Cut → Book
 opened_with case plan cuts = with_cuts (opening_book case plan) cuts
 
--- The book is of this case and its opening plan costs this much. Nothing is held, and worker 8 hasn't released.
+-- The book is of this case and its opening plan costs at most this much. Nothing is held, and worker 8 hasn't released.
 pub record IsReady (case : Case) (cost : ℕ) (b : Book) : Type 0 where
   pub case_is : b.case ≡ case
-  pub opening : opening_cost b ≡ cost
+  pub opening : opening_cost b ≤ cost
   pub free : HoldsNothing b
   pub running : IsRunning b

@@ -2,6 +2,7 @@
 ghost use Rattle.std.specs.Prelude.{◌≡◌, ◌≤◌, IfOk};
 ghost use Rattle.book_rules.specs.Cheap.{opening_cost};
 ghost use Rattle.book_rules.specs.Ends.{HoldsNothing, EndsWell};
+ghost use Rattle.solve_workers.specs.Closable.{IsOwnSearch};
 ghost use Rattle.solve_workers.specs.Driving.{IsDriven};
 ghost use Rattle.solve_workers.specs.Holding.{IsRunning};
 ghost use Rattle.solve_workers.specs.Opening.{IsReady};
@@ -11,16 +12,23 @@ use crate::driver::Driver;
 use crate::driving::{drive_some, finish};
 use crate::offering::post_free;
 use crate::opening::opened;
+use crate::searching::{Lent, worked};
+use crate::settling::settled;
 use book_core::{Book, Case};
+use lock_io::Gate;
 use node_work::Search;
 use place_refute::copy_cut;
 use plain_text::NoMemory;
 use price_raise::first_prices;
 use price_search::Pricing;
+use search_worker::Board;
 use std::alloc::Global;
+use std::mem;
+use std::sync::Wait;
+use std::thread::Threads;
 
-// An instance that isn't solved after so many nodes is hard: a quarter of a second of one worker.
-const PLAIN_NODES: u32 = 90_000;
+// An instance that isn't solved after so many nodes is hard: some 80 ms of one worker.
+const PLAIN_NODES: u32 = 25_000;
 
 /// How many nodes of a case are searched without prices: all of a small budget.
 pub(crate) fn plain_nodes(case: &Case) -> u32 {
@@ -75,25 +83,96 @@ fn first_pricing(alloc: Global, book: &Book) -> Option<Pricing> {
     Pricing::new(alloc, first).ok()
 }
 
-#[tactic(auto, using(crate::proofs::OpeningLemmas::ends_within, crate::proofs::DrivenLemmas::driven_cost))]
-/// Drives the search of a book to its end on this thread. An instance that isn't solved after so many
-/// nodes is hard: it is searched from the start with prices, with the best plan and the cuts that were
-/// found. Refuses want of memory alone.
-pub(crate) fn driven(
-    alloc: Global,
-    case: &Case,
+// The board of what was found at the root, if anything was and there is memory for it.
+fn board_of(alloc: Global, pricing: Option<Pricing>) -> Option<Board> {
+    Board::new(alloc, pricing?).ok()
+}
+
+#[tactic(auto, using(crate::proofs::ReadyLemmas::best_legal, crate::proofs::ReadyLemmas::best_within, crate::proofs::ReadyLemmas::ready_within_ok))]
+// Lets the workers search a book with prices, and settles it: the book that they leave, or a fresh one
+// of the best plan.
+fn priced_by_all<R: Threads + Wait + Sync, G: Gate + Sync>(
+    lent: &Lent<'_, R, G>,
+    book: Book,
+    pricing: Option<Pricing>,
+    cost: u64,
+) -> Result<Book, NoMemory>
+    requires ready { IsReady lent.now.case.now cost book }
+    ensures { IfOk result (IsReady lent.now.case.now cost) }
+{
+    book.keeps();
+    let opening = book.opening_cost();
+    let best = book.best().copy();
+    let board = board_of(lent.alloc, pricing);
+    let left = worked(lent, book, board.as_ref())?;
+    let none = CutList::new(lent.alloc);
+    settled(lent.alloc, left, lent.case, opening, best, &none)
+}
+
+#[tactic(auto, using(crate::proofs::ReadyLemmas::ready_driven, crate::proofs::DrivenLemmas::own_still))]
+// Searches a book with prices as far as several workers serve: the root on this thread, and then all
+// else by them, who begin with the prices of the root.
+fn priced<R: Threads + Wait + Sync, G: Gate + Sync>(
+    lent: &Lent<'_, R, G>,
+    driver: &mut Driver<'_>,
     mut book: Book,
     cost: u64,
 ) -> Result<Book, NoMemory>
-    requires ready { IsReady case.now cost book }
-    ensures case { IfOk result (λ end. end.case ≡ case.now) }
+    requires ready { IsReady lent.now.case.now cost book }
+    requires own { IsOwnSearch book driver.old.search }
+    ensures ready { IfOk result (IsReady lent.now.case.now cost) }
+    ensures search { driver.new.search ≡ driver.old.search }
+{
+    driver.pricing = first_pricing(lent.alloc, &book);
+    if lent.workers == 1 {
+        return Ok(book);
+    }
+    if drive_some(driver, &mut book, 1)? {
+        return Ok(book);
+    }
+    let pricing = mem::replace(&mut driver.pricing, None);
+    let book = priced_by_all(lent, book, pricing, cost)?;
+    driver.pricing = first_pricing(lent.alloc, &book);
+    Ok(book)
+}
+
+#[tactic(auto, using(crate::proofs::ReadyLemmas::ready_driven, crate::proofs::ReadyLemmas::ready_again, crate::proofs::DrivenLemmas::own_still))]
+// Searches a book so many nodes far. An instance that isn't solved by then is hard: its search begins
+// again, with prices, the best plan and the cuts that were found.
+fn begun<R: Threads + Wait + Sync, G: Gate + Sync>(
+    lent: &Lent<'_, R, G>,
+    driver: &mut Driver<'_>,
+    mut book: Book,
+    cost: u64,
+) -> Result<Book, NoMemory>
+    requires ready { IsReady lent.now.case.now cost book }
+    requires own { IsOwnSearch book driver.old.search }
+    ensures ready { IfOk result (IsReady lent.now.case.now cost) }
+    ensures search { driver.new.search ≡ driver.old.search }
+{
+    if drive_some(driver, &mut book, plain_nodes(lent.case))? {
+        return Ok(book);
+    }
+    let again = begun_again(lent.alloc, book);
+    priced(lent, driver, again, cost)
+}
+
+#[tactic(auto, using(crate::proofs::OpeningLemmas::ends_within))]
+/// Drives the search of a book to its end. An instance that isn't solved after so many nodes is hard: it
+/// is searched from the start with prices, with the best plan and the cuts that were found, by the
+/// workers first where there are several. All else is done on this thread. Refuses want of memory alone.
+pub(crate) fn driven<R: Threads + Wait + Sync, G: Gate + Sync>(
+    lent: &Lent<'_, R, G>,
+    book: Book,
+    cost: u64,
+) -> Result<Book, NoMemory>
+    requires ready { IsReady lent.now.case.now cost book }
+    ensures case { IfOk result (λ end. end.case ≡ lent.now.case.now) }
     ensures well { IfOk result (EndsWell cost) }
 {
-    let mut driver = Driver::new(alloc, Search::new(&case.instance, case.turns));
-    if !drive_some(&mut driver, &mut book, plain_nodes(case))? {
-        book = begun_again(alloc, book);
-        driver.pricing = first_pricing(alloc, &book);
-    }
+    let case = lent.case;
+    let mut driver = Driver::new(lent.alloc, Search::new(&case.instance, case.turns));
+    let mut book = begun(lent, &mut driver, book, cost)?;
     finish(&mut driver, &mut book)?;
     Ok(book)
 }

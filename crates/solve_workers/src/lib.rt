@@ -6,6 +6,10 @@
 //! `comparing`). Then it drives the search to its end on its own thread, so what the contract says
 //! rests on no worker. `solve` does so from the plan of `first_plan` and no cuts.
 //!
+//! An instance that isn't solved after so many nodes is hard: its search begins again, with prices
+//! (`hardness`). Several workers search that book too, once the root is priced, and the caller drives
+//! on what they leave.
+//!
 //! - Workers: `crew` deals out what each owns and gathers it again, `running` starts them in threads,
 //!   or runs one on the caller's where none can be made, and waits for all. `search_worker` is the
 //!   work of one.
@@ -35,8 +39,6 @@ mod running;
 mod searching;
 mod settling;
 mod solving;
-#[cfg(test)]
-mod tests;
 mod told;
 mod working;
 

@@ -17,24 +17,9 @@ use place_refute::Cut;
 use placed_groups::Memory;
 use plain_text::NoMemory;
 use price_bound::{PricedNode, Prices, show};
-use price_search::{Asked, LIMITS, Pricing, Round, RoundEnd};
+use price_search::{Asked, LIMITS, MOST_AT_A_NODE, Pricing, Round, RoundEnd};
+use search_book::learn_cuts;
 use std::alloc::Global;
-
-// With fewer missing ships a node is searched faster than prices are worked out.
-const FEWEST_MISSING: usize = 5;
-// The most rounds at a node; the pricing makes fewer.
-const MOST_ROUNDS: u32 = 1_000;
-
-// Learns the cuts that the book has got since the last time.
-fn learn(pricing: &mut Pricing, book: &Book) -> Result<(), NoMemory> {
-    for number in pricing.known_cuts()..u64::MAX {
-        match book.cut(number) {
-            Some(cut) => pricing.learn(cut)?,
-            None => return Ok(()),
-        }
-    }
-    Ok(())
-}
 
 #[tactic(auto, using(crate::proofs::DrivenLemmas::driven_none))]
 // Posts a cut, if there is one.
@@ -124,7 +109,7 @@ fn make_round(
     ensures driven { IsDriven book.old book.new }
 {
     book.keeps();
-    learn(pricing, book)?;
+    learn_cuts(book, pricing.cuts_mut())?;
     let asked = Asked {
         search,
         node: &held.node,
@@ -156,7 +141,7 @@ fn make_rounds(
     ensures driven { IsDriven book.old book.new }
 {
     book.keeps();
-    for _ in 0..MOST_ROUNDS {
+    for _ in 0..MOST_AT_A_NODE {
         match make_round(alloc, search, memory, pricing, book, held) {
             Ok(RoundEnd::Again) => {}
             Ok(RoundEnd::Reached(prices)) => {
@@ -187,9 +172,10 @@ pub(crate) fn price(driver: &mut Driver<'_>, book: &mut Book, held: &Held) -> bo
     let Some(pricing) = &mut driver.pricing else {
         return false;
     };
-    if ships.saturating_sub(depth as usize) < FEWEST_MISSING || !pricing.go_to(depth) {
+    if !pricing.serves(depth, ships) {
         return false;
     }
+    pricing.go_to(depth);
     let Driver {
         alloc,
         search,

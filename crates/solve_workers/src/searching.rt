@@ -3,7 +3,6 @@ ghost use Rattle.std.specs.Prelude.{◌≡◌, ◌+◌, ◌≤◌, IfSome};
 ghost use Rattle.boxcar.specs.Table.{Shows};
 
 use crate::crew::{deal, gather};
-use crate::cut_list::CutList;
 use crate::hardness::plain_nodes;
 use crate::running::run_all;
 use book_core::{Book, Case};
@@ -15,8 +14,9 @@ use node_work::Search;
 use place_refute::{Cut, copy_cut};
 use plain_text::NoMemory;
 use search_book::share_book;
-use search_worker::Post;
+use search_worker::{Board, Post};
 use std::alloc::Global;
+use std::marker::Brand;
 use std::sync::Wait;
 use std::sync::ledger::{Blank, Ledger};
 use std::thread::Threads;
@@ -30,34 +30,49 @@ fn post_copy<W: Wait>(rt: &W, pool: &Pool, cut: &Cut, number: u64) -> Option<Tok
     pool.post(rt, copy, number).ok()
 }
 
-// Posts the given cuts to the pool, so that workers find them. They have the first numbers of the
-// book. One for which there is no memory is left out.
-fn post_given<W: Wait>(rt: &W, pool: &Pool, cuts: &CutList) {
-    for (number, cut) in cuts.as_slice().iter().enumerate() {
-        let _ = post_copy(rt, pool, cut, number as u64);
+// Posts the cuts of the book to the pool, so that workers find them. One for which there is no memory
+// is left out.
+fn post_cuts<W: Wait>(rt: &W, pool: &Pool, book: &Book) {
+    for number in 0..u64::MAX {
+        match book.cut(number) {
+            Some(cut) => {
+                let _ = post_copy(rt, pool, cut, number);
+            }
+            None => return,
+        }
     }
 }
 
-/// What a search is lent: handles, the case and the given cuts, and how many workers it has, 1 to 8.
+// After how many nodes each of so many workers ends: those that have prices search to the end.
+fn quota(case: &Case, workers: u8, board: Option<&Board>) -> u32
+    requires { 1 ≤ workers }
+{
+    match board {
+        Some(_) => u32::MAX,
+        None => plain_nodes(case) / workers as u32,
+    }
+}
+
+/// What a search is lent: handles and the case, and how many workers it has, 1 to 8.
 #[derive(Drop)]
 pub(crate) struct Lent<'s, R: Threads + Wait + Sync, G: Gate + Sync> {
     pub(crate) rt: &'s R,
     pub(crate) alloc: Global,
     pub(crate) gate: &'s G,
     pub(crate) case: &'s Case,
-    pub(crate) cuts: &'s CutList,
     pub(crate) workers: u8,
     pub(crate) ghost some_workers: { 1 ≤ workers },
     pub(crate) ghost few_workers: { workers ≤ 8 },
 }
 
-/// Lets the workers search a book of the case, in which the given cuts are posted, and gives it back
-/// when all have ended. Of the book that comes back nothing but its type is known. Refuses want of
-/// memory alone, and before any worker began.
-pub(crate) fn searched<L: Ledger + Send + Sync, R: Threads + Wait + Sync, G: Gate + Sync>(
+// Lets the workers search a book of the case, with prices or without, and gives it back when all have
+// ended. Of the book that comes back nothing but its type is known. Refuses want of memory alone, and
+// before any worker began.
+fn searched<L: Ledger + Send + Sync, R: Threads + Wait + Sync, G: Gate + Sync>(
     lent: &Lent<'_, R, G>,
     blank: Blank,
     book: Book,
+    board: Option<&Board>,
 ) -> Result<Book, NoMemory>
     requires name { blank.name ≡ L.name }
     requires parts { blank.parts ≡ L.parts }
@@ -69,8 +84,8 @@ pub(crate) fn searched<L: Ledger + Send + Sync, R: Threads + Wait + Sync, G: Gat
     let running = Vec::with_capacity(alloc, workers as usize)?;
     let ended = Vec::with_capacity(alloc, workers as usize)?;
     let pool = Pool::new(alloc)?;
-    post_given(lent.rt, &pool, lent.cuts);
-    let (word, mut seat) = BoundTable::new(alloc, book.opening_cost(), workers + 1)?;
+    post_cuts(lent.rt, &pool, &book);
+    let (word, mut seat) = BoundTable::new(alloc, book.best_cost(), workers + 1)?;
     let (shared, mut shares) = share_book::<L>(blank, book, workers);
     deal(&mut shares, &word, &mut seat, &mut crew, workers);
     let case = lent.case;
@@ -81,7 +96,8 @@ pub(crate) fn searched<L: Ledger + Send + Sync, R: Threads + Wait + Sync, G: Gat
         gate: lent.gate,
         search: Search::new(instance, case.turns),
         order: arrival_order(instance),
-        quota: plain_nodes(case) / workers as u32,
+        quota: quota(case, workers, board),
+        board,
         book: &shared,
         pool: &pool,
         word: &word,
@@ -90,4 +106,18 @@ pub(crate) fn searched<L: Ledger + Send + Sync, R: Threads + Wait + Sync, G: Gat
     gather(ended, &mut shares, &word, &mut seat);
     word.close(seat);
     Ok(shared.into_book(shares))
+}
+
+/// The book as the workers leave it, who have prices or none. One worker alone is the
+/// caller, who drives without a lock: no other thread is started for it.
+pub(crate) fn worked<R: Threads + Wait + Sync, G: Gate + Sync>(
+    lent: &Lent<'_, R, G>,
+    book: Book,
+    board: Option<&Board>,
+) -> Result<Book, NoMemory> {
+    if lent.workers == 1 {
+        return Ok(book);
+    }
+    let blank = Blank::new(lent.workers as u64 + 1);
+    searched::<Brand, R, G>(lent, blank, book, board)
 }

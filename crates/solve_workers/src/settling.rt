@@ -2,7 +2,7 @@
 //!
 //! Of the book that workers share nothing is known but its type. So the caller tests that it is the
 //! one that it opened, and that nothing stands against its driving.
-ghost use Rattle.std.specs.Prelude.{◌≡◌, ◌↔◌, All, IsTrue, IfOk, None};
+ghost use Rattle.std.specs.Prelude.{◌≡◌, ◌≤◌, ◌↔◌, All, IsTrue, IfOk, None};
 ghost use Rattle.lock_rules.specs.Plan.{IsLegal, cost_of};
 ghost use Rattle.book_rules.specs.Book.{first_slot, is_held_by};
 ghost use Rattle.book_rules.specs.Cover.{IsOwnCut};
@@ -45,7 +45,7 @@ fn release_others(book: &mut Book)
 
 #[tactic(auto, using(crate::proofs::SettleLemmas::freed_ready, crate::proofs::OpeningLemmas::opened_ready_ok))]
 /// The book to drive on: the one that the workers leave, without what they hold, where it is of the
-/// case, was opened at this cost, which is the plan's, and worker 8 is free. Else it is a fresh book
+/// case, was opened at this cost, which is at least the plan's, and worker 8 is free. Else it is a fresh book
 /// of the plan with the given cuts. Refuses want of memory alone.
 pub(crate) fn settled(
     alloc: Global,
@@ -57,7 +57,7 @@ pub(crate) fn settled(
 ) -> Result<Book, NoMemory>
     requires legal { IsLegal case.now.instance plan }
     requires own { All (IsOwnCut case.now.instance) cuts.now }
-    requires cost { cost ≡ cost_of case.now.instance plan }
+    requires cost { cost_of case.now.instance plan ≤ cost }
     ensures ready { IfOk result (IsReady case.now cost) }
     ensures ours { IsOurs case.now cost book → IfOk result (IsFreed book) }
     ensures fresh { (IsOurs case.now cost book → ⊥) → IfOk result (λ fresh. fresh ≡ opened_with case.now plan cuts.now) }

@@ -9,7 +9,7 @@ ghost use Rattle.book_rules.specs.Ends.{EndsWell};
 use crate::cut_list::CutList;
 use crate::hardness::driven;
 use crate::opening::opened;
-use crate::searching::{Lent, searched};
+use crate::searching::{Lent, worked};
 use crate::settling::settled;
 use book_core::{Book, Case};
 use first_plan::{FirstError, first_plan};
@@ -17,9 +17,7 @@ use lock_io::Gate;
 use lock_model::Plan;
 use plain_text::NoMemory;
 use std::alloc::Global;
-use std::marker::Brand;
 use std::sync::Wait;
-use std::sync::ledger::Blank;
 use std::thread::Threads;
 
 /// What a search comes to.
@@ -40,19 +38,6 @@ fn opening_plan(alloc: Global, case: &Case) -> Result<Plan, NoMemory>
     }
 }
 
-// The book as the workers leave it. One worker alone is the caller, who drives without a lock: no
-// other thread is started for it.
-fn worked<R: Threads + Wait + Sync, G: Gate + Sync>(
-    lent: &Lent<'_, R, G>,
-    book: Book,
-) -> Result<Book, NoMemory> {
-    if lent.workers == 1 {
-        return Ok(book);
-    }
-    let blank = Blank::new(lent.workers as u64 + 1);
-    searched::<Brand, R, G>(lent, blank, book)
-}
-
 #[tactic(auto, using(crate::proofs::OpeningLemmas::ends_within_ok))]
 /// Searches a case from the plan of `first_plan` and no cuts, as `solve_from` does.
 pub fn solve<R: Threads + Wait + Sync, G: Gate + Sync>(
@@ -71,6 +56,7 @@ pub fn solve<R: Threads + Wait + Sync, G: Gate + Sync>(
     solve_from(rt, alloc, case, plan, CutList::new(alloc), workers, gate)
 }
 
+#[tactic(auto, using(crate::proofs::ReadyLemmas::opened_within))]
 /// Searches a case from a legal plan and cuts of its chambers and ships, which are posted first, with
 /// 1 to 8 workers. Each of two or more workers has a thread of its own where one can be made. When
 /// all have ended, the caller drives the search to its end on its own thread; one worker alone is the
@@ -101,11 +87,10 @@ pub fn solve_from<R: Threads + Wait + Sync, G: Gate + Sync>(
         alloc,
         gate,
         case,
-        cuts: &cuts,
         workers,
     };
-    let left = worked(&lent, first)?;
+    let left = worked(&lent, first, None)?;
     let book = settled(alloc, left, case, cost, plan, &cuts)?;
-    let book = driven(alloc, case, book, cost)?;
+    let book = driven(&lent, book, cost)?;
     Ok(Solved { book })
 }

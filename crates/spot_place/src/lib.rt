@@ -21,8 +21,6 @@ mod options;
 mod placing;
 mod spot_case;
 mod spots;
-#[cfg(test)]
-mod tests;
 mod tracking;
 
 pub use placing::{SpotPlaced, place_by_spots};

@@ -1,0 +1,217 @@
+//! Worked books.
+mod asking;
+mod memory;
+mod parking;
+mod pricing;
+mod walk;
+
+use crate::fixture::{NARROW, SIDE, narrow, open, open_cheap, side_by_side, swift};
+use asking::{Ask, expect};
+use book_core::{Book, Reply};
+use closing_rules::Ground;
+use lock_model::Verdict;
+use std::process::Abort;
+use std::test::Fail;
+use walk::{instance_of_seven, slow_next};
+
+#[test]
+fn events_answer_as_the_table_says(rt: HostRuntime) -> Result<(), Fail> {
+    let mut book = open(rt.alloc(), narrow()?, 3)?;
+    assert_eq!(rt; (book.used(), book.slot_state(2)), (0, None));
+    let asks = &[
+        Ask::Take(0),
+        Ask::Take(0),
+        Ask::Take(1),
+        Ask::Close(0, Ground::Bound),
+        Ask::Close(0, Ground::Cut(0)),
+        Ask::Split(0),
+        Ask::Split(0),
+        Ask::Release(0),
+        Ask::Take(0),
+    ];
+    let replies =
+        "Node(0, 0) Holds(0) Idle Cheaper(70, 120) NoHit(0) Made(1) NotHeld(0) Released(0) Ended(0) ";
+    expect(
+        &rt,
+        rt.alloc(),
+        &mut book,
+        asks,
+        replies,
+        (3, "Split(1) Fresh "),
+    )
+}
+
+#[test]
+fn throughput_and_probe_leave_what_is_cheaper(rt: HostRuntime) -> Result<(), Fail> {
+    let mut book = open(rt.alloc(), narrow()?, 3)?;
+    let asks = &[
+        Ask::Take(0),
+        Ask::Close(0, Ground::Throughput),
+        Ask::Close(0, Ground::Probe(2)),
+        Ask::Close(0, Ground::Probe(0)),
+        Ask::Close(1, Ground::Probe(0)),
+        Ask::Split(0),
+        Ask::Take(0),
+        Ask::Close(1, Ground::Probe(0)),
+        Ask::Close(1, Ground::Probe(1)),
+    ];
+    let replies =
+        "Node(0, 0) Cheaper(70, 120) Absent(2) Cheaper(70, 120) NotHeld(1) Made(1) Node(1, 1) Absent(0) Cheaper(80, 120) ";
+    expect(
+        &rt,
+        rt.alloc(),
+        &mut book,
+        asks,
+        replies,
+        (3, "Split(1) Held(0) "),
+    )
+}
+
+#[test]
+fn the_throughput_closes_what_is_no_cheaper(rt: HostRuntime) -> Result<(), Fail> {
+    let mut book = open(rt.alloc(), swift()?, 3)?;
+    let asks = &[Ask::Take(0), Ask::Close(0, Ground::Throughput)];
+    let end = (2, "Closed(Throughput) ");
+    expect(&rt, rt.alloc(), &mut book, asks, "Node(0, 0) Closed ", end)?;
+    assert_eq!(rt; book.verdict(), Verdict::Optimal);
+    Ok(())
+}
+
+#[test]
+fn a_probe_closes_what_is_no_cheaper(rt: HostRuntime) -> Result<(), Fail> {
+    let mut book = open_cheap(rt.alloc(), side_by_side()?)?;
+    let asks = &[
+        Ask::Take(0),
+        Ask::Split(0),
+        Ask::Take(0),
+        Ask::Close(1, Ground::Probe(1)),
+    ];
+    let replies = "Node(0, 0) Made(1) Node(1, 1) Closed ";
+    expect(
+        &rt,
+        rt.alloc(),
+        &mut book,
+        asks,
+        replies,
+        (4, "Split(1) Closed(Probe(1)) "),
+    )
+}
+
+// The way to the node of both ships in one group, slot 2; the other children of slot 1 are closed by
+// their bound.
+const TO_BOTH: [Ask; 6] = [
+    Ask::Take(0),
+    Ask::Split(0),
+    Ask::Take(0),
+    Ask::Split(1),
+    Ask::Take(0),
+    Ask::Split(2),
+];
+
+#[test]
+fn a_cut_closes_the_slot_that_it_hits(rt: HostRuntime) -> Result<(), Fail> {
+    let mut book = open(rt.alloc(), narrow()?, 3)?;
+    let replies = "Node(0, 0) Made(1) Node(1, 1) Made(3) Node(2, 2) Whole(2) ";
+    let end = (5, "Split(1) Split(2) Held(0) Closed(Bound) Closed(Bound) ");
+    expect(&rt, rt.alloc(), &mut book, &TO_BOTH, replies, end)?;
+    assert_eq!(rt; book.verdict(), Verdict::OpenNodes { used: 3, low: 80 });
+    let asks = &[
+        Ask::Release(0),
+        Ask::Take(8),
+        Ask::Post(SIDE),
+        Ask::Post(NARROW),
+        Ask::Close(2, Ground::Cut(1)),
+        Ask::Close(2, Ground::Cut(0)),
+        Ask::Take(8),
+    ];
+    let replies = "Released(1) Node(2, 2) OtherDeck Posted(0) NoHit(1) Closed Done ";
+    let end = (
+        9,
+        "Split(1) Split(2) Closed(Cut(0)) Closed(Bound) Closed(Bound) ",
+    );
+    expect(&rt, rt.alloc(), &mut book, asks, replies, end)?;
+    assert_eq!(rt; book.verdict(), Verdict::Optimal);
+    Ok(())
+}
+
+#[test]
+fn a_cheaper_plan_is_put_in_place_once(rt: HostRuntime) -> Result<(), Fail> {
+    let mut book = open(rt.alloc(), side_by_side()?, 100)?;
+    let asks = &[
+        Ask::Take(0),
+        Ask::Split(0),
+        Ask::Take(0),
+        Ask::Split(1),
+        Ask::Both,
+        Ask::Both,
+        Ask::Take(0),
+        Ask::After(1),
+    ];
+    let replies =
+        "Node(0, 0) Made(1) Node(1, 1) Made(3) Replaced(80) NotCheaper(80, 80) Done NotLegal ";
+    let end = (
+        5,
+        "Split(1) Split(2) Closed(Bound) Closed(Bound) Closed(Bound) ",
+    );
+    expect(&rt, rt.alloc(), &mut book, asks, replies, end)?;
+    assert_eq!(rt; (book.best_cost(), book.opening_cost()), (80, 120));
+    Ok(())
+}
+
+#[test]
+fn a_spent_budget_is_told(rt: HostRuntime) -> Result<(), Fail> {
+    let mut book = open(rt.alloc(), narrow()?, 2)?;
+    let replies = "Node(0, 0) Made(1) Node(1, 1) Made(3) NodesSpent(2) NotHeld(2) ";
+    let end = (4, "Split(1) Split(2) Fresh Closed(Bound) Closed(Bound) ");
+    expect(&rt, rt.alloc(), &mut book, &TO_BOTH, replies, end)?;
+    assert_eq!(rt; book.verdict(), Verdict::OpenNodes { used: 2, low: 80 });
+    Ok(())
+}
+
+// A worker without a slot takes one, which is the one that a walk finds: 1 where it was given one.
+fn take_next(rt: &impl Abort, book: &mut Book, worker: u8) -> u32 {
+    let next = slow_next(book);
+    match book.take(worker.min(8)) {
+        Reply::Node(id, _) => {
+            assert_eq!(rt; Some(id), next);
+            1
+        }
+        _ => 0,
+    }
+}
+
+// A worker closes its slot or splits it, or ends at a node of all ships.
+fn go_on(book: &mut Book, worker: u8, id: u32, ends: bool) {
+    if book.close_bound(id) == Reply::Closed || book.split(id) != Reply::Whole(id) {
+        return;
+    }
+    if ends {
+        book.release(worker.min(8));
+    }
+}
+
+// What the worker of this number does next: 1 where it was given a slot.
+fn make_move(rt: &impl Abort, book: &mut Book, draw: u32) -> u32 {
+    let worker = (draw % 9) as u8;
+    match book.held_by(worker) {
+        None => take_next(rt, book, worker),
+        Some(id) => {
+            go_on(book, worker, id, draw % 4 == 0);
+            0
+        }
+    }
+}
+
+// Nine workers take, split, close and end, as a generator of numbers has it.
+#[test]
+fn take_gives_what_a_walk_over_all_slots_finds(rt: HostRuntime) -> Result<(), Fail> {
+    let mut book = open(rt.alloc(), instance_of_seven()?, 300)?;
+    let mut seed: u32 = 7;
+    let mut given_slots: u32 = 0;
+    for _round in 0..600u32 {
+        seed = seed.wrapping_mul(1664525).wrapping_add(1013904223);
+        given_slots = given_slots.saturating_add(make_move(&rt, &mut book, seed >> 16));
+    }
+    assert!(rt; given_slots > 30);
+    Ok(())
+}

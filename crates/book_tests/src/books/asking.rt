@@ -1,0 +1,97 @@
+//! What books answer, as text.
+
+use super::pricing::{Claimed, close_shown, prices_of};
+use crate::fixture::{both, one_after_the_other, row_cut};
+use crate::spent_decks::spent_both;
+use book_core::{Book, Reply};
+use closing_rules::Ground;
+use std::alloc::Global;
+use std::process::Abort;
+use std::test::Fail;
+
+/// What is asked of a book.
+#[derive(Clone, Copy, Debug)]
+pub(crate) enum Ask {
+    Take(u8),
+    Split(u32),
+    Close(u32, Ground),
+    Release(u8),
+    /// The cut of both ships in a chamber of this width.
+    Post(u32),
+    /// The slot is parked at this group of a chamber, whose deck is that of both ships.
+    Park(u32, u8, u8),
+    /// So many prices, all the same.
+    Prices(u8, u32),
+    /// The slot is closed by the prices of this number, of which so much is shown.
+    ClosePrice(u32, u64, Claimed),
+    /// The plan of both ships side by side.
+    Both,
+    /// The plan of one ship from minute 0, and the other from this minute.
+    After(u32),
+}
+
+/// The reply of the book.
+pub(crate) fn reply_of(alloc: Global, book: &mut Book, ask: Ask) -> Result<Reply, Fail> {
+    Ok(match ask {
+        Ask::Take(worker) => book.take(worker.min(8)),
+        Ask::Split(id) => book.split(id),
+        Ask::Close(id, why) => book.close(id, why),
+        Ask::Release(worker) => book.release(worker.min(8)),
+        Ask::Post(width) => book.post(row_cut(alloc, width)?),
+        Ask::Park(id, chamber, place) => {
+            let hard = spent_both(alloc, book)?;
+            book.park(id, chamber, place, &hard)
+        }
+        Ask::Prices(count, price) => book.post_prices(prices_of(count, price)?),
+        Ask::ClosePrice(id, number, claimed) => close_shown(alloc, book, id, number, claimed)?,
+        Ask::Both => book.replace(both()),
+        Ask::After(start) => book.replace(one_after_the_other(start)),
+    })
+}
+
+// The reply as text; of a node the depth alone.
+fn text_of(alloc: Global, reply: Reply) -> Result<String, Fail> {
+    Ok(match reply {
+        Reply::Node(id, node) => format!(in alloc; "Node({id}, {})", node.depth())?,
+        Reply::NotLegal(_) => format!(in alloc; "NotLegal")?,
+        other => format!(in alloc; "{other:?}")?,
+    })
+}
+
+// The replies to these, one after the other.
+fn replies_to(alloc: Global, book: &mut Book, asks: &[Ask]) -> Result<String, Fail> {
+    let mut text = String::new(alloc);
+    for &ask in asks {
+        let reply = text_of(alloc, reply_of(alloc, book, ask)?)?;
+        text = format!(in alloc; "{text}{reply} ")?;
+    }
+    Ok(text)
+}
+
+// The states of the slots, in order.
+fn states_of(alloc: Global, book: &Book) -> Result<String, Fail> {
+    let mut text = String::new(alloc);
+    for id in 0..book.slots() {
+        if let Some(state) = book.slot_state(id) {
+            text = format!(in alloc; "{text}{state:?} ")?;
+        }
+    }
+    Ok(text)
+}
+
+/// The replies to these, one after the other, are those of the text. Then so many events were
+/// accepted, and the slots have these states.
+pub(crate) fn expect(
+    rt: &impl Abort,
+    alloc: Global,
+    book: &mut Book,
+    asks: &[Ask],
+    replies: &str,
+    end: (u64, &str),
+) -> Result<(), Fail> {
+    let text = replies_to(alloc, book, asks)?;
+    assert_eq!(rt; text.as_str(), replies);
+    let states = states_of(alloc, book)?;
+    assert_eq!(rt; (book.history_len(), states.as_str()), end);
+    Ok(())
+}

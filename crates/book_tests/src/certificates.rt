@@ -1,0 +1,225 @@
+//! Books driven by hand, and their certificates.
+
+use crate::fixture::{
+    NARROW, both, narrow, one_after_the_other, one_each, open_with, row_cut, side_by_side, twin,
+};
+use book_certificate::{CertError, certificate_of};
+use book_core::{Book, Reply};
+use cert_check::{Answer, Ground, Mark, check};
+use lock_model::{Instance, Plan};
+use master_branch::root;
+use place_refute::{Quick, Refutation};
+use price_bound::{ChamberCut, Limits, PricedNode, Prices, show};
+use std::alloc::Global;
+use std::process::Abort;
+use std::test::Fail;
+use worked_locks::pair;
+
+/// The lock of a book.
+#[derive(Clone, Copy)]
+enum Lock {
+    Narrow,
+    SideBySide,
+    Twin,
+}
+
+use Lock::*;
+
+fn instance_of(lock: Lock) -> Result<Instance, Fail> {
+    match lock {
+        Narrow => narrow(),
+        SideBySide => side_by_side(),
+        Twin => twin(),
+    }
+}
+
+/// What is done to a book.
+#[derive(Clone, Copy)]
+enum Deed {
+    Take(u8),
+    Split(u32),
+    CloseThroughput(u32),
+    CloseProbe(u32, u8),
+    PostAndClose(u32),
+    CloseRootByPrices,
+    Replace,
+}
+
+use Deed::*;
+
+// Posts the cut and prices, and closes the root by them; whether the book accepted all of it.
+fn closes_root_by_prices(alloc: Global, book: &mut Book) -> Result<bool, Fail> {
+    let prices = Prices::new(&[8500, 8500]).ok_or("no prices")?;
+    if book.post(row_cut(alloc, NARROW)?) != Reply::Posted(0)
+        || book.post_prices(prices.copy()) != Reply::Priced(0)
+    {
+        return Ok(false);
+    }
+    let instance = narrow()?;
+    let mut cuts = Vec::new(alloc);
+    cuts.push(ChamberCut {
+        chamber: 0,
+        ships: pair(0, 1),
+    })?;
+    let asked = PricedNode {
+        instance: &instance,
+        node: &root(&instance),
+        prices: &prices,
+        cuts: cuts.as_slice(),
+    };
+    let limits = Limits {
+        groups: 1000,
+        turns: 1000,
+    };
+    let Ok(Some(shown)) = show(alloc, &asked, 120, limits) else {
+        return Ok(false);
+    };
+    Ok(book.close_price(0, 0, &shown) == Reply::Closed)
+}
+
+// Does one deed; whether the book accepted it.
+fn does(alloc: Global, book: &mut Book, deed: Deed) -> Result<bool, Fail> {
+    Ok(match deed {
+        Take(worker) => matches!(book.take(worker.min(8)), Reply::Node(_, _)),
+        Split(id) => matches!(book.split(id), Reply::Made(_)),
+        CloseThroughput(id) => book.close_throughput(id) == Reply::Closed,
+        CloseProbe(id, ship) => book.close_probe(id, ship) == Reply::Closed,
+        PostAndClose(id) => {
+            book.post(row_cut(alloc, NARROW)?) == Reply::Posted(0)
+                && book.close_cut(id, 0) == Reply::Closed
+        }
+        CloseRootByPrices => closes_root_by_prices(alloc, book)?,
+        Replace => matches!(book.replace(one_each()), Reply::Replaced(_)),
+    })
+}
+
+// The book of a lock, opened with a plan, after some deeds.
+fn driven(alloc: Global, lock: Lock, plan: Plan, deeds: &[Deed]) -> Result<Book, Fail> {
+    let mut book = open_with(alloc, instance_of(lock)?, 100, 128, plan).ok_or("no book")?;
+    for &deed in deeds {
+        if !does(alloc, &mut book, deed)? {
+            return Err("a deed was refused".into());
+        }
+    }
+    Ok(book)
+}
+
+const TO_THE_CUT: [Deed; 6] = [
+    Take(0),
+    Split(0),
+    Take(0),
+    Split(1),
+    Take(0),
+    PostAndClose(2),
+];
+
+#[test]
+fn a_book_of_the_narrow_chamber_gives_its_certificate(rt: HostRuntime) -> Result<(), Fail> {
+    let book = driven(rt.alloc(), Narrow, one_after_the_other(50), &TO_THE_CUT)?;
+    let certificate = certificate_of(rt.alloc(), &book).map_err(|_| "no certificate")?;
+    assert_eq!(rt; certificate.cost, 120);
+    assert_eq!(rt; certificate.plan, one_after_the_other(50));
+    assert_eq!(rt;
+        certificate.tree.as_slice(),
+        [
+            Mark::Split,
+            Mark::Split,
+            Mark::Leaf(Ground::Cut(0)),
+            Mark::Leaf(Ground::Bound),
+            Mark::Leaf(Ground::Bound)
+        ]
+        .as_slice()
+    );
+    match certificate.cuts.as_slice() {
+        [cut] => {
+            assert_eq!(rt; cut.chamber, 0);
+            assert_eq!(rt; cut.ships.as_slice(), [0, 1].as_slice());
+            assert!(rt; matches!(&cut.refutation, Refutation::Quick(Quick::Row(_))));
+        }
+        _ => panic!(rt; "one cut"),
+    }
+    Ok(())
+}
+
+// The certificate of a finished book has these marks, and is accepted with its cost.
+fn expect_marks(rt: &impl Abort, alloc: Global, book: &Book, marks: &[Mark]) -> Result<(), Fail> {
+    let certificate = certificate_of(alloc, book).map_err(|_| "no certificate")?;
+    assert_eq!(rt; certificate.tree.as_slice(), marks);
+    let answer = check(alloc, &book.case().instance, &certificate);
+    assert_eq!(rt; answer, Ok(Answer::Accepted(book.best_cost())));
+    Ok(())
+}
+
+#[test]
+fn a_probe_a_bound_or_prices_finish_a_book(rt: HostRuntime) -> Result<(), Fail> {
+    let alloc = rt.alloc();
+    let probed = &[Take(0), Split(0), Take(0), CloseProbe(1, 1)];
+    let book = driven(alloc, SideBySide, both(), probed)?;
+    assert_eq!(rt; book.best_cost(), 80);
+    expect_marks(
+        &rt,
+        alloc,
+        &book,
+        &[Mark::Split, Mark::Leaf(Ground::Probe(1))],
+    )?;
+    let book = driven(alloc, Twin, one_each(), &[])?;
+    assert_eq!(rt; book.best_cost(), 70);
+    expect_marks(&rt, alloc, &book, &[Mark::Leaf(Ground::Bound)])?;
+    let priced = &[Take(0), CloseRootByPrices];
+    let book = driven(alloc, Narrow, one_after_the_other(50), priced)?;
+    assert_eq!(rt; book.best_cost(), 120);
+    expect_marks(&rt, alloc, &book, &[Mark::Leaf(Ground::Price(0))])
+}
+
+// Two workers split by turns, so that the slots stand in another order than the tree.
+const BY_TURNS: [Deed; 11] = [
+    Take(0),
+    Split(0),
+    Take(0),
+    Take(1),
+    Split(2),
+    Split(1),
+    Take(0),
+    Take(1),
+    Replace,
+    CloseThroughput(10),
+    CloseThroughput(7),
+];
+
+const IN_PREORDER: [Mark; 11] = [
+    Mark::Split,
+    Mark::Split,
+    Mark::Leaf(Ground::Throughput),
+    Mark::Leaf(Ground::Bound),
+    Mark::Leaf(Ground::Bound),
+    Mark::Leaf(Ground::Throughput),
+    Mark::Split,
+    Mark::Leaf(Ground::Bound),
+    Mark::Leaf(Ground::Bound),
+    Mark::Leaf(Ground::Bound),
+    Mark::Leaf(Ground::Bound),
+];
+
+#[test]
+fn finished_books_give_marks_in_preorder(rt: HostRuntime) -> Result<(), Fail> {
+    let book = driven(rt.alloc(), Twin, one_after_the_other(50), &BY_TURNS)?;
+    assert_eq!(rt; book.best_cost(), 70);
+    expect_marks(&rt, rt.alloc(), &book, &IN_PREORDER)
+}
+
+#[test]
+fn a_book_with_a_slot_left_open_or_held_has_none(rt: HostRuntime) -> Result<(), Fail> {
+    for deeds in 0..6 {
+        let book = driven(
+            rt.alloc(),
+            Narrow,
+            one_after_the_other(50),
+            &TO_THE_CUT[..deeds],
+        )?;
+        match certificate_of(rt.alloc(), &book) {
+            Ok(_) => panic!(rt; "a slot is left after {deeds} deeds"),
+            Err(error) => assert_eq!(rt; error, CertError::StillOpen),
+        }
+    }
+    Ok(())
+}

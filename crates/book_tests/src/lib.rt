@@ -1,0 +1,17 @@
+//! Tests of the books of a search: worked books of two ships, driven by hand.
+//!
+//! `books` tests the book itself (`book_core`), `shared_books` the book under its lock (`search_book`),
+//! and `certificates` the certificate of a finished book (`book_certificate`). A crate with tests is
+//! proved twice, so they stand in a crate of their own, which has no code but them.
+#![tactic(auto)]
+
+#[cfg(test)]
+mod books;
+#[cfg(test)]
+mod certificates;
+#[cfg(test)]
+mod fixture;
+#[cfg(test)]
+mod shared_books;
+#[cfg(test)]
+mod spent_decks;

@@ -1,0 +1,7 @@
+//! Books under a lock.
+mod ahead;
+mod asking;
+mod counting;
+mod parts;
+mod table;
+mod threads;

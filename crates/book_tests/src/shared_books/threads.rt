@@ -1,0 +1,143 @@
+//! Two threads over one book.
+ghost use Rattle.std.specs.Prelude.{◌≡◌, ◌≤◌};
+
+use super::parts::{Part, give_back, take_part};
+use crate::fixture::{narrow, open_turns};
+use book_core::{Book, Reply};
+use search_book::{Event, SharedBook, share_book};
+use std::marker::Brand;
+use std::sync::Wait;
+use std::sync::ledger::{Blank, Ledger};
+use std::test::*;
+use std::thread;
+use std::thread::{Threads, yield_now};
+
+// Takes, splits, and ends at the node that holds all ships.
+fn work<L: Ledger, R: Wait>(rt: &R, shared: &SharedBook<L>, part: Part<L>, worker: u8) -> Part<L>
+    requires { worker ≤ 8 }
+{
+    let Part {
+        mut share,
+        mut last,
+    } = part;
+    for _round in 0..5u8 {
+        let Reply::Node(id, _) = shared.take_or_wait(rt, &mut share, worker) else {
+            break;
+        };
+        last = Some(id);
+        if shared.with_book(rt, &mut share, Event::Split(id)) == Reply::Whole(id) {
+            shared.with_book(rt, &mut share, Event::Release(worker));
+        }
+    }
+    Part { share, last }
+}
+
+// The length of the history after two workers.
+fn both_work_of<L: Ledger + Send + Sync, R: Threads + Wait + Sync>(
+    rt: &R,
+    blank: Blank,
+    book: Book,
+) -> Option<(u64, Option<u32>, Option<u32>)>
+    requires name { blank.name ≡ L.name }
+    requires parts { (blank.parts ≡ L.parts) × (blank.parts ≡ 3) }
+{
+    let (shared, mut shares) = share_book::<L>(blank, book, 2);
+    let first = take_part(&mut shares)?;
+    let second = take_part(&mut shares)?;
+    let lent = &shared;
+    let (one, other) = thread::join(
+        rt,
+        move || work(rt, lent, first, 0),
+        move || work(rt, lent, second, 1),
+    );
+    let one = give_back(&mut shares, one);
+    let other = give_back(&mut shares, other);
+    let book = shared.into_book(shares);
+    Some((book.history_len(), one, other))
+}
+
+// Takes a slot as worker 0.
+fn take_root<L: Ledger, R: Wait>(rt: &R, shared: &SharedBook<L>, part: Part<L>) -> Part<L> {
+    let Part { mut share, last: _ } = part;
+    shared.with_book(rt, &mut share, Event::Take(0));
+    Part { share, last: None }
+}
+
+// Takes a slot, when there is one.
+fn take_one<L: Ledger, R: Wait>(rt: &R, shared: &SharedBook<L>, part: Part<L>) -> Part<L> {
+    let Part { mut share, last: _ } = part;
+    let last = match shared.take_or_wait(rt, &mut share, 1) {
+        Reply::Node(id, _) => Some(id),
+        _ => None,
+    };
+    Part { share, last }
+}
+
+// Splits the root after a while, or lets it go: the worker ends then, and takes nothing.
+fn late<L: Ledger, R: Wait>(
+    rt: &R,
+    shared: &SharedBook<L>,
+    part: Part<L>,
+    splits: bool,
+) -> Part<L> {
+    let Part { mut share, last } = part;
+    for _ in 0..1000u32 {
+        yield_now();
+    }
+    if splits {
+        shared.with_book(rt, &mut share, Event::Split(0));
+    } else {
+        shared.end_and_take(rt, &mut share, 0, Event::Release(0));
+    }
+    Part { share, last }
+}
+
+// Worker 0 holds the root, and splits it or ends while worker 1 waits. The slot that worker 1 gets,
+// and the length of the history.
+fn wait_of<L: Ledger + Send + Sync, R: Threads + Wait + Sync>(
+    rt: &R,
+    blank: Blank,
+    book: Book,
+    splits: bool,
+) -> Option<(u64, Option<u32>)>
+    requires name { blank.name ≡ L.name }
+    requires parts { (blank.parts ≡ L.parts) × (blank.parts ≡ 3) }
+{
+    let (shared, mut shares) = share_book::<L>(blank, book, 2);
+    let first = take_root(rt, &shared, take_part(&mut shares)?);
+    let second = take_part(&mut shares)?;
+    let lent = &shared;
+    let (one, other) = thread::join(
+        rt,
+        move || late(rt, lent, first, splits),
+        move || take_one(rt, lent, second),
+    );
+    give_back(&mut shares, one);
+    let other = give_back(&mut shares, other);
+    let book = shared.into_book(shares);
+    Some((book.history_len(), other))
+}
+
+#[test]
+fn two_workers_take_and_split(rt: HostRuntime) -> Result<(), Fail> {
+    let book = open_turns(rt.alloc(), narrow()?, 128)?;
+    let done = both_work_of::<Brand, _>(&rt, Blank::new(3), book);
+    assert_eq!(rt; done, Some((8, Some(2), Some(2))));
+    Ok(())
+}
+
+#[test]
+fn who_waits_is_told_of_a_split(rt: HostRuntime) -> Result<(), Fail> {
+    let book = open_turns(rt.alloc(), narrow()?, 128)?;
+    let done = wait_of::<Brand, _>(&rt, Blank::new(3), book, true);
+    assert_eq!(rt; done, Some((3, Some(1))));
+    Ok(())
+}
+
+#[test]
+fn who_waits_is_told_of_an_ending(rt: HostRuntime) -> Result<(), Fail> {
+    let book = open_turns(rt.alloc(), narrow()?, 128)?;
+    let done = wait_of::<Brand, _>(&rt, Blank::new(3), book, false);
+    assert_eq!(rt; done, Some((3, Some(0))));
+    Ok(())
+}

@@ -1,0 +1,174 @@
+//! The berths that a ship may have, and decks placed and refuted by cases.
+ghost use Rattle.std.specs.Prelude.{◌≤◌, ◌<◌, length, IsTrue};
+ghost use Rattle.refute_rules.specs.Clashes.{IsClashingPair};
+
+use crate::fixture::{LEFT, Laden, NARROW, Place, QUAY, RIGHT, TIGHT, TWINS, laden_deck, spots_of};
+use case_search::{Berth, berth_option};
+use chamber_place::{Placed, place, shrink};
+use lock_model::{Deck, Measures, Moor, Ships};
+use refute_rules::{Quick, Refutation};
+use ship_shapes::holds;
+use std::alloc::Global;
+use std::process::Abort;
+use std::test::Fail;
+use worked_locks::{BASE, deck_of, pair};
+
+#[test]
+fn a_ship_may_lie_at_each_quay_and_at_each_other_ship(rt: HostRuntime) {
+    for (option, rank, moor) in [
+        (0, LEFT, QUAY),
+        (1, RIGHT, QUAY),
+        (2, LEFT, Moor::Ship(0)),
+        (3, RIGHT, Moor::Ship(0)),
+        (4, LEFT, Moor::Ship(2)),
+        (5, RIGHT, Moor::Ship(2)),
+    ] {
+        assert!(rt; option < 6);
+        assert_eq!(rt;
+            berth_option(3, 1, option),
+            Berth { rank, moor },
+            "option {option}"
+        );
+    }
+}
+
+/// No ship is as long or as wide as this chamber, and none has a gap to keep.
+const SQUARE: Measures = Measures {
+    length: 100,
+    width: 100,
+    end: 0,
+    gap: 0,
+    side: 0,
+};
+
+const FOUR: [(u32, u32); 4] = [(27, 59), (59, 30), (49, 47), (49, 49)];
+
+fn expect_fits(
+    rt: &impl Abort,
+    alloc: Global,
+    deck: &Deck,
+    turns: u32,
+    places: &[Place],
+) -> Result<(), Fail>
+    requires { 1 ≤ turns }
+{
+    match place(alloc, deck, turns).map_err(|_| "no memory")? {
+        Placed::Fits(found) => assert_eq!(rt; found, spots_of(places)),
+        other => panic!(rt; "{other:?}"),
+    }
+    Ok(())
+}
+
+#[test]
+fn two_ships_take_five_turns(rt: HostRuntime) -> Result<(), Fail> {
+    let deck = deck_of(BASE, TWINS).ok_or("no deck")?;
+    match place(rt.alloc(), &deck, 4).map_err(|_| "no memory")? {
+        Placed::Spent(hard) => {
+            assert_eq!(rt; hard.turns, 4);
+            assert!(rt; hard.deck == deck);
+        }
+        other => panic!(&rt; "{other:?}"),
+    }
+    let places = [(10, 0, LEFT, QUAY), (10, 126, RIGHT, QUAY)];
+    expect_fits(&rt, rt.alloc(), &deck, 5, &places)
+}
+
+#[test]
+fn a_third_ship_is_moored_at_the_first(rt: HostRuntime) -> Result<(), Fail> {
+    let deck = deck_of(TIGHT, &[(1100, 114), (1100, 60), (1100, 50)]).ok_or("no deck")?;
+    let places = [
+        (10, 0, LEFT, QUAY),
+        (10, 180, RIGHT, QUAY),
+        (10, 119, LEFT, Moor::Ship(0)),
+    ];
+    expect_fits(&rt, rt.alloc(), &deck, 20_000, &places)
+}
+
+/// The quick reason of an answer.
+fn reason_of(placed: Placed) -> Option<Quick> {
+    match placed {
+        Placed::Refuted(refutation) => match refutation {
+            Refutation::Quick(reason) => Some(reason),
+            Refutation::Cases(_marks) => None,
+            Refutation::Spots(_marks) => None,
+            Refutation::Clash(_first, _second) => None,
+            Refutation::Berths(_marks) => None,
+        },
+        Placed::Fits(_spots) => None,
+        Placed::Spent(_hard) => None,
+    }
+}
+
+#[test]
+fn the_first_quick_reason_comes_before_any_turn(rt: HostRuntime) -> Result<(), Fail> {
+    let deck = deck_of(NARROW, TWINS).ok_or("no deck")?;
+    let placed = place(rt.alloc(), &deck, 1).map_err(|_| "no memory")?;
+    assert!(rt; reason_of(placed) == Some(Quick::Row(pair(0, 1))));
+    Ok(())
+}
+
+#[test]
+fn a_deck_without_a_quick_reason_gets_a_case_tree(rt: HostRuntime) -> Result<(), Fail> {
+    let deck = deck_of(SQUARE, &FOUR).ok_or("no deck")?;
+    match place(rt.alloc(), &deck, 20_000).map_err(|_| "no memory")? {
+        Placed::Refuted(Refutation::Cases(marks)) => {
+            assert_eq!(rt; marks.as_slice().len(), 7444);
+        }
+        _other => panic!(&rt; "no case tree"),
+    }
+    Ok(())
+}
+
+#[test]
+fn a_needless_ship_is_left_out(rt: HostRuntime) -> Result<(), Fail> {
+    let deck = deck_of(NARROW, &[(1100, 114), (1100, 114), (380, 50)]).ok_or("no deck")?;
+    let reason = Quick::Row(pair(0, 1));
+    assert!(rt; holds(&deck, &reason));
+    let mut ships = pair(0, 1);
+    ships.push(2);
+    assert_eq!(rt; ships.len(), deck.ships.as_slice().len());
+    let cut = shrink(
+        rt.alloc(),
+        0,
+        &ships,
+        &deck,
+        Refutation::Quick(reason),
+        20_000,
+    )
+    .map_err(|_| "no memory")?;
+    assert_eq!(rt; cut.chamber, 0);
+    assert!(rt; cut.ships == pair(0, 1));
+    assert!(rt; matches!(&cut.refutation, Refutation::Quick(Quick::Row(_))));
+    Ok(())
+}
+
+/// Whether the first two ships clash.
+fn is_clash(deck: &Deck) -> bool
+    requires { 1 < length deck.now.ships }
+    ensures { IsTrue result → IsClashingPair deck.now 0 1 }
+{
+    let first = deck.ships.as_slice()[0];
+    let second = deck.ships.as_slice()[1];
+    first.cargo != second.cargo && first.cargo != 0 && second.cargo != 0
+}
+
+/// What is left of two ships whose cargo clashes.
+fn clash_left(rt: &impl Abort, alloc: Global, ships: &[Laden]) -> Result<Ships, Fail> {
+    let deck = laden_deck(BASE, ships).ok_or("no deck")?;
+    let numbers = pair(4, 6);
+    assert_eq!(rt; deck.ships.as_slice().len(), 2);
+    assert!(rt; is_clash(&deck));
+    let cut = shrink(alloc, 0, &numbers, &deck, Refutation::Clash(0, 1), 20_000).map_err(
+        |_| "no memory",
+    )?;
+    Ok(cut.ships.copy())
+}
+
+#[test]
+fn a_clash_keeps_its_pair_or_a_ship_that_fits_nowhere(rt: HostRuntime) -> Result<(), Fail> {
+    let both = clash_left(&rt, rt.alloc(), &[(500, 60, 1), (500, 60, 2)])?;
+    assert!(rt; both == pair(4, 6));
+    let second = clash_left(&rt, rt.alloc(), &[(500, 60, 1), (1990, 60, 2)])?;
+    assert!(rt; second == Ships::single(6));
+    Ok(())
+}

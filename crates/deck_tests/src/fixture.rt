@@ -1,0 +1,59 @@
+//! Measures, decks with cargo, and places of ships.
+use lock_model::{Deck, Measures, Moor, Rank, Size, Sizes, Spot, Spots};
+use worked_locks::BASE;
+
+/// Two base ships don't lie side by side here.
+pub(crate) const NARROW: Measures = Measures { width: 232, ..BASE };
+
+/// A base ship fills the length of this chamber.
+pub(crate) const TIGHT: Measures = Measures {
+    length: 1140,
+    ..BASE
+};
+
+pub(crate) const SHORT: Measures = Measures {
+    length: 100,
+    width: 50,
+    ..BASE
+};
+
+/// Two base ships by length and width.
+pub(crate) const TWINS: &[(u32, u32)] = &[(1100, 114), (1100, 114)];
+
+/// Where a ship lies: its x and y, its rank, and what it is moored to.
+pub(crate) type Place = (u32, u32, Rank, Moor);
+
+pub(crate) const QUAY: Moor = Moor::Quay;
+
+pub(crate) const LEFT: Rank = Rank::Left;
+
+pub(crate) const RIGHT: Rank = Rank::Right;
+
+/// The spots of the first eight of these places.
+pub(crate) fn spots_of(places: &[Place]) -> Spots {
+    let mut spots = Spots::new();
+    for &(x, y, rank, moor) in places {
+        if spots.as_slice().len() < 8 {
+            spots.push(Spot { x, y, rank, moor });
+        }
+    }
+    spots
+}
+
+/// A ship by length, width and cargo class.
+pub(crate) type Laden = (u32, u32, u8);
+
+/// The deck of the first eight of these ships; None where a limit fails.
+pub(crate) fn laden_deck(measures: Measures, ships: &[Laden]) -> Option<Deck> {
+    let mut sizes = Sizes::new();
+    for &(length, width, cargo) in ships {
+        if sizes.as_slice().len() < 8 {
+            sizes.push(Size {
+                length,
+                width,
+                cargo,
+            });
+        }
+    }
+    Deck::new(measures, sizes)
+}

@@ -1,0 +1,31 @@
+//! Tests of the crates of decks and placers, and of the model below them.
+//!
+//! The crate has no code but its tests, each over the public items of the crate that it names:
+//! `lock_model` (`model`), `mooring_rules` (`moorings`), `deck_laws` (`laws`), `diff_system`
+//! (`differences`), `ship_shapes` (`shapes`), `berth_check` and `berth_place` (`berths`),
+//! `place_refute` (`refutations`), `case_search` and `chamber_place` (`cases`), `spot_place`
+//! (`spots`), `placed_groups` (`answers`). Lengths are decimetres.
+#![tactic(auto)]
+
+#[cfg(test)]
+mod answers;
+#[cfg(test)]
+mod berths;
+#[cfg(test)]
+mod cases;
+#[cfg(test)]
+mod differences;
+#[cfg(test)]
+mod fixture;
+#[cfg(test)]
+mod laws;
+#[cfg(test)]
+mod model;
+#[cfg(test)]
+mod moorings;
+#[cfg(test)]
+mod refutations;
+#[cfg(test)]
+mod shapes;
+#[cfg(test)]
+mod spots;

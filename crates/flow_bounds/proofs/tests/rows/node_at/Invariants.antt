@@ -1,5 +1,0 @@
-use Rattle.master_branch.specs.Node.{IsNodeOf}
-use Rattle.flow_bounds.proofs.tests.rows.node_at.Given as goal
-
-abbrev pub invariant-loop-i : goal.invariant-loop-i
-invariant-loop-i l = IsNodeOf l.instance l.node

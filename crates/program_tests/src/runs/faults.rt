@@ -1,0 +1,84 @@
+//! Sources and sinks that fail.
+
+use super::fixture::{
+    Calls, LOT_OF_ONE, NEVER, Ran, expect_cut_off, expect_ran, run_cut_off, run_over, run_with,
+};
+use crate::worked::ONE_SHIP;
+use std::alloc::Global;
+use std::process::Abort;
+use std::sync::Wait;
+use std::test::Fail;
+use std::thread::Threads;
+
+// A run whose source, and whose sink, fail at these calls of 16 bytes.
+fn run_failing<R: Threads + Wait + Sync + Abort>(
+    rt: &R,
+    alloc: Global,
+    source_fault: u64,
+    sink_fault: u64,
+) -> Result<Ran, Fail> {
+    let calls = Calls {
+        bite: 16,
+        source_fault,
+        sink_fault,
+    };
+    run_with(rt, alloc, &["solve"], ONE_SHIP.as_bytes(), calls)
+}
+
+#[test]
+fn a_failing_source_is_told(rt: HostRuntime) -> Result<(), Fail> {
+    for fault in 0..6 {
+        let ran = run_failing(&rt, rt.alloc(), fault, NEVER)?;
+        expect_ran(&rt, &ran, 4, b"read fault\n", "a failing source");
+    }
+    Ok(())
+}
+
+#[test]
+fn where_source_and_sink_fail_nothing_is_written(rt: HostRuntime) -> Result<(), Fail> {
+    let ran = run_failing(&rt, rt.alloc(), 0, 0)?;
+    expect_ran(&rt, &ran, 5, b"", "both fail");
+    Ok(())
+}
+
+// The report is cut off where the sink fails at this call.
+fn expect_front<R: Threads + Wait + Sync + Abort>(
+    rt: &R,
+    alloc: Global,
+    fault: u64,
+    whole: &[u8],
+) -> Result<(), Fail> {
+    let ran = run_cut_off(rt, alloc, &["solve"], ONE_SHIP, fault)?;
+    expect_cut_off(rt, &ran, fault, whole);
+    Ok(())
+}
+
+#[test]
+fn a_report_is_cut_off_where_the_sink_fails(rt: HostRuntime) -> Result<(), Fail> {
+    let whole = run_over(&rt, rt.alloc(), &["solve"], ONE_SHIP.as_bytes())?;
+    for fault in 0..74 {
+        expect_front(&rt, rt.alloc(), fault, whole.text.as_slice())?;
+    }
+    Ok(())
+}
+
+#[test]
+fn a_dossier_is_cut_off_where_the_sink_fails(rt: HostRuntime) -> Result<(), Fail> {
+    let words = ["solve", "--dossier"].as_slice();
+    let whole = run_over(&rt, rt.alloc(), words, ONE_SHIP.as_bytes())?;
+    for fault in 0..5 {
+        let ran = run_cut_off(&rt, rt.alloc(), words, ONE_SHIP, fault)?;
+        expect_cut_off(&rt, &ran, fault, whole.text.as_slice());
+    }
+    Ok(())
+}
+
+#[test]
+fn a_lot_is_cut_off_where_the_sink_fails(rt: HostRuntime) -> Result<(), Fail> {
+    let words = ["lot", "--ships", "1", "--chambers", "1"].as_slice();
+    for fault in 0..5 {
+        let ran = run_cut_off(&rt, rt.alloc(), words, "", fault)?;
+        expect_cut_off(&rt, &ran, fault, LOT_OF_ONE.as_bytes());
+    }
+    Ok(())
+}

@@ -1,0 +1,137 @@
+//! Runs over a source and a sink in memory.
+ghost use Rattle.std.specs.Prelude.{◌≤◌};
+
+use lock_io::{Gate, MemorySink, MemorySource, OpenGate};
+use lock_top::{Status, run};
+use std::alloc::Global;
+use std::process::Abort;
+use std::sync::Wait;
+use std::test::Fail;
+use std::thread::Threads;
+
+/// What `lot` prints for one ship and one chamber.
+pub(super) const LOT_OF_ONE: &str =
+    "glock 1\nchamber c1 2000 240 10 20 5 6 30 15 low 0\nship s1 up 1020 88 35 4\nend\n";
+
+/// The number of a call that never comes.
+pub(super) const NEVER: u64 = 1_000_000;
+
+/// How a run ended.
+#[derive(Drop)]
+pub(super) struct Ran {
+    pub(super) status: Status,
+    /// What the sink got.
+    pub(super) text: Vec<u8>,
+    /// How many bytes the source had left.
+    pub(super) left: usize,
+}
+
+/// How a source and a sink in memory behave: how many bytes they move a call, and which call fails.
+#[derive(Clone, Copy)]
+pub(super) struct Calls {
+    pub(super) bite: usize,
+    pub(super) source_fault: u64,
+    pub(super) sink_fault: u64,
+}
+
+// The words as strings.
+fn owned(alloc: Global, words: &[&str]) -> Result<Vec<String>, Fail> {
+    let mut list = Vec::new(alloc);
+    for word in words {
+        list.push(String::from_str(alloc, word)?)?;
+    }
+    Ok(list)
+}
+
+// The list of one number.
+fn only(alloc: Global, number: u64) -> Result<Vec<u64>, Fail> {
+    let mut list = Vec::new(alloc);
+    list.push(number)?;
+    Ok(list)
+}
+
+/// Runs past a gate, over a source that hands out at most `bite` bytes a call, and a sink that takes
+/// as many.
+pub(super) fn run_past<R: Threads + Wait + Sync, G: Gate + Sync>(
+    rt: &R,
+    alloc: Global,
+    words: &[&str],
+    text: &[u8],
+    calls: Calls,
+    gate: &G,
+) -> Result<Ran, Fail>
+    requires { 1 ≤ calls.bite }
+{
+    let list = owned(alloc, words)?;
+    let source_faults = only(alloc, calls.source_fault)?;
+    let mut source = MemorySource::new(text.to_vec(alloc)?, calls.bite, source_faults);
+    let sink_faults = only(alloc, calls.sink_fault)?;
+    let mut sink = MemorySink::new(alloc, calls.bite, sink_faults).map_err(
+        |_| "no memory for the sink",
+    )?;
+    let status = run(rt, alloc, list.as_slice(), &mut source, &mut sink, gate);
+    Ok(Ran {
+        status,
+        text: sink.into_bytes(),
+        left: source.as_slice().len(),
+    })
+}
+
+/// The same past an open gate.
+pub(super) fn run_with<R: Threads + Wait + Sync>(
+    rt: &R,
+    alloc: Global,
+    words: &[&str],
+    text: &[u8],
+    calls: Calls,
+) -> Result<Ran, Fail>
+    requires { 1 ≤ calls.bite }
+{
+    run_past(rt, alloc, words, text, calls, &OpenGate)
+}
+
+/// Calls that move much, and never fail.
+pub(super) const LARGE: Calls = Calls {
+    bite: 4096,
+    source_fault: NEVER,
+    sink_fault: NEVER,
+};
+
+/// Runs with no fault.
+pub(super) fn run_over<R: Threads + Wait + Sync>(
+    rt: &R,
+    alloc: Global,
+    words: &[&str],
+    text: &[u8],
+) -> Result<Ran, Fail> {
+    run_with(rt, alloc, words, text, LARGE)
+}
+
+/// The run of this row ended with this code, and wrote this text.
+pub(super) fn expect_ran(rt: &impl Abort, ran: &Ran, code: u8, answer: &[u8], row: &str) {
+    assert_eq!(rt; ran.text.as_slice(), answer, "{row}");
+    assert_eq!(rt; ran.status.code(), code, "{row}");
+}
+
+/// The sink of a run failed at this call of 16 bytes, and got the front of the whole text.
+pub(super) fn expect_cut_off(rt: &impl Abort, ran: &Ran, fault: u64, whole: &[u8]) {
+    assert_eq!(rt; ran.status.code(), 5, "at call {fault}");
+    assert_eq!(rt; ran.text.as_slice().len() as u64, fault.saturating_mul(16));
+    assert!(rt; whole.starts_with(ran.text.as_slice()));
+}
+
+/// Runs over a sink that takes 16 bytes a call, and fails at this one.
+pub(super) fn run_cut_off<R: Threads + Wait + Sync + Abort>(
+    rt: &R,
+    alloc: Global,
+    words: &[&str],
+    text: &str,
+    fault: u64,
+) -> Result<Ran, Fail> {
+    let calls = Calls {
+        bite: 16,
+        source_fault: NEVER,
+        sink_fault: fault,
+    };
+    run_with(rt, alloc, words, text.as_bytes(), calls)
+}

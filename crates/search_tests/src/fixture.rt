@@ -1,0 +1,38 @@
+//! Cases, and their books.
+
+use book_core::{Book, Case, open_book};
+use first_plan::{first_unfit, singles_plan};
+use lock_model::Instance;
+use std::alloc::Global;
+use std::test::Fail;
+
+/// A case of an instance whose ships fit some chamber each.
+pub(crate) fn case_of(instance: Instance, nodes: u32, turns: u32) -> Option<Case> {
+    if first_unfit(&instance).is_some() || nodes < 1 || nodes > 1000000 {
+        return None;
+    }
+    if turns < 1 || turns > 200000 {
+        return None;
+    }
+    Some(Case::new(instance, nodes, turns))
+}
+
+/// The book of a case, opened with its singles plan.
+pub(crate) fn opened(alloc: Global, case: &Case) -> Result<Book, Fail> {
+    if first_unfit(&case.instance).is_some() {
+        return Err(Fail::from("an unfit ship"));
+    }
+    let plan = singles_plan(&case.instance);
+    Ok(open_book(alloc, case, plan)?)
+}
+
+/// The book of an instance, opened so, for so many nodes and turns.
+pub(crate) fn open(
+    alloc: Global,
+    instance: Instance,
+    nodes: u32,
+    turns: u32,
+) -> Result<Book, Fail> {
+    let case = case_of(instance, nodes, turns).ok_or("no case")?;
+    opened(alloc, &case)
+}

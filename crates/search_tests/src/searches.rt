@@ -1,0 +1,4 @@
+//! Searches.
+mod driving;
+mod threads;
+mod workers;

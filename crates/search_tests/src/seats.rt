@@ -1,0 +1,75 @@
+//! Seats of one table, in one thread and in two.
+ghost use Rattle.std.specs.Prelude.{◌≡◌};
+
+use bound_word::{BoundSeat, BoundTable};
+use std::test::Fail;
+use std::thread::join;
+
+#[test]
+fn a_seat_reads_the_least_that_it_posted(rt: HostRuntime) -> Result<(), Fail> {
+    let (table, mut seat) = BoundTable::new(rt.alloc(), 120, 1).map_err(|_| "no memory")?;
+    assert_eq!(rt; table.lower(&mut seat, 80), 120);
+    assert_eq!(rt; table.load(&mut seat), 80);
+    assert_eq!(rt; table.lower(&mut seat, 100), 80);
+    assert_eq!(rt; table.close(seat), 80);
+    Ok(())
+}
+
+#[test]
+fn a_joined_seat_has_what_both_posted(rt: HostRuntime) -> Result<(), Fail> {
+    for (opening, first, second, least) in [
+        (120, 80, 100, 80),
+        (120, 100, 80, 80),
+        (120, 130, 121, 120),
+        (0, 1, 2, 0),
+        (u64::MAX, 0, u64::MAX, 0),
+    ] {
+        let (table, mut one) = BoundTable::new(rt.alloc(), opening, 3).map_err(|_| "no memory")?;
+        let mut two = table.split(&mut one);
+        assert_eq!(rt; (one.parts(), two.parts()), (2, 1));
+        assert_eq!(rt; table.lower(&mut one, first), opening);
+        table.lower(&mut two, second);
+        assert_eq!(rt; table.load(&mut one), least);
+        table.join(&mut one, two);
+        assert_eq!(rt; one.parts(), 3);
+        assert_eq!(rt; table.close(one), least);
+    }
+    Ok(())
+}
+
+// Posts a cost in a thread, and gives the seat back.
+fn lowered(table: &BoundTable, mut seat: BoundSeat, cost: u64) -> BoundSeat
+    requires { seat.table ≡ table.now.table }
+    ensures table { result.table ≡ seat.table }
+    ensures parts { result.view.parts ≡ seat.view.parts }
+{
+    table.lower(&mut seat, cost);
+    seat
+}
+
+// Loads in a thread, and gives the seat back with the number.
+fn loaded(table: &BoundTable, mut seat: BoundSeat) -> (BoundSeat, u64)
+    requires { seat.table ≡ table.now.table }
+    ensures table { result.0.table ≡ seat.table }
+    ensures parts { result.0.view.parts ≡ seat.view.parts }
+{
+    let number = table.load(&mut seat);
+    (seat, number)
+}
+
+#[test]
+fn seats_of_two_threads_share_the_word(rt: HostRuntime) -> Result<(), Fail> {
+    let (table, mut first) = BoundTable::new(rt.alloc(), 120, 2).map_err(|_| "no memory")?;
+    let second = table.split(&mut first);
+    let shared = &table;
+    let (mut first, (mut second, number)) = join(
+        &rt,
+        move || lowered(shared, first, 80),
+        move || loaded(shared, second),
+    );
+    assert!(rt; number == 80 || number == 120);
+    assert_eq!(rt; table.load(&mut second), 80);
+    table.join(&mut first, second);
+    assert_eq!(rt; table.close(first), 80);
+    Ok(())
+}

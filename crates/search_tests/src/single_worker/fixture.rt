@@ -1,0 +1,131 @@
+//! Locks of one chamber and two ships, and a worker that searches a book alone.
+ghost use Rattle.std.specs.Prelude.{◌≡◌, ◌+◌, length, sum_by, All, IfSome};
+
+use book_core::Book;
+use bound_word::{BoundSeat, BoundTable};
+use cut_pool::Pool;
+use lock_io::{Gate, Point};
+use lock_model::{Instance, Way};
+use master_branch::arrival_order;
+use node_work::Search;
+use search_book::{ShareList, share_book};
+use search_worker::{Hands, Post, search};
+use std::alloc::Global;
+use std::marker::Brand;
+use std::sync::ledger::{Blank, Ledger};
+use std::sync::{Mutex, Wait};
+use std::test::Fail;
+use worked_locks::{chamber, one_chamber, ship, two_ships};
+
+/// Two ships that come at once, the first up, and a chamber of this width for so many ships.
+pub(crate) fn lock(width: u32, most: u8, second: Way) -> Result<Instance, Fail> {
+    let mut only = chamber(b'c', width);
+    only.most = most;
+    let (first, second) = (ship(b's', Way::Up, 0), ship(b't', second, 0));
+    Ok(one_chamber(only, first, second).ok_or("no instance")?)
+}
+
+/// Two ships that want up at once, and a chamber of this width.
+pub(crate) fn two_up(width: u32) -> Result<Instance, Fail> {
+    Ok(two_ships(width).ok_or("no instance")?)
+}
+
+// A worker's hands: the last share of a list of single parts, and a seat of one part.
+fn hands_of<L: Ledger>(shares: &mut ShareList<L>, seat: BoundSeat) -> Option<Hands<L>>
+    requires each { All (λ s. s.parts ≡ 1) shares.old }
+    requires seat { seat.view.parts ≡ 1 }
+    ensures parts { IfSome result (λ _. sum_by (λ s. s.parts) shares.new + 1 ≡ sum_by (λ s. s.parts) shares.old) }
+    ensures count { IfSome result (λ _. length shares.new + 1 ≡ length shares.old) }
+    ensures table { IfSome result (λ hands. hands.seat.table ≡ seat.table) }
+{
+    let share = shares.pop()?;
+    Some(Hands { share, seat })
+}
+
+// The book after one worker has searched it for this instance under a ledger of two parts, and the
+// least cost that was posted.
+fn searched_by<L: Ledger, W: Wait, G: Gate>(
+    rt: &W,
+    alloc: Global,
+    gate: &G,
+    blank: Blank,
+    book: Book,
+    instance: &Instance,
+) -> Result<(Book, u64), Fail>
+    requires name { blank.name ≡ L.name }
+    requires parts { (blank.parts ≡ L.parts) × (blank.parts ≡ 2) }
+{
+    let turns = book.case().turns;
+    let pool = Pool::new(alloc)?;
+    let (word, mut seat) = BoundTable::new(alloc, book.opening_cost(), 2)?;
+    let own = word.split(&mut seat);
+    let (book, mut shares) = share_book::<L>(blank, book, 1);
+    let Some(hands) = hands_of(&mut shares, own) else {
+        return Err(Fail::from("no share"));
+    };
+    let post = Post {
+        rt,
+        alloc,
+        gate,
+        search: Search::new(instance, turns),
+        order: arrival_order(instance),
+        quota: u32::MAX,
+        board: None,
+        book: &book,
+        pool: &pool,
+        word: &word,
+    };
+    let Hands { share, seat: own } = search(&post, 0, hands);
+    shares.push(share);
+    word.join(&mut seat, own);
+    Ok((book.into_book(shares), word.close(seat)))
+}
+
+/// The book after one worker has searched it alone for this instance, and the least cost that was
+/// posted.
+pub(crate) fn searched_as<W: Wait, G: Gate>(
+    rt: &W,
+    alloc: Global,
+    gate: &G,
+    book: Book,
+    instance: &Instance,
+) -> Result<(Book, u64), Fail> {
+    searched_by::<Brand, W, G>(rt, alloc, gate, Blank::new(2), book, instance)
+}
+
+/// The same for the instance of the book.
+pub(crate) fn searched<W: Wait, G: Gate>(
+    rt: &W,
+    alloc: Global,
+    gate: &G,
+    book: Book,
+) -> Result<(Book, u64), Fail> {
+    let instance = book.case().instance.copy();
+    searched_as(rt, alloc, gate, book, &instance)
+}
+
+/// A gate that keeps the points at which one worker called it.
+#[derive(Drop)]
+pub(crate) struct PointGate {
+    points: Mutex<Vec<Point>>,
+}
+
+impl PointGate {
+    pub(crate) fn new(alloc: Global) -> PointGate {
+        PointGate {
+            points: Mutex::new(Vec::new(alloc)),
+        }
+    }
+
+    pub(crate) fn points(self) -> Vec<Point> {
+        self.points.into_inner()
+    }
+}
+
+impl Gate for PointGate {
+    fn at(&self, _worker: u8, point: Point) {
+        if let Some(mut points) = self.points.try_lock() {
+            let _ = points.push(point);
+        }
+    }
+}

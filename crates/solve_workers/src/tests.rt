@@ -1,5 +1,0 @@
-//! Searches.
-mod driving;
-mod fixture;
-mod threads;
-mod workers;

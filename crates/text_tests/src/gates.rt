@@ -1,0 +1,62 @@
+//! Gates with one worker and with two.
+
+use lock_io::{Gate, LastGate, MeetGate, OpenGate, Point};
+use std::thread::join;
+
+#[test]
+fn one_worker_is_let_go_and_meets_nobody(rt: HostRuntime) {
+    for limit in [0, 1, 3] {
+        let meet = MeetGate::new(limit);
+        let last = LastGate::new(limit);
+        let points = [
+            (0, Point::Took(0)),
+            (0, Point::Took(1)),
+            (1, Point::Took(2)),
+            (1, Point::Idle),
+            (0, Point::Read(35)),
+            (0, Point::Took(1)),
+            (0, Point::Closed),
+        ];
+        for (worker, point) in points {
+            OpenGate.at(worker, point);
+            meet.at(worker, point);
+            last.at(worker, point);
+        }
+        assert!(rt; !meet.met());
+        assert!(rt; !last.freed());
+        assert_eq!(rt; last.heard(), None);
+    }
+}
+
+// What a worker does that takes a node, works on it and is done.
+fn works<G: Gate>(gate: &G, worker: u8) {
+    gate.at(worker, Point::Took(0));
+    gate.at(worker, Point::Took(1));
+    gate.at(worker, Point::Read(210));
+    gate.at(worker, Point::Read(270));
+    gate.at(worker, Point::Closed);
+    gate.at(worker, Point::Idle);
+}
+
+#[test]
+fn two_workers_meet(rt: HostRuntime) {
+    let meet = MeetGate::new(10_000_000);
+    join(&rt, || works(&meet, 0), || works(&meet, 1));
+    assert!(rt; meet.met());
+    let last = LastGate::new(10_000_000);
+    join(&rt, || works(&last, 7), || works(&last, 200));
+    assert!(rt; last.freed());
+    assert_eq!(rt; last.heard(), Some(210));
+}
+
+#[test]
+fn any_worker_that_followed_frees_the_held_one(rt: HostRuntime) {
+    let last = LastGate::new(10_000_000);
+    let two = || {
+        last.at(1, Point::Took(1));
+        last.at(2, Point::Took(1));
+        last.at(2, Point::Idle);
+    };
+    join(&rt, || works(&last, 0), two);
+    assert!(rt; last.freed());
+}

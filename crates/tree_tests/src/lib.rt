@@ -1,0 +1,24 @@
+//! Tests of the crates of time, tree and bounds, and of the plans that are made by them.
+//!
+//! The crate has no code but its tests, each over the public items of the crate that it names:
+//! `chamber_times` (`times`), `master_branch` (`nodes`), `flow_bounds` (`bounds`), `price_bound`
+//! (`prices`), `price_raise` (`raising`), `near_plan` (`near`), `first_plan` (`singles`). Times are
+//! minutes, and lengths are decimetres.
+#![tactic(auto)]
+
+#[cfg(test)]
+mod bounds;
+#[cfg(test)]
+mod near;
+#[cfg(test)]
+mod nodes;
+#[cfg(test)]
+mod prices;
+#[cfg(test)]
+mod raising;
+#[cfg(test)]
+mod singles;
+#[cfg(test)]
+mod times;
+#[cfg(test)]
+mod walk;

@@ -1,0 +1,218 @@
+//! Worked rows of the bound by prices.
+mod locks;
+
+use crate::walk::node_at;
+use lock_model::Instance;
+use locks::{closed, one, two_chambers};
+use price_bound::{ChamberCut, Limits, PriceError, PricedNode, Prices, price_sum, reaches, show};
+use std::alloc::Global;
+use std::process::Abort;
+use std::test::Fail;
+use worked_locks::{pair, two_ships};
+
+// Enough for all rows.
+const ENOUGH: Limits = Limits {
+    groups: 100,
+    turns: 1_000_000,
+};
+
+// What a row says of a node: the sum, and the greatest cost that is reached, if there is one.
+#[derive(Drop)]
+struct Row<'a> {
+    path: &'a [u32],
+    prices: &'a [u32],
+    sum: i64,
+    greatest: Option<u64>,
+}
+
+fn sum_row<'a>(path: &'a [u32], prices: &'a [u32], sum: i64, greatest: Option<u64>) -> Row<'a> {
+    Row {
+        path,
+        prices,
+        sum,
+        greatest,
+    }
+}
+
+// Holds a row against the bound.
+fn check(
+    rt: &impl Abort,
+    alloc: Global,
+    instance: &Instance,
+    cuts: &[ChamberCut],
+    row: &Row,
+) -> Result<(), Fail> {
+    let node = node_at(instance, row.path).ok_or("no node")?;
+    let prices = Prices::new(row.prices).ok_or("no prices")?;
+    let asked = PricedNode {
+        instance,
+        node: &node,
+        prices: &prices,
+        cuts,
+    };
+    assert_eq!(rt; price_sum(alloc, &asked, ENOUGH), Ok(Some(row.sum)));
+    for cost in 0..300 {
+        let reached = row.greatest.is_some_and(|greatest| cost <= greatest);
+        assert_eq!(rt; reaches(alloc, &asked, cost, ENOUGH), Ok(reached));
+    }
+    Ok(())
+}
+
+#[test]
+fn one_ship(rt: HostRuntime) -> Result<(), Fail> {
+    let instance = one().ok_or("no instance")?;
+    for case in [
+        sum_row(&[], &[0], 0, Some(0)),
+        sum_row(&[], &[2000], 2000, Some(20)),
+        sum_row(&[], &[3400], 3400, Some(34)),
+        sum_row(&[], &[3401], 3401, Some(35)),
+        sum_row(&[], &[3500], 3500, Some(35)),
+        sum_row(&[], &[5000], 3500, Some(35)),
+        sum_row(&[], &[8500], 3500, Some(35)),
+        sum_row(&[], &[9000], 3000, Some(30)),
+        sum_row(&[], &[1_000_000], -98_800_000, None),
+        sum_row(&[0], &[0], 3500, Some(35)),
+        sum_row(&[0], &[9000], 3500, Some(35)),
+    ] {
+        check(&rt, rt.alloc(), &instance, &[], &case)?;
+    }
+    Ok(())
+}
+
+#[test]
+fn two_ships_side_by_side(rt: HostRuntime) -> Result<(), Fail> {
+    let instance = two_ships(240).ok_or("no instance")?;
+    for case in [
+        sum_row(&[], &[4000, 4000], 7500, Some(75)),
+        sum_row(&[], &[3500, 4500], 7000, Some(70)),
+        sum_row(&[], &[4500, 4500], 8000, Some(80)),
+        sum_row(&[], &[8500, 8500], 8000, Some(80)),
+        sum_row(&[0], &[0, 4500], 8000, Some(80)),
+        sum_row(&[0], &[0, 4499], 7999, Some(80)),
+        sum_row(&[0], &[0, 3000], 6500, Some(65)),
+        sum_row(&[0, 0], &[0, 0], 8000, Some(80)),
+        sum_row(&[0, 1], &[0, 0], 12000, Some(120)),
+        sum_row(&[0, 1], &[7, 7], 12000, Some(120)),
+    ] {
+        check(&rt, rt.alloc(), &instance, &[], &case)?;
+    }
+    Ok(())
+}
+
+#[test]
+fn two_ships_and_their_cut(rt: HostRuntime) -> Result<(), Fail> {
+    let instance = two_ships(232).ok_or("no instance")?;
+    let cuts = [ChamberCut {
+        chamber: 0,
+        ships: pair(0, 1),
+    }];
+    for case in [
+        sum_row(&[], &[3500, 8500], 7000, Some(70)),
+        sum_row(&[], &[6000, 6000], 9500, Some(95)),
+        sum_row(&[], &[8400, 8400], 11900, Some(119)),
+        sum_row(&[], &[8401, 8401], 11901, Some(120)),
+        sum_row(&[], &[8500, 8500], 12000, Some(120)),
+        sum_row(&[], &[8600, 8600], 12000, Some(120)),
+        sum_row(&[], &[13500, 13500], 12000, Some(120)),
+        sum_row(&[0], &[0, 8500], 12000, Some(120)),
+        sum_row(&[0], &[8500, 8500], 12000, Some(120)),
+        sum_row(&[0], &[0, 8400], 11900, Some(119)),
+        sum_row(&[0], &[0, 8401], 11901, Some(120)),
+    ] {
+        check(&rt, rt.alloc(), &instance, &cuts, &case)?;
+    }
+    let node = node_at(&instance, &[0, 0]).ok_or("no node")?;
+    let prices = Prices::new(&[0, 0]).ok_or("no prices")?;
+    let asked = PricedNode {
+        instance: &instance,
+        node: &node,
+        prices: &prices,
+        cuts: &cuts,
+    };
+    assert_eq!(rt; price_sum(rt.alloc(), &asked, ENOUGH), Ok(None));
+    assert_eq!(rt; reaches(rt.alloc(), &asked, u64::MAX, ENOUGH), Ok(true));
+    Ok(())
+}
+
+#[test]
+fn a_closure(rt: HostRuntime) -> Result<(), Fail> {
+    let instance = closed().ok_or("no instance")?;
+    for case in [
+        sum_row(&[], &[7500, 10000], 14000, Some(140)),
+        sum_row(&[], &[7500, 9999], 14000, Some(140)),
+        sum_row(&[], &[7400, 9900], 13900, Some(139)),
+        sum_row(&[], &[9000, 11500], 15500, Some(155)),
+        sum_row(&[0], &[0, 10000], 17500, Some(175)),
+        sum_row(&[0], &[0, 6500], 14000, Some(140)),
+        sum_row(&[0], &[0, 20000], 9500, Some(95)),
+    ] {
+        check(&rt, rt.alloc(), &instance, &[], &case)?;
+    }
+    Ok(())
+}
+
+#[test]
+fn two_chambers_add_up(rt: HostRuntime) -> Result<(), Fail> {
+    let instance = two_chambers().ok_or("no instance")?;
+    for case in [
+        sum_row(&[], &[3500, 2600, 3000], 9100, Some(91)),
+        sum_row(&[], &[3500, 2600, 4000], 8600, Some(86)),
+        sum_row(&[], &[0, 0, 0], 0, Some(0)),
+        sum_row(&[0], &[0, 2600, 3500], 9300, Some(93)),
+        sum_row(&[0], &[0, 2600, 4800], 9200, Some(92)),
+        sum_row(&[0, 2], &[0, 0, 4000], 10100, Some(101)),
+        sum_row(&[0, 2], &[0, 0, 3900], 10000, Some(100)),
+        sum_row(&[0, 2], &[0, 0, 6000], 9400, Some(94)),
+    ] {
+        check(&rt, rt.alloc(), &instance, &[], &case)?;
+    }
+    Ok(())
+}
+
+#[test]
+fn a_shown_cost_names_what_it_was_shown_of(rt: HostRuntime) -> Result<(), Fail> {
+    let instance = two_ships(232).ok_or("no instance")?;
+    let node = node_at(&instance, &[0]).ok_or("no node")?;
+    let prices = Prices::new(&[0, 8401]).ok_or("no prices")?;
+    let cuts = [ChamberCut {
+        chamber: 0,
+        ships: pair(0, 1),
+    }];
+    let asked = PricedNode {
+        instance: &instance,
+        node: &node,
+        prices: &prices,
+        cuts: &cuts,
+    };
+    assert!(rt; show(rt.alloc(), &asked, 121, ENOUGH)?.is_none());
+    let shown = show(rt.alloc(), &asked, 120, ENOUGH)?.ok_or("not shown")?;
+    assert!(rt;
+        shown.instance() == &instance && shown.node() == &node && shown.prices() == &prices
+    );
+    assert!(rt; shown.cuts() == &cuts[..] && shown.cost() == 120);
+    Ok(())
+}
+
+#[test]
+fn more_groups_or_turns_than_allowed_are_refused(rt: HostRuntime) -> Result<(), Fail> {
+    let instance = two_ships(240).ok_or("no instance")?;
+    let node = node_at(&instance, &[]).ok_or("no node")?;
+    let prices = Prices::new(&[4000, 4000]).ok_or("no prices")?;
+    let asked = PricedNode {
+        instance: &instance,
+        node: &node,
+        prices: &prices,
+        cuts: &[],
+    };
+    for (groups, turns, sum) in [
+        (4, 1000, Ok(Some(7500))),
+        (3, 1000, Err(PriceError::TooMany)),
+        (4, 0, Err(PriceError::TooMany)),
+    ] {
+        assert_eq!(rt;
+            price_sum(rt.alloc(), &asked, Limits { groups, turns }),
+            sum
+        );
+    }
+    Ok(())
+}

@@ -1,0 +1,72 @@
+//! Steps of ascents, worked out by hand.
+use lock_model::Ships;
+use price_bound::Prices;
+use price_raise::{Ascent, Pace, Stands};
+use std::test::Fail;
+
+// How two ships stand in lines.
+fn standing(first: u8, second: u8) -> Stands {
+    let mut stands = Stands::new();
+    for _ in 0..first {
+        stands.add(&Ships::single(0));
+    }
+    for _ in 0..second {
+        stands.add(&Ships::single(1));
+    }
+    stands
+}
+
+#[test]
+fn ships_that_lack_get_dearer(rt: HostRuntime) -> Result<(), Fail> {
+    for (start, first, second, sum, goal, goes_on, tried) in [
+        // both lack: a gap of 7000 is shared
+        ([0, 0], 0, 0, 0, 70, true, [3500, 3500]),
+        // one lacks, and bears the whole gap
+        ([0, 100], 0, 1, 100, 70, true, [6900, 100]),
+        // one stands twice, and gets cheaper; no price falls below 0
+        ([3500, 3500], 1, 2, 6900, 70, true, [3500, 3400]),
+        ([0, 20], 1, 2, 0, 70, true, [0, 0]),
+        // near the goal a step is reckoned with a gap of 50
+        ([3400, 0], 0, 1, 7100, 70, true, [3450, 0]),
+        // no price rises above the greatest one
+        ([999_990, 0], 0, 1, 0, 100_000, true, [1_000_000, 0]),
+        // each stands once: there is no way up
+        ([3500, 3500], 1, 1, 7000, 70, false, [3500, 3500]),
+    ] {
+        let prices = Prices::new(&start).ok_or("no prices")?;
+        let pace = Pace {
+            steps: 1,
+            patience: 15,
+        };
+        let mut ascent = Ascent::new(prices, pace);
+        assert_eq!(rt;
+            ascent.raise(&[0, 1], &standing(first, second), sum, goal),
+            goes_on,
+            "at {start:?}"
+        );
+        assert_eq!(rt; ascent.tried().as_slice(), tried.as_slice(), "at {start:?}");
+        assert_eq!(rt; ascent.best().as_slice(), start.as_slice());
+        assert_eq!(rt; ascent.best_sum(), sum);
+        let again = ascent.raise(&[0, 1], &standing(0, 0), sum, goal);
+        assert_eq!(rt; again, !goes_on, "one step alone is made");
+    }
+    Ok(())
+}
+
+#[test]
+fn it_goes_back_to_the_best_prices(rt: HostRuntime) -> Result<(), Fail> {
+    let prices = Prices::new(&[0, 0]).ok_or("no prices")?;
+    let pace = Pace {
+        steps: 9,
+        patience: 0,
+    };
+    let mut ascent = Ascent::new(prices, pace);
+    assert!(rt; ascent.raise(&[0, 1], &standing(0, 0), 0, 70));
+    assert!(rt; ascent.raise(&[0, 1], &standing(2, 2), -5, 70));
+    // from 0 again, by a step of two thirds: the direction is 3 tenths up and once down
+    assert_eq!(rt; ascent.best().as_slice(), [0, 0].as_slice());
+    assert_eq!(rt; ascent.tried().as_slice(), [0, 0].as_slice());
+    assert!(rt; ascent.raise(&[0, 1], &standing(0, 0), 10, 70));
+    assert_eq!(rt; ascent.best_sum(), 10);
+    Ok(())
+}

@@ -1,0 +1,88 @@
+//! Worked singles plans.
+use chamber_times::cost;
+use first_plan::{first_plan, first_unfit, singles_plan};
+use lock_model::{Chamber, Chambers, Instance, Ship, ShipList, Stand, Way};
+use std::test::Fail;
+use worked_locks::two_ships;
+
+fn chamber(letter: u8, length: u32, stands: Stand) -> Chamber {
+    let mut chamber = worked_locks::chamber(letter, 240);
+    chamber.length = length;
+    chamber.stands = stands;
+    chamber
+}
+
+fn ship(letter: u8, way: Way, length: u32, arrival: u32) -> Ship {
+    let mut ship = worked_locks::ship(letter, way, arrival);
+    ship.length = length;
+    ship
+}
+
+// Two chambers and two ships.
+fn two_by_two(first: Chamber, second: Chamber, ship: Ship, other: Ship) -> Option<Instance> {
+    let mut fleet = ShipList::new();
+    fleet.push(ship);
+    fleet.push(other);
+    let mut locks = Chambers::new();
+    locks.push(first);
+    locks.push(second);
+    Instance::new(locks, fleet)
+}
+
+// The starts are worked out by hand: 30 minutes of passage, 5 of handling, and 15 of
+// an empty turn where the chamber stands on the other side.
+#[test]
+fn ships_are_served_alone_by_the_chamber_that_ends_first(rt: HostRuntime) -> Result<(), Fail> {
+    for (low, second, way, arrival, chambers, starts) in [
+        (Stand::Low, Stand::Low, Way::Down, 0, [0, 1], [0, 15]),
+        (Stand::Low, Stand::High, Way::Down, 0, [0, 1], [0, 0]),
+        (Stand::Low, Stand::High, Way::Up, 0, [0, 1], [0, 15]),
+        (Stand::High, Stand::High, Way::Up, 0, [0, 1], [15, 15]),
+        (Stand::Low, Stand::Low, Way::Up, 90, [0, 0], [0, 90]),
+    ] {
+        let long = chamber(b'a', 2000, low);
+        let short = chamber(b'b', 1500, second);
+        let (one, other) = (ship(b's', Way::Up, 1100, 0), ship(b't', way, 1100, arrival));
+        let instance = two_by_two(long, short, one, other).ok_or("no instance")?;
+        assert_eq!(rt; first_unfit(&instance), None);
+        let plan = singles_plan(&instance);
+        let lockages = plan.lockages.as_slice();
+        assert_eq!(rt; lockages.len(), 2);
+        assert_eq!(rt; [lockages[0].chamber, lockages[1].chamber], chambers);
+        assert_eq!(rt; [lockages[0].start, lockages[1].start], starts);
+    }
+    Ok(())
+}
+
+#[test]
+fn the_first_ship_that_fits_no_chamber_is_named(rt: HostRuntime) -> Result<(), Fail> {
+    for (first, second, unfit) in [
+        (1980, 1480, None),
+        (1981, 1480, Some(0)),
+        (1480, 1981, Some(1)),
+        (1981, 1981, Some(0)),
+    ] {
+        let short = chamber(b'a', 1500, Stand::Low);
+        let long = chamber(b'b', 2000, Stand::Low);
+        let (one, other) = (
+            ship(b's', Way::Up, first, 0),
+            ship(b't', Way::Up, second, 0),
+        );
+        let instance = two_by_two(short, long, one, other).ok_or("no instance")?;
+        assert_eq!(rt; first_unfit(&instance), unfit, "{first} and {second}");
+    }
+    Ok(())
+}
+
+// Two ships of 114 lie side by side in a width of 240, and in one of 232 they don't.
+#[tactic(auto, using(lock_rules::proofs::LegalLemmas::of_legal_plans))]
+#[test]
+fn lockages_are_merged_where_their_ships_fit_together(rt: HostRuntime) -> Result<(), Fail> {
+    for (width, lockages, minutes) in [(240, 1, 80), (232, 2, 120)] {
+        let instance = two_ships(width).ok_or("no instance")?;
+        let plan = first_plan(rt.alloc(), &instance, 128).map_err(|_| "no plan")?;
+        assert_eq!(rt; plan.lockages.as_slice().len(), lockages);
+        assert_eq!(rt; cost(&instance, &plan), minutes);
+    }
+    Ok(())
+}
