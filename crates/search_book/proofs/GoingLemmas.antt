@@ -1,34 +1,30 @@
 -- Takings, and nodes that were worked out ahead.
-use Rattle.std.proofs.Common.{◌≡◌, ◌<◌, ℕ, zero, suc, ◌+◌, List, [], ◌∷◌, ◌++◌, length, length-append, refl, sym, ap, ◌∙◌, subst, arith, Bool, true, false, cond, Some, None, slice_index_or, take, take_all, drop, ◌-◌}
-use Rattle.std.specs.declared.option.Option.{Option}
+use Rattle.std.proofs.Common.{◌≡◌, ◌<◌, ℕ, suc, ◌+◌, List, [], ◌∷◌, length, refl, sym, ap, ◌∙◌, subst, arith, true, Some, slice_index_or, take, take_all, drop, ◌-◌}
 use Rattle.std.specs.List.{All}
 use Rattle.std.proofs.lemmas.List.Elements.{All-take, All-drop}
 use Rattle.mooring_rules.specs.declared.breaks.BrokenPlan.{BrokenPlan}
 use Rattle.master_branch.specs.Node.{Node, IsNodeOf}
-use Rattle.book_rules.specs.Book.{Book, Case, slot_at, is_held}
+use Rattle.book_rules.specs.Book.{Book, slot_at, is_held}
 use Rattle.book_rules.specs.Book.{Node as TreeNode}
 use Rattle.book_rules.specs.Events as machine
 use Rattle.book_rules.specs.Step.{step}
-use Rattle.book_rules.proofs.StepLemmas.{entry_of, IsStep, Refused, Accepted, each-step}
 use Rattle.book_core.specs.Hands.{IsNodeIn}
 use Rattle.book_core.specs.Nodes.{tree_node}
 use Rattle.book_core.specs.declared.reply.Grant.{Grant}
 use Rattle.book_core.specs.declared.reply.Grant.TheVariants as grant
 use Rattle.book_core.specs.declared.reply.Reply.{Reply}
 use Rattle.book_core.specs.declared.reply.Reply.TheVariants as reply
-use Rattle.book_core.specs.Replies.{Answers, Grants, HasNode, IsInHand, grant_told, told}
+use Rattle.book_core.specs.Replies.{Grants, HasNode, IsInHand, grant_told, told}
 use Rattle.search_book.specs.declared.ahead.Ahead.{Ahead}
 use Rattle.search_book.specs.declared.event.Event.{Event}
 use Rattle.search_book.specs.declared.gone.Gone.{Gone}
 use Rattle.search_book.specs.declared.next.Next.{Next}
 use Rattle.search_book.specs.declared.next.Next.TheVariants as next
 use Rattle.search_book.specs.Applied.{Applies, Takes}
-use Rattle.search_book.specs.Following.{Follows, IsFollowed}
 use Rattle.search_book.specs.Going.{GoesAhead, IsNextAhead, IsStop, Passes, ending_of}
-use Rattle.search_book.specs.Granting.{IsAstray, IsFirstAt, IsHeldAt, granted}
-use Rattle.search_book.specs.Replies.{is_accepted, accepted}
+use Rattle.search_book.specs.Granting.{IsAstray, IsFirstAt, IsHeldAt}
+use Rattle.search_book.specs.Replies.{is_accepted}
 use Rattle.book_core.proofs.EventLemmas.{grants-answers, grants-node}
-use Rattle.search_book.proofs.ApplyLemmas.{is_accepting, accepted-by}
 
 -- ---- a taking
 

@@ -1,5 +1,5 @@
 -- The machine's event of each event, and what its caller owes.
-use Rattle.std.specs.Prelude.{ℕ, ◌≤◌, ⊤}
+use Rattle.std.specs.Prelude.{◌≤◌, ⊤}
 use Rattle.refute_rules.specs.Spots.{IsSpotHard}
 use Rattle.book_rules.specs.Events as machine
 use Rattle.search_book.specs.declared.event.Event.{Event}

@@ -1,5 +1,4 @@
-use Rattle.std.proofs.Common.{rules, ◌≡◌, true, false}
-use Rattle.search_book.specs.Replies.{is_accepted}
+use Rattle.std.proofs.Common.{rules}
 use Rattle.search_book.proofs.applying.apply_and_take.Goals as goal
 
 pub returns-clause-steps : goal.returns-clause-steps

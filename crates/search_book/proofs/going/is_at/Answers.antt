@@ -1,4 +1,3 @@
-use Rattle.std.proofs.Common.{rules}
 use Rattle.search_book.proofs.GoingLemmas.{held-own, own-held}
 use Rattle.search_book.proofs.going.is_at.Goals as goal
 

@@ -1,7 +1,6 @@
-use Rattle.std.proofs.Common.{rules, ◌≡◌, true, false, subst}
+use Rattle.std.proofs.Common.{rules, subst}
 use Rattle.book_core.specs.Replies.{Grants}
 use Rattle.search_book.proofs.GoingLemmas.{passes, stops}
-use Rattle.search_book.specs.Replies.{is_accepted}
 use Rattle.search_book.proofs.going.pass.Goals as goal
 
 pub returns-in-Some-clause-on : goal.returns-in-Some-clause-on

@@ -1,4 +1,3 @@
-use Rattle.std.proofs.Common.{rules, ◌≡◌, arith}
 use Rattle.search_book.proofs.ShareLemmas.{all_one}
 use Rattle.search_book.proofs.sharing.share_book.Goals as goal
 
