@@ -3,5 +3,6 @@ mod ahead;
 mod asking;
 mod counting;
 mod parts;
+mod shutting;
 mod table;
 mod threads;

@@ -150,6 +150,14 @@ impl Pricing {
         &mut self.cuts
     }
 
+    /// The prices with which a node begins, once some node was split by prices: they close most nodes.
+    pub fn inherited(&self) -> Option<Prices> {
+        match self.path.as_slice() {
+            [.., last] if !self.is_first => Some(last.prices.copy()),
+            _ => None,
+        }
+    }
+
     /// How many cuts of the book are known.
     pub fn known_cuts(&self) -> u64 {
         self.cuts.len() as u64

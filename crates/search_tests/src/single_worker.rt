@@ -3,3 +3,4 @@ mod alone;
 mod fixture;
 mod hitting;
 mod nodes;
+mod pricing;

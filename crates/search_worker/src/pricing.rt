@@ -133,28 +133,24 @@ fn make_round<L: Ledger, W: Wait, G: Gate>(
     Ok(end)
 }
 
-// The number under which the book keeps these prices; they are posted where the pricing knows of none.
+// The number of these prices in the book, which are posted unless it has them under a known number.
 fn number_of<L: Ledger, W: Wait, G: Gate>(
     post: &Post<'_, L, W, G>,
     worker: &mut Worker<L>,
-    pricing: &mut Pricing,
-    id: u32,
+    known: Option<u64>,
     prices: &Prices,
 ) -> Result<u64, Stop>
     requires serves { Serves post.now worker.old }
     ensures serves { Serves post.now worker.new }
 {
-    if let Some(number) = pricing.number_of(prices) {
+    if let Some(number) = known {
         return Ok(number);
     }
     let copy = Box::new(post.alloc, prices.copy())?;
-    let Reply::Priced(number) = ask(post, worker, Event::PostPrices(copy)) else {
-        return Err(Stop);
-    };
-    if pricing.posted(prices, number) {
-        tell_number(post, id, number);
+    match ask(post, worker, Event::PostPrices(copy)) {
+        Reply::Priced(number) => Ok(number),
+        _ => Err(Stop),
     }
-    Ok(number)
 }
 
 // Closes the held node by prices, where it reaches the best cost by them and by the cuts that are known,
@@ -171,7 +167,7 @@ fn close_by<L: Ledger, W: Wait, G: Gate>(
     requires node { IsNodeOf post.now.search.instance.now node.now }
     ensures serves { Serves post.now worker.new }
 {
-    let number = number_of(post, worker, pricing, id, prices)?;
+    let known = pricing.number_of(prices);
     let best = best_cost(post, worker);
     let asked = PricedNode {
         instance: post.search.instance,
@@ -179,10 +175,15 @@ fn close_by<L: Ledger, W: Wait, G: Gate>(
         prices,
         cuts: pricing.cuts(),
     };
-    match show(post.alloc, &asked, best, LIMITS) {
-        Ok(Some(shown)) => Ok(finish_by_price(post, worker, id, number, &shown)),
-        _ => Ok(false),
+    let Ok(Some(shown)) = show(post.alloc, &asked, best, LIMITS) else {
+        return Ok(false);
+    };
+    let number = number_of(post, worker, known, prices)?;
+    let closed = finish_by_price(post, worker, id, number, &shown);
+    if known.is_none() && pricing.posted(prices, number) {
+        tell_number(post, id, number);
     }
+    Ok(closed)
 }
 
 // Makes rounds until the node is closed or prices show no more; whether it was closed and the next slot
@@ -198,6 +199,11 @@ fn make_rounds<L: Ledger, W: Wait, G: Gate>(
     requires node { IsNodeOf post.now.search.instance.now node.now }
     ensures serves { Serves post.now worker.new }
 {
+    if let Some(prices) = pricing.inherited() {
+        if close_by(post, worker, pricing, id, node, &prices)? {
+            return Ok(true);
+        }
+    }
     for _ in 0..MOST_AT_A_NODE {
         match make_round(post, worker, pricing, node)? {
             RoundEnd::Again => {}

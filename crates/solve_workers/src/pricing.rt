@@ -1,5 +1,5 @@
 //! What the driver makes of prices at the node that it holds.
-ghost use Rattle.std.specs.Prelude.{◌≡◌, IfOk};
+ghost use Rattle.std.specs.Prelude.{◌≡◌, IfSome, IfNone};
 ghost use Rattle.std.specs.Bool.{OnTrue, OnFalse};
 ghost use Rattle.master_branch.specs.Node.{IsNodeOf};
 ghost use Rattle.book_rules.specs.Ends.{HoldsNothing};
@@ -16,7 +16,7 @@ use node_work::Search;
 use place_refute::Cut;
 use placed_groups::Memory;
 use plain_text::NoMemory;
-use price_bound::{PricedNode, Prices, show};
+use price_bound::{PricedNode, Prices, Shown, show};
 use price_search::{Asked, LIMITS, MOST_AT_A_NODE, Pricing, Round, RoundEnd};
 use search_book::learn_cuts;
 use std::alloc::Global;
@@ -46,22 +46,32 @@ fn post_all(book: &mut Book, held: &Held, mut cuts: Vec<Cut>)
     }
 }
 
-#[tactic(auto, using(crate::proofs::DrivenLemmas::driven_none))]
-// The number under which the book keeps these prices; they are posted where it doesn't yet.
-fn number_of(pricing: &mut Pricing, book: &mut Book, held: &Held, prices: &Prices) -> Option<u64>
+#[tactic(auto, using(crate::proofs::DrivenLemmas::driven_then, crate::proofs::DrivenLemmas::driven_none))]
+// Closes the held node by what was shown of it by these prices, which are posted unless the book has them
+// under a known number; the number, if the book took that.
+fn close_with(
+    book: &mut Book,
+    held: &Held,
+    known: Option<u64>,
+    prices: &Prices,
+    shown: &Shown<'_>,
+) -> Option<u64>
     requires holds { Holds book.old held.now }
-    ensures holds { Holds book.new held.now }
+    ensures closed { IfSome result (λ _. HoldsNothing book.new) }
+    ensures held { IfNone result (Holds book.new held.now) }
     ensures driven { IsDriven book.old book.new }
 {
-    if let Some(number) = pricing.number_of(prices) {
-        return Some(number);
+    let number = match known {
+        Some(number) => number,
+        None => post_prices(book, held, prices.copy())?,
+    };
+    if close_shown(book, held, number, shown) {
+        Some(number)
+    } else {
+        None
     }
-    let number = post_prices(book, held, prices.copy())?;
-    pricing.posted(prices, number);
-    Some(number)
 }
 
-#[tactic(auto, using(crate::proofs::DrivenLemmas::driven_then, crate::proofs::DrivenLemmas::driven_none))]
 // Closes the held node by prices, where it reaches the best cost by them and by the book's first cuts.
 fn close_by(
     alloc: Global,
@@ -77,19 +87,22 @@ fn close_by(
     ensures held { OnFalse result (Holds book.new held.now) }
     ensures driven { IsDriven book.old book.new }
 {
-    let best = book.best_cost();
-    let Some(number) = number_of(pricing, book, held, prices) else {
-        return false;
-    };
+    let known = pricing.number_of(prices);
     let asked = PricedNode {
         instance,
         node: &held.node,
         prices,
         cuts: pricing.cuts(),
     };
-    match show(alloc, &asked, best, LIMITS) {
-        Ok(Some(shown)) => close_shown(book, held, number, &shown),
-        _ => false,
+    let Ok(Some(shown)) = show(alloc, &asked, book.best_cost(), LIMITS) else {
+        return false;
+    };
+    match close_with(book, held, known, prices, &shown) {
+        Some(number) => {
+            pricing.posted(prices, number);
+            true
+        }
+        None => false,
     }
 }
 
@@ -141,6 +154,11 @@ fn make_rounds(
     ensures driven { IsDriven book.old book.new }
 {
     book.keeps();
+    if let Some(prices) = pricing.inherited() {
+        if close_by(alloc, search.instance, pricing, book, held, &prices) {
+            return true;
+        }
+    }
     for _ in 0..MOST_AT_A_NODE {
         match make_round(alloc, search, memory, pricing, book, held) {
             Ok(RoundEnd::Again) => {}

@@ -3,6 +3,7 @@ ghost use Rattle.std.specs.Prelude.{◌≡◌, IfOk};
 ghost use Rattle.search_book.specs.Events.{IsAllowed};
 
 use super::ahead::{Way, go_ahead, went};
+use super::shutting::{both_prices, close_by_price, closed_by_price};
 use crate::fixture::{NARROW, both, row_cut};
 use crate::spent_decks::spent_both;
 use book_core::{Book, Reply};
@@ -34,6 +35,11 @@ pub(crate) enum Ask {
     /// The slot is closed by its bound, and the next one is taken.
     CloseAndTake(u32),
     SplitAndTake(u32),
+    /// So much for each ship is posted.
+    Prices(u32),
+    /// Slot 0 is closed by the prices of this number, for which the root of the narrow chamber was
+    /// shown with 8500 for each ship, and the next slot is taken.
+    ClosePriceAndTake(u64),
     /// Nodes from the root on are handed over.
     GoAhead(Way),
 }
@@ -51,7 +57,8 @@ fn event_of(alloc: Global, twin: &Book, ask: Ask) -> Result<Event, Fail>
         Ask::Park(id) => Event::Park(id, 0, 0, Box::new(alloc, spent_both(alloc, twin)?)?),
         Ask::Replace => Event::Replace(Box::new(alloc, both())?),
         Ask::Release => Event::Release(0),
-        Ask::Wait | Ask::Take | Ask::GoAhead(_) => Event::Take(0),
+        Ask::Prices(price) => Event::PostPrices(Box::new(alloc, both_prices(price)?)?),
+        Ask::Wait | Ask::Take | Ask::GoAhead(_) | Ask::ClosePriceAndTake(_) => Event::Take(0),
     })
 }
 
@@ -74,6 +81,8 @@ fn direct(alloc: Global, book: &mut Book, ask: Ask) -> Result<Reply, Fail> {
             book.split(id);
             book.take(0)
         }
+        Ask::Prices(price) => book.post_prices(both_prices(price)?),
+        Ask::ClosePriceAndTake(number) => closed_by_price(alloc, book, number)?,
         Ask::GoAhead(way) => went(book, way),
     })
 }
@@ -103,6 +112,7 @@ fn through<L: Ledger, R: Wait>(
         Ask::SplitAndTake(_) | Ask::CloseAndTake(_) => {
             last_of(shared.end_and_take(rt, mine, 0, event))
         }
+        Ask::ClosePriceAndTake(number) => last_of(close_by_price(rt, alloc, shared, mine, number)?),
         Ask::GoAhead(way) => last_of(go_ahead(rt, alloc, shared, mine, way)?),
         _ => shared.with_book(rt, mine, event),
     })

@@ -145,6 +145,19 @@ fn the_throughput_closes_through_the_lock(rt: HostRuntime) -> Result<(), Fail> {
 }
 
 #[test]
+fn prices_close_through_the_lock(rt: HostRuntime) -> Result<(), Fail> {
+    let asks = &[
+        Ask::Take,
+        Ask::Post,
+        Ask::Prices(8500),
+        Ask::Prices(8400),
+        Ask::ClosePriceAndTake(1),
+        Ask::ClosePriceAndTake(0),
+    ];
+    compare(&rt, rt.alloc(), two_narrow(rt.alloc())?, asks, 5)
+}
+
+#[test]
 fn nodes_ahead_are_the_same_events(rt: HostRuntime) -> Result<(), Fail> {
     for (way, events) in [
         (Way::Both, 5),

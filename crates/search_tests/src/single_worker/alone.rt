@@ -1,6 +1,6 @@
 //! What one worker makes of a book.
 
-use super::fixture::{PointGate, lock, searched, searched_as, two_up};
+use super::fixture::{Given, PointGate, lock, searched, searched_as, two_up};
 use super::hitting::has_hit_cut;
 use crate::fixture::open;
 use instance_text::make_lot;
@@ -74,7 +74,11 @@ fn no_cut_of_a_worker_hits_a_later_one(rt: HostRuntime) -> Result<(), Fail> {
 fn a_worker_that_cannot_go_on_gives_its_slot_back(rt: HostRuntime) -> Result<(), Fail> {
     let book = open(rt.alloc(), two_up(232)?, 100, 20000)?;
     let other = lock(232, 1, Way::Up)?;
-    let (book, _) = searched_as(&rt, rt.alloc(), &OpenGate, book, &other)?;
+    let given = Given {
+        instance: &other,
+        board: None,
+    };
+    let (book, _) = searched_as(&rt, rt.alloc(), &OpenGate, book, given)?;
     assert_eq!(rt; (book.held_by(0), book.ended(0)), (None, true));
     Ok(())
 }

@@ -9,7 +9,7 @@ use lock_model::{Instance, Way};
 use master_branch::arrival_order;
 use node_work::Search;
 use search_book::{ShareList, share_book};
-use search_worker::{Hands, Post, search};
+use search_worker::{Board, Hands, Post, search};
 use std::alloc::Global;
 use std::marker::Brand;
 use std::sync::ledger::{Blank, Ledger};
@@ -30,6 +30,14 @@ pub(crate) fn two_up(width: u32) -> Result<Instance, Fail> {
     Ok(two_ships(width).ok_or("no instance")?)
 }
 
+/// What a worker is given beside its book: the instance that it takes for the book's, and a board of
+/// prices, if any.
+#[derive(Clone, Copy)]
+pub(crate) struct Given<'a> {
+    pub(crate) instance: &'a Instance,
+    pub(crate) board: Option<&'a Board>,
+}
+
 // A worker's hands: the last share of a list of single parts, and a seat of one part.
 fn hands_of<L: Ledger>(shares: &mut ShareList<L>, seat: BoundSeat) -> Option<Hands<L>>
     requires each { All (λ s. s.parts ≡ 1) shares.old }
@@ -42,15 +50,15 @@ fn hands_of<L: Ledger>(shares: &mut ShareList<L>, seat: BoundSeat) -> Option<Han
     Some(Hands { share, seat })
 }
 
-// The book after one worker has searched it for this instance under a ledger of two parts, and the
-// least cost that was posted.
+// The book after one worker has searched it with what it is given, under a ledger of two parts, and
+// the least cost that was posted.
 fn searched_by<L: Ledger, W: Wait, G: Gate>(
     rt: &W,
     alloc: Global,
     gate: &G,
     blank: Blank,
     book: Book,
-    instance: &Instance,
+    given: Given<'_>,
 ) -> Result<(Book, u64), Fail>
     requires name { blank.name ≡ L.name }
     requires parts { (blank.parts ≡ L.parts) × (blank.parts ≡ 2) }
@@ -67,10 +75,10 @@ fn searched_by<L: Ledger, W: Wait, G: Gate>(
         rt,
         alloc,
         gate,
-        search: Search::new(instance, turns),
-        order: arrival_order(instance),
+        search: Search::new(given.instance, turns),
+        order: arrival_order(given.instance),
         quota: u32::MAX,
-        board: None,
+        board: given.board,
         book: &book,
         pool: &pool,
         word: &word,
@@ -81,19 +89,19 @@ fn searched_by<L: Ledger, W: Wait, G: Gate>(
     Ok((book.into_book(shares), word.close(seat)))
 }
 
-/// The book after one worker has searched it alone for this instance, and the least cost that was
-/// posted.
+/// The book after one worker has searched it alone with what it is given, and the least cost that
+/// was posted.
 pub(crate) fn searched_as<W: Wait, G: Gate>(
     rt: &W,
     alloc: Global,
     gate: &G,
     book: Book,
-    instance: &Instance,
+    given: Given<'_>,
 ) -> Result<(Book, u64), Fail> {
-    searched_by::<Brand, W, G>(rt, alloc, gate, Blank::new(2), book, instance)
+    searched_by::<Brand, W, G>(rt, alloc, gate, Blank::new(2), book, given)
 }
 
-/// The same for the instance of the book.
+/// The same for the instance of the book, without prices.
 pub(crate) fn searched<W: Wait, G: Gate>(
     rt: &W,
     alloc: Global,
@@ -101,7 +109,11 @@ pub(crate) fn searched<W: Wait, G: Gate>(
     book: Book,
 ) -> Result<(Book, u64), Fail> {
     let instance = book.case().instance.copy();
-    searched_as(rt, alloc, gate, book, &instance)
+    let given = Given {
+        instance: &instance,
+        board: None,
+    };
+    searched_as(rt, alloc, gate, book, given)
 }
 
 /// A gate that keeps the points at which one worker called it.
