@@ -3,7 +3,6 @@ ghost use Rattle.std.specs.Prelude.{◌≡◌, ◌≤◌, length};
 
 use crate::appending::append;
 use crate::offers::Offer;
-use place_refute::Cut;
 use plain_text::NoMemory;
 use price_bound::{ChamberCut, Prices};
 use price_raise::{Ascent, Pace};
@@ -156,22 +155,6 @@ impl Pricing {
             [.., last] if !self.is_first => Some(last.prices.copy()),
             _ => None,
         }
-    }
-
-    /// How many cuts of the book are known.
-    pub fn known_cuts(&self) -> u64 {
-        self.cuts.len() as u64
-    }
-
-    /// Learns the next cut of the book.
-    pub fn learn(&mut self, cut: &Cut) -> Result<(), NoMemory> {
-        append(
-            &mut self.cuts,
-            ChamberCut {
-                chamber: cut.chamber,
-                ships: cut.ships.copy(),
-            },
-        )
     }
 
     /// The first cuts of the book, as prices see them.

@@ -3,7 +3,7 @@ use lock_model::{Instance, Ships};
 use master_branch::root;
 use node_work::{KnownCuts, Search};
 use placed_groups::Memory;
-use price_bound::Prices;
+use price_bound::{ChamberCut, Prices};
 use price_search::{Asked, Pricing, RoundEnd};
 use std::process::Abort;
 use std::test::Fail;
@@ -44,13 +44,17 @@ fn rounds_find_the_cut_the_plan_and_the_cost(rt: HostRuntime) -> Result<(), Fail
             .round(rt.alloc(), &asked, &mut memory)
             .map_err(|_| "no memory")?;
         for cut in &round.cuts {
-            pricing.learn(cut).map_err(|_| "no memory")?;
+            let known = ChamberCut {
+                chamber: cut.chamber,
+                ships: cut.ships.copy(),
+            };
+            pricing.cuts_mut().push(known).map_err(|_| "no memory")?;
         }
         if round.plan.is_some() {
             best = 120;
         }
         if matches!(&round.end, RoundEnd::Reached(_)) {
-            assert_eq!(rt; (best, pricing.known_cuts()), (120, 1));
+            assert_eq!(rt; (best, pricing.cuts().len()), (120, 1));
             return Ok(());
         }
     }
