@@ -154,11 +154,6 @@ fn make_rounds(
     ensures driven { IsDriven book.old book.new }
 {
     book.keeps();
-    if let Some(prices) = pricing.inherited() {
-        if close_by(alloc, search.instance, pricing, book, held, &prices) {
-            return true;
-        }
-    }
     for _ in 0..MOST_AT_A_NODE {
         match make_round(alloc, search, memory, pricing, book, held) {
             Ok(RoundEnd::Again) => {}
@@ -173,6 +168,50 @@ fn make_rounds(
         }
     }
     false
+}
+
+#[tactic(auto, using(crate::proofs::DrivenLemmas::driven_none))]
+// Closes the held node by the prices of the node above it, which close most nodes; whether they do.
+fn close_as_inherited(
+    alloc: Global,
+    instance: &Instance,
+    pricing: &mut Pricing,
+    book: &mut Book,
+    held: &Held,
+) -> bool
+    requires holds { Holds book.old held.now }
+    requires node { IsNodeOf instance.now held.now.node }
+    ensures closed { OnTrue result (HoldsNothing book.new) }
+    ensures held { OnFalse result (Holds book.new held.now) }
+    ensures driven { IsDriven book.old book.new }
+{
+    match pricing.inherited() {
+        Some(prices) => close_by(alloc, instance, pricing, book, held, &prices),
+        None => false,
+    }
+}
+
+#[tactic(auto, using(crate::proofs::DrivenLemmas::driven_then, crate::proofs::DrivenLemmas::driven_none, crate::proofs::DrivenLemmas::own_still))]
+// Closes the held node by the prices of the node above it, or makes rounds; whether it was closed.
+fn close_or_raise(
+    alloc: Global,
+    search: &Search<'_>,
+    memory: &mut Memory,
+    pricing: &mut Pricing,
+    book: &mut Book,
+    held: &Held,
+) -> bool
+    requires holds { Holds book.old held.now }
+    requires own { IsOwnSearch book.old search.now }
+    ensures closed { OnTrue result (HoldsNothing book.new) }
+    ensures held { OnFalse result (Holds book.new held.now) }
+    ensures driven { IsDriven book.old book.new }
+{
+    book.keeps();
+    if close_as_inherited(alloc, search.instance, pricing, book, held) {
+        return true;
+    }
+    make_rounds(alloc, search, memory, pricing, book, held)
 }
 
 /// Asks prices about the held node, where there are any, and carries out what they find; whether the
@@ -200,5 +239,5 @@ pub(crate) fn price(driver: &mut Driver<'_>, book: &mut Book, held: &Held) -> bo
         memory,
         ..
     } = driver;
-    make_rounds(*alloc, search, memory, pricing, book, held)
+    close_or_raise(*alloc, search, memory, pricing, book, held)
 }
