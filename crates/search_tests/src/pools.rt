@@ -16,9 +16,9 @@ fn lock(width: u32) -> Option<Instance> {
     let mut chambers = Chambers::new();
     chambers.push(chamber(b'c', width));
     let mut ships = ShipList::new();
-    for letter in [b's', b't', b'u'] {
-        ships.push(ship(letter, Way::Up, 0));
-    }
+    ships.push(ship(b's', Way::Up, 0));
+    ships.push(ship(b't', Way::Up, 0));
+    ships.push(ship(b'u', Way::Up, 0));
     Instance::new(chambers, ships)
 }
 

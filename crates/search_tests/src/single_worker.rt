@@ -3,4 +3,3 @@ mod alone;
 mod fixture;
 mod hitting;
 mod nodes;
-mod pricing;

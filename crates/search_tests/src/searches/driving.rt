@@ -1,7 +1,8 @@
 //! Small searches of one worker, worked out by hand.
 
-use crate::fixture::{case_of, opened};
-use book_core::{Book, Case};
+use crate::fixture::case_of;
+use book_core::{Book, Case, open_book};
+use first_plan::{first_unfit, singles_plan};
 use lock_model::Verdict;
 use solve_workers::drive;
 use std::alloc::Global;
@@ -10,7 +11,11 @@ use worked_locks::{pair, two_ships};
 
 // The book of a search from the singles plan, driven to its end.
 fn driven(alloc: Global, case: &Case) -> Result<Book, Fail> {
-    let mut book = opened(alloc, case)?;
+    if first_unfit(&case.instance).is_some() {
+        return Err(Fail::from("an unfit ship"));
+    }
+    let plan = singles_plan(&case.instance);
+    let mut book = open_book(alloc, case, plan)?;
     drive(alloc, &mut book)?;
     Ok(book)
 }
