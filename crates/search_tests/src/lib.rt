@@ -9,7 +9,6 @@
 #[cfg(test)]
 mod fixture;
 #[cfg(test)]
-mod pools;
 #[cfg(test)]
 mod rounds;
 #[cfg(test)]
