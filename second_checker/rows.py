@@ -1,7 +1,8 @@
 #!/usr/bin/env python3
-"""Worked rows for the second checker: a dossier, one edit, and the line that must be printed.
+"""Worked rows for the second checker: a dossier, one edit, and the line that must be printed. rows.py [GLOCK]
 
-It prints each row that differs and `N rows, M different`, and its status is 0 where none differs."""
+Given a glock program, the rows are held against its `check` and `lower` too. It prints each row that differs and
+`N rows, M different`, and its status is 0 where none differs."""
 
 import pathlib
 import subprocess
@@ -9,6 +10,7 @@ import sys
 
 sys.dont_write_bytecode = True
 from check_dossier import answer
+from worked_refutations import REFUTED, asking
 
 ROWS = pathlib.Path(__file__).parent.with_name("rows")
 sys.path.append(str(ROWS))
@@ -215,6 +217,28 @@ CHECKED = [
         "[3,2,0,1]", "[3,2,2,2]", "[3,2,3]", "[3,2,3,2,0]", "[3,2,4,3]", "[3,0,2,3,2]", "[3,0,0,2,3,2,2,3,2]", "[3,1,0]",
         "[3,1,1]", "[4,3,0]", "[4,0,3,0]", "[4,0,3,1,3,0]", "[4,0,2,0,3,0]", "[4,0,4,0,3,0]", "[4,0,5,0,0,3,0]",
         "[4,1,0]", "[4,2,0]", "[4,0,0,5,0,0,0,5,0,0]")),
+    # more forms of costs, ships, reasons, spots and headings
+    *((SECOND, '"cost":120', f'"cost":{cost}', PART(2)) for cost in ("-0", "12e1")),
+    (SECOND, '"cost":120', '"cost":121', "rejected cost reason 2 CostWrong"),
+    (SECOND, '"ships":[0,1]', '"ships":[0,1,2,3,4,5,6,7,8]', PART(3)),
+    (SECOND, '"ships":[0,1]', '"ships":[2]', "rejected cut 0 reason 3 CutShape"),
+    *((SECOND, WHY, f'"why":{why}', PART(3)) for why in ("[1,1,0]", "[5,0,1]")),
+    (SECOND, WHY, '"why":[3,0,4294967295]', UNPROVED),
+    (FIRST, "[[10,0,0,0],[10,126,1,0]]", "[[10,0,0,0]]", PART(4)), (FIRST, '"way":0', '"way":0,"more":0', PART(4)),
+    *((FIRST, "[10,126,1,0]", spot, PART(4)) for spot in ("[10,126,2,0]", "[10,126,1,257]", "[10,126,1]")),
+    (FIRST, '"way":0', '"way":2', PART(4)),
+    *((FIRST, "certificate\n", heading, NO_MARK) for heading in (
+        "", "certificates\n", "certificate open\n", "certificate 2 2\n", "certificate 4\n", "certificate 03\n",
+        "certificate open 3\n")),
+    # more marks that don't hold where they stand
+    (SECOND, SECOND_TREE, "[0,1]", "rejected tree 1 reason 8 BoundLow"),
+    (SECOND, SECOND_TREE, "[0,0,100,100,1]", "rejected tree 3 reason 9 CutMisses"),
+    (SECOND, SECOND_TREE, "[0,0,2,1,1]", "rejected tree 2 reason 10 ThroughputLow"),
+    (SECOND, SECOND_TREE, "[0,0,11,1,1]", "rejected tree 2 reason 11 ProbeWrong"),
+    (SECOND, SECOND_TREE, "[33,9223372036854775907]", "rejected tree 0 reason 11 ProbeWrong"),
+    (FIRST, FIRST_TREE, "[0,12]", "rejected tree 1 reason 11 ProbeWrong"),
+    # worked refutations
+    *((asking(deck, why), "", "", "rejected tree 0 reason 5 TreeShort" if holds else UNPROVED) for deck, why, holds in REFUTED),
     # an instance text of any length; a word after the line's words; a line of words that aren't UTF-8
     (SECOND, "end\n", "#" * 70_000 + "\nend\n", ACCEPTED), (SECOND, "certificate\n", "certificate 2 x\n", NO_MARK),
     (SECOND, "certificate\n", "\udcff\ncertificate\n", NO_MARK), (SECOND, "end\n", "end \r# x\n", "dossier fault 1 "
@@ -228,6 +252,24 @@ OPENED = [
     (OPEN, "[0,0,3,1,1]", "[0,4,3]", PART(5)), (OPEN, '"cuts":[]', '"cuts":[{"chamber":0,"ships":[0,1],"why":[5,1,0]}]', PART(3)),
     (SECOND, "certificate\n", "certificate open\n", "lower 120 cost 120"), (SECOND, "", "", NO_MARK), (CLASH, "", "", NO_MARK),
     (CLASH, "certificate 2", "certificate open", "lower 120 cost 120"),
+    # places where it fails first
+    (OPEN, '"start":50', '"start":49', ILLEGAL), (OPEN, '"cost":120', '"cost":121', "rejected cost reason 2 CostWrong"),
+    *((OPEN, '"cuts":[]', f'"cuts":[{{"chamber":{chamber},"ships":[0,1],"why":{why}}}]', line) for chamber, why, line in (
+        (0, "[1,0,1]", "lower 80 cost 120"), (7, "[1,0,1]", "rejected cut 0 reason 3 CutShape"), (0, "[0]", UNPROVED))),
+    *((OPEN, "[0,0,3,1,1]", tree, line) for tree, line in (
+        ("[0,3]", "lower 70 cost 120"), ("[]", "rejected tree 0 reason 5 TreeShort"),
+        ("[0,0,3,1]", "rejected tree 4 reason 5 TreeShort"), ("[3,3]", "rejected tree 1 reason 6 TreeLong"),
+        ("[0,0,0,1,1]", "rejected tree 2 reason 7 SplitFull"), ("[0,0,100,3,3]", "rejected tree 2 reason 9 CutMisses"),
+        ("[4]", PART(5)), ("[34]", PART(5)), ("[4,0]", PART(5)))),
+    # faults, and lenient reading
+    *((OPEN, "certificate open", heading, line) for heading, line in (
+        ("certificate", NO_MARK), ("certificate 2", NO_MARK), ("certificate 3", NO_MARK), ("certificate open 2", NO_MARK),
+        ("certificate open 3", PART(1)))),
+    (OPEN, '{"cost"', '"cost"', JSON), (OPEN, '"cost":120', '"price":120', PART(1)), (OPEN, '"cost":120', '"cost":120.0', PART(2)),
+    (OPEN, '"cuts":[]', '"cuts":3', PART(3)), (OPEN, "[[10,0,0,0]]", "[]", PART(4)),
+    *((OPEN, old, new, "lower 80 cost 120") for old, new in (
+        ("certificate open\n", "\n # x\n\t certificate  open # y\r\n"), ("certificate open\n", "\r\ncertificate open\n"),
+        ('{"cost"', ' \n { "cost"'), ('"cost":120', '"cost":1,"cost":120'), ("[0,0,3,1,1]}\n", "[0,0,3,1,1]}"))),
 ]
 
 
@@ -251,18 +293,27 @@ def as_process(data, *words):
     return done.stdout.decode(), done.returncode
 
 
+def by_program(data, is_open):
+    """The line and the status of the given program; None where none is given."""
+    if len(sys.argv) < 2:
+        return None
+    done = subprocess.run([sys.argv[1], "lower" if is_open else "check"], input=data, capture_output=True)
+    return done.stdout.decode().removesuffix("\n"), done.returncode
+
+
 def main():
     rows = [(*row, False) for row in CHECKED] + [(*row, True) for row in OPENED]
     different = 0
     for number, (dossier, old, new, line, is_open) in enumerate(rows):
         assert old == "" or dossier.count(old) >= 1, (number, old)
-        data = dossier.replace(old, new, 1).encode("utf-8", "surrogateescape")
+        data, told = dossier.replace(old, new, 1).encode("utf-8", "surrogateescape"), (line, status_of(line))
         said = answer(data, is_open)
         if number % 40 == 0:
             assert as_process(data, *["--open"][:is_open]) == (said[0] + "\n", said[1]), number
-        if said != (line, status_of(line)):
-            different += 1
-            print(f"row {number}: {old!r} by {new[:60]!r}: {said}, not {line!r}")
+        for found in (said, by_program(data, is_open) or told):
+            if found != told:
+                different += 1
+                print(f"row {number}: {old!r} by {new[:60]!r}: {found}, not {told}")
     assert as_process(OPEN.encode(), "--open") == ("lower 80 cost 120\n", 1)
     priced = list(priced_rows())
     for data, told, is_open in priced:

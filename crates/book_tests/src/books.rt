@@ -3,16 +3,12 @@ mod asking;
 mod memory;
 mod parking;
 mod pricing;
-mod walk;
 
 use crate::fixture::{NARROW, SIDE, narrow, open, open_cheap, side_by_side, swift};
 use asking::{Ask, expect};
-use book_core::{Book, Reply};
 use closing_rules::Ground;
 use lock_model::Verdict;
-use std::process::Abort;
 use std::test::Fail;
-use walk::{instance_of_seven, slow_next};
 
 #[test]
 fn events_answer_as_the_table_says(rt: HostRuntime) -> Result<(), Fail> {
@@ -165,53 +161,5 @@ fn a_spent_budget_is_told(rt: HostRuntime) -> Result<(), Fail> {
     let end = (4, "Split(1) Split(2) Fresh Closed(Bound) Closed(Bound) ");
     expect(&rt, rt.alloc(), &mut book, &TO_BOTH, replies, end)?;
     assert_eq!(rt; book.verdict(), Verdict::OpenNodes { used: 2, low: 80 });
-    Ok(())
-}
-
-// A worker without a slot takes one, which is the one that a walk finds: 1 where it was given one.
-fn take_next(rt: &impl Abort, book: &mut Book, worker: u8) -> u32 {
-    let next = slow_next(book);
-    match book.take(worker.min(8)) {
-        Reply::Node(id, _) => {
-            assert_eq!(rt; Some(id), next);
-            1
-        }
-        _ => 0,
-    }
-}
-
-// A worker closes its slot or splits it, or ends at a node of all ships.
-fn go_on(book: &mut Book, worker: u8, id: u32, ends: bool) {
-    if book.close_bound(id) == Reply::Closed || book.split(id) != Reply::Whole(id) {
-        return;
-    }
-    if ends {
-        book.release(worker.min(8));
-    }
-}
-
-// What the worker of this number does next: 1 where it was given a slot.
-fn make_move(rt: &impl Abort, book: &mut Book, draw: u32) -> u32 {
-    let worker = (draw % 9) as u8;
-    match book.held_by(worker) {
-        None => take_next(rt, book, worker),
-        Some(id) => {
-            go_on(book, worker, id, draw % 4 == 0);
-            0
-        }
-    }
-}
-
-// Nine workers take, split, close and end, as a generator of numbers has it.
-#[test]
-fn take_gives_what_a_walk_over_all_slots_finds(rt: HostRuntime) -> Result<(), Fail> {
-    let mut book = open(rt.alloc(), instance_of_seven()?, 300)?;
-    let mut seed: u32 = 7;
-    let mut given_slots: u32 = 0;
-    for _round in 0..600u32 {
-        seed = seed.wrapping_mul(1664525).wrapping_add(1013904223);
-        given_slots = given_slots.saturating_add(make_move(&rt, &mut book, seed >> 16));
-    }
-    assert!(rt; given_slots > 30);
     Ok(())
 }

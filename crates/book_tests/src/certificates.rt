@@ -8,7 +8,6 @@ use book_core::{Book, Reply};
 use cert_check::{Answer, Ground, Mark, check};
 use lock_model::{Instance, Plan};
 use master_branch::root;
-use place_refute::{Quick, Refutation};
 use price_bound::{ChamberCut, Limits, PricedNode, Prices, show};
 use std::alloc::Global;
 use std::process::Abort;
@@ -112,34 +111,6 @@ const TO_THE_CUT: [Deed; 6] = [
     Take(0),
     PostAndClose(2),
 ];
-
-#[test]
-fn a_book_of_the_narrow_chamber_gives_its_certificate(rt: HostRuntime) -> Result<(), Fail> {
-    let book = driven(rt.alloc(), Narrow, one_after_the_other(50), &TO_THE_CUT)?;
-    let certificate = certificate_of(rt.alloc(), &book).map_err(|_| "no certificate")?;
-    assert_eq!(rt; certificate.cost, 120);
-    assert_eq!(rt; certificate.plan, one_after_the_other(50));
-    assert_eq!(rt;
-        certificate.tree.as_slice(),
-        [
-            Mark::Split,
-            Mark::Split,
-            Mark::Leaf(Ground::Cut(0)),
-            Mark::Leaf(Ground::Bound),
-            Mark::Leaf(Ground::Bound)
-        ]
-        .as_slice()
-    );
-    match certificate.cuts.as_slice() {
-        [cut] => {
-            assert_eq!(rt; cut.chamber, 0);
-            assert_eq!(rt; cut.ships.as_slice(), [0, 1].as_slice());
-            assert!(rt; matches!(&cut.refutation, Refutation::Quick(Quick::Row(_))));
-        }
-        _ => panic!(rt; "one cut"),
-    }
-    Ok(())
-}
 
 // The certificate of a finished book has these marks, and is accepted with its cost.
 fn expect_marks(rt: &impl Abort, alloc: Global, book: &Book, marks: &[Mark]) -> Result<(), Fail> {

@@ -1,7 +1,6 @@
 //! Books under a lock.
 mod ahead;
 mod asking;
-mod counting;
 mod parts;
 mod shutting;
 mod table;

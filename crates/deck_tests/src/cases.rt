@@ -2,7 +2,7 @@
 ghost use Rattle.std.specs.Prelude.{◌≤◌, ◌<◌, length, IsTrue};
 ghost use Rattle.refute_rules.specs.Clashes.{IsClashingPair};
 
-use crate::fixture::{LEFT, Laden, NARROW, Place, QUAY, RIGHT, TIGHT, TWINS, laden_deck, spots_of};
+use crate::fixture::{LEFT, Laden, NARROW, Place, QUAY, RIGHT, TWINS, laden_deck, spots_of};
 use case_search::{Berth, berth_option};
 use chamber_place::{Placed, place, shrink};
 use lock_model::{Deck, Measures, Moor, Ships};
@@ -71,40 +71,6 @@ fn two_ships_take_five_turns(rt: HostRuntime) -> Result<(), Fail> {
     }
     let places = [(10, 0, LEFT, QUAY), (10, 126, RIGHT, QUAY)];
     expect_fits(&rt, rt.alloc(), &deck, 5, &places)
-}
-
-#[test]
-fn a_third_ship_is_moored_at_the_first(rt: HostRuntime) -> Result<(), Fail> {
-    let deck = deck_of(TIGHT, &[(1100, 114), (1100, 60), (1100, 50)]).ok_or("no deck")?;
-    let places = [
-        (10, 0, LEFT, QUAY),
-        (10, 180, RIGHT, QUAY),
-        (10, 119, LEFT, Moor::Ship(0)),
-    ];
-    expect_fits(&rt, rt.alloc(), &deck, 20_000, &places)
-}
-
-/// The quick reason of an answer.
-fn reason_of(placed: Placed) -> Option<Quick> {
-    match placed {
-        Placed::Refuted(refutation) => match refutation {
-            Refutation::Quick(reason) => Some(reason),
-            Refutation::Cases(_marks) => None,
-            Refutation::Spots(_marks) => None,
-            Refutation::Clash(_first, _second) => None,
-            Refutation::Berths(_marks) => None,
-        },
-        Placed::Fits(_spots) => None,
-        Placed::Spent(_hard) => None,
-    }
-}
-
-#[test]
-fn the_first_quick_reason_comes_before_any_turn(rt: HostRuntime) -> Result<(), Fail> {
-    let deck = deck_of(NARROW, TWINS).ok_or("no deck")?;
-    let placed = place(rt.alloc(), &deck, 1).map_err(|_| "no memory")?;
-    assert!(rt; reason_of(placed) == Some(Quick::Row(pair(0, 1))));
-    Ok(())
 }
 
 #[test]

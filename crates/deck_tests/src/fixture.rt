@@ -5,12 +5,6 @@ use worked_locks::BASE;
 /// Two base ships don't lie side by side here.
 pub(crate) const NARROW: Measures = Measures { width: 232, ..BASE };
 
-/// A base ship fills the length of this chamber.
-pub(crate) const TIGHT: Measures = Measures {
-    length: 1140,
-    ..BASE
-};
-
 pub(crate) const SHORT: Measures = Measures {
     length: 100,
     width: 50,

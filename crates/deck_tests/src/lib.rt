@@ -1,10 +1,11 @@
 //! Tests of the crates of decks and placers, and of the model below them.
 //!
 //! The crate has no code but its tests, each over the public items of the crate that it names:
-//! `lock_model` (`model`), `mooring_rules` (`moorings`), `deck_laws` (`laws`), `diff_system`
-//! (`differences`), `ship_shapes` (`shapes`), `berth_check` and `berth_place` (`berths`),
-//! `place_refute` (`refutations`), `case_search` and `chamber_place` (`cases`), `spot_place`
-//! (`spots`), `placed_groups` (`answers`). Lengths are decimetres.
+//! `lock_model` (`model`), `mooring_rules` (`moorings`), `deck_laws` (`laws`), `ship_shapes`
+//! (`shapes`), `berth_check` and `berth_place` (`berths`), `place_refute` (`refutations`),
+//! `case_search` and `chamber_place` (`cases`), `spot_place` (`spots`), `placed_groups` (`answers`).
+//! Breaks of placements, and refutations that hold or don't, stand with the rows of whole runs and
+//! those of the second checker too. Lengths are decimetres.
 #![tactic(auto)]
 
 #[cfg(test)]
@@ -13,8 +14,6 @@ mod answers;
 mod berths;
 #[cfg(test)]
 mod cases;
-#[cfg(test)]
-mod differences;
 #[cfg(test)]
 mod fixture;
 #[cfg(test)]

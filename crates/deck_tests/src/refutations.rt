@@ -1,4 +1,4 @@
-//! Worked refutations and cuts.
+//! Worked refutations and cuts. More refutations stand with the second checker.
 use crate::fixture::{Laden, NARROW, SHORT, TWINS, laden_deck};
 use lock_model::{Chambers, Instance, Measures, ShipList, Ships, Way};
 use place_refute::{
@@ -45,55 +45,17 @@ type Worked = (Measures, &'static [Laden], Told, bool);
 
 const LONG: &[Laden] = &[(90, 50, 0)];
 
-const WIDE: &[Laden] = &[(80, 60, 0)];
-
-const FLUSH: &[Laden] = &[(80, 50, 0)];
-
-const WORKED: [Worked; 38] = [
+const WORKED: [Worked; 8] = [
     // edge 0 leads from the origin to x, and edge 1 back
     (SHORT, LONG, Told::Cases(&[2, 0, 1]), true),
-    (SHORT, LONG, Told::Cases(&[2, 1, 0]), true),
-    (SHORT, LONG, Told::Cases(&[4, 0, 1, 0, 1]), true),
-    // not closed, of total 0, unknown, too long, too short, none at all
     (SHORT, LONG, Told::Cases(&[2, 0, 0]), false),
-    (SHORT, LONG, Told::Cases(&[2, 2, 3]), false),
-    (SHORT, LONG, Told::Cases(&[2, 0, 4]), false),
-    (SHORT, LONG, Told::Cases(&[2, 0, 4294967295]), false),
-    (SHORT, LONG, Told::Cases(&[2, 0, 1, 0]), false),
-    (SHORT, LONG, Told::Cases(&[2, 0]), false),
-    (SHORT, LONG, Told::Cases(&[4294967295, 0]), false),
-    (SHORT, LONG, Told::Cases(&[1, 0]), false),
-    (SHORT, LONG, Told::Cases(&[]), false),
-    // a split wants all options, and a decision that is left
-    (SHORT, LONG, Told::Cases(&[0, 2, 0, 1, 2, 0, 1]), true),
-    (SHORT, LONG, Told::Cases(&[0, 2, 0, 1]), false),
-    (SHORT, LONG, Told::Cases(&[0, 0, 2, 0, 1]), false),
-    // the edges of a berth come behind those of the deck
-    (SHORT, WIDE, Told::Cases(&[0, 2, 2, 3, 2, 2, 3]), true),
-    (SHORT, FLUSH, Told::Cases(&[0, 2, 2, 4, 2, 4, 3]), false),
     // no spot values: a split at x has no options
     (SHORT, LONG, Told::Spots(&[0, 0, 0]), true),
-    (SHORT, WIDE, Told::Spots(&[0, 3, 0, 3, 0]), true),
-    (SHORT, WIDE, Told::Spots(&[0, 3, 0]), false),
-    (SHORT, FLUSH, Told::Spots(&[0, 3, 0, 3, 0]), false),
-    (SHORT, FLUSH, Told::Spots(&[0, 0, 0, 0, 0]), false),
-    (SHORT, WIDE, Told::Spots(&[0, 3, 1, 3, 1]), false),
-    (SHORT, WIDE, Told::Spots(&[0, 5, 0, 0, 5, 0, 0]), false),
-    (SHORT, WIDE, Told::Spots(&[0, 6, 0, 6, 0]), false),
-    // one tree of each berth, or a leaf at once
-    (SHORT, WIDE, Told::Berths(&[0, 0, 4, 0, 4, 0]), true),
-    (SHORT, WIDE, Told::Berths(&[0, 0, 4, 0]), false),
     (SHORT, LONG, Told::Berths(&[8]), true),
-    (SHORT, FLUSH, Told::Berths(&[8]), false),
     (NARROW, TWO, Told::Row(0, 0), false),
     (NARROW, TWO, Told::Row(0, 1), true),
-    (NARROW, TWO, Told::Row(0, 2), false),
     (NARROW, CARGO, Told::Clash(0, 1), true),
     (NARROW, CARGO, Told::Clash(1, 0), false),
-    (NARROW, CARGO, Told::Clash(0, 2), false),
-    (NARROW, CARGO, Told::Clash(0, 3), false),
-    (NARROW, CARGO, Told::Clash(1, 1), false),
-    (NARROW, TWO, Told::Clash(0, 1), false),
 ];
 
 #[test]

@@ -1,6 +1,6 @@
 //! Decks placed and refuted by spots.
-use crate::fixture::{LEFT, NARROW, QUAY, RIGHT, SHORT, TIGHT, TWINS, spots_of};
-use lock_model::{Measures, Moor};
+use crate::fixture::{LEFT, NARROW, QUAY, RIGHT, SHORT, TWINS, spots_of};
+use lock_model::Measures;
 use spot_place::{SpotPlaced, place_by_spots};
 use std::test::Fail;
 use worked_locks::{BASE, deck_of};
@@ -14,21 +14,6 @@ fn the_first_whole_spot_case_is_placed(rt: HostRuntime) -> Result<(), Fail> {
             SpotPlaced::Fits(spots) => assert_eq!(rt; spots, expected),
             _ => return Err("the twins fit".into()),
         }
-    }
-    Ok(())
-}
-
-#[test]
-fn a_ship_is_moored_to_a_ship_between_the_quays(rt: HostRuntime) -> Result<(), Fail> {
-    let deck = deck_of(TIGHT, &[(1100, 114), (1100, 60), (1100, 50)]).ok_or("no deck")?;
-    let expected = spots_of(&[
-        (10, 0, LEFT, QUAY),
-        (10, 180, RIGHT, QUAY),
-        (10, 119, LEFT, Moor::Ship(0)),
-    ]);
-    match place_by_spots(rt.alloc(), &deck, 20_000).map_err(|_| "no memory")? {
-        SpotPlaced::Fits(spots) => assert_eq!(rt; spots, expected),
-        _ => return Err("the three fit".into()),
     }
     Ok(())
 }

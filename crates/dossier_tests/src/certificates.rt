@@ -7,7 +7,7 @@ use cert_check::{
     Answer, CertCut, CertCuts, Certificate, FailurePlace, Reason, check, one_first_failure,
 };
 use cert_text::read_dossier;
-use edits::{CLASH_EDITS, Edit, NARROW_EDITS, PASSING_EDITS, PRICE_EDITS, SIDE_EDITS};
+use edits::{Edit, NARROW_EDITS};
 use lock_model::{Instance, Ships};
 use refute_rules::Refutation;
 use std::alloc::Global;
@@ -55,16 +55,7 @@ fn expect(rt: &impl Abort, alloc: Global, dossier: &str, edits: &[Edit]) -> Resu
 #[test]
 fn an_edit_is_rejected_where_it_is_made(rt: HostRuntime) -> Result<(), Fail> {
     one_first_failure();
-    expect(&rt, rt.alloc(), NARROW, NARROW_EDITS)?;
-    expect(&rt, rt.alloc(), SIDE, SIDE_EDITS)?;
-    expect(&rt, rt.alloc(), PASSING, PASSING_EDITS)?;
-    expect(&rt, rt.alloc(), CLASH, CLASH_EDITS)
-}
-
-#[test]
-fn an_edit_of_prices_is_rejected_where_it_is_made(rt: HostRuntime) -> Result<(), Fail> {
-    let priced = priced(rt.alloc())?;
-    expect(&rt, rt.alloc(), priced.as_str(), PRICE_EDITS)
+    expect(&rt, rt.alloc(), NARROW, NARROW_EDITS)
 }
 
 // A cut of no ships, which no dossier has.
@@ -85,14 +76,5 @@ fn a_cut_of_no_ships_is_rejected(rt: HostRuntime) -> Result<(), Fail> {
     let answer = check(rt.alloc(), &instance, &certificate).map_err(|_| "no memory")?;
     let misshapen = Answer::Rejected(FailurePlace::Cut(0), Reason::CutShape);
     assert_eq!(rt; answer, misshapen);
-    Ok(())
-}
-
-#[test]
-fn a_wrong_cost_comes_before_prices_out_of_shape(rt: HostRuntime) -> Result<(), Fail> {
-    let text = edited(rt.alloc(), PRICED, "\"cost\":120", "\"cost\":119")?;
-    let text = edited(rt.alloc(), text.as_str(), "[[8500,8500]]", "[[8500]]")?;
-    let wrong = Answer::Rejected(FailurePlace::Cost, Reason::CostWrong);
-    assert_eq!(rt; answer_to(rt.alloc(), text.as_str())?, wrong);
     Ok(())
 }

@@ -1,8 +1,6 @@
 //! Worked dossiers.
 
-mod ends;
 mod faults;
 mod fixture;
 mod parts;
-mod printing;
 mod reading;

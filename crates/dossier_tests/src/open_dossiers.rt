@@ -3,4 +3,3 @@
 mod answers;
 mod books;
 mod fixture;
-mod reading;

@@ -1,12 +1,8 @@
-//! Tests of the program: answers to texts in memory, and whole runs.
+//! Tests of the program: whole runs over sources and sinks in memory.
 //!
 //! The worked rows of whole runs are tried on the built program. The crate has no code but its tests.
 #![tactic(auto)]
 
-#[cfg(test)]
-mod plan_answers;
-#[cfg(test)]
-mod replan_answers;
 #[cfg(test)]
 mod runs;
 #[cfg(test)]

@@ -1,8 +1,6 @@
-//! Texts made of lines, and what is wanted of an answer.
+//! Texts made of lines.
 
-use run_answers::Answer;
 use std::alloc::Global;
-use std::process::Abort;
 use std::test::Fail;
 
 /// One ship, and a chamber that takes it.
@@ -18,10 +16,4 @@ pub(crate) fn lines_of(alloc: Global, lines: &[(&str, usize)]) -> Result<Vec<u8>
         }
     }
     Ok(text)
-}
-
-/// The answer has the status of this number and this text.
-pub(crate) fn expect(rt: &impl Abort, answer: &Answer, code: u8, text: &[u8]) {
-    assert_eq!(rt; answer.text.as_slice(), text);
-    assert_eq!(rt; answer.status.code(), code);
 }

@@ -15,28 +15,6 @@ fn a_seat_reads_the_least_that_it_posted(rt: HostRuntime) -> Result<(), Fail> {
     Ok(())
 }
 
-#[test]
-fn a_joined_seat_has_what_both_posted(rt: HostRuntime) -> Result<(), Fail> {
-    for (opening, first, second, least) in [
-        (120, 80, 100, 80),
-        (120, 100, 80, 80),
-        (120, 130, 121, 120),
-        (0, 1, 2, 0),
-        (u64::MAX, 0, u64::MAX, 0),
-    ] {
-        let (table, mut one) = BoundTable::new(rt.alloc(), opening, 3).map_err(|_| "no memory")?;
-        let mut two = table.split(&mut one);
-        assert_eq!(rt; (one.parts(), two.parts()), (2, 1));
-        assert_eq!(rt; table.lower(&mut one, first), opening);
-        table.lower(&mut two, second);
-        assert_eq!(rt; table.load(&mut one), least);
-        table.join(&mut one, two);
-        assert_eq!(rt; one.parts(), 3);
-        assert_eq!(rt; table.close(one), least);
-    }
-    Ok(())
-}
-
 // Posts a cost in a thread, and gives the seat back.
 fn lowered(table: &BoundTable, mut seat: BoundSeat, cost: u64) -> BoundSeat
     requires { seat.table ≡ table.now.table }

@@ -1,4 +1,4 @@
-//! Days: what is done minute by minute.
+//! Days: what is done minute by minute. More of them stand with the rows of whole runs.
 
 use crate::worked::{GUEST, GUEST_PLAN, instance_of, plan_of};
 use chamber_times::BrokenTime;
@@ -43,50 +43,6 @@ fn played(instance: &[u8], plan: &[u8]) -> Result<Played, Fail> {
 /// A chamber that stands on the other side of its ship.
 const HIGH: &[u8] =
     b"glock 1\nchamber c1 2000 240 10 20 5 4 30 15 high 0\nship s1 up 1100 114 0 5\nend\n";
-
-/// An instance, a plan, and the beats of its day.
-type Turned = (&'static [u8], &'static [u8], [Told; 4]);
-
-const TURNS: [Turned; 3] = [
-    (
-        HIGH,
-        b"plan\nlockage c1 up 15\nberth s1 10 0 left *\nend\n",
-        [
-            (0, Act::Turn),
-            (15, Act::Moor(0)),
-            (15, Act::Go),
-            (50, Act::Done),
-        ],
-    ),
-    (
-        b"glock 2\nchamber c1 2000 240 10 20 5 4 30 15 high 0\nclose c1 10 20\nship s1 up 1100 114 0 5\nend\n",
-        b"plan\nlockage c1 up 35\nberth s1 10 0 left *\nend\n",
-        [
-            (20, Act::Turn),
-            (35, Act::Moor(0)),
-            (35, Act::Go),
-            (70, Act::Done),
-        ],
-    ),
-    (
-        b"glock 2\nchamber c1 2000 240 10 20 5 4 30 15 high 0\nclose c1 15 20\nship s1 up 1100 114 0 5\nend\n",
-        b"plan\nlockage c1 up 20\nberth s1 10 0 left *\nend\n",
-        [
-            (0, Act::Turn),
-            (20, Act::Moor(0)),
-            (20, Act::Go),
-            (55, Act::Done),
-        ],
-    ),
-];
-
-#[test]
-fn a_turn_comes_at_the_least_free_minute(rt: HostRuntime) -> Result<(), Fail> {
-    for (instance, plan, beats) in &TURNS {
-        assert!(rt; tells(&played(instance, plan)?, beats));
-    }
-    Ok(())
-}
 
 #[test]
 fn a_plan_too_soon_for_its_turn_is_stuck(rt: HostRuntime) -> Result<(), Fail> {

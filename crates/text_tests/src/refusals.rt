@@ -4,8 +4,8 @@ ghost use Rattle.std.specs.Prelude.{◌≡◌};
 use crate::worked::{SIDE, instance_of, plan_of};
 use chamber_times::BrokenTime;
 use mooring_rules::{Broken, BrokenPlan};
-use plan_judge::{BadPlan, PlanKind};
-use plan_texts::{break_text, fault_text, late_text};
+use plan_refusals::{break_text, fault_text, late_text};
+use plan_text::{BadPlan, PlanKind};
 use std::test::Fail;
 
 const PLAN: &[u8] =

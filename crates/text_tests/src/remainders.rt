@@ -2,9 +2,9 @@
 ghost use Rattle.std.specs.Prelude.{◌≤◌};
 
 use crate::worked::{instance_of, plan_of};
-use lock_model::{Instance, Plan, Stand};
-use mooring_rules::{Broken, BrokenPlan, judge_plan};
-use plan_judge::read_plan;
+use lock_model::{Instance, Plan};
+use mooring_rules::{BrokenPlan, judge_plan};
+use plan_text::read_plan;
 use replan::{ReplanError, Residual, put_together, residual};
 use std::test::Fail;
 
@@ -16,10 +16,6 @@ const WIDE: &[u8] =
 const SLOW: &[u8] =
     b"glock 1\nchamber c1 2000 240 10 20 5 4 1000000 15 low 0\nship s1 up 1100 114 0 5\nship s2 up 1100 114 5 5\nend\n";
 
-/// Three ships, no two of which lie side by side.
-const NARROW: &[u8] =
-    b"glock 1\nchamber c1 2000 232 10 20 5 4 30 15 low 0\nship s1 up 1100 114 0 5\nship s2 up 1100 114 0 5\nship s3 up 1100 114 0 5\nend\n";
-
 /// The first ship goes at once.
 const FIRST: &[u8] = b"plan\nlockage c1 up 0\nberth s1 10 0 left *\nend\n";
 
@@ -29,30 +25,9 @@ type Answer = Result<(&'static [u8], u64), ReplanError>;
 /// An instance, a plan, and the minute from which ships are planned anew.
 type Row = (&'static [u8], &'static [u8], u32, Answer);
 
-const ROWS: [Row; 8] = [
+const ROWS: [Row; 3] = [
     (WIDE, FIRST, 10, Ok((&[1], 40))),
-    (WIDE, FIRST, 0, Ok((&[0, 1], 0))),
-    (
-        WIDE,
-        b"plan\nlockage c1 up 3\nberth s1 10 0 left *\nend\n",
-        2,
-        Ok((&[0, 1], 2)),
-    ),
-    (
-        WIDE,
-        b"plan\nlockage c1 up 0\nberth s1 10 0 left *\nlockage c1 up 50\nberth s2 10 0 left *\nend\n",
-        51,
-        Ok((&[], 115)),
-    ),
-    (NARROW, FIRST, 10, Ok((&[1, 2], 55))),
     (SLOW, FIRST, 1, Err(ReplanError::Late(0))),
-    // An outsider at x 9, after the lockage that is forgotten.
-    (
-        WIDE,
-        b"plan\nlockage c1 up 20\nberth s2 10 0 left *\nlockage c1 up 0\nberth s1 9 0 left *\nend\n",
-        10,
-        Err(ReplanError::Kept(BrokenPlan::Deck(1, Broken::Outside(0)))),
-    ),
     (
         WIDE,
         b"plan\nlockage c1 up 0\nberth s1 10 0 left *\nlockage c1 up 50\nberth s1 10 0 left *\nend\n",
@@ -78,20 +53,6 @@ fn the_ships_that_are_left_are_told(rt: HostRuntime) -> Result<(), Fail> {
         let whole = instance_of(instance)?;
         let found = residual(&whole, &plan_of(&whole, plan)?, *from);
         assert!(rt; agrees(&found, want), "row {i}");
-    }
-    Ok(())
-}
-
-#[test]
-fn the_rest_begins_where_the_kept_lockage_ends(rt: HostRuntime) -> Result<(), Fail> {
-    let whole = instance_of(WIDE)?;
-    let left = residual(&whole, &plan_of(&whole, FIRST)?, 10).map_err(|_| "refused")?;
-    let rest = left.rest.ok_or("no rest")?;
-    for chamber in rest.chambers.as_slice() {
-        assert_eq!(rt; (chamber.stands, chamber.opens), (Stand::High, 35));
-    }
-    for ship in rest.ships.as_slice() {
-        assert_eq!(rt; ship.arrival, 10);
     }
     Ok(())
 }

@@ -1,11 +1,9 @@
 //! Whole reads and writes at every bite and every fault.
-ghost use Rattle.std.specs.Prelude.{◌≢◌, ◌≤◌, Err};
-ghost use Rattle.lock_io.specs.declared.read.ReadError.{ReadError};
-ghost use Rattle.lock_io.specs.declared.read.ReadError.TheVariants.{ReadFault};
+ghost use Rattle.std.specs.Prelude.{◌≤◌};
 
 use lock_io::{
-    FixedSink, MemorySink, MemorySource, ReadError, StdSink, StdSource, SteadySource, WriteFault,
-    read_all, write_all_of,
+    FixedSink, MemorySink, MemorySource, ReadError, StdSink, StdSource, WriteFault, read_all,
+    write_all_of,
 };
 use std::alloc::Global;
 use std::io;
@@ -100,29 +98,6 @@ fn more_bytes_than_the_limit_are_too_long(rt: HostRuntime) -> Result<(), Fail> {
     Ok(())
 }
 
-// A source that never fails is never read with a fault.
-fn read_steadily(alloc: Global, bytes: Vec<u8>, limit: u64) -> Result<Vec<u8>, ReadError>
-    ensures { result ≢ Err ReadFault }
-{
-    let mut source = SteadySource::new(bytes);
-    read_all(alloc, &mut source, limit)
-}
-
-#[test]
-fn a_steady_source_gives_its_bytes_as_they_are(rt: HostRuntime) -> Result<(), Fail> {
-    let alloc = rt.alloc();
-    let text =
-        b"glock 1\r\n# evening\r\nchamber  c1 2000 240 10 20 5 4 30 15 low 0\r\nship\ts1 up 1100 114 0 5 # barge\r\nend";
-    assert_eq!(rt;
-        read_steadily(alloc, text.to_vec(alloc)?, 65_536)?.as_slice(),
-        text.as_slice()
-    );
-    let mut source = SteadySource::new(text.to_vec(alloc)?);
-    assert_eq!(rt; read_all(alloc, &mut source, 4), Err(ReadError::TooLong(4)));
-    assert_eq!(rt; source.as_slice().len(), 0);
-    Ok(())
-}
-
 // A writing with bites of this size, which fails at the call with this number if it comes to it.
 fn writes_up_to<R: Abort>(
     rt: &R,
@@ -155,10 +130,6 @@ fn a_writing_is_whole_or_stops_at_its_fault(rt: HostRuntime) -> Result<(), Fail>
         for fault in 0..INPUT.len() + 2 {
             writes_up_to(&rt, alloc, INPUT, most, fault)?;
         }
-    }
-    let report = vec![in alloc; b'.'; 1_173]?;
-    for fault in 0..75 {
-        writes_up_to(&rt, alloc, &report, 16, fault)?;
     }
     Ok(())
 }

@@ -5,7 +5,7 @@ ghost use Rattle.lock_rules.specs.Plan.{IsLegal};
 use instance_text::read_instance;
 use lock_model::{Instance, Plan};
 use mooring_rules::judge_plan;
-use plan_judge::read_plan;
+use plan_text::read_plan;
 use std::test::Fail;
 
 /// Two ships that lie side by side.

@@ -9,6 +9,8 @@
 #[cfg(test)]
 mod bounds;
 #[cfg(test)]
+mod fixture;
+#[cfg(test)]
 mod near;
 #[cfg(test)]
 mod nodes;

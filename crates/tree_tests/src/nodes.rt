@@ -153,26 +153,6 @@ fn a_tree_has_no_more_nodes_than_its_law_allows(rt: HostRuntime) -> Result<(), F
 }
 
 #[test]
-fn the_greatest_nodes_have_fifty_children(rt: HostRuntime) -> Result<(), Fail> {
-    let instance = instance(&[8, 8, 8, 8], &[(Way::Down, 1_000_000); 24])?;
-    assert_eq!(rt;
-        node_limit(&instance),
-        265_550_463_043_319_039_980_173_626_674_781
-    );
-    let mut node = root(&instance);
-    for depth in 0..24 {
-        let count = 2 * depth + 4;
-        assert!(rt; child_at(&instance, &node, count).is_none());
-        node = child_at(&instance, &node, count - 1).ok_or("no child")?;
-    }
-    assert_eq!(rt; node.line(3).len(), 24);
-    assert_eq!(rt; node.line(0).len(), 0);
-    assert!(rt; child_at(&instance, &node, 0).is_none());
-    assert_eq!(rt; node.copy(), node);
-    Ok(())
-}
-
-#[test]
 fn a_node_becomes_its_child_in_place(rt: HostRuntime) -> Result<(), Fail> {
     let instance = instance(&[8], &[(Way::Up, 0), (Way::Up, 1)])?;
     let mut node = root(&instance);

@@ -37,6 +37,8 @@ fn ships_that_lack_get_dearer(rt: HostRuntime) -> Result<(), Fail> {
         let pace = Pace {
             steps: 1,
             patience: 15,
+            span: 10,
+            spans: 1,
         };
         let mut ascent = Ascent::new(prices, pace);
         assert_eq!(rt;
@@ -54,11 +56,15 @@ fn ships_that_lack_get_dearer(rt: HostRuntime) -> Result<(), Fail> {
 }
 
 #[test]
-fn it_goes_back_to_the_best_prices(rt: HostRuntime) -> Result<(), Fail> {
+fn it_goes_back_to_the_best_prices_and_ends_where_the_goal_is_out_of_sight(
+    rt: HostRuntime,
+) -> Result<(), Fail> {
     let prices = Prices::new(&[0, 0]).ok_or("no prices")?;
     let pace = Pace {
         steps: 9,
         patience: 0,
+        span: 2,
+        spans: 3,
     };
     let mut ascent = Ascent::new(prices, pace);
     assert!(rt; ascent.raise(&[0, 1], &standing(0, 0), 0, 70));
@@ -66,7 +72,11 @@ fn it_goes_back_to_the_best_prices(rt: HostRuntime) -> Result<(), Fail> {
     // from 0 again, by a step of two thirds: the direction is 3 tenths up and once down
     assert_eq!(rt; ascent.best().as_slice(), [0, 0].as_slice());
     assert_eq!(rt; ascent.tried().as_slice(), [0, 0].as_slice());
-    assert!(rt; ascent.raise(&[0, 1], &standing(0, 0), 10, 70));
-    assert_eq!(rt; ascent.best_sum(), 10);
+    // two steps gained 2400, and three times as much is more than 4600
+    assert!(rt; ascent.raise(&[0, 1], &standing(0, 0), 2400, 70));
+    assert_eq!(rt; ascent.best_sum(), 2400);
+    assert!(rt; ascent.raise(&[0, 1], &standing(0, 0), 2450, 70));
+    // two more gained 1100, and three times as much is less than 3500
+    assert!(rt; !ascent.raise(&[0, 1], &standing(0, 0), 3500, 70));
     Ok(())
 }

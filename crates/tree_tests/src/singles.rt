@@ -1,22 +1,10 @@
 //! Worked singles plans.
+use crate::fixture::{chamber, ship};
 use chamber_times::cost;
 use first_plan::{first_plan, first_unfit, singles_plan};
 use lock_model::{Chamber, Chambers, Instance, Ship, ShipList, Stand, Way};
 use std::test::Fail;
 use worked_locks::two_ships;
-
-fn chamber(letter: u8, length: u32, stands: Stand) -> Chamber {
-    let mut chamber = worked_locks::chamber(letter, 240);
-    chamber.length = length;
-    chamber.stands = stands;
-    chamber
-}
-
-fn ship(letter: u8, way: Way, length: u32, arrival: u32) -> Ship {
-    let mut ship = worked_locks::ship(letter, way, arrival);
-    ship.length = length;
-    ship
-}
 
 // Two chambers and two ships.
 fn two_by_two(first: Chamber, second: Chamber, ship: Ship, other: Ship) -> Option<Instance> {
@@ -50,26 +38,6 @@ fn ships_are_served_alone_by_the_chamber_that_ends_first(rt: HostRuntime) -> Res
         assert_eq!(rt; lockages.len(), 2);
         assert_eq!(rt; [lockages[0].chamber, lockages[1].chamber], chambers);
         assert_eq!(rt; [lockages[0].start, lockages[1].start], starts);
-    }
-    Ok(())
-}
-
-#[test]
-fn the_first_ship_that_fits_no_chamber_is_named(rt: HostRuntime) -> Result<(), Fail> {
-    for (first, second, unfit) in [
-        (1980, 1480, None),
-        (1981, 1480, Some(0)),
-        (1480, 1981, Some(1)),
-        (1981, 1981, Some(0)),
-    ] {
-        let short = chamber(b'a', 1500, Stand::Low);
-        let long = chamber(b'b', 2000, Stand::Low);
-        let (one, other) = (
-            ship(b's', Way::Up, first, 0),
-            ship(b't', Way::Up, second, 0),
-        );
-        let instance = two_by_two(short, long, one, other).ok_or("no instance")?;
-        assert_eq!(rt; first_unfit(&instance), unfit, "{first} and {second}");
     }
     Ok(())
 }

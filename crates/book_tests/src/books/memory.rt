@@ -1,8 +1,7 @@
 //! Want of memory: these tests hold wherever one allocation fails, as under `rt try --test
 //! --fail-alloc N` for each N.
 
-use super::pricing::prices_of;
-use crate::fixture::{NARROW, both, narrow, open, open_for, row_cut, side_by_side, try_cut};
+use crate::fixture::{both, open, open_for, side_by_side};
 use book_core::{Book, Reply};
 use lock_model::Instance;
 use std::alloc::Global;
@@ -62,37 +61,4 @@ fn a_split_and_a_plan_wait_for_memory(rt: HostRuntime) -> Result<(), Fail> {
     expect_replaced(&rt, &mut book);
     assert_eq!(rt; book.close_probe(1, 1), Reply::Closed);
     Ok(())
-}
-
-// Posts a cut, if there is memory for one.
-fn post_tried(alloc: Global, book: &mut Book) -> Reply {
-    match try_cut(alloc, NARROW) {
-        Some(cut) => book.post(cut),
-        None => Reply::NoMemory,
-    }
-}
-
-// Prices are posted likewise.
-fn expect_priced(rt: &impl Abort, book: &mut Book) -> Result<(), Fail> {
-    let before = told(book);
-    let mut reply = book.post_prices(prices_of(2, 8500)?);
-    if reply == Reply::NoMemory {
-        assert_eq!(rt; told(book), before);
-        reply = book.post_prices(prices_of(2, 8500)?);
-    }
-    assert_eq!(rt; reply, Reply::Priced(0));
-    Ok(())
-}
-
-#[test]
-fn a_cut_and_prices_wait_for_memory(rt: HostRuntime) -> Result<(), Fail> {
-    let mut book = opened(rt.alloc(), narrow()?, narrow()?)?;
-    let before = told(&book);
-    let mut reply = post_tried(rt.alloc(), &mut book);
-    if reply == Reply::NoMemory {
-        assert_eq!(rt; told(&book), before);
-        reply = book.post(row_cut(rt.alloc(), NARROW)?);
-    }
-    assert_eq!(rt; reply, Reply::Posted(0));
-    expect_priced(&rt, &mut book)
 }

@@ -78,31 +78,6 @@ fn another_group_parks_nothing(rt: HostRuntime) -> Result<(), Fail> {
 }
 
 #[test]
-fn a_parked_slot_is_closed_by_its_bound(rt: HostRuntime) -> Result<(), Fail> {
-    let mut book = open_turns(rt.alloc(), side_by_side()?, 1)?;
-    let asks = &[
-        Ask::Take(0),
-        Ask::Split(0),
-        Ask::Take(0),
-        Ask::Split(1),
-        Ask::Take(0),
-        Ask::Both,
-        Ask::Park(2, 0, 0),
-        Ask::Close(2, Ground::Bound),
-        Ask::Close(2, Ground::Bound),
-    ];
-    let replies =
-        "Node(0, 0) Made(1) Node(1, 1) Made(3) Node(2, 2) Replaced(80) Parked Closed NotHeld(2) ";
-    let end = (
-        8,
-        "Split(1) Split(2) Closed(Bound) Closed(Bound) Closed(Bound) ",
-    );
-    expect(&rt, rt.alloc(), &mut book, asks, replies, end)?;
-    assert_eq!(rt; book.verdict(), Verdict::Optimal);
-    Ok(())
-}
-
-#[test]
 fn too_few_turns_and_a_clash_park_nothing(rt: HostRuntime) -> Result<(), Fail> {
     for (instance, turns, last) in [
         (side_by_side()?, 2, "OtherDeck"),

@@ -4,7 +4,7 @@ ghost use Rattle.std.specs.Prelude.{◌≡◌};
 use super::ahead::Way;
 use super::asking::{Ask, expect_same};
 use super::parts::{Part, give_back, take_part};
-use crate::fixture::{narrow, open_cheap, open_turns, side_by_side, swift};
+use crate::fixture::{narrow, open_turns, side_by_side};
 use book_core::Book;
 use closing_rules::Ground;
 use search_book::share_book;
@@ -121,27 +121,6 @@ fn a_bound_closes_a_parked_slot_through_the_lock(rt: HostRuntime) -> Result<(), 
     let book = open_turns(rt.alloc(), side_by_side()?, 1)?;
     let twin = open_turns(rt.alloc(), side_by_side()?, 1)?;
     compare(&rt, rt.alloc(), (book, twin), asks, 8)
-}
-
-#[test]
-fn a_probe_closes_through_the_lock(rt: HostRuntime) -> Result<(), Fail> {
-    let asks = &[
-        Ask::Wait,
-        Ask::Split(0),
-        Ask::Take,
-        Ask::Close(1, Ground::Probe(1)),
-    ];
-    let book = open_cheap(rt.alloc(), side_by_side()?)?;
-    let twin = open_cheap(rt.alloc(), side_by_side()?)?;
-    compare(&rt, rt.alloc(), (book, twin), asks, 4)
-}
-
-#[test]
-fn the_throughput_closes_through_the_lock(rt: HostRuntime) -> Result<(), Fail> {
-    let asks = &[Ask::Wait, Ask::Close(0, Ground::Throughput)];
-    let book = open_turns(rt.alloc(), swift()?, 128)?;
-    let twin = open_turns(rt.alloc(), swift()?, 128)?;
-    compare(&rt, rt.alloc(), (book, twin), asks, 2)
 }
 
 #[test]

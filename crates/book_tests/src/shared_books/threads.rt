@@ -1,5 +1,5 @@
 //! Two threads over one book.
-ghost use Rattle.std.specs.Prelude.{◌≡◌, ◌≤◌};
+ghost use Rattle.std.specs.Prelude.{◌≡◌};
 
 use super::parts::{Part, give_back, take_part};
 use crate::fixture::{narrow, open_turns};
@@ -11,50 +11,6 @@ use std::sync::ledger::{Blank, Ledger};
 use std::test::*;
 use std::thread;
 use std::thread::{Threads, yield_now};
-
-// Takes, splits, and ends at the node that holds all ships.
-fn work<L: Ledger, R: Wait>(rt: &R, shared: &SharedBook<L>, part: Part<L>, worker: u8) -> Part<L>
-    requires { worker ≤ 8 }
-{
-    let Part {
-        mut share,
-        mut last,
-    } = part;
-    for _round in 0..5u8 {
-        let Reply::Node(id, _) = shared.take_or_wait(rt, &mut share, worker) else {
-            break;
-        };
-        last = Some(id);
-        if shared.with_book(rt, &mut share, Event::Split(id)) == Reply::Whole(id) {
-            shared.with_book(rt, &mut share, Event::Release(worker));
-        }
-    }
-    Part { share, last }
-}
-
-// The length of the history after two workers.
-fn both_work_of<L: Ledger + Send + Sync, R: Threads + Wait + Sync>(
-    rt: &R,
-    blank: Blank,
-    book: Book,
-) -> Option<(u64, Option<u32>, Option<u32>)>
-    requires name { blank.name ≡ L.name }
-    requires parts { (blank.parts ≡ L.parts) × (blank.parts ≡ 3) }
-{
-    let (shared, mut shares) = share_book::<L>(blank, book, 2);
-    let first = take_part(&mut shares)?;
-    let second = take_part(&mut shares)?;
-    let lent = &shared;
-    let (one, other) = thread::join(
-        rt,
-        move || work(rt, lent, first, 0),
-        move || work(rt, lent, second, 1),
-    );
-    let one = give_back(&mut shares, one);
-    let other = give_back(&mut shares, other);
-    let book = shared.into_book(shares);
-    Some((book.history_len(), one, other))
-}
 
 // Takes a slot as worker 0.
 fn take_root<L: Ledger, R: Wait>(rt: &R, shared: &SharedBook<L>, part: Part<L>) -> Part<L> {
@@ -116,14 +72,6 @@ fn wait_of<L: Ledger + Send + Sync, R: Threads + Wait + Sync>(
     let other = give_back(&mut shares, other);
     let book = shared.into_book(shares);
     Some((book.history_len(), other))
-}
-
-#[test]
-fn two_workers_take_and_split(rt: HostRuntime) -> Result<(), Fail> {
-    let book = open_turns(rt.alloc(), narrow()?, 128)?;
-    let done = both_work_of::<Brand, _>(&rt, Blank::new(3), book);
-    assert_eq!(rt; done, Some((8, Some(2), Some(2))));
-    Ok(())
 }
 
 #[test]

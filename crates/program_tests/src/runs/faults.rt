@@ -1,7 +1,7 @@
 //! Sources and sinks that fail.
 
 use super::fixture::{
-    Calls, LOT_OF_ONE, NEVER, Ran, expect_cut_off, expect_ran, run_cut_off, run_over, run_with,
+    Calls, NEVER, Ran, expect_cut_off, expect_ran, run_cut_off, run_over, run_with,
 };
 use crate::worked::ONE_SHIP;
 use std::alloc::Global;
@@ -69,16 +69,6 @@ fn a_dossier_is_cut_off_where_the_sink_fails(rt: HostRuntime) -> Result<(), Fail
     for fault in 0..5 {
         let ran = run_cut_off(&rt, rt.alloc(), words, ONE_SHIP, fault)?;
         expect_cut_off(&rt, &ran, fault, whole.text.as_slice());
-    }
-    Ok(())
-}
-
-#[test]
-fn a_lot_is_cut_off_where_the_sink_fails(rt: HostRuntime) -> Result<(), Fail> {
-    let words = ["lot", "--ships", "1", "--chambers", "1"].as_slice();
-    for fault in 0..5 {
-        let ran = run_cut_off(&rt, rt.alloc(), words, "", fault)?;
-        expect_cut_off(&rt, &ran, fault, LOT_OF_ONE.as_bytes());
     }
     Ok(())
 }

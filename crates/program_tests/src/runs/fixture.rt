@@ -9,10 +9,6 @@ use std::sync::Wait;
 use std::test::Fail;
 use std::thread::Threads;
 
-/// What `lot` prints for one ship and one chamber.
-pub(super) const LOT_OF_ONE: &str =
-    "glock 1\nchamber c1 2000 240 10 20 5 6 30 15 low 0\nship s1 up 1020 88 35 4\nend\n";
-
 /// The number of a call that never comes.
 pub(super) const NEVER: u64 = 1_000_000;
 

@@ -1,9 +1,9 @@
-//! Searches in which one worker waits for another.
+//! A search in which one worker waits for another. More of them are whole runs.
 
 use crate::fixture::case_of;
 use book_core::Case;
 use instance_text::read_instance;
-use lock_io::{LastGate, MeetGate};
+use lock_io::LastGate;
 use solve_workers::solve;
 use std::test::Fail;
 
@@ -11,10 +11,6 @@ use std::test::Fail;
 // hits it in both.
 const EQUAL: &[u8; 168] =
     b"glock 1\nchamber c1 2000 232 10 20 5 4 30 15 low 0\nchamber c2 2000 232 10 20 5 4 30 15 low 0\nship s1 up 1100 114 0 5\nship s2 up 1100 114 0 5\nship s3 up 1100 114 0 5\nend\n";
-
-// Four ships of two ways.
-const CROSSING: &[u8; 198] =
-    b"glock 1\nchamber c1 2000 232 10 20 5 4 30 15 high 0\nchamber c2 2000 232 10 20 5 4 30 15 high 0\nship s1 up 1100 114 0 5\nship s2 up 1100 114 0 5\nship s3 down 1100 114 0 5\nship s4 down 1100 114 0 5\nend\n";
 
 // The longest that a gate looks.
 const LOOKS: u64 = 10_000_000;
@@ -26,32 +22,11 @@ fn case_from(text: &[u8]) -> Result<Case, Fail> {
 }
 
 #[test]
-fn two_workers_meet(rt: HostRuntime) -> Result<(), Fail> {
-    let case = case_from(EQUAL)?;
-    let gate = MeetGate::new(LOOKS);
-    let solved = solve(&rt, rt.alloc(), &case, 2, &gate)?;
-    assert!(rt; gate.met());
-    assert_eq!(rt; solved.book.best_cost(), 155);
-    Ok(())
-}
-
-#[test]
 fn a_worker_closes_by_the_cuts_of_another(rt: HostRuntime) -> Result<(), Fail> {
     let case = case_from(EQUAL)?;
     let gate = LastGate::new(LOOKS);
     let solved = solve(&rt, rt.alloc(), &case, 2, &gate)?;
     assert!(rt; gate.freed());
     assert!(rt; solved.book.cut(0).is_some() && solved.book.cut(3).is_none());
-    Ok(())
-}
-
-#[test]
-fn a_worker_reads_the_best_cost_of_another(rt: HostRuntime) -> Result<(), Fail> {
-    let case = case_from(CROSSING)?;
-    let gate = LastGate::new(LOOKS);
-    let solved = solve(&rt, rt.alloc(), &case, 2, &gate)?;
-    assert_eq!(rt; solved.book.opening_cost(), 270);
-    assert_eq!(rt; solved.book.best_cost(), 210);
-    assert_eq!(rt; gate.heard(), Some(210));
     Ok(())
 }

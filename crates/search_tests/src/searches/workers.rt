@@ -1,11 +1,10 @@
-//! Searches from the first plan, and from a plan and cuts that were found before.
+//! Searches from a plan and cuts that were found before.
 ghost use Rattle.std.specs.Prelude.{◌≡◌, All, IfOk, IfSome};
 ghost use Rattle.book_rules.specs.Cover.{IsOwnCut};
 
 use crate::fixture::case_of;
 use book_core::{Book, Case};
 use lock_io::OpenGate;
-use lock_model::Verdict;
 use place_refute::{Cut, copy_cut};
 use plain_text::NoMemory;
 use solve_workers::{CutList, solve, solve_from};
@@ -33,21 +32,6 @@ fn first_cut(alloc: Global, book: &Book) -> Result<CutList, NoMemory>
         cuts.push(cut)?;
     }
     Ok(cuts)
-}
-
-#[test]
-fn the_cost_is_the_same_for_each_number_of_workers(rt: HostRuntime) -> Result<(), Fail> {
-    for (width, cost) in [(232, 120), (233, 80)] {
-        let case = case_of(two_ships(width).ok_or("no instance")?, 3, 20000).ok_or("no case")?;
-        for workers in 1..9 {
-            let book = solve(&rt, rt.alloc(), &case, workers, &OpenGate)?.book;
-            assert_eq!(rt;
-                (book.best_cost(), book.verdict()),
-                (cost, Verdict::Optimal)
-            );
-        }
-    }
-    Ok(())
 }
 
 // The same case with a budget of one node.

@@ -2,9 +2,11 @@
 ghost use Rattle.master_branch.specs.Node.{IsNodeOf};
 
 use crate::walk::node_at;
-use flow_bounds::{Roster, bound, child_bounds, children_reaching, is_missing, probe, throughput};
+use flow_bounds::{
+    NodeWalks, Roster, bound, child_bounds, children_reaching, is_missing, probe, throughput,
+};
 use lock_model::{Instance, Ship, Way};
-use master_branch::Node;
+use master_branch::{Node, next_ship, steps_by};
 use std::test::Fail;
 use worked_locks::{chamber, one_chamber};
 
@@ -78,7 +80,9 @@ fn child_reaches(instance: &Instance, node: &Node, i: usize, cost: u64) -> Optio
     if node.depth() as usize >= instance.ships.as_slice().len() {
         return None;
     }
-    children_reaching(instance, &Roster::of(instance), node, cost)
+    let steps = steps_by(instance, node, next_ship(instance, node.depth()));
+    let roster = Roster::of(instance);
+    children_reaching(instance, &roster, node, &steps, cost, &mut NodeWalks::new())
         .as_slice()
         .get(i)
         .copied()

@@ -1,9 +1,8 @@
-//! A lock with one chamber and two ships, its lines and its plans.
+//! A lock with one chamber and two ships, and its lines.
 ghost use Rattle.std.specs.Prelude.{◌≡◌, ◌<◌, ◌≤◌, length, All, IfSome};
 
 use lock_model::{
-    Chamber, Chambers, Closure, Closures, Group, Instance, Line, Lockage, Lockages, Plan, Ship,
-    ShipList, Ships, Spots, Stand, Way,
+    Chamber, Chambers, Closure, Closures, Group, Instance, Line, Ship, ShipList, Ships, Stand, Way,
 };
 
 /// The times of the chamber and of its two ships.
@@ -108,23 +107,4 @@ pub(crate) fn line(groups: &[(Way, Who)]) -> Line
         });
     }
     line
-}
-
-/// A plan of these lockages of chamber 0, each with its start.
-pub(crate) fn plan(lockages: &[(Way, Who, u32)]) -> Plan
-    requires { length lockages.now ≤ 24 }
-    ensures chambers { All (λ l. l.chamber < 1) result.lockages }
-    ensures ships { All (λ l. All (λ s. s < 2) l.ships) result.lockages }
-{
-    let mut all = Lockages::new();
-    for &(way, who, start) in lockages {
-        all.push(Lockage {
-            chamber: 0,
-            way,
-            ships: ships(who),
-            start,
-            spots: Spots::new(),
-        });
-    }
-    Plan { lockages: all }
 }
