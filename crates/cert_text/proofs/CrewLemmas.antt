@@ -1,5 +1,6 @@
 -- Reading ships one after the other.
-use Rattle.std.proofs.Common.{◌≡◌, ◌∙◌, ◌++◌, ◌<◌, ◌≤◌, ℕ, suc, Bool, true, false, List, [], ◌∷◌, Option, Some, None, refl, sym, ap, ◌+◌, arith, length, option_map, map}
+use Rattle.std.proofs.Common.{◌≡◌, ◌∙◌, ◌++◌, ◌<◌, ◌≤◌, ℕ, suc, true, false, List, [], ◌∷◌, Option, Some, None, refl, sym, ap, ◌+◌, arith, length, option_map, map}
+use Rattle.std.proofs.Math.Bool.{and-false}
 use Rattle.std.specs.Prelude.{◌&&◌, nat_le}
 use Rattle.std.proofs.lemmas.Bool.Decides.{nat_tests}
 use Rattle.std.proofs.lemmas.List.{append_assoc, append-nil}
@@ -21,10 +22,6 @@ pub record Rises (ships : List ℕ) (low : ℕ) : Type 0 where
 abbrev if_crew : Option (List ℕ) → Option (List ℕ)
 if_crew o = o >>= λ ships. when (is_crew ships) >> Some ships
 
-and_false : (b : Bool) → (b && false) ≡ false
-and_false true = refl
-and_false false = refl
-
 -- items of another count
 wrong_count : (vs : List Value) → is_between 1 8 (length vs) ≡ false → crew_in (items_view vs) ≡ None
 wrong_count vs out = go (all_in byte_in (items_view vs)) refl
@@ -38,7 +35,7 @@ wrong_count vs out = go (all_in byte_in (items_view vs)) refl
 pub too_many : (vs : List Value) → 8 < length vs → None ≡ crew_in (items_view vs)
 too_many vs many =
     let high : nat_le (length vs) 8 ≡ false = grind (arith, nat_tests) in
-    sym (wrong_count vs (ap (λ b. nat_le 1 (length vs) && b) high ∙ and_false _))
+    sym (wrong_count vs (ap (λ b. nat_le 1 (length vs) && b) high ∙ and-false _))
 
 rises_from-true : (low : ℕ) (ships : List ℕ) → RisesFrom low ships → rises_from low ships ≡ true
 rises_from-true low [] rising = refl

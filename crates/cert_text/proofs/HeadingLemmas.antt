@@ -1,31 +1,30 @@
 -- The first line with words, and the bytes after it.
-use Rattle.std.proofs.Common.{◌≡◌, ◌∙◌, ℕ, Bool, true, false, cond, List, [], ◌∷◌, ◌++◌, codes, length, Some, option_map, refl, sym, ap}
+use Rattle.std.proofs.Common.{◌≡◌, ◌∙◌, ℕ, false, cond, List, [], ◌∷◌, ◌++◌, codes, length, Some, Ok, option_map, refl, sym, ap}
 use Rattle.std.specs.Prelude.{◌==◌}
 use Rattle.std.specs.List.{join_with_byte}
-use Rattle.instance_text.specs.Left.{Left, lines_left, bytes_left}
-use Rattle.instance_text.specs.Lines.{lines, words, content}
-use Rattle.instance_text.proofs.LeftLemmas.{joined}
-use Rattle.instance_text.proofs.PartBackLemmas.{lines-append, join-lines}
-use Rattle.cert_text.specs.Heading.{after_heading, heading_of, headed}
+use Rattle.line_text.specs.Left.{Left, lines_left, bytes_left}
+use Rattle.line_text.specs.Lines.{lines, words, content}
+use Rattle.line_text.proofs.LeftLemmas.{joined}
+use Rattle.line_text.proofs.AppendLemmas.{lines-append, join-lines}
+use Rattle.line_text.specs.Filled.{first_line}
+use Rattle.cert_text.specs.Heading.{with_rest, heading_of, headed}
 use Rattle.cert_text.specs.Dossier.{heading_line}
 use Rattle.cert_text.specs.declared.heading.Version.{Version}
 use Rattle.cert_text.specs.declared.heading.Version.TheVariants.{First, Second, Third}
 use Rattle.cert_text.specs.declared.heading.Heading.{Heading}
 use Rattle.cert_text.specs.declared.heading.Heading.TheVariants.{Whole}
 
-on_line : (line : List ℕ) (more : List (List ℕ)) (b : Bool) → (length (words line) == 0) ≡ b → after_heading (line ∷ more) ≡ cond b (after_heading more) (option_map (λ h. (h, more)) (heading_of (words line)))
-on_line line more b is = ap (λ t. cond t (after_heading more) (option_map (λ h. (h, more)) (heading_of (words line)))) is
+-- the first line has words
+on_line : (line : List ℕ) (more : List (List ℕ)) → (length (words line) == 0) ≡ false → first_line 0 (line ∷ more) ≡ Ok (record { number = 1; line = line; more = more })
+on_line line more filled = ap (λ t. cond t (first_line 1 more) (Ok (record { number = 1; line = line; more = more }))) filled
 
--- a line without words is passed over
-pub passed : (text : List ℕ) (left more : List (List ℕ)) (line : List ℕ) → after_heading (lines text) ≡ after_heading left → left ≡ line ∷ more → (length (words line) == 0) ≡ true → after_heading (lines text) ≡ after_heading more
-passed text left more line so_far next blank = so_far ∙ ap after_heading next ∙ on_line line more true blank
-
--- the first line with words is a heading
-pub found : (text rest line : List ℕ) (left : List (List ℕ)) (more : Left) (h : Heading) → after_heading (lines text) ≡ after_heading left → left ≡ line ∷ lines_left more → (length (words line) == 0) ≡ false → Some h ≡ heading_of (words line) → rest ≡ bytes_left more → Some (h, rest) ≡ headed text
+-- what is found of a text is found from its lines that are left
+pub found : (text rest line : List ℕ) (left : List (List ℕ)) (n : ℕ) (more : Left) (h : Heading) → left ≡ lines text → first_line 0 left ≡ Ok (record { number = n; line = line; more = lines_left more }) → Some h ≡ heading_of (words line) → rest ≡ bytes_left more → Some (h, rest) ≡ headed text
 unfolding headed
-found text rest line left more h so_far next filled heading is =
+found text rest line left n more h all first heading is =
     ap (λ r. Some (h, r)) (is ∙ sym (joined more.bytes))
-    ∙ ap (option_map (λ f. (f.0, join_with_byte 10 f.1))) (ap (option_map (λ g. (g, lines_left more))) heading ∙ sym (so_far ∙ ap after_heading next ∙ on_line line (lines_left more) false filled))
+    ∙ ap (option_map (λ g. (g, join_with_byte 10 (lines_left more)))) heading
+    ∙ sym (ap (λ ls. with_rest (first_line 0 ls)) (sym all) ∙ ap with_rest first)
 
 certificate_words : words (codes "certificate") ≡ codes "certificate" ∷ []
 unfolding words content
@@ -67,9 +66,10 @@ lines_of_third = refl
 pub begins : (text line rest : List ℕ) (ws : List (List ℕ)) (h : Heading) → lines line ≡ line ∷ [] → words line ≡ ws → (length ws == 0) ≡ false → heading_of ws ≡ Some h → text ≡ line ++ 10 ∷ rest → headed text ≡ Some (h, rest)
 unfolding headed
 begins text line rest ws h one is some heading whole =
-    ap (λ t. option_map (λ f. (f.0, join_with_byte 10 f.1)) (after_heading (lines t))) whole
-    ∙ ap (λ ls. option_map (λ f. (f.0, join_with_byte 10 f.1)) (after_heading ls)) (lines-append line rest ∙ ap (λ l. l ++ lines rest) one)
-    ∙ ap (option_map (λ f. (f.0, join_with_byte 10 f.1))) (on_line line (lines rest) false (ap (λ w. length w == 0) is ∙ some) ∙ ap (λ w. option_map (λ g. (g, lines rest)) (heading_of w)) is ∙ ap (option_map (λ g. (g, lines rest))) heading)
+    ap (λ t. with_rest (first_line 0 (lines t))) whole
+    ∙ ap (λ ls. with_rest (first_line 0 ls)) (lines-append line rest ∙ ap (λ l. l ++ lines rest) one)
+    ∙ ap with_rest (on_line line (lines rest) (ap (λ w. length w == 0) is ∙ some))
+    ∙ ap (option_map (λ g. (g, join_with_byte 10 (lines rest)))) (ap heading_of is ∙ heading)
     ∙ ap (λ r. Some (h, r)) (join-lines rest)
 
 -- the heading that is printed is found

@@ -1,12 +1,14 @@
 -- Marks are read back, and read from numbers one after the other.
 use Rattle.std.proofs.Common.{◌≡◌, ◌∙◌, ◌++◌, ◌+◌, ◌-◌, ◌<◌, ◌≤◌, ◌^◌, ℕ, suc, Bool, true, false, List, [], ◌∷◌, Option, Some, None, refl, sym, ap, subst, arith, length, map, drop, option_map, slice_index_or, All, ◌⊎◌, inl, inr}
-use Rattle.std.specs.Prelude.{◌&&◌, ◌||◌, ◌==◌, is_none, if◌then◌else◌}
-use Rattle.std.specs.List.{flat_map, list_any}
+use Rattle.std.proofs.Math.Bool.{and-false}
+use Rattle.std.specs.Prelude.{◌==◌, is_none, if◌then◌else◌}
+use Rattle.std.specs.List.{flat_map}
 use Rattle.std.proofs.lemmas.Bool.Decides.{nat_tests}
 use Rattle.std.proofs.lemmas.Bool.{lt-ltb}
 use Rattle.std.proofs.Math.Seq.{drop-cons}
 use Rattle.std.proofs.lemmas.List.{append_assoc, append-nil, drop_all}
-use Rattle.std.proofs.lemmas.List.Elements.{All-head, All-tail, All-nil, All-cons}
+use Rattle.std.proofs.lemmas.List.Elements.{All-head, All-tail}
+use Rattle.list_laws.proofs.Lists.{none-passes}
 use Rattle.lock_model.specs.Limits.{is_between}
 use Rattle.closing_rules.specs.declared.grounds.Ground.TheVariants.{Bound, Throughput, Probe, Cut, Price}
 use Rattle.certificate_rules.specs.declared.certificate.Mark.{Mark}
@@ -50,10 +52,6 @@ two_numbers {M = M} told numbers m n v two sign is = record { first = λ more. r
     joined None = refl
     joined (Some ms) = refl
 
-off : (b : Bool) → (b && false) ≡ false
-off true = refl
-off false = refl
-
 -- the mark is one number, which is no 3, or 4 and another
 abbrev pub Numbers : Bool → Mark → Type 0
 Numbers third m =
@@ -62,15 +60,15 @@ Numbers third m =
 
 split_told : (third : Bool) → mark_in third false (number_data 0) ≡ Some (Some Split)
 unfolding mark_of
-split_told third = rw (off third) refl
+split_told third = rw (and-false third) refl
 
 bound_told : (third : Bool) → mark_in third false (number_data 1) ≡ Some (Some (Leaf Bound))
 unfolding mark_of
-bound_told third = rw (off third) refl
+bound_told third = rw (and-false third) refl
 
 throughput_told : (third : Bool) → mark_in third false (number_data 2) ≡ Some (Some (Leaf Throughput))
 unfolding mark_of
-throughput_told third = rw (off third) refl
+throughput_told third = rw (and-false third) refl
 
 above : (n m : ℕ) → m < n → (n == m) ≡ false
 above n m less = grind (arith, nat_tests)
@@ -80,7 +78,7 @@ told_above : (third : Bool) (n : ℕ) → 9 < n → mark_in third false (number_
     ≡ option_map Some (if is_between 10 33 n then Some (Leaf (Probe (n - 10))) else (if is_between 100 9223372036854775907 n then Some (Leaf (Cut (n - 100))) else None))
 unfolding mark_of
 told_above third n high =
-    rw (above n 4 (omega (arith, high)), off third, above n 0 (omega (arith, high)), above n 1 (omega (arith, high)), above n 2 (omega (arith, high))) refl
+    rw (above n 4 (omega (arith, high)), and-false third, above n 0 (omega (arith, high)), above n 1 (omega (arith, high)), above n 2 (omega (arith, high))) refl
 
 probe_told : (third : Bool) (s : ℕ) → s ≤ 23 → mark_in third false (number_data (10 + s)) ≡ Some (Some (Leaf (Probe s)))
 probe_told third s low =
@@ -114,17 +112,6 @@ mark_back : (third : Bool) (m : Mark) → Numbers third m → ReadsFirst (mark_i
 mark_back third m (inl one) = one_number (mark_in third) mark_numbers m one.0 one.1 one.3
 mark_back third m (inr two) = two_numbers (mark_in third) mark_numbers m 4 two.0 two.1 two.2 two.3
 
-either_off : (a b : Bool) → (a || b) ≡ false → (a ≡ false) × (b ≡ false)
-either_off true b off = absurd cc
-either_off false b off = (refl, off)
-
--- no item passes a test that none passes
-pub none_passes : {A : Type 0} (f : A → Bool) (xs : List A) → list_any f xs ≡ false → All (λ x. f x ≡ false) xs
-none_passes f [] none = All-nil (λ x. f x ≡ false)
-none_passes f (x ∷ xs) none =
-    let each = either_off (f x) (list_any f xs) none in
-    All-cons (λ y. f y ≡ false) x xs each.0 (none_passes f xs each.1)
-
 pub tree_back : (third : Bool) (ms : List Mark) → All IsFormedMark ms → (third ≡ false → has_price_mark ms ≡ false) → tree_in third (tree_data ms) ≡ Some ms
 tree_back third ms formed plain =
-    numbers_back (mark_in third) mark_numbers ms (λ k d low. mark_back third _ (mark_told third _ (formed k d low) (λ e. none_passes is_price_mark ms (plain e) k d low)))
+    numbers_back (mark_in third) mark_numbers ms (λ k d low. mark_back third _ (mark_told third _ (formed k d low) (λ e. none-passes is_price_mark ms (plain e) k d low)))

@@ -1,7 +1,7 @@
 -- An instance and what follows it: a text has one meaning, or one first fault.
 use Rattle.std.proofs.Common.{◌≡◌, ◌∙◌, Result, Ok, Err, IfOk, IfErr, sym, ap, ap₂}
 use Rattle.lock_model.specs.declared.instance.Instance.{Instance}
-use Rattle.instance_text.specs.Steps.{◌>>=◌}
+use Rattle.line_text.specs.Steps.{◌>>=◌}
 use Rattle.instance_text.specs.Draft.{Draft}
 use Rattle.instance_text.specs.declared.bad.Bad.{Bad}
 use Rattle.instance_text.proofs.InstanceLemmas.{same_instance}

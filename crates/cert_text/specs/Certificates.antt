@@ -5,7 +5,7 @@ use Rattle.serde_json.specs.Written.{compact_text}
 use Rattle.lock_model.specs.declared.plan.Plan.{Plan}
 use Rattle.closing_rules.specs.ProvedCuts.{CertCut}
 use Rattle.certificate_rules.specs.Certificates.{Certificate}
-use Rattle.instance_text.specs.Steps.{◌>>=◌, ◌>>◌}
+use Rattle.line_text.specs.Steps.{◌>>=◌, ◌>>◌}
 use Rattle.cert_text.specs.declared.heading.Version.{Version}
 use Rattle.cert_text.specs.declared.heading.Version.TheVariants.{First, Second, Third}
 use Rattle.cert_text.specs.Versions.{is_third, version_of}

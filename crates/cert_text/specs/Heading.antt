@@ -1,9 +1,9 @@
 -- The line between an instance and its certificate.
-use Rattle.std.specs.Prelude.{ℕ, ◌==◌, ◌&&◌, List, [], ◌∷◌, length, Option, None, Some, option_map, codes, if◌then◌else◌}
+use Rattle.std.specs.Prelude.{ℕ, ◌==◌, ◌&&◌, List, [], ◌∷◌, length, Option, None, Some, Result, Ok, Err, option_map, codes, if◌then◌else◌}
 use Rattle.std.specs.Str.{bytes_eq}
 use Rattle.std.specs.List.{join_with_byte}
-use Rattle.instance_text.specs.Lines.{lines, words}
-use Rattle.instance_text.specs.Chamber.{word_at}
+use Rattle.line_text.specs.Filled.{Filled, first_line}
+use Rattle.line_text.specs.Lines.{lines, words, word_at}
 use Rattle.cert_text.specs.declared.heading.Version.TheVariants.{First, Second, Third}
 use Rattle.cert_text.specs.declared.heading.Heading.{Heading}
 use Rattle.cert_text.specs.declared.heading.Heading.TheVariants.{Whole, Open}
@@ -27,11 +27,11 @@ heading_of words =
     else (if length words == 3 then third_word (word_at words 1) (word_at words 2) else None)))
     else None
 
--- the first line with words, which is a heading, and the lines after it
-abbrev pub after_heading : List (List ℕ) → Option (Heading × List (List ℕ))
-after_heading [] = None
-after_heading (line ∷ more) = if length (words line) == 0 then after_heading more else option_map (λ h. (h, more)) (heading_of (words line))
+-- the heading that the first line with words is, and all bytes after that line
+abbrev pub with_rest : Result (Filled (List ℕ)) ℕ → Option (Heading × List ℕ)
+with_rest (Ok filled) = option_map (λ h. (h, join_with_byte 10 filled.more)) (heading_of (words filled.line))
+with_rest (Err n) = None
 
 -- the heading of a text, and all bytes after the heading's line
 unfoldable pub headed : List ℕ → Option (Heading × List ℕ)
-headed text = option_map (λ found. (found.0, join_with_byte 10 found.1)) (after_heading (lines text))
+headed text = with_rest (first_line 0 (lines text))

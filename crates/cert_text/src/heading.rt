@@ -1,9 +1,9 @@
 //! The line between an instance and its certificate.
 ghost use Rattle.std.specs.Prelude.{◌≡◌, option_map};
-ghost use Rattle.instance_text.specs.Lines.{words};
+ghost use Rattle.line_text.specs.Lines.{words};
 ghost use Rattle.cert_text.specs.Heading.{second_word, third_word, heading_of, headed};
 
-use instance_text::{Lines, is_blank, word_at, words_of};
+use line_text::{Lines, word_at, words_of};
 
 /// Which parts the text of a certificate may have.
 #[derive(Clone, Copy, Debug, PartialEq, Eq)]
@@ -74,11 +74,7 @@ pub fn headed(text: &[u8]) -> Option<(Heading, &[u8])>
     ensures { option_map (λ found. (found.0, found.1.now)) result ≡ headed text.now }
 {
     let mut lines = Lines::new(text);
-    while let Some(line) = lines.next() {
-        if !is_blank(line) {
-            let heading = heading_of(line)?;
-            return Some((heading, lines.rest()));
-        }
-    }
-    None
+    let line = lines.next_filled()?;
+    let heading = heading_of(line)?;
+    Some((heading, lines.rest()))
 }

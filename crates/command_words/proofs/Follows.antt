@@ -1,6 +1,7 @@
 -- The parser's walk follows the words that are read one after the other.
 use Rattle.std.proofs.Common.{◌≡◌, ◌++◌, ℕ, Bool, true, false, List, [], ◌∷◌, Option, Some, None, length, arith, refl, sym, ap, subst, codes}
-use Rattle.std.specs.Prelude.{◌&&◌, ◌==◌, if◌then◌else◌, option_and_then, ◌≤◌, fold, nat_lt, nat_le, unwrap_or}
+use Rattle.std.proofs.lemmas.Option.{same_Some}
+use Rattle.std.specs.Prelude.{◌&&◌, ◌==◌, if◌then◌else◌, option_and_then, ◌≤◌, fold, nat_lt, nat_le}
 use Rattle.std.specs.List.{list_all}
 use Rattle.std.proofs.lemmas.Bool.{eqb-true, leb-true}
 use Rattle.clap.specs.Walk.{Held, Walk, walked}
@@ -13,12 +14,6 @@ use Rattle.command_words.specs.declared.arguments.Argument.{Argument}
 use Rattle.command_words.specs.declared.arguments.Argument.TheVariants.{Command, Nodes, Turns, Workers, Dossier, Keep, Number, Ships, Chambers, From}
 use Rattle.command_words.proofs.Built.{top}
 use Rattle.command_words.proofs.Turns.{walk_at, Rests, Holds, TurnsTo, is_plain, plain_word_is, trailing_turn, plain_turn, dashes_turn, due_turn, dashed, joined_turn, due_from_turn, flag_turn}
-
-pub some_same : (x y : PartialLine) → Some x ≡ Some y → x ≡ y
-some_same x y e = ap (λ o. unwrap_or o x) e
-
-argument_same : (x y : Argument) → Some x ≡ Some y → x ≡ y
-argument_same x y e = ap (λ o. unwrap_or o x) e
 
 pub and_right : (a b : Bool) → (a && b) ≡ true → b ≡ true
 and_right true b e = e
@@ -46,7 +41,7 @@ filled_some s t line end e = go (is_given s line.given) refl e
     go : (b : Bool) → is_given s line.given ≡ b → (if b then None else Some (record line { given = line.given ++ (s, t) ∷ []; due = None })) ≡ Some end
         → (is_given s line.given ≡ false) × (record line { given = line.given ++ (s, t) ∷ []; due = None } ≡ end)
     go true g e = cc
-    go false g e = (g, some_same _ _ e)
+    go false g e = (g, same_Some _ _ e)
 
 pub if_some : (b : Bool) (o : Option PartialLine) (end : PartialLine) → (if b then o else None) ≡ Some end → (b ≡ true) × (o ≡ Some end)
 if_some true o end e = (refl, e)
@@ -67,7 +62,7 @@ number_plain (x ∷ xs) e = plain_word_is (x ∷ xs) (go (x == 45) refl)
     go true t = digit_no_hyphen x (list_all is_digit xs) t (and_right (nat_le (length (x ∷ xs)) 10) _ (and_right (nat_lt 0 (length (x ∷ xs))) _ e))
 
 named_step : (b : Bool) (s r : Argument) (y : Option Argument) → is_command s ≡ false → (y ≡ Some r → is_command r ≡ false) → (if b then Some s else y) ≡ Some r → is_command r ≡ false
-named_step true s r y e next same = subst (λ z. is_command z ≡ false) (argument_same _ _ same) e
+named_step true s r y e next same = subst (λ z. is_command z ≡ false) (same_Some _ _ same) e
 named_step false s r y e next same = next same
 
 none_some : (s : Argument) → None ≡ Some s → is_command s ≡ false
@@ -113,7 +108,7 @@ name_step s x xs None given h end name text rests e = go (is_flag s) refl e
     go true flag e =
         let fresh = filled_some s (codes "true") (open_at given) end e in
         ends_at (open_at (given ++ (s, codes "true") ∷ [])) end (walk_at (open_at given) h) (dashed x xs) fresh.1 (record { turn = flag_turn s x xs given h name text flag (named_other (name_part (x ∷ xs)) s name) fresh.0 rests; calm = no_due (given ++ (s, codes "true") ∷ []) true })
-    go false flag e = ends_at (record { given = given; due = Some s; is_open = true }) end (walk_at (open_at given) h) (dashed x xs) (some_same (record { given = given; due = Some s; is_open = true }) end e)
+    go false flag e = ends_at (record { given = given; due = Some s; is_open = true }) end (walk_at (open_at given) h) (dashed x xs) (same_Some (record { given = given; due = Some s; is_open = true }) end e)
         (record { turn = due_from_turn s x xs given h name text flag (named_other (name_part (x ∷ xs)) s name) rests; calm = open_calm given s })
 
 named_word : (x : ℕ) (xs : Text) (given : Given) (h : Held) (end : PartialLine) → Rests given h → read_option (x ∷ xs) (open_at given) ≡ Some end
@@ -133,7 +128,7 @@ hyphen_step (y ∷ rest) given h end rests e = go (y == 45) refl e
   where
     behind_two : (rest : Text) → (y == 45) ≡ true → two_hyphens rest (open_at given) ≡ Some end
         → StepsOn end (walk_at (open_at given) h) (45 ∷ 45 ∷ rest)
-    behind_two [] is e = ends_at (record { given = given; due = None; is_open = false }) end (walk_at (open_at given) h) (45 ∷ 45 ∷ []) (some_same (record { given = given; due = None; is_open = false }) end e) (record { turn = dashes_turn given h rests; calm = no_due given false })
+    behind_two [] is e = ends_at (record { given = given; due = None; is_open = false }) end (walk_at (open_at given) h) (45 ∷ 45 ∷ []) (same_Some (record { given = given; due = None; is_open = false }) end e) (record { turn = dashes_turn given h rests; calm = no_due given false })
     behind_two (x ∷ xs) is e = named_word x xs given h end rests e
 
     go : (b : Bool) → (y == 45) ≡ b → one_hyphen (if b then Some rest else None) (open_at given) ≡ Some end
@@ -180,7 +175,7 @@ pub record Walks (end : PartialLine) (w : Walk) (words : List Text) : Type 0 whe
 
 pub walks : (words : List Text) (line end : PartialLine) (h : Held) → Holds line.due line.given h → Calm line → read_words words line ≡ Some end → Walks end (walk_at line h) words
 unfolding read_words walk_passes
-walks [] line end h holds calm e = subst (λ l. Walks l (walk_at line h) []) (some_same _ _ e) (record { held = h; passes = refl; walked_to = refl; holds = holds })
+walks [] line end h holds calm e = subst (λ l. Walks l (walk_at line h) []) (same_Some _ _ e) (record { held = h; passes = refl; walked_to = refl; holds = holds })
 walks (w ∷ ws) line end h holds calm e = go (read_word w line) refl e (λ l h2 holds2 calm2 e2. walks ws l end h2 holds2 calm2 e2)
   where
     go : (o : Option PartialLine) → read_word w line ≡ o → option_and_then (read_words ws) o ≡ Some end

@@ -1,5 +1,6 @@
 -- The rows that texts in arguments make, and what one more use adds to them.
-use Rattle.std.proofs.Common.{◌≡◌, ◌∙◌, ◌++◌, Bool, true, false, List, [], ◌∷◌, refl, sym, ap, codes}
+use Rattle.std.proofs.Common.{◌≡◌, ◌∙◌, ◌++◌, true, false, List, [], ◌∷◌, refl, sym, ap, codes}
+use Rattle.std.proofs.lemmas.Bool.{or_parts}
 use Rattle.std.specs.Prelude.{◌||◌}
 use Rattle.std.specs.Str.{bytes_eq}
 use Rattle.std.proofs.lemmas.List.{append-nil}
@@ -18,14 +19,10 @@ pub has_rows : (s : Argument) (given : Given) → has_row (name_of s) (rows_for 
 has_rows s [] = refl
 has_rows s (g ∷ gs) = ap (λ b. is_in s g || b) (has_rows s gs)
 
-or_left : (a b : Bool) → (a || b) ≡ false → (a ≡ false) × (b ≡ false)
-or_left false b e = (refl, e)
-or_left true b e = cc
-
 pub at_none : (id : Text) (change : Row → List Row) (missing rows : List Row) → has_row id rows ≡ false → at_row id change missing rows ≡ rows ++ missing
 at_none id change missing [] e = refl
 at_none id change missing (r ∷ rs) e =
-    let both = or_left (bytes_eq r.id id) (has_row id rs) e in
+    let both = or_parts (bytes_eq r.id id) (has_row id rs) e in
     let here : bytes_eq r.id id ≡ false = both.0 in
     rw here (ap (λ l. r ∷ l) (at_none id change missing rs both.1))
 

@@ -1,5 +1,6 @@
 -- The line in the program after one more text.
 use Rattle.std.proofs.Common.{◌≡◌, ◌∙◌, ◌++◌, ◌<◌, ℕ, Bool, true, false, not, List, [], ◌∷◌, Option, Some, None, length, take, drop, ◌+◌, ◌≤◌, suc, arith, refl, sym, ap, subst, slice_index_or, slice_set}
+use Rattle.std.proofs.Math.Bool.{or-true, or-false}
 use Rattle.std.specs.Prelude.{◌||◌, ◌==◌, if◌then◌else◌, option_and_then, option_map, find, unwrap_or, nat_lt, cond}
 use Rattle.std.specs.List.{list_any, position, position_or_len, after_first}
 use Rattle.std.specs.Str.{bytes_eq}
@@ -15,7 +16,7 @@ use Rattle.command_words.specs.declared.arguments.Argument.{Argument}
 use Rattle.command_words.specs.declared.arguments.Argument.TheVariants.{Command, Nodes, Turns, Workers, Dossier, Keep, Number, Ships, Chambers, From}
 use Rattle.command_words.specs.declared.command_names.CommandName.{CommandName}
 use Rattle.command_words.specs.declared.partial_line.PartialLine.{PartialLine as TheLine}
-use Rattle.command_words.proofs.Turns.{given_more, other_name, same_ids, or_false, or_true}
+use Rattle.command_words.proofs.Turns.{given_more, other_name, same_ids}
 
 abbrev place_by_name : Text → ℕ
 place_by_name t = position_or_len (λ s. bytes_eq (name_of s) t) arguments
@@ -86,11 +87,11 @@ pub seen_after : (seen : List Bool) (given : Given) (s : Argument) (t : Text) �
 seen_after seen given s t size before r = go (place_of s == place_of r) refl ∙ sym (given_more r s t given)
   where
     go : (p : Bool) → (place_of s == place_of r) ≡ p → slice_index_or (slice_set seen (place_of s) true) (place_of r) false ≡ (is_given r given || bytes_eq (name_of s) (name_of r))
-    go false p = set_other seen (place_of s) (place_of r) p ∙ (before r ∙ sym (ap (λ b. is_given r given || b) (same_places s r ∙ p) ∙ or_false (is_given r given)))
+    go false p = set_other seen (place_of s) (place_of r) p ∙ (before r ∙ sym (ap (λ b. is_given r given || b) (same_places s r ∙ p) ∙ or-false (is_given r given)))
     go true p =
         let places : place_of s ≡ place_of r = eqb-true (place_of s) (place_of r) p in
         let at : slice_index_or (slice_set seen (place_of s) true) (place_of s) false ≡ true = set_same seen (place_of s) (let low = place_low s in omega arith) in
-        subst (λ n. slice_index_or (slice_set seen (place_of s) true) n false ≡ true) places at ∙ sym (ap (λ b. is_given r given || b) (same_places s r ∙ p) ∙ or_true (is_given r given))
+        subst (λ n. slice_index_or (slice_set seen (place_of s) true) n false ≡ true) places at ∙ sym (ap (λ b. is_given r given || b) (same_places s r ∙ p) ∙ or-true (is_given r given))
 
 -- the command's text after one more
 text_after : (given : Given) (s : Argument) (t : Text) → is_command s ≡ false → text_in Command (given ++ (s, t) ∷ []) ≡ text_in Command given

@@ -1,5 +1,6 @@
 -- The parser takes good words, and finds what they say.
 use Rattle.std.proofs.Common.{◌≡◌, ◌∙◌, ◌++◌, Bool, true, false, not, List, [], ◌∷◌, map, Option, Some, None, refl, sym, ap, subst, codes}
+use Rattle.std.proofs.Math.Bool.{or-false}
 use Rattle.std.specs.Prelude.{◌||◌, if◌then◌else◌, option_and_then, option_map, is_some, fold, find, slice_get}
 use Rattle.std.specs.Option.{option_map_or}
 use Rattle.std.specs.Str.{bytes_eq}
@@ -19,7 +20,7 @@ use Rattle.command_words.specs.declared.arguments.Argument.{Argument}
 use Rattle.command_words.specs.declared.arguments.Argument.TheVariants.{Command, Nodes, Turns, Workers, Dossier, Keep, Number, Ships, Chambers, From}
 use Rattle.command_words.proofs.Built.{built_rule, rules, top, simple}
 use Rattle.command_words.proofs.Rows.{has_rows, at_none}
-use Rattle.command_words.proofs.Turns.{walk_at, Holds, Rests, or_false}
+use Rattle.command_words.proofs.Turns.{walk_at, Holds, Rests}
 use Rattle.command_words.proofs.Follows.{Walks, walks, and_left, and_right}
 
 -- ---- the defaults
@@ -43,7 +44,7 @@ default_after : (s : Argument) (given : Given) (extra : List Row) → has_row (n
 default_after s given extra none = go (is_given s given) refl
   where
     has : (b : Bool) → is_given s given ≡ b → has_row (name_of s) (rows_for given ++ extra) ≡ b
-    has b e = has_append (name_of s) (rows_for given) extra ∙ (ap (λ c. c || has_row (name_of s) extra) (has_rows s given ∙ e) ∙ (ap (λ c. b || c) none ∙ or_false b))
+    has b e = has_append (name_of s) (rows_for given) extra ∙ (ap (λ c. c || has_row (name_of s) extra) (has_rows s given ∙ e) ∙ (ap (λ c. b || c) none ∙ or-false b))
 
     go : (b : Bool) → is_given s given ≡ b
         → (if has_row (name_of s) (rows_for given ++ extra) then rows_for given ++ extra else with_values (name_of s) reading.AsWritten DefaultValue (codes "false" ∷ []) (rows_for given ++ extra))

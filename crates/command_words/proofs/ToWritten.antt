@@ -1,5 +1,6 @@
 -- What is read, word by word, is a command line that is written, and gives what it gives.
 use Rattle.std.proofs.Common.{◌≡◌, ◌∙◌, ◌++◌, ◌<◌, ℕ, Bool, true, false, List, [], ◌∷◌, Option, Some, None, length, arith, refl, sym, ap, subst, codes, take_all, slice_index_or}
+use Rattle.std.proofs.lemmas.Option.{same_Some}
 use Rattle.std.specs.Prelude.{◌==◌, if◌then◌else◌, option_and_then, ⊤, find}
 use Rattle.std.specs.List.{list_any, after_first, position_or_len}
 use Rattle.std.specs.Str.{bytes_eq}
@@ -15,7 +16,7 @@ use Rattle.command_words.specs.WordByWord.{PartialLine, start, filled, with_text
 use Rattle.command_words.specs.declared.arguments.Argument.{Argument}
 use Rattle.command_words.specs.declared.arguments.Argument.TheVariants.{Command}
 use Rattle.command_words.proofs.Seen.{any_by_place}
-use Rattle.command_words.proofs.Follows.{open_at, some_same, filled_some, if_some, if_none, is_45, named_other}
+use Rattle.command_words.proofs.Follows.{open_at, filled_some, if_some, if_none, is_45, named_other}
 use Rattle.command_words.proofs.Times.{Once, once_more}
 use Rattle.command_words.proofs.FromWritten.{closed_at, waiting_at}
 
@@ -131,7 +132,7 @@ name_precedes a x xs None given l name text e ws end rest = go (is_flag a) refl 
         subst (λ n. IsWritten (hyphens n ∷ ws) ((a, codes "true") ∷ more)) (sym word) (used_first (flag a) ws more is w) in
         grown a (codes "true") given None true (hyphens (x ∷ xs)) ws end fresh.0 first (later tt)
     go false is e =
-        let same : waiting_at a given ≡ l = some_same _ _ e in
+        let same : waiting_at a given ≡ l = same_Some _ _ e in
         let later = subst (λ (z : PartialLine). IsWaiting z.due z.is_open → Continues z.given z.due z.is_open ws end) (sym same) rest in
         let c : Continues given (Some a) true ws end = later (named_other _ a name, is) in
         record {
@@ -172,7 +173,7 @@ hyphen_precedes [] given l e = cc
 hyphen_precedes (y ∷ rest) given l e = go (y == 45) refl e
   where
     two : (rest : Text) → two_hyphens rest (open_at given) ≡ Some l → Precedes (open_at given) l (45 ∷ 45 ∷ rest)
-    two [] e = closes given l (some_same _ _ e)
+    two [] e = closes given l (same_Some _ _ e)
     two (x ∷ xs) e = option_precedes x xs given l e
 
     go : (b : Bool) → (y == 45) ≡ b → one_hyphen (if b then Some rest else None) (open_at given) ≡ Some l → Precedes (open_at given) l (45 ∷ y ∷ rest)
@@ -218,7 +219,7 @@ pub continues : (words : List Text) (given : Given) (due : Option Argument) (is_
     → read_words words (record { given = given; due = due; is_open = is_open }) ≡ Some end → end.due ≡ None → Continues given due is_open words end
 unfolding read_words
 continues [] given due is_open end waiting e none =
-    let same : record { given = given; due = due; is_open = is_open } ≡ end = some_same _ _ e in
+    let same : record { given = given; due = due; is_open = is_open } ≡ end = same_Some _ _ e in
     subst (Continues given due is_open []) same (no_words given due is_open (ap (λ (z : PartialLine). z.due) same ∙ none))
 continues (w ∷ ws) given due is_open end waiting e none = go (read_word w (record { given = given; due = due; is_open = is_open })) refl e (λ l w2 e2. continues ws l.given l.due l.is_open end w2 e2 none)
   where

@@ -1,5 +1,7 @@
 -- What each kind of word does to the parser's walk.
 use Rattle.std.proofs.Common.{◌≡◌, ◌∙◌, ◌++◌, ℕ, Bool, true, false, not, List, [], ◌∷◌, Option, Some, None, refl, ap, codes}
+use Rattle.std.proofs.Math.Bool.{and-false, or-true, or-false}
+use Rattle.std.proofs.lemmas.Bool.{and_from}
 use Rattle.std.specs.Prelude.{◌||◌, ◌&&◌, ◌==◌, if◌then◌else◌, option_map}
 use Rattle.std.specs.Str.{bytes_eq}
 use Rattle.std.proofs.lemmas.Slice.Eq.{bytes_eq-Decides}
@@ -91,25 +93,13 @@ other_name Ships e = refl
 other_name Chambers e = refl
 other_name From e = refl
 
-pub or_false : (b : Bool) → (b || false) ≡ b
-or_false true = refl
-or_false false = refl
-
-pub or_true : (b : Bool) → (b || true) ≡ true
-or_true true = refl
-or_true false = refl
-
-and_false : (b : Bool) → (b && false) ≡ false
-and_false true = refl
-and_false false = refl
-
 pub given_more : (s r : Argument) (t : Text) (given : Given) → is_given s (given ++ (r, t) ∷ []) ≡ (is_given s given || bytes_eq (name_of r) (name_of s))
-given_more s r t given = list_any-append (is_in s) given ((r, t) ∷ []) ∙ ap (λ b. is_given s given || b) (or_false (bytes_eq (name_of r) (name_of s)))
+given_more s r t given = list_any-append (is_in s) given ((r, t) ∷ []) ∙ ap (λ b. is_given s given || b) (or-false (bytes_eq (name_of r) (name_of s)))
 
 position_other : (s : Argument) (t : Text) (given : Given) → is_command s ≡ false → position_for (given ++ (s, t) ∷ []) ≡ position_for given
 position_other s t given e =
     let same : is_given Command (given ++ (s, t) ∷ []) ≡ is_given Command given =
-    given_more Command s t given ∙ (ap (λ b. is_given Command given || b) (other_name s e) ∙ or_false (is_given Command given)) in
+    given_more Command s t given ∙ (ap (λ b. is_given Command given || b) (other_name s e) ∙ or-false (is_given Command given)) in
     rw same refl
 
 position_command : (t : Text) (given : Given) → position_for (given ++ (Command, t) ∷ []) ≡ 2
@@ -118,7 +108,7 @@ position_command t given = go (is_given Command given) refl
     go : (b : Bool) → is_given Command given ≡ b → position_for (given ++ (Command, t) ∷ []) ≡ 2
     go b e =
         let same : is_given Command (given ++ (Command, t) ∷ []) ≡ true =
-        given_more Command Command t given ∙ (ap (λ x. is_given Command given || x) (same_ids (name_of Command)) ∙ or_true (is_given Command given)) in
+        given_more Command Command t given ∙ (ap (λ x. is_given Command given || x) (same_ids (name_of Command)) ∙ or-true (is_given Command given)) in
         rw same refl
 
 -- a text that is pending for its argument rests
@@ -137,8 +127,8 @@ pub trailing_turn : (w : Text) (given : Given) (h : Held) → is_given Command g
 unfolding clap_on_literals parser
 trailing_turn w given h fresh rests = record {
   held = record { rows = settled_rows rules h.pending h.rows; pending = Some (name_of Command, w ∷ []); skip = h.skip };
-  passes = rw (fresh, and_false (is_pending (built_rule Command) h.pending), rests.passes) refl;
-  walked_to = rw (fresh, position_command w given, and_false (is_pending (built_rule Command) h.pending)) refl;
+  passes = rw (fresh, and-false (is_pending (built_rule Command) h.pending), rests.passes) refl;
+  walked_to = rw (fresh, position_command w given, and-false (is_pending (built_rule Command) h.pending)) refl;
   holds = rw (rests.rows) (pending_rests Command w given h.skip refl fresh);
 }
 
@@ -148,8 +138,8 @@ pub plain_turn : (w : Text) (given : Given) (h : Held) → is_plain w → is_giv
 unfolding clap_on_literals parser
 plain_turn w given h plain fresh rests = record {
   held = record { rows = settled_rows rules h.pending h.rows; pending = Some (name_of Command, w ∷ []); skip = h.skip };
-  passes = rw (plain.0, plain.1, plain.2, fresh, and_false (is_pending (built_rule Command) h.pending), rests.passes) refl;
-  walked_to = rw (plain.0, plain.1, plain.2, fresh, position_command w given, and_false (is_pending (built_rule Command) h.pending)) refl;
+  passes = rw (plain.0, plain.1, plain.2, fresh, and-false (is_pending (built_rule Command) h.pending), rests.passes) refl;
+  walked_to = rw (plain.0, plain.1, plain.2, fresh, position_command w given, and-false (is_pending (built_rule Command) h.pending)) refl;
   holds = rw (rests.rows) (pending_rests Command w given h.skip refl fresh);
 }
 
@@ -196,9 +186,6 @@ flag_passes s given h takes fresh rests =
     let second : react_passes rules false (built_rule s) [] h ≡ use_passes false (built_rule s) [] (settled_rows rules h.pending h.rows) = rw rests.passes refl in
     first ∙ (second ∙ (ap (use_passes false (built_rule s) []) rests.rows ∙ passes_flag s given takes fresh))
 
-and_both : (a b : Bool) → a ≡ true → b ≡ true → (a && b) ≡ true
-and_both a b e f = rw (e, f) refl
-
 -- an option with its text in one word
 pub joined_turn : (s : Argument) (x : ℕ) (xs t : Text) (given : Given) (h : Held) → option_named (name_part (x ∷ xs)) ≡ Some s → text_part (x ∷ xs) ≡ Some t
     → is_flag s ≡ false → is_command s ≡ false → is_given s given ≡ false → Rests given h
@@ -206,7 +193,7 @@ pub joined_turn : (s : Argument) (x : ℕ) (xs t : Text) (given : Given) (h : He
 unfolding clap_on_literals parser
 joined_turn s x xs t given h name text takes other fresh rests = record {
   held = record { rows = rows_for (given ++ (s, t) ∷ []); pending = None; skip = h.skip };
-  passes = rw (found (name_part (x ∷ xs)) s name, text) (and_both _ _ (joined_passes s t given h takes fresh rests) (rw (takes_one s takes) refl));
+  passes = rw (found (name_part (x ∷ xs)) s name, text) (and_from _ _ (joined_passes s t given h takes fresh rests) (rw (takes_one s takes) refl));
   walked_to = rw (found (name_part (x ∷ xs)) s name, text, takes_one s takes, rests.rows, used_option s t given takes fresh, position_other s t given other) refl;
   holds = rests_now (given ++ (s, t) ∷ []) (rows_for (given ++ (s, t) ∷ [])) h.skip refl;
 }
@@ -230,7 +217,7 @@ pub flag_turn : (s : Argument) (x : ℕ) (xs : Text) (given : Given) (h : Held) 
 unfolding clap_on_literals parser
 flag_turn s x xs given h name text takes other fresh rests = record {
   held = record { rows = rows_for (given ++ (s, codes "true") ∷ []); pending = None; skip = h.skip };
-  passes = rw (found (name_part (x ∷ xs)) s name, text) (and_both _ _ (flag_passes s given h takes fresh rests) (rw (takes_none s takes) refl));
+  passes = rw (found (name_part (x ∷ xs)) s name, text) (and_from _ _ (flag_passes s given h takes fresh rests) (rw (takes_none s takes) refl));
   walked_to = rw (found (name_part (x ∷ xs)) s name, text, takes_none s takes, rests.rows, used_flag s given takes fresh, position_other s (codes "true") given other) refl;
   holds = rests_now (given ++ (s, codes "true") ∷ []) (rows_for (given ++ (s, codes "true") ∷ [])) h.skip refl;
 }

@@ -1,12 +1,13 @@
 -- Closures that stand by rising minute, and one more put among them.
-use Rattle.std.proofs.Common.{◌≡◌, ℕ, suc, ◌+◌, ◌-◌, ◌<◌, ◌≤◌, Bool, true, false, ◌||◌, not, nat_lt, List, [], ◌∷◌, ◌++◌, length, take, drop, get_or, All, AllPairs, sym, ap, refl, subst, ◌∙◌, ⊎_elim, arith}
+use Rattle.std.proofs.Common.{◌≡◌, ℕ, suc, ◌+◌, ◌-◌, ◌<◌, ◌≤◌, true, false, not, nat_lt, List, [], ◌∷◌, ◌++◌, length, take, drop, get_or, All, AllPairs, sym, ap, refl, subst, ◌∙◌, ⊎_elim, arith}
 use Rattle.std.specs.List.{insert, list_any, position_or_len}
 use Rattle.std.proofs.lemmas.Bool.{cases_lt}
 use Rattle.std.proofs.lemmas.Bool.Decides.{nat_tests}
 use Rattle.std.proofs.lemmas.List.{length-append, get_or_at, get_or_append_left, take-append-drop, drop_more, append_assoc}
 use Rattle.std.proofs.lemmas.List.Edits.{length-insert, get_or-insert_below, get_or-insert_at, get_or-insert_above}
-use Rattle.std.proofs.lemmas.List.Elements.{All-append, All-cons, All-take, All-drop, All-nil}
+use Rattle.std.proofs.lemmas.List.Elements.{All-append, All-cons, All-take, All-drop}
 use Rattle.std.proofs.lemmas.List.Sums.{fails_before_first, passes_at_first, prefix_len-le-length}
+use Rattle.list_laws.proofs.Lists.{none-passes}
 use Rattle.lock_model.specs.Closures.{IsClosure, AreClosures}
 use Rattle.lock_model.specs.declared.closure.Closure.{Closure}
 use Rattle.instance_text.specs.Closing.{share_a_minute, put_closure}
@@ -77,15 +78,6 @@ AllPairs-insert {X} R xs p x fits pairs before after i j d lt low =
         let one_more : (k - 1) + 1 ≡ k = omega arith in
         sym (ap (λ n. get_or (insert xs p x) n d) (sym one_more) ∙ get_or-insert_above xs p x d (k - 1) (omega arith) fits)
 
--- where no element passes, each fails
-pub none_pass : {X : Type 0} (test : X → Bool) (xs : List X) → list_any test xs ≡ false → All (λ x. test x ≡ false) xs
-none_pass test [] none = All-nil (λ x. test x ≡ false)
-none_pass test (x ∷ xs) none = by_test (test x) refl (none_pass test xs) none
-  where
-    by_test : (b : Bool) → test x ≡ b → (list_any test xs ≡ false → All (λ y. test y ≡ false) xs) → (b || list_any test xs) ≡ false → All (λ y. test y ≡ false) (x ∷ xs)
-    by_test true is rest off = cc
-    by_test false is rest off = All-cons (λ y. test y ≡ false) x xs is (rest off)
-
 -- of two closures without a common minute, the one that begins first ends first
 pub apart_before : (k other : Closure) → share_a_minute k other ≡ false → nat_lt k.from other.from ≡ false → IsClosure k → other.to ≤ k.from
 apart_before k other off first good = let span = good.span in grind (arith, nat_tests)
@@ -98,7 +90,7 @@ pub put_closure-kept : (k : Closure) (ks : List Closure) → AreClosures ks → 
 put_closure-kept k ks are room good off =
     let p = position_or_len (λ other. nat_lt k.from other.from) ks in
     let fits : p ≤ length ks = prefix_len-le-length (λ other. not (nat_lt k.from other.from)) ks in
-    let apart = none_pass (share_a_minute k) ks off in
+    let apart = none-passes (share_a_minute k) ks off in
     record {
       few = omega (arith, length-insert ks p k fits);
       each = All-append IsClosure (take p ks) (k ∷ drop p ks) (All-take IsClosure p ks are.each) (All-cons IsClosure k (drop p ks) good (All-drop IsClosure p ks are.each));

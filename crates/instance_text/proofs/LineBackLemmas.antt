@@ -19,8 +19,8 @@ use Rattle.instance_text.specs.declared.bad.Kind.{Kind}
 use Rattle.instance_text.specs.declared.bad.Kind.TheVariants.{Range, Overlap}
 use Rattle.instance_text.specs.declared.format.Format.{Format}
 use Rattle.instance_text.specs.declared.format.Format.TheVariants.{First, Second}
-use Rattle.instance_text.specs.declared.progress.Progress.TheVariants.{More, Ended}
-use Rattle.instance_text.specs.Steps.{◌>>=◌, ◌>>◌, check}
+use Rattle.line_text.specs.declared.progress.Progress.TheVariants.{More, Ended}
+use Rattle.line_text.specs.Steps.{◌>>=◌, ◌>>◌, check}
 use Rattle.instance_text.specs.Words.{number}
 use Rattle.instance_text.specs.Draft.{Draft}
 use Rattle.instance_text.specs.Chamber.{read_chamber}

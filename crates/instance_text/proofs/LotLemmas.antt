@@ -2,6 +2,7 @@
 use Rattle.std.proofs.Common.{◌≡◌, ◌≢◌, ℕ, zero, suc, ◌+◌, ◌-◌, ◌*◌, ◌%◌, ◌<◌, ◌≤◌, ◌^◌, min, Bool, true, false, ◌&&◌, ◌||◌, nat_eq, List, [], ◌∷◌, ◌++◌, length, take, get_or, All, AllPairs, codes, decimal, sym, ap, refl, subst, ◌∙◌, arith, lit≤, lit<}
 use Rattle.std.proofs.lemmas.List.{length-take, get_or-take, append_cancel_left, append_assoc, take_more, length-append}
 use Rattle.std.proofs.lemmas.List.Elements.{All-nil, All-cons, All-take, All-push, All-append}
+use Rattle.std.proofs.lemmas.List.Sums.{AllPass-from_list_all}
 use Rattle.std.proofs.lemmas.Bool.Decides.{nat_tests}
 use Rattle.std.proofs.lemmas.Fmt.{decimal_injective, length-decimal-le, decimal_by_steps}
 use Rattle.lock_model.specs.Limits.{IsName, is_name_byte, is_between}
@@ -12,7 +13,6 @@ use Rattle.lock_model.specs.declared.chamber.Chamber.{Chamber}
 use Rattle.lock_model.specs.declared.ship.Ship.{Ship}
 use Rattle.lock_model.specs.declared.way.Stand.{Stand}
 use Rattle.lock_model.specs.declared.way.Stand.TheVariants.{Low, High}
-use Rattle.instance_text.proofs.TestLemmas.{all_from_test}
 use Rattle.instance_text.specs.Lot.{draw, after_draws, lot_ship, lot_ships, lot_chamber, lot_chambers}
 
 pub limits_of : (cs cs' : List Chamber) (ss ss' : List Ship) → cs ≡ cs' → ss ≡ ss' → IsInstance cs' ss' → IsInstance cs ss
@@ -43,7 +43,7 @@ no_closures : AreClosures []
 no_closures = record { few = lit≤ tt; each = All-nil IsClosure; rising = λ i j d lt low. absurd (omega arith) }
 
 two_byte_name : (a b : ℕ) → (is_name_byte a && (is_name_byte b && true)) ≡ true → IsName (a ∷ b ∷ [])
-two_byte_name a b allowed = record { count = (lit≤ tt, lit≤ tt); allowed = all_from_test is_name_byte (a ∷ b ∷ []) allowed }
+two_byte_name a b allowed = record { count = (lit≤ tt, lit≤ tt); allowed = AllPass-from_list_all is_name_byte (a ∷ b ∷ []) allowed }
 
 lot_chamber_good : (b length width most pass turn : ℕ) (stands : Stand) → (is_name_byte 99 && (is_name_byte b && true)) ≡ true → (1 ≤ length) × (length ≤ 100000) → (1 ≤ width) × (width ≤ 100000) → (1 ≤ most) × (most ≤ 8) → (1 ≤ pass) × (pass ≤ 1000000) → turn ≤ pass → IsChamber (lot_chamber (99 ∷ b ∷ []) length width most pass turn stands)
 lot_chamber_good b length width most pass turn stands allowed l w m p t = record { name = two_byte_name 99 b allowed; length = l; width = w; end = lit≤ tt; gap = lit≤ tt; side = lit≤ tt; most = m; pass = p; turn = t; opens = lit≤ tt; closures = no_closures }
@@ -121,7 +121,7 @@ unfolding lot_ship
 lot_ship_good i state arrival few early = record {
   name = record {
     count = let short = length-decimal-le 2 i (lit< tt) (omega arith) (omega arith) in let whole = length-append (codes "s") (decimal i) in (omega arith, omega arith);
-    allowed = All-append (λ b. is_name_byte b ≡ true) (codes "s") (decimal i) (all_from_test is_name_byte (codes "s") refl) (name_digits i (omega arith));
+    allowed = All-append (λ b. is_name_byte b ≡ true) (codes "s") (decimal i) (AllPass-from_list_all is_name_byte (codes "s") refl) (name_digits i (omega arith));
   };
   length = let d = draw_below state 2 73 (lit< tt) in (omega arith, omega arith);
   width = let d = draw_below state 3 65 (lit< tt) in (omega arith, omega arith);

@@ -5,7 +5,7 @@ use Rattle.std.proofs.lemmas.Slice.Eq.{bytes_eq-Decides}
 use Rattle.std.specs.List.{list_any}
 use Rattle.std.specs.Str.{bytes_eq}
 use Rattle.instance_text.specs.declared.bad.Kind.{Kind}
-use Rattle.instance_text.specs.Steps.{check}
+use Rattle.line_text.specs.Steps.{check}
 
 -- a name that none of these has
 pub new_among : {X : Type 0} (name_of : X → List ℕ) (xs : List X) (word : List ℕ) → list_any (bytes_eq word) (map name_of xs) ≡ false → All (λ x. name_of x ≢ word) xs

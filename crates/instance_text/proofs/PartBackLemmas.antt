@@ -1,43 +1,20 @@
 -- The instance part of a canonical instance text that something follows.
 use Rattle.std.proofs.Common.{◌≡◌, ◌∙◌, ℕ, ◌+◌, ◌<◌, Bool, true, false, cond, ◌&&◌, List, [], ◌∷◌, ◌++◌, length, map, take, drop, codes, refl, sym, ap, subst, arith, append_assoc}
+use Rattle.std.proofs.Math.Bool.{and-false}
 use Rattle.std.specs.Prelude.{◌==◌}
-use Rattle.std.specs.List.{slice_split, onto_first, join_with_byte, flat_map}
+use Rattle.std.specs.List.{join_with_byte, flat_map}
 use Rattle.std.specs.Str.{bytes_eq}
 use Rattle.std.proofs.Math.Seq.{take-append-add, take-append_seam, drop-append_seam}
-use Rattle.std.proofs.lemmas.List.{map-append}
-use Rattle.std.proofs.lemmas.List.Splits.{join_with_byte-slice_split, slice_split-cons_yes, slice_split-cons_no, length-slice_split}
+use Rattle.std.proofs.lemmas.List.{map-append, length_push}
 use Rattle.lock_model.specs.declared.chamber.Chamber.{Chamber}
 use Rattle.lock_model.specs.declared.instance.Instance.{Instance}
-use Rattle.instance_text.specs.Lines.{is_line_feed, lines, words}
-use Rattle.instance_text.specs.Chamber.{word_at}
+use Rattle.line_text.specs.Lines.{lines, words, word_at, is_only}
 use Rattle.instance_text.specs.Reading.{is_end, length_of_part, instance_part, after_instance}
-use Rattle.instance_text.specs.Canonical.{line, chamber_words, closing_words, closings, ship_words, is_plain, header_words, canonical, canonical_words}
-use Rattle.instance_text.proofs.LayoutLemmas.{words_of_text}
+use Rattle.line_text.specs.Printed.{line}
+use Rattle.instance_text.specs.Canonical.{chamber_words, closing_words, closings, ship_words, is_plain, header_words, canonical, canonical_words}
+use Rattle.line_text.proofs.AppendLemmas.{lines-append, join-lines}
+use Rattle.line_text.proofs.LayoutLemmas.{words_of_text}
 use Rattle.instance_text.proofs.PlainLemmas.{canonical_plain}
-
--- ---- the lines of a text of two parts
-
-onto_first-append : (x : ℕ) (first : List (List ℕ)) (second : List (List ℕ)) → 0 < length first → onto_first x (first ++ second) ≡ onto_first x first ++ second
-onto_first-append x [] second some = absurd (omega arith)
-onto_first-append x (part ∷ first) second some = refl
-
-split-append : (t rest : List ℕ) → slice_split is_line_feed (t ++ 10 ∷ rest) ≡ slice_split is_line_feed t ++ slice_split is_line_feed rest
-split-append [] rest = refl
-split-append (b ∷ t) rest = go (is_line_feed b) refl (split-append t rest)
-  where
-    go : (feed : Bool) → is_line_feed b ≡ feed → slice_split is_line_feed (t ++ 10 ∷ rest) ≡ slice_split is_line_feed t ++ slice_split is_line_feed rest → slice_split is_line_feed (b ∷ t ++ 10 ∷ rest) ≡ slice_split is_line_feed (b ∷ t) ++ slice_split is_line_feed rest
-    go true is more = slice_split-cons_yes is_line_feed b (t ++ 10 ∷ rest) is ∙ ap (λ l. [] ∷ l) more ∙ ap (λ l. l ++ slice_split is_line_feed rest) (sym (slice_split-cons_yes is_line_feed b t is))
-    go false is more =
-        slice_split-cons_no is_line_feed b (t ++ 10 ∷ rest) is ∙ ap (onto_first b) more ∙ onto_first-append b (slice_split is_line_feed t) (slice_split is_line_feed rest) (omega (arith, length-slice_split is_line_feed t))
-        ∙ ap (λ l. l ++ slice_split is_line_feed rest) (sym (slice_split-cons_no is_line_feed b t is))
-
-pub lines-append : (t rest : List ℕ) → lines (t ++ 10 ∷ rest) ≡ lines t ++ lines rest
-unfolding lines
-lines-append t rest = split-append t rest
-
-pub join-lines : (t : List ℕ) → join_with_byte 10 (lines t) ≡ t
-unfolding lines
-join-lines t = join_with_byte-slice_split 10 t
 
 -- ---- where the part ends
 
@@ -76,25 +53,17 @@ push_same xs ys a b e =
     let same : length xs ≡ length ys = sized xs ys a b sizes in
     sym (take-append_seam xs (a ∷ [])) ∙ ap (take (length xs)) e ∙ ap (λ n. take n (ys ++ b ∷ [])) same ∙ take-append_seam ys (b ∷ [])
   where
-    pushed : {X : Type 0} (zs : List X) (c : X) → length (zs ++ c ∷ []) ≡ length zs + 1
-    pushed [] c = omega arith
-    pushed (z ∷ zs) c = let more = pushed zs c in omega arith
-
     sized : {X : Type 0} (ps qs : List X) (c d : X) → length (ps ++ c ∷ []) ≡ length (qs ++ d ∷ []) → length ps ≡ length qs
-    sized ps qs c d h = let p = pushed ps c in let q = pushed qs d in omega arith
+    sized ps qs c d h = let p = length_push ps c in let q = length_push qs d in omega arith
 
 -- lines that don't begin with `end`
 abbrev BeginElse : List (List (List ℕ)) → Type 0
 BeginElse [] = Unit {0}
 BeginElse (ws ∷ more) = (is_end ws ≡ false) × BeginElse more
 
-and_false : (b : Bool) → (b && false) ≡ false
-and_false true = refl
-and_false false = refl
-
 another : (ws : List (List ℕ)) → bytes_eq (word_at ws 0) (codes "end") ≡ false → is_end ws ≡ false
-unfolding is_end
-another ws other = ap (λ b. (length ws == 1) && b) other ∙ and_false (length ws == 1)
+unfolding is_only
+another ws other = ap (λ b. (length ws == 1) && b) other ∙ and-false (length ws == 1)
 
 BeginElse-append : (xs ys : List (List (List ℕ))) → BeginElse xs → BeginElse ys → BeginElse (xs ++ ys)
 BeginElse-append [] ys first second = second
@@ -110,7 +79,7 @@ BeginElse-closings [] = tt
 BeginElse-closings (c ∷ cs) = BeginElse-append (closings c) (flat_map closings cs) (BeginElse-map (closing_words c.name) c.closures (λ k. another (closing_words c.name k) refl)) (BeginElse-closings cs)
 
 ends_after : (wss : List (List (List ℕ))) → BeginElse wss → EndsAt (wss ++ (codes "end" ∷ []) ∷ [])
-unfolding is_end
+unfolding is_only
 ends_after [] else = refl
 ends_after (ws ∷ []) else = (else.0, refl)
 ends_after (ws ∷ vs ∷ more) else = (else.0, ends_after (vs ∷ more) else.1)

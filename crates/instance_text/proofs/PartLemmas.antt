@@ -1,6 +1,6 @@
 -- How long the instance part of a text is, and what comes after it.
 use Rattle.std.proofs.Common.{◌≡◌, ℕ, ◌+◌, ◌-◌, ◌≤◌, Bool, true, false, cond, min, List, [], ◌∷◌, length, take, drop, take_all, length-take, length-drop, ap, ◌∙◌, arith}
-use Rattle.instance_text.specs.Lines.{lines, words}
+use Rattle.line_text.specs.Lines.{lines, words}
 use Rattle.instance_text.specs.Reading.{length_of_part, is_end, instance_part, after_instance}
 
 pub begun : (parts lines : List (List ℕ)) → parts ≡ lines → 0 + length_of_part parts ≡ length_of_part lines

@@ -1,9 +1,8 @@
 -- The lines of a canonical instance text are plain words.
 use Rattle.std.proofs.Common.{◌≡◌, ℕ, ◌<◌, ◌^◌, ◌==◌, Bool, true, false, cond, List, [], ◌∷◌, ◌++◌, length, map, All, decimal, codes, refl, arith}
-use Rattle.std.specs.List.{flat_map, list_all}
+use Rattle.std.specs.List.{flat_map}
 use Rattle.std.proofs.lemmas.List.Elements.{All-head, All-tail}
-use Rattle.std.proofs.lemmas.Fmt.{decimal_nonempty}
-use Rattle.lock_model.specs.Limits.{IsName, is_name_byte}
+use Rattle.lock_model.specs.Limits.{IsName}
 use Rattle.lock_model.specs.Closures.{IsClosure}
 use Rattle.lock_model.specs.Instance.{IsChamber, IsShip}
 use Rattle.lock_model.specs.declared.chamber.Chamber.{Chamber}
@@ -15,26 +14,16 @@ use Rattle.lock_model.specs.declared.way.Way.TheVariants.{Up, Down}
 use Rattle.lock_model.specs.declared.way.Stand.{Stand}
 use Rattle.lock_model.specs.declared.way.Stand.TheVariants.{Low, High}
 use Rattle.instance_text.specs.Canonical.{chamber_words, closing_words, closings, ship_words, way_word, stand_word, is_plain, header_words, canonical_words}
-use Rattle.instance_text.proofs.LotLemmas.{name_digits}
-use Rattle.instance_text.proofs.TestLemmas.{all_from_test}
-use Rattle.instance_text.proofs.LayoutLemmas.{IsPlain, ArePlain, AreLines}
+use Rattle.line_text.proofs.LayoutLemmas.{IsPlain, ArePlain, AreLines, AreLines-append, AreLines-map}
+use Rattle.line_text.proofs.PlainLemmas.{name_plain, decimal_plain, literal_plain}
 
-decimal_plain : (n : ℕ) → n < 2 ^ 64 → IsPlain (decimal n)
-decimal_plain n small = record { filled = decimal_nonempty n small; allowed = name_digits n small }
-
-name_plain : (name : List ℕ) → IsName name → IsPlain name
-name_plain name good = record { filled = let c = good.count in omega arith; allowed = good.allowed }
-
-way_plain : (w : Way) → IsPlain (way_word w)
-way_plain Up = record { filled = omega arith; allowed = all_from_test is_name_byte (codes "up") refl }
-way_plain Down = record { filled = omega arith; allowed = all_from_test is_name_byte (codes "down") refl }
+pub way_plain : (w : Way) → IsPlain (way_word w)
+way_plain Up = literal_plain (codes "up") (omega arith) refl
+way_plain Down = literal_plain (codes "down") (omega arith) refl
 
 stand_plain : (s : Stand) → IsPlain (stand_word s)
-stand_plain Low = record { filled = omega arith; allowed = all_from_test is_name_byte (codes "low") refl }
-stand_plain High = record { filled = omega arith; allowed = all_from_test is_name_byte (codes "high") refl }
-
-literal_plain : (w : List ℕ) → 0 < length w → list_all is_name_byte w ≡ true → IsPlain w
-literal_plain w some allowed = record { filled = some; allowed = all_from_test is_name_byte w allowed }
+stand_plain Low = literal_plain (codes "low") (omega arith) refl
+stand_plain High = literal_plain (codes "high") (omega arith) refl
 
 chamber_plain : (c : Chamber) → IsChamber c → (0 < length (chamber_words c)) × ArePlain (chamber_words c)
 unfolding chamber_words
@@ -58,14 +47,6 @@ unfolding closing_words
 closing_plain name k good closure =
     let span = closure.span in let limit = closure.limit in
     (omega arith, (literal_plain (codes "close") (omega arith) refl, (name_plain name good, (decimal_plain k.from (omega arith), (decimal_plain k.to (omega arith), tt)))))
-
-AreLines-append : (xs ys : List (List (List ℕ))) → AreLines xs → AreLines ys → AreLines (xs ++ ys)
-AreLines-append [] ys first second = second
-AreLines-append (x ∷ xs) ys first second = (first.0, first.1, AreLines-append xs ys first.2 second)
-
-AreLines-map : {X : Type 0} (f : X → List (List ℕ)) (P : X → Type 0) (xs : List X) → ((x : X) → P x → (0 < length (f x)) × ArePlain (f x)) → All P xs → AreLines (map f xs)
-AreLines-map f P [] plain all = tt
-AreLines-map f P (x ∷ xs) plain all = let first = plain x (All-head P x xs all) in (first.0, first.1, AreLines-map f P xs plain (All-tail P x xs all))
 
 closings_plain : (cs : List Chamber) → All IsChamber cs → AreLines (flat_map closings cs)
 closings_plain [] good = tt

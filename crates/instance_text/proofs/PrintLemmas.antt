@@ -6,7 +6,8 @@ use Rattle.std.proofs.lemmas.Grind.{flat_map-append}
 use Rattle.lock_model.specs.declared.instance.Instance.{Instance}
 use Rattle.lock_model.specs.declared.chamber.Chamber.{Chamber}
 use Rattle.lock_model.specs.declared.ship.Ship.{Ship}
-use Rattle.instance_text.specs.Canonical.{line, chamber_words, closings, ship_words, header_words, is_plain, canonical, canonical_words}
+use Rattle.line_text.specs.Printed.{line}
+use Rattle.instance_text.specs.Canonical.{chamber_words, closings, ship_words, header_words, is_plain, canonical, canonical_words}
 
 -- words with one space between before a rest
 abbrev pub line_before : List (List ℕ) → List ℕ → List ℕ

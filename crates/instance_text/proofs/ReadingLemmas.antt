@@ -1,6 +1,7 @@
 -- A text means one instance, or has one first defect.
-use Rattle.std.proofs.Common.{◌≡◌, ℕ, List, Result, Ok, Err, IfOk, IfErr, sym, ap, ◌∙◌}
+use Rattle.std.proofs.Common.{◌≡◌, ℕ, List, Result, Ok, Err, IfOk, IfErr, ap}
 use Rattle.lock_model.specs.declared.instance.Instance.{Instance}
+use Rattle.line_text.proofs.ReaderLemmas as reader
 use Rattle.instance_text.specs.declared.bad.Bad.{Bad}
 use Rattle.instance_text.specs.declared.bad.Kind.{Kind}
 use Rattle.instance_text.specs.Draft.{Draft}
@@ -11,32 +12,28 @@ use Rattle.instance_text.proofs.InstanceLemmas.{same_instance}
 abbrev draft_of : Instance → Draft
 draft_of I = record { chambers = I.chambers; ships = I.ships }
 
+draft_of-one : (I I' : Instance) → draft_of I ≡ draft_of I' → I ≡ I'
+draft_of-one I I' same = same_instance I I' (ap (λ (d : Draft). d.chambers) same) (ap (λ (d : Draft). d.ships) same)
+
 pub Means-one : (text : List ℕ) (I I' : Instance) → Means text I → Means text I' → I ≡ I'
 unfolding Means
-Means-one text I I' first second =
-    let same : ◌≡◌ {A = Result Draft Bad} (Ok (draft_of I)) (Ok (draft_of I')) = sym first ∙ second in
-    let drafts : draft_of I ≡ draft_of I' = cc in
-    same_instance I I' (ap (λ (d : Draft). d.chambers) drafts) (ap (λ (d : Draft). d.ships) drafts)
+Means-one text I I' first second = reader.one_value (reading text) draft_of draft_of-one I I' first second
 
 pub Means-no_defect : (text : List ℕ) (I : Instance) (line : ℕ) (kind : Kind) → Means text I → Defect text line kind → ⊥
 unfolding Means Defect
-Means-no_defect text I line kind first second = let same : ◌≡◌ {A = Result Draft Bad} (Ok (draft_of I)) (Err (bad line kind)) = sym first ∙ second in cc
-
-pub Defect-one : (text : List ℕ) (line line' : ℕ) (kind kind' : Kind) → Defect text line kind → Defect text line' kind' → bad line kind ≡ bad line' kind'
-unfolding Defect
-Defect-one text line line' kind kind' first second = let same : ◌≡◌ {A = Result Draft Bad} (Err (bad line kind)) (Err (bad line' kind')) = sym first ∙ second in cc
+Means-no_defect text I line kind first second = reader.no_fault (reading text) draft_of I (bad line kind) first second
 
 -- a reader that is right where it answers answers all that is so
-pub reads_each : (text : List ℕ) (r : Result Instance Bad) → IfOk r (Means text) → IfErr r (λ b. Defect text b.line b.kind) → (I : Instance) → Means text I → r ≡ Ok I
-reads_each text (Ok J) ok err I means = ap Ok (Means-one text J I ok means)
-reads_each text (Err b) ok err I means = absurd (Means-no_defect text I b.line b.kind means err)
+pub reads_each : (text : List ℕ) (r : Result Instance Bad) → IfOk r (λ i. reading text ≡ Ok (draft_of i)) → IfErr r (λ b. reading text ≡ Err b) → (I : Instance) → Means text I → r ≡ Ok I
+unfolding Means
+reads_each text r ok err I means = reader.reads_each (reading text) draft_of draft_of-one r ok err I means
 
-pub refuses_each : (text : List ℕ) (r : Result Instance Bad) → IfOk r (Means text) → IfErr r (λ b. Defect text b.line b.kind) → (line : ℕ) (kind : Kind) → Defect text line kind → r ≡ Err (bad line kind)
-refuses_each text (Ok J) ok err line kind defect = absurd (Means-no_defect text J line kind ok defect)
-refuses_each text (Err b) ok err line kind defect = ap Err (Defect-one text b.line line b.kind kind err defect)
+pub refuses_each : (text : List ℕ) (r : Result Instance Bad) → IfOk r (λ i. reading text ≡ Ok (draft_of i)) → IfErr r (λ b. reading text ≡ Err b) → (line : ℕ) (kind : Kind) → Defect text line kind → r ≡ Err (bad line kind)
+unfolding Defect
+refuses_each text r ok err line kind defect = reader.refuses_each (reading text) draft_of r ok err (bad line kind) defect
 
 -- from what a text reads as
-pub means_if : (text : List ℕ) (r : Result Instance Bad) → IfOk r (λ i. reading text ≡ Ok (record { chambers = i.chambers; ships = i.ships })) → IfOk r (Means text)
+pub means_if : (text : List ℕ) (r : Result Instance Bad) → IfOk r (λ i. reading text ≡ Ok (draft_of i)) → IfOk r (Means text)
 unfolding Means
 means_if text (Ok J) read = read
 means_if text (Err b) read = read

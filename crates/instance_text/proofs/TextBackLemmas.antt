@@ -1,9 +1,12 @@
 -- A canonical text means its instance.
-use Rattle.std.proofs.Common.{◌≡◌, ◌≢◌, ℕ, suc, ◌+◌, ◌<◌, ◌≤◌, ◌==◌, Bool, true, false, ◌&&◌, List, [], ◌∷◌, ◌++◌, length, map, get_or, All, AllPairs, Result, Ok, codes, sym, ap, refl, subst, ◌∙◌, arith}
+use Rattle.std.proofs.Common.{◌≡◌, ◌≢◌, ℕ, ◌+◌, ◌<◌, ◌≤◌, ◌==◌, Bool, true, false, List, [], ◌∷◌, ◌++◌, length, map, get_or, All, AllPairs, Result, Ok, codes, sym, ap, refl, subst, ◌∙◌, arith}
+use Rattle.std.proofs.lemmas.Bool.{and_parts}
 use Rattle.std.specs.List.{flat_map, list_all}
 use Rattle.std.proofs.lemmas.Bool.Decides.{nat_tests}
 use Rattle.std.proofs.lemmas.List.{append_assoc, append-nil, length_push, map-append, nil_from_length}
 use Rattle.std.proofs.lemmas.List.Elements.{All-nil, All-cons, All-head, All-tail, All-push}
+use Rattle.std.proofs.lemmas.List.Sums.{AllPass-from_list_all}
+use Rattle.list_laws.proofs.Lists.{AllPairs-tail, AllPairs-head}
 use Rattle.lock_model.specs.Limits.{IsName}
 use Rattle.lock_model.specs.Closures.{AreClosures}
 use Rattle.lock_model.specs.Instance.{IsChamber, IsShip}
@@ -14,13 +17,12 @@ use Rattle.lock_model.specs.declared.instance.Instance.{Instance}
 use Rattle.instance_text.specs.declared.bad.Bad.{Bad}
 use Rattle.instance_text.specs.declared.format.Format.{Format}
 use Rattle.instance_text.specs.declared.format.Format.TheVariants.{First, Second}
-use Rattle.instance_text.specs.declared.progress.Progress.TheVariants.{More}
+use Rattle.line_text.specs.declared.progress.Progress.TheVariants.{More}
 use Rattle.instance_text.specs.Draft.{Draft, no_draft}
 use Rattle.instance_text.specs.Reading.{reading, Means, read_lines, read_body, read_line, format_of}
 use Rattle.instance_text.specs.Canonical.{chamber_words, closing_words, closings, ship_words, is_plain, header_words, canonical, canonical_words}
 use Rattle.instance_text.proofs.ClosureLemmas.{closures_front}
-use Rattle.instance_text.proofs.TestLemmas.{all_from_test}
-use Rattle.instance_text.proofs.LayoutLemmas.{words_of_text, is_utf8-text}
+use Rattle.line_text.proofs.LayoutLemmas.{words_of_text, is_utf8-text}
 use Rattle.instance_text.proofs.PlainLemmas.{canonical_plain}
 use Rattle.instance_text.proofs.LineBackLemmas.{bare, chamber_line_back, ship_line_back, closing_line_back, end_line_back}
 
@@ -33,12 +35,6 @@ abbrev NewShips : List (List ℕ) → List Ship → Type 0
 NewShips names [] = Unit {0}
 NewShips names (s ∷ ss) = IsShip s × All (λ e. e ≢ s.name) names × NewShips (names ++ s.name ∷ []) ss
 
-pairs_head : {X : Type 0} (R : X → X → Type 0) (x : X) (xs : List X) → AllPairs R (x ∷ xs) → All (R x) xs
-pairs_head R x xs pairs j d low = pairs 0 (suc j) d (omega arith) (omega arith)
-
-pairs_tail : {X : Type 0} (R : X → X → Type 0) (x : X) (xs : List X) → AllPairs R (x ∷ xs) → AllPairs R xs
-pairs_tail R x xs pairs i j d lt low = pairs (suc i) (suc j) d (omega arith) (omega arith)
-
 -- each of the later ones differs from the names and from the one before
 push_name : {X : Type 0} (name_of : X → List ℕ) (names : List (List ℕ)) (x : X) (xs : List X) → All (λ y. All (λ e. e ≢ name_of y) names) xs → All (λ y. name_of x ≢ name_of y) xs → All (λ y. All (λ e. e ≢ name_of y) (names ++ name_of x ∷ [])) xs
 push_name name_of names x xs new first k d low = All-push (λ e. e ≢ name_of (get_or xs k d)) names (name_of x) (new k d low) (first k d low)
@@ -48,7 +44,7 @@ new_chambers names [] good new pairs = tt
 new_chambers names (c ∷ cs) good new pairs = (
   All-head IsChamber c cs good,
   All-head (λ x. All (λ e. e ≢ x.name) names) c cs new,
-  new_chambers (names ++ c.name ∷ []) cs (All-tail IsChamber c cs good) (push_name (λ x. x.name) names c cs (All-tail (λ x. All (λ e. e ≢ x.name) names) c cs new) (pairs_head (λ a b. a.name ≢ b.name) c cs pairs)) (pairs_tail (λ a b. a.name ≢ b.name) c cs pairs),
+  new_chambers (names ++ c.name ∷ []) cs (All-tail IsChamber c cs good) (push_name (λ x. x.name) names c cs (All-tail (λ x. All (λ e. e ≢ x.name) names) c cs new) (AllPairs-head (λ a b. a.name ≢ b.name) c cs pairs)) (AllPairs-tail (λ a b. a.name ≢ b.name) c cs pairs),
 )
 
 new_ships : (names : List (List ℕ)) (ss : List Ship) → All IsShip ss → All (λ s. All (λ e. e ≢ s.name) names) ss → AllPairs (λ a b. a.name ≢ b.name) ss → NewShips names ss
@@ -56,7 +52,7 @@ new_ships names [] good new pairs = tt
 new_ships names (s ∷ ss) good new pairs = (
   All-head IsShip s ss good,
   All-head (λ x. All (λ e. e ≢ x.name) names) s ss new,
-  new_ships (names ++ s.name ∷ []) ss (All-tail IsShip s ss good) (push_name (λ x. x.name) names s ss (All-tail (λ x. All (λ e. e ≢ x.name) names) s ss new) (pairs_head (λ a b. a.name ≢ b.name) s ss pairs)) (pairs_tail (λ a b. a.name ≢ b.name) s ss pairs),
+  new_ships (names ++ s.name ∷ []) ss (All-tail IsShip s ss good) (push_name (λ x. x.name) names s ss (All-tail (λ x. All (λ e. e ≢ x.name) names) s ss new) (AllPairs-head (λ a b. a.name ≢ b.name) s ss pairs)) (AllPairs-tail (λ a b. a.name ≢ b.name) s ss pairs),
 )
 
 -- a line that goes on
@@ -159,8 +155,8 @@ second_back I =
 first_back : (I : Instance) → list_all (λ (c : Chamber). length c.closures == 0) I.chambers ≡ true → list_all (λ (s : Ship). s.cargo == 0) I.ships ≡ true → read_body First 1 no_draft (body I) ≡ Ok (drafted I)
 first_back I never_closed harmless =
     let few = I.limits.chamber_count.1 in
-    let none = none_closed I.chambers (all_from_test (λ (c : Chamber). length c.closures == 0) I.chambers never_closed) in
-    let safe = all_from_test (λ (s : Ship). s.cargo == 0) I.ships harmless in
+    let none = none_closed I.chambers (AllPass-from_list_all (λ (c : Chamber). length c.closures == 0) I.chambers never_closed) in
+    let safe = AllPass-from_list_all (λ (s : Ship). s.cargo == 0) I.ships harmless in
     subst (λ ls. read_body First 1 no_draft (map chamber_words I.chambers ++ (ls ++ (map ship_words I.ships ++ (codes "end" ∷ []) ∷ [] ∷ []))) ≡ Ok (drafted I)) (sym none.0)
     (chambers_back First 1 no_draft I.chambers (map ship_words I.ships ++ (codes "end" ∷ []) ∷ [] ∷ []) (Ok (drafted I)) (omega arith) (fresh_chambers I)
     (λ m. subst (λ cs. read_body First m (record { chambers = cs; ships = [] }) (map ship_words I.ships ++ (codes "end" ∷ []) ∷ [] ∷ []) ≡ Ok (drafted I)) (sym none.1)
@@ -173,16 +169,12 @@ lines_back : (I : Instance) → read_lines 0 (canonical_words I ++ [] ∷ []) �
 unfolding canonical_words format_of
 lines_back I = by_plain (is_plain I) refl
   where
-    both_hold : (a b : Bool) → (a && b) ≡ true → (a ≡ true) × (b ≡ true)
-    both_hold true b h = (refl, h)
-    both_hold false b h = cc
-
     parts : (header : List (List ℕ)) → ((header ∷ map chamber_words I.chambers) ++ flat_map closings I.chambers ++ map ship_words I.ships ++ (codes "end" ∷ []) ∷ []) ++ [] ∷ [] ≡ header ∷ body I
     parts header = grouped (header ∷ map chamber_words I.chambers) (flat_map closings I.chambers) (map ship_words I.ships) ((codes "end" ∷ []) ∷ []) ([] ∷ [])
 
     by_plain : (plain : Bool) → is_plain I ≡ plain → read_lines 0 (((header_words plain ∷ map chamber_words I.chambers) ++ flat_map closings I.chambers ++ map ship_words I.ships ++ (codes "end" ∷ []) ∷ []) ++ [] ∷ []) ≡ Ok (drafted I)
     by_plain true is =
-        let holds = both_hold (list_all (λ (c : Chamber). length c.closures == 0) I.chambers) (list_all (λ (s : Ship). s.cargo == 0) I.ships) is in
+        let holds = and_parts (list_all (λ (c : Chamber). length c.closures == 0) I.chambers) (list_all (λ (s : Ship). s.cargo == 0) I.ships) is in
         ap (read_lines 0) (parts (header_words true)) ∙ first_back I holds.0 holds.1
     by_plain false is = ap (read_lines 0) (parts (header_words false)) ∙ second_back I
 

@@ -1,6 +1,6 @@
 -- The canonical text of an instance.
 use Rattle.std.specs.Prelude.{ℕ, ◌==◌, ◌&&◌, Bool, List, [], ◌∷◌, ◌++◌, length, map, codes, decimal, if◌then◌else◌}
-use Rattle.std.specs.List.{flat_map, join_with_byte, list_all}
+use Rattle.std.specs.List.{flat_map, list_all}
 use Rattle.lock_model.specs.declared.chamber.Chamber.{Chamber}
 use Rattle.lock_model.specs.declared.closure.Closure.{Closure}
 use Rattle.lock_model.specs.declared.ship.Ship.{Ship}
@@ -9,10 +9,7 @@ use Rattle.lock_model.specs.declared.way.Way.{Way}
 use Rattle.lock_model.specs.declared.way.Way.TheVariants.{Up, Down}
 use Rattle.lock_model.specs.declared.way.Stand.{Stand}
 use Rattle.lock_model.specs.declared.way.Stand.TheVariants.{Low, High}
-
--- words with one space between, and a line feed
-abbrev pub line : List (List ℕ) → List ℕ
-line words = join_with_byte 32 words ++ 10 ∷ []
+use Rattle.line_text.specs.Printed.{line}
 
 abbrev pub way_word : Way → List ℕ
 way_word Up = codes "up"

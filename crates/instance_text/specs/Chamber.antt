@@ -1,14 +1,11 @@
 -- The words of a chamber line.
-use Rattle.std.specs.Prelude.{ℕ, ◌==◌, List, [], length, map, nat_le, nat_lt, slice_index_or, Result, Ok}
+use Rattle.std.specs.Prelude.{ℕ, ◌==◌, List, [], length, map, nat_le, nat_lt, Result, Ok}
 use Rattle.lock_model.specs.declared.chamber.Chamber.{Chamber}
 use Rattle.instance_text.specs.declared.bad.Kind.{Kind}
 use Rattle.instance_text.specs.declared.bad.Kind.TheVariants.{Count, Range, TurnOverPass}
-use Rattle.instance_text.specs.Steps.{◌>>=◌, ◌>>◌, check}
+use Rattle.line_text.specs.Lines.{word_at}
+use Rattle.line_text.specs.Steps.{◌>>=◌, ◌>>◌, check}
 use Rattle.instance_text.specs.Words.{number, new_name, stand}
-
--- word i of a line, from 0
-abbrev pub word_at : List (List ℕ) → ℕ → List ℕ
-word_at words i = slice_index_or words i []
 
 -- chamber <name> <length> <width> <end> <gap> <side> <most> <pass> <turn> <low|high> <opens>
 unfoldable pub read_chamber : List Chamber → List (List ℕ) → Result Chamber Kind

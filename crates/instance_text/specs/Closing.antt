@@ -9,9 +9,9 @@ use Rattle.lock_model.specs.declared.chamber.Chamber.{Chamber}
 use Rattle.lock_model.specs.declared.closure.Closure.{Closure}
 use Rattle.instance_text.specs.declared.bad.Kind.{Kind}
 use Rattle.instance_text.specs.declared.bad.Kind.TheVariants.{Count, Range, Unknown, Overlap}
-use Rattle.instance_text.specs.Steps.{◌>>=◌, ◌>>◌, check}
+use Rattle.line_text.specs.Steps.{◌>>=◌, ◌>>◌, check}
 use Rattle.instance_text.specs.Words.{number, name}
-use Rattle.instance_text.specs.Chamber.{word_at}
+use Rattle.line_text.specs.Lines.{word_at}
 
 -- the number of the chamber of a name
 unfoldable pub chamber_named : List Chamber → List ℕ → Result ℕ Kind

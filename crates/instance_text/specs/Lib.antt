@@ -1,13 +1,8 @@
-pub mod Lines
-pub mod Steps
 pub mod Words
 pub mod Draft
 pub mod Chamber
 pub mod Ship
 pub mod Closing
 pub mod Reading
-pub mod Parts
-pub mod Texts
-pub mod Left
 pub mod Canonical
 pub mod Lot

@@ -1,19 +1,19 @@
 -- Instance texts: what they mean, and their first defect.
 use Rattle.std.specs.Prelude.{ℕ, ◌≡◌, ◌+◌, ◌==◌, ◌&&◌, Bool, List, [], ◌∷◌, ◌++◌, length, map, take, drop, nat_lt, Option, None, Some, Result, Ok, Err, codes, if◌then◌else◌}
 use Rattle.std.specs.Str.{bytes_eq, is_utf8}
-use Rattle.std.specs.Str.Lossy.{utf8_valid_len}
 use Rattle.lock_model.specs.declared.instance.Instance.{Instance}
 use Rattle.instance_text.specs.declared.bad.Bad.{Bad}
 use Rattle.instance_text.specs.declared.bad.Kind.{Kind}
 use Rattle.instance_text.specs.declared.bad.Kind.TheVariants.{NotUtf8, NoHeader, Word, Count, NoChamber, NoShip, NoEnd}
 use Rattle.instance_text.specs.declared.format.Format.{Format}
 use Rattle.instance_text.specs.declared.format.Format.TheVariants.{First, Second}
-use Rattle.instance_text.specs.declared.progress.Progress.{Progress}
-use Rattle.instance_text.specs.declared.progress.Progress.TheVariants.{More, Ended}
-use Rattle.instance_text.specs.Steps.{◌>>=◌, ◌>>◌, check}
+use Rattle.line_text.specs.declared.progress.Progress.{Progress}
+use Rattle.line_text.specs.declared.progress.Progress.TheVariants.{More, Ended}
+use Rattle.line_text.specs.Filled.{Filled, first_words}
+use Rattle.line_text.specs.Lines.{lines, words, word_at, is_only, line_of_fault}
+use Rattle.line_text.specs.Steps.{◌>>=◌, ◌>>◌, check, proceed}
 use Rattle.instance_text.specs.Draft.{Draft, no_draft}
-use Rattle.instance_text.specs.Lines.{lines, words}
-use Rattle.instance_text.specs.Chamber.{read_chamber, word_at}
+use Rattle.instance_text.specs.Chamber.{read_chamber}
 use Rattle.instance_text.specs.Ship.{read_ship}
 use Rattle.instance_text.specs.Closing.{read_closing, with_closure}
 
@@ -67,14 +67,13 @@ abbrev pub at_line : {A : Type 0} → ℕ → Result A Kind → Result A Bad
 at_line n (Ok x) = Ok x
 at_line n (Err kind) = Err (bad n kind)
 
+abbrev pub ended : Draft → Result (Filled (List (List ℕ))) ℕ → Result Draft Bad
+ended draft (Ok filled) = Err (bad filled.number Word)
+ended draft (Err n) = Ok draft
+
 -- after the line `end` no line has words; n lines stand before these
 abbrev pub read_rest : ℕ → Draft → List (List (List ℕ)) → Result Draft Bad
-read_rest n draft [] = Ok draft
-read_rest n draft (words ∷ more) = if length words == 0 then read_rest (n + 1) draft more else Err (bad (n + 1) Word)
-
-abbrev pub proceed : {A : Type 0} → Progress → A → A → A
-proceed More more ended = more
-proceed Ended more ended = ended
+read_rest n draft lines = ended draft (first_words n lines)
 
 -- the lines after the header up to `end`, and those after it; n lines stand before these
 abbrev pub read_body : Format → ℕ → Draft → List (List (List ℕ)) → Result Draft Bad
@@ -88,14 +87,13 @@ abbrev pub read_after : Option Format → ℕ → List (List (List ℕ)) → Res
 read_after None n lines = Err (bad n NoHeader)
 read_after (Some format) n lines = read_body format n no_draft lines
 
--- the header is the first line with words; n lines without words stand before these
-abbrev pub read_lines : ℕ → List (List (List ℕ)) → Result Draft Bad
-read_lines n [] = Err (bad n NoHeader)
-read_lines n (words ∷ more) = if length words == 0 then read_lines (n + 1) more else read_after (format_of words) (n + 1) more
+abbrev pub read_from : Result (Filled (List (List ℕ))) ℕ → Result Draft Bad
+read_from (Ok header) = read_after (format_of header.line) header.number header.more
+read_from (Err n) = Err (bad n NoHeader)
 
--- the line of the first byte at which the longest front that is UTF-8 ends
-unfoldable pub line_of_fault : List ℕ → ℕ
-line_of_fault text = length (lines (take (utf8_valid_len text) text))
+-- the header is the first line with words; n lines stand before these
+abbrev pub read_lines : ℕ → List (List (List ℕ)) → Result Draft Bad
+read_lines n lines = read_from (first_words n lines)
 
 -- the chambers and ships of a text, or its first defect
 unfoldable pub reading : List ℕ → Result Draft Bad
@@ -110,8 +108,8 @@ unfoldable pub Defect : List ℕ → ℕ → Kind → Type 0
 Defect text line kind = reading text ≡ Err (bad line kind)
 
 -- whether the words are the one word `end`
-unfoldable pub is_end : List (List ℕ) → Bool
-is_end words = length words == 1 && bytes_eq (word_at words 0) (codes "end")
+abbrev pub is_end : List (List ℕ) → Bool
+is_end words = is_only (codes "end") words
 
 -- the bytes of the lines up to the first line `end`, or of all, with a line feed for each
 abbrev pub length_of_part : List (List ℕ) → ℕ

@@ -5,9 +5,9 @@ use Rattle.instance_text.specs.declared.bad.Kind.{Kind}
 use Rattle.instance_text.specs.declared.bad.Kind.TheVariants.{Count, Range}
 use Rattle.instance_text.specs.declared.format.Format.{Format}
 use Rattle.instance_text.specs.declared.format.Format.TheVariants.{First, Second}
-use Rattle.instance_text.specs.Steps.{◌>>=◌, ◌>>◌, check}
+use Rattle.line_text.specs.Steps.{◌>>=◌, ◌>>◌, check}
 use Rattle.instance_text.specs.Words.{number, new_name, way}
-use Rattle.instance_text.specs.Chamber.{word_at}
+use Rattle.line_text.specs.Lines.{word_at}
 
 -- how many words a ship line may have: 7, and in the second format also 8
 abbrev pub is_ship_count : Format → ℕ → Bool

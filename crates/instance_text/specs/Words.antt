@@ -1,6 +1,7 @@
 -- What single words mean: names, numbers, ways and stands.
-use Rattle.std.specs.Prelude.{ℕ, ◌+◌, ◌*◌, ◌-◌, ◌&&◌, not, Bool, List, length, fold, Result, Ok, Err, codes, if◌then◌else◌}
+use Rattle.std.specs.Prelude.{ℕ, ◌&&◌, not, List, length, Option, None, Some, Result, Ok, Err, codes, if◌then◌else◌}
 use Rattle.std.specs.List.{list_all, list_any}
+use Rattle.std.specs.Option.{ok_or}
 use Rattle.std.specs.Str.{bytes_eq}
 use Rattle.lock_model.specs.Limits.{is_between, is_name_byte}
 use Rattle.lock_model.specs.declared.way.Way.{Way}
@@ -9,21 +10,12 @@ use Rattle.lock_model.specs.declared.way.Stand.{Stand}
 use Rattle.lock_model.specs.declared.way.Stand.TheVariants.{Low, High}
 use Rattle.instance_text.specs.declared.bad.Kind.{Kind}
 use Rattle.instance_text.specs.declared.bad.Kind.TheVariants.{Number, Range, Name, Twice, Word}
-use Rattle.instance_text.specs.Steps.{◌>>=◌, ◌>>◌, check}
-
-abbrev pub is_digit : ℕ → Bool
-is_digit b = is_between 48 57 b
-
--- the number that digits write, leading zeros allowed
-abbrev pub value : List ℕ → ℕ
-value digits = fold (λ n digit. 10 * n + (digit - 48)) 0 digits
+use Rattle.line_text.specs.Numbers.{number as number_within}
+use Rattle.line_text.specs.Steps.{◌>>=◌, ◌>>◌, check}
 
 -- a number from low to high
-unfoldable pub number : ℕ → ℕ → List ℕ → Result ℕ Kind
-number low high word = do
-  check (list_all is_digit word) Number
-  check (is_between low high (value word)) Range
-  Ok (value word)
+abbrev pub number : ℕ → ℕ → List ℕ → Result ℕ Kind
+number low high word = number_within Number Range low high word
 
 -- a name, of 1 to 12 allowed characters
 unfoldable pub name : List ℕ → Result (List ℕ) Kind
@@ -38,9 +30,12 @@ new_name earlier word = do
   check (not (list_any (bytes_eq word) earlier)) Twice
   Ok found
 
-unfoldable pub way : List ℕ → Result Way Kind
-way word = if bytes_eq word (codes "up") then Ok Up
-    else (if bytes_eq word (codes "down") then Ok Down else Err Word)
+unfoldable pub way_of : List ℕ → Option Way
+way_of word = if bytes_eq word (codes "up") then Some Up
+    else (if bytes_eq word (codes "down") then Some Down else None)
+
+abbrev pub way : List ℕ → Result Way Kind
+way word = ok_or (way_of word) Word
 
 unfoldable pub stand : List ℕ → Result Stand Kind
 stand word = if bytes_eq word (codes "low") then Ok Low

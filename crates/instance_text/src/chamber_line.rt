@@ -1,15 +1,14 @@
 //! The line of a chamber.
 ghost use Rattle.std.specs.Prelude.{◌≡◌, ◌≢◌, ◌<◌, ◌≤◌, All, length, IfOk};
 ghost use Rattle.lock_model.specs.Instance.{IsChamber};
-ghost use Rattle.instance_text.specs.Texts.{texts};
+ghost use Rattle.line_text.specs.Texts.{texts};
 ghost use Rattle.instance_text.specs.Chamber.{read_chamber};
 
 use crate::bad::Kind;
-use crate::check::check;
-use crate::digits::number;
 use crate::name::new_chamber_name;
+use crate::numbers::number;
 use crate::side::stand;
-use crate::words::word_at;
+use line_text::{check, word_at};
 use lock_model::{Chamber, Closures};
 
 /// The chamber of a line that comes after these chambers. The first defect is, in this order:

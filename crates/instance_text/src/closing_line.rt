@@ -5,14 +5,13 @@ ghost use Rattle.std.specs.Str.{bytes_eq};
 ghost use Rattle.lock_model.specs.Closures.{AreClosures, IsClosure};
 ghost use Rattle.lock_model.specs.declared.chamber.Chamber.{Chamber as AnyChamber};
 ghost use Rattle.lock_model.specs.declared.closure.Closure.{Closure as AnyClosure};
-ghost use Rattle.instance_text.specs.Texts.{texts};
+ghost use Rattle.line_text.specs.Texts.{texts};
 ghost use Rattle.instance_text.specs.Closing.{chamber_named, share_a_minute, is_free, closures_of, read_closing, CanClose, put_closure, with_closure};
 
 use crate::bad::Kind;
-use crate::check::check;
-use crate::digits::number;
 use crate::name::name;
-use crate::words::word_at;
+use crate::numbers::number;
+use line_text::{check, word_at};
 use lock_model::{Chamber, Chambers, Closure, Closures};
 
 /// The number of the chamber of a name. Refuses with `Unknown` a name that none has.

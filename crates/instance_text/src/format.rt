@@ -1,4 +1,9 @@
 //! The two formats of instance texts.
+ghost use Rattle.std.specs.Prelude.{◌≡◌};
+ghost use Rattle.line_text.specs.Lines.{words};
+ghost use Rattle.instance_text.specs.Reading.{format_of};
+
+use line_text::{word_at, words_of};
 
 /// The format that the first line with words names. Closures and cargo classes stand in texts of
 /// the second format alone.
@@ -8,4 +13,21 @@ pub enum Format {
     First,
     /// `glock 2`
     Second,
+}
+
+/// The format that a line names as the header of a text.
+#[tactic(auto, unfolding(crate::specs::Reading::format_of))]
+pub fn format_of(line: &[u8]) -> Option<Format>
+    ensures { result ≡ format_of (words line.now) }
+{
+    let words = words_of(line);
+    let words = words.as_slice();
+    if words.len() != 2 || word_at(words, 0) != b"glock".as_slice() {
+        return None;
+    }
+    match word_at(words, 1) {
+        b"1" => Some(Format::First),
+        b"2" => Some(Format::Second),
+        _ => None,
+    }
 }

@@ -1,17 +1,15 @@
 //! One line of an instance text after its header.
 ghost use Rattle.std.specs.Prelude.{◌≡◌, ◌≤◌, length, Ok, Err, IfOk, IfErr};
-ghost use Rattle.instance_text.specs.Texts.{texts};
+ghost use Rattle.line_text.specs.Texts.{texts};
 ghost use Rattle.instance_text.specs.Reading.{add_chamber, add_ship, add_closure, read_end, read_line};
 
 use crate::bad::Kind;
 use crate::chamber_line::read_chamber;
-use crate::check::check;
 use crate::closing_line::read_closing;
 use crate::draft::Draft;
 use crate::format::Format;
-use crate::progress::Progress;
 use crate::ship_line::read_ship;
-use crate::words::word_at;
+use line_text::{Progress, check, word_at};
 
 /// Adds the chamber of a line.
 #[tactic(auto, unfolding(crate::specs::Reading::add_chamber))]

@@ -8,7 +8,7 @@ ghost use Rattle.lock_model.specs.declared.chamber.Chamber.{Chamber as AnyChambe
 ghost use Rattle.lock_model.specs.declared.ship.Ship.{Ship as AnyShip};
 
 use crate::bad::Kind;
-use crate::check::check;
+use line_text::check;
 use lock_model::{Chamber, Name, Ship};
 
 /// Whether a byte may stand in a name.

@@ -1,7 +1,8 @@
 //! Printing canonical texts.
 ghost use Rattle.std.specs.Prelude.{◌≡◌, ◌==◌, ◌++◌, ◌∷◌, ◌&&◌, [], List, length, map, IfOk, OnOk, codes};
 ghost use Rattle.std.specs.List.{flat_map, list_all};
-ghost use Rattle.instance_text.specs.Canonical.{line, way_word, stand_word, chamber_words, closing_words, closings, ship_words, cargo_field, is_plain, header_words, canonical};
+ghost use Rattle.line_text.specs.Printed.{line};
+ghost use Rattle.instance_text.specs.Canonical.{way_word, stand_word, chamber_words, closing_words, closings, ship_words, cargo_field, is_plain, header_words, canonical};
 ghost use Rattle.instance_text.specs.Reading.{Means};
 ghost use Rattle.lock_model.specs.declared.chamber.Chamber.{Chamber as AnyChamber};
 ghost use Rattle.lock_model.specs.declared.ship.Ship.{Ship as AnyShip};

@@ -1,20 +1,17 @@
 //! Reading instance texts.
-ghost use Rattle.std.specs.Prelude.{◌≡◌, ◌≤◌, List, ℕ, min, length, map, Ok, Err, IfOk, IfErr, IfSome, IfNone};
+ghost use Rattle.std.specs.Prelude.{◌≡◌, ◌≤◌, List, ℕ, min, length, map, Ok, Err, IfOk, IfErr, OnOk};
 ghost use Rattle.instance_text.specs.Draft.{Draft as AnyDraft, no_draft};
-ghost use Rattle.instance_text.specs.Left.{lines_left};
-ghost use Rattle.instance_text.specs.Lines.{lines, words};
-ghost use Rattle.instance_text.specs.Reading.{read_lines, read_after, format_of, read_line, read_body, read_rest, reading, Means, Defect, bad, length_of_part, instance_part, after_instance};
+ghost use Rattle.line_text.specs.Left.{lines_left};
+ghost use Rattle.line_text.specs.Lines.{lines, words};
+ghost use Rattle.instance_text.specs.Reading.{read_lines, read_line, read_body, read_rest, reading, Means, Defect, bad, length_of_part, instance_part, after_instance};
 ghost use Rattle.instance_text.specs.declared.bad.Kind.{Kind as AnyKind};
 ghost use Rattle.lock_model.specs.declared.instance.Instance.{Instance as AnyInstance};
 
 use crate::bad::{Bad, Kind};
 use crate::draft::Draft;
-use crate::format::Format;
+use crate::format::{Format, format_of};
 use crate::line::read_line;
-use crate::lines::{Lines, format_of, is_blank, is_end};
-use crate::progress::Progress;
-use crate::utf8::check_utf8;
-use crate::words::words_of;
+use line_text::{Lines, Progress, check_utf8, is_only, words_of};
 use lock_model::Instance;
 
 /// The defect of the last line that was taken.
@@ -27,25 +24,12 @@ fn bad(lines: &Lines<'_>, kind: Kind) -> Bad
     }
 }
 
-/// The first line that has words.
-fn first_filled<'a>(lines: &mut Lines<'a>) -> Option<&'a [u8]>
-    ensures some { IfSome result (λ line. read_lines lines.old.number (map words (lines_left lines.old)) ≡ read_after (format_of (words line.now)) lines.new.number (map words (lines_left lines.new))) }
-    ensures none { IfNone result (read_lines lines.old.number (map words (lines_left lines.old)) ≡ Err (bad lines.new.number Kind.NoHeader)) }
-{
-    while let Some(line) = lines.next() {
-        if !is_blank(line) {
-            return Some(line);
-        }
-    }
-    None
-}
-
 /// The format of the text, from its first line with words.
 fn read_header(lines: &mut Lines<'_>) -> Result<Format, Bad>
     ensures read { IfOk result (λ format. read_lines lines.old.number (map words (lines_left lines.old)) ≡ read_body format lines.new.number no_draft (map words (lines_left lines.new))) }
     ensures bad { IfErr result (λ b. read_lines lines.old.number (map words (lines_left lines.old)) ≡ Err b) }
 {
-    let Some(line) = first_filled(lines) else {
+    let Some(line) = lines.next_filled() else {
         return Err(bad(lines, Kind::NoHeader));
     };
     match format_of(line) {
@@ -87,21 +71,33 @@ fn read_rest(lines: &mut Lines<'_>) -> Result<(), Bad>
     ensures read { IfOk result (λ _. (draft : AnyDraft) → read_rest lines.old.number draft (map words (lines_left lines.old)) ≡ Ok draft) }
     ensures bad { IfErr result (λ b. (draft : AnyDraft) → read_rest lines.old.number draft (map words (lines_left lines.old)) ≡ Err b) }
 {
-    while let Some(line) = lines.next() {
-        if !is_blank(line) {
-            return Err(bad(lines, Kind::Word));
-        }
+    match lines.next_filled() {
+        Some(_) => Err(bad(lines, Kind::Word)),
+        None => Ok(()),
     }
-    Ok(())
+}
+
+/// Refuses bytes that are not UTF-8.
+#[tactic(auto, unfolding(crate::specs::Reading::reading))]
+fn check_text(bytes: &[u8]) -> Result<(), Bad>
+    ensures text { OnOk result (reading bytes.now ≡ read_lines 0 (map words (lines bytes.now))) }
+    ensures bad { IfErr result (λ b. reading bytes.now ≡ Err b) }
+{
+    match check_utf8(bytes) {
+        Ok(()) => Ok(()),
+        Err(line) => Err(Bad {
+            line,
+            kind: Kind::NotUtf8,
+        }),
+    }
 }
 
 /// What a text means. Answers the first defect exactly where it means no instance.
-#[tactic(auto, unfolding(crate::specs::Reading::reading))]
 fn read_text(bytes: &[u8]) -> Result<Instance, Bad>
     ensures read { IfOk result (λ i. reading bytes.now ≡ Ok (record { chambers = i.chambers; ships = i.ships })) }
     ensures bad { IfErr result (λ b. reading bytes.now ≡ Err b) }
 {
-    check_utf8(bytes)?;
+    check_text(bytes)?;
     let mut lines = Lines::new(bytes);
     let format = read_header(&mut lines)?;
     let draft = read_body(format, &mut lines)?;
@@ -128,7 +124,7 @@ fn length_of_part(text: &[u8]) -> usize
     let mut taken: usize = 0;
     while let Some(line) = lines.next() {
         taken += line.len() + 1;
-        if is_end(line) {
+        if is_only(line, b"end") {
             return taken.min(text.len());
         }
     }

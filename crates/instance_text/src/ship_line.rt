@@ -1,16 +1,15 @@
 //! The line of a ship.
 ghost use Rattle.std.specs.Prelude.{◌≡◌, ◌≢◌, ◌<◌, ◌≤◌, All, length, IfOk};
 ghost use Rattle.lock_model.specs.Instance.{IsShip};
-ghost use Rattle.instance_text.specs.Texts.{texts};
+ghost use Rattle.line_text.specs.Texts.{texts};
 ghost use Rattle.instance_text.specs.Ship.{is_ship_count, cargo, read_ship};
 
 use crate::bad::Kind;
-use crate::check::check;
-use crate::digits::number;
 use crate::format::Format;
 use crate::name::new_ship_name;
+use crate::numbers::number;
 use crate::side::way;
-use crate::words::word_at;
+use line_text::{check, word_at};
 use lock_model::Ship;
 
 /// Whether a ship line of this format may have `count` words.

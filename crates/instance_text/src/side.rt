@@ -1,20 +1,27 @@
 //! The words for ways and stands.
 ghost use Rattle.std.specs.Prelude.{◌≡◌};
-ghost use Rattle.instance_text.specs.Words.{way, stand};
+ghost use Rattle.instance_text.specs.Words.{way_of, way, stand};
 
 use crate::bad::Kind;
 use lock_model::{Stand, Way};
 
+/// The way that a word names.
+#[tactic(auto, unfolding(crate::specs::Words::way_of))]
+pub fn way_of(word: &[u8]) -> Option<Way>
+    ensures { result ≡ way_of word.now }
+{
+    match word {
+        b"up" => Some(Way::Up),
+        b"down" => Some(Way::Down),
+        _ => None,
+    }
+}
+
 /// The way of a ship. Refuses with `Word` another word than `up` and `down`.
-#[tactic(auto, unfolding(crate::specs::Words::way))]
 pub fn way(word: &[u8]) -> Result<Way, Kind>
     ensures { result ≡ way word.now }
 {
-    match word {
-        b"up" => Ok(Way::Up),
-        b"down" => Ok(Way::Down),
-        _ => Err(Kind::Word),
-    }
+    way_of(word).ok_or(Kind::Word)
 }
 
 /// The side where a chamber stands. Refuses with `Word` another word than `low` and `high`.

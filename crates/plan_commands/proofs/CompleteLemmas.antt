@@ -6,11 +6,11 @@ use Rattle.lock_rules.specs.Plan.{IsLegal}
 use Rattle.instance_text.specs.Reading.{Means, instance_part, after_instance}
 use Rattle.instance_text.proofs.ReadingLemmas.{Means-one, Means-no_defect}
 use Rattle.mooring_rules.proofs.PlanLemmas.{IsFirstBrokenPlan-illegal}
-use Rattle.plan_judge.specs.Reading.{IsPlanText, IsPlanFault}
-use Rattle.plan_judge.specs.Steps.{bad}
-use Rattle.plan_judge.specs.declared.kinds.BadPlan.{BadPlan}
-use Rattle.plan_judge.specs.declared.kinds.PlanKind.{PlanKind}
-use Rattle.plan_judge.proofs.ReadingLemmas.{reads_each}
+use Rattle.plan_text.specs.Reading.{IsPlanText, IsPlanFault}
+use Rattle.plan_text.specs.Faults.{bad}
+use Rattle.plan_text.specs.declared.kinds.BadPlan.{BadPlan}
+use Rattle.plan_text.specs.declared.kinds.PlanKind.{PlanKind}
+use Rattle.plan_text.proofs.ReadingLemmas.{reads_each}
 use Rattle.run_answers.specs.Refusals.{IsDefect}
 use Rattle.run_answers.specs.declared.status.Status.{Status}
 use Rattle.run_answers.specs.declared.status.Status.TheVariants.{Good, Open, Words, Refused, ReadFault, WriteFault, NoMemory, BadDossier, Unfit, PlanRefused}
@@ -20,12 +20,14 @@ use Rattle.plan_commands.specs.Playing.{AnswersPlay}
 
 -- a text names one plan
 one_plan : (I : Instance) (text : List ℕ) (P Q : Plan) → IsPlanText I text P → IsPlanText I text Q → P ≡ Q
+unfolding IsPlanText
 one_plan I text P Q first second =
     let same : ◌≡◌ {A = Result Plan BadPlan} (Ok P) (Ok Q) = reads_each I text (Ok P) first tt Q second in
     cc
 
 -- and then has no fault
 no_fault_of : (I : Instance) (text : List ℕ) (P : Plan) (line : ℕ) (kind : PlanKind) → IsPlanText I text P → IsPlanFault I text line kind → ⊥
+unfolding IsPlanFault
 no_fault_of I text P line kind means fault =
     let same : ◌≡◌ {A = Result Plan BadPlan} (Err (bad line kind)) (Ok P) = reads_each I text (Err (bad line kind)) tt fault P means in
     cc

@@ -4,7 +4,7 @@ use Rattle.lock_model.specs.declared.instance.Instance.{Instance}
 use Rattle.lock_model.specs.declared.plan.Plan.{Plan}
 use Rattle.lock_rules.specs.Plan.{IsLegal, cost_of}
 use Rattle.instance_text.specs.Reading.{instance_part}
-use Rattle.plan_judge.specs.Neat.{DiffersInX, AreNeat}
+use Rattle.plan_text.specs.Neat.{DiffersInX, AreNeat}
 use Rattle.plan_print.specs.Report.{lockages_text}
 use Rattle.run_answers.specs.Refusals.{IsDefect}
 use Rattle.run_answers.specs.Texts.{no_memory_text}

@@ -6,10 +6,10 @@ use Rattle.lock_rules.specs.Plan.{IsLegal}
 use Rattle.instance_text.specs.Reading.{Means, instance_part, after_instance}
 use Rattle.mooring_rules.specs.PlanBreaks.{IsFirstBrokenPlan}
 use Rattle.mooring_rules.specs.declared.breaks.BrokenPlan.{BrokenPlan}
-use Rattle.plan_judge.specs.Reading.{IsPlanText, IsPlanFault}
-use Rattle.plan_judge.specs.declared.kinds.PlanKind.{PlanKind}
-use Rattle.plan_texts.specs.FaultTexts.{fault_text}
-use Rattle.plan_texts.specs.BreakTexts.{break_text}
+use Rattle.plan_text.specs.Reading.{IsPlanText, IsPlanFault}
+use Rattle.plan_text.specs.declared.kinds.PlanKind.{PlanKind}
+use Rattle.plan_refusals.specs.FaultTexts.{fault_text}
+use Rattle.plan_refusals.specs.BreakTexts.{break_text}
 use Rattle.run_answers.specs.Refusals.{IsDefect}
 use Rattle.run_answers.specs.Texts.{no_memory_text}
 use Rattle.run_answers.specs.declared.status.Status.{Status}

@@ -12,8 +12,8 @@ use lock_io::Source;
 use lock_model::{Instance, Plan};
 use mooring_rules::judge_plan;
 use plain_text::{NoMemory, put, put_number};
-use plan_judge::neat;
 use plan_print::print_lockages;
+use plan_text::neat;
 use run_answers::{Answer, PLAN_LIMIT, Status, Text, no_memory, read_source};
 use std::alloc::Global;
 

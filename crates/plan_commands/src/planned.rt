@@ -2,7 +2,7 @@
 ghost use Rattle.std.specs.Prelude.{◌≡◌, IfOk, IfErr};
 ghost use Rattle.instance_text.specs.Reading.{Means, Defect, instance_part, after_instance};
 ghost use Rattle.mooring_rules.specs.PlanBreaks.{IsFirstBrokenPlan};
-ghost use Rattle.plan_judge.specs.Reading.{IsPlanFault};
+ghost use Rattle.plan_text.specs.Reading.{IsPlanFault};
 ghost use Rattle.run_answers.specs.Written.{bytes_in};
 ghost use Rattle.plan_commands.specs.Planned.{IsPlanned, AnswersIllegal};
 
@@ -10,8 +10,8 @@ use instance_text::{Bad, split_instance};
 use lock_model::{Instance, Plan};
 use mooring_rules::BrokenPlan;
 use plain_text::NoMemory;
-use plan_judge::{BadPlan, read_plan};
-use plan_texts::{break_text, fault_text};
+use plan_refusals::{break_text, fault_text};
+use plan_text::{BadPlan, read_plan};
 use run_answers::{Answer, Status, Text, defect_text, no_memory};
 use std::alloc::Global;
 

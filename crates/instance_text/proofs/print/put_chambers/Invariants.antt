@@ -1,6 +1,7 @@
 use Rattle.std.proofs.Common.{◌≡◌, ◌++◌, map, take}
 use Rattle.std.specs.List.{flat_map}
-use Rattle.instance_text.specs.Canonical.{line, chamber_words}
+use Rattle.line_text.specs.Printed.{line}
+use Rattle.instance_text.specs.Canonical.{chamber_words}
 use Rattle.instance_text.proofs.print.put_chambers.Given as goal
 
 abbrev pub invariant-loop-chamber : goal.invariant-loop-chamber

@@ -1,6 +1,7 @@
 use Rattle.std.proofs.Common.{◌≡◌, ◌++◌, take}
 use Rattle.std.specs.List.{flat_map}
-use Rattle.instance_text.specs.Canonical.{line, closings}
+use Rattle.line_text.specs.Printed.{line}
+use Rattle.instance_text.specs.Canonical.{closings}
 use Rattle.instance_text.proofs.print.put_closings.Given as goal
 
 abbrev pub invariant-loop-chamber : goal.invariant-loop-chamber

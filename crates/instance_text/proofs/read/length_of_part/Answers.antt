@@ -1,19 +1,19 @@
 use Rattle.std.proofs.Common.{length, min, sym, ap, ◌∙◌, arith}
-use Rattle.instance_text.specs.Left.{lines_left, size_left}
+use Rattle.line_text.specs.Left.{lines_left, size_left}
 use Rattle.instance_text.proofs.PartLemmas.{begun, ended, goes_on, whole}
 use Rattle.instance_text.proofs.read.length_of_part.Goals as goal
 
 pub loop-line-init : goal.loop-line-init
 loop-line-init c = record { counted = omega (arith, c.new-lines.ensures.size); rest = begun _ _ c.new-lines.ensures.left }
 
-pub returns-then-is_end : goal.returns-then-is_end
-returns-then-is_end c =
-    c.min.ensures ∙ ap (λ n. min n (length c.args.text.now)) (ended c.loop-line.taken _ (lines_left c.loop-line.lines) (lines_left c.next.new.self) c.in-Some.line.now c.loop-line.invariant.rest c.in-Some.ensures.some (sym c.is_end.ensures ∙ c.if-is_end.true))
+pub returns-then-is_only : goal.returns-then-is_only
+returns-then-is_only c =
+    c.min.ensures ∙ ap (λ n. min n (length c.args.text.now)) (ended c.loop-line.taken _ (lines_left c.loop-line.lines) (lines_left c.next.new.self) c.in-Some.line.now c.loop-line.invariant.rest c.in-Some.ensures.some (sym c.is_only.ensures ∙ c.if-is_only.true))
 
 pub loop-line-preserved : goal.loop-line-preserved
 loop-line-preserved c = record {
   counted = omega (arith, c.in-Some.ensures.shorter);
-  rest = goes_on c.loop-line.taken _ (lines_left c.loop-line.lines) (lines_left c.next.new.self) c.in-Some.line.now c.loop-line.invariant.rest c.in-Some.ensures.some (sym c.is_end.ensures ∙ c.if-is_end.false);
+  rest = goes_on c.loop-line.taken _ (lines_left c.loop-line.lines) (lines_left c.next.new.self) c.in-Some.line.now c.loop-line.invariant.rest c.in-Some.ensures.some (sym c.is_only.ensures ∙ c.if-is_only.false);
 }
 
 pub returns : goal.returns

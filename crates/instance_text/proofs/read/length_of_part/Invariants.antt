@@ -1,6 +1,6 @@
 use Rattle.std.proofs.Common.{◌≡◌, ◌+◌, length}
-use Rattle.instance_text.specs.Left.{lines_left, size_left}
-use Rattle.instance_text.specs.Lines.{lines}
+use Rattle.line_text.specs.Left.{lines_left, size_left}
+use Rattle.line_text.specs.Lines.{lines}
 use Rattle.instance_text.specs.Reading.{length_of_part}
 use Rattle.instance_text.proofs.read.length_of_part.Given as goal
 

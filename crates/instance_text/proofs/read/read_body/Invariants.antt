@@ -1,7 +1,7 @@
 use Rattle.std.proofs.Common.{◌≡◌, map}
 use Rattle.instance_text.specs.Draft.{no_draft}
-use Rattle.instance_text.specs.Left.{lines_left, size_left}
-use Rattle.instance_text.specs.Lines.{words}
+use Rattle.line_text.specs.Left.{lines_left, size_left}
+use Rattle.line_text.specs.Lines.{words}
 use Rattle.instance_text.specs.Reading.{read_body}
 use Rattle.instance_text.proofs.read.read_body.Given as goal
 

@@ -8,7 +8,7 @@ pub returns-clause-bad : goal.returns-clause-bad
 returns-clause-bad c = defect_if c.args.bytes.now c.read_text.result c.read_text.ensures.bad
 
 pub returns-clause-each : goal.returns-clause-each
-returns-clause-each c = reads_each c.args.bytes.now c.read_text.result (means_if c.args.bytes.now c.read_text.result c.read_text.ensures.read) (defect_if c.args.bytes.now c.read_text.result c.read_text.ensures.bad)
+returns-clause-each c = reads_each c.args.bytes.now c.read_text.result c.read_text.ensures.read c.read_text.ensures.bad
 
 pub returns-clause-each_bad : goal.returns-clause-each_bad
-returns-clause-each_bad c = refuses_each c.args.bytes.now c.read_text.result (means_if c.args.bytes.now c.read_text.result c.read_text.ensures.read) (defect_if c.args.bytes.now c.read_text.result c.read_text.ensures.bad)
+returns-clause-each_bad c = refuses_each c.args.bytes.now c.read_text.result c.read_text.ensures.read c.read_text.ensures.bad

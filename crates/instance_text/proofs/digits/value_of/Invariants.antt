@@ -1,6 +1,0 @@
-use Rattle.std.proofs.Common.{◌≡◌, ◌-◌, ◌^◌, min, take}
-use Rattle.instance_text.specs.Words.{value}
-use Rattle.instance_text.proofs.digits.value_of.Given as goal
-
-abbrev pub invariant-loop-digit : goal.invariant-loop-digit
-invariant-loop-digit l = l.value ≡ min (value (take l.digit-index l.digits)) (2 ^ 32 - 1)

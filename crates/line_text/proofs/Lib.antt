@@ -1,0 +1,10 @@
+pub mod SplitLemmas
+pub mod LeftLemmas
+pub mod AppendLemmas
+pub mod WordLemmas
+pub mod Utf8Lemmas
+pub mod EnoughLemmas
+pub mod ReaderLemmas
+pub mod NumberLemmas
+pub mod LayoutLemmas
+pub mod PlainLemmas

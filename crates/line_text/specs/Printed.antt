@@ -1,0 +1,7 @@
+-- Lines as they are printed.
+use Rattle.std.specs.Prelude.{ℕ, List, [], ◌∷◌, ◌++◌}
+use Rattle.std.specs.List.{join_with_byte}
+
+-- words with one space between, and a line feed
+abbrev pub line : List (List ℕ) → List ℕ
+line words = join_with_byte 32 words ++ 10 ∷ []

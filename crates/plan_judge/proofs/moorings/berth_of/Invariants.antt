@@ -1,6 +1,0 @@
-use Rattle.std.proofs.Common.{◌≡◌, drop}
-use Rattle.plan_judge.specs.Berths.{berth_of}
-use Rattle.plan_judge.proofs.moorings.berth_of.Given as goal
-
-abbrev pub invariant-loop-berth : goal.invariant-loop-berth
-invariant-loop-berth l = berth_of l.ship (drop l.berth-index l.berths) ≡ berth_of l.ship l.berths

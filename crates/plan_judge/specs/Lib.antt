@@ -1,9 +1,0 @@
-pub mod Steps
-pub mod Words
-pub mod Berths
-pub mod Draft
-pub mod Lines
-pub mod Reading
-pub mod Writable
-pub mod Printing
-pub mod Neat

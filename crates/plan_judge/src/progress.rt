@@ -1,9 +1,0 @@
-//! How far a plan text has come.
-
-/// Whether the text goes on after a line.
-#[derive(Clone, Copy, Debug, PartialEq, Eq)]
-pub enum Progress {
-    More,
-    /// The line was `end`.
-    Ended,
-}

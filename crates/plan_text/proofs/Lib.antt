@@ -1,0 +1,10 @@
+pub mod NamedLemmas
+pub mod BerthLemmas
+pub mod EnoughLemmas
+pub mod ReadingLemmas
+pub mod NeatLemmas
+pub mod MadeLemmas
+pub mod WordLemmas
+pub mod BackLemmas
+pub mod WritableLemmas
+pub mod PrintLemmas

@@ -1,0 +1,7 @@
+use Rattle.std.proofs.Common.{◌≡◌, ℕ, ◌<◌, false, get_or}
+use Rattle.std.specs.Str.{bytes_eq}
+use Rattle.lock_model.specs.Fleet.{no_ship}
+use Rattle.plan_text.proofs.named.ship_named.Given as goal
+
+abbrev pub invariant-loop-place : goal.invariant-loop-place
+invariant-loop-place l = (k : ℕ) → k < l.place → bytes_eq l.word (get_or l.ships k no_ship).name ≡ false

@@ -1,0 +1,9 @@
+pub mod Faults
+pub mod Words
+pub mod Berths
+pub mod Draft
+pub mod Lines
+pub mod Reading
+pub mod Writable
+pub mod Printing
+pub mod Neat
