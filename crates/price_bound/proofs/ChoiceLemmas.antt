@@ -7,7 +7,8 @@ use Rattle.std.proofs.lemmas.List.{get_or_append_left, get_or_default, length-ap
 use Rattle.std.specs.List.Sorted.{IsPermutation}
 use Rattle.std.proofs.lemmas.List.Sorted.{All-permutation, Contains-permutation}
 use Rattle.std.proofs.lemmas.List.Sums.{sum_by-cons}
-use Rattle.std.proofs.lemmas.List.Elements.{All-nil, All-push, All-weaker, All-drop, All-contains, All-contains_itself}
+use Rattle.std.proofs.lemmas.List.Elements.{All-push, All-weaker, All-drop, All-contains, All-contains_itself}
+use Rattle.list_laws.proofs.Lists.{same-heads}
 use Rattle.lock_model.specs.Fleet.{ship_at}
 use Rattle.lock_model.specs.declared.instance.Instance.{Instance}
 use Rattle.lock_model.specs.declared.group.Group.{Group}
@@ -23,7 +24,7 @@ use Rattle.price_bound.specs.declared.choice.Choice.{Choice}
 use Rattle.price_bound.specs.Worth.{arrivals_of, paid_on, ServeAsWell, IsKeptGroup}
 use Rattle.price_bound.specs.Sparing.{AreForbidden}
 use Rattle.price_bound.specs.Growing.{IsGrown, AreGrown}
-use Rattle.price_bound.specs.Choosing.{Keeps, rate_of, IsChoice, Serves, IsServed, IsOn, IsBaseOf, HaveMore, HasOne, HavePut, HaveSome, AreSome, AreChoices}
+use Rattle.price_bound.specs.Choosing.{Keeps, rate_of, IsChoice, Serves, IsServed, IsOn, IsBaseOf, IsVain, IsCovered, HaveMore, HasOne, HavePut, HaveSome, AreSome, AreChoices}
 use Rattle.price_bound.proofs.ServeLemmas.{serve-themselves, serve-through}
 
 -- what is behind a place is among all
@@ -52,16 +53,12 @@ module _ (I : Instance) (k : ℕ) (prices : List ℕ) where
   pub served-more : (old new : List Choice) (to : Option ℕ) (g : Group) → ((h : Choice) → Contains old h → Contains new h) → IsServed I k prices old to g → IsServed I k prices new to g
   served-more old new to g more served = record { choice = served.choice; held = more served.choice served.held; joins = served.joins; way = served.way; as_good = served.as_good }
 
-  heads : (x y : Group) (xs ys : List Group) → x ∷ xs ≡ y ∷ ys → x ≡ y
-  heads x y xs ys e = ap first e
-    where
-      first : List Group → Group
-      first [] = x
-      first (z ∷ zs) = z
+  pub covered-more : (c : ℕ) (old new : List Choice) (to : Option ℕ) (g : Group) → ((h : Choice) → Contains old h → Contains new h) → IsCovered I c k prices old to g → IsCovered I c k prices new to g
+  covered-more c old new to g more covered = elim covered [ inl served ↦ inl (served-more old new to g more served) | inr vain ↦ inr vain ]
 
   same-kept : (line : List Group) (to : Option ℕ) (g h : Group) → Keeps I k line to g → Keeps I k line to h → filter (has_number (first_ships I k)) g.ships ≡ filter (has_number (first_ships I k)) h.ships
   same-kept line None g h first second = first ∙ sym second
-  same-kept line (Some p) g h first second = ap (λ g. g.ships) (heads _ _ _ _ (sym first ∙ second))
+  same-kept line (Some p) g h first second = ap (λ g. g.ships) (same-heads _ _ _ _ (sym first ∙ second))
 
   module _ (c : ℕ) (cuts : List PlainCut) (line : List Group) where
     -- sums that are no worse serve as well
@@ -110,7 +107,7 @@ module _ (I : Instance) (k : ℕ) (prices : List ℕ) where
       more-ordered old more other moved have = record {
         each = All-permutation (IsChoice I c cuts k prices line) more other moved have.each;
         kept = λ h at. Contains-permutation more other h moved (have.kept h at);
-        served = λ g uncut on. served-more more other to g (λ h at. Contains-permutation more other h moved at) (have.served g uncut on);
+        covered = λ g uncut on. covered-more c more other to g (λ h at. Contains-permutation more other h moved at) (have.covered g uncut on);
       }
 
       -- WHAT SERVES FOR ENOUGH CHOICES is enough.
@@ -118,18 +115,20 @@ module _ (I : Instance) (k : ℕ) (prices : List ℕ) where
       put-done more old new have put = record {
         each = put.each;
         kept = put.kept;
-        served = λ g uncut on.
-            let first = have.served g uncut on in
-            let at = first.held in
-            let then = subst (λ h. IsServed I k prices new h.joins h.group) at.2 (put.done at.0 first.choice at.1 at.1) in
-            record {
-              choice = then.choice;
-              held = then.held;
-              joins = then.joins ∙ first.joins;
-              way = then.way ∙ first.way;
-              as_good = serve-through I k prices then.choice.group.ships first.choice.group.ships g.ships then.as_good first.as_good;
-            };
+        covered = λ g uncut on. elim (have.covered g uncut on) [ inl first ↦ inl (put-served more old new put g first) | inr vain ↦ inr vain ];
       }
+        where
+          put-served : (more old new : List Choice) → HavePut I c cuts k prices line more (length more) old new → (g : Group) → IsServed I k prices more to g → IsServed I k prices new to g
+          put-served more old new put g first =
+              let at = first.held in
+              let then = subst (λ h. IsServed I k prices new h.joins h.group) at.2 (put.done at.0 first.choice at.1 at.1) in
+              record {
+                choice = then.choice;
+                held = then.held;
+                joins = then.joins ∙ first.joins;
+                way = then.way ∙ first.way;
+                as_good = serve-through I k prices then.choice.group.ships first.choice.group.ships g.ships then.as_good first.as_good;
+              }
 
     module _ (sets : List (List ℕ)) (are : AreForbidden I c cuts sets) (base : Group) where
       -- what was grown is uncut unless it is empty, and all that is uncut was grown
@@ -175,8 +174,19 @@ module _ (I : Instance) (k : ℕ) (prices : List ℕ) where
           done = λ j e less inside some. elim (eqb_tells j i) [
             | inl y ↦
                 let same : choice.group ≡ slice_index_or groups j e = is ∙ sym (ap (λ j. slice_index_or groups j e) y.1 ∙ get_or_default groups i e d here) in
-                subst (IsServed I k prices new to) same (subst (λ to. IsServed I k prices new to choice.group) joins one.served)
-            | inr m ↦ served-more now new to (slice_index_or groups j e) one.kept (have.done j e (before i j less m.1) inside some)
+                inl (subst (IsServed I k prices new to) same (subst (λ to. IsServed I k prices new to choice.group) joins one.served))
+            | inr m ↦ covered-more c now new to (slice_index_or groups j e) one.kept (have.done j e (before i j less m.1) inside some)
+          ];
+        }
+
+        -- a group that gains nothing is left out
+        pub some-vain : (i : ℕ) (d : Group) (old new : List Choice) → i < length groups → IsVain I c k prices 0 to (slice_index_or groups i d) → HaveSome I c cuts k prices line to groups i old new → HaveSome I c cuts k prices line to groups (suc i) old new
+        some-vain i d old new here vain have = record {
+          each = have.each;
+          kept = have.kept;
+          done = λ j e less inside some. elim (eqb_tells j i) [
+            | inl y ↦ inr (subst (IsVain I c k prices 0 to) (sym (ap (λ j. slice_index_or groups j e) y.1 ∙ get_or_default groups i e d here)) vain)
+            | inr m ↦ have.done j e (before i j less m.1) inside some
           ];
         }
 
@@ -184,9 +194,9 @@ module _ (I : Instance) (k : ℕ) (prices : List ℕ) where
         some-done old new have = record {
           each = have.each;
           kept = have.kept;
-          served = λ g uncut on.
+          covered = λ g uncut on.
               let at = grown.whole g (uncut-grown g uncut on) in
-              subst (IsServed I k prices new to) at.2 (have.done at.0 g at.1 at.1 (subst (λ g. 1 ≤ length g.ships) (sym at.2) uncut.good.count.0));
+              subst (IsCovered I c k prices new to) at.2 (have.done at.0 g at.1 at.1 (subst (λ g. 1 ≤ length g.ships) (sym at.2) uncut.good.count.0));
         }
 
 module _ (I : Instance) (c k : ℕ) (line : List Group) where
@@ -216,17 +226,17 @@ module _ (I : Instance) (c k : ℕ) (line : List Group) where
       own = λ p g less uncut keeps. absurd (omega (arith, less));
     }
       where
-        by_way : (way : Way) (g : Group) → g.way ≡ way → IsUncut I c cuts g → filter (has_number (first_ships I k)) g.ships ≡ [] → IsServed I k prices both None g
-        by_way Up g same uncut keeps = served-more I k prices first both None g down.kept (up.served g uncut (record { way = same; keeps = keeps }))
-        by_way Down g same uncut keeps = down.served g uncut (record { way = same; keeps = keeps })
+        by_way : (way : Way) (g : Group) → g.way ≡ way → IsUncut I c cuts g → filter (has_number (first_ships I k)) g.ships ≡ [] → IsCovered I c k prices both None g
+        by_way Up g same uncut keeps = covered-more I k prices c first both None g down.kept (up.covered g uncut (record { way = same; keeps = keeps }))
+        by_way Down g same uncut keeps = down.covered g uncut (record { way = same; keeps = keeps })
 
     pub own-next : (i : ℕ) (d : Group) (old new : List Choice) → i < length line → AreSome I c cuts k prices line i old → HaveMore I c cuts k prices line (Some i) (slice_index_or line i d) old new → AreSome I c cuts k prices line (suc i) new
     own-next i d old new here some more = record {
       each = more.each;
-      free = λ g uncut keeps. served-more I k prices old new None g more.kept (some.free g uncut keeps);
+      free = λ g uncut keeps. covered-more I k prices c old new None g more.kept (some.free g uncut keeps);
       own = λ p g less uncut keeps. elim (eqb_tells p i) [
-        | inl y ↦ subst (λ p. IsServed I k prices new (Some p) g) (sym y.1) (more.served g uncut (on g (subst (λ p. Keeps I k line (Some p) g) y.1 keeps)))
-        | inr m ↦ served-more I k prices old new (Some p) g more.kept (some.own p g (below p i less m.1) uncut keeps)
+        | inl y ↦ subst (λ p. IsCovered I c k prices new (Some p) g) (sym y.1) (more.covered g uncut (on g (subst (λ p. Keeps I k line (Some p) g) y.1 keeps)))
+        | inr m ↦ covered-more I k prices c old new (Some p) g more.kept (some.own p g (below p i less m.1) uncut keeps)
       ];
     }
       where
@@ -235,5 +245,12 @@ module _ (I : Instance) (c k : ℕ) (line : List Group) where
 
         on : (g : Group) → Keeps I k line (Some i) g → IsOn I k (slice_index_or line i d) g
         on g keeps =
-            let same = heads I k prices _ _ _ _ (sym (drop-cons line i d here) ∙ keeps) in
+            let same = same-heads _ _ _ _ (sym (drop-cons line i d here) ∙ keeps) in
             record { way = ap (λ g. g.way) (sym same); keeps = ap (λ g. g.ships) (sym same) }
+
+    -- the order doesn't matter
+    pub choices-ordered : (old new : List Choice) → IsPermutation old new → AreChoices I c cuts k prices line old → AreChoices I c cuts k prices line new
+    choices-ordered old new moved are = record {
+      each = All-permutation (IsChoice I c cuts k prices line) old new moved are.each;
+      whole = λ to g uncut keeps. covered-more I k prices c old new to g (λ h at. Contains-permutation old new h moved at) (are.whole to g uncut keeps);
+    }

@@ -1,5 +1,5 @@
 -- Counting choices, and remembering values.
-use Rattle.std.proofs.Common.{◌≡◌, ◌≢◌, ℕ, suc, ◌+◌, ◌-◌, ◌*◌, ◌<◌, ◌≤◌, true, false, cond, nat_eq, ℤ, pos, neg_ℤ, ◌+ℤ◌, ◌≤ℤ◌, to_z, of_z, w64, inl, inr, Some, None, List, [], ◌∷◌, length, drop, filter, All, refl, sym, ap, ◌∙◌, subst, arith, slice_index_or}
+use Rattle.std.proofs.Common.{◌≡◌, ◌≢◌, ℕ, suc, ◌+◌, ◌-◌, ◌*◌, ◌<◌, ◌≤◌, true, false, cond, ℤ, pos, neg_ℤ, ◌+ℤ◌, ◌≤ℤ◌, to_z, of_z, w64, inl, inr, Some, None, List, [], ◌∷◌, length, drop, filter, All, refl, sym, ap, ◌∙◌, subst, arith, slice_index_or}
 use Rattle.std.specs.Prelude.{int_lt, IfSome}
 use Rattle.std.specs.Int.{int_min}
 use Rattle.std.specs.declared.option.Option.{Option}
@@ -22,7 +22,7 @@ use Rattle.price_bound.specs.declared.frame.Frame.{Frame}
 use Rattle.price_bound.specs.declared.choice.Choice.{Choice}
 use Rattle.price_bound.specs.declared.values.Values.{Values}
 use Rattle.price_bound.specs.Worth.{end_after, worth_of, worth_from, IsWorth, IsLeastWorth, IsKeptGroup, IsHorizon}
-use Rattle.price_bound.specs.Choosing.{Keeps, IsChoice, Leads, IsCounted, IsValue, AreChoices, AreLate, list_at}
+use Rattle.price_bound.specs.Choosing.{Keeps, IsChoice, Leads, IsCounted, IsValue, AreListed, list_at}
 use Rattle.price_bound.specs.Values.{key_of, side_of, AreEmpty, Holds, Remembers, AreValues, IsBest, IsFrame}
 use Rattle.price_bound.specs.Sparing.{IsSpared, AreForbidden}
 use Rattle.price_bound.proofs.LineLemmas.{worth-next, end-later, uncut-trace}
@@ -188,11 +188,11 @@ module _ (I : Instance) (c : ℕ) (known : c < length I.chambers) (cuts : List P
         earlier j apart before = elim (leb_tells (suc j) i) [ inl y ↦ omega (arith, at, y.1) | inr q ↦ absurd (apart (omega (arith, before, q.1))) ]
 
     -- THE LAST CHOICE COUNTED, the best is the value.
-    pub frame-value : (frame : Frame) → AreChoices I c cuts k prices line choices → AreLate I c cuts k prices line late choices lates → length (list_at late choices lates frame.state.minute) ≤ frame.next
+    pub frame-value : (frame : Frame) → AreListed I c cuts k prices line late choices lates → length (list_at late choices lates frame.state.minute) ≤ frame.next
         → IsFrame I c cuts k prices line horizon late choices lates frame → IsValue I c cuts k prices line horizon frame.state.place frame.state.stand frame.state.minute frame.best
-    frame-value frame are served all is = record {
-      least = choices-least I c known cuts k prices line choices are frame.state.stand frame.state.minute frame.state.place frame.best is.best.stop
-          (counted-listed I c known cuts k prices line frame.state.stand frame.state.minute frame.state.place frame.best late choices lates are.each served
+    frame-value frame are all is = record {
+      least = choices-least I c known cuts k prices line are.choices are.enough frame.state.stand frame.state.minute frame.state.place frame.best is.best.stop
+          (counted-listed I c known cuts k prices line late choices lates are frame.state.stand frame.state.minute frame.state.place frame.best
           (λ h held. subst (IsCounted I c cuts k prices line frame.state.stand frame.state.minute frame.state.place frame.best) held.2 (is.counted held.0 h (omega (arith, held.1, all)) held.1)))
           is.best.reached;
       low = is.best.low;

@@ -1,11 +1,13 @@
 -- Growing groups by one ship more lists all that have it.
 use Rattle.std.proofs.Common.{◌≡◌, ◌≢◌, ℕ, suc, ◌<◌, ◌≤◌, Bool, true, false, not, cond, nat_eq, nat_lt, ◌⊎◌, inl, inr, List, [], ◌∷◌, ◌++◌, length, filter, All, Contains, refl, sym, ap, ◌∙◌, subst, arith, slice_index_or}
 use Rattle.std.proofs.Math.Seq.{get_or-append_seam}
-use Rattle.std.proofs.lemmas.Bool.{false≢true}
+use Rattle.std.proofs.lemmas.Bool.{false≢true, not-true}
 use Rattle.std.proofs.lemmas.Bool.Decides.{eqb_tells, leb_tells}
 use Rattle.std.proofs.lemmas.List.{get_or_append_left, get_or_default, length-append}
 use Rattle.std.proofs.lemmas.List.Elements.{All-head, All-tail, All-cons, All-nil, All-push, All-weaker, All-filter, All-contains, Contains-get_or, filter_passes}
 use Rattle.std.specs.List.Sorted.{IsStrictlyIncreasing}
+use Rattle.list_laws.proofs.Counts.{filter-shorter}
+use Rattle.list_laws.proofs.Lists.{filter-all, Contains-before_push}
 use Rattle.lock_model.specs.Ships.{RisesFrom}
 use Rattle.lock_model.specs.Fleet.{ship_at}
 use Rattle.lock_model.specs.declared.instance.Instance.{Instance}
@@ -14,7 +16,7 @@ use Rattle.lock_rules.specs.Plan.{times_in}
 use Rattle.lock_rules.specs.Arrival.{first_ships}
 use Rattle.lock_rules.specs.Trace.{has_number}
 use Rattle.lock_rules.specs.Children.{insert_number, with_ship}
-use Rattle.lock_rules.proofs.TreeLemmas.{RisesFrom-filter, length-filter-le, length-insert_number, low-times_in, times_in-hit, times_in-miss, filter-present}
+use Rattle.lock_rules.proofs.TreeLemmas.{RisesFrom-filter, length-insert_number, low-times_in, times_in-hit, times_in-miss, filter-present}
 use Rattle.lock_rules.proofs.SplitLemmas.{RisesFrom-increasing, All-times, times_in-at}
 use Rattle.lock_rules.proofs.NodeLemmas.{RisesFrom-insert, All-insert_number, increasing-RisesFrom}
 use Rattle.price_rules.specs.Prices.{is_missing}
@@ -43,15 +45,11 @@ module _ (n : ℕ) where
   other-else : (t : ℕ) → t ≢ n → true ≡ is_other t
   other-else t differ = elim (eqb_tells t n) [ inl y ↦ absurd (differ y.1) | inr m ↦ ap not (sym m.0) ]
 
-  filter-true : (xs : List ℕ) → filter (λ _. true) xs ≡ xs
-  filter-true [] = refl
-  filter-true (x ∷ xs) = ap (λ ys. x ∷ ys) (filter-true xs)
-
   -- a number that is taken out of rising numbers and put in again
   again : (xs : List ℕ) → IsStrictlyIncreasing xs → 1 ≤ times_in xs n → insert_number n (filter is_other xs) ≡ xs
   again xs rising some =
       let rises = RisesFrom-increasing xs rising in
-      sym (filter-present is_other (λ _. true) n other-itself refl other-else 0 xs rises (omega (arith, some, rising-once 0 n xs rises))) ∙ filter-true xs
+      sym (filter-present is_other (λ _. true) n other-itself refl other-else 0 xs rises (omega (arith, some, rising-once 0 n xs rises))) ∙ filter-all xs
 
   -- what a test keeps that n doesn't pass
   module _ (p : ℕ → Bool) (fresh : p n ≡ false) where
@@ -96,9 +94,6 @@ misses-fewer xs ys sets among misses =
 
 before : (i j : ℕ) → j < suc i → j ≢ i → j < i
 before i j less m = elim (leb_tells (suc j) i) [ inl y ↦ y.1 | inr q ↦ absurd (m (omega (arith, less, q.1))) ]
-
-behind : (gs : List Group) (g h : Group) → Contains gs h → Contains (gs ++ g ∷ []) h
-behind gs g h at = (at.0, omega (arith, at.1, length-append gs (g ∷ [])), get_or_append_left gs (g ∷ []) h at.0 at.1 ∙ at.2)
 
 same-place : (gs : List Group) (i j : ℕ) (e d : Group) → i < length gs → j ≡ i → slice_index_or gs j e ≡ slice_index_or gs i d
 same-place gs i j e d here same = ap (λ j. slice_index_or gs j e) same ∙ get_or_default gs i e d here
@@ -176,7 +171,7 @@ module _ (I : Instance) (c k : ℕ) (sets : List (List ℕ)) (base : Group) wher
           record {
             rising = increasing-RisesFrom 0 less (RisesFrom-filter (is_other n) 0 g.ships (RisesFrom-increasing g.ships h.rising));
             known = All-filter (is_other n) (λ s. s < length I.ships) g.ships h.known;
-            few = omega (arith, h.few, length-filter-le (is_other n) g.ships);
+            few = omega (arith, h.few, filter-shorter (is_other n) g.ships);
             way = h.way;
             ways = All-filter (is_other n) (λ s. (ship_at I s).way ≡ base.way) g.ships h.ways;
             missed = misses-fewer less g.ships sets among h.missed;
@@ -253,7 +248,7 @@ module _ (I : Instance) (c k : ℕ) (sets : List (List ℕ)) (base : Group) wher
             first = λ j e inside. get_or_append_left groups (with_ship n g ∷ []) e j (omega (arith, inside, are.long)) ∙ are.first j e inside;
             done = λ j e less inside may. elim (eqb_tells j i) [
               | inl y ↦ subst (Contains (groups ++ with_ship n g ∷ [])) (ap (with_ship n) (sym (same-place old i j e d here y.1))) (length groups, omega (arith, longer), get_or-append_seam groups (with_ship n g) [] (with_ship n g))
-              | inr m ↦ behind groups (with_ship n g) (with_ship n (slice_index_or old j e)) (are.done j e (before i j less m.1) inside may)
+              | inr m ↦ Contains-before_push groups (with_ship n g) (with_ship n (slice_index_or old j e)) (are.done j e (before i j less m.1) inside may)
             ];
           })
       joining-next i d groups new here known way are (inr not) =
@@ -305,8 +300,14 @@ module _ (I : Instance) (c k : ℕ) (sets : List (List ℕ)) (base : Group) wher
   }
 
 pub missing-fresh : (I : Instance) (k s : ℕ) → is_missing I k s ≡ true → has_number (first_ships I k) s ≡ false
-missing-fresh I k s e = whether (has_number (first_ships I k) s) e
-  where
-    whether : (b : Bool) → not b ≡ true → b ≡ false
-    whether true e = absurd (false≢true e)
-    whether false e = refl
+missing-fresh I k s e = not-true (has_number (first_ships I k) s) e
+
+-- a ship that all others are before comes last
+pub insert-last : (n : ℕ) (xs : List ℕ) → All (λ x. x < n) xs → insert_number n xs ≡ xs ++ n ∷ []
+insert-last n [] before = refl
+insert-last n (x ∷ xs) before =
+    let here : x < n = All-head (λ x. x < n) x xs before in
+    elim (leb_tells (suc n) x) [
+      | inl y ↦ absurd (omega (arith, here, y.1))
+      | inr m ↦ (λ i. cond (m.0 i) (n ∷ x ∷ xs) (x ∷ insert_number n xs)) ∙ ap (λ ys. x ∷ ys) (insert-last n xs (All-tail (λ x. x < n) x xs before))
+    ]

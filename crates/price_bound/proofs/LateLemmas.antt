@@ -1,31 +1,39 @@
 -- Choices that are enough once all ships have arrived.
-use Rattle.std.proofs.Common.{◌≡◌, ◌≢◌, ℕ, suc, ◌+◌, ◌<◌, ◌≤◌, ℤ, pos, ◌+ℤ◌, ◌≤ℤ◌, true, false, cond, nat_lt, inl, inr, List, [], ◌∷◌, ◌++◌, length, take, All, Contains, refl, sym, ap, ◌∙◌, subst, arith, slice_index_or}
-use Rattle.std.specs.declared.option.Option.{Option}
-use Rattle.std.proofs.Math.Seq.{get_or-append_seam, take-suc}
+use Rattle.std.proofs.Common.{◌≡◌, ℕ, suc, ◌+◌, ◌*◌, ◌<◌, ◌≤◌, ◌⊎◌, ℤ, pos, ◌≤ℤ◌, true, false, cond, nat_lt, inl, inr, List, [], ◌∷◌, ◌++◌, length, All, Contains, refl, sym, ◌∙◌, subst, arith}
+use Rattle.std.proofs.Math.Seq.{get_or-append_seam}
 use Rattle.std.proofs.lemmas.Int.{ints}
 use Rattle.std.proofs.lemmas.Bool.Decides.{leb_tells}
-use Rattle.std.proofs.lemmas.List.{get_or_append_left, length-append, take_all}
-use Rattle.std.proofs.lemmas.List.Elements.{All-contains, All-nil, All-push, All-weaker}
+use Rattle.std.proofs.lemmas.List.{length-append}
+use Rattle.std.proofs.lemmas.List.Elements.{All-contains, All-push, All-weaker}
+use Rattle.list_laws.proofs.Lists.{Contains-before_push}
 use Rattle.lock_model.specs.declared.instance.Instance.{Instance}
 use Rattle.lock_model.specs.declared.group.Group.{Group}
 use Rattle.lock_model.specs.declared.way.Stand.{Stand}
-use Rattle.lock_rules.specs.Lawful.{stand_after}
-use Rattle.price_rules.specs.Prices.{PlainCut, IsLoose}
+use Rattle.price_rules.specs.Prices.{PlainCut}
 use Rattle.price_bound.specs.declared.choice.Choice.{Choice}
-use Rattle.price_bound.specs.Worth.{end_after, worth_of, worth_from, ServeFrom}
-use Rattle.price_bound.specs.Choosing.{IsChoice, IsBelow, IsCounted, Leads, ServesLate, IsServedLate, HasLate, AreLate, list_at}
-use Rattle.price_bound.proofs.ServeLemmas.{serve-line, serve-worth}
+use Rattle.price_bound.specs.Worth.{worth_of, arrivals_of, paid_on, soonest_of, ServeFrom}
+use Rattle.price_bound.specs.Choosing.{IsChoice, IsBelow, IsCounted, Leads, soonest, ServesLate, IsServedLate, IsCoveredLate, HasLate, AreLate, AreListed, list_at}
+use Rattle.price_bound.proofs.ServeLemmas.{later-more, serve-line, serve-worth}
 use Rattle.price_bound.proofs.ChoiceLemmas.{rates-sum}
 
 module _ (I : Instance) (c : ℕ) (known : c < length I.chambers) (cuts : List PlainCut) (k : ℕ) (prices : List ℕ) (line : List Group) where
   -- what serves late serves from each later minute on
-  late-from : (late from : ℕ) (other h : Choice) → late ≤ from → ServesLate late other h → IsChoice I c cuts k prices line other → IsChoice I c cuts k prices line h → ServeFrom I k prices from other.group.ships h.group.ships
+  late-from : (late from : ℕ) (other h : Choice) → late ≤ from → ServesLate late other h → IsChoice I c cuts k prices line other → IsChoice I c cuts k prices line h → ServeFrom I c k prices from other.group.ships h.group.ships
   late-from late from other h past serves first second = record {
     count = serves.count;
-    early = omega (arith, past, serves.last, first.sums.last);
+    early = omega (arith, past, serves.last, first.sums.last, second.sums.last);
     quick = omega (arith, serves.duration, first.sums.duration, second.sums.duration);
-    pays = omega (arith, serves.pays, first.sums.pays, second.sums.pays, rates-sum I k prices other.group.ships, rates-sum I k prices h.group.ships);
+    pays =
+        let n = length other.group.ships in
+        let m = length h.group.ships in
+        let soon : soonest late h ≤ soonest_of I c from h.group.ships = omega (arith, past, second.sums.last, second.sums.duration) in
+        later (n * soonest late h) (m * soonest late h) (n * soonest_of I c from h.group.ships) (m * soonest_of I c from h.group.ships) other.pays h.pays
+        (paid_on I k prices other.group.ships + 100 * arrivals_of I other.group.ships) (paid_on I k prices h.group.ships + 100 * arrivals_of I h.group.ships)
+        (first.sums.pays ∙ rates-sum I k prices other.group.ships) (second.sums.pays ∙ rates-sum I k prices h.group.ships) serves.pays (later-more n m (soonest late h) (soonest_of I c from h.group.ships) serves.count soon);
   }
+    where
+      later : (u v m n p q x y : ℕ) → p ≡ x → q ≡ y → q + 100 * u ≤ p + 100 * v → m + v ≤ n + u → y + 100 * m ≤ x + 100 * n
+      later u v m n p q x y e f h j = omega (arith, e, f, h, j)
 
   -- with the choice that serves for it a choice is counted
   pub counted-late : (stand : Stand) (from p : ℕ) (best : ℤ) (late : ℕ) (other h : Choice) → late ≤ from → ServesLate late other h → IsChoice I c cuts k prices line other → IsChoice I c cuts k prices line h
@@ -45,47 +53,54 @@ module _ (I : Instance) (c : ℕ) (known : c < length I.chambers) (cuts : List P
       above : (u v : ℤ) → pos 0 ≤ℤ u → u ≤ℤ v → pos 0 ≤ℤ v
       above u v h j = omega (arith, ints)
 
-  -- ALL CHOICES ARE COUNTED where those are that are looked at.
-  pub counted-listed : (stand : Stand) (from p : ℕ) (best : ℤ) (late : ℕ) (choices lates : List Choice) → All (IsChoice I c cuts k prices line) choices → AreLate I c cuts k prices line late choices lates
-      → ((h : Choice) → Contains (list_at late choices lates from) h → IsCounted I c cuts k prices line stand from p best h) → (h : Choice) → Contains choices h → IsCounted I c cuts k prices line stand from p best h
-  counted-listed stand from p best late choices lates each are counted h held = elim (leb_tells (suc from) late) [
-    | inl early ↦ counted h (subst (λ b. Contains (cond b choices lates) h) (sym early.0) held)
-    | inr past ↦
-        let served = All-contains (IsServedLate late lates) choices h are.served held in
-        counted-late stand from p best late served.other h (omega (arith, past.1)) served.serves (All-contains (IsChoice I c cuts k prices line) lates served.other are.each served.held) (All-contains (IsChoice I c cuts k prices line) choices h each held)
-        (counted served.other (subst (λ b. Contains (cond b choices lates) served.other) (sym past.0) served.held))
+  -- Choices are counted where those are that cover them.
+  pub counted-covered : (stand : Stand) (from p : ℕ) (best : ℤ) (late : ℕ) (choices lates : List Choice) → late ≤ from → All (IsChoice I c cuts k prices line) choices → AreLate I c cuts k prices line late choices lates
+      → ((h : Choice) → Contains lates h → IsCounted I c cuts k prices line stand from p best h) → (h : Choice) → Contains choices h → IsCounted I c cuts k prices line stand from p best h
+  counted-covered stand from p best late choices lates past each are counted h held = elim (All-contains (IsCoveredLate I c k prices late lates) choices h are.covered held) [
+    | inl served ↦
+        counted-late stand from p best late served.other h past served.serves (All-contains (IsChoice I c cuts k prices line) lates served.other are.each served.held) (All-contains (IsChoice I c cuts k prices line) choices h each held)
+        (counted served.other served.held)
+    | inr vain ↦ λ q leads. inr (vain.alone, vain.gainless stand from past)
   ]
 
-  pub listed-each : (late : ℕ) (choices lates : List Choice) (minute : ℕ) → All (IsChoice I c cuts k prices line) choices → AreLate I c cuts k prices line late choices lates → All (IsChoice I c cuts k prices line) (list_at late choices lates minute)
-  listed-each late choices lates minute each are = elim (nat_lt minute late) as (λ b. All (IsChoice I c cuts k prices line) (cond b choices lates)) [ true ↦ each | false ↦ are.each ]
+  module _ (late : ℕ) (earlies lates : List Choice) (are : AreListed I c cuts k prices line late earlies lates) where
+    -- ALL CHOICES ARE COUNTED where those are that are looked at.
+    pub counted-listed : (stand : Stand) (from p : ℕ) (best : ℤ) → ((h : Choice) → Contains (list_at late earlies lates from) h → IsCounted I c cuts k prices line stand from p best h) → (h : Choice) → Contains are.choices h → IsCounted I c cuts k prices line stand from p best h
+    counted-listed stand from p best counted = elim (leb_tells (suc from) late) [
+      | inl early ↦ counted-covered stand from p best 0 are.choices earlies (omega arith) are.enough.each are.early_enough (λ h held. counted h (subst (λ b. Contains (cond b earlies lates) h) (sym early.0) held))
+      | inr past ↦ counted-covered stand from p best late are.choices lates (omega (arith, past.1)) are.enough.each are.late_enough (λ h held. counted h (subst (λ b. Contains (cond b earlies lates) h) (sym past.0) held))
+    ]
 
-behind : (hs : List Choice) (h g : Choice) → Contains hs g → Contains (hs ++ h ∷ []) g
-behind hs h g at = (at.0, omega (arith, at.1, length-append hs (h ∷ [])), get_or_append_left hs (h ∷ []) g at.0 at.1 ∙ at.2)
+    pub listed-each : (minute : ℕ) → All (IsChoice I c cuts k prices line) (list_at late earlies lates minute)
+    listed-each minute = elim (nat_lt minute late) as (λ b. All (IsChoice I c cuts k prices line) (cond b earlies lates)) [ true ↦ are.early_enough.each | false ↦ are.late_enough.each ]
 
 -- more choices serve what fewer do
-later-served : (late : ℕ) (h : Choice) (old new : List Choice) → HasLate late h old new → (g : Choice) → IsServedLate late old g → IsServedLate late new g
-later-served late h old new has g served = elim has.more [
+later-served : (late : ℕ) (h : Choice) (old new : List Choice) → (new ≡ old) ⊎ (new ≡ old ++ h ∷ []) → (g : Choice) → IsServedLate late old g → IsServedLate late new g
+later-served late h old new more g served = elim more [
   | inl same ↦ subst (λ hs. IsServedLate late hs g) (sym same) served
-  | inr more ↦ subst (λ hs. IsServedLate late hs g) (sym more) (record { other = served.other; held = behind old h served.other served.held; serves = served.serves })
+  | inr more ↦ subst (λ hs. IsServedLate late hs g) (sym more) (record { other = served.other; held = Contains-before_push old h served.other served.held; serves = served.serves })
 ]
 
 module _ (I : Instance) (c : ℕ) (cuts : List PlainCut) (k : ℕ) (prices : List ℕ) (line : List Group) (late : ℕ) where
-  pub late-next : (choices : List Choice) (h : Choice) (old new : List Choice) → IsChoice I c cuts k prices line h → HasLate late h old new → AreLate I c cuts k prices line late choices old → AreLate I c cuts k prices line late (choices ++ h ∷ []) new
+  pub late-next : (choices : List Choice) (h : Choice) (old new : List Choice) → IsChoice I c cuts k prices line h → HasLate I c k prices late h old new → AreLate I c cuts k prices line late choices old → AreLate I c cuts k prices line late (choices ++ h ∷ []) new
   late-next choices h old new is has are = record {
     each = elim has.more [
       | inl same ↦ subst (All (IsChoice I c cuts k prices line)) (sym same) are.each
       | inr more ↦ subst (All (IsChoice I c cuts k prices line)) (sym more) (All-push (IsChoice I c cuts k prices line) old h are.each is)
     ];
-    served = All-push (IsServedLate late new) choices h (All-weaker (IsServedLate late old) (IsServedLate late new) (later-served late h old new has) choices are.served) has.served;
+    covered = All-push (IsCoveredLate I c k prices late new) choices h (All-weaker (IsCoveredLate I c k prices late old) (IsCoveredLate I c k prices late new) later choices are.covered) has.covered;
   }
+    where
+      later : (g : Choice) → IsCoveredLate I c k prices late old g → IsCoveredLate I c k prices late new g
+      later g covered = elim covered [ inl served ↦ inl (later-served late h old new has.more g served) | inr vain ↦ inr vain ]
 
--- a choice serves for itself
-pub late-itself : (late : ℕ) (h : Choice) (old : List Choice) → h.last ≤ late → HasLate late h old (old ++ h ∷ [])
-late-itself late h old come = record {
-  served = record {
-    other = h;
-    held = (length old, omega (arith, length-append old (h ∷ [])), get_or-append_seam old h [] h);
-    serves = record { joins = refl; way = refl; count = omega arith; last = come; duration = omega arith; pays = omega arith };
-  };
-  more = inr refl;
-}
+  -- a choice serves for itself
+  pub late-itself : (h : Choice) (old : List Choice) → HasLate I c k prices late h old (old ++ h ∷ [])
+  late-itself h old = record {
+    covered = inl (record {
+      other = h;
+      held = (length old, omega (arith, length-append old (h ∷ [])), get_or-append_seam old h [] h);
+      serves = record { joins = refl; way = refl; count = omega arith; last = omega arith; duration = omega arith; pays = omega arith };
+    });
+    more = inr refl;
+  }

@@ -6,6 +6,7 @@ pub mod ServeLemmas
 pub mod SumLemmas
 pub mod StepLemmas
 pub mod ServingLemmas
+pub mod VainLemmas
 pub mod LateLemmas
 pub mod FrameLemmas
 pub mod TotalLemmas

@@ -4,6 +4,7 @@ use Rattle.std.specs.List.Sorted.{IsStrictlyIncreasing}
 use Rattle.std.proofs.lemmas.Int.{ints}
 use Rattle.std.proofs.lemmas.List.Sums.{sum_by-cons}
 use Rattle.std.proofs.lemmas.List.Elements.{All-head, All-tail, All-cons, All-filter, All-weaker, All-contains, Contains-get_or, filter_passes}
+use Rattle.list_laws.proofs.Counts.{filter-shorter}
 use Rattle.lock_model.specs.Fleet.{ship_at, chamber_at, no_chamber}
 use Rattle.lock_model.specs.declared.instance.Instance.{Instance}
 use Rattle.lock_model.specs.declared.group.Group.{Group}
@@ -14,7 +15,7 @@ use Rattle.lock_rules.specs.Timetable.{timetable_from, starts_of}
 use Rattle.lock_rules.specs.Arrival.{first_ships}
 use Rattle.lock_rules.specs.Trace.{has_number, with_group, trace_by}
 use Rattle.lock_rules.specs.Bound.{flow_of}
-use Rattle.lock_rules.proofs.TreeLemmas.{RisesFrom-filter, length-filter-le}
+use Rattle.lock_rules.proofs.TreeLemmas.{RisesFrom-filter}
 use Rattle.lock_rules.proofs.SplitLemmas.{RisesFrom-increasing}
 use Rattle.lock_rules.proofs.NodeLemmas.{increasing-RisesFrom}
 use Rattle.lock_rules.proofs.CountLemmas.{sum_by-parts}
@@ -52,7 +53,7 @@ module _ (I : Instance) (c : ℕ) (cuts : List PlainCut) where
       uncut-among g (filter p g.ships) uncut
       (All-filter p (Contains g.ships) g.ships (λ k d here. Contains-get_or g.ships k d here))
       (increasing-RisesFrom 0 (filter p g.ships) (RisesFrom-filter p 0 g.ships (RisesFrom-increasing g.ships uncut.good.rising)))
-      some (length-filter-le p g.ships)
+      some (filter-shorter p g.ships)
 
   -- the trace of uncut groups has uncut groups
   pub uncut-trace : (p : ℕ → Bool) (gs : List Group) → All (IsUncut I c cuts) gs → All (IsUncut I c cuts) (trace_by p gs)

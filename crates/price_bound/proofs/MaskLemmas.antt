@@ -4,9 +4,10 @@ use Rattle.std.specs.Int.{bit_at}
 use Rattle.std.proofs.Math.Seq.{get_or-append_seam}
 use Rattle.std.proofs.lemmas.Bool.Decides.{eqb_tells, leb_tells}
 use Rattle.std.proofs.lemmas.Nat.{or_of_32}
-use Rattle.std.proofs.lemmas.Nat.Bits.{bit_at_and, bit_at-lt, bit_at_above, bit_at_set_same, bit_at_set_other, bit_at-zero, same_from_bits}
+use Rattle.std.proofs.lemmas.Nat.Bits.{bit_at_and, bit_at-lt, bit_at_above, bit_at_set_same, bit_at_set_other, same_from_bits}
 use Rattle.std.proofs.lemmas.List.{get_or_append_left, get_or_default, length-append}
-use Rattle.std.proofs.lemmas.List.Elements.{All-weaker, All-contains, All-push, Contains-get_or}
+use Rattle.std.proofs.lemmas.List.Elements.{All-weaker, All-contains, All-push, Contains-get_or, Contains-push}
+use Rattle.list_laws.proofs.Lists.{Contains-before_push}
 use Rattle.lock_model.specs.declared.instance.Instance.{Instance}
 use Rattle.lock_rules.specs.Plan.{times_in}
 use Rattle.lock_rules.specs.Children.{insert_number}
@@ -20,12 +21,6 @@ contains-times xs s held = All-contains (λ s. 1 ≤ times_in xs s) xs s (times_
 
 pub times-contains : (xs : List ℕ) (s : ℕ) → 1 ≤ times_in xs s → Contains xs s
 times-contains xs s some = All-times (Contains xs) s xs (λ j d here. Contains-get_or xs j d here) some
-
-behind : (xs : List ℕ) (x y : ℕ) → Contains xs y → Contains (xs ++ x ∷ []) y
-behind xs x y at = (at.0, omega (arith, at.1, length-append xs (x ∷ [])), get_or_append_left xs (x ∷ []) y at.0 at.1 ∙ at.2)
-
-last : (xs : List ℕ) (x : ℕ) → Contains (xs ++ x ∷ []) x
-last xs x = (length xs, omega (arith, length-append xs (x ∷ [])), get_or-append_seam xs x [] x)
 
 one-of : (xs : List ℕ) (x y : ℕ) → Contains (xs ++ x ∷ []) y → y ≢ x → Contains xs y
 one-of xs x y at apart = elim (leb_tells (suc at.0) (length xs)) [
@@ -44,8 +39,8 @@ mask-next mask s xs within is = record {
     | inr m ↦ bit_at_set_other w32 mask s within t m.1 ∙ is.has t (one-of xs s t at m.1)
   ];
   only = λ t few bit. elim (eqb_tells t s) [
-    | inl y ↦ subst (Contains (xs ++ s ∷ [])) (sym y.1) (last xs s)
-    | inr m ↦ behind xs s t (is.only t few (sym (bit_at_set_other w32 mask s within t m.1) ∙ bit))
+    | inl y ↦ subst (Contains (xs ++ s ∷ [])) (sym y.1) (Contains-push xs s)
+    | inr m ↦ Contains-before_push xs s t (is.only t few (sym (bit_at_set_other w32 mask s within t m.1) ∙ bit))
   ];
 }
 
@@ -83,10 +78,10 @@ module _ (I : Instance) (sets : List (List ℕ)) (ship : ℕ) where
     whole = λ j d less inside has known. elim (eqb_tells j i) [
       | inl y ↦
           let same : set ≡ slice_index_or sets j d = is ∙ get_or_default sets i set d here ∙ ap (λ i. slice_index_or sets i d) (sym y.1) in
-          subst (HasMask new) same (record { mask = noted.0; held = subst (λ xs. Contains xs noted.0) (sym noted.3) (last old noted.0); is = noted.1 })
+          subst (HasMask new) same (record { mask = noted.0; held = subst (λ xs. Contains xs noted.0) (sym noted.3) (Contains-push old noted.0); is = noted.1 })
       | inr m ↦
           let was = near.whole j d (earlier j m.1 less) inside has known in
-          record { mask = was.mask; held = subst (λ xs. Contains xs was.mask) (sym noted.3) (behind old noted.0 was.mask was.held); is = was.is }
+          record { mask = was.mask; held = subst (λ xs. Contains xs was.mask) (sym noted.3) (Contains-before_push old noted.0 was.mask was.held); is = was.is }
     ];
   }
     where

@@ -1,5 +1,5 @@
 -- Ships that serve as well as others make a line worth no more; so few options are enough.
-use Rattle.std.proofs.Common.{◌≡◌, ℕ, ◌+◌, ◌-◌, ◌*◌, ◌<◌, ◌≤◌, ℤ, pos, ◌+ℤ◌, ◌-ℤ◌, ◌≤ℤ◌, List, [], ◌∷◌, length, All, sum_by, refl, ◌∙◌, arith}
+use Rattle.std.proofs.Common.{◌≡◌, ℕ, ◌+◌, ◌-◌, ◌*◌, ◌<◌, ◌≤◌, ℤ, pos, ◌+ℤ◌, ◌-ℤ◌, ◌≤ℤ◌, List, [], ◌∷◌, length, All, sum_by, refl, sym, subst, ◌∙◌, arith}
 use Rattle.std.proofs.lemmas.Int.{ints}
 use Rattle.std.proofs.lemmas.Nat.{mul-le}
 use Rattle.std.proofs.lemmas.List.Sums.{sum_by-cons, sum_by-le-sum_by}
@@ -15,7 +15,14 @@ use Rattle.lock_rules.specs.Bound.{flow_of}
 use Rattle.lock_rules.proofs.TimetableLemmas.{start_of-lawful, closures_kept, last_arrival-least, last_arrival-each}
 use Rattle.lock_rules.proofs.TraceLemmas.{Dominates, Dominates-itself, Dominates-later, Dominates-skipped, start_of-kept}
 use Rattle.price_rules.specs.Prices.{paid_in}
-use Rattle.price_bound.specs.Worth.{end_after, worth_of, worth_from, paid_on, ServeAsWell, ServeFrom}
+use Rattle.price_bound.specs.Worth.{end_after, worth_of, worth_from, paid_on, soonest_of, ServeAsWell, ServeFrom}
+
+-- the later the end, the more it counts that ships are more
+pub later-more : (n m s e : ℕ) → n ≤ m → s ≤ e → n * e + m * s ≤ m * e + n * s
+later-more n m s e few soon = split (e - s) (omega (arith, soon))
+  where
+    split : (d : ℕ) → e ≡ s + d → n * e + m * s ≤ m * e + n * s
+    split d is = subst (λ e. n * e + m * s ≤ m * e + n * s) (sym is) (omega (arith, mul-le n d m d few (omega arith)))
 
 module _ (I : Instance) where
   pub flow-times : (e : ℕ) (ss : List ℕ) → All (λ s. (ship_at I s).arrival ≤ e) ss → sum_by (λ s. e - (ship_at I s).arrival) ss + sum_by (λ s. (ship_at I s).arrival) ss ≡ length ss * e
@@ -38,8 +45,13 @@ module _ (I : Instance) where
   }
 
   -- from any minute on
-  pub serve-from : (k : ℕ) (prices hs gs : List ℕ) (from : ℕ) → ServeAsWell I k prices hs gs → ServeFrom I k prices from hs gs
-  serve-from k prices hs gs from well = record { count = well.count; early = omega (arith, well.early); quick = well.quick; pays = well.pays }
+  pub serve-from : (c k : ℕ) (prices hs gs : List ℕ) (from : ℕ) → ServeAsWell I k prices hs gs → ServeFrom I c k prices from hs gs
+  serve-from c k prices hs gs from well = record {
+    count = well.count;
+    early = omega (arith, well.early);
+    quick = well.quick;
+    pays = omega (arith, well.pays, mul-le (length hs) (soonest_of I c from gs) (length gs) (soonest_of I c from gs) well.count (omega arith));
+  }
 
   module _ (c : ℕ) (known : c < length I.chambers) where
     -- from a state that is no worse a line has no more flow time
@@ -65,7 +77,7 @@ module _ (I : Instance) where
         step : (x y p : ℕ) → x ≤ y → (pos (100 * x) -ℤ pos p) ≤ℤ (pos (100 * y) -ℤ pos p)
         step x y p h = omega (arith, ints)
 
-    module _ (k : ℕ) (prices : List ℕ) (way : Way) (hs gs : List ℕ) (stand : Stand) (from : ℕ) (well : ServeFrom I k prices from hs gs) where
+    module _ (k : ℕ) (prices : List ℕ) (way : Way) (hs gs : List ℕ) (stand : Stand) (from : ℕ) (well : ServeFrom I c k prices from hs gs) where
       abbrev g : Group
       g = record { way = way; ships = gs }
 
@@ -84,6 +96,12 @@ module _ (I : Instance) where
           let start = start_of-kept I c known stand stand from from (start_of I c stand from g) g hs (Dominates-itself (chamber_at I c) stand from) (start_of-lawful I c known stand from g) arrived well.quick in
           omega (arith, start, well.quick)
 
+      -- the others end no sooner than they can
+      end-soonest : soonest_of I c from gs ≤ end_after I c stand from g
+      end-soonest =
+          let lawful = start_of-lawful I c known stand from g in
+          omega (arith, lawful.later, last_arrival-least I 0 (start_of I c stand from g) gs (omega arith) lawful.arrived)
+
       -- and are worth no more
       pub serve-worth : worth_of I c k prices stand from h ≤ℤ worth_of I c k prices stand from g
       serve-worth =
@@ -93,11 +111,12 @@ module _ (I : Instance) where
           let less = sum_by-le-sum_by (λ s. end - (ship_at I s).arrival) (λ s. other - (ship_at I s).arrival) hs (λ s. omega arith) in
           let mine = flow-times other hs (All-weaker (λ s. (ship_at I s).arrival ≤ start_of I c stand from g) (λ s. (ship_at I s).arrival ≤ other) (λ s e. omega (arith, e)) hs arrived) in
           let yours = flow-times other gs (All-weaker (λ s. (ship_at I s).arrival ≤ start_of I c stand from g) (λ s. (ship_at I s).arrival ≤ other) (λ s e. omega (arith, e)) gs (start_of-lawful I c known stand from g).arrived) in
-          step (sum_by (λ s. end - (ship_at I s).arrival) hs) (sum_by (λ s. other - (ship_at I s).arrival) hs) (sum_by (λ s. other - (ship_at I s).arrival) gs) (sum_by (λ s. (ship_at I s).arrival) hs) (sum_by (λ s. (ship_at I s).arrival) gs) (length hs * other) (length gs * other) (paid_on I k prices hs) (paid_on I k prices gs)
-          less mine yours (mul-le (length hs) other (length gs) other well.count (omega arith)) well.pays
+          let soonest : ℕ = soonest_of I c from gs in
+          step (sum_by (λ s. end - (ship_at I s).arrival) hs) (sum_by (λ s. other - (ship_at I s).arrival) hs) (sum_by (λ s. other - (ship_at I s).arrival) gs) (sum_by (λ s. (ship_at I s).arrival) hs) (sum_by (λ s. (ship_at I s).arrival) gs) (length hs * other) (length gs * other) (length hs * soonest) (length gs * soonest) (paid_on I k prices hs) (paid_on I k prices gs)
+          less mine yours (later-more (length hs) (length gs) soonest other well.count end-soonest) well.pays
         where
-          step : (x y z a b m n p q : ℕ) → x ≤ y → y + a ≡ m → z + b ≡ n → m ≤ n → q + 100 * b ≤ p + 100 * a → (pos (100 * x) -ℤ pos p) ≤ℤ (pos (100 * z) -ℤ pos q)
-          step x y z a b m n p q h1 h2 h3 h4 h5 = omega (arith, ints)
+          step : (x y z a b m n u v p q : ℕ) → x ≤ y → y + a ≡ m → z + b ≡ n → m + v ≤ n + u → q + 100 * b + 100 * u ≤ p + 100 * a + 100 * v → (pos (100 * x) -ℤ pos p) ≤ℤ (pos (100 * z) -ℤ pos q)
+          step x y z a b m n u v p q h1 h2 h3 h4 h5 = omega (arith, ints)
 
       -- so is the line that goes on behind them
       pub serve-line : (rest : List Group) → (worth_of I c k prices stand from h +ℤ worth_from I c k prices (stand_after way) (end_after I c stand from h) rest) ≤ℤ (worth_of I c k prices stand from g +ℤ worth_from I c k prices (stand_after way) (end_after I c stand from g) rest)

@@ -1,9 +1,10 @@
 -- When the least of what the choices come to is the value of a state.
-use Rattle.std.proofs.Common.{◌≡◌, ℕ, zero, suc, Bool, true, ◌<◌, ◌≤◌, ℤ, pos, ◌+ℤ◌, ◌≤ℤ◌, inl, inr, Some, None, List, [], ◌∷◌, length, drop, filter, All, Contains, refl, sym, ap, ◌∙◌, subst, arith}
-use Rattle.std.specs.Prelude.{⊤}
+use Rattle.std.proofs.Common.{◌≡◌, ℕ, suc, Bool, true, ◌<◌, ◌≤◌, ℤ, pos, ◌+ℤ◌, ◌≤ℤ◌, inl, inr, Some, None, List, [], ◌∷◌, length, drop, filter, All, Contains, refl, sym, ◌∙◌, subst, arith}
 use Rattle.std.specs.declared.option.Option.{Option}
 use Rattle.std.proofs.lemmas.Int.{ints}
 use Rattle.std.proofs.lemmas.List.Elements.{All-head, All-tail, All-weaker}
+use Rattle.list_laws.proofs.Variants.{some-not_none}
+use Rattle.list_laws.proofs.Lists.{drop-next}
 use Rattle.lock_model.specs.declared.instance.Instance.{Instance}
 use Rattle.lock_model.specs.declared.group.Group.{Group}
 use Rattle.lock_model.specs.declared.way.Stand.{Stand}
@@ -14,29 +15,9 @@ use Rattle.lock_rules.proofs.LeafLemmas.{trace-whole}
 use Rattle.price_rules.specs.Prices.{PlainCut, IsUncut, IsLoose}
 use Rattle.price_bound.specs.declared.choice.Choice.{Choice}
 use Rattle.price_bound.specs.Worth.{end_after, worth_of, worth_from, IsWorth, IsLeastWorth, IsKeptGroup, IsHorizon}
-use Rattle.price_bound.specs.Choosing.{Keeps, Leads, IsServed, AreChoices, IsBelow, IsCounted}
+use Rattle.price_bound.specs.Choosing.{Keeps, Leads, IsServed, IsVain, AreChoices, IsBelow, IsCounted}
 use Rattle.price_bound.proofs.ServeLemmas.{serve-from, serve-line, worth-skipped}
 use Rattle.price_bound.proofs.LineLemmas.{worth-next, late-least}
-
-abbrev IsThere : Option ℕ → Type 0
-IsThere None = ⊥
-IsThere (Some p) = ⊤
-
-some≢none : (p : ℕ) → Some p ≡ None → ⊥
-some≢none p e = subst IsThere e tt
-
-pub drop-next : {X : Type 0} (p : ℕ) (xs ys : List X) (x : X) → drop p xs ≡ x ∷ ys → drop (suc p) xs ≡ ys
-drop-next p xs ys x e = after p xs ∙ ap tail e
-  where
-    tail : {X : Type 0} → List X → List X
-    tail [] = []
-    tail (x ∷ xs) = xs
-
-    after : {X : Type 0} (p : ℕ) (xs : List X) → drop (suc p) xs ≡ tail (drop p xs)
-    after zero [] = refl
-    after zero (x ∷ xs) = refl
-    after (suc p) [] = refl
-    after (suc p) (x ∷ xs) = after p xs
 
 module _ (I : Instance) (c : ℕ) (known : c < length I.chambers) (cuts : List PlainCut) (k : ℕ) (prices : List ℕ) where
   abbrev kept_test : ℕ → Bool
@@ -71,7 +52,7 @@ module _ (I : Instance) (c : ℕ) (known : c < length I.chambers) (cuts : List P
     served-below g gs to q leads loose skip served =
         let h : Group = record { way = g.way; ships = served.choice.group.ships } in
         let same : served.choice.group ≡ h = λ i. record { way = served.way i; ships = served.choice.group.ships } in
-        let here = serve-line I c known k prices g.way served.choice.group.ships g.ships stand from (serve-from I k prices served.choice.group.ships g.ships from served.as_good) gs in
+        let here = serve-line I c known k prices g.way served.choice.group.ships g.ships stand from (serve-from I c k prices served.choice.group.ships g.ships from served.as_good) gs in
         let next = worth-next I c k prices stand from g gs in
         elim (counted served.choice served.held q (subst (λ to. Leads to p q) (sym served.joins) leads)) [
           | inl below ↦ under best (worth_from I c k prices stand from (g ∷ gs)) (worth_of I c k prices stand from g +ℤ worth_from I c k prices (stand_after g.way) (end_after I c stand from g) gs)
@@ -87,6 +68,13 @@ module _ (I : Instance) (c : ℕ) (known : c < length I.chambers) (cuts : List P
         over : (b w v x y z : ℤ) → w ≡ v → (x +ℤ y) ≤ℤ v → pos 0 ≤ℤ x → z ≤ℤ y → b ≤ℤ z → b ≤ℤ w
         over b w v x y z e h j l m = omega (arith, ints)
 
+    -- a group that gains nothing
+    vain-below : (g : Group) (gs : List Group) → IsVain I c k prices 0 None g → best ≤ℤ worth_from I c k prices stand from gs → best ≤ℤ worth_from I c k prices stand from (g ∷ gs)
+    vain-below g gs vain skip = over best _ _ _ _ (worth-next I c k prices stand from g gs) (vain.gainless stand from (omega arith)) (worth-skipped I c known k prices stand from g gs) skip
+      where
+        over : (b w x y z : ℤ) → w ≡ (x +ℤ y) → pos 0 ≤ℤ x → z ≤ℤ y → b ≤ℤ z → b ≤ℤ w
+        over b w x y z e h j l = omega (arith, ints)
+
     -- no loose line is worth less
     pub all-below : (loose : List Group) → IsLoose I c cuts k (drop p line) loose → best ≤ℤ worth_from I c k prices stand from loose
     all-below [] is = subst (λ line. best ≤ℤ worth_from I c k prices stand from line) (sym is.trace) stop
@@ -99,11 +87,17 @@ module _ (I : Instance) (c : ℕ) (known : c < length I.chambers) (cuts : List P
             → best ≤ℤ worth_from I c k prices stand from (g ∷ gs)
         next [] e t skip =
             let loose : IsLoose I c cuts k (drop p line) gs = record { uncut = uncut; trace = t } in
-            served-below g gs None p refl loose (λ _. skip loose) (are.whole None g (All-head (IsUncut I c cuts) g gs is.uncut) e)
+            elim (are.whole None g (All-head (IsUncut I c cuts) g gs is.uncut) e) [
+              | inl served ↦ served-below g gs None p refl loose (λ _. skip loose) served
+              | inr vain ↦ vain-below g gs vain (skip loose)
+            ]
         next (s ∷ ss) e t skip =
-            let rest : drop (suc p) line ≡ trace_by kept_test gs = drop-next p line (trace_by kept_test gs) (record { way = g.way; ships = s ∷ ss }) (sym t) in
+            let rest : drop (suc p) line ≡ trace_by kept_test gs = drop-next p line (record { way = g.way; ships = s ∷ ss }) (trace_by kept_test gs) (sym t) in
             let keeps : Keeps I k line (Some p) g = sym t ∙ (λ i. record { way = g.way; ships = sym e i } ∷ sym rest i) in
-            served-below g gs (Some p) (suc p) (refl, refl) (record { uncut = uncut; trace = sym rest }) (λ none. absurd (some≢none p none)) (are.whole (Some p) g (All-head (IsUncut I c cuts) g gs is.uncut) keeps)
+            elim (are.whole (Some p) g (All-head (IsUncut I c cuts) g gs is.uncut) keeps) [
+              | inl served ↦ served-below g gs (Some p) (suc p) (refl, refl) (record { uncut = uncut; trace = sym rest }) (λ none. absurd (some-not_none p none)) served
+              | inr vain ↦ absurd (some-not_none p vain.alone)
+            ]
 
     -- THE LEAST OF ALL CHOICES is the least worth, where some loose line is worth it.
     pub choices-least : IsWorth I c cuts k prices stand from (drop p line) best → IsLeastWorth I c cuts k prices stand from (drop p line) (Some best)

@@ -6,12 +6,11 @@ use Rattle.std.proofs.lemmas.Bool.Decides.{eqb_tells, leb_tells}
 use Rattle.std.proofs.lemmas.Int.{ints}
 use Rattle.std.proofs.lemmas.List.{append_assoc, get_or_append_left, get_or_default, length-append}
 use Rattle.std.proofs.lemmas.List.Elements.{All-drop}
-use Rattle.lock_model.specs.Fleet.{chamber_at}
 use Rattle.lock_model.specs.declared.instance.Instance.{Instance}
 use Rattle.lock_model.specs.declared.group.Group.{Group}
 use Rattle.lock_model.specs.declared.way.Stand.{Stand}
 use Rattle.lock_rules.specs.Node.{line_at}
-use Rattle.price_rules.specs.Prices.{PlainCut, IsUncut, IsLoose}
+use Rattle.price_rules.specs.Prices.{PlainCut, IsUncut}
 use Rattle.price_bound.specs.declared.choice.Choice.{Choice}
 use Rattle.price_bound.specs.declared.loose_line.LooseLine.{LooseLine}
 use Rattle.price_bound.specs.declared.next_group.NextGroup.{NextGroup}

@@ -1,5 +1,5 @@
 -- The groups that may come next in a loose line, and the values of the states of a chamber on its line.
-use Rattle.std.specs.Prelude.{ℕ, suc, ◌≡◌, ◌+◌, ◌-◌, ◌*◌, ◌≤◌, ◌<◌, ◌⊎◌, ℤ, pos, ◌+ℤ◌, ◌≤ℤ◌, Some, None, List, [], ◌∷◌, ◌++◌, length, drop, All, Contains, filter, cond, nat_lt, sum_by, slice_index_or}
+use Rattle.std.specs.Prelude.{ℕ, suc, ◌≡◌, ◌+◌, ◌-◌, ◌*◌, ◌≤◌, ◌<◌, ◌⊎◌, max, ℤ, pos, ◌+ℤ◌, ◌≤ℤ◌, Some, None, List, [], ◌∷◌, ◌++◌, length, drop, All, Contains, filter, cond, nat_lt, sum_by, slice_index_or}
 use Rattle.std.specs.declared.option.Option.{Option}
 use Rattle.lock_model.specs.Fleet.{ship_at}
 use Rattle.lock_model.specs.declared.instance.Instance.{Instance}
@@ -52,14 +52,18 @@ pub record IsOn (I : Instance) (k : ℕ) (base g : Group) : Type 0 where
   pub way : g.way ≡ base.way
   pub keeps : filter (has_number (first_ships I k)) g.ships ≡ base.ships
 
--- The choice joins the same group as the other, has its way, and is no more ships, takes no longer and pays no less; it has arrived by the minute.
+-- the soonest end of the choice from the minute on
+abbrev pub soonest : ℕ → Choice → ℕ
+soonest late choice = max late choice.last + choice.duration
+
+-- The choice joins the same group as the other, has its way, and is no more ships, arrives no later or by the minute, and takes no longer; it may pay less by what the other's further ships are worth at its soonest end.
 pub record ServesLate (late : ℕ) (other choice : Choice) : Type 0 where
   pub joins : other.joins ≡ choice.joins
   pub way : other.group.way ≡ choice.group.way
   pub count : length other.group.ships ≤ length choice.group.ships
-  pub last : other.last ≤ late
+  pub last : other.last ≤ max late choice.last
   pub duration : other.duration ≤ choice.duration
-  pub pays : choice.pays ≤ other.pays
+  pub pays : choice.pays + 100 * (length other.group.ships * soonest late choice) ≤ other.pays + 100 * (length choice.group.ships * soonest late choice)
 
 -- from the minute on one of these choices serves as well as the choice
 pub record IsServedLate (late : ℕ) (lates : List Choice) (choice : Choice) : Type 0 where
@@ -67,19 +71,28 @@ pub record IsServedLate (late : ℕ) (lates : List Choice) (choice : Choice) : T
   pub held : Contains lates other
   pub serves : ServesLate late other choice
 
--- from the minute on one of these choices serves as well as each of the others
+-- Missing ships alone that gain nothing, whatever the state in which they are served from the minute on.
+pub record IsVain (I : Instance) (c k : ℕ) (prices : List ℕ) (late : ℕ) (to : Option ℕ) (g : Group) : Type 0 where
+  pub alone : to ≡ None
+  pub gainless : (stand : Stand) (from : ℕ) → late ≤ from → pos 0 ≤ℤ worth_of I c k prices stand from g
+
+-- from the minute on one of these choices serves as well as the choice, or it gains nothing
+abbrev pub IsCoveredLate : Instance → ℕ → ℕ → List ℕ → ℕ → List Choice → Choice → Type 0
+IsCoveredLate I c k prices late lates choice = IsServedLate late lates choice ⊎ IsVain I c k prices late choice.joins choice.group
+
+-- these choices cover the others from the minute on
 pub record AreLate (I : Instance) (c : ℕ) (cuts : List PlainCut) (k : ℕ) (prices : List ℕ) (line : List Group) (late : ℕ) (choices lates : List Choice) : Type 0 where
   pub each : All (IsChoice I c cuts k prices line) lates
-  pub served : All (IsServedLate late lates) choices
+  pub covered : All (IsCoveredLate I c k prices late lates) choices
 
--- the choice was put to the others behind all, or one that serves as well from the minute on is among them
-pub record HasLate (late : ℕ) (choice : Choice) (old new : List Choice) : Type 0 where
-  pub served : IsServedLate late new choice
+-- the choice was put to the others behind all, or they cover it from the minute on
+pub record HasLate (I : Instance) (c k : ℕ) (prices : List ℕ) (late : ℕ) (choice : Choice) (old new : List Choice) : Type 0 where
+  pub covered : IsCoveredLate I c k prices late new choice
   pub more : (new ≡ old) ⊎ (new ≡ old ++ choice ∷ [])
 
 -- the choices that are looked at in a state of this minute
 abbrev pub list_at : ℕ → List Choice → List Choice → ℕ → List Choice
-list_at late choices lates minute = cond (nat_lt minute late) choices lates
+list_at late earlies lates minute = cond (nat_lt minute late) earlies lates
 
 -- what groups are grown from that join there: nothing, or the line's group of that place
 pub record IsBaseOf (I : Instance) (c k : ℕ) (line : List Group) (to : Option ℕ) (base : Group) : Type 0 where
@@ -94,11 +107,15 @@ pub record IsServed (I : Instance) (k : ℕ) (prices : List ℕ) (choices : List
   pub way : choice.group.way ≡ g.way
   pub as_good : ServeAsWell I k prices choice.group.ships g.ships
 
--- to the choices others were put, all of them right, and one that serves as well as each uncut group on the base
+-- one of the choices serves as well as the group, or it gains nothing in any state
+abbrev pub IsCovered : Instance → ℕ → ℕ → List ℕ → List Choice → Option ℕ → Group → Type 0
+IsCovered I c k prices choices to g = IsServed I k prices choices to g ⊎ IsVain I c k prices 0 to g
+
+-- to the choices others were put, all of them right, and each uncut group on the base is covered
 pub record HaveMore (I : Instance) (c : ℕ) (cuts : List PlainCut) (k : ℕ) (prices : List ℕ) (line : List Group) (to : Option ℕ) (base : Group) (old new : List Choice) : Type 0 where
   pub each : All (IsChoice I c cuts k prices line) new
   pub kept : (h : Choice) → Contains old h → Contains new h
-  pub served : (g : Group) → IsUncut I c cuts g → IsOn I k base g → IsServed I k prices new to g
+  pub covered : (g : Group) → IsUncut I c cuts g → IsOn I k base g → IsCovered I c k prices new to g
 
 -- the choice was put to the others, or one that serves as well is among them
 pub record HasOne (I : Instance) (c : ℕ) (cuts : List PlainCut) (k : ℕ) (prices : List ℕ) (line : List Group) (choice : Choice) (old new : List Choice) : Type 0 where
@@ -112,31 +129,33 @@ pub record HavePut (I : Instance) (c : ℕ) (cuts : List PlainCut) (k : ℕ) (pr
   pub kept : (h : Choice) → Contains old h → Contains new h
   pub done : (j : ℕ) (d : Choice) → j < i → j < length more → IsServed I k prices new (slice_index_or more j d).joins (slice_index_or more j d).group
 
--- a choice of the group was put to the others or is served by one, or the group is empty
+-- a choice of the group was put to the others or is served by one, or the group is empty or gains nothing
 pub record PutsGroup (I : Instance) (c : ℕ) (cuts : List PlainCut) (k : ℕ) (prices : List ℕ) (line : List Group) (to : Option ℕ) (g : Group) (old new : List Choice) : Type 0 where
-  pub puts : ((length g.ships ≡ 0) × (new ≡ old)) ⊎ ((choice : Choice) × (choice.joins ≡ to) × (choice.group ≡ g) × HasOne I c cuts k prices line choice old new)
+  pub puts : ((length g.ships ≡ 0) × (new ≡ old)) ⊎ ((choice : Choice) × (choice.joins ≡ to) × (choice.group ≡ g) × HasOne I c cuts k prices line choice old new) ⊎ (IsVain I c k prices 0 to g × (new ≡ old))
 
 -- the same said of the first i of the grown groups
 pub record HaveSome (I : Instance) (c : ℕ) (cuts : List PlainCut) (k : ℕ) (prices : List ℕ) (line : List Group) (to : Option ℕ) (groups : List Group) (i : ℕ) (old new : List Choice) : Type 0 where
   pub each : All (IsChoice I c cuts k prices line) new
   pub kept : (h : Choice) → Contains old h → Contains new h
-  pub done : (j : ℕ) (d : Group) → j < i → j < length groups → 1 ≤ length (slice_index_or groups j d).ships → IsServed I k prices new to (slice_index_or groups j d)
+  pub done : (j : ℕ) (d : Group) → j < i → j < length groups → 1 ≤ length (slice_index_or groups j d).ships → IsCovered I c k prices new to (slice_index_or groups j d)
 
--- These choices are enough for the line: for each uncut group one of them serves as well.
+-- These choices are enough for the line: they cover each uncut group.
 pub record AreChoices (I : Instance) (c : ℕ) (cuts : List PlainCut) (k : ℕ) (prices : List ℕ) (line : List Group) (choices : List Choice) : Type 0 where
   pub each : All (IsChoice I c cuts k prices line) choices
-  pub whole : (to : Option ℕ) (g : Group) → IsUncut I c cuts g → Keeps I k line to g → IsServed I k prices choices to g
+  pub whole : (to : Option ℕ) (g : Group) → IsUncut I c cuts g → Keeps I k line to g → IsCovered I c k prices choices to g
 
--- choices that are enough for the line, and those that are from the minute on
-pub record AreListed (I : Instance) (c : ℕ) (cuts : List PlainCut) (k : ℕ) (prices : List ℕ) (line : List Group) (late : ℕ) (choices lates : List Choice) : Type 0 where
+-- choices that cover in each state those that are enough for the line, and those that do from the minute on
+pub record AreListed (I : Instance) (c : ℕ) (cuts : List PlainCut) (k : ℕ) (prices : List ℕ) (line : List Group) (late : ℕ) (earlies lates : List Choice) : Type 0 where
+  pub choices : List Choice
   pub enough : AreChoices I c cuts k prices line choices
+  pub early_enough : AreLate I c cuts k prices line 0 choices earlies
   pub late_enough : AreLate I c cuts k prices line late choices lates
 
 -- the same for the groups that keep none, or the line's group of one of the first i places
 pub record AreSome (I : Instance) (c : ℕ) (cuts : List PlainCut) (k : ℕ) (prices : List ℕ) (line : List Group) (i : ℕ) (choices : List Choice) : Type 0 where
   pub each : All (IsChoice I c cuts k prices line) choices
-  pub free : (g : Group) → IsUncut I c cuts g → Keeps I k line None g → IsServed I k prices choices None g
-  pub own : (p : ℕ) (g : Group) → p < i → IsUncut I c cuts g → Keeps I k line (Some p) g → IsServed I k prices choices (Some p) g
+  pub free : (g : Group) → IsUncut I c cuts g → Keeps I k line None g → IsCovered I c k prices choices None g
+  pub own : (p : ℕ) (g : Group) → p < i → IsUncut I c cuts g → Keeps I k line (Some p) g → IsCovered I c k prices choices (Some p) g
 
 -- a choice that comes next at place p leads to place q
 abbrev pub Leads : Option ℕ → ℕ → ℕ → Type 0

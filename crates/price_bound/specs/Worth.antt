@@ -71,9 +71,13 @@ pub record ServeAsWell (I : Instance) (k : ℕ) (prices : List ℕ) (hs gs : Lis
   pub quick : sum_by (λ s. (ship_at I s).handling) hs ≤ sum_by (λ s. (ship_at I s).handling) gs
   pub pays : paid_on I k prices gs + 100 * arrivals_of I gs ≤ paid_on I k prices hs + 100 * arrivals_of I hs
 
--- The same from a minute on, where arrivals until then make no difference, and whatever ships they keep.
-pub record ServeFrom (I : Instance) (k : ℕ) (prices : List ℕ) (from : ℕ) (hs gs : List ℕ) : Type 0 where
+-- the soonest end of these ships, where the chamber is ready no sooner than at the minute
+abbrev pub soonest_of : Instance → ℕ → ℕ → List ℕ → ℕ
+soonest_of I c from ss = max from (last_arrival I 0 ss) + duration_of I c ss
+
+-- The same from a minute on, where arrivals until then make no difference, and whatever ships they keep; they may pay less by what the ships that the others have more are worth at their soonest end.
+pub record ServeFrom (I : Instance) (c k : ℕ) (prices : List ℕ) (from : ℕ) (hs gs : List ℕ) : Type 0 where
   pub count : length hs ≤ length gs
   pub early : last_arrival I 0 hs ≤ max from (last_arrival I 0 gs)
   pub quick : sum_by (λ s. (ship_at I s).handling) hs ≤ sum_by (λ s. (ship_at I s).handling) gs
-  pub pays : paid_on I k prices gs + 100 * arrivals_of I gs ≤ paid_on I k prices hs + 100 * arrivals_of I hs
+  pub pays : paid_on I k prices gs + 100 * arrivals_of I gs + 100 * (length hs * soonest_of I c from gs) ≤ paid_on I k prices hs + 100 * arrivals_of I hs + 100 * (length gs * soonest_of I c from gs)

@@ -11,12 +11,13 @@ use crate::choice::Choice;
 use crate::error::PriceError;
 use crate::growing::{Growth, grown};
 use crate::line_case::LineCase;
-use crate::pruning::{add, order, put_each};
+use crate::pruning::{add, few_first, order, put_each};
+use crate::vanity::is_vain;
 use crate::weighing::weighed;
 use lock_model::{Group, Ships, Way};
 use std::alloc::Global;
 
-// Appends the choice of a grown group, unless it is empty.
+// Appends the choice of a grown group, unless it is empty or gains nothing.
 fn add_group(
     case: &LineCase,
     choices: &mut Vec<Choice>,
@@ -32,7 +33,11 @@ fn add_group(
     if group.ships.len() == 0 {
         return Ok(());
     }
-    add(case, choices, weighed(case, group.copy(), joins))
+    let choice = weighed(case, group.copy(), joins);
+    if is_vain(case, &choice, 0) {
+        return Ok(());
+    }
+    add(case, choices, choice)
 }
 
 // Appends the choices that join a group, or that join none.
@@ -110,9 +115,8 @@ fn free_choices(alloc: Global, growth: &Growth) -> Result<Vec<Choice>, PriceErro
     Ok(choices)
 }
 
-/// Uncut groups that are enough for the chamber's line: for each uncut group that keeps one of the
-/// line's groups, or none, one of them serves as well.
-pub(crate) fn choices(alloc: Global, growth: &Growth) -> Result<Vec<Choice>, PriceError>
+// The same as `choices`, as they are listed.
+fn unordered(alloc: Global, growth: &Growth) -> Result<Vec<Choice>, PriceError>
     requires sets { AreForbidden growth.now.case.now.instance.now growth.now.case.now.chamber (plain_cuts growth.now.case.now.instance.now growth.now.case.now.cuts.now) growth.now.sets.now }
     ensures { IfOk result (λ choices. AreChoices growth.now.case.now.instance.now growth.now.case.now.chamber (plain_cuts growth.now.case.now.instance.now growth.now.case.now.cuts.now) growth.now.case.now.depth growth.now.case.now.prices.now growth.now.case.now.line.now choices.items) }
 {
@@ -121,5 +125,17 @@ pub(crate) fn choices(alloc: Global, growth: &Growth) -> Result<Vec<Choice>, Pri
     for place in 0..line.len() {
         put_grown(alloc, growth, &mut choices, &line[place], Some(place as u8))?;
     }
+    Ok(choices)
+}
+
+/// Uncut groups that are enough for the chamber's line: for each uncut group that keeps one of the
+/// line's groups, or none, one of them serves as well, or it gains nothing. Those of few ships come
+/// first.
+pub(crate) fn choices(alloc: Global, growth: &Growth) -> Result<Vec<Choice>, PriceError>
+    requires sets { AreForbidden growth.now.case.now.instance.now growth.now.case.now.chamber (plain_cuts growth.now.case.now.instance.now growth.now.case.now.cuts.now) growth.now.sets.now }
+    ensures { IfOk result (λ choices. AreChoices growth.now.case.now.instance.now growth.now.case.now.chamber (plain_cuts growth.now.case.now.instance.now growth.now.case.now.cuts.now) growth.now.case.now.depth growth.now.case.now.prices.now growth.now.case.now.line.now choices.items) }
+{
+    let mut choices = unordered(alloc, growth)?;
+    few_first(&mut choices)?;
     Ok(choices)
 }

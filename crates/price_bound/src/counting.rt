@@ -11,6 +11,7 @@ use crate::serving::{Served, alone, serve};
 use crate::state::State;
 use crate::table::Table;
 use crate::values::Values;
+use crate::vanity::is_vain;
 use chamber_times::stand_after;
 
 /// A state of which no choice is counted.
@@ -127,6 +128,9 @@ fn count(
     ensures none { IfNone result (IsCounted table.now.case.now.instance.now table.now.case.now.chamber (plain_cuts table.now.case.now.instance.now table.now.case.now.cuts.now) table.now.case.now.depth table.now.case.now.prices.now table.now.case.now.line.now state.now.stand state.now.minute state.now.place best.new choice.now) }
     ensures some { IfSome result (λ s. (s.place ≤ length table.now.case.now.line.now) × (s.minute < table.now.horizon)) }
 {
+    if is_vain(table.case, choice, state.minute) {
+        return None;
+    }
     match led(choice, state.place) {
         None => None,
         Some(place) => count_to(table, values, state, best, choice, place),

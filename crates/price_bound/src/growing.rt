@@ -34,6 +34,35 @@ fn may_grow(case: &LineCase, base: &Group, ship: u8) -> bool
     case.instance.ships.as_slice()[ship as usize].way == base.way && case.lacks(ship)
 }
 
+// Whether all these ships are before one.
+fn are_before(ships: &[u8], ship: u8) -> bool
+    ensures { IsTrue result → All (λ s. s < ship) ships.now }
+{
+    for &other in ships {
+        if other >= ship {
+            return false;
+        }
+    }
+    true
+}
+
+// The group with a ship more, which mostly comes behind all others.
+fn with_more(group: &Group, ship: u8) -> Group
+    requires room { length group.now.ships < 8 }
+    requires absent { times_in group.now.ships ship ≡ 0 }
+    ensures { result ≡ with_ship ship group.now }
+{
+    if !are_before(group.ships.as_slice(), ship) {
+        return with_ship(group, ship);
+    }
+    let mut ships = group.ships.copy();
+    ships.push(ship);
+    Group {
+        way: group.way,
+        ships,
+    }
+}
+
 // The group with a ship more, where the chamber may serve them together and no forbidden set is
 // among them.
 fn joined(growth: &Growth, near: &[u32], group: &Group, ship: u8) -> Option<Group>
@@ -49,7 +78,7 @@ fn joined(growth: &Growth, near: &[u32], group: &Group, ship: u8) -> Option<Grou
     if group.ships.len() >= growth.case.lock().most as usize {
         return None;
     }
-    let joined = with_ship(group, ship);
+    let joined = with_more(group, ship);
     if misses_all_of(near, mask_of(joined.ships.as_slice())) {
         Some(joined)
     } else {

@@ -1,11 +1,13 @@
-//! Choices that are left out once all ships have arrived, since others serve as well from then on.
-ghost use Rattle.std.specs.Prelude.{◌≡◌, ◌≤◌, ◌↔◌, length, All, IsTrue, IfOk, OnOk};
-ghost use Rattle.price_bound.specs.Choosing.{IsChoice, IsServedLate, ServesLate, AreLate, HasLate};
+//! Choices that are left out from a minute on, since others serve as well from then on or they gain
+//! nothing.
+ghost use Rattle.std.specs.Prelude.{◌≡◌, ◌+◌, ◌*◌, ◌≤◌, length, max, All, IsTrue, IfOk, OnOk};
+ghost use Rattle.price_bound.specs.Choosing.{IsChoice, IsServedLate, IsCoveredLate, ServesLate, AreLate, HasLate, soonest};
 ghost use Rattle.price_bound.specs.Cuts.{plain_cuts};
 
 use crate::choice::Choice;
 use crate::error::{PriceError, append};
 use crate::line_case::LineCase;
+use crate::vanity::{is_vain, worth_by};
 use std::alloc::Global;
 
 /// The last arrival of all these choices' ships.
@@ -19,20 +21,39 @@ pub(crate) fn latest(choices: &[Choice]) -> u32
     latest
 }
 
+// Whether what a choice pays more than another is no more than what its further ships are worth as
+// soon as it can end.
+fn pays_enough(other: &Choice, choice: &Choice, late: u64) -> bool
+    requires late { late ≤ 4294967296 }
+    requires short { choice.now.duration ≤ 9000000 }
+    requires soon { choice.now.last ≤ 1000000 }
+    ensures { IsTrue result → choice.now.pays + 100 * (length other.now.group.ships * soonest late choice.now) ≤ other.now.pays + 100 * (length choice.now.group.ships * soonest late choice.now) }
+{
+    let end = late.max(choice.last as u64) + choice.duration as u64;
+    choice.pays as u64 + worth_by(other.group.ships.len() as u64, end)
+        <= other.pays as u64 + worth_by(choice.group.ships.len() as u64, end)
+}
+
 // Whether a choice joins the same group as another, has its way and is no worse by its other sums.
-fn serves_late(other: &Choice, choice: &Choice, late: u32) -> bool
+fn serves_late(other: &Choice, choice: &Choice, late: u64) -> bool
+    requires late { late ≤ 4294967296 }
+    requires short { choice.now.duration ≤ 9000000 }
+    requires soon { choice.now.last ≤ 1000000 }
     ensures { IsTrue result → ServesLate late other.now choice.now }
 {
     other.duration <= choice.duration
-        && other.pays >= choice.pays
-        && other.group.ships.len() <= choice.group.ships.len()
         && other.joins == choice.joins
+        && other.last as u64 <= late.max(choice.last as u64)
+        && other.group.ships.len() <= choice.group.ships.len()
         && other.group.way == choice.group.way
-        && other.last <= late
+        && pays_enough(other, choice, late)
 }
 
 // Whether one of the choices serves as well as a choice from the minute on.
-fn is_served_late(lates: &[Choice], choice: &Choice, late: u32) -> bool
+fn is_served_late(lates: &[Choice], choice: &Choice, late: u64) -> bool
+    requires late { late ≤ 4294967296 }
+    requires short { choice.now.duration ≤ 9000000 }
+    requires soon { choice.now.last ≤ 1000000 }
     ensures { IsTrue result → IsServedLate late lates.now choice.now }
 {
     for other in lates {
@@ -43,31 +64,46 @@ fn is_served_late(lates: &[Choice], choice: &Choice, late: u32) -> bool
     false
 }
 
-// Puts a choice to the others, unless one of them serves as well from the minute on.
-fn put_late(lates: &mut Vec<Choice>, choice: &Choice, late: u32) -> Result<(), PriceError>
-    requires { choice.now.last ≤ late }
-    ensures { OnOk result (HasLate late choice.now lates.old.items lates.new.items) }
+// Whether a choice gains nothing or one of the choices serves as well from the minute on.
+fn is_covered_late(case: &LineCase, lates: &[Choice], choice: &Choice, late: u64) -> bool
+    requires late { late ≤ 4294967296 }
+    requires is { IsChoice case.now.instance.now case.now.chamber (plain_cuts case.now.instance.now case.now.cuts.now) case.now.depth case.now.prices.now case.now.line.now choice.now }
+    ensures { IsTrue result → IsCoveredLate case.now.instance.now case.now.chamber case.now.depth case.now.prices.now late lates.now choice.now }
 {
-    if is_served_late(lates, choice, late) {
+    is_vain(case, choice, late) || is_served_late(lates, choice, late)
+}
+
+// Puts a choice to the others, unless they cover it from the minute on.
+fn put_late(
+    case: &LineCase,
+    lates: &mut Vec<Choice>,
+    choice: &Choice,
+    late: u64,
+) -> Result<(), PriceError>
+    requires late { late ≤ 4294967296 }
+    requires is { IsChoice case.now.instance.now case.now.chamber (plain_cuts case.now.instance.now case.now.cuts.now) case.now.depth case.now.prices.now case.now.line.now choice.now }
+    ensures { OnOk result (HasLate case.now.instance.now case.now.chamber case.now.depth case.now.prices.now late choice.now lates.old.items lates.new.items) }
+{
+    if is_covered_late(case, lates, choice, late) {
         return Ok(());
     }
     append(lates, choice.copy())
 }
 
-/// Of some choices those that are enough from a minute on by which all their ships have arrived.
+/// Of some choices those that are enough from a minute on.
 pub(crate) fn late_choices(
     alloc: Global,
     case: &LineCase,
     choices: &[Choice],
-    late: u32,
+    late: u64,
 ) -> Result<Vec<Choice>, PriceError>
+    requires late { late ≤ 4294967296 }
     requires each { All (IsChoice case.now.instance.now case.now.chamber (plain_cuts case.now.instance.now case.now.cuts.now) case.now.depth case.now.prices.now case.now.line.now) choices.now }
-    requires last { All (λ choice. choice.last ≤ late) choices.now }
     ensures { IfOk result (λ lates. AreLate case.now.instance.now case.now.chamber (plain_cuts case.now.instance.now case.now.cuts.now) case.now.depth case.now.prices.now case.now.line.now late choices.now lates.items) }
 {
     let mut lates = Vec::new(alloc);
     for choice in choices {
-        put_late(&mut lates, choice, late)?;
+        put_late(case, &mut lates, choice, late)?;
     }
     Ok(lates)
 }

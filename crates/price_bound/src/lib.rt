@@ -3,9 +3,9 @@
 //! `reaches` says whether a node reaches a cost by prices and cuts, exactly; `price_sum` is the sum
 //! by which it does; `show` makes a `Shown`, the value that carries the fact. For each chamber the
 //! least of `100 * flow - paid` over its loose lines is found apart: the uncut groups of missing ships
-//! are grown ship by ship, those that another one serves for as well are left out, and the states of
-//! the chamber that can be reached are worked out with their values remembered, up to the minute from
-//! which on missing ships may be left out of a line.
+//! are grown ship by ship, those that gain nothing or that another one serves for as well are left out,
+//! and the states of the chamber that can be reached are worked out with their values remembered, up to
+//! the minute from which on missing ships may be left out of a line.
 //!
 //! No call changes what it is given. Refused are want of memory, and more groups or turns than the
 //! caller's `Limits` allow.
@@ -40,6 +40,7 @@ mod shown;
 mod state;
 mod table;
 mod values;
+mod vanity;
 mod walking;
 mod weighing;
 

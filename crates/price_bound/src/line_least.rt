@@ -63,13 +63,14 @@ pub(crate) fn line_least(
         most: limits.groups,
     };
     let choices = choices(alloc, &growth)?;
-    let last = latest(&choices);
+    let last = latest(&choices) as u64;
+    let earlies = late_choices(alloc, case, &choices, 0)?;
     let lates = late_choices(alloc, case, &choices, last)?;
     let table = Table {
         case,
-        choices: &choices,
+        choices: &earlies,
         lates: &lates,
-        last: last as u64,
+        last,
         horizon: horizon(case),
         turns: limits.turns,
     };

@@ -1,20 +1,24 @@
 //! The steps of an ascent.
-ghost use Rattle.std.specs.Prelude.{◌≡◌, ◌+◌, ◌<◌, ◌≤◌, ◌<ℤ◌, ◌↔◌, pos, length, IsTrue};
+ghost use Rattle.std.specs.Prelude.{◌≡◌, ◌+◌, ◌<◌, ◌≤◌, ◌<ℤ◌, pos, length};
 ghost use Rattle.std.specs.Bool.{OnTrue, OnFalse};
 ghost use Rattle.price_raise.specs.Raising.{IsWeighed};
 
 use crate::stands::Stands;
 use price_bound::Prices;
 
-/// How an ascent goes on: so many steps at the most, and after so many without gain it goes back to the
-/// best prices, with steps a third shorter.
+/// How an ascent goes on: so many steps at the most; after so many without gain it goes back to the
+/// best prices, with steps a third shorter; and after each span of so many steps it ends, unless so
+/// many spans that gain as much as this one would reach the goal.
 #[derive(Clone, Copy, Debug, PartialEq, Eq)]
 pub struct Pace {
     pub steps: u32,
     pub patience: u32,
+    pub span: u32,
+    pub spans: u32,
 }
 
-/// Prices that are tried, the best ones so far with what they reach, and how the next step is made.
+/// Prices that are tried, the best ones so far with what they reach, how the next step is made, what the
+/// best prices reached when the span began, and how many steps of it were made.
 #[derive(Debug, Drop)]
 pub struct Ascent {
     tried: Prices,
@@ -24,6 +28,8 @@ pub struct Ascent {
     direction: [i64; 24],
     stride: i64,
     idle: u32,
+    mark: i64,
+    walked: u32,
     pace: Pace,
 }
 
@@ -116,6 +122,9 @@ impl Ascent {
             direction: [0; 24],
             stride: WHOLE_STRIDE,
             idle: 0,
+            mark: i64::MIN,
+            // the first step begins a span
+            walked: pace.span,
             pace,
             tried: start,
         }
@@ -126,13 +135,6 @@ impl Ascent {
         ensures { result.now ≡ self.now.tried }
     {
         &self.tried
-    }
-
-    /// Whether no step is left.
-    pub fn is_last(&self) -> bool
-        ensures { IsTrue result ↔ (self.now.pace.steps ≡ 0) }
-    {
-        self.pace.steps == 0
     }
 
     /// The best prices so far.
@@ -170,10 +172,29 @@ impl Ascent {
         }
     }
 
+    // Counts a step; whether a span is over and the goal out of sight: it isn't reached where as many
+    // spans as the pace has gain as much as this one.
+    fn is_hopeless(&mut self, goal: u64) -> bool
+        ensures tried { self.new.tried ≡ self.old.tried }
+        ensures best { self.new.best ≡ self.old.best }
+        ensures best_sum { self.new.best_sum ≡ self.old.best_sum }
+        ensures pace { self.new.pace ≡ self.old.pace }
+    {
+        if self.walked < self.pace.span {
+            self.walked += 1;
+            return false;
+        }
+        let gained = self.best_sum.saturating_sub(self.mark);
+        self.mark = self.best_sum;
+        self.walked = 1;
+        gained.saturating_mul(self.pace.spans as i64) < gap_to(goal, self.best_sum)
+    }
+
     /// Raises the prices by what came of those that were tried: the sum of their least lines and the
     /// prices, in hundredths of a minute, and how often missing ships stand in the lines. The goal is a
     /// cost in minutes. The better ones are kept. Whether there are other prices to try: there are none
-    /// after as many steps as the pace allows, or where each missing ship stands in the lines once.
+    /// after as many steps as the pace allows, where each missing ship stands in the lines once, or where
+    /// the goal is out of sight.
     pub fn raise(&mut self, missing: &[u8], stands: &Stands, sum: i64, goal: u64) -> bool
         ensures weighed { IsWeighed self.old sum self.new }
         ensures shape { length self.new.tried ≡ length self.old.tried }
@@ -183,7 +204,8 @@ impl Ascent {
         self.weigh(sum);
         turn(&mut self.direction, missing, stands);
         let norm = norm_of(&self.direction);
-        if self.pace.steps == 0 || norm <= 0 {
+        let hopeless = self.is_hopeless(goal);
+        if hopeless || self.pace.steps == 0 || norm <= 0 {
             return false;
         }
         self.pace.steps -= 1;

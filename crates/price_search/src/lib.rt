@@ -12,6 +12,8 @@
 //! a search comes to an end: all rounds together are limited.
 //!
 //! - `pricing`: what is kept, `offers`: what nodes leave to those below them. `round`: one round. `placing`: groups of loose lines, placed.
+//!
+//! Definitions: `specs/Serving` says where rounds may be made.
 #![tactic(auto)]
 
 mod appending;

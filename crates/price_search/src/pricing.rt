@@ -1,5 +1,6 @@
 //! Prices that are kept from node to node.
-ghost use Rattle.std.specs.Prelude.{◌≡◌, ◌≤◌, length};
+ghost use Rattle.std.specs.Prelude.{◌≡◌, ◌≤◌, ◌↔◌, IsTrue};
+ghost use Rattle.price_search.specs.Serving.{MayServe};
 
 use crate::appending::append;
 use crate::offers::Offer;
@@ -15,14 +16,21 @@ pub const MOST_AT_A_NODE: u32 = 1_000;
 // With fewer missing ships a node is searched faster than prices are worked out.
 const FEWEST_MISSING: usize = 5;
 
+// Most of what is gained comes in the first steps. Once the best cost is out of sight, the nodes below
+// are closed sooner than more steps bring it nearer. The first node is left later, since all others
+// begin with its prices; its span is longer than its patience, so that a going back counts in it.
 const FIRST_PACE: Pace = Pace {
     steps: 200,
     patience: 15,
+    span: 20,
+    spans: 5,
 };
 
 const PACE: Pace = Pace {
-    steps: 5,
+    steps: 40,
     patience: 5,
+    span: 5,
+    spans: 3,
 };
 
 // The same cuts.
@@ -69,12 +77,18 @@ impl Pricing {
     }
 
     // Forgets the prices of nodes that aren't above one of this depth; those of the root stay.
-    fn go_up(&mut self, depth: u8) {
+    fn go_up(&mut self, depth: u8)
+        ensures deep { self.new.from ≡ self.old.from }
+        ensures left { self.new.left ≡ self.old.left }
+    {
         self.path.truncate((depth as usize).max(1));
     }
 
     // Begins a node with the prices of the node above it.
-    fn begin(&mut self) {
+    fn begin(&mut self)
+        ensures deep { self.new.from ≡ self.old.from }
+        ensures left { self.new.left ≡ self.old.left }
+    {
         let pace = if self.is_first { FIRST_PACE } else { PACE };
         if let [.., last] = self.path.as_slice() {
             self.ascent = Ascent::new(last.prices.copy(), pace);
@@ -83,19 +97,22 @@ impl Pricing {
 
     /// Whether rounds may be made at a node of this depth of a search for so many ships: not where few
     /// are missing, all rounds were made, or the sets of ships were too many at a node of this depth.
-    pub fn serves(&self, depth: u8, ships: usize) -> bool {
+    pub fn serves(&self, depth: u8, ships: usize) -> bool
+        ensures { IsTrue result ↔ MayServe self.now depth ships }
+    {
         ships.saturating_sub(depth as usize) >= FEWEST_MISSING
             && self.left > 0
             && depth >= self.from
     }
 
-    /// Goes to a node of this depth, whose prices are those of the node above it. Whether rounds may
-    /// be made there: not where all were made, nor where the sets of ships were too many at a node of
-    /// this depth.
-    pub fn go_to(&mut self, depth: u8) -> bool {
+    /// Goes to a node of this depth, whose prices are those of the node above it. Where rounds may be
+    /// made stays the same.
+    pub fn go_to(&mut self, depth: u8)
+        ensures left { self.new.left ≡ self.old.left }
+        ensures deep { self.new.from ≡ self.old.from }
+    {
         self.go_up(depth);
         self.begin();
-        self.left > 0 && depth >= self.from
     }
 
     /// Goes to a node that begins with what is offered, or with what the last one began with.
@@ -116,7 +133,10 @@ impl Pricing {
     }
 
     /// Keeps the best prices of the node in hand, which is split, for the nodes below it.
-    pub fn keep(&mut self, depth: u8) -> Result<(), NoMemory> {
+    pub fn keep(&mut self, depth: u8) -> Result<(), NoMemory>
+        ensures left { self.new.left ≡ self.old.left }
+        ensures deep { self.new.from ≡ self.old.from }
+    {
         let prices = self.ascent.best().copy();
         if depth == 0 {
             self.path.pop();

@@ -1,5 +1,6 @@
 -- Closing the held slot.
-use Rattle.std.proofs.Common.{◌≡◌, ℕ, ◌≤◌, refl, sym, ap, ◌∙◌, subst, Bool, true, false, not, cond, slice_get, Some, None}
+use Rattle.std.proofs.Common.{◌≡◌, ℕ, ◌≤◌, refl, sym, ap, ◌∙◌, subst, Bool, true, false, not, cond, slice_get, Some, None, true≢false}
+use Rattle.std.proofs.lemmas.Bool.{not_from_true}
 use Rattle.std.specs.declared.option.Option.{Option}
 use Rattle.lock_rules.specs.Arrival.{missing_ships}
 use Rattle.lock_rules.specs.Throughput.{throughput_of}
@@ -19,11 +20,11 @@ use Rattle.book_rules.proofs.TestLemmas.{has_number-decides, is_node_hit-decides
 use Rattle.book_rules.proofs.ClosingLemmas.{MayRefuse, may-refuse}
 use Rattle.book_core.specs.declared.reply.Reply.{Reply}
 use Rattle.book_core.specs.Replies.{Answers}
-use Rattle.book_core.proofs.CloseLemmas.{pick-false, not-true, high-unrefused, probe-asked, cut-hits}
+use Rattle.book_core.proofs.CloseLemmas.{pick-false, high-unrefused, probe-asked, cut-hits}
 use Rattle.solve_workers.specs.Holding.{HoldsOnly}
 use Rattle.solve_workers.specs.Told.{is_closed}
 use Rattle.solve_workers.proofs.ToldLemmas.{Answer, closes, told-closed}
-use Rattle.solve_workers.proofs.FreeLemmas.{clash, freed, may-close}
+use Rattle.solve_workers.proofs.FreeLemmas.{freed, may-close}
 
 abbrev Out : Type 0
 Out = Book × Answer
@@ -36,7 +37,7 @@ pub data CloseOut (b : Book) (id : ℕ) (out : Out) : Type 0 where
 module _ (b : Book) (id : ℕ) (why : Ground) where
   -- a refusal closes nothing
   refusing : (r : Answer) → machine.is_accepted r ≡ false → closes r ≡ false
-  refusing machine.Closed e = absurd (clash e)
+  refusing machine.Closed e = absurd (true≢false e)
   refusing _ e = refl
 
   pub unless-out : (o : Option Answer) → MayRefuse o → CloseOut b id (Step.close_unless b id why o)
@@ -58,9 +59,9 @@ pub record Leaves (b new : Book) (t : Bool) : Type 0 where
 leaves-by : (b : Book) (id : ℕ) (node : Node) (out : Out) → HoldsOnly b id node → CloseOut b id out → Leaves b out.0 (closes out.1)
 leaves-by b id node out holds (Shut why same) = record {
   shut = λ e. freed b id node (slot.Closed why) out.0 holds refl (ap (λ (o : Out). o.0.slots) same);
-  kept = λ e. absurd (clash (sym (ap (λ (o : Out). closes o.1) same) ∙ e));
+  kept = λ e. absurd (true≢false (sym (ap (λ (o : Out). closes o.1) same) ∙ e));
 }
-leaves-by b id node out holds (Kept off same) = record { shut = λ e. absurd (clash (sym e ∙ off)); kept = λ e. same }
+leaves-by b id node out holds (Kept off same) = record { shut = λ e. absurd (true≢false (sym e ∙ off)); kept = λ e. same }
 
 pub leaves-answer : (b : Book) (id : ℕ) (node : Node) (out : Out) (r : Reply) (new : Book) (a : Answer) → HoldsOnly b id node → CloseOut b id out → out ≡ (new, a) → closes a ≡ is_closed r → Leaves b new (is_closed r)
 leaves-answer b id node out r new a holds way same said =
@@ -80,7 +81,7 @@ module _ (b : Book) (id : ℕ) (node : Node) (holds : HoldsOnly b id node) (r : 
       sym (told-closed r answers.answer answers.said)
       ∙ ap (λ (o : Out). closes o.1)
       (sym answers.same
-      ∙ pick-false (not (Step.may_close b id)) (b, machine.NotHeld id) (Step.close_unless b id why (Step.refusal_of b id why)) (not-true (Step.may_close b id) (may-close b id node holds))
+      ∙ pick-false (not (Step.may_close b id)) (b, machine.NotHeld id) (Step.close_unless b id why (Step.refusal_of b id why)) (not_from_true (Step.may_close b id) (may-close b id node holds))
       ∙ ap (Step.close_unless b id why) unrefused)
 
   -- ---- a ground that holds of the node

@@ -1,5 +1,5 @@
 -- A slot that is no longer held.
-use Rattle.std.proofs.Common.{◌≡◌, ℕ, zero, suc, ◌<◌, ◌≤◌, List, [], ◌∷◌, length, inl, inr, refl, ap, ◌∙◌, arith, Bool, true, false, cond, ◌||◌, slice_index_or}
+use Rattle.std.proofs.Common.{◌≡◌, ℕ, zero, suc, ◌<◌, ◌≤◌, List, [], ◌∷◌, length, inl, inr, refl, ap, ◌∙◌, arith, Bool, true, false, cond, ◌||◌, slice_index_or, true≢false}
 use Rattle.std.proofs.lemmas.Bool.Decides.{leb_tells}
 use Rattle.book_rules.specs.declared.book.SlotState.{SlotState}
 use Rattle.book_rules.specs.declared.book.SlotState.TheVariants as slot
@@ -10,9 +10,6 @@ use Rattle.book_rules.proofs.MoveLemmas.{state-known}
 use Rattle.book_rules.proofs.TurnLemmas.{turned-at, split-at, Turned, Untouched, Parent, Old, Child, Past}
 use Rattle.solve_workers.specs.Holding.{HoldsOnly}
 use Rattle.closing_rules.specs.declared.grounds.Ground.TheVariants as by
-
-pub clash : true ≡ false → ⊥
-clash e = cc
 
 past-end : (xs : List Slot) (k : ℕ) → length xs ≤ k → slice_index_or xs k no_slot ≡ no_slot
 past-end [] k h = refl
@@ -27,7 +24,7 @@ none-at b test plain has k = elim (leb_tells (suc k) (length b.slots)) [
 ]
 
 pub held-known : (b : Book) (id : ℕ) (node : Node) → HoldsOnly b id node → id < length b.slots
-held-known b id node holds = state-known b id (slot.Held 8) holds.held (λ e. clash (ap is_held e))
+held-known b id node holds = state-known b id (slot.Held 8) holds.held (λ e. true≢false (ap is_held e))
 
 pub is-held : (b : Book) (id : ℕ) (node : Node) → HoldsOnly b id node → is_held (slot_at b id).state ≡ true
 is-held b id node holds = ap is_held holds.held

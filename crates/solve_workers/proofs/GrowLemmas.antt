@@ -1,7 +1,8 @@
 -- Posting, splitting, parking and replacing while a slot is held.
-use Rattle.std.proofs.Common.{◌≡◌, ℕ, ◌<◌, ◌≤◌, List, [], ◌∷◌, ◌++◌, length, inl, inr, refl, sym, ap, ◌∙◌, subst, arith, Bool, true, false, not, cond, ◌&&◌, ◌||◌, nat_le, slice_get, slice_index_or, Some, None, IsNone}
+use Rattle.std.proofs.Common.{◌≡◌, ℕ, ◌<◌, ◌≤◌, List, [], ◌∷◌, ◌++◌, length, inl, inr, refl, sym, ap, ◌∙◌, subst, arith, Bool, true, false, not, cond, ◌&&◌, ◌||◌, nat_le, slice_get, slice_index_or, Some, None, IsNone, true≢false}
+use Rattle.std.proofs.lemmas.Option.{same_Some, none-some}
 use Rattle.std.specs.declared.option.Option.{Option}
-use Rattle.std.proofs.lemmas.Bool.{le-leb}
+use Rattle.std.proofs.lemmas.Bool.{le-leb, lt-leb, not_from_true}
 use Rattle.std.proofs.lemmas.Bool.Decides.{leb_tells}
 use Rattle.lock_model.specs.Deck.{Deck}
 use Rattle.lock_model.specs.Cargo.{HasNoClash}
@@ -25,28 +26,22 @@ use Rattle.book_rules.proofs.TurnLemmas.{outdone-at}
 use Rattle.book_core.specs.declared.reply.Reply.{Reply}
 use Rattle.book_core.specs.declared.reply.Reply.TheVariants as reply
 use Rattle.book_core.specs.Replies.{Answers, Does, Wants, Steps, Stays, told}
-use Rattle.book_core.proofs.CloseLemmas.{pick-false, not-true}
+use Rattle.book_core.proofs.CloseLemmas.{pick-false}
 use Rattle.solve_workers.specs.Holding.{HoldsOnly}
 use Rattle.solve_workers.specs.Told.{number_in, is_made, is_want, IsMadeOrWant, IsPostedOrWant}
 use Rattle.solve_workers.proofs.ToldLemmas.{Answer, makes, number_of, told-made, told-number}
 use Rattle.solve_workers.proofs.ClearLemmas.{no_clash-test}
-use Rattle.solve_workers.proofs.FreeLemmas.{clash, freed, split-freed, is-held}
+use Rattle.solve_workers.proofs.FreeLemmas.{freed, split-freed, is-held}
 use Rattle.closing_rules.specs.declared.grounds.Ground.TheVariants as by
 
 abbrev Out : Type 0
 Out = Book × Answer
 
-none-some : {X : Type 0} (x : X) → None ≡ Some x → ⊥
-none-some x e = cc
-
-some-same : {X : Type 0} (x y : X) → Some x ≡ Some y → x ≡ y
-some-same x y e = cc
-
 -- ---- want of memory
 
 untold : (r : Reply) → is_want r ≡ true → told r ≡ None
 untold reply.NoMemory e = refl
-untold _ e = absurd (clash (sym e))
+untold _ e = absurd (true≢false (sym e))
 
 pub want_kept : (b : Book) (e : Event) (r : Reply) (new : Book) → Does b e r new → is_want r ≡ true → new ≡ b
 want_kept b e r new (Stays wants) want = wants.same
@@ -71,10 +66,10 @@ split-out b id =
 
 split-by : (b : Book) (id : ℕ) (node : Node) (out : Out) → HoldsOnly b id node → SplitOut b id out → makes out.1 ≡ true → HoldsNothing out.0
 split-by b id node out holds (Splits same) e = split-freed b id node out.0 holds same
-split-by b id node out holds (NoSplit off) e = absurd (clash (sym e ∙ off))
+split-by b id node out holds (NoSplit off) e = absurd (true≢false (sym e ∙ off))
 
 want-none : (b : Book) (r : Reply) (new : Book) → Wants b r new → is_made r ≡ true → ⊥
-want-none b r new wants e = clash (sym e ∙ ap is_made wants.want)
+want-none b r new wants e = true≢false (sym e ∙ ap is_made wants.want)
 
 pub split_made : (b : Book) (id : ℕ) (node : Node) (r : Reply) (new : Book) → HoldsOnly b id node → Does b (split id) r new → is_made r ≡ true → HoldsNothing new
 split_made b id node r new holds (Stays wants) e = absurd (want-none b r new wants e)
@@ -83,12 +78,9 @@ split_made b id node r new holds (Steps answers) e =
     λ out same way. split-by b id node (new, answers.answer) holds (subst (SplitOut b id) same way) (told-made r answers.answer answers.said ∙ e) in
     found (Step.split_step b id) answers.same (split-out b id)
 
-not-whole : (most depth : ℕ) → depth < most → nat_le most depth ≡ false
-not-whole most depth less = elim (leb_tells most depth) [ inl y ↦ absurd (omega (arith, less, y.1)) | inr n ↦ n.0 ]
-
 made-is : (r : Reply) → is_made r ≡ true → IsMadeOrWant r
 made-is (reply.Made count) e = tt
-made-is _ e = absurd (clash (sym e))
+made-is _ e = absurd (true≢false (sym e))
 
 -- the held slot lacks a ship, so nothing but want of memory stands against its split
 pub split_granted : (b : Book) (id : ℕ) (node : Node) (r : Reply) (new : Book) → HoldsOnly b id node → node.depth < length b.case.instance.ships → Does b (split id) r new → IsMadeOrWant r
@@ -99,8 +91,8 @@ split_granted b id node r new holds lacks (Steps answers) =
     let out : Out = Step.split_slot b id in
     let own : (slot_at b id).node.depth ≡ node.depth = ap (λ (n : Node). n.depth) holds.node_is in
     let way : Step.split_step b id ≡ out =
-    pick-false (not (is_held (slot_at b id).state)) (b, machine.NotHeld id) (cond whole (b, machine.Whole id) out) (not-true (is_held (slot_at b id).state) (is-held b id node holds))
-    ∙ pick-false whole (b, machine.Whole id) out (not-whole most (slot_at b id).node.depth (omega (arith, lacks, own))) in
+    pick-false (not (is_held (slot_at b id).state)) (b, machine.NotHeld id) (cond whole (b, machine.Whole id) out) (not_from_true (is_held (slot_at b id).state) (is-held b id node holds))
+    ∙ pick-false whole (b, machine.Whole id) out (lt-leb most (slot_at b id).node.depth (omega (arith, lacks, own))) in
     made-is r (sym (told-made r answers.answer answers.said) ∙ ap (λ (o : Out). makes o.1) (sym answers.same ∙ way))
 
 -- ---- post
@@ -123,7 +115,7 @@ post-out : (b : Book) (cut : Cut) → PostOut b cut (Step.post_step b cut)
 post-out b cut = post-test b cut (not (is_own_cut b.case.instance cut)) (b, machine.OtherDeck) (Step.posted b cut) (NoPost refl) (Posts (record { slots = refl; case = refl; cuts = refl; number_is = refl }) refl)
 
 post-by : (b : Book) (cut : Cut) (out : Out) (number : ℕ) → PostOut b cut out → number_of out.1 ≡ Some number → IsPosted b cut number out.0
-post-by b cut out number (Posts is said) e = subst (λ n. IsPosted b cut n out.0) (some-same (length b.cuts) number (sym said ∙ e)) is
+post-by b cut out number (Posts is said) e = subst (λ n. IsPosted b cut n out.0) (same_Some (length b.cuts) number (sym said ∙ e)) is
 post-by b cut out number (NoPost off) e = absurd (none-some number (sym off ∙ e))
 
 posted-by : (b : Book) (cut : Cut) (r : Reply) (new : Book) (number : ℕ) → Does b (post cut) r new → number_in r ≡ Some number → IsPosted b cut number new
@@ -142,7 +134,7 @@ pub post_granted : (b : Book) (cut : Cut) (r : Reply) (new : Book) → IsOwnCut 
 post_granted b cut r new own (Stays wants) = subst IsPostedOrWant (sym wants.want) tt
 post_granted b cut r new own (Steps answers) =
     let test = is_own_cut b.case.instance cut in
-    let way : Step.post_step b cut ≡ Step.posted b cut = pick-false (not test) (b, machine.OtherDeck) (Step.posted b cut) (not-true test ((is_own_cut-decides b.case.instance cut).1 own)) in
+    let way : Step.post_step b cut ≡ Step.posted b cut = pick-false (not test) (b, machine.OtherDeck) (Step.posted b cut) (not_from_true test ((is_own_cut-decides b.case.instance cut).1 own)) in
     posted-is r (length b.cuts) (sym (told-number r answers.answer answers.said) ∙ ap (λ (o : Out). number_of o.1) (sym answers.same ∙ way))
 
 last-at : (xs : List Cut) (x : Cut) → slice_get (xs ++ x ∷ []) (length xs) ≡ Some x
@@ -199,9 +191,9 @@ module _ (b : Book) (id : ℕ) (node : Node) (c p : ℕ) (deck : Deck) (turns : 
 
   way : Step.step (λ _ _. never) b (park id c p deck turns) ≡ ending
   way =
-      pick-false held_test (b, machine.NotHeld id) (group_rest (group_at (slot_at b id).node c p)) (not-true (is_held (slot_at b id).state) (is-held b id node holds))
+      pick-false held_test (b, machine.NotHeld id) (group_rest (group_at (slot_at b id).node c p)) (not_from_true (is_held (slot_at b id).state) (is-held b id node holds))
       ∙ ap group_rest at-slot
-      ∙ pick-false lent_test (b, machine.OtherDeck) clear_rest (not-true (Step.is_lent b c g deck turns) (lent b c g deck turns own enough))
+      ∙ pick-false lent_test (b, machine.OtherDeck) clear_rest (not_from_true (Step.is_lent b c g deck turns) (lent b c g deck turns own enough))
       ∙ pick-false (has_clash deck.ships) (b, machine.Clashes id) ending (no_clash-test deck clear)
 
   pub parked_frees : Answers b (park id c p deck turns) r new → HoldsNothing new
@@ -253,13 +245,13 @@ module _ (b : Book) (id : ℕ) (node : Node) (plan : Plan) (holds : HoldsOnly b 
   by_cost : (t : Bool) → nat_le (best_cost b) cost ≡ t → IsBettered b id node cost (cond {A = Out} t (b, machine.NotCheaper cost (best_cost b)) (Step.replaced b plan, machine.Replaced cost)).0
   by_cost true e = elim (leb_tells (best_cost b) cost) [
     | inl y ↦ record { holds = holds; best = y.1; case = refl }
-    | inr n ↦ absurd (clash (sym e ∙ n.0))
+    | inr n ↦ absurd (true≢false (sym e ∙ n.0))
   ]
   by_cost false e = replaced-is
 
   by_break : (o : Option BrokenPlan) → (IsNone o) → IsBettered b id node cost (Step.replace_by b plan o).0
   by_break None h = by_cost (nat_le (best_cost b) cost) refl
-  by_break (Some found) h = absurd (clash h)
+  by_break (Some found) h = absurd (true≢false h)
 
   held-cost : (t : Bool) → HoldsOnly (cond {A = Out} t (b, machine.NotCheaper cost (best_cost b)) (Step.replaced b plan, machine.Replaced cost)).0 id node
   held-cost true = holds
@@ -275,5 +267,5 @@ module _ (b : Book) (id : ℕ) (node : Node) (plan : Plan) (holds : HoldsOnly b 
   replaced_holds r new (Steps answers) = subst (λ (x : Book). HoldsOnly x id node) (ap (λ (o : Out). o.0) answers.same) (held-break answers.found)
 
   pub replaced_better : (r : Reply) (new : Book) → IsLegal b.case.instance plan → is_want r ≡ false → Does b (replace plan) r new → IsBettered b id node cost new
-  replaced_better r new legal said (Stays wants) = absurd (clash (ap is_want (sym wants.want) ∙ said))
+  replaced_better r new legal said (Stays wants) = absurd (true≢false (ap is_want (sym wants.want) ∙ said))
   replaced_better r new legal said (Steps answers) = subst (IsBettered b id node cost) (ap (λ (o : Out). o.0) answers.same) (by_break answers.found (answers.judged.none.1 legal))

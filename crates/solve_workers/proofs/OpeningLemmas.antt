@@ -1,5 +1,6 @@
 -- A book that was just opened.
-use Rattle.std.proofs.Common.{◌≡◌, ℕ, suc, zero, ◌<◌, ◌≤◌, List, [], ◌∷◌, ◌++◌, length, map, take, slice_index_or, refl, sym, ap, ◌∙◌, subst, arith, Bool, true, false, not, cond, nat_le, IfOk, Ok, Err, Some, None}
+use Rattle.std.proofs.Common.{◌≡◌, ℕ, suc, zero, ◌<◌, ◌≤◌, List, [], ◌∷◌, ◌++◌, length, map, take, slice_index_or, refl, sym, ap, ◌∙◌, subst, arith, Bool, true, false, not, cond, nat_le, IfOk, Ok, Err, Some}
+use Rattle.std.proofs.lemmas.Option.{none-some}
 use Rattle.std.specs.declared.result.Result.{Result}
 use Rattle.std.proofs.lemmas.List.{append-nil, append_assoc, map-append, take_all}
 use Rattle.std.proofs.Math.Seq.{take-suc}
@@ -41,9 +42,6 @@ free case plan = record { none = by_number }
     by_number (suc id) here = absurd (omega (arith, here))
 
 -- ---- the given cuts
-
-none-some : {X : Type 0} (x : X) → None ≡ Some x → ⊥
-none-some x e = cc
 
 post-just : (b : Book) (cut : Cut) (number : ℕ) (t : Bool) (out : Book × Answer) → cond t (b, machine.OtherDeck) (Step.posted b cut) ≡ out → number_of out.1 ≡ Some number → out.0 ≡ with_cuts b (cut ∷ [])
 post-just b cut number true out e said = absurd (none-some number (ap (λ (o : Book × Answer). number_of o.1) e ∙ said))

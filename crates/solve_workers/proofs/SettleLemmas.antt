@@ -1,5 +1,5 @@
 -- The workers below 8 are released, one after the other.
-use Rattle.std.proofs.Common.{◌≡◌, ◌≢◌, ℕ, suc, ◌<◌, ◌≤◌, length, inl, inr, refl, sym, ap, ◌∙◌, subst, arith, Bool, true, false, cond, Some, None, slice_index_or}
+use Rattle.std.proofs.Common.{◌≡◌, ◌≢◌, ℕ, suc, ◌<◌, ◌≤◌, length, inl, inr, refl, sym, ap, ◌∙◌, subst, arith, Bool, true, false, cond, Some, None, slice_index_or, true≢false}
 use Rattle.std.proofs.lemmas.Bool.Decides.{leb_tells}
 use Rattle.std.specs.declared.option.Option.{Option}
 use Rattle.std.proofs.lemmas.List.{get_or-set_same, get_or-set_other}
@@ -21,7 +21,6 @@ use Rattle.book_core.specs.Replies.{Answers}
 use Rattle.solve_workers.specs.Holding.{IsRunning}
 use Rattle.solve_workers.specs.Opening.{IsReady}
 use Rattle.solve_workers.specs.Settling.{IsOurs, AreHeldFrom, IsGivenBack, IsFreed}
-use Rattle.solve_workers.proofs.FreeLemmas.{clash}
 use Rattle.solve_workers.proofs.ToldLemmas.{Answer}
 
 -- ---- one release
@@ -79,7 +78,7 @@ module _ (b : Book) (w : ℕ) (keeps : KeepsWorkers b) (below : w < 8) (r : Repl
       subst KeepsWorkers (ap (λ (o : Book × Answer). o.0) answers.same) (workers-step (λ _ _. answers.found) b keeps (release w) owed)
 
   differs : (id v : ℕ) → (slot_at new id).state ≡ slot.Held v → v ≢ w
-  differs id v h e = clash (sym (subst (λ u. slice_index_or new.ended u false ≡ true) (sym e) lets.gone) ∙ keeps-new.running id v h)
+  differs id v h e = true≢false (sym (subst (λ u. slice_index_or new.ended u false ≡ true) (sym e) lets.gone) ∙ keeps-new.running id v h)
 
   past : (id v : ℕ) → (slot_at new id).state ≡ slot.Held v → w ≤ v → suc w ≤ v
   past id v h low = elim (leb_tells (suc w) v) [ inl y ↦ y.1 | inr n ↦ absurd (differs id v h (let lower = n.1 in omega (arith, low, lower))) ]
@@ -103,9 +102,9 @@ module _ (b : Book) (w : ℕ) (keeps : KeepsWorkers b) (below : w < 8) (r : Repl
 
 not-eight : (b : Book) → first_slot b (is_held_by 8) ≡ None → (id w : ℕ) → (slot_at b id).state ≡ slot.Held w → w ≢ 8
 not-eight b empty id w h e =
-    let here = state-known b id (slot.Held w) h (λ f. clash (ap is_held f)) in
+    let here = state-known b id (slot.Held w) h (λ f. true≢false (ap is_held f)) in
     let by : (slot_at b id).state ≡ slot.Held 8 = h ∙ ap slot.Held e in
-    clash (sym (held_by-itself 8) ∙ ap (is_held_by 8) (sym by) ∙ first_slot-none b (is_held_by 8) empty id here)
+    true≢false (sym (held_by-itself 8) ∙ ap (is_held_by 8) (sym by) ∙ first_slot-none b (is_held_by 8) empty id here)
 
 below-eight : (w : ℕ) → w ≤ 8 → w ≢ 8 → w < 8
 below-eight w most other = elim (leb_tells (suc w) 8) [ inl y ↦ y.1 | inr n ↦ absurd (other (let lower = n.1 in omega (arith, most, lower))) ]

@@ -1,5 +1,6 @@
 -- Taking a slot while none is held.
-use Rattle.std.proofs.Common.{◌≡◌, ℕ, suc, ◌<◌, ◌≤◌, length, inl, inr, refl, sym, ap, ◌∙◌, subst, arith, Bool, true, false, cond, ◌||◌, Some, None}
+use Rattle.std.proofs.Common.{◌≡◌, ℕ, suc, ◌<◌, ◌≤◌, length, inl, inr, refl, sym, ap, ◌∙◌, subst, arith, Bool, true, false, cond, ◌||◌, Some, None, true≢false}
+use Rattle.std.proofs.lemmas.Option.{same_Some, none-some}
 use Rattle.std.specs.declared.option.Option.{Option}
 use Rattle.std.proofs.lemmas.Bool.Decides.{eqb_tells}
 use Rattle.master_branch.specs.Node.{Node as CodeNode}
@@ -23,16 +24,10 @@ use Rattle.book_core.specs.Replies.{Answers}
 use Rattle.solve_workers.specs.Holding.{HoldsOnly, IsRunning, IsDone}
 use Rattle.solve_workers.specs.Told.{node_in}
 use Rattle.solve_workers.proofs.ToldLemmas.{Answer, tree, as_tree, given_in, told-node}
-use Rattle.solve_workers.proofs.FreeLemmas.{clash, none-at}
+use Rattle.solve_workers.proofs.FreeLemmas.{none-at}
 
 abbrev Out : Type 0
 Out = Book × Answer
-
-none-some : {X : Type 0} (x : X) → None ≡ Some x → ⊥
-none-some x e = cc
-
-some-same : {X : Type 0} (x y : X) → Some x ≡ Some y → x ≡ y
-some-same x y e = cc
 
 -- a slot is given, or nothing is open, or the nodes are spent
 data TakeOut (b : Book) (out : Out) : Type 0 where
@@ -40,7 +35,7 @@ data TakeOut (b : Book) (out : Out) : Type 0 where
   Ends : given_in out.1 ≡ None → out.0 ≡ b → IsDone b → TakeOut b out
 
 not-held-by : (state : SlotState) → is_held state ≡ false → (t : Bool) → is_held_by 8 state ≡ t → t ≡ false
-not-held-by state off true e = absurd (clash (sym (ap is_held (held_by-is 8 state e)) ∙ off))
+not-held-by state off true e = absurd (true≢false (sym (ap is_held (held_by-is 8 state e)) ∙ off))
 not-held-by state off false e = refl
 
 module _ (b : Book) (sound : IsSound b) (free : HoldsNothing b) (running : IsRunning b) where
@@ -108,7 +103,7 @@ module _ (b : Book) (sound : IsSound b) (free : HoldsNothing b) (running : IsRun
   taken-by : (id : ℕ) (node : CodeNode) (out : Out) → TakeOut b out → given_in out.1 ≡ Some (id, tree node) → IsTaken id node out.0
   taken-by id node out (Ends none same done) e = absurd (none-some (id, tree node) (sym none ∙ e))
   taken-by id node out (Gives at used here same) e =
-      let both : (at, (slot_at b at).node) ≡ (id, tree node) = some-same _ _ (sym (ap (λ (o : Out). given_in o.1) same) ∙ e) in
+      let both : (at, (slot_at b at).node) ≡ (id, tree node) = same_Some _ _ (sym (ap (λ (o : Out). given_in o.1) same) ∙ e) in
       let is : at ≡ id = ap (λ (p : ℕ × Node). p.0) both in
       let own : (slot_at b at).node ≡ tree node = ap (λ (p : ℕ × Node). p.1) both in
       record {

@@ -1,5 +1,5 @@
 -- Closing the parked slots at the end.
-use Rattle.std.proofs.Common.{◌≡◌, ℕ, suc, ◌+◌, ◌<◌, ◌≤◌, length, inl, inr, refl, sym, ap, ◌∙◌, subst, arith, Bool, true, false, not, cond, ◌||◌, nat_lt, Some, None}
+use Rattle.std.proofs.Common.{◌≡◌, ℕ, suc, ◌+◌, ◌<◌, ◌≤◌, length, inl, inr, refl, sym, ap, ◌∙◌, subst, arith, Bool, true, false, not, cond, ◌||◌, nat_lt, Some, None, true≢false}
 use Rattle.std.proofs.lemmas.Bool.Decides.{leb_tells, eqb_tells}
 use Rattle.std.proofs.lemmas.List.{length-set}
 use Rattle.book_rules.specs.declared.book.SlotState.{SlotState}
@@ -16,7 +16,7 @@ use Rattle.book_core.specs.declared.reply.Reply.{Reply}
 use Rattle.book_core.specs.Replies.{Answers}
 use Rattle.solve_workers.specs.Holding.{IsDone, IsTidied}
 use Rattle.solve_workers.proofs.ToldLemmas.{Answer}
-use Rattle.solve_workers.proofs.FreeLemmas.{clash, none-at}
+use Rattle.solve_workers.proofs.FreeLemmas.{none-at}
 use Rattle.closing_rules.specs.declared.grounds.Ground.TheVariants as by
 
 abbrev Out : Type 0
@@ -38,14 +38,14 @@ module _ (b : Book) (id : ℕ) (free : HoldsNothing b) where
       → TidyOut b id (Step.close_unless b id by.Bound (cond t (Some (machine.Cheaper (slot_at b id).bound (best_cost b))) None))
   by_low parked true e = elim (leb_tells (suc (slot_at b id).bound) (best_cost b)) [
     | inl y ↦ Leaves (λ c p is. y.1) refl
-    | inr n ↦ absurd (clash (sym e ∙ n.0))
+    | inr n ↦ absurd (true≢false (sym e ∙ n.0))
   ]
   by_low parked false e = Closes parked refl
 
   by_parked : (t : Bool) → is_parked (slot_at b id).state ≡ t
       → TidyOut b id (cond (not t) (b, machine.NotHeld id) (Step.close_unless b id by.Bound (Step.refusal_of b id by.Bound)))
   by_parked true e = by_low e _ refl
-  by_parked false e = Leaves (λ c p is. absurd (clash (sym (ap is_parked is) ∙ e))) refl
+  by_parked false e = Leaves (λ c p is. absurd (true≢false (sym (ap is_parked is) ∙ e))) refl
 
   tidy-out : TidyOut b id (Step.close_step b id by.Bound)
   tidy-out =
@@ -59,7 +59,7 @@ module _ (b : Book) (id : ℕ) (parked : is_parked (slot_at b id).state ≡ true
   shut = Step.closed b id by.Bound
 
   here : id < length b.slots
-  here = state-known b id (slot_at b id).state refl (λ e. clash (sym parked ∙ ap is_parked e))
+  here = state-known b id (slot_at b id).state refl (λ e. true≢false (sym parked ∙ ap is_parked e))
 
   long : length shut.slots ≡ length b.slots
   long = length-set b.slots id (record (slot_at b id) { state = slot.Closed by.Bound })
@@ -83,7 +83,7 @@ module _ (b : Book) (id : ℕ) (parked : is_parked (slot_at b id).state ≡ true
         id = spent.id;
         known = let l = long in let k = spent.known in omega (arith, l, k);
         fresh = elim (turned-at b id (slot.Closed by.Bound) here spent.id) [
-          | Turned is e ↦ absurd (clash (sym parked ∙ ap (λ n. is_parked (slot_at b n).state) (sym is) ∙ ap is_parked spent.fresh))
+          | Turned is e ↦ absurd (true≢false (sym parked ∙ ap (λ n. is_parked (slot_at b n).state) (sym is) ∙ ap is_parked spent.fresh))
           | Untouched other e ↦ ap (λ (s : Slot). s.state) e ∙ spent.fresh
         ];
       });
@@ -92,13 +92,13 @@ module _ (b : Book) (id : ℕ) (parked : is_parked (slot_at b id).state ≡ true
 
   parked-old : (k c p : ℕ) → (slot_at shut k).state ≡ slot.Parked c p → ((slot_at b k).state ≡ slot.Parked c p) × ((slot_at shut k).bound ≡ (slot_at b k).bound)
   parked-old k c p is = elim (turned-at b id (slot.Closed by.Bound) here k) [
-    | Turned same e ↦ absurd (clash (ap is_parked (sym is) ∙ ap (λ (s : Slot). is_parked s.state) e))
+    | Turned same e ↦ absurd (true≢false (ap is_parked (sym is) ∙ ap (λ (s : Slot). is_parked s.state) e))
     | Untouched other e ↦ (sym (ap (λ (s : Slot). s.state) e) ∙ is, ap (λ (s : Slot). s.bound) e)
   ]
 
   off-now : (c p : ℕ) → (slot_at shut id).state ≡ slot.Parked c p → ⊥
   off-now c p is = elim (turned-at b id (slot.Closed by.Bound) here id) [
-    | Turned same e ↦ clash (ap is_parked (sym is) ∙ ap (λ (s : Slot). is_parked s.state) e)
+    | Turned same e ↦ true≢false (ap is_parked (sym is) ∙ ap (λ (s : Slot). is_parked s.state) e)
     | Untouched other e ↦ other refl
   ]
 

@@ -2,8 +2,8 @@ use Rattle.std.proofs.Common.{◌≡◌, ◌+◌, suc, length, inl, inr, sym, ap
 use Rattle.lock_model.specs.declared.group.Group.{Group}
 use Rattle.price_bound.specs.Cuts.{plain_cuts}
 use Rattle.price_bound.specs.Growing.{IsGrown, AreGrown}
-use Rattle.price_bound.specs.Choosing.{HaveSome, PutsGroup}
-use Rattle.price_bound.proofs.ChoiceLemmas.{grown-uncut, some-skip, some-next, some-done}
+use Rattle.price_bound.specs.Choosing.{HaveSome, IsVain, PutsGroup}
+use Rattle.price_bound.proofs.ChoiceLemmas.{grown-uncut, some-skip, some-next, some-vain, some-done}
 use Rattle.price_bound.proofs.choosing.add_grown.Goals as goal
 
 pub add_group-requires-clause-uncut : goal.add_group-requires-clause-uncut
@@ -35,8 +35,12 @@ loop-group-preserved c =
           subst (HaveSome I case.chamber (plain_cuts case.instance.now case.cuts.now) case.depth case.prices.now case.line.now c.args.joins groups (suc i) c.args.choices.now.items) (sym none.1)
           (some-skip I case.depth case.prices.now case.chamber (plain_cuts case.instance.now case.cuts.now) case.line.now sets c.requires.sets c.args.base.now c.args.joins groups grown i c.group-item.result c.args.choices.now.items c.loop-group.choices.items c.loop-group-test.true
           (ap (λ (g : Group). length g.ships) (sym c.group-item.is) ∙ none.0) have)
-      | inr one ↦
+      | inr (inl one) ↦
           some-next I case.depth case.prices.now case.chamber (plain_cuts case.instance.now case.cuts.now) case.line.now sets c.requires.sets c.args.base.now c.args.joins groups grown i c.group-item.result c.args.choices.now.items c.loop-group.choices.items c.add_group.new.choices.items one.0 c.loop-group-test.true one.1 (one.2 ∙ c.group-item.is) have one.3
+      | inr (inr vain) ↦
+          subst (HaveSome I case.chamber (plain_cuts case.instance.now case.cuts.now) case.depth case.prices.now case.line.now c.args.joins groups (suc i) c.args.choices.now.items) (sym vain.1)
+          (some-vain I case.depth case.prices.now case.chamber (plain_cuts case.instance.now case.cuts.now) case.line.now sets c.requires.sets c.args.base.now c.args.joins groups grown i c.group-item.result c.args.choices.now.items c.loop-group.choices.items c.loop-group-test.true
+          (subst (IsVain I case.chamber case.depth case.prices.now 0 c.args.joins) c.group-item.is vain.0) have)
     ])
 
 pub returns : goal.returns

@@ -10,7 +10,7 @@ count-requires-clause-is c =
     let table = c.args.table.now in
     let case = table.case.now in
     let I = case.instance.now in
-    let each = listed-each I case.chamber case.chamber_in (plain_cuts I case.cuts.now) case.depth case.prices.now case.line.now table.last table.choices.now table.lates.now c.args.frame.now.state.minute c.requires.choices.enough.each c.requires.choices.late_enough in
+    let each = listed-each I case.chamber case.chamber_in (plain_cuts I case.cuts.now) case.depth case.prices.now case.line.now table.last table.choices.now table.lates.now c.requires.choices c.args.frame.now.state.minute in
     let own = subst (All (IsChoice I case.chamber (plain_cuts I case.cuts.now) case.depth case.prices.now case.line.now)) (sym c.list-choices.ensures) each in
     subst (IsChoice I case.chamber (plain_cuts I case.cuts.now) case.depth case.prices.now case.line.now) (sym c.index-choices-place.is) (own c.loop-place.place c.index-choices-place.result c.loop-place-test.true)
 

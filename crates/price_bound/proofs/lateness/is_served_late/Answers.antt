@@ -1,4 +1,4 @@
-use Rattle.std.proofs.Common.{Contains, sym, rules}
+use Rattle.std.proofs.Common.{sym, rules}
 use Rattle.price_bound.specs.Choosing.{ServesLate}
 use Rattle.price_bound.proofs.lateness.is_served_late.Goals as goal
 

@@ -1,4 +1,4 @@
-use Rattle.std.proofs.Common.{◌≡◌, ◌-◌, ◌≤◌, length, take, drop, All, Contains, sym, subst, arith}
+use Rattle.std.proofs.Common.{◌≡◌, ◌-◌, length, take, drop, All, sym, subst, arith}
 use Rattle.std.proofs.lemmas.List.{take_all, length-drop}
 use Rattle.std.proofs.lemmas.List.Elements.{All-drop}
 use Rattle.price_bound.specs.Cuts.{plain_cuts}

@@ -3,6 +3,7 @@ use Rattle.std.proofs.lemmas.Int.{ints}
 use Rattle.price_bound.specs.Cuts.{plain_cuts}
 use Rattle.price_bound.specs.Choosing.{IsChoice, IsCounted}
 use Rattle.price_bound.proofs.FrameLemmas.{value-far}
+use Rattle.price_bound.proofs.LateLemmas.{counted-covered}
 use Rattle.price_bound.proofs.WalkLemmas.{value-below, none-more, counted-next}
 use Rattle.price_bound.proofs.walking.next_choice.Goals as goal
 
@@ -25,7 +26,7 @@ next_by-requires-clause-is c =
     let table = c.args.table.now in
     let case = table.case.now in
     let I = case.instance.now in
-    subst (IsChoice I case.chamber (plain_cuts I case.cuts.now) case.depth case.prices.now case.line.now) (sym c.choice-item.is) (c.requires.choices.enough.each c.loop-choice.choice-index c.choice-item.result c.loop-choice-test.true)
+    subst (IsChoice I case.chamber (plain_cuts I case.cuts.now) case.depth case.prices.now case.line.now) (sym c.choice-item.is) (c.requires.choices.early_enough.each c.loop-choice.choice-index c.choice-item.result c.loop-choice-test.true)
 
 pub loop-choice-init : goal.loop-choice-init
 loop-choice-init c = record { values = c.requires.values; counted = λ j d none here. absurd (omega (arith, none)) }
@@ -53,6 +54,7 @@ returns-clause-none c =
     let v = from.value in
     let far = value-far v table.horizon from.state.minute table.small c.requires.value.low c.requires.value.high in
     let over : v <ℤ c.alone.result = omega (arith, ints, c.if-alone-from.false, told.low, told.high, far.0, far.1) in
-    absurd (none-more I case.chamber case.chamber_in (plain_cuts I case.cuts.now) case.depth case.prices.now case.line.now table.uncut case.kept table.horizon table.choices.now c.requires.choices.enough from.state.place from.state.stand from.state.minute v c.requires.value
+    absurd (none-more I case.chamber case.chamber_in (plain_cuts I case.cuts.now) case.depth case.prices.now case.line.now table.uncut case.kept table.horizon c.requires.choices.choices c.requires.choices.enough from.state.place from.state.stand from.state.minute v c.requires.value
     (subst (λ x. v <ℤ x) told.value over)
-    (λ h held. subst (IsCounted I case.chamber (plain_cuts I case.cuts.now) case.depth case.prices.now case.line.now from.state.stand from.state.minute from.state.place (v +ℤ pos 1)) held.2 (c.loop-choice.invariant.counted held.0 h (omega (arith, held.1, c.loop-choice-test.false, c.loop-choice.auto.choice-index-end)) held.1)))
+    (counted-covered I case.chamber case.chamber_in (plain_cuts I case.cuts.now) case.depth case.prices.now case.line.now from.state.stand from.state.minute from.state.place (v +ℤ pos 1) 0 c.requires.choices.choices table.choices.now (omega arith) c.requires.choices.enough.each c.requires.choices.early_enough
+    (λ h held. subst (IsCounted I case.chamber (plain_cuts I case.cuts.now) case.depth case.prices.now case.line.now from.state.stand from.state.minute from.state.place (v +ℤ pos 1)) held.2 (c.loop-choice.invariant.counted held.0 h (omega (arith, held.1, c.loop-choice-test.false, c.loop-choice.auto.choice-index-end)) held.1))))
