@@ -2,6 +2,7 @@
 use Rattle.std.proofs.Common.{◌≡◌, ℕ, zero, suc, ◌<◌, ◌-◌, List, [], ◌∷◌, refl, sym, ap, ◌∙◌, subst, length, take, ◌⊎◌, inl, inr, slice_index_or, arith, get_or-take}
 use Rattle.std.proofs.lemmas.Bool.Decides.{leb_tells}
 use Rattle.std.proofs.lemmas.List.{get_or_default, length-take}
+use Rattle.list_laws.proofs.Lists.{same-tails, same-heads}
 use Rattle.lock_model.specs.declared.instance.Instance.{Instance}
 use Rattle.lock_model.specs.declared.group.Group.{Group}
 use Rattle.lock_model.specs.declared.plan.Plan.{Plan}
@@ -16,7 +17,7 @@ use Rattle.closing_rules.specs.ProvedCuts.{CertCut, IsShaped, IsProved}
 use Rattle.closing_rules.specs.ListedPrices.{AreShapedPrices}
 use Rattle.certificate_rules.specs.Certificates.{Certificate, Closes, IsMarkTree}
 use Rattle.certificate_rules.specs.Failures.{FailInOrder, FailsHere, TreeFails, MarksFail, CutFails, PricesFail, FailsAt, reason_of, Fails}
-use Rattle.certificate_rules.proofs.FailLemmas.{heads, tails, tree-unique, tree-not_fails}
+use Rattle.certificate_rules.proofs.FailLemmas.{tree-unique, tree-not_fails}
 use Rattle.cert_check.specs.FirstFailure.{AreSameFailure}
 
 -- the same marks are left, and the reason is the same
@@ -46,7 +47,7 @@ module _ {M : Type 0} (I : Instance) (split : M) (Closing : ℕ → List (List G
 
   here-not_split : (k : ℕ) (lines : List (List Group)) (marks s inner : List M) (p : Reason) → FailsHere (λ m. Closing k lines m ⊎ (m ≡ split)) reason_by marks s p → marks ≡ split ∷ inner → ⊥
   here-not_split k lines [] s inner p f e = absurd cc
-  here-not_split k lines (m ∷ ms) s inner p f e = f.1 (inr (heads m split ms inner e))
+  here-not_split k lines (m ∷ ms) s inner p f e = f.1 (inr (same-heads m split ms inner e))
 
   tree-same : (lacking k : ℕ) (lines : List (List Group)) (marks s t : List M) (p q : Reason) → Failing lacking k lines marks s p → Failing lacking k lines marks t q → AreSame s t p q
   tree-same zero k lines marks s t p q a b = here-same (Closing k lines) reason_by marks s t p q a b
@@ -54,7 +55,7 @@ module _ {M : Type 0} (I : Instance) (split : M) (Closing : ℕ → List (List G
   tree-same (suc lacking) k lines marks s t p q (inl a) (inr b) = absurd (here-not_split k lines marks s b.0 p a b.1)
   tree-same (suc lacking) k lines marks s t p q (inr a) (inl b) = absurd (here-not_split k lines marks t a.0 q b a.1)
   tree-same (suc lacking) k lines marks s t p q (inr a) (inr b) =
-      let same : a.0 ≡ b.0 = tails split split a.0 b.0 (sym a.1 ∙ b.1) in
+      let same : a.0 ≡ b.0 = same-tails split split a.0 b.0 (sym a.1 ∙ b.1) in
       let Tree = IsMarkTree I split Closing lacking (suc k) in
       in_order-same Tree (Failing lacking (suc k))
       (λ x m r u. tree-unique I split Closing reason_by no_split lacking (suc k) x m r u)

@@ -1,5 +1,6 @@
 -- What is read of a node from its mark, or from what is read of its children one by one.
-use Rattle.std.proofs.Common.{◌≡◌, ◌↔◌, ℕ, Bool, true, false, IsTrue, nat_le, suc, ◌+◌, ◌-◌, ◌<◌, ◌≤◌, List, [], ◌∷◌, ◌++◌, refl, sym, ap, ◌∙◌, subst, length, take, drop, inl, inr, arith, slice_get, Some, take-append-drop, drop-cons}
+use Rattle.std.proofs.Common.{◌≡◌, ◌↔◌, ℕ, Bool, IsTrue, nat_le, suc, ◌+◌, ◌-◌, ◌<◌, ◌≤◌, List, [], ◌∷◌, ◌++◌, refl, sym, ap, ◌∙◌, subst, length, take, drop, inl, inr, arith, slice_get, Some, take-append-drop, drop-cons}
+use Rattle.std.proofs.lemmas.Bool.{false≢true}
 use Rattle.std.proofs.lemmas.Bool.Decides.{leb_tells}
 use Rattle.std.proofs.lemmas.List.{take_more, take_all}
 use Rattle.std.proofs.lemmas.Option.{slice_get-get_or}
@@ -20,14 +21,11 @@ use Rattle.cert_check.specs.declared.closing.Claim.{Claim}
 use Rattle.cert_check.proofs.TreeLemmas.{in_order-append, in_order-fails, lacks-one, leaf-tree, wrong-tree, tree-shorter, stuck-shorter}
 use Rattle.closing_rules.specs.declared.grounds.Ground.TheVariants as by
 
-off : false ≡ true → ⊥
-off e = cc
-
 -- a test of a bound tells whether it reaches the cost
 pub told-reached : (cost bound : ℕ) (b : Bool) → b ≡ nat_le cost bound → IsTrue b ↔ (cost ≤ bound)
 told-reached cost bound b is = elim (leb_tells cost bound) [
   | inl most ↦ (λ _. most.1, λ _. is ∙ most.0)
-  | inr less ↦ (λ on. absurd (off (sym less.0 ∙ sym is ∙ on)), λ most. absurd (omega (arith, most, less.1)))
+  | inr less ↦ (λ on. absurd (false≢true (sym less.0 ∙ sym is ∙ on)), λ most. absurd (omega (arith, most, less.1)))
 ]
 
 module _ (claim : Claim) where

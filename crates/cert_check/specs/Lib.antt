@@ -1,3 +1,4 @@
+pub mod Splitting
 pub mod Reading
 pub mod Hitting
 pub mod Cuts

@@ -1,8 +1,6 @@
 -- Reading the marks of a certificate: what is read of a node and of its children, and where reading sticks.
-use Rattle.std.specs.Prelude.{ℕ, suc, ◌-◌, ◌+◌, ◌≡◌, List, length, take, map, Bool, nat_le, IfSome}
-use Rattle.std.specs.declared.option.Option.{Option}
+use Rattle.std.specs.Prelude.{ℕ, suc, ◌-◌, List, length, take}
 use Rattle.lock_model.specs.declared.group.Group.{Group}
-use Rattle.lock_rules.specs.Bound.{bound_of}
 use Rattle.refute_rules.specs.Trees.{AreInOrder}
 use Rattle.certificate_rules.specs.declared.certificate.Mark.{Mark}
 use Rattle.certificate_rules.specs.declared.certificate.Mark.TheVariants as mark
@@ -43,11 +41,3 @@ module _ (claim : Claim) where
   -- reading trees of all children of a node ends at `stuck` for a reason
   pub record AreStuck (node : Node) (marks stuck : List Mark) (r : Reason) : Type 0 where
     pub stick : FailInOrder (IsTreeOf (suc node.depth)) (TreeSticks (suc node.depth)) (children claim.instance.now node) marks stuck r
-
-  -- of each child of a node, in order, whether its bound reaches the cost
-  abbrev pub reached_below : Node → List Bool
-  reached_below node = map (λ lines. nat_le claim.cost (bound_of claim.instance.now (node.depth + 1) lines)) (children claim.instance.now node)
-
-  -- that is told, or nothing is
-  pub record AreTold (node : Node) (told : Option (List Bool)) : Type 0 where
-    pub reached : IfSome told (λ rs. rs ≡ reached_below node)

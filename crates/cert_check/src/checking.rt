@@ -18,7 +18,7 @@ use crate::reading::read_tree;
 use certificate_rules::{FailurePlace, Mark, Reason};
 use chamber_times::cost;
 use deck_laws::{heredity, normal_form};
-use flow_bounds::{Roster, throughput};
+use flow_bounds::{NodeWalks, Roster, throughput};
 use lock_model::{Instance, Plan};
 use master_branch::root;
 use mooring_rules::judge_plan;
@@ -47,7 +47,8 @@ fn first_wrong_mark(claim: &Claim, marks: &[Mark]) -> Result<Option<(u64, Reason
     ensures none { IfOk result (λ first. IfNone first (IsMarkTree claim.now.instance.now Mark.Split (Closes claim.now.instance.now claim.now.cost claim.now.cuts.now claim.now.prices.now) (length claim.now.instance.now.ships) 0 root_lines marks.now [])) }
     ensures some { IfOk result (λ first. IfSome first (λ f. FailAtMark claim.now.instance.now claim.now.cost claim.now.cuts.now claim.now.prices.now marks.now f.0 f.1)) }
 {
-    match read_tree(claim, &root(claim.instance), marks)? {
+    let mut walks = NodeWalks::new();
+    match read_tree(claim, &root(claim.instance), marks, &mut walks)? {
         Ok([]) => Ok(None),
         Ok(rest) => Ok(Some(((marks.len() - rest.len()) as u64, Reason::TreeLong))),
         Err(stuck) => Ok(Some(((marks.len() - stuck.marks.len()) as u64, stuck.reason))),

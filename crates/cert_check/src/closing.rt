@@ -1,7 +1,8 @@
 //! Which marks close a node.
-ghost use Rattle.std.specs.Prelude.{◌≡◌, ◌<◌, ◌↔◌, length, All, IsTrue, IfOk};
+ghost use Rattle.std.specs.Prelude.{◌≡◌, ◌<◌, ◌≤◌, ◌↔◌, length, All, IsTrue, IfOk};
 ghost use Rattle.std.specs.Bool.{OnTrue};
 ghost use Rattle.lock_rules.specs.Throughput.{throughput_of};
+ghost use Rattle.lock_rules.specs.Bound.{probe_of};
 ghost use Rattle.master_branch.specs.Node.{IsNodeOf};
 ghost use Rattle.lock_rules.specs.Arrival.{next_ship};
 ghost use Rattle.flow_bounds.specs.Roster.{IsRosterOf};
@@ -14,9 +15,9 @@ use crate::certificate::CertCut;
 use crate::hitting::hits_node;
 use certificate_rules::{Mark, Reason};
 use closing_rules::Ground;
-use flow_bounds::{Roster, bound, children_reaching, is_missing, probe};
+use flow_bounds::{NodeWalks, Roster, bound, children_reaching, is_missing, probe};
 use lock_model::Instance;
-use master_branch::Node;
+use master_branch::{Node, steps_by};
 use plain_text::NoMemory;
 use price_bound::{ChamberCut, Limits, PricedNode, Prices, reaches};
 use std::alloc::Global;
@@ -57,14 +58,33 @@ fn is_next(claim: &Claim, node: &Node, ship: u8) -> bool
         && claim.roster.ship(claim.instance, node.depth()) == ship
 }
 
+// Whether the bounds of all children of a node reach the cost; `ship` is the one that it lacks first.
+fn all_reach(claim: &Claim, node: &Node, ship: u8, walks: &mut NodeWalks) -> bool
+    requires node { IsNodeOf claim.now.instance.now node.now }
+    requires lacks { node.now.depth < length claim.now.instance.now.ships }
+    requires next { ship ≡ next_ship claim.now.instance.now node.now.depth }
+    ensures { IsTrue result ↔ (claim.now.cost ≤ probe_of claim.now.instance.now node.now.depth node.now.lines ship) }
+{
+    let steps = steps_by(claim.instance, node, ship);
+    children_reaching(
+        claim.instance,
+        claim.roster,
+        node,
+        &steps,
+        claim.cost,
+        walks,
+    )
+    .all()
+}
+
 // Whether the node lacks this ship, and its probe reaches the cost. Of the ship that it lacks first
 // the roster spares work, and nearly all that are asked for are that one.
-fn is_probed(claim: &Claim, node: &Node, ship: u8) -> bool
+fn is_probed(claim: &Claim, node: &Node, ship: u8, walks: &mut NodeWalks) -> bool
     requires { IsNodeOf claim.now.instance.now node.now }
     ensures { IsTrue result ↔ Closes claim.now.instance.now claim.now.cost claim.now.cuts.now claim.now.prices.now node.now.depth node.now.lines (Mark.Leaf (Ground.Probe ship)) }
 {
     if is_next(claim, node, ship) {
-        return children_reaching(claim.instance, claim.roster, node, claim.cost).all();
+        return all_reach(claim, node, ship, walks);
     }
     is_missing(claim.instance, node, ship) && probe(claim.instance, node, ship) >= claim.cost
 }
@@ -96,27 +116,37 @@ fn is_priced_by(claim: &Claim, node: &Node, number: u64) -> Result<bool, NoMemor
 }
 
 // Whether the node is closed so.
-fn is_closed_by(claim: &Claim, node: &Node, why: Ground) -> Result<bool, NoMemory>
+fn is_closed_by(
+    claim: &Claim,
+    node: &Node,
+    why: Ground,
+    walks: &mut NodeWalks,
+) -> Result<bool, NoMemory>
     requires { IsNodeOf claim.now.instance.now node.now }
     ensures { IfOk result (λ closed. IsTrue closed ↔ Closes claim.now.instance.now claim.now.cost claim.now.cuts.now claim.now.prices.now node.now.depth node.now.lines (Mark.Leaf why)) }
 {
     match why {
         Ground::Bound => Ok(bound(claim.instance, node) >= claim.cost),
         Ground::Throughput => Ok(claim.throughput >= claim.cost),
-        Ground::Probe(ship) => Ok(is_probed(claim, node, ship)),
+        Ground::Probe(ship) => Ok(is_probed(claim, node, ship, walks)),
         Ground::Cut(number) => Ok(is_cut_by(claim, node, number)),
         Ground::Price(number) => is_priced_by(claim, node, number),
     }
 }
 
 /// Whether a mark closes the node. Refuses want of memory alone, and only of a price mark.
-pub fn closes(claim: &Claim, node: &Node, mark: Mark) -> Result<bool, NoMemory>
+pub fn closes(
+    claim: &Claim,
+    node: &Node,
+    mark: Mark,
+    walks: &mut NodeWalks,
+) -> Result<bool, NoMemory>
     requires { IsNodeOf claim.now.instance.now node.now }
     ensures { IfOk result (λ closed. IsTrue closed ↔ Closes claim.now.instance.now claim.now.cost claim.now.cuts.now claim.now.prices.now node.now.depth node.now.lines mark) }
 {
     match mark {
         Mark::Split => Ok(false),
-        Mark::Leaf(why) => is_closed_by(claim, node, why),
+        Mark::Leaf(why) => is_closed_by(claim, node, why, walks),
     }
 }
 

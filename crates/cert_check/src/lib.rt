@@ -10,13 +10,13 @@
 //!
 //! The parts of the check serve checkers of other certificates: `first_failure_before_marks` (the
 //! plan, the cost, the cuts and the prices), and against a `Claim`, with `chamber_cuts` for it,
-//! `closes` and `reason_against` (one mark at a node), `child_reaches` and `child_of` (the children of
-//! a node).
+//! `closes` and `reason_against` (one mark at a node), `split`, `count_children`, `child_reaches` and
+//! `child_of` (the children of a node).
 //!
 //! Definitions: `certificate_rules` says which certificates are accepted (`specs/Certificates`)
 //! and where one fails first (`Failures`). Here `specs/Cuts` says what is wrong with a cut,
-//! `Hitting` what a cut hits line by line, `Reading` what is read of a node and of its children,
-//! and `FirstFailure` what the law is.
+//! `Hitting` what a cut hits line by line, `Splitting` what is told of a node that is split, `Reading`
+//! what is read of a node and of its children, and `FirstFailure` what the law is.
 #![tactic(auto)]
 
 mod certificate;
@@ -27,6 +27,7 @@ mod hitting;
 mod laws;
 mod prices;
 mod reading;
+mod splitting;
 
 pub use certificate::{Answer, CertCut, CertCuts, Certificate, MarkList, PriceLists};
 pub use certificate_rules::{FailurePlace, Mark, Reason};
@@ -35,4 +36,4 @@ pub use closing::{Claim, closes, reason_against};
 pub use closing_rules::Ground;
 pub use laws::one_first_failure;
 pub use prices::chamber_cuts;
-pub use reading::{child_of, child_reaches};
+pub use splitting::{SplitNode, child_of, child_reaches, count_children, split};

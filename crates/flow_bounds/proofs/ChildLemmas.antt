@@ -1,5 +1,6 @@
 -- The probe of the next ship is the least bound of the children.
-use Rattle.std.proofs.Common.{◌≡◌, ℕ, suc, ◌+◌, ◌<◌, ◌≤◌, List, [], ◌∷◌, length, map, sum_by, drop, All, IsTrue, nat_le, true, false, inl, inr, refl, arith, ap, sym, ◌∙◌, slice_set}
+use Rattle.std.proofs.Common.{◌≡◌, ℕ, suc, ◌+◌, ◌<◌, ◌≤◌, List, [], ◌∷◌, length, map, sum_by, drop, All, IsTrue, nat_le, inl, inr, refl, arith, ap, sym, ◌∙◌, slice_set, le-leb}
+use Rattle.std.proofs.lemmas.Bool.{false≢true}
 use Rattle.std.proofs.lemmas.Bool.Decides.{leb_tells}
 use Rattle.std.proofs.lemmas.List.Elements.{All-head, All-tail, All-cons, All-nil}
 use Rattle.std.proofs.Math.Seq.{drop-cons}
@@ -51,32 +52,23 @@ least-child I k lines node less =
       others-sum (least_passage I) s (missing_ships I k) once,
     )
 
-off : false ≡ true → ⊥
-off e = cc
-
-reaches : (n m : ℕ) → n ≤ m → nat_le n m ≡ true
-reaches n m most = elim (leb_tells n m) [
-  | inl yes_it ↦ yes_it.0
-  | inr less ↦ absurd (omega (arith, most, less.1))
-]
-
 -- a number is at most the least of some numbers exactly where it is at most each
 reached-least : {X : Type 0} (f : X → ℕ) (n : ℕ) (x : X) (xs : List X) → All (λ r. IsTrue r) (map (λ y. nat_le n (f y)) (x ∷ xs)) → n ≤ least_number (map f (x ∷ xs))
 reached-least f n x [] all = elim (leb_tells n (f x)) [
   | inl most ↦ most.1
-  | inr less ↦ absurd (off (sym less.0 ∙ All-head (λ r. IsTrue r) (nat_le n (f x)) [] all))
+  | inr less ↦ absurd (false≢true (sym less.0 ∙ All-head (λ r. IsTrue r) (nat_le n (f x)) [] all))
 ]
 reached-least f n x (y ∷ ys) all =
     let rest = reached-least f n y ys (All-tail (λ r. IsTrue r) (nat_le n (f x)) (map (λ y. nat_le n (f y)) (y ∷ ys)) all) in
     elim (leb_tells n (f x)) [
       | inl most ↦ omega (arith, most.1, rest)
-      | inr less ↦ absurd (off (sym less.0 ∙ All-head (λ r. IsTrue r) (nat_le n (f x)) (map (λ y. nat_le n (f y)) (y ∷ ys)) all))
+      | inr less ↦ absurd (false≢true (sym less.0 ∙ All-head (λ r. IsTrue r) (nat_le n (f x)) (map (λ y. nat_le n (f y)) (y ∷ ys)) all))
     ]
 
 least-reached : {X : Type 0} (f : X → ℕ) (n : ℕ) (x : X) (xs : List X) → n ≤ least_number (map f (x ∷ xs)) → All (λ r. IsTrue r) (map (λ y. nat_le n (f y)) (x ∷ xs))
-least-reached f n x [] most = All-cons (λ r. IsTrue r) (nat_le n (f x)) [] (reaches n (f x) most) (All-nil (λ r. IsTrue r))
+least-reached f n x [] most = All-cons (λ r. IsTrue r) (nat_le n (f x)) [] (le-leb n (f x) most) (All-nil (λ r. IsTrue r))
 least-reached f n x (y ∷ ys) most =
-    All-cons (λ r. IsTrue r) (nat_le n (f x)) (map (λ y. nat_le n (f y)) (y ∷ ys)) (reaches n (f x) (omega (arith, most))) (least-reached f n y ys (omega (arith, most)))
+    All-cons (λ r. IsTrue r) (nat_le n (f x)) (map (λ y. nat_le n (f y)) (y ∷ ys)) (le-leb n (f x) (omega (arith, most))) (least-reached f n y ys (omega (arith, most)))
 
 reached-some : {X : Type 0} (f : X → ℕ) (n : ℕ) (xs : List X) (x : X) → IsAmong xs x → All (λ r. IsTrue r) (map (λ y. nat_le n (f y)) xs) → n ≤ least_number (map f xs)
 reached-some f n [] x none all = absurd none

@@ -1,6 +1,7 @@
 -- The passages from a chamber on, by that chamber.
-use Rattle.std.proofs.Common.{ℕ, suc, sum_by, ◌≡◌, ◌≤◌, ◌<◌, ◌+◌, ◌-◌, ◌∙◌, ◌∷◌, [], List, length, map, filter, true, false, cond, ap, refl, arith}
+use Rattle.std.proofs.Common.{ℕ, suc, sum_by, ◌≡◌, ◌≤◌, ◌<◌, ◌+◌, ◌-◌, ◌∙◌, ◌∷◌, [], length, map, filter, true, false, cond, ap, arith}
 use Rattle.std.proofs.lemmas.List.Sums.{sum_by-cons}
+use Rattle.list_laws.proofs.Lists.{filter-all}
 use Rattle.lock_model.specs.declared.instance.Instance.{Instance}
 use Rattle.lock_rules.specs.Arrival.{numbers_from}
 use Rattle.lock_model.specs.Fleet.{ship_at, chamber_at}
@@ -42,10 +43,6 @@ ends_after_arrival I s c known =
 pub passage_is : (I : Instance) (s c : ℕ) → passage_on I s c ≡ first_end I s c - (ship_at I s).arrival
 passage_is I s c = omega (arith, sum_by-cons (λ t. first_end I s c - (ship_at I t).arrival) s [])
 
-filter-every : (xs : List ℕ) → filter (λ x. true) xs ≡ xs
-filter-every [] = refl
-filter-every (x ∷ xs) = ap (λ rest. x ∷ rest) (filter-every xs)
-
 -- NO LEGAL PLAN COSTS LESS THAN THE LEAST PASSAGES OF ITS SHIPS.
 pub no_plan_costs_less : (I : Instance) (P : Plan) → IsLegal I P → sum_by (least_passage I) (order_of I) ≤ cost_of I P
-no_plan_costs_less I P legal = omega (arith, kept-bound I (λ s. false) P legal, ap (sum_by (least_passage I)) (filter-every (order_of I)))
+no_plan_costs_less I P legal = omega (arith, kept-bound I (λ s. false) P legal, ap (sum_by (least_passage I)) (filter-all (order_of I)))

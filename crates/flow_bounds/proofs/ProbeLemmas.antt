@@ -1,5 +1,5 @@
 -- What a node's ships take once one more ship has entered one of its lines.
-use Rattle.std.proofs.Common.{◌≡◌, ◌≢◌, ℕ, zero, suc, ◌+◌, ◌-◌, ◌<◌, ◌≤◌, List, [], ◌∷◌, ◌++◌, length, sum_by, map, filter, take, drop, not, nat_eq, cond, refl, arith, ap, subst, ◌∙◌, sym, inl, inr, slice_index_or, slice_set, get_or-set_same, get_or-set_other, ne_eqb}
+use Rattle.std.proofs.Common.{◌≡◌, ◌≢◌, ℕ, zero, suc, ◌+◌, ◌-◌, ◌<◌, ◌≤◌, List, [], ◌∷◌, ◌++◌, length, All, sum_by, map, filter, take, drop, not, nat_eq, cond, refl, arith, ap, subst, ◌∙◌, sym, inl, inr, slice_index_or, slice_set, get_or-set_same, get_or-set_other, ne_eqb}
 use Rattle.std.specs.List.{insert}
 use Rattle.std.proofs.lemmas.Bool.Decides.{eqb_tells, leb_tells}
 use Rattle.std.proofs.lemmas.List.{take-append-drop, take_rest, take_more, map_push}
@@ -17,7 +17,8 @@ use Rattle.flow_bounds.specs.Missing.{IsMissing}
 use Rattle.flow_bounds.specs.declared.walk.Walk.{Walk}
 use Rattle.master_branch.specs.declared.step.Step.{Step}
 use Rattle.master_branch.specs.declared.step.Step.TheVariants.{Join, Open}
-use Rattle.master_branch.specs.Steps.{IsStep}
+use Rattle.master_branch.specs.Steps.{steps_by, IsStep}
+use Rattle.master_branch.proofs.StepLemmas.{steps-each}
 use Rattle.flow_bounds.specs.Walk.{serve, serve_all, walk_at, AreWalks, chamber_of}
 use Rattle.flow_bounds.proofs.WalkLemmas.{walk-set, walk-insert}
 
@@ -173,3 +174,7 @@ rest-is xs ys d k same at = take_rest xs d ∙ (λ i. drop (at i) (same i))
 pub step_chamber : (I : Instance) (s : ℕ) (lines : List (List Group)) (step : Step) → IsStep I s lines step → chamber_of step < length I.chambers
 step_chamber I s lines (Join c p) step = step.0
 step_chamber I s lines (Open c p) step = step.0
+
+-- a ship may take each of its listed steps
+pub listed-step : (I : Instance) (s : ℕ) (lines : List (List Group)) (steps : List Step) → steps ≡ steps_by I s lines → (i : ℕ) (d : Step) → i < length steps → IsStep I s lines (slice_index_or steps i d)
+listed-step I s lines steps listed i d less = subst (All (IsStep I s lines)) (sym listed) (steps-each I s lines) i d less

@@ -4,7 +4,8 @@
 //! a ship that it lacks (`is_missing`), and every legal plan at least `throughput`. At a node that
 //! holds all ships `bound` is the cost of its earliest plan. `child_bounds` gives the bounds of all
 //! children of a node at once, `children_reaching` tells only which of them are at least a cost; a
-//! `Roster` spares both what is the same at all nodes. `least_passage` is the least that a ship can
+//! `Roster` spares both what is the same at all nodes, and `NodeWalks` is room for what the second
+//! works out of a node. `least_passage` is the least that a ship can
 //! take, served first and alone, and `least_passages` adds it over all ships. `least_bound_is_cheapest` is the law that a search rests on: the least bound of the nodes
 //! that hold all ships and whose groups all fit is the cost of a cheapest plan. No call takes
 //! memory.
@@ -22,6 +23,7 @@ mod least;
 mod line_walks;
 mod load;
 mod node_bound;
+mod node_walks;
 mod passage;
 mod places;
 mod probing;
@@ -32,6 +34,7 @@ mod walk;
 pub use capacity::throughput;
 pub use laws::least_bound_is_cheapest;
 pub use node_bound::bound;
+pub use node_walks::NodeWalks;
 pub use passage::{least_passage, least_passages};
 pub use probing::{Bounds, child_bounds, is_missing, probe};
 pub use reaching::{Reached, children_reaching};

@@ -16,8 +16,9 @@ ghost use Rattle.flow_bounds.specs.Along.{IsAlong};
 
 use crate::entering::{chamber_of, enter};
 use crate::least::least_number;
-use crate::line_walks::{LineWalks, finish, walk_along};
+use crate::line_walks::{LineWalks, finish};
 use crate::node_bound::node_flow;
+use crate::node_walks::{flow_along, walk_on};
 use crate::passage::{least_passage, passages_from};
 use crate::roster::Roster;
 use arrayvec::ArrayVec;
@@ -101,9 +102,7 @@ pub(crate) fn other_flows(
     requires total { total ≡ node_flow instance.now node.now.lines }
     ensures { result + line_flow instance.now chamber (line_at node.now.lines chamber) ≡ total }
 {
-    let _ = instance;
-    let groups = node.line(chamber).len();
-    total - along.walks[groups].flow
+    total - flow_along(instance, node, along, chamber)
 }
 
 // The flow times of a node's ships once a ship that it lacks has entered it by a step, by the walks
@@ -132,23 +131,8 @@ fn flow_after(
         + finish(instance, chamber, line, along, entered)
 }
 
-// Walks along the line of a chamber of a node.
-pub(crate) fn walk_on(instance: &Instance, node: &Node, chamber: u8, along: &mut LineWalks)
-    requires node { IsNodeOf instance.now node.now }
-    requires chamber_in { chamber < length instance.now.chambers }
-    ensures { IsAlong instance.now chamber (line_at node.now.lines chamber) along.new }
-{
-    walk_along(instance, chamber, node.line(chamber), along);
-}
-
 // Goes over to the line of this chamber, where the walks are along another's.
-pub(crate) fn turn_to(
-    instance: &Instance,
-    node: &Node,
-    chamber: u8,
-    at: &mut u8,
-    along: &mut LineWalks,
-)
+fn turn_to(instance: &Instance, node: &Node, chamber: u8, at: &mut u8, along: &mut LineWalks)
     requires node { IsNodeOf instance.now node.now }
     requires chamber_in { chamber < length instance.now.chambers }
     requires along { IsAlong instance.now at.old (line_at node.now.lines at.old) along.old }

@@ -1,23 +1,23 @@
 //! Which bounds of a node's children are at least a cost.
 ghost use Rattle.std.specs.Prelude.{◌≡◌, ◌+◌, ◌<◌, ◌≤◌, ◌↔◌, ◌∷◌, ◌++◌, [], length, map, All, IsTrue, nat_le};
 ghost use Rattle.lock_rules.specs.Arrival.{next_ship};
-ghost use Rattle.lock_rules.specs.Node.{line_at, times_held};
+ghost use Rattle.lock_rules.specs.Node.{line_at};
 ghost use Rattle.lock_rules.specs.Children.{children_by};
 ghost use Rattle.lock_rules.specs.Bound.{node_flow, bound_of, probe_of};
 ghost use Rattle.master_branch.specs.Node.{IsNodeOf, children};
-ghost use Rattle.master_branch.specs.Steps.{lines_after, IsStep};
+ghost use Rattle.master_branch.specs.Steps.{lines_after, steps_by, IsStep};
 ghost use Rattle.flow_bounds.specs.Roster.{IsRosterOf};
 ghost use Rattle.flow_bounds.specs.Walk.{chamber_of};
 ghost use Rattle.flow_bounds.specs.Along.{IsAlong};
 
 use crate::entering::{chamber_of, enter};
 use crate::line_walks::{LineWalks, reaches};
-use crate::node_bound::node_flow;
-use crate::probing::{other_flows, turn_to, walk_on};
+use crate::node_walks::{NodeWalks, walk_all};
+use crate::probing::other_flows;
 use crate::roster::Roster;
 use arrayvec::ArrayVec;
 use lock_model::Instance;
-use master_branch::{Node, Step, steps_by};
+use master_branch::{Node, Step, Steps};
 use std::marker::Model;
 
 /// For up to 50 children of a node, in their order, whether each one's bound is at least a cost.
@@ -110,36 +110,55 @@ fn reaches_after(
 #[tactic(auto, using(crate::proofs::ProbeLemmas::step_chamber))]
 // For each way in which a ship that a node lacks may enter it, whether the flow times of the node's
 // ships and the ship are at least `need`.
-fn reached_by(instance: &Instance, node: &Node, ship: u8, need: u64) -> Reached
+fn reached_by(
+    instance: &Instance,
+    node: &Node,
+    steps: &Steps,
+    ship: u8,
+    need: u64,
+    walks: &mut NodeWalks,
+) -> Reached
     requires node { IsNodeOf instance.now node.now }
     requires ship_in { ship < length instance.now.ships }
-    requires absent { times_held ship node.now.lines ≡ 0 }
+    requires steps { steps.now ≡ steps_by instance.now ship node.now.lines }
     ensures { result ≡ map (λ lines. nat_le need (node_flow instance.now lines)) (children_by instance.now ship node.now.lines) }
 {
-    let total = node_flow(instance, node);
-    let mut chamber = 0;
-    let mut along = LineWalks::new();
-    walk_on(instance, node, 0, &mut along);
+    let total = walk_all(instance, node, walks);
     let mut reached = Reached::new();
-    let steps = steps_by(instance, node, ship);
     for &step in steps.as_slice() {
-        turn_to(instance, node, chamber_of(step), &mut chamber, &mut along);
-        reached.push(reaches_after(instance, node, &along, total, ship, step, need));
+        let along = &walks.lines[chamber_of(step) as usize];
+        reached.push(reaches_after(instance, node, along, total, ship, step, need));
     }
     reached
 }
 
 /// For each child of a node that lacks a ship, in order, whether its bound is at least this cost. All
 /// are exactly where the probe of the next ship is. It works out no more of a bound than tells that,
-/// so it takes less than `child_bounds`. Takes no memory.
-pub fn children_reaching(instance: &Instance, roster: &Roster, node: &Node, cost: u64) -> Reached
+/// so it takes less than `child_bounds`. `steps` are those of the next ship, and `walks` are filled
+/// anew. Takes no memory.
+pub fn children_reaching(
+    instance: &Instance,
+    roster: &Roster,
+    node: &Node,
+    steps: &Steps,
+    cost: u64,
+    walks: &mut NodeWalks,
+) -> Reached
     requires roster { IsRosterOf instance.now roster.now }
     requires node { IsNodeOf instance.now node.now }
     requires lacks { node.now.depth < length instance.now.ships }
+    requires steps { steps.now ≡ steps_by instance.now (next_ship instance.now node.now.depth) node.now.lines }
     ensures value { result ≡ map (λ lines. nat_le cost (bound_of instance.now (node.now.depth + 1) lines)) (children instance.now node.now) }
     ensures probe { All (λ reached. IsTrue reached) result ↔ (cost ≤ probe_of instance.now node.now.depth node.now.lines (next_ship instance.now node.now.depth)) }
 {
     let ship = roster.ship(instance, node.depth());
     let rest = roster.rest(instance, node.depth() + 1);
-    reached_by(instance, node, ship, cost.saturating_sub(rest))
+    reached_by(
+        instance,
+        node,
+        steps,
+        ship,
+        cost.saturating_sub(rest),
+        walks,
+    )
 }

@@ -1,6 +1,6 @@
 -- That the lines of a node give their row back, by which nodes are compared. No public contract names it.
-use Rattle.std.proofs.Common.{◌≡◌, ℕ, ◌+◌, ◌-◌, ◌≤◌, List, [], ◌∷◌, ◌++◌, length, drop, refl, sym, ap, ◌∙◌, arith}
-use Rattle.std.proofs.lemmas.List.{length-take, length-drop, take-append-drop, drop-drop}
+use Rattle.std.proofs.Common.{◌≡◌, ℕ, ◌+◌, ◌-◌, ◌≤◌, List, [], ◌∷◌, ◌++◌, length, drop, refl, sym, ap, ◌∙◌, arith, le_refl}
+use Rattle.std.proofs.lemmas.List.{length-take, length-drop, take-append-drop, drop-drop, drop_all}
 use Rattle.lock_model.specs.declared.group.Group.{Group}
 use Rattle.master_branch.specs.Row.{part, cut_from, IsCutFrom, row_of, ends_from}
 
@@ -14,11 +14,7 @@ length-part s e row within = omega (arith, length-take (e - s) (drop s row), len
 
 -- all of the row, and its ends
 pub row-back : (s : ℕ) (row : List Group) (ends : List ℕ) → IsCutFrom s ends (length row) → row_of (cut_from s row ends) ≡ drop s row
-row-back s row [] cut = sym (ap (λ n. drop n row) cut ∙ drop-all row)
-  where
-    drop-all : (xs : List Group) → drop (length xs) xs ≡ []
-    drop-all [] = refl
-    drop-all (x ∷ xs) = drop-all xs
+row-back s row [] cut = sym (ap (λ n. drop n row) cut ∙ drop_all (length row) row (le_refl (length row)))
 row-back s row (e ∷ es) cut =
     let past : s + (e - s) ≡ e = omega (arith, cut.0) in
     let rest : row_of (cut_from e row es) ≡ drop (e - s) (drop s row) = row-back e row es cut.1 ∙ sym (drop-drop (e - s) s row ∙ ap (λ n. drop n row) past) in

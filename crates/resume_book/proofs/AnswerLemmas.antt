@@ -1,5 +1,6 @@
 -- What the answers say, from the first failure of an open certificate or from its low.
 use Rattle.std.proofs.Common.{◌≡◌, ◌↔◌, ℕ, zero, suc, List, [], ◌∷◌, ◌++◌, inl, inr, ◌∙◌, ap, ap₂, sym, subst, length}
+use Rattle.list_laws.proofs.Lists.{same-tails, same-heads}
 use Rattle.lock_model.specs.Deck.{Deck, IsDeck}
 use Rattle.lock_model.specs.declared.instance.Instance.{Instance}
 use Rattle.lock_model.specs.declared.group.Group.{Group}
@@ -17,7 +18,7 @@ use Rattle.certificate_rules.specs.declared.certificate.Reason.{Reason}
 use Rattle.certificate_rules.specs.OpenCertificates.{OpenCertificate, ClosesOrOpen, Stands}
 use Rattle.certificate_rules.specs.Low.{OpenInOrder, HasOpen, leaf_bounds, IsLow}
 use Rattle.certificate_rules.specs.Failures.{MarksFail, open_reason_of, OpenFails}
-use Rattle.certificate_rules.proofs.FailLemmas.{heads, tails, fails-not_stands}
+use Rattle.certificate_rules.proofs.FailLemmas.{fails-not_stands}
 use Rattle.closing_rules.proofs.LawLemmas.{tree-laws}
 use Rattle.certificate_rules.proofs.LowLemmas.{stands-low}
 use Rattle.cert_check.specs.FirstFailure.{AreSameFailure, HoldBeforeMarks, FailBeforeMarks}
@@ -44,17 +45,17 @@ in_order-same Tree one (x ∷ xs) m r s bs cs a b =
 
 leaf-same : (bound : ℕ) (m n : OpenMark) (marks r s : List OpenMark) (bs cs : List ℕ) → marks ≡ m ∷ r → marks ≡ n ∷ s → bs ≡ leaf_bounds bound m → cs ≡ leaf_bounds bound n → AreSame r s bs cs
 leaf-same bound m n marks r s bs cs e f g h = record {
-  left = tails m n r s (sym e ∙ f);
-  bounds = g ∙ ap (leaf_bounds bound) (heads m n r s (sym e ∙ f)) ∙ sym h;
+  left = same-tails m n r s (sym e ∙ f);
+  bounds = g ∙ ap (leaf_bounds bound) (same-heads m n r s (sym e ∙ f)) ∙ sym h;
 }
 
 bounds-same : (I : Instance) (lacking k : ℕ) (lines : List (List Group)) (m r s : List OpenMark) (bs cs : List ℕ) → HasOpen I lacking k lines m r bs → HasOpen I lacking k lines m s cs → AreSame r s bs cs
 bounds-same I zero k lines m r s bs cs a b = leaf-same (bound_of I k lines) a.0 b.0 m r s bs cs a.1 b.1 a.2 b.2
 bounds-same I (suc lacking) k lines m r s bs cs (inl a) (inl b) = leaf-same (bound_of I k lines) a.0 b.0 m r s bs cs a.2 b.2 a.3 b.3
-bounds-same I (suc lacking) k lines m r s bs cs (inl a) (inr b) = absurd (a.1 (heads a.0 (Closed mark.Split) r b.0 (sym a.2 ∙ b.1)))
-bounds-same I (suc lacking) k lines m r s bs cs (inr a) (inl b) = absurd (b.1 (heads b.0 (Closed mark.Split) s a.0 (sym b.2 ∙ a.1)))
+bounds-same I (suc lacking) k lines m r s bs cs (inl a) (inr b) = absurd (a.1 (same-heads a.0 (Closed mark.Split) r b.0 (sym a.2 ∙ b.1)))
+bounds-same I (suc lacking) k lines m r s bs cs (inr a) (inl b) = absurd (b.1 (same-heads b.0 (Closed mark.Split) s a.0 (sym b.2 ∙ a.1)))
 bounds-same I (suc lacking) k lines m r s bs cs (inr a) (inr b) =
-    let same : a.0 ≡ b.0 = tails (Closed mark.Split) (Closed mark.Split) a.0 b.0 (sym a.1 ∙ b.1) in
+    let same : a.0 ≡ b.0 = same-tails (Closed mark.Split) (Closed mark.Split) a.0 b.0 (sym a.1 ∙ b.1) in
     in_order-same (HasOpen I lacking (suc k)) (λ x m r s bs cs t u. bounds-same I lacking (suc k) x m r s bs cs t u) (children_of I k lines) b.0 r s bs cs
     (subst (λ u. OpenInOrder (HasOpen I lacking (suc k)) (children_of I k lines) u r bs) same a.2) b.2
 

@@ -1,5 +1,5 @@
 -- The least bound of the open leaves is what the book's verdict says.
-use Rattle.std.proofs.Common.{◌≡◌, ℕ, zero, suc, ◌<◌, ◌≤◌, List, [], ◌∷◌, length, map, filter, ◌⊎◌, inl, inr, refl, sym, ap, ◌∙◌, subst, arith, Bool, true, false, cond, ◌||◌, Some, None, slice_index_or, min}
+use Rattle.std.proofs.Common.{◌≡◌, ℕ, zero, suc, ◌<◌, ◌≤◌, List, [], ◌∷◌, length, map, filter, ◌⊎◌, inl, inr, refl, sym, ap, ◌∙◌, subst, arith, Bool, true, false, cond, ◌||◌, Some, None, slice_index_or, min, true≢false}
 use Rattle.std.specs.declared.option.Option.{Option}
 use Rattle.std.specs.List.{list_any}
 use Rattle.lock_model.specs.declared.verdict.Verdict.TheVariants as verdict
@@ -21,9 +21,6 @@ use Rattle.resume_book.specs.Certified.{certified_low}
 use Rattle.resume_book.proofs.LeastLemmas.{least-among, among-below}
 use Rattle.resume_book.proofs.TreeLemmas.{open_bounds}
 
-clash : true ≡ false → ⊥
-clash e = cc
-
 -- ---- live slots
 
 -- slot `id` is live, and this is its bound
@@ -37,7 +34,7 @@ live-open slot.Fresh e = refl
 live-open slot.Back e = refl
 live-open (slot.Held w) e = refl
 live-open (slot.Parked c p) e = refl
-live-open _ e = absurd (clash (sym e))
+live-open _ e = absurd (true≢false (sym e))
 
 leaf-live : (s : SlotState) (bound n : ℕ) → IsAmong (leaf_bounds bound (open_mark s)) n → (is_live s ≡ true) × (bound ≡ n)
 leaf-live slot.Fresh bound n (inl e) = (refl, e)
@@ -122,7 +119,7 @@ abbrev is_open : SlotState → Bool
 is_open state = is_fresh state || is_back state || is_held state
 
 any-some : (p : Slot → Bool) (xs : List Slot) → list_any p xs ≡ true → (id : ℕ) × (id < length xs) × (p (slice_index_or xs id no_slot) ≡ true)
-any-some p [] e = absurd (clash (sym e))
+any-some p [] e = absurd (true≢false (sym e))
 any-some p (x ∷ xs) e = by_first (λ f. any-some p xs f) (p x) refl e
   where
     by_first : (list_any p xs ≡ true → (id : ℕ) × (id < length xs) × (p (slice_index_or xs id no_slot) ≡ true)) → (t : Bool) → p x ≡ t → (t || list_any p xs) ≡ true → (id : ℕ) × (id < length (x ∷ xs)) × (p (slice_index_or (x ∷ xs) id no_slot) ≡ true)
@@ -134,15 +131,15 @@ open-live slot.Fresh e = refl
 open-live slot.Back e = refl
 open-live (slot.Held w) e = refl
 open-live (slot.Parked c p) e = refl
-open-live _ e = absurd (clash (sym e))
+open-live _ e = absurd (true≢false (sym e))
 
 parked-live : (s : SlotState) → is_parked s ≡ true → is_live s ≡ true
 parked-live (slot.Parked c p) e = refl
-parked-live _ e = absurd (clash (sym e))
+parked-live _ e = absurd (true≢false (sym e))
 
 parked-low : (b : Book) (node : Node) (s : SlotState) (cost : ℕ) → is_parked s ≡ true → certified_low cost (parked_verdict b node s) ≡ min (low_of b) cost
 parked-low b node (slot.Parked c p) cost e = refl
-parked-low b node _ cost e = absurd (clash (sym e))
+parked-low b node _ cost e = absurd (true≢false (sym e))
 
 -- some slot is live, and the verdict has the low of the book
 record IsOpenBook (b : Book) (cost : ℕ) : Type 0 where

@@ -5,6 +5,7 @@ use Rattle.json.specs.Lex.{tokens}
 use Rattle.json.specs.Print.{print}
 use Rattle.lock_model.specs.declared.instance.Instance.{Instance}
 use Rattle.std.specs.List.{flat_map}
+use Rattle.list_laws.proofs.Lists.{none-passes}
 use Rattle.lock_model.specs.declared.plan.Plan.{Plan}
 use Rattle.closing_rules.specs.ProvedCuts.{CertCut}
 use Rattle.certificate_rules.specs.declared.certificate.OpenMark.{OpenMark}
@@ -12,7 +13,7 @@ use Rattle.certificate_rules.specs.declared.certificate.OpenMark.TheVariants.{Cl
 use Rattle.certificate_rules.specs.WellFormed.{IsFormedOpenMark, IsWellFormedOpen}
 use Rattle.certificate_rules.specs.OpenCertificates.{OpenCertificate}
 use Rattle.instance_text.specs.declared.bad.Bad.{Bad}
-use Rattle.instance_text.specs.Lines.{lines, words, content}
+use Rattle.line_text.specs.Lines.{lines, words, content}
 use Rattle.instance_text.specs.Reading.{reading, Means, Defect, instance_part, after_instance}
 use Rattle.instance_text.specs.Canonical.{canonical}
 use Rattle.instance_text.proofs.TextBackLemmas.{canonical_means}
@@ -37,7 +38,7 @@ use Rattle.cert_text.specs.Certificates.{parts_data}
 use Rattle.cert_text.specs.Heading.{heading_of, headed}
 use Rattle.cert_text.specs.Dossier.{json_of}
 use Rattle.cert_text.proofs.ShapeLemmas.{numbers_no_float, numbers_depth, parts_no_float, parts_shallow}
-use Rattle.cert_text.proofs.MarkLemmas.{ReadsFirst, numbers_back, one_number, two_numbers, Numbers, mark_told, none_passes}
+use Rattle.cert_text.proofs.MarkLemmas.{ReadsFirst, numbers_back, one_number, two_numbers, Numbers, mark_told}
 use Rattle.cert_text.proofs.PriceLemmas.{lists_back}
 use Rattle.cert_text.proofs.VersionLemmas.{Suits, suits_third, suits_second}
 use Rattle.cert_text.proofs.CertificateLemmas.{cuts_suit}
@@ -59,7 +60,7 @@ open_mark_back third (Closed m) formed plain = go (mark_told third m formed plai
 
 open_tree_back : (third : Bool) (ms : List OpenMark) → All IsFormedOpenMark ms → (third ≡ false → has_open_price_mark ms ≡ false) → open_tree_in third (open_tree_data ms) ≡ Some ms
 open_tree_back third ms formed plain =
-    numbers_back (open_mark_in third) open_numbers ms (λ k d low. open_mark_back third _ (formed k d low) (λ e. none_passes is_open_price_mark ms (plain e) k d low))
+    numbers_back (open_mark_in third) open_numbers ms (λ k d low. open_mark_back third _ (formed k d low) (λ e. none-passes is_open_price_mark ms (plain e) k d low))
 
 suited : (C : OpenCertificate) → Suits (open_version C) C.cuts C.prices (has_open_price_mark C.tree)
 unfolding open_version

@@ -1,7 +1,8 @@
 -- The open certificate of a book stands, is well formed, and has the low of the verdict.
-use Rattle.std.proofs.Common.{◌≡◌, ℕ, ◌^◌, ◌<◌, ◌≤◌, List, [], ◌∷◌, length, map, refl, sym, ap, ◌∙◌, subst, arith, All, slice_index_or, append-nil, Bool, true, false, cond, nat_lt}
+use Rattle.std.proofs.Common.{◌≡◌, ℕ, ◌^◌, ◌<◌, ◌≤◌, List, [], ◌∷◌, length, map, refl, sym, ap, ◌∙◌, subst, arith, All, slice_index_or, append-nil, nat_lt}
 use Rattle.std.proofs.lemmas.List.{length-map}
 use Rattle.std.proofs.lemmas.List.Elements.{All-map, All-weaker}
+use Rattle.list_laws.proofs.Counts.{one-at_most}
 use Rattle.lock_model.specs.declared.instance.Instance.{Instance}
 use Rattle.lock_model.specs.declared.plan.Plan.{Plan}
 use Rattle.lock_rules.specs.Plan.{IsLegal, cost_of}
@@ -33,14 +34,10 @@ use Rattle.resume_book.proofs.PreorderLemmas.{visited-known, visited, as-many, r
 use Rattle.resume_book.proofs.TreeLemmas.{marks_with, open_bounds, slot-tree, slot-leaves}
 use Rattle.resume_book.proofs.LowLemmas.{least-bound}
 
-one-most : (t : Bool) → cond t 1 0 ≤ 1
-one-most true = omega arith
-one-most false = omega arith
-
 cheap-few : (c : ℕ) (xs : List Slot) → count_cheap c xs ≤ length xs
 cheap-few c [] = omega arith
 cheap-few c (x ∷ xs) =
-    let own = one-most (nat_lt x.bound c) in
+    let own = one-at_most (nat_lt x.bound c) in
     let rest = cheap-few c xs in
     omega (arith, own, rest)
 

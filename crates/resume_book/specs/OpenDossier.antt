@@ -2,7 +2,7 @@
 use Rattle.std.specs.Prelude.{ℕ, ◌≡◌, ◌++◌, List, [], ◌∷◌, Option, None, Some, Result, Ok, Err, codes, if◌then◌else◌}
 use Rattle.lock_model.specs.declared.instance.Instance.{Instance}
 use Rattle.certificate_rules.specs.OpenCertificates.{OpenCertificate}
-use Rattle.instance_text.specs.Steps.{◌>>=◌, ◌>>◌}
+use Rattle.line_text.specs.Steps.{◌>>=◌, ◌>>◌}
 use Rattle.instance_text.specs.Draft.{Draft}
 use Rattle.instance_text.specs.Reading.{reading, instance_part, after_instance}
 use Rattle.instance_text.specs.Canonical.{canonical}

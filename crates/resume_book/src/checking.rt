@@ -16,7 +16,7 @@ use crate::reading::read_tree;
 use cert_check::{Claim, chamber_cuts, first_failure_before_marks};
 use certificate_rules::{FailurePlace, OpenMark, Reason};
 use deck_laws::{heredity, normal_form};
-use flow_bounds::{Roster, throughput};
+use flow_bounds::{NodeWalks, Roster, throughput};
 use lock_model::Instance;
 use master_branch::root;
 use plain_text::NoMemory;
@@ -31,7 +31,8 @@ fn low_of_marks(claim: &Claim, marks: &[OpenMark]) -> Result<LowOrFailure, NoMem
     ensures low { IfOk result (λ told. IfOk told (IsLowOfMarks claim.now.instance.now claim.now.cost claim.now.cuts.now claim.now.prices.now marks.now)) }
     ensures failure { IfOk result (λ told. IfErr told (λ f. FailAtOpenMark claim.now.instance.now claim.now.cost claim.now.cuts.now claim.now.prices.now marks.now f.0 f.1)) }
 {
-    let read = match read_tree(claim, &root(claim.instance), claim.cost, marks)? {
+    let mut walks = NodeWalks::new();
+    let read = match read_tree(claim, &root(claim.instance), claim.cost, marks, &mut walks)? {
         Ok(read) => read,
         Err(stuck) => return Ok(Err(((marks.len() - stuck.marks.len()) as u64, stuck.reason))),
     };

@@ -5,15 +5,18 @@ ghost use Rattle.master_branch.specs.Node.{IsNodeOf, children};
 ghost use Rattle.certificate_rules.specs.OpenCertificates.{ClosesOrOpen};
 ghost use Rattle.certificate_rules.specs.Failures.{open_reason_of};
 ghost use Rattle.certificate_rules.specs.Low.{leaf_bounds};
-ghost use Rattle.cert_check.specs.Reading.{AreTold};
+ghost use Rattle.cert_check.specs.Splitting.{IsSplit};
 ghost use Rattle.lock_rules.specs.Bound.{least_number};
 ghost use Rattle.resume_book.specs.Reading.{IsRead, IsStuck, IsChildRead, IsChildStuck, AreRead, AreStuck};
 
-use cert_check::{Claim, Ground, Mark, child_of, child_reaches, closes, reason_against};
+use cert_check::{
+    Claim, Ground, Mark, SplitNode, child_of, child_reaches, closes, count_children,
+    reason_against, split,
+};
 use certificate_rules::{OpenMark, Reason};
-use flow_bounds::{Reached, bound};
+use flow_bounds::{NodeWalks, bound};
 use lock_model::Instance;
-use master_branch::{Node, child_count};
+use master_branch::Node;
 use plain_text::NoMemory;
 
 // What was read: the marks behind it, and the least of the bounds of the open leaves so far and of
@@ -64,12 +67,12 @@ fn splits(instance: &Instance, node: &Node, mark: OpenMark) -> bool
 }
 
 // Whether a mark closes the node or leaves it open.
-fn ends(claim: &Claim, node: &Node, mark: OpenMark) -> Result<bool, NoMemory>
+fn ends(claim: &Claim, node: &Node, mark: OpenMark, walks: &mut NodeWalks) -> Result<bool, NoMemory>
     requires { IsNodeOf claim.now.instance.now node.now }
     ensures { IfOk result (λ ended. IsTrue ended ↔ ClosesOrOpen claim.now.instance.now claim.now.cost claim.now.cuts.now claim.now.prices.now node.now.depth node.now.lines mark) }
 {
     match mark {
-        OpenMark::Closed(mark) => closes(claim, node, mark),
+        OpenMark::Closed(mark) => closes(claim, node, mark, walks),
         OpenMark::Open => Ok(true),
     }
 }
@@ -95,45 +98,42 @@ fn lowered(instance: &Instance, node: &Node, mark: OpenMark, low: u64) -> u64
     }
 }
 
-// Reads an open tree of child `i` of a node, which is made for it.
+// Reads an open tree of child `i` of a split node, which is made for it.
 #[cycle(tree)]
 fn read_made_child<'m>(
     claim: &Claim,
-    node: &Node,
+    parent: &SplitNode<'_>,
     i: u32,
     low: u64,
     marks: &'m [OpenMark],
+    walks: &mut NodeWalks,
 ) -> Result<Reading<'m>, NoMemory>
-    requires node { IsNodeOf claim.now.instance.now node.now }
-    requires lacks { node.now.depth < length claim.now.instance.now.ships }
-    requires within { i < length (children claim.now.instance.now node.now) }
-    ensures read { IfOk result (λ reading. IfOk reading (λ read. IsChildRead claim.now node.now i low marks.now read.marks.now read.low)) }
-    ensures stuck { IfOk result (λ reading. IfErr reading (λ stuck. IsChildStuck claim.now node.now i marks.now stuck.marks.now stuck.reason)) }
+    requires split { IsSplit claim.now parent.now }
+    requires within { i < length (children claim.now.instance.now parent.now.node.now) }
+    ensures read { IfOk result (λ reading. IfOk reading (λ read. IsChildRead claim.now parent.now.node.now i low marks.now read.marks.now read.low)) }
+    ensures stuck { IfOk result (λ reading. IfErr reading (λ stuck. IsChildStuck claim.now parent.now.node.now i marks.now stuck.marks.now stuck.reason)) }
 {
-    read_tree(claim, &child_of(claim, node, i), low, marks)
+    read_tree(claim, &child_of(claim, parent, i), low, marks, walks)
 }
 
-// Reads an open tree of child `i` of a node. The child isn't made where its bound closes it, and no
+// Reads an open tree of child `i` of a split node. The child isn't made where its bound closes it, and no
 // room for it is taken then.
 #[cycle(tree)]
 fn read_child<'m>(
     claim: &Claim,
-    node: &Node,
-    told: &mut Option<Reached>,
+    parent: &SplitNode<'_>,
     i: u32,
     low: u64,
     marks: &'m [OpenMark],
+    walks: &mut NodeWalks,
 ) -> Result<Reading<'m>, NoMemory>
-    requires node { IsNodeOf claim.now.instance.now node.now }
-    requires lacks { node.now.depth < length claim.now.instance.now.ships }
-    requires within { i < length (children claim.now.instance.now node.now) }
-    requires told { AreTold claim.now node.now told.old }
-    ensures read { IfOk result (λ reading. IfOk reading (λ read. IsChildRead claim.now node.now i low marks.now read.marks.now read.low)) }
-    ensures stuck { IfOk result (λ reading. IfErr reading (λ stuck. IsChildStuck claim.now node.now i marks.now stuck.marks.now stuck.reason)) }
-    ensures told { AreTold claim.now node.now told.new }
+    requires split { IsSplit claim.now parent.now }
+    requires within { i < length (children claim.now.instance.now parent.now.node.now) }
+    ensures read { IfOk result (λ reading. IfOk reading (λ read. IsChildRead claim.now parent.now.node.now i low marks.now read.marks.now read.low)) }
+    ensures stuck { IfOk result (λ reading. IfErr reading (λ stuck. IsChildStuck claim.now parent.now.node.now i marks.now stuck.marks.now stuck.reason)) }
 {
     if let Some(rest) = behind_bound(marks) {
-        if child_reaches(claim, node, told, i) {
+        if child_reaches(claim, parent, i) {
             return Ok(Ok(Read { marks: rest, low }));
         }
         return Ok(Err(Stuck {
@@ -141,7 +141,7 @@ fn read_child<'m>(
             reason: Reason::BoundLow,
         }));
     }
-    read_made_child(claim, node, i, low, marks)
+    read_made_child(claim, parent, i, low, marks, walks)
 }
 
 // Reads open trees of all children of a node.
@@ -151,17 +151,18 @@ fn read_children<'m>(
     node: &Node,
     low: u64,
     marks: &'m [OpenMark],
+    walks: &mut NodeWalks,
 ) -> Result<Reading<'m>, NoMemory>
     requires node { IsNodeOf claim.now.instance.now node.now }
     requires lacks { node.now.depth < length claim.now.instance.now.ships }
     ensures read { IfOk result (λ reading. IfOk reading (λ read. AreRead claim.now node.now (length (children claim.now.instance.now node.now)) low marks.now read.marks.now read.low)) }
     ensures stuck { IfOk result (λ reading. IfErr reading (λ stuck. AreStuck claim.now node.now marks.now stuck.marks.now stuck.reason)) }
 {
-    let mut told = None;
+    let parent = split(claim, node, walks);
     let mut rest = marks;
     let mut least = low;
-    for i in 0..child_count(claim.instance, node) {
-        match read_child(claim, node, &mut told, i, least, rest)? {
+    for i in 0..count_children(claim, &parent) {
+        match read_child(claim, &parent, i, least, rest, walks)? {
             Ok(read) => {
                 rest = read.marks;
                 least = read.low;
@@ -182,6 +183,7 @@ pub(crate) fn read_tree<'m>(
     node: &Node,
     low: u64,
     marks: &'m [OpenMark],
+    walks: &mut NodeWalks,
 ) -> Result<Reading<'m>, NoMemory>
     requires { IsNodeOf claim.now.instance.now node.now }
     ensures read { IfOk result (λ reading. IfOk reading (λ read. IsRead claim.now node.now low marks.now read.marks.now read.low)) }
@@ -194,9 +196,9 @@ pub(crate) fn read_tree<'m>(
         }));
     };
     if splits(claim.instance, node, mark) {
-        return read_children(claim, node, low, rest);
+        return read_children(claim, node, low, rest, walks);
     }
-    if ends(claim, node, mark)? {
+    if ends(claim, node, mark, walks)? {
         return Ok(Ok(Read {
             marks: rest,
             low: lowered(claim.instance, node, mark, low),

@@ -1,7 +1,6 @@
-use Rattle.std.proofs.Common.{◌≡◌, ◌∙◌, ap, arith, sym, rules}
+use Rattle.std.proofs.Common.{◌≡◌, ◌∙◌, ap, rules}
 use Rattle.lock_rules.specs.Arrival.{next_ship}
 use Rattle.lock_rules.specs.Node.{times_held}
-use Rattle.lock_rules.specs.Bound.{probe_of}
 use Rattle.flow_bounds.proofs.ProbeLemmas.{next-held}
 use Rattle.master_branch.proofs.ChildSteps.{ship-known}
 use Rattle.flow_bounds.specs.Missing.{IsMissing}
@@ -19,8 +18,7 @@ returns-then-is_next c =
       absent = ap (λ s. times_held s node.lines) next ∙ next-held I node.depth node.lines c.requires lacks;
     } in
     let among = missing-contains I node.depth node.lines c.args.ship c.requires missing in
-    let probed = ap (probe_of I node.depth node.lines) (sym next) in
-    (λ h. (among, omega (arith, probed, c.children_reaching.ensures.probe.0 (c.all.ensures.0 h))), λ h. c.all.ensures.1 (c.children_reaching.ensures.probe.1 (omega (arith, probed, h.1))))
+    (λ h. (among, c.all_reach.ensures.0 h), λ h. c.all_reach.ensures.1 h.1)
 
 pub returns-then-is_missing : goal.returns-then-is_missing
 returns-then-is_missing c =

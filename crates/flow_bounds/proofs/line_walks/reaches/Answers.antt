@@ -1,4 +1,5 @@
-use Rattle.std.proofs.Common.{◌≡◌, ◌<◌, ◌≤◌, ◌+◌, true, false, length, ap, refl, arith, ◌∙◌, sym, subst}
+use Rattle.std.proofs.Common.{◌<◌, ◌≤◌, ◌+◌, true, false, length, ap, refl, arith, ◌∙◌, sym, subst}
+use Rattle.std.proofs.lemmas.Bool.{false≢true}
 use Rattle.master_branch.specs.Steps.{group_at}
 use Rattle.flow_bounds.specs.Walk.{serve, walk_at}
 use Rattle.flow_bounds.specs.Entering.{IsBehind}
@@ -25,16 +26,13 @@ returns-then-walk-along c =
       λ _. refl,
     )
 
-off : false ≡ true → ⊥
-off e = cc
-
 pub returns-then-are_in_step : goal.returns-then-are_in_step
 returns-then-are_in_step c =
     let I = c.args.instance.now in
     let i = c.loop-i.i in
     let within : i ≤ length c.args.line.now = omega arith in
     let step = c.if-are_in_step.ensures in (
-      λ never. absurd (off never),
+      λ never. absurd (false≢true never),
       λ need. absurd (omega (
         arith,
         need,

@@ -1,17 +1,8 @@
 use Rattle.std.proofs.Common.{◌≡◌, ◌+◌, IsTrue, All, map, nat_le, ap, ◌∙◌, sym, subst, rules}
-use Rattle.lock_rules.specs.Node.{times_held}
-use Rattle.lock_rules.specs.Arrival.{next_ship}
 use Rattle.lock_rules.specs.Children.{children_of}
 use Rattle.lock_rules.specs.Bound.{bound_of}
 use Rattle.flow_bounds.proofs.ChildLemmas.{reached-probe, probe-reached}
-use Rattle.flow_bounds.proofs.ProbeLemmas.{next-held}
 use Rattle.flow_bounds.proofs.reaching.children_reaching.Goals as goal
-
-pub reached_by-requires-clause-absent : goal.reached_by-requires-clause-absent
-reached_by-requires-clause-absent c =
-    let I = c.args.instance.now in
-    let n = c.args.node.now in
-    ap (λ s. times_held s n.lines) (c.ship-ship.ensures.value ∙ ap (next_ship I) c.depth.ensures.value) ∙ next-held I n.depth n.lines c.requires.node c.requires.lacks
 
 pub returns-clause-probe : goal.returns-clause-probe
 returns-clause-probe c =

@@ -12,41 +12,44 @@ use Rattle.resume_book.proofs.reading.+tree.Goals as goal
 
 pub read_child-returns-then-child_reaches-clause-read : goal.read_child-returns-then-child_reaches-clause-read
 read_child-returns-then-child_reaches-clause-read n c =
-    bound-read c.args.claim.now c.args.node.now c.args.i c.args.low c.args.marks.now c.in-Some.rest.now c.in-Some.ensures (c.child_reaches.ensures.value.0 c.if-child_reaches.true)
+    bound-read c.args.claim.now c.args.parent.now.node.now c.args.i c.args.low c.args.marks.now c.in-Some.rest.now c.in-Some.ensures (c.child_reaches.ensures.0 c.if-child_reaches.true)
 
 pub read_child-returns-in-Some-clause-stuck : goal.read_child-returns-in-Some-clause-stuck
 read_child-returns-in-Some-clause-stuck n c =
-    bound-stuck c.args.claim.now c.args.node.now c.args.i c.args.marks.now c.in-Some.rest.now c.in-Some.ensures
-    (λ high. absurd (not-true c.child_reaches.result c.if-child_reaches.false (c.child_reaches.ensures.value.1 high)))
+    bound-stuck c.args.claim.now c.args.parent.now.node.now c.args.i c.args.marks.now c.in-Some.rest.now c.in-Some.ensures
+    (λ high. absurd (not-true c.child_reaches.result c.if-child_reaches.false (c.child_reaches.ensures.1 high)))
 
 pub read_made_child-returns-clause-read : goal.read_made_child-returns-clause-read
 read_made_child-returns-clause-read n c =
     IfOk-weaker c.read_tree.result _ _
     (λ reading. IfOk-weaker reading _ _
-    (λ read h. child-read c.args.claim.now c.args.node.now c.child_of.result c.args.i c.args.low c.args.marks.now read.marks.now read.low c.requires.within c.child_of.ensures.depth c.child_of.ensures.lines h))
+    (λ read h. child-read c.args.claim.now c.args.parent.now.node.now c.child_of.result c.args.i c.args.low c.args.marks.now read.marks.now read.low c.requires.within c.child_of.ensures.depth c.child_of.ensures.lines h))
     c.read_tree.ensures.read
 
 pub read_made_child-returns-clause-stuck : goal.read_made_child-returns-clause-stuck
 read_made_child-returns-clause-stuck n c =
     IfOk-weaker c.read_tree.result _ _
     (λ reading. IfErr-weaker reading _ _
-    (λ stuck h. child-stuck c.args.claim.now c.args.node.now c.child_of.result c.args.i c.args.marks.now stuck.marks.now stuck.reason c.requires.within c.child_of.ensures.depth c.child_of.ensures.lines h))
+    (λ stuck h. child-stuck c.args.claim.now c.args.parent.now.node.now c.child_of.result c.args.i c.args.marks.now stuck.marks.now stuck.reason c.requires.within c.child_of.ensures.depth c.child_of.ensures.lines h))
     c.read_tree.ensures.stuck
 
 pub read_children-returns-in-Err-clause-stuck : goal.read_children-returns-in-Err-clause-stuck
 read_children-returns-in-Err-clause-stuck n c =
-    let within : c.loop-i.i < length (children c.args.claim.now.instance.now c.args.node.now) = omega (arith, c.loop-i-test.true, c.child_count-i-end.ensures) in
-    let own : IsChildStuck c.args.claim.now c.args.node.now c.loop-i.i c.loop-i.rest.now c.in-Err.stuck.marks.now c.in-Err.stuck.reason = search rules in
-    more-stuck c.args.claim.now c.args.node.now c.loop-i.i c.args.low c.args.marks.now c.loop-i.rest.now _ c.loop-i.least _ within c.loop-i.invariant.read own
+    let claim = c.args.claim.now in
+    let node : c.split-parent.result.node.now ≡ c.args.node.now = c.split-parent.ensures.node in
+    let within : c.loop-i.i < length (children claim.instance.now c.args.node.now) = omega (arith, c.loop-i-test.true, c.count_children-i-end.ensures, ap (λ n. length (children claim.instance.now n)) node) in
+    let own : IsChildStuck claim c.split-parent.result.node.now c.loop-i.i c.loop-i.rest.now c.in-Err.stuck.marks.now c.in-Err.stuck.reason = search rules in
+    more-stuck claim c.args.node.now c.loop-i.i c.args.low c.args.marks.now c.loop-i.rest.now _ c.loop-i.least _ within c.loop-i.invariant
+    (subst (λ n. IsChildStuck claim n c.loop-i.i c.loop-i.rest.now c.in-Err.stuck.marks.now c.in-Err.stuck.reason) node own)
 
 pub read_children-loop-i-preserved : goal.read_children-loop-i-preserved
 read_children-loop-i-preserved n c =
-    let within : c.loop-i.i < length (children c.args.claim.now.instance.now c.args.node.now) = omega (arith, c.loop-i-test.true, c.child_count-i-end.ensures) in
-    let own : IsChildRead c.args.claim.now c.args.node.now c.loop-i.i c.loop-i.least c.loop-i.rest.now c.in-Ok.read.marks.now c.in-Ok.read.low = search rules in
-    record {
-      read = more-read c.args.claim.now c.args.node.now c.loop-i.i c.args.low c.args.marks.now c.loop-i.rest.now c.in-Ok.read.marks.now c.loop-i.least c.in-Ok.read.low within c.loop-i.invariant.read own;
-      told = c.read_child.ensures.told;
-    }
+    let claim = c.args.claim.now in
+    let node : c.split-parent.result.node.now ≡ c.args.node.now = c.split-parent.ensures.node in
+    let within : c.loop-i.i < length (children claim.instance.now c.args.node.now) = omega (arith, c.loop-i-test.true, c.count_children-i-end.ensures, ap (λ n. length (children claim.instance.now n)) node) in
+    let own : IsChildRead claim c.split-parent.result.node.now c.loop-i.i c.loop-i.least c.loop-i.rest.now c.in-Ok.read.marks.now c.in-Ok.read.low = search rules in
+    more-read claim c.args.node.now c.loop-i.i c.args.low c.args.marks.now c.loop-i.rest.now c.in-Ok.read.marks.now c.loop-i.least c.in-Ok.read.low within c.loop-i.invariant
+    (subst (λ n. IsChildRead claim n c.loop-i.i c.loop-i.least c.loop-i.rest.now c.in-Ok.read.marks.now c.in-Ok.read.low) node own)
 
 pub read_tree-returns-then-splits-clause-read : goal.read_tree-returns-then-splits-clause-read
 read_tree-returns-then-splits-clause-read n c =

@@ -1,9 +1,6 @@
-use Rattle.std.proofs.Common.{rules, ◌≡◌, true, false, sym, ◌∙◌}
+use Rattle.std.proofs.Common.{rules, true, false, sym, ◌∙◌, true≢false}
 use Rattle.master_branch.proofs.SameLemmas.{lines-same, rows-same, ends-same}
 use Rattle.master_branch.proofs.lines.Lines.equals.Goals as goal
-
-clash : true ≡ false → ⊥
-clash e = cc
 
 pub returns-then-same_ends : goal.returns-then-same_ends
 returns-then-same_ends c =
@@ -17,6 +14,6 @@ pub returns-else-same_ends : goal.returns-else-same_ends
 returns-else-same_ends c =
     let a = c.self.inside in
     let b = c.other.inside in (
-      λ t. absurd (clash (sym t ∙ c.if-same_ends.false)),
+      λ t. absurd (true≢false (sym t ∙ c.if-same_ends.false)),
       λ same. c.same_ends.ensures.1 (ends-same a.row.items b.row.items a.ends b.ends c.self.invariant c.other.invariant c.args.self.now c.args.other.now c.self.view_is c.other.view_is same),
     )

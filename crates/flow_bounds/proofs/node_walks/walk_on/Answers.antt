@@ -1,7 +1,7 @@
 use Rattle.std.proofs.Common.{◌<◌, ◌∙◌, All, length, sym, subst}
 use Rattle.lock_rules.proofs.NodeLemmas.{line-known}
 use Rattle.lock_model.specs.declared.group.Group.{Group}
-use Rattle.flow_bounds.proofs.probing.walk_on.Goals as goal
+use Rattle.flow_bounds.proofs.node_walks.walk_on.Goals as goal
 
 pub walk_along-requires-clause-ships_in : goal.walk_along-requires-clause-ships_in
 walk_along-requires-clause-ships_in c =

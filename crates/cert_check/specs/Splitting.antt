@@ -1,0 +1,20 @@
+-- A node that is split: its steps, and which bounds of its children reach the cost.
+use Rattle.std.specs.Prelude.{◌≡◌, ◌+◌, ◌<◌, List, Bool, length, map, nat_le}
+use Rattle.lock_rules.specs.Arrival.{next_ship}
+use Rattle.lock_rules.specs.Bound.{bound_of}
+use Rattle.master_branch.specs.Node.{Node, IsNodeOf, children}
+use Rattle.master_branch.specs.Steps.{steps_by}
+use Rattle.cert_check.specs.declared.closing.Claim.{Claim}
+use Rattle.cert_check.specs.declared.splitting.SplitNode.{SplitNode}
+
+-- of each child of a node, in order, whether its bound reaches the cost
+abbrev pub reached_below : Claim → Node → List Bool
+reached_below claim node = map (λ lines. nat_le claim.cost (bound_of claim.instance.now (node.depth + 1) lines)) (children claim.instance.now node)
+
+-- a node that lacks a ship, and what is told of its children
+pub record IsSplit (claim : Claim) (parent : SplitNode) : Type 0 where
+  pub own : IsNodeOf claim.instance.now parent.node.now
+  pub lacks : parent.node.now.depth < length claim.instance.now.ships
+  pub next : parent.ship ≡ next_ship claim.instance.now parent.node.now.depth
+  pub listed : parent.steps ≡ steps_by claim.instance.now parent.ship parent.node.now.lines
+  pub told : parent.reached ≡ reached_below claim parent.node.now
