@@ -1,5 +1,5 @@
 -- Every event keeps the budget, the workers and the room of the history.
-use Rattle.std.proofs.Common.{◌≡◌, ℕ, suc, ◌+◌, ◌*◌, ◌<◌, ◌≤◌, List, ◌++◌, length, refl, sym, ap, subst, arith, Bool, true, false, ◌||◌, slice_set}
+use Rattle.std.proofs.Common.{◌≡◌, ℕ, suc, ◌+◌, ◌*◌, ◌<◌, ◌≤◌, List, ◌++◌, length, refl, sym, ap, subst, arith, Bool, true, false, ◌||◌, slice_set, length-append}
 use Rattle.std.specs.declared.option.Option.{Option}
 use Rattle.std.proofs.lemmas.List.{length-map, length-set}
 use Rattle.lock_model.specs.declared.instance.Instance.{Instance}
@@ -20,7 +20,7 @@ use Rattle.book_rules.specs.Room.{count_slots}
 use Rattle.book_rules.specs.Budget.{is_taken, KeepsBudget}
 use Rattle.book_rules.proofs.SlotLemmas.{IsAt}
 use Rattle.book_rules.proofs.MoveLemmas.{Stays, TakesBack, TakesFresh, Splits, Closes, Parks, Posts, Prices, Replaces, Ends, GivesBack, MayClose, FromHeld, FromParked, turned, each-move}
-use Rattle.book_rules.proofs.TallyLemmas.{one, count-turned, count-append, count-children, count-weaker, count-outdone_same, count-outdone, open-whole, length-children, length-append}
+use Rattle.book_rules.proofs.TallyLemmas.{one, count-turned, count-append, count-children, count-weaker, count-outdone_same, count-outdone, open-whole, length-children}
 
 -- ---- the budget of nodes
 

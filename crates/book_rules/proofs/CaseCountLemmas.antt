@@ -1,22 +1,21 @@
 -- The turn law: a deck has fewer cases than the law allows, so it is never hard for so many turns.
-use Rattle.std.proofs.Common.{◌≡◌, ℕ, zero, suc, ◌+◌, ◌-◌, ◌*◌, ◌/◌, ◌^◌, ◌<◌, ◌≤◌, List, [], ◌∷◌, ◌++◌, length, map, filter, flat_map, cond, not, inl, inr, refl, sym, ap, ◌∙◌, subst, arith, Bool, nat_eq}
+use Rattle.std.proofs.Common.{◌≡◌, ℕ, zero, suc, ◌+◌, ◌-◌, ◌*◌, ◌/◌, ◌^◌, ◌<◌, ◌≤◌, List, [], ◌∷◌, ◌++◌, length, map, filter, flat_map, cond, not, inl, inr, refl, sym, ap, ◌∙◌, subst, arith, Bool, nat_eq, length-append}
 use Rattle.std.specs.List.{AllByRecursion}
 use Rattle.std.proofs.Math.Nat.{pow-zero, pow-suc, mul-le-mul, mul-le-mul_left, mul-div_cancel_left}
 use Rattle.std.proofs.lemmas.Nat.{pow-add}
 use Rattle.std.proofs.lemmas.Bool.Decides.{eqb_tells}
 use Rattle.std.proofs.lemmas.List.{length-map, map-append}
+use Rattle.list_laws.proofs.Counts.{filter-shorter}
+use Rattle.list_laws.proofs.ByRecursion.{all-append}
 use Rattle.lock_model.specs.Deck.{Deck}
 use Rattle.lock_model.specs.declared.placement.Rank.TheVariants.{Left, Right}
 use Rattle.lock_model.specs.declared.placement.Moor.TheVariants.{Ship}
 use Rattle.lock_rules.specs.Arrival.{numbers_from}
 use Rattle.lock_rules.specs.Size.{turn_limit}
-use Rattle.lock_rules.proofs.TreeLemmas.{length-filter-le}
 use Rattle.refute_rules.specs.Values.{others}
-use Rattle.refute_rules.proofs.Among.{all-append}
 use Rattle.refute_rules.specs.Choices.{Berth, Lies, Decision, Choice, BerthOf, PairOf, options_of, berths_of, decisions}
 use Rattle.refute_rules.specs.Listing.{cases_from, AreThose}
 use Rattle.refute_rules.specs.Cases.{IsConsistent, IsHard, cases_of}
-use Rattle.book_rules.proofs.TallyLemmas.{length-append}
 
 -- ---- cases by the numbers of options
 
@@ -68,7 +67,7 @@ others-few i low (suc n) from to =
     let rest : List ℕ = numbers_from (suc low) n in
     let test : ℕ → Bool = λ k. not (nat_eq k i) in
     elim (eqb_tells low i) [
-      | inl y ↦ let skip = ap (λ t. length (cond (not t) (low ∷ filter test rest) (filter test rest))) y.0 in omega (arith, skip, length-filter-le test rest, length-numbers (suc low) n)
+      | inl y ↦ let skip = ap (λ t. length (cond (not t) (low ∷ filter test rest) (filter test rest))) y.0 in omega (arith, skip, filter-shorter test rest, length-numbers (suc low) n)
       | inr m ↦
           let keep = ap (λ t. length (cond (not t) (low ∷ filter test rest) (filter test rest))) m.0 in
           let later = others-few i (suc low) n (omega (arith, from, m.1)) (omega (arith, to)) in

@@ -1,7 +1,9 @@
 -- Closing a slot: what is refused, and what is known where nothing is refused.
 use Rattle.std.proofs.Common.{◌≡◌, ℕ, List, ◌≤◌, refl, Bool, true, false, not, cond, Some, None, slice_get, nat_lt}
+use Rattle.std.proofs.lemmas.Bool.{false≢true, not-false}
 use Rattle.std.specs.Bool.{⊤}
 use Rattle.std.specs.declared.option.Option.{Option}
+use Rattle.list_laws.proofs.Variants.{some-not_none}
 use Rattle.lock_model.specs.declared.instance.Instance.{Instance}
 use Rattle.lock_rules.specs.Arrival.{missing_ships}
 use Rattle.lock_rules.specs.Throughput.{throughput_of}
@@ -16,10 +18,7 @@ use Rattle.book_rules.specs.Shown.{Shown, IsShown}
 use Rattle.book_rules.specs.States.{IsHitBy, cuts_in}
 use Rattle.book_rules.specs.Step
 use Rattle.book_rules.proofs.ShownLemmas.{shown-holds}
-use Rattle.book_rules.proofs.TestLemmas.{not-not, not-below, has_number-decides, is_node_hit-decides}
-
-clash : false ≡ true → ⊥
-clash e = cc
+use Rattle.book_rules.proofs.TestLemmas.{not-below, has_number-decides, is_node_hit-decides}
 
 -- nothing, or a refusal
 abbrev pub MayRefuse : {Break : Type 0} → Option (Reply Break) → Type 0
@@ -35,7 +34,7 @@ module _ (b : Book) (id : ℕ) where
   MayCloseBy why = IsClosedBy I (IsHitBy I b.cuts) (IsPricedBy I (cuts_in I b.cuts) b.prices) (best_cost b) (slot_at b id).bound (slot_at b id).node.depth (slot_at b id).node.lines why
 
   hit-by : (number : ℕ) (o : Option Cut) → slice_get b.cuts number ≡ o → Step.hits_in b id o ≡ true → IsHitBy I b.cuts number (slot_at b id).node.lines
-  hit-by number None e hit = absurd (clash hit)
+  hit-by number None e hit = absurd (false≢true hit)
   hit-by number (Some cut) e hit = record { cut = cut; there = e; hits = (is_node_hit-decides I cut (slot_at b id).node.lines).0 hit }
 
   module _ (Break : Type 0) where
@@ -58,11 +57,8 @@ module _ (b : Book) (id : ℕ) where
     may-refuse_price number shown (Some prices) = refuse_or (not (Step.is_shown b id prices shown)) NotShown (Step.cheaper_than (best_cost b) shown.cost) refl (cheaper-refuses shown.cost)
 
   module _ {Break : Type 0} where
-    some-none : (r : Reply Break) → Some r ≡ None → ⊥
-    some-none r h = cc
-
     none-of : (t : Bool) (r : Reply Break) (o : Option (Reply Break)) → cond t (Some r) o ≡ None → (t ≡ false) × (o ≡ None)
-    none-of true r o e = absurd (some-none r e)
+    none-of true r o e = absurd (some-not_none r e)
     none-of false r o e = (refl, e)
 
     none-cheaper : (bound : ℕ) → Step.cheaper_than {Break = Break} (best_cost b) bound ≡ None → best_cost b ≤ bound
@@ -74,16 +70,16 @@ module _ (b : Book) (id : ℕ) where
     unrefused-may by.Throughput e = none-cheaper (throughput_of I) e
     unrefused-may (by.Probe s) e =
         let both = none-of (not (Step.is_missing b id s)) (Absent s) (Step.cheaper_than (best_cost b) (Step.probe_at b id s)) e in
-        ((has_number-decides (missing_ships I (slot_at b id).node.depth) s).0 (not-not (Step.is_missing b id s) both.0), none-cheaper (Step.probe_at b id s) both.1)
+        ((has_number-decides (missing_ships I (slot_at b id).node.depth) s).0 (not-false (Step.is_missing b id s) both.0), none-cheaper (Step.probe_at b id s) both.1)
     unrefused-may (by.Cut number) e =
         let hit = Step.hits_in b id (slice_get b.cuts number) in
-        hit-by number (slice_get b.cuts number) refl (not-not hit (none-of (not hit) (NoHit number) None e).0)
-    unrefused-may (by.Price number) e = absurd (some-none NotShown e)
+        hit-by number (slice_get b.cuts number) refl (not-false hit (none-of (not hit) (NoHit number) None e).0)
+    unrefused-may (by.Price number) e = absurd (some-not_none NotShown e)
 
     -- where what was shown isn't refused, slot id may be closed by the prices
     pub shown-may : (number : ℕ) (shown : Shown) → IsShown shown → (o : Option (List ℕ)) → slice_get b.prices number ≡ o → Step.price_refusal {Break = Break} b id number shown o ≡ None → MayCloseBy (by.Price number)
-    shown-may number shown reached None there e = absurd (some-none (NoPrices number) e)
+    shown-may number shown reached None there e = absurd (some-not_none (NoPrices number) e)
     shown-may number shown reached (Some prices) there e =
         let own = Step.is_shown b id prices shown in
         let both = none-of (not own) NotShown (Step.cheaper_than (best_cost b) shown.cost) e in
-        shown-holds b id number prices there shown reached (not-not own both.0) (none-cheaper shown.cost both.1)
+        shown-holds b id number prices there shown reached (not-false own both.0) (none-cheaper shown.cost both.1)

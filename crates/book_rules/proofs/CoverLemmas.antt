@@ -1,5 +1,7 @@
 -- Every event keeps the cover: each legal plan cheaper than the best one lies under an open, held or parked slot.
-use Rattle.std.proofs.Common.{◌≡◌, ◌≢◌, ℕ, zero, suc, ◌+◌, ◌<◌, ◌≤◌, List, [], ◌∷◌, ◌++◌, length, map, ◌⊎◌, inl, inr, refl, sym, ap, ◌∙◌, subst, arith, Bool, true, false, not, cond, ◌&&◌, ◌||◌, Some, None, slice_index_or, slice_get, slice_set, nat_eq, nat_le, All, Contains}
+use Rattle.std.proofs.Common.{◌≡◌, ◌≢◌, ℕ, zero, suc, ◌+◌, ◌<◌, ◌≤◌, List, [], ◌∷◌, ◌++◌, length, map, ◌⊎◌, inl, inr, refl, sym, ap, ◌∙◌, subst, arith, Bool, true, false, not, cond, ◌&&◌, ◌||◌, Some, None, slice_index_or, slice_get, slice_set, nat_eq, nat_le, All, Contains, length-append, leb-true, true≢false, leb-false}
+use Rattle.std.proofs.lemmas.Bool.{and_parts, not-false}
+use Rattle.std.proofs.lemmas.Option.{same_Some, none-some}
 use Rattle.std.specs.declared.option.Option.{Option}
 use Rattle.std.proofs.lemmas.Bool.Decides.{Decides-eqb, leb_tells, eqb_tells}
 use Rattle.std.proofs.lemmas.List.{length-map, length-set, get_or-set_same, get_or-set_other, get_or-append-add}
@@ -36,24 +38,12 @@ use Rattle.price_rules.specs.Prices.{CutHolds}
 use Rattle.closing_rules.specs.ListedPrices.{ArePrices, AreShapedPrices, cut_in}
 use Rattle.book_rules.specs.Shown.{Shown, IsShown}
 use Rattle.book_rules.specs.States.{IsHitBy, cuts_in}
-use Rattle.book_rules.proofs.TestLemmas.{not-not, not-le, is_own_cut-decides}
+use Rattle.book_rules.proofs.TestLemmas.{is_own_cut-decides}
 use Rattle.book_rules.proofs.ClosingLemmas.{MayCloseBy, unrefused-may, shown-may}
 
-clash : true ≡ false → ⊥
-clash e = cc
-
-is-le : (a b : ℕ) → nat_le a b ≡ true → a ≤ b
-is-le a b e = elim (leb_tells a b) [ inl y ↦ y.1 | inr n ↦ absurd (clash (sym e ∙ n.0)) ]
-
 pub all-got : {X : Type 0} (P : X → Type 0) (xs : List X) (k : ℕ) (x : X) → All P xs → slice_get xs k ≡ Some x → P x
-all-got P [] k x a e = absurd (none-some e)
-  where
-    none-some : None ≡ Some x → ⊥
-    none-some h = cc
-all-got P (y ∷ ys) zero x a e = subst P (some-same e) (All-head P y ys a)
-  where
-    some-same : Some y ≡ Some x → y ≡ x
-    some-same h = cc
+all-got P [] k x a e = absurd (none-some x e)
+all-got P (y ∷ ys) zero x a e = subst P (same_Some y x e) (All-head P y ys a)
 all-got P (y ∷ ys) (suc k) x a e = all-got P ys k x (All-tail P y ys a) e
 
 module _ (I : Instance) (P : Plan) where
@@ -107,14 +97,10 @@ module _ (I : Instance) (P : Plan) where
       let same = get_or-append-add slots more c.id no_slot in
       record {
         id = length slots + c.id;
-        known = omega (arith, c.known, length-both slots more);
+        known = omega (arith, c.known, length-append slots more);
         live = ap (λ (s : Slot). is_live s.state) same ∙ c.live;
         under = subst Under (sym same) c.under;
       }
-    where
-      length-both : (xs ys : List Slot) → length (xs ++ ys) ≡ length xs + length ys
-      length-both [] ys = omega arith
-      length-both (x ∷ xs) ys = let rest = length-both xs ys in omega (arith, rest)
 
 pub all-set : {X : Type 0} (P : X → Type 0) (xs : List X) (i : ℕ) (v : X) → (i < length xs → P v) → All P xs → All P (slice_set xs i v)
 all-set P [] i v h a = a
@@ -125,10 +111,6 @@ pub got-map : (f : Slot → Slot) (xs : List Slot) (i : ℕ) → i < length xs �
 got-map f [] i h = absurd (omega (arith, h))
 got-map f (x ∷ xs) zero h = refl
 got-map f (x ∷ xs) (suc i) h = got-map f xs i (omega (arith, h))
-
-both-second : (p q : Bool) → (p && q) ≡ true → q ≡ true
-both-second true q e = e
-both-second false q e = absurd (clash (sym e))
 
 module _ (I : Instance) (laws : TreeLaws I) (P : Plan) (legal : IsLegal I P) where
   -- the plan costs at least the bound of a good slot under which it lies
@@ -142,7 +124,7 @@ module _ (I : Instance) (laws : TreeLaws I) (P : Plan) (legal : IsLegal I P) whe
       → ((is_fresh s.state || is_back s.state || is_parked s.state) && nat_le cost s.bound) ≡ b
       → (is_live (cond b (record s { state = slot.Closed by.Bound }) s).state ≡ true) × Under I P (cond b (record s { state = slot.Closed by.Bound }) s)
   outdone-slot cost cheaper s good under live true e =
-      let above = is-le cost s.bound (both-second (is_fresh s.state || is_back s.state || is_parked s.state) (nat_le cost s.bound) e) in
+      let above = leb-true cost s.bound ((and_parts (is_fresh s.state || is_back s.state || is_parked s.state) (nat_le cost s.bound) e).1) in
       let low = slot-bound s good under in
       absurd (omega (arith, above, low, cheaper))
   outdone-slot cost cheaper s good under live false e = (live, under)
@@ -162,7 +144,7 @@ module _ (I : Instance) (laws : TreeLaws I) (P : Plan) (legal : IsLegal I P) whe
   new-live : (cost parent number : ℕ) (node : TreeNode) → IsNode I node.depth node.lines → IsUnder I node.depth node.lines P → cost_of I P < cost → (b : Bool) → nat_le cost (bound_at I node) ≡ b → is_live (cond b (slot.Closed by.Bound) slot.Fresh) ≡ true
   new-live cost parent number node good under cheaper true e =
       let low = laws.bound node.depth node.lines good P legal under in
-      let above = is-le cost (bound_at I node) e in
+      let above = leb-true cost (bound_at I node) e in
       absurd (omega (arith, low, above, cheaper))
   new-live cost parent number node good under cheaper false e = refl
 
@@ -191,7 +173,7 @@ outdone-good I cost s good true = record { node = good.node; bound = good.bound 
 outdone-good I cost s good false = good
 
 pub held-known : (slots : List Slot) (id : ℕ) → is_held (slice_index_or slots id no_slot).state ≡ true → id < length slots
-held-known [] id e = absurd (clash (sym e))
+held-known [] id e = absurd (true≢false (sym e))
 held-known (s ∷ ss) zero e = omega arith
 held-known (s ∷ ss) (suc id) e = let rest = held-known ss id e in omega (arith, rest)
 
@@ -359,7 +341,7 @@ module _ {Break : Type 0} (broken : Instance → Plan → Option Break) (sound :
   replace_by-keeps : (plan : Plan) (o : Option Break) → broken I plan ≡ o → KeepsBook (Step.replace_by b plan o).0
   replace_by-keeps plan (Some found) e = old
   replace_by-keeps plan None e =
-      keep_or (nat_le (best_cost b) (cost_of I plan)) (NotCheaper (cost_of I plan) (best_cost b)) (Step.replaced b plan, Replaced (cost_of I plan)) (λ f. replaced-keeps plan (sound I plan e) (not-le (best_cost b) (cost_of I plan) f))
+      keep_or (nat_le (best_cost b) (cost_of I plan)) (NotCheaper (cost_of I plan) (best_cost b)) (Step.replaced b plan, Replaced (cost_of I plan)) (λ f. replaced-keeps plan (sound I plan e) (leb-false (best_cost b) (cost_of I plan) f))
 
   release_slot-keeps : (w : ℕ) (o : Option ℕ) → KeepsBook (Step.release_slot {Break = Break} b w o).0
   release_slot-keeps w None = record { slots = old.slots; cuts = old.cuts; prices = old.prices; covers = record { legal = old.covers.legal; covered = old.covers.covered } }
@@ -373,14 +355,14 @@ module _ {Break : Type 0} (broken : Instance → Plan → Option Break) (sound :
       let whole = nat_le (length I.ships) (slot_at b id).node.depth in
       keep_or (not (is_held (slot_at b id).state)) (NotHeld id) (cond whole (b, Whole id) (Step.split_slot b id)) (λ e.
       keep_or whole (Whole id) (Step.split_slot b id) (λ f.
-      split-keeps id (held-known b.slots id (not-not (is_held (slot_at b id).state) e)) (not-le (length I.ships) (slot_at b id).node.depth f)))
+      split-keeps id (held-known b.slots id (not-false (is_held (slot_at b id).state) e)) (leb-false (length I.ships) (slot_at b id).node.depth f)))
   event-keeps (close id why) owed =
       keep_or (not (Step.may_close b id)) (NotHeld id) (Step.close_unless b id why (Step.refusal_of b id why)) (λ e. close-keeps id why (Step.refusal_of b id why) refl)
   event-keeps (post cut) owed =
-      keep_or (not (is_own_cut I cut)) OtherDeck (Step.posted b cut) (λ e. posted-keeps cut owed (not-not (is_own_cut I cut) e))
+      keep_or (not (is_own_cut I cut)) OtherDeck (Step.posted b cut) (λ e. posted-keeps cut owed (not-false (is_own_cut I cut) e))
   event-keeps (post_prices prices) owed =
       let shaped = nat_eq (length prices) (length I.ships) in
-      keep_or (not shaped) OtherPrices (Step.priced b prices) (λ e. priced-keeps prices owed (not-not shaped e))
+      keep_or (not shaped) OtherPrices (Step.priced b prices) (λ e. priced-keeps prices owed (not-false shaped e))
   event-keeps (close_price id number shown) owed =
       let refusal = Step.price_refusal b id number shown (slice_get b.prices number) in
       keep_or (not (Step.may_close b id)) (NotHeld id) (Step.close_unless b id (by.Price number) refusal) (λ e. close_price-keeps id number shown owed refusal refl)
@@ -414,6 +396,6 @@ nothing_live-cheapest b keeps dead = record {
   least = λ Q legal.
       elim (leb_tells (best_cost b) (cost_of b.case.instance Q)) [
         | inl y ↦ y.1
-        | inr n ↦ let c = keeps.covers.covered Q legal n.1 in absurd (clash (sym c.live ∙ dead c.id c.known))
+        | inr n ↦ let c = keeps.covers.covered Q legal n.1 in absurd (true≢false (sym c.live ∙ dead c.id c.known))
       ];
 }

@@ -1,5 +1,6 @@
 -- What a verdict of a book that ends well means.
-use Rattle.std.proofs.Common.{◌≡◌, ℕ, zero, suc, ◌<◌, ◌≤◌, List, [], ◌∷◌, length, map, filter, ◌⊎◌, inl, inr, refl, sym, ap, ◌∙◌, subst, arith, Bool, true, false, cond, ◌||◌, Some, None, slice_index_or, min}
+use Rattle.std.proofs.Common.{◌≡◌, ℕ, zero, suc, ◌<◌, ◌≤◌, List, [], ◌∷◌, length, map, filter, ◌⊎◌, inl, inr, refl, sym, ap, ◌∙◌, subst, arith, Bool, true, false, cond, ◌||◌, Some, None, slice_index_or, min, true≢false}
+use Rattle.std.proofs.lemmas.Bool.{or_from, or_right, or_parts}
 use Rattle.std.specs.declared.option.Option.{Option}
 use Rattle.std.specs.List.{list_any}
 use Rattle.std.proofs.lemmas.Bool.Decides.{leb_tells}
@@ -27,37 +28,22 @@ use Rattle.book_rules.proofs.CheapLemmas.{count-some, cheap-shares}
 use Rattle.closing_rules.proofs.BelowLemmas.{HasBelow, least-below}
 use Rattle.book_rules.proofs.GrowLemmas.{cheap-grows}
 
-clash : true ≡ false → ⊥
-clash e = cc
-
 -- ---- states by their tests
 
 parked-is : (s : SlotState) → is_parked s ≡ true → (c : ℕ) × (p : ℕ) × (s ≡ slot.Parked c p)
 parked-is (slot.Parked c p) e = (c, p, refl)
-parked-is _ e = absurd (clash (sym e))
-
-neither : (s t : Bool) → (s || t) ≡ false → (s ≡ false) × (t ≡ false)
-neither false t e = (refl, e)
-neither true t e = absurd (clash e)
+parked-is _ e = absurd (true≢false (sym e))
 
 -- ---- whether some slot passes a test
 
 any-at : (p : Slot → Bool) (xs : List Slot) (id : ℕ) → id < length xs → p (slice_index_or xs id no_slot) ≡ true → list_any p xs ≡ true
 any-at p [] id known e = absurd (omega (arith, known))
 any-at p (x ∷ xs) zero known e = ap (λ t. t || list_any p xs) e
-any-at p (x ∷ xs) (suc id) known e = behind (p x) (list_any p xs) (any-at p xs id (omega (arith, known)) e)
-  where
-    behind : (s t : Bool) → t ≡ true → (s || t) ≡ true
-    behind true t e = refl
-    behind false t e = e
+any-at p (x ∷ xs) (suc id) known e = or_right (p x) (list_any p xs) (any-at p xs id (omega (arith, known)) e)
 
 any-none : (p : Slot → Bool) (xs : List Slot) → ((id : ℕ) → id < length xs → p (slice_index_or xs id no_slot) ≡ false) → list_any p xs ≡ false
 any-none p [] h = refl
-any-none p (x ∷ xs) h = both (p x) (list_any p xs) (h 0 (omega arith)) (any-none p xs (λ id known. h (suc id) (omega (arith, known))))
-  where
-    both : (s t : Bool) → s ≡ false → t ≡ false → (s || t) ≡ false
-    both false t e f = f
-    both true t e f = absurd (clash e)
+any-none p (x ∷ xs) h = or_from (p x) (list_any p xs) (h 0 (omega arith)) (any-none p xs (λ id known. h (suc id) (omega (arith, known))))
 
 -- ---- the least bound of the live slots
 
@@ -115,11 +101,11 @@ least-among v (x ∷ xs) h = some x xs
 -- a live state that is neither Back nor Held is Fresh or Parked
 live-either : (s : SlotState) → is_live s ≡ true → is_back s ≡ false → is_held s ≡ false → (s ≡ slot.Fresh) ⊎ (is_parked s ≡ true)
 live-either slot.Fresh live shut free = inl refl
-live-either slot.Back live shut free = absurd (clash shut)
-live-either (slot.Held w) live shut free = absurd (clash free)
+live-either slot.Back live shut free = absurd (true≢false shut)
+live-either (slot.Held w) live shut free = absurd (true≢false free)
 live-either (slot.Parked c p) live shut free = inr refl
-live-either (slot.Split first) live shut free = absurd (clash (sym live))
-live-either (slot.Closed why) live shut free = absurd (clash (sym live))
+live-either (slot.Split first) live shut free = absurd (true≢false (sym live))
+live-either (slot.Closed why) live shut free = absurd (true≢false (sym live))
 
 module _ (b : Book) (laws : TreeLaws b.case.instance) (keeps : KeepsBook b) (parts : KeepsParts b) (limit : ℕ) (well : EndsWell limit b) where
   abbrev I : Instance
@@ -129,7 +115,7 @@ module _ (b : Book) (laws : TreeLaws b.case.instance) (keeps : KeepsBook b) (par
   best-low = omega (arith, parts.cheap.best, well.opening)
 
   no-back : (id : ℕ) → id < length b.slots → is_back (slot_at b id).state ≡ false
-  no-back id known = elim well.left [ inl shut ↦ (neither (is_fresh (slot_at b id).state) (is_back (slot_at b id).state) (shut.none id known)).1 | inr spent ↦ spent.back.none id known ]
+  no-back id known = elim well.left [ inl shut ↦ (or_parts (is_fresh (slot_at b id).state) (is_back (slot_at b id).state) (shut.none id known)).1 | inr spent ↦ spent.back.none id known ]
 
   -- ---- the least bound of what is left
 
@@ -197,9 +183,9 @@ module _ (b : Book) (laws : TreeLaws b.case.instance) (keeps : KeepsBook b) (par
   module _ (shut : HasNothingOpen b) where
     live-held : (id : ℕ) → id < length b.slots → is_live (slot_at b id).state ≡ true → is_parked (slot_at b id).state ≡ true
     live-held id known live =
-        let parts = neither (is_fresh (slot_at b id).state) (is_back (slot_at b id).state) (shut.none id known) in
+        let parts = or_parts (is_fresh (slot_at b id).state) (is_back (slot_at b id).state) (shut.none id known) in
         elim (live-either (slot_at b id).state live parts.1 (well.free.none id known)) [
-          | inl fresh ↦ absurd (clash (sym (ap is_fresh fresh) ∙ parts.0))
+          | inl fresh ↦ absurd (true≢false (sym (ap is_fresh fresh) ∙ parts.0))
           | inr held ↦ held
         ]
 
@@ -241,7 +227,7 @@ module _ (b : Book) (laws : TreeLaws b.case.instance) (keeps : KeepsBook b) (par
       where
         dead : (id : ℕ) → id < length b.slots → (t : Bool) → is_live (slot_at b id).state ≡ t → is_live (slot_at b id).state ≡ false
         dead id known false e = e
-        dead id known true e = absurd (clash (sym (live-held id known e) ∙ first_slot-none b is_parked none id known))
+        dead id known true e = absurd (true≢false (sym (live-held id known e) ∙ first_slot-none b is_parked none id known))
     turns-end (Some id) some =
         let found = first_slot-at b is_parked id some in
         let at = parked-is (slot_at b id).state found.1 in
@@ -253,8 +239,8 @@ module _ (b : Book) (laws : TreeLaws b.case.instance) (keeps : KeepsBook b) (par
         subst (λ t. IsEnd I b.case.nodes b.case.turns limit b.best (cond t (verdict.OpenNodes b.used (low_of b)) (turns_verdict b (first_slot b is_parked)))) (sym none) (turns-end (first_slot b is_parked) refl)
       where
         all_three : (r s t : Bool) → (r || s) ≡ false → t ≡ false → (r || s || t) ≡ false
-        all_three true s t e f = absurd (clash e)
-        all_three false true t e f = absurd (clash e)
+        all_three true s t e f = absurd (true≢false e)
+        all_three false true t e f = absurd (true≢false e)
         all_three false false t e f = f
 
   -- WHAT A VERDICT MEANS, of a book that ends well.

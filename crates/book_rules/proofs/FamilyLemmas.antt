@@ -1,5 +1,5 @@
 -- Every event keeps the tree that the slots make.
-use Rattle.std.proofs.Common.{◌≡◌, ℕ, zero, suc, ◌+◌, ◌<◌, List, [], ◌∷◌, ◌++◌, length, refl, sym, ap, ◌∙◌, subst, arith, Bool, true, false, cond, slice_index_or, slice_set, nat_le}
+use Rattle.std.proofs.Common.{◌≡◌, ℕ, zero, suc, ◌+◌, ◌<◌, List, [], ◌∷◌, ◌++◌, length, refl, sym, ap, ◌∙◌, subst, arith, Bool, true, false, cond, slice_index_or, slice_set, nat_le, true≢false}
 use Rattle.std.specs.declared.option.Option.{Option}
 use Rattle.std.proofs.lemmas.List.{length-map, length-set}
 use Rattle.lock_model.specs.declared.instance.Instance.{Instance}
@@ -20,9 +20,6 @@ use Rattle.book_rules.proofs.BudgetLemmas.{closing-whole}
 use Rattle.book_rules.proofs.TallyLemmas.{Kept, Closed, outdone-is, open-whole}
 use Rattle.book_rules.proofs.TurnLemmas.{Turned, Untouched, turned-at, Parent, Old, Child, Past, split-at, kid, kid-at, length-split, outdone-at}
 use Rattle.closing_rules.specs.declared.grounds.Ground.TheVariants as by
-
-clash : true ≡ false → ⊥
-clash e = cc
 
 -- slot id holds the same node, as the same child
 record IsSameNode (b new : Book) (id : ℕ) : Type 0 where
@@ -75,7 +72,7 @@ shape-family b new shape keeps = record {
 -- ---- a slot that turns, none of the states Split
 
 not-split : (s : SlotState) (first : ℕ) → is_split s ≡ false → s ≡ slot.Split first → ⊥
-not-split s first e f = clash (sym (ap is_split f) ∙ e)
+not-split s first e f = true≢false (sym (ap is_split f) ∙ e)
 
 turned-shape : (b : Book) (id : ℕ) (old new : SlotState) (used : ℕ) (ended : List Bool) (e : Entry) → IsAt b id old → is_split old ≡ false → is_split new ≡ false → IsSameShape b (turned b id new used ended e)
 turned-shape b id old new used ended e at whole still = record {
@@ -175,7 +172,7 @@ module _ (b : Book) (w id : ℕ) (at : IsAt b id (slot.Held w)) (e : Entry) wher
   -- what is split stays so, and so is this slot
   pub stays-split : (other first : ℕ) → (slot_at b other).state ≡ slot.Split first → (slot_at new other).state ≡ slot.Split first
   stays-split other first h =
-      let here : other < length b.slots = state-known b other (slot.Split first) h (λ f. clash (ap is_split f)) in
+      let here : other < length b.slots = state-known b other (slot.Split first) h (λ f. true≢false (ap is_split f)) in
       elim (split-at b id at.known other) [
         | Parent is s ↦ absurd (held-whole first (ap (λ k. (slot_at b k).state) (sym is) ∙ h))
         | Old not_id known s ↦ ap (λ (u : Slot). u.state) s ∙ h
@@ -244,7 +241,7 @@ module _ (b : Book) (w id : ℕ) (at : IsAt b id (slot.Held w)) (e : Entry) wher
   old-born other here old =
       let same = old-same other here in
       let parent = (slot_at b other).parent in
-      let known : parent < length b.slots = state-known b parent (slot.Split old.first) old.split (λ f. clash (ap is_split f)) in
+      let known : parent < length b.slots = state-known b parent (slot.Split old.first) old.split (λ f. true≢false (ap is_split f)) in
       let node = (old-same parent known).node_same in
       record {
         first = old.first;

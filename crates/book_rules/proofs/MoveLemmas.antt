@@ -1,7 +1,9 @@
 -- What an event does to a book: a refusal leaves it, and each accepted event is one of ten moves.
-use Rattle.std.proofs.Common.{◌≡◌, ◌≢◌, ℕ, zero, suc, ◌<◌, ◌≤◌, List, [], ◌∷◌, ◌++◌, length, inl, inr, refl, sym, ap, ◌∙◌, subst, arith, Bool, true, false, not, cond, ◌&&◌, ◌||◌, Some, None, slice_index_or, slice_get, slice_set, nat_eq, nat_le}
+use Rattle.std.proofs.Common.{◌≡◌, ◌≢◌, ℕ, zero, suc, ◌<◌, ◌≤◌, List, [], ◌∷◌, ◌++◌, length, inl, inr, refl, sym, ap, ◌∙◌, subst, arith, Bool, true, false, not, cond, ◌||◌, Some, None, slice_index_or, slice_get, slice_set, nat_eq, nat_le, leb-true, true≢false, leb-false}
+use Rattle.std.proofs.lemmas.Bool.{and_parts, not-false}
+use Rattle.std.proofs.lemmas.Option.{same_Some, none-some}
 use Rattle.std.specs.declared.option.Option.{Option}
-use Rattle.std.proofs.lemmas.Bool.Decides.{Decides-eqb, eqb_tells, leb_tells}
+use Rattle.std.proofs.lemmas.Bool.Decides.{Decides-eqb, eqb_tells}
 use Rattle.lock_model.specs.Deck.{Deck}
 use Rattle.lock_model.specs.Fitting.{deck_of}
 use Rattle.lock_model.specs.Cargo.{HasNoClash}
@@ -28,7 +30,7 @@ use Rattle.book_rules.specs.Shown.{Shown, IsShown}
 use Rattle.book_rules.specs.States.{Tells}
 use Rattle.book_rules.proofs.ClosingLemmas.{MayRefuse, may-refuse, may-refuse_price, unrefused-may, shown-may}
 use Rattle.book_rules.proofs.CoverLemmas.{held-known}
-use Rattle.book_rules.proofs.TestLemmas.{not-not, not-le, same_deck-decides, HasNoClash-test, is_own_cut-decides}
+use Rattle.book_rules.proofs.TestLemmas.{same_deck-decides, HasNoClash-test, is_own_cut-decides}
 use Rattle.book_rules.specs.Cover.{IsOwnCut}
 use Rattle.book_rules.proofs.SlotLemmas.{IsAt, back-is, held-is, held_by-is, held_by-itself, first_slot-at, first_slot-none, next_fresh-at}
 use Rattle.closing_rules.specs.declared.grounds.Ground.{Ground}
@@ -76,12 +78,6 @@ pub data IsMove {Break : Type 0} (b : Book) (e : Event) (out : Book × Reply Bre
   Ends : (w : ℕ) → IsRunning b w → HoldsNone b w → out.0 ≡ Step.noted (record b { ended = slice_set b.ended w true }) (entry.Release w) → IsMove b e out
   GivesBack : (w id : ℕ) → IsRunning b w → IsAt b id (slot.Held w) → out.0 ≡ turned b id slot.Back b.used (slice_set b.ended w true) (entry.Release w) → IsMove b e out
 
-clash : true ≡ false → ⊥
-clash e = cc
-
-none-some : {X : Type 0} (x : X) → None ≡ Some x → ⊥
-none-some x e = cc
-
 pub state-known : (b : Book) (id : ℕ) (state : SlotState) → (slot_at b id).state ≡ state → (state ≡ slot.Closed by.Bound → ⊥) → id < length b.slots
 state-known b id state is other = in_list b.slots id is
   where
@@ -110,10 +106,10 @@ module _ {Break : Type 0} (broken : Instance → Plan → Option Break) (b : Boo
   holds-none : (w : ℕ) → first_slot b (is_held_by w) ≡ None → HoldsNone b w
   holds-none w e id is =
       let known = state-known b id (slot.Held w) is held-open in
-      clash (sym (held_by-itself w) ∙ ap (is_held_by w) (sym is) ∙ first_slot-none b (is_held_by w) e id known)
+      true≢false (sym (held_by-itself w) ∙ ap (is_held_by w) (sym is) ∙ first_slot-none b (is_held_by w) e id known)
     where
       held-open : slot.Held w ≡ slot.Closed by.Bound → ⊥
-      held-open e = clash (ap is_held e)
+      held-open e = true≢false (ap is_held e)
 
   idle-move : (w : ℕ) (t : Bool) → Is (take w) (b, cond t Idle Done)
   idle-move w true = Stays refl refl
@@ -126,7 +122,7 @@ module _ {Break : Type 0} (broken : Instance → Plan → Option Break) (b : Boo
       TakesFresh w id runs none back e (next_fresh-at b id e) (differ f) refl)
     where
       differ : nat_eq b.used b.case.nodes ≡ false → b.used ≢ b.case.nodes
-      differ f = elim (eqb_tells b.used b.case.nodes) [ inl y ↦ absurd (clash (sym y.0 ∙ f)) | inr n ↦ n.1 ]
+      differ f = elim (eqb_tells b.used b.case.nodes) [ inl y ↦ absurd (true≢false (sym y.0 ∙ f)) | inr n ↦ n.1 ]
 
   take_slot-move : (w : ℕ) → IsRunning b w → HoldsNone b w → (o : Option ℕ) → first_slot b is_back ≡ o → Is (take w) (Step.take_slot b w o)
   take_slot-move w runs none (Some id) e =
@@ -147,9 +143,9 @@ module _ {Break : Type 0} (broken : Instance → Plan → Option Break) (b : Boo
   -- ---- closing
 
   from_state : (id : ℕ) (old : SlotState) → (slot_at b id).state ≡ old → (is_held old || is_parked old) ≡ true → MayClose old × IsAt b id old
-  from_state id (slot.Held w) is e = (FromHeld w, record { known = state-known b id (slot.Held w) is (λ f. clash (ap is_held f)); is = is })
-  from_state id (slot.Parked c p) is e = (FromParked c p, record { known = state-known b id (slot.Parked c p) is (λ f. clash (ap is_parked f)); is = is })
-  from_state id _ is e = absurd (clash (sym e))
+  from_state id (slot.Held w) is e = (FromHeld w, record { known = state-known b id (slot.Held w) is (λ f. true≢false (ap is_held f)); is = is })
+  from_state id (slot.Parked c p) is e = (FromParked c p, record { known = state-known b id (slot.Parked c p) is (λ f. true≢false (ap is_parked f)); is = is })
+  from_state id _ is e = absurd (true≢false (sym e))
 
   close-move : (id : ℕ) (why : Ground) → Step.may_close b id ≡ true → (o : Option (Reply Break)) → Step.refusal_of b id why ≡ o → MayRefuse o → Is (close id why) (Step.close_unless b id why o)
   close-move id why may (Some r) e refuses = Stays refuses refl
@@ -168,43 +164,33 @@ module _ {Break : Type 0} (broken : Instance → Plan → Option Break) (b : Boo
 
   got-known : (gs : List Group) (p : ℕ) (g : Group) → slice_get gs p ≡ Some g → (p < length gs) × (slice_index_or gs p no_group ≡ g)
   got-known [] p g e = absurd (none-some g e)
-  got-known (h ∷ gs) zero g e = (omega arith, some-same e)
-    where
-      some-same : Some h ≡ Some g → h ≡ g
-      some-same i = cc
+  got-known (h ∷ gs) zero g e = (omega arith, same_Some h g e)
   got-known (h ∷ gs) (suc p) g e = let rest = got-known gs p g e in (omega (arith, rest.0), rest.1)
-
-  both-true : (p q : Bool) → (p && q) ≡ true → (p ≡ true) × (q ≡ true)
-  both-true true q e = (refl, e)
-  both-true false q e = absurd (clash (sym e))
 
   park-tells : (id c p : ℕ) (deck : Deck) (turns : ℕ) (g : Group) → group_at (slot_at b id).node c p ≡ Some g → IsSpent deck turns → Step.is_lent b c g deck turns ≡ true → has_clash deck.ships ≡ false → TellsAt b id (slot.Parked c p)
   park-tells id c p deck turns g e spent lent clear =
       let at = got-known (line_at (slot_at b id).node.lines c) p g e in
-      let parts = both-true (same_deck (deck_of I c g.ships) deck) (nat_le b.case.turns turns) lent in
+      let parts = and_parts (same_deck (deck_of I c g.ships) deck) (nat_le b.case.turns turns) lent in
       let same : deck ≡ deck_of I c (ships_at (slot_at b id).node c p) = sym ((same_deck-decides (deck_of I c g.ships) deck).0 parts.0) ∙ ap (λ (h : Group). deck_of I c h.ships) (sym at.1) in
-      let fewer = is-le b.case.turns turns parts.1 in
+      let fewer = leb-true b.case.turns turns parts.1 in
       record {
         there = at.0;
         spent = subst (λ d. IsSpent d b.case.turns) same (spent-fewer deck b.case.turns turns fewer spent);
         clear = subst HasNoClash same (HasNoClash-test deck clear);
       }
-    where
-      is-le : (m n : ℕ) → nat_le m n ≡ true → m ≤ n
-      is-le m n e = elim (leb_tells m n) [ inl y ↦ y.1 | inr n ↦ absurd (clash (sym e ∙ n.0)) ]
 
   park_group-move : (id c p : ℕ) (deck : Deck) (turns w : ℕ) → IsAt b id (slot.Held w) → IsSpent deck turns → (o : Option Group) → group_at (slot_at b id).node c p ≡ o → Is (park id c p deck turns) (Step.park_group b id c p deck turns o)
   park_group-move id c p deck turns w at spent None e = Stays refl refl
   park_group-move id c p deck turns w at spent (Some g) e =
       refuse_or (park id c p deck turns) (not (Step.is_lent b c g deck turns)) OtherDeck (cond (has_clash deck.ships) (b, Clashes id) (Step.parked b id c p)) refl (λ f.
       refuse_or (park id c p deck turns) (has_clash deck.ships) (Clashes id) (Step.parked b id c p) refl (λ h.
-      Parks w id c p at (park-tells id c p deck turns g e spent (not-not (Step.is_lent b c g deck turns) f) h) refl))
+      Parks w id c p at (park-tells id c p deck turns g e spent (not-false (Step.is_lent b c g deck turns) f) h) refl))
 
   replace_by-move : (plan : Plan) (o : Option Break) → Is (replace plan) (Step.replace_by b plan o)
   replace_by-move plan (Some found) = Stays refl refl
   replace_by-move plan None =
       refuse_or (replace plan) (nat_le (best_cost b) (cost_of I plan)) (NotCheaper (cost_of I plan) (best_cost b)) (Step.replaced b plan, Replaced (cost_of I plan)) refl (λ e.
-      Replaces plan refl (not-le (best_cost b) (cost_of I plan) e) refl)
+      Replaces plan refl (leb-false (best_cost b) (cost_of I plan) e) refl)
 
   -- each event is a refusal or one of the moves
   pub each-move : (e : Event) → IsOwed e → Is e (Step.step broken b e)
@@ -215,26 +201,26 @@ module _ {Break : Type 0} (broken : Instance → Plan → Option Break) (b : Boo
       let whole = nat_le (length I.ships) (slot_at b id).node.depth in
       refuse_or (split id) (not (is_held (slot_at b id).state)) (NotHeld id) (cond whole (b, Whole id) (Step.split_slot b id)) refl (λ f.
       refuse_or (split id) whole (Whole id) (Step.split_slot b id) refl (λ g.
-      let held = held-at b id (not-not (is_held (slot_at b id).state) f) in
-      Splits held.0 id held.1 (not-le (length I.ships) (slot_at b id).node.depth g) refl))
+      let held = held-at b id (not-false (is_held (slot_at b id).state) f) in
+      Splits held.0 id held.1 (leb-false (length I.ships) (slot_at b id).node.depth g) refl))
   each-move (close id why) owed =
       let refusal = Step.refusal_of b id why in
       refuse_or (close id why) (not (Step.may_close b id)) (NotHeld id) (Step.close_unless b id why refusal) refl (λ f.
-      close-move id why (not-not (Step.may_close b id) f) refusal refl (may-refuse b id Break why))
+      close-move id why (not-false (Step.may_close b id) f) refusal refl (may-refuse b id Break why))
   each-move (post cut) owed =
       refuse_or (post cut) (not (is_own_cut I cut)) OtherDeck (Step.posted b cut) refl (λ f.
-      Posts cut refl owed ((is_own_cut-decides I cut).0 (not-not (is_own_cut I cut) f)) refl)
+      Posts cut refl owed ((is_own_cut-decides I cut).0 (not-false (is_own_cut I cut) f)) refl)
   each-move (post_prices prices) owed =
       let shaped = nat_eq (length prices) (length I.ships) in
       refuse_or (post_prices prices) (not shaped) OtherPrices (Step.priced b prices) refl (λ f.
-      Prices prices refl owed (record { count = (Decides-eqb (length prices) (length I.ships)).0 (not-not shaped f) }) refl)
+      Prices prices refl owed (record { count = (Decides-eqb (length prices) (length I.ships)).0 (not-false shaped f) }) refl)
   each-move (close_price id number shown) owed =
       let refusal = Step.price_refusal b id number shown (slice_get b.prices number) in
       refuse_or (close_price id number shown) (not (Step.may_close b id)) (NotHeld id) (Step.close_unless b id (by.Price number) refusal) refl (λ f.
-      close_price-move id number shown owed (not-not (Step.may_close b id) f) refusal refl (may-refuse_price b id Break number shown (slice_get b.prices number)))
+      close_price-move id number shown owed (not-false (Step.may_close b id) f) refusal refl (may-refuse_price b id Break number shown (slice_get b.prices number)))
   each-move (park id c p deck turns) owed =
       refuse_or (park id c p deck turns) (not (is_held (slot_at b id).state)) (NotHeld id) (Step.park_group b id c p deck turns (group_at (slot_at b id).node c p)) refl (λ f.
-      let held = held-at b id (not-not (is_held (slot_at b id).state) f) in
+      let held = held-at b id (not-false (is_held (slot_at b id).state) f) in
       park_group-move id c p deck turns held.0 held.1 owed (group_at (slot_at b id).node c p) refl)
   each-move (replace plan) owed = replace_by-move plan (broken I plan)
   each-move (release w) owed =

@@ -1,5 +1,7 @@
 -- Which slot is the first in a state, and which Fresh slot is next.
-use Rattle.std.proofs.Common.{◌≡◌, ◌≢◌, ℕ, zero, suc, ◌+◌, ◌<◌, ◌≤◌, List, [], ◌∷◌, length, inl, inr, refl, sym, ap, ◌∙◌, subst, arith, Bool, true, false, not, cond, ◌&&◌, Some, None, slice_index_or, nat_eq, nat_lt}
+use Rattle.std.proofs.Common.{◌≡◌, ◌≢◌, ℕ, zero, suc, ◌+◌, ◌<◌, ◌≤◌, List, [], ◌∷◌, length, inl, inr, refl, sym, ap, ◌∙◌, subst, arith, Bool, true, false, not, cond, ◌&&◌, Some, None, slice_index_or, nat_eq, nat_lt, le-ltb, lt-ltb, true≢false}
+use Rattle.std.proofs.lemmas.Bool.{and_parts}
+use Rattle.std.proofs.lemmas.Option.{same_Some}
 use Rattle.std.specs.declared.option.Option.{Option}
 use Rattle.std.specs.List.{position_or_len, filter}
 use Rattle.std.proofs.lemmas.Bool.Decides.{leb_tells, eqb_tells}
@@ -14,10 +16,7 @@ use Rattle.book_rules.specs.NextSlot.{keep_better, first_best, numbers_where, fr
 use Rattle.book_rules.specs.Family.{child_count, KeepsFamily}
 use Rattle.book_rules.specs.Waiting.{IsFreshChild, IsLeastFresh, IsLastSplit}
 use Rattle.book_rules.proofs.MoveLemmas.{state-known}
-use Rattle.book_rules.proofs.SlotLemmas.{some-same, among-where, best-among, lower, later, below_root, IsAt, fresh-is, next_fresh-at}
-
-clash : true ≡ false → ⊥
-clash e = cc
+use Rattle.book_rules.proofs.SlotLemmas.{among-where, best-among, lower, later, below_root, IsAt, fresh-is, next_fresh-at}
 
 -- ---- the first slot in such a state
 
@@ -111,12 +110,6 @@ first_best-is beats low (a ∷ ns) n rises (inr among) smaller none =
 
 -- ---- the next Fresh slot
 
-pub beats-true : (m n : ℕ) → m < n → nat_lt m n ≡ true
-beats-true m n h = elim (leb_tells (suc m) n) [ inl y ↦ y.0 | inr k ↦ absurd (omega (arith, h, k.1)) ]
-
-pub beats-false : (m n : ℕ) → n ≤ m → nat_lt m n ≡ false
-beats-false m n h = elim (leb_tells (suc m) n) [ inl y ↦ absurd (omega (arith, h, y.1)) | inr k ↦ k.0 ]
-
 -- one of some numbers isn't beaten
 best-some : (beats : ℕ → ℕ → Bool) (ns : List ℕ) (n : ℕ) → IsAmong ns n → (m : ℕ) × (first_best beats ns ≡ Some m)
 best-some beats [] n h = absurd h
@@ -149,32 +142,28 @@ module _ (b : Book) (family : KeepsFamily b) where
       let same : 0 + id ≡ id = omega arith in
       subst (IsAmong (fresh_children b parent)) same (where-among (λ s. is_fresh s.state && nat_eq s.parent parent) 0 b.slots id h.known (child-passes parent id h))
 
-  both : (p q : Bool) → (p && q) ≡ true → (p ≡ true) × (q ≡ true)
-  both true q e = (refl, e)
-  both false q e = absurd (clash (sym e))
-
   -- where the root isn't Fresh, what is among the Fresh children is one
   among-child : is_fresh (slot_at b 0).state ≡ false → (parent id : ℕ) → IsAmong (fresh_children b parent) id → IsFreshChild b parent id
   among-child shut parent id h =
       let at = among-where (λ s. is_fresh s.state && nat_eq s.parent parent) 0 b.slots id h in
       let same : at.0 ≡ id = omega (arith, at.1) in
-      let parts = both (is_fresh (slot_at b at.0).state) (nat_eq (slot_at b at.0).parent parent) at.3 in
+      let parts = and_parts (is_fresh (slot_at b at.0).state) (nat_eq (slot_at b at.0).parent parent) at.3 in
       subst (IsFreshChild b parent) same (record {
         known = at.2;
-        some = λ e. clash (sym parts.0 ∙ ap (λ k. is_fresh (slot_at b k).state) e ∙ shut);
+        some = λ e. true≢false (sym parts.0 ∙ ap (λ k. is_fresh (slot_at b k).state) e ∙ shut);
         fresh = fresh-is (slot_at b at.0).state parts.0;
-        below = elim (eqb_tells (slot_at b at.0).parent parent) [ inl y ↦ y.1 | inr n ↦ absurd (clash (sym parts.1 ∙ n.0)) ];
+        below = elim (eqb_tells (slot_at b at.0).parent parent) [ inl y ↦ y.1 | inr n ↦ absurd (true≢false (sym parts.1 ∙ n.0)) ];
       })
 
   least_fresh-is : is_fresh (slot_at b 0).state ≡ false → (parent id : ℕ) → IsLeastFresh b parent id → least_fresh b (Some parent) ≡ Some id
   least_fresh-is shut parent id h =
       first_best-is (lower b) 0 (fresh_children b parent) id (where-rises (λ s. is_fresh s.state && nat_eq s.parent parent) 0 b.slots) (child-among parent id h.child)
-      (λ m among less. beats-true (slot_at b id).bound (slot_at b m).bound (h.tie m (among-child shut parent m among) less))
-      (λ m among. beats-false (slot_at b m).bound (slot_at b id).bound (h.least m (among-child shut parent m among)))
+      (λ m among less. lt-ltb (slot_at b id).bound (slot_at b m).bound (h.tie m (among-child shut parent m among) less))
+      (λ m among. le-ltb (slot_at b m).bound (slot_at b id).bound (h.least m (among-child shut parent m among)))
 
   split-is : (s : SlotState) → is_split s ≡ true → s ≡ slot.Split (first_child s)
   split-is (slot.Split first) e = refl
-  split-is _ e = absurd (clash (sym e))
+  split-is _ e = absurd (true≢false (sym e))
 
   -- a split with a Fresh child waits
   split-waits : (parent first id : ℕ) → (slot_at b parent).state ≡ slot.Split first → parent < length b.slots → IsFreshChild b parent id → IsAmong (waiting_splits b) parent
@@ -201,7 +190,7 @@ module _ (b : Book) (family : KeepsFamily b) where
       }
     where
       some : (ns : List ℕ) → is_some_number ns ≡ true → (n : ℕ) × IsAmong ns n
-      some [] e = absurd (clash (sym e))
+      some [] e = absurd (true≢false (sym e))
       some (n ∷ ns) e = (n, inl refl)
 
   -- the first child of a split with a Fresh child
@@ -230,16 +219,16 @@ module _ (b : Book) (family : KeepsFamily b) where
       let mine : (slot_at b first).parent ≡ m = subst (λ f. (slot_at b f).parent ≡ m) e (own-first m (first_child (slot_at b m).state) other.id other.split other.child) in
       let his : (slot_at b first).parent ≡ parent = own-first parent first id last.split child in
       omega (arith, mine, his, less) in
-      beats-true (first_child (slot_at b m).state) (first_child (slot_at b parent).state) (omega (arith, at_most, differ, own)))
+      lt-ltb (first_child (slot_at b m).state) (first_child (slot_at b parent).state) (omega (arith, at_most, differ, own)))
       (λ m among.
       let other = waits-split shut m among in
       let at_most : first_child (slot_at b m).state ≤ first = last.last other.id m (first_child (slot_at b m).state) other.child other.split in
-      beats-false (first_child (slot_at b parent).state) (first_child (slot_at b m).state) (omega (arith, at_most, own)))
+      le-ltb (first_child (slot_at b parent).state) (first_child (slot_at b m).state) (omega (arith, at_most, own)))
 
   -- where the root isn't Fresh, the next Fresh slot is the least Fresh child of the last split that has one
   pub next_fresh-is : is_fresh (slot_at b 0).state ≡ false → (parent first id : ℕ) → IsLastSplit b parent first → IsLeastFresh b parent id → next_fresh b ≡ Some id
   next_fresh-is shut parent first id last least =
-      let known : parent < length b.slots = state-known b parent (slot.Split first) last.split (λ f. clash (ap is_split f)) in
+      let known : parent < length b.slots = state-known b parent (slot.Split first) last.split (λ f. true≢false (ap is_split f)) in
       ap (λ t. cond t (Some 0) (below_root b)) shut
       ∙ ap (least_fresh b) (last-split shut parent first id last least.child known)
       ∙ least_fresh-is shut parent id least
@@ -250,7 +239,7 @@ module _ (b : Book) (family : KeepsFamily b) where
   below-some : is_fresh (slot_at b 0).state ≡ false → (o : Option ℕ) (parent : ℕ) → o ≡ Some parent → IsAmong (waiting_splits b) parent → least_fresh b o ≡ None → ⊥
   below-some shut None parent e among h = some-none None parent e refl
   below-some shut (Some p) parent e among h =
-      let here : IsAmong (waiting_splits b) p = subst (IsAmong (waiting_splits b)) (sym (some-same p parent e)) among in
+      let here : IsAmong (waiting_splits b) p = subst (IsAmong (waiting_splits b)) (sym (same_Some p parent e)) among in
       let least = least-some shut p here in
       some-none (least_fresh b (Some p)) least.0 least.1 h
 
@@ -259,7 +248,7 @@ module _ (b : Book) (family : KeepsFamily b) where
   parent-waits id not_root at =
       let born = family.born id (omega (arith, not_root)) at.known in
       let parent = (slot_at b id).parent in
-      let known : parent < length b.slots = state-known b parent (slot.Split born.first) born.split (λ f. clash (ap is_split f)) in
+      let known : parent < length b.slots = state-known b parent (slot.Split born.first) born.split (λ f. true≢false (ap is_split f)) in
       split-waits parent born.first id born.split known (record { known = at.known; some = not_root; fresh = at.is; below = refl })
 
   -- where a slot is Fresh, one is next
@@ -269,7 +258,7 @@ module _ (b : Book) (family : KeepsFamily b) where
       by_root : (t : Bool) → is_fresh (slot_at b 0).state ≡ t → cond t (Some 0) (below_root b) ≡ None → ⊥
       by_root true e h = some-none (Some 0) 0 refl h
       by_root false e h =
-          let not_root : id ≢ 0 = λ f. clash (sym (ap is_fresh at.is) ∙ ap (λ k. is_fresh (slot_at b k).state) f ∙ e) in
+          let not_root : id ≢ 0 = λ f. true≢false (sym (ap is_fresh at.is) ∙ ap (λ k. is_fresh (slot_at b k).state) f ∙ e) in
           let best = best-some (later b) (waiting_splits b) (slot_at b id).parent (parent-waits id not_root at) in
           below-some e (first_best (later b) (waiting_splits b)) best.0 best.1 (best-among (later b) (waiting_splits b) best.0 best.1) h
 
@@ -279,4 +268,4 @@ next_fresh-none b none = by_next (next_fresh b) refl
   where
     by_next : (o : Option ℕ) → next_fresh b ≡ o → o ≡ None
     by_next None e = refl
-    by_next (Some id) e = let at = next_fresh-at b id e in absurd (clash (sym (ap is_fresh at.is) ∙ none id at.known))
+    by_next (Some id) e = let at = next_fresh-at b id e in absurd (true≢false (sym (ap is_fresh at.is) ∙ none id at.known))

@@ -1,7 +1,11 @@
 -- A book is the replay of its history, after every list of events.
-use Rattle.std.proofs.Common.{◌≡◌, ℕ, zero, suc, ◌+◌, List, [], ◌∷◌, ◌++◌, length, inl, inr, refl, sym, ap, ◌∙◌, subst, arith, Bool, true, false, not, cond, Some, None, slice_index_or, slice_get, nat_lt, nat_le, ◌&&◌}
+use Rattle.std.proofs.Common.{◌≡◌, ℕ, zero, suc, ◌+◌, List, [], ◌∷◌, ◌++◌, length, inl, inr, refl, sym, ap, ◌∙◌, subst, arith, Bool, true, false, not, cond, Some, None, slice_index_or, slice_get, nat_lt, nat_le, ◌&&◌, length-append}
+use Rattle.std.proofs.lemmas.Bool.{and_parts, false≢true}
+use Rattle.std.proofs.lemmas.Option.{same_Some, none-some}
 use Rattle.std.specs.declared.option.Option.{Option}
 use Rattle.std.proofs.lemmas.Bool.Decides.{leb_tells}
+use Rattle.std.specs.List.{count_by}
+use Rattle.std.proofs.lemmas.List.Sums.{sum_by-append, sum_by-cons}
 use Rattle.lock_model.specs.Deck.{Deck}
 use Rattle.lock_model.specs.Fitting.{deck_of}
 use Rattle.lock_model.specs.declared.instance.Instance.{Instance}
@@ -19,98 +23,39 @@ use Rattle.closing_rules.specs.declared.grounds.Ground.{Ground}
 use Rattle.closing_rules.specs.declared.grounds.Ground.TheVariants as by
 use Rattle.book_rules.specs.Shown.{Shown}
 use Rattle.book_rules.specs.Step
-use Rattle.book_rules.specs.Replay.{own_shown, closing_of, replay_from, posts_in, replaces_in, pricings_in}
+use Rattle.book_rules.specs.Replay.{own_shown, closing_of, replay_from, is_post, is_replace, is_pricing}
 pub use Rattle.book_rules.specs.Replay.{IsReplayed}
 use Rattle.book_rules.proofs.TestLemmas.{same_deck-decides}
 use Rattle.book_rules.proofs.ShownLemmas.{own-shown}
 use Rattle.book_rules.proofs.ClosingLemmas.{MayRefuse, may-refuse_price}
 use Rattle.book_rules.proofs.StepLemmas.{entry_of, cuts_of, plans_of, prices_of, IsAccepted, Refused, Accepted, each-step}
 
--- how many cuts, plans and prices the entries take
-posts-append : (es : List Entry) (x : Entry) → posts_in (es ++ x ∷ []) ≡ posts_in es + posts_in (x ∷ [])
-posts-append [] x = omega arith
-posts-append (entry.Take w ∷ es) x = posts-append es x
-posts-append (entry.Split id ∷ es) x = posts-append es x
-posts-append (entry.Close id why ∷ es) x = posts-append es x
-posts-append (entry.Post ∷ es) x = let rest = posts-append es x in omega (arith, rest)
-posts-append (entry.Prices ∷ es) x = posts-append es x
-posts-append (entry.Park id c p ∷ es) x = posts-append es x
-posts-append (entry.Replace ∷ es) x = posts-append es x
-posts-append (entry.Release w ∷ es) x = posts-append es x
-
-replaces-append : (es : List Entry) (x : Entry) → replaces_in (es ++ x ∷ []) ≡ replaces_in es + replaces_in (x ∷ [])
-replaces-append [] x = omega arith
-replaces-append (entry.Take w ∷ es) x = replaces-append es x
-replaces-append (entry.Split id ∷ es) x = replaces-append es x
-replaces-append (entry.Close id why ∷ es) x = replaces-append es x
-replaces-append (entry.Post ∷ es) x = replaces-append es x
-replaces-append (entry.Prices ∷ es) x = replaces-append es x
-replaces-append (entry.Park id c p ∷ es) x = replaces-append es x
-replaces-append (entry.Replace ∷ es) x = let rest = replaces-append es x in omega (arith, rest)
-replaces-append (entry.Release w ∷ es) x = replaces-append es x
-
-pricings-append : (es : List Entry) (x : Entry) → pricings_in (es ++ x ∷ []) ≡ pricings_in es + pricings_in (x ∷ [])
-pricings-append [] x = omega arith
-pricings-append (entry.Take w ∷ es) x = pricings-append es x
-pricings-append (entry.Split id ∷ es) x = pricings-append es x
-pricings-append (entry.Close id why ∷ es) x = pricings-append es x
-pricings-append (entry.Post ∷ es) x = pricings-append es x
-pricings-append (entry.Prices ∷ es) x = let rest = pricings-append es x in omega (arith, rest)
-pricings-append (entry.Park id c p ∷ es) x = pricings-append es x
-pricings-append (entry.Replace ∷ es) x = pricings-append es x
-pricings-append (entry.Release w ∷ es) x = pricings-append es x
-
-posts-one : (e : Event) → posts_in (entry_of e ∷ []) ≡ length (cuts_of e)
+-- an entry takes a cut, a plan or prices where its event has one
+posts-one : (e : Event) → count_by is_post (entry_of e ∷ []) ≡ length (cuts_of e)
 posts-one (take w) = refl
-posts-one (split id) = refl
-posts-one (close id why) = refl
-posts-one (post cut) = refl
-posts-one (post_prices prices) = refl
-posts-one (close_price id number shown) = refl
-posts-one (park id c p deck turns) = refl
-posts-one (replace plan) = refl
-posts-one (release w) = refl
+posts-one _ = refl
 
-replaces-one : (e : Event) → replaces_in (entry_of e ∷ []) ≡ length (plans_of e)
+replaces-one : (e : Event) → count_by is_replace (entry_of e ∷ []) ≡ length (plans_of e)
 replaces-one (take w) = refl
-replaces-one (split id) = refl
-replaces-one (close id why) = refl
-replaces-one (post cut) = refl
-replaces-one (post_prices prices) = refl
-replaces-one (close_price id number shown) = refl
-replaces-one (park id c p deck turns) = refl
-replaces-one (replace plan) = refl
-replaces-one (release w) = refl
+replaces-one _ = refl
 
-pricings-one : (e : Event) → pricings_in (entry_of e ∷ []) ≡ length (prices_of e)
+pricings-one : (e : Event) → count_by is_pricing (entry_of e ∷ []) ≡ length (prices_of e)
 pricings-one (take w) = refl
-pricings-one (split id) = refl
-pricings-one (close id why) = refl
-pricings-one (post cut) = refl
-pricings-one (post_prices prices) = refl
-pricings-one (close_price id number shown) = refl
-pricings-one (park id c p deck turns) = refl
-pricings-one (replace plan) = refl
-pricings-one (release w) = refl
+pricings-one _ = refl
 
-length-more : {X : Type 0} (xs ys : List X) → length (xs ++ ys) ≡ length xs + length ys
-length-more [] ys = omega arith
-length-more (x ∷ xs) ys = let rest = length-more xs ys in omega (arith, rest)
+-- the first entry takes one
+first-taken : (test : Entry → Bool) (x : Entry) (es : List Entry) (n : ℕ) → test x ≡ true → count_by test (x ∷ es) ≡ n → suc (count_by test es) ≡ n
+first-taken test x es n takes all = omega (arith, sum_by-cons (λ e. cond (test e) 1 0) x es, ap {B = ℕ} (λ t. cond t 1 0) takes, all)
 
-posts-more : (es : List Entry) (e : Event) (cs : List Cut) → posts_in es ≡ length cs → posts_in (es ++ entry_of e ∷ []) ≡ length (cs ++ cuts_of e)
-posts-more es e cs h = posts-append es (entry_of e) ∙ (λ i. h i + posts-one e i) ∙ sym (length-more cs (cuts_of e))
-
-replaces-more : (es : List Entry) (e : Event) (ps : List Plan) → replaces_in es ≡ length ps → replaces_in (es ++ entry_of e ∷ []) ≡ length (ps ++ plans_of e)
-replaces-more es e ps h = replaces-append es (entry_of e) ∙ (λ i. h i + replaces-one e i) ∙ sym (length-more ps (plans_of e))
-
-pricings-more : (es : List Entry) (e : Event) (us : List (List ℕ)) → pricings_in es ≡ length us → pricings_in (es ++ entry_of e ∷ []) ≡ length (us ++ prices_of e)
-pricings-more es e us h = pricings-append es (entry_of e) ∙ (λ i. h i + pricings-one e i) ∙ sym (length-more us (prices_of e))
+-- one entry more, and what it takes
+taken-more : {X : Type 0} (test : Entry → Bool) (es : List Entry) (x : Entry) (old new : List X) → count_by test (x ∷ []) ≡ length new → count_by test es ≡ length old → count_by test (es ++ x ∷ []) ≡ length (old ++ new)
+taken-more test es x old new one before = omega (arith, sum_by-append (λ e. cond (test e) 1 0) es (x ∷ []), length-append old new, one, before)
 
 module _ {Break : Type 0} (broken : Instance → Plan → Option Break) where
   abbrev after : Book → Event → Book
   after b e = (Step.step broken b e).0
 
-  replay-append : (es : List Entry) (b : Book) (x : Entry) (cs ds : List Cut) (ps qs : List Plan) (us vs : List (List ℕ)) → posts_in es ≡ length cs → replaces_in es ≡ length ps → pricings_in es ≡ length us
+  replay-append : (es : List Entry) (b : Book) (x : Entry) (cs ds : List Cut) (ps qs : List Plan) (us vs : List (List ℕ)) → count_by is_post es ≡ length cs → count_by is_replace es ≡ length ps → count_by is_pricing es ≡ length us
       → replay_from broken b (es ++ x ∷ []) (cs ++ ds) (ps ++ qs) (us ++ vs) ≡ replay_from broken (replay_from broken b es cs ps us) (x ∷ []) ds qs vs
   replay-append [] b x [] ds [] qs [] vs e f g = refl
   replay-append [] b x [] ds [] qs (u ∷ us) vs e f g = absurd (omega (arith, g))
@@ -119,35 +64,22 @@ module _ {Break : Type 0} (broken : Instance → Plan → Option Break) where
   replay-append (entry.Take w ∷ es) b x cs ds ps qs us vs e f g = replay-append es (after b (take w)) x cs ds ps qs us vs e f g
   replay-append (entry.Split id ∷ es) b x cs ds ps qs us vs e f g = replay-append es (after b (split id)) x cs ds ps qs us vs e f g
   replay-append (entry.Close id why ∷ es) b x cs ds ps qs us vs e f g = replay-append es (after b (closing_of b id why)) x cs ds ps qs us vs e f g
-  replay-append (entry.Post ∷ es) b x [] ds ps qs us vs e f g = absurd (omega (arith, e))
-  replay-append (entry.Post ∷ es) b x (c ∷ cs) ds ps qs us vs e f g = replay-append es (after b (post c)) x cs ds ps qs us vs (omega (arith, e)) f g
-  replay-append (entry.Prices ∷ es) b x cs ds ps qs [] vs e f g = absurd (omega (arith, g))
-  replay-append (entry.Prices ∷ es) b x cs ds ps qs (u ∷ us) vs e f g = replay-append es (after b (post_prices u)) x cs ds ps qs us vs e f (omega (arith, g))
+  replay-append (entry.Post ∷ es) b x [] ds ps qs us vs e f g = absurd (omega (arith, first-taken is_post entry.Post es 0 refl e))
+  replay-append (entry.Post ∷ es) b x (c ∷ cs) ds ps qs us vs e f g = replay-append es (after b (post c)) x cs ds ps qs us vs (omega (arith, first-taken is_post entry.Post es (suc (length cs)) refl e)) f g
+  replay-append (entry.Prices ∷ es) b x cs ds ps qs [] vs e f g = absurd (omega (arith, first-taken is_pricing entry.Prices es 0 refl g))
+  replay-append (entry.Prices ∷ es) b x cs ds ps qs (u ∷ us) vs e f g = replay-append es (after b (post_prices u)) x cs ds ps qs us vs e f (omega (arith, first-taken is_pricing entry.Prices es (suc (length us)) refl g))
   replay-append (entry.Park id c p ∷ es) b x cs ds ps qs us vs e f g =
       replay-append es (after b (park id c p (deck_of b.case.instance c (ships_at (slot_at b id).node c p)) b.case.turns)) x cs ds ps qs us vs e f g
-  replay-append (entry.Replace ∷ es) b x cs ds [] qs us vs e f g = absurd (omega (arith, f))
-  replay-append (entry.Replace ∷ es) b x cs ds (p ∷ ps) qs us vs e f g = replay-append es (after b (replace p)) x cs ds ps qs us vs e (omega (arith, f)) g
+  replay-append (entry.Replace ∷ es) b x cs ds [] qs us vs e f g = absurd (omega (arith, first-taken is_replace entry.Replace es 0 refl f))
+  replay-append (entry.Replace ∷ es) b x cs ds (p ∷ ps) qs us vs e f g = replay-append es (after b (replace p)) x cs ds ps qs us vs e (omega (arith, first-taken is_replace entry.Replace es (suc (length ps)) refl f)) g
   replay-append (entry.Release w ∷ es) b x cs ds ps qs us vs e f g = replay-append es (after b (release w)) x cs ds ps qs us vs e f g
 
   -- ---- parking again with the group's own deck and the case's turns
 
   got : (gs : List Group) (p : ℕ) (g : Group) → slice_get gs p ≡ Some g → slice_index_or gs p no_group ≡ g
-  got [] p g e = absurd (none-some e)
-    where
-      none-some : None ≡ Some g → ⊥
-      none-some h = cc
-  got (h ∷ gs) zero g e = some-same e
-    where
-      some-same : Some h ≡ Some g → h ≡ g
-      some-same i = cc
+  got [] p g e = absurd (none-some g e)
+  got (h ∷ gs) zero g e = same_Some h g e
   got (h ∷ gs) (suc p) g e = got gs p g e
-
-  clash : false ≡ true → ⊥
-  clash e = cc
-
-  both-true : (p q : Bool) → (p && q) ≡ true → p ≡ true
-  both-true true q e = refl
-  both-true false q e = absurd (clash e)
 
   -- parking, where it is known whether the lent value is the group's, and whether the slot is held
   abbrev lent_way : Book → ℕ → ℕ → ℕ → Deck → Bool → Book × Reply Break
@@ -159,10 +91,10 @@ module _ {Break : Type 0} (broken : Instance → Plan → Option Break) where
   lent-again : (b : Book) (id c p : ℕ) (deck : Deck) (turns : ℕ) (g : Group) (t : Bool) → Step.is_lent b c g deck turns ≡ t
       → is_accepted (lent_way b id c p deck t).1 ≡ true
       → (lent_way b id c p (deck_of b.case.instance c g.ships) (Step.is_lent b c g (deck_of b.case.instance c g.ships) b.case.turns)).0 ≡ (lent_way b id c p deck t).0
-  lent-again b id c p deck turns g false e good = absurd (clash good)
+  lent-again b id c p deck turns g false e good = absurd (false≢true good)
   lent-again b id c p deck turns g true e good =
       let own = deck_of b.case.instance c g.ships in
-      let same : own ≡ deck = (same_deck-decides own deck).0 (both-true (same_deck own deck) (nat_le b.case.turns turns) e) in
+      let same : own ≡ deck = (same_deck-decides own deck).0 ((and_parts (same_deck own deck) (nat_le b.case.turns turns) e).0) in
       let self : same_deck own own ≡ true = (same_deck-decides own own).1 refl in
       let enough : nat_le b.case.turns b.case.turns ≡ true = elim (leb_tells b.case.turns b.case.turns) [ inl y ↦ y.0 | inr n ↦ absurd (omega (arith, n.1)) ] in
       let lent : Step.is_lent b c g own b.case.turns ≡ true = ap (λ u. u && nat_le b.case.turns b.case.turns) self ∙ enough in
@@ -171,7 +103,7 @@ module _ {Break : Type 0} (broken : Instance → Plan → Option Break) where
   group-again : (b : Book) (id c p : ℕ) (deck : Deck) (turns : ℕ) (o : Option Group) → group_at (slot_at b id).node c p ≡ o
       → is_accepted (Step.park_group {Break = Break} b id c p deck turns o).1 ≡ true
       → (Step.park_group {Break = Break} b id c p (deck_of b.case.instance c (ships_at (slot_at b id).node c p)) b.case.turns o).0 ≡ (Step.park_group {Break = Break} b id c p deck turns o).0
-  group-again b id c p deck turns None e good = absurd (clash good)
+  group-again b id c p deck turns None e good = absurd (false≢true good)
   group-again b id c p deck turns (Some g) e good =
       let is : ships_at (slot_at b id).node c p ≡ g.ships = ap (λ (h : Group). h.ships) (got (line_at (slot_at b id).node.lines c) p g e) in
       ap (λ ships. (Step.park_group {Break = Break} b id c p (deck_of b.case.instance c ships) b.case.turns (Some g)).0) is
@@ -186,7 +118,7 @@ module _ {Break : Type 0} (broken : Instance → Plan → Option Break) where
 
   -- what isn't refused closes the slot
   unrefused-closed : (b : Book) (id : ℕ) (why : Ground) (o : Option (Reply Break)) → MayRefuse o → is_accepted (Step.close_unless b id why o).1 ≡ true → (Step.close_unless b id why o).0 ≡ Step.closed b id why
-  unrefused-closed b id why (Some r) refuses good = absurd (clash (sym refuses ∙ good))
+  unrefused-closed b id why (Some r) refuses good = absurd (false≢true (sym refuses ∙ good))
   unrefused-closed b id why None refuses good = refl
 
   -- the book's own closing isn't refused
@@ -206,8 +138,8 @@ module _ {Break : Type 0} (broken : Instance → Plan → Option Break) where
 
   -- closing by prices is refused where nothing was shown
   unshown : (b : Book) (id : ℕ) (t : Bool) → is_accepted (held_way b id t (b, NotShown)).1 ≡ true → ⊥
-  unshown b id true good = clash good
-  unshown b id false good = clash good
+  unshown b id true good = false≢true good
+  unshown b id false good = false≢true good
 
   closing-again : (b : Book) (id : ℕ) (why : Ground) → is_accepted (Step.step broken b (close id why)).1 ≡ true → after b (closing_of b id why) ≡ after b (close id why)
   closing-again b id (by.Price number) good = absurd (unshown b id (not (Step.may_close b id)) good)
@@ -249,9 +181,9 @@ module _ {Break : Type 0} (broken : Instance → Plan → Option Break) where
         ∙ replay-append b.history (opening_book b.case b.opening) (entry_of e) b.cuts (cuts_of e) b.plans (plans_of e) b.prices (prices_of e) old.posts old.replaces old.pricings
         ∙ ap (λ u. replay_from broken u (entry_of e ∷ []) (cuts_of e) (plans_of e) (prices_of e)) old.same
         ∙ replay-one b e new.accepted;
-    posts = ap posts_in new.history ∙ posts-more b.history e b.cuts old.posts ∙ sym (ap length new.cuts);
-    replaces = ap replaces_in new.history ∙ replaces-more b.history e b.plans old.replaces ∙ sym (ap length new.plans);
-    pricings = ap pricings_in new.history ∙ pricings-more b.history e b.prices old.pricings ∙ sym (ap length new.prices);
+    posts = ap (count_by is_post) new.history ∙ taken-more is_post b.history (entry_of e) b.cuts (cuts_of e) (posts-one e) old.posts ∙ sym (ap length new.cuts);
+    replaces = ap (count_by is_replace) new.history ∙ taken-more is_replace b.history (entry_of e) b.plans (plans_of e) (replaces-one e) old.replaces ∙ sym (ap length new.plans);
+    pricings = ap (count_by is_pricing) new.history ∙ taken-more is_pricing b.history (entry_of e) b.prices (prices_of e) (pricings-one e) old.pricings ∙ sym (ap length new.prices);
   }
 
   pub event-replayed : (b : Book) (e : Event) → IsReplayed broken b → IsReplayed broken (after b e)

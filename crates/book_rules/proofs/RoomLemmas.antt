@@ -1,5 +1,5 @@
 -- Every event keeps the room of the history: each accepted event but a posting and a replace uses one entry of it.
-use Rattle.std.proofs.Common.{◌≡◌, ℕ, suc, ◌+◌, ◌-◌, ◌*◌, ◌≤◌, List, [], ◌∷◌, length, refl, sym, ap, ◌∙◌, subst, arith, Bool, true, false, cond, nat_le, slice_set}
+use Rattle.std.proofs.Common.{◌≡◌, ℕ, suc, ◌+◌, ◌-◌, ◌*◌, ◌≤◌, List, [], ◌∷◌, length, refl, sym, ap, ◌∙◌, subst, arith, Bool, true, false, cond, nat_le, slice_set, true≢false, length-append}
 use Rattle.std.specs.declared.option.Option.{Option}
 use Rattle.lock_model.specs.declared.instance.Instance.{Instance}
 use Rattle.lock_model.specs.declared.plan.Plan.{Plan}
@@ -18,11 +18,8 @@ use Rattle.book_rules.specs.History.{KeepsRoom}
 use Rattle.book_rules.proofs.SlotLemmas.{IsAt}
 use Rattle.book_rules.proofs.StepLemmas.{Refused, Accepted, each-step, entry_of, cuts_of, plans_of, prices_of}
 use Rattle.book_rules.proofs.MoveLemmas.{Stays, TakesBack, TakesFresh, Splits, Closes, Parks, Posts, Prices, Replaces, Ends, GivesBack, IsRunning, MayClose, FromHeld, FromParked, is_growing, each-move}
-use Rattle.book_rules.proofs.TallyLemmas.{one, count-turned, count-append, count-children, count-outdone, length-append, count_false-set}
+use Rattle.book_rules.proofs.TallyLemmas.{one, count-turned, count-append, count-children, count-outdone, count_false-set}
 use Rattle.closing_rules.specs.declared.grounds.Ground.TheVariants as by
-
-clash : true ≡ false → ⊥
-clash e = cc
 
 -- the room for slots, and for a slot in this state
 abbrev slots_room : List Slot → ℕ
@@ -100,8 +97,8 @@ module _ {Break : Type 0} (broken : Instance → Plan → Option Break) (b : Boo
   room-falls e owed plain accepted =
       elim (room-left e owed) [
         | Less h ↦ h
-        | Own grows h ↦ absurd (clash (sym grows ∙ plain))
-        | Refusal refused same ↦ absurd (clash (sym accepted ∙ refused))
+        | Own grows h ↦ absurd (true≢false (sym grows ∙ plain))
+        | Refusal refused same ↦ absurd (true≢false (sym accepted ∙ refused))
       ]
 
   -- no event makes the room larger
@@ -117,7 +114,7 @@ module _ {Break : Type 0} (broken : Instance → Plan → Option Break) (b : Boo
   own-entry (post cut) grows = refl
   own-entry (post_prices prices) grows = refl
   own-entry (replace plan) grows = refl
-  own-entry _ grows = absurd (clash (sym grows))
+  own-entry _ grows = absurd (true≢false (sym grows))
 
   pub room-step : KeepsRoom b → (e : Event) → IsOwed e → KeepsRoom (Step.step broken b e).0
   room-step keeps e owed =

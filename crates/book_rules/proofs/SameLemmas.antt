@@ -1,6 +1,7 @@
 -- The tests of sameness decide what they are for.
-use Rattle.std.proofs.Common.{◌≡◌, ℕ, List, [], ◌∷◌, Bool, true, false, ◌&&◌, refl, sym, ap, ◌∙◌, subst, nat_eq}
+use Rattle.std.proofs.Common.{◌≡◌, ℕ, List, [], ◌∷◌, Bool, ◌&&◌, refl, sym, ap, ◌∙◌, subst, nat_eq}
 use Rattle.std.proofs.Props.{props}
+use Rattle.std.proofs.lemmas.Bool.{false≢true}
 use Rattle.std.specs.Bool.{Decides}
 use Rattle.std.specs.Cmp.Lexicographic.{pointwise, pointwise_decides, bytes_decides}
 use Rattle.std.proofs.lemmas.Bool.Decides.{Decides-eqb, Decides-and, Decides-like}
@@ -17,19 +18,16 @@ use Rattle.lock_model.specs.declared.group.Group.{Group}
 use Rattle.book_rules.specs.Book.{Node}
 use Rattle.book_rules.specs.Same.{same_way, same_stand, same_closure, same_chamber, same_ship, same_instance, same_group, same_node}
 
-clash : false ≡ true → ⊥
-clash e = cc
-
 same_way-decides : (a b : Way) → Decides (same_way a b) (a ≡ b)
 same_way-decides Up Up = (λ e. refl, λ e. refl)
-same_way-decides Up Down = (λ e. absurd (clash e), λ e. absurd (clash (ap (same_way Up) (sym e))))
-same_way-decides Down Up = (λ e. absurd (clash e), λ e. absurd (clash (ap (same_way Down) (sym e))))
+same_way-decides Up Down = (λ e. absurd (false≢true e), λ e. absurd (false≢true (ap (same_way Up) (sym e))))
+same_way-decides Down Up = (λ e. absurd (false≢true e), λ e. absurd (false≢true (ap (same_way Down) (sym e))))
 same_way-decides Down Down = (λ e. refl, λ e. refl)
 
 same_stand-decides : (a b : Stand) → Decides (same_stand a b) (a ≡ b)
 same_stand-decides Low Low = (λ e. refl, λ e. refl)
-same_stand-decides Low High = (λ e. absurd (clash e), λ e. absurd (clash (ap (same_stand Low) (sym e))))
-same_stand-decides High Low = (λ e. absurd (clash e), λ e. absurd (clash (ap (same_stand High) (sym e))))
+same_stand-decides Low High = (λ e. absurd (false≢true e), λ e. absurd (false≢true (ap (same_stand Low) (sym e))))
+same_stand-decides High Low = (λ e. absurd (false≢true e), λ e. absurd (false≢true (ap (same_stand High) (sym e))))
 same_stand-decides High High = (λ e. refl, λ e. refl)
 
 same_closure-decides : (a b : Closure) → Decides (same_closure a b) (a ≡ b)

@@ -1,8 +1,9 @@
 -- What was shown beside a book holds in it, and a book shows itself what it was closed by.
-use Rattle.std.proofs.Common.{◌≡◌, ℕ, zero, suc, ◌<◌, ◌≤◌, List, [], ◌∷◌, length, map, All, Contains, refl, sym, ap, ◌∙◌, subst, arith, Bool, true, false, not, cond, ◌&&◌, Some, None, slice_get, slice_index_or, nat_eq, nat_lt}
+use Rattle.std.proofs.Common.{◌≡◌, ℕ, zero, suc, ◌<◌, ◌≤◌, List, [], ◌∷◌, length, map, All, Contains, refl, sym, ap, ◌∙◌, subst, arith, Bool, true, not, cond, ◌&&◌, Some, slice_get, slice_index_or, nat_eq, nat_lt}
+use Rattle.std.proofs.lemmas.Option.{same_Some, none-some}
 use Rattle.std.specs.declared.option.Option.{Option}
 use Rattle.std.specs.Cmp.Lexicographic.{pointwise, bytes_decides}
-use Rattle.std.proofs.lemmas.Bool.{and_parts, and_from}
+use Rattle.std.proofs.lemmas.Bool.{and_parts, and_from, false≢true}
 use Rattle.std.proofs.lemmas.Bool.Decides.{Decides-eqb}
 use Rattle.std.proofs.lemmas.List.Elements.{All-cons, All-nil, All-weaker}
 use Rattle.lock_model.specs.declared.instance.Instance.{Instance}
@@ -18,15 +19,12 @@ use Rattle.book_rules.specs.Step.{is_shown}
 use Rattle.book_rules.specs.Replay.{own_shown}
 use Rattle.book_rules.proofs.SameLemmas.{same_instance-decides, same_node-decides}
 
-clash : false ≡ true → ⊥
-clash e = cc
-
 -- ---- cuts
 
 -- what holds of cuts with the first ones of a book holds with all of them
 first-among : (I : Instance) (some : List ChamberCut) (cuts : List Cut) → are_first_cuts some cuts ≡ true → All (Contains (cuts_in I cuts)) (shown_cuts I some)
 first-among I [] cuts e = All-nil (Contains (cuts_in I cuts))
-first-among I (c ∷ cs) [] e = absurd (clash e)
+first-among I (c ∷ cs) [] e = absurd (false≢true e)
 first-among I (c ∷ cs) (d ∷ ds) e =
     let first = nat_eq c.chamber d.chamber && pointwise nat_eq c.ships d.ships in
     let parts = and_parts first (are_first_cuts cs ds) e in
@@ -87,12 +85,6 @@ module _ (b : Book) (id number : ℕ) (prices : List ℕ) (there : slice_get b.p
       (own-first b.cuts)
     where
       got : (xs : List (List ℕ)) (k : ℕ) → slice_get xs k ≡ Some prices → slice_index_or xs k [] ≡ prices
-      got [] k e = absurd (none-some e)
-        where
-          none-some : None ≡ Some prices → ⊥
-          none-some h = cc
-      got (x ∷ xs) zero e = some-same e
-        where
-          some-same : Some x ≡ Some prices → x ≡ prices
-          some-same h = cc
+      got [] k e = absurd (none-some prices e)
+      got (x ∷ xs) zero e = same_Some x prices e
       got (x ∷ xs) (suc k) e = got xs k e

@@ -1,5 +1,7 @@
 -- What the choices of a book find, and what its lists hold after a change.
-use Rattle.std.proofs.Common.{◌≡◌, ℕ, zero, suc, ◌+◌, ◌<◌, ◌≤◌, List, [], ◌∷◌, length, inl, inr, refl, sym, ap, ◌∙◌, subst, arith, Bool, true, false, not, cond, ◌&&◌, Some, None, slice_index_or, nat_eq, nat_lt}
+use Rattle.std.proofs.Common.{◌≡◌, ℕ, zero, suc, ◌+◌, ◌<◌, ◌≤◌, List, [], ◌∷◌, length, inl, inr, refl, sym, ap, ◌∙◌, subst, arith, Bool, true, false, not, cond, ◌&&◌, Some, None, slice_index_or, nat_eq, nat_lt, true≢false}
+use Rattle.std.proofs.lemmas.Bool.{and_parts}
+use Rattle.std.proofs.lemmas.Option.{none-some, same_Some}
 use Rattle.std.specs.declared.option.Option.{Option}
 use Rattle.std.specs.List.{position_or_len}
 use Rattle.std.proofs.lemmas.Bool.Decides.{leb_tells, eqb_tells}
@@ -10,15 +12,6 @@ use Rattle.book_rules.specs.declared.book.SlotState.TheVariants as slot
 use Rattle.book_rules.specs.Book.{Slot, Book, no_slot, slot_at, first_slot, is_fresh, is_back, is_held, is_held_by}
 use Rattle.book_rules.specs.NextSlot.{keep_better, first_best, numbers_where, fresh_children, waiting_splits, least_fresh, next_fresh, first_child}
 
-clash : true ≡ false → ⊥
-clash e = cc
-
-none-some : {X : Type 0} (x : X) → None ≡ Some x → ⊥
-none-some x e = cc
-
-pub some-same : {X : Type 0} (x y : X) → Some x ≡ Some y → x ≡ y
-some-same x y e = cc
-
 -- slot id is there, and in this state
 pub record IsAt (b : Book) (id : ℕ) (state : SlotState) : Type 0 where
   pub known : id < length b.slots
@@ -28,23 +21,23 @@ pub record IsAt (b : Book) (id : ℕ) (state : SlotState) : Type 0 where
 
 pub fresh-is : (s : SlotState) → is_fresh s ≡ true → s ≡ slot.Fresh
 fresh-is slot.Fresh e = refl
-fresh-is _ e = absurd (clash (sym e))
+fresh-is _ e = absurd (true≢false (sym e))
 
 pub back-is : (s : SlotState) → is_back s ≡ true → s ≡ slot.Back
 back-is slot.Back e = refl
-back-is _ e = absurd (clash (sym e))
+back-is _ e = absurd (true≢false (sym e))
 
 pub held-is : (s : SlotState) → is_held s ≡ true → (w : ℕ) × (s ≡ slot.Held w)
 held-is (slot.Held w) e = (w, refl)
-held-is _ e = absurd (clash (sym e))
+held-is _ e = absurd (true≢false (sym e))
 
 pub held_by-is : (w : ℕ) (s : SlotState) → is_held_by w s ≡ true → s ≡ slot.Held w
 held_by-is w (slot.Held v) e =
     elim (eqb_tells v w) [
       | inl y ↦ ap (λ u. slot.Held u) y.1
-      | inr n ↦ absurd (clash (sym e ∙ n.0))
+      | inr n ↦ absurd (true≢false (sym e ∙ n.0))
     ]
-held_by-is w _ e = absurd (clash (sym e))
+held_by-is w _ e = absurd (true≢false (sym e))
 
 pub held_by-itself : (w : ℕ) → is_held_by w (slot.Held w) ≡ true
 held_by-itself w = elim (eqb_tells w w) [ inl y ↦ y.0 | inr n ↦ absurd (n.1 refl) ]
@@ -75,10 +68,6 @@ first_slot-none b test e id known =
 
 -- ---- the next Fresh slot
 
-both-first : (p q : Bool) → (p && q) ≡ true → p ≡ true
-both-first true q e = refl
-both-first false q e = absurd (clash (sym e))
-
 -- a number that passes, from `low` on
 abbrev Passes : (Slot → Bool) → ℕ → List Slot → ℕ → Type 0
 Passes test low xs id = (k : ℕ) × (id ≡ low + k) × (k < length xs) × (test (slice_index_or xs k no_slot) ≡ true)
@@ -95,19 +84,16 @@ among-where test low (x ∷ xs) id h = among-where-step test low x xs id (test x
 
 -- of some numbers, the first that no other one beats is one
 pub best-among : (beats : ℕ → ℕ → Bool) (ns : List ℕ) (n : ℕ) → first_best beats ns ≡ Some n → IsAmong ns n
-best-among beats [] n e = absurd (none-some e)
-  where
-    none-some : None ≡ Some n → ⊥
-    none-some h = cc
+best-among beats [] n e = absurd (none-some n e)
 best-among beats (a ∷ ns) n e = by_rest (first_best beats ns) (λ m f. best-among beats ns m f) e
   where
     by_rest : (o : Option ℕ) → ((m : ℕ) → o ≡ Some m → IsAmong ns m) → keep_better beats a o ≡ Some n → IsAmong (a ∷ ns) n
-    by_rest None rest f = inl (some-same a n f)
+    by_rest None rest f = inl (same_Some a n f)
     by_rest (Some c) rest f = by_test (beats c a) f
       where
         by_test : (t : Bool) → cond t (Some c) (Some a) ≡ Some n → IsAmong (a ∷ ns) n
-        by_test true g = inr (subst (IsAmong ns) (some-same c n g) (rest c refl))
-        by_test false g = inl (some-same a n g)
+        by_test true g = inr (subst (IsAmong ns) (same_Some c n g) (rest c refl))
+        by_test false g = inl (same_Some a n g)
 
 -- a slot of a lower bound beats another, and so does a split of a later first child
 abbrev pub lower : Book → ℕ → ℕ → Bool
@@ -128,11 +114,11 @@ least_fresh-at b (Some split) id e =
     let same : at.0 ≡ id = omega (arith, at.1) in
     record {
       known = omega (arith, at.1, at.2);
-      is = subst (λ k. (slot_at b k).state ≡ slot.Fresh) same (fresh-is (slot_at b at.0).state (both-first (is_fresh (slot_at b at.0).state) (nat_eq (slot_at b at.0).parent split) at.3));
+      is = subst (λ k. (slot_at b k).state ≡ slot.Fresh) same (fresh-is (slot_at b at.0).state ((and_parts (is_fresh (slot_at b at.0).state) (nat_eq (slot_at b at.0).parent split) at.3).0));
     }
 
 pub fresh-known : (xs : List Slot) (id : ℕ) → is_fresh (slice_index_or xs id no_slot).state ≡ true → id < length xs
-fresh-known [] id e = absurd (clash (sym e))
+fresh-known [] id e = absurd (true≢false (sym e))
 fresh-known (x ∷ xs) zero e = omega arith
 fresh-known (x ∷ xs) (suc id) e = let rest = fresh-known xs id e in omega (arith, rest)
 
@@ -143,5 +129,5 @@ next_fresh-at b id e = by_root (is_fresh (slot_at b 0).state) refl e
     by_root : (t : Bool) → is_fresh (slot_at b 0).state ≡ t → cond t (Some 0) (below_root b) ≡ Some id → IsAt b id slot.Fresh
     by_root true f g =
         let here : IsAt b 0 slot.Fresh = record { known = fresh-known b.slots 0 f; is = fresh-is (slot_at b 0).state f } in
-        subst (λ k. IsAt b k slot.Fresh) (some-same 0 id g) here
+        subst (λ k. IsAt b k slot.Fresh) (same_Some 0 id g) here
     by_root false f g = least_fresh-at b (first_best (later b) (waiting_splits b)) id g

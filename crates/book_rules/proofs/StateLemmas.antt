@@ -1,7 +1,7 @@
 -- Every event keeps the state of each slot true of its node.
-use Rattle.std.proofs.Common.{◌≡◌, ℕ, zero, suc, ◌<◌, ◌≤◌, List, [], ◌∷◌, ◌++◌, length, refl, sym, ◌∙◌, subst, arith, Bool, true, false, cond, ◌&&◌, ◌||◌, slice_get, slice_index_or, slice_set, nat_le, All, Contains, Some, None, inl, inr}
+use Rattle.std.proofs.Common.{◌≡◌, ℕ, zero, suc, ◌<◌, ◌≤◌, List, [], ◌∷◌, ◌++◌, length, refl, sym, subst, arith, Bool, true, false, cond, ◌&&◌, ◌||◌, slice_get, slice_index_or, slice_set, nat_le, All, Contains, Some, leb-true, true≢false, leb-false}
+use Rattle.std.proofs.lemmas.Option.{none-some}
 use Rattle.std.specs.declared.option.Option.{Option}
-use Rattle.std.proofs.lemmas.Bool.Decides.{leb_tells}
 use Rattle.std.proofs.lemmas.List.{get_or_default}
 use Rattle.std.proofs.lemmas.List.Elements.{All-append, All-cons, All-nil, All-map, All-weaker}
 use Rattle.lock_model.specs.declared.instance.Instance.{Instance}
@@ -21,22 +21,15 @@ use Rattle.price_rules.proofs.ReachLemmas.{reached-stays}
 use Rattle.closing_rules.specs.ListedPrices.{cut_in}
 use Rattle.book_rules.specs.States.{cuts_in, Tells, IsTrueSlot, KeepsStates}
 use Rattle.book_rules.proofs.CoverLemmas.{all-set}
-use Rattle.book_rules.proofs.TestLemmas.{not-le}
 use Rattle.book_rules.proofs.SlotLemmas.{IsAt}
 use Rattle.book_rules.proofs.MoveLemmas.{Stays, TakesBack, TakesFresh, Splits, Closes, Parks, Posts, Prices, Replaces, Ends, GivesBack, TellsAt, turned, each-move}
 use Rattle.book_rules.proofs.TallyLemmas.{Kept, Closed, outdone-is}
 use Rattle.closing_rules.specs.declared.grounds.Ground.TheVariants as by
 
-clash : true ≡ false → ⊥
-clash e = cc
-
-is-le : (m n : ℕ) → nat_le m n ≡ true → m ≤ n
-is-le m n e = elim (leb_tells m n) [ inl y ↦ y.1 | inr n ↦ absurd (clash (sym e ∙ n.0)) ]
-
 -- a new slot is closed exactly where its bound is at least the cost
 new-true : (case : Case) (cuts : List Cut) (prices : List (List ℕ)) (cost : ℕ) (node : TreeNode) (bound : ℕ) (t : Bool) → nat_le cost bound ≡ t → Tells case cuts prices cost node bound (cond t (slot.Closed by.Bound) slot.Fresh)
-new-true case cuts prices cost node bound true e = is-le cost bound e
-new-true case cuts prices cost node bound false e = not-le cost bound e
+new-true case cuts prices cost node bound true e = leb-true cost bound e
+new-true case cuts prices cost node bound false e = leb-false cost bound e
 
 children-true : (case : Case) (cuts : List Cut) (prices : List (List ℕ)) (cost parent depth number : ℕ) (ls : List (List (List Group))) → All (IsTrueSlot case cuts prices cost) (Step.child_slots case.instance cost parent depth number ls)
 children-true case cuts prices cost parent depth number [] = All-nil (IsTrueSlot case cuts prices cost)
@@ -47,10 +40,7 @@ children-true case cuts prices cost parent depth number (l ∷ ls) =
 
 -- what is listed keeps its number where more follows
 get-more : {X : Type 0} (xs more : List X) (number : ℕ) (x : X) → slice_get xs number ≡ Some x → slice_get (xs ++ more) number ≡ Some x
-get-more [] more number x e = absurd (none-some e)
-  where
-    none-some : None ≡ Some x → ⊥
-    none-some h = cc
+get-more [] more number x e = absurd (none-some x e)
 get-more (c ∷ cs) more zero x e = e
 get-more (c ∷ cs) more (suc number) x e = get-more cs more number x e
 
@@ -112,13 +102,13 @@ outdone-true case cuts prices cost lower less s h =
     elim (outdone-is lower s) [
       | Kept e same ↦
           subst (IsTrueSlot case cuts prices lower) (sym same)
-          (lower-tells case cuts prices cost lower less s.node s.bound s.state (λ f. not-le lower s.bound (by_first (is_fresh s.state) (is_back s.state) (is_parked s.state) (nat_le lower s.bound) f e)) h)
-      | Closed e high same ↦ subst (IsTrueSlot case cuts prices lower) (sym same) (is-le lower s.bound high)
+          (lower-tells case cuts prices cost lower less s.node s.bound s.state (λ f. leb-false lower s.bound (by_first (is_fresh s.state) (is_back s.state) (is_parked s.state) (nat_le lower s.bound) f e)) h)
+      | Closed e high same ↦ subst (IsTrueSlot case cuts prices lower) (sym same) (leb-true lower s.bound high)
     ]
   where
     by_first : (p q r t : Bool) → p ≡ true → ((p || q || r) && t) ≡ false → t ≡ false
     by_first true q r t f e = e
-    by_first false q r t f e = absurd (clash (sym f))
+    by_first false q r t f e = absurd (true≢false (sym f))
 
 module _ {Break : Type 0} (broken : Instance → Plan → Option Break) (b : Book) where
   turned-states : (id : ℕ) (new : SlotState) (used : ℕ) (ended : List Bool) (e : Entry) → KeepsStates b → TellsAt b id new → KeepsStates (turned b id new used ended e)

@@ -1,5 +1,6 @@
 -- How the counts of slots change.
-use Rattle.std.proofs.Common.{◌≡◌, ℕ, zero, suc, ◌+◌, ◌<◌, ◌≤◌, List, [], ◌∷◌, ◌++◌, length, map, refl, sym, ap, subst, arith, Bool, true, false, cond, ◌&&◌, ◌||◌, slice_index_or, slice_set, nat_le}
+use Rattle.std.proofs.Common.{◌≡◌, ℕ, zero, suc, ◌+◌, ◌<◌, ◌≤◌, List, [], ◌∷◌, ◌++◌, length, map, refl, sym, ap, subst, arith, Bool, true, false, cond, ◌&&◌, ◌||◌, slice_index_or, slice_set, nat_le, true≢false}
+use Rattle.std.proofs.lemmas.Bool.{and_parts}
 use Rattle.lock_model.specs.declared.instance.Instance.{Instance}
 use Rattle.lock_model.specs.declared.group.Group.{Group}
 use Rattle.book_rules.specs.declared.book.SlotState.{SlotState}
@@ -10,9 +11,6 @@ use Rattle.book_rules.specs.Step
 use Rattle.book_rules.specs.Room.{count_slots, count_false}
 use Rattle.book_rules.proofs.SlotLemmas.{IsAt}
 use Rattle.closing_rules.specs.declared.grounds.Ground.TheVariants as by
-
-clash : true ≡ false → ⊥
-clash e = cc
 
 -- 1 for a test that passes
 abbrev pub one : Bool → ℕ
@@ -52,10 +50,6 @@ pub length-children : (I : Instance) (cost parent depth number : ℕ) (ls : List
 length-children I cost parent depth number [] = refl
 length-children I cost parent depth number (l ∷ ls) = ap suc (length-children I cost parent depth (suc number) ls)
 
-pub length-append : {X : Type 0} (xs ys : List X) → length (xs ++ ys) ≡ length xs + length ys
-length-append [] ys = omega arith
-length-append (x ∷ xs) ys = let rest = length-append xs ys in omega (arith, rest)
-
 -- a weaker test passes no fewer slots
 pub count-weaker : (test other : SlotState → Bool) → ((s : SlotState) → test s ≡ true → other s ≡ true) → (xs : List Slot) → count_slots test xs ≤ count_slots other xs
 count-weaker test other weaker [] = omega arith
@@ -77,12 +71,8 @@ pub data IsOutdone (cost : ℕ) (s new : Slot) : Type 0 where
 pub outdone-is : (cost : ℕ) (s : Slot) → IsOutdone cost s (Step.outdone cost s)
 outdone-is cost s = by_test ((is_fresh s.state || is_back s.state || is_parked s.state) && nat_le cost s.bound) refl
   where
-    both : (p q : Bool) → (p && q) ≡ true → (p ≡ true) × (q ≡ true)
-    both true q e = (refl, e)
-    both false q e = absurd (clash (sym e))
-
     by_test : (t : Bool) → ((is_fresh s.state || is_back s.state || is_parked s.state) && nat_le cost s.bound) ≡ t → IsOutdone cost s (cond t (record s { state = slot.Closed by.Bound }) s)
-    by_test true e = let parts = both (is_fresh s.state || is_back s.state || is_parked s.state) (nat_le cost s.bound) e in Closed parts.0 parts.1 refl
+    by_test true e = let parts = and_parts (is_fresh s.state || is_back s.state || is_parked s.state) (nat_le cost s.bound) e in Closed parts.0 parts.1 refl
     by_test false e = Kept e refl
 
 -- a test that neither a slot closed by its bound passes nor any open or parked one answers the same
@@ -107,7 +97,7 @@ count-outdone test bound cost (x ∷ xs) =
     ]
 
 pub open-whole : (s : SlotState) → (is_fresh s || is_back s || is_parked s) ≡ true → is_split s ≡ false
-open-whole (slot.Split first) e = absurd (clash (sym e))
+open-whole (slot.Split first) e = absurd (true≢false (sym e))
 open-whole _ e = refl
 
 -- ---- workers that haven't ended

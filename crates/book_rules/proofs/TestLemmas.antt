@@ -1,5 +1,6 @@
 -- The tests of the book machine decide what they are for.
-use Rattle.std.proofs.Common.{◌≡◌, ℕ, zero, suc, ◌+◌, ◌<◌, ◌≤◌, List, [], ◌∷◌, length, map, drop, Bool, true, false, not, ◌||◌, inl, inr, refl, sym, ap, ◌∙◌, subst, arith, nat_eq, nat_lt, nat_le, Contains, slice_index_or}
+use Rattle.std.proofs.Common.{◌≡◌, ℕ, zero, suc, ◌+◌, ◌<◌, ◌≤◌, List, [], ◌∷◌, length, map, drop, Bool, true, false, not, inl, inr, refl, sym, ap, ◌∙◌, subst, arith, nat_eq, nat_lt, nat_le, Contains, slice_index_or, leb-false}
+use Rattle.std.proofs.lemmas.Bool.{false≢true, or_parts, not-false}
 use Rattle.std.specs.Bool.{Decides}
 use Rattle.std.specs.List.{list_any, list_all}
 use Rattle.std.proofs.lemmas.Bool.Decides.{Decides-eqb, Decides-ltb, leb_tells, Decides-and, Decides-like, Decides-not, Decides-by_and}
@@ -22,36 +23,23 @@ use Rattle.book_rules.specs.Cover.{IsOwnCut}
 use Rattle.book_rules.specs.Tests.{same_size, same_sizes, same_deck, is_clash, has_clash, is_no_roomier, is_hit, is_node_hit, is_own_cut}
 
 Decides-leb : (a b : ℕ) → Decides (nat_le a b) (a ≤ b)
-Decides-leb a b = elim (leb_tells a b) [ inl y ↦ (λ e. y.1, λ h. y.0) | inr n ↦ (λ e. absurd (clash (sym n.0 ∙ e)), λ h. absurd (omega (arith, h, n.1))) ]
-  where
-    clash : false ≡ true → ⊥
-    clash e = cc
+Decides-leb a b = elim (leb_tells a b) [ inl y ↦ (λ e. y.1, λ h. y.0) | inr n ↦ (λ e. absurd (false≢true (sym n.0 ∙ e)), λ h. absurd (omega (arith, h, n.1))) ]
 
 pub same_size-decides : (a b : Size) → Decides (same_size a b) (a ≡ b)
 same_size-decides a b =
     Decides-like (same_size a b) (λ h i. record { length = h.0.0 i; width = h.0.1 i; cargo = h.1 i }) (λ e. ((ap (λ s. s.length) e, ap (λ s. s.width) e), ap (λ s. s.cargo) e))
     (Decides-and _ (nat_eq a.cargo b.cargo) (Decides-and (nat_eq a.length b.length) (nat_eq a.width b.width) (Decides-eqb a.length b.length) (Decides-eqb a.width b.width)) (Decides-eqb a.cargo b.cargo))
 
-no-clash : false ≡ true → ⊥
-no-clash e = cc
-
-pub not-not : (b : Bool) → not b ≡ false → b ≡ true
-not-not true e = refl
-not-not false e = absurd (no-clash (sym e))
-
 pub not-below : (a b : ℕ) → nat_lt a b ≡ false → b ≤ a
-not-below a b e = elim (leb_tells (suc a) b) [ inl y ↦ absurd (no-clash (sym e ∙ y.0)) | inr n ↦ omega (arith, n.1) ]
-
-pub not-le : (a b : ℕ) → nat_le a b ≡ false → b < a
-not-le a b e = elim (leb_tells a b) [ inl y ↦ absurd (no-clash (sym e ∙ y.0)) | inr n ↦ n.1 ]
+not-below a b e = elim (leb_tells (suc a) b) [ inl y ↦ absurd (false≢true (sym e ∙ y.0)) | inr n ↦ omega (arith, n.1) ]
 
 pub same_sizes-decides : (xs ys : List Size) → Decides (same_sizes xs ys) (xs ≡ ys)
 same_sizes-decides [] [] = (λ e. refl, λ e. refl)
-same_sizes-decides [] (y ∷ ys) = (λ e. absurd (no-clash e), λ e. absurd (nil-cons e))
+same_sizes-decides [] (y ∷ ys) = (λ e. absurd (false≢true e), λ e. absurd (nil-cons e))
   where
     nil-cons : [] ≡ y ∷ ys → ⊥
     nil-cons e = cc
-same_sizes-decides (x ∷ xs) [] = (λ e. absurd (no-clash e), λ e. absurd (cons-nil e))
+same_sizes-decides (x ∷ xs) [] = (λ e. absurd (false≢true e), λ e. absurd (cons-nil e))
   where
     cons-nil : x ∷ xs ≡ [] → ⊥
     cons-nil e = cc
@@ -77,20 +65,16 @@ is_clash-decides a b =
     (Decides-and (not (nat_eq a.cargo b.cargo)) (not (nat_eq a.cargo 0)) (Decides-not (nat_eq a.cargo b.cargo) (Decides-eqb a.cargo b.cargo)) (Decides-not (nat_eq a.cargo 0) (Decides-eqb a.cargo 0)))
     (Decides-not (nat_eq b.cargo 0) (Decides-eqb b.cargo 0)))
 
-either-false : (p q : Bool) → (p || q) ≡ false → (p ≡ false) × (q ≡ false)
-either-false true q e = absurd (no-clash (sym e))
-either-false false q e = (refl, e)
-
 -- where the test finds no clash there is none
 pub has_clash-none : (xs : List Size) → has_clash xs ≡ false → (i j : ℕ) → i < j → j < length xs → Clash (slice_index_or xs i no_size) (slice_index_or xs j no_size) → ⊥
 has_clash-none [] e i j less known c = absurd (omega (arith, known))
 has_clash-none (x ∷ xs) e zero zero less known c = absurd (omega (arith, less))
 has_clash-none (x ∷ xs) e zero (suc j) less known c =
-    let parts = either-false (list_any (is_clash x) xs) (has_clash xs) e in
+    let parts = or_parts (list_any (is_clash x) xs) (has_clash xs) e in
     let here : j < length xs = omega (arith, known) in
-    no-clash (sym parts.0 ∙ list_any_at (is_clash x) xs j no_size here ((is_clash-decides x (slice_index_or xs j no_size)).1 c))
+    false≢true (sym parts.0 ∙ list_any_at (is_clash x) xs j no_size here ((is_clash-decides x (slice_index_or xs j no_size)).1 c))
 has_clash-none (x ∷ xs) e (suc i) zero less known c = absurd (omega (arith, less))
-has_clash-none (x ∷ xs) e (suc i) (suc j) less known c = has_clash-none xs (either-false (list_any (is_clash x) xs) (has_clash xs) e).1 i j (omega (arith, less)) (omega (arith, known)) c
+has_clash-none (x ∷ xs) e (suc i) (suc j) less known c = has_clash-none xs (or_parts (list_any (is_clash x) xs) (has_clash xs) e).1 i j (omega (arith, less)) (omega (arith, known)) c
 
 pub HasNoClash-test : (d : Deck) → has_clash d.ships ≡ false → HasNoClash d
 HasNoClash-test d e = record { clear = λ i known. record { later = λ j less here. record { peace = has_clash-none d.ships e i j less here } } }

@@ -1,5 +1,5 @@
 -- Which slots a book has after a change.
-use Rattle.std.proofs.Common.{◌≡◌, ◌≢◌, ℕ, zero, suc, ◌+◌, ◌-◌, ◌<◌, ◌≤◌, List, [], ◌∷◌, ◌++◌, length, map, refl, sym, ap, ◌∙◌, arith, slice_index_or, slice_set, inl, inr}
+use Rattle.std.proofs.Common.{◌≡◌, ◌≢◌, ℕ, zero, suc, ◌+◌, ◌-◌, ◌<◌, ◌≤◌, List, [], ◌∷◌, ◌++◌, length, map, refl, sym, ap, ◌∙◌, arith, slice_index_or, slice_set, inl, inr, length-append}
 use Rattle.std.proofs.lemmas.Bool.Decides.{leb_tells, eqb_tells}
 use Rattle.std.proofs.lemmas.List.{length-set, get_or-set_same, get_or-set_other, get_or-append-add}
 use Rattle.std.proofs.Math.ListN.{get_or-append}
@@ -11,7 +11,7 @@ use Rattle.book_rules.specs.declared.book.SlotState.{SlotState}
 use Rattle.book_rules.specs.declared.book.SlotState.TheVariants as slot
 use Rattle.book_rules.specs.Book.{Slot, Book, no_slot, slot_at, best_cost, new_slot}
 use Rattle.book_rules.specs.Step
-use Rattle.book_rules.proofs.TallyLemmas.{length-append, length-children}
+use Rattle.book_rules.proofs.TallyLemmas.{length-children}
 
 -- slot `other` where slot id has turned to another state
 pub data IsTurned (b : Book) (id : ℕ) (new : SlotState) (other : ℕ) (s : Slot) : Type 0 where
@@ -26,7 +26,7 @@ turned-at b id new known other =
       | inr n ↦ Untouched n.1 (get_or-set_other b.slots id other s no_slot n.1)
     ]
 
-past-end : (xs : List Slot) (k : ℕ) → length xs ≤ k → slice_index_or xs k no_slot ≡ no_slot
+pub past-end : (xs : List Slot) (k : ℕ) → length xs ≤ k → slice_index_or xs k no_slot ≡ no_slot
 past-end [] k h = refl
 past-end (x ∷ xs) zero h = absurd (omega (arith, h))
 past-end (x ∷ xs) (suc k) h = past-end xs k (omega (arith, h))

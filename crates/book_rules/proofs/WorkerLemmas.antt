@@ -1,5 +1,5 @@
 -- Every event keeps what a book knows of its workers.
-use Rattle.std.proofs.Common.{◌≡◌, ◌≢◌, ℕ, zero, suc, ◌<◌, ◌≤◌, List, [], ◌∷◌, ◌++◌, length, map, refl, sym, ap, ◌∙◌, subst, Bool, true, false, cond, slice_index_or, slice_set, inl, inr, ◌⊎◌, nat_le}
+use Rattle.std.proofs.Common.{◌≡◌, ◌≢◌, ℕ, zero, suc, ◌<◌, ◌≤◌, List, [], ◌∷◌, ◌++◌, length, map, refl, sym, ap, ◌∙◌, subst, Bool, true, false, cond, slice_index_or, slice_set, inl, inr, ◌⊎◌, nat_le, true≢false}
 use Rattle.std.specs.declared.option.Option.{Option}
 use Rattle.std.proofs.lemmas.List.{length-set, get_or-set_other}
 use Rattle.lock_model.specs.declared.instance.Instance.{Instance}
@@ -18,15 +18,12 @@ use Rattle.book_rules.proofs.TallyLemmas.{Kept, Closed, outdone-is}
 use Rattle.book_rules.proofs.TurnLemmas.{Turned, Untouched, turned-at, Parent, Old, Child, Past, split-at, kid, outdone-at}
 use Rattle.closing_rules.specs.declared.grounds.Ground.TheVariants as by
 
-clash : true ≡ false → ⊥
-clash e = cc
-
 -- slot id of the slots is held by worker w
 abbrev pub Holds : List Slot → ℕ → ℕ → Type 0
 Holds slots id w = (slice_index_or slots id no_slot).state ≡ slot.Held w
 
 pub not-held : (s : SlotState) (w : ℕ) → is_held s ≡ false → s ≡ slot.Held w → ⊥
-not-held s w e f = clash (sym (ap is_held f) ∙ e)
+not-held s w e f = true≢false (sym (ap is_held f) ∙ e)
 
 pub same-worker : (v w : ℕ) → slot.Held v ≡ slot.Held w → v ≡ w
 same-worker v w e = cc
@@ -84,7 +81,8 @@ taken-workers b w id used e keeps known runs none = record {
     both first other v (inr old) (inl c) = absurd (none first (subst (λ u. Holds b.slots first u) c.1 old))
     both first other v (inr old) (inr older) = keeps.one first other v old older
 
-new-free : (t : Bool) → is_held (cond t (slot.Closed by.Bound) slot.Fresh) ≡ false
+-- a new slot is free
+pub new-free : (t : Bool) → is_held (cond t (slot.Closed by.Bound) slot.Fresh) ≡ false
 new-free true = refl
 new-free false = refl
 

@@ -1,5 +1,5 @@
 -- A history played again.
-use Rattle.std.specs.Prelude.{ℕ, suc, ◌≡◌, List, [], ◌∷◌, length, map, slice_index_or}
+use Rattle.std.specs.Prelude.{ℕ, ◌≡◌, List, [], ◌∷◌, Bool, true, false, length, map, count_by, slice_index_or}
 use Rattle.std.specs.declared.option.Option.{Option}
 use Rattle.lock_model.specs.Fitting.{deck_of}
 use Rattle.lock_model.specs.declared.instance.Instance.{Instance}
@@ -49,27 +49,22 @@ replay_from broken b (entry.Release w ∷ es) cuts plans prices = replay_from br
 abbrev pub replay : {Break : Type 0} → (Instance → Plan → Option Break) → Case → Plan → List Entry → List Cut → List Plan → List (List ℕ) → Book
 replay broken case plan history cuts plans prices = replay_from broken (opening_book case plan) history cuts plans prices
 
--- how many entries of a history are posts
-abbrev pub posts_in : List Entry → ℕ
-posts_in [] = 0
-posts_in (entry.Post ∷ es) = suc (posts_in es)
-posts_in (_ ∷ es) = posts_in es
+-- the entries that take a cut, a plan, or prices
+abbrev pub is_post : Entry → Bool
+is_post entry.Post = true
+is_post _ = false
 
--- how many are replaces
-abbrev pub replaces_in : List Entry → ℕ
-replaces_in [] = 0
-replaces_in (entry.Replace ∷ es) = suc (replaces_in es)
-replaces_in (_ ∷ es) = replaces_in es
+abbrev pub is_replace : Entry → Bool
+is_replace entry.Replace = true
+is_replace _ = false
 
--- how many are postings of prices
-abbrev pub pricings_in : List Entry → ℕ
-pricings_in [] = 0
-pricings_in (entry.Prices ∷ es) = suc (pricings_in es)
-pricings_in (_ ∷ es) = pricings_in es
+abbrev pub is_pricing : Entry → Bool
+is_pricing entry.Prices = true
+is_pricing _ = false
 
 -- The book is the replay of its history, which takes all its cuts, plans and prices.
 pub record IsReplayed {Break : Type 0} (broken : Instance → Plan → Option Break) (b : Book) : Type 0 where
   pub same : replay broken b.case b.opening b.history b.cuts b.plans b.prices ≡ b
-  pub posts : posts_in b.history ≡ length b.cuts
-  pub replaces : replaces_in b.history ≡ length b.plans
-  pub pricings : pricings_in b.history ≡ length b.prices
+  pub posts : count_by is_post b.history ≡ length b.cuts
+  pub replaces : count_by is_replace b.history ≡ length b.plans
+  pub pricings : count_by is_pricing b.history ≡ length b.prices

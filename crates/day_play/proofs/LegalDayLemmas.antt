@@ -14,7 +14,7 @@ use Rattle.chamber_times.proofs.WalkLemmas.{lockages_at-line}
 use Rattle.day_play.specs.Rising.{AreRising}
 use Rattle.lock_rules.specs.Among.{IsAmong}
 use Rattle.day_play.specs.State.{opening, after_all}
-use Rattle.day_play.specs.Lawful.{IsLawfulDay}
+use Rattle.day_play.specs.Lawful.{IsLawfulDay, HasLawfulDay}
 use Rattle.day_play.specs.Playing.{day_of}
 use Rattle.day_play.specs.declared.beat.Beat.{Beat}
 use Rattle.day_play.proofs.DayLemmas.{played_lawful}
@@ -114,5 +114,5 @@ module _ (I : Instance) (P : Plan) (rising : AreRising P) (bs : List Beat) (day 
   }
 
 -- EXACTLY THE LEGAL PLANS have lawful days.
-pub has-day-legal : (I : Instance) (P : Plan) → AreRising P → ((bs : List Beat) × IsLawfulDay I P bs) ↔ IsLegal I P
+pub has-day-legal : (I : Instance) (P : Plan) → AreRising P → HasLawfulDay I P ↔ IsLegal I P
 has-day-legal I P rising = (λ day. day-legal I P rising day.0 day.1, λ legal. (day_of I P, played_lawful I P (day_of I P) legal refl))

@@ -1,5 +1,5 @@
 -- Beats that each chamber may do in its own order are lawful, however the chambers are mixed.
-use Rattle.std.proofs.Common.{◌≡◌, ◌≢◌, ℕ, zero, suc, ◌+◌, ◌<◌, ◌≤◌, List, [], ◌∷◌, ◌++◌, length, filter, cond, nat_eq, eq-eqb, ◌⊎◌, inl, inr, refl, ap, sym, subst, arith, slice_index_or}
+use Rattle.std.proofs.Common.{◌≡◌, ◌≢◌, ℕ, suc, ◌+◌, ◌<◌, ◌≤◌, List, [], ◌∷◌, ◌++◌, length, filter, cond, nat_eq, eq-eqb, ◌⊎◌, inl, inr, refl, ap, sym, subst, arith, slice_index_or}
 use Rattle.std.proofs.lemmas.Bool.Decides.{eqb_tells}
 use Rattle.lock_model.specs.declared.instance.Instance.{Instance}
 use Rattle.lock_model.specs.declared.plan.Lockage.{Lockage}
@@ -28,11 +28,6 @@ pub IsAmong-place : (xs : List ℕ) (x : ℕ) → IsAmong xs x → (k : ℕ) × 
 IsAmong-place [] x h = absurd h
 IsAmong-place (y ∷ ys) x (inl e) = (0, omega arith, e)
 IsAmong-place (y ∷ ys) x (inr h) = let rest = IsAmong-place ys x h in (suc rest.0, omega (arith, rest.1), rest.2)
-
-pub IsAmong-at : (xs : List ℕ) (k : ℕ) → k < length xs → IsAmong xs (slice_index_or xs k 0)
-IsAmong-at [] k within = absurd (omega arith)
-IsAmong-at (x ∷ xs) zero within = inl refl
-IsAmong-at (x ∷ xs) (suc k) within = inr (IsAmong-at xs k (omega arith))
 
 -- the beats of chamber c
 abbrev pub beats_at : ℕ → List Beat → List Beat

@@ -79,9 +79,6 @@ module _ (I : Instance) (P : Plan) where
         (come : (d : ℕ) (m : Moored) → IsAmong (moored d) m → ((d ≡ c) × (record { ship = i; lockage = p } ≡ m)) ⊎ IsAmong (s.chamber d).moored m)
         (kept : (d : ℕ) (m : Moored) → IsAmong (s.chamber d).moored m → IsAmong (moored d) m)
         (room : (d : ℕ) → length (moored d) ≤ (chamber_at I d).most) where
-      abbrev new : Moored
-      new = record { ship = i; lockage = p }
-
       -- the new one lies at its own place of the deck
       place : (k : ℕ) → k < length (lockage_at P p).ships → i ≡ ship_of (lockage_at P p) k → may.place ≡ k
       place k within same = increasing-place (lockage_at P p).ships may.place k (rising.each p may.lockage.known) may.within within (may.ship ∙ same)

@@ -141,3 +141,7 @@ pub record IsLawfulDay (I : Instance) (P : Plan) (bs : List Beat) : Type 0 where
   pub rising : IsOrdered minute_of 0 bs
   pub lawful : AreLawfulBeats I P bs (opening I)
   pub over : IsOver I P (after_all I P bs (opening I))
+
+-- some list of beats is a lawful day of the plan
+abbrev pub HasLawfulDay : Instance → Plan → Type 0
+HasLawfulDay I P = (bs : List Beat) × IsLawfulDay I P bs

@@ -14,7 +14,6 @@ mod lines;
 mod order;
 mod playing;
 mod rising;
-mod walk;
 
 pub use beat::{Act, Beat};
 pub use day::Day;

@@ -8,8 +8,7 @@ ghost use Rattle.day_play.specs.Playing.{turn_beats, moor_beats, lockage_beats, 
 use crate::beat::{Act, Beat};
 use crate::day::Day;
 use crate::order::moor_order;
-use crate::walk::line_places;
-use chamber_times::{duration, first_free, stand_after};
+use chamber_times::{duration, first_free, line_places, stand_after};
 use lock_model::{Instance, Lockage, Plan, Stand, Way};
 
 /// Puts the empty turn, where the lockage at place `p` needs one and its chamber stands so and is

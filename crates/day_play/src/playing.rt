@@ -1,11 +1,10 @@
 //! A plan played as a day.
-ghost use Rattle.std.specs.Prelude.{◌≡◌, List};
+ghost use Rattle.std.specs.Prelude.{◌≡◌, ◌↔◌};
 ghost use Rattle.lock_rules.specs.Plan.{IsLegal};
 ghost use Rattle.mooring_rules.specs.PlanBreaks.{IsFirstBrokenPlan};
-ghost use Rattle.day_play.specs.Lawful.{IsLawfulDay};
+ghost use Rattle.day_play.specs.Lawful.{IsLawfulDay, HasLawfulDay};
 ghost use Rattle.day_play.specs.Playing.{day_of};
 ghost use Rattle.day_play.specs.Played.{OnDay, OnStuck};
-ghost use Rattle.day_play.specs.declared.beat.Beat.{Beat};
 
 use crate::day::Day;
 use crate::lines::day_of;
@@ -24,21 +23,18 @@ pub enum Played {
 
 /// Plays a plan as a day. `Day` exactly where the plan is legal: a lawful day of it, with a turn
 /// only before a lockage that needs one, at the least lawful minute. Else `Stuck` with the break
-/// of `judge_plan`, and no list of beats is a lawful day of the plan. Takes no memory.
+/// of `judge_plan`. Exactly the legal plans have a lawful day, whoever made it. Takes no memory.
 pub fn play(instance: &Instance, plan: &Plan) -> Played
     ensures legal { OnDay result (λ d. IsLegal instance.now plan.now) }
     ensures lawful { OnDay result (IsLawfulDay instance.now plan.now) }
     ensures day { OnDay result (λ d. d ≡ day_of instance.now plan.now) }
     ensures stuck { OnStuck result (λ b. IsFirstBrokenPlan instance.now plan.now b) }
     ensures illegal { OnStuck result (λ b. IsLegal instance.now plan.now → ⊥) }
-    ensures never { OnStuck result
-        (λ b. (bs : List Beat) → IsLawfulDay instance.now plan.now bs → ⊥) }
+    ensures exactly { HasLawfulDay instance.now plan.now ↔ IsLegal instance.now plan.now }
 {
+    learn_rising(plan);
     match judge_plan(instance, plan) {
-        Some(broken) => {
-            learn_rising(plan);
-            Played::Stuck(broken)
-        }
+        Some(broken) => Played::Stuck(broken),
         None => Played::Day(day_of(instance, plan)),
     }
 }

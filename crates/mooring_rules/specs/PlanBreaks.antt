@@ -100,11 +100,20 @@ module _ (I : Instance) (P : Plan) where
     pub broken : IsFirstBreak I P c b
     pub before : (k : ℕ) → k < c → IsTimely I P k
 
-  -- The first break: no lockage, ship or chamber before it, and no kind of break before it, breaks a rule.
+  -- The first break of a part of a plan, which may lack ships: no lockage, ship or chamber before it, and no kind of break before it, breaks a rule.
+  abbrev pub IsFirstBrokenPart : BrokenPlan → Type 0
+  IsFirstBrokenPart (Shape p) = IsFirstMisshapen p
+  IsFirstBrokenPart (Double s) = AreShaped × IsFirstDouble s
+  IsFirstBrokenPart (Missing s) = ⊥
+  IsFirstBrokenPart (Deck p b) = AreShaped × HasNoDouble × IsFirstMisplaced p b
+  IsFirstBrokenPart (Clash p i j) = AreShaped × HasNoDouble × ArePlaced × IsFirstClash p i j
+  IsFirstBrokenPart (Time c b) = AreShaped × HasNoDouble × ArePlaced × AreClear × IsFirstUntimely c b
+
+  -- The first break of a plan: that of a part, with missing ships behind double ones.
   abbrev pub IsFirstBrokenPlan : BrokenPlan → Type 0
-  IsFirstBrokenPlan (Shape p) = IsFirstMisshapen p
-  IsFirstBrokenPlan (Double s) = AreShaped × IsFirstDouble s
+  IsFirstBrokenPlan (Shape p) = IsFirstBrokenPart (Shape p)
+  IsFirstBrokenPlan (Double s) = IsFirstBrokenPart (Double s)
   IsFirstBrokenPlan (Missing s) = AreShaped × HasNoDouble × IsFirstMissing s
-  IsFirstBrokenPlan (Deck p b) = AreShaped × HasNoDouble × HasNoMissing × IsFirstMisplaced p b
-  IsFirstBrokenPlan (Clash p i j) = AreShaped × HasNoDouble × HasNoMissing × ArePlaced × IsFirstClash p i j
-  IsFirstBrokenPlan (Time c b) = AreShaped × HasNoDouble × HasNoMissing × ArePlaced × AreClear × IsFirstUntimely c b
+  IsFirstBrokenPlan (Deck p b) = HasNoMissing × IsFirstBrokenPart (Deck p b)
+  IsFirstBrokenPlan (Clash p i j) = HasNoMissing × IsFirstBrokenPart (Clash p i j)
+  IsFirstBrokenPlan (Time c b) = HasNoMissing × IsFirstBrokenPart (Time c b)

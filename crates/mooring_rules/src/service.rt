@@ -20,7 +20,7 @@ fn times_in(ships: &[u8], ship: u8) -> usize
 }
 
 /// How many lockages of the plan serve the ship.
-fn served_in(plan: &Plan, ship: u8) -> usize
+pub fn served_in(plan: &Plan, ship: u8) -> usize
     ensures { result ≡ served_in plan.now.lockages ship }
 {
     let mut served = 0;

@@ -22,16 +22,16 @@ use Rattle.lock_model.specs.declared.plan.Plan.{Plan}
 use Rattle.lock_rules.specs.Arrival.{numbers_from}
 use Rattle.lock_rules.specs.Lawful.{duration_of, stand_after, HasTurned, IsFree, IsLawfulStart, AreLawfulFrom}
 use Rattle.lock_rules.specs.Lines.{insert_by_start, sorted_by_start, line_of, group_of}
-use Rattle.lock_rules.specs.Plan.{times_in, served_in, IsLegalLockage, IsLegal, IsTimely, flow_in, cost_of}
+use Rattle.lock_rules.specs.Plan.{times_in, served_in, IsLegalLockage, IsLegal, IsLegalPart, IsTimely, flow_in, cost_of}
 use Rattle.lock_rules.proofs.CountLemmas.{times_in-between}
 use Rattle.lock_rules.proofs.LineLemmas.{sum_by-lines, sum_by-plus, All-line, All-insert_by_start, All-sorted_by_start}
-use Rattle.lock_rules.proofs.LegalLemmas.{legal-chambers}
+use Rattle.lock_rules.proofs.LegalLemmas.{part-chambers, legal-chambers}
 use Rattle.lock_rules.proofs.SplitLemmas.{served_in-sum, times_in-at}
 use Rattle.chamber_times.specs.FirstBreak.{stand_after_all, done_after_all}
-use Rattle.replan.specs.Kept.{starts_before, IsLegalPart}
+use Rattle.replan.specs.Kept.{starts_before}
 use Rattle.replan.specs.Rest.{chamber_after, ships_left, from_minute, added_of, IsRest}
 use Rattle.replan.specs.Together.{number_of, renumbered, joined, Keeps}
-use Rattle.replan.proofs.LeftLemmas.{part-chambers, left-known}
+use Rattle.replan.proofs.LeftLemmas.{left-known}
 use Rattle.replan.proofs.RenumberLemmas.{number-less, times_in-filter, served-renumbered, rest-chambers, rest-ships, chamber-rest, ship-rest, deck-rest, duration-rest, left-rise}
 use Rattle.replan.proofs.JoinLemmas.{insert-append, all-before, none-before, sorted-renumbered, filter-renumbered}
 use Rattle.replan.proofs.CostLemmas.{cost-joined}

@@ -16,11 +16,11 @@ use Rattle.lock_model.specs.declared.plan.Lockage.{Lockage}
 use Rattle.lock_model.specs.declared.plan.Plan.{Plan}
 use Rattle.lock_rules.specs.Lawful.{duration_of, stand_after, HasTurn, HasTurned, IsFree, IsLawfulStart, AreLawfulFrom}
 use Rattle.lock_rules.specs.Lines.{insert_by_start, sorted_by_start, line_of, group_of, end_of}
-use Rattle.lock_rules.specs.Plan.{served_in, IsLegalLockage, IsLegal, IsTimely, flow_in, cost_of}
+use Rattle.lock_rules.specs.Plan.{served_in, IsLegalLockage, IsLegal, IsLegalPart, IsTimely, flow_in, cost_of}
 use Rattle.lock_rules.proofs.LineLemmas.{All-line, All-sorted_by_start}
 use Rattle.lock_rules.proofs.LegalLemmas.{legal-arrived, legal-ships}
 use Rattle.chamber_times.specs.FirstBreak.{stand_after_all, done_after_all}
-use Rattle.replan.specs.Kept.{starts_before, kept_of, IsLegalPart, CanBeKept}
+use Rattle.replan.specs.Kept.{starts_before, kept_of, CanBeKept}
 use Rattle.replan.specs.Rest.{chamber_after, chambers_after, ships_left, from_minute, delay_of, added_of, IsRest}
 use Rattle.replan.specs.Together.{number_of, renumbered, joined, Keeps}
 use Rattle.replan.proofs.RenumberLemmas.{rest-chambers, rest-ships, chamber-rest, ship-rest, duration-rest, legal-renumbered, once-joined}

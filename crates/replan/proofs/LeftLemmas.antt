@@ -1,8 +1,9 @@
 -- The rest is within the limits.
-use Rattle.std.proofs.Common.{◌↔◌, Option, IsSome, IsNone, is_some, Bool, true≢false, ◌≡◌, ◌≢◌, ℕ, zero, suc, ◌+◌, ◌<◌, ◌≤◌, List, [], ◌∷◌, length, map, max, filter, get_or, All, AllPairs, cond, true, false, nat_eq, nat_le, eq-eqb, refl, sym, ap, ◌∙◌, subst, arith}
-use Rattle.std.proofs.lemmas.List.{length-map, get_or-map, get_or_default}
-use Rattle.std.proofs.lemmas.List.Elements.{All-head, All-tail, All-cons, All-nil, All-weaker, All-filter}
+use Rattle.std.proofs.Common.{◌↔◌, Option, IsSome, IsNone, is_some, Bool, true≢false, ◌≡◌, ◌≢◌, ℕ, ◌+◌, ◌<◌, ◌≤◌, List, [], ◌∷◌, length, get_or, All, true, false, nat_eq, refl, sym, ap, ◌∙◌, subst, arith}
+use Rattle.std.proofs.lemmas.List.{length-map, get_or-map}
+use Rattle.std.proofs.lemmas.List.Elements.{All-head, All-tail, All-weaker, All-filter}
 use Rattle.std.proofs.lemmas.List.Kept.{AllPairs-from_increasing}
+use Rattle.list_laws.proofs.Counts.{filter-shorter}
 use Rattle.lock_model.specs.Instance.{IsInstance, IsChamber, IsShip}
 use Rattle.lock_model.specs.Fleet.{ship_at, chamber_at, no_ship, no_chamber}
 use Rattle.lock_model.specs.declared.chamber.Chamber.{Chamber}
@@ -12,60 +13,13 @@ use Rattle.lock_model.specs.declared.plan.Lockage.{Lockage}
 use Rattle.lock_model.specs.declared.plan.Plan.{Plan}
 use Rattle.lock_rules.specs.Arrival.{numbers_from}
 use Rattle.lock_rules.specs.Lawful.{duration_of}
-use Rattle.lock_rules.specs.Lines.{insert_by_start, sorted_by_start, line_of, end_of}
-use Rattle.lock_rules.specs.Plan.{served_in, IsLegalLockage}
+use Rattle.lock_rules.specs.Lines.{line_of}
+use Rattle.lock_rules.specs.Plan.{served_in}
 use Rattle.lock_rules.proofs.LineLemmas.{numbers-below, length-numbers, All-line, line-chamber}
-use Rattle.lock_rules.proofs.ThroughputLemmas.{arrivals-line}
 use Rattle.chamber_times.specs.FirstBreak.{done_after_all}
-use Rattle.replan.specs.Kept.{IsLegalPart, EndsInTime, CanBeKept}
+use Rattle.replan.specs.Kept.{EndsInTime, CanBeKept}
 use Rattle.replan.specs.Rest.{chamber_after, chambers_after, ships_left, from_minute, ships_from}
-use Rattle.replan.proofs.ListLemmas.{get_or-numbers, filter-short, filtered-rise}
-
--- no ship of the lockage arrives after its start
-abbrev HasArrived : Instance → Lockage → Type 0
-HasArrived I l = All (λ s. (ship_at I s).arrival ≤ l.start) l.ships
-
--- what holds of the lines of all chambers holds of all lockages
-module _ (Q : Lockage → Type 0) where
-  All-before_insert : (l : Lockage) (ls : List Lockage) → All Q (insert_by_start l ls) → All Q (l ∷ ls)
-  All-before_insert l [] h = h
-  All-before_insert l (m ∷ ms) h =
-      elim (nat_le l.start m.start) as (λ b. All Q (cond b (l ∷ m ∷ ms) (m ∷ insert_by_start l ms)) → All Q (l ∷ m ∷ ms)) [
-        | true ↦ λ h. h
-        | false ↦ λ h.
-            let rest = All-before_insert l ms (All-tail Q m (insert_by_start l ms) h) in
-            All-cons Q l (m ∷ ms) (All-head Q l ms rest) (All-cons Q m ms (All-head Q m (insert_by_start l ms) h) (All-tail Q l ms rest))
-      ] h
-
-  All-before_sort : (ls : List Lockage) → All Q (sorted_by_start ls) → All Q ls
-  All-before_sort [] h = h
-  All-before_sort (l ∷ ls) h =
-      let all = All-before_insert l (sorted_by_start ls) h in
-      All-cons Q l ls (All-head Q l (sorted_by_start ls) all) (All-before_sort ls (All-tail Q l (sorted_by_start ls) all))
-
-  All-from_chambers : (m : ℕ) (ls : List Lockage) → All (λ l. l.chamber < m) ls → ((c : ℕ) → c < m → All Q (filter (λ l. nat_eq l.chamber c) ls)) → All Q ls
-  All-from_chambers m [] known each = All-nil Q
-  All-from_chambers m (l ∷ ls) known each =
-      let own = each l.chamber (All-head (λ (l : Lockage). l.chamber < m) l ls known) in
-      All-cons Q l ls
-      (All-head Q l (filter (λ k. nat_eq k.chamber l.chamber) ls) (subst (λ b. All Q (cond b (l ∷ filter (λ k. nat_eq k.chamber l.chamber) ls) (filter (λ k. nat_eq k.chamber l.chamber) ls))) (eq-eqb l.chamber l.chamber refl) own))
-      (All-from_chambers m ls (All-tail (λ (l : Lockage). l.chamber < m) l ls known) (λ c less. without c (each c less)))
-    where
-      without : (c : ℕ) → All Q (filter (λ l. nat_eq l.chamber c) (l ∷ ls)) → All Q (filter (λ l. nat_eq l.chamber c) ls)
-      without c h =
-          elim (nat_eq l.chamber c) as (λ b. All Q (cond b (l ∷ filter (λ l. nat_eq l.chamber c) ls) (filter (λ l. nat_eq l.chamber c) ls)) → All Q (filter (λ l. nat_eq l.chamber c) ls)) [
-            | true ↦ λ h. All-tail Q l (filter (λ l. nat_eq l.chamber c) ls) h
-            | false ↦ λ h. h
-          ] h
-
-module _ (I : Instance) (K : Plan) (legal : IsLegalPart I K) where
-  pub part-chambers : All (λ l. l.chamber < length I.chambers) K.lockages
-  part-chambers = All-weaker (IsLegalLockage I) (λ l. l.chamber < length I.chambers) (λ l h. h.chamber) K.lockages legal.lockage
-
-  pub part-arrived : All (λ l. All (λ s. (ship_at I s).arrival ≤ l.start) l.ships) K.lockages
-  part-arrived =
-      All-from_chambers (HasArrived I) (length I.chambers) K.lockages part-chambers
-      (λ c less. All-before_sort (HasArrived I) (filter (λ l. nat_eq l.chamber c) K.lockages) (arrivals-line I c (chamber_at I c).stands (chamber_at I c).opens (line_of K c) (legal.timely c less).lawful))
+use Rattle.replan.proofs.ListLemmas.{get_or-numbers, filtered-rise}
 
 pub left-known : (I : Instance) (K : Plan) → All (λ s. s < length I.ships) (ships_left I K)
 left-known I K =
@@ -127,7 +81,7 @@ module _ (I : Instance) (K : Plan) (M : ℕ) (can : CanBeKept I K) (early : M �
   left-count : length (ships_left I K) ≤ 24
   left-count =
       let limits = I.limits in
-      omega (arith, filter-short (λ s. nat_eq (served_in K.lockages s) 0) (numbers_from 0 (length I.ships)), length-numbers 0 (length I.ships), limits.ship_count.1)
+      omega (arith, filter-shorter (λ s. nat_eq (served_in K.lockages s) 0) (numbers_from 0 (length I.ships)), length-numbers 0 (length I.ships), limits.ship_count.1)
 
   -- the rest is an instance where ships are left
   pub rest-limits : 1 ≤ length (ships_left I K) → IsInstance (chambers_after I K) (ships_from I M (ships_left I K))

@@ -1,6 +1,5 @@
 pub mod KeptLemmas
 pub mod ListLemmas
-pub mod PartLemmas
 pub mod StandingLemmas
 pub mod LeftLemmas
 pub mod RenumberLemmas

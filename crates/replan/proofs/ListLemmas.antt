@@ -4,17 +4,9 @@ use Rattle.std.specs.List.Sorted.{IsStrictlyIncreasing}
 use Rattle.std.proofs.lemmas.List.{append-nil}
 use Rattle.std.proofs.lemmas.List.Elements.{filter-append}
 use Rattle.std.proofs.lemmas.List.Kept.{IsStrictlyIncreasing-filter}
+use Rattle.list_laws.proofs.Counts.{filter-shorter}
 use Rattle.lock_rules.specs.Arrival.{numbers_from}
 use Rattle.lock_rules.proofs.LineLemmas.{numbers_more, length-numbers}
-
-pub filter-short : {X : Type 0} (p : X → Bool) (xs : List X) → length (filter p xs) ≤ length xs
-filter-short p [] = omega arith
-filter-short p (x ∷ xs) =
-    let rest = filter-short p xs in
-    elim (p x) as (λ b. length (cond b (x ∷ filter p xs) (filter p xs)) ≤ length (x ∷ xs)) [
-      | true ↦ omega (arith, rest)
-      | false ↦ omega (arith, rest)
-    ]
 
 pub taken_few : {X : Type 0} (xs : List X) (i : ℕ) → length (take i xs) ≤ i
 taken_few xs zero = omega arith
@@ -22,7 +14,7 @@ taken_few [] (suc i) = omega arith
 taken_few (x ∷ xs) (suc i) = omega (arith, taken_few xs i)
 
 pub filtered_few : {X : Type 0} (p : X → Bool) (xs : List X) (i : ℕ) → length (filter p (take i xs)) ≤ i
-filtered_few p xs i = omega (arith, filter-short p (take i xs), taken_few xs i)
+filtered_few p xs i = omega (arith, filter-shorter p (take i xs), taken_few xs i)
 
 -- one number more
 module _ (p : ℕ → Bool) (n : ℕ) where
@@ -38,7 +30,7 @@ module _ (p : ℕ → Bool) (n : ℕ) where
   numbers_miss miss = sym (numbers ∙ ap (λ b. filter p (numbers_from 0 n) ++ cond b (n ∷ []) []) miss ∙ append-nil (filter p (numbers_from 0 n)))
 
   pub numbers_few : length (filter p (numbers_from 0 n)) ≤ n
-  numbers_few = omega (arith, filter-short p (numbers_from 0 n), length-numbers 0 n)
+  numbers_few = omega (arith, filter-shorter p (numbers_from 0 n), length-numbers 0 n)
 
 pub get_or-numbers : (low n k d : ℕ) → k < n → get_or (numbers_from low n) k d ≡ low + k
 get_or-numbers low zero k d within = absurd (omega (arith, within))

@@ -21,11 +21,11 @@ use Rattle.lock_model.specs.declared.plan.Lockage.{Lockage}
 use Rattle.lock_model.specs.declared.plan.Plan.{Plan}
 use Rattle.lock_rules.specs.Arrival.{numbers_from}
 use Rattle.lock_rules.specs.Lawful.{duration_of}
-use Rattle.lock_rules.specs.Plan.{times_in, served_in, IsLegalLockage, IsLegal}
+use Rattle.lock_rules.specs.Plan.{times_in, served_in, IsLegalLockage, IsLegal, IsLegalPart}
 use Rattle.lock_rules.proofs.CountLemmas.{times_in-between}
 use Rattle.lock_rules.proofs.LeafLemmas.{served_in-append}
 use Rattle.lock_rules.proofs.LegalLemmas.{legal-ships}
-use Rattle.replan.specs.Kept.{IsLegalPart, CanBeKept}
+use Rattle.replan.specs.Kept.{CanBeKept}
 use Rattle.replan.specs.Rest.{chamber_after, chambers_after, ships_left, from_minute, ships_from, IsRest}
 use Rattle.replan.specs.Together.{number_of, renumbered, joined}
 use Rattle.replan.proofs.ListLemmas.{filtered-rise, taken_few}

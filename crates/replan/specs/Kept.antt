@@ -1,11 +1,11 @@
 -- The lockages of a plan that start before a minute; the others are forgotten.
-use Rattle.std.specs.Prelude.{ℕ, ◌≤◌, ◌<◌, List, Bool, length, filter, nat_lt, All}
+use Rattle.std.specs.Prelude.{ℕ, ◌≤◌, List, Bool, length, filter, nat_lt, All}
 use Rattle.lock_model.specs.declared.instance.Instance.{Instance}
 use Rattle.lock_model.specs.declared.plan.Lockage.{Lockage}
 use Rattle.lock_model.specs.declared.plan.Plan.{Plan}
 use Rattle.lock_rules.specs.Arrival.{numbers_from}
 use Rattle.lock_rules.specs.Lines.{lockage_at, end_of}
-use Rattle.lock_rules.specs.Plan.{served_in, IsLegalLockage, IsTimely}
+use Rattle.lock_rules.specs.Plan.{IsLegalPart}
 
 abbrev pub starts_before : ℕ → Lockage → Bool
 starts_before M l = nat_lt l.start M
@@ -17,12 +17,6 @@ kept_of P M = record { lockages = filter (starts_before M) P.lockages }
 -- their places in the plan
 abbrev pub kept_places : Plan → ℕ → List ℕ
 kept_places P M = filter (λ p. starts_before M (lockage_at P p)) (numbers_from 0 (length P.lockages))
-
--- Legal but that ships may be missing: no ship is served twice, each lockage is legal, and each chamber's line is lawful.
-pub record IsLegalPart (I : Instance) (K : Plan) : Type 0 where
-  pub once : (s : ℕ) → s < length I.ships → served_in K.lockages s ≤ 1
-  pub lockage : All (IsLegalLockage I) K.lockages
-  pub timely : (c : ℕ) → c < length I.chambers → IsTimely I K c
 
 -- the last minute at which a chamber of an instance may open
 abbrev pub last_opening : ℕ

@@ -1,25 +1,17 @@
--- The first break of a part of a plan, and its first lockage that ends too late.
+-- Why the lockages that start before a minute can't be kept.
 use Rattle.std.specs.Prelude.{ℕ, ◌≡◌, ◌<◌, List, length, slice_index_or}
 use Rattle.lock_model.specs.declared.instance.Instance.{Instance}
 use Rattle.lock_model.specs.declared.plan.Plan.{Plan}
 use Rattle.lock_rules.specs.Lines.{lockage_at, end_of}
+use Rattle.lock_rules.specs.Plan.{IsLegalPart}
 use Rattle.chamber_times.specs.declared.breaks.BrokenTime.{BrokenTime}
 use Rattle.chamber_times.specs.declared.breaks.BrokenTime.TheVariants.{Early, Soon, Shut}
-use Rattle.mooring_rules.specs.PlanBreaks.{AreShaped, HasNoDouble, ArePlaced, AreClear, IsFirstMisshapen, IsFirstDouble, IsFirstMisplaced, IsFirstClash, IsFirstUntimely}
+use Rattle.mooring_rules.specs.PlanBreaks.{IsFirstBrokenPart}
 use Rattle.mooring_rules.specs.declared.breaks.BrokenPlan.{BrokenPlan}
 use Rattle.mooring_rules.specs.declared.breaks.BrokenPlan.TheVariants.{Shape, Double, Missing, Deck, Clash, Time}
 use Rattle.replan.specs.declared.refusal.ReplanError.{ReplanError}
 use Rattle.replan.specs.declared.refusal.ReplanError.TheVariants.{Kept, Late}
-use Rattle.replan.specs.Kept.{last_opening, EndsInTime, IsLegalPart}
-
--- The first break, in the order of a plan's breaks; a part may lack ships, so none is missing.
-abbrev pub IsFirstBrokenPart : Instance → Plan → BrokenPlan → Type 0
-IsFirstBrokenPart I K (Shape p) = IsFirstMisshapen I K p
-IsFirstBrokenPart I K (Double s) = AreShaped I K × IsFirstDouble I K s
-IsFirstBrokenPart I K (Missing s) = ⊥
-IsFirstBrokenPart I K (Deck p b) = AreShaped I K × HasNoDouble I K × IsFirstMisplaced I K p b
-IsFirstBrokenPart I K (Clash p i j) = AreShaped I K × HasNoDouble I K × ArePlaced I K × IsFirstClash I K p i j
-IsFirstBrokenPart I K (Time c b) = AreShaped I K × HasNoDouble I K × ArePlaced I K × AreClear I K × IsFirstUntimely I K c b
+use Rattle.replan.specs.Kept.{last_opening, EndsInTime}
 
 -- lockage p ends too late, and each before it ends in time
 pub record IsFirstLate (I : Instance) (K : Plan) (p : ℕ) : Type 0 where

@@ -1,13 +1,14 @@
 //! Whether kept lockages end when a chamber may still open.
 ghost use Rattle.std.specs.Prelude.{◌≡◌, ◌↔◌, All, IfNone, IfSome, IsNone, List};
-ghost use Rattle.replan.specs.Kept.{IsLegalPart, EndsInTime, CanBeKept};
+ghost use Rattle.lock_rules.specs.Plan.{IsLegalPart};
+ghost use Rattle.replan.specs.Kept.{EndsInTime, CanBeKept};
 ghost use Rattle.replan.specs.PartBreaks.{IsFirstLate, IsPartRefusal};
 
 use crate::naming::{place_of, renamed};
-use crate::part::judge_part;
 use crate::refusal::ReplanError;
 use chamber_times::lockage_end;
 use lock_model::{Instance, Plan};
+use mooring_rules::judge_part;
 
 /// The last minute at which a chamber may open.
 const LAST_OPENING: u64 = 1_000_000;

@@ -4,8 +4,8 @@ ghost use Rattle.lock_model.specs.Fleet.{ship_at};
 ghost use Rattle.replan.specs.Rest.{ships_left, from_minute, ships_from, delay_of};
 
 use crate::numbers::Ships24;
-use crate::service::served_in;
 use lock_model::{Instance, Plan, Ship, ShipList};
+use mooring_rules::served_in;
 
 /// The ships that no lockage of the part serves, in instance order.
 pub(crate) fn ships_left(instance: &Instance, part: &Plan) -> Ships24

@@ -11,18 +11,15 @@
 //! rest put together with the kept plan, and plans that keep it), `Last` (a chamber's last lockage).
 #![tactic(auto)]
 
-mod judging;
 mod keeping;
 mod late;
 mod laws;
 mod left;
 mod naming;
 mod numbers;
-mod part;
 mod refusal;
 mod remainder;
 mod remaining;
-mod service;
 mod standing;
 mod together;
 

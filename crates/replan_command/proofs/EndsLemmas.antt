@@ -1,6 +1,7 @@
 -- Where nothing is refused, a part is kept and the rest is searched.
-use Rattle.std.proofs.Common.{ℕ, ◌≡◌, ◌⊎◌, ◌<◌, List, length, subst, ap, inl, inr, arith, Ok, Err, Result}
+use Rattle.std.proofs.Common.{ℕ, ◌≡◌, ◌⊎◌, ◌<◌, List, length, subst, ap, inl, inr, arith, Ok, Err}
 use Rattle.std.specs.Prelude.{IfSome}
+use Rattle.list_laws.proofs.Variants.{not-ok_and_err, one-ok}
 use Rattle.lock_model.specs.declared.instance.Instance.{Instance}
 use Rattle.lock_model.specs.declared.plan.Plan.{Plan}
 use Rattle.lock_model.specs.declared.verdict.Verdict.TheVariants.{Optimal, OpenNodes, OpenTurns}
@@ -13,14 +14,14 @@ use Rattle.instance_text.specs.Reading.{Means, Defect, reading, bad, instance_pa
 use Rattle.instance_text.specs.declared.bad.Kind.{Kind}
 use Rattle.instance_text.proofs.InstanceLemmas.{same_instance}
 use Rattle.command_words.specs.declared.commands.ReplanOptions.{ReplanOptions}
-use Rattle.plan_judge.specs.declared.kinds.PlanKind.{PlanKind}
-use Rattle.plan_judge.specs.Reading.{IsPlanText, IsPlanFault, reading as plan_reading}
-use Rattle.plan_judge.specs.Steps.{bad as bad_plan}
+use Rattle.plan_text.specs.declared.kinds.PlanKind.{PlanKind}
+use Rattle.plan_text.specs.Reading.{IsPlanText, IsPlanFault, reading as plan_reading}
+use Rattle.plan_text.specs.Faults.{bad as bad_plan}
 use Rattle.replan.specs.declared.refusal.ReplanError.{ReplanError}
 use Rattle.replan.specs.declared.refusal.ReplanError.TheVariants.{Kept, Late}
 use Rattle.replan.specs.Kept.{kept_of, kept_places, EndsInTime, CanBeKept}
 use Rattle.replan.specs.PartBreaks.{IsFirstLate, IsPartRefusal}
-use Rattle.replan.proofs.PartLemmas.{IsFirstBrokenPart-illegal}
+use Rattle.mooring_rules.proofs.PlanLemmas.{IsFirstBrokenPart-illegal}
 use Rattle.run_answers.specs.Sources.{Drained, IsTooLong, AnswersBytes, AnswersSource, plan_limit}
 use Rattle.run_answers.specs.declared.status.Status.{Status}
 use Rattle.run_answers.specs.declared.status.Status.TheVariants.{Good, Open, Words, Refused, ReadFault, WriteFault, NoMemory, BadDossier, Unfit, PlanRefused}
@@ -49,20 +50,14 @@ plan_refuses : (I : Instance) (bytes : List ℕ) (line : ℕ) (kind : PlanKind) 
 unfolding IsPlanFault
 plan_refuses I bytes line kind fault = fault
 
-one_ok : {A E : Type 0} (r : Result A E) (a b : A) → r ≡ Ok a → r ≡ Ok b → a ≡ b
-one_ok r a b e f = cc
-
-not_both : {A E : Type 0} (r : Result A E) (a : A) (e : E) → r ≡ Ok a → r ≡ Err e → ⊥
-not_both r a e is isnt = cc
-
 one_instance : (bytes : List ℕ) (I J : Instance) → Means bytes I → Means bytes J → I ≡ J
 one_instance bytes I J first second =
-    let same = one_ok (reading bytes) (draft_of I) (draft_of J) (reads bytes I first) (reads bytes J second) in
+    let same = one-ok (reading bytes) (draft_of I) (draft_of J) (reads bytes I first) (reads bytes J second) in
     same_instance I J (ap (λ (d : Draft). d.chambers) same) (ap (λ (d : Draft). d.ships) same)
 
 one_plan : (I : Instance) (bytes : List ℕ) (P Q : Plan) → IsPlanText I bytes P → IsPlanText I bytes Q → P ≡ Q
 one_plan I bytes P Q first second =
-    let same : P.lockages ≡ Q.lockages = one_ok (plan_reading I bytes) P.lockages Q.lockages (plan_reads I bytes P first) (plan_reads I bytes Q second) in
+    let same : P.lockages ≡ Q.lockages = one-ok (plan_reading I bytes) P.lockages Q.lockages (plan_reads I bytes P first) (plan_reads I bytes Q second) in
     λ i. record { lockages = same i }
 
 -- ---- a search ends open only where its nodes or turns aren't surely enough
@@ -139,13 +134,13 @@ module _ (options : ReplanOptions) (source : Drained) (I : Instance) (G : Plan) 
   not_refused text (inr read) =
       let told = read.answer in
       let defect = subst (λ bytes. Defect (instance_part bytes) told.line told.kind) (read_is Refused text read) told.defect in
-      not_both (reading (instance_part served.bytes)) (draft_of I) (bad told.line told.kind) (reads (instance_part served.bytes) I served.means) (refuses (instance_part served.bytes) told.line told.kind defect)
+      not-ok_and_err (reading (instance_part served.bytes)) (draft_of I) (bad told.line told.kind) (reads (instance_part served.bytes) I served.means) (refuses (instance_part served.bytes) told.line told.kind defect)
 
   -- the plan text has no fault, and its kept part is kept
   no_fault : (text : List ℕ) (J : Instance) (bytes : List ℕ) → bytes ≡ served.bytes → J ≡ I → IsPlanTextFault J (after_instance bytes) text ⊎ AnswersPlanText options J (after_instance bytes) PlanRefused text → ⊥
   no_fault text J bytes is same (inl bad) =
       let fault = subst (λ J. IsPlanFault J (after_instance served.bytes) bad.line bad.kind) same (subst (λ bytes. IsPlanFault J (after_instance bytes) bad.line bad.kind) is bad.fault) in
-      not_both (plan_reading I (after_instance served.bytes)) G.lockages (bad_plan bad.line bad.kind) (plan_reads I (after_instance served.bytes) G served.planned) (plan_refuses I (after_instance served.bytes) bad.line bad.kind fault)
+      not-ok_and_err (plan_reading I (after_instance served.bytes)) G.lockages (bad_plan bad.line bad.kind) (plan_reads I (after_instance served.bytes) G served.planned) (plan_refuses I (after_instance served.bytes) bad.line bad.kind fault)
   no_fault text J bytes is same (inr planned) =
       let plan = same_planned J bytes planned.plan is same planned.is_text in
       let refused : IsPartRefused I G options.from text = subst (λ P. IsPartRefused I P options.from text) plan (subst (λ J. IsPartRefused J planned.plan options.from text) same planned.answer) in

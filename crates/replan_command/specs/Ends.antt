@@ -7,7 +7,7 @@ use Rattle.lock_rules.specs.Unfit.{HasNoUnfit}
 use Rattle.book_rules.specs.Ends.{AreEnough}
 use Rattle.instance_text.specs.Reading.{Means, instance_part, after_instance}
 use Rattle.command_words.specs.declared.commands.ReplanOptions.{ReplanOptions}
-use Rattle.plan_judge.specs.Reading.{IsPlanText}
+use Rattle.plan_text.specs.Reading.{IsPlanText}
 use Rattle.replan.specs.Kept.{kept_of, CanBeKept}
 use Rattle.replan.specs.Rest.{IsRest}
 use Rattle.run_answers.specs.Sources.{Drained, plan_limit}

@@ -12,7 +12,7 @@ use first_plan::first_unfit;
 use instance_text::split_instance;
 use lock_io::{Gate, Source};
 use lock_model::{Instance, Plan};
-use plan_judge::read_plan;
+use plan_text::read_plan;
 use replan::residual;
 use run_answers::{Answer, PLAN_LIMIT, read_source};
 use std::alloc::Global;

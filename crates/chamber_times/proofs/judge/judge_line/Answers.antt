@@ -1,9 +1,10 @@
-use Rattle.std.proofs.Common.{◌≡◌, ◌+◌, length, take, get_or, ap, refl, ◌∙◌, arith}
+use Rattle.std.proofs.Common.{◌≡◌, ◌+◌, ◌<◌, length, take, get_or, All, ap, refl, ◌∙◌, arith}
 use Rattle.std.proofs.lemmas.List.{take_all}
+use Rattle.lock_model.specs.declared.plan.Lockage.{Lockage}
 use Rattle.lock_rules.specs.Lines.{lockage_at}
 use Rattle.chamber_times.specs.Walk.{line_places}
 use Rattle.chamber_times.specs.FirstBreak.{IsFirstBreak}
-use Rattle.chamber_times.proofs.WalkLemmas.{line_places-within, line_lockage, line_lockage-ships}
+use Rattle.chamber_times.proofs.WalkLemmas.{line_places-within, line_lockage, line_lockage-has}
 use Rattle.chamber_times.proofs.BreakLemmas.{IsFirstBreak-untimely, IsFirstBreak-at, IsTimely-walked, AreTimely-more, stand_after-more, done_after-more}
 use Rattle.chamber_times.proofs.judge.judge_line.Goals as goal
 
@@ -17,9 +18,9 @@ bounds-as_slice-place c =
 
 pub judge_start-requires-clause-ships_in : goal.judge_start-requires-clause-ships_in
 judge_start-requires-clause-ships_in c =
-    line_lockage-ships c.args.plan.now c.args.chamber c.as_slice-place-items.result.now c.loop-place.place-index c.index-as_slice-place.result c.as_slice-in-loop-place.result.now
+    line_lockage-has c.args.plan.now c.args.chamber c.as_slice-place-items.result.now c.loop-place.place-index c.index-as_slice-place.result c.as_slice-in-loop-place.result.now
     (c.as_slice-place-items.ensures.value ∙ c.line_places-places.ensures) c.loop-place-test.true c.as_slice-in-loop-place.ensures.value c.index-as_slice-place.is
-    (length c.args.instance.now.ships) c.requires.ships_in
+    (λ (l : Lockage). All (λ s. s < length c.args.instance.now.ships) l.ships) c.requires.ships_in
 
 -- the lockage that broke a rule is the first break
 first_break : (c : goal.In-Some) → IsFirstBreak c.args.instance.now c.args.plan.now c.args.chamber c.in-Some.broken
@@ -44,9 +45,9 @@ returns-in-Some-clause-some c = first_break c
 
 pub duration-requires-clause-ships_in : goal.duration-requires-clause-ships_in
 duration-requires-clause-ships_in c =
-    line_lockage-ships c.args.plan.now c.args.chamber c.as_slice-place-items.result.now c.loop-place.place-index c.index-as_slice-place.result c.as_slice-in-loop-place.result.now
+    line_lockage-has c.args.plan.now c.args.chamber c.as_slice-place-items.result.now c.loop-place.place-index c.index-as_slice-place.result c.as_slice-in-loop-place.result.now
     (c.as_slice-place-items.ensures.value ∙ c.line_places-places.ensures) c.loop-place-test.true c.as_slice-in-loop-place.ensures.value c.index-as_slice-place.is
-    (length c.args.instance.now.ships) c.requires.ships_in
+    (λ (l : Lockage). All (λ s. s < length c.args.instance.now.ships) l.ships) c.requires.ships_in
 
 pub loop-place-preserved : goal.loop-place-preserved
 loop-place-preserved c =

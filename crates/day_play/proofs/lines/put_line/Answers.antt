@@ -1,8 +1,7 @@
-use Rattle.std.proofs.Common.{◌≡◌, ◌+◌, ◌++◌, length, drop, get_or, ap, sym, subst, ◌∙◌, arith}
+use Rattle.std.proofs.Common.{◌≡◌, ◌+◌, ◌++◌, length, drop, get_or, ap, sym, ◌∙◌, arith}
 use Rattle.lock_rules.specs.Lawful.{duration_of, stand_after}
-use Rattle.lock_rules.specs.Lines.{no_lockage}
 use Rattle.chamber_times.specs.Walk.{line_places}
-use Rattle.chamber_times.proofs.WalkLemmas.{line_places-within, line_lockage}
+use Rattle.chamber_times.proofs.WalkLemmas.{line_places-within, line_lockage, line_lockage-has}
 use Rattle.day_play.specs.Order.{put_each, minute_of}
 use Rattle.day_play.specs.Lawful.{IsWhole}
 use Rattle.day_play.specs.Playing.{lockage_beats, line_beats}
@@ -19,12 +18,9 @@ bounds-as_slice-p c =
 
 pub put_lockage-requires-clause-whole : goal.put_lockage-requires-clause-whole
 put_lockage-requires-clause-whole c =
-    let P = c.args.plan.now in
-    let ps = c.as_slice-p-items.result.now in
-    let i = c.loop-p.p-index in
-    let same : ps ≡ line_places P c.args.chamber = c.as_slice-p-items.ensures.value ∙ c.line_places-places.ensures in
-    let here = line_lockage P c.args.chamber ps i c.index-as_slice-p.result c.as_slice-in-loop-p.result.now same c.loop-p-test.true c.as_slice-in-loop-p.ensures.value c.index-as_slice-p.is in
-    subst (IsWhole c.args.instance.now) (sym here) (c.requires.whole (get_or ps i 0) no_lockage (line_places-within P c.args.chamber ps i same c.loop-p-test.true))
+    line_lockage-has c.args.plan.now c.args.chamber c.as_slice-p-items.result.now c.loop-p.p-index c.index-as_slice-p.result c.as_slice-in-loop-p.result.now
+    (c.as_slice-p-items.ensures.value ∙ c.line_places-places.ensures) c.loop-p-test.true c.as_slice-in-loop-p.ensures.value c.index-as_slice-p.is
+    (IsWhole c.args.instance.now) c.requires.whole
 
 pub put_lockage-requires-clause-room : goal.put_lockage-requires-clause-room
 put_lockage-requires-clause-room c =
@@ -41,21 +37,15 @@ put_lockage-requires-clause-room c =
 
 pub duration-requires-clause-chamber_in : goal.duration-requires-clause-chamber_in
 duration-requires-clause-chamber_in c =
-    let P = c.args.plan.now in
-    let ps = c.as_slice-p-items.result.now in
-    let i = c.loop-p.p-index in
-    let same : ps ≡ line_places P c.args.chamber = c.as_slice-p-items.ensures.value ∙ c.line_places-places.ensures in
-    let here = line_lockage P c.args.chamber ps i c.index-as_slice-p.result c.as_slice-in-loop-p.result.now same c.loop-p-test.true c.as_slice-in-loop-p.ensures.value c.index-as_slice-p.is in
-    (subst (IsWhole c.args.instance.now) (sym here) (c.requires.whole (get_or ps i 0) no_lockage (line_places-within P c.args.chamber ps i same c.loop-p-test.true))).chamber
+    (line_lockage-has c.args.plan.now c.args.chamber c.as_slice-p-items.result.now c.loop-p.p-index c.index-as_slice-p.result c.as_slice-in-loop-p.result.now
+    (c.as_slice-p-items.ensures.value ∙ c.line_places-places.ensures) c.loop-p-test.true c.as_slice-in-loop-p.ensures.value c.index-as_slice-p.is
+    (IsWhole c.args.instance.now) c.requires.whole).chamber
 
 pub duration-requires-clause-ships_in : goal.duration-requires-clause-ships_in
 duration-requires-clause-ships_in c =
-    let P = c.args.plan.now in
-    let ps = c.as_slice-p-items.result.now in
-    let i = c.loop-p.p-index in
-    let same : ps ≡ line_places P c.args.chamber = c.as_slice-p-items.ensures.value ∙ c.line_places-places.ensures in
-    let here = line_lockage P c.args.chamber ps i c.index-as_slice-p.result c.as_slice-in-loop-p.result.now same c.loop-p-test.true c.as_slice-in-loop-p.ensures.value c.index-as_slice-p.is in
-    (subst (IsWhole c.args.instance.now) (sym here) (c.requires.whole (get_or ps i 0) no_lockage (line_places-within P c.args.chamber ps i same c.loop-p-test.true))).ships
+    (line_lockage-has c.args.plan.now c.args.chamber c.as_slice-p-items.result.now c.loop-p.p-index c.index-as_slice-p.result c.as_slice-in-loop-p.result.now
+    (c.as_slice-p-items.ensures.value ∙ c.line_places-places.ensures) c.loop-p-test.true c.as_slice-in-loop-p.ensures.value c.index-as_slice-p.is
+    (IsWhole c.args.instance.now) c.requires.whole).ships
 
 pub loop-p-preserved : goal.loop-p-preserved
 loop-p-preserved c =

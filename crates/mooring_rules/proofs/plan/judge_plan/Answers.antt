@@ -1,39 +1,25 @@
-use Rattle.std.proofs.Common.{refl}
-use Rattle.mooring_rules.specs.declared.breaks.BrokenPlan.TheVariants.{Deck, Clash, Time}
-use Rattle.mooring_rules.proofs.PlanLemmas.{IsFirstBrokenPlan-illegal, IsLegal-unbroken}
+use Rattle.lock_rules.proofs.LegalLemmas.{legal-part}
+use Rattle.mooring_rules.specs.declared.breaks.BrokenPlan.TheVariants.{Missing}
+use Rattle.mooring_rules.proofs.PlanLemmas.{IsFirstBrokenPlan-illegal, IsLegal-whole}
 use Rattle.mooring_rules.proofs.plan.judge_plan.Goals as goal
 
-pub returns-in-Some-first_misplaced-clause-none : goal.returns-in-Some-first_misplaced-clause-none
-returns-in-Some-first_misplaced-clause-none c = (
+pub returns-in-Some-clause-none : goal.returns-in-Some-clause-none
+returns-in-Some-clause-none c = (
   λ never. absurd (cc),
-  λ legal.
-      absurd (IsFirstBrokenPlan-illegal c.args.instance.now c.args.plan.now (Deck c.in-Some-first_misplaced.p c.in-Some-first_misplaced.broken)
-      (c.in_default.ensures.none, c.in_default-first_double.ensures.none, c.in_default-first_missing.ensures.none, c.in-Some-first_misplaced.ensures.some)
-      legal),
+  λ legal. absurd (IsFirstBrokenPlan-illegal c.args.instance.now c.args.plan.now c.in-Some.broken c.in-Some.ensures.whole legal),
 )
 
-pub returns-in-Some-first_clashing-clause-none : goal.returns-in-Some-first_clashing-clause-none
-returns-in-Some-first_clashing-clause-none c = (
+pub returns-in-Some-first_missing-clause-none : goal.returns-in-Some-first_missing-clause-none
+returns-in-Some-first_missing-clause-none c = (
   λ never. absurd (cc),
   λ legal.
-      absurd (IsFirstBrokenPlan-illegal c.args.instance.now c.args.plan.now (Clash c.in-Some-first_clashing.p c.in-Some-first_clashing.i c.in-Some-first_clashing.j)
-      (c.in_default.ensures.none, c.in_default-first_double.ensures.none, c.in_default-first_missing.ensures.none, c.in_default-first_misplaced.ensures.none, c.in-Some-first_clashing.ensures.some)
-      legal),
-)
-
-pub returns-in-Some-first_untimely-clause-none : goal.returns-in-Some-first_untimely-clause-none
-returns-in-Some-first_untimely-clause-none c = (
-  λ never. absurd (cc),
-  λ legal.
-      absurd (IsFirstBrokenPlan-illegal c.args.instance.now c.args.plan.now (Time c.in-Some-first_untimely.chamber c.in-Some-first_untimely.broken)
-      (c.in_default.ensures.none, c.in_default-first_double.ensures.none, c.in_default-first_missing.ensures.none, c.in_default-first_misplaced.ensures.none, c.in_default-first_clashing.ensures.none, c.in-Some-first_untimely.ensures.some)
+      absurd (IsFirstBrokenPlan-illegal c.args.instance.now c.args.plan.now (Missing c.in-Some-first_missing.ship)
+      (c.in_default.ensures.shaped, c.in_default.ensures.single, c.in-Some-first_missing.ensures.some)
       legal),
 )
 
 pub returns-clause-none : goal.returns-clause-none
 returns-clause-none c = (
-  λ none.
-      IsLegal-unbroken c.args.instance.now c.args.plan.now c.in_default.ensures.none c.in_default.ensures.rising c.in_default-first_double.ensures.none c.in_default-first_missing.ensures.none
-      c.in_default-first_misplaced.ensures.none c.in_default-first_clashing.ensures.none c.in_default-first_untimely.ensures.none,
-  λ legal. refl,
+  λ none. IsLegal-whole c.args.instance.now c.args.plan.now (c.judge_lockages.ensures.none.0 none) c.in_default-first_missing.ensures.none,
+  λ legal. c.judge_lockages.ensures.none.1 (legal-part c.args.instance.now c.args.plan.now legal),
 )

@@ -1,5 +1,6 @@
 use Rattle.std.proofs.Common.{◌<◌, length, All, sym, subst}
-use Rattle.replan.proofs.LeftLemmas.{left-known, part-arrived}
+use Rattle.lock_rules.proofs.LegalLemmas.{part-arrived}
+use Rattle.replan.proofs.LeftLemmas.{left-known}
 use Rattle.replan.proofs.remaining.left_after.Goals as goal
 
 pub cost-requires-clause-arrived : goal.cost-requires-clause-arrived

@@ -1,15 +1,15 @@
-//! The judges of placements, cargo and times over a part of a plan.
-ghost use Rattle.std.specs.Prelude.{◌≡◌, ◌<◌, ℕ, length, IfNone, IfSome};
-ghost use Rattle.std.specs.List.Sorted.{IsStrictlyIncreasing};
+//! The first break of placements, of cargo and of times in a plan.
+ghost use Rattle.std.specs.Prelude.{◌≡◌, ◌<◌, length, IfNone, IfSome};
 ghost use Rattle.lock_model.specs.Fitting.{deck_of};
-ghost use Rattle.lock_rules.specs.Lines.{lockage_at};
 ghost use Rattle.mooring_rules.specs.PlacementBreaks.{IsFirstBroken};
 ghost use Rattle.mooring_rules.specs.CargoBreaks.{AreFirstClashing};
-ghost use Rattle.mooring_rules.specs.PlanBreaks.{HasShape, AreShaped, IsPlaced, IsClear, ArePlaced, AreClear, AreOnTime, IsFirstMisplaced, IsFirstClash, IsFirstUntimely};
+ghost use Rattle.mooring_rules.specs.PlanBreaks.{HasShape, AreShaped, IsPlaced, ArePlaced, IsClear, AreClear, AreOnTime, IsFirstMisplaced, IsFirstClash, IsFirstUntimely};
 
+use crate::breaks::Broken;
+use crate::cargo::first_clash;
+use crate::placement::judge_spots;
 use chamber_times::{BrokenTime, judge_line};
 use lock_model::{Instance, Lockage, Plan, deck_of};
-use mooring_rules::{Broken, first_clash, judge_spots};
 
 /// The first break of the placement of a lockage.
 fn judge_deck(instance: &Instance, lockage: &Lockage) -> Option<Broken>
@@ -22,16 +22,13 @@ fn judge_deck(instance: &Instance, lockage: &Lockage) -> Option<Broken>
     judge_spots(&deck, &lockage.spots)
 }
 
-/// The first two ships of a lockage that clash, by their places in its deck. Its ships rise by
-/// their type.
+/// The first two ships of a lockage that clash, by their places in its deck.
 fn judge_cargo(instance: &Instance, lockage: &Lockage) -> Option<(u8, u8)>
     requires { HasShape instance.now lockage.now }
     ensures none { IfNone result (IsClear instance.now lockage.now) }
     ensures some { IfSome result
         (λ p. AreFirstClashing (deck_of instance.now lockage.now.chamber lockage.now.ships) p.0 p.1) }
-    ensures rising { IsStrictlyIncreasing lockage.now.ships }
 {
-    let _ships = lockage.ships.as_slice();
     let deck = deck_of(instance, lockage.chamber, &lockage.ships);
     first_clash(&deck)
 }
@@ -55,8 +52,6 @@ pub(crate) fn first_misplaced(instance: &Instance, plan: &Plan) -> Option<(u8, B
 pub(crate) fn first_clashing(instance: &Instance, plan: &Plan) -> Option<(u8, u8, u8)>
     requires { AreShaped instance.now plan.now }
     ensures none { IfNone result (AreClear instance.now plan.now) }
-    ensures rising { IfNone result ((p : ℕ) → p < length plan.now.lockages
-        → IsStrictlyIncreasing (lockage_at plan.now p).ships) }
     ensures some { IfSome result (λ b. IsFirstClash instance.now plan.now b.0 b.1 b.2) }
 {
     let lockages = plan.lockages.as_slice();

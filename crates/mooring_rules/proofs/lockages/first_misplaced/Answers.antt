@@ -1,6 +1,6 @@
 use Rattle.mooring_rules.specs.PlanBreaks.{IsPlaced}
 use Rattle.mooring_rules.proofs.PlanLemmas.{each-more}
-use Rattle.replan.proofs.judging.first_misplaced.Goals as goal
+use Rattle.mooring_rules.proofs.lockages.first_misplaced.Goals as goal
 
 pub loop-p-preserved : goal.loop-p-preserved
 loop-p-preserved c =

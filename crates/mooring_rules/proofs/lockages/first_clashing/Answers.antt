@@ -1,6 +1,6 @@
 use Rattle.mooring_rules.specs.PlanBreaks.{IsClear}
 use Rattle.mooring_rules.proofs.PlanLemmas.{each-more}
-use Rattle.mooring_rules.proofs.plan.first_clashing.Goals as goal
+use Rattle.mooring_rules.proofs.lockages.first_clashing.Goals as goal
 
 pub loop-p-preserved : goal.loop-p-preserved
 loop-p-preserved c =
