@@ -17,9 +17,11 @@ import time
 
 sys.dont_write_bytecode = True
 import damaged_texts
+import hard_prices
 import little_memory
 import odd_streams
 import odd_words
+import refused_calls
 from runs import NO_STACK, Runner, commands
 
 SHOWN, AT_ONCE = 10, 4
@@ -27,7 +29,7 @@ SHOWN, AT_ONCE = 10, 4
 
 def cases_of(runner, runs, number):
     """The cases of a round, each a function that answers what is wrong, or nothing."""
-    for kind in (little_memory, odd_streams, odd_words, damaged_texts):
+    for kind in (little_memory, odd_streams, odd_words, damaged_texts, refused_calls, hard_prices):
         yield from kind.cases(runner, runs, number)
 
 

@@ -2,8 +2,9 @@
 //! status's number as its exit status. All that it does is done by `lock_top::run`.
 #![tactic(auto)]
 
-use lock_io::{OpenGate, StdSink, StdSource};
+use lock_io::{OpenGate, StdSink, StdSource, write_all_of};
 use lock_top::{Status, run};
+use run_answers::no_memory;
 use std::process::ExitCode;
 use std::{env, io};
 
@@ -35,6 +36,15 @@ fn bad_word(rt: &HostRuntime) -> Result<Vec<String>, NoWords> {
     Ok(words)
 }
 
+// The answer where the words themselves have no memory.
+fn answer_no_memory(rt: &HostRuntime) -> Status {
+    let answer = no_memory();
+    match write_all_of(&mut StdSink::new(rt.stdout()), answer.text.as_slice()) {
+        Ok(()) => answer.status,
+        Err(_) => Status::WriteFault,
+    }
+}
+
 fn main(rt: HostRuntime) -> ExitCode {
     let words = match words_of(&rt) {
         Err(NoWords::Other) => bad_word(&rt),
@@ -53,7 +63,7 @@ fn main(rt: HostRuntime) -> ExitCode {
                 &OpenGate,
             )
         }
-        Err(_) => Status::NoMemory,
+        Err(_) => answer_no_memory(&rt),
     };
     ExitCode::from(status.code())
 }
