@@ -1,5 +1,6 @@
 -- Hosts that lead on, and known y, from what is looked up.
 use Rattle.std.proofs.Common.{◌≡◌, ◌≢◌, ℕ, zero, suc, ◌+◌, ◌<◌, ℤ, Bool, IsTrue, ◌↔◌, List, ◌∷◌, length, Contains, sym, ap, ◌∙◌, subst, arith, Some, None, option_map, slice_index_or}
+use Rattle.std.proofs.lemmas.Option.{none-some, same_Some}
 use Rattle.lock_model.specs.Deck.{Deck}
 use Rattle.lock_model.specs.declared.placement.Rank.{Rank}
 use Rattle.lock_model.specs.declared.placement.Moor.TheVariants.{Ship}
@@ -7,7 +8,6 @@ use Rattle.refute_rules.specs.Choices.{Choice}
 use Rattle.refute_rules.specs.Decided.{berth_in}
 use Rattle.refute_rules.specs.Known.{host_of, host_and_more, hosts_within, berth_y, guest_y, y_within, y_in}
 use Rattle.refute_rules.specs.SpotFaults.{IsInsideAcross, IsOutsideAcross}
-use Rattle.berth_case.proofs.LookupLemmas.{some-same, none-some}
 
 contains-later : (x : ℕ) (xs : List ℕ) (y : ℕ) → Contains xs y → Contains (x ∷ xs) y
 contains-later x xs y h = let less = h.1 in (suc h.0, omega (arith, less), h.2)
@@ -44,7 +44,7 @@ pub across_outside : (d : Deck) (case : List Choice) (i : ℕ) (y : ℤ) → Som
 across_outside d case i y e out = record { y = y; known = sym e; outside = out }
 
 pub across_inside : (d : Deck) (case : List Choice) (i : ℕ) (y : ℤ) → Some y ≡ y_in d case i → IsInsideAcross d i y → IsOutsideAcross d case i → ⊥
-across_inside d case i y e inside out = out.outside (subst (IsInsideAcross d i) (some-same y out.y (e ∙ out.known)) inside)
+across_inside d case i y e inside out = out.outside (subst (IsInsideAcross d i) (same_Some y out.y (e ∙ out.known)) inside)
 
 pub across_open : (d : Deck) (case : List Choice) (i : ℕ) → None ≡ y_in d case i → IsOutsideAcross d case i → ⊥
 across_open d case i e out = none-some out.y (e ∙ out.known)

@@ -1,7 +1,7 @@
 -- Looking up what a case has decided.
-use Rattle.std.proofs.Common.{◌≡◌, ◌≢◌, ℕ, ◌+◌, ◌<◌, ◌≤◌, true, false, cond, nat_eq, List, [], ◌∷◌, length, map, drop, get_or, inl, inr, sym, ap, ◌∙◌, subst, Some, None, unwrap_or}
+use Rattle.std.proofs.Common.{◌≡◌, ◌≢◌, ℕ, ◌+◌, ◌<◌, ◌≤◌, cond, List, [], ◌∷◌, length, map, drop, get_or, sym, ap, ◌∙◌, subst, Some, None, ne_eqb, eq-eqb}
 use Rattle.std.proofs.lemmas.List.{drop_more, drop_all}
-use Rattle.std.proofs.lemmas.Bool.Decides.{eqb_tells}
+use Rattle.std.proofs.lemmas.Option.{same_Some}
 use Rattle.lock_model.specs.declared.placement.Rank.{Rank}
 use Rattle.lock_model.specs.declared.placement.Moor.{Moor}
 use Rattle.lock_model.specs.declared.placement.Moor.TheVariants.{Quay, Ship}
@@ -12,17 +12,11 @@ use Rattle.berth_case.specs.declared.decided.Berth.{Berth}
 use Rattle.berth_case.specs.Picks.{choice_of}
 use Rattle.berth_case.specs.Lookups.{PassesBerth, GivesBerth, IsOfOtherRank}
 
-pub equal : (j i : ℕ) → j ≡ i → nat_eq j i ≡ true
-equal j i e = elim (eqb_tells j i) [ inl y ↦ y.0 | inr n ↦ absurd (n.1 e) ]
-
-pub differ : (j i : ℕ) → j ≢ i → nat_eq j i ≡ false
-differ j i n = elim (eqb_tells j i) [ inl y ↦ absurd (n y.1) | inr d ↦ d.0 ]
-
 pub berth_hit : (j i : ℕ) (b : Berth) → j ≡ i → GivesBerth (Lies j (record { rank = b.rank; moor = b.moor })) i b
-berth_hit j i b e = record { give = λ rest. ap (λ t. cond t (Some (record { rank = b.rank; moor = b.moor })) (berth_in rest i)) (equal j i e) }
+berth_hit j i b e = record { give = λ rest. ap (λ t. cond t (Some (record { rank = b.rank; moor = b.moor })) (berth_in rest i)) (eq-eqb j i e) }
 
 pub berth_miss : (j i : ℕ) (b : Decided) → j ≢ i → PassesBerth (Lies j b) i
-berth_miss j i b n = record { pass = λ rest. ap (λ t. cond t (Some b) (berth_in rest i)) (differ j i n) }
+berth_miss j i b n = record { pass = λ rest. ap (λ t. cond t (Some b) (berth_in rest i)) (ne_eqb j i n) }
 
 -- the options that are left
 abbrev pub left_from : List Pick → ℕ → List Choice
@@ -42,9 +36,3 @@ berth_given ps k i p b here e gives = ap (λ cs. berth_in cs i) (left-more ps k 
 
 pub berth_absent : (ps : List Pick) (k i : ℕ) → length ps ≤ k → berth_in (left_from ps k) i ≡ None
 berth_absent ps k i long = ap (λ cs. berth_in cs i) (left-none ps k long)
-
-pub some-same : {X : Type 0} (a b : X) → Some a ≡ Some b → a ≡ b
-some-same a b e = ap (λ o. unwrap_or o a) e
-
-pub none-some : {X : Type 0} (b : X) → None ≡ Some b → ⊥
-none-some b e = cc

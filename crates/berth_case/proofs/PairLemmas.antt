@@ -1,6 +1,8 @@
 -- Two ships of a berth case, from what is looked up.
-use Rattle.std.proofs.Common.{◌≡◌, ◌≢◌, ℕ, zero, suc, ◌+◌, ◌<◌, ◌≤◌, ℤ, inl, inr, List, [], ◌∷◌, length, map, get_or, Contains, slice_index_or, sym, ap, ◌∙◌, subst, arith, Some, None}
+use Rattle.std.proofs.Common.{◌≡◌, ◌≢◌, ℕ, ◌+◌, ◌<◌, ◌≤◌, ℤ, inl, inr, List, [], length, map, get_or, Contains, sym, ap, ◌∙◌, subst, arith, Some, None}
 use Rattle.std.proofs.lemmas.List.{get_or-map, length-map}
+use Rattle.std.proofs.lemmas.Map.Made.{Contains-tail}
+use Rattle.std.proofs.lemmas.Option.{none-some, same_Some}
 use Rattle.lock_model.specs.Deck.{Deck}
 use Rattle.refute_rules.specs.Choices.{Choice, Before}
 use Rattle.refute_rules.specs.Known.{y_in}
@@ -8,7 +10,7 @@ use Rattle.refute_rules.specs.BerthCases.{host_in, HasOrder, DoOverlap, ShareHos
 use Rattle.berth_case.specs.declared.case.Pick.{Pick}
 use Rattle.berth_case.specs.Picks.{choice_of}
 use Rattle.berth_case.specs.PairReads.{ArePassing, IsOrderLater}
-use Rattle.berth_case.proofs.LookupLemmas.{some-same, none-some, left_from, left-more, left-none}
+use Rattle.berth_case.proofs.LookupLemmas.{left_from, left-more, left-none}
 
 module _ (d : Deck) (case : List Choice) (i j : ℕ) where
   pub overlap_yes : (p q : ℤ) → Some p ≡ y_in d case i → Some q ≡ y_in d case j → (ArePassing d i p j q → ⊥) → DoOverlap d case i j
@@ -16,8 +18,8 @@ module _ (d : Deck) (case : List Choice) (i j : ℕ) where
 
   pub overlap_no : (p q : ℤ) → Some p ≡ y_in d case i → Some q ≡ y_in d case j → ArePassing d i p j q → DoOverlap d case i j → ⊥
   overlap_no p q a b h o =
-      let first : p ≡ o.yi = some-same p o.yi (a ∙ o.known_i) in
-      let second : q ≡ o.yj = some-same q o.yj (b ∙ o.known_j) in
+      let first : p ≡ o.yi = same_Some p o.yi (a ∙ o.known_i) in
+      let second : q ≡ o.yj = same_Some q o.yj (b ∙ o.known_j) in
       elim (subst (λ u. ArePassing d i o.yi j u) second (subst (λ u. ArePassing d i u j q) first h)) [ inl u ↦ o.not_below u | inr u ↦ o.not_above u ]
 
   pub overlap_first : None ≡ y_in d case i → DoOverlap d case i j → ⊥
@@ -31,20 +33,13 @@ module _ (case : List Choice) (i j : ℕ) where
   host_yes h k a b e = record { host = h; of_i = sym a; of_j = sym (ap Some e ∙ b) }
 
   pub host_no : (h k : ℕ) → Some h ≡ host_in case i → Some k ≡ host_in case j → h ≢ k → ShareHost case i j → ⊥
-  host_no h k a b n s = n (some-same h s.host (a ∙ s.of_i) ∙ sym (some-same k s.host (b ∙ s.of_j)))
+  host_no h k a b n s = n (same_Some h s.host (a ∙ s.of_i) ∙ sym (same_Some k s.host (b ∙ s.of_j)))
 
   pub host_first : None ≡ host_in case i → ShareHost case i j → ⊥
   host_first a s = none-some s.host (a ∙ s.of_i)
 
   pub host_second : None ≡ host_in case j → ShareHost case i j → ⊥
   host_second a s = none-some s.host (a ∙ s.of_j)
-
-contains-next : (c : Choice) (cs : List Choice) (x : Choice) → (c ≡ x → ⊥) → Contains (c ∷ cs) x → Contains cs x
-contains-next c cs x n h = step h.0 h.1 h.2
-  where
-    step : (k : ℕ) → k < length (c ∷ cs) → slice_index_or (c ∷ cs) k x ≡ x → Contains cs x
-    step zero less e = absurd (n e)
-    step (suc k) less e = (k, omega (arith, less), e)
 
 -- options that are those of a case
 module _ (ps : List Pick) (case : List Choice) (i j : ℕ) where
@@ -53,7 +48,7 @@ module _ (ps : List Pick) (case : List Choice) (i j : ℕ) where
 
   pub order_passed : (k : ℕ) (z : Pick) → k < length ps → (choice_of (get_or ps k z) ≡ Before i j → ⊥) → IsOrderLater case (left_from ps k) i j → IsOrderLater case (left_from ps (k + 1)) i j
   order_passed k z here n l = record {
-    later = λ h. contains-next (choice_of (get_or ps k z)) (left_from ps (k + 1)) (Before i j) n (subst (λ cs. Contains cs (Before i j)) (left-more ps k z here) (l.later h));
+    later = λ h. Contains-tail (choice_of (get_or ps k z)) (left_from ps (k + 1)) (Before i j) n (subst (λ cs. Contains cs (Before i j)) (left-more ps k z here) (l.later h));
   }
 
   pub order_found : (k : ℕ) (z : Pick) → map choice_of ps ≡ case → k < length ps → choice_of (get_or ps k z) ≡ Before i j → HasOrder case i j

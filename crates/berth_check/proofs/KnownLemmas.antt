@@ -1,13 +1,14 @@
 -- The options of an open split are about ships of the deck.
 use Rattle.std.proofs.Common.{◌≡◌, ℕ, ◌+◌, ◌<◌, ◌≤◌, List, [], ◌∷◌, ◌++◌, length, not, nat_eq, true, arith}
 use Rattle.std.specs.List.{AllByRecursion}
+use Rattle.list_laws.proofs.ByRecursion.{all-append}
 use Rattle.lock_model.specs.Deck.{Deck}
 use Rattle.lock_model.specs.declared.placement.Rank.TheVariants.{Left, Right}
 use Rattle.lock_model.specs.declared.placement.Moor.TheVariants.{Ship}
 use Rattle.lock_rules.specs.Arrival.{numbers_from}
 use Rattle.refute_rules.specs.Choices.{Choice, Lies, Berth, berths_of}
 use Rattle.refute_rules.specs.Values.{others}
-use Rattle.refute_rules.proofs.Among.{all-append, all-map, all-flat_map, all-weaker, all-numbers}
+use Rattle.refute_rules.proofs.Among.{all-map, all-flat_map, all-weaker, all-numbers}
 use Rattle.refute_rules.proofs.Packing.{all-filter}
 use Rattle.refute_rules.specs.BerthTrees.{Split, OfBerth, OfOrder, IsOpen, split_options}
 use Rattle.berth_check.specs.Raises.{IsKnownChoice, AreKnown}

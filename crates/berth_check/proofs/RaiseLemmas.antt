@@ -1,4 +1,5 @@
 -- Raising places: what the hosts and the orders of a case force.
+use Rattle.std.proofs.lemmas.Option.{none-some, same_Some}
 use Rattle.std.specs.List.{AllByRecursion}
 use Rattle.std.specs.declared.option.Option.{Option}
 use Rattle.std.proofs.lemmas.Bool.Decides.{eqb_tells}
@@ -19,7 +20,6 @@ use Rattle.refute_rules.specs.Choices.{Choice, Lies, Before, Below, Stands, Bert
 use Rattle.refute_rules.specs.BerthCases.{host_in}
 use Rattle.refute_rules.specs.BerthTrees.{AreUnordered}
 use Rattle.berth_check.specs.Raises.{x_at, IsForced, IsHostObeyed, IsOrderObeyed, AreOrdersObeyed, AreSettled, AreBelow, AreInside, HasPlaces, room_of, IsKnownChoice, AreKnown, IsOf}
-use Rattle.berth_case.proofs.LookupLemmas.{some-same, none-some}
 
 module _ (d : Deck) (case : List Choice) (xs : List ℕ) (i k : ℕ) where
   pub near_forced : i < length d.ships → k < length d.ships → Some k ≡ host_in case i → x_at xs i < x_at xs k → IsForced d case xs i (x_at xs k)
@@ -33,7 +33,7 @@ module _ (d : Deck) (case : List Choice) (xs : List ℕ) (i k : ℕ) where
   }
 
   pub host_obeyed : Some k ≡ host_in case i → x_at xs k ≤ x_at xs i → x_at xs i + length_at d i ≤ x_at xs k + length_at d k → IsHostObeyed d case xs i
-  host_obeyed e near far = record { obeyed = λ j h. subst (λ u. (x_at xs u ≤ x_at xs i) × (x_at xs i + length_at d i ≤ x_at xs u + length_at d u)) (some-same k j (e ∙ h)) (near, far) }
+  host_obeyed e near far = record { obeyed = λ j h. subst (λ u. (x_at xs u ≤ x_at xs i) × (x_at xs i + length_at d i ≤ x_at xs u + length_at d u)) (same_Some k j (e ∙ h)) (near, far) }
 
 pub host_none : (d : Deck) (case : List Choice) (xs : List ℕ) (i : ℕ) → None ≡ host_in case i → IsHostObeyed d case xs i
 host_none d case xs i e = record { obeyed = λ k h. absurd (none-some k (e ∙ h)) }
@@ -44,7 +44,7 @@ berth-known d [] known i b e = absurd (none-some b e)
 berth-known d (Lies j c ∷ cs) known i b e =
     elim (eqb_tells j i) [
       | inl y ↦
-          let same : c ≡ b = some-same c b (sym (ap (λ t. cond t (Some c) (berth_in cs i)) y.0) ∙ e) in
+          let same : c ≡ b = same_Some c b (sym (ap (λ t. cond t (Some c) (berth_in cs i)) y.0) ∙ e) in
           (subst (λ k. k < length d.ships) y.1 known.0.0, subst (λ (u : Berth). IsKnownMoor d u.moor) same known.0.1)
       | inr n ↦ berth-known d cs known.1 i b (sym (ap (λ t. cond t (Some c) (berth_in cs i)) n.0) ∙ e)
     ]
@@ -54,7 +54,7 @@ berth-known d (Stands j v ∷ cs) known i b e = absurd known.0
 
 moor-known : (d : Deck) (m : Moor) (k : ℕ) → IsKnownMoor d m → moor_host m ≡ Some k → k < length d.ships
 moor-known d Quay k known e = absurd (none-some k e)
-moor-known d (Ship j) k known e = subst (λ u. u < length d.ships) (some-same j k e) known
+moor-known d (Ship j) k known e = subst (λ u. u < length d.ships) (same_Some j k e) known
 
 pub host-known : (d : Deck) (case : List Choice) → AreKnown d case → (i k : ℕ) → host_in case i ≡ Some k → (i < length d.ships) × (k < length d.ships)
 host-known d case known i k e = at (berth_in case i) refl e

@@ -1,14 +1,16 @@
 -- Each step of the walk keeps what is asked of the marks.
-use Rattle.std.proofs.Common.{Bool, Ok, Err, IfOk, ◌≡◌, ℕ, ◌≤◌, List, [], ◌∷◌, ◌++◌, length, drop, nat_eq, IsTrue, true, false, ◌↔◌, inl, inr, refl, sym, ap, ◌∙◌, subst, arith}
+use Rattle.std.proofs.Common.{Bool, Ok, Err, IfOk, ◌≡◌, ℕ, ◌≤◌, List, [], ◌∷◌, ◌++◌, length, drop, nat_eq, IsTrue, ◌↔◌, inl, inr, refl, sym, ap, ◌∙◌, subst, arith}
+use Rattle.std.proofs.lemmas.Bool.{false≢true}
 use Rattle.std.proofs.lemmas.List.{drop_all, length-drop}
 use Rattle.std.proofs.lemmas.Bool.Decides.{eqb_tells}
 use Rattle.std.specs.List.{AllByRecursion}
 use Rattle.std.specs.declared.result.Result.{Result}
+use Rattle.list_laws.proofs.ByRecursion.{all-append}
 use Rattle.lock_model.specs.Deck.{Deck, IsDeck}
 use Rattle.lock_model.specs.Fitting.{Fits}
 use Rattle.refute_rules.proofs.BerthLaw.{berth_tree-unfit}
 use Rattle.refute_rules.specs.Choices.{Choice}
-use Rattle.refute_rules.proofs.Among.{all-append, all-map, all-weaker}
+use Rattle.refute_rules.proofs.Among.{all-map, all-weaker}
 use Rattle.refute_rules.specs.BerthTrees.{Split, split_options, IsBerthTree, BeginsWithTree}
 use Rattle.berth_check.specs.Raises.{IsKnownChoice, AreKnown}
 use Rattle.berth_check.specs.Fronts.{IsLeafUpTo, IsSplitUpTo, HasNoTreeAt, AreAllKnown}
@@ -66,11 +68,8 @@ module _ (d : Deck) (marks : List ℕ) where
       let walked = subst (λ cs. IsWalked d cs marks at) e w in
       elim (eqb_tells at (length marks)) [
         | inl y ↦ (λ h. walk_whole at walked y.1, λ tree. y.0)
-        | inr n ↦ (λ h. absurd (false_true (sym n.0 ∙ h)), λ tree. absurd (n.1 (walk_left at walked tree)))
+        | inr n ↦ (λ h. absurd (false≢true (sym n.0 ∙ h)), λ tree. absurd (n.1 (walk_left at walked tree)))
       ]
-    where
-      false_true : false ≡ true → ⊥
-      false_true f = cc
 
 pub tree_told : {E : Type 0} (d : Deck) (marks : List ℕ) (r : Result Bool E) → IsDeck d → IfOk r (λ b. IsTrue b ↔ IsBerthTree d marks) → IfOk r (λ b. IsTrue b → Fits d → ⊥)
 tree_told d marks (Ok b) good h = λ yes' fits. berth_tree-unfit d marks good (h.0 yes') fits

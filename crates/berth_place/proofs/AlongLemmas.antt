@@ -1,9 +1,11 @@
 -- The edges of a berth case along the chamber: a system, whose solutions are the places that obey the case.
-use Rattle.std.proofs.Common.{◌≡◌, ℕ, zero, suc, ◌+◌, ◌-◌, ◌<◌, ◌≤◌, ℤ, pos, negsuc, ◌≤ℤ◌, List, [], ◌∷◌, ◌++◌, length, map, flat_map, get_or, Contains, refl, sym, ap, ◌∙◌, subst, arith, inl, inr, Some, None, append_assoc}
+use Rattle.std.proofs.Common.{◌≡◌, ℕ, zero, suc, ◌+◌, ◌-◌, ◌<◌, ◌≤◌, ℤ, pos, negsuc, ◌≤ℤ◌, List, [], ◌∷◌, ◌++◌, length, map, flat_map, get_or, Contains, refl, sym, ap, ◌∙◌, subst, arith, inl, inr, Some, None, append_assoc, append-nil}
+use Rattle.std.proofs.lemmas.List.Concat.{flat_map-append}
 use Rattle.std.specs.declared.option.Option.{Option}
 use Rattle.std.specs.List.{AllByRecursion}
 use Rattle.std.proofs.lemmas.Int.{ints}
 use Rattle.std.proofs.lemmas.List.Elements.{All-from_recursion, All-contains}
+use Rattle.list_laws.proofs.ByRecursion.{all-append}
 use Rattle.lock_model.specs.Deck.{Deck, IsDeck, no_size}
 use Rattle.lock_rules.specs.Arrival.{numbers_from}
 use Rattle.lock_rules.specs.Among.{IsAmong}
@@ -14,8 +16,8 @@ use Rattle.diff_rules.specs.Differences.{value_at, Obeys, AreSolution, IsPositiv
 use Rattle.diff_rules.proofs.CycleLemmas.{no_values}
 use Rattle.refute_rules.specs.Choices.{Choice, Lies, Before, Below, Stands}
 use Rattle.refute_rules.specs.Edges.{edge}
-use Rattle.refute_rules.proofs.Among.{IsAmong-left, IsAmong-right, IsAmong-flat_map, IsAmong-numbers, all-append, all-flat_map, all-weaker, all-numbers}
-use Rattle.case_search.proofs.ListLemmas.{append-nil, flat_map-append, flat_map-one}
+use Rattle.refute_rules.proofs.Among.{IsAmong-left, IsAmong-right, IsAmong-flat_map, IsAmong-numbers, all-flat_map, all-weaker, all-numbers}
+use Rattle.case_search.proofs.ListLemmas.{flat_map-one}
 use Rattle.refute_rules.specs.BerthCases.{host_in, HasOrder, ObeyAlong}
 use Rattle.berth_check.specs.Raises.{IsKnownChoice, AreKnown}
 use Rattle.berth_check.proofs.RaiseLemmas.{host-known}

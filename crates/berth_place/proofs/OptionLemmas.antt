@@ -2,9 +2,9 @@
 use Rattle.std.proofs.Common.{◌≡◌, ℕ, zero, suc, ◌*◌, ◌<◌, List, [], ◌∷◌, ◌++◌, length, map, slice_index_or, sym, ap, ◌∙◌, arith}
 use Rattle.std.specs.List.{AllByRecursion}
 use Rattle.std.proofs.lemmas.List.{get_or-map, length-map}
+use Rattle.list_laws.proofs.ByRecursion.{all-append}
 use Rattle.lock_model.specs.Deck.{Deck}
 use Rattle.refute_rules.specs.Choices.{Choice, Lies, Before, Berth, berths_of}
-use Rattle.refute_rules.proofs.Among.{all-append}
 use Rattle.case_search.specs.Berths.{first_berth}
 use Rattle.case_search.proofs.BerthLemmas.{berths-length}
 use Rattle.refute_rules.specs.BerthTrees.{Split, OfBerth, IsOpen, split_options}

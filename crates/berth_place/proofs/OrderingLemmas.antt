@@ -1,12 +1,11 @@
 -- A case that decides all berths, with one order more.
-use Rattle.std.proofs.Common.{◌≡◌, ℕ, zero, suc, ◌+◌, ◌<◌, ◌≤◌, ◌⊎◌, List, [], ◌∷◌, ◌++◌, length, slice_index_or, inl, inr, refl, sym, ap, ◌∙◌, subst, arith}
+use Rattle.std.proofs.Common.{◌≡◌, ℕ, zero, suc, ◌+◌, ◌<◌, ◌≤◌, ◌⊎◌, List, [], ◌∷◌, ◌++◌, length, slice_index_or, inl, inr, refl, sym, ap, ◌∙◌, subst, arith, length-append}
 use Rattle.lock_model.specs.Deck.{Deck, IsDeck}
 use Rattle.lock_model.specs.Placement.{IsLegalPlacement}
 use Rattle.lock_model.specs.declared.placement.Spot.{Spot}
 use Rattle.diff_rules.specs.Differences.{IsSystem, IsSimpleCycle}
 use Rattle.diff_system.specs.PathTree.{PathTree, AreLongest}
 use Rattle.refute_rules.specs.Choices.{Choice, Before}
-use Rattle.case_search.proofs.ListLemmas.{length-append}
 use Rattle.refute_rules.specs.BerthCases.{HasOrder, ObeyAlong}
 use Rattle.refute_rules.specs.BerthTrees.{OfOrder, AreUnordered, split_options}
 use Rattle.berth_check.specs.Raises.{AreKnown}

@@ -1,12 +1,14 @@
 -- Pairs of ships: those that overlap, and those that values put apart.
 use Rattle.std.proofs.Common.{◌≡◌, ◌≢◌, ℕ, zero, suc, ◌+◌, ◌<◌, ◌≤◌, ◌⊎◌, ℤ, List, [], ◌∷◌, ◌++◌, length, slice_index_or, inl, inr, refl, sym, ap, ◌∙◌, subst, arith}
+use Rattle.std.proofs.lemmas.List.{length_push, get_or_default}
 use Rattle.std.specs.List.{AllByRecursion}
 use Rattle.std.proofs.lemmas.Bool.Decides.{eqb_tells}
+use Rattle.list_laws.proofs.ByRecursion.{all-append}
 use Rattle.lock_model.specs.Deck.{Deck}
 use Rattle.lock_rules.specs.Among.{IsAmong}
 use Rattle.diff_system.specs.PathTree.{IsSmall}
 use Rattle.refute_rules.specs.Choices.{Choice, Before}
-use Rattle.refute_rules.proofs.Among.{IsAmong-left, IsAmong-right, all-append}
+use Rattle.refute_rules.proofs.Among.{IsAmong-left, IsAmong-right}
 use Rattle.refute_rules.specs.BerthCases.{DoOverlap, HasOrder}
 use Rattle.berth_place.specs.declared.pairs.Pair.{Pair}
 use Rattle.berth_place.specs.Along.{place_var}
@@ -85,11 +87,6 @@ at-number P (p ∷ ps) (suc k) all h = at-number P ps k all.1 (omega (arith, h))
 pub pair_number : (d : Deck) (case : List Choice) (ps : List Pair) (k : ℕ) → ArePairs d case ps → k < length ps → IsPair d case (pair_at ps k)
 pair_number d case ps k pairs h = at-number (IsPair d case) ps k pairs.all h
 
-same-at : (ps : List Pair) (k : ℕ) (z u : Pair) → k < length ps → slice_index_or ps k z ≡ slice_index_or ps k u
-same-at [] k z u h = absurd (omega (arith, h))
-same-at (p ∷ ps) zero z u h = refl
-same-at (p ∷ ps) (suc k) z u h = same-at ps k z u (omega (arith, h))
-
 pub apart_begun : (d : Deck) (values : List ℤ) (ps : List Pair) → AreAllApart d values ps 0
 apart_begun d values ps = record { each = λ k h. absurd (omega (arith, h)) }
 
@@ -97,7 +94,7 @@ pub apart_more : (d : Deck) (values : List ℤ) (ps : List Pair) (k : ℕ) (z : 
 apart_more d values ps k z here apart before = record {
   each = λ j h.
       elim (eqb_tells j k) [
-        | inl y ↦ subst (λ u. AreApartAlong d values (pair_at ps u)) (sym y.1) (subst (AreApartAlong d values) (same-at ps k z (pair 0 0) here) apart)
+        | inl y ↦ subst (λ u. AreApartAlong d values (pair_at ps u)) (sym y.1) (subst (AreApartAlong d values) (get_or_default ps k z (pair 0 0) here) apart)
         | inr n ↦ before.each j (omega (arith, h, n.1))
       ];
 }
@@ -172,13 +169,9 @@ module _ (ps : List Pair) (number : ℕ) where
   among-last (r ∷ left) q p (inl e) = inl (inl e)
   among-last (r ∷ left) q p (inr h) = elim (among-last left q p h) [ inl u ↦ inl (inr u) | inr u ↦ inr u ]
 
-  last-long : (left : List Pair) (q : Pair) → length (left ++ q ∷ []) ≡ length left + 1
-  last-long [] q = refl
-  last-long (p ∷ left) q = omega (arith, last-long left q)
-
   pub kept_more : (left new : List Pair) (count : ℕ) → count < length ps → count ≢ number → new ≡ left ++ pair_at ps count ∷ [] → ArePartlyKept ps number left count → ArePartlyKept ps number new (count + 1)
   kept_more left new count here n e partly =
-      let size : length new ≡ length left + 1 = ap length e ∙ last-long left (pair_at ps count) in
+      let size : length new ≡ length left + 1 = ap length e ∙ length_push left (pair_at ps count) in
       record {
         short = λ h. let fewer = partly.short (omega (arith, h, n)) in omega (arith, size, fewer);
         long = λ h. let same = partly.long (omega (arith, h)) in omega (arith, size, same);

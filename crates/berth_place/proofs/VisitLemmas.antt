@@ -1,10 +1,10 @@
 -- What the visit of a case comes to.
-use Rattle.std.proofs.Common.{◌≡◌, ℕ, suc, ◌+◌, ◌≤◌, ◌<◌, ◌⊎◌, inl, inr, List, [], ◌∷◌, ◌++◌, length, take, slice_index_or, refl, sym, ap, ◌∙◌, subst, arith}
+use Rattle.std.proofs.Common.{◌≡◌, ℕ, suc, ◌+◌, ◌≤◌, ◌<◌, ◌⊎◌, inl, inr, List, [], ◌∷◌, ◌++◌, length, take, slice_index_or, refl, sym, ap, ◌∙◌, subst, arith, append-nil}
 use Rattle.lock_model.specs.Deck.{Deck}
 use Rattle.lock_model.specs.Placement.{IsLegalPlacement}
 use Rattle.refute_rules.specs.Choices.{Choice, Before}
 use Rattle.refute_rules.specs.Trees.{AreInOrder}
-use Rattle.case_search.proofs.ListLemmas.{append-assoc, append-nil, take-more, take-all, take-front, in_order-more}
+use Rattle.case_search.proofs.ListLemmas.{append-assoc, take-more, take-all, take-front, in_order-more}
 use Rattle.refute_rules.specs.BerthFaults.{BerthFault, OtherRank, LeadsBack, TooLong, Outside, Guests, Crowd, NoPlaces, IsBerthFault, berth_fault_numbers}
 use Rattle.refute_rules.specs.BerthTrees.{Split, OfBerth, OfOrder, IsOpen, split_options, split_numbers, BeginsWithTree, IsBerthTree}
 use Rattle.refute_rules.proofs.BerthTreeLemmas.{split_tree, fault_tree}

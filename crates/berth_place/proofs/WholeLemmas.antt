@@ -1,5 +1,6 @@
 -- Cases that decide all berths, and what one order more leaves as it is.
 use Rattle.std.proofs.Common.{◌≡◌, ◌≢◌, ℕ, zero, suc, ◌+◌, ◌<◌, ◌≤◌, ℤ, pos, negsuc, List, [], ◌∷◌, ◌++◌, length, Contains, cond, nat_eq, inl, inr, refl, sym, ap, ◌∙◌, subst, arith, Some, None, option_map}
+use Rattle.std.proofs.lemmas.Option.{none-some}
 use Rattle.std.specs.declared.option.Option.{Option}
 use Rattle.std.proofs.lemmas.Int.{ints}
 use Rattle.std.proofs.lemmas.Bool.Decides.{leb_tells}
@@ -79,9 +80,6 @@ module _ (d : Deck) (case : List Choice) (a b : ℕ) where
   order_last = Contains-append_right case (Before a b ∷ []) (Before a b) (0, omega arith, refl)
 
 -- ---- a case without faults across
-
-none-some : {X : Type 0} (x : X) → None ≡ Some x → ⊥
-none-some x e = cc
 
 module _ (d : Deck) (case : List Choice) (known : AreKnown d case) (decided : AreDecided case (length d.ships)) (sound : AreSoundShips d case (length d.ships)) where
   no-hosts : (steps i : ℕ) → host_in case i ≡ None → hosts_within case steps i ≡ []

@@ -1,8 +1,8 @@
 -- The marks of a book's slots are one certificate tree.
-use Rattle.std.proofs.Common.{◌≡◌, ℕ, zero, suc, ◌+◌, ◌<◌, ◌≤◌, List, [], ◌∷◌, inl, inr, length, map, refl, sym, ap, ◌∙◌, subst, arith, Some, None, slice_index_or}
+use Rattle.std.proofs.Common.{◌≡◌, ℕ, zero, suc, ◌+◌, ◌<◌, ◌≤◌, List, [], ◌∷◌, inl, inr, length, map, refl, sym, ap, ◌∙◌, subst, arith, Some, slice_index_or}
 use Rattle.std.specs.List.{range_with_len}
 use Rattle.std.proofs.lemmas.List.{length-map, get_or-map}
-use Rattle.std.proofs.lemmas.Option.{slice_get_within, get_or_from_slice_get}
+use Rattle.std.proofs.lemmas.Option.{slice_get_within, get_or_from_slice_get, none-some, same_Some}
 use Rattle.lock_model.specs.Fitting.{deck_of}
 use Rattle.lock_model.specs.Deck.{Deck}
 use Rattle.lock_model.specs.declared.instance.Instance.{Instance}
@@ -31,12 +31,6 @@ use Rattle.book_rules.proofs.MoveLemmas.{TellsAt}
 use Rattle.book_rules.proofs.StateLemmas.{state-tells}
 use Rattle.book_certificate.specs.Preorder.{leaf_mark, AreMarksOf}
 use Rattle.book_certificate.specs.Certified.{cert_cut}
-
-pub some-same : (m n : Mark) → Some m ≡ Some n → m ≡ n
-some-same m n e = cc
-
-none-some : (m : Mark) → None ≡ Some m → ⊥
-none-some m e = cc
 
 -- a tree of each number is a tree of the item that it stands for
 pub in_order-kids : {X M : Type 0} (Numbered : ℕ → List M → List M → Type 0) (Tree : X → List M → List M → Type 0) (d : X) (xs : List X) (first : ℕ)
@@ -86,7 +80,7 @@ module _ (b : Book) (keeps : KeepsBook b) (family : KeepsFamily b) (states : Kee
       node = (slot_at b id).node
 
       from : (n : Mark) → Some n ≡ Some m → Closing node.depth node.lines n → Closing node.depth node.lines m
-      from n same h = subst (Closing node.depth node.lines) (some-same n m same) h
+      from n same h = subst (Closing node.depth node.lines) (same_Some n m same) h
 
       at : (state : SlotState) → (slot_at b id).state ≡ state → IsAt b id state
       at state is = record { known = known; is = is }

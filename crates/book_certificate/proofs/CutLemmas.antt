@@ -1,7 +1,7 @@
 -- Copying the cuts of a book.
 use Rattle.std.proofs.Common.{◌≡◌, ℕ, ◌+◌, ◌<◌, ◌≤◌, List, [], ◌∷◌, ◌++◌, inl, inr, length, map, take, sym, ap, ◌∙◌, subst, arith, Some, None, slice_get, slice_index_or}
 use Rattle.std.proofs.lemmas.List.{take_more, take_all, length-append, map-append}
-use Rattle.std.proofs.lemmas.Option.{slice_get_within, slice_get_cases, get_or_from_slice_get}
+use Rattle.std.proofs.lemmas.Option.{slice_get_within, slice_get_cases, get_or_from_slice_get, none-some}
 use Rattle.refute_rules.specs.Cuts.{Cut}
 use Rattle.closing_rules.specs.ProvedCuts.{CertCut}
 use Rattle.book_certificate.specs.Certified.{cert_cut}
@@ -26,9 +26,6 @@ cut-past cuts number none =
       | inl there ↦ absurd (none-some there.0 (sym none ∙ there.2))
       | inr past ↦ past.0
     ]
-  where
-    none-some : (cut : Cut) → None ≡ Some cut → ⊥
-    none-some cut e = cc
 
 -- all cuts are copied
 pub all-copied : (cuts : List Cut) (copies : List CertCut) (number : ℕ) → number ≡ length copies → slice_get cuts number ≡ None → copies ≡ map cert_cut (take (length copies) cuts) → copies ≡ map cert_cut cuts

@@ -1,9 +1,9 @@
 -- The certificate of a book is accepted and well formed.
-use Rattle.std.proofs.Common.{◌≡◌, ℕ, zero, suc, ◌+◌, ◌^◌, ◌<◌, List, [], inl, inr, length, map, refl, sym, ap, ◌∙◌, subst, arith, Some, None, All, slice_index_or}
+use Rattle.std.proofs.Common.{◌≡◌, ℕ, zero, suc, ◌+◌, ◌^◌, ◌<◌, List, [], inl, inr, length, map, refl, sym, ap, ◌∙◌, subst, arith, Some, All, slice_index_or}
 use Rattle.std.specs.List.{range_with_len}
 use Rattle.std.proofs.lemmas.List.{length-map}
 use Rattle.std.proofs.lemmas.List.Elements.{All-map, All-weaker, All-cons, All-nil}
-use Rattle.std.proofs.lemmas.Option.{slice_get_within}
+use Rattle.std.proofs.lemmas.Option.{slice_get_within, same_Some, none-some}
 use Rattle.lock_model.specs.Fitting.{size_of}
 use Rattle.lock_model.specs.Fleet.{ship_at}
 use Rattle.lock_model.specs.Deck.{Deck}
@@ -42,7 +42,7 @@ use Rattle.book_rules.proofs.SlotLemmas.{IsAt}
 use Rattle.book_rules.proofs.StateLemmas.{state-tells}
 use Rattle.book_certificate.specs.Preorder.{leaf_mark, AreMarksOf}
 use Rattle.book_certificate.specs.Certified.{cert_cut, IsCertificateOf}
-use Rattle.book_certificate.proofs.ClosingLemmas.{some-same, slot-tree}
+use Rattle.book_certificate.proofs.ClosingLemmas.{slot-tree}
 
 -- ---- cuts
 
@@ -109,10 +109,7 @@ module _ (b : Book) (family : KeepsFamily b) (states : KeepsStates b) (few_price
   leaf-formed id known m e = by_state (slot_at b id).state refl e
     where
       from : (n : Mark) → Some n ≡ Some m → IsFormedMark n → IsFormedMark m
-      from n same h = subst IsFormedMark (some-same n m same) h
-
-      none-some : None ≡ Some m → ⊥
-      none-some f = cc
+      from n same h = subst IsFormedMark (same_Some n m same) h
 
       at : (state : SlotState) → (slot_at b id).state ≡ state → IsAt b id state
       at state is = record { known = known; is = is }
@@ -131,7 +128,7 @@ module _ (b : Book) (family : KeepsFamily b) (states : KeepsStates b) (few_price
 
       by_state : (state : SlotState) → (slot_at b id).state ≡ state → leaf_mark state ≡ Some m → IsFormedMark m
       by_state (slot.Closed why) is f = from (mark.Leaf why) f (ground-formed why (state-tells b id (slot.Closed why) states (at (slot.Closed why) is)))
-      by_state _ is f = absurd (none-some f)
+      by_state _ is f = absurd (none-some m f)
 
   slot-formed : (lacking id : ℕ) → id < length b.slots → (marks rest : List Mark) → AreMarksOf b lacking id marks rest → All IsFormedMark rest → All IsFormedMark marks
   slot-formed zero id known marks rest h formed = subst (All IsFormedMark) (sym h.2) (All-cons IsFormedMark h.0 rest (leaf-formed id known h.0 h.1) formed)

@@ -1,6 +1,7 @@
 -- The list of Back slots.
-use Rattle.std.proofs.Common.{◌≡◌, ◌≢◌, ℕ, suc, ◌<◌, ◌≤◌, List, [], ◌∷◌, length, refl, sym, ap, ◌∙◌, subst, arith, Bool, true, false, cond, inl, inr, Some, None, slice_get, drop}
+use Rattle.std.proofs.Common.{◌≡◌, ◌≢◌, ℕ, suc, ◌<◌, ◌≤◌, List, [], ◌∷◌, length, refl, sym, ap, ◌∙◌, subst, arith, Bool, true, false, cond, inl, inr, Some, slice_get, drop, true≢false}
 use Rattle.std.proofs.lemmas.Bool.Decides.{eqb_tells, leb_tells}
+use Rattle.std.proofs.lemmas.Option.{none-some, same_Some}
 use Rattle.lock_rules.specs.Children.{insert_number}
 use Rattle.book_rules.specs.declared.book.SlotState.{SlotState}
 use Rattle.book_rules.specs.declared.book.SlotState.TheVariants as slot
@@ -14,10 +15,7 @@ use Rattle.book_core.specs.Changes.{Changes}
 use Rattle.closing_rules.specs.declared.grounds.Ground.TheVariants as by
 
 not-back : (state : SlotState) → is_back state ≡ false → state ≢ slot.Back
-not-back state e h = clash (sym (ap is_back h) ∙ e)
-  where
-    clash : true ≡ false → ⊥
-    clash g = cc
+not-back state e h = true≢false (sym (ap is_back h) ∙ e)
 
 above-among : (n : ℕ) (ms : List ℕ) (k : ℕ) → AreAbove n ms → IsAmong ms k → n < k
 above-among n [] k above among = absurd among
@@ -132,16 +130,10 @@ first-back b (x ∷ xs) good = sym (first_slot-is b is_back x (state-known b.slo
       | inr h ↦ let above = above-among x xs k good.rising.0 h in omega (arith, less, above)
     ])
 
-some-same : (m n : ℕ) → Some m ≡ Some n → m ≡ n
-some-same m n e = cc
-
-none-some : (n : ℕ) → None ≡ Some n → ⊥
-none-some n e = cc
-
 -- the first of the list takes another state
 pub first-taken : (old new : List Slot) (id : ℕ) (state : SlotState) → Changes old id state new → (back : List ℕ) → AreBack old back → slice_get back 0 ≡ Some id → is_back state ≡ false → AreBack new (drop 1 back)
 first-taken old new id state change [] good first after = absurd (none-some id first)
-first-taken old new id state change (x ∷ xs) good first after = back-taken old new id state change xs (subst (λ n. AreBack old (n ∷ xs)) (some-same x id first) good) after
+first-taken old new id state change (x ∷ xs) good first after = back-taken old new id state change xs (subst (λ n. AreBack old (n ∷ xs)) (same_Some x id first) good) after
 
 pub fewer-back : (back : List ℕ) → length (drop 1 back) ≤ length back
 fewer-back [] = omega arith

@@ -1,5 +1,6 @@
 -- The hand that holds a slot, and the bounds in it.
 use Rattle.std.proofs.Common.{◌≡◌, ℕ, ◌+◌, ◌<◌, List, slice_set, length, map, refl, sym, ap, ◌∙◌, subst, arith, slice_index_or, Some, None}
+use Rattle.std.proofs.lemmas.Option.{none-some, same_Some}
 use Rattle.std.specs.Prelude.{IfSome}
 use Rattle.std.specs.declared.option.Option.{Option}
 use Rattle.lock_model.specs.declared.instance.Instance.{Instance}
@@ -32,12 +33,6 @@ below-at b id I I_is node same =
 pub least-below : (b : Book) → IsSound b → (id : ℕ) → id < length b.slots → (slot_at b id).node.depth < length b.case.instance.ships → least_number (bounds_at b id) ≡ probe_at b id (next_ship b.case.instance (slot_at b id).node.depth)
 least-below b sound id known lacks = least-child b.case.instance (slot_at b id).node.depth (slot_at b id).node.lines (slot-node b sound id known) lacks
 
-same-number : (m n : ℕ) → Some m ≡ Some n → m ≡ n
-same-number m n e = cc
-
-none-some : (n : ℕ) → None ≡ Some n → ⊥
-none-some n e = cc
-
 module _ (a : Inside) (kept : IsKept a) (b : Book) (same : seen a ≡ b) (w id : ℕ) (held : (slot_at b id).state ≡ slot.Held w) where
   abbrev S : List Slot
   S = slots_of a.case.instance a.slots.items
@@ -65,7 +60,7 @@ module _ (a : Inside) (kept : IsKept a) (b : Book) (same : seen a ≡ b) (w id :
   pub hand-of : (g : Hand) → held_at a.hands w ≡ Some g → IsHandOf b id g
   hand-of g e =
       let is : IsHand a.case.instance S g = subst (λ h. IfSome h (IsHand a.case.instance S)) e (kept.nodes.each w) in
-      let own : g.id ≡ id = same-number g.id id (ap id_of (sym e) ∙ held-here) in
+      let own : g.id ≡ id = same_Some g.id id (ap id_of (sym e) ∙ held-here) in
       subst (λ u. IsHandOf u id g) same (record { own = subst (λ k. IsNodeIn a.case.instance S k g.node) own is.own; bounds = is.bounds })
 
   below-hand : (g : Hand) → held_at a.hands w ≡ Some g → bounds_below a.case.instance g.node ≡ bounds_at b id

@@ -1,7 +1,7 @@
 -- The events that close a slot.
-use Rattle.std.proofs.Common.{◌≡◌, ◌≢◌, ℕ, suc, ◌<◌, ◌≤◌, refl, sym, ap, ◌∙◌, subst, arith, Bool, true, false, not, cond, nat_eq, nat_lt, inl, inr, Some, None, slice_get}
+use Rattle.std.proofs.Common.{◌≡◌, ℕ, ◌<◌, ◌≤◌, refl, sym, ap, ◌∙◌, subst, arith, Bool, true, false, not, cond, Some, None, slice_get, le-ltb, lt-ltb, ne_eqb, eq-eqb}
+use Rattle.std.proofs.lemmas.Bool.{not_from_false, not_from_true}
 use Rattle.std.specs.declared.option.Option.{Option}
-use Rattle.std.proofs.lemmas.Bool.Decides.{eqb_tells, leb_tells}
 use Rattle.mooring_rules.specs.declared.breaks.BrokenPlan.{BrokenPlan}
 use Rattle.closing_rules.specs.declared.grounds.Ground.{Ground}
 use Rattle.closing_rules.specs.declared.grounds.Ground.TheVariants as by
@@ -24,24 +24,6 @@ pick-true t a c e = ap (λ u. cond u a c) e
 pub pick-false : (t : Bool) (a c : Out) → t ≡ false → cond t a c ≡ c
 pick-false t a c e = ap (λ u. cond u a c) e
 
-pub not-true : (t : Bool) → t ≡ true → not t ≡ false
-not-true t e = ap not e
-
-pub not-false : (t : Bool) → t ≡ false → not t ≡ true
-not-false t e = ap not e
-
-pub same-number : (m n : ℕ) → m ≡ n → nat_eq m n ≡ true
-same-number m n e = elim (eqb_tells m n) [ inl y ↦ y.0 | inr h ↦ absurd (h.1 e) ]
-
-pub other-number : (m n : ℕ) → m ≢ n → nat_eq m n ≡ false
-other-number m n e = elim (eqb_tells m n) [ inl y ↦ absurd (e y.1) | inr h ↦ h.0 ]
-
-pub is-less : (a b : ℕ) → a < b → nat_lt a b ≡ true
-is-less a b h = elim (leb_tells (suc a) b) [ inl y ↦ y.0 | inr n ↦ absurd (omega (arith, h, n.1)) ]
-
-pub is-not_less : (a b : ℕ) → b ≤ a → nat_lt a b ≡ false
-is-not_less a b h = elim (leb_tells (suc a) b) [ inl y ↦ absurd (omega (arith, h, y.1)) | inr n ↦ n.0 ]
-
 -- no plan is looked at
 abbrev pub none : Option BrokenPlan
 none = None
@@ -58,11 +40,11 @@ module _ (b : Book) (id : ℕ) (why : Ground) (e : Event) (refusal : Option (mac
     judged = unjudged;
     answer = machine.NotHeld id;
     said = refl;
-    same = is ∙ pick-true (not (may_close b id)) not_held (close_unless b id why refusal) (not-false (may_close b id) missing);
+    same = is ∙ pick-true (not (may_close b id)) not_held (close_unless b id why refusal) (not_from_false (may_close b id) missing);
   }
 
   past-held : may_close b id ≡ true → step (λ _ _. none) b e ≡ close_unless b id why refusal
-  past-held may = is ∙ pick-false (not (may_close b id)) not_held (close_unless b id why refusal) (not-true (may_close b id) may)
+  past-held may = is ∙ pick-false (not (may_close b id)) not_held (close_unless b id why refusal) (not_from_true (may_close b id) may)
 
   pub event-refused : (r : Reply) (o : machine.Reply BrokenPlan) → told r ≡ Some o → may_close b id ≡ true → refusal ≡ Some o → Answers b e r b
   event-refused r o said may why_not = record { found = None; judged = unjudged; answer = o; said = said; same = past-held may ∙ ap (close_unless b id why) why_not }
@@ -84,10 +66,10 @@ module _ (b : Book) (refusal : Option (machine.Reply BrokenPlan)) (n best : ℕ)
   test t = cond t (Some (machine.Cheaper n (best_cost b))) None
 
   pub cheap-refused : n < best → refusal ≡ Some (machine.Cheaper n best)
-  cheap-refused low = asked ∙ ap test (is-less n (best_cost b) (omega (arith, low, best_is))) ∙ ap (λ m. Some (machine.Cheaper n m)) (sym best_is)
+  cheap-refused low = asked ∙ ap test (lt-ltb n (best_cost b) (omega (arith, low, best_is))) ∙ ap (λ m. Some (machine.Cheaper n m)) (sym best_is)
 
   pub high-unrefused : best ≤ n → refusal ≡ None
-  high-unrefused high = asked ∙ ap test (is-not_less n (best_cost b) (omega (arith, high, best_is)))
+  high-unrefused high = asked ∙ ap test (le-ltb n (best_cost b) (omega (arith, high, best_is)))
 
 -- ---- a slot is closed by the book alone
 

@@ -1,5 +1,5 @@
 -- What take and release answer.
-use Rattle.std.proofs.Common.{◌≡◌, ◌≢◌, ℕ, suc, ◌≤◌, refl, sym, ap, ◌∙◌, subst, Bool, true, false, cond, nat_eq, slice_index_or, Some, None}
+use Rattle.std.proofs.Common.{◌≡◌, ◌≢◌, ℕ, suc, ◌≤◌, refl, sym, ap, ◌∙◌, subst, Bool, true, false, cond, nat_eq, slice_index_or, Some, None, ne_eqb, eq-eqb}
 use Rattle.book_rules.specs.Book.{Book, Case, slot_at, first_slot, has_slot, is_back, is_held, is_held_by}
 use Rattle.book_rules.specs.Events as machine
 use Rattle.book_rules.specs.Events.{Event, take, release}
@@ -14,7 +14,7 @@ use Rattle.book_core.specs.declared.reply.Reply.TheVariants as reply
 use Rattle.book_core.specs.Changes.{IsFree, IsNew, handed, returned, finished}
 use Rattle.book_core.specs.Keeps.{IsSound}
 use Rattle.book_core.specs.Replies.{Answers, Grants, HasNode, grant_told, told}
-use Rattle.book_core.proofs.CloseLemmas.{Out, none, pick-true, pick-false, same-number, other-number}
+use Rattle.book_core.proofs.CloseLemmas.{Out, none, pick-true, pick-false}
 use Rattle.book_core.proofs.SoundLemmas.{step-sound}
 
 module _ (b : Book) (w : ℕ) where
@@ -61,14 +61,14 @@ module _ (b : Book) (w : ℕ) where
     found = None;
     same =
         way-fresh e empty back ∙ ap (take_fresh b w) next
-        ∙ pick-true (nat_eq b.used b.case.nodes) (b, machine.NodesSpent b.used) (given b w id (suc b.used)) (same-number b.used b.case.nodes (sym is ∙ spent))
+        ∙ pick-true (nat_eq b.used b.case.nodes) (b, machine.NodesSpent b.used) (given b w id (suc b.used)) (eq-eqb b.used b.case.nodes (sym is ∙ spent))
         ∙ ap (λ n. (b, machine.NodesSpent n)) (sym is);
   }
 
   pub fresh-given : (id used : ℕ) → used ≡ b.used → has_ended ≡ false → first_slot b (is_held_by w) ≡ None → first_slot b is_back ≡ None → next_fresh b ≡ Some id → used ≢ b.case.nodes → (n : ℕ) → n ≡ suc used → step (λ _ _. none) b (take w) ≡ given b w id n
   fresh-given id used is e empty back next left n more =
       way-fresh e empty back ∙ ap (take_fresh b w) next
-      ∙ pick-false (nat_eq b.used b.case.nodes) (b, machine.NodesSpent b.used) (given b w id (suc b.used)) (other-number b.used b.case.nodes (λ h. left (is ∙ h)))
+      ∙ pick-false (nat_eq b.used b.case.nodes) (b, machine.NodesSpent b.used) (given b w id (suc b.used)) (ne_eqb b.used b.case.nodes (λ h. left (is ∙ h)))
       ∙ ap (given b w id) (ap suc (sym is) ∙ sym more)
 
   pub is-new : (id : ℕ) → first_slot b is_back ≡ None → next_fresh b ≡ Some id → IsFree b id

@@ -1,5 +1,6 @@
 -- A slot is split: its children stand behind the slots.
-use Rattle.std.proofs.Common.{◌≡◌, ◌≢◌, ℕ, zero, suc, ◌+◌, ◌-◌, ◌<◌, ◌≤◌, List, [], ◌∷◌, ◌++◌, length, map, refl, sym, ap, ◌∙◌, subst, arith, Bool, true, false, not, cond, nat_le, slice_index_or, slice_set, inl, inr, None}
+use Rattle.std.proofs.Common.{◌≡◌, ◌≢◌, ℕ, zero, suc, ◌+◌, ◌-◌, ◌<◌, ◌≤◌, List, [], ◌∷◌, ◌++◌, length, map, refl, sym, ap, ◌∙◌, subst, arith, Bool, true, false, not, cond, nat_le, slice_index_or, slice_set, inl, inr, None, true≢false, le-leb, length-append, append_assoc}
+use Rattle.std.proofs.lemmas.Bool.{not_from_false, not_from_true, lt-leb}
 use Rattle.std.specs.declared.option.Option.{Option}
 use Rattle.std.proofs.lemmas.Bool.Decides.{leb_tells}
 use Rattle.std.proofs.lemmas.List.{get_or-append-add}
@@ -33,17 +34,9 @@ use Rattle.book_core.proofs.HeldLemmas.{KeepsNodes}
 use Rattle.book_core.proofs.WaitingLemmas.{Grows, waiting-grown}
 use Rattle.book_core.proofs.KeptLemmas.{length-slots, stored-change}
 use Rattle.book_core.proofs.SettleLemmas.{restated}
-use Rattle.book_core.proofs.CloseLemmas.{Out, none, pick-true, pick-false, not-true, not-false}
+use Rattle.book_core.proofs.CloseLemmas.{Out, none, pick-true, pick-false}
 use Rattle.book_core.proofs.SoundLemmas.{step-sound}
 use Rattle.closing_rules.specs.declared.grounds.Ground.TheVariants as by
-
-pub append-three : {X : Type 0} (xs ys zs : List X) → (xs ++ ys) ++ zs ≡ xs ++ (ys ++ zs)
-append-three [] ys zs = refl
-append-three (x ∷ xs) ys zs = ap (λ l. x ∷ l) (append-three xs ys zs)
-
-length-both : {X : Type 0} (xs ys : List X) → length (xs ++ ys) ≡ length xs + length ys
-length-both [] ys = omega arith
-length-both (x ∷ xs) ys = let rest = length-both xs ys in omega (arith, rest)
 
 pub children-more : (cost parent n : ℕ) (xs : List ℕ) (x : ℕ) → stored_children cost parent n (xs ++ x ∷ []) ≡ stored_children cost parent n xs ++ stored_child cost parent (n + length xs) x ∷ []
 children-more cost parent n [] x = ap (λ k. stored_child cost parent k x ∷ []) (omega arith)
@@ -70,8 +63,8 @@ kids-slots I cost id node (l ∷ ls) before n done count all known is =
     let here : node_after I done s ≡ own =
     after-some I done s (omega (arith, known)) ∙ ap (λ m. child_node I m n) is ∙ ap (λ x. record { depth = suc node.depth; lines = x }) lines in
     let kid : Node → Slot = λ m. record { parent = id; number = n; node = m; bound = bound_of I (suc node.depth) l; state = cond (nat_le cost (bound_of I (suc node.depth) l)) (slot.Closed by.Bound) slot.Fresh } in
-    let long = length-both done (node_after I done s ∷ []) in
-    let rest = kids-slots I cost id node ls (before ++ l ∷ []) (suc n) (done ++ node_after I done s ∷ []) (omega (arith, count, length-both before (l ∷ []))) (all ∙ sym (append-three before (l ∷ []) ls))
+    let long = length-append done (node_after I done s ∷ []) in
+    let rest = kids-slots I cost id node ls (before ++ l ∷ []) (suc n) (done ++ node_after I done s ∷ []) (omega (arith, count, length-append before (l ∷ []))) (all ∙ sym (append_assoc before (l ∷ []) ls))
     (omega (arith, known, long)) (get_or-append done (node_after I done s ∷ []) root id known ∙ is) in
     (λ i. kid (here i) ∷ rest i)
 
@@ -118,7 +111,7 @@ module _ (b : Book) (sound : IsSound b) (id w : ℕ) (held : (slot_at b id).stat
   nodes-grown =
       let count = change.count in
       record {
-        count = omega (arith, count, length-both middle (children_in b id));
+        count = omega (arith, count, length-append middle (children_in b id));
         node = λ k known. ap (λ (s : Slot). s.node) (near k known) ∙ ap (λ (s : Slot). s.node) (change.rest k);
       }
 
@@ -135,12 +128,9 @@ module _ (b : Book) (sound : IsSound b) (id w : ℕ) (held : (slot_at b id).stat
     | inr n ↦
         let past : length b.slots ≤ k = omega (arith, n.1) in
         let node = (slot_at b id).node in
-        absurd (clash (sym e ∙ ap (λ (s : Slot). P s.state) (far-slot k past)
+        absurd (true≢false (sym e ∙ ap (λ (s : Slot). P s.state) (far-slot k past)
         ∙ kid-state (λ s. P s ≡ false) closed fresh b.case.instance (best_cost b) id (suc node.depth) 0 (children_of b.case.instance node.depth node.lines) (far k past).0))
   ]
-    where
-      clash : true ≡ false → ⊥
-      clash h = cc
 
   grown-hands : (hands : List (Option ℕ)) → AreHands b.slots hands → AreHands grown (let_go (slot.Held w) hands)
   grown-hands hands good =
@@ -168,14 +158,14 @@ module _ (b : Book) (sound : IsSound b) (id w : ℕ) (held : (slot_at b id).stat
   grows =
       let count = change.count in
       record {
-        count = omega (arith, count, length-both middle (children_in b id));
+        count = omega (arith, count, length-append middle (children_in b id));
         held = ap is_split held;
         split = ap (λ (s : Slot). s.state) (near id id-known) ∙ change.here;
         others = λ k known other. ap (λ (s : Slot). s.state) (near k known) ∙ change.others k other;
         parents = λ k known. ap (λ (s : Slot). s.parent) (near k known) ∙ ap (λ (s : Slot). s.parent) (change.rest k);
         kids = λ k past known.
             let node = (slot_at b id).node in
-            let within : (far k past).0 < length (children_in b id) = omega (arith, known, (far k past).1, length-both middle (children_in b id)) in
+            let within : (far k past).0 < length (children_in b id) = omega (arith, known, (far k past).1, length-append middle (children_in b id)) in
             ap (λ (s : Slot). s.parent) (far-slot k past)
             ∙ kid-parent b.case.instance (best_cost b) id (suc node.depth) 0 (children_of b.case.instance node.depth node.lines) (far k past).0 within;
         childless = λ k some known parent. split-held (sym (sound.parts.family.born k some known).split ∙ ap (λ p. (slot_at b p).state) parent ∙ held);
@@ -229,17 +219,11 @@ module _ (b : Book) (id : ℕ) where
     judged = tt;
     answer = machine.NotHeld id;
     said = refl;
-    same = pick-true (not (is_held (slot_at b id).state)) (b, machine.NotHeld id) (cond whole (b, machine.Whole id) (split_slot {Break = BrokenPlan} b id)) (not-false (is_held (slot_at b id).state) e);
+    same = pick-true (not (is_held (slot_at b id).state)) (b, machine.NotHeld id) (cond whole (b, machine.Whole id) (split_slot {Break = BrokenPlan} b id)) (not_from_false (is_held (slot_at b id).state) e);
   })
 
   way-held : is_held (slot_at b id).state ≡ true → step (λ _ _. none) b (split id) ≡ cond whole (b, machine.Whole id) (split_slot {Break = BrokenPlan} b id)
-  way-held e = pick-false (not (is_held (slot_at b id).state)) (b, machine.NotHeld id) (cond whole (b, machine.Whole id) (split_slot {Break = BrokenPlan} b id)) (not-true (is_held (slot_at b id).state) e)
-
-  at-least : (m n : ℕ) → m ≤ n → nat_le m n ≡ true
-  at-least m n h = elim (leb_tells m n) [ inl y ↦ y.0 | inr k ↦ absurd (omega (arith, h, k.1)) ]
-
-  not-least : (m n : ℕ) → n < m → nat_le m n ≡ false
-  not-least m n h = elim (leb_tells m n) [ inl y ↦ absurd (omega (arith, h, y.1)) | inr k ↦ k.0 ]
+  way-held e = pick-false (not (is_held (slot_at b id).state)) (b, machine.NotHeld id) (cond whole (b, machine.Whole id) (split_slot {Break = BrokenPlan} b id)) (not_from_true (is_held (slot_at b id).state) e)
 
   pub split-whole : is_held (slot_at b id).state ≡ true → length b.case.instance.ships ≤ (slot_at b id).node.depth → Does b (split id) (reply.Whole id) b
   split-whole e full = Steps (record {
@@ -247,11 +231,11 @@ module _ (b : Book) (id : ℕ) where
     judged = tt;
     answer = machine.Whole id;
     said = refl;
-    same = way-held e ∙ pick-true whole (b, machine.Whole id) (split_slot {Break = BrokenPlan} b id) (at-least (length b.case.instance.ships) (slot_at b id).node.depth full);
+    same = way-held e ∙ pick-true whole (b, machine.Whole id) (split_slot {Break = BrokenPlan} b id) (le-leb (length b.case.instance.ships) (slot_at b id).node.depth full);
   })
 
   way-split : is_held (slot_at b id).state ≡ true → (slot_at b id).node.depth < length b.case.instance.ships → step (λ _ _. none) b (split id) ≡ split_slot {Break = BrokenPlan} b id
-  way-split e lacks = way-held e ∙ pick-false whole (b, machine.Whole id) (split_slot {Break = BrokenPlan} b id) (not-least (length b.case.instance.ships) (slot_at b id).node.depth lacks)
+  way-split e lacks = way-held e ∙ pick-false whole (b, machine.Whole id) (split_slot {Break = BrokenPlan} b id) (lt-leb (length b.case.instance.ships) (slot_at b id).node.depth lacks)
 
   pub split-sound : IsSound b → is_held (slot_at b id).state ≡ true → (slot_at b id).node.depth < length b.case.instance.ships → IsSound (with_kids b id)
   split-sound sound e lacks = subst IsSound (ap (λ (o : Out). o.0) (way-split e lacks)) (step-sound b (split id) None sound tt tt)

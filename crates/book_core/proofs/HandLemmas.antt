@@ -1,5 +1,7 @@
 -- One slot takes another state; the table of hands.
-use Rattle.std.proofs.Common.{◌≡◌, ◌≢◌, ℕ, zero, suc, ◌<◌, ◌≤◌, List, [], ◌∷◌, length, refl, sym, ap, ◌∙◌, arith, Bool, true, false, Some, None, slice_index_or, slice_set, inl, inr}
+use Rattle.std.proofs.Common.{◌≡◌, ◌≢◌, ℕ, zero, suc, ◌<◌, ◌≤◌, List, [], ◌∷◌, length, refl, sym, ap, ◌∙◌, arith, Bool, true, false, Some, None, slice_index_or, slice_set, inl, inr, true≢false}
+use Rattle.std.proofs.lemmas.Bool.{false≢true}
+use Rattle.std.proofs.lemmas.Option.{none-some, same_Some}
 use Rattle.std.specs.declared.option.Option.{Option}
 use Rattle.std.proofs.lemmas.Bool.Decides.{eqb_tells}
 use Rattle.std.proofs.lemmas.List.{length-set, get_or-set_same, get_or-set_other}
@@ -30,27 +32,15 @@ set-changes slots id state known =
 
 -- a hand that isn't empty is one of the table
 pub hand-known : (hands : List (Option ℕ)) (w id : ℕ) → hand_at hands w ≡ Some id → w < length hands
-hand-known [] w id e = absurd (none-some e)
-  where
-    none-some : None ≡ Some id → ⊥
-    none-some h = cc
+hand-known [] w id e = absurd (none-some id e)
 hand-known (h ∷ hs) zero id e = omega arith
 hand-known (h ∷ hs) (suc w) id e = let rest = hand-known hs w id e in omega (arith, rest)
 
 not-held : (state : SlotState) (w : ℕ) → is_held state ≡ false → state ≢ slot.Held w
-not-held state w e h = clash (sym (ap is_held h) ∙ e)
-  where
-    clash : true ≡ false → ⊥
-    clash g = cc
+not-held state w e h = true≢false (sym (ap is_held h) ∙ e)
 
 same-worker : (w v : ℕ) → slot.Held w ≡ slot.Held v → w ≡ v
 same-worker w v e = cc
-
-same-number : (a b : ℕ) → Some a ≡ Some b → a ≡ b
-same-number a b e = cc
-
-none-some : (a : ℕ) → None ≡ Some a → ⊥
-none-some a e = cc
 
 module _ (old new : List Slot) (id : ℕ) (state : SlotState) (change : Changes old id state new) (hands : List (Option ℕ)) (good : AreHands old hands) where
   -- a slot that no worker holds takes a state in which none does
@@ -88,7 +78,7 @@ module _ (old new : List Slot) (id : ℕ) (state : SlotState) (change : Changes 
           | inr n ↦
               let in_hand = good.hand v k (sym (change.others k n.1) ∙ e) in
               elim (eqb_tells v w) [
-                | inl y ↦ absurd (n.1 (same-number k id (sym in_hand ∙ ap (hand_at hands) y.1 ∙ has)))
+                | inl y ↦ absurd (n.1 (same_Some k id (sym in_hand ∙ ap (hand_at hands) y.1 ∙ has)))
                 | inr m ↦ get_or-set_other hands w v None None m.1 ∙ in_hand
               ]
         ];
@@ -115,7 +105,7 @@ hands-given old new id w change hands good worker empty before =
       nine = length-set hands w (Some id) ∙ good.nine;
       held = λ v k e. elim (eqb_tells v w) [
         | inl y ↦
-            let is : k ≡ id = same-number k id (sym e ∙ ap (hand_at (slice_set hands w (Some id))) y.1 ∙ get_or-set_same hands w (Some id) None known) in
+            let is : k ≡ id = same_Some k id (sym e ∙ ap (hand_at (slice_set hands w (Some id))) y.1 ∙ get_or-set_same hands w (Some id) None known) in
             ap (state_in new) is ∙ change.here ∙ ap slot.Held (sym y.1)
         | inr n ↦
             let is = good.held v k (sym (get_or-set_other hands w v (Some id) None n.1) ∙ e) in
@@ -149,24 +139,18 @@ state-known (s ∷ ss) zero other = omega arith
 state-known (s ∷ ss) (suc id) other = let rest = state-known ss id other in omega (arith, rest)
 
 open-held : (w : ℕ) → slot.Held w ≢ slot.Closed by.Bound
-open-held w e = clash (ap is_held e)
-  where
-    clash : true ≡ false → ⊥
-    clash h = cc
+open-held w e = true≢false (ap is_held e)
 
 -- the hand of a worker tells the slot that it holds
 pub first-held : (b : Book) (hands : List (Option ℕ)) (w : ℕ) → AreHands b.slots hands → hand_at hands w ≡ first_slot b (is_held_by w)
 first-held b hands w good = by_first (first_slot b (is_held_by w)) refl
   where
-    clash : true ≡ false → ⊥
-    clash h = cc
-
     by_hand : (o : Option ℕ) → hand_at hands w ≡ o → first_slot b (is_held_by w) ≡ None → o ≡ None
     by_hand None g e = refl
     by_hand (Some id) g e =
         let is = good.held w id g in
         let known = state-known b.slots id (λ h. open-held w (sym is ∙ h)) in
-        absurd (clash (sym (held_by-itself w) ∙ ap (is_held_by w) (sym is) ∙ first_slot-none b (is_held_by w) e id known))
+        absurd (true≢false (sym (held_by-itself w) ∙ ap (is_held_by w) (sym is) ∙ first_slot-none b (is_held_by w) e id known))
 
     by_first : (o : Option ℕ) → first_slot b (is_held_by w) ≡ o → hand_at hands w ≡ o
     by_first None e = by_hand (hand_at hands w) refl e
@@ -184,10 +168,7 @@ hand-some (None ∷ hs) (suc w) id e = hand-some hs w id e
 hand-some (Some k ∷ hs) w id e = refl
 
 some-hand : (hands : List (Option ℕ)) → has_some hands ≡ true → (w : ℕ) × (id : ℕ) × (hand_at hands w ≡ Some id)
-some-hand [] e = absurd (clash e)
-  where
-    clash : false ≡ true → ⊥
-    clash h = cc
+some-hand [] e = absurd (false≢true e)
 some-hand (None ∷ hs) e = let rest = some-hand hs e in (suc rest.0, rest.1, rest.2)
 some-hand (Some k ∷ hs) e = (0, k, refl)
 
@@ -195,9 +176,6 @@ some-hand (Some k ∷ hs) e = (0, k, refl)
 pub some-held : (b : Book) (hands : List (Option ℕ)) → AreHands b.slots hands → has_some hands ≡ has_slot b is_held
 some-held b hands good = by_value (has_some hands) (has_slot b is_held) refl refl
   where
-    clash : true ≡ false → ⊥
-    clash h = cc
-
     by_value : (s t : Bool) → has_some hands ≡ s → has_slot b is_held ≡ t → s ≡ t
     by_value true true e f = refl
     by_value false false e f = refl
@@ -205,12 +183,12 @@ some-held b hands good = by_value (has_some hands) (has_slot b is_held) refl ref
         let hand = some-hand hands e in
         let is = good.held hand.0 hand.1 hand.2 in
         let known = state-known b.slots hand.1 (λ h. open-held hand.0 (sym is ∙ h)) in
-        absurd (clash (sym (list_any_at (λ (s : Slot). is_held s.state) b.slots hand.1 no_slot known (ap is_held is)) ∙ f))
+        absurd (true≢false (sym (list_any_at (λ (s : Slot). is_held s.state) b.slots hand.1 no_slot known (ap is_held is)) ∙ f))
     by_value false true e f =
         let any = Any-from_list_any (λ (s : Slot). is_held s.state) b.slots f in
         let held = held-is any.1.state any.4 in
         let state : state_in b.slots any.0 ≡ slot.Held held.0 = default_of b.slots any.0 any.1 any.2 any.3 ∙ held.1 in
-        absurd (clash (sym (hand-some hands held.0 any.0 (good.hand held.0 any.0 state)) ∙ e))
+        absurd (true≢false (sym (hand-some hands held.0 any.0 (good.hand held.0 any.0 state)) ∙ e))
       where
         default_of : (xs : List Slot) (k : ℕ) (s : Slot) → k < length xs → slice_index_or xs k s ≡ s → (slice_index_or xs k no_slot).state ≡ s.state
         default_of [] k s known is = absurd (omega (arith, known))

@@ -1,5 +1,6 @@
 -- What the fields of a book keep.
 use Rattle.std.proofs.Common.{◌≡◌, ◌≢◌, ℕ, zero, suc, ◌<◌, ◌≤◌, List, [], ◌∷◌, length, refl, sym, ap, ◌∙◌, subst, arith, Bool, true, false, ◌||◌, slice_index_or, slice_set, nat_eq}
+use Rattle.std.proofs.lemmas.Bool.{false≢true}
 use Rattle.std.specs.declared.option.Option.{Option}
 use Rattle.std.proofs.lemmas.Bool.Decides.{Decides-eqb}
 use Rattle.lock_model.specs.declared.instance.Instance.{Instance}
@@ -47,10 +48,7 @@ pub zero-is : (n : ℕ) (t : Bool) → t ≡ nat_eq n 0 → t ≡ true → n ≡
 zero-is n t is e = (Decides-eqb n 0).0 (sym is ∙ e)
 
 pub some-is : (n : ℕ) (t : Bool) → t ≡ nat_eq n 0 → t ≡ false → 0 < n
-some-is zero t is e = absurd (both (sym e ∙ is))
-  where
-    both : false ≡ true → ⊥
-    both h = cc
+some-is zero t is e = absurd (false≢true (sym e ∙ is))
 some-is (suc n) t is e = omega arith
 
 -- ---- how many slots there are
@@ -70,16 +68,13 @@ pub record MayLeave (state : SlotState) : Type 0 where
   pub split : is_split state ≡ false
   pub known : state ≢ slot.Closed by.Bound
 
-clash : false ≡ true → ⊥
-clash e = cc
-
 may-leave : (state : SlotState) → (is_held state || is_parked state) ≡ true → MayLeave state
-may-leave (slot.Held w) e = record { back = refl; split = refl; known = λ h. clash (sym (ap is_held h)) }
-may-leave (slot.Parked c p) e = record { back = refl; split = refl; known = λ h. clash (sym (ap is_parked h)) }
-may-leave slot.Fresh e = absurd (clash e)
-may-leave slot.Back e = absurd (clash e)
-may-leave (slot.Split first) e = absurd (clash e)
-may-leave (slot.Closed why) e = absurd (clash e)
+may-leave (slot.Held w) e = record { back = refl; split = refl; known = λ h. false≢true (sym (ap is_held h)) }
+may-leave (slot.Parked c p) e = record { back = refl; split = refl; known = λ h. false≢true (sym (ap is_parked h)) }
+may-leave slot.Fresh e = absurd (false≢true e)
+may-leave slot.Back e = absurd (false≢true e)
+may-leave (slot.Split first) e = absurd (false≢true e)
+may-leave (slot.Closed why) e = absurd (false≢true e)
 
 pub leaving-known : (slots : List Slot) (id : ℕ) → (is_held (state_in slots id) || is_parked (state_in slots id)) ≡ true → id < length slots
 leaving-known slots id e = state-known slots id (may-leave (state_in slots id) e).known

@@ -1,5 +1,5 @@
 -- The ships that a slot's node lacks.
-use Rattle.std.proofs.Common.{◌≡◌, ℕ, zero, suc, ◌<◌, List, [], ◌∷◌, length, refl, arith, sym, ap, ◌∙◌, subst, Bool, true, false, ◌||◌, nat_eq, eq-eqb, drop, slice_index_or}
+use Rattle.std.proofs.Common.{◌≡◌, ℕ, zero, suc, ◌<◌, List, [], ◌∷◌, length, refl, arith, sym, ap, ◌∙◌, subst, Bool, true, false, ◌||◌, nat_eq, eq-eqb, drop, slice_index_or, true≢false}
 use Rattle.lock_model.specs.declared.instance.Instance.{Instance}
 use Rattle.lock_model.specs.declared.group.Group.{Group}
 use Rattle.lock_rules.specs.Arrival.{order_of, missing_ships}
@@ -27,14 +27,11 @@ at-zero [] i s known is = absurd (omega (arith, known))
 at-zero (x ∷ xs) zero s known is = is
 at-zero (x ∷ xs) (suc i) s known is = at-zero xs i s (omega (arith, known)) is
 
-clash : true ≡ false → ⊥
-clash e = cc
-
 module _ (I : Instance) (k : ℕ) (lines : List (List Group)) (node : IsNode I k lines) (s : ℕ) where
   by_value : (t : Bool) → has_number (missing_ships I k) s ≡ t → IsMissing I lines s → t ≡ true
   by_value true e missing = refl
   by_value false e missing =
-      absurd (other-held I k lines node s (λ i known is. clash (sym ((has_number-decides (missing_ships I k) s).1 (i, known, contains-at (missing_ships I k) i s known is)) ∙ e)) missing)
+      absurd (other-held I k lines node s (λ i known is. true≢false (sym ((has_number-decides (missing_ships I k) s).1 (i, known, contains-at (missing_ships I k) i s known is)) ∙ e)) missing)
 
   pub missing-true : IsMissing I lines s → has_number (missing_ships I k) s ≡ true
   missing-true missing = by_value (has_number (missing_ships I k) s) refl missing

@@ -1,5 +1,5 @@
 -- The Fresh slot that is taken next.
-use Rattle.std.proofs.Common.{◌≡◌, ◌≢◌, ℕ, zero, suc, ◌<◌, ◌≤◌, List, [], ◌∷◌, length, take, refl, sym, ap, ◌∙◌, subst, arith, Bool, true, false, slice_index_or, inl, inr, Some, None}
+use Rattle.std.proofs.Common.{◌≡◌, ◌≢◌, ℕ, zero, suc, ◌<◌, ◌≤◌, List, [], ◌∷◌, length, take, refl, sym, ap, ◌∙◌, subst, arith, Bool, true, false, slice_index_or, inl, inr, Some, None, true≢false}
 use Rattle.std.specs.Prelude.{IfSome, IfNone}
 use Rattle.std.specs.declared.option.Option.{Option}
 use Rattle.std.proofs.lemmas.Bool.Decides.{eqb_tells, leb_tells}
@@ -140,12 +140,9 @@ split-same m n e = cc
 fresh-open : slot.Fresh ≢ slot.Closed by.Bound
 fresh-open e = cc
 
-clash : true ≡ false → ⊥
-clash e = cc
-
 module _ (b : Book) (sound : IsSound b) (root : is_fresh (slot_at b 0).state ≡ false) where
   not-root : (id : ℕ) → (slot_at b id).state ≡ slot.Fresh → id ≢ 0
-  not-root id e zero_is = clash (sym (ap is_fresh (ap (λ k. (slot_at b k).state) (sym zero_is) ∙ e)) ∙ root)
+  not-root id e zero_is = true≢false (sym (ap is_fresh (ap (λ k. (slot_at b k).state) (sym zero_is) ∙ e)) ∙ root)
 
   -- the children of the next one's split
   pub next-is : (id : ℕ) → IsNext b.slots id → next_fresh b ≡ Some id

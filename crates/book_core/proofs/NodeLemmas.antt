@@ -1,5 +1,6 @@
 -- The node of a slot is a child of its parent's.
-use Rattle.std.proofs.Common.{◌≡◌, ℕ, zero, suc, ◌+◌, ◌<◌, List, [], ◌∷◌, length, sym, ap, ◌∙◌, arith, slice_index_or, slice_get, Some, None}
+use Rattle.std.proofs.Common.{◌≡◌, ℕ, zero, suc, ◌+◌, ◌<◌, List, [], ◌∷◌, length, sym, ap, ◌∙◌, arith, slice_index_or, slice_get, Some}
+use Rattle.std.proofs.lemmas.Option.{same_Some, none-some}
 use Rattle.lock_model.specs.declared.instance.Instance.{Instance}
 use Rattle.lock_rules.specs.Node.{IsNode, root_lines}
 use Rattle.book_rules.specs.Book.{Book, Node as TreeNode, Slot, no_slot, slot_at}
@@ -9,14 +10,8 @@ use Rattle.book_core.specs.Keeps.{IsSound}
 use Rattle.book_core.specs.Nodes.{tree_node}
 
 got-or : {X : Type 0} (xs : List X) (k : ℕ) (x d : X) → slice_get xs k ≡ Some x → slice_index_or xs k d ≡ x
-got-or [] k x d e = absurd (none-some e)
-  where
-    none-some : None ≡ Some x → ⊥
-    none-some h = cc
-got-or (y ∷ ys) zero x d e = some-same e
-  where
-    some-same : Some y ≡ Some x → y ≡ x
-    some-same h = cc
+got-or [] k x d e = absurd (none-some x e)
+got-or (y ∷ ys) zero x d e = same_Some y x e
 got-or (y ∷ ys) (suc k) x d e = got-or ys k x d e
 
 module _ (b : Book) (sound : IsSound b) (id : ℕ) (known : id < length b.slots) where

@@ -1,9 +1,10 @@
 -- The tables of a book that is opened.
-use Rattle.std.proofs.Common.{◌≡◌, ◌≢◌, ℕ, zero, suc, ◌<◌, [], ◌∷◌, refl, sym, ◌∙◌, subst, arith, Bool, true, false, cond, replicate, Some, None}
+use Rattle.std.proofs.Common.{◌≡◌, ◌≢◌, ℕ, zero, suc, ◌<◌, [], ◌∷◌, refl, sym, ◌∙◌, subst, arith, Bool, true, false, cond, replicate, None}
 use Rattle.book_rules.specs.declared.book.SlotState.{SlotState}
 use Rattle.book_rules.specs.declared.book.SlotState.TheVariants as slot
 use Rattle.book_rules.specs.Book.{Slot}
 use Rattle.book_core.specs.Tables.{state_in, hand_at}
+use Rattle.std.proofs.lemmas.Option.{none-some}
 use Rattle.std.specs.Prelude.{IfSome}
 use Rattle.std.proofs.Common.{List}
 use Rattle.lock_model.specs.declared.instance.Instance.{Instance}
@@ -23,9 +24,6 @@ opening-nodes I slots = record { each = empty 9 }
     empty zero w = tt
     empty (suc n) zero = tt
     empty (suc n) (suc w) = empty n w
-
-none-some : (id : ℕ) → None ≡ Some id → ⊥
-none-some id e = cc
 
 module _ (s : Slot) (t : Bool) (is : s.state ≡ cond t (slot.Closed by.Bound) slot.Fresh) where
   -- the one slot is closed or Fresh, and behind it there is none

@@ -1,8 +1,10 @@
 -- A cheaper plan closes slots.
 use Rattle.std.proofs.Common.{◌≡◌, ◌≢◌, ℕ, suc, ◌<◌, ◌≤◌, List, [], ◌∷◌, ◌++◌, length, map, filter, take, drop, refl, sym, ap, ◌∙◌, subst, arith, Bool, true, false, cond, ◌&&◌, ◌||◌, nat_le, inl, inr, Some, None}
+use Rattle.std.proofs.lemmas.Bool.{false≢true, and_parts}
 use Rattle.std.specs.declared.option.Option.{Option}
 use Rattle.std.proofs.lemmas.List.{length-map}
 use Rattle.std.proofs.lemmas.Bool.Decides.{leb_tells}
+use Rattle.list_laws.proofs.Counts.{filter-shorter}
 use Rattle.lock_model.specs.declared.instance.Instance.{Instance}
 use Rattle.lock_model.specs.declared.plan.Plan.{Plan}
 use Rattle.lock_rules.specs.Plan.{cost_of}
@@ -74,15 +76,11 @@ data Way (s new : Slot) : Type 0 where
   Same : new ≡ s → Way s new
   Shut : new.state ≡ slot.Closed by.Bound → (is_fresh s.state || is_back s.state || is_parked s.state) ≡ true → Way s new
 
-both-first : (p q : Bool) → (p && q) ≡ true → p ≡ true
-both-first true q e = refl
-both-first false q e = e
-
 way : (cost : ℕ) (s : Slot) → Way s (outdone cost s)
 way cost s = by_test ((is_fresh s.state || is_back s.state || is_parked s.state) && nat_le cost s.bound) refl
   where
     by_test : (t : Bool) → ((is_fresh s.state || is_back s.state || is_parked s.state) && nat_le cost s.bound) ≡ t → Way s (cond t (record s { state = slot.Closed by.Bound }) s)
-    by_test true e = Shut refl (both-first (is_fresh s.state || is_back s.state || is_parked s.state) (nat_le cost s.bound) e)
+    by_test true e = Shut refl ((and_parts (is_fresh s.state || is_back s.state || is_parked s.state) (nat_le cost s.bound) e).0)
     by_test false e = Same refl
 
 module _ (cost : ℕ) (slots : List Slot) where
@@ -98,12 +96,9 @@ module _ (cost : ℕ) (slots : List Slot) where
       let known = state-known slots k (λ h. other (sym e ∙ h)) in
       ap (λ (s : Slot). s.state) (at k known) ∙ by_way (way cost (slot_in slots k))
     where
-      clash : false ≡ true → ⊥
-      clash h = cc
-
       by_way : Way (slot_in slots k) (outdone cost (slot_in slots k)) → (outdone cost (slot_in slots k)).state ≡ state
       by_way (Same is) = ap (λ (s : Slot). s.state) is ∙ e
-      by_way (Shut closed open_is) = absurd (clash (sym shut ∙ ap (λ s. is_fresh s || is_back s || is_parked s) (sym e) ∙ open_is))
+      by_way (Shut closed open_is) = absurd (false≢true (sym shut ∙ ap (λ s. is_fresh s || is_back s || is_parked s) (sym e) ∙ open_is))
 
   -- a state but that of a slot closed by its bound was there before
   was : (k : ℕ) (state : SlotState) → state ≢ slot.Closed by.Bound → state_in new k ≡ state → state_in slots k ≡ state
@@ -175,16 +170,10 @@ module _ (cost : ℕ) (slots : List Slot) where
       let rest = rising-filter p ns h.1 in
       elim (p n) as (λ t. AreRising (cond t (n ∷ filter p ns) (filter p ns))) [ true ↦ (above-filter p n ns h.0, rest) | false ↦ rest ]
 
-  fewer-filter : (p : ℕ → Bool) (ns : List ℕ) → length (filter p ns) ≤ length ns
-  fewer-filter p [] = omega arith
-  fewer-filter p (n ∷ ns) =
-      let rest = fewer-filter p ns in
-      elim (p n) as (λ t. length (cond t (n ∷ filter p ns) (filter p ns)) ≤ length (n ∷ ns)) [ true ↦ omega (arith, rest) | false ↦ omega (arith, rest) ]
-
   pub tables-outdone : (ended : List Bool) (hands : List (Option ℕ)) (back : List ℕ) (waiting : List Waiting) → AreTables slots ended hands back waiting
       → (p : ℕ → Bool) → ((k : ℕ) → p k ≡ is_back (state_in new k)) → AreTables new ended hands (filter p back) waiting
   tables-outdone ended hands back waiting tables p is =
-      let less = fewer-filter p back in
+      let less = filter-shorter p back in
       let few = tables.few in
       record {
         hands_are = hands-same slots new hands tables.hands_are (λ w k e. stays k (slot.Held w) (held-open w) refl e) (λ w k e. was k (slot.Held w) (held-open w) e);

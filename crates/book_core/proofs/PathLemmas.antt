@@ -1,6 +1,7 @@
 -- The way from the root to a slot.
 use Rattle.std.proofs.Common.{◌≡◌, ℕ, zero, suc, ◌+◌, ◌-◌, ◌<◌, ◌≤◌, List, [], ◌∷◌, ◌++◌, length, take, refl, sym, ap, ◌∙◌, subst, arith, slice_index_or, slice_get, vec_capacity, inl, inr, Some}
 use Rattle.std.specs.Prelude.{◌⊎◌}
+use Rattle.list_laws.proofs.Lists.{length-push}
 use Rattle.lock_model.specs.declared.instance.Instance.{Instance}
 use Rattle.book_rules.specs.Book.{Book, Node as TreeNode, Slot}
 use Rattle.book_rules.specs.Family.{child_node, child_count}
@@ -37,10 +38,6 @@ at-new zero [] x is = refl
 at-new (suc k) [] x is = absurd (omega (arith, is))
 at-new zero (y ∷ ys) x is = absurd (omega (arith, is))
 at-new (suc k) (y ∷ ys) x is = at-new k ys x (omega (arith, is))
-
-longer : (xs : List PathNode) (x : PathNode) → length (xs ++ x ∷ []) ≡ suc (length xs)
-longer [] x = refl
-longer (y ∷ ys) x = ap suc (longer ys x)
 
 take-count : (n : ℕ) (xs : List PathNode) (k : ℕ) → k < length (take n xs) → (k < n) × (k < length xs)
 take-count zero xs k known = absurd (omega (arith, known))
@@ -165,7 +162,7 @@ module _ (I : Instance) (slots : List Slot) where
       }
         where
           by-place : (k : ℕ) → k < length (path.nodes.items ++ (record { id = id; node = new }) ∷ []) → IsEntry I slots k (entry_at (path.nodes.items ++ (record { id = id; node = new }) ∷ []) k)
-          by-place k less = elim (before-or k (length path.nodes.items) (omega (arith, less, longer path.nodes.items (record { id = id; node = new })))) [
+          by-place k less = elim (before-or k (length path.nodes.items) (omega (arith, less, length-push path.nodes.items (record { id = id; node = new })))) [
             | inl earlier ↦ subst (IsEntry I slots k) (sym (at-old k path.nodes.items (record { id = id; node = new }) earlier)) (is.each k earlier)
             | inr here ↦ subst (IsEntry I slots k) (sym (at-new k path.nodes.items (record { id = id; node = new }) here)) (there k here)
           ]

@@ -1,5 +1,6 @@
 -- Posting, of cuts and prices, and parking.
-use Rattle.std.proofs.Common.{◌≡◌, ◌≢◌, ℕ, zero, suc, ◌<◌, ◌≤◌, List, [], ◌∷◌, length, refl, sym, ap, ◌∙◌, subst, arith, Bool, true, false, not, cond, nat_eq, nat_lt, slice_get, slice_index_or, Some, None, All}
+use Rattle.std.proofs.Common.{◌≡◌, ◌≢◌, ℕ, zero, suc, ◌<◌, ◌≤◌, List, [], ◌∷◌, length, refl, sym, ap, ◌∙◌, subst, arith, Bool, true, false, not, cond, nat_eq, nat_lt, slice_get, slice_index_or, Some, None, All, ne_eqb, eq-eqb}
+use Rattle.std.proofs.lemmas.Bool.{not_from_false, not_from_true, false≢true}
 use Rattle.std.specs.declared.option.Option.{Option}
 use Rattle.std.specs.List.{list_all}
 use Rattle.std.proofs.lemmas.Bool.Decides.{Decides-ltb, Decides-by_and}
@@ -22,7 +23,7 @@ use Rattle.book_core.specs.Parking.{group_lent, names_lent}
 use Rattle.book_core.specs.Growing.{kept_cut, kept_prices}
 use Rattle.book_core.specs.Keeps.{IsSound}
 use Rattle.book_core.specs.Replies.{Answers, Does, Steps}
-use Rattle.book_core.proofs.CloseLemmas.{Out, none, pick-true, pick-false, not-true, not-false, same-number, other-number}
+use Rattle.book_core.proofs.CloseLemmas.{Out, none, pick-true, pick-false}
 use Rattle.book_core.proofs.SoundLemmas.{step-sound}
 
 pub known_ships : (n : ℕ) (ships : List ℕ) → list_all (λ s. nat_lt s n) ships ≡ true → All (λ s. s < n) ships
@@ -36,11 +37,11 @@ post-other b cut e = Steps (record {
   judged = tt;
   answer = machine.OtherDeck;
   said = refl;
-  same = pick-true (not (is_own_cut b.case.instance cut)) (b, machine.OtherDeck) (posted {Break = BrokenPlan} b cut) (not-false (is_own_cut b.case.instance cut) e);
+  same = pick-true (not (is_own_cut b.case.instance cut)) (b, machine.OtherDeck) (posted {Break = BrokenPlan} b cut) (not_from_false (is_own_cut b.case.instance cut) e);
 })
 
 way-post : (b : Book) (cut : Cut) → is_own_cut b.case.instance cut ≡ true → step (λ _ _. none) b (post cut) ≡ posted b cut
-way-post b cut e = pick-false (not (is_own_cut b.case.instance cut)) (b, machine.OtherDeck) (posted {Break = BrokenPlan} b cut) (not-true (is_own_cut b.case.instance cut) e)
+way-post b cut e = pick-false (not (is_own_cut b.case.instance cut)) (b, machine.OtherDeck) (posted {Break = BrokenPlan} b cut) (not_from_true (is_own_cut b.case.instance cut) e)
 
 pub post-sound : (b : Book) (cut : Cut) → IsSound b → IsCut cut → is_own_cut b.case.instance cut ≡ true → IsSound (kept_cut b cut)
 post-sound b cut sound good e = subst IsSound (ap (λ (o : Out). o.0) (way-post b cut e)) (step-sound b (post cut) None sound good tt)
@@ -69,11 +70,11 @@ module _ (b : Book) (prices : List ℕ) where
     judged = tt;
     answer = machine.OtherPrices;
     said = refl;
-    same = pick-true (not are_one_each) (b, machine.OtherPrices) kept_so (not-false are_one_each (other-number (length prices) (length b.case.instance.ships) other));
+    same = pick-true (not are_one_each) (b, machine.OtherPrices) kept_so (not_from_false are_one_each (ne_eqb (length prices) (length b.case.instance.ships) other));
   })
 
   way-prices : length prices ≡ length b.case.instance.ships → step (λ _ _. none) b (post_prices prices) ≡ kept_so
-  way-prices e = pick-false (not are_one_each) (b, machine.OtherPrices) kept_so (not-true are_one_each (same-number (length prices) (length b.case.instance.ships) e))
+  way-prices e = pick-false (not are_one_each) (b, machine.OtherPrices) kept_so (not_from_true are_one_each (eq-eqb (length prices) (length b.case.instance.ships) e))
 
   pub prices-sound : IsSound b → ArePrices prices → length prices ≡ length b.case.instance.ships → IsSound (kept_prices b prices)
   prices-sound sound good e = subst IsSound (ap (λ (o : Out). o.0) (way-prices e)) (step-sound b (post_prices prices) None sound good tt)
@@ -107,21 +108,18 @@ module _ (b : Book) (id c p : ℕ) (deck : Deck) (turns : ℕ) where
   rest = park_group b id c p deck turns (group_at (slot_at b id).node c p)
 
   past-held : is_held (slot_at b id).state ≡ true → step (λ _ _. none) b (park id c p deck turns) ≡ rest
-  past-held e = pick-false (not (is_held (slot_at b id).state)) (b, machine.NotHeld id) rest (not-true (is_held (slot_at b id).state) e)
+  past-held e = pick-false (not (is_held (slot_at b id).state)) (b, machine.NotHeld id) rest (not_from_true (is_held (slot_at b id).state) e)
 
   pub park-missed : is_held (slot_at b id).state ≡ false → Answers b (park id c p deck turns) (reply.NotHeld id) b
-  park-missed e = record { found = None; judged = tt; answer = machine.NotHeld id; said = refl; same = pick-true (not (is_held (slot_at b id).state)) (b, machine.NotHeld id) rest (not-false (is_held (slot_at b id).state) e) }
+  park-missed e = record { found = None; judged = tt; answer = machine.NotHeld id; said = refl; same = pick-true (not (is_held (slot_at b id).state)) (b, machine.NotHeld id) rest (not_from_false (is_held (slot_at b id).state) e) }
 
   by-other : (o : Option Group) → group_lent b c deck turns o ≡ false → park_group {Break = BrokenPlan} b id c p deck turns o ≡ (b, machine.OtherDeck)
   by-other None e = refl
-  by-other (Some g) e = pick-true (not (is_lent b c g deck turns)) (b, machine.OtherDeck) (cond (has_clash deck.ships) (b, machine.Clashes id) (parked b id c p)) (not-false (is_lent b c g deck turns) e)
+  by-other (Some g) e = pick-true (not (is_lent b c g deck turns)) (b, machine.OtherDeck) (cond (has_clash deck.ships) (b, machine.Clashes id) (parked b id c p)) (not_from_false (is_lent b c g deck turns) e)
 
   by-lent : (o : Option Group) → group_lent b c deck turns o ≡ true → park_group {Break = BrokenPlan} b id c p deck turns o ≡ cond (has_clash deck.ships) (b, machine.Clashes id) (parked b id c p)
-  by-lent None e = absurd (clash e)
-    where
-      clash : false ≡ true → ⊥
-      clash h = cc
-  by-lent (Some g) e = pick-false (not (is_lent b c g deck turns)) (b, machine.OtherDeck) (cond (has_clash deck.ships) (b, machine.Clashes id) (parked b id c p)) (not-true (is_lent b c g deck turns) e)
+  by-lent None e = absurd (false≢true e)
+  by-lent (Some g) e = pick-false (not (is_lent b c g deck turns)) (b, machine.OtherDeck) (cond (has_clash deck.ships) (b, machine.Clashes id) (parked b id c p)) (not_from_true (is_lent b c g deck turns) e)
 
   pub park-other : is_held (slot_at b id).state ≡ true → names_lent b id c p deck turns ≡ false → Answers b (park id c p deck turns) reply.OtherDeck b
   park-other e m = record { found = None; judged = tt; answer = machine.OtherDeck; said = refl; same = past-held e ∙ by-other (group_at (slot_at b id).node c p) m }

@@ -1,7 +1,6 @@
 -- What every event keeps.
-use Rattle.std.proofs.Common.{◌≡◌, ℕ, ◌<◌, List, [], ◌∷◌, refl, sym, ap, ◌∙◌, subst, Bool, true, false, cond, Some, None, nat_le, inl, inr}
+use Rattle.std.proofs.Common.{◌≡◌, List, [], ◌∷◌, refl, sym, ap, subst, Bool, true, false, cond, Some, None, nat_le, true≢false, leb-false}
 use Rattle.std.specs.declared.option.Option.{Option}
-use Rattle.std.proofs.lemmas.Bool.Decides.{leb_tells}
 use Rattle.lock_model.specs.declared.instance.Instance.{Instance}
 use Rattle.lock_model.specs.declared.plan.Plan.{Plan}
 use Rattle.lock_rules.specs.Plan.{IsLegal, cost_of}
@@ -42,12 +41,6 @@ always-sound I P e = absurd (clash e)
     clash : Some (Double 0) ≡ None → ⊥
     clash h = cc
 
-above : (a b : ℕ) → nat_le a b ≡ false → b < a
-above a b e = elim (leb_tells a b) [ inl y ↦ absurd (clash (sym y.0 ∙ e)) | inr n ↦ n.1 ]
-  where
-    clash : true ≡ false → ⊥
-    clash h = cc
-
 by_test : (t : Bool) (a c : Book × machine.Reply BrokenPlan) → KeepsBook a.0 → (t ≡ false → KeepsBook c.0) → KeepsBook (cond t a c).0
 by_test true a c kept otherwise = kept
 by_test false a c kept otherwise = otherwise refl
@@ -56,7 +49,7 @@ replace-keeps : (b : Book) (plan : Plan) (found : Option BrokenPlan) → KeepsBo
 replace-keeps b plan (Some broken) keeps judged = keeps
 replace-keeps b plan None keeps judged =
     by_test (nat_le (best_cost b) (cost_of b.case.instance plan)) (b, machine.NotCheaper (cost_of b.case.instance plan) (best_cost b)) (Step.replaced b plan, machine.Replaced (cost_of b.case.instance plan)) keeps
-    (λ e. replaced-keeps always always-sound b (laws b.case.instance) keeps plan (judged.none.0 refl) (above (best_cost b) (cost_of b.case.instance plan) e))
+    (λ e. replaced-keeps always always-sound b (laws b.case.instance) keeps plan (judged.none.0 refl) (leb-false (best_cost b) (cost_of b.case.instance plan) e))
 
 pub step-keeps : (b : Book) (e : Event) (found : Option BrokenPlan) → KeepsBook b → IsOwed e → IsFirstOf b.case.instance e found → KeepsBook (step (λ _ _. found) b e).0
 step-keeps b (take w) found keeps owed judged = event-keeps always always-sound b (laws b.case.instance) keeps (take w) owed

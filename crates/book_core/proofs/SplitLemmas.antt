@@ -1,5 +1,5 @@
 -- A held slot is split.
-use Rattle.std.proofs.Common.{◌≡◌, ◌≢◌, ℕ, suc, ◌+◌, ◌<◌, ◌≤◌, List, [], ◌∷◌, ◌++◌, length, map, refl, sym, ap, ◌∙◌, subst, arith, true, slice_index_or, slice_set}
+use Rattle.std.proofs.Common.{◌≡◌, ◌≢◌, ℕ, suc, ◌+◌, ◌<◌, ◌≤◌, List, [], ◌∷◌, ◌++◌, length, map, refl, sym, ap, ◌∙◌, subst, arith, true, slice_index_or, slice_set, length-append}
 use Rattle.std.specs.declared.option.Option.{Option}
 use Rattle.std.proofs.lemmas.List.{length-map, length-set}
 use Rattle.lock_rules.specs.Bound.{bound_of}
@@ -31,10 +31,6 @@ use Rattle.book_core.proofs.SettleLemmas.{restated}
 use Rattle.book_core.proofs.GrowLemmas.{grown-is, tables-grown, nodes-grown, length-kids}
 use Rattle.closing_rules.specs.declared.grounds.Ground.TheVariants as by
 
-length-both : {X : Type 0} (xs ys : List X) → length (xs ++ ys) ≡ length xs + length ys
-length-both [] ys = omega arith
-length-both (x ∷ xs) ys = let rest = length-both xs ys in omega (arith, rest)
-
 held-open : (w : ℕ) → slot.Held w ≢ slot.Closed by.Bound
 held-open w e = cc
 
@@ -49,7 +45,7 @@ kids-few b id sound bounds n are =
     omega (
       arith,
       few,
-      length-both middle (children_in b id),
+      length-append middle (children_in b id),
       length-set b.slots id (record (slot_at b id) { state = slot.Split (length b.slots) }),
       length-kids b id b.case.instance (best_cost b) id (suc node.depth) 0 kids,
       many,
@@ -112,7 +108,7 @@ module _ (a : Inside) (kept : IsKept a) (b : Book) (same : seen a ≡ b) (id : �
             end_is,
             first,
             many,
-            length-both (set_state S id (slot.Split (length S))) (children_in (seen a) id),
+            length-append (set_state S id (slot.Split (length S))) (children_in (seen a) id),
             length-set S id (record (slot_in S id) { state = slot.Split (length S) }),
             length-kids (seen a) id a.case.instance (best_cost (seen a)) id (suc node.depth) 0 kids,
           ) in

@@ -1,5 +1,5 @@
 -- What is stored of slots, and the slots.
-use Rattle.std.proofs.Common.{◌≡◌, ℕ, zero, suc, ◌<◌, List, [], ◌∷◌, ◌++◌, length, refl, sym, ap, ◌∙◌, arith, slice_index_or, slice_set}
+use Rattle.std.proofs.Common.{◌≡◌, ℕ, zero, suc, ◌<◌, List, [], ◌∷◌, ◌++◌, length, refl, sym, ap, ◌∙◌, arith, slice_index_or, slice_set, append-nil}
 use Rattle.lock_model.specs.declared.instance.Instance.{Instance}
 use Rattle.book_rules.specs.declared.book.SlotState.{SlotState}
 use Rattle.book_rules.specs.Book.{Node, Slot, root, no_slot}
@@ -9,10 +9,6 @@ use Rattle.book_core.specs.Stored.{node_after, slot_with, slots_after, IsStoredA
 append-three : {X : Type 0} (xs : List X) (y : X) (zs : List X) → (xs ++ y ∷ []) ++ zs ≡ xs ++ (y ∷ zs)
 append-three [] y zs = refl
 append-three (x ∷ xs) y zs = ap (λ l. x ∷ l) (append-three xs y zs)
-
-append-nil : {X : Type 0} (xs : List X) → xs ++ [] ≡ xs
-append-nil [] = refl
-append-nil (x ∷ xs) = ap (λ l. x ∷ l) (append-nil xs)
 
 -- the nodes of slots
 abbrev pub nodes_in : List Slot → List Node

@@ -1,7 +1,8 @@
 -- The list of splits that wait with Fresh children.
-use Rattle.std.proofs.Common.{◌≡◌, ◌≢◌, ℕ, zero, suc, ◌<◌, ◌≤◌, List, [], ◌∷◌, ◌++◌, length, refl, sym, ap, ◌∙◌, subst, arith, true, false, inl, inr}
+use Rattle.std.proofs.Common.{◌≡◌, ◌≢◌, ℕ, zero, suc, ◌<◌, ◌≤◌, List, [], ◌∷◌, ◌++◌, length, refl, sym, ap, ◌∙◌, subst, arith, false, inl, inr, true≢false}
 use Rattle.std.proofs.lemmas.Bool.Decides.{eqb_tells, leb_tells}
 use Rattle.std.proofs.Math.ListN.{get_or-append}
+use Rattle.list_laws.proofs.Lists.{length-push}
 use Rattle.book_rules.specs.declared.book.SlotState.{SlotState}
 use Rattle.book_rules.specs.declared.book.SlotState.TheVariants as slot
 use Rattle.book_rules.specs.Book.{Slot, is_fresh}
@@ -47,17 +48,14 @@ settles old new id state change after before = record {
   count = omega (arith, change.count);
   parent = λ k known. ap (λ (s : Slot). s.parent) (change.rest k);
   fresh = λ k e. elim (eqb_tells k id) [
-    | inl y ↦ absurd (clash (sym (ap is_fresh (sym change.here ∙ ap (state_in new) (sym y.1) ∙ e)) ∙ after))
+    | inl y ↦ absurd (true≢false (sym (ap is_fresh (sym change.here ∙ ap (state_in new) (sym y.1) ∙ e)) ∙ after))
     | inr n ↦ sym (change.others k n.1) ∙ e
   ];
   split = λ k first e. elim (eqb_tells k id) [
-    | inl y ↦ absurd (clash (sym (ap is_split (ap (state_in old) (sym y.1) ∙ e)) ∙ before))
+    | inl y ↦ absurd (true≢false (sym (ap is_split (ap (state_in old) (sym y.1) ∙ e)) ∙ before))
     | inr n ↦ change.others k n.1 ∙ e
   ];
 }
-  where
-    clash : true ≡ false → ⊥
-    clash h = cc
 
 -- ---- a slot is split
 
@@ -67,10 +65,6 @@ first-at xs w k known = get_or-append xs (w ∷ []) (record { split = 0; first =
 last-at : (xs : List Waiting) (w : Waiting) → waiting_at (xs ++ w ∷ []) (length xs) ≡ w
 last-at [] w = refl
 last-at (x ∷ xs) w = last-at xs w
-
-length-one-more : (xs : List Waiting) (w : Waiting) → length (xs ++ w ∷ []) ≡ suc (length xs)
-length-one-more [] w = refl
-length-one-more (x ∷ xs) w = ap suc (length-one-more xs w)
 
 -- The slots with children behind them: slot id is split, what was there stays, and each child has it as its parent.
 pub record Grows (old : List Slot) (id : ℕ) (new : List Slot) : Type 0 where
@@ -87,7 +81,7 @@ waiting-grown old new id grow ws good w is = record {
   each = λ k known. elim (leb_tells (suc k) (length ws)) [
     | inl y ↦ subst (IsWaiting new) (sym (first-at ws w k y.1)) (entry (waiting_at ws k) (good.each k y.1))
     | inr n ↦
-        let same : k ≡ length ws = omega (arith, known, n.1, length-one-more ws w) in
+        let same : k ≡ length ws = omega (arith, known, n.1, length-push ws w) in
         subst (IsWaiting new) (sym (ap (waiting_at (ws ++ w ∷ [])) same ∙ last-at ws w ∙ is)) own
   ];
   rising = λ k l less known. elim (leb_tells (suc l) (length ws)) [
@@ -98,7 +92,7 @@ waiting-grown old new id grow ws good w is = record {
         let rises = good.rising k l less y.1 in
         omega (arith, at_k, at_l, rises)
     | inr n ↦
-        let same : l ≡ length ws = omega (arith, known, n.1, length-one-more ws w) in
+        let same : l ≡ length ws = omega (arith, known, n.1, length-push ws w) in
         let near : k < length ws = omega (arith, less, same) in
         let at_k = ap (λ (v : Waiting). v.first) (first-at ws w k near) in
         let at_l = ap (λ (v : Waiting). v.first) (ap (waiting_at (ws ++ w ∷ [])) same ∙ last-at ws w ∙ is) in
@@ -113,13 +107,10 @@ waiting-grown old new id grow ws good w is = record {
         let from = ap (λ (v : Waiting). v.first) last in
         let before = ap (λ (v : Waiting). v.end) last in
         let known = fresh-known new k e in
-        (length ws, record { known = omega (arith, length-one-more ws w); from = omega (arith, from, n.1); before = omega (arith, before, known) })
+        (length ws, record { known = omega (arith, length-push ws w); from = omega (arith, from, n.1); before = omega (arith, before, known) })
   ];
 }
   where
-    clash : true ≡ false → ⊥
-    clash h = cc
-
     fresh-split : slot.Fresh ≡ slot.Split (length old) → ⊥
     fresh-split h = cc
 
@@ -139,7 +130,7 @@ waiting-grown old new id grow ws good w is = record {
 
     entry : (v : Waiting) → IsWaiting old v → IsWaiting new v
     entry v h =
-        let other : v.split ≢ id = λ same. clash (sym (ap is_split h.split) ∙ ap (λ k. is_split (state_in old k)) same ∙ grow.held) in
+        let other : v.split ≢ id = λ same. true≢false (sym (ap is_split h.split) ∙ ap (λ k. is_split (state_in old k)) same ∙ grow.held) in
         record {
           split = grow.others v.split (split-known old v.split v.first h.split) other ∙ h.split;
           within = omega (arith, h.within, grow.count);
@@ -171,4 +162,4 @@ waiting-grown old new id grow ws good w is = record {
         let before = ap (λ (v : Waiting). v.end) same in
         let low = h.from in
         let high = h.before in
-        record { known = omega (arith, known, length-one-more ws w); from = omega (arith, low, from); before = omega (arith, high, before) }
+        record { known = omega (arith, known, length-push ws w); from = omega (arith, low, from); before = omega (arith, high, before) }

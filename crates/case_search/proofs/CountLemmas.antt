@@ -1,15 +1,11 @@
 -- Counting through a list in order.
-use Rattle.std.proofs.Common.{◌≡◌, ℕ, ◌+◌, ◌≤◌, List, [], ◌∷◌, ◌++◌, length, take, flat_map, All, inl, inr, refl, sym, ap, ◌∙◌, subst, arith}
+use Rattle.std.proofs.Common.{◌≡◌, ℕ, ◌+◌, ◌≤◌, List, [], ◌∷◌, ◌++◌, length, take, flat_map, All, inl, inr, refl, sym, ap, ◌∙◌, subst, arith, length-append, append-nil}
 use Rattle.std.proofs.lemmas.List.Elements.{All-from_recursion}
-use Rattle.std.specs.List.{AllByRecursion}
+use Rattle.list_laws.proofs.ByRecursion.{all-append}
 use Rattle.refute_rules.specs.Choices.{Decision, Choice}
 use Rattle.refute_rules.specs.Listing.{AreThose, cases_from, IsFirstWithin, HasMore, HasNoneOf}
 use Rattle.case_search.specs.Counts.{NoneIn, FirstIn, MoreIn}
-use Rattle.case_search.proofs.ListLemmas.{append-assoc, append-nil, length-append, take-front}
-
-all-append : {X : Type 0} (P : X → Type 0) (xs ys : List X) → AllByRecursion P xs → AllByRecursion P ys → AllByRecursion P (xs ++ ys)
-all-append P [] ys a b = b
-all-append P (x ∷ xs) ys a b = (a.0, all-append P xs ys a.1 b)
+use Rattle.case_search.proofs.ListLemmas.{append-assoc, take-front}
 
 those-append : {X : Type 0} (P : X → Type 0) (xs fs ys gs : List X) → AreThose P xs fs → AreThose P ys gs → AreThose P (xs ++ ys) (fs ++ gs)
 those-append P [] fs ys gs h g = subst (λ l. AreThose P ys (l ++ gs)) (sym h) g

@@ -2,6 +2,7 @@
 use Rattle.std.proofs.Common.{◌≡◌, ℕ, zero, suc, ◌<◌, ◌≤◌, List, [], ◌∷◌, ◌++◌, length, take, inl, inr, sym, ap, ◌∙◌, subst, arith}
 use Rattle.std.proofs.lemmas.List.Elements.{recursion_from_All}
 use Rattle.std.specs.List.{AllByRecursion}
+use Rattle.list_laws.proofs.Lists.{same-tails, same-heads}
 use Rattle.refute_rules.specs.Listing.{AreThose, IsFirstWithin, HasNoneOf, HasMore}
 
 module _ {X : Type 0} (P Q : X → Type 0) where
@@ -36,24 +37,18 @@ module _ {X : Type 0} (P Q : X → Type 0) where
       omega (arith, l, few, count)
 
   -- ---- a first one within the turns, or more
-  same-head : (a b : X) (xs ys : List X) → a ∷ xs ≡ b ∷ ys → a ≡ b
-  same-head a b xs ys e = cc
-
-  same-tail : (a b : X) (xs ys : List X) → a ∷ xs ≡ b ∷ ys → xs ≡ ys
-  same-tail a b xs ys e = cc
-
   first-not : (begun left other more fs gs : List X) (x : X) (t : ℕ) → begun ++ x ∷ left ≡ other ++ more → AreThose P begun fs → AreThose P other gs → length fs < t → t < length gs → P x → Q x → AllByRecursion (λ y. Q y → ⊥) (take t gs) → ⊥
   first-not begun left [] more fs gs x t e h g few many has is none = let l = ap length g in omega (arith, l, many)
   first-not begun left (o ∷ other) more fs [] x t e h g few many has is none = omega (arith, many)
   first-not begun left (o ∷ other) more fs (y ∷ gs) x zero e h g few many has is none = omega (arith, few)
-  first-not [] left (o ∷ other) more fs (y ∷ gs) x (suc t) e h (inl g) few many has is none = none.0 (subst Q (same-head x o left (other ++ more) e ∙ g.1) is)
-  first-not [] left (o ∷ other) more fs (y ∷ gs) x (suc t) e h (inr g) few many has is none = g.0 (subst P (same-head x o left (other ++ more) e) has)
-  first-not (b ∷ begun) left (o ∷ other) more [] (y ∷ gs) x (suc t) e h (inl g) few many has is none = h.0 (subst P (sym (same-head b o (begun ++ x ∷ left) (other ++ more) e)) g.0)
-  first-not (b ∷ begun) left (o ∷ other) more [] (y ∷ gs) x (suc t) e h (inr g) few many has is none = first-not begun left other more [] (y ∷ gs) x (suc t) (same-tail b o (begun ++ x ∷ left) (other ++ more) e) h.1 g.1 few many has is none
-  first-not (b ∷ begun) left (o ∷ other) more (f ∷ fs) (y ∷ gs) x (suc t) e (inl h) (inl g) few many has is none = first-not begun left other more fs gs x t (same-tail b o (begun ++ x ∷ left) (other ++ more) e) h.2 g.2 (omega (arith, few)) (omega (arith, many)) has is none.1
-  first-not (b ∷ begun) left (o ∷ other) more (f ∷ fs) (y ∷ gs) x (suc t) e (inl h) (inr g) few many has is none = g.0 (subst P (same-head b o (begun ++ x ∷ left) (other ++ more) e) h.0)
-  first-not (b ∷ begun) left (o ∷ other) more (f ∷ fs) (y ∷ gs) x (suc t) e (inr h) (inl g) few many has is none = h.0 (subst P (sym (same-head b o (begun ++ x ∷ left) (other ++ more) e)) g.0)
-  first-not (b ∷ begun) left (o ∷ other) more (f ∷ fs) (y ∷ gs) x (suc t) e (inr h) (inr g) few many has is none = first-not begun left other more (f ∷ fs) (y ∷ gs) x (suc t) (same-tail b o (begun ++ x ∷ left) (other ++ more) e) h.1 g.1 few many has is none
+  first-not [] left (o ∷ other) more fs (y ∷ gs) x (suc t) e h (inl g) few many has is none = none.0 (subst Q (same-heads x o left (other ++ more) e ∙ g.1) is)
+  first-not [] left (o ∷ other) more fs (y ∷ gs) x (suc t) e h (inr g) few many has is none = g.0 (subst P (same-heads x o left (other ++ more) e) has)
+  first-not (b ∷ begun) left (o ∷ other) more [] (y ∷ gs) x (suc t) e h (inl g) few many has is none = h.0 (subst P (sym (same-heads b o (begun ++ x ∷ left) (other ++ more) e)) g.0)
+  first-not (b ∷ begun) left (o ∷ other) more [] (y ∷ gs) x (suc t) e h (inr g) few many has is none = first-not begun left other more [] (y ∷ gs) x (suc t) (same-tails b o (begun ++ x ∷ left) (other ++ more) e) h.1 g.1 few many has is none
+  first-not (b ∷ begun) left (o ∷ other) more (f ∷ fs) (y ∷ gs) x (suc t) e (inl h) (inl g) few many has is none = first-not begun left other more fs gs x t (same-tails b o (begun ++ x ∷ left) (other ++ more) e) h.2 g.2 (omega (arith, few)) (omega (arith, many)) has is none.1
+  first-not (b ∷ begun) left (o ∷ other) more (f ∷ fs) (y ∷ gs) x (suc t) e (inl h) (inr g) few many has is none = g.0 (subst P (same-heads b o (begun ++ x ∷ left) (other ++ more) e) h.0)
+  first-not (b ∷ begun) left (o ∷ other) more (f ∷ fs) (y ∷ gs) x (suc t) e (inr h) (inl g) few many has is none = h.0 (subst P (sym (same-heads b o (begun ++ x ∷ left) (other ++ more) e)) g.0)
+  first-not (b ∷ begun) left (o ∷ other) more (f ∷ fs) (y ∷ gs) x (suc t) e (inr h) (inr g) few many has is none = first-not begun left other more (f ∷ fs) (y ∷ gs) x (suc t) (same-tails b o (begun ++ x ∷ left) (other ++ more) e) h.1 g.1 few many has is none
 
   pub first-more : (t : ℕ) (xs : List X) (x : X) → IsFirstWithin P Q t xs x → HasMore P Q t xs → ⊥
   first-more t xs x first more =

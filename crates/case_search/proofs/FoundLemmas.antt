@@ -1,5 +1,5 @@
 -- The visit of the empty case is the search of all cases.
-use Rattle.std.proofs.Common.{◌≡◌, ℕ, ◌≤◌, List, [], ◌++◌, sym, ap, ◌∙◌, subst}
+use Rattle.std.proofs.Common.{◌≡◌, ℕ, ◌≤◌, List, [], ◌++◌, sym, ap, ◌∙◌, subst, append-nil}
 use Rattle.refute_rules.specs.Choices.{Choice}
 use Rattle.refute_rules.specs.Listing.{cases_from, IsFirstWithin, HasMore}
 use Rattle.refute_rules.specs.Trees.{IsTree}
@@ -7,7 +7,6 @@ use Rattle.case_search.specs.Rules.{Rules, IsTurn, cases_under, left_of}
 use Rattle.case_search.specs.Counts.{NoneIn, FirstIn, MoreIn}
 use Rattle.case_search.specs.Visits.{IsRefuted}
 use Rattle.case_search.specs.Found.{IsRefutedBy}
-use Rattle.case_search.proofs.ListLemmas.{append-nil}
 use Rattle.case_search.proofs.CountLemmas.{has-none, is-first, has-more}
 
 module _ {F : Type 0} (r : Rules F) (case : List Choice) (empty : case ≡ []) where

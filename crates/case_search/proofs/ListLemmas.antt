@@ -1,26 +1,12 @@
 -- Laws of lists.
-use Rattle.std.proofs.Common.{◌≡◌, ℕ, zero, suc, ◌+◌, ◌≤◌, ◌<◌, List, [], ◌∷◌, ◌++◌, length, take, drop, slice_index_or, flat_map, refl, sym, ap, ◌∙◌, subst, arith}
+use Rattle.std.proofs.Common.{◌≡◌, ℕ, zero, suc, ◌≤◌, ◌<◌, List, [], ◌∷◌, ◌++◌, length, take, drop, slice_index_or, flat_map, refl, sym, ap, subst, arith, append-nil}
+use Rattle.std.proofs.lemmas.List.{drop_all, take-append-le}
+use Rattle.list_laws.proofs.Lists.{drop-next}
 use Rattle.refute_rules.specs.Trees.{AreInOrder}
 
 pub append-assoc : {X : Type 0} (xs ys zs : List X) → (xs ++ ys) ++ zs ≡ xs ++ (ys ++ zs)
 append-assoc [] ys zs = refl
 append-assoc (x ∷ xs) ys zs = ap (λ l. x ∷ l) (append-assoc xs ys zs)
-
-pub append-nil : {X : Type 0} (xs : List X) → xs ++ [] ≡ xs
-append-nil [] = refl
-append-nil (x ∷ xs) = ap (λ l. x ∷ l) (append-nil xs)
-
-pub length-append : {X : Type 0} (xs ys : List X) → length (xs ++ ys) ≡ length xs + length ys
-length-append [] ys = omega arith
-length-append (x ∷ xs) ys = let rest = length-append xs ys in omega (arith, rest)
-
-pub length-push : {X : Type 0} (xs : List X) (x : X) → length (xs ++ x ∷ []) ≡ suc (length xs)
-length-push [] x = refl
-length-push (y ∷ xs) x = ap suc (length-push xs x)
-
-pub flat_map-append : {X Y : Type 0} (f : X → List Y) (xs ys : List X) → flat_map f (xs ++ ys) ≡ flat_map f xs ++ flat_map f ys
-flat_map-append f [] ys = refl
-flat_map-append f (x ∷ xs) ys = ap (λ l. f x ++ l) (flat_map-append f xs ys) ∙ sym (append-assoc (f x) (flat_map f xs) (flat_map f ys))
 
 pub flat_map-one : {X Y : Type 0} (f : X → List Y) (x : X) → flat_map f (x ∷ []) ≡ f x
 flat_map-one f x = append-nil (f x)
@@ -44,29 +30,10 @@ take-front [] ys = zero-take ys
     zero-take (y ∷ ys) = refl
 take-front (x ∷ xs) ys = ap (λ l. x ∷ l) (take-front xs ys)
 
-pub take-append : {X : Type 0} (n : ℕ) (xs ys : List X) → n ≤ length xs → take n (xs ++ ys) ≡ take n xs
-take-append zero [] [] h = refl
-take-append zero [] (y ∷ ys) h = refl
-take-append zero (x ∷ xs) ys h = refl
-take-append (suc n) [] ys h = absurd (omega (arith, h))
-take-append (suc n) (x ∷ xs) ys h = ap (λ l. x ∷ l) (take-append n xs ys (omega (arith, h)))
-
 pub split-at : {X : Type 0} (xs : List X) (n : ℕ) (d : X) → n < length xs → xs ≡ take n xs ++ slice_index_or xs n d ∷ drop (suc n) xs
 split-at [] n d h = absurd (omega (arith, h))
 split-at (x ∷ xs) zero d h = refl
 split-at (x ∷ xs) (suc n) d h = ap (λ l. x ∷ l) (split-at xs n d (omega (arith, h)))
-
-pub drop-more : {X : Type 0} (n : ℕ) (xs : List X) (y : X) (ys : List X) → drop n xs ≡ y ∷ ys → drop (suc n) xs ≡ ys
-drop-more zero [] y ys e = cc
-drop-more zero (x ∷ xs) y ys e = cc
-drop-more (suc n) [] y ys e = cc
-drop-more (suc n) (x ∷ xs) y ys e = drop-more n xs y ys e
-
-pub drop-all : {X : Type 0} (n : ℕ) (xs : List X) → length xs ≤ n → drop n xs ≡ []
-drop-all zero [] h = refl
-drop-all zero (x ∷ xs) h = absurd (omega (arith, h))
-drop-all (suc n) [] h = refl
-drop-all (suc n) (x ∷ xs) h = drop-all n xs (omega (arith, h))
 
 pub drop-length : {X : Type 0} (n : ℕ) (xs : List X) → n < length xs → 0 < length (drop n xs)
 drop-length zero xs h = h

@@ -1,5 +1,8 @@
 -- What the visit of a case comes to.
 use Rattle.std.proofs.Common.{◌≡◌, ℕ, suc, ◌+◌, ◌-◌, ◌≤◌, ◌<◌, Bool, true, false, List, [], ◌∷◌, ◌++◌, length, take, drop, slice_index_or, flat_map, cond, inl, inr, refl, sym, ap, ◌∙◌, subst, arith}
+use Rattle.std.proofs.lemmas.List.Concat.{flat_map-append}
+use Rattle.list_laws.proofs.Counts.{one-at_most}
+use Rattle.list_laws.proofs.Lists.{drop-next, length-push}
 use Rattle.refute_rules.specs.Choices.{Decision, Choice, Before}
 use Rattle.refute_rules.specs.Listing.{cases_from}
 use Rattle.refute_rules.specs.Trees.{AreInOrder, IsLeaf, IsTree}
@@ -8,7 +11,7 @@ use Rattle.case_search.specs.Counts.{NoneIn, FirstIn, MoreIn}
 use Rattle.case_search.specs.Visits.{after_first, IsTreeBelow, cases_below, IsPassed, IsRefuted, IsVisit}
 use Rattle.case_search.specs.declared.visits.Visit.{Visit}
 use Rattle.case_search.specs.declared.visits.Visit.TheVariants.{Refuted, Whole, Spent}
-use Rattle.case_search.proofs.ListLemmas.{append-assoc, length-push, flat_map-append, flat_map-one, take-more, take-all, split-at, drop-more, drop-length, in_order-more}
+use Rattle.case_search.proofs.ListLemmas.{append-assoc, flat_map-one, take-more, take-all, split-at, drop-length, in_order-more}
 use Rattle.case_search.proofs.CountLemmas.{none-nil, none-one, none-append, first-append, more-append}
 use Rattle.case_search.proofs.TurnLemmas.{good-turn, under-split, fault-none}
 
@@ -46,13 +49,9 @@ module _ {F : Type 0} (r : Rules F) (case : List Choice) where
   reached-turn false some reached = absurd (omega (arith, some))
   reached-turn true some reached = reached
 
-  cost-one : (counts : Bool) → cond counts 1 0 ≤ 1
-  cost-one false = omega arith
-  cost-one true = omega arith
-
   pub fault-spent : IsReached r.IsGood case → (a turns : ℕ) → a ≤ turns → turns - a < cond r.counts_faulty 1 0 → MoreIn (IsTurn r) r.IsEnd a turns (cases_under r case)
   fault-spent reached a turns few none =
-      let one = cost-one r.counts_faulty in
+      let one = one-at_most r.counts_faulty in
       turn-spent (reached-turn r.counts_faulty (omega (arith, none)) reached) a turns (omega (arith, few, none, one))
 
   pub good-spent : IsReached r.IsGood case → r.IsGood case → (a turns : ℕ) → a ≡ turns → MoreIn (IsTurn r) r.IsEnd a turns (cases_under r case)
@@ -77,7 +76,7 @@ module _ {F : Type 0} (r : Rules F) (case : List Choice) where
   pub left-below : (k : ℕ) → k < length opts → (c : Choice) → left_of r (case ++ c ∷ []) ≡ after_first (left_of r case)
   left-below k h c =
       let way = options-left (left_of r case) k h in
-      ap (λ n. drop n r.decisions) (length-push case c) ∙ drop-more (length case) r.decisions way.0 (after_first (left_of r case)) way.1
+      ap (λ n. drop n r.decisions) (length-push case c) ∙ drop-next (length case) r.decisions way.0 (after_first (left_of r case)) way.1
 
   under-below : (k : ℕ) → k < length opts → cases_under r (with_option r case k) ≡ cases_below r case (option k)
   under-below k h = ap (λ left. cases_from r.options left (case ++ option k ∷ [])) (left-below k h (option k))

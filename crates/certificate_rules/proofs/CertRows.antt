@@ -1,5 +1,6 @@
 -- Marks of worked dossiers, by computation.
-use Rattle.std.proofs.Common.{◌≡◌, ℕ, zero, suc, ◌+◌, ◌*◌, ◌<◌, ◌≤◌, List, [], ◌∷◌, All, Contains, refl, sym, subst, ◌⊎◌, inl, inr, Some, None, arith}
+use Rattle.std.proofs.Common.{◌≡◌, ℕ, zero, suc, ◌+◌, ◌*◌, ◌<◌, ◌≤◌, List, [], ◌∷◌, All, Contains, refl, sym, subst, ◌⊎◌, inl, inr, Some, arith}
+use Rattle.std.proofs.lemmas.Option.{none-some}
 use Rattle.std.specs.List.Sorted.{IsStrictlyIncreasing}
 use Rattle.std.proofs.lemmas.List.Elements.{All-cons, All-nil}
 use Rattle.lock_model.specs.Fleet.{ship_at}
@@ -155,9 +156,6 @@ row-no_prices : (ok : IsInstance chambers-narrow ships-narrow)
     → MarksFail (narrow ok) mark.Split (Closes (narrow ok) 120 narrow_cuts []) reason_of (mark.Leaf (by.Price 0) ∷ []) (mark.Leaf (by.Price 0) ∷ []) reason.PriceLow
 row-no_prices ok = inl (inl (refl, low, refl))
   where
-    none-some : (own : List ℕ) → None ≡ Some own → ⊥
-    none-some own e = cc
-
     low : Closes (narrow ok) 120 narrow_cuts [] 0 root_lines (mark.Leaf (by.Price 0)) ⊎ (mark.Leaf (by.Price 0) ≡ mark.Split) → ⊥
     low (inl h) = none-some h.own h.there
     low (inr h) = cc

@@ -1,5 +1,6 @@
 -- A certificate that fails at some place isn't accepted.
-use Rattle.std.proofs.Common.{◌≡◌, ℕ, zero, suc, List, [], ◌∷◌, refl, sym, ap, ◌∙◌, subst, length, drop, ◌⊎◌, inl, inr, All, slice_index_or}
+use Rattle.std.proofs.Common.{◌≡◌, ℕ, zero, suc, List, [], ◌∷◌, refl, sym, ◌∙◌, subst, length, ◌⊎◌, inl, inr, All}
+use Rattle.list_laws.proofs.Lists.{same-tails, same-heads}
 use Rattle.lock_model.specs.declared.instance.Instance.{Instance}
 use Rattle.lock_model.specs.declared.group.Group.{Group}
 use Rattle.lock_rules.specs.Node.{root_lines}
@@ -18,12 +19,6 @@ use Rattle.certificate_rules.specs.Failures.{FailInOrder, FailsHere, TreeFails, 
 
 nil-cons : {X : Type 0} (x : X) (xs : List X) → [] ≡ x ∷ xs → ⊥
 nil-cons x xs e = cc
-
-pub heads : {X : Type 0} (x y : X) (xs ys : List X) → x ∷ xs ≡ y ∷ ys → x ≡ y
-heads x y xs ys e = ap (λ l. slice_index_or l 0 x) e
-
-pub tails : {X : Type 0} (x y : X) (xs ys : List X) → x ∷ xs ≡ y ∷ ys → xs ≡ ys
-tails x y xs ys e = ap (drop 1) e
 
 in_order-unique : {X M : Type 0} (Tree : X → List M → List M → Type 0) → ((x : X) (m r s : List M) → Tree x m r → Tree x m s → r ≡ s) → (xs : List X) (m r s : List M) → AreInOrder Tree xs m r → AreInOrder Tree xs m s → r ≡ s
 in_order-unique Tree one [] m r s a b = sym a ∙ b
@@ -44,22 +39,22 @@ module _ {M : Type 0} (I : Instance) (split : M) (Closing : ℕ → List (List G
   Tree = IsMarkTree I split Closing
 
   leaf-split : (k : ℕ) (lines : List (List Group)) (m : M) (marks rest inner : List M) → Closing k lines m → marks ≡ m ∷ rest → marks ≡ split ∷ inner → ⊥
-  leaf-split k lines m marks rest inner closes e f = no_split k lines (subst (Closing k lines) (heads m split rest inner (sym e ∙ f)) closes)
+  leaf-split k lines m marks rest inner closes e f = no_split k lines (subst (Closing k lines) (same-heads m split rest inner (sym e ∙ f)) closes)
 
   -- the marks have one tree at their front at most
   pub tree-unique : (lacking k : ℕ) (lines : List (List Group)) (marks r s : List M) → Tree lacking k lines marks r → Tree lacking k lines marks s → r ≡ s
-  tree-unique zero k lines marks r s a b = tails a.0 b.0 r s (sym a.2 ∙ b.2)
-  tree-unique (suc lacking) k lines marks r s (inl a) (inl b) = tails a.0 b.0 r s (sym a.2 ∙ b.2)
+  tree-unique zero k lines marks r s a b = same-tails a.0 b.0 r s (sym a.2 ∙ b.2)
+  tree-unique (suc lacking) k lines marks r s (inl a) (inl b) = same-tails a.0 b.0 r s (sym a.2 ∙ b.2)
   tree-unique (suc lacking) k lines marks r s (inl a) (inr b) = absurd (leaf-split k lines a.0 marks r b.0 a.1 a.2 b.1)
   tree-unique (suc lacking) k lines marks r s (inr a) (inl b) = absurd (leaf-split k lines b.0 marks s a.0 b.1 b.2 a.1)
   tree-unique (suc lacking) k lines marks r s (inr a) (inr b) =
-      let same : a.0 ≡ b.0 = tails split split a.0 b.0 (sym a.1 ∙ b.1) in
+      let same : a.0 ≡ b.0 = same-tails split split a.0 b.0 (sym a.1 ∙ b.1) in
       in_order-unique (Tree lacking (suc k)) (λ x m r s t u. tree-unique lacking (suc k) x m r s t u) (children_of I k lines) b.0 r s
       (subst (λ u. AreInOrder (Tree lacking (suc k)) (children_of I k lines) u r) same a.2) b.2
 
   leaf-not_here : (Closed' : M → Type 0) (marks stuck : List M) (why : Reason) (m : M) (rest : List M) → Closed' m → marks ≡ m ∷ rest → FailsHere Closed' reason_by marks stuck why → ⊥
   leaf-not_here Closed' [] stuck why m rest closes e f = nil-cons m rest e
-  leaf-not_here Closed' (n ∷ ns) stuck why m rest closes e f = f.1 (subst Closed' (sym (heads n m ns rest e)) closes)
+  leaf-not_here Closed' (n ∷ ns) stuck why m rest closes e f = f.1 (subst Closed' (sym (same-heads n m ns rest e)) closes)
 
   pub tree-not_fails : (lacking k : ℕ) (lines : List (List Group)) (marks rest stuck : List M) (why : Reason) → Tree lacking k lines marks rest → TreeFails I split Closing reason_by lacking k lines marks stuck why → ⊥
   tree-not_fails zero k lines marks rest stuck why a f = leaf-not_here (Closing k lines) marks stuck why a.0 rest a.1 a.2 f
@@ -67,7 +62,7 @@ module _ {M : Type 0} (I : Instance) (split : M) (Closing : ℕ → List (List G
   tree-not_fails (suc lacking) k lines marks rest stuck why (inl a) (inr f) = leaf-split k lines a.0 marks rest f.0 a.1 a.2 f.1
   tree-not_fails (suc lacking) k lines marks rest stuck why (inr a) (inl f) = leaf-not_here (λ m. Closing k lines m ⊎ (m ≡ split)) marks stuck why split a.0 (inr refl) a.1 f
   tree-not_fails (suc lacking) k lines marks rest stuck why (inr a) (inr f) =
-      let same : a.0 ≡ f.0 = tails split split a.0 f.0 (sym a.1 ∙ f.1) in
+      let same : a.0 ≡ f.0 = same-tails split split a.0 f.0 (sym a.1 ∙ f.1) in
       in_order-not_fails (Tree lacking (suc k)) (TreeFails I split Closing reason_by lacking (suc k))
       (λ x m r s t u. tree-unique lacking (suc k) x m r s t u) (λ x m r stuck why t u. tree-not_fails lacking (suc k) x m r stuck why t u) (children_of I k lines) f.0 rest stuck why
       (subst (λ u. AreInOrder (Tree lacking (suc k)) (children_of I k lines) u rest) same a.2) f.2

@@ -1,6 +1,7 @@
 -- An open certificate that stands proves its low.
 use Rattle.std.proofs.Common.{◌≡◌, ℕ, zero, suc, ◌+◌, ◌≤◌, List, [], ◌∷◌, ◌++◌, length, ◌⊎◌, inl, inr, sym, ap, ◌∙◌, subst, arith, All, Contains}
 use Rattle.std.proofs.lemmas.List.Elements.{All-contains}
+use Rattle.list_laws.proofs.Lists.{same-tails, same-heads}
 use Rattle.lock_model.specs.declared.instance.Instance.{Instance}
 use Rattle.lock_model.specs.declared.group.Group.{Group}
 use Rattle.lock_model.specs.declared.plan.Plan.{Plan}
@@ -20,7 +21,6 @@ use Rattle.certificate_rules.specs.Low.{OpenInOrder, HasOpen, leaf_bounds, IsLow
 use Rattle.closing_rules.specs.Laws.{TreeLaws}
 use Rattle.closing_rules.proofs.BelowLemmas.{HasBelow, least-below}
 use Rattle.certificate_rules.proofs.AcceptLemmas.{closes-holds}
-use Rattle.certificate_rules.proofs.FailLemmas.{heads, tails}
 
 below-left : (v : ℕ) (xs ys : List ℕ) → HasBelow v xs → HasBelow v (xs ++ ys)
 below-left v [] ys h = absurd h
@@ -43,12 +43,12 @@ module _ (I : Instance) (cost : ℕ) (cuts : List CertCut) (prices : List (List 
 
   -- both relations end at the same marks
   open-unique : (lacking k : ℕ) (lines : List (List Group)) (m r s : List OpenMark) (bs : List ℕ) → Tree lacking k lines m r → HasOpen I lacking k lines m s bs → r ≡ s
-  open-unique zero k lines m r s bs a b = tails a.0 b.0 r s (sym a.2 ∙ b.1)
-  open-unique (suc lacking) k lines m r s bs (inl a) (inl b) = tails a.0 b.0 r s (sym a.2 ∙ b.2)
-  open-unique (suc lacking) k lines m r s bs (inl a) (inr b) = absurd (subst (ClosesOrOpen I cost cuts prices k lines) (heads a.0 (Closed mark.Split) r b.0 (sym a.2 ∙ b.1)) a.1)
-  open-unique (suc lacking) k lines m r s bs (inr a) (inl b) = absurd (b.1 (heads b.0 (Closed mark.Split) s a.0 (sym b.2 ∙ a.1)))
+  open-unique zero k lines m r s bs a b = same-tails a.0 b.0 r s (sym a.2 ∙ b.1)
+  open-unique (suc lacking) k lines m r s bs (inl a) (inl b) = same-tails a.0 b.0 r s (sym a.2 ∙ b.2)
+  open-unique (suc lacking) k lines m r s bs (inl a) (inr b) = absurd (subst (ClosesOrOpen I cost cuts prices k lines) (same-heads a.0 (Closed mark.Split) r b.0 (sym a.2 ∙ b.1)) a.1)
+  open-unique (suc lacking) k lines m r s bs (inr a) (inl b) = absurd (b.1 (same-heads b.0 (Closed mark.Split) s a.0 (sym b.2 ∙ a.1)))
   open-unique (suc lacking) k lines m r s bs (inr a) (inr b) =
-      let same : a.0 ≡ b.0 = tails (Closed mark.Split) (Closed mark.Split) a.0 b.0 (sym a.1 ∙ b.1) in
+      let same : a.0 ≡ b.0 = same-tails (Closed mark.Split) (Closed mark.Split) a.0 b.0 (sym a.1 ∙ b.1) in
       order-unique lacking k (λ x m r s bs t h. open-unique lacking (suc k) x m r s bs t h) (children_of I k lines) b.0 r s bs
       (subst (λ u. AreInOrder (Tree lacking (suc k)) (children_of I k lines) u r) same a.2) b.2
 
@@ -62,7 +62,7 @@ module _ (I : Instance) (cost : ℕ) (cuts : List CertCut) (prices : List (List 
 
     leaves-low : (k : ℕ) (lines : List (List Group)) (m n : OpenMark) (marks r s : List OpenMark) (bs : List ℕ) → IsNode I k lines → IsUnder I k lines P → ClosesOrOpen I cost cuts prices k lines m → marks ≡ m ∷ r → marks ≡ n ∷ s → bs ≡ leaf_bounds (bound_of I k lines) n → (cost ≤ v) ⊎ HasBelow v bs
     leaves-low k lines m n marks r s bs node under h e f g =
-        subst (λ u. (cost ≤ v) ⊎ HasBelow v u) (ap (leaf_bounds (bound_of I k lines)) (heads m n r s (sym e ∙ f)) ∙ sym g) (leaf-low k lines m node under h)
+        subst (λ u. (cost ≤ v) ⊎ HasBelow v u) (ap (leaf_bounds (bound_of I k lines)) (same-heads m n r s (sym e ∙ f)) ∙ sym g) (leaf-low k lines m node under h)
 
     order-low : (lacking k : ℕ) → ((x : List (List Group)) (m r s : List OpenMark) (bs : List ℕ) → IsNode I (suc k) x → IsUnder I (suc k) x P → Tree lacking (suc k) x m r → HasOpen I lacking (suc k) x m s bs → (cost ≤ v) ⊎ HasBelow v bs)
         → (xs : List (List (List Group))) (m r s : List OpenMark) (bs : List ℕ) (x : List (List Group)) → Contains xs x → IsNode I (suc k) x → IsUnder I (suc k) x P → AreInOrder (Tree lacking (suc k)) xs m r → OpenInOrder (HasOpen I lacking (suc k)) xs m s bs → (cost ≤ v) ⊎ HasBelow v bs
@@ -81,10 +81,10 @@ module _ (I : Instance) (cost : ℕ) (cuts : List CertCut) (prices : List (List 
     tree-low : (lacking k : ℕ) (lines : List (List Group)) (m r s : List OpenMark) (bs : List ℕ) → lacking + k ≡ length I.ships → IsNode I k lines → IsUnder I k lines P → Tree lacking k lines m r → HasOpen I lacking k lines m s bs → (cost ≤ v) ⊎ HasBelow v bs
     tree-low zero k lines m r s bs count node under a b = leaves-low k lines a.0 b.0 m r s bs node under a.1 a.2 b.1 b.2
     tree-low (suc lacking) k lines m r s bs count node under (inl a) (inl b) = leaves-low k lines a.0 b.0 m r s bs node under a.1 a.2 b.2 b.3
-    tree-low (suc lacking) k lines m r s bs count node under (inl a) (inr b) = absurd (subst (ClosesOrOpen I cost cuts prices k lines) (heads a.0 (Closed mark.Split) r b.0 (sym a.2 ∙ b.1)) a.1)
-    tree-low (suc lacking) k lines m r s bs count node under (inr a) (inl b) = absurd (b.1 (heads b.0 (Closed mark.Split) s a.0 (sym b.2 ∙ a.1)))
+    tree-low (suc lacking) k lines m r s bs count node under (inl a) (inr b) = absurd (subst (ClosesOrOpen I cost cuts prices k lines) (same-heads a.0 (Closed mark.Split) r b.0 (sym a.2 ∙ b.1)) a.1)
+    tree-low (suc lacking) k lines m r s bs count node under (inr a) (inl b) = absurd (b.1 (same-heads b.0 (Closed mark.Split) s a.0 (sym b.2 ∙ a.1)))
     tree-low (suc lacking) k lines m r s bs count node under (inr a) (inr b) =
-        let same : a.0 ≡ b.0 = tails (Closed mark.Split) (Closed mark.Split) a.0 b.0 (sym a.1 ∙ b.1) in
+        let same : a.0 ≡ b.0 = same-tails (Closed mark.Split) (Closed mark.Split) a.0 b.0 (sym a.1 ∙ b.1) in
         let way = laws.split k lines P node (omega (arith, count)) legal under in
         let child = All-contains (IsNode I (suc k)) (children_of I k lines) way.child (laws.child k lines node (omega (arith, count))) way.among in
         order-low lacking k (λ x m r s bs n u t h. tree-low lacking (suc k) x m r s bs (omega (arith, count)) n u t h) (children_of I k lines) b.0 r s bs way.child way.among child way.under

@@ -1,9 +1,10 @@
 -- The edges of a case are what the solver asks for.
-use Rattle.std.proofs.Common.{◌≡◌, ◌≢◌, ℕ, zero, suc, ◌+◌, ◌-◌, ◌*◌, ◌/◌, ◌%◌, ◌<◌, ◌≤◌, ℤ, pos, negsuc, ◌≤ℤ◌, List, [], ◌∷◌, length, flat_map, Contains, inl, inr, refl, sym, ◌∙◌, arith}
+use Rattle.std.proofs.Common.{◌≡◌, ◌≢◌, ℕ, zero, suc, ◌+◌, ◌-◌, ◌*◌, ◌/◌, ◌%◌, ◌<◌, ◌≤◌, ℤ, pos, negsuc, ◌≤ℤ◌, List, [], ◌∷◌, length, flat_map, Contains, inl, inr, refl, sym, ◌∙◌, arith, length-append}
 use Rattle.std.proofs.lemmas.Int.{ints}
 use Rattle.std.proofs.lemmas.Bool.Decides.{eqb_tells}
 use Rattle.std.proofs.lemmas.List.Elements.{All-from_recursion}
 use Rattle.std.specs.List.{AllByRecursion}
+use Rattle.list_laws.proofs.ByRecursion.{all-append}
 use Rattle.lock_model.specs.Deck.{Deck, IsDeck, no_size}
 use Rattle.lock_model.specs.declared.placement.Rank.{Rank}
 use Rattle.lock_model.specs.declared.placement.Rank.TheVariants.{Left, Right}
@@ -16,9 +17,8 @@ use Rattle.refute_rules.specs.Choices.{Decision as Told, decisions}
 use Rattle.refute_rules.specs.Edges.{x_var, y_var, edge, ship_edges, berth_edges, choice_edges, case_edges}
 use Rattle.refute_rules.specs.Cases.{vars_of}
 use Rattle.lock_rules.specs.Among.{IsAmong}
-use Rattle.refute_rules.proofs.Among.{IsAmong-left, IsAmong-flat_map, IsAmong-numbers, all-append, all-flat_map, all-weaker, all-numbers}
+use Rattle.refute_rules.proofs.Among.{IsAmong-left, IsAmong-flat_map, IsAmong-numbers, all-flat_map, all-weaker, all-numbers}
 use Rattle.lock_rules.proofs.TreeLemmas.{contains-among}
-use Rattle.case_search.proofs.ListLemmas.{length-append}
 use Rattle.chamber_place.specs.Picks.{choice_of, choices_of, IsKnownMoor, IsKnownPick}
 use Rattle.chamber_place.specs.OnItsWay.{most_edges, AreChosen}
 use Rattle.chamber_place.specs.declared.picks.Pick.{Pick}

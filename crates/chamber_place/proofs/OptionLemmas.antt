@@ -1,5 +1,5 @@
 -- Decisions and options by their numbers.
-use Rattle.std.proofs.Common.{◌≡◌, ◌≢◌, ℕ, zero, suc, ◌+◌, ◌-◌, ◌*◌, ◌/◌, ◌<◌, ◌≤◌, List, [], ◌∷◌, ◌++◌, length, map, cond, nat_lt, slice_index_or, inl, inr, refl, sym, ap, ◌∙◌, subst, arith}
+use Rattle.std.proofs.Common.{◌≡◌, ◌≢◌, ℕ, zero, suc, ◌+◌, ◌-◌, ◌*◌, ◌/◌, ◌<◌, ◌≤◌, List, [], ◌∷◌, ◌++◌, length, map, cond, nat_lt, slice_index_or, inl, inr, refl, sym, ap, ◌∙◌, subst, arith, length-append}
 use Rattle.std.proofs.lemmas.Bool.Decides.{leb_tells}
 use Rattle.std.proofs.lemmas.List.{length-map, map-append, get_or-map}
 use Rattle.lock_model.specs.Deck.{Deck}
@@ -7,7 +7,7 @@ use Rattle.lock_rules.specs.Arrival.{numbers_from}
 use Rattle.refute_rules.specs.Choices.{BerthOf, PairOf, Lies as LiesAt, Before as IsBefore, berths_of, options_of, decisions}
 use Rattle.case_search.specs.Berths.{first_berth}
 use Rattle.case_search.proofs.BerthLemmas.{berths-length, quay-at, host-at}
-use Rattle.case_search.proofs.ListLemmas.{append-assoc, length-append}
+use Rattle.case_search.proofs.ListLemmas.{append-assoc}
 use Rattle.chamber_place.specs.Picks.{IsKnownMoor, decision_of}
 use Rattle.chamber_place.specs.declared.decisions.Decision.{Decision}
 

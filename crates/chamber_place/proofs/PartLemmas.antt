@@ -1,17 +1,18 @@
 -- Some of a deck's ships.
-use Rattle.std.proofs.Common.{◌≡◌, ◌⊎◌, ℕ, zero, suc, ◌+◌, ◌-◌, ◌<◌, ◌≤◌, List, [], ◌∷◌, ◌++◌, length, map, take, drop, slice_index_or, inl, inr, refl, sym, ap, ◌∙◌, subst, arith, All, Contains}
+use Rattle.std.proofs.Common.{◌≡◌, ◌⊎◌, ℕ, zero, suc, ◌+◌, ◌-◌, ◌<◌, ◌≤◌, List, [], ◌∷◌, ◌++◌, length, map, take, drop, slice_index_or, inl, inr, refl, sym, ap, ◌∙◌, subst, arith, All, Contains, length-append}
 use Rattle.std.proofs.lemmas.Bool.{cases_lt}
 use Rattle.std.proofs.lemmas.List.{length-map, length-take-le, map-append, take-map, take_rest, drop-map, get_or_at, get_or_default, get_or-append-add, get_or-map, get_or-take}
 use Rattle.std.proofs.lemmas.List.Kept.{AllPairs-from_increasing}
 use Rattle.std.specs.List.{remove}
 use Rattle.std.specs.List.Sorted.{IsStrictlyIncreasing}
+use Rattle.list_laws.proofs.Lists.{length-push}
 use Rattle.lock_model.specs.Deck.{Deck, IsDeck, IsSize, size_at, no_size}
 use Rattle.lock_rules.specs.Arrival.{numbers_from}
 use Rattle.refute_rules.specs.declared.refutation.Refutation.{Refutation}
 use Rattle.refute_rules.specs.declared.refutation.Refutation.TheVariants as refutation
 use Rattle.refute_rules.specs.Reasons.{AreSome}
 use Rattle.refute_rules.specs.Refutes.{IsRefuted}
-use Rattle.case_search.proofs.ListLemmas.{append-assoc, length-append, length-push}
+use Rattle.case_search.proofs.ListLemmas.{append-assoc}
 use Rattle.chamber_place.specs.Placing.{PlaceRefutes}
 use Rattle.chamber_place.specs.Parts.{part_of, IsLeast, KeepsClash, IsPart, IsSmaller, IsRefutedPart, IsSmallerPart, BeginsWithClash}
 use Rattle.chamber_place.proofs.OptionLemmas.{numbers-length}

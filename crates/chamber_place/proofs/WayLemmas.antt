@@ -1,8 +1,10 @@
 -- A case goes on its way by one option, and back.
-use Rattle.std.proofs.Common.{◌≡◌, ◌⊎◌, ℕ, zero, suc, ◌+◌, ◌-◌, ◌<◌, ◌≤◌, List, [], ◌∷◌, ◌++◌, length, map, flat_map, take, drop, cond, nat_eq, slice_index_or, inl, inr, refl, sym, ap, ◌∙◌, subst, arith, Some, None}
+use Rattle.std.proofs.Common.{◌≡◌, ◌⊎◌, ℕ, zero, suc, ◌+◌, ◌-◌, ◌<◌, ◌≤◌, List, [], ◌∷◌, ◌++◌, length, map, flat_map, take, drop, cond, nat_eq, slice_index_or, inl, inr, refl, sym, ap, ◌∙◌, subst, arith, Some, None, length-append, append-nil}
 use Rattle.std.proofs.lemmas.Bool.{cases_lt}
 use Rattle.std.proofs.lemmas.Bool.Decides.{eqb_tells}
-use Rattle.std.proofs.lemmas.List.{length-map, length-take-le, map-append, take-map, take-take, get_or_append_left, get_or_push, get_or-take}
+use Rattle.std.proofs.lemmas.List.{length-map, length-take-le, map-append, take-map, take-take, get_or_append_left, get_or_push, get_or-take, drop_all, take-append-le}
+use Rattle.std.proofs.lemmas.List.Concat.{flat_map-append}
+use Rattle.std.proofs.lemmas.Option.{none-some}
 use Rattle.std.specs.declared.option.Option.{Option}
 use Rattle.lock_model.specs.Deck.{Deck}
 use Rattle.lock_model.specs.declared.placement.Moor.TheVariants.{Ship}
@@ -19,9 +21,11 @@ use Rattle.refute_rules.specs.Decided.{berth_in, HasOtherRank}
 use Rattle.refute_rules.specs.Cases.{IsConsistent, IsCaseFault}
 use Rattle.case_search.specs.Berths.{berth_of}
 use Rattle.case_search.specs.Rules.{options_first}
-use Rattle.case_search.proofs.ListLemmas.{append-assoc, append-nil, length-append, length-push, flat_map-append, take-front, take-append, take-all, drop-all}
-use Rattle.refute_rules.proofs.Among.{all-append, all-map, all-weaker, all-numbers}
+use Rattle.case_search.proofs.ListLemmas.{append-assoc, take-front, take-all}
+use Rattle.refute_rules.proofs.Among.{all-map, all-weaker, all-numbers}
 use Rattle.std.specs.List.{AllByRecursion}
+use Rattle.list_laws.proofs.Lists.{length-push}
+use Rattle.list_laws.proofs.ByRecursion.{all-append}
 use Rattle.chamber_place.specs.CaseLaws.{fault-inconsistent}
 use Rattle.chamber_place.specs.Picks.{choice_of, choices_of, decision_of, IsKnownPick, IsKnownDecision}
 use Rattle.chamber_place.specs.Faults.{fault_of}
@@ -68,12 +72,9 @@ ranks-kept case c none ranks i h = ranks i (record {
   differ = h.differ;
 })
 
-some-none : {X : Type 0} (x : X) → None ≡ Some x → ⊥
-some-none x e = cc
-
 -- a berth is decided for ships of the deck alone
 berth-known : (d : Deck) (ds : List Told) (ps : List Pick) (i : ℕ) (b : Berth) → AreChosen d ds ps → berth_in (choices_of ps) i ≡ Some b → i < length d.ships
-berth-known d ds [] i b chosen e = absurd (some-none b e)
+berth-known d ds [] i b chosen e = absurd (none-some b e)
 berth-known d [] (p ∷ ps) i b chosen e = absurd chosen
 berth-known d (x ∷ ds) (Lies j c ∷ ps) i b chosen e = elim (eqb_tells j i) [
   | inl y ↦ subst (λ k. k < length d.ships) y.1 chosen.0.0
@@ -111,7 +112,7 @@ pub no-options : (d : Deck) (decided : List Decision) (ds : List Told) (k : ℕ)
 no-options d decided ds k e h =
     let l = length-map decided decision_of in
     let same = ap length e in
-    ap (options_first (options_of d)) (drop-all k ds (omega (arith, h, l, same)))
+    ap (options_first (options_of d)) (drop_all k ds (omega (arith, h, l, same)))
 
 abbrev IsKnownTold : Deck → Told → Type 0
 IsKnownTold d (BerthOf i) = i < length d.ships
@@ -214,7 +215,7 @@ module _ (d : Deck) (decided : List Decision) (picks : List Pick) (edges : List 
     kept-settled : (k : ℕ) → k < length paths → IsSettled d (choices_of (take k more)) (paths_at paths k)
     kept-settled k h =
         let count = good-paths good in
-        subst (λ ps. IsSettled d (choices_of ps) (paths_at paths k)) (sym (take-append k picks (p ∷ []) (omega (arith, h, count)))) (way.settled k h)
+        subst (λ ps. IsSettled d (choices_of ps) (paths_at paths k)) (sym (take-append-le k picks (p ∷ []) (omega (arith, h, count)))) (way.settled k h)
 
     -- a faulty option
     pub more-faulty : (f : CaseFault) → IsCaseFault d (choices_of more) (fault_of f) → IsOnItsWay d decided more (edges ++ choice_edges d (choice_of p)) paths (Some f)

@@ -1,8 +1,12 @@
 -- What the search rests on: a fault leaves a case inconsistent, and a beginning of a consistent case is consistent.
 use Rattle.std.proofs.Common.{◌≡◌, ℕ, List, [], ◌∷◌, ◌++◌, length, flat_map, Bool, cond, true, false, nat_eq, sym, ap, ◌∙◌, subst, Some, None}
+use Rattle.std.proofs.lemmas.Bool.{false≢true}
+use Rattle.std.proofs.lemmas.List.Concat.{flat_map-append}
+use Rattle.std.proofs.lemmas.Option.{none-some}
 use Rattle.std.specs.declared.option.Option.{Option}
 use Rattle.std.proofs.lemmas.List.Elements.{All-from_recursion, recursion_from_All}
 use Rattle.std.specs.List.{AllByRecursion}
+use Rattle.list_laws.proofs.ByRecursion.{all-first}
 use Rattle.lock_model.specs.Deck.{Deck}
 use Rattle.lock_rules.specs.Arrival.{numbers_from}
 use Rattle.diff_rules.specs.Differences.{Obeys}
@@ -12,24 +16,16 @@ use Rattle.refute_rules.specs.Edges.{case_edges, choice_edges, ship_edges}
 use Rattle.refute_rules.specs.Decided.{berth_in}
 use Rattle.refute_rules.specs.Cases.{IsConsistent, CaseFault, OtherRank, Walk, IsCaseFault, vars_of}
 use Rattle.case_search.specs.Rules.{AreSoundRules}
-use Rattle.case_search.proofs.ListLemmas.{append-assoc, flat_map-append}
+use Rattle.case_search.proofs.ListLemmas.{append-assoc}
 use Rattle.chamber_place.specs.Faults.{fault_of}
 use Rattle.chamber_place.specs.OnItsWay.{case_rules}
-
-all-first : {X : Type 0} (P : X → Type 0) (xs ys : List X) → AllByRecursion P (xs ++ ys) → AllByRecursion P xs
-all-first P [] ys a = tt
-all-first P (x ∷ xs) ys a = (a.0, all-first P xs ys a.1)
 
 IsAbsent : {X : Type 0} → Option X → Type 0
 IsAbsent None = Unit {0}
 IsAbsent (Some x) = ⊥
 
-some-none : {X : Type 0} (b : X) → None ≡ Some b → ⊥
-unfolding IsAbsent
-some-none b e = subst IsAbsent e tt
-
 berth-kept : (case more : List Choice) (i : ℕ) (b : Berth) → berth_in case i ≡ Some b → berth_in (case ++ more) i ≡ Some b
-berth-kept [] more i b e = absurd (some-none b e)
+berth-kept [] more i b e = absurd (none-some b e)
 berth-kept (Lies j c ∷ cs) more i b e = (elim (nat_eq j i) as (λ t. cond t (Some c) (berth_in cs i) ≡ Some b → cond t (Some c) (berth_in (cs ++ more) i) ≡ Some b) [
   | true ↦ λ h. h
   | false ↦ λ h. berth-kept cs more i b h
@@ -41,10 +37,6 @@ berth-kept (Stands j v ∷ cs) more i b e = berth-kept cs more i b e
 IsFalse : Bool → Type 0
 IsFalse false = Unit {0}
 IsFalse true = ⊥
-
-true-false : false ≡ true → ⊥
-unfolding IsFalse
-true-false e = subst IsFalse e tt
 
 module _ (d : Deck) where
   pub consistent-shorter : (case more : List Choice) → IsConsistent d (case ++ more) → IsConsistent d case
@@ -70,5 +62,5 @@ module _ (d : Deck) where
     shorter = λ e case more is. consistent-shorter case more is;
     ends = λ case is whole. whole;
     complete = λ case whole. whole;
-    good_end = λ e. absurd (true-false e);
+    good_end = λ e. absurd (false≢true e);
   }

@@ -1,5 +1,6 @@
 -- What the code needs.
 use Rattle.std.proofs.Common.{◌≡◌, ℕ, ◌-◌, ◌<◌, ◌≤◌, List, length, map, take, ap, ◌∙◌, sym, subst, arith, slice_index_or}
+use Rattle.std.proofs.lemmas.List.{take_all}
 use Rattle.std.specs.List.{remove}
 use Rattle.std.proofs.lemmas.Grind.{common_steps}
 use Rattle.std.proofs.lemmas.List.Edits.{length-remove}
@@ -10,9 +11,6 @@ use Rattle.deck_laws.specs.Thin.{thin_spot, thin_deck}
 use Rattle.deck_laws.specs.Widen.{IsRoomier, wide_spot}
 use Rattle.deck_laws.proofs.WidenLemmas.{widen-legal}
 use Rattle.deck_laws.proofs.ThinLemmas.{raised, raised-known, removed-at, thin-legal}
-
-take-all : (i : ℕ) (xs : List Spot) → length xs ≤ i → take i xs ≡ xs
-take-all i xs h = grind (arith, common_steps)
 
 pub spot_small : (d : Deck) (spots : List Spot) → IsLegalPlacement d spots → IsDeck d → (i : ℕ) (p : Spot) → i < length spots → (slice_index_or spots i p).y ≤ 100000
 spot_small d spots legal limits i p known =
@@ -29,13 +27,13 @@ spot_small d spots legal limits i p known =
 -- what the loop of `widen` has made
 pub widen_at : (d e : Deck) (spots items moved : List Spot) (i : ℕ) → IsDeck d → IsRoomier d e → IsLegalPlacement d spots → items ≡ spots → moved ≡ map (wide_spot (e.width - d.width)) (take i items) → length items ≤ i → IsLegalPlacement e moved
 widen_at d e spots items moved i limits more legal same made done =
-    let all : take i items ≡ items = take-all i items done in
+    let all : take i items ≡ items = take_all i items done in
     subst (IsLegalPlacement e) (sym (made ∙ ap (map (wide_spot (e.width - d.width))) (all ∙ same))) (widen-legal d e spots limits more legal)
 
 -- and of `thin_out`
 pub thin_at : (d : Deck) (b : ℕ) (spots items moved : List Spot) (i : ℕ) → IsDeck d → b < length d.ships → IsLegalPlacement d spots → items ≡ remove spots b → moved ≡ map (thin_spot d spots b) (take i items) → length items ≤ i → IsLegalPlacement (thin_deck d b) moved
 thin_at d b spots items moved i limits known legal same made done =
-    let all : take i items ≡ items = take-all i items done in
+    let all : take i items ≡ items = take_all i items done in
     subst (IsLegalPlacement (thin_deck d b)) (sym (made ∙ ap (map (thin_spot d spots b)) (all ∙ same))) (thin-legal d spots legal limits b known)
 
 pub thin_small : (d : Deck) (b : ℕ) (spots items : List Spot) (i : ℕ) (p : Spot) → IsDeck d → b < length d.ships → IsLegalPlacement d spots → items ≡ remove spots b → i < length items → (slice_index_or items i p).y ≤ 100000

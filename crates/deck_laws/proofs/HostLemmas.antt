@@ -1,5 +1,5 @@
 -- Ships of one rank and their hosts, with the depth of a ship: how far it lies from the quay of the rank.
-use Rattle.std.proofs.Common.{◌≡◌, ◌≢◌, ℕ, zero, suc, ◌+◌, ◌-◌, ◌<◌, ◌≤◌, cond, Bool, true, false, ◌⊎◌, inl, inr, refl, sym, ap, ◌∙◌, subst, arith}
+use Rattle.std.proofs.Common.{◌≡◌, ◌≢◌, ℕ, zero, suc, ◌+◌, ◌-◌, ◌<◌, ◌≤◌, cond, Bool, true, false, ◌⊎◌, inl, inr, refl, sym, ap, ◌∙◌, subst, arith, true≢false}
 use Rattle.std.proofs.lemmas.Bool.Decides.{eqb_tells, leb_tells}
 use Rattle.lock_model.specs.declared.placement.Rank.{Rank}
 use Rattle.lock_model.specs.declared.placement.Moor.{Moor}
@@ -115,14 +115,11 @@ module _ (n : ℕ) (length_of width_of x h : ℕ → ℕ) (rank : ℕ → Rank) 
             let same : own'.1.0 ≡ u = ship-same own'.1.0 u (sym own'.1.1 ∙ e) in
             elim own'.1.2 [
               | inl at ↦ inl (sym same ∙ at)
-              | inr g ↦ absurd (true-false (sym g ∙ ap moves same ∙ still))
+              | inr g ↦ absurd (true≢false (sym g ∙ ap moves same ∙ still))
             ]
           where
             ship-same : (j k : ℕ) → Ship j ≡ Ship k → j ≡ k
             ship-same j k e = cc
-
-            true-false : true ≡ false → ⊥
-            true-false e = cc
         resting (suc k) i u ki goes still e =
             let own' = moved i ki goes in
             let same : own'.1.0 ≡ e.0 = ship-same own'.1.0 e.0 (sym own'.1.1 ∙ e.1) in

@@ -1,5 +1,6 @@
 -- Every legal placement gives a normal one: the ships that aren't known to be anchored move together, by the least slack.
-use Rattle.std.proofs.Common.{◌≡◌, ◌≢◌, ℕ, zero, suc, ◌+◌, ◌-◌, ◌<◌, ◌≤◌, List, [], ◌∷◌, length, cond, Bool, true, false, ◌||◌, ◌⊎◌, inl, inr, refl, sym, ap, ◌∙◌, subst, arith, nat_eq}
+use Rattle.std.proofs.Common.{◌≡◌, ◌≢◌, ℕ, zero, suc, ◌+◌, ◌-◌, ◌<◌, ◌≤◌, List, [], ◌∷◌, length, cond, Bool, true, false, ◌||◌, ◌⊎◌, inl, inr, refl, sym, ap, ◌∙◌, subst, arith, nat_eq, true≢false}
+use Rattle.std.proofs.lemmas.Bool.{cases_Bool}
 use Rattle.std.proofs.lemmas.Bool.Decides.{eqb_tells, leb_tells}
 use Rattle.lock_model.specs.Deck.{Deck, IsDeck, size_at}
 use Rattle.lock_model.specs.Placement.{IsLegalPlacement, IsMoored, IsAtQuay, IsAtSide, AreApart, IsInside, spot_at}
@@ -14,9 +15,6 @@ use Rattle.deck_laws.specs.Shift.{shifted, shift_from, IsNoFarther, AreNoFarther
 use Rattle.deck_laws.specs.Rounds.{IsRootedIn, IsRooted, AreRooted, with_done, free_count}
 use Rattle.lock_model.specs.Normal.{HasNormal}
 use Rattle.deck_laws.proofs.PlacementLemmas.{is-moored, are-apart}
-
-true-false : true ≡ false → ⊥
-true-false e = cc
 
 -- each below n has P, or one has Q
 pub all-or : (P Q : ℕ → Type 0) (n : ℕ) → ((i : ℕ) → i < n → P i ⊎ Q i) → ((i : ℕ) → i < n → P i) ⊎ ((i : ℕ) × (i < n) × Q i)
@@ -316,14 +314,10 @@ module _ (d : Deck) (spots : List Spot) (legal : IsLegalPlacement d spots) (limi
   abbrev IsLess : ℕ → ℕ → Type 0
   IsLess i s = (t : ℕ) × (t < s) × IsTight d spots done i t
 
-  bool-tells : (c : Bool) → (c ≡ true) ⊎ (c ≡ false)
-  bool-tells true = inl refl
-  bool-tells false = inr refl
-
   other-or : (i s j : ℕ) → i < length d.ships → j < length d.ships → (done j ≡ true → Keeps d spots i j s) ⊎ ((done j ≡ true) × IsLessBy i j s)
   other-or i s j ki kj =
-      elim (bool-tells (done j)) [
-        | inr f ↦ inl (λ e. absurd (true-false (sym e ∙ f)))
+      elim (cases_Bool (done j)) [
+        | inr f ↦ inl (λ e. absurd (true≢false (sym e ∙ f)))
         | inl e ↦ elim (keeps-or i j s ki kj) [ inl k ↦ inl (λ h. k) | inr less ↦ inr (e, less) ]
       ]
 
@@ -340,8 +334,8 @@ module _ (d : Deck) (spots : List Spot) (legal : IsLegalPlacement d spots) (limi
 
   free-or : (i s : ℕ) → i < length d.ships → (done i ≡ false → HasRoom d spots done i s) ⊎ ((done i ≡ false) × IsLess i s)
   free-or i s ki =
-      elim (bool-tells (done i)) [
-        | inl e ↦ inl (λ f. absurd (true-false (sym e ∙ f)))
+      elim (cases_Bool (done i)) [
+        | inl e ↦ inl (λ f. absurd (true≢false (sym e ∙ f)))
         | inr f ↦ elim (room-or i s ki) [ inl r ↦ inl (λ h. r) | inr less ↦ inr (f, less) ]
       ]
 
@@ -415,7 +409,7 @@ HasNormalBy d spots = (normal : List Spot) × IsNormal d normal × AreNoFarther 
 rounds : (d : Deck) → IsDeck d → (fuel : ℕ) (spots : List Spot) (done : ℕ → Bool) → IsLegalPlacement d spots → AreRooted d spots done → free_count done (length d.ships) < fuel → HasNormalBy d spots
 rounds d limits zero spots done legal rooted few = absurd (omega (arith, few))
 rounds d limits (suc fuel) spots done legal rooted few =
-    elim (all-or (λ i. done i ≡ true) (λ i. done i ≡ false) (length d.ships) (λ i ki. tells (done i))) [
+    elim (all-or (λ i. done i ≡ true) (λ i. done i ≡ false) (length d.ships) (λ i ki. cases_Bool (done i))) [
       | inl all ↦ (spots, all-done d spots done legal rooted all, same-no-farther spots)
       | inr found ↦
           let least = least-slack d spots legal limits done found.0 found.1 found.2 in
@@ -423,15 +417,11 @@ rounds d limits (suc fuel) spots done legal rooted few =
           let rest = rounds d limits fuel (shift_from done least.1 0 spots) (with_done least.0 done) (move-legal d spots legal limits done least.0 least.1 least.2) (move-rooted d spots legal limits done least.0 least.1 least.2 rooted) (omega (arith, fewer, few)) in
           (rest.0, rest.1, are-no-farther spots (shift_from done least.1 0 spots) rest.0 (move-back d spots legal limits done least.0 least.1 least.2) rest.2)
     ]
-  where
-    tells : (c : Bool) → (c ≡ true) ⊎ (c ≡ false)
-    tells true = inl refl
-    tells false = inr refl
 
 -- EVERY LEGAL PLACEMENT GIVES A NORMAL ONE with the same y, ranks and moorings, and no greater x.
 pub normal-exists : (d : Deck) (spots : List Spot) → IsDeck d → IsLegalPlacement d spots → HasNormalBy d spots
 normal-exists d spots limits legal =
-    rounds d limits (suc (free_count (λ i. false) (length d.ships))) spots (λ i. false) legal (record { rooted = λ i ki e. absurd (true-false (sym e)) }) (omega arith)
+    rounds d limits (suc (free_count (λ i. false) (length d.ships))) spots (λ i. false) legal (record { rooted = λ i ki e. absurd (true≢false (sym e)) }) (omega arith)
 
 pub has-normal : (d : Deck) → IsDeck d → HasNormal d
 has-normal d limits spots legal = let found = normal-exists d spots limits legal in (found.0, found.1)

@@ -1,5 +1,5 @@
 -- The rounds of `normalise`.
-use Rattle.std.proofs.Common.{◌≡◌, ℕ, zero, suc, ◌+◌, ◌<◌, ◌≤◌, List, [], ◌∷◌, length, cond, Bool, true, false, ◌||◌, inl, inr, refl, sym, ap, ◌∙◌, subst, arith, slice_set}
+use Rattle.std.proofs.Common.{◌≡◌, ℕ, zero, suc, ◌+◌, ◌<◌, ◌≤◌, List, [], ◌∷◌, length, cond, Bool, true, false, ◌||◌, inl, inr, refl, sym, ap, ◌∙◌, subst, arith, slice_set, true≢false}
 use Rattle.std.proofs.lemmas.Bool.Decides.{eqb_tells}
 use Rattle.std.proofs.lemmas.List.{get_or-set_same, get_or-set_other, length-set}
 use Rattle.lock_model.specs.Deck.{Deck, IsDeck}
@@ -10,9 +10,6 @@ use Rattle.deck_laws.specs.Rounds.{AreRooted, IsRound, with_done, free_count}
 use Rattle.deck_laws.specs.Slack.{IsLeastSlack, done_in}
 use Rattle.deck_laws.specs.Shift.{shift_from}
 use Rattle.deck_laws.proofs.NormalLemmas.{move-legal, move-back, move-rooted, free-less, are-no-farther, same-no-farther, all-done}
-
-clash : true ≡ false → ⊥
-clash e = cc
 
 few-free : (f : ℕ → Bool) (n : ℕ) → free_count f n ≤ n
 few-free f zero = omega arith
@@ -40,7 +37,7 @@ none-free f (suc n) h i k =
 pub round_begun : (d : Deck) (spots : List Spot) (done : List Bool) → IsLegalPlacement d spots → done ≡ false ∷ false ∷ false ∷ false ∷ false ∷ false ∷ false ∷ false ∷ [] → IsRound d spots spots done 0
 round_begun d spots done legal is = record {
   legal = legal;
-  rooted = record { rooted = λ i ki e. absurd (clash (sym e ∙ ap (λ xs. done_in xs i) is ∙ all-false i)) };
+  rooted = record { rooted = λ i ki e. absurd (true≢false (sym e ∙ ap (λ xs. done_in xs i) is ∙ all-false i)) };
   back = same-no-farther spots;
   few = (let few = few-free (done_in done) (length d.ships) in omega (arith, few));
   flags = ap length is;

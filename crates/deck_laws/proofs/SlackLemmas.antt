@@ -1,5 +1,5 @@
 -- What the code of `normalise` needs.
-use Rattle.std.proofs.Common.{◌≡◌, ℕ, zero, suc, ◌+◌, ◌-◌, ◌<◌, ◌≤◌, List, [], ◌∷◌, ◌++◌, length, take, Bool, true, false, ◌⊎◌, inl, inr, sym, ap, ◌∙◌, subst, arith}
+use Rattle.std.proofs.Common.{◌≡◌, ℕ, zero, suc, ◌+◌, ◌-◌, ◌<◌, ◌≤◌, List, [], ◌∷◌, ◌++◌, length, take, Bool, true, false, ◌⊎◌, inl, inr, sym, ap, ◌∙◌, subst, arith, true≢false}
 use Rattle.std.proofs.lemmas.Bool.Decides.{eqb_tells}
 use Rattle.std.proofs.lemmas.Grind.{common_steps}
 use Rattle.lock_model.specs.Deck.{Deck}
@@ -42,16 +42,13 @@ slack_whole d spots done i n s old all = record { end = old.end; others = λ j k
 pub least_skip : (d : Deck) (spots : List Spot) (done : ℕ → Bool) (i ship s : ℕ) → IsLeastTo d spots done i ship s → done i ≡ true → IsLeastTo d spots done (i + 1) ship s
 least_skip d spots done i ship s old di = record {
   room = λ k h fk. elim (eqb_tells k i) [
-    | inl y ↦ absurd (clash (sym (ap done y.1 ∙ di) ∙ fk))
+    | inl y ↦ absurd (true≢false (sym (ap done y.1 ∙ di) ∙ fk))
     | inr n ↦ old.room k (omega (arith, h, n.1)) fk
   ];
   known = old.known;
   free = old.free;
   tight = old.tight;
 }
-  where
-    clash : true ≡ false → ⊥
-    clash e = cc
 
 pub least_keep : (d : Deck) (spots : List Spot) (done : ℕ → Bool) (i ship s t : ℕ) → IsLeastTo d spots done i ship s → HasRoom d spots done i t → s ≤ t → IsLeastTo d spots done (i + 1) ship s
 least_keep d spots done i ship s t old room less = record {

@@ -1,8 +1,8 @@
 -- A placement without one of its ships is legal.
-use Rattle.std.proofs.Common.{◌≡◌, ◌≢◌, ℕ, zero, suc, ◌+◌, ◌-◌, ◌<◌, ◌≤◌, List, length, cond, Bool, true, false, ◌||◌, ◌⊎◌, inl, inr, refl, sym, ap, ◌∙◌, subst, arith, nat_eq, nat_lt, slice_index_or}
+use Rattle.std.proofs.Common.{◌≡◌, ◌≢◌, ℕ, zero, suc, ◌+◌, ◌-◌, ◌<◌, ◌≤◌, List, length, cond, Bool, true, false, ◌||◌, ◌⊎◌, inl, inr, refl, sym, ap, ◌∙◌, subst, arith, nat_eq, nat_lt, slice_index_or, eqb-true, true≢false}
 use Rattle.std.specs.List.{remove}
 use Rattle.std.proofs.lemmas.Bool.Decides.{eqb_tells, leb_tells}
-use Rattle.std.proofs.lemmas.Bool.{lt-ltb, ltb-true}
+use Rattle.std.proofs.lemmas.Bool.{lt-ltb, ltb-true, or_parts, or_cases, false≢true}
 use Rattle.std.proofs.lemmas.List.{get_or-map, length-map}
 use Rattle.std.proofs.lemmas.List.Edits.{length-remove, get_or-remove_below, get_or-remove_above}
 use Rattle.lock_model.specs.Deck.{Deck, IsDeck, size_at, no_size}
@@ -17,32 +17,15 @@ use Rattle.deck_laws.specs.Thin.{fallen, fallen_moor, moor_without, leads_to, ne
 use Rattle.deck_laws.proofs.HostLemmas.{above, thin-apart, thin-host, thin-guest, host-stays}
 use Rattle.deck_laws.proofs.PlacementLemmas.{length_of, width_of, x_at, rank_at, moor_at, depth_of, is-wide, is-moored, apart-by, quay-by, host-by}
 
-true-false : true ≡ false → ⊥
-true-false e = cc
-
-false-true : false ≡ true → ⊥
-false-true e = cc
-
-or-true : (a c : Bool) → (a || c) ≡ true → (a ≡ true) ⊎ (c ≡ true)
-or-true true c e = inl refl
-or-true false c e = inr e
-
-or-false : (a c : Bool) → (a || c) ≡ false → (a ≡ false) × (c ≡ false)
-or-false true c e = absurd (true-false e)
-or-false false c e = (refl, e)
-
-eq-true : (a c : ℕ) → nat_eq a c ≡ true → a ≡ c
-eq-true a c e = elim (eqb_tells a c) [ inl y ↦ y.1 | inr n ↦ absurd (false-true (sym n.0 ∙ e)) ]
-
 eq-false : (a c : ℕ) → nat_eq a c ≡ false → a ≢ c
-eq-false a c e = elim (eqb_tells a c) [ inl y ↦ absurd (true-false (sym y.0 ∙ e)) | inr n ↦ n.1 ]
+eq-false a c e = elim (eqb_tells a c) [ inl y ↦ absurd (true≢false (sym y.0 ∙ e)) | inr n ↦ n.1 ]
 
 pub ltb_tells : (a c : ℕ) → ((nat_lt a c ≡ true) × (a < c)) ⊎ ((nat_lt a c ≡ false) × (c ≤ a))
 ltb_tells a c = go (nat_lt a c) refl
   where
     go : (t : Bool) → nat_lt a c ≡ t → ((nat_lt a c ≡ true) × (a < c)) ⊎ ((nat_lt a c ≡ false) × (c ≤ a))
     go true e = inl (e, ltb-true a c e)
-    go false e = elim (leb_tells c a) [ inl y ↦ inr (e, y.1) | inr n ↦ absurd (true-false (sym (lt-ltb a c n.1) ∙ e)) ]
+    go false e = elim (leb_tells c a) [ inl y ↦ inr (e, y.1) | inr n ↦ absurd (true≢false (sym (lt-ltb a c n.1) ∙ e)) ]
 
 -- the place of ship i of the thinner deck in the deck
 abbrev pub raised : ℕ → ℕ → ℕ
@@ -169,8 +152,8 @@ module _ (d : Deck) (spots : List Spot) (legal : IsLegalPlacement d spots) (limi
   moves-host i ki goes = go (moor i) refl
     where
       go : (m : Moor) → moor i ≡ m → (k : ℕ) × (moor i ≡ Ship k) × ((k ≡ b) ⊎ (moves k ≡ true))
-      go Quay e = absurd (false-true (sym (ap (λ m. leads_to spots b m d.width) e) ∙ goes))
-      go (Ship k) e = (k, e, elim (or-true (nat_eq k b) (moves k) (sym (moves-step i k ki e) ∙ goes)) [ inl t ↦ inl (eq-true k b t) | inr t ↦ inr t ])
+      go Quay e = absurd (false≢true (sym (ap (λ m. leads_to spots b m d.width) e) ∙ goes))
+      go (Ship k) e = (k, e, elim (or_cases (nat_eq k b) (moves k) (sym (moves-step i k ki e) ∙ goes)) [ inl t ↦ inl (eqb-true k b t) | inr t ↦ inr t ])
 
   moves-rank : (f i : ℕ) → i < length d.ships → low i < f → moves i ≡ true → rank i ≡ rank b
   moves-rank zero i ki small goes = absurd (omega (arith, small))
@@ -187,7 +170,7 @@ module _ (d : Deck) (spots : List Spot) (legal : IsLegalPlacement d spots) (limi
   moved i ki goes = (moves-rank (suc (low i)) i ki (omega arith) goes, moves-host i ki goes)
 
   stays : (i k : ℕ) → i < length d.ships → moves i ≡ false → moor i ≡ Ship k → (k ≢ b) × (moves k ≡ false)
-  stays i k ki still e = let parts = or-false (nat_eq k b) (moves k) (sym (moves-step i k ki e) ∙ still) in (eq-false k b parts.0, parts.1)
+  stays i k ki still e = let parts = or_parts (nat_eq k b) (moves k) (sym (moves-step i k ki e) ∙ still) in (eq-false k b parts.0, parts.1)
 
   abbrev pub put : ℕ → Spot
   put i = thin_spot d spots b (spot_at spots i)

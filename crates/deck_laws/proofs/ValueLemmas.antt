@@ -1,8 +1,9 @@
 -- The rounds of the search give the spot values.
 use Rattle.std.proofs.Common.{◌≡◌, ◌≢◌, ℕ, zero, suc, ◌+◌, ◌-◌, ◌<◌, ◌≤◌, List, [], ◌∷◌, ◌++◌, length, filter, flat_map, cond, Bool, true, false, not, ◌&&◌, Option, Some, None, IsSome, is_some, Result, Ok, Err, IfOk, ◌⊎◌, inl, inr, refl, sym, ap, ◌∙◌, subst, arith, nat_eq, nat_le, replicate, slice_set}
-use Rattle.std.proofs.lemmas.Bool.{le-leb, leb-true}
+use Rattle.std.proofs.lemmas.Bool.{le-leb, leb-true, false≢true, and_parts}
 use Rattle.std.proofs.lemmas.Bool.Decides.{eqb_tells}
 use Rattle.std.proofs.lemmas.List.{get_or-set_same, get_or-set_other, get_or-replicate, length-set, length-replicate}
+use Rattle.std.proofs.lemmas.Option.{none-some, same_Some}
 use Rattle.lock_model.specs.Deck.{Deck, IsDeck, no_size}
 use Rattle.lock_model.specs.Ships.{RisesFrom}
 use Rattle.lock_rules.specs.Arrival.{numbers_from}
@@ -17,10 +18,6 @@ use Rattle.deck_laws.specs.Laws.{HoldNormalPlaces}
 use Rattle.deck_laws.specs.Reach.{round_at, least_length, IsStepBy, IsStepOf, IsNextOf, Reaches, HasReached, reached_of}
 use Rattle.deck_laws.proofs.MemberLemmas.{among-filter, among-flat_map, among-numbers, among-rising, rising-rises, filter-rises, same-rising}
 use Rattle.deck_laws.proofs.ReachLemmas.{some-by, still-some}
-
-both-true : (a b : Bool) → (a && b) ≡ true → (a ≡ true) × (b ≡ true)
-both-true true b e = (refl, e)
-both-true false b e = cc
 
 -- the number that is there
 some-of : (o : Option ℕ) → IsSome o → (r : ℕ) × (o ≡ Some r)
@@ -39,7 +36,7 @@ kept-by d t near far = ap (λ b. b && nat_le (t + least_length d + d.end) d.leng
 
 by-kept : (d : Deck) (t : ℕ) → is_kept d t ≡ true → (d.end ≤ t) × (t + least_length d + d.end ≤ d.length)
 by-kept d t e =
-    let both = both-true (nat_le d.end t) (nat_le (t + least_length d + d.end) d.length) e in
+    let both = and_parts (nat_le d.end t) (nat_le (t + least_length d + d.end) d.length) e in
     (leb-true d.end t both.0, leb-true (t + least_length d + d.end) d.length both.1)
 
 -- ---- steps
@@ -50,10 +47,7 @@ of-others n i k h =
     (omega (arith, low), differ both.1)
   where
     differ : not (nat_eq k i) ≡ true → k ≢ i
-    differ e = elim (eqb_tells k i) [ inl y ↦ (let bad : false ≡ true = sym (ap not y.0) ∙ e in absurd (clash bad)) | inr n ↦ n.1 ]
-      where
-        clash : false ≡ true → ⊥
-        clash e = cc
+    differ e = elim (eqb_tells k i) [ inl y ↦ (let bad : false ≡ true = sym (ap not y.0) ∙ e in absurd (false≢true bad)) | inr n ↦ n.1 ]
 
 shift-among : (d : Deck) (v i j t : ℕ) → i < length d.ships → j < length d.ships → j ≢ i → IsAmong (shifts_by d v i j) t → IsAmong (shifts_of d v) t
 shift-among d v i j t ki kj differ h =
@@ -202,18 +196,12 @@ first_reached d last fresh rounds near room empty is =
     sound t r e =
         elim (eqb_tells t d.end) [
           | inl y ↦ (
-              let zero-is : 0 ≡ r = some-same (sym at-end ∙ ap (round_at (first_table last d.end)) (sym y.1) ∙ e) in
+              let zero-is : 0 ≡ r = same_Some 0 r (sym at-end ∙ ap (round_at (first_table last d.end)) (sym y.1) ∙ e) in
               (omega (arith, zero-is), subst (λ m. IsAmong (values_after d m) t) zero-is (subst (IsAmong (values_after d 0)) (sym y.1) (IsAmong-filter (is_kept d) (d.end ∷ []) d.end (inl refl) kept-end)))
               )
-          | inr n ↦ absurd (none-some (sym (blank t (inside (first_table last d.end) t r e)) ∙ sym (get_or-set_other (blank_table last) d.end t (Some 0) None n.1) ∙ e))
+          | inr n ↦ absurd (none-some r (sym (blank t (inside (first_table last d.end) t r e)) ∙ sym (get_or-set_other (blank_table last) d.end t (Some 0) None n.1) ∙ e))
         ]
       where
-        some-same : Some 0 ≡ Some r → 0 ≡ r
-        some-same e = cc
-
-        none-some : None ≡ Some r → ⊥
-        none-some e = cc
-
         blank : (t : ℕ) → t < length (first_table last d.end) → round_at (blank_table last) t ≡ None
         blank t h = get_or-replicate (last + 1) t None None (omega (arith, h, size))
 

@@ -1,5 +1,5 @@
 -- Lists of distinct numbers.
-use Rattle.std.proofs.Common.{◌≡◌, ◌≢◌, ℕ, ◌<◌, ◌≤◌, List, [], ◌∷◌, length, ◌||◌, true, false, inl, inr, sym, subst, arith, eqb}
+use Rattle.std.proofs.Common.{◌≡◌, ◌≢◌, ℕ, ◌<◌, ◌≤◌, List, [], ◌∷◌, length, ◌||◌, true, false, inl, inr, sym, subst, arith, eqb, true≢false}
 use Rattle.std.proofs.lemmas.Bool.Decides.{eqb_tells}
 use Rattle.std.proofs.lemmas.List.Elements.{All-from_recursion}
 use Rattle.std.proofs.lemmas.List.Kept.{AllPairs-cons}
@@ -17,10 +17,7 @@ pairs-differ (x ∷ xs) h = AllPairs-cons (λ j k. j ≢ k) x xs (All-from_recur
 
 -- distinct numbers below n are few
 any-among : (x : ℕ) (xs : List ℕ) → list_any (eqb x) xs ≡ true → IsAmong xs x
-any-among x [] h = absurd (clash (sym h))
-  where
-    clash : true ≡ false → ⊥
-    clash e = cc
+any-among x [] h = absurd (true≢false (sym h))
 any-among x (y ∷ ys) h =
     elim (eqb_tells x y) [
       | inl e ↦ inl (sym e.1)

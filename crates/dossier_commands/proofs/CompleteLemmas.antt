@@ -1,5 +1,6 @@
 -- How `lower` and `resume` end on an open dossier whose instance has no unfit ship.
-use Rattle.std.proofs.Common.{ℕ, ◌≡◌, ◌<◌, List, sym, subst, ap, inl, inr, Ok, Err, Result}
+use Rattle.std.proofs.Common.{ℕ, ◌≡◌, ◌<◌, List, sym, subst, ap, inl, inr, Ok}
+use Rattle.list_laws.proofs.Variants.{not-ok_and_err, one-ok}
 use Rattle.lock_model.specs.declared.instance.Instance.{Instance}
 use Rattle.lock_rules.specs.Unfit.{HasNoUnfit, IsFirstUnfit}
 use Rattle.certificate_rules.specs.OpenCertificates.{OpenCertificate, Stands}
@@ -27,20 +28,14 @@ reads_pair : (bytes : List ℕ) (I : Instance) (C : OpenCertificate) → ReadsOp
 unfolding ReadsOpen draft_of
 reads_pair bytes I C reads = reads
 
-one_pair : (r : Result (Draft × OpenCertificate) AnyFault) (a b : Draft × OpenCertificate) → r ≡ Ok a → r ≡ Ok b → a ≡ b
-one_pair r a b e f = cc
-
-no_pair : (r : Result (Draft × OpenCertificate) AnyFault) (a : Draft × OpenCertificate) (fault : AnyFault) → r ≡ Ok a → r ≡ Err fault → ⊥
-no_pair r a fault e f = cc
-
 pub one_open : (bytes : List ℕ) (I J : Instance) (C D : OpenCertificate) → ReadsOpen bytes I C → ReadsOpen bytes J D → (I ≡ J) × (C ≡ D)
 unfolding draft_of
 one_open bytes I J C D first second =
-    let same = one_pair (open_dossier_in bytes) (draft_of I, C) (draft_of J, D) (reads_pair bytes I C first) (reads_pair bytes J D second) in
+    let same = one-ok (open_dossier_in bytes) (draft_of I, C) (draft_of J, D) (reads_pair bytes I C first) (reads_pair bytes J D second) in
     (same_instance I J (ap (λ (p : Draft × OpenCertificate). p.0.chambers) same) (ap (λ (p : Draft × OpenCertificate). p.0.ships) same), ap (λ (p : Draft × OpenCertificate). p.1) same)
 
 pub no_open_fault : (bytes : List ℕ) (I : Instance) (C : OpenCertificate) (fault : AnyFault) → ReadsOpen bytes I C → OpenDossierFault bytes fault → ⊥
-no_open_fault bytes I C fault reads first = no_pair (open_dossier_in bytes) (draft_of I, C) fault (reads_pair bytes I C reads) first
+no_open_fault bytes I C fault reads first = not-ok_and_err (open_dossier_in bytes) (draft_of I, C) fault (reads_pair bytes I C reads) first
 
 -- ---- what is answered to the bytes of an open dossier whose instance has no unfit ship
 

@@ -1,23 +1,17 @@
--- What a legal plan says of each of its lockages.
-use Rattle.std.proofs.Common.{ℕ, ◌+◌, ◌<◌, ◌≤◌, List, [], ◌∷◌, length, map, filter, All, cond, true, false, nat_eq, nat_le, eq-eqb, subst, refl}
+-- What a legal plan, and a legal part of one, says of each of its lockages.
+use Rattle.std.proofs.Common.{ℕ, ◌<◌, ◌≤◌, List, [], ◌∷◌, length, filter, All, cond, true, false, nat_eq, nat_le, eq-eqb, subst, refl, arith}
 use Rattle.std.proofs.lemmas.List.Elements.{All-head, All-tail, All-cons, All-nil, All-weaker}
 use Rattle.lock_model.specs.Fleet.{ship_at, chamber_at}
-use Rattle.lock_model.specs.declared.way.Stand.{Stand}
 use Rattle.lock_model.specs.declared.instance.Instance.{Instance}
 use Rattle.lock_model.specs.declared.plan.Lockage.{Lockage}
 use Rattle.lock_model.specs.declared.plan.Plan.{Plan}
-use Rattle.lock_rules.specs.Lawful.{AreLawfulFrom, stand_after, duration_of}
-use Rattle.lock_rules.specs.Lines.{group_of, insert_by_start, sorted_by_start, line_of}
-use Rattle.lock_rules.specs.Plan.{IsLegal, IsLegalLockage}
+use Rattle.lock_rules.specs.Lines.{insert_by_start, sorted_by_start, line_of}
+use Rattle.lock_rules.specs.Plan.{IsLegal, IsLegalPart, IsLegalLockage}
+use Rattle.lock_rules.proofs.ThroughputLemmas.{arrivals-line}
 
 -- no ship of the lockage arrives after its start
 abbrev pub HasArrived : Instance → Lockage → Type 0
 HasArrived I l = All (λ s. (ship_at I s).arrival ≤ l.start) l.ships
-
-lawful-arrived : (I : Instance) (c : ℕ) (ls : List Lockage) (stand : Stand) (from : ℕ) → AreLawfulFrom I c stand from (map group_of ls) (map (λ l. l.start) ls) → All (HasArrived I) ls
-lawful-arrived I c [] stand from h = All-nil (HasArrived I)
-lawful-arrived I c (l ∷ ls) stand from h =
-    All-cons (HasArrived I) l ls h.0.arrived (lawful-arrived I c ls (stand_after l.way) (l.start + duration_of I c l.ships) h.1)
 
 module _ (Q : Lockage → Type 0) where
   All-before_insert : (l : Lockage) (ls : List Lockage) → All Q (insert_by_start l ls) → All Q (l ∷ ls)
@@ -51,16 +45,31 @@ module _ (Q : Lockage → Type 0) where
             | false ↦ λ h. h
           ] h
 
-pub legal-chambers : (I : Instance) (P : Plan) → IsLegal I P → All (λ l. l.chamber < length I.chambers) P.lockages
-legal-chambers I P legal = All-weaker (IsLegalLockage I) (λ l. l.chamber < length I.chambers) (λ l h. h.chamber) P.lockages legal.lockage
+-- a legal plan is a legal part
+pub legal-part : (I : Instance) (P : Plan) → IsLegal I P → IsLegalPart I P
+legal-part I P legal = record { once = λ s known. omega (arith, legal.once s known); lockage = legal.lockage; timely = legal.timely }
 
-pub legal-ships : (I : Instance) (P : Plan) → IsLegal I P → All (λ l. All (λ s. s < length I.ships) l.ships) P.lockages
-legal-ships I P legal = All-weaker (IsLegalLockage I) (λ l. All (λ s. s < length I.ships) l.ships) (λ l h. h.known) P.lockages legal.lockage
+module _ (I : Instance) (K : Plan) (legal : IsLegalPart I K) where
+  pub part-chambers : All (λ l. l.chamber < length I.chambers) K.lockages
+  part-chambers = All-weaker (IsLegalLockage I) (λ l. l.chamber < length I.chambers) (λ l h. h.chamber) K.lockages legal.lockage
 
--- no lockage of a legal plan starts before the arrival of one of its ships
-pub legal-arrived : (I : Instance) (P : Plan) → IsLegal I P → All (HasArrived I) P.lockages
-legal-arrived I P legal =
-    All-from_chambers (HasArrived I) (length I.chambers) P.lockages (legal-chambers I P legal)
-    (λ c less. All-before_sort (HasArrived I) (filter (λ l. nat_eq l.chamber c) P.lockages) (lawful-arrived I c (line_of P c) (chamber_at I c).stands (chamber_at I c).opens (legal.timely c less).lawful))
+  pub part-ships : All (λ l. All (λ s. s < length I.ships) l.ships) K.lockages
+  part-ships = All-weaker (IsLegalLockage I) (λ l. All (λ s. s < length I.ships) l.ships) (λ l h. h.known) K.lockages legal.lockage
+
+  -- no lockage starts before the arrival of one of its ships
+  pub part-arrived : All (HasArrived I) K.lockages
+  part-arrived =
+      All-from_chambers (HasArrived I) (length I.chambers) K.lockages part-chambers
+      (λ c less. All-before_sort (HasArrived I) (filter (λ l. nat_eq l.chamber c) K.lockages) (arrivals-line I c (chamber_at I c).stands (chamber_at I c).opens (line_of K c) (legal.timely c less).lawful))
+
+module _ (I : Instance) (P : Plan) (legal : IsLegal I P) where
+  pub legal-chambers : All (λ l. l.chamber < length I.chambers) P.lockages
+  legal-chambers = part-chambers I P (legal-part I P legal)
+
+  pub legal-ships : All (λ l. All (λ s. s < length I.ships) l.ships) P.lockages
+  legal-ships = part-ships I P (legal-part I P legal)
+
+  pub legal-arrived : All (HasArrived I) P.lockages
+  legal-arrived = part-arrived I P (legal-part I P legal)
 
 pub ruleset of_legal_plans = (legal-chambers, legal-ships, legal-arrived)

@@ -59,7 +59,7 @@ module _ (I : Instance) (P : Plan) (legal : IsLegal I P) where
       record { node = leaf.node; leads = (split.0, held, leaf.leads); under = leaf.under }
 
   -- with all ships kept, a line of the plan is its own trace
-  line-trace : (c : ℕ) → trace_of (first_ships I (length I.ships)) (groups_of P c) ≡ groups_of P c
+  pub line-trace : (c : ℕ) → trace_of (first_ships I (length I.ships)) (groups_of P c) ≡ groups_of P c
   line-trace c =
       let kept = has_number (first_ships I (length I.ships)) in
       let own = All-line (IsLegalLockage I) P c legal.lockage in

@@ -1,15 +1,13 @@
 -- Words that mean a command.
 use Rattle.std.proofs.Common.{ℕ, ◌≡◌, ◌⊎◌, inl, inr, List, Ok, Err, Result}
 use Rattle.std.specs.Result.{IsErrOf}
+use Rattle.list_laws.proofs.Variants.{one-ok}
 use Rattle.command_words.specs.Meaning.{MeanCommand}
 use Rattle.command_words.specs.declared.commands.Command.{Command}
 use Rattle.command_words.specs.declared.commands.Command.TheVariants.{Solve, Check, Lot, Trial, Judge, Play, Replan, Lower, Resume}
 use Rattle.command_words.specs.declared.errors.WordsError.{WordsError}
 use Rattle.command_words.specs.declared.errors.WordsError.TheVariants as error
 use Rattle.lock_top.specs.Asked.{MeanOnly, HasNumbers}
-
-same : (a b : Command) (r : Result Command WordsError) → r ≡ Ok a → r ≡ Ok b → b ≡ a
-same a b r e f = cc
 
 wanting : (a : Command) (r : Result Command WordsError) → r ≡ Ok a → r ≡ Err error.NoMemory → ⊥
 wanting a r e f = cc
@@ -20,7 +18,7 @@ pub mean_only : (words : List (List ℕ)) (command : Command) (r : Result Comman
 mean_only words command r is means each = record {
   means = means;
   only = λ other meant. elim (each other meant) [
-    | inl e ↦ same command other r is e
+    | inl e ↦ one-ok r other command e is
     | inr n ↦ absurd (wanting command r is n)
   ];
 }

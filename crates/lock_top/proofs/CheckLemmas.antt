@@ -1,5 +1,6 @@
 -- What `check` says to the bytes of a dossier.
-use Rattle.std.proofs.Common.{ℕ, ◌≡◌, ◌⊎◌, List, subst, ap, inl, inr, Ok, Err, Result}
+use Rattle.std.proofs.Common.{ℕ, ◌≡◌, ◌⊎◌, List, subst, ap, inl, inr, Ok, Err}
+use Rattle.list_laws.proofs.Variants.{not-ok_and_err, one-ok}
 use Rattle.lock_model.specs.declared.instance.Instance.{Instance}
 use Rattle.lock_rules.specs.Unfit.{HasNoUnfit}
 use Rattle.certificate_rules.specs.Certificates.{Certificate}
@@ -23,25 +24,19 @@ has_fault : (bytes : List ℕ) (fault : AnyFault) → DossierFault bytes fault �
 unfolding DossierFault
 has_fault bytes fault first = first
 
-one_pair : (r : Result (Draft × Certificate) AnyFault) (a b : Draft × Certificate) → r ≡ Ok a → r ≡ Ok b → a ≡ b
-one_pair r a b e f = cc
-
-no_pair : (r : Result (Draft × Certificate) AnyFault) (a : Draft × Certificate) (fault : AnyFault) → r ≡ Ok a → r ≡ Err fault → ⊥
-no_pair r a fault e f = cc
-
 -- The bytes are a dossier of this instance, which has no unfit ship, and of this certificate.
 module _ (bytes : List ℕ) (I : Instance) (C : Certificate) (reads : Reads bytes I C) (fit : HasNoUnfit I) where
   -- what was answered, was answered to this dossier
   pub own_answer : (status : Status) (text : List ℕ) → AnswersReads bytes status text → AnswersCertificate I C status text
   own_answer status text answer =
-      let same = one_pair (dossier_in bytes) (draft_of answer.instance, answer.certificate) (draft_of I, C) (reads_pair bytes answer.instance answer.certificate answer.reads) (reads_pair bytes I C reads) in
+      let same = one-ok (dossier_in bytes) (draft_of answer.instance, answer.certificate) (draft_of I, C) (reads_pair bytes answer.instance answer.certificate answer.reads) (reads_pair bytes I C reads) in
       let instance : answer.instance ≡ I = same_instance answer.instance I (ap (λ (p : Draft × Certificate). p.0.chambers) same) (ap (λ (p : Draft × Certificate). p.0.ships) same) in
       let certificate : answer.certificate ≡ C = ap (λ (p : Draft × Certificate). p.1) same in
       subst (λ J. AnswersCertificate J C status text) instance (subst (λ D. AnswersCertificate answer.instance D status text) certificate answer.answer)
 
   -- it has no fault, so its certificate fails first where it was said
   pub bad_rejected : (text : List ℕ) → AnswersCheck bytes BadDossier text → PrintsRejected I C text
-  bad_rejected text (inl fault) = absurd (no_pair (dossier_in bytes) (draft_of I, C) fault.fault (reads_pair bytes I C reads) (has_fault bytes fault.fault fault.first))
+  bad_rejected text (inl fault) = absurd (not-ok_and_err (dossier_in bytes) (draft_of I, C) fault.fault (reads_pair bytes I C reads) (has_fault bytes fault.fault fault.first))
   bad_rejected text (inr answer) = own_answer BadDossier text answer
 
   pub fits_some : (text : List ℕ) → AnswersReads bytes Unfit text → ⊥

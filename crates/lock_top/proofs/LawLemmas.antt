@@ -1,5 +1,5 @@
 -- What `check` answers to what `solve --dossier` wrote.
-use Rattle.std.proofs.Common.{ℕ, ◌≡◌, ◌≢◌, ◌++◌, Bool, true, false, List, sym, subst, ap, ◌∙◌, refl, inl, inr, Some}
+use Rattle.std.proofs.Common.{ℕ, ◌≡◌, ◌≢◌, ◌++◌, Bool, true, false, List, sym, subst, ap, ◌∙◌, refl, inl, inr, Some, true≢false}
 use Rattle.std.specs.declared.option.Option.{Option}
 use Rattle.std.specs.Io.KnownBytes.{Appends}
 use Rattle.std.proofs.lemmas.List.{append_cancel_left}
@@ -30,15 +30,12 @@ appended_some old bytes text held held_after before after appended =
 
 -- ---- how a run ends
 
-true_false : true ≡ false → ⊥
-true_false e = cc
-
 abbrev is_cut : Status → Bool
 is_cut WriteFault = true
 is_cut _ = false
 
 not_cut : (status : Status) → is_cut status ≡ false → status ≢ WriteFault
-not_cut status whole is = true_false (sym (ap is_cut is) ∙ whole)
+not_cut status whole is = true≢false (sym (ap is_cut is) ∙ whole)
 
 module _ (first : Run) (certified : Did IsCertified first) (words : List (List ℕ)) (source : Drained) (sink : Filled) (handed : IsHandedOn first.sink source) (ask : Asks words Check) where
   reads_handed : Reads handed.bytes certified.says.instance certified.says.certificate

@@ -1,11 +1,11 @@
 -- The ship isn't in one group more, nor in one line more.
 use Rattle.std.proofs.Common.{◌≡◌, ℕ, ◌+◌, ◌<◌, List, length, sym, ap, ◌∙◌, subst, arith, Bool, false, IsTrue, ◌↔◌, Contains, slice_index_or, inl, inr}
 use Rattle.std.proofs.lemmas.Bool.Decides.{eqb_tells}
+use Rattle.std.proofs.lemmas.List.{get_or_default}
 use Rattle.lock_model.specs.declared.group.Group.{Group}
 use Rattle.book_rules.specs.Book.{no_group}
 use Rattle.lock_rules.specs.Node.{line_at}
 use Rattle.node_work.specs.Last.{IsLacked, IsLackedBelow}
-use Rattle.node_work.proofs.LineLemmas.{same-at}
 
 no-truth : IsTrue false → ⊥
 no-truth e = cc
@@ -15,7 +15,7 @@ pub lacked_more : (line gs : List Group) (s n : ℕ) (g : Group) (S : List ℕ) 
 lacked_more line gs s n g S test same here ships before exact off = record {
   none = λ p less has. elim (eqb_tells p n) [
     | inl y ↦
-        let own : S ≡ (slice_index_or line n no_group).ships = ships ∙ ap (λ l. (slice_index_or l n g).ships) same ∙ ap (λ (x : Group). x.ships) (same-at line n g no_group here) in
+        let own : S ≡ (slice_index_or line n no_group).ships = ships ∙ ap (λ l. (slice_index_or l n g).ships) same ∙ ap (λ (x : Group). x.ships) (get_or_default line n g no_group here) in
         let held : Contains (slice_index_or line n no_group).ships s = subst (λ j. Contains (slice_index_or line j no_group).ships s) y.1 has in
         absurd (no-truth (subst IsTrue off (exact.1 (subst (λ T. Contains T s) (sym own) held))))
     | inr other ↦ before.none p (let differ = other.1 in omega (arith, less, differ)) has

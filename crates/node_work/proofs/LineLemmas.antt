@@ -1,8 +1,8 @@
 -- Mooring the lines of a node, one group after the other.
-use Rattle.std.proofs.Common.{◌≡◌, ℕ, zero, suc, ◌+◌, ◌<◌, ◌≤◌, List, [], ◌∷◌, ◌++◌, length, refl, sym, ap, ◌∙◌, subst, arith, All, slice_index_or, inl, inr}
+use Rattle.std.proofs.Common.{◌≡◌, ℕ, suc, ◌+◌, ◌<◌, ◌≤◌, List, [], ◌∷◌, ◌++◌, length, refl, sym, ap, ◌∙◌, subst, arith, All, slice_index_or, inl, inr}
 use Rattle.std.proofs.Math.ListN.{get_or-append}
 use Rattle.std.proofs.lemmas.Bool.Decides.{leb_tells, eqb_tells}
-use Rattle.std.proofs.lemmas.List.{get_or-append-add, length-append}
+use Rattle.std.proofs.lemmas.List.{get_or-append-add, length-append, get_or_default}
 use Rattle.lock_model.specs.Fitting.{deck_of}
 use Rattle.lock_model.specs.declared.instance.Instance.{Instance}
 use Rattle.lock_model.specs.declared.group.Group.{Group}
@@ -14,12 +14,6 @@ use Rattle.leaf_plan.specs.Moorings.{IsMoored, HasMooring, AreMoored}
 use Rattle.leaf_plan.proofs.LineLemmas.{sizes_step, room_for}
 use Rattle.node_work.specs.Settling.{AreMooredAt}
 use Rattle.node_work.specs.Lines.{IsMooredUpTo, AreMooredBelow}
-
--- of two defaults, the same element
-pub same-at : {X : Type 0} (xs : List X) (k : ℕ) (d e : X) → k < length xs → slice_index_or xs k d ≡ slice_index_or xs k e
-same-at [] k d e here = absurd (omega (arith, here))
-same-at (x ∷ xs) zero d e here = refl
-same-at (x ∷ xs) (suc k) d e here = same-at xs k d e (omega (arith, here))
 
 -- one mooring more
 pub has-more : (ms : List Mooring) (m : Mooring) (c : ℕ) (S : List ℕ) → HasMooring ms c S → HasMooring (ms ++ m ∷ []) c S
@@ -61,7 +55,7 @@ pub moored_more : (I : Instance) (c : ℕ) (line gs : List Group) (n : ℕ) (old
     → IsMooredUpTo I c line n old ms → new ≡ ms ++ record { chamber = c; ships = T; spots = spots } ∷ [] → IsMooredUpTo I c line (n + 1) old new
 moored_more I c line gs n old ms new g S T spots same here ships copied placed before pushed =
     let m : Mooring = record { chamber = c; ships = T; spots = spots } in
-    let own : T ≡ (slice_index_or line n no_group).ships = copied ∙ ships ∙ ap (λ l. (slice_index_or l n g).ships) same ∙ ap (λ (x : Group). x.ships) (same-at line n g no_group here) in
+    let own : T ≡ (slice_index_or line n no_group).ships = copied ∙ ships ∙ ap (λ l. (slice_index_or l n g).ships) same ∙ ap (λ (x : Group). x.ships) (get_or_default line n g no_group here) in
     let moored : AreMooredAt (deck_of I c T) spots = subst (λ U. AreMooredAt (deck_of I c U) spots) (sym copied) placed in
     subst (IsMooredUpTo I c line (n + 1) old) (sym pushed) (record {
       count = let long = length-append ms (m ∷ []) in let count = before.count in omega (arith, long, count);
@@ -101,5 +95,5 @@ pub below_all : (I : Instance) (lines : List (List Group)) (m : ℕ) (ms : List 
 below_all I lines m ms all below = record {
   legal = below.legal;
   each = λ c inside k d here.
-      subst (λ (g : Group). HasMooring ms c g.ships) (same-at (line_at lines c) k no_group d here) (below.each c k (omega (arith, inside, all)) here);
+      subst (λ (g : Group). HasMooring ms c g.ships) (get_or_default (line_at lines c) k no_group d here) (below.each c k (omega (arith, inside, all)) here);
 }

@@ -5,12 +5,13 @@ use Rattle.std.proofs.lemmas.Grind.{flat_map-append}
 use Rattle.std.proofs.lemmas.Nat.{mul-le}
 use Rattle.std.proofs.lemmas.List.Elements.{All-from_recursion}
 use Rattle.std.specs.List.{AllByRecursion}
+use Rattle.list_laws.proofs.ByRecursion.{all-append}
 use Rattle.lock_model.specs.Deck.{Deck}
 use Rattle.lock_rules.specs.Arrival.{numbers_from}
 use Rattle.lock_rules.proofs.LineLemmas.{numbers_more}
 use Rattle.refute_rules.specs.Choices.{Decision, BerthOf, PairOf, PlaceOf, decisions, spot_decisions}
 use Rattle.refute_rules.specs.Values.{spot_values}
-use Rattle.refute_rules.proofs.Among.{all-append, all-map, all-flat_map, all-weaker, all-numbers}
+use Rattle.refute_rules.proofs.Among.{all-map, all-flat_map, all-weaker, all-numbers}
 use Rattle.place_refute.specs.declared.leaf.Trees.TheVariants.{OfCases, OfSpots}
 use Rattle.place_refute.specs.Picks.{IsAsked}
 use Rattle.place_refute.specs.Walking.{IsReading}

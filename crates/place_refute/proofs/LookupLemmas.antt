@@ -1,20 +1,19 @@
 -- Looking up what a case has decided.
-use Rattle.std.proofs.Common.{◌≡◌, ◌≢◌, ℕ, ◌+◌, ◌<◌, ◌≤◌, cond, List, [], ◌∷◌, length, map, drop, get_or, sym, ap, ◌∙◌, Some, None}
+use Rattle.std.proofs.Common.{◌≡◌, ◌≢◌, ℕ, ◌+◌, ◌<◌, ◌≤◌, cond, List, [], ◌∷◌, length, map, drop, get_or, sym, ap, ◌∙◌, Some, None, ne_eqb, eq-eqb}
 use Rattle.std.proofs.lemmas.List.{drop_more, drop_all}
 use Rattle.refute_rules.specs.Choices.{Choice, Stands}
 use Rattle.refute_rules.specs.Decided.{berth_in, x_in}
 use Rattle.place_refute.specs.declared.decision.Pick.{Pick}
 use Rattle.berth_case.specs.declared.decided.Berth.{Berth}
 use Rattle.berth_case.specs.Lookups.{PassesBerth, GivesBerth}
-use Rattle.berth_case.proofs.LookupLemmas.{equal, differ}
 use Rattle.place_refute.specs.Picks.{choice_of}
 use Rattle.place_refute.specs.Lookups.{PassesPlace, GivesPlace}
 
 pub place_hit : (j i x : ℕ) → j ≡ i → GivesPlace (Stands j x) i x
-place_hit j i x e = record { give = λ rest. ap (λ t. cond t (Some x) (x_in rest i)) (equal j i e) }
+place_hit j i x e = record { give = λ rest. ap (λ t. cond t (Some x) (x_in rest i)) (eq-eqb j i e) }
 
 pub place_miss : (j i x : ℕ) → j ≢ i → PassesPlace (Stands j x) i
-place_miss j i x n = record { pass = λ rest. ap (λ t. cond t (Some x) (x_in rest i)) (differ j i n) }
+place_miss j i x n = record { pass = λ rest. ap (λ t. cond t (Some x) (x_in rest i)) (ne_eqb j i n) }
 
 -- the options that are left
 abbrev pub left_from : List Pick → ℕ → List Choice

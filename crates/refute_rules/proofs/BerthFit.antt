@@ -1,5 +1,6 @@
 -- A berth case with all berths, whose places obey it and in which all that overlap are apart along, gives a legal placement.
 use Rattle.std.proofs.Common.{◌≡◌, ◌≢◌, ℕ, zero, suc, ◌+◌, ◌<◌, ◌≤◌, ℤ, pos, List, length, ◌⊎◌, inl, inr, refl, sym, ap, ◌∙◌, arith, Some, None, option_map}
+use Rattle.std.proofs.lemmas.Option.{none-some, same_Some}
 use Rattle.std.specs.declared.option.Option.{Option}
 use Rattle.std.proofs.lemmas.Int.{ints}
 use Rattle.std.proofs.lemmas.Bool.Decides.{leb_tells}
@@ -15,12 +16,8 @@ use Rattle.refute_rules.specs.Choices.{Choice, Berth}
 use Rattle.refute_rules.specs.Decided.{berth_in, HasOtherRank}
 use Rattle.refute_rules.specs.Known.{host_of, quay_y, guest_y, moored_y, berth_y, y_within, y_in}
 use Rattle.refute_rules.specs.SpotFaults.{IsOutsideAcross}
-use Rattle.refute_rules.proofs.CaseLemmas.{some-same}
 use Rattle.refute_rules.proofs.FitLemmas.{rank-tells}
 use Rattle.refute_rules.specs.BerthCases.{DoOverlap, ObeyAlong}
-
-none-some : {X : Type 0} (x : X) → None ≡ Some x → ⊥
-none-some x e = cc
 
 module _ (d : Deck) (case : List Choice) where
   moored-more : (i : ℕ) (r : Rank) (m : Moor) (told more : ℕ → Option ℤ) → ((k : ℕ) (z : ℤ) → told k ≡ Some z → more k ≡ Some z) → (z : ℤ) → moored_y d i r m told ≡ Some z → moored_y d i r m more ≡ Some z
@@ -47,11 +44,11 @@ module _ (d : Deck) (case : List Choice) where
     where
       at : (o : Option ℤ) → y_within d case steps k ≡ o → option_map (guest_y d i k r) o ≡ Some z → (u : ℤ) × (y_within d case (suc steps) k ≡ Some u) × (guest_y d i k r u ≡ z)
       at None g h = absurd (none-some z h)
-      at (Some u) g h = (u, y-more steps k u g, some-same (guest_y d i k r u) z h)
+      at (Some u) g h = (u, y-more steps k u g, same_Some (guest_y d i k r u) z h)
 
   quay-known : (steps i : ℕ) (r : Rank) (z : ℤ) → berth_in case i ≡ Some (record { rank = r; moor = Quay }) → y_within d case steps i ≡ Some z → quay_y d i r ≡ z
   quay-known zero i r z b e = absurd (none-some z e)
-  quay-known (suc steps) i r z b e = some-same (quay_y d i r) z (ap (λ o. berth_y d i o (y_within d case steps)) (sym b) ∙ e)
+  quay-known (suc steps) i r z b e = same_Some (quay_y d i r) z (ap (λ o. berth_y d i o (y_within d case steps)) (sym b) ∙ e)
 
 -- the spots are those of a whole berth case
 pub record AreBerthSpots (d : Deck) (case : List Choice) (spots : List Spot) : Type 0 where
@@ -108,7 +105,7 @@ module _ (d : Deck) (case : List Choice) (spots : List Spot) (are : AreBerthSpot
       let host = are.host i k known e in
       let b : berth_in case i ≡ Some (record { rank = r; moor = Ship k }) = are.berth i known ∙ ap (λ m. Some (record { rank = r; moor = m })) e in
       let y = host-y d case (length d.ships) i k r (pos (spot_at spots i).y) b (are.y i known) in
-      let same : y.0 ≡ pos (spot_at spots k).y = some-same y.0 (pos (spot_at spots k).y) (sym y.1 ∙ are.y k host.0) in
+      let same : y.0 ≡ pos (spot_at spots k).y = same_Some y.0 (pos (spot_at spots k).y) (sym y.1 ∙ are.y k host.0) in
       let within = are.along.within i k (ap host_of b) in
       let rank : (spot_at spots k).rank ≡ r =
       elim (rank-tells (spot_at spots k).rank r) [

@@ -1,10 +1,13 @@
 -- A deck with a berth tree has no legal placement.
-use Rattle.std.proofs.Common.{◌≡◌, ◌≢◌, ℕ, zero, suc, ◌+◌, ◌-◌, ◌^◌, ◌/◌, ◌%◌, ◌<◌, ◌≤◌, List, [], ◌∷◌, ◌++◌, length, ◌⊎◌, inl, inr, refl, sym, ap, ◌∙◌, subst, arith, Some, None, Bool, true, false, nat_eq}
+use Rattle.std.proofs.Common.{◌≡◌, ◌≢◌, ℕ, zero, suc, ◌+◌, ◌-◌, ◌^◌, ◌/◌, ◌%◌, ◌<◌, ◌≤◌, List, [], ◌∷◌, ◌++◌, length, ◌⊎◌, inl, inr, refl, sym, ap, ◌∙◌, subst, arith, Some, None, Bool, true, nat_eq}
+use Rattle.std.proofs.lemmas.Bool.{false≢true}
+use Rattle.std.proofs.lemmas.Option.{none-some, same_Some}
 use Rattle.std.specs.declared.option.Option.{Option}
 use Rattle.std.proofs.lemmas.Int.{ints}
 use Rattle.std.proofs.lemmas.Bool.Decides.{eqb_tells, leb_tells}
 use Rattle.std.proofs.lemmas.List.Elements.{All-contains, All-from_recursion}
 use Rattle.std.specs.List.{AllByRecursion}
+use Rattle.list_laws.proofs.ByRecursion.{all-append}
 use Rattle.lock_model.specs.Deck.{Deck, IsDeck, size_at, no_size}
 use Rattle.lock_model.specs.Placement.{IsLegalPlacement, spot_at, IsAtHost, IsAtSide}
 use Rattle.lock_model.specs.Fitting.{Fits}
@@ -20,9 +23,9 @@ use Rattle.refute_rules.specs.Decided.{berth_in}
 use Rattle.refute_rules.specs.Known.{host_of, moor_host}
 use Rattle.refute_rules.specs.SpotFaults as spot
 use Rattle.lock_rules.specs.Among.{IsAmong}
-use Rattle.refute_rules.proofs.Among.{all-append, all-weaker, all-numbers}
+use Rattle.refute_rules.proofs.Among.{all-weaker, all-numbers}
 use Rattle.refute_rules.proofs.TreeLemmas.{in_order-one}
-use Rattle.refute_rules.proofs.CaseLemmas.{IsGoodChoice, IsGoodCase, berth-told, moored-as, berth-goes_on, some-same}
+use Rattle.refute_rules.proofs.CaseLemmas.{IsGoodChoice, IsGoodCase, berth-told, moored-as, berth-goes_on}
 use Rattle.refute_rules.proofs.SpotLemmas.{y-told, no_spot_fault}
 use Rattle.refute_rules.proofs.Packing.{Each, all-filter, each-filter, each-weaker, AreSplit, IsWithin, packed}
 use Rattle.refute_rules.proofs.ReasonLemmas.{total-sum, each-from_pairs, x_of, y_of, long_of, wide_of, parted, within_along}
@@ -30,19 +33,10 @@ use Rattle.refute_rules.specs.BerthCases.{host_in, HasOrder, DoOverlap, ShareHos
 use Rattle.refute_rules.specs.BerthFaults.{IsTooLong, AreTooMany, ships_in, IsCrowd, BerthFault, OtherRank, LeadsBack, TooLong, Outside, Guests, Crowd, NoPlaces, IsBerthFault}
 use Rattle.refute_rules.specs.BerthTrees.{Split, OfBerth, OfOrder, IsOpen, split_options, IsTreeWithin, IsBerthTree}
 
-none-some : {X : Type 0} (x : X) → None ≡ Some x → ⊥
-none-some x e = cc
-
 -- a host that is ship k
 ship-told : (k : ℕ) (o : Option ℕ) → is_ship k o ≡ true → o ≡ Some k
-ship-told k None e = absurd (false-true e)
-  where
-    false-true : false ≡ true → ⊥
-    false-true e = cc
-ship-told k (Some j) e = elim (eqb_tells j k) [ inl y ↦ ap Some y.1 | inr n ↦ absurd (false-true (sym n.0 ∙ e)) ]
-  where
-    false-true : false ≡ true → ⊥
-    false-true e = cc
+ship-told k None e = absurd (false≢true e)
+ship-told k (Some j) e = elim (eqb_tells j k) [ inl y ↦ ap Some y.1 | inr n ↦ absurd (false≢true (sym n.0 ∙ e)) ]
 
 numbers-rise : (low n : ℕ) → Each (λ i j. i < j) (numbers_from low n)
 numbers-rise low zero = tt
@@ -79,7 +73,7 @@ module _ (d : Deck) (spots : List Spot) (legal : IsLegalPlacement d spots) (wide
   guest-moored case good i k b (Ship j) e f h =
       let own = berth-told d spots case good i b f in
       let at = moored-as d spots legal i (Ship j) own.2 (own.1 ∙ e) in
-      subst (λ u. IsGuest u i) (some-same j k h) (record { guest = own.2; host = at.0; at = at.2 })
+      subst (λ u. IsGuest u i) (same_Some j k h) (record { guest = own.2; host = at.0; at = at.2 })
 
   guest-berthed : (case : List Choice) → IsGoodCase d spots case → (i k : ℕ) (o : Option Berth) → berth_in case i ≡ o → host_of o ≡ Some k → IsGuest k i
   guest-berthed case good i k None e h = absurd (none-some k h)

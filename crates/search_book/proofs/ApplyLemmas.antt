@@ -1,5 +1,6 @@
 -- An accepted event makes the history longer by one; a refused one leaves the book.
-use Rattle.std.proofs.Common.{◌≡◌, ◌+◌, [], ◌∷◌, length, length-append, refl, sym, ap, ◌∙◌, subst, arith, Bool, true, false, cond, Some, None}
+use Rattle.std.proofs.Common.{◌≡◌, ◌+◌, [], ◌∷◌, length, length-append, refl, sym, ap, ◌∙◌, subst, arith, Bool, false, cond, Some, None, true≢false}
+use Rattle.std.proofs.lemmas.Bool.{OnFalse_from}
 use Rattle.std.specs.declared.option.Option.{Option}
 use Rattle.std.specs.Bool.{OnFalse}
 use Rattle.mooring_rules.specs.declared.breaks.BrokenPlan.{BrokenPlan}
@@ -31,9 +32,6 @@ pub record Counts (old : Book) (r : Reply) (new : Book) : Type 0 where
   pub case : new.case ≡ old.case
   pub refused : is_accepted r ≡ false → new ≡ old
 
-clash : true ≡ false → ⊥
-clash e = cc
-
 leaves : (old : Book) (r : Reply) (new : Book) → is_accepted r ≡ false → new ≡ old → Counts old r new
 leaves old r new said same =
     let none : accepted r ≡ 0 = ap (λ t. cond t 1 0) said in
@@ -48,7 +46,7 @@ answers-count old e r new answers =
       | Accepted done ↦
           let one_more : accepted r ≡ 1 = ap (λ t. cond t 1 0) (same_test ∙ done.accepted) in
           let long = ap length done.history ∙ length-append old.history (entry_of e ∷ []) in
-          record { count = omega (arith, one_more, long); case = done.case; refused = λ said. absurd (clash (sym done.accepted ∙ sym same_test ∙ said)) }
+          record { count = omega (arith, one_more, long); case = done.case; refused = λ said. absurd (true≢false (sym done.accepted ∙ sym same_test ∙ said)) }
     ]
 
 does-count : (old : Book) (e : machine.Event) (r : Reply) (new : Book) → Does old e r new → Counts old r new
@@ -65,9 +63,5 @@ applies-count old (event.Replace plan) r new h = does-count old (machine.replace
 applies-count old (event.PostPrices prices) r new h = does-count old (machine.post_prices prices.value) r new h
 applies-count old (event.Release w) r new h = answers-count old (machine.release w) r new h
 
-pub on-false : (t : Bool) (P : Type 0) → (t ≡ false → P) → OnFalse t P
-on-false true P h = tt
-on-false false P h = h refl
-
 pub on-refused : (old : Book) (e : Event) (r : Reply) (new : Book) → Applies old e r new → OnFalse (is_accepted r) (new ≡ old)
-on-refused old e r new h = on-false (is_accepted r) (new ≡ old) (applies-count old e r new h).refused
+on-refused old e r new h = OnFalse_from (is_accepted r) (new ≡ old) (applies-count old e r new h).refused

@@ -1,5 +1,6 @@
 -- Takings, and nodes that were worked out ahead.
 use Rattle.std.proofs.Common.{◌≡◌, ◌<◌, ℕ, suc, ◌+◌, List, [], ◌∷◌, length, refl, sym, ap, ◌∙◌, subst, arith, true, Some, slice_index_or, take, take_all, drop, ◌-◌}
+use Rattle.std.proofs.lemmas.Option.{same_Some}
 use Rattle.std.specs.List.{All}
 use Rattle.std.proofs.lemmas.List.Elements.{All-take, All-drop}
 use Rattle.mooring_rules.specs.declared.breaks.BrokenPlan.{BrokenPlan}
@@ -52,9 +53,6 @@ record IsSlot (b : Book) (g : Grant) (id : ℕ) (node : Node) : Type 0 where
   is : g ≡ grant.Slot id
   same : tree_node node ≡ (slot_at b id).node
 
-some-same : {X : Type 0} (a b : X) → Some a ≡ Some b → a ≡ b
-some-same a b e = cc
-
 abbrev told_node : ℕ → TreeNode → machine.Reply BrokenPlan
 told_node id n = machine.Node id n
 
@@ -85,7 +83,7 @@ none-ahead _ h = h
 -- a taking that gave no slot of the next node has a reply without it
 off-way : (b : Book) (g : Grant) (rest : List Ahead) → IsAstray b g rest → IsInHand b g → (r : Reply) → told r ≡ Some (grant_told b g) → HasNode b.case.instance r → IsNextAhead (next.Taken r) rest → ⊥
 off-way b g (a ∷ rest) astray held (reply.Node id node) said is same =
-    let slot = slot-of b g id node (some-same (told_node id (tree_node node)) (grant_told b g) said) in
+    let slot = slot-of b g id node (same_Some (told_node id (tree_node node)) (grant_told b g) said) in
     astray.off id slot.is (subst (IsHeldAt b id) same (held-by-grant b g id node held is slot))
 off-way b g [] astray held r said is same = none-ahead r same
 off-way b g (a ∷ rest) astray held _ said is same = same

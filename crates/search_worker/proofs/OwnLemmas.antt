@@ -1,5 +1,5 @@
 -- A node whose groups are made of the first ships, each once, is a node of the instance.
-use Rattle.std.proofs.Common.{◌≡◌, ℕ, zero, suc, ◌+◌, ◌<◌, ◌≤◌, List, [], ◌∷◌, length, ◌++◌, take, min, All, Contains, cond, nat_eq, slice_index_or, refl, sym, ap, ◌∙◌, subst, arith, inl, inr}
+use Rattle.std.proofs.Common.{◌≡◌, ℕ, zero, suc, ◌+◌, ◌<◌, ◌≤◌, List, [], ◌∷◌, length, ◌++◌, take, min, All, Contains, cond, nat_eq, slice_index_or, refl, sym, ap, ◌∙◌, subst, arith, inl, inr, length-append}
 use Rattle.std.proofs.lemmas.Bool.Decides.{eqb_tells, leb_tells}
 use Rattle.std.proofs.lemmas.List.{get_or_past, get_or_default, length-take}
 use Rattle.std.proofs.lemmas.List.Elements.{All-head, All-tail, All-weaker}
@@ -15,7 +15,7 @@ use Rattle.lock_rules.proofs.CountLemmas.{without, times_in-without, sum_by-with
 use Rattle.lock_rules.proofs.TreeLemmas.{times_in-hit, times_in-miss}
 use Rattle.lock_rules.proofs.ChildLemmas.{times_on-held}
 use Rattle.lock_rules.proofs.SplitLemmas.{length-order, order-known, times_in-at}
-use Rattle.lock_rules.proofs.ThroughputLemmas.{length-append, length-sum}
+use Rattle.lock_rules.proofs.ThroughputLemmas.{length-sum}
 use Rattle.closing_rules.proofs.LawLemmas.{contains-times}
 use Rattle.search_worker.specs.Owning.{IsOwnShip, IsOwnGroup, IsOwnLine}
 

@@ -1,5 +1,5 @@
 -- What the open certificate of a search that ended well and open keeps.
-use Rattle.std.proofs.Common.{ℕ, Bool, true, false, ◌≡◌, ◌≢◌, ◌<◌, ◌≤◌, ◌⊎◌, refl, List, length, sym, subst, ap, ◌∙◌, inl, inr, arith, Some, None, cond, ◌||◌, min}
+use Rattle.std.proofs.Common.{ℕ, Bool, true, false, ◌≡◌, ◌≢◌, ◌<◌, ◌≤◌, ◌⊎◌, refl, List, length, sym, subst, ap, ◌∙◌, inl, inr, arith, Some, None, cond, ◌||◌, min, true≢false}
 use Rattle.std.specs.declared.option.Option.{Option}
 use Rattle.std.proofs.lemmas.List.Folds.{Any-from_list_any}
 use Rattle.std.proofs.lemmas.List.{get_or_default}
@@ -23,14 +23,11 @@ use Rattle.solve_commands.proofs.EndLemmas.{book_ends}
 
 -- ---- a book with nothing open isn't left for want of nodes
 
-clash : true ≡ false → ⊥
-clash e = cc
-
 no_three : (r s t : Bool) → (r || s || t) ≡ true → (r || s) ≡ false → t ≡ false → ⊥
-no_three true s t some shut free = clash shut
-no_three false true t some shut free = clash shut
-no_three false false true some shut free = clash free
-no_three false false false some shut free = clash (sym some)
+no_three true s t some shut free = true≢false shut
+no_three false true t some shut free = true≢false shut
+no_three false false true some shut free = true≢false free
+no_three false false false some shut free = true≢false (sym some)
 
 parked_other : (b : Book) (node : Node) (s : SlotState) (used low : ℕ) → parked_verdict b node s ≡ OpenNodes used low → ⊥
 parked_other b node (slot.Parked c p) used low e = cc

@@ -1,6 +1,8 @@
 -- What a spot case that is kept as berths and places has decided.
 use Rattle.std.proofs.Common.{◌≡◌, ◌≢◌, ℕ, zero, suc, ◌+◌, ◌<◌, ◌≤◌, List, [], ◌∷◌, length, cond, inl, inr, refl, sym, ap, ◌∙◌, subst, arith, nat_eq, slice_index_or, Some, None, Contains, Bool, true, false, IsTrue, ◌↔◌}
+use Rattle.std.proofs.lemmas.Bool.{false≢true}
 use Rattle.std.proofs.lemmas.Bool.Decides.{eqb_tells}
+use Rattle.std.proofs.lemmas.Option.{same_Some, none-some}
 use Rattle.lock_model.specs.declared.placement.Moor.{Moor}
 use Rattle.lock_model.specs.declared.placement.Moor.TheVariants.{Quay, Ship}
 use Rattle.refute_rules.specs.Choices.{Berth, Choice, Lies, Stands}
@@ -9,12 +11,6 @@ use Rattle.refute_rules.specs.Known.{moor_host, host_of, host_and_more, hosts_wi
 use Rattle.case_search.specs.declared.berths.Berth.{Berth as Mooring}
 use Rattle.case_search.specs.Berths.{berth_of}
 use Rattle.spot_place.specs.OnWay.{berth_at, case_from, case_of, lying, IsHostWithin}
-
-none-some : {X : Type 0} (x : X) → None ≡ Some x → ⊥
-none-some x e = cc
-
-some-same : {X : Type 0} (x y : X) → Some x ≡ Some y → x ≡ y
-some-same x y e = cc
 
 lies-here : (k j : ℕ) (b : Berth) (cs : List Choice) → j ≡ k → berth_in (Lies k b ∷ cs) j ≡ Some b
 lies-here k j b cs e = elim (eqb_tells k j) [ inl y ↦ ap (λ t. cond t (Some b) (berth_in cs j)) y.0 | inr n ↦ absurd (n.1 (sym e)) ]
@@ -82,10 +78,7 @@ pub when_true : (b : Bool) (P : Type 0) → b ≡ true → P → IsTrue b ↔ P
 when_true b P e h = ((λ _. h), λ _. e)
 
 pub when_false : (b : Bool) (P : Type 0) → b ≡ false → (P → ⊥) → IsTrue b ↔ P
-when_false b P e n = ((λ t. absurd (clash (sym e ∙ t))), λ h. absurd (n h))
-  where
-    clash : false ≡ true → ⊥
-    clash h = cc
+when_false b P e n = ((λ t. absurd (false≢true (sym e ∙ t))), λ h. absurd (n h))
 
 pub eq_tells : (a b : ℕ) (P : Type 0) → (a ≡ b → P) → (P → a ≡ b) → IsTrue (nat_eq a b) ↔ P
 eq_tells a b P f g = elim (eqb_tells a b) [
@@ -97,14 +90,14 @@ eq_tells a b P f g = elim (eqb_tells a b) [
 
 pub ship-of : (m : Moor) (k : ℕ) → moor_host m ≡ Some k → m ≡ Ship k
 ship-of Quay k e = absurd (none-some k e)
-ship-of (Ship j) k e = ap Ship (some-same j k e)
+ship-of (Ship j) k e = ap Ship (same_Some j k e)
 
 module _ (ms : List Mooring) (i : ℕ) where
   pub rank-quay : host_of (berth_in (lying ms) i) ≡ None → HasOtherRank (lying ms) i → ⊥
   rank-quay e h = none-some h.host (sym e ∙ ap host_of h.lies)
 
   same-host : (k : ℕ) → host_of (berth_in (lying ms) i) ≡ Some k → (h : HasOtherRank (lying ms) i) → h.host ≡ k
-  same-host k e h = some-same h.host k (sym (ap host_of h.lies) ∙ e)
+  same-host k e h = same_Some h.host k (sym (ap host_of h.lies) ∙ e)
 
   pub rank-undecided : (k : ℕ) → host_of (berth_in (lying ms) i) ≡ Some k → length ms ≤ k → HasOtherRank (lying ms) i → ⊥
   rank-undecided k e late h = none-some h.berth (sym (berth-miss ms [] k late) ∙ ap (berth_in (lying ms)) (sym (same-host k e h)) ∙ h.decided)
@@ -122,8 +115,8 @@ module _ (ms : List Mooring) (i : ℕ) where
 
     pub ranks-same : (berth_at ms k).rank ≡ (berth_at ms i).rank → HasOtherRank (lying ms) i → ⊥
     ranks-same e h =
-        let own = ap (λ (b : Berth). b.rank) (some-same _ _ (sym (berth-hit ms [] i known) ∙ h.lies)) in
-        let other = ap (λ (b : Berth). b.rank) (some-same _ _ (sym (berth-hit ms [] k decided) ∙ ap (berth_in (lying ms)) (sym (same-host k host h)) ∙ h.decided)) in
+        let own = ap (λ (b : Berth). b.rank) (same_Some _ _ (sym (berth-hit ms [] i known) ∙ h.lies)) in
+        let other = ap (λ (b : Berth). b.rank) (same_Some _ _ (sym (berth-hit ms [] k decided) ∙ ap (berth_in (lying ms)) (sym (same-host k host h)) ∙ h.decided)) in
         h.differ (sym other ∙ e ∙ own)
 
     pub rank-tells : (b : Bool) → (IsTrue b ↔ (berth_at ms k).rank ≢ (berth_at ms i).rank) → IsTrue b ↔ HasOtherRank (lying ms) i

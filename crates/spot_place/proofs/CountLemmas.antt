@@ -1,5 +1,6 @@
 -- How many spot values there are.
 use Rattle.std.proofs.Common.{◌≡◌, ℕ, zero, suc, ◌+◌, ◌-◌, ◌<◌, ◌≤◌, List, [], ◌∷◌, ◌++◌, length, map, filter, flat_map, cond, Bool, true, false, ◌&&◌, nat_le, inl, inr, sym, ◌∙◌, arith}
+use Rattle.std.proofs.lemmas.Bool.{false≢true}
 use Rattle.std.proofs.lemmas.Bool.Decides.{leb_tells}
 use Rattle.lock_model.specs.Deck.{Deck, IsDeck}
 use Rattle.lock_model.specs.Ships.{RisesFrom}
@@ -26,14 +27,8 @@ kept-small d t e =
     ]
   where
     clash : (a b : Bool) → b ≡ false → (a && b) ≡ true → ⊥
-    clash true b f g = false-true (sym f ∙ g)
-      where
-        false-true : false ≡ true → ⊥
-        false-true h = cc
-    clash false b f g = false-true g
-      where
-        false-true : false ≡ true → ⊥
-        false-true h = cc
+    clash true b f g = false≢true (sym f ∙ g)
+    clash false b f g = false≢true g
 
 values-kept : (d : Deck) (k t : ℕ) → IsAmong (values_after d k) t → is_kept d t ≡ true
 values-kept d zero t h = (among-filter (is_kept d) (d.end ∷ []) t h).1

@@ -1,5 +1,6 @@
 -- The y of a ship by its berth, and how far it can be from 0.
 use Rattle.std.proofs.Common.{◌≡◌, ℕ, zero, suc, ◌*◌, ◌<◌, ◌≤◌, ℤ, pos, ◌+ℤ◌, ◌≤ℤ◌, List, [], ◌∷◌, length, inl, inr, refl, sym, ap, ◌∙◌, subst, arith, slice_index_or, Some, None, option_map}
+use Rattle.std.proofs.lemmas.Option.{none-some, same_Some}
 use Rattle.std.specs.declared.option.Option.{Option}
 use Rattle.std.proofs.lemmas.Int.{ints}
 use Rattle.std.proofs.lemmas.Bool.Decides.{leb_tells}
@@ -15,11 +16,8 @@ use Rattle.refute_rules.specs.Decided.{berth_in}
 use Rattle.refute_rules.specs.Known.{quay_y, guest_y, moored_y, berth_y, y_within}
 use Rattle.case_search.specs.declared.berths.Berth.{Berth as Mooring}
 use Rattle.spot_place.specs.OnWay.{berth_at, lying}
-use Rattle.spot_place.proofs.KnownLemmas.{some-same, map-some}
+use Rattle.spot_place.proofs.KnownLemmas.{map-some}
 use Rattle.spot_place.proofs.CaseLemmas.{berth-hit, berth-miss}
-
-none-some : {X : Type 0} (x : X) → None ≡ Some x → ⊥
-none-some x e = cc
 
 -- ---- bounds
 
@@ -66,7 +64,7 @@ module _ (d : Deck) (good : IsDeck d) (case : List Choice) where
   y-near (suc steps) i y e = by_berth (berth_in case i) e (y-near steps)
     where
       by_moor : (r : Rank) (m : Moor) → moored_y d i r m (y_within d case steps) ≡ Some y → ((k : ℕ) (z : ℤ) → y_within d case steps k ≡ Some z → IsNear steps z) → IsNear (suc steps) y
-      by_moor r Quay e near = subst (IsNear (suc steps)) (some-same (quay_y d i r) y e) (quay-near i r steps)
+      by_moor r Quay e near = subst (IsNear (suc steps)) (same_Some (quay_y d i r) y e) (quay-near i r steps)
       by_moor r (Ship k) e near =
           let from = map-some (guest_y d i k r) (y_within d case steps k) y e in
           subst (IsNear (suc steps)) from.2 (guest-near i k r steps from.0 (near k from.0 from.1))

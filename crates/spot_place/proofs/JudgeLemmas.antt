@@ -2,6 +2,7 @@
 use Rattle.std.proofs.Common.{◌≡◌, ◌≢◌, ℕ, zero, suc, ◌+◌, ◌<◌, ℤ, List, [], length, take, ◌⊎◌, inl, inr, refl, sym, ap, ◌∙◌, subst, arith, Some, None, Contains}
 use Rattle.std.proofs.lemmas.Bool.Decides.{eqb_tells, leb_tells}
 use Rattle.std.proofs.lemmas.List.{length-take-le}
+use Rattle.std.proofs.lemmas.Option.{none-some}
 use Rattle.lock_model.specs.Deck.{Deck}
 use Rattle.refute_rules.specs.Choices.{Choice, Berth}
 use Rattle.refute_rules.specs.Decided.{berth_in, x_in, HasOtherRank}
@@ -15,9 +16,6 @@ use Rattle.spot_place.specs.Faults.{AreApartBelow}
 use Rattle.spot_place.proofs.CaseLemmas.{berth-hit, berth-miss, place-hit, place-miss, leads-quay}
 use Rattle.spot_place.proofs.StepLemmas.{case-length, pop-berth, pop-place}
 use Rattle.spot_place.proofs.KeptLemmas.{take-at, y-same, hosts-same, berths-same}
-
-none-some : {X : Type 0} (x : X) → None ≡ Some x → ⊥
-none-some x e = cc
 
 -- ---- ships of which something is known
 

@@ -1,9 +1,11 @@
 -- What the type of a spot case keeps, when the case grows and shrinks.
 use Rattle.std.proofs.Common.{◌≡◌, ℕ, zero, suc, ◌+◌, ◌-◌, ◌<◌, ◌≤◌, ℤ, List, [], ◌∷◌, ◌++◌, length, take, inl, inr, refl, sym, ap, ◌∙◌, subst, arith, slice_index_or, Option, Some, None, IfSome}
 use Rattle.std.proofs.lemmas.Bool.Decides.{eqb_tells, leb_tells}
-use Rattle.std.proofs.lemmas.List.{take-append-le, take-take, length-take-le}
+use Rattle.std.proofs.lemmas.List.{take-append-le, take-take, length-take-le, get_or_default}
 use Rattle.std.proofs.Math.Seq.{take-length, get_or-append_seam}
 use Rattle.std.proofs.Math.ListN.{get_or-append}
+use Rattle.std.proofs.lemmas.Option.{none-some}
+use Rattle.list_laws.proofs.Lists.{length-push}
 use Rattle.lock_model.specs.Deck.{Deck}
 use Rattle.refute_rules.specs.Choices.{Choice, Lies, Stands}
 use Rattle.refute_rules.specs.Decided.{berth_in, x_in}
@@ -19,15 +21,6 @@ use Rattle.spot_place.proofs.CaseLemmas.{berth-hit, berth-miss, place-hit, place
 use Rattle.spot_place.proofs.StepLemmas.{case-length, push-berth, push-place, pop-berth, pop-place, listed-more, listed-less}
 
 -- ---- lists
-
-length-push : {X : Type 0} (xs : List X) (x : X) → length (xs ++ x ∷ []) ≡ suc (length xs)
-length-push [] x = refl
-length-push (y ∷ xs) x = ap suc (length-push xs x)
-
-pub other-default : {X : Type 0} (xs : List X) (i : ℕ) (a b : X) → i < length xs → slice_index_or xs i a ≡ slice_index_or xs i b
-other-default [] i a b h = absurd (omega (arith, h))
-other-default (x ∷ xs) zero a b h = refl
-other-default (x ∷ xs) (suc i) a b h = other-default xs i a b (omega (arith, h))
 
 pub take-at : {X : Type 0} (xs : List X) (n i : ℕ) (a : X) → i < n → slice_index_or (take n xs) i a ≡ slice_index_or xs i a
 take-at xs zero i a h = absurd (omega (arith, h))
@@ -52,9 +45,6 @@ berths-same ms xs ys i = elim (leb_tells (suc i) (length ms)) [
 ]
 
 -- ---- hosts
-
-none-some : {X : Type 0} (x : X) → None ≡ Some x → ⊥
-none-some x e = cc
 
 -- a decided host is a ship of the deck
 pub host-in_deck : (d : Deck) (ms : List Mooring) → AreKnown d ms → (i k : ℕ) → host_of (berth_in (lying ms) i) ≡ Some k → k < length d.ships
@@ -184,7 +174,7 @@ module _ (d : Deck) (values : List ℕ) (ms : List Mooring) (xs : List ℕ) (lev
   level-now level n i e is known =
       let levelled = kept.known.count in
       let less : length ms < length levels = omega (arith, levelled) in
-      let now : level ≡ slice_index_or levels (length ms) [] = is ∙ ap (λ k. slice_index_or levels k level) e ∙ other-default levels (length ms) level [] less in
+      let now : level ≡ slice_index_or levels (length ms) [] = is ∙ ap (λ k. slice_index_or levels k level) e ∙ get_or_default levels (length ms) level [] less in
       ap (λ hs. height_at hs i) now
       ∙ (kept.known.each (length ms) (omega arith)).each i known
       ∙ ap (λ ns. y_in d (lying ns) i) (take-length ms)

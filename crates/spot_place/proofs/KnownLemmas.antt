@@ -1,5 +1,6 @@
 -- In a spot case that leads no ship back to itself and decides every berth, every y is known.
 use Rattle.std.proofs.Common.{◌≡◌, ℕ, zero, suc, ◌+◌, ◌-◌, ◌<◌, ◌≤◌, ℤ, List, [], ◌∷◌, length, inl, inr, refl, sym, ap, ◌∙◌, subst, arith, Some, None, option_map, Contains}
+use Rattle.std.proofs.lemmas.Option.{same_Some, none-some}
 use Rattle.std.specs.declared.option.Option.{Option}
 use Rattle.std.specs.List.{AllByRecursion}
 use Rattle.lock_model.specs.Deck.{Deck}
@@ -12,16 +13,10 @@ use Rattle.lock_rules.specs.Among.{IsAmong}
 use Rattle.refute_rules.proofs.AnchorLemmas.{AreDistinct, few-distinct}
 use Rattle.spot_place.specs.OnWay.{HasKnownHosts}
 
-none-some : {X : Type 0} (x : X) → None ≡ Some x → ⊥
-none-some x e = cc
-
-pub some-same : {X : Type 0} (x y : X) → Some x ≡ Some y → x ≡ y
-some-same x y e = cc
-
 -- what a mapped option tells
 pub map-some : {X Y : Type 0} (f : X → Y) (o : Option X) (y : Y) → option_map f o ≡ Some y → (x : X) × (o ≡ Some x) × (f x ≡ y)
 map-some f None y e = absurd (none-some y e)
-map-some f (Some x) y e = (x, refl, some-same (f x) y e)
+map-some f (Some x) y e = (x, refl, same_Some (f x) y e)
 
 map-none : {X Y : Type 0} (f : X → Y) (o : Option X) → option_map f o ≡ None → o ≡ None
 map-none f None e = refl

@@ -2,6 +2,7 @@
 use Rattle.std.proofs.Common.{◌≡◌, ◌≢◌, ℕ, suc, ◌+◌, ◌<◌, ◌≤◌, ℤ, pos, ◌+ℤ◌, ◌≤ℤ◌, List, length, ◌⊎◌, inl, inr, refl, sym, ap, ◌∙◌, subst, arith, Some, Contains}
 use Rattle.std.proofs.lemmas.Int.{ints, by_lt_z}
 use Rattle.std.proofs.lemmas.Bool.Decides.{leb_tells}
+use Rattle.std.proofs.lemmas.Option.{same_Some}
 use Rattle.lock_model.specs.Deck.{Deck, size_at}
 use Rattle.lock_model.specs.Placement.{IsLegalPlacement, IsInside, spot_at, IsMoored, IsAtQuay, IsAtSide, AreApart}
 use Rattle.lock_model.specs.declared.placement.Spot.{Spot}
@@ -16,7 +17,7 @@ use Rattle.refute_rules.specs.Known.{moor_host, host_of, host_and_more, hosts_wi
 use Rattle.refute_rules.specs.SpotFaults.{IsInsideAlong, IsInsideAcross, AreApartAt, OtherRank, LeadsBack, Outside, PastHost, Touching, IsFaultless}
 use Rattle.refute_rules.specs.Spots.{AreSpotsOfCase}
 use Rattle.spot_place.specs.OnWay.{HasKnownHosts}
-use Rattle.spot_place.proofs.KnownLemmas.{some-same, map-some, positive, y-more}
+use Rattle.spot_place.proofs.KnownLemmas.{map-some, positive, y-more}
 
 le_or_not : (a b : ℕ) → (a ≤ b) ⊎ (a ≤ b → ⊥)
 le_or_not a b = elim (leb_tells a b) [ inl y ↦ inl y.1 | inr n ↦ inr (λ h. omega (arith, h, n.1)) ]
@@ -107,7 +108,7 @@ module _ (d : Deck) (case : List Choice) (faultless : IsFaultless d case) (hosts
 
   -- the y that a host is told to have is its own
   host-y : (m k : ℕ) (z : ℤ) → k < length d.ships → length d.ships ≡ suc m → y_within d case m k ≡ Some z → z ≡ pos (spot_at spots k).y
-  host-y m k z known e h = some-same z (pos (spot_at spots k).y) (sym (ap (λ n. y_within d case n k) e ∙ y-more d case m k z h) ∙ are.y k known)
+  host-y m k z known e h = same_Some z (pos (spot_at spots k).y) (sym (ap (λ n. y_within d case n k) e ∙ y-more d case m k z h) ∙ are.y k known)
 
   not-self : (i k : ℕ) → i < length d.ships → host_of (berth_in case i) ≡ Some k → k ≢ i
   not-self i k known host e =
@@ -138,7 +139,7 @@ module _ (d : Deck) (case : List Choice) (faultless : IsFaultless d case) (hosts
   moored : (i : ℕ) (m : Moor) → i < length d.ships → (spot_at spots i).moor ≡ m → IsMoored d spots i m
   moored i Quay known e =
       let n = positive (length d.ships) i known in
-      at-quay i (spot_at spots i).rank known (some-same _ _ (sym (ap (λ m. moored_y d i (spot_at spots i).rank m (y_within d case n.0)) e) ∙ y-moored n.0 i known n.1))
+      at-quay i (spot_at spots i).rank known (same_Some _ _ (sym (ap (λ m. moored_y d i (spot_at spots i).rank m (y_within d case n.0)) e) ∙ y-moored n.0 i known n.1))
   moored i (Ship k) known e =
       let n = positive (length d.ships) i known in
       let host : host_of (berth_in case i) ≡ Some k = ap host_of (are.berth i known) ∙ ap moor_host e in

@@ -1,7 +1,7 @@
-use Rattle.std.proofs.Common.{◌≡◌, ◌+◌, ◌++◌, ◌∷◌, [], length, take, sym, ap, ◌∙◌, arith, slice_index_or}
+use Rattle.std.proofs.Common.{◌≡◌, ◌+◌, ◌++◌, ◌∷◌, [], length, take, sym, ap, ◌∙◌, arith, slice_index_or, append_assoc}
 use Rattle.std.proofs.lemmas.List.{take_more, length-take-le}
 use Rattle.book_core.specs.Growing.{stored_child, stored_children}
-use Rattle.book_core.proofs.GrowLemmas.{children-more, append-three}
+use Rattle.book_core.proofs.GrowLemmas.{children-more}
 use Rattle.book_core.proofs.splitting.push_children.Goals as goal
 
 pub loop-number-preserved : goal.loop-number-preserved
@@ -17,7 +17,7 @@ loop-number-preserved c =
     record {
       items =
           c.push_reserved.ensures.items ∙ (λ j. c.loop-number.invariant.items j ++ child j ∷ [])
-          ∙ append-three old (stored_children c.args.cost c.args.parent 0 (take i xs)) (stored_child c.args.cost c.args.parent (0 + length (take i xs)) x ∷ [])
+          ∙ append_assoc old (stored_children c.args.cost c.args.parent 0 (take i xs)) (stored_child c.args.cost c.args.parent (0 + length (take i xs)) x ∷ [])
           ∙ ap (λ l. old ++ l) (sym (children-more c.args.cost c.args.parent 0 (take i xs) x) ∙ ap (stored_children c.args.cost c.args.parent 0) (sym more));
       len = omega (arith, c.push_reserved.ensures.len, c.loop-number.invariant.len);
       capacity = c.push_reserved.ensures.capacity ∙ c.loop-number.invariant.capacity;

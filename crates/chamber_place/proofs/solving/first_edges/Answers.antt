@@ -1,7 +1,6 @@
-use Rattle.std.proofs.Common.{rules, ◌≡◌, ◌≤◌, ◌++◌, length, sym, ap, ◌∙◌, subst, flat_map}
+use Rattle.std.proofs.Common.{rules, ◌≡◌, ◌≤◌, ◌++◌, length, sym, ap, ◌∙◌, subst, flat_map, append-nil}
 use Rattle.lock_rules.specs.Arrival.{numbers_from}
 use Rattle.refute_rules.specs.Edges.{ship_edges}
-use Rattle.case_search.proofs.ListLemmas.{append-nil}
 use Rattle.chamber_place.proofs.EdgeLemmas.{first-edges-few}
 use Rattle.chamber_place.proofs.WayLemmas.{ship-edges-push}
 use Rattle.chamber_place.proofs.solving.first_edges.Goals as goal

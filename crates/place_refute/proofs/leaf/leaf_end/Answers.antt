@@ -1,4 +1,5 @@
 use Rattle.std.proofs.Common.{◌≡◌, ◌+◌, rules, take, drop, ap, sym, ◌∙◌, Bool, true, false, IsTrue, arith}
+use Rattle.std.proofs.lemmas.Bool.{false≢true}
 use Rattle.place_refute.proofs.LeafLemmas.{leaf_stands, leaf_fails, leaf_short}
 use Rattle.place_refute.proofs.leaf.leaf_end.Goals as goal
 
@@ -14,10 +15,7 @@ returns-then-is_fault-clause-some c =
 
 pub returns-else-is_fault-clause-none : goal.returns-else-is_fault-clause-none
 returns-else-is_fault-clause-none c =
-    leaf_fails c.args.deck.now c.args.trees c.args.case.now.choices c.args.marks.now c.args.at c.requires.inside c.count_of-count.result _ c.count_of-count.ensures (ap (λ k. take k (drop (c.args.at + 1) c.args.marks.now)) (omega arith)) (λ by. false_true (sym c.if-is_fault.false ∙ yes (c.is_fault.ensures.1 by)))
+    leaf_fails c.args.deck.now c.args.trees c.args.case.now.choices c.args.marks.now c.args.at c.requires.inside c.count_of-count.result _ c.count_of-count.ensures (ap (λ k. take k (drop (c.args.at + 1) c.args.marks.now)) (omega arith)) (λ by. false≢true (sym c.if-is_fault.false ∙ yes (c.is_fault.ensures.1 by)))
   where
     yes : {b : Bool} → IsTrue b → b ≡ true
     yes h = search rules
-
-    false_true : false ≡ true → ⊥
-    false_true e = cc

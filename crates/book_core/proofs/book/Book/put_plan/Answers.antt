@@ -1,16 +1,12 @@
-use Rattle.std.proofs.Common.{◌≡◌, suc, List, [], ◌∷◌, ◌++◌, length, map, filter, take, drop, refl, sym, ap, ◌∙◌, subst, arith}
+use Rattle.std.proofs.Common.{◌≡◌, [], ◌∷◌, ◌++◌, length, map, filter, take, drop, sym, ap, ◌∙◌, subst, arith}
 use Rattle.std.proofs.lemmas.List.{length-map}
-use Rattle.lock_model.specs.declared.plan.Plan.{Plan}
+use Rattle.list_laws.proofs.Lists.{length-push}
 use Rattle.book_rules.specs.Book.{Book}
 use Rattle.book_rules.specs.declared.book.Entry.TheVariants as entry
 use Rattle.book_core.specs.Keeps.{IsSound}
 use Rattle.book_core.specs.Outdone.{outdone_stored, is_back_in}
 use Rattle.book_core.proofs.OutdoneLemmas.{refill, cost-here, replaced-is, replaced-tables, replaced-nodes, replaced-path}
 use Rattle.book_core.proofs.book.Book.put_plan.Goals as goal
-
-length-one-more : (xs : List Plan) (x : Plan) → length (xs ++ x ∷ []) ≡ suc (length xs)
-length-one-more [] x = refl
-length-one-more (y ∷ ys) x = ap suc (length-one-more ys x)
 
 pub returns-clause-some : goal.returns-clause-some
 returns-clause-some c =
@@ -56,7 +52,7 @@ invariant_of-self-2 c =
           ap (λ (u : Book). length u.plans) c.self.view_is,
           ap (λ (u : Book). length u.prices) c.self.view_is,
           ap length plans,
-          length-one-more a.plans.items c.args.plan,
+          length-push a.plans.items c.args.plan,
         );
       };
     }

@@ -1,5 +1,4 @@
-use Rattle.std.proofs.Common.{◌≡◌, ℕ, ◌+◌, ◌<◌, ◌≤◌, length, true, false, nat_le, sym, ap, ◌∙◌, inl, inr, arith}
-use Rattle.std.proofs.lemmas.Bool.Decides.{leb_tells}
+use Rattle.std.proofs.Common.{◌+◌, length, true, false, sym, ap, ◌∙◌, true≢false, leb-false, leb-true}
 use Rattle.std.proofs.lemmas.List.{length-map}
 use Rattle.lock_rules.specs.Bound.{bound_of}
 use Rattle.lock_rules.specs.Children.{children_of}
@@ -7,37 +6,25 @@ use Rattle.book_rules.specs.Book.{slot_at, is_held}
 use Rattle.book_core.proofs.GrowLemmas.{split-whole, split-sound, split-done}
 use Rattle.book_core.proofs.book.Book.split_held.Goals as goal
 
-tells : (m n : ℕ) → nat_le m n ≡ true → m ≤ n
-tells m n e = elim (leb_tells m n) [ inl y ↦ y.1 | inr h ↦ absurd (clash (sym e ∙ h.0)) ]
-  where
-    clash : true ≡ false → ⊥
-    clash g = cc
-
-denies : (m n : ℕ) → nat_le m n ≡ false → n < m
-denies m n e = elim (leb_tells m n) [ inl y ↦ absurd (clash (sym y.0 ∙ e)) | inr h ↦ omega (arith, h.1) ]
-  where
-    clash : true ≡ false → ⊥
-    clash g = cc
-
 pub returns-then-is_whole : goal.returns-then-is_whole
 returns-then-is_whole c =
     let b = c.args.self.now in
-    split-whole b c.args.id (ap is_held c.requires.held) (tells (length b.case.instance.ships) (slot_at b c.args.id).node.depth (sym c.is_whole.ensures ∙ c.if-is_whole.true))
+    split-whole b c.args.id (ap is_held c.requires.held) (leb-true (length b.case.instance.ships) (slot_at b c.args.id).node.depth (sym c.is_whole.ensures ∙ c.if-is_whole.true))
 
 pub grow-requires-clause-lacks : goal.grow-requires-clause-lacks
 grow-requires-clause-lacks c =
     let b = c.args.self.now in
-    denies (length b.case.instance.ships) (slot_at b c.args.id).node.depth (sym c.is_whole.ensures ∙ c.if-is_whole.false)
+    leb-false (length b.case.instance.ships) (slot_at b c.args.id).node.depth (sym c.is_whole.ensures ∙ c.if-is_whole.false)
 
 pub grow-requires-clause-sound : goal.grow-requires-clause-sound
 grow-requires-clause-sound c =
     let b = c.args.self.now in
-    split-sound b c.args.id c.requires.sound (ap is_held c.requires.held) (denies (length b.case.instance.ships) (slot_at b c.args.id).node.depth (sym c.is_whole.ensures ∙ c.if-is_whole.false))
+    split-sound b c.args.id c.requires.sound (ap is_held c.requires.held) (leb-false (length b.case.instance.ships) (slot_at b c.args.id).node.depth (sym c.is_whole.ensures ∙ c.if-is_whole.false))
 
 pub returns-in-Ok : goal.returns-in-Ok
 returns-in-Ok c =
     let b = c.args.self.now in
     let node = (slot_at b c.args.id).node in
     let kids = children_of b.case.instance node.depth node.lines in
-    let lacks = denies (length b.case.instance.ships) node.depth (sym c.is_whole.ensures ∙ c.if-is_whole.false) in
+    let lacks = leb-false (length b.case.instance.ships) node.depth (sym c.is_whole.ensures ∙ c.if-is_whole.false) in
     split-done b c.args.id (ap is_held c.requires.held) lacks c.in-Ok.count c.grow.new.self (c.in-Ok.ensures.count ∙ length-map kids (bound_of b.case.instance (node.depth + 1))) c.in-Ok.ensures.some

@@ -1,0 +1,4 @@
+pub mod Lists
+pub mod ByRecursion
+pub mod Counts
+pub mod Variants
