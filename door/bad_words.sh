@@ -64,7 +64,7 @@ check_clock() {
   local time=${1#=}
   time=${time:-$2}
   if is_time_of_day "$time" && ! reads_instance "$command"; then
-    refuse "--clock is for solve, judge, play and replan, and not for ${command:-this}"
+    refuse "--clock is for solve, judge, play, replan and picture, and not for ${command:-this}"
   else
     refuse "--clock needs a time of day after it, such as 06:00, and may stand once"
   fi

@@ -1,20 +1,20 @@
 # The commands and options of the program, as docs/using.md gives them.
 
-commands="solve check lot trial judge play replan lower resume"
+commands="solve check lot trial judge play replan lower resume picture"
 
 is_command() { [[ " $commands " == *" $1 "* ]]; }
 
 # how many files a command takes in the place of standard input
 most_files() {
   case $1 in
-    judge | play | replan) echo 2 ;;
+    judge | play | replan | picture) echo 2 ;;
     lot | trial) echo 0 ;;
     *) echo 1 ;;
   esac
 }
 
-reads_instance() { [[ " solve judge play replan " == *" $1 "* ]]; }
-reads_plan() { [[ " judge play replan " == *" $1 "* ]]; }
+reads_instance() { [[ " solve judge play replan picture " == *" $1 "* ]]; }
+reads_plan() { [[ " judge play replan picture " == *" $1 "* ]]; }
 reads_dossier() { [[ " check lower resume " == *" $1 "* ]]; }
 
 # the options that a command takes

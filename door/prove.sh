@@ -1,10 +1,23 @@
-# Proves and builds the program, one crate after the other, and says how far it is.
+# Proves and builds the programs, one crate after the other, and says how far it is.
+
+# the program of the planner and that of the picture
+programs="lock_main lock_picture"
+is_program() { [[ " $programs " == *" $1 "* ]]; }
+program_of() { echo "$top/crates/$1/out/$1"; }
+
+are_built() {
+  local name
+  for name in $programs; do
+    program=$(program_of "$name")
+    [ -x "$program" ] && [ -z "$(newer_source)" ] || return 1
+  done
+}
 
 prove() {
-  local log=$top/out/prove.log begin=$top/out/prove.begin
+  local log=$top/out/prove.log begin=$top/out/prove.begin name
   [ $# = 0 ] || { say "prove takes no other words"; return 2; }
   has_kit || { say_no_kit "proving needs the kit"; return 69; }
-  if [ -x "$program" ] && [ -z "$(newer_source)" ]; then
+  if are_built; then
     say "the program is proved and built already"
     return
   fi
@@ -13,7 +26,7 @@ prove() {
   say "proving the crates of the program; this may take an hour or more. What is proved is kept if you stop"
   prove_crates "$log" || return 70
   # A source that was changed since the start is newer than the program.
-  touch -r "$begin" "$program"
+  for name in $programs; do touch -r "$begin" "$(program_of "$name")"; done
   say "the program is proved and built, $(minutes "$SECONDS") after the start; ./glock answers by it from now on"
 }
 
@@ -34,13 +47,13 @@ prove_crates() {
   done
 }
 
-# A library is built; the program is built and run, on a word that ends it at once.
+# A library is built; a program is built and run, on a word that ends it at once.
 prove_crate() {
   cd "$top/crates/$1" || return
-  if [ "$1" != lock_main ]; then
-    rt lib
+  if is_program "$1"; then
+    [ "$(rt run -- '?' </dev/null)" = "bad words" ] && [ -x "$(program_of "$1")" ]
   else
-    [ "$(rt run -- '?' </dev/null)" = "bad words" ] && [ -x "$program" ]
+    rt lib
   fi
 }
 
@@ -49,7 +62,7 @@ say_unproved() {
   say "$1 could not be proved or built; all that the kit said is in $2"
 }
 
-# the program and the crates below it with the bytes of their files, each crate after those that it uses
+# the programs and the crates below them with the bytes of their files, each crate after those that it uses
 crates_with_sizes() {
   awk '
     { sub(/#.*/, "") }
@@ -61,7 +74,7 @@ crates_with_sizes() {
       for (i = 1; i <= n; i++) mark(parts[i])
       print name
     }
-    END { mark("lock_main") }' "$top/crates.txt" |
+    END { n = split(programs, parts, " "); for (i = 1; i <= n; i++) mark(parts[i]) }' programs="$programs" "$top/crates.txt" |
     while read -r name; do
       echo "$name $(bytes_of "$top/crates/$name/src" "$top/crates/$name/specs" "$top/crates/$name/proofs")"
     done

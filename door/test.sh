@@ -4,8 +4,12 @@
 set -u
 top=$(cd "$(dirname "$0")/.." && pwd)
 GLOCK_PROGRAM=$(readlink -m "${1:-${GLOCK_PROGRAM:-$top/crates/lock_main/out/lock_main}}")
-export GLOCK_PROGRAM
-[ -x "$GLOCK_PROGRAM" ] || { echo "no program to test with: $GLOCK_PROGRAM"; exit 2; }
+# The picture has a program of its own.
+GLOCK_PICTURE=$(readlink -m "${GLOCK_PICTURE:-$top/crates/lock_picture/out/lock_picture}")
+export GLOCK_PROGRAM GLOCK_PICTURE
+for program in "$GLOCK_PROGRAM" "$GLOCK_PICTURE"; do
+  [ -x "$program" ] || { echo "no program to test with: $program"; exit 2; }
+done
 room=$(mktemp -d)
 trap 'rm -rf "$room"' EXIT
 passed=0 failed=0

@@ -36,6 +36,8 @@ rows joined <<'ROWS'
 judge evening.lock evening.plan | 0 | legal cost 270
 judge cut.lock evening.plan | 0 | legal cost 270
 play evening.lock evening.plan | 0 | 10 side moor brio
+picture evening.lock evening.plan | 0 | <h1>legal, total flow time 270 minutes</h1>
+picture evening.lock evening-early.plan | 10 | illegal lockage 3 Early | evening-early.plan:7: lockage 3 Early
 replan evening.lock evening.plan --from 150 | 0 | optimal cost 270
 judge tail.lock late.plan | 10 | illegal lockage 3 Early | late.plan:10: lockage 3 Early
 judge evening.lock evening-early.plan | 10 | illegal lockage 3 Early | evening-early.plan:7: lockage 3 Early
@@ -111,6 +113,7 @@ solve evening.lock --clock 06:00 | 0 | start 08:00 end 08:35
 solve evening.lock --clock=23:50 | 0 | start 23:50 end +1 00:25
 judge evening.lock evening.plan --clock 17:00 | 0 | start 17:00 end 17:35
 play evening.lock evening.plan --clock 17:00 | 0 | 17:10 side moor brio
+picture evening.lock evening.plan --clock 17:00 | 0 | <p class="sub">from 17:00 to
 ROWS
 
 call solve evening.lock --clock 06:00
@@ -133,7 +136,7 @@ help nothing | 2 | | there is no help on "nothing"
 ROWS
 
 # Each command has a help, and its example works.
-for command in solve check lot trial judge play replan lower resume; do
+for command in solve check lot trial judge play replan lower resume picture; do
   call help "$command"
   example=$(sed -n '/^Example/{n;s/^  //;p}' <<<"$out")
   check "the example of $command" eval "(cd '$top' && $example) >'$room/out' 2>'$room/err' || [ \$? = 1 ]"

@@ -16,4 +16,5 @@ mod planned;
 mod playing;
 
 pub use judging::judge_answer;
+pub use planned::{break_answer, read_planned};
 pub use playing::play_answer;

@@ -47,7 +47,7 @@ fn fault_answer(alloc: Global, bytes: &[u8], instance: &Instance, bad: BadPlan) 
 
 /// The first break of the plan that the bytes name.
 #[tactic(auto, using(crate::proofs::AnswerLemmas::break_refuses))]
-pub(crate) fn break_answer(
+pub fn break_answer(
     alloc: Global,
     bytes: &[u8],
     instance: &Instance,
@@ -68,7 +68,7 @@ pub(crate) fn break_answer(
 }
 
 /// The instance and the plan that the bytes name, or what is answered where they name none.
-pub(crate) fn read_planned(alloc: Global, bytes: &[u8]) -> Result<(Instance, Plan), Answer>
+pub fn read_planned(alloc: Global, bytes: &[u8]) -> Result<(Instance, Plan), Answer>
     ensures read { IfOk result (λ r. IsPlanned bytes.now r.0 r.1) }
     ensures refused { IfErr result (λ answer. AnswersIllegal bytes.now answer.status (bytes_in answer.text)) }
 {

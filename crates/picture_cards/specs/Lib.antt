@@ -1,0 +1,7 @@
+pub mod Scales
+pub mod Berths
+pub mod Waters
+pub mod Hulls
+pub mod Ties
+pub mod Writing
+pub mod Cards

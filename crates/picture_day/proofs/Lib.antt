@@ -1,0 +1,2 @@
+pub mod PassageLemmas
+pub mod LineLemmas

@@ -1,0 +1,4 @@
+pub mod Forms
+pub mod Times
+pub mod Words
+pub mod Shapes

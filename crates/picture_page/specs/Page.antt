@@ -1,0 +1,91 @@
+-- The picture of a plan, as one page.
+use Rattle.std.specs.Prelude.{ℕ, ◌-◌, ◌^◌, List, [], ◌∷◌, ◌++◌, length, min, max, codes}
+use Rattle.lock_model.specs.declared.instance.Instance.{Instance}
+use Rattle.lock_model.specs.declared.plan.Plan.{Plan}
+use Rattle.lock_rules.specs.Plan.{cost_of}
+use Rattle.day_play.specs.declared.beat.Beat.{Beat}
+use Rattle.picture_forms.specs.Forms.{filled}
+use Rattle.picture_forms.specs.Times.{time_text}
+use Rattle.picture_forms.specs.Words.{plural, count_text}
+use Rattle.picture_forms.specs.declared.times.Clock.{Clock}
+use Rattle.picture_forms.specs.declared.times.Clock.TheVariants.{Minutes, Day}
+use Rattle.picture_axis.specs.Axis.{Drawn, axis_of}
+use Rattle.picture_axis.specs.Ticks.{ticks_of}
+use Rattle.picture_day.specs.Passages.{passages_of, events_of}
+use Rattle.picture_day.specs.declared.passage.Passage.{Passage}
+use Rattle.picture_rows.specs.Shared.{shared}
+use Rattle.picture_rows.specs.Lanes.{chambers_table}
+use Rattle.picture_rows.specs.ShipRows.{ships_table}
+use Rattle.picture_rows.specs.Legend.{legend}
+use Rattle.picture_cards.specs.Cards.{cards}
+use Rattle.picture_page.specs.declared.style.TheConstants.{STYLE}
+use Rattle.picture_page.specs.declared.heads.Standing.{Standing}
+use Rattle.picture_page.specs.declared.heads.Standing.TheVariants.{Legal, Optimal}
+
+abbrev pub standing_word : Standing → List ℕ
+standing_word Legal = codes "legal"
+standing_word Optimal = codes "optimal"
+
+-- what is known of a plan, and its cost
+unfoldable pub verdict : Standing → ℕ → List ℕ
+verdict standing cost = standing_word standing ++ codes ", total flow time " ++ count_text cost (codes "minute")
+
+-- the style sheet
+unfoldable pub style_sheet : List ℕ
+style_sheet = filled STYLE.now []
+
+-- the head of the page, with its style sheet
+unfoldable pub page_head : Standing → ℕ → List ℕ
+page_head standing cost =
+    filled (codes "<!DOCTYPE html>\n<html lang=\"en\">\n<head>\n<meta charset=\"utf-8\">\n<meta name=\"viewport\" content=\"width=device-width,initial-scale=1\">\n<title>glock: ") []
+    ++ verdict standing cost ++ filled (codes "</title>\n<style>") [] ++ style_sheet ++ filled (codes "</style>\n</head>\n<body>\n<main>\n") []
+
+-- the least and the greatest of some events
+abbrev pub least_of : List ℕ → ℕ
+least_of [] = 2 ^ 64 - 1
+least_of (e ∷ es) = min e (least_of es)
+
+abbrev pub greatest_of : List ℕ → ℕ
+greatest_of [] = 0
+greatest_of (e ∷ es) = max e (greatest_of es)
+
+abbrev pub span_word : Clock → List ℕ
+span_word Minutes = codes "minutes "
+span_word (Day offset) = codes "from "
+
+-- from the first event to the last
+unfoldable pub span : Clock → List ℕ → List ℕ
+span clock events = span_word clock ++ time_text clock (least_of events) ++ codes " to " ++ time_text clock (greatest_of events)
+
+unfoldable pub heading : Standing → ℕ → List ℕ
+heading standing cost = filled (codes "<h1>") [] ++ verdict standing cost ++ filled (codes "</h1>\n<p class=\"sub\">") []
+
+-- what a page of so many lockages shows
+unfoldable pub summary : Clock → Instance → ℕ → List ℕ → List ℕ
+summary clock I lockages events =
+    span clock events ++ filled (codes " &#183; ") [] ++ count_text (length I.ships) (codes "ship")
+    ++ filled (codes " &#183; ") [] ++ count_text lockages (codes "lockage") ++ filled (codes " &#183; ") [] ++ count_text (length I.chambers) (codes "chamber") ++ filled (codes "</p>\n") []
+
+-- the timetable: chambers and ships along one axis
+unfoldable pub timetable : Instance → Drawn → List Passage → ℕ → List ℕ
+timetable I axis ps cost =
+    filled (codes "<div class=\"scroll\" tabindex=\"0\" role=\"region\" aria-label=\"timetable\">\n") [] ++ chambers_table I axis ps ++ ships_table I axis ps cost
+    ++ filled (codes "</div>\n") [] ++ legend I axis
+
+-- the decks, and the end of the page
+unfoldable pub decks : Instance → Plan → Clock → List Passage → List ℕ
+decks I P clock ps =
+    filled (codes "<h2>deck plan") [] ++ plural (length ps) ++ filled (codes "</h2>\n<div class=\"cards\">\n") [] ++ cards I P clock ps ++ filled (codes "</div>\n</main>\n</body>\n</html>\n") []
+
+-- a page on an axis
+unfoldable pub page_on : Standing → Clock → Instance → Plan → List Passage → List ℕ → Drawn → List ℕ
+page_on standing clock I P ps events axis =
+    page_head standing (cost_of I P) ++ shared axis (ticks_of axis) ++ heading standing (cost_of I P) ++ summary clock I (length ps) events
+    ++ timetable I axis ps (cost_of I P) ++ decks I P clock ps
+
+abbrev pub page_with : Standing → Clock → Instance → Plan → List Passage → List ℕ
+page_with standing clock I P ps = page_on standing clock I P ps (events_of I ps) (axis_of clock (events_of I ps))
+
+-- THE PICTURE of a plan and its day
+unfoldable pub picture : Standing → Clock → Instance → Plan → List Beat → List ℕ
+picture standing clock I P day = page_with standing clock I P (passages_of I P day)

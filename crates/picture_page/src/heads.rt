@@ -1,0 +1,129 @@
+//! The head and the heading of a page.
+ghost use Rattle.std.specs.Prelude.{◌≡◌, ◌++◌, OnOk};
+ghost use Rattle.picture_page.specs.Page.{standing_word, verdict, page_head, least_of, greatest_of, span_word, span, heading, summary};
+
+use crate::style::put_style;
+use lock_model::Instance;
+use picture_forms::{Clock, put_count, put_form, put_time};
+use plain_text::{NoMemory, put};
+
+/// What is known of a plan.
+#[derive(Clone, Copy, Debug, PartialEq, Eq)]
+pub enum Standing {
+    /// It is legal.
+    Legal,
+    /// It is legal, and no legal plan costs less.
+    Optimal,
+}
+
+/// The word for what is known of a plan.
+fn standing_word(standing: Standing) -> &'static [u8]
+    ensures { result.now ≡ standing_word standing }
+{
+    match standing {
+        Standing::Legal => b"legal",
+        Standing::Optimal => b"optimal",
+    }
+}
+
+/// Appends what is known of a plan, and its cost.
+#[tactic(auto, unfolding(crate::specs::Page::verdict))]
+fn put_verdict(out: &mut Vec<u8>, standing: Standing, cost: u64) -> Result<(), NoMemory>
+    ensures { OnOk result (out.new.items ≡ out.old.items ++ verdict standing cost) }
+{
+    put(out, standing_word(standing))?;
+    put(out, b", total flow time ")?;
+    put_count(out, cost, b"minute")
+}
+
+/// Appends the head of the page, with its style sheet.
+#[tactic(auto, unfolding(crate::specs::Page::page_head))]
+pub(crate) fn put_page_head(
+    out: &mut Vec<u8>,
+    standing: Standing,
+    cost: u64,
+) -> Result<(), NoMemory>
+    ensures { OnOk result (out.new.items ≡ out.old.items ++ page_head standing cost) }
+{
+    put_form(
+        out,
+        b"<!DOCTYPE html>\n<html lang=\"en\">\n<head>\n<meta charset=\"utf-8\">\n<meta name=\"viewport\" content=\"width=device-width,initial-scale=1\">\n<title>glock: ",
+        &[],
+    )?;
+    put_verdict(out, standing, cost)?;
+    put_form(out, b"</title>\n<style>", &[])?;
+    put_style(out)?;
+    put_form(out, b"</style>\n</head>\n<body>\n<main>\n", &[])
+}
+
+/// The least of some events.
+fn least_of(events: &[u64]) -> u64
+    ensures { result ≡ least_of events.now }
+{
+    match events {
+        [] => u64::MAX,
+        [event, rest @ ..] => (*event).min(least_of(rest)),
+    }
+}
+
+/// The greatest of some events.
+fn greatest_of(events: &[u64]) -> u64
+    ensures { result ≡ greatest_of events.now }
+{
+    match events {
+        [] => 0,
+        [event, rest @ ..] => (*event).max(greatest_of(rest)),
+    }
+}
+
+/// The word before the first minute.
+fn span_word(clock: Clock) -> &'static [u8]
+    ensures { result.now ≡ span_word clock }
+{
+    match clock {
+        Clock::Minutes => b"minutes ",
+        Clock::Day(_) => b"from ",
+    }
+}
+
+/// Appends the span from the first event to the last.
+#[tactic(auto, unfolding(crate::specs::Page::span))]
+fn put_span(out: &mut Vec<u8>, clock: Clock, events: &[u64]) -> Result<(), NoMemory>
+    ensures { OnOk result (out.new.items ≡ out.old.items ++ span clock events.now) }
+{
+    put(out, span_word(clock))?;
+    put_time(out, clock, least_of(events))?;
+    put(out, b" to ")?;
+    put_time(out, clock, greatest_of(events))
+}
+
+/// Appends the heading.
+#[tactic(auto, unfolding(crate::specs::Page::heading))]
+pub(crate) fn put_heading(out: &mut Vec<u8>, standing: Standing, cost: u64) -> Result<(), NoMemory>
+    ensures { OnOk result (out.new.items ≡ out.old.items ++ heading standing cost) }
+{
+    put_form(out, b"<h1>", &[])?;
+    put_verdict(out, standing, cost)?;
+    put_form(out, b"</h1>\n<p class=\"sub\">", &[])
+}
+
+/// Appends what a page of so many lockages shows.
+#[tactic(auto, unfolding(crate::specs::Page::summary))]
+pub(crate) fn put_summary(
+    out: &mut Vec<u8>,
+    clock: Clock,
+    instance: &Instance,
+    lockages: u64,
+    events: &[u64],
+) -> Result<(), NoMemory>
+    ensures { OnOk result (out.new.items ≡ out.old.items ++ summary clock instance.now lockages events.now) }
+{
+    put_span(out, clock, events)?;
+    put_form(out, b" &#183; ", &[])?;
+    put_count(out, instance.ships.as_slice().len() as u64, b"ship")?;
+    put_form(out, b" &#183; ", &[])?;
+    put_count(out, lockages, b"lockage")?;
+    put_form(out, b" &#183; ", &[])?;
+    put_count(out, instance.chambers.as_slice().len() as u64, b"chamber")?;
+    put_form(out, b"</p>\n", &[])
+}

@@ -1,0 +1,116 @@
+//! The page.
+ghost use Rattle.std.specs.Prelude.{◌≡◌, ◌≤◌, ◌<◌, ◌++◌, length, All, OnOk, IfOk};
+ghost use Rattle.lock_rules.specs.Plan.{IsLegal};
+ghost use Rattle.picture_day.specs.Passages.{IsKnownGo, AreKnown, HasChamber, HasShips, IsKnown};
+ghost use Rattle.picture_page.specs.Page.{timetable, decks, page_on, page_with, picture};
+
+use crate::heads::{Standing, put_heading, put_page_head, put_summary};
+use chamber_times::cost;
+use day_play::Beat;
+use lock_model::{Instance, Plan};
+use picture_axis::{Axis, ticks_of};
+use picture_cards::put_cards;
+use picture_day::{Passage, events_of, passages_of};
+use picture_forms::{Clock, put_form, put_plural};
+use picture_rows::{put_chambers, put_legend, put_shared, put_ships};
+use plain_text::NoMemory;
+use std::alloc::Global;
+
+/// Appends the chambers and the ships along one axis.
+#[tactic(auto, unfolding(crate::specs::Page::timetable))]
+fn put_timetable(
+    alloc: Global,
+    out: &mut Vec<u8>,
+    instance: &Instance,
+    axis: &Axis,
+    passages: &[Passage],
+    cost: u64,
+) -> Result<(), NoMemory>
+    requires chambers { All (HasChamber instance.now) passages.now }
+    requires ships { All (HasShips instance.now) passages.now }
+    ensures { OnOk result (out.new.items ≡ out.old.items ++ timetable instance.now axis.now passages.now cost) }
+{
+    put_form(
+        out,
+        b"<div class=\"scroll\" tabindex=\"0\" role=\"region\" aria-label=\"timetable\">\n",
+        &[],
+    )?;
+    put_chambers(alloc, out, instance, axis, passages)?;
+    put_ships(out, instance, axis, passages, cost)?;
+    put_form(out, b"</div>\n", &[])?;
+    put_legend(out, instance, axis)
+}
+
+/// Appends the decks and the end of the page.
+#[tactic(auto, unfolding(crate::specs::Page::decks))]
+fn put_decks(
+    out: &mut Vec<u8>,
+    instance: &Instance,
+    plan: &Plan,
+    clock: Clock,
+    passages: &[Passage],
+) -> Result<(), NoMemory>
+    requires { All (IsKnown instance.now plan.now) passages.now }
+    ensures { OnOk result (out.new.items ≡ out.old.items ++ decks instance.now plan.now clock passages.now) }
+{
+    put_form(out, b"<h2>deck plan", &[])?;
+    put_plural(out, passages.len() as u64)?;
+    put_form(out, b"</h2>\n<div class=\"cards\">\n", &[])?;
+    put_cards(out, instance, plan, clock, passages)?;
+    put_form(out, b"</div>\n</main>\n</body>\n</html>\n", &[])
+}
+
+/// The page of these passages of a plan.
+#[tactic(auto, unfolding(crate::specs::Page::page_on), using(lock_rules::proofs::LegalLemmas::of_legal_plans))]
+fn page_with(
+    alloc: Global,
+    standing: Standing,
+    clock: Clock,
+    instance: &Instance,
+    plan: &Plan,
+    passages: &[Passage],
+) -> Result<Vec<u8>, NoMemory>
+    requires legal { IsLegal instance.now plan.now }
+    requires known { AreKnown instance.now plan.now passages.now }
+    ensures { IfOk result (λ page. page.items ≡ page_with standing clock instance.now plan.now passages.now) }
+{
+    let total = cost(instance, plan);
+    let events = events_of(alloc, instance, passages)?;
+    let axis = Axis::new(alloc, clock, events.as_slice())?;
+    let ticks = ticks_of(alloc, &axis)?;
+    let mut page = Vec::new(alloc);
+    put_page_head(&mut page, standing, total)?;
+    put_shared(&mut page, &axis, ticks.as_slice())?;
+    put_heading(&mut page, standing, total)?;
+    put_summary(
+        &mut page,
+        clock,
+        instance,
+        passages.len() as u64,
+        events.as_slice(),
+    )?;
+    put_timetable(alloc, &mut page, instance, &axis, passages, total)?;
+    put_decks(&mut page, instance, plan, clock, passages)?;
+    Ok(page)
+}
+
+/// The picture of a legal plan and its day, as one page of HTML: a lane for each chamber along the
+/// clock, a row for each ship, and the deck of each lockage drawn to scale. The caller says what is
+/// known of the plan. The only refusal is want of memory.
+#[tactic(auto, unfolding(crate::specs::Page::picture))]
+pub fn print_picture(
+    alloc: Global,
+    standing: Standing,
+    clock: Clock,
+    instance: &Instance,
+    plan: &Plan,
+    day: &[Beat],
+) -> Result<Vec<u8>, NoMemory>
+    requires legal { IsLegal instance.now plan.now }
+    requires known { All (IsKnownGo plan.now) day.now }
+    requires few { length day.now ≤ 96 }
+    ensures { IfOk result (λ page. page.items ≡ picture standing clock instance.now plan.now day.now) }
+{
+    let passages = passages_of(alloc, instance, plan, day)?;
+    page_with(alloc, standing, clock, instance, plan, passages.as_slice())
+}

@@ -1,0 +1,12 @@
+# The picture has a program of its own, which takes the clock itself and is told what it reads.
+
+# sets crate, program and program_words for `picture`
+use_picture() {
+  [ "$command" = picture ] || return 0
+  crate=$top/crates/lock_picture
+  program=$crate/out/lock_picture
+  GLOCK_PROGRAM=${GLOCK_PICTURE-}
+  program_words=("${program_words[0]}" plan "${program_words[@]:1}")
+  if [ -n "$clock" ]; then program_words+=(--clock "$clock"); fi
+  clock=
+}
