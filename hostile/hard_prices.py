@@ -1,9 +1,9 @@
 #!/usr/bin/env python3
 """hard_prices.py PROGRAM: dossiers whose prices are hard to check, and what checking each of them takes.
 
-Prices at their limit on a crowd, over closures, and where ships arrive 40,000 minutes apart; and more than a hundred
-thousand price marks that all hold. In the campaign (run.py) each is answered as expected, within a limit of memory. Run by
-itself it prints seconds and memory of each.
+Prices at their limit on lots, over closures, and where ships arrive 40,000 minutes apart; and price marks that all hold,
+35,280 of them. In the campaign (run.py) each is answered as expected, within a limit of memory. Run by itself it prints
+seconds and memory of each, and has ten times as many marks.
 """
 
 import json
@@ -70,15 +70,15 @@ def all_leaves(dossier):
     return priced(dossier, [[0] * len(instance.ships)], tree)
 
 
-def dossiers(runner):
-    """What each is, its bytes, and its answer."""
+def dossiers(runner, ships=7):
+    """What each is, its bytes, and its answer; `ships` are those whose whole tree is marked."""
     solved = lambda text: runner.run(["solve", "--dossier", "--workers", "1"], text).text
     lots = [runner.run(f"lot --number 3 --ships 24 --chambers {chambers}".split()).text for chambers in (1, 4)]
     closed = lots[0].replace(b"glock 1", b"glock 2", 1).replace(b"\nship", b"\nclose c1 100 400\nclose c1 2000 90000\nclose c1 100000 900000\nship", 1)
     for what, text in (("lot of 24 ships on 1 chamber", lots[0]), ("lot of 24 ships on 4 chambers", lots[1]),
                        ("lot of 24 ships with closures", closed), ("24 ships far apart", far_apart(24))):
         yield f"prices at their limit, {what}", at_limit(solved(text)), ROOT_FAILS
-    leaves = solved(narrow(7))
+    leaves = solved(narrow(ships))
     cost = parts(leaves)[1]["cost"]
     yield "each leaf a price mark", all_leaves(leaves), (0, f"accepted cost {cost}\n".encode())
 
@@ -95,7 +95,7 @@ def cases(runner, runs, number):
 def main(program):
     from runs import Runner
     print(f"{'what':50} {'bytes':>9} {'marks':>8} {'seconds':>8} {'MB':>5}  answer")
-    for what, data, wanted in dossiers(Runner(str(pathlib.Path(program).resolve()))):
+    for what, data, wanted in dossiers(Runner(str(pathlib.Path(program).resolve())), 8):
         tree = parts(data)[1]["tree"]
         before = resource.getrusage(resource.RUSAGE_CHILDREN).ru_utime
         done = subprocess.Popen([program, "check"], stdin=subprocess.PIPE, stdout=subprocess.PIPE)

@@ -149,4 +149,7 @@ rows bad_dossier <<'ROWS'
 7s/100,1,1/101,1,1/ | rejected tree 2 reason 9 CutMisses | : rejected at tree 2: a case is closed by a cut
 7s/\[0,0,100,1,1\]/[2]/ | rejected tree 0 reason 10 ThroughputLow | : rejected at tree 0: a case is closed by what the lock can pass
 7s/\[0,0,100,1,1\]/[10]/ | rejected tree 0 reason 11 ProbeWrong | : rejected at tree 0: a case is closed by trying one more ship
+6s/$/ 3/;7s/"tree.*/"prices":[[-1]],"tree":[4,0]}/ | dossier fault 4 Shape part 6 | : fault 4 Shape: the entry prices
+6s/$/ 3/;7s/"tree.*/"prices":[[8500]],"tree":[4,0]}/ | rejected prices 0 reason 12 PricesShape | : rejected at prices 0: these prices are not
+6s/$/ 3/;7s/"tree.*/"prices":[[8400,8400]],"tree":[4,0]}/ | rejected tree 0 reason 13 PriceLow | : rejected at tree 0: a case is closed by prices
 ROWS
