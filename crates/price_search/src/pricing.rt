@@ -23,7 +23,7 @@ const FIRST_PACE: Pace = Pace {
     steps: 200,
     patience: 15,
     span: 20,
-    spans: 5,
+    spans: 10,
 };
 
 const PACE: Pace = Pace {
