@@ -14,6 +14,7 @@ use Rattle.mooring_rules.specs.declared.breaks.BrokenPlan.{BrokenPlan}
 use Rattle.book_rules.specs.declared.book.SlotState.{SlotState}
 use Rattle.book_rules.specs.declared.book.SlotState.TheVariants as slot
 use Rattle.book_rules.specs.Book.{Book, Node, Slot, root, no_slot, slot_at, best_cost, is_back, is_held}
+use Rattle.book_rules.specs.Family.{child_node}
 use Rattle.book_rules.specs.NextSlot.{is_split}
 use Rattle.book_rules.specs.Events as machine
 use Rattle.book_rules.specs.Events.{Event, split}
@@ -21,7 +22,7 @@ use Rattle.book_rules.specs.Step.{step, child_slots, children_in, split_slot}
 use Rattle.book_core.specs.declared.reply.Reply.TheVariants as reply
 use Rattle.book_core.specs.declared.stored_slot.StoredSlot.{StoredSlot}
 use Rattle.book_core.specs.declared.waiting.Waiting.{Waiting}
-use Rattle.book_core.specs.Stored.{child_node, node_after, slots_after, slots_of}
+use Rattle.book_core.specs.Stored.{node_after, slots_after, slots_of}
 use Rattle.book_core.specs.Tables.{state_in, AreHands, AreBack}
 use Rattle.book_core.specs.Changes.{slot_in, set_state, Changes, let_go}
 use Rattle.book_core.specs.Growing.{stored_child, stored_children, with_kids}

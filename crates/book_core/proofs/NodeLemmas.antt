@@ -3,7 +3,7 @@ use Rattle.std.proofs.Common.{◌≡◌, ℕ, zero, suc, ◌+◌, ◌<◌, List,
 use Rattle.std.proofs.lemmas.Option.{same_Some, none-some}
 use Rattle.lock_model.specs.declared.instance.Instance.{Instance}
 use Rattle.lock_rules.specs.Node.{IsNode, root_lines}
-use Rattle.book_rules.specs.Book.{Book, Node as TreeNode, Slot, no_slot, slot_at}
+use Rattle.book_rules.specs.Book.{Book, no_slot, slot_at}
 use Rattle.book_rules.specs.Family.{child_node, child_count, IsBorn, HasChildren}
 use Rattle.master_branch.specs.Node.{Node, children}
 use Rattle.book_core.specs.Keeps.{IsSound}

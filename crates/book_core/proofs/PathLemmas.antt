@@ -3,7 +3,7 @@ use Rattle.std.proofs.Common.{◌≡◌, ℕ, zero, suc, ◌+◌, ◌-◌, ◌<�
 use Rattle.std.specs.Prelude.{◌⊎◌}
 use Rattle.list_laws.proofs.Lists.{length-push}
 use Rattle.lock_model.specs.declared.instance.Instance.{Instance}
-use Rattle.book_rules.specs.Book.{Book, Node as TreeNode, Slot}
+use Rattle.book_rules.specs.Book.{Book, Slot}
 use Rattle.book_rules.specs.Family.{child_node, child_count}
 use Rattle.master_branch.specs.Node.{Node, IsNodeOf, children, root}
 use Rattle.book_core.specs.declared.path.Path.{Path}

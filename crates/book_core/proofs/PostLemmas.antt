@@ -1,5 +1,5 @@
 -- Posting, of cuts and prices, and parking.
-use Rattle.std.proofs.Common.{◌≡◌, ◌≢◌, ℕ, zero, suc, ◌<◌, ◌≤◌, List, [], ◌∷◌, length, refl, sym, ap, ◌∙◌, subst, arith, Bool, true, false, not, cond, nat_eq, nat_lt, slice_get, slice_index_or, Some, None, All, ne_eqb, eq-eqb}
+use Rattle.std.proofs.Common.{◌≡◌, ◌≢◌, ℕ, zero, suc, ◌<◌, List, [], ◌∷◌, length, refl, sym, ap, ◌∙◌, subst, arith, Bool, true, false, not, cond, nat_eq, nat_lt, slice_get, slice_index_or, Some, None, All, ne_eqb, eq-eqb}
 use Rattle.std.proofs.lemmas.Bool.{not_from_false, not_from_true, false≢true}
 use Rattle.std.specs.declared.option.Option.{Option}
 use Rattle.std.specs.List.{list_all}

@@ -1,10 +1,9 @@
 -- What was shown beside a book, compared with the book.
-use Rattle.std.proofs.Common.{◌≡◌, ℕ, zero, suc, ◌<◌, ◌≤◌, List, [], ◌∷◌, length, map, drop, refl, sym, ap, ◌∙◌, subst, arith, Bool, true, false, not, cond, ◌&&◌, slice_index_or, slice_get, nat_eq, Some, None}
+use Rattle.std.proofs.Common.{◌≡◌, ℕ, ◌<◌, ◌≤◌, List, [], ◌∷◌, length, map, drop, refl, sym, ap, ◌∙◌, subst, arith, Bool, true, false, not, cond, ◌&&◌, slice_get, nat_eq, Some, None}
 use Rattle.std.specs.declared.option.Option.{Option}
 use Rattle.std.specs.Bool.{Decides}
 use Rattle.std.specs.Cmp.Lexicographic.{pointwise}
 use Rattle.std.proofs.lemmas.Bool.Decides.{Decides-like, same_from_decides}
-use Rattle.std.proofs.lemmas.List.{drop_all}
 use Rattle.lock_model.specs.declared.instance.Instance.{Instance}
 use Rattle.master_branch.specs.Node.{Node}
 use Rattle.mooring_rules.specs.declared.breaks.BrokenPlan.{BrokenPlan}

@@ -23,7 +23,7 @@ use Rattle.book_core.specs.Hands.{ids_of, AreNodes}
 use Rattle.book_core.specs.Path.{IsPath}
 use Rattle.book_core.specs.Keeps.{IsSound, AreTables}
 use Rattle.book_core.specs.Seen.{seen, IsKept}
-use Rattle.book_core.proofs.HandLemmas.{state-known, hand-known}
+use Rattle.book_core.proofs.HandLemmas.{state-known}
 use Rattle.book_core.proofs.HeldLemmas.{KeepsNodes, nodes-kept, nodes-let_go}
 use Rattle.book_core.proofs.PathLemmas.{path-kept}
 use Rattle.book_core.proofs.KeptLemmas.{length-slots, is-stored, few-slots}

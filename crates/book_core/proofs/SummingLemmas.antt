@@ -1,19 +1,13 @@
 -- What is read off the stored slots is what the slots say.
-use Rattle.std.proofs.Common.{◌≡◌, ℕ, zero, suc, ◌+◌, ◌<◌, ◌≤◌, List, [], ◌∷◌, ◌++◌, length, map, filter, refl, ap, subst, arith, Bool, true, false, not, cond, ◌||◌, Some, None, nat_lt}
+use Rattle.std.proofs.Common.{◌≡◌, ℕ, suc, ◌+◌, ◌<◌, List, [], ◌∷◌, ◌++◌, length, map, filter, refl, ap, Bool, true, false, not, cond, ◌||◌, Some, None, nat_lt}
 use Rattle.std.specs.List.{list_any, position, position_or_len}
 use Rattle.lock_model.specs.declared.instance.Instance.{Instance}
-use Rattle.lock_model.specs.declared.group.Group.{Group}
-use Rattle.lock_rules.specs.Node.{line_at}
 use Rattle.book_rules.specs.declared.book.SlotState.{SlotState}
-use Rattle.book_rules.specs.declared.book.SlotState.TheVariants as slot
-use Rattle.book_rules.specs.Book.{Book, Node, Slot, no_slot, slot_at, is_live, is_parked, first_slot}
-use Rattle.book_rules.specs.States.{Tells, IsSpentGroup}
+use Rattle.book_rules.specs.Book.{Book, Node, Slot, is_live, is_parked, first_slot}
 use Rattle.book_rules.proofs.SlotLemmas.{first_slot-at}
 use Rattle.book_core.specs.declared.stored_slot.StoredSlot.{StoredSlot}
 use Rattle.book_core.specs.Stored.{node_after, slot_with, slots_after, slots_of}
 use Rattle.book_core.specs.Summing.{live_bounds}
-use Rattle.book_core.specs.Keeps.{IsSound}
-use Rattle.book_core.proofs.NodeLemmas.{slot-node}
 
 module _ (I : Instance) where
   any-after : (test : SlotState → Bool) (done : List Node) (ss : List StoredSlot) → list_any (λ (s : StoredSlot). test s.state) ss ≡ list_any (λ (s : Slot). test s.state) (slots_after I done ss)

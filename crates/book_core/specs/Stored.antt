@@ -1,14 +1,9 @@
 -- The slots of a book, from what is stored of them.
-use Rattle.std.specs.Prelude.{ℕ, suc, ◌≡◌, List, [], ◌∷◌, ◌++◌, slice_index_or}
+use Rattle.std.specs.Prelude.{◌≡◌, List, [], ◌∷◌, ◌++◌, slice_index_or}
 use Rattle.lock_model.specs.declared.instance.Instance.{Instance}
-use Rattle.lock_rules.specs.Node.{root_lines}
-use Rattle.lock_rules.specs.Children.{children_of}
 use Rattle.book_rules.specs.Book.{Node, Slot, root}
+use Rattle.book_rules.specs.Family.{child_node}
 use Rattle.book_core.specs.declared.stored_slot.StoredSlot.{StoredSlot}
-
--- child i of a node
-abbrev pub child_node : Instance → Node → ℕ → Node
-child_node I node i = record { depth = suc node.depth; lines = slice_index_or (children_of I node.depth node.lines) i root_lines }
 
 -- the node of a slot, after the nodes of the slots before it; the first slot holds the root
 abbrev pub node_after : Instance → List Node → StoredSlot → Node

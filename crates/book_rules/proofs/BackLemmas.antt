@@ -12,7 +12,7 @@ use Rattle.book_rules.specs.Step
 use Rattle.book_rules.specs.Room.{count_false}
 use Rattle.book_rules.specs.Waiting.{KeepsBack}
 use Rattle.book_rules.proofs.MoveLemmas.{Stays, TakesBack, TakesFresh, Splits, Closes, Parks, Posts, Prices, Replaces, Ends, GivesBack, IsRunning, each-move}
-use Rattle.book_rules.proofs.TallyLemmas.{one, count-turned, count-append, count-children, count-outdone, Closed, count_false-set}
+use Rattle.book_rules.proofs.TallyLemmas.{one, count-turned, count-append, count-children, count-outdone, count_false-set}
 use Rattle.closing_rules.specs.declared.grounds.Ground.TheVariants as by
 
 module _ {Break : Type 0} (broken : Instance → Plan → Option Break) (b : Book) where

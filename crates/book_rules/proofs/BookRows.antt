@@ -20,7 +20,7 @@ use Rattle.book_rules.specs.Verdict.{verdict_of}
 use Rattle.book_rules.specs.Events.{Event, take, split, close, park, release}
 use Rattle.book_rules.specs.Events.{Reply, Node, Made, Closed, Parked, Released, Ended, Holds, Idle, Done, NotHeld, Cheaper, NoHit, OtherDeck, Absent}
 use Rattle.book_rules.specs.Events.{post, post_prices, close_price, replace, NodesSpent, Whole, Posted, Priced, Replaced, NotCheaper, OtherPrices, NoPrices, NotShown}
-use Rattle.book_rules.specs.Shown.{ChamberCut, Shown}
+use Rattle.book_rules.specs.Shown.{Shown}
 use Rattle.book_rules.specs.Step.{step}
 use Rattle.book_rules.specs.Replay.{replay}
 use Rattle.closing_rules.specs.declared.grounds.Ground.TheVariants as by

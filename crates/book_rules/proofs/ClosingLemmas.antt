@@ -13,7 +13,7 @@ use Rattle.closing_rules.specs.declared.grounds.Ground.TheVariants as by
 use Rattle.closing_rules.specs.Grounds.{IsClosedBy}
 use Rattle.book_rules.specs.Book.{Book, slot_at, best_cost}
 use Rattle.closing_rules.specs.ListedPrices.{IsPricedBy}
-use Rattle.book_rules.specs.Events.{Reply, is_accepted, Cheaper, NoHit, Absent, NoPrices, NotShown}
+use Rattle.book_rules.specs.Events.{Reply, is_acceptance, Cheaper, NoHit, Absent, NoPrices, NotShown}
 use Rattle.book_rules.specs.Shown.{Shown, IsShown}
 use Rattle.book_rules.specs.States.{IsHitBy, cuts_in}
 use Rattle.book_rules.specs.Step
@@ -23,7 +23,7 @@ use Rattle.book_rules.proofs.TestLemmas.{not-below, has_number-decides, is_node_
 -- nothing, or a refusal
 abbrev pub MayRefuse : {Break : Type 0} → Option (Reply Break) → Type 0
 MayRefuse None = ⊤
-MayRefuse (Some r) = is_accepted r ≡ false
+MayRefuse (Some r) = is_acceptance r ≡ false
 
 module _ (b : Book) (id : ℕ) where
   abbrev I : Instance
@@ -38,7 +38,7 @@ module _ (b : Book) (id : ℕ) where
   hit-by number (Some cut) e hit = record { cut = cut; there = e; hits = (is_node_hit-decides I cut (slot_at b id).node.lines).0 hit }
 
   module _ (Break : Type 0) where
-    refuse_or : (t : Bool) (r : Reply Break) (o : Option (Reply Break)) → is_accepted r ≡ false → MayRefuse o → MayRefuse (cond t (Some r) o)
+    refuse_or : (t : Bool) (r : Reply Break) (o : Option (Reply Break)) → is_acceptance r ≡ false → MayRefuse o → MayRefuse (cond t (Some r) o)
     refuse_or true r o f h = f
     refuse_or false r o f h = h
 

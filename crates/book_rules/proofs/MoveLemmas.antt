@@ -21,7 +21,7 @@ use Rattle.book_rules.specs.declared.book.SlotState.{SlotState}
 use Rattle.book_rules.specs.declared.book.SlotState.TheVariants as slot
 use Rattle.book_rules.specs.Tests.{same_deck, has_clash, is_own_cut}
 use Rattle.book_rules.specs.Book.{Slot, Book, no_slot, slot_at, best_cost, first_slot, has_slot, is_back, is_held, is_held_by, is_parked, group_at, ships_at, no_group}
-use Rattle.book_rules.specs.Events.{Event, Reply, IsOwed, is_accepted, take, split, close, post, post_prices, close_price, park, replace, release}
+use Rattle.book_rules.specs.Events.{Event, Reply, IsOwed, is_acceptance, take, split, close, post, post_prices, close_price, park, replace, release}
 use Rattle.book_rules.specs.Events.{Replaced, Ended, NodesSpent, Idle, Done, NotHeld, Whole, OtherDeck, OtherPrices, NotCheaper, Clashes}
 use Rattle.book_rules.specs.NextSlot.{next_fresh}
 use Rattle.book_rules.specs.Step
@@ -66,7 +66,7 @@ is_growing (replace plan) = true
 is_growing _ = false
 
 pub data IsMove {Break : Type 0} (b : Book) (e : Event) (out : Book × Reply Break) : Type 0 where
-  Stays : is_accepted out.1 ≡ false → out.0 ≡ b → IsMove b e out
+  Stays : is_acceptance out.1 ≡ false → out.0 ≡ b → IsMove b e out
   TakesBack : (w id : ℕ) → IsRunning b w → HoldsNone b w → first_slot b is_back ≡ Some id → IsAt b id slot.Back → out.0 ≡ turned b id (slot.Held w) b.used b.ended (entry.Take w) → IsMove b e out
   TakesFresh : (w id : ℕ) → IsRunning b w → HoldsNone b w → first_slot b is_back ≡ None → next_fresh b ≡ Some id → IsAt b id slot.Fresh → b.used ≢ b.case.nodes → out.0 ≡ turned b id (slot.Held w) (suc b.used) b.ended (entry.Take w) → IsMove b e out
   Splits : (w id : ℕ) → IsAt b id (slot.Held w) → (slot_at b id).node.depth < length b.case.instance.ships → out.0 ≡ Step.noted (Step.with_children b id) (entry.Split id) → IsMove b e out
@@ -99,7 +99,7 @@ module _ {Break : Type 0} (broken : Instance → Plan → Option Break) (b : Boo
   Is e out = IsMove {Break = Break} b e out
 
   -- one refusal before another way on
-  refuse_or : (e : Event) (t : Bool) (r : Reply Break) (out : Book × Reply Break) → is_accepted r ≡ false → (t ≡ false → Is e out) → Is e (cond t (b, r) out)
+  refuse_or : (e : Event) (t : Bool) (r : Reply Break) (out : Book × Reply Break) → is_acceptance r ≡ false → (t ≡ false → Is e out) → Is e (cond t (b, r) out)
   refuse_or e true r out f h = Stays f refl
   refuse_or e false r out f h = h refl
 

@@ -1,17 +1,12 @@
 -- After every list of events a book keeps its parts.
-use Rattle.std.proofs.Common.{◌≡◌, List, [], ◌∷◌, sym, subst, None}
 use Rattle.std.specs.declared.option.Option.{Option}
-use Rattle.std.specs.List.{AllByRecursion}
 use Rattle.lock_model.specs.declared.instance.Instance.{Instance}
 use Rattle.lock_model.specs.declared.plan.Plan.{Plan}
-use Rattle.lock_rules.specs.Plan.{IsLegal}
 use Rattle.book_rules.specs.Book.{Case, Book, opening_book}
 use Rattle.book_rules.specs.Events.{Event, IsOwed}
 use Rattle.book_rules.specs.Step
 use Rattle.book_rules.specs.Cover.{KeepsBook}
-use Rattle.closing_rules.specs.Laws.{TreeLaws}
 use Rattle.book_rules.specs.Parts.{KeepsParts}
-use Rattle.book_rules.proofs.CoverLemmas.{event-keeps, opening-keeps}
 use Rattle.book_rules.proofs.FamilyLemmas.{family-step, opening-family}
 use Rattle.book_rules.proofs.StateLemmas.{states-step, opening-states}
 use Rattle.book_rules.proofs.WorkerLemmas.{workers-step, opening-workers}

@@ -1,5 +1,5 @@
 -- A book is the replay of its history, after every list of events.
-use Rattle.std.proofs.Common.{◌≡◌, ℕ, zero, suc, ◌+◌, List, [], ◌∷◌, ◌++◌, length, inl, inr, refl, sym, ap, ◌∙◌, subst, arith, Bool, true, false, not, cond, Some, None, slice_index_or, slice_get, nat_lt, nat_le, ◌&&◌, length-append}
+use Rattle.std.proofs.Common.{◌≡◌, ℕ, zero, suc, List, [], ◌∷◌, ◌++◌, length, inl, inr, refl, sym, ap, ◌∙◌, subst, arith, Bool, true, false, not, cond, Some, None, slice_index_or, slice_get, nat_lt, nat_le, ◌&&◌, length-append}
 use Rattle.std.proofs.lemmas.Bool.{and_parts, false≢true}
 use Rattle.std.proofs.lemmas.Option.{same_Some, none-some}
 use Rattle.std.specs.declared.option.Option.{Option}
@@ -17,7 +17,7 @@ use Rattle.book_rules.specs.declared.book.Entry.{Entry}
 use Rattle.book_rules.specs.declared.book.Entry.TheVariants as entry
 use Rattle.book_rules.specs.Tests.{same_deck, has_clash}
 use Rattle.book_rules.specs.Book.{Case, Book, slot_at, best_cost, is_held, group_at, ships_at, no_group, opening_book}
-use Rattle.book_rules.specs.Events.{Event, Reply, is_accepted, take, split, close, post, post_prices, close_price, park, replace, release}
+use Rattle.book_rules.specs.Events.{Event, Reply, is_acceptance, take, split, close, post, post_prices, close_price, park, replace, release}
 use Rattle.book_rules.specs.Events.{NotHeld, OtherDeck, Clashes, Cheaper, NotShown}
 use Rattle.closing_rules.specs.declared.grounds.Ground.{Ground}
 use Rattle.closing_rules.specs.declared.grounds.Ground.TheVariants as by
@@ -89,7 +89,7 @@ module _ {Break : Type 0} (broken : Instance → Plan → Option Break) where
   held_way b id t out = cond t (b, NotHeld id) out
 
   lent-again : (b : Book) (id c p : ℕ) (deck : Deck) (turns : ℕ) (g : Group) (t : Bool) → Step.is_lent b c g deck turns ≡ t
-      → is_accepted (lent_way b id c p deck t).1 ≡ true
+      → is_acceptance (lent_way b id c p deck t).1 ≡ true
       → (lent_way b id c p (deck_of b.case.instance c g.ships) (Step.is_lent b c g (deck_of b.case.instance c g.ships) b.case.turns)).0 ≡ (lent_way b id c p deck t).0
   lent-again b id c p deck turns g false e good = absurd (false≢true good)
   lent-again b id c p deck turns g true e good =
@@ -101,7 +101,7 @@ module _ {Break : Type 0} (broken : Instance → Plan → Option Break) where
       ap (λ u. (lent_way b id c p own u).0) lent ∙ ap (λ u. (lent_way b id c p u true).0) same
 
   group-again : (b : Book) (id c p : ℕ) (deck : Deck) (turns : ℕ) (o : Option Group) → group_at (slot_at b id).node c p ≡ o
-      → is_accepted (Step.park_group {Break = Break} b id c p deck turns o).1 ≡ true
+      → is_acceptance (Step.park_group {Break = Break} b id c p deck turns o).1 ≡ true
       → (Step.park_group {Break = Break} b id c p (deck_of b.case.instance c (ships_at (slot_at b id).node c p)) b.case.turns o).0 ≡ (Step.park_group {Break = Break} b id c p deck turns o).0
   group-again b id c p deck turns None e good = absurd (false≢true good)
   group-again b id c p deck turns (Some g) e good =
@@ -109,15 +109,15 @@ module _ {Break : Type 0} (broken : Instance → Plan → Option Break) where
       ap (λ ships. (Step.park_group {Break = Break} b id c p (deck_of b.case.instance c ships) b.case.turns (Some g)).0) is
       ∙ lent-again b id c p deck turns g (Step.is_lent b c g deck turns) refl good
 
-  held-again : (b : Book) (id : ℕ) (t : Bool) (out own : Book × Reply Break) → (is_accepted out.1 ≡ true → own.0 ≡ out.0)
-      → is_accepted (held_way b id t out).1 ≡ true → (held_way b id t own).0 ≡ (held_way b id t out).0
+  held-again : (b : Book) (id : ℕ) (t : Bool) (out own : Book × Reply Break) → (is_acceptance out.1 ≡ true → own.0 ≡ out.0)
+      → is_acceptance (held_way b id t out).1 ≡ true → (held_way b id t own).0 ≡ (held_way b id t out).0
   held-again b id true out own f good = refl
   held-again b id false out own f good = f good
 
   -- ---- closing again by prices, with what the book itself says
 
   -- what isn't refused closes the slot
-  unrefused-closed : (b : Book) (id : ℕ) (why : Ground) (o : Option (Reply Break)) → MayRefuse o → is_accepted (Step.close_unless b id why o).1 ≡ true → (Step.close_unless b id why o).0 ≡ Step.closed b id why
+  unrefused-closed : (b : Book) (id : ℕ) (why : Ground) (o : Option (Reply Break)) → MayRefuse o → is_acceptance (Step.close_unless b id why o).1 ≡ true → (Step.close_unless b id why o).0 ≡ Step.closed b id why
   unrefused-closed b id why (Some r) refuses good = absurd (false≢true (sym refuses ∙ good))
   unrefused-closed b id why None refuses good = refl
 
@@ -129,7 +129,7 @@ module _ {Break : Type 0} (broken : Instance → Plan → Option Break) where
       ap (λ t. cond (not t) (Some NotShown) (Step.cheaper_than best best)) (own-shown b id number prices there) ∙ ap (λ t. cond t (Some (Cheaper best best)) None) same
 
   prices-again : (b : Book) (id number : ℕ) (shown : Shown) (o : Option (List ℕ)) → slice_get b.prices number ≡ o
-      → is_accepted (Step.close_unless {Break = Break} b id (by.Price number) (Step.price_refusal b id number shown o)).1 ≡ true
+      → is_acceptance (Step.close_unless {Break = Break} b id (by.Price number) (Step.price_refusal b id number shown o)).1 ≡ true
       → (Step.close_unless {Break = Break} b id (by.Price number) (Step.price_refusal b id number (own_shown b id number) o)).0 ≡ (Step.close_unless {Break = Break} b id (by.Price number) (Step.price_refusal b id number shown o)).0
   prices-again b id number shown None there good = refl
   prices-again b id number shown (Some prices) there good =
@@ -137,11 +137,11 @@ module _ {Break : Type 0} (broken : Instance → Plan → Option Break) where
       ∙ sym (unrefused-closed b id (by.Price number) (Step.price_refusal b id number shown (Some prices)) (may-refuse_price b id Break number shown (Some prices)) good)
 
   -- closing by prices is refused where nothing was shown
-  unshown : (b : Book) (id : ℕ) (t : Bool) → is_accepted (held_way b id t (b, NotShown)).1 ≡ true → ⊥
+  unshown : (b : Book) (id : ℕ) (t : Bool) → is_acceptance (held_way b id t (b, NotShown)).1 ≡ true → ⊥
   unshown b id true good = false≢true good
   unshown b id false good = false≢true good
 
-  closing-again : (b : Book) (id : ℕ) (why : Ground) → is_accepted (Step.step broken b (close id why)).1 ≡ true → after b (closing_of b id why) ≡ after b (close id why)
+  closing-again : (b : Book) (id : ℕ) (why : Ground) → is_acceptance (Step.step broken b (close id why)).1 ≡ true → after b (closing_of b id why) ≡ after b (close id why)
   closing-again b id (by.Price number) good = absurd (unshown b id (not (Step.may_close b id)) good)
   closing-again b id by.Bound good = refl
   closing-again b id by.Throughput good = refl
@@ -149,7 +149,7 @@ module _ {Break : Type 0} (broken : Instance → Plan → Option Break) where
   closing-again b id (by.Cut number) good = refl
 
   -- one accepted event, replayed by its entry
-  replay-one : (b : Book) (e : Event) → is_accepted (Step.step broken b e).1 ≡ true → replay_from broken b (entry_of e ∷ []) (cuts_of e) (plans_of e) (prices_of e) ≡ after b e
+  replay-one : (b : Book) (e : Event) → is_acceptance (Step.step broken b e).1 ≡ true → replay_from broken b (entry_of e ∷ []) (cuts_of e) (plans_of e) (prices_of e) ≡ after b e
   replay-one b (take w) good = refl
   replay-one b (split id) good = refl
   replay-one b (close id why) good = closing-again b id why good

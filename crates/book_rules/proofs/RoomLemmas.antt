@@ -10,7 +10,7 @@ use Rattle.book_rules.specs.declared.book.Entry.TheVariants as entry
 use Rattle.book_rules.specs.declared.book.SlotState.{SlotState}
 use Rattle.book_rules.specs.declared.book.SlotState.TheVariants as slot
 use Rattle.book_rules.specs.Book.{Case, Slot, Book, slot_at, best_cost, bound_at, root, opening_book, is_back, is_held, is_parked}
-use Rattle.book_rules.specs.Events.{Event, Reply, IsOwed, is_accepted, post, post_prices, replace}
+use Rattle.book_rules.specs.Events.{Event, Reply, IsOwed, is_acceptance, post, post_prices, replace}
 use Rattle.book_rules.specs.Step
 use Rattle.book_rules.specs.Room.{count_slots, count_false, room_of}
 use Rattle.book_rules.specs.Budget.{is_taken, KeepsBudget}
@@ -60,7 +60,7 @@ ends-count b w nine runs = count_false-set b.ended w (omega (arith, nine, runs.k
 pub data RoomLeft {Break : Type 0} (b : Book) (e : Event) (out : Book × Reply Break) : Type 0 where
   Less : suc (room_of out.0) ≤ room_of b → RoomLeft b e out
   Own : is_growing e ≡ true → room_of out.0 ≤ room_of b → RoomLeft b e out
-  Refusal : is_accepted out.1 ≡ false → out.0 ≡ b → RoomLeft b e out
+  Refusal : is_acceptance out.1 ≡ false → out.0 ≡ b → RoomLeft b e out
 
 module _ {Break : Type 0} (broken : Instance → Plan → Option Break) (b : Book) (budget : KeepsBudget b) (nine : length b.ended ≡ 9) where
   room-left : (e : Event) → IsOwed e → RoomLeft {Break = Break} b e (Step.step broken b e)
@@ -93,7 +93,7 @@ module _ {Break : Type 0} (broken : Instance → Plan → Option Break) (b : Boo
       ]
 
   -- an accepted event that is neither a posting nor a replace uses one entry of the room
-  pub room-falls : (e : Event) → IsOwed e → is_growing e ≡ false → is_accepted (Step.step broken b e).1 ≡ true → suc (room_of (Step.step broken b e).0) ≤ room_of b
+  pub room-falls : (e : Event) → IsOwed e → is_growing e ≡ false → is_acceptance (Step.step broken b e).1 ≡ true → suc (room_of (Step.step broken b e).0) ≤ room_of b
   room-falls e owed plain accepted =
       elim (room-left e owed) [
         | Less h ↦ h

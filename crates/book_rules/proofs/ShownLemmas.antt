@@ -1,13 +1,12 @@
 -- What was shown beside a book holds in it, and a book shows itself what it was closed by.
-use Rattle.std.proofs.Common.{◌≡◌, ℕ, zero, suc, ◌<◌, ◌≤◌, List, [], ◌∷◌, length, map, All, Contains, refl, sym, ap, ◌∙◌, subst, arith, Bool, true, not, cond, ◌&&◌, Some, slice_get, slice_index_or, nat_eq, nat_lt}
+use Rattle.std.proofs.Common.{◌≡◌, ℕ, zero, suc, ◌≤◌, List, [], ◌∷◌, map, All, Contains, refl, sym, subst, arith, true, ◌&&◌, Some, slice_get, slice_index_or, nat_eq}
 use Rattle.std.proofs.lemmas.Option.{same_Some, none-some}
-use Rattle.std.specs.declared.option.Option.{Option}
 use Rattle.std.specs.Cmp.Lexicographic.{pointwise, bytes_decides}
 use Rattle.std.proofs.lemmas.Bool.{and_parts, and_from, false≢true}
 use Rattle.std.proofs.lemmas.Bool.Decides.{Decides-eqb}
 use Rattle.std.proofs.lemmas.List.Elements.{All-cons, All-nil, All-weaker}
 use Rattle.lock_model.specs.declared.instance.Instance.{Instance}
-use Rattle.price_rules.specs.Prices.{PlainCut, Reaches}
+use Rattle.price_rules.specs.Prices.{Reaches}
 use Rattle.price_rules.proofs.ReachLemmas.{reached-stays}
 use Rattle.refute_rules.specs.Cuts.{Cut}
 use Rattle.closing_rules.specs.ListedPrices.{cut_in, IsPricedBy}

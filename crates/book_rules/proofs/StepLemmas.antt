@@ -7,7 +7,7 @@ use Rattle.lock_model.specs.declared.group.Group.{Group}
 use Rattle.lock_model.specs.declared.plan.Plan.{Plan}
 use Rattle.refute_rules.specs.Cuts.{Cut}
 use Rattle.book_rules.specs.declared.book.Entry.{Entry}
-use Rattle.book_rules.specs.Events.{Event, Reply, is_accepted}
+use Rattle.book_rules.specs.Events.{Event, Reply, is_acceptance}
 use Rattle.book_rules.specs.declared.book.Entry.TheVariants as entry
 use Rattle.book_rules.specs.Book.{Book, slot_at, best_cost, first_slot, has_slot, is_back, is_held, is_held_by, group_at}
 use Rattle.book_rules.specs.Events.{take, split, close, post, post_prices, close_price, park, replace, release}
@@ -47,7 +47,7 @@ prices_of _ = []
 
 -- an accepted event: one entry more, its cuts, plans and prices, and the same case and opening plan
 pub record IsAccepted (Break : Type 0) (old : Book) (e : Event) (out : Book × Reply Break) : Type 0 where
-  pub accepted : is_accepted out.1 ≡ true
+  pub accepted : is_acceptance out.1 ≡ true
   pub history : out.0.history ≡ old.history ++ entry_of e ∷ []
   pub cuts : out.0.cuts ≡ old.cuts ++ cuts_of e
   pub plans : out.0.plans ≡ old.plans ++ plans_of e
@@ -57,7 +57,7 @@ pub record IsAccepted (Break : Type 0) (old : Book) (e : Event) (out : Book × R
 
 -- a refusal leaves the book as it was
 pub data IsStep {Break : Type 0} (old : Book) (e : Event) (out : Book × Reply Break) : Type 0 where
-  Refused : is_accepted out.1 ≡ false → out.0 ≡ old → IsStep old e out
+  Refused : is_acceptance out.1 ≡ false → out.0 ≡ old → IsStep old e out
   Accepted : IsAccepted Break old e out → IsStep old e out
 
 append-nil : {X : Type 0} (xs : List X) → xs ≡ xs ++ []
@@ -74,11 +74,11 @@ module _ {Break : Type 0} (broken : Instance → Plan → Option Break) (b : Boo
   Is e out = IsStep {Break = Break} b e out
 
   -- one refusal before another way on
-  refuse_or : (e : Event) (t : Bool) (r : Reply Break) (out : Book × Reply Break) → is_accepted r ≡ false → Is e out → Is e (cond t (b, r) out)
+  refuse_or : (e : Event) (t : Bool) (r : Reply Break) (out : Book × Reply Break) → is_acceptance r ≡ false → Is e out → Is e (cond t (b, r) out)
   refuse_or e t r out f h = by_test b e t (b, r) out (Refused f refl) h
 
   -- an accepted event that brings neither cut nor plan nor prices
-  plain : (e : Event) (new : Book) (r : Reply Break) → cuts_of e ≡ [] → plans_of e ≡ [] → prices_of e ≡ [] → is_accepted r ≡ true → new.history ≡ b.history ++ entry_of e ∷ [] → new.cuts ≡ b.cuts → new.plans ≡ b.plans → new.prices ≡ b.prices → new.case ≡ b.case → new.opening ≡ b.opening → Is e (new, r)
+  plain : (e : Event) (new : Book) (r : Reply Break) → cuts_of e ≡ [] → plans_of e ≡ [] → prices_of e ≡ [] → is_acceptance r ≡ true → new.history ≡ b.history ++ entry_of e ∷ [] → new.cuts ≡ b.cuts → new.plans ≡ b.plans → new.prices ≡ b.prices → new.case ≡ b.case → new.opening ≡ b.opening → Is e (new, r)
   plain e new r no_cut no_plan no_prices good history cuts plans prices case opening = Accepted (record {
     accepted = good;
     history = history;

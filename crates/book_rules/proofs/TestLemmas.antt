@@ -1,6 +1,6 @@
 -- The tests of the book machine decide what they are for.
-use Rattle.std.proofs.Common.{◌≡◌, ℕ, zero, suc, ◌+◌, ◌<◌, ◌≤◌, List, [], ◌∷◌, length, map, drop, Bool, true, false, not, inl, inr, refl, sym, ap, ◌∙◌, subst, arith, nat_eq, nat_lt, nat_le, Contains, slice_index_or, leb-false}
-use Rattle.std.proofs.lemmas.Bool.{false≢true, or_parts, not-false}
+use Rattle.std.proofs.Common.{◌≡◌, ℕ, zero, suc, ◌+◌, ◌<◌, ◌≤◌, List, [], ◌∷◌, length, map, drop, Bool, true, false, not, inl, inr, refl, sym, ap, ◌∙◌, subst, arith, nat_eq, nat_lt, nat_le, Contains, slice_index_or}
+use Rattle.std.proofs.lemmas.Bool.{false≢true, or_parts}
 use Rattle.std.specs.Bool.{Decides}
 use Rattle.std.specs.List.{list_any, list_all}
 use Rattle.std.proofs.lemmas.Bool.Decides.{Decides-eqb, Decides-ltb, leb_tells, Decides-and, Decides-like, Decides-not, Decides-by_and}

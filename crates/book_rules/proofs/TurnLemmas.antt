@@ -1,7 +1,7 @@
 -- Which slots a book has after a change.
 use Rattle.std.proofs.Common.{◌≡◌, ◌≢◌, ℕ, zero, suc, ◌+◌, ◌-◌, ◌<◌, ◌≤◌, List, [], ◌∷◌, ◌++◌, length, map, refl, sym, ap, ◌∙◌, arith, slice_index_or, slice_set, inl, inr, length-append}
 use Rattle.std.proofs.lemmas.Bool.Decides.{leb_tells, eqb_tells}
-use Rattle.std.proofs.lemmas.List.{length-set, get_or-set_same, get_or-set_other, get_or-append-add}
+use Rattle.std.proofs.lemmas.List.{length-set, get_or-set_same, get_or-set_other, get_or-append-add, get_or_past}
 use Rattle.std.proofs.Math.ListN.{get_or-append}
 use Rattle.lock_model.specs.declared.instance.Instance.{Instance}
 use Rattle.lock_model.specs.declared.group.Group.{Group}
@@ -10,6 +10,7 @@ use Rattle.lock_rules.specs.Children.{children_of}
 use Rattle.book_rules.specs.declared.book.SlotState.{SlotState}
 use Rattle.book_rules.specs.declared.book.SlotState.TheVariants as slot
 use Rattle.book_rules.specs.Book.{Slot, Book, no_slot, slot_at, best_cost, new_slot}
+use Rattle.book_rules.specs.Family.{child_node}
 use Rattle.book_rules.specs.Step
 use Rattle.book_rules.proofs.TallyLemmas.{length-children}
 
@@ -26,11 +27,6 @@ turned-at b id new known other =
       | inr n ↦ Untouched n.1 (get_or-set_other b.slots id other s no_slot n.1)
     ]
 
-pub past-end : (xs : List Slot) (k : ℕ) → length xs ≤ k → slice_index_or xs k no_slot ≡ no_slot
-past-end [] k h = refl
-past-end (x ∷ xs) zero h = absurd (omega (arith, h))
-past-end (x ∷ xs) (suc k) h = past-end xs k (omega (arith, h))
-
 -- child k of a list of children
 pub child-at : (I : Instance) (cost parent depth number : ℕ) (ls : List (List (List Group))) (k : ℕ) → k < length ls
     → slice_index_or (Step.child_slots I cost parent depth number ls) k no_slot ≡ new_slot I cost parent (number + k) (record { depth = depth; lines = slice_index_or ls k root_lines })
@@ -44,9 +40,7 @@ child-at I cost parent depth number (l ∷ ls) (suc k) known =
 
 -- child k of slot id
 abbrev pub kid : Book → ℕ → ℕ → Slot
-kid b id k =
-    new_slot b.case.instance (best_cost b) id k
-    (record { depth = suc (slot_at b id).node.depth; lines = slice_index_or (children_of b.case.instance (slot_at b id).node.depth (slot_at b id).node.lines) k root_lines })
+kid b id k = new_slot b.case.instance (best_cost b) id k (child_node b.case.instance (slot_at b id).node k)
 
 -- slot `other` where slot id has been split
 pub data IsAfterSplit (b : Book) (id other : ℕ) (s : Slot) : Type 0 where
@@ -101,7 +95,7 @@ split-at b id known other =
                 Child (other - length b.slots) place y.1 (ap (λ k. slice_index_or (Step.with_children b id).slots k no_slot) place ∙ kid-at b id (other - length b.slots) y.1)
             | inr m ↦
                 let past : length (Step.with_children b id).slots ≤ other = omega (arith, n.1, m.1, length-split b id) in
-                Past past (past-end (Step.with_children b id).slots other past)
+                Past past (get_or_past (Step.with_children b id).slots other no_slot past)
           ]
     ]
 

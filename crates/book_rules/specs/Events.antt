@@ -49,17 +49,17 @@ pub data Reply (Break : Type 0) : Type 0 where
   NoPrices : ℕ → Reply Break
   NotShown : Reply Break
 
--- the first eight are accepted, the others are refusals
-abbrev pub is_accepted : {Break : Type 0} → Reply Break → Bool
-is_accepted (Node id node) = true
-is_accepted (Made count) = true
-is_accepted Closed = true
-is_accepted (Posted number) = true
-is_accepted (Priced number) = true
-is_accepted Parked = true
-is_accepted (Replaced cost) = true
-is_accepted (Released count) = true
-is_accepted _ = false
+-- the first eight accept their event, the others refuse it
+abbrev pub is_acceptance : {Break : Type 0} → Reply Break → Bool
+is_acceptance (Node id node) = true
+is_acceptance (Made count) = true
+is_acceptance Closed = true
+is_acceptance (Posted number) = true
+is_acceptance (Priced number) = true
+is_acceptance Parked = true
+is_acceptance (Replaced cost) = true
+is_acceptance (Released count) = true
+is_acceptance _ = false
 
 -- what the caller of an event owes: a worker's number is at most 8, a lent deck is hard and spot-hard, a cut's refutation holds, prices are within their limits, and what is shown is reached
 abbrev pub IsOwed : Event → Type 0

@@ -1,5 +1,5 @@
 //! Lines of groups as they are made.
-ghost use Rattle.std.specs.Prelude.{◌<◌, ◌≤◌, length};
+ghost use Rattle.std.specs.Prelude.{◌<◌};
 
 use crate::flow::line_flow;
 use crate::sets::without;

@@ -1,5 +1,5 @@
 //! What is kept of loose lines.
-ghost use Rattle.std.specs.Prelude.{◌≡◌, ◌<◌, ◌≤◌, length, All};
+ghost use Rattle.std.specs.Prelude.{◌≡◌, ◌<◌};
 
 use crate::draft::Draft;
 use crate::fitting::{Fitting, fits};

@@ -1,5 +1,5 @@
 //! A plan near loose lines.
-ghost use Rattle.std.specs.Prelude.{◌≡◌, ◌<◌, ◌≤◌, length, All, IfOk, IfSome};
+ghost use Rattle.std.specs.Prelude.{◌≡◌, ◌<◌, IfOk, IfSome};
 ghost use Rattle.lock_rules.specs.Plan.{IsLegal, cost_of};
 
 use crate::draft::Draft;

@@ -1,5 +1,5 @@
 //! Where a ship costs least.
-ghost use Rattle.std.specs.Prelude.{◌≡◌, ◌<◌, ◌≤◌, length, All};
+ghost use Rattle.std.specs.Prelude.{◌≡◌, ◌<◌, length};
 
 use crate::draft::Draft;
 use crate::fitting::{Fitting, fits};

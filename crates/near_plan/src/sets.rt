@@ -1,5 +1,5 @@
 //! Ships with one more or one fewer.
-ghost use Rattle.std.specs.Prelude.{◌<◌, All};
+ghost use Rattle.std.specs.Prelude.{◌<◌};
 
 use lock_model::Ships;
 

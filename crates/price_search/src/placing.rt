@@ -1,5 +1,5 @@
 //! Groups that prices propose, placed.
-ghost use Rattle.std.specs.Prelude.{◌≡◌, ◌<◌, ◌≤◌, length, All};
+ghost use Rattle.std.specs.Prelude.{◌≡◌, ◌<◌, length, All};
 
 use crate::appending::append;
 use crate::round::Asked;

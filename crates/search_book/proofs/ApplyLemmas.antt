@@ -1,38 +1,24 @@
 -- An accepted event makes the history longer by one; a refused one leaves the book.
-use Rattle.std.proofs.Common.{◌≡◌, ◌+◌, [], ◌∷◌, length, length-append, refl, sym, ap, ◌∙◌, subst, arith, Bool, false, cond, Some, None, true≢false}
+use Rattle.std.proofs.Common.{◌≡◌, ◌+◌, [], ◌∷◌, length, length-append, sym, ap, ◌∙◌, subst, arith, false, cond, true≢false}
 use Rattle.std.proofs.lemmas.Bool.{OnFalse_from}
-use Rattle.std.specs.declared.option.Option.{Option}
+use Rattle.std.specs.Option.{option_map_or}
 use Rattle.std.specs.Bool.{OnFalse}
-use Rattle.mooring_rules.specs.declared.breaks.BrokenPlan.{BrokenPlan}
 use Rattle.book_rules.specs.Book.{Book}
 use Rattle.book_rules.specs.Events as machine
 use Rattle.book_rules.proofs.StepLemmas.{entry_of, IsStep, Refused, Accepted, each-step}
 use Rattle.book_core.specs.declared.reply.Reply.{Reply}
-use Rattle.book_core.specs.declared.reply.Reply.TheVariants as reply
-use Rattle.book_core.specs.Replies.{Answers, Does, Steps, Stays, told}
+use Rattle.book_core.specs.Replies.{Answers, Does, Steps, Stays}
 use Rattle.search_book.specs.declared.event.Event.{Event}
 use Rattle.search_book.specs.declared.event.Event.TheVariants as event
-use Rattle.search_book.specs.Replies.{is_accepted, accepted}
+use Rattle.search_book.specs.Replies.{is_acceptance, accepted}
 use Rattle.search_book.specs.Applied.{Applies}
-
-abbrev Answer : Type 0
-Answer = machine.Reply BrokenPlan
-
--- the machine's reply accepts the event; want of memory doesn't
-abbrev pub is_accepting : Option Answer → Bool
-is_accepting None = false
-is_accepting (Some a) = machine.is_accepted a
-
-pub accepted-by : (r : Reply) → is_accepting (told r) ≡ is_accepted r
-accepted-by (reply.Node id node) = refl
-accepted-by _ = refl
 
 pub record Counts (old : Book) (r : Reply) (new : Book) : Type 0 where
   pub count : length new.history ≡ length old.history + accepted r
   pub case : new.case ≡ old.case
-  pub refused : is_accepted r ≡ false → new ≡ old
+  pub refused : is_acceptance r ≡ false → new ≡ old
 
-leaves : (old : Book) (r : Reply) (new : Book) → is_accepted r ≡ false → new ≡ old → Counts old r new
+leaves : (old : Book) (r : Reply) (new : Book) → is_acceptance r ≡ false → new ≡ old → Counts old r new
 leaves old r new said same =
     let none : accepted r ≡ 0 = ap (λ t. cond t 1 0) said in
     let long = ap (λ (b : Book). length b.history) same in
@@ -40,7 +26,7 @@ leaves old r new said same =
 
 pub answers-count : (old : Book) (e : machine.Event) (r : Reply) (new : Book) → Answers old e r new → Counts old r new
 answers-count old e r new answers =
-    let same_test : is_accepted r ≡ machine.is_accepted answers.answer = sym (accepted-by r) ∙ ap is_accepting answers.said in
+    let same_test : is_acceptance r ≡ machine.is_acceptance answers.answer = ap (λ a. option_map_or machine.is_acceptance a false) answers.said in
     elim (subst (IsStep old e) answers.same (each-step (λ _ _. answers.found) old e)) [
       | Refused said same ↦ leaves old r new (same_test ∙ said) same
       | Accepted done ↦
@@ -51,7 +37,7 @@ answers-count old e r new answers =
 
 does-count : (old : Book) (e : machine.Event) (r : Reply) (new : Book) → Does old e r new → Counts old r new
 does-count old e r new (Steps answers) = answers-count old e r new answers
-does-count old e r new (Stays wants) = leaves old r new (ap is_accepted wants.want) wants.same
+does-count old e r new (Stays wants) = leaves old r new (ap is_acceptance wants.want) wants.same
 
 pub applies-count : (old : Book) (e : Event) (r : Reply) (new : Book) → Applies old e r new → Counts old r new
 applies-count old (event.Take w) r new h = answers-count old (machine.take w) r new h.step
@@ -63,5 +49,5 @@ applies-count old (event.Replace plan) r new h = does-count old (machine.replace
 applies-count old (event.PostPrices prices) r new h = does-count old (machine.post_prices prices.value) r new h
 applies-count old (event.Release w) r new h = answers-count old (machine.release w) r new h
 
-pub on-refused : (old : Book) (e : Event) (r : Reply) (new : Book) → Applies old e r new → OnFalse (is_accepted r) (new ≡ old)
-on-refused old e r new h = OnFalse_from (is_accepted r) (new ≡ old) (applies-count old e r new h).refused
+pub on-refused : (old : Book) (e : Event) (r : Reply) (new : Book) → Applies old e r new → OnFalse (is_acceptance r) (new ≡ old)
+on-refused old e r new h = OnFalse_from (is_acceptance r) (new ≡ old) (applies-count old e r new h).refused

@@ -24,7 +24,7 @@ use Rattle.search_book.specs.declared.next.Next.TheVariants as next
 use Rattle.search_book.specs.Applied.{Applies, Takes}
 use Rattle.search_book.specs.Going.{GoesAhead, IsNextAhead, IsStop, Passes, ending_of}
 use Rattle.search_book.specs.Granting.{IsAstray, IsFirstAt, IsHeldAt}
-use Rattle.search_book.specs.Replies.{is_accepted}
+use Rattle.search_book.specs.Replies.{is_acceptance}
 use Rattle.book_core.proofs.EventLemmas.{grants-answers, grants-node}
 
 -- ---- a taking
@@ -42,7 +42,7 @@ takes-slot old w id new node grants is = grants-takes old w (grant.Slot id) new 
 
 -- ---- an event and a taking
 
-pub passes : (old : Book) (e : Event) (ended : Reply) (between : Book) → Applies old e ended between → is_accepted ended ≡ true
+pub passes : (old : Book) (e : Event) (ended : Reply) (between : Book) → Applies old e ended between → is_acceptance ended ≡ true
     → (w id : ℕ) (rest : List Ahead) (new : Book) → Grants between w (grant.Slot id) new → IsFirstAt new id rest → Passes old e w rest id new
 passes old e ended between step said w id [] new grants is = is
 passes old e ended between step said w id (a ∷ rest) new grants is =
@@ -88,7 +88,7 @@ off-way b g (a ∷ rest) astray held (reply.Node id node) said is same =
 off-way b g [] astray held r said is same = none-ahead r same
 off-way b g (a ∷ rest) astray held _ said is same = same
 
-pub stops : (old : Book) (e : Event) (ended : Reply) (between : Book) → Applies old e ended between → is_accepted ended ≡ true
+pub stops : (old : Book) (e : Event) (ended : Reply) (between : Book) → Applies old e ended between → is_acceptance ended ≡ true
     → (w : ℕ) (g : Grant) (rest : List Ahead) (new : Book) → Grants between w g new → IsInHand new g → IsAstray new g rest
     → (r : Reply) → told r ≡ Some (grant_told new g) → HasNode new.case.instance r → IsStop old e w rest (next.Taken r) new
 stops old e ended between step said w g rest new grants held astray r tells node = record {

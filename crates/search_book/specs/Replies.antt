@@ -1,22 +1,18 @@
--- Which replies are accepted.
+-- Which replies accept their event.
 use Rattle.std.specs.Prelude.{ℕ, Bool, true, false, if◌then◌else◌}
+use Rattle.std.specs.Option.{option_map_or}
+use Rattle.book_rules.specs.Events as machine
 use Rattle.book_core.specs.declared.reply.Reply.{Reply}
 use Rattle.book_core.specs.declared.reply.Reply.TheVariants as reply
+use Rattle.book_core.specs.Replies.{told}
 
-abbrev pub is_accepted : Reply → Bool
-is_accepted (reply.Node id node) = true
-is_accepted (reply.Made count) = true
-is_accepted reply.Closed = true
-is_accepted (reply.Posted number) = true
-is_accepted (reply.Priced number) = true
-is_accepted reply.Parked = true
-is_accepted (reply.Replaced cost) = true
-is_accepted (reply.Released count) = true
-is_accepted _ = false
+-- the reply accepts its event, as the machine's does; want of memory accepts nothing
+abbrev pub is_acceptance : Reply → Bool
+is_acceptance r = option_map_or machine.is_acceptance (told r) false
 
 -- how many events a reply accepts
 abbrev pub accepted : Reply → ℕ
-accepted r = if is_accepted r then 1 else 0
+accepted r = if is_acceptance r then 1 else 0
 
 -- nothing is open, and a slot is held
 abbrev pub is_idle : Reply → Bool

@@ -15,7 +15,7 @@ use crate::event::Event;
 use crate::gone::Gone;
 use crate::kept::Kept;
 use crate::next::Next;
-use crate::replies::is_accepted;
+use crate::replies::is_acceptance;
 use book_core::{Book, Grant};
 use master_branch::Node;
 use std::sync::ledger::{Ledger, Share};
@@ -94,7 +94,7 @@ fn pass<L: Ledger>(
     ensures parts { share.new.parts ≡ share.old.parts }
 {
     let reply = apply(kept, share, ending);
-    if !is_accepted(&reply) {
+    if !is_acceptance(&reply) {
         return Err(Next::Refused(reply));
     }
     let grant = take_slot(kept, share, worker);

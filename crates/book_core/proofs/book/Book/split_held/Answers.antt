@@ -1,4 +1,4 @@
-use Rattle.std.proofs.Common.{◌+◌, length, true, false, sym, ap, ◌∙◌, true≢false, leb-false, leb-true}
+use Rattle.std.proofs.Common.{◌+◌, length, sym, ap, ◌∙◌, leb-false, leb-true}
 use Rattle.std.proofs.lemmas.List.{length-map}
 use Rattle.lock_rules.specs.Bound.{bound_of}
 use Rattle.lock_rules.specs.Children.{children_of}
