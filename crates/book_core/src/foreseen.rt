@@ -9,12 +9,12 @@ ghost use Rattle.book_core.specs.Hands.{bounds_below, bounds_at};
 ghost use Rattle.book_core.specs.Nodes.{tree_node};
 
 use crate::book::Book;
-use crate::comparing::same_instance;
 use crate::hands::lay_bounds;
 use book_rules::SlotState;
 use flow_bounds::{Bounds, Roster, child_bounds};
 use lock_model::Instance;
 use master_branch::Node;
+use price_bound::same_instance;
 
 /// A node of an instance, which lacks a ship, and the bounds of all its children in order, in
 /// minutes, worked out without a book.

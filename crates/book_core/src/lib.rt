@@ -24,8 +24,7 @@
 //!   cuts it off where the way to the new slot leaves it, and makes the nodes from there on, which is
 //!   one in a depth-first search. The node of a slot that no worker holds is made from the root's
 //!   (`nodes`). `bounding` has the probes and the bounds. Bounds may also be worked out without the
-//!   book (`foreseen`) and laid into the hand, where they are of its instance (`comparing`) and of
-//!   the slot's node.
+//!   book (`foreseen`) and laid into the hand, where they are of its instance and of the slot's node.
 //!
 //! Definitions: `book_rules` has the machine (`specs/Book`, `Events`, `Step`), the replay, the
 //! cover and the counts. Here `specs/Replies` says what it is that a method is a step, `Telling` what
@@ -39,7 +38,6 @@ mod book;
 mod bounding;
 mod case;
 mod closing;
-mod comparing;
 mod decks;
 mod finding;
 mod foreseen;
@@ -67,7 +65,6 @@ mod waiting;
 
 pub use book::Book;
 pub use case::Case;
-pub use comparing::same_instance;
 pub use foreseen::Foreseen;
 pub use laws::every_list_keeps;
 pub use opening::open_book;

@@ -8,3 +8,4 @@ pub mod Values
 pub mod Total
 pub mod Lines
 pub mod Claim
+pub mod Keeping

@@ -12,7 +12,7 @@ use Rattle.price_bound.specs.declared.next_group.NextGroup.{NextGroup}
 use Rattle.price_bound.specs.declared.next_group.ValuedState.{ValuedState}
 use Rattle.price_bound.specs.Worth.{worth_from, IsLeastOn}
 use Rattle.price_bound.specs.Choosing.{IsValue}
-use Rattle.price_bound.specs.Total.{HasNone, IsLeastSum, IsPriceSum}
+use Rattle.price_bound.specs.Total.{HasNone, IsPriceSum}
 
 -- the groups are a loose line of the chamber, and it is worth this
 pub record IsLineWorth (I : Instance) (c : ℕ) (cuts : List PlainCut) (k : ℕ) (prices : List ℕ) (line gs : List Group) (v : ℤ) : Type 0 where
@@ -33,16 +33,6 @@ IsLineFound I c cuts k prices line (Some found) = IsLeastLine I c cuts k prices 
 pub record AreLeastLines (I : Instance) (cuts : List PlainCut) (k : ℕ) (lines : List (List Group)) (prices : List ℕ) (n : ℕ) (found : List LooseLine) : Type 0 where
   pub count : length found ≡ n
   pub each : (c : ℕ) (d : LooseLine) → c < n → IsLeastLine I c cuts k prices (line_at lines c) (slice_index_or found c d)
-
--- a least line for each chamber, and what they are worth together
-pub record AreAddedLines (I : Instance) (cuts : List PlainCut) (k : ℕ) (lines : List (List Group)) (prices : List ℕ) (found : LooseLines) : Type 0 where
-  pub each_least : AreLeastLines I cuts k lines prices (length I.chambers) found.lines.items
-  pub sum : IsLeastSum I cuts k lines prices (length I.chambers) found.sum
-
--- these, or that some chamber has no loose line
-abbrev pub AreLinesAdded : Instance → List PlainCut → ℕ → List (List Group) → List ℕ → Option LooseLines → Type 0
-AreLinesAdded I cuts k lines prices None = HasNone I cuts k lines
-AreLinesAdded I cuts k lines prices (Some found) = AreAddedLines I cuts k lines prices found
 
 -- a least line for each chamber, and what they are worth together with the prices of the missing ships
 pub record AreLooseLines (I : Instance) (cuts : List PlainCut) (k : ℕ) (lines : List (List Group)) (prices : List ℕ) (found : LooseLines) : Type 0 where

@@ -26,6 +26,11 @@ pub record HasNone (I : Instance) (cuts : List PlainCut) (k : ℕ) (lines : List
   pub known : chamber < length I.chambers
   pub none : (loose : List Group) → ¬ IsLoose I chamber cuts k (line_at lines chamber) loose
 
+-- the least worth of loose lines of all chambers together, or that some chamber has none
+abbrev pub IsAdded : Instance → List PlainCut → ℕ → List (List Group) → List ℕ → Option ℤ → Type 0
+IsAdded I cuts k lines prices None = HasNone I cuts k lines
+IsAdded I cuts k lines prices (Some sum) = IsLeastSum I cuts k lines prices (length I.chambers) sum
+
 -- the least worth of a loose line for each chamber, and the prices of the missing ships
 pub record IsPriceSum (I : Instance) (cuts : List PlainCut) (k : ℕ) (lines : List (List Group)) (prices : List ℕ) (sum : ℤ) : Type 0 where
   pub least : ℤ

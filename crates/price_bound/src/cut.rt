@@ -1,4 +1,6 @@
 //! Cuts as the bound sees them.
+ghost use Rattle.std.specs.Prelude.{◌≡◌};
+
 use lock_model::Ships;
 
 /// Ships that don't fit a chamber together. What a cut hits depends on these alone, whatever refutes
@@ -7,4 +9,16 @@ use lock_model::Ships;
 pub struct ChamberCut {
     pub chamber: u8,
     pub ships: Ships,
+}
+
+impl ChamberCut {
+    /// The same cut.
+    pub fn copy(&self) -> ChamberCut
+        ensures { result ≡ self.now }
+    {
+        ChamberCut {
+            chamber: self.chamber,
+            ships: self.ships.copy(),
+        }
+    }
 }

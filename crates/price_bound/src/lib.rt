@@ -18,6 +18,7 @@
 
 mod choice;
 mod choosing;
+mod comparing;
 mod counting;
 mod cut;
 mod error;
@@ -25,6 +26,7 @@ mod forbidden;
 mod frame;
 mod growing;
 mod horizon;
+mod keeping;
 mod lateness;
 mod least;
 mod line_case;
@@ -39,13 +41,16 @@ mod serving;
 mod shown;
 mod state;
 mod table;
+mod terms;
 mod values;
 mod vanity;
 mod walking;
 mod weighing;
 
+pub use comparing::same_instance;
 pub use cut::ChamberCut;
 pub use error::{Limits, PriceError};
+pub use keeping::KeptLines;
 pub use loose_line::{LooseLine, LooseLines};
 pub use prices::Prices;
 pub use reaching::{PricedNode, least_lines, price_sum, reaches};

@@ -4,11 +4,11 @@ ghost use Rattle.price_bound.specs.Claim.{Claim, IsReached};
 
 use crate::cut::ChamberCut;
 use crate::error::{Limits, PriceError};
+use crate::keeping::KeptLines;
 use crate::prices::Prices;
 use crate::reaching::{PricedNode, reaches};
 use lock_model::Instance;
 use master_branch::Node;
-use std::alloc::Global;
 use std::marker::Model;
 
 /// A node of an instance, prices, cuts and a cost, in minutes, such that the node reaches the cost by
@@ -74,7 +74,7 @@ impl Shown<'_> {
 /// Shows that a node reaches a cost, in minutes, by prices and cuts: `None` exactly where it doesn't.
 /// Refuses as `reaches` does.
 pub fn show<'a>(
-    alloc: Global,
+    kept: &mut KeptLines,
     asked: &PricedNode<'a>,
     cost: u64,
     limits: Limits,
@@ -82,7 +82,7 @@ pub fn show<'a>(
     ensures exact { IfOk result (λ shown. IsSome shown ↔ IsReached (record { instance = asked.now.instance.now; node = asked.now.node.now; prices = asked.now.prices.now; cuts = asked.now.cuts.now; cost = cost })) }
     ensures value { IfOk result (λ shown. IfSome shown (λ s. s ≡ record { instance = asked.now.instance.now; node = asked.now.node.now; prices = asked.now.prices.now; cuts = asked.now.cuts.now; cost = cost })) }
 {
-    if reaches(alloc, asked, cost, limits)? {
+    if reaches(kept, asked, cost, limits)? {
         Ok(Some(Shown {
             instance: asked.instance,
             node: asked.node,

@@ -1,7 +1,8 @@
 //! Equal cases.
 ghost use Rattle.std.specs.Prelude.{◌≡◌, ◌↔◌, IsTrue};
 
-use book_core::{Case, same_instance};
+use book_core::Case;
+use price_bound::same_instance;
 
 /// Whether two cases are the same.
 pub(crate) fn same_case(one: &Case, other: &Case) -> bool

@@ -1,0 +1,14 @@
+use Rattle.std.proofs.Common.{◌∙◌, sym, subst}
+use Rattle.price_bound.specs.Keeping.{AreUnder, AreKept}
+use Rattle.price_bound.proofs.KeepLemmas.{kept-more}
+use Rattle.price_bound.proofs.keeping.KeptLines.least.Goals as goal
+
+pub invariant_of-self-in-Ok : goal.invariant_of-self-in-Ok
+invariant_of-self-in-Ok c =
+    let case = c.args.case.now in
+    let I = case.instance.now in
+    let terms = c.self.inside.terms in
+    let found = c.in_ok-kept.ensures in
+    let under = subst (AreUnder I case.depth case.prices.now case.cuts.now) (sym (c.self.view_is ∙ c.make_room.ensures)) c.in_ok-go_under.ensures in
+    subst (AreKept terms) (sym c.in-Ok.ensures.items)
+    (kept-more I case.chamber case.depth case.prices.now case.cuts.now case.line.now terms c.self.inside.lines.items c.in_ok-kept.kept under c.self.invariant found.is found.found)

@@ -1,0 +1,43 @@
+-- What least lines are kept under, and that they are least by it.
+use Rattle.std.specs.Prelude.{ℕ, ◌≡◌, ◌≤ℤ◌, pos, neg_ℤ, Some, None, List, [], length, All, IfSome}
+use Rattle.std.specs.declared.option.Option.{Option}
+use Rattle.lock_model.specs.declared.instance.Instance.{Instance}
+use Rattle.lock_model.specs.declared.group.Group.{Group}
+use Rattle.price_bound.specs.declared.cut.ChamberCut.{ChamberCut}
+use Rattle.price_bound.specs.declared.loose_line.LooseLine.{LooseLine}
+use Rattle.price_bound.specs.declared.terms.Terms.{Terms}
+use Rattle.price_bound.specs.declared.keeping.KeptLine.{KeptLine}
+use Rattle.price_bound.specs.Lines.{IsLineFound}
+use Rattle.price_bound.specs.Cuts.{plain_cuts}
+
+-- the terms name this instance, depth, prices and cuts
+pub record AreTerms (I : Instance) (k : ℕ) (prices : List ℕ) (cuts : List ChamberCut) (terms : Terms) : Type 0 where
+  pub same_instance : terms.instance ≡ I
+  pub same_depth : terms.depth ≡ k
+  pub same_prices : terms.prices ≡ prices
+  pub same_cuts : terms.cuts.items ≡ cuts
+
+-- what was found of a chamber's line, and how far its worth is from the ends of its type
+pub record IsFound (I : Instance) (c k : ℕ) (prices : List ℕ) (cuts : List ChamberCut) (line : List Group) (found : Option LooseLine) : Type 0 where
+  pub least : IsLineFound I c (plain_cuts I cuts) k prices line found
+  pub low : IfSome found (λ line. neg_ℤ (pos 816080000000000) ≤ℤ line.worth)
+  pub high : IfSome found (λ line. line.worth ≤ℤ pos 6000000000000)
+
+-- what is kept was found under the terms
+pub record IsKept (terms : Terms) (kept : KeptLine) : Type 0 where
+  pub found : IsFound terms.instance kept.chamber terms.depth terms.prices terms.cuts.items kept.line.items kept.least
+
+-- all of these were found under the terms; without terms there are none
+abbrev pub AreKept : Option Terms → List KeptLine → Type 0
+AreKept None kept = kept ≡ []
+AreKept (Some terms) kept = All (IsKept terms) kept
+
+-- the terms are there, and name this instance, depth, prices and cuts
+abbrev pub AreUnder : Instance → ℕ → List ℕ → List ChamberCut → Option Terms → Type 0
+AreUnder I k prices cuts None = ⊥
+AreUnder I k prices cuts (Some terms) = AreTerms I k prices cuts terms
+
+-- what is kept is of this chamber and this line of it
+pub record IsOf (c : ℕ) (line : List Group) (kept : KeptLine) : Type 0 where
+  pub same_chamber : kept.chamber ≡ c
+  pub same_line : kept.line.items ≡ line

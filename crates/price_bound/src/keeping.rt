@@ -1,0 +1,176 @@
+//! Least lines that are kept for later calls.
+ghost use Rattle.std.specs.Prelude.{◌≡◌, ◌<◌, ◌↔◌, length, slice_index_or, IfOk, IfSome, IsTrue};
+ghost use Rattle.std.specs.Bool.{OnTrue};
+ghost use Rattle.price_bound.specs.declared.keeping.KeptLine.{KeptLine};
+ghost use Rattle.price_bound.specs.Keeping.{AreUnder, IsFound, IsOf};
+
+use crate::error::{Limits, PriceError, append};
+use crate::line_case::LineCase;
+use crate::line_least::line_least;
+use crate::loose_line::{LooseLine, copied};
+use crate::terms::Terms;
+use lock_model::Group;
+use std::alloc::Global;
+use std::marker::Model;
+
+// Once so many lines are kept, or the last one has more groups than this, all are forgotten.
+const MOST_LINES: usize = 100;
+
+const MOST_GROUPS: usize = 100;
+
+// A chamber's line at a node, and a loose line of it of the least worth, if there is a loose one.
+#[derive(Debug, Drop)]
+pub(crate) struct KeptLine {
+    chamber: u8,
+    line: Vec<Group>,
+    least: Option<LooseLine>,
+}
+
+// Whether two lines are the same.
+fn same_line(one: &[Group], other: &[Group]) -> bool
+    ensures { IsTrue result ↔ one.now ≡ other.now }
+{
+    one == other
+}
+
+impl KeptLine {
+    // Whether it is of the chamber and the line of a case.
+    fn is_of(&self, case: &LineCase) -> bool
+        ensures { OnTrue result (IsOf case.now.chamber case.now.line.now self.now) }
+    {
+        self.chamber == case.chamber && same_line(&self.line, case.line)
+    }
+
+    // How many groups its least line has.
+    fn count_groups(&self) -> usize {
+        match &self.least {
+            Some(line) => line.groups.len(),
+            None => 0,
+        }
+    }
+}
+
+// The place of the line of a case among these, if it is there.
+fn place_of(kept: &[KeptLine], case: &LineCase) -> Option<usize>
+    ensures place { IfSome result (λ place. place < length kept.now) }
+    ensures is { IfSome result (λ place. (default : KeptLine) → IsOf case.now.chamber case.now.line.now (slice_index_or kept.now place default)) }
+{
+    for (place, line) in kept.iter().enumerate() {
+        if line.is_of(case) {
+            return Some(place);
+        }
+    }
+    None
+}
+
+// Whether no more of these are to be kept.
+fn are_many(kept: &[KeptLine]) -> bool {
+    match kept {
+        [.., last] => kept.len() >= MOST_LINES || last.count_groups() > MOST_GROUPS,
+        [] => false,
+    }
+}
+
+// A least line of the chamber of a case, worked out.
+fn worked_out(alloc: Global, case: &LineCase, limits: Limits) -> Result<KeptLine, PriceError>
+    ensures is { IfOk result (IsOf case.now.chamber case.now.line.now) }
+    ensures found { IfOk result (λ kept. IsFound case.now.instance.now case.now.chamber case.now.depth case.now.prices.now case.now.cuts.now case.now.line.now kept.least) }
+{
+    Ok(KeptLine {
+        chamber: case.chamber,
+        line: copied(alloc, case.line)?,
+        least: line_least(alloc, case, limits)?,
+    })
+}
+
+/// Least lines that were worked out, kept for later calls by the same instance, depth, prices and cuts;
+/// a call by others forgets them. They help speed alone: with any kept lines a call answers the same,
+/// but for its limits, which aren't asked of a line that is kept. At most 100 lines are kept, in some
+/// 150 kilobytes and what the last one takes.
+#[derive(Debug, Drop)]
+pub struct KeptLines {
+    alloc: Global,
+    terms: Option<Terms>,
+    lines: Vec<KeptLine>,
+}
+
+impl Model for KeptLines {
+    ghost use Rattle.std.specs.declared.option.Option.{Option};
+    ghost use Rattle.price_bound.specs.declared.terms.Terms.{Terms};
+    ghost use Rattle.price_bound.specs.Keeping.{AreKept};
+
+    ghost Value = { Option Terms };
+
+    ghost view = { λ a. a.terms };
+
+    ghost invariant = { λ a. AreKept a.terms a.lines.items };
+}
+
+impl KeptLines {
+    /// None yet.
+    pub fn new(alloc: Global) -> KeptLines {
+        KeptLines {
+            alloc,
+            terms: None,
+            lines: Vec::new(alloc),
+        }
+    }
+
+    // The allocator.
+    pub(crate) fn alloc(&self) -> Global {
+        self.alloc
+    }
+
+    // Whether the lines are kept under the terms of a case.
+    fn are_under(&self, case: &LineCase) -> bool
+        ensures { OnTrue result (AreUnder case.now.instance.now case.now.depth case.now.prices.now case.now.cuts.now self.now) }
+    {
+        match &self.terms {
+            Some(terms) => terms.are_of(case),
+            None => false,
+        }
+    }
+
+    // Forgets what is kept under other terms than those of a case.
+    fn go_under(&mut self, case: &LineCase) -> Result<(), PriceError>
+        ensures { IfOk result (λ _. AreUnder case.now.instance.now case.now.depth case.now.prices.now case.now.cuts.now self.new) }
+    {
+        if !self.are_under(case) {
+            let terms = Terms::new(self.alloc, case)?;
+            self.lines.clear();
+            self.terms = Some(terms);
+        }
+        Ok(())
+    }
+
+    // Forgets what is kept once it is much.
+    fn make_room(&mut self)
+        ensures { self.new ≡ self.old }
+    {
+        if are_many(&self.lines) {
+            self.lines.clear();
+        }
+    }
+
+    // A loose line of the chamber of a case of the least worth, if there is a loose one: as it is kept,
+    // or else it is worked out and kept.
+    pub(crate) fn least(
+        &mut self,
+        case: &LineCase,
+        limits: Limits,
+    ) -> Result<&Option<LooseLine>, PriceError>
+        ensures { IfOk result (λ found. IsFound case.now.instance.now case.now.chamber case.now.depth case.now.prices.now case.now.cuts.now case.now.line.now found.now) }
+    {
+        self.go_under(case)?;
+        self.make_room();
+        if let Some(place) = place_of(&self.lines, case) {
+            return Ok(&self.lines[place].least);
+        }
+        let kept = worked_out(self.alloc, case, limits)?;
+        let place = self.lines.len();
+        match self.lines.push(kept) {
+            Ok(()) => Ok(&self.lines[place].least),
+            Err(_) => Err(PriceError::NoMemory),
+        }
+    }
+}

@@ -1,0 +1,63 @@
+//! What a least line depends on besides its chamber and the chamber's line.
+ghost use Rattle.std.specs.Prelude.{◌≡◌, ◌↔◌, IfOk, IsTrue};
+ghost use Rattle.std.specs.Bool.{OnTrue};
+ghost use Rattle.price_bound.specs.Keeping.{AreTerms};
+
+use crate::comparing::same_instance;
+use crate::cut::ChamberCut;
+use crate::error::{PriceError, append};
+use crate::line_case::LineCase;
+use crate::prices::Prices;
+use lock_model::Instance;
+use std::alloc::Global;
+
+/// An instance, a depth of its nodes, prices and cuts.
+#[derive(Debug, Drop)]
+pub(crate) struct Terms {
+    pub(crate) instance: Instance,
+    pub(crate) depth: u8,
+    pub(crate) prices: Prices,
+    pub(crate) cuts: Vec<ChamberCut>,
+}
+
+// The same cuts.
+fn copied(alloc: Global, cuts: &[ChamberCut]) -> Result<Vec<ChamberCut>, PriceError>
+    ensures { IfOk result (λ copies. copies.items ≡ cuts.now) }
+{
+    let mut copies = Vec::new(alloc);
+    for cut in cuts {
+        append(&mut copies, cut.copy())?;
+    }
+    Ok(copies)
+}
+
+// Whether two lists of cuts are the same.
+fn same_cuts(one: &[ChamberCut], other: &[ChamberCut]) -> bool
+    ensures { IsTrue result ↔ one.now ≡ other.now }
+{
+    one == other
+}
+
+impl Terms {
+    // Those of a case.
+    pub(crate) fn new(alloc: Global, case: &LineCase) -> Result<Terms, PriceError>
+        ensures { IfOk result (AreTerms case.now.instance.now case.now.depth case.now.prices.now case.now.cuts.now) }
+    {
+        Ok(Terms {
+            instance: case.instance.copy(),
+            depth: case.depth,
+            prices: case.prices.copy(),
+            cuts: copied(alloc, case.cuts)?,
+        })
+    }
+
+    // Whether they are those of a case. What differs most often is compared first.
+    pub(crate) fn are_of(&self, case: &LineCase) -> bool
+        ensures { OnTrue result (AreTerms case.now.instance.now case.now.depth case.now.prices.now case.now.cuts.now self.now) }
+    {
+        self.depth == case.depth
+            && self.prices == *case.prices
+            && same_cuts(&self.cuts, case.cuts)
+            && same_instance(&self.instance, case.instance)
+    }
+}
