@@ -27,6 +27,8 @@ mod growing;
 mod horizon;
 mod lateness;
 mod least;
+mod level;
+mod levels;
 mod line_case;
 mod line_least;
 mod loose_line;
