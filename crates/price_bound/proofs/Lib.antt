@@ -12,3 +12,4 @@ pub mod FrameLemmas
 pub mod TotalLemmas
 pub mod WalkLemmas
 pub mod MaskLemmas
+pub mod RateLemmas

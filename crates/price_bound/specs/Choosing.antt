@@ -24,6 +24,12 @@ Keeps I k line (Some p) g = drop p line ≡ record { way = g.way; ships = filter
 abbrev pub rate_of : Instance → ℕ → List ℕ → ℕ → ℕ
 rate_of I k prices s = 100 * (ship_at I s).arrival + cond (is_missing I k s) (price_at prices s) 0
 
+-- what the first n ships count
+pub record AreRates (I : Instance) (k : ℕ) (prices : List ℕ) (n : ℕ) (rates : List ℕ) : Type 0 where
+  pub count : length rates ≡ n
+  pub each : (s d : ℕ) → s < n → slice_index_or rates s d ≡ rate_of I k prices s
+  pub small : All (λ r. r ≤ 101000000) rates
+
 -- the sums of a choice
 pub record AreSums (I : Instance) (c k : ℕ) (prices : List ℕ) (choice : Choice) : Type 0 where
   pub duration : choice.duration ≡ duration_of I c choice.group.ships

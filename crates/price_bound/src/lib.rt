@@ -33,6 +33,7 @@ mod line_case;
 mod line_least;
 mod loose_line;
 mod masks;
+mod near;
 mod next_group;
 mod prices;
 mod pruning;

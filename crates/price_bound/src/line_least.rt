@@ -14,11 +14,13 @@ use crate::least::value_of;
 use crate::levels::levels;
 use crate::line_case::LineCase;
 use crate::loose_line::LooseLine;
+use crate::masks::nears;
 use crate::next_group::ValuedState;
 use crate::state::State;
 use crate::table::Table;
 use crate::values::Values;
 use crate::walking::walked;
+use crate::weighing::rates;
 use std::alloc::Global;
 
 // The least line, by a table.
@@ -58,9 +60,13 @@ pub(crate) fn line_least(
     if !are_spared(&sets, case.line) {
         return Ok(None);
     }
+    let nears = nears(alloc, case.instance, &sets)?;
+    let rates = rates(alloc, case)?;
     let growth = Growth {
         case,
         sets: &sets,
+        nears: &nears,
+        rates: &rates,
         most: limits.groups,
     };
     let choices = choices(alloc, &growth)?;

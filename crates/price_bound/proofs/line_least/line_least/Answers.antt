@@ -36,12 +36,12 @@ line_by-requires c =
     let choices = c.in_ok-choices.choices.items in
     let earlies = c.in_ok-earlies.earlies.items in
     let levels = c.in_ok-levels.levels.items in
-    let all : c.deref-3.result.now ≡ choices = search rules in
-    let few : c.deref-4.result.now ≡ earlies = search rules in
-    let looked : c.deref-6.result.now ≡ earlies = search rules in
-    let later : c.deref-7.result.now ≡ levels = search rules in
+    let all : c.deref-6.result.now ≡ choices = search rules in
+    let few : c.deref-7.result.now ≡ earlies = search rules in
+    let looked : c.deref-9.result.now ≡ earlies = search rules in
+    let later : c.deref-10.result.now ≡ levels = search rules in
     let early = subst (λ choices. AreLate I case.chamber cuts case.depth case.prices.now case.line.now 0 choices earlies) all c.in_ok-earlies.ensures in
     let each = subst (λ earlies. All (IsLevel I case.chamber cuts case.depth case.prices.now case.line.now earlies) levels) few c.in_ok-levels.ensures in
     let listed = listed-by I case.chamber case.chamber_in cuts case.depth case.prices.now case.line.now choices earlies levels c.in_ok-choices.ensures early each in
-    subst (λ levels. AreListed I case.chamber cuts case.depth case.prices.now case.line.now c.deref-6.result.now levels) (sym later)
+    subst (λ levels. AreListed I case.chamber cuts case.depth case.prices.now case.line.now c.deref-9.result.now levels) (sym later)
     (subst (λ earlies. AreListed I case.chamber cuts case.depth case.prices.now case.line.now earlies levels) (sym looked) listed)
