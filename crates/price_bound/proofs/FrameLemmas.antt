@@ -20,6 +20,7 @@ use Rattle.lock_model.specs.Fleet.{ship_at}
 use Rattle.price_rules.specs.Prices.{PlainCut, IsUncut, IsLoose, is_missing, price_at}
 use Rattle.price_bound.specs.declared.frame.Frame.{Frame}
 use Rattle.price_bound.specs.declared.choice.Choice.{Choice}
+use Rattle.price_bound.specs.declared.level.Level.{Level}
 use Rattle.price_bound.specs.declared.values.Values.{Values}
 use Rattle.price_bound.specs.Worth.{end_after, worth_of, worth_from, IsWorth, IsLeastWorth, IsKeptGroup, IsHorizon}
 use Rattle.price_bound.specs.Choosing.{Keeps, IsChoice, Leads, IsCounted, IsValue, AreListed, list_at}
@@ -158,21 +159,21 @@ module _ (I : Instance) (c : ℕ) (known : c < length I.chambers) (cuts : List P
           smaller : (a b : ℤ) → a ≤ℤ b → int_min a b ≡ a
           smaller a b h = omega (arith, ints, clamps)
 
-  module _ (late : ℕ) (choices lates : List Choice) where
+  module _ (choices : List Choice) (levels : List Level) where
     -- a frame whose best is less
     pub frame-less : (frame : Frame) (best : ℤ) → best ≤ℤ frame.best → IsBest I c cuts k prices line horizon frame.state.place frame.state.stand frame.state.minute best
-        → IsFrame I c cuts k prices line horizon late choices lates frame → IsFrame I c cuts k prices line horizon late choices lates (record { state = frame.state; best = best; next = frame.next })
+        → IsFrame I c cuts k prices line horizon choices levels frame → IsFrame I c cuts k prices line horizon choices levels (record { state = frame.state; best = best; next = frame.next })
     frame-less frame best less is was = record {
       place = was.place;
       early = was.early;
       best = is;
-      counted = λ j d before here. counted-less frame.state.stand frame.state.minute frame.state.place frame.best best (slice_index_or (list_at late choices lates frame.state.minute) j d) less (was.counted j d before here);
+      counted = λ j d before here. counted-less frame.state.stand frame.state.minute frame.state.place frame.best best (slice_index_or (list_at choices levels frame.state.minute) j d) less (was.counted j d before here);
     }
 
     -- one choice more is counted
-    pub frame-next : (frame : Frame) (best : ℤ) (h : Choice) (i : ℕ) (listed : List Choice) → listed ≡ list_at late choices lates frame.state.minute → i < length listed → frame.next ≡ i → h ≡ slice_index_or listed i h → best ≤ℤ frame.best
+    pub frame-next : (frame : Frame) (best : ℤ) (h : Choice) (i : ℕ) (listed : List Choice) → listed ≡ list_at choices levels frame.state.minute → i < length listed → frame.next ≡ i → h ≡ slice_index_or listed i h → best ≤ℤ frame.best
         → IsBest I c cuts k prices line horizon frame.state.place frame.state.stand frame.state.minute best → IsCounted I c cuts k prices line frame.state.stand frame.state.minute frame.state.place best h
-        → IsFrame I c cuts k prices line horizon late choices lates frame → IsFrame I c cuts k prices line horizon late choices lates (record { state = frame.state; best = best; next = i + 1 })
+        → IsFrame I c cuts k prices line horizon choices levels frame → IsFrame I c cuts k prices line horizon choices levels (record { state = frame.state; best = best; next = i + 1 })
     frame-next frame best h i listed same here at held less is counted was = record {
       place = was.place;
       early = was.early;
@@ -188,11 +189,11 @@ module _ (I : Instance) (c : ℕ) (known : c < length I.chambers) (cuts : List P
         earlier j apart before = elim (leb_tells (suc j) i) [ inl y ↦ omega (arith, at, y.1) | inr q ↦ absurd (apart (omega (arith, before, q.1))) ]
 
     -- THE LAST CHOICE COUNTED, the best is the value.
-    pub frame-value : (frame : Frame) → AreListed I c cuts k prices line late choices lates → length (list_at late choices lates frame.state.minute) ≤ frame.next
-        → IsFrame I c cuts k prices line horizon late choices lates frame → IsValue I c cuts k prices line horizon frame.state.place frame.state.stand frame.state.minute frame.best
+    pub frame-value : (frame : Frame) → AreListed I c cuts k prices line choices levels → length (list_at choices levels frame.state.minute) ≤ frame.next
+        → IsFrame I c cuts k prices line horizon choices levels frame → IsValue I c cuts k prices line horizon frame.state.place frame.state.stand frame.state.minute frame.best
     frame-value frame are all is = record {
       least = choices-least I c known cuts k prices line are.choices are.enough frame.state.stand frame.state.minute frame.state.place frame.best is.best.stop
-          (counted-listed I c known cuts k prices line late choices lates are frame.state.stand frame.state.minute frame.state.place frame.best
+          (counted-listed I c known cuts k prices line choices levels are frame.state.stand frame.state.minute frame.state.place frame.best
           (λ h held. subst (IsCounted I c cuts k prices line frame.state.stand frame.state.minute frame.state.place frame.best) held.2 (is.counted held.0 h (omega (arith, held.1, all)) held.1)))
           is.best.reached;
       low = is.best.low;

@@ -1,18 +1,19 @@
 -- Choices that are enough once all ships have arrived.
-use Rattle.std.proofs.Common.{◌≡◌, ℕ, suc, ◌+◌, ◌*◌, ◌<◌, ◌≤◌, ◌⊎◌, ℤ, pos, ◌≤ℤ◌, true, false, cond, nat_lt, inl, inr, List, [], ◌∷◌, ◌++◌, length, All, Contains, refl, sym, ◌∙◌, subst, arith}
+use Rattle.std.proofs.Common.{◌≡◌, ℕ, suc, ◌+◌, ◌*◌, ◌<◌, ◌≤◌, ◌⊎◌, ℤ, pos, ◌≤ℤ◌, true, false, cond, nat_lt, inl, inr, List, [], ◌∷◌, ◌++◌, length, All, Contains, refl, sym, ◌∙◌, subst, arith, slice_index_or}
 use Rattle.std.proofs.Math.Seq.{get_or-append_seam}
 use Rattle.std.proofs.lemmas.Int.{ints}
 use Rattle.std.proofs.lemmas.Bool.Decides.{leb_tells}
 use Rattle.std.proofs.lemmas.List.{length-append}
-use Rattle.std.proofs.lemmas.List.Elements.{All-contains, All-push, All-weaker}
+use Rattle.std.proofs.lemmas.List.Elements.{All-contains, All-head, All-tail, All-push, All-weaker}
 use Rattle.list_laws.proofs.Lists.{Contains-before_push}
 use Rattle.lock_model.specs.declared.instance.Instance.{Instance}
 use Rattle.lock_model.specs.declared.group.Group.{Group}
 use Rattle.lock_model.specs.declared.way.Stand.{Stand}
 use Rattle.price_rules.specs.Prices.{PlainCut}
 use Rattle.price_bound.specs.declared.choice.Choice.{Choice}
+use Rattle.price_bound.specs.declared.level.Level.{Level}
 use Rattle.price_bound.specs.Worth.{worth_of, arrivals_of, paid_on, soonest_of, ServeFrom}
-use Rattle.price_bound.specs.Choosing.{IsChoice, IsBelow, IsCounted, Leads, soonest, ServesLate, IsServedLate, IsCoveredLate, HasLate, AreLate, AreListed, list_at}
+use Rattle.price_bound.specs.Choosing.{IsChoice, IsBelow, IsCounted, Leads, soonest, ServesLate, IsServedLate, IsCoveredLate, HasLate, AreLate, IsLevel, AreChoices, AreListed, list_at}
 use Rattle.price_bound.proofs.ServeLemmas.{later-more, serve-line, serve-worth}
 use Rattle.price_bound.proofs.ChoiceLemmas.{rates-sum}
 
@@ -63,16 +64,85 @@ module _ (I : Instance) (c : ℕ) (known : c < length I.chambers) (cuts : List P
     | inr vain ↦ λ q leads. inr (vain.alone, vain.gainless stand from past)
   ]
 
-  module _ (late : ℕ) (earlies lates : List Choice) (are : AreListed I c cuts k prices line late earlies lates) where
-    -- ALL CHOICES ARE COUNTED where those are that are looked at.
-    pub counted-listed : (stand : Stand) (from p : ℕ) (best : ℤ) → ((h : Choice) → Contains (list_at late earlies lates from) h → IsCounted I c cuts k prices line stand from p best h) → (h : Choice) → Contains are.choices h → IsCounted I c cuts k prices line stand from p best h
-    counted-listed stand from p best counted = elim (leb_tells (suc from) late) [
-      | inl early ↦ counted-covered stand from p best 0 are.choices earlies (omega arith) are.enough.each are.early_enough (λ h held. counted h (subst (λ b. Contains (cond b earlies lates) h) (sym early.0) held))
-      | inr past ↦ counted-covered stand from p best late are.choices lates (omega (arith, past.1)) are.enough.each are.late_enough (λ h held. counted h (subst (λ b. Contains (cond b earlies lates) h) (sym past.0) held))
-    ]
+  -- some level's choices, or the first ones, are looked at
+  abbrev Covers : List Choice → ℕ → List Choice → Type 0
+  Covers choices from now = (late : ℕ) × (late ≤ from) × AreLate I c cuts k prices line late choices now
 
-    pub listed-each : (minute : ℕ) → All (IsChoice I c cuts k prices line) (list_at late earlies lates minute)
-    listed-each minute = elim (nat_lt minute late) as (λ b. All (IsChoice I c cuts k prices line) (cond b earlies lates)) [ true ↦ are.early_enough.each | false ↦ are.late_enough.each ]
+  covers-at : (choices : List Choice) (from : ℕ) (now : List Choice) (levels : List Level) → Covers choices from now → All (IsLevel I c cuts k prices line choices) levels → Covers choices from (list_at now levels from)
+  covers-at choices from now [] covers all = covers
+  covers-at choices from now (level ∷ levels) covers all =
+      let rest = All-tail (IsLevel I c cuts k prices line choices) level levels all in
+      elim (leb_tells (suc from) level.from) [
+        | inl early ↦ subst (λ b. Covers choices from (list_at (cond b now level.choices.items) levels from)) (sym early.0) (covers-at choices from now levels covers rest)
+        | inr past ↦
+            subst (λ b. Covers choices from (list_at (cond b now level.choices.items) levels from)) (sym past.0)
+            (covers-at choices from level.choices.items levels (level.from, omega (arith, past.1), All-head (IsLevel I c cuts k prices line choices) level levels all) rest)
+      ]
+
+  module _ (earlies : List Choice) (levels : List Level) (are : AreListed I c cuts k prices line earlies levels) where
+    listed-covers : (from : ℕ) → Covers are.choices from (list_at earlies levels from)
+    listed-covers from = covers-at are.choices from earlies levels (0, omega arith, are.early_enough) are.late_enough
+
+    -- ALL CHOICES ARE COUNTED where those are that are looked at.
+    pub counted-listed : (stand : Stand) (from p : ℕ) (best : ℤ) → ((h : Choice) → Contains (list_at earlies levels from) h → IsCounted I c cuts k prices line stand from p best h) → (h : Choice) → Contains are.choices h → IsCounted I c cuts k prices line stand from p best h
+    counted-listed stand from p best counted =
+        let covers = listed-covers from in
+        counted-covered stand from p best covers.0 are.choices (list_at earlies levels from) covers.1 are.enough.each covers.2 counted
+
+    pub listed-each : (minute : ℕ) → All (IsChoice I c cuts k prices line) (list_at earlies levels minute)
+    listed-each minute = (listed-covers minute).2.each
+
+  -- WHAT COVERS CHOICES that cover others from an earlier minute on covers these.
+  pub late-through : (late : ℕ) (choices earlies lates : List Choice) → All (IsChoice I c cuts k prices line) choices → AreLate I c cuts k prices line 0 choices earlies → AreLate I c cuts k prices line late earlies lates → AreLate I c cuts k prices line late choices lates
+  late-through late choices earlies lates each first second = record {
+    each = second.each;
+    covered = λ j d here. through (slice_index_or choices j d) (each j d here) (first.covered j d here);
+  }
+    where
+      chain : (other mid h : Choice) → ServesLate late other mid → ServesLate 0 mid h → ServesLate late other h
+      chain other mid h far near = record {
+        joins = far.joins ∙ near.joins;
+        way = far.way ∙ near.way;
+        count = omega (arith, far.count, near.count);
+        last = omega (arith, far.last, near.last);
+        duration = omega (arith, far.duration, near.duration);
+        pays =
+            let s = soonest late h in
+            let n = length other.group.ships in
+            let m = length mid.group.ships in
+            let l = length h.group.ships in
+            let first = later-more m l (soonest 0 h) s near.count (omega arith) in
+            let second = later-more n m (soonest late mid) s far.count (omega (arith, near.last, near.duration)) in
+            omega (arith, near.pays, far.pays, first, second);
+      }
+
+      through : (h : Choice) → IsChoice I c cuts k prices line h → IsCoveredLate I c k prices 0 earlies h → IsCoveredLate I c k prices late lates h
+      through h is (inr vain) = inr (record { alone = vain.alone; gainless = λ stand from past. vain.gainless stand from (omega arith) })
+      through h is (inl near) =
+          let mid = near.other in
+          let own : IsChoice I c cuts k prices line mid = All-contains (IsChoice I c cuts k prices line) earlies mid first.each near.held in
+          elim (All-contains (IsCoveredLate I c k prices late lates) earlies mid second.covered near.held) [
+            | inl far ↦ inl (record { other = far.other; held = far.held; serves = chain far.other mid h far.serves near.serves })
+            | inr vain ↦ inr (record {
+                alone = sym near.serves.joins ∙ vain.alone;
+                gainless = λ stand from past.
+                    let g : Group = record { way = h.group.way; ships = mid.group.ships } in
+                    let same : mid.group ≡ g = λ i. record { way = near.serves.way i; ships = mid.group.ships } in
+                    above _ _ (subst (λ g. pos 0 ≤ℤ worth_of I c k prices stand from g) same (vain.gainless stand from past))
+                    (serve-worth I c known k prices h.group.way mid.group.ships h.group.ships stand from (late-from 0 from mid h (omega arith) near.serves own is));
+              })
+          ]
+        where
+          above : (u v : ℤ) → pos 0 ≤ℤ u → u ≤ℤ v → pos 0 ≤ℤ v
+          above u v h j = omega (arith, ints)
+
+  pub listed-by : (choices earlies : List Choice) (levels : List Level) → AreChoices I c cuts k prices line choices → AreLate I c cuts k prices line 0 choices earlies → All (IsLevel I c cuts k prices line earlies) levels → AreListed I c cuts k prices line earlies levels
+  listed-by choices earlies levels enough early all = record {
+    choices = choices;
+    enough = enough;
+    early_enough = early;
+    late_enough = All-weaker (IsLevel I c cuts k prices line earlies) (IsLevel I c cuts k prices line choices) (λ level is. late-through level.from choices earlies level.choices.items enough.each early is) levels all;
+  }
 
 -- more choices serve what fewer do
 later-served : (late : ℕ) (h : Choice) (old new : List Choice) → (new ≡ old) ⊎ (new ≡ old ++ h ∷ []) → (g : Choice) → IsServedLate late old g → IsServedLate late new g

@@ -13,3 +13,4 @@ pub mod TotalLemmas
 pub mod WalkLemmas
 pub mod MaskLemmas
 pub mod KeepLemmas
+pub mod RateLemmas

@@ -1,12 +1,12 @@
 -- Sets of ships as the bits of numbers.
-use Rattle.std.proofs.Common.{◌≡◌, ◌≢◌, ℕ, suc, ◌+◌, ◌*◌, ◌^◌, ◌%◌, ◌<◌, ◌≤◌, min, cond, inl, inr, w32, List, [], ◌∷◌, ◌++◌, length, All, Contains, sym, ap, ◌∙◌, subst, arith, slice_index_or, bit_and, bit_or}
+use Rattle.std.proofs.Common.{◌≡◌, ◌≢◌, ℕ, suc, ◌+◌, ◌*◌, ◌^◌, ◌%◌, ◌<◌, ◌≤◌, min, cond, inl, inr, w32, List, [], ◌∷◌, ◌++◌, length, All, Contains, refl, sym, ap, ◌∙◌, subst, arith, slice_index_or, bit_and, bit_or}
 use Rattle.std.specs.Int.{bit_at}
 use Rattle.std.proofs.Math.Seq.{get_or-append_seam}
 use Rattle.std.proofs.lemmas.Bool.Decides.{eqb_tells, leb_tells}
 use Rattle.std.proofs.lemmas.Nat.{or_of_32}
 use Rattle.std.proofs.lemmas.Nat.Bits.{bit_at_and, bit_at-lt, bit_at_above, bit_at_set_same, bit_at_set_other, same_from_bits}
 use Rattle.std.proofs.lemmas.List.{get_or_append_left, get_or_default, length-append}
-use Rattle.std.proofs.lemmas.List.Elements.{All-weaker, All-contains, All-push, Contains-get_or, Contains-push}
+use Rattle.std.proofs.lemmas.List.Elements.{All-cons, All-nil, All-weaker, All-contains, All-push, Contains-get_or, Contains-push}
 use Rattle.list_laws.proofs.Lists.{Contains-before_push}
 use Rattle.lock_model.specs.declared.instance.Instance.{Instance}
 use Rattle.lock_rules.specs.Plan.{times_in}
@@ -14,7 +14,8 @@ use Rattle.lock_rules.specs.Children.{insert_number}
 use Rattle.lock_rules.proofs.ChildLemmas.{times_in-insert_number}
 use Rattle.lock_rules.proofs.SplitLemmas.{All-times, times_in-at}
 use Rattle.price_bound.specs.Sparing.{AreIn, Misses}
-use Rattle.price_bound.specs.Masks.{IsMask, IsSetMask, HasMask, AreNear, IsNoted}
+use Rattle.price_bound.specs.Masks.{IsMask, IsSetMask, HasMask, AreMarks, AreHaving, AreNear, AreNears, IsNoted, IsPutNear}
+use Rattle.price_bound.specs.declared.near.Near.{Near}
 
 pub contains-times : (xs : List ℕ) (s : ℕ) → Contains xs s → 1 ≤ times_in xs s
 contains-times xs s held = All-contains (λ s. 1 ≤ times_in xs s) xs s (times_in-at xs) held
@@ -68,38 +69,92 @@ in-mask m mask set ships is all within = same_from_bits (bit_and m mask) m (λ s
       | inr past ↦ omega (arith, bit_at_above m 32 s is.small (omega (arith, past.1)))
     ]
 
-module _ (I : Instance) (sets : List (List ℕ)) (ship : ℕ) where
-  pub near-first : AreNear I sets 0 ship []
-  near-first = record { each = λ j d here. absurd (omega (arith, here)); whole = λ j d none here. absurd (omega (arith, none)) }
+earlier : (i j : ℕ) → j ≢ i → j < i + 1 → j < i
+earlier i j apart less = elim (leb_tells (suc j) i) [ inl y ↦ y.1 | inr q ↦ absurd (apart (omega (arith, less, q.1))) ]
 
-  pub near-next : (i : ℕ) (set : List ℕ) (old new : List ℕ) → i < length sets → set ≡ slice_index_or sets i set → IsNoted I ship set old new → AreNear I sets i ship old → AreNear I sets (i + 1) ship new
-  near-next i set old new here is (inl noted) near = record {
-    each = subst (All (IsSetMask I sets)) (sym noted.3) (All-push (IsSetMask I sets) old noted.0 near.each (record { set = set; held = (i, here, sym is); known = noted.2; is = noted.1 }));
-    whole = λ j d less inside has known. elim (eqb_tells j i) [
+module _ (I : Instance) (sets : List (List ℕ)) where
+  pub marks-first : AreMarks I sets 0 []
+  marks-first = record { each = λ j d here. absurd (omega (arith, here)); whole = λ j d none here. absurd (omega (arith, none)) }
+
+  pub marks-next : (i : ℕ) (set : List ℕ) (old new : List ℕ) → i < length sets → set ≡ slice_index_or sets i set → IsNoted I set old new → AreMarks I sets i old → AreMarks I sets (i + 1) new
+  marks-next i set old new here is (inl noted) marks = record {
+    each = subst (All (IsSetMask I sets)) (sym noted.3) (All-push (IsSetMask I sets) old noted.0 marks.each (record { set = set; held = (i, here, sym is); known = noted.2; is = noted.1 }));
+    whole = λ j d less inside known. elim (eqb_tells j i) [
       | inl y ↦
           let same : set ≡ slice_index_or sets j d = is ∙ get_or_default sets i set d here ∙ ap (λ i. slice_index_or sets i d) (sym y.1) in
           subst (HasMask new) same (record { mask = noted.0; held = subst (λ xs. Contains xs noted.0) (sym noted.3) (Contains-push old noted.0); is = noted.1 })
       | inr m ↦
-          let was = near.whole j d (earlier j m.1 less) inside has known in
+          let was = marks.whole j d (earlier i j m.1 less) inside known in
           record { mask = was.mask; held = subst (λ xs. Contains xs was.mask) (sym noted.3) (Contains-before_push old noted.0 was.mask was.held); is = was.is }
     ];
   }
-    where
-      earlier : (j : ℕ) → j ≢ i → j < i + 1 → j < i
-      earlier j apart less = elim (leb_tells (suc j) i) [ inl y ↦ y.1 | inr q ↦ absurd (apart (omega (arith, less, q.1))) ]
-  near-next i set old new here is (inr left) near = record {
-    each = subst (All (IsSetMask I sets)) (sym left.1) near.each;
-    whole = λ j d less inside has known. elim (eqb_tells j i) [
+  marks-next i set old new here is (inr left) marks = record {
+    each = subst (All (IsSetMask I sets)) (sym left.1) marks.each;
+    whole = λ j d less inside known. elim (eqb_tells j i) [
       | inl y ↦
           let same : set ≡ slice_index_or sets j d = is ∙ get_or_default sets i set d here ∙ ap (λ i. slice_index_or sets i d) (sym y.1) in
-          absurd (left.0 (subst (λ set. Contains set ship) (sym same) has) (subst (All (λ s. s < length I.ships)) (sym same) known))
-      | inr m ↦ subst (λ xs. HasMask xs (slice_index_or sets j d)) (sym left.1) (near.whole j d (earlier j m.1 less) inside has known)
+          absurd (left.0 (subst (All (λ s. s < length I.ships)) (sym same) known))
+      | inr m ↦ subst (λ xs. HasMask xs (slice_index_or sets j d)) (sym left.1) (marks.whole j d (earlier i j m.1 less) inside known)
+    ];
+  }
+
+-- those of the masks that have all bits of a number
+module _ (own : ℕ) (marks : List ℕ) where
+  pub having-first : AreHaving own marks 0 []
+  having-first = record { each = λ j d here. absurd (omega (arith, here)); whole = λ j d none here. absurd (omega (arith, none)) }
+
+  pub having-next : (i mask : ℕ) (old new : List ℕ) → i < length marks → mask ≡ slice_index_or marks i mask → IsPutNear own mask old new → AreHaving own marks i old → AreHaving own marks (i + 1) new
+  having-next i mask old new here is put have = record {
+    each = elim put [
+      | inl more ↦ subst (All (Contains marks)) (sym more.1) (All-push (Contains marks) old mask have.each (i, here, sym is))
+      | inr left ↦ subst (All (Contains marks)) (sym left.1) have.each
+    ];
+    whole = λ j d less inside bits. elim (eqb_tells j i) [
+      | inl y ↦
+          let same : mask ≡ slice_index_or marks j d = is ∙ get_or_default marks i mask d here ∙ ap (λ i. slice_index_or marks i d) (sym y.1) in
+          subst (Contains new) same (last put (subst (λ m. bit_and own m ≡ own) (sym same) bits))
+      | inr m ↦ kept put (slice_index_or marks j d) (have.whole j d (earlier i j m.1 less) inside bits)
     ];
   }
     where
-      earlier : (j : ℕ) → j ≢ i → j < i + 1 → j < i
-      earlier j apart less = elim (leb_tells (suc j) i) [ inl y ↦ y.1 | inr q ↦ absurd (apart (omega (arith, less, q.1))) ]
+      last : IsPutNear own mask old new → bit_and own mask ≡ own → Contains new mask
+      last (inl more) bits = subst (λ xs. Contains xs mask) (sym more.1) (Contains-push old mask)
+      last (inr left) bits = absurd (left.0 bits)
 
+      kept : IsPutNear own mask old new → (m : ℕ) → Contains old m → Contains new m
+      kept (inl more) m held = subst (λ xs. Contains xs m) (sym more.1) (Contains-before_push old mask m held)
+      kept (inr left) m held = subst (λ xs. Contains xs m) (sym left.1) held
+
+  -- of the sets' masks they are those of the sets that have the ship
+  pub having-done : (I : Instance) (sets : List (List ℕ)) (ship : ℕ) (masks : List ℕ) → IsMask own (ship ∷ []) → AreMarks I sets (length sets) marks → AreHaving own marks (length marks) masks → AreNear I sets (length sets) ship masks
+  having-done I sets ship masks is are have = record {
+    each = All-weaker (Contains marks) (IsSetMask I sets) (λ m held. All-contains (IsSetMask I sets) marks m are.each held) masks have.each;
+    whole = λ j d less inside has known.
+        let set = slice_index_or sets j d in
+        let mine = are.whole j d less inside known in
+        let bits : bit_and own mine.mask ≡ own = in-mask own mine.mask (ship ∷ []) set is mine.is (record { among = All-cons (Contains set) ship [] has (All-nil (Contains set)) }) in
+        let held : Contains masks (slice_index_or marks mine.held.0 mine.mask) = have.whole mine.held.0 mine.mask mine.held.1 mine.held.1 (subst (λ m. bit_and own m ≡ own) (sym mine.held.2) bits) in
+        record { mask = mine.mask; held = subst (Contains masks) mine.held.2 held; is = mine.is };
+  }
+
+-- the masks near one ship more
+pub nears-next : (I : Instance) (sets : List (List ℕ)) (n : ℕ) (old : List Near) (near : Near) → AreNear I sets (length sets) n near.masks.items → AreNears I sets n old → AreNears I sets (n + 1) (old ++ near ∷ [])
+nears-next I sets n old near is are = record {
+  count = omega (arith, are.count, length-append old (near ∷ []));
+  each = λ s d less. elim (eqb_tells s n) [
+    | inl y ↦
+        let at : near ≡ slice_index_or (old ++ near ∷ []) n d = sym (get_or-append_seam old near [] d) ∙ ap (λ i. slice_index_or (old ++ near ∷ []) i d) are.count in
+        subst (λ s. AreNear I sets (length sets) s (slice_index_or (old ++ near ∷ []) s d).masks.items) (sym y.1) (subst (λ (near : Near). AreNear I sets (length sets) n near.masks.items) at is)
+    | inr m ↦
+        let before = earlier n s m.1 less in
+        subst (λ (near : Near). AreNear I sets (length sets) s near.masks.items) (sym (get_or_append_left old (near ∷ []) d s (omega (arith, are.count, before)))) (are.each s d before)
+  ];
+}
+
+pub nears-first : (I : Instance) (sets : List (List ℕ)) → AreNears I sets 0 []
+nears-first I sets = record { count = refl; each = λ s d none. absurd (omega (arith, none)) }
+
+module _ (I : Instance) (sets : List (List ℕ)) (ship : ℕ) where
   module _ (masks : List ℕ) (near : AreNear I sets (length sets) ship masks) (ships : List ℕ) (mask : ℕ) (is : IsMask mask (insert_number ship ships))
       (known : All (λ s. s < length I.ships) (insert_number ship ships)) (few : length I.ships ≤ 32) where
     -- NO OTHER SET can be among ships that held none before the ship.

@@ -11,6 +11,7 @@ use Rattle.lock_rules.specs.Arrival.{first_ships}
 use Rattle.lock_rules.specs.Trace.{has_number}
 use Rattle.price_rules.specs.Prices.{PlainCut, IsUncut, IsLoose, is_missing, price_at}
 use Rattle.price_bound.specs.declared.choice.Choice.{Choice}
+use Rattle.price_bound.specs.declared.level.Level.{Level}
 use Rattle.price_bound.specs.Growing.{IsBase}
 use Rattle.price_bound.specs.Worth.{end_after, worth_of, worth_from, IsLeastWorth, ServeAsWell}
 
@@ -22,6 +23,12 @@ Keeps I k line (Some p) g = drop p line ≡ record { way = g.way; ships = filter
 -- what ship s counts: 100 times its arrival, and its price where it is missing
 abbrev pub rate_of : Instance → ℕ → List ℕ → ℕ → ℕ
 rate_of I k prices s = 100 * (ship_at I s).arrival + cond (is_missing I k s) (price_at prices s) 0
+
+-- what the first n ships count
+pub record AreRates (I : Instance) (k : ℕ) (prices : List ℕ) (n : ℕ) (rates : List ℕ) : Type 0 where
+  pub count : length rates ≡ n
+  pub each : (s d : ℕ) → s < n → slice_index_or rates s d ≡ rate_of I k prices s
+  pub small : All (λ r. r ≤ 101000000) rates
 
 -- the sums of a choice
 pub record AreSums (I : Instance) (c k : ℕ) (prices : List ℕ) (choice : Choice) : Type 0 where
@@ -85,14 +92,19 @@ pub record AreLate (I : Instance) (c : ℕ) (cuts : List PlainCut) (k : ℕ) (pr
   pub each : All (IsChoice I c cuts k prices line) lates
   pub covered : All (IsCoveredLate I c k prices late lates) choices
 
+-- the choices of a level cover the others from its minute on
+abbrev pub IsLevel : Instance → ℕ → List PlainCut → ℕ → List ℕ → List Group → List Choice → Level → Type 0
+IsLevel I c cuts k prices line choices level = AreLate I c cuts k prices line level.from choices level.choices.items
+
 -- the choice was put to the others behind all, or they cover it from the minute on
 pub record HasLate (I : Instance) (c k : ℕ) (prices : List ℕ) (late : ℕ) (choice : Choice) (old new : List Choice) : Type 0 where
   pub covered : IsCoveredLate I c k prices late new choice
   pub more : (new ≡ old) ⊎ (new ≡ old ++ choice ∷ [])
 
--- the choices that are looked at in a state of this minute
-abbrev pub list_at : ℕ → List Choice → List Choice → ℕ → List Choice
-list_at late earlies lates minute = cond (nat_lt minute late) earlies lates
+-- the choices that are looked at in a state of this minute: those of the last level that has begun, and before all levels the first ones
+abbrev pub list_at : List Choice → List Level → ℕ → List Choice
+list_at choices [] minute = choices
+list_at choices (level ∷ levels) minute = list_at (cond (nat_lt minute level.from) choices level.choices.items) levels minute
 
 -- what groups are grown from that join there: nothing, or the line's group of that place
 pub record IsBaseOf (I : Instance) (c k : ℕ) (line : List Group) (to : Option ℕ) (base : Group) : Type 0 where
@@ -144,12 +156,12 @@ pub record AreChoices (I : Instance) (c : ℕ) (cuts : List PlainCut) (k : ℕ) 
   pub each : All (IsChoice I c cuts k prices line) choices
   pub whole : (to : Option ℕ) (g : Group) → IsUncut I c cuts g → Keeps I k line to g → IsCovered I c k prices choices to g
 
--- choices that cover in each state those that are enough for the line, and those that do from the minute on
-pub record AreListed (I : Instance) (c : ℕ) (cuts : List PlainCut) (k : ℕ) (prices : List ℕ) (line : List Group) (late : ℕ) (earlies lates : List Choice) : Type 0 where
+-- choices that cover those that are enough for the line, and at each level others that do from its minute on
+pub record AreListed (I : Instance) (c : ℕ) (cuts : List PlainCut) (k : ℕ) (prices : List ℕ) (line : List Group) (earlies : List Choice) (levels : List Level) : Type 0 where
   pub choices : List Choice
   pub enough : AreChoices I c cuts k prices line choices
   pub early_enough : AreLate I c cuts k prices line 0 choices earlies
-  pub late_enough : AreLate I c cuts k prices line late choices lates
+  pub late_enough : All (IsLevel I c cuts k prices line choices) levels
 
 -- the same for the groups that keep none, or the line's group of one of the first i places
 pub record AreSome (I : Instance) (c : ℕ) (cuts : List PlainCut) (k : ℕ) (prices : List ℕ) (line : List Group) (i : ℕ) (choices : List Choice) : Type 0 where

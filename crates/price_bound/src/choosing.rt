@@ -3,6 +3,7 @@ ghost use Rattle.std.specs.Prelude.{◌≡◌, ◌+◌, ◌<◌, ◌≤◌, ◌�
 ghost use Rattle.lock_rules.specs.Arrival.{first_ships};
 ghost use Rattle.price_rules.specs.Prices.{IsUncut};
 ghost use Rattle.price_bound.specs.Sparing.{Misses, AreForbidden};
+ghost use Rattle.price_bound.specs.Masks.{AreNears};
 ghost use Rattle.price_bound.specs.Growing.{AreGrown, IsBase};
 ghost use Rattle.price_bound.specs.Choosing.{Keeps, IsChoice, IsBaseOf, HaveMore, PutsGroup, AreSome, AreChoices};
 ghost use Rattle.price_bound.specs.Cuts.{plain_cuts};
@@ -10,7 +11,6 @@ ghost use Rattle.price_bound.specs.Cuts.{plain_cuts};
 use crate::choice::Choice;
 use crate::error::PriceError;
 use crate::growing::{Growth, grown};
-use crate::line_case::LineCase;
 use crate::pruning::{add, few_first, order, put_each};
 use crate::vanity::is_vain;
 use crate::weighing::weighed;
@@ -19,25 +19,25 @@ use std::alloc::Global;
 
 // Appends the choice of a grown group, unless it is empty or gains nothing.
 fn add_group(
-    case: &LineCase,
+    growth: &Growth,
     choices: &mut Vec<Choice>,
     group: &Group,
     joins: Option<u8>,
 ) -> Result<(), PriceError>
-    requires each { All (IsChoice case.now.instance.now case.now.chamber (plain_cuts case.now.instance.now case.now.cuts.now) case.now.depth case.now.prices.now case.now.line.now) choices.old.items }
-    requires known { All (λ s. s < length case.now.instance.now.ships) group.now.ships }
-    requires uncut { 1 ≤ length group.now.ships → IsUncut case.now.instance.now case.now.chamber (plain_cuts case.now.instance.now case.now.cuts.now) group.now }
-    requires keeps { Keeps case.now.instance.now case.now.depth case.now.line.now joins group.now }
-    ensures { OnOk result (PutsGroup case.now.instance.now case.now.chamber (plain_cuts case.now.instance.now case.now.cuts.now) case.now.depth case.now.prices.now case.now.line.now joins group.now choices.old.items choices.new.items) }
+    requires each { All (IsChoice growth.now.case.now.instance.now growth.now.case.now.chamber (plain_cuts growth.now.case.now.instance.now growth.now.case.now.cuts.now) growth.now.case.now.depth growth.now.case.now.prices.now growth.now.case.now.line.now) choices.old.items }
+    requires known { All (λ s. s < length growth.now.case.now.instance.now.ships) group.now.ships }
+    requires uncut { 1 ≤ length group.now.ships → IsUncut growth.now.case.now.instance.now growth.now.case.now.chamber (plain_cuts growth.now.case.now.instance.now growth.now.case.now.cuts.now) group.now }
+    requires keeps { Keeps growth.now.case.now.instance.now growth.now.case.now.depth growth.now.case.now.line.now joins group.now }
+    ensures { OnOk result (PutsGroup growth.now.case.now.instance.now growth.now.case.now.chamber (plain_cuts growth.now.case.now.instance.now growth.now.case.now.cuts.now) growth.now.case.now.depth growth.now.case.now.prices.now growth.now.case.now.line.now joins group.now choices.old.items choices.new.items) }
 {
     if group.ships.len() == 0 {
         return Ok(());
     }
-    let choice = weighed(case, group.copy(), joins);
-    if is_vain(case, &choice, 0) {
+    let choice = weighed(growth, group.copy(), joins);
+    if is_vain(growth.case, &choice, 0) {
         return Ok(());
     }
-    add(case, choices, choice)
+    add(growth.case, choices, choice)
 }
 
 // Appends the choices that join a group, or that join none.
@@ -50,12 +50,13 @@ fn add_grown(
 ) -> Result<(), PriceError>
     requires each { All (IsChoice growth.now.case.now.instance.now growth.now.case.now.chamber (plain_cuts growth.now.case.now.instance.now growth.now.case.now.cuts.now) growth.now.case.now.depth growth.now.case.now.prices.now growth.now.case.now.line.now) choices.old.items }
     requires sets { AreForbidden growth.now.case.now.instance.now growth.now.case.now.chamber (plain_cuts growth.now.case.now.instance.now growth.now.case.now.cuts.now) growth.now.sets.now }
+    requires nears { AreNears growth.now.case.now.instance.now growth.now.sets.now (length growth.now.case.now.instance.now.ships) growth.now.nears.now }
     requires base { IsBaseOf growth.now.case.now.instance.now growth.now.case.now.chamber growth.now.case.now.depth growth.now.case.now.line.now joins base.now }
     ensures { OnOk result (HaveMore growth.now.case.now.instance.now growth.now.case.now.chamber (plain_cuts growth.now.case.now.instance.now growth.now.case.now.cuts.now) growth.now.case.now.depth growth.now.case.now.prices.now growth.now.case.now.line.now joins base.now choices.old.items choices.new.items) }
 {
     let groups = grown(alloc, growth, base)?;
     for group in &groups {
-        add_group(growth.case, choices, group, joins)?;
+        add_group(growth, choices, group, joins)?;
     }
     Ok(())
 }
@@ -68,6 +69,7 @@ fn ordered(
     joins: Option<u8>,
 ) -> Result<Vec<Choice>, PriceError>
     requires sets { AreForbidden growth.now.case.now.instance.now growth.now.case.now.chamber (plain_cuts growth.now.case.now.instance.now growth.now.case.now.cuts.now) growth.now.sets.now }
+    requires nears { AreNears growth.now.case.now.instance.now growth.now.sets.now (length growth.now.case.now.instance.now.ships) growth.now.nears.now }
     requires base { IsBaseOf growth.now.case.now.instance.now growth.now.case.now.chamber growth.now.case.now.depth growth.now.case.now.line.now joins base.now }
     ensures { IfOk result (λ more. HaveMore growth.now.case.now.instance.now growth.now.case.now.chamber (plain_cuts growth.now.case.now.instance.now growth.now.case.now.cuts.now) growth.now.case.now.depth growth.now.case.now.prices.now growth.now.case.now.line.now joins base.now [] more.items) }
 {
@@ -87,6 +89,7 @@ fn put_grown(
 ) -> Result<(), PriceError>
     requires each { All (IsChoice growth.now.case.now.instance.now growth.now.case.now.chamber (plain_cuts growth.now.case.now.instance.now growth.now.case.now.cuts.now) growth.now.case.now.depth growth.now.case.now.prices.now growth.now.case.now.line.now) choices.old.items }
     requires sets { AreForbidden growth.now.case.now.instance.now growth.now.case.now.chamber (plain_cuts growth.now.case.now.instance.now growth.now.case.now.cuts.now) growth.now.sets.now }
+    requires nears { AreNears growth.now.case.now.instance.now growth.now.sets.now (length growth.now.case.now.instance.now.ships) growth.now.nears.now }
     requires base { IsBaseOf growth.now.case.now.instance.now growth.now.case.now.chamber growth.now.case.now.depth growth.now.case.now.line.now joins base.now }
     ensures { OnOk result (HaveMore growth.now.case.now.instance.now growth.now.case.now.chamber (plain_cuts growth.now.case.now.instance.now growth.now.case.now.cuts.now) growth.now.case.now.depth growth.now.case.now.prices.now growth.now.case.now.line.now joins base.now choices.old.items choices.new.items) }
 {
@@ -107,6 +110,7 @@ fn empty(way: Way) -> Group
 // The choices whose ships are all missing.
 fn free_choices(alloc: Global, growth: &Growth) -> Result<Vec<Choice>, PriceError>
     requires sets { AreForbidden growth.now.case.now.instance.now growth.now.case.now.chamber (plain_cuts growth.now.case.now.instance.now growth.now.case.now.cuts.now) growth.now.sets.now }
+    requires nears { AreNears growth.now.case.now.instance.now growth.now.sets.now (length growth.now.case.now.instance.now.ships) growth.now.nears.now }
     ensures { IfOk result (λ choices. AreSome growth.now.case.now.instance.now growth.now.case.now.chamber (plain_cuts growth.now.case.now.instance.now growth.now.case.now.cuts.now) growth.now.case.now.depth growth.now.case.now.prices.now growth.now.case.now.line.now 0 choices.items) }
 {
     let mut choices = Vec::new(alloc);
@@ -118,6 +122,7 @@ fn free_choices(alloc: Global, growth: &Growth) -> Result<Vec<Choice>, PriceErro
 // The same as `choices`, as they are listed.
 fn unordered(alloc: Global, growth: &Growth) -> Result<Vec<Choice>, PriceError>
     requires sets { AreForbidden growth.now.case.now.instance.now growth.now.case.now.chamber (plain_cuts growth.now.case.now.instance.now growth.now.case.now.cuts.now) growth.now.sets.now }
+    requires nears { AreNears growth.now.case.now.instance.now growth.now.sets.now (length growth.now.case.now.instance.now.ships) growth.now.nears.now }
     ensures { IfOk result (λ choices. AreChoices growth.now.case.now.instance.now growth.now.case.now.chamber (plain_cuts growth.now.case.now.instance.now growth.now.case.now.cuts.now) growth.now.case.now.depth growth.now.case.now.prices.now growth.now.case.now.line.now choices.items) }
 {
     let line = growth.case.line;
@@ -133,6 +138,7 @@ fn unordered(alloc: Global, growth: &Growth) -> Result<Vec<Choice>, PriceError>
 /// first.
 pub(crate) fn choices(alloc: Global, growth: &Growth) -> Result<Vec<Choice>, PriceError>
     requires sets { AreForbidden growth.now.case.now.instance.now growth.now.case.now.chamber (plain_cuts growth.now.case.now.instance.now growth.now.case.now.cuts.now) growth.now.sets.now }
+    requires nears { AreNears growth.now.case.now.instance.now growth.now.sets.now (length growth.now.case.now.instance.now.ships) growth.now.nears.now }
     ensures { IfOk result (λ choices. AreChoices growth.now.case.now.instance.now growth.now.case.now.chamber (plain_cuts growth.now.case.now.instance.now growth.now.case.now.cuts.now) growth.now.case.now.depth growth.now.case.now.prices.now growth.now.case.now.line.now choices.items) }
 {
     let mut choices = unordered(alloc, growth)?;

@@ -18,7 +18,7 @@ use chamber_times::stand_after;
 pub(crate) fn opened(table: &Table, state: State) -> Frame
     requires place { state.place ≤ length table.now.case.now.line.now }
     requires early { state.minute < table.now.horizon }
-    ensures { IsFrame table.now.case.now.instance.now table.now.case.now.chamber (plain_cuts table.now.case.now.instance.now table.now.case.now.cuts.now) table.now.case.now.depth table.now.case.now.prices.now table.now.case.now.line.now table.now.horizon table.now.last table.now.choices.now table.now.lates.now result }
+    ensures { IsFrame table.now.case.now.instance.now table.now.case.now.chamber (plain_cuts table.now.case.now.instance.now table.now.case.now.cuts.now) table.now.case.now.depth table.now.case.now.prices.now table.now.case.now.line.now table.now.horizon table.now.choices.now table.now.levels.now result }
 {
     Frame {
         state,
@@ -141,10 +141,10 @@ fn count(
 /// known yet; that state.
 pub(crate) fn advance(table: &Table, values: &Values, frame: &mut Frame) -> Option<State>
     requires values { AreValues table.now.case.now.instance.now table.now.case.now.chamber (plain_cuts table.now.case.now.instance.now table.now.case.now.cuts.now) table.now.case.now.depth table.now.case.now.prices.now table.now.case.now.line.now table.now.horizon values.now }
-    requires choices { AreListed table.now.case.now.instance.now table.now.case.now.chamber (plain_cuts table.now.case.now.instance.now table.now.case.now.cuts.now) table.now.case.now.depth table.now.case.now.prices.now table.now.case.now.line.now table.now.last table.now.choices.now table.now.lates.now }
-    requires frame { IsFrame table.now.case.now.instance.now table.now.case.now.chamber (plain_cuts table.now.case.now.instance.now table.now.case.now.cuts.now) table.now.case.now.depth table.now.case.now.prices.now table.now.case.now.line.now table.now.horizon table.now.last table.now.choices.now table.now.lates.now frame.old }
-    ensures frame { IsFrame table.now.case.now.instance.now table.now.case.now.chamber (plain_cuts table.now.case.now.instance.now table.now.case.now.cuts.now) table.now.case.now.depth table.now.case.now.prices.now table.now.case.now.line.now table.now.horizon table.now.last table.now.choices.now table.now.lates.now frame.new }
-    ensures none { IfNone result (length (list_at table.now.last table.now.choices.now table.now.lates.now frame.new.state.minute) ≤ frame.new.next) }
+    requires choices { AreListed table.now.case.now.instance.now table.now.case.now.chamber (plain_cuts table.now.case.now.instance.now table.now.case.now.cuts.now) table.now.case.now.depth table.now.case.now.prices.now table.now.case.now.line.now table.now.choices.now table.now.levels.now }
+    requires frame { IsFrame table.now.case.now.instance.now table.now.case.now.chamber (plain_cuts table.now.case.now.instance.now table.now.case.now.cuts.now) table.now.case.now.depth table.now.case.now.prices.now table.now.case.now.line.now table.now.horizon table.now.choices.now table.now.levels.now frame.old }
+    ensures frame { IsFrame table.now.case.now.instance.now table.now.case.now.chamber (plain_cuts table.now.case.now.instance.now table.now.case.now.cuts.now) table.now.case.now.depth table.now.case.now.prices.now table.now.case.now.line.now table.now.horizon table.now.choices.now table.now.levels.now frame.new }
+    ensures none { IfNone result (length (list_at table.now.choices.now table.now.levels.now frame.new.state.minute) ≤ frame.new.next) }
     ensures some { IfSome result (λ s. (s.place ≤ length table.now.case.now.line.now) × (s.minute < table.now.horizon)) }
 {
     let choices = table.list(frame.state.minute);

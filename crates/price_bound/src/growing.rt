@@ -6,13 +6,15 @@ ghost use Rattle.lock_rules.specs.Children.{with_ship};
 ghost use Rattle.price_rules.specs.Prices.{is_missing};
 ghost use Rattle.master_branch.specs.Steps.{group_at};
 ghost use Rattle.price_bound.specs.Sparing.{IsSpared};
-ghost use Rattle.price_bound.specs.Masks.{AreNear};
+ghost use Rattle.price_bound.specs.Masks.{AreNear, AreNears};
+ghost use Rattle.price_bound.specs.Choosing.{AreRates};
 ghost use Rattle.price_bound.specs.Growing.{IsGrown, AreGrown, MayJoin, IsJoined, IsNew, IsBase};
 
 use crate::error::{PriceError, append};
 use crate::forbidden::misses_all;
 use crate::line_case::LineCase;
-use crate::masks::{mask_of, misses_all_of, near};
+use crate::masks::{mask_of, misses_all_of};
+use crate::near::Near;
 use lock_model::{Group, Ships};
 use master_branch::with_ship;
 use std::alloc::Global;
@@ -23,7 +25,12 @@ use std::alloc::Global;
 pub(crate) struct Growth<'a> {
     pub(crate) case: &'a LineCase<'a>,
     pub(crate) sets: &'a [Ships],
+    /// For each ship the sets that have it.
+    pub(crate) nears: &'a [Near],
+    /// What each ship counts: 100 times its arrival, and its price where the node lacks it.
+    pub(crate) rates: &'a [u32],
     pub(crate) most: usize,
+    pub(crate) ghost rated: { AreRates case.now.instance.now case.now.depth case.now.prices.now (length case.now.instance.now.ships) rates.now },
 }
 
 // Whether the node lacks the ship and it has the way of the group.
@@ -136,12 +143,12 @@ fn join_each(
 
 // Joins a ship to each of the groups, where the node lacks it and it has their way.
 fn grow(
-    alloc: Global,
     growth: &Growth,
     base: &Group,
     groups: &mut Vec<Group>,
     ship: u8,
 ) -> Result<(), PriceError>
+    requires nears { AreNears growth.now.case.now.instance.now growth.now.sets.now (length growth.now.case.now.instance.now.ships) growth.now.nears.now }
     requires known { ship < length growth.now.case.now.instance.now.ships }
     requires grown { AreGrown growth.now.case.now.instance.now growth.now.case.now.chamber growth.now.case.now.depth growth.now.sets.now base.now ship groups.old.items }
     ensures { OnOk result (AreGrown growth.now.case.now.instance.now growth.now.case.now.chamber growth.now.case.now.depth growth.now.sets.now base.now (ship + 1) groups.new.items) }
@@ -149,8 +156,13 @@ fn grow(
     if !may_grow(growth.case, base, ship) {
         return Ok(());
     }
-    let near = near(alloc, growth.case.instance, growth.sets, ship)?;
-    join_each(growth, &near, base, groups, ship)
+    join_each(
+        growth,
+        &growth.nears[ship as usize].masks,
+        base,
+        groups,
+        ship,
+    )
 }
 
 // The base alone, where no forbidden set is in it.
@@ -169,13 +181,14 @@ fn ungrown(alloc: Global, growth: &Growth, base: &Group) -> Result<Vec<Group>, P
 /// The base joined by missing ships of its way, or by none, in all ways that the chamber may serve
 /// and that hold no forbidden set; the empty group among them where the base is empty.
 pub(crate) fn grown(alloc: Global, growth: &Growth, base: &Group) -> Result<Vec<Group>, PriceError>
-    requires { IsBase growth.now.case.now.instance.now growth.now.case.now.chamber growth.now.case.now.depth base.now }
+    requires nears { AreNears growth.now.case.now.instance.now growth.now.sets.now (length growth.now.case.now.instance.now.ships) growth.now.nears.now }
+    requires base { IsBase growth.now.case.now.instance.now growth.now.case.now.chamber growth.now.case.now.depth base.now }
     ensures { IfOk result (λ groups. AreGrown growth.now.case.now.instance.now growth.now.case.now.chamber growth.now.case.now.depth growth.now.sets.now base.now (length growth.now.case.now.instance.now.ships) groups.items) }
 {
     let count = growth.case.instance.ships.as_slice().len() as u8;
     let mut groups = ungrown(alloc, growth, base)?;
     for ship in 0..count {
-        grow(alloc, growth, base, &mut groups, ship)?;
+        grow(growth, base, &mut groups, ship)?;
     }
     Ok(groups)
 }

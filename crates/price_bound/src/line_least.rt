@@ -11,18 +11,21 @@ use crate::growing::Growth;
 use crate::horizon::horizon;
 use crate::lateness::{late_choices, latest};
 use crate::least::value_of;
+use crate::levels::levels;
 use crate::line_case::LineCase;
 use crate::loose_line::LooseLine;
+use crate::masks::nears;
 use crate::next_group::ValuedState;
 use crate::state::State;
 use crate::table::Table;
 use crate::values::Values;
 use crate::walking::walked;
+use crate::weighing::rates;
 use std::alloc::Global;
 
 // The least line, by a table.
 fn line_by(alloc: Global, table: &Table) -> Result<LooseLine, PriceError>
-    requires { AreListed table.now.case.now.instance.now table.now.case.now.chamber (plain_cuts table.now.case.now.instance.now table.now.case.now.cuts.now) table.now.case.now.depth table.now.case.now.prices.now table.now.case.now.line.now table.now.last table.now.choices.now table.now.lates.now }
+    requires { AreListed table.now.case.now.instance.now table.now.case.now.chamber (plain_cuts table.now.case.now.instance.now table.now.case.now.cuts.now) table.now.case.now.depth table.now.case.now.prices.now table.now.case.now.line.now table.now.choices.now table.now.levels.now }
     ensures least { IfOk result (IsLeastLine table.now.case.now.instance.now table.now.case.now.chamber (plain_cuts table.now.case.now.instance.now table.now.case.now.cuts.now) table.now.case.now.depth table.now.case.now.prices.now table.now.case.now.line.now) }
     ensures low { IfOk result (λ line. neg_ℤ (pos 816080000000000) ≤ℤ line.worth) }
     ensures high { IfOk result (λ line. line.worth ≤ℤ pos 6000000000000) }
@@ -57,20 +60,22 @@ pub(crate) fn line_least(
     if !are_spared(&sets, case.line) {
         return Ok(None);
     }
+    let nears = nears(alloc, case.instance, &sets)?;
+    let rates = rates(alloc, case)?;
     let growth = Growth {
         case,
         sets: &sets,
+        nears: &nears,
+        rates: &rates,
         most: limits.groups,
     };
     let choices = choices(alloc, &growth)?;
-    let last = latest(&choices) as u64;
     let earlies = late_choices(alloc, case, &choices, 0)?;
-    let lates = late_choices(alloc, case, &choices, last)?;
+    let levels = levels(alloc, case, &earlies, latest(&earlies))?;
     let table = Table {
         case,
         choices: &earlies,
-        lates: &lates,
-        last,
+        levels: &levels,
         horizon: horizon(case),
         turns: limits.turns,
     };

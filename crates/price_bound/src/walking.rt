@@ -41,7 +41,7 @@ fn next_to(
     choice: &Choice,
     place: u8,
 ) -> Result<Option<NextGroup>, PriceError>
-    requires choices { AreListed table.now.case.now.instance.now table.now.case.now.chamber (plain_cuts table.now.case.now.instance.now table.now.case.now.cuts.now) table.now.case.now.depth table.now.case.now.prices.now table.now.case.now.line.now table.now.last table.now.choices.now table.now.lates.now }
+    requires choices { AreListed table.now.case.now.instance.now table.now.case.now.chamber (plain_cuts table.now.case.now.instance.now table.now.case.now.cuts.now) table.now.case.now.depth table.now.case.now.prices.now table.now.case.now.line.now table.now.choices.now table.now.levels.now }
     requires values { AreValues table.now.case.now.instance.now table.now.case.now.chamber (plain_cuts table.now.case.now.instance.now table.now.case.now.cuts.now) table.now.case.now.depth table.now.case.now.prices.now table.now.case.now.line.now table.now.horizon values.old }
     requires place { from.now.state.place ≤ length table.now.case.now.line.now }
     requires early { from.now.state.minute < table.now.horizon }
@@ -80,7 +80,7 @@ fn next_by(
     from: &ValuedState,
     choice: &Choice,
 ) -> Result<Option<NextGroup>, PriceError>
-    requires choices { AreListed table.now.case.now.instance.now table.now.case.now.chamber (plain_cuts table.now.case.now.instance.now table.now.case.now.cuts.now) table.now.case.now.depth table.now.case.now.prices.now table.now.case.now.line.now table.now.last table.now.choices.now table.now.lates.now }
+    requires choices { AreListed table.now.case.now.instance.now table.now.case.now.chamber (plain_cuts table.now.case.now.instance.now table.now.case.now.cuts.now) table.now.case.now.depth table.now.case.now.prices.now table.now.case.now.line.now table.now.choices.now table.now.levels.now }
     requires values { AreValues table.now.case.now.instance.now table.now.case.now.chamber (plain_cuts table.now.case.now.instance.now table.now.case.now.cuts.now) table.now.case.now.depth table.now.case.now.prices.now table.now.case.now.line.now table.now.horizon values.old }
     requires place { from.now.state.place ≤ length table.now.case.now.line.now }
     requires early { from.now.state.minute < table.now.horizon }
@@ -104,7 +104,7 @@ fn next_choice(
     values: &mut Values,
     from: &ValuedState,
 ) -> Result<Option<NextGroup>, PriceError>
-    requires choices { AreListed table.now.case.now.instance.now table.now.case.now.chamber (plain_cuts table.now.case.now.instance.now table.now.case.now.cuts.now) table.now.case.now.depth table.now.case.now.prices.now table.now.case.now.line.now table.now.last table.now.choices.now table.now.lates.now }
+    requires choices { AreListed table.now.case.now.instance.now table.now.case.now.chamber (plain_cuts table.now.case.now.instance.now table.now.case.now.cuts.now) table.now.case.now.depth table.now.case.now.prices.now table.now.case.now.line.now table.now.choices.now table.now.levels.now }
     requires values { AreValues table.now.case.now.instance.now table.now.case.now.chamber (plain_cuts table.now.case.now.instance.now table.now.case.now.cuts.now) table.now.case.now.depth table.now.case.now.prices.now table.now.case.now.line.now table.now.horizon values.old }
     requires place { from.now.state.place ≤ length table.now.case.now.line.now }
     requires early { from.now.state.minute < table.now.horizon }
@@ -133,7 +133,7 @@ fn next_group(
     values: &mut Values,
     from: &ValuedState,
 ) -> Result<Option<NextGroup>, PriceError>
-    requires choices { AreListed table.now.case.now.instance.now table.now.case.now.chamber (plain_cuts table.now.case.now.instance.now table.now.case.now.cuts.now) table.now.case.now.depth table.now.case.now.prices.now table.now.case.now.line.now table.now.last table.now.choices.now table.now.lates.now }
+    requires choices { AreListed table.now.case.now.instance.now table.now.case.now.chamber (plain_cuts table.now.case.now.instance.now table.now.case.now.cuts.now) table.now.case.now.depth table.now.case.now.prices.now table.now.case.now.line.now table.now.choices.now table.now.levels.now }
     requires values { AreValues table.now.case.now.instance.now table.now.case.now.chamber (plain_cuts table.now.case.now.instance.now table.now.case.now.cuts.now) table.now.case.now.depth table.now.case.now.prices.now table.now.case.now.line.now table.now.horizon values.old }
     requires place { from.now.state.place ≤ length table.now.case.now.line.now }
     requires minute { from.now.state.minute ≤ 14000000 }
@@ -165,7 +165,7 @@ pub(crate) fn walked(
     values: &mut Values,
     first: ValuedState,
 ) -> Result<Vec<Group>, PriceError>
-    requires choices { AreListed table.now.case.now.instance.now table.now.case.now.chamber (plain_cuts table.now.case.now.instance.now table.now.case.now.cuts.now) table.now.case.now.depth table.now.case.now.prices.now table.now.case.now.line.now table.now.last table.now.choices.now table.now.lates.now }
+    requires choices { AreListed table.now.case.now.instance.now table.now.case.now.chamber (plain_cuts table.now.case.now.instance.now table.now.case.now.cuts.now) table.now.case.now.depth table.now.case.now.prices.now table.now.case.now.line.now table.now.choices.now table.now.levels.now }
     requires values { AreValues table.now.case.now.instance.now table.now.case.now.chamber (plain_cuts table.now.case.now.instance.now table.now.case.now.cuts.now) table.now.case.now.depth table.now.case.now.prices.now table.now.case.now.line.now table.now.horizon values.old }
     requires place { first.state.place ≤ length table.now.case.now.line.now }
     requires minute { first.state.minute ≤ 14000000 }

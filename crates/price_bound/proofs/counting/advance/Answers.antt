@@ -10,7 +10,7 @@ count-requires-clause-is c =
     let table = c.args.table.now in
     let case = table.case.now in
     let I = case.instance.now in
-    let each = listed-each I case.chamber case.chamber_in (plain_cuts I case.cuts.now) case.depth case.prices.now case.line.now table.last table.choices.now table.lates.now c.requires.choices c.args.frame.now.state.minute in
+    let each = listed-each I case.chamber case.chamber_in (plain_cuts I case.cuts.now) case.depth case.prices.now case.line.now table.choices.now table.levels.now c.requires.choices c.args.frame.now.state.minute in
     let own = subst (All (IsChoice I case.chamber (plain_cuts I case.cuts.now) case.depth case.prices.now case.line.now)) (sym c.list-choices.ensures) each in
     subst (IsChoice I case.chamber (plain_cuts I case.cuts.now) case.depth case.prices.now case.line.now) (sym c.index-choices-place.is) (own c.loop-place.place c.index-choices-place.result c.loop-place-test.true)
 
@@ -19,7 +19,7 @@ returns-in-Some-clause-frame c =
     let table = c.args.table.now in
     let case = table.case.now in
     let I = case.instance.now in
-    frame-less I case.chamber case.chamber_in (plain_cuts I case.cuts.now) case.depth case.prices.now case.line.now table.horizon table.last table.choices.now table.lates.now c.loop-place.frame c.count.new.best c.count.ensures.less c.count.ensures.best c.loop-place.invariant.frame
+    frame-less I case.chamber case.chamber_in (plain_cuts I case.cuts.now) case.depth case.prices.now case.line.now table.horizon table.choices.now table.levels.now c.loop-place.frame c.count.new.best c.count.ensures.less c.count.ensures.best c.loop-place.invariant.frame
 
 pub loop-place-preserved : goal.loop-place-preserved
 loop-place-preserved c =
@@ -30,7 +30,7 @@ loop-place-preserved c =
     let state = c.loop-place.frame.state in
     let before = c.loop-place.invariant in
     record {
-      frame = frame-next I case.chamber case.chamber_in (plain_cuts I case.cuts.now) case.depth case.prices.now case.line.now table.horizon table.last table.choices.now table.lates.now c.loop-place.frame c.count.new.best c.index-choices-place.result c.loop-place.place c.list-choices.result.now before.listed c.loop-place-test.true before.next c.index-choices-place.is told.less told.best told.none before.frame;
+      frame = frame-next I case.chamber case.chamber_in (plain_cuts I case.cuts.now) case.depth case.prices.now case.line.now table.horizon table.choices.now table.levels.now c.loop-place.frame c.count.new.best c.index-choices-place.result c.loop-place.place c.list-choices.result.now before.listed c.loop-place-test.true before.next c.index-choices-place.is told.less told.best told.none before.frame;
       next = refl;
       listed = before.listed;
     }

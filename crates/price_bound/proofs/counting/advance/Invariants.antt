@@ -6,7 +6,7 @@ use Rattle.price_bound.proofs.counting.advance.Given as goal
 
 abbrev pub invariant-loop-place : goal.invariant-loop-place
 invariant-loop-place l = record {
-  frame : IsFrame l.table.case.now.instance.now l.table.case.now.chamber (plain_cuts l.table.case.now.instance.now l.table.case.now.cuts.now) l.table.case.now.depth l.table.case.now.prices.now l.table.case.now.line.now l.table.horizon l.table.last l.table.choices.now l.table.lates.now l.frame;
+  frame : IsFrame l.table.case.now.instance.now l.table.case.now.chamber (plain_cuts l.table.case.now.instance.now l.table.case.now.cuts.now) l.table.case.now.depth l.table.case.now.prices.now l.table.case.now.line.now l.table.horizon l.table.choices.now l.table.levels.now l.frame;
   next : l.frame.next ≡ l.place;
-  listed : l.choices ≡ list_at l.table.last l.table.choices.now l.table.lates.now l.frame.state.minute;
+  listed : l.choices ≡ list_at l.table.choices.now l.table.levels.now l.frame.state.minute;
 }

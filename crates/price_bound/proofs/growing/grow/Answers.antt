@@ -1,5 +1,7 @@
-use Rattle.std.proofs.Common.{◌≡◌, ◌+◌, suc, subst, arith, rules}
+use Rattle.std.proofs.Common.{◌≡◌, ◌+◌, suc, length, sym, subst, arith, rules}
 use Rattle.price_bound.specs.Growing.{AreGrown, IsNew}
+use Rattle.price_bound.specs.Masks.{AreNear}
+use Rattle.price_bound.specs.declared.near.Near.{Near}
 use Rattle.price_bound.proofs.GrowLemmas.{grown-skip}
 use Rattle.price_bound.proofs.growing.grow.Goals as goal
 
@@ -12,3 +14,12 @@ returns-then-not-may_grow c =
     let up : suc c.args.ship ≡ c.args.ship + 1 = omega arith in
     let old : ¬ IsNew I k c.args.base.now c.args.ship = search rules in
     subst (λ m. AreGrown I n k sets c.args.base.now m c.args.groups.now.items) up (grown-skip I n k sets c.args.base.now c.args.ship c.args.groups.now.items old c.requires.grown)
+
+pub join_each-requires-clause-near : goal.join_each-requires-clause-near
+join_each-requires-clause-near c =
+    let I = c.args.growth.now.case.now.instance.now in
+    let sets = c.args.growth.now.sets.now in
+    let near = c.index-growth-ship.result in
+    let same : c.deref.result.now ≡ near.masks.items = search rules in
+    subst (AreNear I sets (length sets) c.args.ship) (sym same)
+    (subst (λ (near : Near). AreNear I sets (length sets) c.args.ship near.masks.items) (sym c.index-growth-ship.is) (c.requires.nears.each c.args.ship near c.requires.known))

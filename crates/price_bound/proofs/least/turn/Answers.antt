@@ -16,14 +16,14 @@ returns-in-None-clause-values c =
     let frame = c.advance.new.frame in
     on_ok_weaker c.keep.result (λ more.
     values-kept I case.chamber case.chamber_in (plain_cuts I case.cuts.now) case.depth case.prices.now case.line.now table.horizon c.args.values.now c.keep.new.self frame.state.place frame.state.stand frame.state.minute _ (omega (arith, told.frame.place, case.few)) c.requires.values
-    (value-rounded I case.chamber case.chamber_in (plain_cuts I case.cuts.now) case.depth case.prices.now case.line.now table.horizon frame.state.place frame.state.stand frame.state.minute frame.best table.small (frame-value I case.chamber case.chamber_in (plain_cuts I case.cuts.now) case.depth case.prices.now case.line.now table.horizon table.last table.choices.now table.lates.now frame c.requires.choices told.none told.frame)) more) c.keep.ensures
+    (value-rounded I case.chamber case.chamber_in (plain_cuts I case.cuts.now) case.depth case.prices.now case.line.now table.horizon frame.state.place frame.state.stand frame.state.minute frame.best table.small (frame-value I case.chamber case.chamber_in (plain_cuts I case.cuts.now) case.depth case.prices.now case.line.now table.horizon table.choices.now table.levels.now frame c.requires.choices told.none told.frame)) more) c.keep.ensures
 
 pub returns-in_ok-append-in-Some-clause-frames : goal.returns-in_ok-append-in-Some-clause-frames
 returns-in_ok-append-in-Some-clause-frames c =
     let table = c.args.table.now in
     let case = table.case.now in
     let I = case.instance.now in
-    let is : Frame → Type 0 = IsFrame I case.chamber (plain_cuts I case.cuts.now) case.depth case.prices.now case.line.now table.horizon table.last table.choices.now table.lates.now in
+    let is : Frame → Type 0 = IsFrame I case.chamber (plain_cuts I case.cuts.now) case.depth case.prices.now case.line.now table.horizon table.choices.now table.levels.now in
     let first = All-push is c.args.frames.now.items c.advance.new.frame c.requires.frames (c.in-Some.ensures.frame) in
     on_ok_weaker c.append-in-Some.result (λ pushed.
     subst (All is) (sym pushed) (All-push is c.append.new.list.items c.opened.result (subst (All is) (sym c.in_ok-append-in-Some.ensures) first) c.opened.ensures)) c.append-in-Some.ensures

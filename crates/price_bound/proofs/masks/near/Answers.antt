@@ -1,18 +1,7 @@
-use Rattle.std.proofs.Common.{◌≡◌, length, sym, subst, arith}
-use Rattle.price_bound.specs.Masks.{AreNear, IsNoted}
-use Rattle.price_bound.proofs.MaskLemmas.{near-first, near-next}
+use Rattle.std.proofs.Common.{◌≡◌, [], ◌∷◌, subst}
+use Rattle.price_bound.specs.Masks.{IsMask}
+use Rattle.price_bound.proofs.MaskLemmas.{having-done}
 use Rattle.price_bound.proofs.masks.near.Goals as goal
 
-pub loop-set-init : goal.loop-set-init
-loop-set-init c = subst (AreNear c.args.instance.now c.args.sets.now 0 c.args.ship) (sym c.new-masks.ensures.items) (near-first c.args.instance.now c.args.sets.now c.args.ship)
-
-pub loop-set-preserved : goal.loop-set-preserved
-loop-set-preserved c =
-    let I = c.args.instance.now in
-    let noted = subst (λ set. IsNoted I c.args.ship set c.loop-set.masks.items c.note.new.masks.items) c.as_slice.ensures.value c.in_ok-note.ensures in
-    near-next I c.args.sets.now c.args.ship c.loop-set.set-index c.set-item.result c.loop-set.masks.items c.note.new.masks.items c.loop-set-test.true c.set-item.is noted c.loop-set.invariant
-
 pub returns : goal.returns
-returns c =
-    let all : c.loop-set.set-index ≡ length c.args.sets.now = omega (arith, c.loop-set-test.false, c.loop-set.auto.set-index-end) in
-    subst (λ i. AreNear c.args.instance.now c.args.sets.now i c.args.ship c.loop-set.masks.items) all c.loop-set.invariant
+returns c = λ I sets are. having-done c.mask_of-own.result c.args.marks.now I sets c.args.ship c.in_ok-having.field-0.items c.mask_of-own.ensures are c.in_ok-having.ensures

@@ -1,9 +1,5 @@
-use Rattle.std.proofs.Common.{◌≡◌, ◌*◌, ◌≤◌, take, sum_by}
-use Rattle.price_bound.specs.Choosing.{rate_of}
+use Rattle.price_bound.specs.Choosing.{AreRates}
 use Rattle.price_bound.proofs.weighing.rates.Given as goal
 
 abbrev pub invariant-loop-ship : goal.invariant-loop-ship
-invariant-loop-ship l = record {
-  sum : l.sum ≡ sum_by (rate_of l.case.instance.now l.case.depth l.case.prices.now) (take l.ship-index l.ships);
-  small : l.sum ≤ l.ship-index * 101000000;
-}
+invariant-loop-ship l = AreRates l.case.instance.now l.case.depth l.case.prices.now l.ship l.rates.items
