@@ -125,13 +125,13 @@ module _ (I : Instance) (c : ℕ) (known : c < length I.chambers) (cuts : List P
           elim (All-contains (IsCoveredLate I c k prices late lates) earlies mid second.covered near.held) [
             | inl far ↦ inl (record { other = far.other; held = far.held; serves = chain far.other mid h far.serves near.serves })
             | inr vain ↦ inr (record {
-                alone = sym near.serves.joins ∙ vain.alone;
-                gainless = λ stand from past.
-                    let g : Group = record { way = h.group.way; ships = mid.group.ships } in
-                    let same : mid.group ≡ g = λ i. record { way = near.serves.way i; ships = mid.group.ships } in
-                    above _ _ (subst (λ g. pos 0 ≤ℤ worth_of I c k prices stand from g) same (vain.gainless stand from past))
-                    (serve-worth I c known k prices h.group.way mid.group.ships h.group.ships stand from (late-from early from mid h (omega (arith, before, past)) near.serves own is));
-              })
+              alone = sym near.serves.joins ∙ vain.alone;
+              gainless = λ stand from past.
+                  let g : Group = record { way = h.group.way; ships = mid.group.ships } in
+                  let same : mid.group ≡ g = λ i. record { way = near.serves.way i; ships = mid.group.ships } in
+                  above _ _ (subst (λ g. pos 0 ≤ℤ worth_of I c k prices stand from g) same (vain.gainless stand from past))
+                  (serve-worth I c known k prices h.group.way mid.group.ships h.group.ships stand from (late-from early from mid h (omega (arith, before, past)) near.serves own is));
+            })
           ]
         where
           above : (u v : ℤ) → pos 0 ≤ℤ u → u ≤ℤ v → pos 0 ≤ℤ v

@@ -48,11 +48,7 @@ pub(crate) fn add(
 }
 
 // Puts a choice to the others, unless one of them serves as well.
-fn put(
-    case: &LineCase,
-    choices: &mut Vec<Choice>,
-    choice: Choice,
-) -> Result<(), PriceError>
+fn put(case: &LineCase, choices: &mut Vec<Choice>, choice: Choice) -> Result<(), PriceError>
     requires each { All (IsChoice case.now.instance.now case.now.chamber (plain_cuts case.now.instance.now case.now.cuts.now) case.now.depth case.now.prices.now case.now.line.now) choices.old.items }
     requires is { IsChoice case.now.instance.now case.now.chamber (plain_cuts case.now.instance.now case.now.cuts.now) case.now.depth case.now.prices.now case.now.line.now choice }
     ensures { OnOk result (HasOne case.now.instance.now case.now.chamber (plain_cuts case.now.instance.now case.now.cuts.now) case.now.depth case.now.prices.now case.now.line.now choice choices.old.items choices.new.items) }

@@ -15,7 +15,7 @@ returns c =
     let cuts = plain_cuts I case.cuts.now in
     let none = subst (AreLate I case.chamber cuts case.depth case.prices.now case.line.now 0 []) (sym c.new-choices.ensures.items) (late-none I case.chamber cuts case.depth case.prices.now case.line.now 0) in
     let up = subst (λ base. HaveEarly I case.chamber cuts case.depth case.prices.now case.line.now None base [] c.put_grown.new.choices.items) c.empty.ensures
-        (c.in_ok-put_grown.ensures [] (All-nil (IsChoice I case.chamber cuts case.depth case.prices.now case.line.now)) none) in
+    (c.in_ok-put_grown.ensures [] (All-nil (IsChoice I case.chamber cuts case.depth case.prices.now case.line.now)) none) in
     let down = subst (λ base. HaveEarly I case.chamber cuts case.depth case.prices.now case.line.now None base up.more c.put_grown-2.new.choices.items) c.empty-2.ensures
-        (c.in_ok-put_grown-2.ensures up.more up.have.each up.early) in
+    (c.in_ok-put_grown-2.ensures up.more up.have.each up.early) in
     record { choices = down.more; some = some-none I case.chamber case.depth case.line.now cuts case.prices.now up.more down.more up.have down.have; early = down.early }
