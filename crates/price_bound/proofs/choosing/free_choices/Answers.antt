@@ -1,8 +1,6 @@
-use Rattle.std.proofs.Common.{[], List, All, subst, sym, None}
+use Rattle.std.proofs.Common.{[], subst, sym, None}
 use Rattle.std.proofs.lemmas.List.Elements.{All-nil}
-use Rattle.lock_model.specs.declared.way.Way.TheVariants.{Up}
 use Rattle.price_bound.specs.Cuts.{plain_cuts}
-use Rattle.price_bound.specs.declared.choice.Choice.{Choice}
 use Rattle.price_bound.specs.Choosing.{IsChoice, AreLate, HaveEarly}
 use Rattle.price_bound.proofs.ChoiceLemmas.{some-none}
 use Rattle.price_bound.proofs.LateLemmas.{late-none}

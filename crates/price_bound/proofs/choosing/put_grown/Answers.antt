@@ -1,6 +1,6 @@
-use Rattle.std.proofs.Common.{◌≡◌, ◌++◌, [], All, sym, ap, ◌∙◌, subst, rules}
+use Rattle.std.proofs.Common.{◌≡◌, ◌++◌, All, sym, ap, ◌∙◌, subst, rules}
 use Rattle.std.proofs.lemmas.Result.{on_ok_weaker}
-use Rattle.price_bound.specs.Choosing.{HaveMore, HaveEarly, AreLate, IsChoice}
+use Rattle.price_bound.specs.Choosing.{HaveEarly, AreLate, IsChoice}
 use Rattle.price_bound.specs.Cuts.{plain_cuts}
 use Rattle.price_bound.proofs.LateLemmas.{early-together}
 use Rattle.price_bound.proofs.choosing.put_grown.Goals as goal

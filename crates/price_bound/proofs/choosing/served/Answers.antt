@@ -1,7 +1,7 @@
-use Rattle.std.proofs.Common.{◌≡◌, [], List, All, sym, subst, rules}
+use Rattle.std.proofs.Common.{◌≡◌, [], All, sym, subst, rules}
 use Rattle.std.proofs.lemmas.List.Elements.{All-nil}
 use Rattle.price_bound.specs.declared.choice.Choice.{Choice}
-use Rattle.price_bound.specs.Choosing.{HaveMore, HavePut, IsChoice}
+use Rattle.price_bound.specs.Choosing.{HaveMore, IsChoice}
 use Rattle.price_bound.specs.Cuts.{plain_cuts}
 use Rattle.price_bound.proofs.ChoiceLemmas.{put-done, more-ordered}
 use Rattle.price_bound.proofs.choosing.served.Goals as goal
