@@ -7,7 +7,7 @@ use Rattle.std.proofs.lemmas.List.{get_or_append_left, get_or_default, length-ap
 use Rattle.std.specs.List.Sorted.{IsPermutation}
 use Rattle.std.proofs.lemmas.List.Sorted.{All-permutation, Contains-permutation}
 use Rattle.std.proofs.lemmas.List.Sums.{sum_by-cons}
-use Rattle.std.proofs.lemmas.List.Elements.{All-push, All-weaker, All-drop, All-contains, All-contains_itself}
+use Rattle.std.proofs.lemmas.List.Elements.{All-push, All-append, All-weaker, Contains-append_left, Contains-append_right}
 use Rattle.list_laws.proofs.Lists.{same-heads}
 use Rattle.lock_model.specs.Fleet.{ship_at}
 use Rattle.lock_model.specs.declared.instance.Instance.{Instance}
@@ -26,10 +26,6 @@ use Rattle.price_bound.specs.Sparing.{AreForbidden}
 use Rattle.price_bound.specs.Growing.{IsGrown, AreGrown}
 use Rattle.price_bound.specs.Choosing.{Keeps, rate_of, IsChoice, Serves, IsServed, IsOn, IsBaseOf, IsVain, IsCovered, HaveMore, HasOne, HavePut, HaveSome, AreSome, AreChoices}
 use Rattle.price_bound.proofs.ServeLemmas.{serve-themselves, serve-through}
-
--- what is behind a place is among all
-pub contains-drop : {X : Type 0} (n : ℕ) (xs : List X) (x : X) → Contains (drop n xs) x → Contains xs x
-contains-drop n xs x held = All-contains (Contains xs) (drop n xs) x (All-drop (Contains xs) n xs (All-contains_itself xs)) held
 
 module _ (I : Instance) (k : ℕ) (prices : List ℕ) where
   -- the rates of ships are what they pay and 100 times their arrivals
@@ -129,6 +125,14 @@ module _ (I : Instance) (k : ℕ) (prices : List ℕ) where
                 way = then.way ∙ first.way;
                 as_good = serve-through I k prices then.choice.group.ships first.choice.group.ships g.ships then.as_good first.as_good;
               }
+
+      -- choices put to others
+      pub more-together : (all more : List Choice) → All (IsChoice I c cuts k prices line) all → HaveMore I c cuts k prices line to base [] more → HaveMore I c cuts k prices line to base all (all ++ more)
+      more-together all more each have = record {
+        each = All-append (IsChoice I c cuts k prices line) all more each have.each;
+        kept = λ h at. Contains-append_left all more h at;
+        covered = λ g uncut on. covered-more c more (all ++ more) to g (λ h at. Contains-append_right all more h at) (have.covered g uncut on);
+      }
 
     module _ (sets : List (List ℕ)) (are : AreForbidden I c cuts sets) (base : Group) where
       -- what was grown is uncut unless it is empty, and all that is uncut was grown
@@ -248,9 +252,10 @@ module _ (I : Instance) (c k : ℕ) (line : List Group) where
             let same = same-heads _ _ _ _ (sym (drop-cons line i d here) ∙ keeps) in
             record { way = ap (λ g. g.way) (sym same); keeps = ap (λ g. g.ships) (sym same) }
 
-    -- the order doesn't matter
-    pub choices-ordered : (old new : List Choice) → IsPermutation old new → AreChoices I c cuts k prices line old → AreChoices I c cuts k prices line new
-    choices-ordered old new moved are = record {
-      each = All-permutation (IsChoice I c cuts k prices line) old new moved are.each;
-      whole = λ to g uncut keeps. covered-more I k prices c old new to g (λ h at. Contains-permutation old new h moved at) (are.whole to g uncut keeps);
-    }
+    -- those of all places
+    pub all-some : (choices : List Choice) → AreSome I c cuts k prices line (length line) choices → AreChoices I c cuts k prices line choices
+    all-some choices some = record { each = some.each; whole = whole }
+      where
+        whole : (to : Option ℕ) (g : Group) → IsUncut I c cuts g → Keeps I k line to g → IsCovered I c k prices choices to g
+        whole None g uncut keeps = some.free g uncut keeps
+        whole (Some p) g uncut keeps = some.own p g (inside p line _ _ keeps) uncut keeps

@@ -1,10 +1,11 @@
 -- Choices that are enough once all ships have arrived.
-use Rattle.std.proofs.Common.{◌≡◌, ℕ, suc, ◌+◌, ◌*◌, ◌<◌, ◌≤◌, ◌⊎◌, ℤ, pos, ◌≤ℤ◌, true, false, cond, nat_lt, inl, inr, List, [], ◌∷◌, ◌++◌, length, All, Contains, refl, sym, ◌∙◌, subst, arith, slice_index_or}
+use Rattle.std.proofs.Common.{◌≡◌, ℕ, suc, ◌+◌, ◌*◌, ◌<◌, ◌≤◌, ◌⊎◌, ℤ, pos, ◌≤ℤ◌, cond, inl, inr, List, [], ◌∷◌, ◌++◌, length, All, Contains, refl, sym, ◌∙◌, subst, arith, slice_index_or}
+use Rattle.std.specs.declared.option.Option.{Option}
 use Rattle.std.proofs.Math.Seq.{get_or-append_seam}
 use Rattle.std.proofs.lemmas.Int.{ints}
 use Rattle.std.proofs.lemmas.Bool.Decides.{leb_tells}
 use Rattle.std.proofs.lemmas.List.{length-append}
-use Rattle.std.proofs.lemmas.List.Elements.{All-contains, All-head, All-tail, All-push, All-weaker}
+use Rattle.std.proofs.lemmas.List.Elements.{All-nil, All-append, All-contains, All-head, All-tail, All-push, All-weaker, Contains-append_left, Contains-append_right}
 use Rattle.list_laws.proofs.Lists.{Contains-before_push}
 use Rattle.lock_model.specs.declared.instance.Instance.{Instance}
 use Rattle.lock_model.specs.declared.group.Group.{Group}
@@ -13,9 +14,9 @@ use Rattle.price_rules.specs.Prices.{PlainCut}
 use Rattle.price_bound.specs.declared.choice.Choice.{Choice}
 use Rattle.price_bound.specs.declared.level.Level.{Level}
 use Rattle.price_bound.specs.Worth.{worth_of, arrivals_of, paid_on, soonest_of, ServeFrom}
-use Rattle.price_bound.specs.Choosing.{IsChoice, IsBelow, IsCounted, Leads, soonest, ServesLate, IsServedLate, IsCoveredLate, HasLate, AreLate, IsLevel, AreChoices, AreListed, list_at}
+use Rattle.price_bound.specs.Choosing.{IsChoice, IsBelow, IsCounted, Leads, soonest, ServesLate, IsServedLate, IsCoveredLate, HasLate, AreLate, IsLevel, HaveMore, HaveEarly, AreChoices, AreListed, list_at}
 use Rattle.price_bound.proofs.ServeLemmas.{later-more, serve-line, serve-worth}
-use Rattle.price_bound.proofs.ChoiceLemmas.{rates-sum}
+use Rattle.price_bound.proofs.ChoiceLemmas.{rates-sum, more-together}
 
 module _ (I : Instance) (c : ℕ) (known : c < length I.chambers) (cuts : List PlainCut) (k : ℕ) (prices : List ℕ) (line : List Group) where
   -- what serves late serves from each later minute on
@@ -93,44 +94,44 @@ module _ (I : Instance) (c : ℕ) (known : c < length I.chambers) (cuts : List P
     listed-each minute = (listed-covers minute).2.each
 
   -- WHAT COVERS CHOICES that cover others from an earlier minute on covers these.
-  pub late-through : (late : ℕ) (choices earlies lates : List Choice) → All (IsChoice I c cuts k prices line) choices → AreLate I c cuts k prices line 0 choices earlies → AreLate I c cuts k prices line late earlies lates → AreLate I c cuts k prices line late choices lates
-  late-through late choices earlies lates each first second = record {
+  pub late-through : (early late : ℕ) (choices earlies lates : List Choice) → early ≤ late → All (IsChoice I c cuts k prices line) choices → AreLate I c cuts k prices line early choices earlies → AreLate I c cuts k prices line late earlies lates → AreLate I c cuts k prices line late choices lates
+  late-through early late choices earlies lates before each first second = record {
     each = second.each;
     covered = λ j d here. through (slice_index_or choices j d) (each j d here) (first.covered j d here);
   }
     where
-      chain : (other mid h : Choice) → ServesLate late other mid → ServesLate 0 mid h → ServesLate late other h
+      chain : (other mid h : Choice) → ServesLate late other mid → ServesLate early mid h → ServesLate late other h
       chain other mid h far near = record {
         joins = far.joins ∙ near.joins;
         way = far.way ∙ near.way;
         count = omega (arith, far.count, near.count);
-        last = omega (arith, far.last, near.last);
+        last = omega (arith, before, far.last, near.last);
         duration = omega (arith, far.duration, near.duration);
         pays =
             let s = soonest late h in
             let n = length other.group.ships in
             let m = length mid.group.ships in
             let l = length h.group.ships in
-            let first = later-more m l (soonest 0 h) s near.count (omega arith) in
-            let second = later-more n m (soonest late mid) s far.count (omega (arith, near.last, near.duration)) in
+            let first = later-more m l (soonest early h) s near.count (omega (arith, before)) in
+            let second = later-more n m (soonest late mid) s far.count (omega (arith, before, near.last, near.duration)) in
             omega (arith, near.pays, far.pays, first, second);
       }
 
-      through : (h : Choice) → IsChoice I c cuts k prices line h → IsCoveredLate I c k prices 0 earlies h → IsCoveredLate I c k prices late lates h
-      through h is (inr vain) = inr (record { alone = vain.alone; gainless = λ stand from past. vain.gainless stand from (omega arith) })
+      through : (h : Choice) → IsChoice I c cuts k prices line h → IsCoveredLate I c k prices early earlies h → IsCoveredLate I c k prices late lates h
+      through h is (inr vain) = inr (record { alone = vain.alone; gainless = λ stand from past. vain.gainless stand from (omega (arith, before, past)) })
       through h is (inl near) =
           let mid = near.other in
           let own : IsChoice I c cuts k prices line mid = All-contains (IsChoice I c cuts k prices line) earlies mid first.each near.held in
           elim (All-contains (IsCoveredLate I c k prices late lates) earlies mid second.covered near.held) [
             | inl far ↦ inl (record { other = far.other; held = far.held; serves = chain far.other mid h far.serves near.serves })
             | inr vain ↦ inr (record {
-                alone = sym near.serves.joins ∙ vain.alone;
-                gainless = λ stand from past.
-                    let g : Group = record { way = h.group.way; ships = mid.group.ships } in
-                    let same : mid.group ≡ g = λ i. record { way = near.serves.way i; ships = mid.group.ships } in
-                    above _ _ (subst (λ g. pos 0 ≤ℤ worth_of I c k prices stand from g) same (vain.gainless stand from past))
-                    (serve-worth I c known k prices h.group.way mid.group.ships h.group.ships stand from (late-from 0 from mid h (omega arith) near.serves own is));
-              })
+              alone = sym near.serves.joins ∙ vain.alone;
+              gainless = λ stand from past.
+                  let g : Group = record { way = h.group.way; ships = mid.group.ships } in
+                  let same : mid.group ≡ g = λ i. record { way = near.serves.way i; ships = mid.group.ships } in
+                  above _ _ (subst (λ g. pos 0 ≤ℤ worth_of I c k prices stand from g) same (vain.gainless stand from past))
+                  (serve-worth I c known k prices h.group.way mid.group.ships h.group.ships stand from (late-from early from mid h (omega (arith, before, past)) near.serves own is));
+            })
           ]
         where
           above : (u v : ℤ) → pos 0 ≤ℤ u → u ≤ℤ v → pos 0 ≤ℤ v
@@ -141,7 +142,7 @@ module _ (I : Instance) (c : ℕ) (known : c < length I.chambers) (cuts : List P
     choices = choices;
     enough = enough;
     early_enough = early;
-    late_enough = All-weaker (IsLevel I c cuts k prices line earlies) (IsLevel I c cuts k prices line choices) (λ level is. late-through level.from choices earlies level.choices.items enough.each early is) levels all;
+    late_enough = All-weaker (IsLevel I c cuts k prices line earlies) (IsLevel I c cuts k prices line choices) (λ level is. late-through 0 level.from choices earlies level.choices.items (omega arith) enough.each early is) levels all;
   }
 
 -- more choices serve what fewer do
@@ -173,4 +174,30 @@ module _ (I : Instance) (c : ℕ) (cuts : List PlainCut) (k : ℕ) (prices : Lis
       serves = record { joins = refl; way = refl; count = omega arith; last = omega arith; duration = omega arith; pays = omega arith };
     });
     more = inr refl;
+  }
+
+module _ (I : Instance) (c : ℕ) (cuts : List PlainCut) (k : ℕ) (prices : List ℕ) (line : List Group) where
+  pub late-none : (late : ℕ) → AreLate I c cuts k prices line late [] []
+  late-none late = record { each = All-nil (IsChoice I c cuts k prices line); covered = All-nil (IsCoveredLate I c k prices late []) }
+
+  covered-among : (late : ℕ) (old new : List Choice) → ((h : Choice) → Contains old h → Contains new h) → (g : Choice) → IsCoveredLate I c k prices late old g → IsCoveredLate I c k prices late new g
+  covered-among late old new more g (inl served) = inl (record { other = served.other; held = more served.other served.held; serves = served.serves })
+  covered-among late old new more g (inr vain) = inr vain
+
+  -- what covers two lists of choices
+  pub late-together : (late : ℕ) (choices more lates others : List Choice) → AreLate I c cuts k prices line late choices lates → AreLate I c cuts k prices line late more others → AreLate I c cuts k prices line late (choices ++ more) (lates ++ others)
+  late-together late choices more lates others first second = record {
+    each = All-append (IsChoice I c cuts k prices line) lates others first.each second.each;
+    covered = All-append (IsCoveredLate I c k prices late (lates ++ others)) choices more
+        (All-weaker (IsCoveredLate I c k prices late lates) (IsCoveredLate I c k prices late (lates ++ others)) (covered-among late lates (lates ++ others) (λ h at. Contains-append_left lates others h at)) choices first.covered)
+        (All-weaker (IsCoveredLate I c k prices late others) (IsCoveredLate I c k prices late (lates ++ others)) (covered-among late others (lates ++ others) (λ h at. Contains-append_right lates others h at)) more second.covered);
+  }
+
+  -- choices put to others, and what covers both
+  pub early-together : (to : Option ℕ) (base : Group) (all more earlies others : List Choice) → All (IsChoice I c cuts k prices line) all → HaveMore I c cuts k prices line to base [] more
+      → AreLate I c cuts k prices line 0 all earlies → AreLate I c cuts k prices line 0 more others → HaveEarly I c cuts k prices line to base all (earlies ++ others)
+  early-together to base all more earlies others each have first second = record {
+    more = all ++ more;
+    have = more-together I k prices c cuts line to base all more each have;
+    early = late-together 0 all more earlies others first second;
   }

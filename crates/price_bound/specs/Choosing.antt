@@ -169,6 +169,24 @@ pub record AreSome (I : Instance) (c : ℕ) (cuts : List PlainCut) (k : ℕ) (pr
   pub free : (g : Group) → IsUncut I c cuts g → Keeps I k line None g → IsCovered I c k prices choices None g
   pub own : (p : ℕ) (g : Group) → p < i → IsUncut I c cuts g → Keeps I k line (Some p) g → IsCovered I c k prices choices (Some p) g
 
+-- These choices cover others from minute 0 on: `all`, and choices that cover each uncut group on the base.
+pub record HaveEarly (I : Instance) (c : ℕ) (cuts : List PlainCut) (k : ℕ) (prices : List ℕ) (line : List Group) (to : Option ℕ) (base : Group) (all earlies : List Choice) : Type 0 where
+  pub more : List Choice
+  pub have : HaveMore I c cuts k prices line to base all more
+  pub early : AreLate I c cuts k prices line 0 more earlies
+
+-- these cover choices that are enough for no group, or for the line's groups of the first i places
+pub record AreSomeEarly (I : Instance) (c : ℕ) (cuts : List PlainCut) (k : ℕ) (prices : List ℕ) (line : List Group) (i : ℕ) (earlies : List Choice) : Type 0 where
+  pub choices : List Choice
+  pub some : AreSome I c cuts k prices line i choices
+  pub early : AreLate I c cuts k prices line 0 choices earlies
+
+-- these cover choices that are enough for the line
+pub record AreEarly (I : Instance) (c : ℕ) (cuts : List PlainCut) (k : ℕ) (prices : List ℕ) (line : List Group) (earlies : List Choice) : Type 0 where
+  pub choices : List Choice
+  pub enough : AreChoices I c cuts k prices line choices
+  pub early : AreLate I c cuts k prices line 0 choices earlies
+
 -- a choice that comes next at place p leads to place q
 abbrev pub Leads : Option ℕ → ℕ → ℕ → Type 0
 Leads None p q = p ≡ q

@@ -1,16 +1,18 @@
 //! The groups that may come next in a loose line of a chamber.
-ghost use Rattle.std.specs.Prelude.{◌≡◌, ◌+◌, ◌<◌, ◌≤◌, ◌↔◌, List, [], map, length, All, Contains, IsTrue, IfSome, OnOk, IfOk};
+ghost use Rattle.std.specs.Prelude.{◌≡◌, ◌+◌, ◌<◌, ◌≤◌, ◌↔◌, List, [], ◌++◌, map, length, All, Contains, IsTrue, IfSome, OnOk, IfOk};
 ghost use Rattle.lock_rules.specs.Arrival.{first_ships};
 ghost use Rattle.price_rules.specs.Prices.{IsUncut};
 ghost use Rattle.price_bound.specs.Sparing.{Misses, AreForbidden};
 ghost use Rattle.price_bound.specs.Masks.{AreNears};
 ghost use Rattle.price_bound.specs.Growing.{AreGrown, IsBase};
-ghost use Rattle.price_bound.specs.Choosing.{Keeps, IsChoice, IsBaseOf, HaveMore, PutsGroup, AreSome, AreChoices};
+ghost use Rattle.price_bound.specs.Choosing.{Keeps, IsChoice, IsBaseOf, HaveMore, PutsGroup, AreLate, HaveEarly, AreSomeEarly, AreEarly};
+ghost use Rattle.price_bound.specs.declared.choice.Choice.{Choice as Plain};
 ghost use Rattle.price_bound.specs.Cuts.{plain_cuts};
 
 use crate::choice::Choice;
-use crate::error::PriceError;
+use crate::error::{PriceError, append};
 use crate::growing::{Growth, grown};
+use crate::lateness::late_choices;
 use crate::pruning::{add, few_first, order, put_each};
 use crate::vanity::is_vain;
 use crate::weighing::weighed;
@@ -79,7 +81,36 @@ fn ordered(
     Ok(choices)
 }
 
-// Puts the choices that join a group, or that join none, to the others.
+// The same, but none for which another one serves as well; those of few ships first.
+fn served(
+    alloc: Global,
+    growth: &Growth,
+    base: &Group,
+    joins: Option<u8>,
+) -> Result<Vec<Choice>, PriceError>
+    requires sets { AreForbidden growth.now.case.now.instance.now growth.now.case.now.chamber (plain_cuts growth.now.case.now.instance.now growth.now.case.now.cuts.now) growth.now.sets.now }
+    requires nears { AreNears growth.now.case.now.instance.now growth.now.sets.now (length growth.now.case.now.instance.now.ships) growth.now.nears.now }
+    requires base { IsBaseOf growth.now.case.now.instance.now growth.now.case.now.chamber growth.now.case.now.depth growth.now.case.now.line.now joins base.now }
+    ensures { IfOk result (λ more. HaveMore growth.now.case.now.instance.now growth.now.case.now.chamber (plain_cuts growth.now.case.now.instance.now growth.now.case.now.cuts.now) growth.now.case.now.depth growth.now.case.now.prices.now growth.now.case.now.line.now joins base.now [] more.items) }
+{
+    let more = ordered(alloc, growth, base, joins)?;
+    let mut choices = Vec::new(alloc);
+    put_each(growth.case, &mut choices, &more)?;
+    few_first(&mut choices)?;
+    Ok(choices)
+}
+
+// Appends choices.
+fn append_all(choices: &mut Vec<Choice>, more: &[Choice]) -> Result<(), PriceError>
+    ensures { OnOk result (choices.new.items ≡ choices.old.items ++ more.now) }
+{
+    for choice in more {
+        append(choices, choice.copy())?;
+    }
+    Ok(())
+}
+
+// Appends those of the choices that join a group, or that join none, that are enough.
 fn put_grown(
     alloc: Global,
     growth: &Growth,
@@ -87,14 +118,14 @@ fn put_grown(
     base: &Group,
     joins: Option<u8>,
 ) -> Result<(), PriceError>
-    requires each { All (IsChoice growth.now.case.now.instance.now growth.now.case.now.chamber (plain_cuts growth.now.case.now.instance.now growth.now.case.now.cuts.now) growth.now.case.now.depth growth.now.case.now.prices.now growth.now.case.now.line.now) choices.old.items }
     requires sets { AreForbidden growth.now.case.now.instance.now growth.now.case.now.chamber (plain_cuts growth.now.case.now.instance.now growth.now.case.now.cuts.now) growth.now.sets.now }
     requires nears { AreNears growth.now.case.now.instance.now growth.now.sets.now (length growth.now.case.now.instance.now.ships) growth.now.nears.now }
     requires base { IsBaseOf growth.now.case.now.instance.now growth.now.case.now.chamber growth.now.case.now.depth growth.now.case.now.line.now joins base.now }
-    ensures { OnOk result (HaveMore growth.now.case.now.instance.now growth.now.case.now.chamber (plain_cuts growth.now.case.now.instance.now growth.now.case.now.cuts.now) growth.now.case.now.depth growth.now.case.now.prices.now growth.now.case.now.line.now joins base.now choices.old.items choices.new.items) }
+    ensures { OnOk result ((all : List Plain) → All (IsChoice growth.now.case.now.instance.now growth.now.case.now.chamber (plain_cuts growth.now.case.now.instance.now growth.now.case.now.cuts.now) growth.now.case.now.depth growth.now.case.now.prices.now growth.now.case.now.line.now) all → AreLate growth.now.case.now.instance.now growth.now.case.now.chamber (plain_cuts growth.now.case.now.instance.now growth.now.case.now.cuts.now) growth.now.case.now.depth growth.now.case.now.prices.now growth.now.case.now.line.now 0 all choices.old.items → HaveEarly growth.now.case.now.instance.now growth.now.case.now.chamber (plain_cuts growth.now.case.now.instance.now growth.now.case.now.cuts.now) growth.now.case.now.depth growth.now.case.now.prices.now growth.now.case.now.line.now joins base.now all choices.new.items) }
 {
-    let more = ordered(alloc, growth, base, joins)?;
-    put_each(growth.case, choices, &more)
+    let more = served(alloc, growth, base, joins)?;
+    let enough = late_choices(alloc, growth.case, &more, 0)?;
+    append_all(choices, &enough)
 }
 
 // No ship, of a way.
@@ -111,7 +142,7 @@ fn empty(way: Way) -> Group
 fn free_choices(alloc: Global, growth: &Growth) -> Result<Vec<Choice>, PriceError>
     requires sets { AreForbidden growth.now.case.now.instance.now growth.now.case.now.chamber (plain_cuts growth.now.case.now.instance.now growth.now.case.now.cuts.now) growth.now.sets.now }
     requires nears { AreNears growth.now.case.now.instance.now growth.now.sets.now (length growth.now.case.now.instance.now.ships) growth.now.nears.now }
-    ensures { IfOk result (λ choices. AreSome growth.now.case.now.instance.now growth.now.case.now.chamber (plain_cuts growth.now.case.now.instance.now growth.now.case.now.cuts.now) growth.now.case.now.depth growth.now.case.now.prices.now growth.now.case.now.line.now 0 choices.items) }
+    ensures { IfOk result (λ choices. AreSomeEarly growth.now.case.now.instance.now growth.now.case.now.chamber (plain_cuts growth.now.case.now.instance.now growth.now.case.now.cuts.now) growth.now.case.now.depth growth.now.case.now.prices.now growth.now.case.now.line.now 0 choices.items) }
 {
     let mut choices = Vec::new(alloc);
     put_grown(alloc, growth, &mut choices, &empty(Way::Up), None)?;
@@ -119,29 +150,17 @@ fn free_choices(alloc: Global, growth: &Growth) -> Result<Vec<Choice>, PriceErro
     Ok(choices)
 }
 
-// The same as `choices`, as they are listed.
-fn unordered(alloc: Global, growth: &Growth) -> Result<Vec<Choice>, PriceError>
+/// Uncut groups that are enough for the chamber's line: for each uncut group that keeps one of the
+/// line's groups, or none, one of them serves as well, or it gains nothing.
+pub(crate) fn choices(alloc: Global, growth: &Growth) -> Result<Vec<Choice>, PriceError>
     requires sets { AreForbidden growth.now.case.now.instance.now growth.now.case.now.chamber (plain_cuts growth.now.case.now.instance.now growth.now.case.now.cuts.now) growth.now.sets.now }
     requires nears { AreNears growth.now.case.now.instance.now growth.now.sets.now (length growth.now.case.now.instance.now.ships) growth.now.nears.now }
-    ensures { IfOk result (λ choices. AreChoices growth.now.case.now.instance.now growth.now.case.now.chamber (plain_cuts growth.now.case.now.instance.now growth.now.case.now.cuts.now) growth.now.case.now.depth growth.now.case.now.prices.now growth.now.case.now.line.now choices.items) }
+    ensures { IfOk result (λ choices. AreEarly growth.now.case.now.instance.now growth.now.case.now.chamber (plain_cuts growth.now.case.now.instance.now growth.now.case.now.cuts.now) growth.now.case.now.depth growth.now.case.now.prices.now growth.now.case.now.line.now choices.items) }
 {
     let line = growth.case.line;
     let mut choices = free_choices(alloc, growth)?;
     for place in 0..line.len() {
         put_grown(alloc, growth, &mut choices, &line[place], Some(place as u8))?;
     }
-    Ok(choices)
-}
-
-/// Uncut groups that are enough for the chamber's line: for each uncut group that keeps one of the
-/// line's groups, or none, one of them serves as well, or it gains nothing. Those of few ships come
-/// first.
-pub(crate) fn choices(alloc: Global, growth: &Growth) -> Result<Vec<Choice>, PriceError>
-    requires sets { AreForbidden growth.now.case.now.instance.now growth.now.case.now.chamber (plain_cuts growth.now.case.now.instance.now growth.now.case.now.cuts.now) growth.now.sets.now }
-    requires nears { AreNears growth.now.case.now.instance.now growth.now.sets.now (length growth.now.case.now.instance.now.ships) growth.now.nears.now }
-    ensures { IfOk result (λ choices. AreChoices growth.now.case.now.instance.now growth.now.case.now.chamber (plain_cuts growth.now.case.now.instance.now growth.now.case.now.cuts.now) growth.now.case.now.depth growth.now.case.now.prices.now growth.now.case.now.line.now choices.items) }
-{
-    let mut choices = unordered(alloc, growth)?;
-    few_first(&mut choices)?;
     Ok(choices)
 }

@@ -128,12 +128,15 @@ fn count(
     ensures none { IfNone result (IsCounted table.now.case.now.instance.now table.now.case.now.chamber (plain_cuts table.now.case.now.instance.now table.now.case.now.cuts.now) table.now.case.now.depth table.now.case.now.prices.now table.now.case.now.line.now state.now.stand state.now.minute state.now.place best.new choice.now) }
     ensures some { IfSome result (λ s. (s.place ≤ length table.now.case.now.line.now) × (s.minute < table.now.horizon)) }
 {
-    if is_vain(table.case, choice, state.minute) {
-        return None;
-    }
     match led(choice, state.place) {
         None => None,
-        Some(place) => count_to(table, values, state, best, choice, place),
+        Some(place) => {
+            if is_vain(table.case, choice, state.minute) {
+                None
+            } else {
+                count_to(table, values, state, best, choice, place)
+            }
+        }
     }
 }
 

@@ -142,12 +142,7 @@ fn join_each(
 }
 
 // Joins a ship to each of the groups, where the node lacks it and it has their way.
-fn grow(
-    growth: &Growth,
-    base: &Group,
-    groups: &mut Vec<Group>,
-    ship: u8,
-) -> Result<(), PriceError>
+fn grow(growth: &Growth, base: &Group, groups: &mut Vec<Group>, ship: u8) -> Result<(), PriceError>
     requires nears { AreNears growth.now.case.now.instance.now growth.now.sets.now (length growth.now.case.now.instance.now.ships) growth.now.nears.now }
     requires known { ship < length growth.now.case.now.instance.now.ships }
     requires grown { AreGrown growth.now.case.now.instance.now growth.now.case.now.chamber growth.now.case.now.depth growth.now.sets.now base.now ship groups.old.items }

@@ -1,6 +1,6 @@
 //! The levels of a table: the later it is, the fewer choices are enough.
 ghost use Rattle.std.specs.Prelude.{◌≡◌, ◌≤◌, All, IfOk, OnOk};
-ghost use Rattle.price_bound.specs.Choosing.{IsChoice, IsLevel};
+ghost use Rattle.price_bound.specs.Choosing.{IsChoice, IsLevel, AreLate};
 ghost use Rattle.price_bound.specs.Cuts.{plain_cuts};
 
 use crate::choice::Choice;
@@ -16,6 +16,26 @@ const COUNT: u32 = 5;
 // How many minutes lie between two levels.
 const STEP: u32 = 30;
 
+// Of some choices those that are enough from a minute on, by the last level, where it is no later.
+fn thinned(
+    alloc: Global,
+    case: &LineCase,
+    levels: &[Level],
+    choices: &[Choice],
+    from: u32,
+) -> Result<Vec<Choice>, PriceError>
+    requires each { All (IsChoice case.now.instance.now case.now.chamber (plain_cuts case.now.instance.now case.now.cuts.now) case.now.depth case.now.prices.now case.now.line.now) choices.now }
+    requires levels { All (IsLevel case.now.instance.now case.now.chamber (plain_cuts case.now.instance.now case.now.cuts.now) case.now.depth case.now.prices.now case.now.line.now choices.now) levels.now }
+    ensures { IfOk result (λ lates. AreLate case.now.instance.now case.now.chamber (plain_cuts case.now.instance.now case.now.cuts.now) case.now.depth case.now.prices.now case.now.line.now from choices.now lates.items) }
+{
+    match levels.last() {
+        Some(level) if level.from <= from as u64 => {
+            late_choices(alloc, case, &level.choices, from as u64)
+        }
+        _ => late_choices(alloc, case, choices, from as u64),
+    }
+}
+
 // Appends a level.
 fn add_level(
     alloc: Global,
@@ -28,12 +48,11 @@ fn add_level(
     requires levels { All (IsLevel case.now.instance.now case.now.chamber (plain_cuts case.now.instance.now case.now.cuts.now) case.now.depth case.now.prices.now case.now.line.now choices.now) levels.old.items }
     ensures { OnOk result (All (IsLevel case.now.instance.now case.now.chamber (plain_cuts case.now.instance.now case.now.cuts.now) case.now.depth case.now.prices.now case.now.line.now choices.now) levels.new.items) }
 {
-    let from = from as u64;
-    let lates = late_choices(alloc, case, choices, from)?;
+    let lates = thinned(alloc, case, levels, choices, from)?;
     append(
         levels,
         Level {
-            from,
+            from: from as u64,
             choices: lates,
         },
     )

@@ -9,7 +9,7 @@ use crate::error::{Limits, PriceError};
 use crate::forbidden::{are_spared, forbidden};
 use crate::growing::Growth;
 use crate::horizon::horizon;
-use crate::lateness::{late_choices, latest};
+use crate::lateness::latest;
 use crate::least::value_of;
 use crate::levels::levels;
 use crate::line_case::LineCase;
@@ -70,11 +70,10 @@ pub(crate) fn line_least(
         most: limits.groups,
     };
     let choices = choices(alloc, &growth)?;
-    let earlies = late_choices(alloc, case, &choices, 0)?;
-    let levels = levels(alloc, case, &earlies, latest(&earlies))?;
+    let levels = levels(alloc, case, &choices, latest(&choices))?;
     let table = Table {
         case,
-        choices: &earlies,
+        choices: &choices,
         levels: &levels,
         horizon: horizon(case),
         turns: limits.turns,

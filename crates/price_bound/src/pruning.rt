@@ -47,35 +47,19 @@ pub(crate) fn add(
     append(choices, choice)
 }
 
-// Whether one of the choices from a place on serves as well as a choice.
-fn is_served_from(case: &LineCase, choices: &[Choice], from: usize, choice: &Choice) -> bool
-    requires each { All (IsChoice case.now.instance.now case.now.chamber (plain_cuts case.now.instance.now case.now.cuts.now) case.now.depth case.now.prices.now case.now.line.now) choices.now }
-    requires is { IsChoice case.now.instance.now case.now.chamber (plain_cuts case.now.instance.now case.now.cuts.now) case.now.depth case.now.prices.now case.now.line.now choice.now }
-    ensures { IsTrue result → IsServed case.now.instance.now case.now.depth case.now.prices.now choices.now choice.now.joins choice.now.group }
-{
-    let from = from.min(choices.len());
-    is_served(case, &choices[from..], choice)
-}
-
-// Puts a choice to the others, unless one of those from a place on serves as well.
-fn put(
-    case: &LineCase,
-    choices: &mut Vec<Choice>,
-    from: usize,
-    choice: Choice,
-) -> Result<(), PriceError>
+// Puts a choice to the others, unless one of them serves as well.
+fn put(case: &LineCase, choices: &mut Vec<Choice>, choice: Choice) -> Result<(), PriceError>
     requires each { All (IsChoice case.now.instance.now case.now.chamber (plain_cuts case.now.instance.now case.now.cuts.now) case.now.depth case.now.prices.now case.now.line.now) choices.old.items }
     requires is { IsChoice case.now.instance.now case.now.chamber (plain_cuts case.now.instance.now case.now.cuts.now) case.now.depth case.now.prices.now case.now.line.now choice }
     ensures { OnOk result (HasOne case.now.instance.now case.now.chamber (plain_cuts case.now.instance.now case.now.cuts.now) case.now.depth case.now.prices.now case.now.line.now choice choices.old.items choices.new.items) }
 {
-    if is_served_from(case, choices, from, &choice) {
+    if is_served(case, choices, &choice) {
         return Ok(());
     }
     add(case, choices, choice)
 }
 
-/// Puts choices to the others, one after another, each unless one that was put before serves as well.
-/// None of the others can: they join other groups or have the other way.
+/// Puts choices to the others, one after another, each unless one of them serves as well.
 pub(crate) fn put_each(
     case: &LineCase,
     choices: &mut Vec<Choice>,
@@ -85,9 +69,8 @@ pub(crate) fn put_each(
     requires others { All (IsChoice case.now.instance.now case.now.chamber (plain_cuts case.now.instance.now case.now.cuts.now) case.now.depth case.now.prices.now case.now.line.now) more.now }
     ensures { OnOk result (HavePut case.now.instance.now case.now.chamber (plain_cuts case.now.instance.now case.now.cuts.now) case.now.depth case.now.prices.now case.now.line.now more.now (length more.now) choices.old.items choices.new.items) }
 {
-    let from = choices.len();
     for choice in more {
-        put(case, choices, from, choice.copy())?;
+        put(case, choices, choice.copy())?;
     }
     Ok(())
 }

@@ -23,9 +23,11 @@ fn pays_little(choice: &Choice, minute: u64) -> bool
     requires soon { choice.now.last ≤ 1000000 }
     ensures { IsTrue result → (choice.now.joins ≡ None) × (choice.now.pays ≤ 100 * (length choice.now.group.ships * (max minute choice.now.last + choice.now.duration))) }
 {
+    if choice.joins.is_some() {
+        return false;
+    }
     let soonest = minute.max(choice.last as u64) + choice.duration as u64;
-    let worth = worth_by(choice.group.ships.len() as u64, soonest);
-    choice.joins.is_none() && choice.pays as u64 <= worth
+    choice.pays as u64 <= worth_by(choice.group.ships.len() as u64, soonest)
 }
 
 /// Whether a choice is of missing ships alone that gain nothing, in whatever state they are served from

@@ -1,9 +1,37 @@
+use Rattle.std.proofs.Common.{◌≡◌, ◌+◌, suc, length, Some, sym, subst, arith}
 use Rattle.price_bound.specs.Cuts.{plain_cuts}
-use Rattle.price_bound.proofs.ChoiceLemmas.{choices-ordered}
+use Rattle.price_bound.specs.Choosing.{IsBaseOf, HaveEarly, AreSome, AreSomeEarly}
+use Rattle.price_bound.proofs.ChoiceLemmas.{base-own, own-next, all-some}
 use Rattle.price_bound.proofs.choosing.choices.Goals as goal
+
+pub put_grown-requires-clause-base : goal.put_grown-requires-clause-base
+put_grown-requires-clause-base c =
+    let case = c.args.growth.now.case.now in
+    let I = case.instance.now in
+    subst (IsBaseOf I case.chamber case.depth case.line.now (Some c.loop-place.place)) (sym c.index-line-place.is)
+    (base-own I case.chamber case.depth case.line.now case.good case.kept case.ships_in c.loop-place.place c.index-line-place.result c.loop-place-test.true)
+
+pub loop-place-preserved : goal.loop-place-preserved
+loop-place-preserved c =
+    let case = c.args.growth.now.case.now in
+    let I = case.instance.now in
+    let cuts = plain_cuts I case.cuts.now in
+    let place = c.loop-place.place in
+    let up : suc place ≡ place + 1 = omega arith in
+    let was = c.loop-place.invariant in
+    let now = subst (λ base. HaveEarly I case.chamber cuts case.depth case.prices.now case.line.now (Some place) base was.choices c.put_grown.new.choices.items) c.index-line-place.is (c.in_ok-put_grown.ensures was.choices was.some.each was.early) in
+    subst (λ i. AreSomeEarly I case.chamber cuts case.depth case.prices.now case.line.now i c.put_grown.new.choices.items) up
+    (record { choices = now.more; some = own-next I case.chamber case.depth case.line.now cuts case.prices.now place c.index-line-place.result was.choices now.more c.loop-place-test.true was.some now.have; early = now.early })
 
 pub returns : goal.returns
 returns c =
     let case = c.args.growth.now.case.now in
     let I = case.instance.now in
-    choices-ordered I case.chamber case.depth case.line.now (plain_cuts I case.cuts.now) case.prices.now c.in_ok-choices.choices.items c.few_first.new.choices.items c.in_ok-few_first.ensures c.in_ok-choices.ensures
+    let cuts = plain_cuts I case.cuts.now in
+    let all : c.loop-place.place ≡ length case.line.now = omega (arith, c.loop-place-test.false, c.loop-place.auto.place-end) in
+    let some = c.loop-place.invariant in
+    record {
+      choices = some.choices;
+      enough = all-some I case.chamber case.depth case.line.now cuts case.prices.now some.choices (subst (λ i. AreSome I case.chamber cuts case.depth case.prices.now case.line.now i some.choices) all some.some);
+      early = some.early;
+    }

@@ -2,7 +2,7 @@ use Rattle.std.proofs.Common.{◌≡◌, All, refl, sym, subst, rules}
 use Rattle.lock_model.specs.Fleet.{chamber_at}
 use Rattle.price_bound.specs.Cuts.{plain_cuts}
 use Rattle.price_bound.specs.Sparing.{IsSpared}
-use Rattle.price_bound.specs.Choosing.{AreLate, IsLevel, AreListed}
+use Rattle.price_bound.specs.Choosing.{IsChoice, IsLevel, AreListed}
 use Rattle.price_bound.proofs.FrameLemmas.{spared-uncut, cut-least}
 use Rattle.price_bound.proofs.LateLemmas.{listed-by}
 use Rattle.price_bound.proofs.line_least.line_least.Goals as goal
@@ -28,20 +28,25 @@ invariant_of-table c =
       small = c.horizon.ensures.small;
     }
 
+pub levels-requires : goal.levels-requires
+levels-requires c =
+    let case = c.args.case.now in
+    let I = case.instance.now in
+    let same : c.deref-6.result.now ≡ c.in_ok-choices.choices.items = search rules in
+    record { each = subst (All (IsChoice I case.chamber (plain_cuts I case.cuts.now) case.depth case.prices.now case.line.now)) (sym same) c.in_ok-choices.ensures.early.each }
+
 pub line_by-requires : goal.line_by-requires
 line_by-requires c =
     let case = c.args.case.now in
     let I = case.instance.now in
     let cuts = plain_cuts I case.cuts.now in
     let choices = c.in_ok-choices.choices.items in
-    let earlies = c.in_ok-earlies.earlies.items in
     let levels = c.in_ok-levels.levels.items in
-    let all : c.deref-6.result.now ≡ choices = search rules in
-    let few : c.deref-7.result.now ≡ earlies = search rules in
-    let looked : c.deref-9.result.now ≡ earlies = search rules in
-    let later : c.deref-10.result.now ≡ levels = search rules in
-    let early = subst (λ choices. AreLate I case.chamber cuts case.depth case.prices.now case.line.now 0 choices earlies) all c.in_ok-earlies.ensures in
-    let each = subst (λ earlies. All (IsLevel I case.chamber cuts case.depth case.prices.now case.line.now earlies) levels) few c.in_ok-levels.ensures in
-    let listed = listed-by I case.chamber case.chamber_in cuts case.depth case.prices.now case.line.now choices earlies levels c.in_ok-choices.ensures early each in
-    subst (λ levels. AreListed I case.chamber cuts case.depth case.prices.now case.line.now c.deref-9.result.now levels) (sym later)
-    (subst (λ earlies. AreListed I case.chamber cuts case.depth case.prices.now case.line.now earlies levels) (sym looked) listed)
+    let early = c.in_ok-choices.ensures in
+    let thinned : c.deref-6.result.now ≡ choices = search rules in
+    let looked : c.deref-8.result.now ≡ choices = search rules in
+    let later : c.deref-9.result.now ≡ levels = search rules in
+    let each = subst (λ choices. All (IsLevel I case.chamber cuts case.depth case.prices.now case.line.now choices) levels) thinned c.in_ok-levels.ensures in
+    let listed = listed-by I case.chamber case.chamber_in cuts case.depth case.prices.now case.line.now early.choices choices levels early.enough early.early each in
+    subst (λ levels. AreListed I case.chamber cuts case.depth case.prices.now case.line.now c.deref-8.result.now levels) (sym later)
+    (subst (λ choices. AreListed I case.chamber cuts case.depth case.prices.now case.line.now choices levels) (sym looked) listed)

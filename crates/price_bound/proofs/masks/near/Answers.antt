@@ -1,5 +1,3 @@
-use Rattle.std.proofs.Common.{◌≡◌, [], ◌∷◌, subst}
-use Rattle.price_bound.specs.Masks.{IsMask}
 use Rattle.price_bound.proofs.MaskLemmas.{having-done}
 use Rattle.price_bound.proofs.masks.near.Goals as goal
 

@@ -1,6 +1,0 @@
-use Rattle.price_bound.specs.Cuts.{plain_cuts}
-use Rattle.price_bound.specs.Choosing.{AreSome}
-use Rattle.price_bound.proofs.choosing.unordered.Given as goal
-
-abbrev pub invariant-loop-place : goal.invariant-loop-place
-invariant-loop-place l = AreSome l.growth.case.now.instance.now l.growth.case.now.chamber (plain_cuts l.growth.case.now.instance.now l.growth.case.now.cuts.now) l.growth.case.now.depth l.growth.case.now.prices.now l.growth.case.now.line.now l.place l.choices.items
