@@ -15,10 +15,11 @@ use crate::closing::Claim;
 use crate::cuts::first_unproved;
 use crate::prices::{chamber_cuts, first_misshaped};
 use crate::reading::read_tree;
+use crate::workspace::Workspace;
 use certificate_rules::{FailurePlace, Mark, Reason};
 use chamber_times::cost;
 use deck_laws::{heredity, normal_form};
-use flow_bounds::{NodeWalks, Roster, throughput};
+use flow_bounds::{Roster, throughput};
 use lock_model::{Instance, Plan};
 use master_branch::root;
 use mooring_rules::judge_plan;
@@ -43,12 +44,16 @@ fn costs(instance: &Instance, plan: &Plan, wanted: u64) -> bool
 
 // The first failure of the marks, by the number of the mark where it comes. None where they are
 // one tree of the root.
-fn first_wrong_mark(claim: &Claim, marks: &[Mark]) -> Result<Option<(u64, Reason)>, NoMemory>
+fn first_wrong_mark(
+    alloc: Global,
+    claim: &Claim,
+    marks: &[Mark],
+) -> Result<Option<(u64, Reason)>, NoMemory>
     ensures none { IfOk result (λ first. IfNone first (IsMarkTree claim.now.instance.now Mark.Split (Closes claim.now.instance.now claim.now.cost claim.now.cuts.now claim.now.prices.now) (length claim.now.instance.now.ships) 0 root_lines marks.now [])) }
     ensures some { IfOk result (λ first. IfSome first (λ f. FailAtMark claim.now.instance.now claim.now.cost claim.now.cuts.now claim.now.prices.now marks.now f.0 f.1)) }
 {
-    let mut walks = NodeWalks::new();
-    match read_tree(claim, &root(claim.instance), marks, &mut walks)? {
+    let mut space = Workspace::new(alloc);
+    match read_tree(claim, &root(claim.instance), marks, &mut space)? {
         Ok([]) => Ok(None),
         Ok(rest) => Ok(Some(((marks.len() - rest.len()) as u64, Reason::TreeLong))),
         Err(stuck) => Ok(Some(((marks.len() - stuck.marks.len()) as u64, stuck.reason))),
@@ -69,7 +74,6 @@ fn first_wrong_mark_of(
     let cuts = certificate.cuts.as_slice();
     let chamber_cuts = chamber_cuts(alloc, instance, cuts)?;
     let claim = Claim {
-        alloc,
         instance,
         roster: &roster,
         throughput: throughput(instance),
@@ -78,7 +82,7 @@ fn first_wrong_mark_of(
         prices: certificate.prices.as_slice(),
         chamber_cuts: chamber_cuts.as_slice(),
     };
-    first_wrong_mark(&claim, certificate.tree.as_slice())
+    first_wrong_mark(alloc, &claim, certificate.tree.as_slice())
 }
 
 /// The first failure of what comes before the marks of a certificate: its plan, then its cost in

@@ -13,21 +13,20 @@ ghost use Rattle.certificate_rules.specs.Failures.{ground_reason, reason_of};
 
 use crate::certificate::CertCut;
 use crate::hitting::hits_node;
+use crate::workspace::Workspace;
 use certificate_rules::{Mark, Reason};
 use closing_rules::Ground;
-use flow_bounds::{NodeWalks, Roster, bound, children_reaching, is_missing, probe};
+use flow_bounds::{Roster, bound, children_reaching, is_missing, probe};
 use lock_model::Instance;
 use master_branch::{Node, steps_by};
 use plain_text::NoMemory;
 use price_bound::{ChamberCut, Limits, PricedNode, Prices, reaches};
-use std::alloc::Global;
 
 /// What the marks of a certificate are held against: the instance, its roster and its throughput, and
 /// the cost in minutes, the prices and the cuts of the certificate, each cut about a chamber and ships
 /// of the instance, and the cuts as prices see them.
 #[derive(Drop)]
 pub struct Claim<'c> {
-    pub alloc: Global,
     pub instance: &'c Instance,
     pub roster: &'c Roster,
     pub throughput: u64,
@@ -59,7 +58,7 @@ fn is_next(claim: &Claim, node: &Node, ship: u8) -> bool
 }
 
 // Whether the bounds of all children of a node reach the cost; `ship` is the one that it lacks first.
-fn all_reach(claim: &Claim, node: &Node, ship: u8, walks: &mut NodeWalks) -> bool
+fn all_reach(claim: &Claim, node: &Node, ship: u8, space: &mut Workspace) -> bool
     requires node { IsNodeOf claim.now.instance.now node.now }
     requires lacks { node.now.depth < length claim.now.instance.now.ships }
     requires next { ship ≡ next_ship claim.now.instance.now node.now.depth }
@@ -72,19 +71,19 @@ fn all_reach(claim: &Claim, node: &Node, ship: u8, walks: &mut NodeWalks) -> boo
         node,
         &steps,
         claim.cost,
-        walks,
+        &mut space.walks,
     )
     .all()
 }
 
 // Whether the node lacks this ship, and its probe reaches the cost. Of the ship that it lacks first
 // the roster spares work, and nearly all that are asked for are that one.
-fn is_probed(claim: &Claim, node: &Node, ship: u8, walks: &mut NodeWalks) -> bool
+fn is_probed(claim: &Claim, node: &Node, ship: u8, space: &mut Workspace) -> bool
     requires { IsNodeOf claim.now.instance.now node.now }
     ensures { IsTrue result ↔ Closes claim.now.instance.now claim.now.cost claim.now.cuts.now claim.now.prices.now node.now.depth node.now.lines (Mark.Leaf (Ground.Probe ship)) }
 {
     if is_next(claim, node, ship) {
-        return all_reach(claim, node, ship, walks);
+        return all_reach(claim, node, ship, space);
     }
     is_missing(claim.instance, node, ship) && probe(claim.instance, node, ship) >= claim.cost
 }
@@ -96,7 +95,12 @@ const NO_LIMITS: Limits = Limits {
 };
 
 // Whether there are prices of this number, and the node reaches the cost by them and the cuts.
-fn is_priced_by(claim: &Claim, node: &Node, number: u64) -> Result<bool, NoMemory>
+fn is_priced_by(
+    claim: &Claim,
+    node: &Node,
+    number: u64,
+    space: &mut Workspace,
+) -> Result<bool, NoMemory>
     requires { IsNodeOf claim.now.instance.now node.now }
     ensures { IfOk result (λ priced. IsTrue priced ↔ Closes claim.now.instance.now claim.now.cost claim.now.cuts.now claim.now.prices.now node.now.depth node.now.lines (Mark.Leaf (Ground.Price number))) }
 {
@@ -109,7 +113,7 @@ fn is_priced_by(claim: &Claim, node: &Node, number: u64) -> Result<bool, NoMemor
         prices: &claim.prices[number as usize],
         cuts: claim.chamber_cuts,
     };
-    match reaches(claim.alloc, &asked, claim.cost, NO_LIMITS) {
+    match reaches(&mut space.kept, &asked, claim.cost, NO_LIMITS) {
         Ok(reached) => Ok(reached),
         Err(_) => Err(NoMemory),
     }
@@ -120,7 +124,7 @@ fn is_closed_by(
     claim: &Claim,
     node: &Node,
     why: Ground,
-    walks: &mut NodeWalks,
+    space: &mut Workspace,
 ) -> Result<bool, NoMemory>
     requires { IsNodeOf claim.now.instance.now node.now }
     ensures { IfOk result (λ closed. IsTrue closed ↔ Closes claim.now.instance.now claim.now.cost claim.now.cuts.now claim.now.prices.now node.now.depth node.now.lines (Mark.Leaf why)) }
@@ -128,9 +132,9 @@ fn is_closed_by(
     match why {
         Ground::Bound => Ok(bound(claim.instance, node) >= claim.cost),
         Ground::Throughput => Ok(claim.throughput >= claim.cost),
-        Ground::Probe(ship) => Ok(is_probed(claim, node, ship, walks)),
+        Ground::Probe(ship) => Ok(is_probed(claim, node, ship, space)),
         Ground::Cut(number) => Ok(is_cut_by(claim, node, number)),
-        Ground::Price(number) => is_priced_by(claim, node, number),
+        Ground::Price(number) => is_priced_by(claim, node, number, space),
     }
 }
 
@@ -139,14 +143,14 @@ pub fn closes(
     claim: &Claim,
     node: &Node,
     mark: Mark,
-    walks: &mut NodeWalks,
+    space: &mut Workspace,
 ) -> Result<bool, NoMemory>
     requires { IsNodeOf claim.now.instance.now node.now }
     ensures { IfOk result (λ closed. IsTrue closed ↔ Closes claim.now.instance.now claim.now.cost claim.now.cuts.now claim.now.prices.now node.now.depth node.now.lines mark) }
 {
     match mark {
         Mark::Split => Ok(false),
-        Mark::Leaf(why) => is_closed_by(claim, node, why, walks),
+        Mark::Leaf(why) => is_closed_by(claim, node, why, space),
     }
 }
 

@@ -28,6 +28,7 @@ mod laws;
 mod prices;
 mod reading;
 mod splitting;
+mod workspace;
 
 pub use certificate::{Answer, CertCut, CertCuts, Certificate, MarkList, PriceLists};
 pub use certificate_rules::{FailurePlace, Mark, Reason};
@@ -37,3 +38,4 @@ pub use closing_rules::Ground;
 pub use laws::one_first_failure;
 pub use prices::chamber_cuts;
 pub use splitting::{SplitNode, child_of, child_reaches, count_children, split};
+pub use workspace::Workspace;

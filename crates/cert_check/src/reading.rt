@@ -9,9 +9,9 @@ ghost use Rattle.cert_check.specs.Splitting.{IsSplit};
 
 use crate::closing::{Claim, closes, reason_against};
 use crate::splitting::{SplitNode, child_of, child_reaches, count_children, split};
+use crate::workspace::Workspace;
 use certificate_rules::{Mark, Reason};
 use closing_rules::Ground;
-use flow_bounds::NodeWalks;
 use lock_model::Instance;
 use master_branch::Node;
 use plain_text::NoMemory;
@@ -61,14 +61,14 @@ fn read_made_child<'m>(
     parent: &SplitNode<'_>,
     i: u32,
     marks: &'m [Mark],
-    walks: &mut NodeWalks,
+    space: &mut Workspace,
 ) -> Result<Reading<'m>, NoMemory>
     requires split { IsSplit claim.now parent.now }
     requires within { i < length (children claim.now.instance.now parent.now.node.now) }
     ensures read { IfOk result (λ reading. IfOk reading (λ rest. IsChildRead claim.now parent.now.node.now i marks.now rest.now)) }
     ensures stuck { IfOk result (λ reading. IfErr reading (λ stuck. IsChildStuck claim.now parent.now.node.now i marks.now stuck.marks.now stuck.reason)) }
 {
-    read_tree(claim, &child_of(claim, parent, i), marks, walks)
+    read_tree(claim, &child_of(claim, parent, i), marks, space)
 }
 
 // Reads a tree of child `i` of a split node: the marks behind it. The child isn't made where its
@@ -79,7 +79,7 @@ fn read_child<'m>(
     parent: &SplitNode<'_>,
     i: u32,
     marks: &'m [Mark],
-    walks: &mut NodeWalks,
+    space: &mut Workspace,
 ) -> Result<Reading<'m>, NoMemory>
     requires split { IsSplit claim.now parent.now }
     requires within { i < length (children claim.now.instance.now parent.now.node.now) }
@@ -95,7 +95,7 @@ fn read_child<'m>(
             reason: Reason::BoundLow,
         }));
     }
-    read_made_child(claim, parent, i, marks, walks)
+    read_made_child(claim, parent, i, marks, space)
 }
 
 // Reads trees of all children of a node: the marks behind them.
@@ -104,17 +104,17 @@ fn read_children<'m>(
     claim: &Claim,
     node: &Node,
     marks: &'m [Mark],
-    walks: &mut NodeWalks,
+    space: &mut Workspace,
 ) -> Result<Reading<'m>, NoMemory>
     requires node { IsNodeOf claim.now.instance.now node.now }
     requires lacks { node.now.depth < length claim.now.instance.now.ships }
     ensures read { IfOk result (λ reading. IfOk reading (λ rest. AreRead claim.now node.now (length (children claim.now.instance.now node.now)) marks.now rest.now)) }
     ensures stuck { IfOk result (λ reading. IfErr reading (λ stuck. AreStuck claim.now node.now marks.now stuck.marks.now stuck.reason)) }
 {
-    let parent = split(claim, node, walks);
+    let parent = split(claim, node, &mut space.walks);
     let mut rest = marks;
     for i in 0..count_children(claim, &parent) {
-        match read_child(claim, &parent, i, rest, walks)? {
+        match read_child(claim, &parent, i, rest, space)? {
             Ok(behind) => rest = behind,
             Err(stuck) => return Ok(Err(stuck)),
         }
@@ -129,7 +129,7 @@ pub(crate) fn read_tree<'m>(
     claim: &Claim,
     node: &Node,
     marks: &'m [Mark],
-    walks: &mut NodeWalks,
+    space: &mut Workspace,
 ) -> Result<Reading<'m>, NoMemory>
     requires { IsNodeOf claim.now.instance.now node.now }
     ensures read { IfOk result (λ reading. IfOk reading (λ rest. IsRead claim.now node.now marks.now rest.now)) }
@@ -142,9 +142,9 @@ pub(crate) fn read_tree<'m>(
         }));
     };
     if splits(claim.instance, node, mark) {
-        return read_children(claim, node, rest, walks);
+        return read_children(claim, node, rest, space);
     }
-    if closes(claim, node, mark, walks)? {
+    if closes(claim, node, mark, space)? {
         return Ok(Ok(rest));
     }
     Ok(Err(Stuck {

@@ -7,8 +7,8 @@
 //! its book, and closes the node where prices reach the best cost. At the first node that prices can
 //! serve, mostly the root, many rounds are made, at any other few.
 //!
-//! Nothing is claimed of prices: what a node reaches by them is worked out again by who closes it
-//! (`price_bound::show`). So a round promises no more than that its parts are of their types, and that
+//! Nothing is claimed of prices: what a node reaches by them is shown to who closes it (`Pricing::show`).
+//! So a round promises no more than that its parts are of their types, and that
 //! a search comes to an end: all rounds together are limited.
 //!
 //! - `pricing`: what is kept, `offers`: what nodes leave to those below them. `round`: one round. `placing`: groups of loose lines, placed.

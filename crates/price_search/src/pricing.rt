@@ -1,11 +1,15 @@
 //! Prices that are kept from node to node.
-ghost use Rattle.std.specs.Prelude.{◌≡◌, ◌≤◌, ◌↔◌, IsTrue};
+ghost use Rattle.std.specs.Prelude.{◌≡◌, ◌≤◌, ◌↔◌, IsTrue, IfSome};
+ghost use Rattle.master_branch.specs.Node.{IsNodeOf};
 ghost use Rattle.price_search.specs.Serving.{MayServe};
 
 use crate::appending::append;
 use crate::offers::Offer;
+use crate::round::LIMITS;
+use lock_model::Instance;
+use master_branch::Node;
 use plain_text::NoMemory;
-use price_bound::{ChamberCut, Prices};
+use price_bound::{ChamberCut, KeptLines, PricedNode, Prices, Shown, show};
 use price_raise::{Ascent, Pace};
 use std::alloc::Global;
 
@@ -37,19 +41,14 @@ const PACE: Pace = Pace {
 fn copy_cuts(alloc: Global, cuts: &[ChamberCut]) -> Result<Vec<ChamberCut>, NoMemory> {
     let mut copies = Vec::new(alloc);
     for cut in cuts {
-        append(
-            &mut copies,
-            ChamberCut {
-                chamber: cut.chamber,
-                ships: cut.ships.copy(),
-            },
-        )?;
+        append(&mut copies, cut.copy())?;
     }
     Ok(copies)
 }
 
 /// The prices of the nodes on the way from the root to the one in hand, those that are raised at the
-/// node in hand, the first cuts of the book, and how many rounds may be made still.
+/// node in hand, the first cuts of the book, how many rounds may be made still, and least lines that
+/// are kept from call to call.
 #[derive(Debug, Drop)]
 pub struct Pricing {
     pub(crate) path: Vec<Offer>,
@@ -58,6 +57,7 @@ pub struct Pricing {
     pub(crate) is_first: bool,
     pub(crate) from: u8,
     pub(crate) cuts: Vec<ChamberCut>,
+    pub(crate) kept: KeptLines,
 }
 
 impl Pricing {
@@ -73,6 +73,7 @@ impl Pricing {
             is_first: true,
             from: 0,
             cuts: Vec::new(alloc),
+            kept: KeptLines::new(alloc),
         })
     }
 
@@ -161,6 +162,7 @@ impl Pricing {
             is_first: self.is_first,
             from: self.from,
             cuts: copy_cuts(alloc, &self.cuts)?,
+            kept: KeptLines::new(alloc),
         })
     }
 
@@ -180,6 +182,30 @@ impl Pricing {
     /// The first cuts of the book, as prices see them.
     pub fn cuts(&self) -> &[ChamberCut] {
         self.cuts.as_slice()
+    }
+
+    /// Shows that a node reaches a cost, in minutes, by these prices and the book's first cuts. None where
+    /// it doesn't, where that takes more than `LIMITS`, or for want of memory.
+    pub fn show<'a>(
+        &'a mut self,
+        instance: &'a Instance,
+        node: &'a Node,
+        prices: &'a Prices,
+        cost: u64,
+    ) -> Option<Shown<'a>>
+        requires { IsNodeOf instance.now node.now }
+        ensures { IfSome result (λ shown. (shown.instance ≡ instance.now) × (shown.node ≡ node.now) × (shown.prices ≡ prices.now) × (shown.cost ≡ cost)) }
+    {
+        let asked = PricedNode {
+            instance,
+            node,
+            prices,
+            cuts: self.cuts.as_slice(),
+        };
+        match show(&mut self.kept, &asked, cost, LIMITS) {
+            Ok(shown) => shown,
+            Err(_) => None,
+        }
     }
 
     /// The number under which the book keeps these prices, where they are those of the node above and

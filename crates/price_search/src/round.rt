@@ -174,7 +174,7 @@ impl Pricing {
             return Ok(round_of(alloc, RoundEnd::Open));
         }
         self.left -= 1;
-        match self.least(alloc, asked)? {
+        match self.least(asked)? {
             Least::TooMany => {
                 self.from = asked.node.depth().saturating_add(1);
                 Ok(round_of(alloc, RoundEnd::Open))
@@ -187,14 +187,14 @@ impl Pricing {
     }
 
     // The least lines of the node by the prices that are tried.
-    fn least<K: KnownCuts>(&self, alloc: Global, asked: &Asked<'_, K>) -> Result<Least, NoMemory> {
+    fn least<K: KnownCuts>(&mut self, asked: &Asked<'_, K>) -> Result<Least, NoMemory> {
         let priced = PricedNode {
             instance: asked.search.instance,
             node: asked.node,
             prices: self.ascent.tried(),
             cuts: self.cuts.as_slice(),
         };
-        match least_lines(alloc, &priced, LIMITS) {
+        match least_lines(&mut self.kept, &priced, LIMITS) {
             Ok(Some(lines)) => Ok(Least::Lines(lines)),
             Ok(None) => Ok(Least::NoLine),
             Err(PriceError::TooMany) => Ok(Least::TooMany),

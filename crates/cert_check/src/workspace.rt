@@ -1,0 +1,23 @@
+//! What one mark leaves to the next.
+
+use flow_bounds::NodeWalks;
+use price_bound::KeptLines;
+use std::alloc::Global;
+
+/// Room for walks along the lines of a node, and least lines that are kept for the next price marks.
+/// Both help speed alone.
+#[derive(Drop)]
+pub struct Workspace {
+    pub walks: NodeWalks,
+    pub kept: KeptLines,
+}
+
+impl Workspace {
+    /// Nothing is kept yet.
+    pub fn new(alloc: Global) -> Workspace {
+        Workspace {
+            walks: NodeWalks::new(),
+            kept: KeptLines::new(alloc),
+        }
+    }
+}
