@@ -1,5 +1,5 @@
 -- A node whose groups are made of the first ships, each once, is a node of the instance.
-use Rattle.std.proofs.Common.{◌≡◌, ℕ, zero, suc, ◌+◌, ◌<◌, ◌≤◌, List, [], ◌∷◌, length, ◌++◌, take, min, All, Contains, cond, nat_eq, slice_index_or, refl, sym, ap, ◌∙◌, subst, arith, inl, inr, length-append}
+use Rattle.std.proofs.Common.{◌≡◌, ℕ, zero, suc, ◌+◌, ◌<◌, ◌≤◌, List, [], ◌∷◌, length, take, min, All, Contains, cond, nat_eq, slice_index_or, refl, sym, ap, ◌∙◌, subst, arith, inl, inr}
 use Rattle.std.proofs.lemmas.Bool.Decides.{eqb_tells, leb_tells}
 use Rattle.std.proofs.lemmas.List.{get_or_past, get_or_default, length-take}
 use Rattle.std.proofs.lemmas.List.Elements.{All-head, All-tail, All-weaker}
@@ -10,10 +10,11 @@ use Rattle.lock_model.specs.declared.group.Group.{Group}
 use Rattle.lock_model.specs.declared.way.Way.{Way}
 use Rattle.lock_rules.specs.Plan.{times_in}
 use Rattle.lock_rules.specs.Arrival.{order_of, first_ships}
-use Rattle.lock_rules.specs.Node.{line_at, times_on, times_held, size_on, size_held, KeepsNode, IsNode, IsNodeGroup}
-use Rattle.lock_rules.proofs.CountLemmas.{without, times_in-without, sum_by-without, times_in-append}
+use Rattle.lock_rules.specs.Node.{line_at, times_on, times_held, KeepsNode, IsNode, IsNodeGroup}
+use Rattle.lock_rules.proofs.CountLemmas.{without, times_in-without, sum_by-without}
 use Rattle.lock_rules.proofs.TreeLemmas.{times_in-hit, times_in-miss}
 use Rattle.lock_rules.proofs.ChildLemmas.{times_on-held}
+use Rattle.lock_rules.proofs.SizeLemmas.{lines_ships, times_in-lines, length-lines}
 use Rattle.lock_rules.proofs.SplitLemmas.{length-order, order-known, times_in-at}
 use Rattle.lock_rules.proofs.ThroughputLemmas.{length-sum}
 use Rattle.closing_rules.proofs.LawLemmas.{contains-times}
@@ -36,31 +37,6 @@ same-counts (x ∷ xs) ys long few s =
     let parts = times_in-without x s ys some in
     let goal : cond (nat_eq x s) 1 0 + times_in xs s ≡ times_in ys s = omega (arith, rest, parts) in
     goal
-
--- the ships of a line, and of lines
-abbrev on_line : List Group → List ℕ
-on_line [] = []
-on_line (g ∷ gs) = g.ships ++ on_line gs
-
-abbrev on_lines : List (List Group) → List ℕ
-on_lines [] = []
-on_lines (line ∷ lines) = on_line line ++ on_lines lines
-
-times-line : (s : ℕ) (gs : List Group) → times_in (on_line gs) s ≡ times_on s gs
-times-line s [] = refl
-times-line s (g ∷ gs) = times_in-append g.ships (on_line gs) s ∙ ap (λ n. times_in g.ships s + n) (times-line s gs)
-
-times-lines : (s : ℕ) (lines : List (List Group)) → times_in (on_lines lines) s ≡ times_held s lines
-times-lines s [] = refl
-times-lines s (line ∷ lines) = omega (arith, times_in-append (on_line line) (on_lines lines) s, times-line s line, times-lines s lines)
-
-long-line : (gs : List Group) → length (on_line gs) ≡ size_on gs
-long-line [] = refl
-long-line (g ∷ gs) = omega (arith, length-append g.ships (on_line gs), long-line gs)
-
-long-lines : (lines : List (List Group)) → length (on_lines lines) ≡ size_held lines
-long-lines [] = refl
-long-lines (line ∷ lines) = omega (arith, length-append (on_line line) (on_lines lines), long-line line, long-lines lines)
 
 times-contains : (xs : List ℕ) (s : ℕ) → 1 ≤ times_in xs s → Contains xs s
 times-contains [] s some = absurd (omega (arith, some))
@@ -126,13 +102,13 @@ module _ (I : Instance) (k : ℕ) (lines : List (List Group)) (keeps : KeepsNode
       | inr inside ↦ All-weaker (IsOwnGroup I (first_ships I k) (chamber_at I c).most) (λ (g : Group). All (IsOwnShip I (first_ships I k) g.way) g.ships) (λ g h. h.ships) (line_at lines c) (group-own c (let less = inside.1 in omega (arith, less)))
     ]
 
-    held-few : (s : ℕ) → times_in (on_lines lines) s ≤ times_in (first_ships I k) s
+    held-few : (s : ℕ) → times_in (lines_ships lines) s ≤ times_in (first_ships I k) s
     held-few s = elim (leb_tells 1 (times_held s lines)) [
       | inl here ↦
           let once = keeps.once s in
           let among = lines-among I (first_ships I k) lines s all-among here.1 in
-          omega (arith, times-lines s lines, once, among)
-      | inr none ↦ let past = none.1 in omega (arith, times-lines s lines, past)
+          omega (arith, times_in-lines s lines, once, among)
+      | inr none ↦ let past = none.1 in omega (arith, times_in-lines s lines, past)
     ]
 
     pub own_node : IsNode I k lines
@@ -142,8 +118,8 @@ module _ (I : Instance) (k : ℕ) (lines : List (List Group)) (keeps : KeepsNode
       held = λ s.
           let long : length (first_ships I k) ≡ min k (length (order_of I)) = length-take k (order_of I) in
           let size = keeps.depth in
-          let same : length (on_lines lines) ≡ length (first_ships I k) = omega (arith, long, size, deep, long-lines lines) in
-          sym (times-lines s lines) ∙ same-counts (on_lines lines) (first_ships I k) same held-few s;
+          let same : length (lines_ships lines) ≡ length (first_ships I k) = omega (arith, long, size, deep, length-lines lines) in
+          sym (times_in-lines s lines) ∙ same-counts (lines_ships lines) (first_ships I k) same held-few s;
       groups = λ c inside. All-weaker (IsOwnGroup I (first_ships I k) (chamber_at I c).most) (IsNodeGroup I c) (λ g h. record {
         rising = h.rising;
         count = h.count;

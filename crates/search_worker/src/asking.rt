@@ -1,5 +1,5 @@
 //! What a worker asks of the shared book, under its lock, and of the word beside it.
-ghost use Rattle.std.specs.Prelude.{◌≡◌, ◌<◌, length};
+ghost use Rattle.std.specs.Prelude.{◌<◌, length};
 ghost use Rattle.search_book.specs.Events.{IsAllowed};
 ghost use Rattle.search_worker.specs.Serving.{Serves};
 

@@ -1,6 +1,4 @@
 //! How the node in the worker's hand ends.
-ghost use Rattle.std.specs.Prelude.{◌≡◌};
-ghost use Rattle.search_book.specs.Events.{IsAllowed};
 ghost use Rattle.search_worker.specs.Ending.{MayEnd};
 ghost use Rattle.search_worker.specs.Serving.{Serves};
 

@@ -1,5 +1,5 @@
 //! The cuts that workers know of.
-ghost use Rattle.std.specs.Prelude.{ℕ, ◌≡◌, ◌<◌, ⊤, List, length, All};
+ghost use Rattle.std.specs.Prelude.{◌<◌, ⊤, All};
 ghost use Rattle.boxcar.specs.Table.{Shows};
 
 use cut_pool::{Pool, Tokens};

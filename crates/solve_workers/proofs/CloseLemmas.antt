@@ -1,5 +1,5 @@
 -- Closing the held slot.
-use Rattle.std.proofs.Common.{◌≡◌, ℕ, ◌≤◌, refl, sym, ap, ◌∙◌, subst, Bool, true, false, not, cond, slice_get, Some, None, true≢false}
+use Rattle.std.proofs.Common.{◌≡◌, ℕ, refl, sym, ap, ◌∙◌, subst, Bool, true, false, not, cond, slice_get, Some, None, true≢false}
 use Rattle.std.proofs.lemmas.Bool.{not_from_true}
 use Rattle.std.specs.declared.option.Option.{Option}
 use Rattle.lock_rules.specs.Arrival.{missing_ships}
@@ -36,7 +36,7 @@ pub data CloseOut (b : Book) (id : ℕ) (out : Out) : Type 0 where
 
 module _ (b : Book) (id : ℕ) (why : Ground) where
   -- a refusal closes nothing
-  refusing : (r : Answer) → machine.is_accepted r ≡ false → closes r ≡ false
+  refusing : (r : Answer) → machine.is_acceptance r ≡ false → closes r ≡ false
   refusing machine.Closed e = absurd (true≢false e)
   refusing _ e = refl
 

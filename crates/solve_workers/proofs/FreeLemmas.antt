@@ -1,6 +1,7 @@
 -- A slot that is no longer held.
-use Rattle.std.proofs.Common.{◌≡◌, ℕ, zero, suc, ◌<◌, ◌≤◌, List, [], ◌∷◌, length, inl, inr, refl, ap, ◌∙◌, arith, Bool, true, false, cond, ◌||◌, slice_index_or, true≢false}
+use Rattle.std.proofs.Common.{◌≡◌, ℕ, suc, ◌<◌, length, inl, inr, ap, ◌∙◌, arith, Bool, true, false, ◌||◌, slice_index_or, true≢false}
 use Rattle.std.proofs.lemmas.Bool.Decides.{leb_tells}
+use Rattle.std.proofs.lemmas.List.{get_or_past}
 use Rattle.book_rules.specs.declared.book.SlotState.{SlotState}
 use Rattle.book_rules.specs.declared.book.SlotState.TheVariants as slot
 use Rattle.book_rules.specs.Book.{Book, Slot, Node, no_slot, slot_at, is_held, is_parked}
@@ -8,19 +9,15 @@ use Rattle.book_rules.specs.Ends.{HasNone, HoldsNothing}
 use Rattle.book_rules.specs.Step
 use Rattle.book_rules.proofs.MoveLemmas.{state-known}
 use Rattle.book_rules.proofs.TurnLemmas.{turned-at, split-at, Turned, Untouched, Parent, Old, Child, Past}
+use Rattle.book_rules.proofs.WorkerLemmas.{new-free}
 use Rattle.solve_workers.specs.Holding.{HoldsOnly}
 use Rattle.closing_rules.specs.declared.grounds.Ground.TheVariants as by
-
-past-end : (xs : List Slot) (k : ℕ) → length xs ≤ k → slice_index_or xs k no_slot ≡ no_slot
-past-end [] k h = refl
-past-end (x ∷ xs) zero h = absurd (omega (arith, h))
-past-end (x ∷ xs) (suc k) h = past-end xs k (omega (arith, h))
 
 -- of any number, also one of no slot
 pub none-at : (b : Book) (test : SlotState → Bool) → test (slot.Closed by.Bound) ≡ false → HasNone b test → (k : ℕ) → test (slot_at b k).state ≡ false
 none-at b test plain has k = elim (leb_tells (suc k) (length b.slots)) [
   | inl y ↦ has.none k y.1
-  | inr n ↦ ap (λ (s : Slot). test s.state) (past-end b.slots k (let past = n.1 in omega (arith, past))) ∙ plain
+  | inr n ↦ ap (λ (s : Slot). test s.state) (get_or_past b.slots k no_slot (let past = n.1 in omega (arith, past))) ∙ plain
 ]
 
 pub held-known : (b : Book) (id : ℕ) (node : Node) → HoldsOnly b id node → id < length b.slots
@@ -42,10 +39,6 @@ freed b id node state new holds off same = record { none = λ k here. ap (λ xs.
       | Untouched other e ↦ ap (λ (s : Slot). is_held s.state) e ∙ holds.others k other
     ]
 
-new-off : (t : Bool) → is_held (cond t (slot.Closed by.Bound) slot.Fresh) ≡ false
-new-off true = refl
-new-off false = refl
-
 -- the held slot is split
 pub split-freed : (b : Book) (id : ℕ) (node : Node) (new : Book) → HoldsOnly b id node → new.slots ≡ (Step.with_children b id).slots → HoldsNothing new
 split-freed b id node new holds same = record { none = λ k here. ap (λ xs. is_held (slice_index_or xs k no_slot).state) same ∙ by-split k }
@@ -54,6 +47,6 @@ split-freed b id node new holds same = record { none = λ k here. ap (λ xs. is_
     by-split k = elim (split-at b id (held-known b id node holds) k) [
       | Parent is e ↦ ap (λ (s : Slot). is_held s.state) e
       | Old other known e ↦ ap (λ (s : Slot). is_held s.state) e ∙ holds.others k other
-      | Child place is few e ↦ ap (λ (s : Slot). is_held s.state) e ∙ new-off _
+      | Child place is few e ↦ ap (λ (s : Slot). is_held s.state) e ∙ new-free _
       | Past past e ↦ ap (λ (s : Slot). is_held s.state) e
     ]

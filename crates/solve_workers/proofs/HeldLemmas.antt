@@ -1,15 +1,12 @@
 -- What the driver knows of the node in its hand, and how the node leaves it.
-use Rattle.std.proofs.Common.{◌≡◌, ℕ, ◌<◌, ◌≤◌, List, length, refl, sym, ap, ◌∙◌, subst, arith, Bool, true, false, slice_index_or, Some, None, IfSome, Contains, Ok, Err, OnOk, OnErr}
-use Rattle.std.specs.declared.option.Option.{Option}
+use Rattle.std.proofs.Common.{◌≡◌, ℕ, ◌≤◌, refl, sym, ap, ◌∙◌, subst, arith, Bool, true, false, Some, Ok, Err, OnOk, OnErr}
 use Rattle.std.specs.declared.result.Result.{Result}
 use Rattle.std.specs.Bool.{OnTrue, OnFalse}
-use Rattle.std.proofs.lemmas.List.Elements.{Contains-get_or}
-use Rattle.lock_model.specs.declared.group.Group.{Group}
 use Rattle.lock_model.specs.declared.plan.Plan.{Plan}
 use Rattle.lock_rules.specs.Bound.{bound_of}
 use Rattle.lock_rules.specs.Cut.{HitsNode}
-use Rattle.lock_rules.specs.Node.{IsNode, line_at}
-use Rattle.lock_rules.specs.Plan.{IsLegal, cost_of}
+use Rattle.lock_rules.specs.Node.{IsNode}
+use Rattle.lock_rules.specs.Plan.{IsLegal}
 use Rattle.refute_rules.specs.Cuts.{Cut}
 use Rattle.place_refute.specs.Tried.{Tried}
 use Rattle.master_branch.specs.Node.{Node, IsNodeOf}
@@ -26,9 +23,8 @@ use Rattle.closing_rules.specs.declared.grounds.Ground.{Ground}
 use Rattle.closing_rules.specs.Grounds.{IsClosedBy}
 use Rattle.book_rules.specs.States.{IsHitBy}
 use Rattle.node_work.specs.declared.fate.Fate.{Fate}
-use Rattle.node_work.specs.declared.fate.Fate.TheVariants as fate
 use Rattle.node_work.specs.declared.search.Search.{Search}
-use Rattle.node_work.specs.Fates.{IsNeverPriced, IsAnyway, IsEarly, IsFate, IsKnownHit, IsNodeCut, IsPlanAt, IsSpentAt}
+use Rattle.node_work.specs.Fates.{IsNeverPriced, IsAnyway, IsEarly, IsFate, IsNodeCut, IsPlanAt, IsSpentAt}
 use Rattle.node_work.specs.Known.{HitsShips}
 use Rattle.solve_workers.specs.Closable.{IsClosable, IsDriversFate, IsOwnSearch}
 use Rattle.solve_workers.specs.Holding.{HoldsOnly}

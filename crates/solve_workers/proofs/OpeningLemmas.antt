@@ -13,32 +13,26 @@ use Rattle.first_plan.specs.Merging.{IsRefusal}
 use Rattle.first_plan.specs.declared.opening.FirstError.{FirstError}
 use Rattle.first_plan.specs.declared.opening.FirstError.TheVariants.{Unfit}
 use Rattle.book_rules.specs.declared.book.Entry.TheVariants as entry
-use Rattle.book_rules.specs.declared.book.SlotState.TheVariants as slot
 use Rattle.book_rules.specs.Book.{Book, Case, opening_book, slot_at, is_held, root, bound_at}
-use Rattle.book_rules.specs.Cheap.{opening_cost}
 use Rattle.book_rules.specs.Cover.{IsOwnCut}
 use Rattle.book_rules.specs.Ends.{HoldsNothing, EndsWell}
 use Rattle.book_rules.specs.Events as machine
 use Rattle.book_rules.specs.Events.{post}
 use Rattle.book_rules.specs.Step
 use Rattle.book_rules.specs.Tests.{is_own_cut}
+use Rattle.book_rules.proofs.WorkerLemmas.{new-free}
 use Rattle.book_core.specs.declared.reply.Reply.{Reply}
 use Rattle.book_core.specs.Replies.{Does, Steps, Stays}
 use Rattle.solve_workers.specs.declared.solving.Solved.{Solved}
 use Rattle.solve_workers.specs.Told.{number_in}
 use Rattle.solve_workers.specs.Opening.{IsReady, with_cuts, opened_with}
 use Rattle.solve_workers.proofs.ToldLemmas.{Answer, number_of, told-number}
-use Rattle.closing_rules.specs.declared.grounds.Ground.TheVariants as by
-
-new-off : (t : Bool) → is_held (cond t (slot.Closed by.Bound) slot.Fresh) ≡ false
-new-off true = refl
-new-off false = refl
 
 free : (case : Case) (plan : Plan) → HoldsNothing (opening_book case plan)
 free case plan = record { none = by_number }
   where
     by_number : (id : ℕ) → id < 1 → is_held (slot_at (opening_book case plan) id).state ≡ false
-    by_number zero here = new-off (nat_le (cost_of case.instance plan) (bound_at case.instance root))
+    by_number zero here = new-free (nat_le (cost_of case.instance plan) (bound_at case.instance root))
     by_number (suc id) here = absurd (omega (arith, here))
 
 -- ---- the given cuts

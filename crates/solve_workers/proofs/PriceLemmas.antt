@@ -1,10 +1,9 @@
 -- What prices find, carried out while a slot is held.
-use Rattle.std.proofs.Common.{◌≡◌, ℕ, ◌<◌, List, length, refl, sym, ap, ◌∙◌, subst, Bool, true, false, not, cond, nat_eq, slice_get, slice_index_or, Some, None}
-use Rattle.std.specs.declared.option.Option.{Option}
+use Rattle.std.proofs.Common.{◌≡◌, ℕ, ◌<◌, List, length, refl, sym, ap, ◌∙◌, subst, Bool, true, false, not, cond, nat_eq, slice_get, slice_index_or}
 use Rattle.mooring_rules.specs.declared.breaks.BrokenPlan.{BrokenPlan}
 use Rattle.refute_rules.specs.Cuts.{Cut}
 use Rattle.closing_rules.specs.declared.grounds.Ground.TheVariants as by
-use Rattle.book_rules.specs.Book.{Book, Node, no_slot, slot_at, is_held}
+use Rattle.book_rules.specs.Book.{Book, Node, no_slot, is_held}
 use Rattle.book_rules.specs.Ends.{HoldsNothing}
 use Rattle.book_rules.specs.Events as machine
 use Rattle.book_rules.specs.Events.{Event, post, post_prices, close_price}

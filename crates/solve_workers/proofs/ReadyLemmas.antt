@@ -1,5 +1,5 @@
 -- The driver may take a book on still.
-use Rattle.std.proofs.Common.{◌≡◌, ℕ, ◌≤◌, List, refl, sym, ap, ◌∙◌, subst, arith, IfOk, Ok, Err, Bool, false, slice_index_or}
+use Rattle.std.proofs.Common.{◌≡◌, ℕ, ◌≤◌, List, sym, ap, ◌∙◌, subst, arith, IfOk, Ok, Err, false, slice_index_or}
 use Rattle.std.specs.declared.result.Result.{Result}
 use Rattle.lock_model.specs.declared.plan.Plan.{Plan}
 use Rattle.lock_rules.specs.Plan.{IsLegal, cost_of}

@@ -127,12 +127,12 @@ module _ (b : Book) (sound : IsSound b) (free : HoldsNothing b) (running : IsRun
         subst (λ (o : Out). suc (room_of o.0) ≤ room_of b) answers.same
         (room-falls (λ _ _. answers.found) b sound.parts.budget sound.parts.workers.nine (take 8) (omega arith) refl accepted)
       where
-        by_answer : (a : Answer) → given_in a ≡ Some (id, tree node) → machine.is_accepted a ≡ true
+        by_answer : (a : Answer) → given_in a ≡ Some (id, tree node) → machine.is_acceptance a ≡ true
         by_answer (machine.Node n t) h = refl
         by_answer _ h = absurd (none-some (id, tree node) h)
 
-        accepted : machine.is_accepted (Step.step (λ _ _. answers.found) b (take 8)).1 ≡ true
-        accepted = ap (λ (o : Out). machine.is_accepted o.1) answers.same ∙ by_answer answers.answer (told-node r answers.answer answers.said ∙ ap as_tree e)
+        accepted : machine.is_acceptance (Step.step (λ _ _. answers.found) b (take 8)).1 ≡ true
+        accepted = ap (λ (o : Out). machine.is_acceptance o.1) answers.same ∙ by_answer answers.answer (told-node r answers.answer answers.said ∙ ap as_tree e)
 
     pub refused_done : node_in r ≡ None → IsDone new
     refused_done e = by_out (new, answers.answer) out-is (told-node r answers.answer answers.said ∙ ap as_tree e)

@@ -1,6 +1,5 @@
 -- How the node that the driver holds may end.
-use Rattle.std.specs.Prelude.{ℕ, ◌≡◌, List}
-use Rattle.lock_model.specs.declared.group.Group.{Group}
+use Rattle.std.specs.Prelude.{◌≡◌}
 use Rattle.lock_rules.specs.Bound.{bound_of}
 use Rattle.closing_rules.specs.declared.grounds.Ground.{Ground}
 use Rattle.closing_rules.specs.Grounds.{IsClosedBy}

@@ -1,5 +1,5 @@
 //! The driver of a search, and what it has beside its book.
-ghost use Rattle.std.specs.Prelude.{◌≡◌, ◌≤◌};
+ghost use Rattle.std.specs.Prelude.{◌≡◌};
 
 use node_work::Search;
 use placed_groups::Memory;

@@ -1,5 +1,5 @@
 //! How the node that the driver holds ends.
-ghost use Rattle.std.specs.Prelude.{◌≡◌, ◌<◌, ◌≤◌, length, OnOk, OnErr};
+ghost use Rattle.std.specs.Prelude.{◌≡◌, ◌<◌, length, OnOk, OnErr};
 ghost use Rattle.book_rules.specs.Ends.{HoldsNothing};
 ghost use Rattle.node_work.specs.Fates.{IsNodeCut, IsPlanAt, IsSpentAt};
 ghost use Rattle.solve_workers.specs.Closable.{IsClosable, IsDriversFate};

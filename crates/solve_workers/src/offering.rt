@@ -1,5 +1,4 @@
 //! The events of what prices find, while the driver holds a slot.
-ghost use Rattle.std.specs.Prelude.{◌≡◌};
 ghost use Rattle.std.specs.Bool.{OnTrue, OnFalse};
 ghost use Rattle.book_rules.specs.Ends.{HoldsNothing};
 ghost use Rattle.refute_rules.specs.Cuts.{IsCut};

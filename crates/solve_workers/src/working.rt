@@ -1,5 +1,5 @@
 //! The work on the node that the driver holds.
-ghost use Rattle.std.specs.Prelude.{◌≡◌, ◌<◌, length, OnOk, OnErr};
+ghost use Rattle.std.specs.Prelude.{◌≡◌, ◌<◌, length, OnOk};
 ghost use Rattle.book_rules.specs.Book.{best_cost, slot_at};
 ghost use Rattle.book_rules.specs.Ends.{HoldsNothing};
 ghost use Rattle.solve_workers.specs.Closable.{IsOwnSearch};

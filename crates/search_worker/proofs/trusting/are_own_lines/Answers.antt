@@ -1,4 +1,4 @@
-use Rattle.std.proofs.Common.{◌∙◌, subst, below_more, rules}
+use Rattle.std.proofs.Common.{subst, below_more, rules}
 use Rattle.search_worker.specs.Owning.{IsOwnLine}
 use Rattle.search_worker.proofs.trusting.are_own_lines.Goals as goal
 

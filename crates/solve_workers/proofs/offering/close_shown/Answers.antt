@@ -1,10 +1,7 @@
 use Rattle.book_rules.specs.Events.{close_price}
-use Rattle.book_core.specs.Nodes.{tree_node}
 use Rattle.book_core.specs.Telling.{told_shown}
 use Rattle.book_core.proofs.ShowingLemmas.{reached-shown}
 use Rattle.solve_workers.proofs.DrivenLemmas.{driven_by}
-use Rattle.solve_workers.proofs.HeldLemmas.{on_true, on_false}
-use Rattle.solve_workers.proofs.PriceLemmas.{price_shut, price_kept}
 use Rattle.solve_workers.proofs.offering.close_shown.Goals as goal
 
 pub returns-clause-driven : goal.returns-clause-driven
