@@ -15,7 +15,7 @@ most_files() {
 
 reads_instance() { [[ " solve judge play replan picture " == *" $1 "* ]]; }
 reads_plan() { [[ " judge play replan picture " == *" $1 "* ]]; }
-reads_dossier() { [[ " check lower resume " == *" $1 "* ]]; }
+reads_dossier() { [[ " check lower resume picture " == *" $1 "* ]]; }
 
 # the options that a command takes
 options_of() {

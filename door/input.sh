@@ -3,10 +3,11 @@
 # more bytes than any instance with its plan may have
 most_kept=131073
 
-# sets input, the file that the program reads, or nothing for standard input itself; first_name and second_name, what to
-# call the parts in messages; and first_lines, the number of lines of the first of two files
+# sets input, the file that the program reads, or nothing for standard input itself; goes_on, whether standard input
+# goes on behind that file; first_name and second_name, what to call the parts in messages; and first_lines, the number
+# of lines of the first of two files
 take_input() {
-  input= first_name="standard input" second_name= first_lines=0
+  input= goes_on=false first_name="standard input" second_name= first_lines=0
   local file
   for file in "${files[@]}"; do
     [ -d "$file" ] && { say "$file is a folder"; return 66; }
@@ -46,10 +47,12 @@ join_files() {
 }
 
 # An instance on standard input is kept, so that messages can speak of its lines. What is over the program's limit is
-# left unread, as the program leaves it. Where standard input fails the program is to say so itself.
+# left unread, as the program leaves it; only of a dossier the program reads what follows too. Where standard input fails
+# the program is to say so itself.
 keep_standard_input() {
   reads_instance "$command" && [ -z "$wrong" ] || return 0
   if head -c $most_kept >"$room/kept" 2>/dev/null; then input=$room/kept; fi
+  if [ -n "$input" ] && reads_dossier "$command" && [ "$(wc -c <"$input")" -eq $most_kept ]; then goes_on=true; fi
 }
 
 # where a line of the input stands, as file:line

@@ -1,4 +1,4 @@
-# The picture has a program of its own, which takes the clock itself and is told what it reads.
+# The picture has a program of its own, which takes the clock itself.
 
 # sets crate, program and program_words for `picture`
 use_picture() {
@@ -6,7 +6,6 @@ use_picture() {
   crate=$top/crates/lock_picture
   program=$crate/out/lock_picture
   GLOCK_PROGRAM=${GLOCK_PICTURE-}
-  program_words=("${program_words[0]}" plan "${program_words[@]:1}")
   if [ -n "$clock" ]; then program_words+=(--clock "$clock"); fi
   clock=
 }

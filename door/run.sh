@@ -4,7 +4,11 @@
 run_program() {
   answer=$room/answer
   # A program in the background has an empty standard input, unless it is given one: that of the script, by "<&0".
-  if [ -n "$input" ]; then exec <"$input"; fi
+  if $goes_on; then
+    exec < <(cat "$input" -)
+  elif [ -n "$input" ]; then
+    exec <"$input"
+  fi
   "${run[@]}" "${program_words[@]}" <&0 >"$answer" &
   running=$!
   trap 'stop_program 130' INT

@@ -18,6 +18,7 @@ and for the runs right above, where one of the entries of a kind must hold:
   whole                   the output is the block, each line with a line feed
   line TEXT               the output is this one line
   first TEXT              the first line of the output is this
+  holds TEXT              one line of the output is this
   accepted N              over the output, `check` answers `accepted cost N`
   same plan               with `--dossier` an accepted dossier comes, of the cost and the plan of the report
   trial                   the output is one line, the same at a second run, and begins as its status of 0 or 1 asks

@@ -62,6 +62,7 @@ CHECKS = {
     "whole": lambda ran, text: ran.text == text,
     "line": lambda ran, line: ran.text == line + "\n",
     "first": lambda ran, line: ran.first == line,
+    "holds": lambda ran, line: line in ran.text.split("\n"),
     "accepted": lambda ran, cost: ran.is_accepted(cost),
     "same": lambda ran, _: ran.has_same_plan(),
     "trial": lambda ran, _: ran.is_trial(),

@@ -45,6 +45,24 @@ judge endless.lock evening.plan | 3 | line 14 fault 3 Word | evening.plan:2: fau
 judge tail.lock bad.lock | 10 | plan line 3 fault 2 NoMark | bad.lock:1: fault 2 NoMark
 ROWS
 
+# A picture of a dossier says what the dossier shows.
+sed '7s/120/119/' "$room/two.dossier" >"$room/cheap.dossier"
+sed '3s/1100/11oo/' "$room/two.dossier" >"$room/typo.dossier"
+drawn() {
+  call picture $1
+  check "picture: $1" gives "$2" "$3" "${4-}"
+}
+rows drawn <<'ROWS'
+two.dossier | 0 | <h1>optimal, total flow time 120 minutes</h1>
+two.dossier --clock 06:00 | 0 | <p class="sub">from 06:00 to
+two.open | 0 | <h1>open, total flow time 506 minutes; no plan takes less than 280 minutes</h1>
+cheap.dossier | 7 | rejected cost reason 2 CostWrong | cheap.dossier: rejected at cost: its plan does not cost what the dossier says.
+typo.dossier | 7 | dossier fault 1 Instance line 3 fault 5 Number | typo.dossier:3: fault 5 Number: "11oo" stands for the length
+ROWS
+long_dossier() { head -n 6 "$room/two.dossier"; head -c 140000 /dev/zero | tr '\0' ' '; tail -n 1 "$room/two.dossier"; }
+call picture <(long_dossier)
+check "the picture of a long dossier from a pipe" gives 0 "<h1>optimal, total flow time 120 minutes</h1>" ""
+
 # A pipe in the place of a file is read once.
 call solve <(cat "$room/evening.lock")
 check "a pipe as a file" gives 0 "optimal cost 270" ""

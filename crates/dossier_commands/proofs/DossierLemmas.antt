@@ -1,25 +1,23 @@
 -- What is answered to a dossier.
-use Rattle.std.proofs.Common.{ℕ, ◌≡◌, List, inr}
-use Rattle.lock_model.specs.declared.instance.Instance.{Instance}
-use Rattle.certificate_rules.specs.Certificates.{Certificate}
-use Rattle.cert_text.specs.Dossier.{Reads}
+use Rattle.std.proofs.Common.{ℕ, List}
+use Rattle.checked_dossiers.specs.Accepted.{IsNotAccepted}
 use Rattle.run_answers.specs.Sources.{IsFair}
 use Rattle.run_answers.specs.declared.status.Status.{Status}
 use Rattle.run_answers.specs.declared.status.Status.TheVariants.{Good, Open, Words, Refused, ReadFault, WriteFault, NoMemory, BadDossier, Unfit, PlanRefused}
-use Rattle.dossier_commands.specs.Checking.{AnswersCertificate, AnswersCheck}
+use Rattle.dossier_commands.specs.Checking.{AnswersCheck}
 
--- what is answered to a certificate is answered to the bytes that it is read from
-pub answers_reads : (bytes : List ℕ) (I : Instance) (C : Certificate) (s : Status) (text : List ℕ) → Reads bytes I C → AnswersCertificate I C s text → AnswersCheck bytes s text
-answers_reads bytes I C Good text reads answer = record { instance = I; certificate = C; reads = reads; answer = answer }
-answers_reads bytes I C Open text reads answer = answer
-answers_reads bytes I C Words text reads answer = answer
-answers_reads bytes I C Refused text reads answer = answer
-answers_reads bytes I C ReadFault text reads answer = answer
-answers_reads bytes I C WriteFault text reads answer = answer
-answers_reads bytes I C NoMemory text reads answer = answer
-answers_reads bytes I C BadDossier text reads answer = inr (record { instance = I; certificate = C; reads = reads; answer = answer })
-answers_reads bytes I C Unfit text reads answer = record { instance = I; certificate = C; reads = reads; answer = answer }
-answers_reads bytes I C PlanRefused text reads answer = answer
+-- what is answered to bytes that aren't a dossier with an accepted certificate
+pub checks_none : (bytes : List ℕ) (s : Status) (text : List ℕ) → IsNotAccepted bytes s text → AnswersCheck bytes s text
+checks_none bytes Good text none = absurd none
+checks_none bytes Open text none = none
+checks_none bytes Words text none = none
+checks_none bytes Refused text none = none
+checks_none bytes ReadFault text none = none
+checks_none bytes WriteFault text none = none
+checks_none bytes NoMemory text none = none
+checks_none bytes BadDossier text none = none
+checks_none bytes Unfit text none = none
+checks_none bytes PlanRefused text none = none
 
 -- `check` says to bytes neither that words are bad nor that a fault was counted
 pub check_fair : IsFair AnswersCheck

@@ -1,5 +1,5 @@
 -- What is answered to the bytes of an open dossier.
-use Rattle.std.proofs.Common.{ℕ, ◌≡◌, ◌≢◌, ◌<◌, ◌≤◌, List, ◌∷◌, sym, subst, refl, inl, inr, arith}
+use Rattle.std.proofs.Common.{ℕ, ◌≡◌, ◌≢◌, ◌≤◌, List, ◌∷◌, sym, subst, inl, inr, arith}
 use Rattle.std.proofs.lemmas.Bool.Decides.{leb_tells}
 use Rattle.lock_model.specs.declared.instance.Instance.{Instance}
 use Rattle.lock_model.specs.declared.plan.Plan.{Plan}
@@ -13,7 +13,7 @@ use Rattle.run_answers.specs.declared.status.Status.TheVariants.{Good, Open, Wor
 use Rattle.solve_commands.specs.Searching.{PrintsBest, AnswersSearch}
 use Rattle.solve_commands.specs.Keeping.{PrintsLeft}
 use Rattle.dossier_commands.specs.DossierTexts.{lower_text}
-use Rattle.dossier_commands.specs.OpenDossiers.{IsStanding, HasLow, IsNoStanding}
+use Rattle.checked_dossiers.specs.Standing.{IsStanding, HasLow, IsNoStanding}
 use Rattle.dossier_commands.specs.Lowering.{PrintsEqual, PrintsGap, AnswersLower}
 use Rattle.dossier_commands.specs.Resuming.{search_on, AnswersResume}
 

@@ -9,7 +9,7 @@ use Rattle.certificate_rules.specs.declared.certificate.Reason.{Reason}
 use Rattle.command_words.specs.declared.commands.SolveOptions.{SolveOptions}
 use Rattle.run_answers.specs.declared.status.Status.{Status}
 use Rattle.run_answers.specs.declared.status.Status.TheVariants.{Good, Open, Words, Refused, ReadFault, WriteFault, NoMemory, BadDossier, Unfit, PlanRefused}
-use Rattle.dossier_commands.specs.OpenDossiers.{HasLow}
+use Rattle.checked_dossiers.specs.Standing.{HasLow}
 use Rattle.dossier_commands.specs.Resuming.{budget_of}
 
 -- the certificate fails first somewhere

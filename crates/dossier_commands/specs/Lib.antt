@@ -1,6 +1,5 @@
 pub mod DossierTexts
 pub mod Checking
-pub mod OpenDossiers
 pub mod Lowering
 pub mod Resuming
 pub mod Completing

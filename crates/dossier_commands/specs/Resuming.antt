@@ -1,18 +1,21 @@
 -- What `resume` answers to the bytes of an open dossier: a status and what is written.
-use Rattle.std.specs.Prelude.{ℕ, ◌≡◌, ◌+◌, ◌≤◌, List, min}
+use Rattle.std.specs.Prelude.{ℕ, ◌≡◌, ◌+◌, ◌≤◌, ◌⊎◌, List, min}
 use Rattle.lock_model.specs.declared.instance.Instance.{Instance}
 use Rattle.lock_model.specs.declared.plan.Plan.{Plan}
 use Rattle.lock_rules.specs.Plan.{IsCheapest, cost_of}
 use Rattle.book_rules.specs.Book.{Case}
 use Rattle.certificate_rules.specs.OpenCertificates.{OpenCertificate}
+use Rattle.certificate_rules.specs.Failures.{OpenFails}
 use Rattle.command_words.specs.declared.commands.SolveOptions.{SolveOptions}
+use Rattle.resume_book.specs.OpenDossier.{ReadsOpen, OpenDossierFault}
 use Rattle.resume_book.specs.Prior.{prior_of}
 use Rattle.run_answers.specs.Texts.{no_memory_text}
 use Rattle.run_answers.specs.declared.status.Status.{Status}
 use Rattle.run_answers.specs.declared.status.Status.TheVariants.{Good, Open, Words, Refused, ReadFault, WriteFault, NoMemory, BadDossier, Unfit, PlanRefused}
 use Rattle.solve_commands.specs.Searching.{Search, PrintsBest}
 use Rattle.solve_commands.specs.Keeping.{PrintsLeft}
-use Rattle.dossier_commands.specs.OpenDossiers.{IsStanding, PrintsNoStanding, PrintsOpenUnfit}
+use Rattle.checked_dossiers.specs.Refused.{PrintsFault, PrintsUnfit, PrintsRejected}
+use Rattle.checked_dossiers.specs.Standing.{IsStanding}
 
 -- how many nodes a search may use that goes on from a certificate: those of its marks that are neither bounds nor open leaves, and the given ones, but at most 1,000,000
 abbrev pub budget_of : OpenCertificate → ℕ → ℕ
@@ -50,6 +53,6 @@ AnswersResume options bytes Refused text = ⊥
 AnswersResume options bytes ReadFault text = ⊥
 AnswersResume options bytes WriteFault text = ⊥
 AnswersResume options bytes NoMemory text = text ≡ no_memory_text
-AnswersResume options bytes BadDossier text = PrintsNoStanding bytes text
-AnswersResume options bytes Unfit text = PrintsOpenUnfit bytes text
+AnswersResume options bytes BadDossier text = PrintsFault OpenDossierFault bytes text ⊎ PrintsRejected ReadsOpen OpenFails bytes text
+AnswersResume options bytes Unfit text = PrintsUnfit ReadsOpen bytes text
 AnswersResume options bytes PlanRefused text = ⊥

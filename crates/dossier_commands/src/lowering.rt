@@ -2,16 +2,14 @@
 ghost use Rattle.std.specs.Prelude.{◌≡◌};
 ghost use Rattle.run_answers.specs.Sources.{AnswersSource, drained};
 ghost use Rattle.run_answers.specs.Written.{bytes_in};
-ghost use Rattle.dossier_commands.specs.Checking.{dossier_limit};
-ghost use Rattle.dossier_commands.specs.OpenDossiers.{IsStanding, HasLow};
+ghost use Rattle.checked_dossiers.specs.Refused.{dossier_limit};
+ghost use Rattle.checked_dossiers.specs.Standing.{IsStanding, HasLow};
 ghost use Rattle.dossier_commands.specs.Lowering.{AnswersLower};
 
-use crate::checking::LIMIT;
 use crate::dossier_texts::lower_text;
-use crate::standing::{Standing, read_standing};
+use checked_dossiers::{DOSSIER_LIMIT, OpenCertificate, StandingDossier, read_standing};
 use lock_io::Source;
 use plain_text::NoMemory;
-use resume_book::OpenCertificate;
 use run_answers::{Answer, Status, Text, no_memory, read_source};
 use std::alloc::Global;
 
@@ -23,14 +21,14 @@ fn cost_in(certificate: &OpenCertificate) -> u64
 }
 
 // The low and the cost of a certificate that stands.
-fn low_answer(alloc: Global, bytes: &[u8], standing: &Standing) -> Answer
-    requires standing { IsStanding bytes.now standing.now.instance standing.now.certificate }
-    requires low { HasLow standing.now.instance standing.now.certificate standing.now.low }
+fn low_answer(alloc: Global, bytes: &[u8], dossier: &StandingDossier) -> Answer
+    requires standing { IsStanding bytes.now dossier.now.instance dossier.now.certificate }
+    requires low { HasLow dossier.now.instance dossier.now.certificate dossier.now.low }
     ensures { AnswersLower bytes.now result.status (bytes_in result.text) }
 {
-    let cost = cost_in(&standing.certificate);
-    match lower_text(alloc, standing.low, cost) {
-        Ok(text) if standing.low == cost => Answer {
+    let cost = cost_in(&dossier.certificate);
+    match lower_text(alloc, dossier.low, cost) {
+        Ok(text) if dossier.low == cost => Answer {
             status: Status::Good,
             text: Text::Made(text),
         },
@@ -48,7 +46,7 @@ fn dossier_answer(alloc: Global, bytes: &[u8]) -> Answer
     ensures { AnswersLower bytes.now result.status (bytes_in result.text) }
 {
     match read_standing(alloc, bytes) {
-        Ok(standing) => low_answer(alloc, bytes, &standing),
+        Ok(dossier) => low_answer(alloc, bytes, &dossier),
         Err(answer) => answer,
     }
 }
@@ -61,7 +59,7 @@ fn dossier_answer(alloc: Global, bytes: &[u8]) -> Answer
 pub fn lower_answer<S: Source>(alloc: Global, src: &mut S) -> Answer
     ensures answer { AnswersSource dossier_limit AnswersLower (drained (S.left src.old) (S.left src.new) (S.faults src.old) (S.faults src.new)) result.status (bytes_in result.text) }
 {
-    match read_source(alloc, src, LIMIT) {
+    match read_source(alloc, src, DOSSIER_LIMIT) {
         Ok(bytes) => dossier_answer(alloc, bytes.as_slice()),
         Err(answer) => answer,
     }

@@ -9,20 +9,19 @@ ghost use Rattle.run_answers.specs.Written.{bytes_in};
 ghost use Rattle.solve_commands.specs.Options.{AreSolveNumbers};
 ghost use Rattle.solve_commands.specs.Searching.{PrintsBest, AnswersSearch};
 ghost use Rattle.solve_commands.specs.Keeping.{PrintsLeft};
-ghost use Rattle.dossier_commands.specs.Checking.{dossier_limit};
-ghost use Rattle.dossier_commands.specs.OpenDossiers.{IsStanding};
-ghost use Rattle.dossier_commands.specs.Resuming.{budget_of, search_for, search_on, AnswersResume};
+ghost use Rattle.checked_dossiers.specs.Refused.{dossier_limit};
+ghost use Rattle.checked_dossiers.specs.Standing.{IsStanding};
+ghost use Rattle.dossier_commands.specs.Resuming.{budget_of, search_for, AnswersResume};
 
-use crate::checking::LIMIT;
-use crate::standing::{Standing, read_standing};
 use book_core::Case;
 use cert_check::CertCut;
+use checked_dossiers::{DOSSIER_LIMIT, OpenCertificate, StandingDossier, read_standing};
 use command_words::SolveOptions;
 use lock_io::{Gate, Source};
 use lock_model::{Instance, deck_of};
 use place_refute::{Cut, known_cut};
 use plain_text::NoMemory;
-use resume_book::{OpenCertificate, prior};
+use resume_book::prior;
 use run_answers::{Answer, no_memory, read_source};
 use solve_commands::best_answer;
 use solve_workers::{CutList, solve_from};
@@ -113,17 +112,17 @@ fn standing_answer<R: Threads + Wait + Sync, G: Gate + Sync>(
     rt: &R,
     alloc: Global,
     bytes: &[u8],
-    standing: Standing,
+    dossier: StandingDossier,
     options: &SolveOptions,
     gate: &G,
 ) -> Answer
-    requires standing { IsStanding bytes.now standing.instance standing.certificate }
+    requires standing { IsStanding bytes.now dossier.instance dossier.certificate }
     requires numbers { AreSolveNumbers options.now }
     ensures { AnswersResume options.now bytes.now result.status (bytes_in result.text) }
 {
-    let nodes = budget(&standing.certificate, options.nodes);
-    let case = Case::new(standing.instance, nodes, options.turns);
-    search_answer(rt, alloc, &case, &standing.certificate, options, gate)
+    let nodes = budget(&dossier.certificate, options.nodes);
+    let case = Case::new(dossier.instance, nodes, options.turns);
+    search_answer(rt, alloc, &case, &dossier.certificate, options, gate)
 }
 
 // What is answered to the bytes of an open dossier.
@@ -139,7 +138,7 @@ fn dossier_answer<R: Threads + Wait + Sync, G: Gate + Sync>(
     ensures { AnswersResume options.now bytes.now result.status (bytes_in result.text) }
 {
     match read_standing(alloc, bytes) {
-        Ok(standing) => standing_answer(rt, alloc, bytes, standing, options, gate),
+        Ok(dossier) => standing_answer(rt, alloc, bytes, dossier, options, gate),
         Err(answer) => answer,
     }
 }
@@ -160,7 +159,7 @@ pub fn resume_answer<R: Threads + Wait + Sync, S: Source, G: Gate + Sync>(
     requires { AreSolveNumbers options.now }
     ensures answer { AnswersSource dossier_limit (AnswersResume options.now) (drained (S.left src.old) (S.left src.new) (S.faults src.old) (S.faults src.new)) result.status (bytes_in result.text) }
 {
-    match read_source(alloc, src, LIMIT) {
+    match read_source(alloc, src, DOSSIER_LIMIT) {
         Ok(bytes) => dossier_answer(rt, alloc, bytes.as_slice(), options, gate),
         Err(answer) => answer,
     }

@@ -26,7 +26,7 @@ use Rattle.replan_command.specs.Replanning.{AnswersReplan}
 use Rattle.lock_top.specs.Asked.{Asks}
 use Rattle.lock_top.specs.Answers.{AnswersCommand, AnswersMeant, RunAnswers}
 use Rattle.lock_top.specs.Runs.{Filled, Run, Got}
-use Rattle.lock_top.specs.Clauses.{Did, IsSolved, IsCertified, IsSolvedAs, IsLeftOpen, IsAccepted, IsDrawn, IsTried, IsTriedOpen, KeepsItsWord}
+use Rattle.lock_top.specs.Clauses.{Did, IsSolved, IsCertified, IsSolvedAs, IsLeftOpen, IsDrawn, IsTried, IsTriedOpen, KeepsItsWord}
 use Rattle.lock_top.proofs.AnswerLemmas.{meant_answer}
 use Rattle.lock_top.proofs.CompleteLemmas.{complete}
 
@@ -51,11 +51,6 @@ says_solved options bytes text told = solved_as options.dossier bytes text told.
 
 says_left : (options : SolveOptions) (bytes text : List ℕ) → AnswersSolve options bytes Open text → IsLeftOpen options bytes text
 says_left options bytes text told = record { instance = told.instance; means = told.means; left = told.answer }
-
-says_accepted : (bytes text : List ℕ) → AnswersCheck bytes Good text → IsAccepted bytes text
-says_accepted bytes text told =
-    let own = told.answer in
-    record { instance = told.instance; certificate = told.certificate; reads = told.reads; accepts = own.accepts; cheapest = own.cheapest; cost = own.cost; shown = own.shown }
 
 -- ---- the text that was answered was written whole
 
@@ -96,7 +91,7 @@ module _ (words : List (List ℕ)) (source : Drained) (sink : Filled) (status : 
   keeps_written = record {
     solved = λ options ask is. did _ (AnswersSolve options) Good (IsSolvedAs options.dossier) (good (Solve options) ask is) (says_solved options);
     left_open = λ options ask is. did _ (AnswersSolve options) Open (IsLeftOpen options) (left (Solve options) ask is) (says_left options);
-    accepted = λ ask is. did _ AnswersCheck Good IsAccepted (good Check ask is) says_accepted;
+    accepted = λ ask is. did _ AnswersCheck Good _ (good Check ask is) (λ bytes text says. says);
     drawn = drawn;
     tried = tried;
     tried_open = tried_open;

@@ -22,7 +22,8 @@ use Rattle.solve_commands.specs.Searching.{Search, PrintsOptimal, PrintsOpen, An
 use Rattle.solve_commands.specs.Solving.{solve_limit, search_of, AnswersSolve}
 use Rattle.solve_commands.specs.Lots.{IsLot, AnswersLot, AnswersTrial}
 use Rattle.solve_commands.proofs.EnoughLemmas.{open_ends, left_ends}
-use Rattle.dossier_commands.specs.Checking.{dossier_limit, AnswersCheck}
+use Rattle.checked_dossiers.specs.Refused.{dossier_limit}
+use Rattle.dossier_commands.specs.Checking.{AnswersCheck}
 use Rattle.dossier_commands.specs.Lowering.{AnswersLower}
 use Rattle.dossier_commands.specs.Resuming.{AnswersResume}
 use Rattle.dossier_commands.specs.Completing.{MayLower, MayResume}

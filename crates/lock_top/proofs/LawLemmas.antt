@@ -11,15 +11,17 @@ use Rattle.run_answers.specs.Sources.{Drained, AnswersSource, AnswersBytes, IsTo
 use Rattle.run_answers.specs.declared.status.Status.{Status}
 use Rattle.run_answers.specs.declared.status.Status.TheVariants.{Good, Open, Words, Refused, ReadFault, WriteFault, NoMemory, BadDossier, Unfit, PlanRefused}
 use Rattle.run_answers.proofs.SourceLemmas.{told_says, told_refused}
-use Rattle.dossier_commands.specs.Checking.{dossier_limit, AnswersCheck}
+use Rattle.checked_dossiers.specs.Refused.{dossier_limit}
+use Rattle.dossier_commands.specs.Checking.{AnswersCheck}
 use Rattle.lock_top.specs.Asked.{Asks}
 use Rattle.lock_top.specs.Answers.{RunAnswers}
 use Rattle.lock_top.specs.Runs.{Filled, Run, Got, run_of}
 use Rattle.lock_top.specs.Clauses.{Did, IsCertified, KeepsItsWord}
 use Rattle.lock_top.specs.Laws.{IsHandedOn, EndsAccepted}
 use Rattle.lock_top.proofs.AnswerLemmas.{meant_answer}
-use Rattle.lock_top.proofs.CheckLemmas.{own_answer, bad_rejected, fits_some}
-use Rattle.lock_top.proofs.FitLemmas.{legal_fits}
+use Rattle.lock_top.proofs.CheckLemmas.{own_shown, own_fails}
+use Rattle.checked_dossiers.proofs.FitLemmas.{legal_fits}
+use Rattle.checked_dossiers.proofs.ExactLemmas.{no_unfit}
 
 -- ---- the bytes that were handed on are the dossier
 
@@ -54,8 +56,8 @@ module _ (first : Run) (certified : Did IsCertified first) (words : List (List â
   pub accepted_ends : (status : Status) â†’ KeepsItsWord (run_of words source sink status) â†’ EndsAccepted certified.says.certificate.cost (run_of words source sink status) status
   accepted_ends Good run =
       let written = run.written (not_cut Good refl) in
-      let own = own_answer handed.bytes certified.says.instance certified.says.certificate reads_handed fit Good written.text (told Good written.text (meant_answer words source Good written.text Check written.answer ask.means)) in
-      subst (Got (run_of words source sink Good)) own.shown written.appended
+      let shown = own_shown handed.bytes certified.says.instance certified.says.certificate reads_handed fit written.text (told Good written.text (meant_answer words source Good written.text Check written.answer ask.means)) in
+      subst (Got (run_of words source sink Good)) shown written.appended
   accepted_ends Open run =
       let written = run.written (not_cut Open refl) in
       told Open written.text (meant_answer words source Open written.text Check written.answer ask.means)
@@ -74,11 +76,11 @@ module _ (first : Run) (certified : Did IsCertified first) (words : List (List â
       subst (Got (run_of words source sink NoMemory)) written.answer written.appended
   accepted_ends BadDossier run =
       let written = run.written (not_cut BadDossier refl) in
-      let rejected = bad_rejected handed.bytes certified.says.instance certified.says.certificate reads_handed fit written.text (told BadDossier written.text (meant_answer words source BadDossier written.text Check written.answer ask.means)) in
-      fails-not_accepted certified.says.instance certified.says.certificate rejected.place rejected.reason rejected.fails certified.says.accepts
+      let fails = own_fails handed.bytes certified.says.instance certified.says.certificate reads_handed fit written.text (told BadDossier written.text (meant_answer words source BadDossier written.text Check written.answer ask.means)) in
+      fails-not_accepted certified.says.instance certified.says.certificate fails.0 fails.1 fails.2 certified.says.accepts
   accepted_ends Unfit run =
       let written = run.written (not_cut Unfit refl) in
-      fits_some handed.bytes certified.says.instance certified.says.certificate reads_handed fit written.text (told Unfit written.text (meant_answer words source Unfit written.text Check written.answer ask.means))
+      no_unfit handed.bytes written.text certified.says.instance certified.says.certificate reads_handed fit (told Unfit written.text (meant_answer words source Unfit written.text Check written.answer ask.means))
   accepted_ends PlanRefused run =
       let written = run.written (not_cut PlanRefused refl) in
       told PlanRefused written.text (meant_answer words source PlanRefused written.text Check written.answer ask.means)

@@ -3,5 +3,4 @@ pub mod AnswerLemmas
 pub mod ClauseLemmas
 pub mod CheckLemmas
 pub mod CompleteLemmas
-pub mod FitLemmas
 pub mod LawLemmas

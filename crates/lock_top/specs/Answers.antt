@@ -10,7 +10,8 @@ use Rattle.run_answers.specs.declared.status.Status.{Status}
 use Rattle.run_answers.specs.declared.status.Status.TheVariants.{Good, Open, Words, Refused, ReadFault, WriteFault, NoMemory, BadDossier, Unfit, PlanRefused}
 use Rattle.solve_commands.specs.Solving.{solve_limit, AnswersSolve}
 use Rattle.solve_commands.specs.Lots.{AnswersLot, AnswersTrial}
-use Rattle.dossier_commands.specs.Checking.{dossier_limit, AnswersCheck}
+use Rattle.checked_dossiers.specs.Refused.{dossier_limit}
+use Rattle.dossier_commands.specs.Checking.{AnswersCheck}
 use Rattle.dossier_commands.specs.Lowering.{AnswersLower}
 use Rattle.dossier_commands.specs.Resuming.{AnswersResume}
 use Rattle.plan_commands.specs.Judging.{AnswersJudge}

@@ -22,7 +22,7 @@ use Rattle.solve_commands.specs.Searching.{PrintsOpen}
 use Rattle.solve_commands.specs.Keeping.{PrintsLeft}
 use Rattle.solve_commands.specs.Solving.{search_of}
 use Rattle.solve_commands.specs.Lots.{IsLot}
-use Rattle.dossier_commands.specs.DossierTexts.{accepted_text}
+use Rattle.dossier_commands.specs.Checking.{PrintsAccepted}
 use Rattle.dossier_commands.specs.Lowering.{PrintsEqual, PrintsGap}
 use Rattle.dossier_commands.specs.Resuming.{ResumesBest, ResumesOpen}
 use Rattle.plan_commands.specs.Judging.{PrintsJudged}
@@ -72,16 +72,6 @@ pub record IsLeftOpen (options : SolveOptions) (bytes text : List ℕ) : Type 0 
   pub means : Means bytes instance
   pub left : PrintsLeft options.keep (search_of options.nodes options.turns instance) text
 
--- CHECK, ACCEPTED. The bytes are a dossier of an instance and a certificate that is accepted; so its plan is cheapest over all legal plans and has its cost, which is printed.
-pub record IsAccepted (bytes text : List ℕ) : Type 0 where
-  pub instance : Instance
-  pub certificate : Certificate
-  pub reads : Reads bytes instance certificate
-  pub accepts : Accepts instance certificate
-  pub cheapest : IsCheapest instance certificate.plan
-  pub cost : cost_of instance certificate.plan ≡ certificate.cost
-  pub shown : text ≡ accepted_text certificate.cost
-
 -- LOT. Nothing was read, and the sink got the canonical text of the generator's instance.
 pub record IsDrawn (options : LotOptions) (run : Run) : Type 0 where
   pub instance : Instance
@@ -111,7 +101,7 @@ pub record IsTriedOpen (options : TrialOptions) (run : Run) : Type 0 where
 pub record KeepsItsWord (run : Run) : Type 0 where
   pub solved : (options : SolveOptions) → Asks run.words (Solve options) → run.status ≡ Good → Did (IsSolvedAs options.dossier) run
   pub left_open : (options : SolveOptions) → Asks run.words (Solve options) → run.status ≡ Open → Did (IsLeftOpen options) run
-  pub accepted : Asks run.words Check → run.status ≡ Good → Did IsAccepted run
+  pub accepted : Asks run.words Check → run.status ≡ Good → Did PrintsAccepted run
   pub drawn : (options : LotOptions) → Asks run.words (Lot options) → run.status ≡ Good → IsDrawn options run
   pub tried : (options : TrialOptions) → Asks run.words (Trial options) → run.status ≡ Good → IsTried options run
   pub tried_open : (options : TrialOptions) → Asks run.words (Trial options) → run.status ≡ Open → IsTriedOpen options run

@@ -23,7 +23,7 @@ use Rattle.run_answers.specs.declared.status.Status.{Status}
 use Rattle.run_answers.specs.declared.status.Status.TheVariants.{Good, Open, Words, Refused, ReadFault, WriteFault, NoMemory, BadDossier, Unfit, PlanRefused}
 use Rattle.solve_commands.specs.Solving.{solve_limit}
 use Rattle.solve_commands.specs.Lots.{IsLot}
-use Rattle.dossier_commands.specs.Checking.{dossier_limit}
+use Rattle.checked_dossiers.specs.Refused.{dossier_limit}
 use Rattle.dossier_commands.specs.Completing.{MayLower, MayResume}
 use Rattle.plan_commands.specs.Planned.{IsLegallyPlanned}
 use Rattle.replan_command.specs.Ends.{IsReplanServed, MayEndReplan}

@@ -6,7 +6,7 @@ use Rattle.run_answers.specs.Sources.{Drained}
 use Rattle.run_answers.specs.Texts.{no_memory_text}
 use Rattle.run_answers.specs.declared.status.Status.{Status}
 use Rattle.run_answers.specs.declared.status.Status.TheVariants.{Good, Open, Words, Refused, ReadFault, WriteFault, NoMemory, BadDossier, Unfit, PlanRefused}
-use Rattle.dossier_commands.specs.Checking.{dossier_limit}
+use Rattle.checked_dossiers.specs.Refused.{dossier_limit}
 use Rattle.dossier_commands.specs.DossierTexts.{accepted_text}
 use Rattle.lock_top.specs.Asked.{Asks}
 use Rattle.lock_top.specs.Runs.{Filled, Run, Got}

@@ -1,5 +1,5 @@
 //! Which ship lies at a place of a lockage, and how it is moored.
-ghost use Rattle.std.specs.Prelude.{◌≡◌, ◌<◌, ◌≤◌, ◌++◌, length, All, OnOk, slice_index_or};
+ghost use Rattle.std.specs.Prelude.{◌≡◌, ◌<◌, ◌++◌, length, All, OnOk, slice_index_or};
 ghost use Rattle.picture_cards.specs.Berths.{ship_of, spot_of, moor_text, berth_text};
 
 use lock_model::{Instance, Lockage, Moor, Ship, Spot};

@@ -1,5 +1,5 @@
 //! What the ships of a deck cover.
-ghost use Rattle.std.specs.Prelude.{◌≡◌, ◌≤◌, ◌<◌, ◌^◌, length, All};
+ghost use Rattle.std.specs.Prelude.{◌≡◌, ◌<◌, ◌^◌, length, All};
 ghost use Rattle.picture_cards.specs.Hulls.{covers, hull_of, width_of, length_of, bow_of, middle_of};
 
 use crate::berths::{ship_of, spot_of};

@@ -1,5 +1,5 @@
 //! The hulls of a deck.
-ghost use Rattle.std.specs.Prelude.{◌≡◌, ◌≤◌, ◌<◌, ◌++◌, length, All, OnOk};
+ghost use Rattle.std.specs.Prelude.{◌≡◌, ◌<◌, ◌++◌, length, All, OnOk};
 ghost use Rattle.picture_cards.specs.Hulls.{outline, hull_text, hulls};
 
 use crate::berths::{put_berth, ship_of};

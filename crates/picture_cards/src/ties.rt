@@ -1,5 +1,5 @@
 //! How the ships of a deck are tied: to bollards of the quay, or to their hosts.
-ghost use Rattle.std.specs.Prelude.{◌≡◌, ◌≤◌, ◌<◌, ◌^◌, ◌++◌, length, All, OnOk};
+ghost use Rattle.std.specs.Prelude.{◌≡◌, ◌<◌, ◌^◌, ◌++◌, length, All, OnOk};
 ghost use Rattle.picture_cards.specs.Ties.{bollard, line, rope, host_place, tie, near_tie, far_tie, ties_between, ties_at, ties};
 
 use crate::berths::spot_of;

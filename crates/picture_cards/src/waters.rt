@@ -1,6 +1,6 @@
 //! The chamber of a card: water, quays, gates, end clearances, and the words below.
-ghost use Rattle.std.specs.Prelude.{◌≡◌, ◌≤◌, ◌<◌, ◌^◌, ◌++◌, OnOk};
-ghost use Rattle.picture_cards.specs.Waters.{drawn, gate, leaf_of, basin, ends, waters, size_text, size_below, feet};
+ghost use Rattle.std.specs.Prelude.{◌≡◌, ◌≤◌, ◌<◌, ◌++◌, OnOk};
+ghost use Rattle.picture_cards.specs.Waters.{drawn, gate, basin, ends, waters, size_text, size_below, feet};
 
 use crate::scales::{Scale, units_of};
 use lock_model::Chamber;

@@ -1,29 +1,123 @@
--- What is answered where the bytes name no legal plan is what is answered to a picture.
-use Rattle.std.proofs.Common.{ℕ, ◌≡◌, List}
+-- What is answered where a page is asked for.
+use Rattle.std.proofs.Common.{ℕ, ◌≡◌, ◌∙◌, List, Some, None, subst, sym}
+use Rattle.std.specs.declared.option.Option.{Option}
+use Rattle.lock_model.specs.declared.instance.Instance.{Instance}
+use Rattle.lock_model.specs.declared.plan.Plan.{Plan}
+use Rattle.lock_rules.specs.Plan.{IsLegal}
+use Rattle.certificate_rules.specs.Certificates.{Certificate}
+use Rattle.certificate_rules.specs.OpenCertificates.{OpenCertificate}
+use Rattle.cert_text.specs.declared.heading.Heading.{Heading}
+use Rattle.cert_text.specs.declared.heading.Version.{Version}
+use Rattle.cert_text.specs.declared.heading.Heading.TheVariants as heading
 use Rattle.picture_forms.specs.declared.times.Clock.{Clock}
+use Rattle.picture_page.specs.declared.heads.Standing.{Standing}
+use Rattle.picture_page.specs.declared.heads.Standing.TheVariants as standing
+use Rattle.plan_commands.specs.Planned.{IsPlanned, AnswersIllegal}
+use Rattle.checked_dossiers.specs.Accepted.{IsAccepted, IsNotAccepted}
+use Rattle.checked_dossiers.specs.Standing.{IsStanding, HasLow, IsNoStanding}
 use Rattle.run_answers.specs.Sources.{IsFair}
+use Rattle.run_answers.specs.Texts.{no_memory_text}
 use Rattle.run_answers.specs.declared.status.Status.{Status}
 use Rattle.run_answers.specs.declared.status.Status.TheVariants.{Good, Open, Words, Refused, ReadFault, WriteFault, NoMemory, BadDossier, Unfit, PlanRefused}
-use Rattle.plan_commands.specs.Planned.{AnswersIllegal}
-use Rattle.picture_command.specs.Pictures.{AnswersPicture}
+use Rattle.picture_command.specs.Headings.{heading_in}
+use Rattle.picture_command.specs.Pictures.{IsPicture, PrintsPlan, PrintsCheapest, PrintsBounded, standing_of, IsPageOr, AnswersPlan, AnswersDossier, AnswersOpenDossier, AnswersHeaded, AnswersPicture, TellsPicture}
 
-pub picture_illegal : (clock : Clock) (bytes : List ℕ) (status : Status) (text : List ℕ) → AnswersIllegal bytes status text → AnswersPicture clock bytes status text
-picture_illegal clock bytes Good text answer = absurd answer
-picture_illegal clock bytes Open text answer = answer
-picture_illegal clock bytes Words text answer = answer
-picture_illegal clock bytes Refused text answer = answer
-picture_illegal clock bytes ReadFault text answer = answer
-picture_illegal clock bytes WriteFault text answer = answer
-picture_illegal clock bytes NoMemory text answer = answer
-picture_illegal clock bytes BadDossier text answer = answer
-picture_illegal clock bytes Unfit text answer = answer
-picture_illegal clock bytes PlanRefused text answer = answer
+-- ---- what is answered where there is no page
 
--- to bytes neither that words are bad nor that a fault was counted is answered
+no_page : (Page : Type 0) (Refusal : Status → Type 0) (s : Status) → (Refusal Good → ⊥) → Refusal s → IsPageOr Page Refusal s
+no_page Page Refusal Good never refusal = absurd (never refusal)
+no_page Page Refusal Open never refusal = refusal
+no_page Page Refusal Words never refusal = refusal
+no_page Page Refusal Refused never refusal = refusal
+no_page Page Refusal ReadFault never refusal = refusal
+no_page Page Refusal WriteFault never refusal = refusal
+no_page Page Refusal NoMemory never refusal = refusal
+no_page Page Refusal BadDossier never refusal = refusal
+no_page Page Refusal Unfit never refusal = refusal
+no_page Page Refusal PlanRefused never refusal = refusal
+
+pub plan_refused : (clock : Clock) (bytes : List ℕ) (s : Status) (text : List ℕ) → AnswersIllegal bytes s text → AnswersPlan clock bytes s text
+plan_refused clock bytes s text refusal = no_page (PrintsPlan clock bytes text) (λ t. AnswersIllegal bytes t text) s (λ never. never) refusal
+
+pub dossier_refused : (clock : Clock) (bytes : List ℕ) (s : Status) (text : List ℕ) → IsNotAccepted bytes s text → AnswersDossier clock bytes s text
+dossier_refused clock bytes s text refusal = no_page (PrintsCheapest clock bytes text) (λ t. IsNotAccepted bytes t text) s (λ never. never) refusal
+
+pub open_refused : (clock : Clock) (bytes : List ℕ) (s : Status) (text : List ℕ) → IsNoStanding bytes s text → AnswersOpenDossier clock bytes s text
+open_refused clock bytes s text refusal = no_page (PrintsBounded clock bytes text) (λ t. IsNoStanding bytes t text) s (λ never. never) refusal
+
+-- ---- what is answered where there is a page
+
+page_told : (clock : Clock) (kind : Standing) (I : Instance) (P : Plan) (Page : Type 0) (Refusal : Status → Type 0) (s : Status) (text : List ℕ)
+    → (IsPicture clock kind I P text → Page) → (text ≡ no_memory_text → Refusal NoMemory) → TellsPicture clock kind I P s text → IsPageOr Page Refusal s
+page_told clock kind I P Page Refusal Good text page wanting told = page told
+page_told clock kind I P Page Refusal Open text page wanting told = absurd told
+page_told clock kind I P Page Refusal Words text page wanting told = absurd told
+page_told clock kind I P Page Refusal Refused text page wanting told = absurd told
+page_told clock kind I P Page Refusal ReadFault text page wanting told = absurd told
+page_told clock kind I P Page Refusal WriteFault text page wanting told = absurd told
+page_told clock kind I P Page Refusal NoMemory text page wanting told = wanting told
+page_told clock kind I P Page Refusal BadDossier text page wanting told = absurd told
+page_told clock kind I P Page Refusal Unfit text page wanting told = absurd told
+page_told clock kind I P Page Refusal PlanRefused text page wanting told = absurd told
+
+pub plan_pictured : (clock : Clock) (bytes : List ℕ) (I : Instance) (P : Plan) (s : Status) (text : List ℕ) → IsPlanned bytes I P → IsLegal I P
+    → TellsPicture clock standing.Legal I P s text → AnswersPlan clock bytes s text
+plan_pictured clock bytes I P s text planned legal told =
+    page_told clock standing.Legal I P (PrintsPlan clock bytes text) (λ t. AnswersIllegal bytes t text) s text
+    (λ page. record { instance = I; plan = P; planned = record { planned = planned; legal = legal }; page = page }) (λ shown. shown) told
+
+pub dossier_pictured : (clock : Clock) (bytes : List ℕ) (I : Instance) (C : Certificate) (s : Status) (text : List ℕ) → IsAccepted bytes I C
+    → TellsPicture clock standing.Optimal I C.plan s text → AnswersDossier clock bytes s text
+dossier_pictured clock bytes I C s text accepted told =
+    page_told clock standing.Optimal I C.plan (PrintsCheapest clock bytes text) (λ t. IsNotAccepted bytes t text) s text
+    (λ page. record { instance = I; certificate = C; accepted = accepted; page = page }) (λ shown. shown) told
+
+pub open_pictured : (clock : Clock) (bytes : List ℕ) (I : Instance) (C : OpenCertificate) (low : ℕ) (kind : Standing) (s : Status) (text : List ℕ) → IsStanding bytes I C → HasLow I C low
+    → kind ≡ standing_of low C.cost → TellsPicture clock kind I C.plan s text → AnswersOpenDossier clock bytes s text
+open_pictured clock bytes I C low kind s text stands lowest is told =
+    page_told clock kind I C.plan (PrintsBounded clock bytes text) (λ t. IsNoStanding bytes t text) s text
+    (λ page. record { instance = I; certificate = C; low = low; standing = stands; lowest = lowest; page = subst (λ k. IsPicture clock k I C.plan text) is page }) (λ shown. shown) told
+
+-- ---- what is answered is told by the heading
+
+by_heading : (clock : Clock) (bytes : List ℕ) (s : Status) (text : List ℕ) (found told : Option Heading) → found ≡ told → found ≡ heading_in bytes → AnswersHeaded clock told bytes s text → AnswersPicture clock bytes s text
+by_heading clock bytes s text found told is ensured answer = subst (λ h. AnswersHeaded clock h bytes s text) (sym is ∙ ensured) answer
+
+pub plan_follows : (clock : Clock) (bytes : List ℕ) (s : Status) (text : List ℕ) (found : Option Heading) → found ≡ None → found ≡ heading_in bytes → AnswersPlan clock bytes s text → AnswersPicture clock bytes s text
+plan_follows clock bytes s text found is ensured answer = by_heading clock bytes s text found None is ensured answer
+
+pub certificate_follows : (clock : Clock) (bytes : List ℕ) (s : Status) (text : List ℕ) (found : Option Heading) (version : Version) → found ≡ Some (heading.Whole version) → found ≡ heading_in bytes → AnswersDossier clock bytes s text → AnswersPicture clock bytes s text
+certificate_follows clock bytes s text found version is ensured answer = by_heading clock bytes s text found (Some (heading.Whole version)) is ensured answer
+
+pub open_follows : (clock : Clock) (bytes : List ℕ) (s : Status) (text : List ℕ) (found : Option Heading) (version : Version) → found ≡ Some (heading.Open version) → found ≡ heading_in bytes → AnswersOpenDossier clock bytes s text → AnswersPicture clock bytes s text
+open_follows clock bytes s text found version is ensured answer = by_heading clock bytes s text found (Some (heading.Open version)) is ensured answer
+
+-- ---- to bytes neither that words are bad nor that a fault was counted is answered
+
+no_words : (clock : Clock) (found : Option Heading) (bytes text : List ℕ) → AnswersHeaded clock found bytes Words text → ⊥
+no_words clock None bytes text says = says
+no_words clock (Some (heading.Whole version)) bytes text says = says
+no_words clock (Some (heading.Open version)) bytes text says = says
+
+no_read_fault : (clock : Clock) (found : Option Heading) (bytes text : List ℕ) → AnswersHeaded clock found bytes ReadFault text → ⊥
+no_read_fault clock None bytes text says = says
+no_read_fault clock (Some (heading.Whole version)) bytes text says = says
+no_read_fault clock (Some (heading.Open version)) bytes text says = says
+
+no_write_fault : (clock : Clock) (found : Option Heading) (bytes text : List ℕ) → AnswersHeaded clock found bytes WriteFault text → ⊥
+no_write_fault clock None bytes text says = says
+no_write_fault clock (Some (heading.Whole version)) bytes text says = says
+no_write_fault clock (Some (heading.Open version)) bytes text says = says
+
+wanting : (clock : Clock) (found : Option Heading) (bytes text : List ℕ) → AnswersHeaded clock found bytes NoMemory text → text ≡ no_memory_text
+wanting clock None bytes text says = says
+wanting clock (Some (heading.Whole version)) bytes text says = says
+wanting clock (Some (heading.Open version)) bytes text says = says
+
 pub picture_fair : (clock : Clock) → IsFair (AnswersPicture clock)
 picture_fair clock = record {
-  words = λ bytes text says. says;
-  read_fault = λ bytes text says. says;
-  write_fault = λ bytes text says. says;
-  no_memory = λ bytes text says. says;
+  words = λ bytes text says. no_words clock (heading_in bytes) bytes text says;
+  read_fault = λ bytes text says. no_read_fault clock (heading_in bytes) bytes text says;
+  write_fault = λ bytes text says. no_write_fault clock (heading_in bytes) bytes text says;
+  no_memory = λ bytes text says. wanting clock (heading_in bytes) bytes text says;
 }

@@ -1,5 +1,5 @@
 -- The day of a legal plan, and its picture.
-use Rattle.std.proofs.Common.{ℕ, ◌≡◌, ◌<◌, ◌∙◌, List, length, All, true, false, subst, ap}
+use Rattle.std.proofs.Common.{ℕ, ◌≡◌, ◌<◌, ◌∙◌, List, length, All, true, subst, ap}
 use Rattle.std.proofs.lemmas.List.Elements.{All-weaker}
 use Rattle.lock_model.specs.declared.instance.Instance.{Instance}
 use Rattle.lock_model.specs.declared.plan.Plan.{Plan}
@@ -11,11 +11,10 @@ use Rattle.day_play.specs.declared.beat.Beat.{Beat}
 use Rattle.picture_forms.specs.declared.times.Clock.{Clock}
 use Rattle.picture_day.specs.Passages.{is_go, IsKnownGo}
 use Rattle.picture_page.specs.Page.{picture}
-use Rattle.picture_page.specs.declared.heads.Standing.TheVariants.{Legal}
-use Rattle.plan_commands.specs.Planned.{IsLegallyPlanned}
+use Rattle.picture_page.specs.declared.heads.Standing.{Standing}
 use Rattle.plan_commands.specs.Playing.{IsKnownAct, IsKnownBeat}
 use Rattle.plan_commands.proofs.BeatLemmas.{day_known}
-use Rattle.picture_command.specs.Pictures.{PrintsPicture}
+use Rattle.picture_command.specs.Pictures.{IsPicture}
 
 known_go : (I : Instance) (P : Plan) (p : ℕ) (a : Act) → IsKnownAct I P p a → is_go a ≡ true → p < length P.lockages
 known_go I P p Turn known go = cc
@@ -29,12 +28,9 @@ day_goes I P bs lawful =
     All-weaker (IsKnownBeat I P) (IsKnownGo P) (λ b known. record { known = known_go I P b.lockage b.act known.act }) bs (day_known I P bs lawful)
 
 -- the picture of the day that is played is what is printed
-pub day_pictured : (clock : Clock) (bytes text : List ℕ) (I : Instance) (P : Plan) (bs : List Beat) → IsLegallyPlanned bytes I P → IsLawfulDay I P bs → bs ≡ day_of I P
-    → text ≡ picture Legal clock I P bs → PrintsPicture clock bytes text
-day_pictured clock bytes text I P bs planned lawful played shown = record {
-  instance = I;
-  plan = P;
-  planned = planned;
+pub day_pictured : (clock : Clock) (kind : Standing) (I : Instance) (P : Plan) (bs : List Beat) (text : List ℕ) → IsLawfulDay I P bs → bs ≡ day_of I P
+    → text ≡ picture kind clock I P bs → IsPicture clock kind I P text
+day_pictured clock kind I P bs text lawful played shown = record {
   lawful = subst (IsLawfulDay I P) played lawful;
-  shown = shown ∙ ap (picture Legal clock I P) played;
+  shown = shown ∙ ap (picture kind clock I P) played;
 }

@@ -1,2 +1,4 @@
 pub mod AnswerLemmas
 pub mod DayLemmas
+pub mod AfterLemmas
+pub mod CompleteLemmas

@@ -36,8 +36,7 @@ clock_in (a ∷ []) = None
 clock_in (a ∷ b ∷ []) = if bytes_eq a (codes "--clock") then (time_in b) else None
 clock_in (a ∷ b ∷ c ∷ rest) = None
 
--- `picture`, `plan`, and perhaps a clock
+-- `picture`, and perhaps a clock
 abbrev pub asked_in : List (List ℕ) → Option Clock
 asked_in [] = None
-asked_in (a ∷ []) = None
-asked_in (a ∷ b ∷ rest) = if bytes_eq a (codes "picture") && bytes_eq b (codes "plan") then (clock_in rest) else None
+asked_in (a ∷ rest) = if bytes_eq a (codes "picture") then (clock_in rest) else None

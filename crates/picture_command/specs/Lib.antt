@@ -1,3 +1,4 @@
 pub mod Asked
+pub mod Headings
 pub mod Pictures
 pub mod Runs

@@ -1,36 +1,93 @@
--- What is answered to the bytes of an instance and a plan: a status and what is written.
-use Rattle.std.specs.Prelude.{ℕ, ◌≡◌, ◌⊎◌, List}
+-- What is answered to the bytes of an instance and a plan, or of a dossier: a status and what is written.
+use Rattle.std.specs.Prelude.{ℕ, ◌≡◌, List, Some, None, nat_eq, if◌then◌else◌}
+use Rattle.std.specs.declared.option.Option.{Option}
 use Rattle.lock_model.specs.declared.instance.Instance.{Instance}
 use Rattle.lock_model.specs.declared.plan.Plan.{Plan}
-use Rattle.instance_text.specs.Reading.{instance_part}
+use Rattle.certificate_rules.specs.Certificates.{Certificate}
+use Rattle.certificate_rules.specs.OpenCertificates.{OpenCertificate}
+use Rattle.cert_text.specs.declared.heading.Heading.{Heading}
+use Rattle.cert_text.specs.declared.heading.Heading.TheVariants as heading
 use Rattle.day_play.specs.Lawful.{IsLawfulDay}
 use Rattle.day_play.specs.Playing.{day_of}
 use Rattle.picture_forms.specs.declared.times.Clock.{Clock}
 use Rattle.picture_page.specs.Page.{picture}
-use Rattle.picture_page.specs.declared.heads.Standing.TheVariants.{Legal}
-use Rattle.plan_commands.specs.Planned.{IsLegallyPlanned, IsFault, IsBreak}
-use Rattle.run_answers.specs.Refusals.{IsDefect}
+use Rattle.picture_page.specs.declared.heads.Standing.{Standing}
+use Rattle.picture_page.specs.declared.heads.Standing.TheVariants as standing
+use Rattle.plan_commands.specs.Planned.{IsLegallyPlanned, AnswersIllegal}
+use Rattle.checked_dossiers.specs.Accepted.{IsAccepted, IsNotAccepted}
+use Rattle.checked_dossiers.specs.Standing.{IsStanding, HasLow, IsNoStanding}
 use Rattle.run_answers.specs.Texts.{no_memory_text}
 use Rattle.run_answers.specs.declared.status.Status.{Status}
 use Rattle.run_answers.specs.declared.status.Status.TheVariants.{Good, Open, Words, Refused, ReadFault, WriteFault, NoMemory, BadDossier, Unfit, PlanRefused}
+use Rattle.picture_command.specs.Headings.{heading_in}
 
--- The bytes name a legal plan, and the text is the picture of it and of its day, which is a lawful one.
-pub record PrintsPicture (clock : Clock) (bytes text : List ℕ) : Type 0 where
+-- The text is the picture of a plan of this standing and of its day, which is a lawful one.
+pub record IsPicture (clock : Clock) (standing : Standing) (I : Instance) (P : Plan) (text : List ℕ) : Type 0 where
+  pub lawful : IsLawfulDay I P (day_of I P)
+  pub shown : text ≡ picture standing clock I P (day_of I P)
+
+-- The bytes name a legal plan, and its picture says that it is legal.
+pub record PrintsPlan (clock : Clock) (bytes text : List ℕ) : Type 0 where
   pub instance : Instance
   pub plan : Plan
   pub planned : IsLegallyPlanned bytes instance plan
-  pub lawful : IsLawfulDay instance plan (day_of instance plan)
-  pub shown : text ≡ picture Legal clock instance plan (day_of instance plan)
+  pub page : IsPicture clock standing.Legal instance plan text
 
--- what is answered to bytes
+-- The bytes are a dossier with an accepted certificate, and the picture of its plan says that no legal plan costs less.
+pub record PrintsCheapest (clock : Clock) (bytes text : List ℕ) : Type 0 where
+  pub instance : Instance
+  pub certificate : Certificate
+  pub accepted : IsAccepted bytes instance certificate
+  pub page : IsPicture clock standing.Optimal instance certificate.plan text
+
+-- what a low says of a plan of this cost: where they are equal, that no legal plan costs less
+abbrev pub standing_of : ℕ → ℕ → Standing
+standing_of low cost = if nat_eq low cost then standing.Optimal else standing.Open low
+
+-- The bytes are an open dossier that stands, and the picture of its plan says its low, below which no legal plan costs.
+pub record PrintsBounded (clock : Clock) (bytes text : List ℕ) : Type 0 where
+  pub instance : Instance
+  pub certificate : OpenCertificate
+  pub low : ℕ
+  pub standing : IsStanding bytes instance certificate
+  pub lowest : HasLow instance certificate low
+  pub page : IsPicture clock (standing_of low certificate.cost) instance certificate.plan text
+
+-- a page, with `Good`, or what is answered where there is none
+abbrev pub IsPageOr : Type 0 → (Status → Type 0) → Status → Type 0
+IsPageOr Page Refusal Good = Page
+IsPageOr Page Refusal Open = Refusal Open
+IsPageOr Page Refusal Words = Refusal Words
+IsPageOr Page Refusal Refused = Refusal Refused
+IsPageOr Page Refusal ReadFault = Refusal ReadFault
+IsPageOr Page Refusal WriteFault = Refusal WriteFault
+IsPageOr Page Refusal NoMemory = Refusal NoMemory
+IsPageOr Page Refusal BadDossier = Refusal BadDossier
+IsPageOr Page Refusal Unfit = Refusal Unfit
+IsPageOr Page Refusal PlanRefused = Refusal PlanRefused
+
+-- what is answered to an instance and a plan, to a dossier, and to an open one
+abbrev pub AnswersPlan : Clock → List ℕ → Status → List ℕ → Type 0
+AnswersPlan clock bytes status text = IsPageOr (PrintsPlan clock bytes text) (λ s. AnswersIllegal bytes s text) status
+
+abbrev pub AnswersDossier : Clock → List ℕ → Status → List ℕ → Type 0
+AnswersDossier clock bytes status text = IsPageOr (PrintsCheapest clock bytes text) (λ s. IsNotAccepted bytes s text) status
+
+abbrev pub AnswersOpenDossier : Clock → List ℕ → Status → List ℕ → Type 0
+AnswersOpenDossier clock bytes status text = IsPageOr (PrintsBounded clock bytes text) (λ s. IsNoStanding bytes s text) status
+
+-- by the heading of a certificate, where the bytes have one
+abbrev pub AnswersHeaded : Clock → Option Heading → List ℕ → Status → List ℕ → Type 0
+AnswersHeaded clock None bytes status text = AnswersPlan clock bytes status text
+AnswersHeaded clock (Some (heading.Whole version)) bytes status text = AnswersDossier clock bytes status text
+AnswersHeaded clock (Some (heading.Open version)) bytes status text = AnswersOpenDossier clock bytes status text
+
+-- WHAT IS ANSWERED to bytes
 abbrev pub AnswersPicture : Clock → List ℕ → Status → List ℕ → Type 0
-AnswersPicture clock bytes Good text = PrintsPicture clock bytes text
-AnswersPicture clock bytes Open text = ⊥
-AnswersPicture clock bytes Words text = ⊥
-AnswersPicture clock bytes Refused text = IsDefect (instance_part bytes) text
-AnswersPicture clock bytes ReadFault text = ⊥
-AnswersPicture clock bytes WriteFault text = ⊥
-AnswersPicture clock bytes NoMemory text = text ≡ no_memory_text
-AnswersPicture clock bytes BadDossier text = ⊥
-AnswersPicture clock bytes Unfit text = ⊥
-AnswersPicture clock bytes PlanRefused text = IsFault bytes text ⊎ IsBreak bytes text
+AnswersPicture clock bytes status text = AnswersHeaded clock (heading_in bytes) bytes status text
+
+-- a picture, or want of memory for it
+abbrev pub TellsPicture : Clock → Standing → Instance → Plan → Status → List ℕ → Type 0
+TellsPicture clock standing I P Good text = IsPicture clock standing I P text
+TellsPicture clock standing I P NoMemory text = text ≡ no_memory_text
+TellsPicture clock standing I P status text = ⊥

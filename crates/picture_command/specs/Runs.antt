@@ -2,7 +2,8 @@
 use Rattle.std.specs.Prelude.{ℕ, ◌≡◌, List, Some, None}
 use Rattle.std.specs.declared.option.Option.{Option}
 use Rattle.picture_forms.specs.declared.times.Clock.{Clock}
-use Rattle.run_answers.specs.Sources.{Drained, IsUnread, AnswersSource, plan_limit}
+use Rattle.checked_dossiers.specs.Refused.{dossier_limit}
+use Rattle.run_answers.specs.Sources.{Drained, IsUnread, AnswersSource}
 use Rattle.run_answers.specs.Texts.{bad_words_text}
 use Rattle.run_answers.specs.declared.status.Status.{Status}
 use Rattle.run_answers.specs.declared.status.Status.TheVariants.{Words}
@@ -18,7 +19,7 @@ pub record AnswersBadWords (source : Drained) (status : Status) (text : List ℕ
 -- what is answered to what was asked
 abbrev pub AnswersAsked : Option Clock → Drained → Status → List ℕ → Type 0
 AnswersAsked None source status text = AnswersBadWords source status text
-AnswersAsked (Some clock) source status text = AnswersSource plan_limit (AnswersPicture clock) source status text
+AnswersAsked (Some clock) source status text = AnswersSource dossier_limit (AnswersPicture clock) source status text
 
 -- WHAT IS ANSWERED to words and a source
 abbrev pub AnswersRun : List (List ℕ) → Drained → Status → List ℕ → Type 0

@@ -21,12 +21,12 @@ fn refusal() -> Answer
 
 /// Answers what the words after the program's name ask, over a source.
 ///
-/// `picture plan` reads an instance and a plan; with `Good` the plan is legal, and the text is the
-/// picture of it and of its lawful day, as one page. `Words` comes exactly where the words are bad, and
-/// nothing is read then. The other statuses come with their causes and texts as those of `judge`:
-/// `ReadFault` only where the source counted a fault; `Refused` where there are more than 131,072 bytes,
-/// or the instance text has the printed first defect; `PlanRefused` where the plan text has the printed
-/// first fault, or the plan the printed first break. Each yields to want of memory.
+/// `picture` reads an instance and then a plan of it, or a dossier, whole or open. With `Good` the text is
+/// the picture of a legal plan and of its lawful day, as one page. It says `optimal` of the plan of a
+/// dossier whose certificate is accepted, and of that of an open dossier what no legal plan costs less
+/// than. `Words` comes exactly where the words are bad, and nothing is read then. `ReadFault` comes only
+/// where the source counted a fault, and the other statuses with their causes and texts as those of
+/// `judge`, `check` and `lower`. Each yields to want of memory.
 pub fn answer_to<S: Source>(alloc: Global, words: &[String], src: &mut S) -> Answer
     ensures { AnswersRun (map string_bytes words.now) (drained (S.left src.old) (S.left src.new) (S.faults src.old) (S.faults src.new)) result.status (bytes_in result.text) }
 {

@@ -90,15 +90,12 @@ pub(crate) fn asked_in(words: &[String]) -> Option<Clock>
 {
     match words {
         [] => None,
-        [command, rest @ ..] => match rest {
-            [] => None,
-            [kind, more @ ..] => {
-                if is_word(command, b"picture") && is_word(kind, b"plan") {
-                    clock_in(more)
-                } else {
-                    None
-                }
+        [command, rest @ ..] => {
+            if is_word(command, b"picture") {
+                clock_in(rest)
+            } else {
+                None
             }
-        },
+        }
     }
 }

@@ -1,15 +1,19 @@
 //! What the program of the picture answers to its words and a source.
 //!
-//! `picture plan` reads an instance and then a plan of it, as `judge` does, and answers the plan's
-//! picture as one page, or what `judge` answers where the plan isn't legal. `--clock HH:MM` says which
-//! time of day minute 0 is.
+//! `picture` reads an instance and then a plan of it, as `judge` does, or a dossier, as `check` and
+//! `lower` do: the line behind the instance tells which. It answers the plan's picture as one page, or
+//! what those commands answer where they refuse. `--clock HH:MM` says which time of day minute 0 is.
 //!
-//! Definitions: `specs/Asked` (what the words ask for), `Pictures` (what is answered to bytes), `Runs`
-//! (what is answered to words and a source).
+//! Definitions: `specs/Asked` (what the words ask for), `Headings` (what follows an instance part),
+//! `Pictures` (what is answered to bytes), `Runs` (what is answered to words and a source). That a dossier
+//! which is accepted, and an open one that stands, are drawn, want of memory aside, is proved in
+//! `proofs/CompleteLemmas`.
 #![tactic(auto)]
 
 mod answers;
 mod asked;
+mod headings;
+mod pages;
 mod pictures;
 
 pub use answers::answer_to;

@@ -1,54 +1,30 @@
-//! What is answered to an instance and a plan.
+//! What is answered to an instance and a plan, and to dossiers.
 ghost use Rattle.std.specs.Prelude.{◌≡◌};
-ghost use Rattle.day_play.specs.Lawful.{IsLawfulDay};
-ghost use Rattle.day_play.specs.Playing.{day_of};
-ghost use Rattle.run_answers.specs.Sources.{AnswersSource, drained, plan_limit};
+ghost use Rattle.checked_dossiers.specs.Refused.{dossier_limit};
+ghost use Rattle.checked_dossiers.specs.Accepted.{IsAccepted};
+ghost use Rattle.checked_dossiers.specs.Standing.{IsStanding, HasLow};
+ghost use Rattle.run_answers.specs.Sources.{AnswersSource, drained};
 ghost use Rattle.run_answers.specs.Written.{bytes_in};
-ghost use Rattle.plan_commands.specs.Planned.{IsPlanned, IsLegallyPlanned};
-ghost use Rattle.picture_command.specs.Pictures.{AnswersPicture};
+ghost use Rattle.plan_commands.specs.Planned.{IsPlanned};
+ghost use Rattle.picture_command.specs.Pictures.{standing_of, AnswersPlan, AnswersDossier, AnswersOpenDossier, AnswersPicture};
 
-use day_play::{Day, Played, play};
+use crate::headings::heading_in;
+use crate::pages::{day_page, plan_page};
+use cert_text::Heading;
+use checked_dossiers::{
+    AcceptedDossier, DOSSIER_LIMIT, OpenCertificate, StandingDossier, read_accepted, read_standing,
+};
+use day_play::{Played, play};
 use lock_io::Source;
 use lock_model::{Instance, Plan};
-use picture_page::{Clock, NoMemory, Standing, print_picture};
+use picture_page::{Clock, Standing};
 use plan_commands::{break_answer, read_planned};
-use run_answers::{Answer, PLAN_LIMIT, Status, Text, no_memory, read_source};
+use run_answers::{Answer, read_source};
 use std::alloc::Global;
 
-// The picture of a legal plan and its day.
-#[tactic(auto, using(crate::proofs::DayLemmas::day_goes, crate::proofs::DayLemmas::day_pictured))]
-fn day_answer(
-    alloc: Global,
-    clock: Clock,
-    bytes: &[u8],
-    instance: &Instance,
-    plan: &Plan,
-    day: &Day,
-) -> Answer
-    requires planned { IsLegallyPlanned bytes.now instance.now plan.now }
-    requires lawful { IsLawfulDay instance.now plan.now day.now }
-    requires played { day.now ≡ day_of instance.now plan.now }
-    ensures { AnswersPicture clock bytes.now result.status (bytes_in result.text) }
-{
-    match print_picture(
-        alloc,
-        Standing::Legal,
-        clock,
-        instance,
-        plan,
-        day.as_slice(),
-    ) {
-        Ok(page) => Answer {
-            status: Status::Good,
-            text: Text::Made(page),
-        },
-        Err(NoMemory) => no_memory(),
-    }
-}
-
 // What comes of the plan that the bytes name.
-#[tactic(auto, using(crate::proofs::AnswerLemmas::picture_illegal))]
-fn plan_answer(
+#[tactic(auto, using(crate::proofs::AnswerLemmas::plan_pictured, crate::proofs::AnswerLemmas::plan_refused))]
+fn named_answer(
     alloc: Global,
     clock: Clock,
     bytes: &[u8],
@@ -56,32 +32,106 @@ fn plan_answer(
     plan: &Plan,
 ) -> Answer
     requires { IsPlanned bytes.now instance.now plan.now }
-    ensures { AnswersPicture clock bytes.now result.status (bytes_in result.text) }
+    ensures { AnswersPlan clock bytes.now result.status (bytes_in result.text) }
 {
     match play(instance, plan) {
-        Played::Day(day) => day_answer(alloc, clock, bytes, instance, plan, &day),
+        Played::Day(day) => day_page(alloc, clock, Standing::Legal, instance, plan, &day),
         Played::Stuck(broken) => break_answer(alloc, bytes, instance, plan, broken),
     }
 }
 
-// What is answered to the bytes of a text.
-#[tactic(auto, using(crate::proofs::AnswerLemmas::picture_illegal))]
-fn text_answer(alloc: Global, clock: Clock, bytes: &[u8]) -> Answer
-    ensures { AnswersPicture clock bytes.now result.status (bytes_in result.text) }
+// What is answered to an instance and a plan.
+#[tactic(auto, using(crate::proofs::AnswerLemmas::plan_refused))]
+fn plan_answer(alloc: Global, clock: Clock, bytes: &[u8]) -> Answer
+    ensures { AnswersPlan clock bytes.now result.status (bytes_in result.text) }
 {
     match read_planned(alloc, bytes) {
-        Ok((instance, plan)) => plan_answer(alloc, clock, bytes, &instance, &plan),
+        Ok((instance, plan)) => named_answer(alloc, clock, bytes, &instance, &plan),
         Err(answer) => answer,
     }
 }
 
-/// Reads an instance and a plan of it, at most 131,072 bytes together, to the source's end. Of a legal
-/// plan it answers the picture. Else it says what is refused, as `judge_answer` does.
+// The page of a dossier whose certificate is accepted.
+#[tactic(auto, using(crate::proofs::AnswerLemmas::dossier_pictured))]
+fn accepted_answer(alloc: Global, clock: Clock, bytes: &[u8], dossier: &AcceptedDossier) -> Answer
+    requires { IsAccepted bytes.now dossier.now.instance dossier.now.certificate }
+    ensures { AnswersDossier clock bytes.now result.status (bytes_in result.text) }
+{
+    let AcceptedDossier {
+        instance,
+        certificate,
+    } = dossier;
+    plan_page(alloc, clock, Standing::Optimal, instance, &certificate.plan)
+}
+
+// What is answered to a dossier.
+#[tactic(auto, using(crate::proofs::AnswerLemmas::dossier_refused))]
+fn dossier_answer(alloc: Global, clock: Clock, bytes: &[u8]) -> Answer
+    ensures { AnswersDossier clock bytes.now result.status (bytes_in result.text) }
+{
+    match read_accepted(alloc, bytes) {
+        Ok(dossier) => accepted_answer(alloc, clock, bytes, &dossier),
+        Err(answer) => answer,
+    }
+}
+
+// What a low says of the plan of a certificate.
+fn standing_of(low: u64, certificate: &OpenCertificate) -> Standing
+    ensures { result ≡ standing_of low certificate.now.cost }
+{
+    if low == certificate.cost {
+        Standing::Optimal
+    } else {
+        Standing::Open(low)
+    }
+}
+
+// The page of an open dossier that stands.
+fn standing_answer(alloc: Global, clock: Clock, bytes: &[u8], dossier: &StandingDossier) -> Answer
+    requires standing { IsStanding bytes.now dossier.now.instance dossier.now.certificate }
+    requires low { HasLow dossier.now.instance dossier.now.certificate dossier.now.low }
+    ensures { AnswersOpenDossier clock bytes.now result.status (bytes_in result.text) }
+{
+    let StandingDossier {
+        instance,
+        certificate,
+        low,
+    } = dossier;
+    let standing = standing_of(*low, certificate);
+    plan_page(alloc, clock, standing, instance, &certificate.plan)
+}
+
+// What is answered to an open dossier.
+#[tactic(auto, using(crate::proofs::AnswerLemmas::open_refused))]
+fn open_answer(alloc: Global, clock: Clock, bytes: &[u8]) -> Answer
+    ensures { AnswersOpenDossier clock bytes.now result.status (bytes_in result.text) }
+{
+    match read_standing(alloc, bytes) {
+        Ok(dossier) => standing_answer(alloc, clock, bytes, &dossier),
+        Err(answer) => answer,
+    }
+}
+
+// What is answered to the bytes of a text, by what follows its instance part.
+#[tactic(auto, using(crate::proofs::AnswerLemmas::plan_follows, crate::proofs::AnswerLemmas::certificate_follows, crate::proofs::AnswerLemmas::open_follows))]
+fn text_answer(alloc: Global, clock: Clock, bytes: &[u8]) -> Answer
+    ensures { AnswersPicture clock bytes.now result.status (bytes_in result.text) }
+{
+    match heading_in(bytes) {
+        None => plan_answer(alloc, clock, bytes),
+        Some(Heading::Whole(_)) => dossier_answer(alloc, clock, bytes),
+        Some(Heading::Open(_)) => open_answer(alloc, clock, bytes),
+    }
+}
+
+/// Reads an instance and a plan of it, or a dossier, to the source's end. Of a legal plan, and of the
+/// plan of a dossier that is accepted or stands, it answers the picture. Else it says what is refused, as
+/// `judge`, `check` and `lower` do.
 #[tactic(auto, using(crate::proofs::AnswerLemmas::picture_fair, run_answers::proofs::SourceLemmas::bytes_answer, run_answers::proofs::SourceLemmas::unreadable_answers))]
 pub(crate) fn picture_answer<S: Source>(alloc: Global, clock: Clock, src: &mut S) -> Answer
-    ensures answer { AnswersSource plan_limit (AnswersPicture clock) (drained (S.left src.old) (S.left src.new) (S.faults src.old) (S.faults src.new)) result.status (bytes_in result.text) }
+    ensures answer { AnswersSource dossier_limit (AnswersPicture clock) (drained (S.left src.old) (S.left src.new) (S.faults src.old) (S.faults src.new)) result.status (bytes_in result.text) }
 {
-    match read_source(alloc, src, PLAN_LIMIT) {
+    match read_source(alloc, src, DOSSIER_LIMIT) {
         Ok(bytes) => text_answer(alloc, clock, bytes.as_slice()),
         Err(answer) => answer,
     }

@@ -1,5 +1,5 @@
 //! The lockages of a day.
-ghost use Rattle.std.specs.Prelude.{◌≡◌, ◌+◌, ◌<◌, ◌≤◌, ◌++◌, length, All, OnOk, IfOk, IfSome};
+ghost use Rattle.std.specs.Prelude.{◌≡◌, ◌+◌, ◌<◌, ◌≤◌, ◌++◌, length, All, OnOk, IfOk};
 ghost use Rattle.lock_rules.specs.Plan.{IsLegal, IsLegalLockage};
 ghost use Rattle.picture_day.specs.Passages.{is_turn, is_go, turn_before, passage_in, passages_from, passages_of, line_of, IsKnownGo, AreKnown};
 

@@ -20,15 +20,26 @@ use Rattle.picture_rows.specs.Legend.{legend}
 use Rattle.picture_cards.specs.Cards.{cards}
 use Rattle.picture_page.specs.declared.style.TheConstants.{STYLE}
 use Rattle.picture_page.specs.declared.heads.Standing.{Standing}
-use Rattle.picture_page.specs.declared.heads.Standing.TheVariants.{Legal, Optimal}
+use Rattle.picture_page.specs.declared.heads.Standing.TheVariants.{Legal, Optimal, Open}
 
 abbrev pub standing_word : Standing → List ℕ
 standing_word Legal = codes "legal"
 standing_word Optimal = codes "optimal"
+standing_word (Open low) = codes "open"
+
+-- what no legal plan costs less than
+unfoldable pub low_words : ℕ → List ℕ
+low_words low = codes "; no plan takes less than " ++ count_text low (codes "minute")
+
+-- the same, where it is below the cost
+abbrev pub bound_words : Standing → List ℕ
+bound_words Legal = []
+bound_words Optimal = []
+bound_words (Open low) = low_words low
 
 -- what is known of a plan, and its cost
 unfoldable pub verdict : Standing → ℕ → List ℕ
-verdict standing cost = standing_word standing ++ codes ", total flow time " ++ count_text cost (codes "minute")
+verdict standing cost = standing_word standing ++ codes ", total flow time " ++ count_text cost (codes "minute") ++ bound_words standing
 
 -- the style sheet
 unfoldable pub style_sheet : List ℕ

@@ -1,6 +1,6 @@
 //! The head and the heading of a page.
 ghost use Rattle.std.specs.Prelude.{◌≡◌, ◌++◌, OnOk};
-ghost use Rattle.picture_page.specs.Page.{standing_word, verdict, page_head, least_of, greatest_of, span_word, span, heading, summary};
+ghost use Rattle.picture_page.specs.Page.{standing_word, low_words, bound_words, verdict, page_head, least_of, greatest_of, span_word, span, heading, summary};
 
 use crate::style::put_style;
 use lock_model::Instance;
@@ -14,6 +14,8 @@ pub enum Standing {
     Legal,
     /// It is legal, and no legal plan costs less.
     Optimal,
+    /// It is legal, and no legal plan costs less than so many minutes, which are fewer than its cost.
+    Open(u64),
 }
 
 /// The word for what is known of a plan.
@@ -23,6 +25,25 @@ fn standing_word(standing: Standing) -> &'static [u8]
     match standing {
         Standing::Legal => b"legal",
         Standing::Optimal => b"optimal",
+        Standing::Open(_) => b"open",
+    }
+}
+
+/// Appends what no legal plan costs less than.
+fn put_low(out: &mut Vec<u8>, low: u64) -> Result<(), NoMemory>
+    ensures { OnOk result (out.new.items ≡ out.old.items ++ low_words low) }
+{
+    put(out, b"; no plan takes less than ")?;
+    put_count(out, low, b"minute")
+}
+
+/// Appends what no legal plan costs less than, where that is below the cost.
+fn put_bound(out: &mut Vec<u8>, standing: Standing) -> Result<(), NoMemory>
+    ensures { OnOk result (out.new.items ≡ out.old.items ++ bound_words standing) }
+{
+    match standing {
+        Standing::Legal | Standing::Optimal => Ok(()),
+        Standing::Open(low) => put_low(out, low),
     }
 }
 
@@ -33,7 +54,8 @@ fn put_verdict(out: &mut Vec<u8>, standing: Standing, cost: u64) -> Result<(), N
 {
     put(out, standing_word(standing))?;
     put(out, b", total flow time ")?;
-    put_count(out, cost, b"minute")
+    put_count(out, cost, b"minute")?;
+    put_bound(out, standing)
 }
 
 /// Appends the head of the page, with its style sheet.

@@ -7,30 +7,30 @@ use Rattle.picture_forms.specs.Times.{time_text}
 use Rattle.picture_axis.specs.Axis.{Drawn, x_of, first_minute, clear_end}
 use Rattle.picture_day.specs.Passages.{end_of, digits_of}
 use Rattle.picture_day.specs.declared.passage.Passage.{Passage}
-use Rattle.picture_rows.specs.declared.room.Room.{Room}
+use Rattle.picture_rows.specs.declared.stretch.Stretch.{Stretch}
 use Rattle.picture_rows.specs.declared.labels.Stance.{Stance}
 use Rattle.picture_rows.specs.declared.labels.Stance.TheVariants.{Beside, Stacked, Narrow}
 
 -- the pixels of a passage that no break cuts
-unfoldable pub room_of : Drawn → Passage → Room
-room_of axis p = record { from = x_of axis p.start; to = clear_end axis.breaks axis.gap (x_of axis p.start) (x_of axis (end_of p)) }
+unfoldable pub stretch_of : Drawn → Passage → Stretch
+stretch_of axis p = record { from = x_of axis p.start; to = clear_end axis.breaks axis.gap (x_of axis p.start) (x_of axis (end_of p)) }
 
-abbrev pub width_of : Room → ℕ
+abbrev pub width_of : Stretch → ℕ
 width_of r = r.to - r.from
 
-abbrev pub middle_of : Room → ℕ
+abbrev pub middle_of : Stretch → ℕ
 middle_of r = (r.from + r.to) / 2
 
 -- the number and the arrow have room side by side
 abbrev pub is_wide : Drawn → Passage → Bool
-is_wide axis p = nat_le (9 * digits_of p.number + 20) (width_of (room_of axis p))
+is_wide axis p = nat_le (9 * digits_of p.number + 20) (width_of (stretch_of axis p))
 
 abbrev pub are_wide : Drawn → List Passage → Bool
 are_wide axis [] = true
 are_wide axis (p ∷ ps) = is_wide axis p && are_wide axis ps
 
 -- how a label stands: number and arrow side by side where all lockages of the page have room for that, else one below the other
-abbrev pub stance_of : Bool → Room → Stance
+abbrev pub stance_of : Bool → Stretch → Stance
 stance_of true r = Beside
 stance_of false r = if nat_le 18 (width_of r) then Stacked else Narrow
 
@@ -44,7 +44,7 @@ abbrev pub stacked : ℕ → Way → ℕ → List ℕ
 stacked middle way number = filled (codes "<text class=\"n2\" x=\"%\" y=\"23\">%</text>") (middle ∷ number ∷ []) ++ arrow_at way (middle - 4) 26
 
 -- in a narrow box the arrow alone, where it has room
-abbrev pub narrow_arrow : Way → Room → List ℕ
+abbrev pub narrow_arrow : Way → Stretch → List ℕ
 narrow_arrow way r = if nat_le 13 (width_of r) then (arrow_at way (middle_of r - 4) 19) else []
 
 -- the number fits above its box, where another one ends there at pixel `last`
@@ -56,7 +56,7 @@ number_above last middle number =
     if fits_above last (digits_of number) middle then (filled (codes "<text class=\"n3\" x=\"%\" y=\"8\">%</text>") (middle ∷ number ∷ [])) else []
 
 -- the label of a passage
-abbrev pub label_text : Stance → ℕ → Passage → Room → List ℕ
+abbrev pub label_text : Stance → ℕ → Passage → Stretch → List ℕ
 label_text Beside last p r = side_by_side (r.from + (width_of r - (9 * digits_of p.number + 13)) / 2) (digits_of p.number) p.way p.number
 label_text Stacked last p r = stacked (middle_of r) p.way p.number
 label_text Narrow last p r = narrow_arrow p.way r ++ number_above last (middle_of r) p.number
@@ -71,8 +71,8 @@ last_after Narrow last digits middle = if fits_above last digits middle then (mi
 abbrev pub labels : Drawn → Bool → ℕ → List Passage → List ℕ
 labels axis wide last [] = []
 labels axis wide last (p ∷ ps) =
-    label_text (stance_of wide (room_of axis p)) last p (room_of axis p)
-    ++ labels axis wide (last_after (stance_of wide (room_of axis p)) last (digits_of p.number) (middle_of (room_of axis p))) ps
+    label_text (stance_of wide (stretch_of axis p)) last p (stretch_of axis p)
+    ++ labels axis wide (last_after (stance_of wide (stretch_of axis p)) last (digits_of p.number) (middle_of (stretch_of axis p))) ps
 
 -- the grey ground has room for when the chamber opens, whose characters have 6 pixels each
 abbrev pub has_opens : Drawn → ℕ → Bool

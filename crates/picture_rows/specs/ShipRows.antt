@@ -15,9 +15,9 @@ use Rattle.picture_axis.specs.Axis.{Drawn, x_of}
 use Rattle.picture_day.specs.Passages.{end_of, digits_of, has}
 use Rattle.picture_day.specs.declared.passage.Passage.{Passage}
 use Rattle.picture_rows.specs.Ground.{span_text}
-use Rattle.picture_rows.specs.Labels.{room_of, middle_of}
+use Rattle.picture_rows.specs.Labels.{stretch_of, middle_of}
 use Rattle.picture_rows.specs.Lanes.{axis_head, box_width}
-use Rattle.picture_rows.specs.declared.room.Room.{Room}
+use Rattle.picture_rows.specs.declared.stretch.Stretch.{Stretch}
 
 -- a ship's way, name and cargo
 unfoldable pub row_name : Ship → List ℕ
@@ -39,7 +39,7 @@ abbrev pub wait_line : ℕ → ℕ → List ℕ
 wait_line from to = if nat_le to from then [] else (filled (codes "<path class=\"p\" d=\"M% 8H%\"/>") (from ∷ to ∷ []))
 
 -- the number of a passage in its box where that has room, else behind the box, which ends at a pixel
-abbrev pub row_number : ℕ → Room → ℕ → List ℕ
+abbrev pub row_number : ℕ → Stretch → ℕ → List ℕ
 row_number number r end =
     if nat_le (r.from + 7 * digits_of number + 14) r.to then (filled (codes "<text class=\"n3\" x=\"%\" y=\"12\">%</text>") (middle_of r ∷ number ∷ []))
     else (filled (codes "<text class=\"n4\" x=\"%\" y=\"12\">%</text>") ((end + 4) ∷ number ∷ []))
@@ -50,7 +50,7 @@ row_picture axis arrival p =
     wait_line (x_of axis arrival) (x_of axis p.start)
     ++ passage_box p.way (x_of axis p.start + 1) (box_width (x_of axis p.start) (x_of axis (end_of p))) 2 14
     ++ filled (codes "<use href=\"#t\"/><circle class=\"m\" cx=\"%\" cy=\"8\" r=\"4\"/>") (x_of axis arrival ∷ [])
-    ++ row_number p.number (room_of axis p) (x_of axis (end_of p))
+    ++ row_number p.number (stretch_of axis p) (x_of axis (end_of p))
 
 -- the row of a ship with its passage: its flow time is at the end
 unfoldable pub row : Instance → Drawn → Ship → Passage → List ℕ

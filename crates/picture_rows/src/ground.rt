@@ -1,5 +1,5 @@
 //! The ground of a lane: what is not open, turning or closed.
-ghost use Rattle.std.specs.Prelude.{◌≡◌, ◌<◌, ◌^◌, ◌++◌, OnOk};
+ghost use Rattle.std.specs.Prelude.{◌≡◌, ◌<◌, ◌++◌, OnOk};
 ghost use Rattle.std.specs.List.{flat_map};
 ghost use Rattle.picture_rows.specs.Ground.{span_text, closed_ground, ground, turn_box, turn_before, turn_of, closure_box, closure_of, opening};
 

@@ -2,7 +2,7 @@
 ghost use Rattle.std.specs.Prelude.{◌≡◌, ◌≤◌, ◌<◌, ◌^◌, ◌++◌, OnOk};
 ghost use Rattle.picture_rows.specs.Labels.{is_wide, are_wide, stance_of, side_by_side, stacked, narrow_arrow, fits_above, number_above, label_text, last_after, labels, has_opens, opens_text, opens_label};
 
-use crate::room::{Room, room_of};
+use crate::stretch::{Stretch, stretch_of};
 use lock_model::Way;
 use picture_axis::Axis;
 use picture_day::Passage;
@@ -24,7 +24,7 @@ pub enum Stance {
 fn is_wide(axis: &Axis, passage: &Passage) -> bool
     ensures { result ≡ is_wide axis.now passage.now }
 {
-    9 * passage.digits() + 20 <= room_of(axis, passage).width()
+    9 * passage.digits() + 20 <= stretch_of(axis, passage).width()
 }
 
 /// Whether those of all passages have.
@@ -38,12 +38,12 @@ pub(crate) fn are_wide(axis: &Axis, passages: &[Passage]) -> bool
 }
 
 /// How a label stands in its room.
-fn stance_of(wide: bool, room: &Room) -> Stance
-    ensures { result ≡ stance_of wide room.now }
+fn stance_of(wide: bool, stretch: &Stretch) -> Stance
+    ensures { result ≡ stance_of wide stretch.now }
 {
     if wide {
         Stance::Beside
-    } else if 18 <= room.width() {
+    } else if 18 <= stretch.width() {
         Stance::Stacked
     } else {
         Stance::Narrow
@@ -77,11 +77,11 @@ fn put_stacked(out: &mut Vec<u8>, middle: u64, way: Way, number: u8) -> Result<(
 }
 
 /// Appends the arrow in a narrow box, where it has room.
-fn put_narrow_arrow(out: &mut Vec<u8>, way: Way, room: &Room) -> Result<(), NoMemory>
-    ensures { OnOk result (out.new.items ≡ out.old.items ++ narrow_arrow way room.now) }
+fn put_narrow_arrow(out: &mut Vec<u8>, way: Way, stretch: &Stretch) -> Result<(), NoMemory>
+    ensures { OnOk result (out.new.items ≡ out.old.items ++ narrow_arrow way stretch.now) }
 {
-    if 13 <= room.width() {
-        put_arrow_at(out, way, room.middle().saturating_sub(4), 19)
+    if 13 <= stretch.width() {
+        put_arrow_at(out, way, stretch.middle().saturating_sub(4), 19)
     } else {
         Ok(())
     }
@@ -123,21 +123,21 @@ fn put_label(
     stance: Stance,
     last: u64,
     passage: &Passage,
-    room: &Room,
+    stretch: &Stretch,
 ) -> Result<(), NoMemory>
     requires { last < 2 ^ 40 }
-    ensures { OnOk result (out.new.items ≡ out.old.items ++ label_text stance last passage.now room.now) }
+    ensures { OnOk result (out.new.items ≡ out.old.items ++ label_text stance last passage.now stretch.now) }
 {
     match stance {
         Stance::Beside => {
             let digits = passage.digits();
-            let x = room.from as u64 + room.width().saturating_sub(9 * digits + 13) / 2;
+            let x = stretch.from as u64 + stretch.width().saturating_sub(9 * digits + 13) / 2;
             put_beside(out, x, digits, passage.way, passage.number)
         }
-        Stance::Stacked => put_stacked(out, room.middle(), passage.way, passage.number),
+        Stance::Stacked => put_stacked(out, stretch.middle(), passage.way, passage.number),
         Stance::Narrow => {
-            put_narrow_arrow(out, passage.way, room)?;
-            put_number_above(out, last, room.middle(), passage)
+            put_narrow_arrow(out, passage.way, stretch)?;
+            put_number_above(out, last, stretch.middle(), passage)
         }
     }
 }
@@ -176,10 +176,10 @@ pub(crate) fn put_labels(
     match line {
         [] => Ok(()),
         [passage, rest @ ..] => {
-            let room = room_of(axis, passage);
-            let stance = stance_of(wide, &room);
-            put_label(out, stance, last, passage, &room)?;
-            let last = last_after(stance, last, passage.digits(), room.middle());
+            let stretch = stretch_of(axis, passage);
+            let stance = stance_of(wide, &stretch);
+            put_label(out, stance, last, passage, &stretch)?;
+            let last = last_after(stance, last, passage.digits(), stretch.middle());
             put_labels(out, axis, wide, last, rest)
         }
     }

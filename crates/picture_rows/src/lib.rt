@@ -12,9 +12,9 @@ mod ground;
 mod labels;
 mod lanes;
 mod legend;
-mod room;
 mod shared;
 mod ship_rows;
+mod stretch;
 mod water;
 
 pub use lanes::put_chambers;

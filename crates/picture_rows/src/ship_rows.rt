@@ -1,12 +1,11 @@
 //! The rows of the ships.
-ghost use Rattle.std.specs.Prelude.{◌≡◌, ◌≤◌, ◌<◌, ◌++◌, length, All, OnOk};
+ghost use Rattle.std.specs.Prelude.{◌≡◌, ◌<◌, ◌++◌, length, All, OnOk};
 ghost use Rattle.picture_day.specs.Passages.{HasChamber};
-ghost use Rattle.lock_model.specs.Fleet.{ship_at};
 ghost use Rattle.picture_rows.specs.ShipRows.{row_name, row_wait, row_passage, wait_line, row_number, row_picture, row, row_among, rows, ships_table};
 
 use crate::ground::put_span;
 use crate::lanes::{box_width, put_axis};
-use crate::room::{Room, room_of};
+use crate::stretch::{Stretch, stretch_of};
 use instance_text::way_word;
 use lock_model::{Instance, Ship};
 use master_branch::arrival_order;
@@ -86,16 +85,16 @@ fn put_wait_line(out: &mut Vec<u8>, from: u16, to: u16) -> Result<(), NoMemory>
 fn put_row_number(
     out: &mut Vec<u8>,
     passage: &Passage,
-    room: &Room,
+    stretch: &Stretch,
     end: u16,
 ) -> Result<(), NoMemory>
-    ensures { OnOk result (out.new.items ≡ out.old.items ++ row_number passage.now.number room.now end) }
+    ensures { OnOk result (out.new.items ≡ out.old.items ++ row_number passage.now.number stretch.now end) }
 {
-    if room.from as u64 + 7 * passage.digits() + 14 <= room.to as u64 {
+    if stretch.from as u64 + 7 * passage.digits() + 14 <= stretch.to as u64 {
         put_form(
             out,
             b"<text class=\"n3\" x=\"%\" y=\"12\">%</text>",
-            &[room.middle(), passage.number as u64],
+            &[stretch.middle(), passage.number as u64],
         )
     } else {
         put_form(
@@ -133,7 +132,7 @@ fn put_row_picture(
         b"<use href=\"#t\"/><circle class=\"m\" cx=\"%\" cy=\"8\" r=\"4\"/>",
         &[here as u64],
     )?;
-    put_row_number(out, passage, &room_of(axis, passage), to)
+    put_row_number(out, passage, &stretch_of(axis, passage), to)
 }
 
 /// Appends the row of a ship with its passage.

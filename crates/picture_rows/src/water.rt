@@ -1,5 +1,5 @@
 //! The water between the lockages of a lane.
-ghost use Rattle.std.specs.Prelude.{◌≡◌, ◌<◌, ◌≤◌, ◌^◌, ◌++◌, OnOk};
+ghost use Rattle.std.specs.Prelude.{◌≡◌, ◌<◌, ◌++◌, OnOk};
 ghost use Rattle.std.specs.List.{flat_map};
 ghost use Rattle.picture_rows.specs.Ground.{water_at, stand_before, slope, wave, open_water, water};
 

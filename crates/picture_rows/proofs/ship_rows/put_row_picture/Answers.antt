@@ -11,7 +11,7 @@ returns c =
       c.in_ok-put_form.ensures,
       c.in_ok-put_passage.ensures,
       c.in_ok-put_wait_line.ensures,
-      c.room_of.ensures,
+      c.stretch_of.ensures,
       c.box_width.ensures.value,
       c.x-to.ensures.value,
       c.end.ensures.value,

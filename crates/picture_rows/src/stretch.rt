@@ -1,18 +1,18 @@
-//! The room for the label of a passage.
-ghost use Rattle.std.specs.Prelude.{◌≡◌, ◌≤◌, ◌<◌, ◌^◌};
-ghost use Rattle.picture_rows.specs.Labels.{room_of, width_of, middle_of};
+//! The pixels of a passage in which its label stands.
+ghost use Rattle.std.specs.Prelude.{◌≡◌, ◌<◌, ◌^◌};
+ghost use Rattle.picture_rows.specs.Labels.{stretch_of, width_of, middle_of};
 
 use picture_axis::Axis;
 use picture_day::Passage;
 
-/// The pixels of a passage that no break cuts.
+/// The pixels of a passage from its start that no break cuts.
 #[derive(Clone, Copy, Debug, PartialEq, Eq)]
-pub struct Room {
+pub struct Stretch {
     pub from: u16,
     pub to: u32,
 }
 
-impl Room {
+impl Stretch {
     /// How many pixels there are.
     pub fn width(&self) -> u64
         ensures value { result ≡ width_of self.now }
@@ -30,13 +30,13 @@ impl Room {
     }
 }
 
-/// The pixels of a passage that no break cuts.
-#[tactic(auto, unfolding(crate::specs::Labels::room_of))]
-pub(crate) fn room_of(axis: &Axis, passage: &Passage) -> Room
-    ensures { result ≡ room_of axis.now passage.now }
+/// The pixels of a passage from its start that no break cuts.
+#[tactic(auto, unfolding(crate::specs::Labels::stretch_of))]
+pub(crate) fn stretch_of(axis: &Axis, passage: &Passage) -> Stretch
+    ensures { result ≡ stretch_of axis.now passage.now }
 {
     let from = axis.x(passage.start as u64);
-    Room {
+    Stretch {
         from,
         to: axis.clear_end(from, axis.x(passage.end())) as u32,
     }

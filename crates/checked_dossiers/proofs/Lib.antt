@@ -1,0 +1,4 @@
+pub mod RefusalLemmas
+pub mod FitLemmas
+pub mod OneLemmas
+pub mod ExactLemmas

@@ -1,0 +1,4 @@
+pub mod RefusalTexts
+pub mod Refused
+pub mod Accepted
+pub mod Standing

@@ -1,0 +1,106 @@
+-- A dossier that is accepted, and an open one that stands, are drawn, want of memory aside.
+use Rattle.std.proofs.Common.{ℕ, ◌≡◌, ◌⊎◌, List, Option, None, Some, Result, Ok, Err, refl, subst, ap, inl, inr}
+use Rattle.std.specs.Prelude.{option_map}
+use Rattle.list_laws.proofs.Variants.{one-ok}
+use Rattle.lock_model.specs.declared.instance.Instance.{Instance}
+use Rattle.certificate_rules.specs.Certificates.{Certificate}
+use Rattle.certificate_rules.specs.OpenCertificates.{OpenCertificate}
+use Rattle.line_text.specs.Steps.{◌>>=◌}
+use Rattle.instance_text.specs.Reading.{reading, instance_part, after_instance}
+use Rattle.cert_text.specs.Steps.{or_fault, fault_under}
+use Rattle.cert_text.specs.Certificates.{certificate_in}
+use Rattle.cert_text.specs.Heading.{headed}
+use Rattle.cert_text.specs.Dossier.{whole_version, json_of, rest_in, dossier_in, Reads}
+use Rattle.cert_text.specs.declared.heading.Heading.{Heading}
+use Rattle.cert_text.specs.declared.heading.Heading.TheVariants as kind
+use Rattle.cert_text.specs.declared.heading.Version.{Version}
+use Rattle.cert_text.specs.declared.bad.BadDossier.{BadDossier as AnyFault}
+use Rattle.cert_text.specs.declared.bad.BadDossier.TheVariants as fault
+use Rattle.resume_book.specs.OpenDossier.{version_in, open_certificate_in, open_rest_in, open_dossier_in, ReadsOpen}
+use Rattle.picture_forms.specs.declared.times.Clock.{Clock}
+use Rattle.checked_dossiers.specs.Accepted.{IsAccepted, IsNotAccepted}
+use Rattle.checked_dossiers.specs.Standing.{IsStanding, IsNoStanding}
+use Rattle.checked_dossiers.proofs.ExactLemmas.{accepted_wants, standing_wants}
+use Rattle.run_answers.specs.declared.status.Status.{Status}
+use Rattle.run_answers.specs.declared.status.Status.TheVariants.{Good, Open, Words, Refused, ReadFault, WriteFault, NoMemory, BadDossier, Unfit, PlanRefused}
+use Rattle.picture_command.specs.Headings.{heading_in}
+use Rattle.picture_command.specs.Pictures.{PrintsCheapest, PrintsBounded, IsPageOr, AnswersHeaded, AnswersPicture}
+
+-- ---- the heading of what is read as a dossier
+
+-- the second of two steps that both went well
+second : {A B : Type 0} (r : Result A AnyFault) (s : Result B AnyFault) (p : A × B) → (r >>= λ a. s >>= λ b. Ok (a, b)) ≡ Ok p → s ≡ Ok p.1
+second (Ok a) (Ok b) p e = ap (λ q. Ok q.1) (one-ok (Ok (a, b)) (a, b) p refl e)
+second (Ok a) (Err f) p e = absurd cc
+second (Err f) s p e = absurd cc
+
+-- a heading was found, and it gives a version
+record HasVersion (version_of : Heading → Option Version) (found : Option Heading) : Type 0 where
+  heading : Heading
+  is : found ≡ Some heading
+  version : Version
+  gives : version_of heading ≡ Some version
+
+has_version : {A : Type 0} (version_of : Heading → Option Version) (h : Heading) (told : Option Version) (next : Version → Result A AnyFault) (a : A)
+    → version_of h ≡ told → (or_fault fault.NoMark told >>= next) ≡ Ok a → HasVersion version_of (Some h)
+has_version version_of h None next a is e = absurd cc
+has_version version_of h (Some version) next a is e = record { heading = h; is = refl; version = version; gives = is }
+
+first_version : {A : Type 0} (version_of : Heading → Option Version) (found : Option (Heading × List ℕ)) (next : Heading × List ℕ → Version → Result A AnyFault) (a : A)
+    → (or_fault fault.NoMark found >>= λ f. or_fault fault.NoMark (version_of f.0) >>= next f) ≡ Ok a → HasVersion version_of (option_map (λ f. f.0) found)
+first_version version_of None next a e = absurd cc
+first_version version_of (Some f) next a e = has_version version_of f.0 (version_of f.0) (next f) a refl e
+
+rest_version : (bytes : List ℕ) (C : Certificate) → rest_in bytes ≡ Ok C → HasVersion whole_version (option_map (λ f. f.0) (headed bytes))
+unfolding rest_in
+rest_version bytes C e = first_version whole_version (headed bytes) (λ found version. or_fault fault.Json (json_of found.1) >>= λ value. fault_under fault.Shape (certificate_in version value)) C e
+
+open_rest_version : (bytes : List ℕ) (C : OpenCertificate) → open_rest_in bytes ≡ Ok C → HasVersion version_in (option_map (λ f. f.0) (headed bytes))
+unfolding open_rest_in
+open_rest_version bytes C e = first_version version_in (headed bytes) (λ found version. or_fault fault.Json (json_of found.1) >>= λ value. fault_under fault.Shape (open_certificate_in version value)) C e
+
+reads_version : (bytes : List ℕ) (I : Instance) (C : Certificate) → Reads bytes I C → HasVersion whole_version (heading_in bytes)
+unfolding Reads dossier_in
+reads_version bytes I C reads =
+    rest_version (after_instance bytes) C (second (fault_under fault.Instance (reading (instance_part bytes))) (rest_in (after_instance bytes)) (record { chambers = I.chambers; ships = I.ships }, C) reads)
+
+open_reads_version : (bytes : List ℕ) (I : Instance) (C : OpenCertificate) → ReadsOpen bytes I C → HasVersion version_in (heading_in bytes)
+unfolding ReadsOpen open_dossier_in
+open_reads_version bytes I C reads =
+    open_rest_version (after_instance bytes) C (second (fault_under fault.Instance (reading (instance_part bytes))) (open_rest_in (after_instance bytes)) (record { chambers = I.chambers; ships = I.ships }, C) reads)
+
+-- ---- how a picture may end
+
+drawn_or : (Page : Type 0) (Refusal : Status → Type 0) (s : Status) → (Refusal s → s ≡ NoMemory) → IsPageOr Page Refusal s → (s ≡ Good) ⊎ (s ≡ NoMemory)
+drawn_or Page Refusal Good wants answer = inl refl
+drawn_or Page Refusal Open wants answer = inr (wants answer)
+drawn_or Page Refusal Words wants answer = inr (wants answer)
+drawn_or Page Refusal Refused wants answer = inr (wants answer)
+drawn_or Page Refusal ReadFault wants answer = inr (wants answer)
+drawn_or Page Refusal WriteFault wants answer = inr (wants answer)
+drawn_or Page Refusal NoMemory wants answer = inr (wants answer)
+drawn_or Page Refusal BadDossier wants answer = inr (wants answer)
+drawn_or Page Refusal Unfit wants answer = inr (wants answer)
+drawn_or Page Refusal PlanRefused wants answer = inr (wants answer)
+
+whole_drawn : (clock : Clock) (bytes : List ℕ) (I : Instance) (C : Certificate) (s : Status) (text : List ℕ) (h : Heading) (version : Version) → IsAccepted bytes I C → whole_version h ≡ Some version → AnswersHeaded clock (Some h) bytes s text → (s ≡ Good) ⊎ (s ≡ NoMemory)
+whole_drawn clock bytes I C s text (kind.Whole v) version accepted is answer =
+    drawn_or (PrintsCheapest clock bytes text) (λ t. IsNotAccepted bytes t text) s (λ refusal. accepted_wants bytes s text refusal I C accepted) answer
+whole_drawn clock bytes I C s text (kind.Open v) version accepted is answer = absurd cc
+
+open_drawn : (clock : Clock) (bytes : List ℕ) (I : Instance) (C : OpenCertificate) (s : Status) (text : List ℕ) (h : Heading) (version : Version) → IsStanding bytes I C → version_in h ≡ Some version → AnswersHeaded clock (Some h) bytes s text → (s ≡ Good) ⊎ (s ≡ NoMemory)
+open_drawn clock bytes I C s text (kind.Whole v) version stands is answer = absurd cc
+open_drawn clock bytes I C s text (kind.Open v) version stands is answer =
+    drawn_or (PrintsBounded clock bytes text) (λ t. IsNoStanding bytes t text) s (λ refusal. standing_wants bytes s text refusal I C stands) answer
+
+-- what `check` accepts is drawn
+pub accepted_drawn : (clock : Clock) (bytes : List ℕ) (I : Instance) (C : Certificate) (s : Status) (text : List ℕ) → IsAccepted bytes I C → AnswersPicture clock bytes s text → (s ≡ Good) ⊎ (s ≡ NoMemory)
+accepted_drawn clock bytes I C s text accepted answer =
+    let found = reads_version bytes I C accepted.reads in
+    whole_drawn clock bytes I C s text found.heading found.version accepted found.gives (subst (λ h. AnswersHeaded clock h bytes s text) found.is answer)
+
+-- and so is an open dossier that stands
+pub standing_drawn : (clock : Clock) (bytes : List ℕ) (I : Instance) (C : OpenCertificate) (s : Status) (text : List ℕ) → IsStanding bytes I C → AnswersPicture clock bytes s text → (s ≡ Good) ⊎ (s ≡ NoMemory)
+standing_drawn clock bytes I C s text stands answer =
+    let found = open_reads_version bytes I C stands.reads in
+    open_drawn clock bytes I C s text found.heading found.version stands found.gives (subst (λ h. AnswersHeaded clock h bytes s text) found.is answer)
