@@ -1,5 +1,5 @@
 //! Reading dossiers.
-ghost use Rattle.std.specs.Prelude.{◌≡◌, List, ℕ, Some, None, Ok, IfOk, IfErr};
+ghost use Rattle.std.specs.Prelude.{◌≡◌, Some, None, Ok, IfOk, IfErr};
 ghost use Rattle.lock_model.specs.declared.instance.Instance.{Instance as AnyInstance};
 ghost use Rattle.certificate_rules.specs.Certificates.{Certificate as AnyCertificate};
 ghost use Rattle.serde_json.specs.View.{view};
