@@ -1,8 +1,7 @@
 -- Numbers and lists are read back.
-use Rattle.std.proofs.Common.{◌≡◌, ◌∙◌, ◌<◌, ◌+◌, ℕ, suc, List, [], ◌∷◌, Option, Some, refl, ap, arith, length, map, get_or, ◌≤◌, sym, subst, ◌∙◌, ⊎_elim, All, Fits, w8, w32}
+use Rattle.std.proofs.Common.{◌≡◌, ◌<◌, ℕ, suc, List, [], ◌∷◌, Option, Some, refl, arith, map, get_or, All, Fits, w8, w32}
 use Rattle.std.proofs.lemmas.List.Elements.{All-head, All-tail}
-use Rattle.std.proofs.lemmas.Bool.{lt-ltb, cases_lt}
-use Rattle.std.proofs.lemmas.List.{get_or_default}
+use Rattle.std.proofs.lemmas.Bool.{lt-ltb}
 use Rattle.serde_json.specs.Data.{Data}
 use Rattle.serde_json.specs.View.{items_of}
 use Rattle.cert_text.specs.Fields.{number_data, number_below, byte_in, word_in, all_in}

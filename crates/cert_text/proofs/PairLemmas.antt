@@ -1,10 +1,15 @@
 -- An instance and what follows it: a text has one meaning, or one first fault.
-use Rattle.std.proofs.Common.{◌≡◌, ◌∙◌, Result, Ok, Err, IfOk, IfErr, sym, ap, ap₂}
+use Rattle.std.proofs.Common.{◌≡◌, ◌∙◌, ◌++◌, ℕ, List, Result, Ok, Err, IfOk, IfErr, sym, ap, ap₂}
 use Rattle.lock_model.specs.declared.instance.Instance.{Instance}
 use Rattle.line_text.specs.Steps.{◌>>=◌}
 use Rattle.instance_text.specs.Draft.{Draft}
 use Rattle.instance_text.specs.declared.bad.Bad.{Bad}
+use Rattle.instance_text.specs.Reading.{reading, Means, Defect, instance_part, after_instance}
 use Rattle.instance_text.proofs.InstanceLemmas.{same_instance}
+use Rattle.instance_text.proofs.TextBackLemmas.{canonical_means}
+use Rattle.instance_text.proofs.PartBackLemmas.{canonical_part, canonical_rest}
+use Rattle.serde_json.specs.Data.{Data}
+use Rattle.cert_text.specs.Dossier.{json_line, framed, pair_in}
 use Rattle.cert_text.specs.Answers.{IsFault, IsAnswer, IsFaultAnswer}
 use Rattle.cert_text.specs.Steps.{fault_under}
 use Rattle.cert_text.specs.declared.bad.DossierError.{DossierError}
@@ -12,13 +17,45 @@ use Rattle.cert_text.specs.declared.bad.DossierError.TheVariants.{Fault, NoMemor
 use Rattle.cert_text.specs.declared.bad.BadDossier.{BadDossier}
 use Rattle.cert_text.specs.declared.bad.BadDossier.TheVariants as fault
 
+-- a fault of the first step is that of all
+pub fault_before : {A B : Type 0} (r : Result A BadDossier) (next : A → Result B BadDossier) (e : DossierError) → IsFault r e → IsFault (r >>= next) e
+fault_before r next NoMemory bad = tt
+fault_before r next (Fault f) bad = ap (λ s. s >>= next) bad
+
+-- the same of a value's parts, which are at fault by their numbers
+pub shape_before : {A B : Type 0} (r : Result A ℕ) (next : A → Result B ℕ) (e : DossierError) → IsFault (fault_under fault.Shape r) e → IsFault (fault_under fault.Shape (r >>= next)) e
+shape_before (Ok x) next NoMemory bad = tt
+shape_before (Ok x) next (Fault f) bad = cc
+shape_before (Err n) next NoMemory bad = tt
+shape_before (Err n) next (Fault f) bad = cc
+
 abbrev pub draft_of : Instance → Draft
 draft_of I = record { chambers = I.chambers; ships = I.ships }
 
 module _ {C : Type 0} where
   -- what is made of an instance and of what follows it
-  abbrev pub made : Result Draft Bad → Result C BadDossier → Result (Draft × C) BadDossier
+  abbrev made : Result Draft Bad → Result C BadDossier → Result (Draft × C) BadDossier
   made r s = fault_under fault.Instance r >>= λ d. s >>= λ c. Ok (d, c)
+
+  -- a frame is read as its instance and what its value means
+  pub framed_back : (I : Instance) (heading : List ℕ) (d : Data) (c : C) (rest : List ℕ → Result C BadDossier) → rest (heading ++ json_line d) ≡ Ok c → pair_in rest (framed I heading d) ≡ Ok (draft_of I, c)
+  unfolding Means
+  framed_back I heading d c rest reads =
+      let more = heading ++ json_line d in
+      ap₂ made (ap reading (canonical_part I more) ∙ canonical_means I) (ap rest (canonical_rest I more) ∙ reads)
+
+  -- a text is read part by part
+  pub pair_no_instance : (rest : List ℕ → Result C BadDossier) (text : List ℕ) (b : Bad) → Defect (instance_part text) b.line b.kind → pair_in rest text ≡ Err (fault.Instance b)
+  unfolding Defect
+  pair_no_instance rest text b defect = ap (λ r. made r (rest (after_instance text))) defect
+
+  pub pair_read : (rest : List ℕ → Result C BadDossier) (text : List ℕ) (I : Instance) (bytes : List ℕ) (c : C) → Means (instance_part text) I → bytes ≡ after_instance text → rest bytes ≡ Ok c → pair_in rest text ≡ Ok (draft_of I, c)
+  unfolding Means
+  pair_read rest text I bytes c means is reads = ap₂ made means (ap rest (sym is) ∙ reads)
+
+  pub pair_no_rest : (rest : List ℕ → Result C BadDossier) (text : List ℕ) (I : Instance) (bytes : List ℕ) (f : BadDossier) → Means (instance_part text) I → bytes ≡ after_instance text → rest bytes ≡ Err f → pair_in rest text ≡ Err f
+  unfolding Means
+  pair_no_rest rest text I bytes f means is bad = ap₂ made means (ap rest (sym is) ∙ bad)
 
   one-meaning : (told : Result (Draft × C) BadDossier) (I J : Instance) (c d : C) → told ≡ Ok (draft_of I, c) → told ≡ Ok (draft_of J, d) → (I ≡ J) × (c ≡ d)
   one-meaning told I J c d first second =

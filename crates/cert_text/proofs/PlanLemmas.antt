@@ -1,5 +1,5 @@
 -- Plans are read back.
-use Rattle.std.proofs.Common.{◌≡◌, ◌≤◌, ◌<◌, List, Option, Some, None, refl, length, map, arith, eq-eqb, true, false}
+use Rattle.std.proofs.Common.{◌≡◌, ◌<◌, List, Option, Some, None, refl, length, map, arith, eq-eqb, false}
 use Rattle.std.specs.Prelude.{nat_le}
 use Rattle.std.proofs.lemmas.Bool.Decides.{nat_tests}
 use Rattle.serde_json.proofs.OnLiterals.{serde_json_on_literals}
@@ -10,7 +10,7 @@ use Rattle.lock_model.specs.declared.plan.Plan.{Plan}
 use Rattle.cert_text.specs.Steps.{◌>>=◌, ◌>>◌, when}
 use Rattle.cert_text.specs.Fields.{number_data, numbers_data, byte_in, word_in, all_in}
 use Rattle.cert_text.specs.Crew.{ships_in}
-use Rattle.cert_text.specs.Plans.{spot_data, spot_in, way_number, way_of, lockage_data, lockage_in, plan_data, plan_items, plan_in}
+use Rattle.cert_text.specs.Plans.{spot_data, spot_in, way_number, way_of, lockage_data, lockage_in, plan_items}
 use Rattle.cert_text.proofs.ListLemmas.{all_in-length}
 
 pub lockage_back : (l : Lockage) → byte_in (number_data l.chamber) ≡ Some l.chamber → ships_in (numbers_data l.ships) ≡ Some l.ships → all_in spot_in (items_of (map spot_data l.spots)) ≡ Some l.spots → length l.spots ≡ length l.ships → word_in (number_data l.start) ≡ Some l.start → way_of (way_number l.way) ≡ Some l.way → lockage_in (lockage_data l) ≡ Some l

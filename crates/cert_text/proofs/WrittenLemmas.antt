@@ -1,38 +1,33 @@
--- The JSON text of a certificate.
+-- The JSON text of a value.
 use Rattle.std.proofs.Common.{◌≡◌, ◌∙◌, ◌++◌, ◌≤◌, ℕ, Bool, true, false, cond, List, [], ◌∷◌, Some, None, refl, sym, ap, subst}
 use Rattle.std.specs.Str.{IsUtf8, is_utf8}
 use Rattle.std.proofs.lemmas.Str.{IsUtf8-append, is_utf8-from_IsUtf8, IsUtf8-from_is_utf8}
 use Rattle.json.proofs.Printed.Utf8.{IsUtf8-are_ascii}
 use Rattle.json.specs.Lex.{tokens}
 use Rattle.json.specs.Print.{print}
-use Rattle.certificate_rules.specs.Certificates.{Certificate}
 use Rattle.serde_json.specs.Data.{Data, depth}
 use Rattle.serde_json.specs.Read.{read, max_depth}
 use Rattle.serde_json.specs.Written.{has_float, compact_text, IsInOrder}
-use Rattle.cert_text.specs.Certificates.{certificate_data, certificate_text}
-use Rattle.cert_text.specs.Dossier.{json_of}
+use Rattle.cert_text.specs.Dossier.{json_line, json_of}
 use Rattle.cert_text.proofs.JsonLemmas.{read_line}
-use Rattle.cert_text.proofs.ShapeLemmas.{no_float, shallow}
 
-pub written : (C : Certificate) (d : Data) (text : List ℕ) → d ≡ certificate_data C → (has_float d ≡ false → text ≡ compact_text d) → text ≡ certificate_text C
-unfolding certificate_text
-written C d text is text_is = text_is (ap has_float is ∙ no_float C) ∙ ap compact_text is
+pub written : (d : Data) (text : List ℕ) → has_float d ≡ false → (has_float d ≡ false → text ≡ compact_text d) → text ++ 10 ∷ [] ≡ json_line d
+unfolding json_line
+written d text whole text_is = ap (λ t. t ++ 10 ∷ []) (text_is whole)
 
 feed : IsUtf8 (10 ∷ [])
 feed = IsUtf8-are_ascii (10 ∷ []) refl
 
 -- a compact text of a value and a line feed are read as the value
-pub data_back : (d : Data) (text : List ℕ) → has_float d ≡ false → depth d ≤ max_depth → text ≡ print (tokens text) → IsUtf8 text → IsInOrder text d → (depth d ≤ max_depth → read text ≡ Some d) → json_of (text ++ 10 ∷ []) ≡ Some d
+data_back : (d : Data) (text : List ℕ) → has_float d ≡ false → depth d ≤ max_depth → text ≡ print (tokens text) → IsUtf8 text → IsInOrder text d → (depth d ≤ max_depth → read text ≡ Some d) → json_of (text ++ 10 ∷ []) ≡ Some d
 unfolding json_of
 data_back d text whole flat compact utf8 order reads =
     let line = read_line text d compact order whole flat (reads flat) in
     let valid = is_utf8-from_IsUtf8 (text ++ 10 ∷ []) (IsUtf8-append text (10 ∷ []) utf8 feed) in
     ap (λ b. cond b (read (text ++ 10 ∷ [])) None) valid ∙ line
 
-pub written_back : (C : Certificate) (d : Data) (text : List ℕ) → d ≡ certificate_data C → text ≡ print (tokens text) → IsUtf8 text → IsInOrder text d → (depth d ≤ max_depth → read text ≡ Some d) → json_of (text ++ 10 ∷ []) ≡ Some (certificate_data C)
-written_back C d text is compact utf8 order reads =
-    let flat = subst (λ e. depth e ≤ max_depth) (sym is) (shallow C) in
-    data_back d text (ap has_float is ∙ no_float C) flat compact utf8 order reads ∙ ap Some is
+pub written_back : (d : Data) (text : List ℕ) → has_float d ≡ false → depth d ≤ max_depth → text ++ 10 ∷ [] ≡ json_line d → text ≡ print (tokens text) → IsUtf8 text → IsInOrder text d → (depth d ≤ max_depth → read text ≡ Some d) → json_of (json_line d) ≡ Some d
+written_back d text whole flat line compact utf8 order reads = ap json_of (sym line) ∙ data_back d text whole flat compact utf8 order reads
 
 pub json_found : (bytes : List ℕ) (d : Data) → IsUtf8 bytes → read bytes ≡ Some d → json_of bytes ≡ Some d
 unfolding json_of

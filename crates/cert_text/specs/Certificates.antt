@@ -1,11 +1,11 @@
 -- A certificate as a JSON value, and the certificate that a value is, or the first part at fault.
 use Rattle.std.specs.Prelude.{ℕ, ◌&&◌, Bool, List, [], ◌∷◌, Result, Ok, codes}
 use Rattle.serde_json.specs.Data.{Data}
-use Rattle.serde_json.specs.Written.{compact_text}
 use Rattle.lock_model.specs.declared.plan.Plan.{Plan}
 use Rattle.closing_rules.specs.ProvedCuts.{CertCut}
 use Rattle.certificate_rules.specs.Certificates.{Certificate}
 use Rattle.line_text.specs.Steps.{◌>>=◌, ◌>>◌}
+use Rattle.cert_text.specs.declared.certificate.Front.{Front}
 use Rattle.cert_text.specs.declared.heading.Version.{Version}
 use Rattle.cert_text.specs.declared.heading.Version.TheVariants.{First, Second, Third}
 use Rattle.cert_text.specs.Versions.{is_third, version_of}
@@ -31,10 +31,6 @@ parts_data version cost cuts plan prices tree =
 abbrev pub certificate_data : Certificate → Data
 certificate_data C = parts_data (version_of C) C.cost C.cuts C.plan C.prices (tree_data C.tree)
 
--- the same as JSON text without white space
-unfoldable pub certificate_text : Certificate → List ℕ
-certificate_text C = compact_text (certificate_data C)
-
 -- an object of the four keys, or of the five of the third version
 abbrev pub has_keys : Data → Bool
 has_keys d = has_key d (codes "cost") && has_key d (codes "cuts") && has_key d (codes "plan") && has_key d (codes "tree")
@@ -44,13 +40,19 @@ is_frame First d = has_members 4 d && has_keys d
 is_frame Second d = has_members 4 d && has_keys d
 is_frame Third d = has_members 5 d && (has_keys d && has_key d (codes "prices"))
 
--- The certificate, or the number of the first part at fault: 1 the keys, 2 the cost, 3 the cuts, 4 the plan, 5 the tree, 6 the prices.
-unfoldable pub certificate_in : Version → Data → Result Certificate ℕ
-certificate_in version d = do
+-- The parts before the tree, or the number of the first one at fault: 1 the keys, 2 the cost, 3 the cuts, 4 the plan.
+unfoldable pub front_in : Version → Data → Result Front ℕ
+front_in version d = do
   or_fault 1 (when (is_frame version d))
   cost ← or_fault 2 (value_at (codes "cost") cost_in d)
   cuts ← or_fault 3 (value_at (codes "cuts") (cuts_under version) d)
   plan ← or_fault 4 (value_at (codes "plan") plan_in d)
+  Ok (record { cost = cost; cuts = cuts; plan = plan })
+
+-- The certificate, or the number of the first part at fault, which is 5 for the tree and 6 for the prices.
+unfoldable pub certificate_in : Version → Data → Result Certificate ℕ
+certificate_in version d = do
+  front ← front_in version d
   tree ← or_fault 5 (value_at (codes "tree") (tree_in (is_third version)) d)
   prices ← or_fault 6 (prices_under version d)
-  Ok (record { cost = cost; cuts = cuts; plan = plan; prices = prices; tree = tree })
+  Ok (record { cost = front.cost; cuts = front.cuts; plan = front.plan; prices = prices; tree = tree })

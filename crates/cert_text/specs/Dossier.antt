@@ -9,6 +9,9 @@ use Rattle.instance_text.specs.Reading.{reading, instance_part, after_instance}
 use Rattle.instance_text.specs.Canonical.{canonical}
 use Rattle.serde_json.specs.Data.{Data}
 use Rattle.serde_json.specs.Read.{read}
+use Rattle.serde_json.specs.Written.{compact_text}
+use Rattle.cert_text.specs.declared.heading.Form.{Form}
+use Rattle.cert_text.specs.declared.heading.Form.TheVariants as form
 use Rattle.cert_text.specs.declared.heading.Heading.{Heading}
 use Rattle.cert_text.specs.declared.heading.Heading.TheVariants.{Whole, Open}
 use Rattle.cert_text.specs.declared.heading.Version.{Version}
@@ -19,7 +22,7 @@ use Rattle.cert_text.specs.declared.bad.DossierError.{DossierError}
 use Rattle.cert_text.specs.declared.bad.DossierError.TheVariants.{Fault, NoMemory}
 use Rattle.cert_text.specs.Steps.{or_fault, fault_under}
 use Rattle.cert_text.specs.Versions.{version_of}
-use Rattle.cert_text.specs.Certificates.{certificate_text, certificate_in}
+use Rattle.cert_text.specs.Certificates.{certificate_data, certificate_in}
 use Rattle.cert_text.specs.Heading.{headed}
 
 -- the heading of a version
@@ -28,33 +31,52 @@ heading_line First = codes "certificate\n"
 heading_line Second = codes "certificate 2\n"
 heading_line Third = codes "certificate 3\n"
 
+-- a JSON value as text without white space, and a line feed
+unfoldable pub json_line : Data → List ℕ
+json_line d = compact_text d ++ 10 ∷ []
+
+-- an instance, a heading and a JSON value
+abbrev pub framed : Instance → List ℕ → Data → List ℕ
+framed I heading d = canonical I ++ (heading ++ json_line d)
+
 -- the canonical dossier of an instance and a certificate
 unfoldable pub dossier : Instance → Certificate → List ℕ
-dossier I C = canonical I ++ (heading_line (version_of C) ++ (certificate_text C ++ 10 ∷ []))
+dossier I C = framed I (heading_line (version_of C)) (certificate_data C)
 
--- the version of a dossier; an open one is none
-abbrev pub whole_version : Heading → Option Version
-whole_version (Whole version) = Some version
-whole_version (Open version) = None
+-- the version of a heading of this form
+abbrev pub version_under : Form → Heading → Option Version
+version_under form.Whole (Whole version) = Some version
+version_under form.Open (Open version) = Some version
+version_under _ _ = None
 
 -- the JSON value of bytes
 unfoldable pub json_of : List ℕ → Option Data
 json_of bytes = if is_utf8 bytes then read bytes else None
 
+-- the version and the JSON value of the bytes after the instance part, whose heading is of this form, or their first fault
+unfoldable pub value_in : Form → List ℕ → Result (Version × Data) BadDossier
+value_in asked bytes = do
+  found ← or_fault fault.NoMark (headed bytes)
+  version ← or_fault fault.NoMark (version_under asked found.0)
+  value ← or_fault fault.Json (json_of found.1)
+  Ok (version, value)
+
 -- what the bytes after the instance part mean, or their first fault
 unfoldable pub rest_in : List ℕ → Result Certificate BadDossier
 rest_in bytes = do
-  found ← or_fault fault.NoMark (headed bytes)
-  version ← or_fault fault.NoMark (whole_version found.0)
-  value ← or_fault fault.Json (json_of found.1)
-  fault_under fault.Shape (certificate_in version value)
+  found ← value_in form.Whole bytes
+  fault_under fault.Shape (certificate_in found.0 found.1)
+
+-- an instance and what the bytes after its part mean, or the first fault
+abbrev pub pair_in : {C : Type 0} → (List ℕ → Result C BadDossier) → List ℕ → Result (Draft × C) BadDossier
+pair_in rest text = do
+  instance ← fault_under fault.Instance (reading (instance_part text))
+  certificate ← rest (after_instance text)
+  Ok (instance, certificate)
 
 -- the instance and the certificate of a dossier, or its first fault
 unfoldable pub dossier_in : List ℕ → Result (Draft × Certificate) BadDossier
-dossier_in text = do
-  instance ← fault_under fault.Instance (reading (instance_part text))
-  certificate ← rest_in (after_instance text)
-  Ok (instance, certificate)
+dossier_in text = pair_in rest_in text
 
 -- the text is a dossier of this instance and this certificate
 unfoldable pub Reads : List ℕ → Instance → Certificate → Type 0

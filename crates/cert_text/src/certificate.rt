@@ -10,7 +10,7 @@ ghost use Rattle.cert_text.specs.Cuts.{cuts_under};
 ghost use Rattle.cert_text.specs.Plans.{plan_in};
 ghost use Rattle.cert_text.specs.Marks.{tree_in};
 ghost use Rattle.cert_text.specs.Versions.{version_of};
-ghost use Rattle.cert_text.specs.Certificates.{certificate_data, has_keys, is_frame, certificate_in};
+ghost use Rattle.cert_text.specs.Certificates.{certificate_data, has_keys, is_frame, front_in, certificate_in};
 ghost use Rattle.cert_text.specs.declared.bad.BadDossier.TheVariants.{Shape};
 
 use crate::bad::{BadDossier, DossierError};
@@ -63,7 +63,7 @@ fn has_keys(value: &Value) -> bool
 
 /// Whether a value is an object of the four keys of a certificate, or of the five of the third version.
 /// Takes no memory.
-pub fn is_frame(version: Version, value: &Value) -> bool
+fn is_frame(version: Version, value: &Value) -> bool
     ensures { result ≡ is_frame version (view value.now) }
 {
     match version {
@@ -76,7 +76,7 @@ pub fn is_frame(version: Version, value: &Value) -> bool
 
 /// The cost, in minutes, at the key `cost`. Answers `Shape(2)` exactly where there is none. Takes no
 /// memory.
-pub fn cost_at(value: &Value) -> Result<u64, BadDossier>
+fn cost_at(value: &Value) -> Result<u64, BadDossier>
     ensures read { IfOk result (λ cost. value_at (codes "cost") cost_in (view value.now) ≡ Some cost) }
     ensures shape { IfErr result (λ f. (f ≡ Shape 2) × (value_at (codes "cost") cost_in (view value.now) ≡ None)) }
 {
@@ -101,7 +101,7 @@ fn cuts_under(alloc: Global, version: Version, value: &Value) -> Result<CertCuts
 
 /// The cuts at the key `cuts`, none with a refutation of a later version. Answers `Shape(3)` exactly
 /// where these are none, or else want of memory.
-pub fn cuts_at(alloc: Global, version: Version, value: &Value) -> Result<CertCuts, DossierError>
+fn cuts_at(alloc: Global, version: Version, value: &Value) -> Result<CertCuts, DossierError>
     ensures read { IfOk result (λ cuts. value_at (codes "cuts") (cuts_under version) (view value.now) ≡ Some cuts) }
     ensures shape { IfErr result (IsCausedFault (Shape 3) (value_at (codes "cuts") (cuts_under version) (view value.now) ≡ None)) }
 {
@@ -112,7 +112,7 @@ pub fn cuts_at(alloc: Global, version: Version, value: &Value) -> Result<CertCut
 }
 
 /// The plan at the key `plan`. Answers `Shape(4)` exactly where there is none. Takes no memory.
-pub fn plan_at(value: &Value) -> Result<Plan, BadDossier>
+fn plan_at(value: &Value) -> Result<Plan, BadDossier>
     ensures read { IfOk result (λ plan. value_at (codes "plan") plan_in (view value.now) ≡ Some plan) }
     ensures shape { IfErr result (λ f. (f ≡ Shape 4) × (value_at (codes "plan") plan_in (view value.now) ≡ None)) }
 {
@@ -144,8 +144,31 @@ fn tree_at(alloc: Global, third: bool, value: &Value) -> Result<MarkList, Dossie
     }
 }
 
+/// The parts of a certificate that come before its tree.
+#[derive(Drop)]
+pub struct Front {
+    pub cost: u64,
+    pub cuts: CertCuts,
+    pub plan: Plan,
+}
+
+/// The parts that come before the tree in a value of a version, or the first one at fault.
+#[tactic(auto, unfolding(crate::specs::Certificates::front_in))]
+pub fn front_in(alloc: Global, version: Version, value: &Value) -> Result<Front, DossierError>
+    ensures read { IfOk result (λ f. front_in version (view value.now) ≡ Ok f) }
+    ensures shape { IfErr result (IsFault (fault_under Shape (front_in version (view value.now)))) }
+{
+    if !is_frame(version, value) {
+        return Err(DossierError::Fault(BadDossier::Shape(1)));
+    }
+    let cost = cost_at(value)?;
+    let cuts = cuts_at(alloc, version, value)?;
+    let plan = plan_at(value)?;
+    Ok(Front { cost, cuts, plan })
+}
+
 /// The certificate that a value writes, or the first part at fault.
-#[tactic(auto, unfolding(crate::specs::Certificates::certificate_in))]
+#[tactic(auto, unfolding(crate::specs::Certificates::certificate_in), using(crate::proofs::CertificateLemmas::front_fault))]
 pub fn certificate_in(
     alloc: Global,
     version: Version,
@@ -154,12 +177,7 @@ pub fn certificate_in(
     ensures read { IfOk result (λ c. certificate_in version (view value.now) ≡ Ok c) }
     ensures shape { IfErr result (IsFault (fault_under Shape (certificate_in version (view value.now)))) }
 {
-    if !is_frame(version, value) {
-        return Err(DossierError::Fault(BadDossier::Shape(1)));
-    }
-    let cost = cost_at(value)?;
-    let cuts = cuts_at(alloc, version, value)?;
-    let plan = plan_at(value)?;
+    let Front { cost, cuts, plan } = front_in(alloc, version, value)?;
     let tree = tree_at(alloc, is_third(version), value)?;
     let prices = prices_at(alloc, version, value)?;
     Ok(Certificate {

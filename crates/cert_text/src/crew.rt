@@ -1,5 +1,5 @@
 //! Lists of ships as JSON values.
-ghost use Rattle.std.specs.Prelude.{◌≡◌, ◌++◌, ◌<◌, ◌≤◌, List, ℕ, length, map, All, OnOk, IfOk, Some, codes};
+ghost use Rattle.std.specs.Prelude.{◌≡◌, ◌++◌, ◌<◌, ◌≤◌, length, map, OnOk, IfOk, Some, codes};
 ghost use Rattle.serde_json.specs.View.{view, items_of, items_view};
 ghost use Rattle.cert_text.specs.Fields.{number_data, numbers_data, byte_in, all_in, value_at};
 ghost use Rattle.cert_text.specs.Crew.{crew_in, ships_in};

@@ -16,8 +16,16 @@ pub enum Version {
     Third,
 }
 
-/// What the line between an instance and its certificate says: the version, and whether the
-/// certificate may leave nodes open.
+/// What a certificate does with the nodes of the tree.
+#[derive(Clone, Copy, Debug, PartialEq, Eq)]
+pub enum Form {
+    /// It closes each of them.
+    Whole,
+    /// It may leave some open.
+    Open,
+}
+
+/// What the line between an instance and its certificate says: the version, and the form.
 #[derive(Clone, Copy, Debug, PartialEq, Eq)]
 pub enum Heading {
     /// `certificate`, `certificate 2` or `certificate 3`.

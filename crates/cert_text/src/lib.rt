@@ -4,9 +4,9 @@
 //! same certificate. `read_dossier` answers for all bytes: the instance and the certificate that
 //! they mean, or their first fault exactly where they mean none, or else want of memory.
 //!
-//! The writers `put_parts` and `push_mark` and the readers `cost_at`, `cuts_at`, `plan_at`, `prices_at`
-//! and `mark_in` serve one part each, and `headed`, `json_of`, `has_members`, `is_frame`, `needs_third`
-//! and `put_line` the frame, so that other texts with these parts may be built of them.
+//! The writers `put_parts` and `push_mark` and the readers `front_in`, `prices_at` and `mark_in` serve
+//! some parts each, and `print_parts`, `value_in` and `needs_third` the frame, so that other texts with
+//! these parts may be built of them.
 //!
 //! Definitions: `specs/Dossier` (the canonical dossier, what a text means, its first fault),
 //! `Heading` (the line before the certificate), `Versions` (which version a certificate is written
@@ -34,16 +34,15 @@ mod version;
 mod why;
 
 pub use bad::{BadDossier, DossierError};
-pub use certificate::{cost_at, cuts_at, is_frame, plan_at};
+pub use certificate::{Front, front_in};
 pub use cost::{cost_of, put_cost};
 pub use cuts::{cuts_of, put_cuts};
-pub use heading::{Heading, Version, headed};
+pub use heading::{Form, Version};
 pub use marks::{mark_in, push_mark};
 pub use parts::{Parts, put_parts};
 pub use plain_text::NoMemory;
 pub use plan::{plan_of, put_plan};
 pub use prices::prices_at;
-pub use print::{print_dossier, put_line};
-pub use read::{json_of, read_dossier};
-pub use value::has_members;
+pub use print::{print_dossier, print_parts};
+pub use read::{read_dossier, value_in};
 pub use version::{is_price_mark, is_third, needs_third};

@@ -4,7 +4,7 @@ ghost use Rattle.certificate_rules.specs.WellFormed.{AreFormedPrices};
 ghost use Rattle.serde_json.specs.View.{view, items_of, items_view};
 ghost use Rattle.cert_text.specs.Answers.{IsCausedFault};
 ghost use Rattle.cert_text.specs.Fields.{numbers_data, all_in, value_at};
-ghost use Rattle.cert_text.specs.Prices.{price_lists_data, price_in, items_prices, prices_in, price_lists_in, prices_under};
+ghost use Rattle.cert_text.specs.Prices.{price_lists_data, items_prices, prices_in, price_lists_in, prices_under};
 ghost use Rattle.cert_text.specs.declared.bad.BadDossier.TheVariants.{Shape};
 
 use crate::bad::{BadDossier, DossierError};

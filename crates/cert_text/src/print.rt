@@ -1,9 +1,11 @@
 //! Printing dossiers.
-ghost use Rattle.std.specs.Prelude.{◌≡◌, ◌++◌, ◌∷◌, [], Some, Ok, IfOk, OnOk};
+ghost use Rattle.std.specs.Prelude.{◌≡◌, ◌++◌, ◌≤◌, ◌∷◌, [], Some, false, IfOk, OnOk};
 ghost use Rattle.certificate_rules.specs.WellFormed.{IsWellFormed};
-ghost use Rattle.cert_text.specs.Certificates.{certificate_data, certificate_text, certificate_in};
-ghost use Rattle.cert_text.specs.Versions.{version_of};
-ghost use Rattle.cert_text.specs.Dossier.{heading_line, dossier, json_of, Reads};
+ghost use Rattle.serde_json.specs.Data.{depth};
+ghost use Rattle.serde_json.specs.Read.{max_depth};
+ghost use Rattle.serde_json.specs.View.{view};
+ghost use Rattle.serde_json.specs.Written.{has_float};
+ghost use Rattle.cert_text.specs.Dossier.{heading_line, json_line, framed, dossier, json_of, Reads};
 
 use crate::certificate::put_certificate;
 use crate::heading::Version;
@@ -12,21 +14,22 @@ use cert_check::Certificate;
 use instance_text::print_instance;
 use lock_model::Instance;
 use plain_text::{NoMemory, put};
+use serde_json::Value;
 use std::alloc::Global;
 
-/// Appends the heading.
-fn put_heading(out: &mut Vec<u8>, version: Version) -> Result<(), NoMemory>
-    ensures { OnOk result (out.new.items ≡ out.old.items ++ heading_line version) }
+/// The line before a certificate of a version.
+fn heading_line(version: Version) -> &'static [u8]
+    ensures { result.now ≡ heading_line version }
 {
     match version {
-        Version::First => put(out, b"certificate\n"),
-        Version::Second => put(out, b"certificate 2\n"),
-        Version::Third => put(out, b"certificate 3\n"),
+        Version::First => b"certificate\n",
+        Version::Second => b"certificate 2\n",
+        Version::Third => b"certificate 3\n",
     }
 }
 
 /// Appends a text and a line feed, for which room is taken once. Its only refusal is want of memory.
-pub fn put_line(out: &mut Vec<u8>, text: &[u8]) -> Result<(), NoMemory>
+fn put_line(out: &mut Vec<u8>, text: &[u8]) -> Result<(), NoMemory>
     ensures { OnOk result (out.new.items ≡ (out.old.items ++ text.now) ++ 10 ∷ []) }
 {
     out.reserve(text.len() + 1)?;
@@ -34,21 +37,35 @@ pub fn put_line(out: &mut Vec<u8>, text: &[u8]) -> Result<(), NoMemory>
     put(out, b"\n")
 }
 
-/// The JSON text of a certificate, without a line feed.
-fn json_text(
-    alloc: Global,
-    version: Version,
-    certificate: &Certificate,
-) -> Result<Vec<u8>, NoMemory>
-    requires formed { IsWellFormed certificate.now }
-    requires version { version ≡ version_of certificate.now }
-    ensures text { IfOk result (λ text. text.items ≡ certificate_text certificate.now) }
-    ensures json { IfOk result (λ text. json_of (text.items ++ 10 ∷ []) ≡ Some (certificate_data certificate.now)) }
-    ensures reads_back { IfOk result (λ _. certificate_in version (certificate_data certificate.now) ≡ Ok certificate.now) }
+/// The JSON text of a value, without a line feed.
+fn json_text(alloc: Global, value: Value) -> Result<Vec<u8>, NoMemory>
+    requires flat { has_float (view value) ≡ false }
+    requires shallow { depth (view value) ≤ max_depth }
+    ensures text { IfOk result (λ text. text.items ++ 10 ∷ [] ≡ json_line (view value)) }
+    ensures reads_back { IfOk result (λ _. json_of (json_line (view value)) ≡ Some (view value)) }
 {
-    let value = put_certificate(alloc, version, certificate)?;
     let text = value.to_vec(alloc)?;
     Ok(text)
+}
+
+/// The canonical text of an instance, a heading, and the line of a JSON value, which is read back as
+/// the same value. Its only refusal is want of memory.
+pub fn print_parts(
+    alloc: Global,
+    instance: &Instance,
+    heading: &[u8],
+    value: Value,
+) -> Result<Vec<u8>, NoMemory>
+    requires flat { has_float (view value) ≡ false }
+    requires shallow { depth (view value) ≤ max_depth }
+    ensures text { IfOk result (λ text. text.items ≡ framed instance.now heading.now (view value)) }
+    ensures reads_back { IfOk result (λ _. json_of (json_line (view value)) ≡ Some (view value)) }
+{
+    let mut out = print_instance(alloc, instance)?;
+    put(&mut out, heading)?;
+    let text = json_text(alloc, value)?;
+    put_line(&mut out, text.as_slice())?;
+    Ok(out)
 }
 
 /// The canonical dossier of an instance and a certificate, which is read back as the same two. The
@@ -64,9 +81,7 @@ pub fn print_dossier(
     ensures reads_back { IfOk result (λ text. Reads text.items instance.now certificate.now) }
 {
     let version = version_of(certificate);
-    let mut out = print_instance(alloc, instance)?;
-    put_heading(&mut out, version)?;
-    let text = json_text(alloc, version, certificate)?;
-    put_line(&mut out, text.as_slice())?;
-    Ok(out)
+    let value = put_certificate(alloc, version, certificate)?;
+    let text = print_parts(alloc, instance, heading_line(version), value)?;
+    Ok(text)
 }

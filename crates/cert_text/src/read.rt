@@ -1,37 +1,37 @@
 //! Reading dossiers.
-ghost use Rattle.std.specs.Prelude.{◌≡◌, List, ℕ, Some, None, Ok, IfOk, IfErr};
+ghost use Rattle.std.specs.Prelude.{◌≡◌, Some, None, Ok, IfOk, IfErr};
 ghost use Rattle.lock_model.specs.declared.instance.Instance.{Instance as AnyInstance};
 ghost use Rattle.certificate_rules.specs.Certificates.{Certificate as AnyCertificate};
 ghost use Rattle.serde_json.specs.View.{view};
 ghost use Rattle.cert_text.specs.Answers.{IsCausedFault, IsFault, IsAnswer, IsFaultAnswer};
-ghost use Rattle.cert_text.specs.Dossier.{whole_version, json_of, rest_in, Reads, DossierFault, IsFirstFault};
+ghost use Rattle.cert_text.specs.Dossier.{version_under, json_of, value_in, rest_in, Reads, DossierFault, IsFirstFault};
 ghost use Rattle.cert_text.specs.declared.bad.BadDossier.{BadDossier as AnyFault};
 ghost use Rattle.cert_text.specs.declared.bad.BadDossier.TheVariants.{Json};
 
 use crate::bad::{BadDossier, DossierError};
 use crate::certificate::certificate_in;
-use crate::heading::{Heading, Version, headed};
+use crate::heading::{Form, Heading, Version, headed};
 use cert_check::Certificate;
 use instance_text::split_instance;
 use lock_model::Instance;
 use serde_json::Value;
 use std::alloc::Global;
 
-/// The version of a dossier of this heading. None where an open certificate follows, which is no
-/// dossier.
-fn whole_version(heading: Heading) -> Option<Version>
-    ensures { result ≡ whole_version heading }
+/// The version of a heading of this form. None where it is of the other form.
+fn version_under(form: Form, heading: Heading) -> Option<Version>
+    ensures { result ≡ version_under form heading }
 {
-    match heading {
-        Heading::Whole(version) => Some(version),
-        Heading::Open(_) => None,
+    match (form, heading) {
+        (Form::Whole, Heading::Whole(version)) => Some(version),
+        (Form::Open, Heading::Open(version)) => Some(version),
+        _ => None,
     }
 }
 
 /// The value of a JSON text. Answers `Json` exactly where the bytes are not one JSON text that
 /// `serde_json` reads, or else want of memory.
 #[tactic(auto, using(crate::proofs::WrittenLemmas::json_found, crate::proofs::WrittenLemmas::json_none))]
-pub fn json_of(alloc: Global, bytes: &[u8]) -> Result<Value, DossierError>
+fn json_of(alloc: Global, bytes: &[u8]) -> Result<Value, DossierError>
     ensures read { IfOk result (λ v. json_of bytes.now ≡ Some (view v)) }
     ensures refused { IfErr result (IsCausedFault Json (json_of bytes.now ≡ None)) }
 {
@@ -47,19 +47,34 @@ pub fn json_of(alloc: Global, bytes: &[u8]) -> Result<Value, DossierError>
     }
 }
 
-/// The certificate of the bytes after the instance part.
-#[tactic(auto, unfolding(crate::specs::Dossier::rest_in))]
-fn rest_in(alloc: Global, bytes: &[u8]) -> Result<Certificate, DossierError>
-    ensures read { IfOk result (λ c. rest_in bytes.now ≡ Ok c) }
-    ensures fault { IfErr result (IsFault (rest_in bytes.now)) }
+/// The version and the JSON value of the bytes after an instance part. Answers `NoMark` where they
+/// begin with no heading of this form, then `Json`, or else want of memory.
+#[tactic(auto, unfolding(crate::specs::Dossier::value_in))]
+pub fn value_in(
+    alloc: Global,
+    form: Form,
+    bytes: &[u8],
+) -> Result<(Version, Value), DossierError>
+    ensures read { IfOk result (λ r. value_in form bytes.now ≡ Ok (r.0, view r.1)) }
+    ensures fault { IfErr result (IsFault (value_in form bytes.now)) }
 {
     let Some((heading, rest)) = headed(bytes) else {
         return Err(DossierError::Fault(BadDossier::NoMark));
     };
-    let Some(version) = whole_version(heading) else {
+    let Some(version) = version_under(form, heading) else {
         return Err(DossierError::Fault(BadDossier::NoMark));
     };
     let value = json_of(alloc, rest)?;
+    Ok((version, value))
+}
+
+/// The certificate of the bytes after the instance part.
+#[tactic(auto, unfolding(crate::specs::Dossier::rest_in), using(crate::proofs::DossierLemmas::value_fault))]
+fn rest_in(alloc: Global, bytes: &[u8]) -> Result<Certificate, DossierError>
+    ensures read { IfOk result (λ c. rest_in bytes.now ≡ Ok c) }
+    ensures fault { IfErr result (IsFault (rest_in bytes.now)) }
+{
+    let (version, value) = value_in(alloc, Form::Whole, bytes)?;
     certificate_in(alloc, version, &value)
 }
 

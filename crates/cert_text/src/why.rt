@@ -1,5 +1,5 @@
 //! Refutations as JSON values.
-ghost use Rattle.std.specs.Prelude.{◌≡◌, ◌++◌, ◌≤◌, ◌<◌, List, ℕ, length, map, OnOk, IfOk, Some, None};
+ghost use Rattle.std.specs.Prelude.{◌≡◌, ◌++◌, ◌<◌, map, OnOk, IfOk, Some, None};
 ghost use Rattle.refute_rules.specs.Why.{why_of};
 ghost use Rattle.certificate_rules.specs.WellFormed.{IsFormedRefutation};
 ghost use Rattle.serde_json.specs.View.{view, items_of, items_view};

@@ -1,8 +1,5 @@
 -- The canonical open dossier is read back, and a text is read part by part.
 use Rattle.std.proofs.Common.{◌≡◌, ◌∙◌, ◌++◌, ◌≤◌, ℕ, Bool, true, false, cond, List, [], ◌∷◌, codes, Some, Result, Ok, IfOk, IfErr, refl, sym, ap, ap₂, subst, append_assoc, All, inl, inr}
-use Rattle.std.specs.Str.{IsUtf8}
-use Rattle.json.specs.Lex.{tokens}
-use Rattle.json.specs.Print.{print}
 use Rattle.lock_model.specs.declared.instance.Instance.{Instance}
 use Rattle.std.specs.List.{flat_map}
 use Rattle.list_laws.proofs.Lists.{none-passes}
@@ -14,19 +11,17 @@ use Rattle.certificate_rules.specs.WellFormed.{IsFormedOpenMark, IsWellFormedOpe
 use Rattle.certificate_rules.specs.OpenCertificates.{OpenCertificate}
 use Rattle.instance_text.specs.declared.bad.Bad.{Bad}
 use Rattle.line_text.specs.Lines.{lines, words, content}
-use Rattle.instance_text.specs.Reading.{reading, Means, Defect, instance_part, after_instance}
-use Rattle.instance_text.specs.Canonical.{canonical}
-use Rattle.instance_text.proofs.TextBackLemmas.{canonical_means}
-use Rattle.instance_text.proofs.PartBackLemmas.{canonical_part, canonical_rest}
+use Rattle.instance_text.specs.Reading.{Means, Defect, instance_part, after_instance}
 use Rattle.serde_json.specs.Data.{Data, depth}
-use Rattle.serde_json.specs.Read.{read, max_depth}
-use Rattle.serde_json.specs.Written.{has_float, compact_text, IsInOrder}
+use Rattle.serde_json.specs.Read.{max_depth}
+use Rattle.serde_json.specs.Written.{has_float}
 use Rattle.serde_json.proofs.OnLiterals.{serde_json_on_literals}
 use Rattle.cert_text.specs.Answers.{IsFault, IsAnswer, IsFaultAnswer}
 use Rattle.cert_text.specs.declared.bad.BadDossier.{BadDossier}
 use Rattle.cert_text.specs.declared.bad.BadDossier.TheVariants as fault
 use Rattle.cert_text.specs.declared.bad.DossierError.{DossierError}
 use Rattle.cert_text.specs.declared.bad.DossierError.TheVariants.{Fault, NoMemory}
+use Rattle.cert_text.specs.declared.heading.Form.TheVariants as form
 use Rattle.cert_text.specs.declared.heading.Heading.TheVariants as heading
 use Rattle.cert_text.specs.declared.heading.Version.{Version}
 use Rattle.cert_text.specs.declared.heading.Version.TheVariants.{First, Second, Third}
@@ -34,21 +29,25 @@ use Rattle.cert_text.specs.Versions.{is_third, needs_third}
 use Rattle.cert_text.specs.Cuts.{cuts_data, cuts_in, cuts_under}
 use Rattle.cert_text.specs.Plans.{plan_data, plan_in}
 use Rattle.cert_text.specs.Prices.{price_lists_data, price_lists_in}
-use Rattle.cert_text.specs.Certificates.{parts_data}
+use Rattle.cert_text.specs.Certificates.{parts_data, front_in}
 use Rattle.cert_text.specs.Heading.{heading_of, headed}
-use Rattle.cert_text.specs.Dossier.{json_of}
+use Rattle.cert_text.specs.Dossier.{json_line, framed, json_of, value_in}
 use Rattle.cert_text.proofs.ShapeLemmas.{numbers_no_float, numbers_depth, parts_no_float, parts_shallow}
 use Rattle.cert_text.proofs.MarkLemmas.{ReadsFirst, numbers_back, one_number, two_numbers, Numbers, mark_told}
 use Rattle.cert_text.proofs.PriceLemmas.{lists_back}
 use Rattle.cert_text.proofs.VersionLemmas.{Suits, suits_third, suits_second}
+use Rattle.cert_text.specs.Steps.{fault_under}
 use Rattle.cert_text.proofs.CertificateLemmas.{cuts_suit}
-use Rattle.cert_text.proofs.WrittenLemmas.{data_back}
 use Rattle.cert_text.proofs.HeadingLemmas.{begins}
-use Rattle.cert_text.proofs.PairLemmas.{made, each_answer, each_fault_answer}
+use Rattle.cert_text.proofs.PairLemmas.{fault_before, shape_before, framed_back, pair_no_instance, pair_read, pair_no_rest, each_answer, each_fault_answer}
 use Rattle.resume_book.specs.OpenMarks.{open_numbers, open_mark_in, open_tree_data, open_tree_in, is_open_price_mark, has_open_price_mark}
-use Rattle.resume_book.specs.OpenDossier.{open_version, open_line, open_data, open_text, open_certificate_in, open_dossier, open_rest_in, open_dossier_in, ReadsOpen, OpenDossierFault, IsFirstOpenFault}
+use Rattle.resume_book.specs.OpenDossier.{open_version, open_line, open_data, open_certificate_in, open_dossier, open_rest_in, open_dossier_in, ReadsOpen, OpenDossierFault, IsFirstOpenFault}
 
 -- ---- the value of an open certificate
+
+pub front_fault : (version : Version) (d : Data) (e : DossierError) → IsFault (fault_under fault.Shape (front_in version d)) e → IsFault (fault_under fault.Shape (open_certificate_in version d)) e
+unfolding open_certificate_in
+front_fault version d e bad = shape_before (front_in version d) _ e bad
 
 open_mark_back : (third : Bool) (m : OpenMark) → IsFormedOpenMark m → (third ≡ false → is_open_price_mark m ≡ false) → ReadsFirst (open_mark_in third) open_numbers m
 open_mark_back third Open formed plain = one_number (open_mark_in third) open_numbers Open 3 refl refl
@@ -73,7 +72,7 @@ suited C = go (needs_third C.cuts C.prices (has_open_price_mark C.tree)) refl
 parts_back : (version : Version) (C : OpenCertificate) → Suits version C.cuts C.prices (has_open_price_mark C.tree) → cuts_under version (cuts_data C.cuts) ≡ Some C.cuts → plan_in (plan_data C.plan) ≡ Some C.plan
     → open_tree_in (is_third version) (open_tree_data C.tree) ≡ Some C.tree → price_lists_in (price_lists_data C.prices) ≡ Some C.prices
     → open_certificate_in version (parts_data version C.cost C.cuts C.plan C.prices (open_tree_data C.tree)) ≡ Ok C
-unfolding open_certificate_in serde_json_on_literals
+unfolding open_certificate_in front_in serde_json_on_literals
 parts_back First C suits cuts plan tree prices =
     rw (cuts, plan, tree) (ap (λ (ps : List (List ℕ)). let made : OpenCertificate = record { cost = C.cost; cuts = C.cuts; plan = C.plan; prices = ps; tree = C.tree } in Ok made) (sym (suits.unpriced refl)))
 parts_back Second C suits cuts plan tree prices =
@@ -97,24 +96,12 @@ no_float C = parts_no_float (open_version C) C.cost C.cuts C.plan C.prices (open
 pub shallow : (C : OpenCertificate) → depth (open_data C) ≤ max_depth
 shallow C = parts_shallow (open_version C) C.cost C.cuts C.plan C.prices (open_tree_data C.tree) (numbers_depth (flat_map open_numbers C.tree))
 
-pub written : (C : OpenCertificate) (d : Data) (text : List ℕ) → d ≡ open_data C → (has_float d ≡ false → text ≡ compact_text d) → text ≡ open_text C
-unfolding open_text
-written C d text is text_is = text_is (ap has_float is ∙ no_float C) ∙ ap compact_text is
-
-pub json_back : (C : OpenCertificate) (d : Data) (text : List ℕ) → d ≡ open_data C → text ≡ print (tokens text) → IsUtf8 text → IsInOrder text d → (depth d ≤ max_depth → read text ≡ Some d) → json_of (text ++ 10 ∷ []) ≡ Some (open_data C)
-json_back C d text is compact utf8 order reads =
-    let flat = subst (λ e. depth e ≤ max_depth) (sym is) (shallow C) in
-    data_back d text (ap has_float is ∙ no_float C) flat compact utf8 order reads ∙ ap Some is
-
 -- ---- the text
 
--- what is printed step by step
-pub printed : (I : Instance) (C : OpenCertificate) (version : Version) (a b c d json : List ℕ) → a ≡ canonical I → version ≡ open_version C → b ≡ a ++ open_line version → json ≡ open_text C → c ≡ b ++ json → d ≡ c ++ 10 ∷ [] → d ≡ open_dossier I C
+-- the frame with an open certificate's value is its open dossier
+pub printed_open : (I : Instance) (C : OpenCertificate) (version : Version) (heading : List ℕ) (d : Data) → version ≡ open_version C → heading ≡ open_line version → d ≡ open_data C → framed I heading d ≡ open_dossier I C
 unfolding open_dossier
-printed I C version a b c d json first is second text third last =
-    last ∙ ap (λ l. l ++ 10 ∷ []) (third ∙ ap (λ l. l ++ json) (second ∙ ap (λ l. l ++ open_line version) first) ∙ ap (λ l. (canonical I ++ open_line version) ++ l) text)
-    ∙ append_assoc (canonical I ++ open_line version) (open_text C) (10 ∷ []) ∙ append_assoc (canonical I) (open_line version) (open_text C ++ 10 ∷ [])
-    ∙ ap (λ v. canonical I ++ (open_line v ++ (open_text C ++ 10 ∷ []))) is
+printed_open I C version heading d is named same = ap₂ (framed I) (named ∙ ap open_line is) same
 
 open_words : words (codes "certificate open") ≡ codes "certificate" ∷ codes "open" ∷ []
 unfolding words content
@@ -155,30 +142,32 @@ not_first C = go (needs_third C.cuts C.prices (has_open_price_mark C.tree))
     go false is = cc
 
 rest_back : (C : OpenCertificate) (json : List ℕ) → json_of json ≡ Some (open_data C) → open_certificate_in (open_version C) (open_data C) ≡ Ok C → open_rest_in (open_line (open_version C) ++ json) ≡ Ok C
-unfolding open_rest_in
+unfolding open_rest_in value_in
 rest_back C json value certificate = rw (heading_back (open_version C) json (not_first C), value, certificate) refl
 
 -- the canonical open dossier is read as the pair
-pub dossier_back : (I : Instance) (C : OpenCertificate) → json_of (open_text C ++ 10 ∷ []) ≡ Some (open_data C) → open_certificate_in (open_version C) (open_data C) ≡ Ok C → ReadsOpen (open_dossier I C) I C
-unfolding ReadsOpen open_dossier_in open_dossier Means
-dossier_back I C value certificate =
-    let more = open_line (open_version C) ++ (open_text C ++ 10 ∷ []) in
-    ap₂ made (ap reading (canonical_part I more) ∙ canonical_means I) (ap open_rest_in (canonical_rest I more) ∙ rest_back C (open_text C ++ 10 ∷ []) value certificate)
+pub dossier_back : (I : Instance) (C : OpenCertificate) → json_of (json_line (open_data C)) ≡ Some (open_data C) → open_certificate_in (open_version C) (open_data C) ≡ Ok C → ReadsOpen (open_dossier I C) I C
+unfolding ReadsOpen open_dossier_in open_dossier
+dossier_back I C value certificate = framed_back I (open_line (open_version C)) (open_data C) C open_rest_in (rest_back C (json_line (open_data C)) value certificate)
 
 -- ---- reading part by part
 
+pub value_fault : (bytes : List ℕ) (e : DossierError) → IsFault (value_in form.Open bytes) e → IsFault (open_rest_in bytes) e
+unfolding open_rest_in
+value_fault bytes e bad = fault_before (value_in form.Open bytes) _ e bad
+
 pub instance_fault : (text : List ℕ) (b : Bad) → Defect (instance_part text) b.line b.kind → OpenDossierFault text (fault.Instance b)
-unfolding Defect open_dossier_in
-instance_fault text b defect = ap (λ r. made r (open_rest_in (after_instance text))) defect
+unfolding open_dossier_in
+instance_fault text b defect = pair_no_instance open_rest_in text b defect
 
 pub rest_read : (text : List ℕ) (I : Instance) (rest : List ℕ) (C : OpenCertificate) → Means (instance_part text) I → rest ≡ after_instance text → open_rest_in rest ≡ Ok C → ReadsOpen text I C
-unfolding Means ReadsOpen open_dossier_in
-rest_read text I rest C means is reads = ap₂ made means (ap open_rest_in (sym is) ∙ reads)
+unfolding ReadsOpen open_dossier_in
+rest_read text I rest C means is reads = pair_read open_rest_in text I rest C means is reads
 
 pub rest_fault : (text : List ℕ) (I : Instance) (rest : List ℕ) (e : DossierError) → Means (instance_part text) I → rest ≡ after_instance text → IsFault (open_rest_in rest) e → IsFirstOpenFault text e
-unfolding Means open_dossier_in
+unfolding open_dossier_in
 rest_fault text I rest NoMemory means is bad = tt
-rest_fault text I rest (Fault f) means is bad = ap₂ made means (ap open_rest_in (sym is) ∙ bad)
+rest_fault text I rest (Fault f) means is bad = pair_no_rest open_rest_in text I rest f means is bad
 
 -- ---- each meaning and each fault is answered
 

@@ -4,38 +4,22 @@ ghost use Rattle.lock_model.specs.declared.instance.Instance.{Instance as AnyIns
 ghost use Rattle.certificate_rules.specs.OpenCertificates.{OpenCertificate as AnyOpen};
 ghost use Rattle.cert_text.specs.Answers.{IsFault, IsAnswer, IsFaultAnswer};
 ghost use Rattle.cert_text.specs.declared.bad.BadDossier.{BadDossier as AnyFault};
-ghost use Rattle.resume_book.specs.OpenDossier.{version_in, open_rest_in, ReadsOpen, OpenDossierFault, IsFirstOpenFault};
+ghost use Rattle.resume_book.specs.OpenDossier.{open_rest_in, ReadsOpen, OpenDossierFault, IsFirstOpenFault};
 
 use crate::certificate::OpenCertificate;
 use crate::value::open_certificate_in;
-use cert_text::{BadDossier, DossierError, Heading, Version, headed, json_of};
+use cert_text::{BadDossier, DossierError, Form, value_in};
 use instance_text::split_instance;
 use lock_model::Instance;
 use std::alloc::Global;
 
-// The version of an open dossier of this heading. None where a whole certificate follows.
-fn version_in(heading: Heading) -> Option<Version>
-    ensures { result ≡ version_in heading }
-{
-    match heading {
-        Heading::Whole(_) => None,
-        Heading::Open(version) => Some(version),
-    }
-}
-
 // The open certificate of the bytes after the instance part.
-#[tactic(auto, unfolding(crate::specs::OpenDossier::open_rest_in))]
+#[tactic(auto, unfolding(crate::specs::OpenDossier::open_rest_in), using(crate::proofs::TextLemmas::value_fault))]
 fn rest_in(alloc: Global, bytes: &[u8]) -> Result<OpenCertificate, DossierError>
     ensures read { IfOk result (λ c. open_rest_in bytes.now ≡ Ok c) }
     ensures fault { IfErr result (IsFault (open_rest_in bytes.now)) }
 {
-    let Some((heading, rest)) = headed(bytes) else {
-        return Err(DossierError::Fault(BadDossier::NoMark));
-    };
-    let Some(version) = version_in(heading) else {
-        return Err(DossierError::Fault(BadDossier::NoMark));
-    };
-    let value = json_of(alloc, rest)?;
+    let (version, value) = value_in(alloc, Form::Open, bytes)?;
     open_certificate_in(alloc, version, &value)
 }
 

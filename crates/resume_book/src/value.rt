@@ -12,8 +12,8 @@ ghost use Rattle.resume_book.specs.OpenDossier.{open_version, open_data, open_ce
 use crate::certificate::{OpenCertificate, OpenMarks};
 use crate::tree::{has_open_price_mark, put_tree, tree_of};
 use cert_text::{
-    BadDossier, DossierError, Parts, Version, cost_at, cuts_at, is_frame, is_third, needs_third,
-    plan_at, prices_at, put_parts,
+    BadDossier, DossierError, Front, Parts, Version, front_in, is_third, needs_third, prices_at,
+    put_parts,
 };
 use plain_text::NoMemory;
 use serde_json::Value;
@@ -71,7 +71,7 @@ fn tree_at(alloc: Global, third: bool, value: &Value) -> Result<OpenMarks, Dossi
 }
 
 // The open certificate that a value writes, or the first part at fault.
-#[tactic(auto, unfolding(crate::specs::OpenDossier::open_certificate_in))]
+#[tactic(auto, unfolding(crate::specs::OpenDossier::open_certificate_in), using(crate::proofs::TextLemmas::front_fault))]
 pub(crate) fn open_certificate_in(
     alloc: Global,
     version: Version,
@@ -80,12 +80,7 @@ pub(crate) fn open_certificate_in(
     ensures read { IfOk result (λ c. open_certificate_in version (view value.now) ≡ Ok c) }
     ensures shape { IfErr result (IsFault (fault_under Shape (open_certificate_in version (view value.now)))) }
 {
-    if !is_frame(version, value) {
-        return Err(DossierError::Fault(BadDossier::Shape(1)));
-    }
-    let cost = cost_at(value)?;
-    let cuts = cuts_at(alloc, version, value)?;
-    let plan = plan_at(value)?;
+    let Front { cost, cuts, plan } = front_in(alloc, version, value)?;
     let tree = tree_at(alloc, is_third(version), value)?;
     let prices = prices_at(alloc, version, value)?;
     Ok(OpenCertificate {

@@ -1,19 +1,26 @@
-use Rattle.std.proofs.Common.{◌∙◌, ◌++◌, [], ◌∷◌, ap, refl, sym, subst}
+use Rattle.std.proofs.Common.{◌∙◌, ◌≤◌, Some, ap, sym, subst}
+use Rattle.serde_json.specs.Data.{depth}
+use Rattle.serde_json.specs.Read.{max_depth}
+use Rattle.serde_json.specs.Written.{has_float}
 use Rattle.cert_text.specs.Certificates.{certificate_data, certificate_in}
-use Rattle.cert_text.specs.Dossier.{Reads, json_of}
-use Rattle.cert_text.proofs.DossierLemmas.{printed, dossier_back}
+use Rattle.cert_text.specs.Dossier.{Reads, json_of, json_line}
+use Rattle.cert_text.proofs.DossierLemmas.{printed_dossier, dossier_back}
+use Rattle.cert_text.proofs.ShapeLemmas.{no_float, shallow}
 use Rattle.cert_text.proofs.print.print_dossier.Goals as goal
 
+pub print_parts-text-requires-clause-flat : goal.print_parts-text-requires-clause-flat
+print_parts-text-requires-clause-flat c = ap has_float c.in_ok-value.ensures.value ∙ no_float c.args.certificate.now
+
+pub print_parts-text-requires-clause-shallow : goal.print_parts-text-requires-clause-shallow
+print_parts-text-requires-clause-shallow c = subst (λ d. depth d ≤ max_depth) (sym c.in_ok-value.ensures.value) (shallow c.args.certificate.now)
+
 pub returns-clause-text : goal.returns-clause-text
-returns-clause-text c =
-    printed c.args.instance.now c.args.certificate.now c.version_of-version.result c.in_ok-out.out.items c.put_heading.new.out.items (c.put_heading.new.out.items ++ c.as_slice.result.now) c.put_line.new.out.items c.as_slice.result.now
-    c.in_ok-out.ensures.text c.version_of-version.ensures c.in_ok-put_heading.ensures (c.as_slice.ensures.value ∙ c.in_ok-text.ensures.text) refl c.in_ok-put_line.ensures
+returns-clause-text c = c.in_ok-text.ensures.text ∙ printed_dossier c.args.instance.now c.args.certificate.now _ _ _ c.version_of-version.ensures c.heading_line.ensures c.in_ok-value.ensures.value
 
 pub returns-clause-reads_back : goal.returns-clause-reads_back
 returns-clause-reads_back c =
     let C = c.args.certificate.now in
-    let same = printed c.args.instance.now C c.version_of-version.result c.in_ok-out.out.items c.put_heading.new.out.items (c.put_heading.new.out.items ++ c.as_slice.result.now) c.put_line.new.out.items c.as_slice.result.now
-    c.in_ok-out.ensures.text c.version_of-version.ensures c.in_ok-put_heading.ensures (c.as_slice.ensures.value ∙ c.in_ok-text.ensures.text) refl c.in_ok-put_line.ensures in
+    let same = c.in_ok-text.ensures.text ∙ printed_dossier c.args.instance.now C _ _ _ c.version_of-version.ensures c.heading_line.ensures c.in_ok-value.ensures.value in
     subst (λ t. Reads t c.args.instance.now C) (sym same)
-    (dossier_back c.args.instance.now C (ap (λ t. json_of (t ++ 10 ∷ [])) (sym c.in_ok-text.ensures.text) ∙ c.in_ok-text.ensures.json)
-    (ap (λ v. certificate_in v (certificate_data C)) (sym c.version_of-version.ensures) ∙ c.in_ok-text.ensures.reads_back))
+    (dossier_back c.args.instance.now C (ap (λ d. json_of (json_line d)) (sym c.in_ok-value.ensures.value) ∙ c.in_ok-text.ensures.reads_back ∙ ap Some c.in_ok-value.ensures.value)
+    (ap (λ v. certificate_in v (certificate_data C)) (sym c.version_of-version.ensures) ∙ c.in_ok-value.ensures.reads_back))

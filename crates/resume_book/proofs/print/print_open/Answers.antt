@@ -1,19 +1,25 @@
-use Rattle.std.proofs.Common.{◌∙◌, ◌++◌, [], ◌∷◌, ap, refl, sym, subst}
-use Rattle.cert_text.specs.Dossier.{json_of}
+use Rattle.std.proofs.Common.{◌∙◌, ◌≤◌, Some, ap, sym, subst}
+use Rattle.serde_json.specs.Data.{depth}
+use Rattle.serde_json.specs.Read.{max_depth}
+use Rattle.serde_json.specs.Written.{has_float}
+use Rattle.cert_text.specs.Dossier.{json_of, json_line}
 use Rattle.resume_book.specs.OpenDossier.{open_data, open_certificate_in, ReadsOpen}
-use Rattle.resume_book.proofs.TextLemmas.{printed, dossier_back}
+use Rattle.resume_book.proofs.TextLemmas.{no_float, shallow, printed_open, dossier_back}
 use Rattle.resume_book.proofs.print.print_open.Goals as goal
 
+pub print_parts-text-requires-clause-flat : goal.print_parts-text-requires-clause-flat
+print_parts-text-requires-clause-flat c = ap has_float c.in_ok-value.ensures.value ∙ no_float c.args.certificate.now
+
+pub print_parts-text-requires-clause-shallow : goal.print_parts-text-requires-clause-shallow
+print_parts-text-requires-clause-shallow c = subst (λ d. depth d ≤ max_depth) (sym c.in_ok-value.ensures.value) (shallow c.args.certificate.now)
+
 pub returns-clause-text : goal.returns-clause-text
-returns-clause-text c =
-    printed c.args.instance.now c.args.certificate.now c.open_version-version.result c.in_ok-out.out.items c.put_heading.new.out.items (c.put_heading.new.out.items ++ c.as_slice.result.now) c.put_line.new.out.items c.as_slice.result.now
-    c.in_ok-out.ensures.text c.open_version-version.ensures c.in_ok-put_heading.ensures (c.as_slice.ensures.value ∙ c.in_ok-text.ensures.text) refl c.in_ok-put_line.ensures
+returns-clause-text c = c.in_ok-text.ensures.text ∙ printed_open c.args.instance.now c.args.certificate.now _ _ _ c.open_version-version.ensures c.open_line.ensures c.in_ok-value.ensures.value
 
 pub returns-clause-reads_back : goal.returns-clause-reads_back
 returns-clause-reads_back c =
     let C = c.args.certificate.now in
-    let same = printed c.args.instance.now C c.open_version-version.result c.in_ok-out.out.items c.put_heading.new.out.items (c.put_heading.new.out.items ++ c.as_slice.result.now) c.put_line.new.out.items c.as_slice.result.now
-    c.in_ok-out.ensures.text c.open_version-version.ensures c.in_ok-put_heading.ensures (c.as_slice.ensures.value ∙ c.in_ok-text.ensures.text) refl c.in_ok-put_line.ensures in
+    let same = c.in_ok-text.ensures.text ∙ printed_open c.args.instance.now C _ _ _ c.open_version-version.ensures c.open_line.ensures c.in_ok-value.ensures.value in
     subst (λ t. ReadsOpen t c.args.instance.now C) (sym same)
-    (dossier_back c.args.instance.now C (ap (λ t. json_of (t ++ 10 ∷ [])) (sym c.in_ok-text.ensures.text) ∙ c.in_ok-text.ensures.json)
-    (ap (λ v. open_certificate_in v (open_data C)) (sym c.open_version-version.ensures) ∙ c.in_ok-text.ensures.reads_back))
+    (dossier_back c.args.instance.now C (ap (λ d. json_of (json_line d)) (sym c.in_ok-value.ensures.value) ∙ c.in_ok-text.ensures.reads_back ∙ ap Some c.in_ok-value.ensures.value)
+    (ap (λ v. open_certificate_in v (open_data C)) (sym c.open_version-version.ensures) ∙ c.in_ok-value.ensures.reads_back))

@@ -1,0 +1,8 @@
+use Rattle.std.proofs.Common.{◌∙◌, ◌++◌, ◌∷◌, [], ap}
+use Rattle.cert_text.proofs.DossierLemmas.{printed}
+use Rattle.cert_text.proofs.print.print_parts.Goals as goal
+
+pub returns-clause-text : goal.returns-clause-text
+returns-clause-text c =
+    printed c.args.instance.now c.args.heading.now _ c.in_ok-out.out.items c.put.new.out.items c.put_line.new.out.items c.as_slice.result.now
+    c.in_ok-out.ensures.text c.in_ok-put.ensures c.in_ok-put_line.ensures (ap (λ t. t ++ 10 ∷ []) c.as_slice.ensures.value ∙ c.in_ok-text.ensures.text)
