@@ -37,7 +37,7 @@ pub use bad::{BadDossier, DossierError};
 pub use certificate::{Front, front_in};
 pub use cost::{cost_of, put_cost};
 pub use cuts::{cuts_of, put_cuts};
-pub use heading::{Form, Version};
+pub use heading::{Form, Heading, Version, headed};
 pub use marks::{mark_in, push_mark};
 pub use parts::{Parts, put_parts};
 pub use plain_text::NoMemory;
