@@ -5,7 +5,7 @@
 //! they mean, or their first fault exactly where they mean none, or else want of memory.
 //!
 //! The writers `put_parts` and `push_mark` and the readers `front_in`, `prices_at` and `mark_in` serve
-//! some parts each, and `print_parts`, `value_in` and `needs_third` the frame, so that other texts with
+//! some parts each, and `print_parts`, `headed`, `value_in` and `needs_third` the frame, so that other texts with
 //! these parts may be built of them.
 //!
 //! Definitions: `specs/Dossier` (the canonical dossier, what a text means, its first fault),

@@ -85,8 +85,8 @@ fn worked_out(alloc: Global, case: &LineCase, limits: Limits) -> Result<KeptLine
 
 /// Least lines that were worked out, kept for later calls by the same instance, depth, prices and cuts;
 /// a call by others forgets them. They help speed alone: with any kept lines a call answers the same,
-/// but for its limits, which aren't asked of a line that is kept. At most 100 lines are kept, in some
-/// 150 kilobytes and what the last one takes.
+/// but for its limits, which aren't asked of a line that is kept. At most 100 lines are kept, in less
+/// than 200 kilobytes besides a copy of the cuts and what the last line takes.
 #[derive(Debug, Drop)]
 pub struct KeptLines {
     alloc: Global,
@@ -162,10 +162,10 @@ impl KeptLines {
         ensures { IfOk result (λ found. IsFound case.now.instance.now case.now.chamber case.now.depth case.now.prices.now case.now.cuts.now case.now.line.now found.now) }
     {
         self.go_under(case)?;
-        self.make_room();
         if let Some(place) = place_of(&self.lines, case) {
             return Ok(&self.lines[place].least);
         }
+        self.make_room();
         let kept = worked_out(self.alloc, case, limits)?;
         let place = self.lines.len();
         match self.lines.push(kept) {
