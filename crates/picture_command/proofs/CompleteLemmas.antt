@@ -10,13 +10,16 @@ use Rattle.instance_text.specs.Reading.{reading, instance_part, after_instance}
 use Rattle.cert_text.specs.Steps.{or_fault, fault_under}
 use Rattle.cert_text.specs.Certificates.{certificate_in}
 use Rattle.cert_text.specs.Heading.{headed}
-use Rattle.cert_text.specs.Dossier.{whole_version, json_of, rest_in, dossier_in, Reads}
+use Rattle.cert_text.specs.Dossier.{version_under, json_of, value_in, rest_in, dossier_in, Reads}
+use Rattle.serde_json.specs.Data.{Data}
+use Rattle.cert_text.specs.declared.heading.Form.{Form}
+use Rattle.cert_text.specs.declared.heading.Form.TheVariants as form
 use Rattle.cert_text.specs.declared.heading.Heading.{Heading}
 use Rattle.cert_text.specs.declared.heading.Heading.TheVariants as kind
 use Rattle.cert_text.specs.declared.heading.Version.{Version}
 use Rattle.cert_text.specs.declared.bad.BadDossier.{BadDossier as AnyFault}
 use Rattle.cert_text.specs.declared.bad.BadDossier.TheVariants as fault
-use Rattle.resume_book.specs.OpenDossier.{version_in, open_certificate_in, open_rest_in, open_dossier_in, ReadsOpen}
+use Rattle.resume_book.specs.OpenDossier.{open_certificate_in, open_rest_in, open_dossier_in, ReadsOpen}
 use Rattle.picture_forms.specs.declared.times.Clock.{Clock}
 use Rattle.checked_dossiers.specs.Accepted.{IsAccepted, IsNotAccepted}
 use Rattle.checked_dossiers.specs.Standing.{IsStanding, IsNoStanding}
@@ -51,20 +54,28 @@ first_version : {A : Type 0} (version_of : Heading → Option Version) (found : 
 first_version version_of None next a e = absurd cc
 first_version version_of (Some f) next a e = has_version version_of f.0 (version_of f.0) (next f) a refl e
 
-rest_version : (bytes : List ℕ) (C : Certificate) → rest_in bytes ≡ Ok C → HasVersion whole_version (option_map (λ f. f.0) (headed bytes))
+value_version : (asked : Form) (bytes : List ℕ) (told : Version × Data) → value_in asked bytes ≡ Ok told → HasVersion (version_under asked) (option_map (λ f. f.0) (headed bytes))
+unfolding value_in
+value_version asked bytes told e = first_version (version_under asked) (headed bytes) (λ found version. or_fault fault.Json (json_of found.1) >>= λ value. Ok (version, value)) told e
+
+valued_version : {C : Type 0} (asked : Form) (bytes : List ℕ) (told : Result (Version × Data) AnyFault) (next : Version × Data → Result C AnyFault) (certificate : C) → value_in asked bytes ≡ told → (told >>= next) ≡ Ok certificate → HasVersion (version_under asked) (option_map (λ f. f.0) (headed bytes))
+valued_version asked bytes (Ok told) next certificate is e = value_version asked bytes told is
+valued_version asked bytes (Err f) next certificate is e = absurd cc
+
+rest_version : (bytes : List ℕ) (C : Certificate) → rest_in bytes ≡ Ok C → HasVersion (version_under form.Whole) (option_map (λ f. f.0) (headed bytes))
 unfolding rest_in
-rest_version bytes C e = first_version whole_version (headed bytes) (λ found version. or_fault fault.Json (json_of found.1) >>= λ value. fault_under fault.Shape (certificate_in version value)) C e
+rest_version bytes C e = valued_version form.Whole bytes (value_in form.Whole bytes) (λ found. fault_under fault.Shape (certificate_in found.0 found.1)) C refl e
 
-open_rest_version : (bytes : List ℕ) (C : OpenCertificate) → open_rest_in bytes ≡ Ok C → HasVersion version_in (option_map (λ f. f.0) (headed bytes))
+open_rest_version : (bytes : List ℕ) (C : OpenCertificate) → open_rest_in bytes ≡ Ok C → HasVersion (version_under form.Open) (option_map (λ f. f.0) (headed bytes))
 unfolding open_rest_in
-open_rest_version bytes C e = first_version version_in (headed bytes) (λ found version. or_fault fault.Json (json_of found.1) >>= λ value. fault_under fault.Shape (open_certificate_in version value)) C e
+open_rest_version bytes C e = valued_version form.Open bytes (value_in form.Open bytes) (λ found. fault_under fault.Shape (open_certificate_in found.0 found.1)) C refl e
 
-reads_version : (bytes : List ℕ) (I : Instance) (C : Certificate) → Reads bytes I C → HasVersion whole_version (heading_in bytes)
+reads_version : (bytes : List ℕ) (I : Instance) (C : Certificate) → Reads bytes I C → HasVersion (version_under form.Whole) (heading_in bytes)
 unfolding Reads dossier_in
 reads_version bytes I C reads =
     rest_version (after_instance bytes) C (second (fault_under fault.Instance (reading (instance_part bytes))) (rest_in (after_instance bytes)) (record { chambers = I.chambers; ships = I.ships }, C) reads)
 
-open_reads_version : (bytes : List ℕ) (I : Instance) (C : OpenCertificate) → ReadsOpen bytes I C → HasVersion version_in (heading_in bytes)
+open_reads_version : (bytes : List ℕ) (I : Instance) (C : OpenCertificate) → ReadsOpen bytes I C → HasVersion (version_under form.Open) (heading_in bytes)
 unfolding ReadsOpen open_dossier_in
 open_reads_version bytes I C reads =
     open_rest_version (after_instance bytes) C (second (fault_under fault.Instance (reading (instance_part bytes))) (open_rest_in (after_instance bytes)) (record { chambers = I.chambers; ships = I.ships }, C) reads)
@@ -83,12 +94,12 @@ drawn_or Page Refusal BadDossier wants answer = inr (wants answer)
 drawn_or Page Refusal Unfit wants answer = inr (wants answer)
 drawn_or Page Refusal PlanRefused wants answer = inr (wants answer)
 
-whole_drawn : (clock : Clock) (bytes : List ℕ) (I : Instance) (C : Certificate) (s : Status) (text : List ℕ) (h : Heading) (version : Version) → IsAccepted bytes I C → whole_version h ≡ Some version → AnswersHeaded clock (Some h) bytes s text → (s ≡ Good) ⊎ (s ≡ NoMemory)
+whole_drawn : (clock : Clock) (bytes : List ℕ) (I : Instance) (C : Certificate) (s : Status) (text : List ℕ) (h : Heading) (version : Version) → IsAccepted bytes I C → version_under form.Whole h ≡ Some version → AnswersHeaded clock (Some h) bytes s text → (s ≡ Good) ⊎ (s ≡ NoMemory)
 whole_drawn clock bytes I C s text (kind.Whole v) version accepted is answer =
     drawn_or (PrintsCheapest clock bytes text) (λ t. IsNotAccepted bytes t text) s (λ refusal. accepted_wants bytes s text refusal I C accepted) answer
 whole_drawn clock bytes I C s text (kind.Open v) version accepted is answer = absurd cc
 
-open_drawn : (clock : Clock) (bytes : List ℕ) (I : Instance) (C : OpenCertificate) (s : Status) (text : List ℕ) (h : Heading) (version : Version) → IsStanding bytes I C → version_in h ≡ Some version → AnswersHeaded clock (Some h) bytes s text → (s ≡ Good) ⊎ (s ≡ NoMemory)
+open_drawn : (clock : Clock) (bytes : List ℕ) (I : Instance) (C : OpenCertificate) (s : Status) (text : List ℕ) (h : Heading) (version : Version) → IsStanding bytes I C → version_under form.Open h ≡ Some version → AnswersHeaded clock (Some h) bytes s text → (s ≡ Good) ⊎ (s ≡ NoMemory)
 open_drawn clock bytes I C s text (kind.Whole v) version stands is answer = absurd cc
 open_drawn clock bytes I C s text (kind.Open v) version stands is answer =
     drawn_or (PrintsBounded clock bytes text) (λ t. IsNoStanding bytes t text) s (λ refusal. standing_wants bytes s text refusal I C stands) answer
