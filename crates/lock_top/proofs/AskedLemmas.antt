@@ -4,10 +4,9 @@ use Rattle.std.specs.Result.{IsErrOf}
 use Rattle.list_laws.proofs.Variants.{one-ok}
 use Rattle.command_words.specs.Meaning.{MeanCommand}
 use Rattle.command_words.specs.declared.commands.Command.{Command}
-use Rattle.command_words.specs.declared.commands.Command.TheVariants.{Solve, Check, Lot, Trial, Judge, Play, Replan, Lower, Resume}
 use Rattle.command_words.specs.declared.errors.WordsError.{WordsError}
 use Rattle.command_words.specs.declared.errors.WordsError.TheVariants as error
-use Rattle.lock_top.specs.Asked.{MeanOnly, HasNumbers}
+use Rattle.lock_top.specs.Asked.{MeanOnly}
 
 wanting : (a : Command) (r : Result Command WordsError) → r ≡ Ok a → r ≡ Err error.NoMemory → ⊥
 wanting a r e f = cc

@@ -1,14 +1,11 @@
 -- The clause of a run, from what was answered and what was written.
-use Rattle.std.proofs.Common.{ℕ, ◌≡◌, ◌≢◌, Bool, true, false, List, sym, refl, subst, ◌∙◌}
+use Rattle.std.proofs.Common.{ℕ, ◌≡◌, Bool, true, false, List, subst}
 use Rattle.std.specs.Io.KnownBytes.{Appends}
-use Rattle.lock_io.specs.Faults.{Rose}
-use Rattle.lock_io.specs.WholeWrites.{AppendsProperPrefix}
 use Rattle.cert_text.specs.Dossier.{Reads}
 use Rattle.command_words.specs.declared.commands.Command.{Command}
 use Rattle.command_words.specs.declared.commands.SolveOptions.{SolveOptions}
 use Rattle.command_words.specs.declared.commands.LotOptions.{LotOptions}
 use Rattle.command_words.specs.declared.commands.TrialOptions.{TrialOptions}
-use Rattle.command_words.specs.declared.commands.ReplanOptions.{ReplanOptions}
 use Rattle.command_words.specs.declared.commands.Command.TheVariants.{Solve, Check, Lot, Trial, Judge, Play, Replan, Lower, Resume}
 use Rattle.lock_model.specs.declared.instance.Instance.{Instance}
 use Rattle.instance_text.specs.Reading.{Means}
@@ -24,9 +21,9 @@ use Rattle.plan_commands.specs.Judging.{AnswersJudge}
 use Rattle.plan_commands.specs.Playing.{AnswersPlay}
 use Rattle.replan_command.specs.Replanning.{AnswersReplan}
 use Rattle.lock_top.specs.Asked.{Asks}
-use Rattle.lock_top.specs.Answers.{AnswersCommand, AnswersMeant, RunAnswers}
+use Rattle.lock_top.specs.Answers.{AnswersCommand, RunAnswers}
 use Rattle.lock_top.specs.Runs.{Filled, Run, Got}
-use Rattle.lock_top.specs.Clauses.{Did, IsSolved, IsCertified, IsSolvedAs, IsLeftOpen, IsDrawn, IsTried, IsTriedOpen, KeepsItsWord}
+use Rattle.lock_top.specs.Clauses.{Did, IsSolvedAs, IsLeftOpen, IsDrawn, IsTried, IsTriedOpen, KeepsItsWord}
 use Rattle.lock_top.proofs.AnswerLemmas.{meant_answer}
 use Rattle.lock_top.proofs.CompleteLemmas.{complete}
 

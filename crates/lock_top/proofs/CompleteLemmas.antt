@@ -1,8 +1,7 @@
 -- What is asked rightly is done.
-use Rattle.std.proofs.Common.{ℕ, ◌≡◌, ◌≢◌, ◌⊎◌, List, sym, subst, ◌∙◌, refl, inl, inr}
+use Rattle.std.proofs.Common.{ℕ, ◌≡◌, ◌⊎◌, List, sym, subst, ◌∙◌, inl, inr}
 use Rattle.lock_model.specs.declared.instance.Instance.{Instance}
 use Rattle.lock_rules.specs.Unfit.{HasNoUnfit, IsFirstUnfit}
-use Rattle.certificate_rules.specs.Certificates.{Certificate}
 use Rattle.instance_text.specs.Reading.{Means}
 use Rattle.instance_text.proofs.InstanceLemmas.{same_instance}
 use Rattle.instance_text.proofs.ReadingLemmas.{Means-one, Means-no_defect}
@@ -12,7 +11,6 @@ use Rattle.command_words.specs.declared.commands.Command.TheVariants.{Solve, Che
 use Rattle.command_words.specs.declared.commands.SolveOptions.{SolveOptions}
 use Rattle.command_words.specs.declared.commands.LotOptions.{LotOptions}
 use Rattle.command_words.specs.declared.commands.TrialOptions.{TrialOptions}
-use Rattle.command_words.specs.declared.commands.ReplanOptions.{ReplanOptions}
 use Rattle.run_answers.specs.Refusals.{IsUnfitShip}
 use Rattle.run_answers.specs.Sources.{Drained, Saying, AnswersSource, IsServed, plan_limit}
 use Rattle.run_answers.specs.declared.status.Status.{Status}

@@ -1,5 +1,5 @@
 -- What `check` answers to what `solve --dossier` wrote.
-use Rattle.std.proofs.Common.{ℕ, ◌≡◌, ◌≢◌, ◌++◌, Bool, true, false, List, sym, subst, ap, ◌∙◌, refl, inl, inr, Some, true≢false}
+use Rattle.std.proofs.Common.{ℕ, ◌≡◌, ◌≢◌, ◌++◌, Bool, true, false, List, sym, subst, ap, ◌∙◌, refl, Some, true≢false}
 use Rattle.std.specs.declared.option.Option.{Option}
 use Rattle.std.specs.Io.KnownBytes.{Appends}
 use Rattle.std.proofs.lemmas.List.{append_cancel_left}
@@ -7,14 +7,13 @@ use Rattle.certificate_rules.proofs.FailLemmas.{fails-not_accepted}
 use Rattle.cert_text.specs.Dossier.{dossier, Reads}
 use Rattle.command_words.specs.declared.commands.Command.TheVariants.{Check}
 use Rattle.lock_rules.specs.Unfit.{HasNoUnfit}
-use Rattle.run_answers.specs.Sources.{Drained, AnswersSource, AnswersBytes, IsTooLong}
+use Rattle.run_answers.specs.Sources.{Drained, AnswersBytes}
 use Rattle.run_answers.specs.declared.status.Status.{Status}
 use Rattle.run_answers.specs.declared.status.Status.TheVariants.{Good, Open, Words, Refused, ReadFault, WriteFault, NoMemory, BadDossier, Unfit, PlanRefused}
 use Rattle.run_answers.proofs.SourceLemmas.{told_says, told_refused}
 use Rattle.checked_dossiers.specs.Refused.{dossier_limit}
 use Rattle.dossier_commands.specs.Checking.{AnswersCheck}
 use Rattle.lock_top.specs.Asked.{Asks}
-use Rattle.lock_top.specs.Answers.{RunAnswers}
 use Rattle.lock_top.specs.Runs.{Filled, Run, Got, run_of}
 use Rattle.lock_top.specs.Clauses.{Did, IsCertified, KeepsItsWord}
 use Rattle.lock_top.specs.Laws.{IsHandedOn, EndsAccepted}
