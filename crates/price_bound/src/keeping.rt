@@ -85,8 +85,8 @@ fn worked_out(alloc: Global, case: &LineCase, limits: Limits) -> Result<KeptLine
 
 /// Least lines that were worked out, kept for later calls by the same instance, depth, prices and cuts;
 /// a call by others forgets them. They help speed alone: with any kept lines a call answers the same,
-/// but for its limits, which aren't asked of a line that is kept. At most 100 lines are kept, in some
-/// 150 kilobytes and what the last one takes.
+/// but for its limits, which aren't asked of a line that is kept. At most 100 lines are kept, in less
+/// than 200 kilobytes besides a copy of the cuts and what the last line takes.
 #[derive(Debug, Drop)]
 pub struct KeptLines {
     alloc: Global,
@@ -143,11 +143,11 @@ impl KeptLines {
         Ok(())
     }
 
-    // Forgets what is kept once it is much.
-    fn make_room(&mut self)
+    // Forgets what is kept once it is much, unless the line of a case is among it.
+    fn make_room(&mut self, case: &LineCase)
         ensures { self.new ≡ self.old }
     {
-        if are_many(&self.lines) {
+        if are_many(&self.lines) && place_of(&self.lines, case).is_none() {
             self.lines.clear();
         }
     }
@@ -162,7 +162,7 @@ impl KeptLines {
         ensures { IfOk result (λ found. IsFound case.now.instance.now case.now.chamber case.now.depth case.now.prices.now case.now.cuts.now case.now.line.now found.now) }
     {
         self.go_under(case)?;
-        self.make_room();
+        self.make_room(case);
         if let Some(place) = place_of(&self.lines, case) {
             return Ok(&self.lines[place].least);
         }

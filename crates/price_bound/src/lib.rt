@@ -7,13 +7,15 @@
 //! and the states of the chamber that can be reached are worked out with their values remembered, up to
 //! the minute from which on missing ships may be left out of a line.
 //!
-//! No call changes what it is given. Refused are want of memory, and more groups or turns than the
-//! caller's `Limits` allow.
+//! What is worked out is kept for later calls in `KeptLines`, which helps speed alone; nothing else that
+//! a call is given changes. Refused are want of memory, and more groups or turns than the caller's
+//! `Limits` allow.
 //!
 //! Definitions: `price_rules` says what loose lines are, what they pay and what a node reaches. Here
 //! `specs/Cuts` says what cuts are by chamber and ships, `Claim` what a `Shown` carries, `Worth` what
-//! lines are worth and their least, `Total` the sum over the chambers; `Sparing`, `Growing`,
-//! `Choosing` and `Values` are of the steps.
+//! lines are worth and their least, `Lines` which lines are least, `Total` the sum over the chambers,
+//! `Keeping` what lines are kept under; `Sparing`, `Growing`, `Masks`, `Choosing` and `Values` are of
+//! the steps.
 #![tactic(auto)]
 
 mod choice;
