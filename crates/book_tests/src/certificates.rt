@@ -8,7 +8,7 @@ use book_core::{Book, Reply};
 use cert_check::{Answer, Ground, Mark, check};
 use lock_model::{Instance, Plan};
 use master_branch::root;
-use price_bound::{ChamberCut, Limits, PricedNode, Prices, show};
+use price_bound::{ChamberCut, KeptLines, Limits, PricedNode, Prices, show};
 use std::alloc::Global;
 use std::process::Abort;
 use std::test::Fail;
@@ -70,7 +70,7 @@ fn closes_root_by_prices(alloc: Global, book: &mut Book) -> Result<bool, Fail> {
         groups: 1000,
         turns: 1000,
     };
-    let Ok(Some(shown)) = show(alloc, &asked, 120, limits) else {
+    let Ok(Some(shown)) = show(&mut KeptLines::new(alloc), &asked, 120, limits) else {
         return Ok(false);
     };
     Ok(book.close_price(0, 0, &shown) == Reply::Closed)

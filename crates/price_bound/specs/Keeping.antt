@@ -1,5 +1,5 @@
 -- What least lines are kept under, and that they are least by it.
-use Rattle.std.specs.Prelude.{ℕ, ◌≡◌, ◌≤ℤ◌, pos, neg_ℤ, Some, None, List, [], length, All, IfSome}
+use Rattle.std.specs.Prelude.{ℕ, ◌≡◌, ◌≤ℤ◌, pos, neg_ℤ, Some, None, List, [], All, IfSome}
 use Rattle.std.specs.declared.option.Option.{Option}
 use Rattle.lock_model.specs.declared.instance.Instance.{Instance}
 use Rattle.lock_model.specs.declared.group.Group.{Group}

@@ -143,11 +143,11 @@ impl KeptLines {
         Ok(())
     }
 
-    // Forgets what is kept once it is much.
-    fn make_room(&mut self)
+    // Forgets what is kept once it is much, unless the line of a case is among it.
+    fn make_room(&mut self, case: &LineCase)
         ensures { self.new ≡ self.old }
     {
-        if are_many(&self.lines) {
+        if are_many(&self.lines) && place_of(&self.lines, case).is_none() {
             self.lines.clear();
         }
     }
@@ -162,10 +162,10 @@ impl KeptLines {
         ensures { IfOk result (λ found. IsFound case.now.instance.now case.now.chamber case.now.depth case.now.prices.now case.now.cuts.now case.now.line.now found.now) }
     {
         self.go_under(case)?;
+        self.make_room(case);
         if let Some(place) = place_of(&self.lines, case) {
             return Ok(&self.lines[place].least);
         }
-        self.make_room();
         let kept = worked_out(self.alloc, case, limits)?;
         let place = self.lines.len();
         match self.lines.push(kept) {

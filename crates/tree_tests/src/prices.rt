@@ -4,8 +4,9 @@ mod locks;
 use crate::walk::node_at;
 use lock_model::Instance;
 use locks::{closed, one, two_chambers};
-use price_bound::{ChamberCut, Limits, PriceError, PricedNode, Prices, price_sum, reaches, show};
-use std::alloc::Global;
+use price_bound::{
+    ChamberCut, KeptLines, Limits, PriceError, PricedNode, Prices, price_sum, reaches, show,
+};
 use std::process::Abort;
 use std::test::Fail;
 use worked_locks::{pair, two_ships};
@@ -34,10 +35,10 @@ fn sum_row<'a>(path: &'a [u32], prices: &'a [u32], sum: i64, greatest: Option<u6
     }
 }
 
-// Holds a row against the bound.
+// Holds a row against the bound, whatever was kept before.
 fn check(
     rt: &impl Abort,
-    alloc: Global,
+    kept: &mut KeptLines,
     instance: &Instance,
     cuts: &[ChamberCut],
     row: &Row,
@@ -50,10 +51,10 @@ fn check(
         prices: &prices,
         cuts,
     };
-    assert_eq!(rt; price_sum(alloc, &asked, ENOUGH), Ok(Some(row.sum)));
+    assert_eq!(rt; price_sum(kept, &asked, ENOUGH), Ok(Some(row.sum)));
     for cost in 0..300 {
         let reached = row.greatest.is_some_and(|greatest| cost <= greatest);
-        assert_eq!(rt; reaches(alloc, &asked, cost, ENOUGH), Ok(reached));
+        assert_eq!(rt; reaches(kept, &asked, cost, ENOUGH), Ok(reached));
     }
     Ok(())
 }
@@ -61,6 +62,7 @@ fn check(
 #[test]
 fn one_ship(rt: HostRuntime) -> Result<(), Fail> {
     let instance = one().ok_or("no instance")?;
+    let mut kept = KeptLines::new(rt.alloc());
     for case in [
         sum_row(&[], &[0], 0, Some(0)),
         sum_row(&[], &[2000], 2000, Some(20)),
@@ -74,7 +76,7 @@ fn one_ship(rt: HostRuntime) -> Result<(), Fail> {
         sum_row(&[0], &[0], 3500, Some(35)),
         sum_row(&[0], &[9000], 3500, Some(35)),
     ] {
-        check(&rt, rt.alloc(), &instance, &[], &case)?;
+        check(&rt, &mut kept, &instance, &[], &case)?;
     }
     Ok(())
 }
@@ -82,6 +84,7 @@ fn one_ship(rt: HostRuntime) -> Result<(), Fail> {
 #[test]
 fn two_ships_side_by_side(rt: HostRuntime) -> Result<(), Fail> {
     let instance = two_ships(240).ok_or("no instance")?;
+    let mut kept = KeptLines::new(rt.alloc());
     for case in [
         sum_row(&[], &[4000, 4000], 7500, Some(75)),
         sum_row(&[], &[3500, 4500], 7000, Some(70)),
@@ -94,7 +97,7 @@ fn two_ships_side_by_side(rt: HostRuntime) -> Result<(), Fail> {
         sum_row(&[0, 1], &[0, 0], 12000, Some(120)),
         sum_row(&[0, 1], &[7, 7], 12000, Some(120)),
     ] {
-        check(&rt, rt.alloc(), &instance, &[], &case)?;
+        check(&rt, &mut kept, &instance, &[], &case)?;
     }
     Ok(())
 }
@@ -106,6 +109,7 @@ fn two_ships_and_their_cut(rt: HostRuntime) -> Result<(), Fail> {
         chamber: 0,
         ships: pair(0, 1),
     }];
+    let mut kept = KeptLines::new(rt.alloc());
     for case in [
         sum_row(&[], &[3500, 8500], 7000, Some(70)),
         sum_row(&[], &[6000, 6000], 9500, Some(95)),
@@ -119,7 +123,7 @@ fn two_ships_and_their_cut(rt: HostRuntime) -> Result<(), Fail> {
         sum_row(&[0], &[0, 8400], 11900, Some(119)),
         sum_row(&[0], &[0, 8401], 11901, Some(120)),
     ] {
-        check(&rt, rt.alloc(), &instance, &cuts, &case)?;
+        check(&rt, &mut kept, &instance, &cuts, &case)?;
     }
     let node = node_at(&instance, &[0, 0]).ok_or("no node")?;
     let prices = Prices::new(&[0, 0]).ok_or("no prices")?;
@@ -129,14 +133,15 @@ fn two_ships_and_their_cut(rt: HostRuntime) -> Result<(), Fail> {
         prices: &prices,
         cuts: &cuts,
     };
-    assert_eq!(rt; price_sum(rt.alloc(), &asked, ENOUGH), Ok(None));
-    assert_eq!(rt; reaches(rt.alloc(), &asked, u64::MAX, ENOUGH), Ok(true));
+    assert_eq!(rt; price_sum(&mut kept, &asked, ENOUGH), Ok(None));
+    assert_eq!(rt; reaches(&mut kept, &asked, u64::MAX, ENOUGH), Ok(true));
     Ok(())
 }
 
 #[test]
 fn a_closure(rt: HostRuntime) -> Result<(), Fail> {
     let instance = closed().ok_or("no instance")?;
+    let mut kept = KeptLines::new(rt.alloc());
     for case in [
         sum_row(&[], &[7500, 10000], 14000, Some(140)),
         sum_row(&[], &[7500, 9999], 14000, Some(140)),
@@ -146,7 +151,7 @@ fn a_closure(rt: HostRuntime) -> Result<(), Fail> {
         sum_row(&[0], &[0, 6500], 14000, Some(140)),
         sum_row(&[0], &[0, 20000], 9500, Some(95)),
     ] {
-        check(&rt, rt.alloc(), &instance, &[], &case)?;
+        check(&rt, &mut kept, &instance, &[], &case)?;
     }
     Ok(())
 }
@@ -154,6 +159,7 @@ fn a_closure(rt: HostRuntime) -> Result<(), Fail> {
 #[test]
 fn two_chambers_add_up(rt: HostRuntime) -> Result<(), Fail> {
     let instance = two_chambers().ok_or("no instance")?;
+    let mut kept = KeptLines::new(rt.alloc());
     for case in [
         sum_row(&[], &[3500, 2600, 3000], 9100, Some(91)),
         sum_row(&[], &[3500, 2600, 4000], 8600, Some(86)),
@@ -164,7 +170,7 @@ fn two_chambers_add_up(rt: HostRuntime) -> Result<(), Fail> {
         sum_row(&[0, 2], &[0, 0, 3900], 10000, Some(100)),
         sum_row(&[0, 2], &[0, 0, 6000], 9400, Some(94)),
     ] {
-        check(&rt, rt.alloc(), &instance, &[], &case)?;
+        check(&rt, &mut kept, &instance, &[], &case)?;
     }
     Ok(())
 }
@@ -184,8 +190,9 @@ fn a_shown_cost_names_what_it_was_shown_of(rt: HostRuntime) -> Result<(), Fail> 
         prices: &prices,
         cuts: &cuts,
     };
-    assert!(rt; show(rt.alloc(), &asked, 121, ENOUGH)?.is_none());
-    let shown = show(rt.alloc(), &asked, 120, ENOUGH)?.ok_or("not shown")?;
+    let mut kept = KeptLines::new(rt.alloc());
+    assert!(rt; show(&mut kept, &asked, 121, ENOUGH)?.is_none());
+    let shown = show(&mut kept, &asked, 120, ENOUGH)?.ok_or("not shown")?;
     assert!(rt;
         shown.instance() == &instance && shown.node() == &node && shown.prices() == &prices
     );
@@ -209,10 +216,8 @@ fn more_groups_or_turns_than_allowed_are_refused(rt: HostRuntime) -> Result<(), 
         (3, 1000, Err(PriceError::TooMany)),
         (4, 0, Err(PriceError::TooMany)),
     ] {
-        assert_eq!(rt;
-            price_sum(rt.alloc(), &asked, Limits { groups, turns }),
-            sum
-        );
+        let mut kept = KeptLines::new(rt.alloc());
+        assert_eq!(rt; price_sum(&mut kept, &asked, Limits { groups, turns }), sum);
     }
     Ok(())
 }

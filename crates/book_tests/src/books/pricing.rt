@@ -6,7 +6,7 @@ use crate::fixture::{NARROW, narrow, open, side_by_side};
 use book_core::{Book, Reply};
 use lock_model::{Instance, Ships, Verdict};
 use master_branch::{Node, child, child_count, root};
-use price_bound::{ChamberCut, Limits, PricedNode, Prices, show};
+use price_bound::{ChamberCut, KeptLines, Limits, PricedNode, Prices, show};
 use std::alloc::Global;
 use std::process::Abort;
 use std::test::Fail;
@@ -91,7 +91,7 @@ pub(crate) fn close_shown(
         groups: 100,
         turns: 10_000,
     };
-    let shown = show(alloc, &asked, claimed.cost, limits)?.ok_or("not shown")?;
+    let shown = show(&mut KeptLines::new(alloc), &asked, claimed.cost, limits)?.ok_or("not shown")?;
     Ok(book.close_price(id, number, &shown))
 }
 

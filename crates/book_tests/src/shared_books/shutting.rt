@@ -4,7 +4,7 @@ ghost use Rattle.std.specs.Prelude.{◌≡◌};
 use crate::fixture::narrow;
 use book_core::{Book, Reply};
 use master_branch::root;
-use price_bound::{ChamberCut, Limits, PricedNode, Prices, show};
+use price_bound::{ChamberCut, KeptLines, Limits, PricedNode, Prices, show};
 use search_book::{ByPrice, Next, SharedBook};
 use std::alloc::Global;
 use std::sync::Wait;
@@ -53,7 +53,7 @@ pub(crate) fn close_by_price<L: Ledger, R: Wait>(
         prices: &prices,
         cuts: cuts.as_slice(),
     };
-    let shown = show(alloc, &asked, 120, LIMITS)?.ok_or("not shown")?;
+    let shown = show(&mut KeptLines::new(alloc), &asked, 120, LIMITS)?.ok_or("not shown")?;
     let closing = ByPrice {
         id: 0,
         number,
@@ -74,7 +74,7 @@ pub(crate) fn closed_by_price(alloc: Global, book: &mut Book, number: u64) -> Re
         prices: &prices,
         cuts: cuts.as_slice(),
     };
-    let shown = show(alloc, &asked, 120, LIMITS)?.ok_or("not shown")?;
+    let shown = show(&mut KeptLines::new(alloc), &asked, 120, LIMITS)?.ok_or("not shown")?;
     Ok(match book.close_price(0, number, &shown) {
         Reply::Closed => book.take(0),
         refused => refused,
