@@ -13,10 +13,10 @@ ghost use Rattle.resume_book.specs.OneFailure.{IsLowOfMarks, FailAtOpenMark};
 
 use crate::certificate::{OpenAnswer, OpenCertificate};
 use crate::reading::read_tree;
-use cert_check::{Claim, chamber_cuts, first_failure_before_marks};
+use cert_check::{Claim, Workspace, chamber_cuts, first_failure_before_marks};
 use certificate_rules::{FailurePlace, OpenMark, Reason};
 use deck_laws::{heredity, normal_form};
-use flow_bounds::{NodeWalks, Roster, throughput};
+use flow_bounds::{Roster, throughput};
 use lock_model::Instance;
 use master_branch::root;
 use plain_text::NoMemory;
@@ -27,12 +27,12 @@ type LowOrFailure = Result<u64, (u64, Reason)>;
 
 // The low of marks that are one open tree of the root, or their first failure, by the number of the
 // mark where it comes.
-fn low_of_marks(claim: &Claim, marks: &[OpenMark]) -> Result<LowOrFailure, NoMemory>
+fn low_of_marks(alloc: Global, claim: &Claim, marks: &[OpenMark]) -> Result<LowOrFailure, NoMemory>
     ensures low { IfOk result (λ told. IfOk told (IsLowOfMarks claim.now.instance.now claim.now.cost claim.now.cuts.now claim.now.prices.now marks.now)) }
     ensures failure { IfOk result (λ told. IfErr told (λ f. FailAtOpenMark claim.now.instance.now claim.now.cost claim.now.cuts.now claim.now.prices.now marks.now f.0 f.1)) }
 {
-    let mut walks = NodeWalks::new();
-    let read = match read_tree(claim, &root(claim.instance), claim.cost, marks, &mut walks)? {
+    let mut space = Workspace::new(alloc);
+    let read = match read_tree(claim, &root(claim.instance), claim.cost, marks, &mut space)? {
         Ok(read) => read,
         Err(stuck) => return Ok(Err(((marks.len() - stuck.marks.len()) as u64, stuck.reason))),
     };
@@ -57,7 +57,6 @@ fn low_of(
     let cuts = certificate.cuts.as_slice();
     let chamber_cuts = chamber_cuts(alloc, instance, cuts)?;
     let claim = Claim {
-        alloc,
         instance,
         roster: &roster,
         throughput: throughput(instance),
@@ -66,7 +65,7 @@ fn low_of(
         prices: certificate.prices.as_slice(),
         chamber_cuts: chamber_cuts.as_slice(),
     };
-    low_of_marks(&claim, certificate.tree.as_slice())
+    low_of_marks(alloc, &claim, certificate.tree.as_slice())
 }
 
 // The low of an open certificate that stands, or its first failure.

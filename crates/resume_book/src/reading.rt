@@ -10,11 +10,11 @@ ghost use Rattle.lock_rules.specs.Bound.{least_number};
 ghost use Rattle.resume_book.specs.Reading.{IsRead, IsStuck, IsChildRead, IsChildStuck, AreRead, AreStuck};
 
 use cert_check::{
-    Claim, Ground, Mark, SplitNode, child_of, child_reaches, closes, count_children,
+    Claim, Ground, Mark, SplitNode, Workspace, child_of, child_reaches, closes, count_children,
     reason_against, split,
 };
 use certificate_rules::{OpenMark, Reason};
-use flow_bounds::{NodeWalks, bound};
+use flow_bounds::bound;
 use lock_model::Instance;
 use master_branch::Node;
 use plain_text::NoMemory;
@@ -67,12 +67,12 @@ fn splits(instance: &Instance, node: &Node, mark: OpenMark) -> bool
 }
 
 // Whether a mark closes the node or leaves it open.
-fn ends(claim: &Claim, node: &Node, mark: OpenMark, walks: &mut NodeWalks) -> Result<bool, NoMemory>
+fn ends(claim: &Claim, node: &Node, mark: OpenMark, space: &mut Workspace) -> Result<bool, NoMemory>
     requires { IsNodeOf claim.now.instance.now node.now }
     ensures { IfOk result (λ ended. IsTrue ended ↔ ClosesOrOpen claim.now.instance.now claim.now.cost claim.now.cuts.now claim.now.prices.now node.now.depth node.now.lines mark) }
 {
     match mark {
-        OpenMark::Closed(mark) => closes(claim, node, mark, walks),
+        OpenMark::Closed(mark) => closes(claim, node, mark, space),
         OpenMark::Open => Ok(true),
     }
 }
@@ -106,14 +106,14 @@ fn read_made_child<'m>(
     i: u32,
     low: u64,
     marks: &'m [OpenMark],
-    walks: &mut NodeWalks,
+    space: &mut Workspace,
 ) -> Result<Reading<'m>, NoMemory>
     requires split { IsSplit claim.now parent.now }
     requires within { i < length (children claim.now.instance.now parent.now.node.now) }
     ensures read { IfOk result (λ reading. IfOk reading (λ read. IsChildRead claim.now parent.now.node.now i low marks.now read.marks.now read.low)) }
     ensures stuck { IfOk result (λ reading. IfErr reading (λ stuck. IsChildStuck claim.now parent.now.node.now i marks.now stuck.marks.now stuck.reason)) }
 {
-    read_tree(claim, &child_of(claim, parent, i), low, marks, walks)
+    read_tree(claim, &child_of(claim, parent, i), low, marks, space)
 }
 
 // Reads an open tree of child `i` of a split node. The child isn't made where its bound closes it, and no
@@ -125,7 +125,7 @@ fn read_child<'m>(
     i: u32,
     low: u64,
     marks: &'m [OpenMark],
-    walks: &mut NodeWalks,
+    space: &mut Workspace,
 ) -> Result<Reading<'m>, NoMemory>
     requires split { IsSplit claim.now parent.now }
     requires within { i < length (children claim.now.instance.now parent.now.node.now) }
@@ -141,7 +141,7 @@ fn read_child<'m>(
             reason: Reason::BoundLow,
         }));
     }
-    read_made_child(claim, parent, i, low, marks, walks)
+    read_made_child(claim, parent, i, low, marks, space)
 }
 
 // Reads open trees of all children of a node.
@@ -151,18 +151,18 @@ fn read_children<'m>(
     node: &Node,
     low: u64,
     marks: &'m [OpenMark],
-    walks: &mut NodeWalks,
+    space: &mut Workspace,
 ) -> Result<Reading<'m>, NoMemory>
     requires node { IsNodeOf claim.now.instance.now node.now }
     requires lacks { node.now.depth < length claim.now.instance.now.ships }
     ensures read { IfOk result (λ reading. IfOk reading (λ read. AreRead claim.now node.now (length (children claim.now.instance.now node.now)) low marks.now read.marks.now read.low)) }
     ensures stuck { IfOk result (λ reading. IfErr reading (λ stuck. AreStuck claim.now node.now marks.now stuck.marks.now stuck.reason)) }
 {
-    let parent = split(claim, node, walks);
+    let parent = split(claim, node, &mut space.walks);
     let mut rest = marks;
     let mut least = low;
     for i in 0..count_children(claim, &parent) {
-        match read_child(claim, &parent, i, least, rest, walks)? {
+        match read_child(claim, &parent, i, least, rest, space)? {
             Ok(read) => {
                 rest = read.marks;
                 least = read.low;
@@ -183,7 +183,7 @@ pub(crate) fn read_tree<'m>(
     node: &Node,
     low: u64,
     marks: &'m [OpenMark],
-    walks: &mut NodeWalks,
+    space: &mut Workspace,
 ) -> Result<Reading<'m>, NoMemory>
     requires { IsNodeOf claim.now.instance.now node.now }
     ensures read { IfOk result (λ reading. IfOk reading (λ read. IsRead claim.now node.now low marks.now read.marks.now read.low)) }
@@ -196,9 +196,9 @@ pub(crate) fn read_tree<'m>(
         }));
     };
     if splits(claim.instance, node, mark) {
-        return read_children(claim, node, low, rest, walks);
+        return read_children(claim, node, low, rest, space);
     }
-    if ends(claim, node, mark, walks)? {
+    if ends(claim, node, mark, space)? {
         return Ok(Ok(Read {
             marks: rest,
             low: lowered(claim.instance, node, mark, low),

@@ -16,8 +16,8 @@ use master_branch::Node;
 use node_work::Fate;
 use place_refute::Cut;
 use plain_text::NoMemory;
-use price_bound::{PricedNode, Prices, show};
-use price_search::{Asked, LIMITS, MOST_AT_A_NODE, Offer, Pricing, Round, RoundEnd};
+use price_bound::Prices;
+use price_search::{Asked, MOST_AT_A_NODE, Offer, Pricing, Round, RoundEnd};
 use search_book::Event;
 use std::mem;
 use std::sync::Wait;
@@ -169,13 +169,7 @@ fn close_by<L: Ledger, W: Wait, G: Gate>(
 {
     let known = pricing.number_of(prices);
     let best = best_cost(post, worker);
-    let asked = PricedNode {
-        instance: post.search.instance,
-        node,
-        prices,
-        cuts: pricing.cuts(),
-    };
-    let Ok(Some(shown)) = show(post.alloc, &asked, best, LIMITS) else {
+    let Some(shown) = pricing.show(post.search.instance, node, prices, best) else {
         return Ok(false);
     };
     let number = number_of(post, worker, known, prices)?;

@@ -16,8 +16,8 @@ use node_work::Search;
 use place_refute::Cut;
 use placed_groups::Memory;
 use plain_text::NoMemory;
-use price_bound::{PricedNode, Prices, Shown, show};
-use price_search::{Asked, LIMITS, MOST_AT_A_NODE, Pricing, Round, RoundEnd};
+use price_bound::{Prices, Shown};
+use price_search::{Asked, MOST_AT_A_NODE, Pricing, Round, RoundEnd};
 use search_book::learn_cuts;
 use std::alloc::Global;
 
@@ -74,7 +74,6 @@ fn close_with(
 
 // Closes the held node by prices, where it reaches the best cost by them and by the book's first cuts.
 fn close_by(
-    alloc: Global,
     instance: &Instance,
     pricing: &mut Pricing,
     book: &mut Book,
@@ -88,13 +87,7 @@ fn close_by(
     ensures driven { IsDriven book.old book.new }
 {
     let known = pricing.number_of(prices);
-    let asked = PricedNode {
-        instance,
-        node: &held.node,
-        prices,
-        cuts: pricing.cuts(),
-    };
-    let Ok(Some(shown)) = show(alloc, &asked, book.best_cost(), LIMITS) else {
+    let Some(shown) = pricing.show(instance, &held.node, prices, book.best_cost()) else {
         return false;
     };
     match close_with(book, held, known, prices, &shown) {
@@ -158,7 +151,7 @@ fn make_rounds(
         match make_round(alloc, search, memory, pricing, book, held) {
             Ok(RoundEnd::Again) => {}
             Ok(RoundEnd::Reached(prices)) => {
-                return close_by(alloc, search.instance, pricing, book, held, &prices);
+                return close_by(search.instance, pricing, book, held, &prices);
             }
             Ok(RoundEnd::Open) => {
                 let _ = pricing.keep(held.node.depth());
@@ -173,7 +166,6 @@ fn make_rounds(
 #[tactic(auto, using(crate::proofs::DrivenLemmas::driven_none))]
 // Closes the held node by the prices of the node above it, which close most nodes; whether they do.
 fn close_as_inherited(
-    alloc: Global,
     instance: &Instance,
     pricing: &mut Pricing,
     book: &mut Book,
@@ -186,7 +178,7 @@ fn close_as_inherited(
     ensures driven { IsDriven book.old book.new }
 {
     match pricing.inherited() {
-        Some(prices) => close_by(alloc, instance, pricing, book, held, &prices),
+        Some(prices) => close_by(instance, pricing, book, held, &prices),
         None => false,
     }
 }
@@ -208,7 +200,7 @@ fn close_or_raise(
     ensures driven { IsDriven book.old book.new }
 {
     book.keeps();
-    if close_as_inherited(alloc, search.instance, pricing, book, held) {
+    if close_as_inherited(search.instance, pricing, book, held) {
         return true;
     }
     make_rounds(alloc, search, memory, pricing, book, held)
