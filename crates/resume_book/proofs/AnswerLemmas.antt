@@ -13,7 +13,6 @@ use Rattle.certificate_rules.specs.declared.certificate.Mark.TheVariants as mark
 use Rattle.certificate_rules.specs.declared.certificate.OpenMark.{OpenMark}
 use Rattle.certificate_rules.specs.declared.certificate.OpenMark.TheVariants.{Closed}
 use Rattle.certificate_rules.specs.declared.certificate.FailurePlace.{FailurePlace}
-use Rattle.certificate_rules.specs.declared.certificate.FailurePlace.TheVariants as place
 use Rattle.certificate_rules.specs.declared.certificate.Reason.{Reason}
 use Rattle.certificate_rules.specs.OpenCertificates.{OpenCertificate, ClosesOrOpen, Stands}
 use Rattle.certificate_rules.specs.Low.{OpenInOrder, HasOpen, leaf_bounds, IsLow}
