@@ -1,9 +1,9 @@
 -- The canonical dossier is read back, and a text has one meaning.
-use Rattle.std.proofs.Common.{◌≡◌, ◌∙◌, ◌++◌, ℕ, List, [], ◌∷◌, Some, Result, Ok, Err, IfOk, IfErr, refl, sym, ap, ap₂, append_assoc}
+use Rattle.std.proofs.Common.{◌≡◌, ◌∙◌, ◌++◌, ℕ, List, [], ◌∷◌, Some, Result, Ok, Err, IfOk, IfErr, refl, ap, ap₂, append_assoc}
 use Rattle.lock_model.specs.declared.instance.Instance.{Instance}
 use Rattle.certificate_rules.specs.Certificates.{Certificate}
 use Rattle.instance_text.specs.declared.bad.Bad.{Bad}
-use Rattle.instance_text.specs.Reading.{reading, Means, Defect, instance_part, after_instance}
+use Rattle.instance_text.specs.Reading.{Means, Defect, instance_part, after_instance}
 use Rattle.instance_text.specs.Canonical.{canonical}
 use Rattle.cert_text.specs.Answers.{IsFault, IsAnswer, IsFaultAnswer}
 use Rattle.cert_text.specs.declared.bad.DossierError.{DossierError}

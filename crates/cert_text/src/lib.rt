@@ -5,7 +5,8 @@
 //! they mean, or their first fault exactly where they mean none, or else want of memory.
 //!
 //! The writers `put_parts` and `push_mark` and the readers `front_in`, `prices_at` and `mark_in` serve
-//! some parts each, and `print_parts`, `headed`, `value_in` and `needs_third` the frame, so that other texts with
+//! some parts each, and `print_framed`, `headed`, `value_in` and `needs_third` the frame, so that other
+//! texts with these parts may be built of them.
 //! these parts may be built of them.
 //!
 //! Definitions: `specs/Dossier` (the canonical dossier, what a text means, its first fault),
@@ -43,6 +44,6 @@ pub use parts::{Parts, put_parts};
 pub use plain_text::NoMemory;
 pub use plan::{plan_of, put_plan};
 pub use prices::prices_at;
-pub use print::{print_dossier, print_parts};
+pub use print::{print_dossier, print_framed};
 pub use read::{read_dossier, value_in};
 pub use version::{is_price_mark, is_third, needs_third};

@@ -49,8 +49,9 @@ fn json_text(alloc: Global, value: Value) -> Result<Vec<u8>, NoMemory>
 }
 
 /// The canonical text of an instance, a heading, and the line of a JSON value, which is read back as
-/// the same value. Its only refusal is want of memory.
-pub fn print_parts(
+/// the same value: it has no floating-point number, and nests no deeper than is read. Its only refusal
+/// is want of memory.
+pub fn print_framed(
     alloc: Global,
     instance: &Instance,
     heading: &[u8],
@@ -82,6 +83,6 @@ pub fn print_dossier(
 {
     let version = version_of(certificate);
     let value = put_certificate(alloc, version, certificate)?;
-    let text = print_parts(alloc, instance, heading_line(version), value)?;
+    let text = print_framed(alloc, instance, heading_line(version), value)?;
     Ok(text)
 }

@@ -50,11 +50,7 @@ fn json_of(alloc: Global, bytes: &[u8]) -> Result<Value, DossierError>
 /// The version and the JSON value of the bytes after an instance part. Answers `NoMark` where they
 /// begin with no heading of this form, then `Json`, or else want of memory.
 #[tactic(auto, unfolding(crate::specs::Dossier::value_in))]
-pub fn value_in(
-    alloc: Global,
-    form: Form,
-    bytes: &[u8],
-) -> Result<(Version, Value), DossierError>
+pub fn value_in(alloc: Global, form: Form, bytes: &[u8]) -> Result<(Version, Value), DossierError>
     ensures read { IfOk result (λ r. value_in form bytes.now ≡ Ok (r.0, view r.1)) }
     ensures fault { IfErr result (IsFault (value_in form bytes.now)) }
 {

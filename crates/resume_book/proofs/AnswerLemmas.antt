@@ -13,19 +13,17 @@ use Rattle.certificate_rules.specs.declared.certificate.Mark.TheVariants as mark
 use Rattle.certificate_rules.specs.declared.certificate.OpenMark.{OpenMark}
 use Rattle.certificate_rules.specs.declared.certificate.OpenMark.TheVariants.{Closed}
 use Rattle.certificate_rules.specs.declared.certificate.FailurePlace.{FailurePlace}
-use Rattle.certificate_rules.specs.declared.certificate.FailurePlace.TheVariants as place
 use Rattle.certificate_rules.specs.declared.certificate.Reason.{Reason}
 use Rattle.certificate_rules.specs.OpenCertificates.{OpenCertificate, ClosesOrOpen, Stands}
 use Rattle.certificate_rules.specs.Low.{OpenInOrder, HasOpen, leaf_bounds, IsLow}
-use Rattle.certificate_rules.specs.Failures.{MarksFail, open_reason_of, OpenFails}
+use Rattle.certificate_rules.specs.Failures.{open_reason_of, OpenFails}
 use Rattle.certificate_rules.proofs.FailLemmas.{fails-not_stands}
 use Rattle.closing_rules.proofs.LawLemmas.{tree-laws}
 use Rattle.certificate_rules.proofs.LowLemmas.{stands-low}
-use Rattle.cert_check.specs.FirstFailure.{AreSameFailure, HoldBeforeMarks, FailBeforeMarks}
+use Rattle.cert_check.specs.FirstFailure.{AreSameFailure}
 use Rattle.cert_check.proofs.FirstFailure.{failing-same}
 use Rattle.cert_check.proofs.SomeFailure.{fails-first}
 use Rattle.resume_book.specs.Proven.{IsProvenLow}
-use Rattle.resume_book.specs.OneFailure.{IsLowOfMarks, FailAtOpenMark}
 use Rattle.resume_book.specs.declared.certificate.OpenAnswer.TheVariants as answer
 
 -- ---- one low

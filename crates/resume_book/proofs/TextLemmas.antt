@@ -1,5 +1,5 @@
 -- The canonical open dossier is read back, and a text is read part by part.
-use Rattle.std.proofs.Common.{◌≡◌, ◌∙◌, ◌++◌, ◌≤◌, ℕ, Bool, true, false, cond, List, [], ◌∷◌, codes, Some, Result, Ok, IfOk, IfErr, refl, sym, ap, ap₂, subst, append_assoc, All, inl, inr}
+use Rattle.std.proofs.Common.{◌≡◌, ◌∙◌, ◌++◌, ◌≤◌, ℕ, Bool, true, false, cond, List, [], ◌∷◌, codes, Some, Result, Ok, IfOk, IfErr, refl, sym, ap, ap₂, subst, All, inl, inr}
 use Rattle.lock_model.specs.declared.instance.Instance.{Instance}
 use Rattle.std.specs.List.{flat_map}
 use Rattle.list_laws.proofs.Lists.{none-passes}

@@ -1,7 +1,5 @@
 //! The checker of open certificates: whether one stands, and its low, or its first failure.
-ghost use Rattle.std.specs.Prelude.{◌≡◌, ◌↔◌, ℕ, [], length, All, IfOk, IfErr};
-ghost use Rattle.lock_rules.specs.Node.{root_lines};
-ghost use Rattle.lock_rules.specs.Throughput.{throughput_of};
+ghost use Rattle.std.specs.Prelude.{◌≡◌, ◌↔◌, ℕ, All, IfOk, IfErr};
 ghost use Rattle.certificate_rules.specs.declared.certificate.FailurePlace.{FailurePlace as Place};
 ghost use Rattle.certificate_rules.specs.declared.certificate.Reason.{Reason as Why};
 ghost use Rattle.closing_rules.specs.ProvedCuts.{IsProved};

@@ -1,5 +1,5 @@
 //! The open marks of a book's slots, written in preorder of their tree.
-ghost use Rattle.std.specs.Prelude.{◌≡◌, ◌<◌, false, [], length, map, IfOk, OnOk};
+ghost use Rattle.std.specs.Prelude.{◌≡◌, ◌<◌, false, length, map, IfOk, OnOk};
 ghost use Rattle.book_rules.specs.declared.book.SlotState.TheVariants as slot;
 ghost use Rattle.book_rules.specs.Book.{slot_at};
 ghost use Rattle.book_rules.specs.NextSlot.{is_split};

@@ -5,7 +5,7 @@ ghost use Rattle.resume_book.specs.OpenDossier.{open_line, open_dossier, ReadsOp
 
 use crate::certificate::OpenCertificate;
 use crate::value::{open_version, put_open};
-use cert_text::{Version, print_parts};
+use cert_text::{Version, print_framed};
 use lock_model::Instance;
 use plain_text::NoMemory;
 use std::alloc::Global;
@@ -34,6 +34,6 @@ pub fn print_open(
 {
     let version = open_version(certificate);
     let value = put_open(alloc, version, certificate)?;
-    let text = print_parts(alloc, instance, open_line(version), value)?;
+    let text = print_framed(alloc, instance, open_line(version), value)?;
     Ok(text)
 }

@@ -7,11 +7,11 @@ use Rattle.resume_book.specs.OpenDossier.{open_data, open_certificate_in, ReadsO
 use Rattle.resume_book.proofs.TextLemmas.{no_float, shallow, printed_open, dossier_back}
 use Rattle.resume_book.proofs.print.print_open.Goals as goal
 
-pub print_parts-text-requires-clause-flat : goal.print_parts-text-requires-clause-flat
-print_parts-text-requires-clause-flat c = ap has_float c.in_ok-value.ensures.value ∙ no_float c.args.certificate.now
+pub print_framed-requires-clause-flat : goal.print_framed-requires-clause-flat
+print_framed-requires-clause-flat c = ap has_float c.in_ok-value.ensures.value ∙ no_float c.args.certificate.now
 
-pub print_parts-text-requires-clause-shallow : goal.print_parts-text-requires-clause-shallow
-print_parts-text-requires-clause-shallow c = subst (λ d. depth d ≤ max_depth) (sym c.in_ok-value.ensures.value) (shallow c.args.certificate.now)
+pub print_framed-requires-clause-shallow : goal.print_framed-requires-clause-shallow
+print_framed-requires-clause-shallow c = subst (λ d. depth d ≤ max_depth) (sym c.in_ok-value.ensures.value) (shallow c.args.certificate.now)
 
 pub returns-clause-text : goal.returns-clause-text
 returns-clause-text c = c.in_ok-text.ensures.text ∙ printed_open c.args.instance.now c.args.certificate.now _ _ _ c.open_version-version.ensures c.open_line.ensures c.in_ok-value.ensures.value

@@ -1,6 +1,6 @@
 use Rattle.std.proofs.Common.{◌∙◌, ◌++◌, ◌∷◌, [], ap}
 use Rattle.cert_text.proofs.DossierLemmas.{printed}
-use Rattle.cert_text.proofs.print.print_parts.Goals as goal
+use Rattle.cert_text.proofs.print.print_framed.Goals as goal
 
 pub returns-clause-text : goal.returns-clause-text
 returns-clause-text c =
