@@ -7,7 +7,6 @@
 //! The writers `put_parts` and `push_mark` and the readers `front_in`, `prices_at` and `mark_in` serve
 //! some parts each, and `print_framed`, `headed`, `value_in` and `needs_third` the frame, so that other
 //! texts with these parts may be built of them.
-//! these parts may be built of them.
 //!
 //! Definitions: `specs/Dossier` (the canonical dossier, what a text means, its first fault),
 //! `Heading` (the line before the certificate), `Versions` (which version a certificate is written
