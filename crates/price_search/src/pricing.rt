@@ -1,5 +1,5 @@
 //! Prices that are kept from node to node.
-ghost use Rattle.std.specs.Prelude.{◌≡◌, ◌≤◌, ◌↔◌, IsTrue, IfSome};
+ghost use Rattle.std.specs.Prelude.{◌≡◌, ◌↔◌, IsTrue, IfSome};
 ghost use Rattle.master_branch.specs.Node.{IsNodeOf};
 ghost use Rattle.price_search.specs.Serving.{MayServe};
 

@@ -1,5 +1,5 @@
 //! One round at a node.
-ghost use Rattle.std.specs.Prelude.{◌≡◌, ◌≤◌, ◌<◌, length};
+ghost use Rattle.std.specs.Prelude.{◌≡◌, ◌<◌};
 ghost use Rattle.master_branch.specs.Node.{IsNodeOf};
 
 use crate::placing::Placer;

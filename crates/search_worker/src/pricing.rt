@@ -1,5 +1,4 @@
 //! What a worker makes of prices at the node in its hand.
-ghost use Rattle.std.specs.Prelude.{◌≡◌};
 ghost use Rattle.master_branch.specs.Node.{IsNodeOf};
 ghost use Rattle.search_worker.specs.Serving.{Serves};
 
