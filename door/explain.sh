@@ -12,13 +12,15 @@ explain_answer() {
     3) explain_refused "$first" ;;
     4) say_at "$subject" "read fault: $first_name could not be read to its end" ;;
     5) say_at "$subject" "write fault: not all of the answer could be written; the disk may be full, or who reads it has ended" ;;
-    6) say_at "$subject" "no memory: this machine has too little free memory for the work; close other programs, or give fewer --nodes" ;;
+    6) say_at "$subject" "no memory: this machine has too little free memory for the work; close other programs$(fewer_nodes)" ;;
     7) explain_dossier "$first" ;;
     8) explain_unfit "${parts[1]}" ;;
     10) explain_plan "$first" ;;
     *) say_at "$subject" "the program ended with status $status and gave no answer; it may have been stopped from outside" ;;
   esac
 }
+
+fewer_nodes() { [[ " $(options_of "$command") " != *" --nodes "* ]] || printf ', or give fewer --nodes'; }
 
 # A file was asked for and another text came than its options may let one expect.
 explain_good() {

@@ -21,8 +21,8 @@ explain_rejection() {
 other_kind() {
   [ -n "$input" ] && [ "${parts[3]}" = NoMark ] || return 0
   if [ "$command" = check ] && grep -q '^certificate open' "$input"; then
-    printf ' This is an open dossier: ./glock lower or resume reads it.'
+    printf ' This is an open dossier: ./glock lower, resume or picture reads it.'
   elif [ "$command" != check ] && grep -Eq '^certificate( [0-9])?\s*$' "$input"; then
-    printf ' This dossier is of a search that is over: ./glock check reads it.'
+    printf ' This dossier is of a search that is over: ./glock check or picture reads it.'
   fi
 }

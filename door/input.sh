@@ -1,7 +1,9 @@
 # What the program reads: a file, two files joined, or standard input.
 
-# more bytes than any instance with its plan may have
+# more bytes than any instance with its plan may have; and the most bytes of a file that is joined to another one where
+# the program reads all
 most_kept=131073
+most_joined=16777216
 
 # sets input, the file that the program reads, or nothing for standard input itself; goes_on, whether standard input
 # goes on behind that file; first_name and second_name, what to call the parts in messages; and first_lines, the number
@@ -40,10 +42,23 @@ take_file() {
 # The second file begins on a line of its own, also where the first doesn't end with a line feed.
 join_files() {
   first_name=${files[0]} second_name=${files[1]} input=$room/joined
-  head -c $most_kept "$first_name" >"$input"
+  : >"$input"
+  join_file "$first_name" || return
   [ -z "$(tail -c 1 "$input" | tr -d '\n' | tr '\0' 'x')" ] || echo >>"$input"
   first_lines=$(wc -l <"$input")
-  head -c $most_kept "$second_name" >>"$input"
+  join_file "$second_name"
+}
+
+# Appends a file to the input. What is over the program's limit is left out; a program that has none gets all or nothing.
+join_file() {
+  local before most=$most_kept
+  before=$(wc -c <"$input")
+  if reads_dossier "$command"; then most=$((most_joined + 1)); fi
+  head -c $most "$1" >>"$input"
+  if reads_dossier "$command" && [ $(($(wc -c <"$input") - before)) -eq $most ]; then
+    say "$1 has more than $most_joined bytes; join the two files and give one"
+    return 66
+  fi
 }
 
 # An instance on standard input is kept, so that messages can speak of its lines. What is over the program's limit is
