@@ -16,7 +16,8 @@ use plain_text::NoMemory;
 use run_answers::{Answer, Status, no_memory};
 use std::alloc::Global;
 
-/// An instance, and a certificate of it that is accepted.
+/// An instance and a certificate of it, which is accepted where `read_accepted` gives them; that is told
+/// by its clauses and not by this type.
 #[derive(Drop)]
 pub struct AcceptedDossier {
     pub instance: Instance,

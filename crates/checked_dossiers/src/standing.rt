@@ -15,7 +15,8 @@ use resume_book::{DossierError, OpenAnswer, OpenCertificate, check_open, read_op
 use run_answers::{Answer, Status, no_memory};
 use std::alloc::Global;
 
-/// An instance, an open certificate of it that stands, and its low in minutes.
+/// An instance, an open certificate of it and its low in minutes; that it stands where `read_standing`
+/// gives them is told by its clauses and not by this type.
 #[derive(Drop)]
 pub struct StandingDossier {
     pub instance: Instance,

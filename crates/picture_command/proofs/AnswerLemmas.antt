@@ -10,8 +10,8 @@ use Rattle.cert_text.specs.declared.heading.Heading.{Heading}
 use Rattle.cert_text.specs.declared.heading.Version.{Version}
 use Rattle.cert_text.specs.declared.heading.Heading.TheVariants as heading
 use Rattle.picture_forms.specs.declared.times.Clock.{Clock}
-use Rattle.picture_page.specs.declared.heads.Standing.{Standing}
-use Rattle.picture_page.specs.declared.heads.Standing.TheVariants as standing
+use Rattle.picture_page.specs.declared.heads.Known.{Known}
+use Rattle.picture_page.specs.declared.heads.Known.TheVariants as known
 use Rattle.plan_commands.specs.Planned.{IsPlanned, AnswersIllegal}
 use Rattle.checked_dossiers.specs.Accepted.{IsAccepted, IsNotAccepted}
 use Rattle.checked_dossiers.specs.Standing.{IsStanding, HasLow, IsNoStanding}
@@ -20,7 +20,7 @@ use Rattle.run_answers.specs.Texts.{no_memory_text}
 use Rattle.run_answers.specs.declared.status.Status.{Status}
 use Rattle.run_answers.specs.declared.status.Status.TheVariants.{Good, Open, Words, Refused, ReadFault, WriteFault, NoMemory, BadDossier, Unfit, PlanRefused}
 use Rattle.picture_command.specs.Headings.{heading_in}
-use Rattle.picture_command.specs.Pictures.{IsPicture, PrintsPlan, PrintsCheapest, PrintsBounded, standing_of, IsPageOr, AnswersPlan, AnswersDossier, AnswersOpenDossier, AnswersHeaded, AnswersPicture, TellsPicture}
+use Rattle.picture_command.specs.Pictures.{IsPicture, PrintsPlan, PrintsCheapest, PrintsBounded, known_of, IsPageOr, AnswersPlan, AnswersDossier, AnswersOpenDossier, AnswersHeaded, AnswersPicture, TellsPicture}
 
 -- ---- what is answered where there is no page
 
@@ -47,7 +47,7 @@ open_refused clock bytes s text refusal = no_page (PrintsBounded clock bytes tex
 
 -- ---- what is answered where there is a page
 
-page_told : (clock : Clock) (kind : Standing) (I : Instance) (P : Plan) (Page : Type 0) (Refusal : Status → Type 0) (s : Status) (text : List ℕ)
+page_told : (clock : Clock) (kind : Known) (I : Instance) (P : Plan) (Page : Type 0) (Refusal : Status → Type 0) (s : Status) (text : List ℕ)
     → (IsPicture clock kind I P text → Page) → (text ≡ no_memory_text → Refusal NoMemory) → TellsPicture clock kind I P s text → IsPageOr Page Refusal s
 page_told clock kind I P Page Refusal Good text page wanting told = page told
 page_told clock kind I P Page Refusal Open text page wanting told = absurd told
@@ -61,19 +61,19 @@ page_told clock kind I P Page Refusal Unfit text page wanting told = absurd told
 page_told clock kind I P Page Refusal PlanRefused text page wanting told = absurd told
 
 pub plan_pictured : (clock : Clock) (bytes : List ℕ) (I : Instance) (P : Plan) (s : Status) (text : List ℕ) → IsPlanned bytes I P → IsLegal I P
-    → TellsPicture clock standing.Legal I P s text → AnswersPlan clock bytes s text
+    → TellsPicture clock known.Legal I P s text → AnswersPlan clock bytes s text
 plan_pictured clock bytes I P s text planned legal told =
-    page_told clock standing.Legal I P (PrintsPlan clock bytes text) (λ t. AnswersIllegal bytes t text) s text
+    page_told clock known.Legal I P (PrintsPlan clock bytes text) (λ t. AnswersIllegal bytes t text) s text
     (λ page. record { instance = I; plan = P; planned = record { planned = planned; legal = legal }; page = page }) (λ shown. shown) told
 
 pub dossier_pictured : (clock : Clock) (bytes : List ℕ) (I : Instance) (C : Certificate) (s : Status) (text : List ℕ) → IsAccepted bytes I C
-    → TellsPicture clock standing.Optimal I C.plan s text → AnswersDossier clock bytes s text
+    → TellsPicture clock known.Optimal I C.plan s text → AnswersDossier clock bytes s text
 dossier_pictured clock bytes I C s text accepted told =
-    page_told clock standing.Optimal I C.plan (PrintsCheapest clock bytes text) (λ t. IsNotAccepted bytes t text) s text
+    page_told clock known.Optimal I C.plan (PrintsCheapest clock bytes text) (λ t. IsNotAccepted bytes t text) s text
     (λ page. record { instance = I; certificate = C; accepted = accepted; page = page }) (λ shown. shown) told
 
-pub open_pictured : (clock : Clock) (bytes : List ℕ) (I : Instance) (C : OpenCertificate) (low : ℕ) (kind : Standing) (s : Status) (text : List ℕ) → IsStanding bytes I C → HasLow I C low
-    → kind ≡ standing_of low C.cost → TellsPicture clock kind I C.plan s text → AnswersOpenDossier clock bytes s text
+pub open_pictured : (clock : Clock) (bytes : List ℕ) (I : Instance) (C : OpenCertificate) (low : ℕ) (kind : Known) (s : Status) (text : List ℕ) → IsStanding bytes I C → HasLow I C low
+    → kind ≡ known_of low C.cost → TellsPicture clock kind I C.plan s text → AnswersOpenDossier clock bytes s text
 open_pictured clock bytes I C low kind s text stands lowest is told =
     page_told clock kind I C.plan (PrintsBounded clock bytes text) (λ t. IsNoStanding bytes t text) s text
     (λ page. record { instance = I; certificate = C; low = low; standing = stands; lowest = lowest; page = subst (λ k. IsPicture clock k I C.plan text) is page }) (λ shown. shown) told

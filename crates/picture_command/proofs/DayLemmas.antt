@@ -11,7 +11,7 @@ use Rattle.day_play.specs.declared.beat.Beat.{Beat}
 use Rattle.picture_forms.specs.declared.times.Clock.{Clock}
 use Rattle.picture_day.specs.Passages.{is_go, IsKnownGo}
 use Rattle.picture_page.specs.Page.{picture}
-use Rattle.picture_page.specs.declared.heads.Standing.{Standing}
+use Rattle.picture_page.specs.declared.heads.Known.{Known}
 use Rattle.plan_commands.specs.Playing.{IsKnownAct, IsKnownBeat}
 use Rattle.plan_commands.proofs.BeatLemmas.{day_known}
 use Rattle.picture_command.specs.Pictures.{IsPicture}
@@ -28,7 +28,7 @@ day_goes I P bs lawful =
     All-weaker (IsKnownBeat I P) (IsKnownGo P) (λ b known. record { known = known_go I P b.lockage b.act known.act }) bs (day_known I P bs lawful)
 
 -- the picture of the day that is played is what is printed
-pub day_pictured : (clock : Clock) (kind : Standing) (I : Instance) (P : Plan) (bs : List Beat) (text : List ℕ) → IsLawfulDay I P bs → bs ≡ day_of I P
+pub day_pictured : (clock : Clock) (kind : Known) (I : Instance) (P : Plan) (bs : List Beat) (text : List ℕ) → IsLawfulDay I P bs → bs ≡ day_of I P
     → text ≡ picture kind clock I P bs → IsPicture clock kind I P text
 day_pictured clock kind I P bs text lawful played shown = record {
   lawful = subst (IsLawfulDay I P) played lawful;

@@ -11,8 +11,8 @@ use Rattle.day_play.specs.Lawful.{IsLawfulDay}
 use Rattle.day_play.specs.Playing.{day_of}
 use Rattle.picture_forms.specs.declared.times.Clock.{Clock}
 use Rattle.picture_page.specs.Page.{picture}
-use Rattle.picture_page.specs.declared.heads.Standing.{Standing}
-use Rattle.picture_page.specs.declared.heads.Standing.TheVariants as standing
+use Rattle.picture_page.specs.declared.heads.Known.{Known}
+use Rattle.picture_page.specs.declared.heads.Known.TheVariants as known
 use Rattle.plan_commands.specs.Planned.{IsLegallyPlanned, AnswersIllegal}
 use Rattle.checked_dossiers.specs.Accepted.{IsAccepted, IsNotAccepted}
 use Rattle.checked_dossiers.specs.Standing.{IsStanding, HasLow, IsNoStanding}
@@ -21,28 +21,28 @@ use Rattle.run_answers.specs.declared.status.Status.{Status}
 use Rattle.run_answers.specs.declared.status.Status.TheVariants.{Good, Open, Words, Refused, ReadFault, WriteFault, NoMemory, BadDossier, Unfit, PlanRefused}
 use Rattle.picture_command.specs.Headings.{heading_in}
 
--- The text is the picture of a plan of this standing and of its day, which is a lawful one.
-pub record IsPicture (clock : Clock) (standing : Standing) (I : Instance) (P : Plan) (text : List ℕ) : Type 0 where
+-- The text is the picture of a plan of which this is known and of its day, which is a lawful one.
+pub record IsPicture (clock : Clock) (known : Known) (I : Instance) (P : Plan) (text : List ℕ) : Type 0 where
   pub lawful : IsLawfulDay I P (day_of I P)
-  pub shown : text ≡ picture standing clock I P (day_of I P)
+  pub shown : text ≡ picture known clock I P (day_of I P)
 
 -- The bytes name a legal plan, and its picture says that it is legal.
 pub record PrintsPlan (clock : Clock) (bytes text : List ℕ) : Type 0 where
   pub instance : Instance
   pub plan : Plan
   pub planned : IsLegallyPlanned bytes instance plan
-  pub page : IsPicture clock standing.Legal instance plan text
+  pub page : IsPicture clock known.Legal instance plan text
 
 -- The bytes are a dossier with an accepted certificate, and the picture of its plan says that no legal plan costs less.
 pub record PrintsCheapest (clock : Clock) (bytes text : List ℕ) : Type 0 where
   pub instance : Instance
   pub certificate : Certificate
   pub accepted : IsAccepted bytes instance certificate
-  pub page : IsPicture clock standing.Optimal instance certificate.plan text
+  pub page : IsPicture clock known.Optimal instance certificate.plan text
 
 -- what a low says of a plan of this cost: where they are equal, that no legal plan costs less
-abbrev pub standing_of : ℕ → ℕ → Standing
-standing_of low cost = if nat_eq low cost then standing.Optimal else standing.Open low
+abbrev pub known_of : ℕ → ℕ → Known
+known_of low cost = if nat_eq low cost then known.Optimal else known.Open low
 
 -- The bytes are an open dossier that stands, and the picture of its plan says its low, below which no legal plan costs.
 pub record PrintsBounded (clock : Clock) (bytes text : List ℕ) : Type 0 where
@@ -51,7 +51,7 @@ pub record PrintsBounded (clock : Clock) (bytes text : List ℕ) : Type 0 where
   pub low : ℕ
   pub standing : IsStanding bytes instance certificate
   pub lowest : HasLow instance certificate low
-  pub page : IsPicture clock (standing_of low certificate.cost) instance certificate.plan text
+  pub page : IsPicture clock (known_of low certificate.cost) instance certificate.plan text
 
 -- a page, with `Good`, or what is answered where there is none
 abbrev pub IsPageOr : Type 0 → (Status → Type 0) → Status → Type 0
@@ -87,7 +87,7 @@ abbrev pub AnswersPicture : Clock → List ℕ → Status → List ℕ → Type 
 AnswersPicture clock bytes status text = AnswersHeaded clock (heading_in bytes) bytes status text
 
 -- a picture, or want of memory for it
-abbrev pub TellsPicture : Clock → Standing → Instance → Plan → Status → List ℕ → Type 0
-TellsPicture clock standing I P Good text = IsPicture clock standing I P text
-TellsPicture clock standing I P NoMemory text = text ≡ no_memory_text
-TellsPicture clock standing I P status text = ⊥
+abbrev pub TellsPicture : Clock → Known → Instance → Plan → Status → List ℕ → Type 0
+TellsPicture clock known I P Good text = IsPicture clock known I P text
+TellsPicture clock known I P NoMemory text = text ≡ no_memory_text
+TellsPicture clock known I P status text = ⊥

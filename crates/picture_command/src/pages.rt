@@ -8,7 +8,7 @@ ghost use Rattle.picture_command.specs.Pictures.{TellsPicture};
 
 use day_play::{Day, Played, play};
 use lock_model::{Instance, Plan};
-use picture_page::{Clock, NoMemory, Standing, print_picture};
+use picture_page::{Clock, NoMemory, Known, print_picture};
 use run_answers::{Answer, Status, Text, no_memory};
 use std::alloc::Global;
 
@@ -17,7 +17,7 @@ use std::alloc::Global;
 pub(crate) fn day_page(
     alloc: Global,
     clock: Clock,
-    standing: Standing,
+    known: Known,
     instance: &Instance,
     plan: &Plan,
     day: &Day,
@@ -25,9 +25,9 @@ pub(crate) fn day_page(
     requires legal { IsLegal instance.now plan.now }
     requires lawful { IsLawfulDay instance.now plan.now day.now }
     requires played { day.now ≡ day_of instance.now plan.now }
-    ensures { TellsPicture clock standing instance.now plan.now result.status (bytes_in result.text) }
+    ensures { TellsPicture clock known instance.now plan.now result.status (bytes_in result.text) }
 {
-    match print_picture(alloc, standing, clock, instance, plan, day.as_slice()) {
+    match print_picture(alloc, known, clock, instance, plan, day.as_slice()) {
         Ok(page) => Answer {
             status: Status::Good,
             text: Text::Made(page),
@@ -40,15 +40,15 @@ pub(crate) fn day_page(
 pub(crate) fn plan_page(
     alloc: Global,
     clock: Clock,
-    standing: Standing,
+    known: Known,
     instance: &Instance,
     plan: &Plan,
 ) -> Answer
     requires { IsLegal instance.now plan.now }
-    ensures { TellsPicture clock standing instance.now plan.now result.status (bytes_in result.text) }
+    ensures { TellsPicture clock known instance.now plan.now result.status (bytes_in result.text) }
 {
     match play(instance, plan) {
-        Played::Day(day) => day_page(alloc, clock, standing, instance, plan, &day),
+        Played::Day(day) => day_page(alloc, clock, known, instance, plan, &day),
         Played::Stuck(_) => unreachable!(),
     }
 }

@@ -6,7 +6,7 @@ ghost use Rattle.checked_dossiers.specs.Standing.{IsStanding, HasLow};
 ghost use Rattle.run_answers.specs.Sources.{AnswersSource, drained};
 ghost use Rattle.run_answers.specs.Written.{bytes_in};
 ghost use Rattle.plan_commands.specs.Planned.{IsPlanned};
-ghost use Rattle.picture_command.specs.Pictures.{standing_of, AnswersPlan, AnswersDossier, AnswersOpenDossier, AnswersPicture};
+ghost use Rattle.picture_command.specs.Pictures.{known_of, AnswersPlan, AnswersDossier, AnswersOpenDossier, AnswersPicture};
 
 use crate::headings::heading_in;
 use crate::pages::{day_page, plan_page};
@@ -17,7 +17,7 @@ use checked_dossiers::{
 use day_play::{Played, play};
 use lock_io::Source;
 use lock_model::{Instance, Plan};
-use picture_page::{Clock, Standing};
+use picture_page::{Clock, Known};
 use plan_commands::{break_answer, read_planned};
 use run_answers::{Answer, read_source};
 use std::alloc::Global;
@@ -35,7 +35,7 @@ fn named_answer(
     ensures { AnswersPlan clock bytes.now result.status (bytes_in result.text) }
 {
     match play(instance, plan) {
-        Played::Day(day) => day_page(alloc, clock, Standing::Legal, instance, plan, &day),
+        Played::Day(day) => day_page(alloc, clock, Known::Legal, instance, plan, &day),
         Played::Stuck(broken) => break_answer(alloc, bytes, instance, plan, broken),
     }
 }
@@ -61,7 +61,7 @@ fn accepted_answer(alloc: Global, clock: Clock, bytes: &[u8], dossier: &Accepted
         instance,
         certificate,
     } = dossier;
-    plan_page(alloc, clock, Standing::Optimal, instance, &certificate.plan)
+    plan_page(alloc, clock, Known::Optimal, instance, &certificate.plan)
 }
 
 // What is answered to a dossier.
@@ -76,13 +76,13 @@ fn dossier_answer(alloc: Global, clock: Clock, bytes: &[u8]) -> Answer
 }
 
 // What a low says of the plan of a certificate.
-fn standing_of(low: u64, certificate: &OpenCertificate) -> Standing
-    ensures { result ≡ standing_of low certificate.now.cost }
+fn known_of(low: u64, certificate: &OpenCertificate) -> Known
+    ensures { result ≡ known_of low certificate.now.cost }
 {
     if low == certificate.cost {
-        Standing::Optimal
+        Known::Optimal
     } else {
-        Standing::Open(low)
+        Known::Open(low)
     }
 }
 
@@ -97,8 +97,8 @@ fn standing_answer(alloc: Global, clock: Clock, bytes: &[u8], dossier: &Standing
         certificate,
         low,
     } = dossier;
-    let standing = standing_of(*low, certificate);
-    plan_page(alloc, clock, standing, instance, &certificate.plan)
+    let known = known_of(*low, certificate);
+    plan_page(alloc, clock, known, instance, &certificate.plan)
 }
 
 // What is answered to an open dossier.

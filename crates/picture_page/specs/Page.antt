@@ -19,37 +19,37 @@ use Rattle.picture_rows.specs.ShipRows.{ships_table}
 use Rattle.picture_rows.specs.Legend.{legend}
 use Rattle.picture_cards.specs.Cards.{cards}
 use Rattle.picture_page.specs.declared.style.TheConstants.{STYLE}
-use Rattle.picture_page.specs.declared.heads.Standing.{Standing}
-use Rattle.picture_page.specs.declared.heads.Standing.TheVariants.{Legal, Optimal, Open}
+use Rattle.picture_page.specs.declared.heads.Known.{Known}
+use Rattle.picture_page.specs.declared.heads.Known.TheVariants.{Legal, Optimal, Open}
 
-abbrev pub standing_word : Standing → List ℕ
-standing_word Legal = codes "legal"
-standing_word Optimal = codes "optimal"
-standing_word (Open low) = codes "open"
+abbrev pub known_word : Known → List ℕ
+known_word Legal = codes "legal"
+known_word Optimal = codes "optimal"
+known_word (Open low) = codes "open"
 
 -- what no legal plan costs less than
 unfoldable pub low_words : ℕ → List ℕ
 low_words low = codes "; no plan takes less than " ++ count_text low (codes "minute")
 
 -- the same, where it is below the cost
-abbrev pub bound_words : Standing → List ℕ
+abbrev pub bound_words : Known → List ℕ
 bound_words Legal = []
 bound_words Optimal = []
 bound_words (Open low) = low_words low
 
 -- what is known of a plan, and its cost
-unfoldable pub verdict : Standing → ℕ → List ℕ
-verdict standing cost = standing_word standing ++ codes ", total flow time " ++ count_text cost (codes "minute") ++ bound_words standing
+unfoldable pub verdict : Known → ℕ → List ℕ
+verdict known cost = known_word known ++ codes ", total flow time " ++ count_text cost (codes "minute") ++ bound_words known
 
 -- the style sheet
 unfoldable pub style_sheet : List ℕ
 style_sheet = filled STYLE.now []
 
 -- the head of the page, with its style sheet
-unfoldable pub page_head : Standing → ℕ → List ℕ
-page_head standing cost =
+unfoldable pub page_head : Known → ℕ → List ℕ
+page_head known cost =
     filled (codes "<!DOCTYPE html>\n<html lang=\"en\">\n<head>\n<meta charset=\"utf-8\">\n<meta name=\"viewport\" content=\"width=device-width,initial-scale=1\">\n<title>glock: ") []
-    ++ verdict standing cost ++ filled (codes "</title>\n<style>") [] ++ style_sheet ++ filled (codes "</style>\n</head>\n<body>\n<main>\n") []
+    ++ verdict known cost ++ filled (codes "</title>\n<style>") [] ++ style_sheet ++ filled (codes "</style>\n</head>\n<body>\n<main>\n") []
 
 -- the least and the greatest of some events
 abbrev pub least_of : List ℕ → ℕ
@@ -68,8 +68,8 @@ span_word (Day offset) = codes "from "
 unfoldable pub span : Clock → List ℕ → List ℕ
 span clock events = span_word clock ++ time_text clock (least_of events) ++ codes " to " ++ time_text clock (greatest_of events)
 
-unfoldable pub heading : Standing → ℕ → List ℕ
-heading standing cost = filled (codes "<h1>") [] ++ verdict standing cost ++ filled (codes "</h1>\n<p class=\"sub\">") []
+unfoldable pub heading : Known → ℕ → List ℕ
+heading known cost = filled (codes "<h1>") [] ++ verdict known cost ++ filled (codes "</h1>\n<p class=\"sub\">") []
 
 -- what a page of so many lockages shows
 unfoldable pub summary : Clock → Instance → ℕ → List ℕ → List ℕ
@@ -89,14 +89,14 @@ decks I P clock ps =
     filled (codes "<h2>deck plan") [] ++ plural (length ps) ++ filled (codes "</h2>\n<div class=\"cards\">\n") [] ++ cards I P clock ps ++ filled (codes "</div>\n</main>\n</body>\n</html>\n") []
 
 -- a page on an axis
-unfoldable pub page_on : Standing → Clock → Instance → Plan → List Passage → List ℕ → Drawn → List ℕ
-page_on standing clock I P ps events axis =
-    page_head standing (cost_of I P) ++ shared axis (ticks_of axis) ++ heading standing (cost_of I P) ++ summary clock I (length ps) events
+unfoldable pub page_on : Known → Clock → Instance → Plan → List Passage → List ℕ → Drawn → List ℕ
+page_on known clock I P ps events axis =
+    page_head known (cost_of I P) ++ shared axis (ticks_of axis) ++ heading known (cost_of I P) ++ summary clock I (length ps) events
     ++ timetable I axis ps (cost_of I P) ++ decks I P clock ps
 
-abbrev pub page_with : Standing → Clock → Instance → Plan → List Passage → List ℕ
-page_with standing clock I P ps = page_on standing clock I P ps (events_of I ps) (axis_of clock (events_of I ps))
+abbrev pub page_with : Known → Clock → Instance → Plan → List Passage → List ℕ
+page_with known clock I P ps = page_on known clock I P ps (events_of I ps) (axis_of clock (events_of I ps))
 
 -- THE PICTURE of a plan and its day
-unfoldable pub picture : Standing → Clock → Instance → Plan → List Beat → List ℕ
-picture standing clock I P day = page_with standing clock I P (passages_of I P day)
+unfoldable pub picture : Known → Clock → Instance → Plan → List Beat → List ℕ
+picture known clock I P day = page_with known clock I P (passages_of I P day)

@@ -1,6 +1,6 @@
 //! The head and the heading of a page.
 ghost use Rattle.std.specs.Prelude.{◌≡◌, ◌++◌, OnOk};
-ghost use Rattle.picture_page.specs.Page.{standing_word, low_words, bound_words, verdict, page_head, least_of, greatest_of, span_word, span, heading, summary};
+ghost use Rattle.picture_page.specs.Page.{known_word, low_words, bound_words, verdict, page_head, least_of, greatest_of, span_word, span, heading, summary};
 
 use crate::style::put_style;
 use lock_model::Instance;
@@ -9,7 +9,7 @@ use plain_text::{NoMemory, put};
 
 /// What is known of a plan.
 #[derive(Clone, Copy, Debug, PartialEq, Eq)]
-pub enum Standing {
+pub enum Known {
     /// It is legal.
     Legal,
     /// It is legal, and no legal plan costs less.
@@ -19,13 +19,13 @@ pub enum Standing {
 }
 
 /// The word for what is known of a plan.
-fn standing_word(standing: Standing) -> &'static [u8]
-    ensures { result.now ≡ standing_word standing }
+fn known_word(known: Known) -> &'static [u8]
+    ensures { result.now ≡ known_word known }
 {
-    match standing {
-        Standing::Legal => b"legal",
-        Standing::Optimal => b"optimal",
-        Standing::Open(_) => b"open",
+    match known {
+        Known::Legal => b"legal",
+        Known::Optimal => b"optimal",
+        Known::Open(_) => b"open",
     }
 }
 
@@ -38,41 +38,41 @@ fn put_low(out: &mut Vec<u8>, low: u64) -> Result<(), NoMemory>
 }
 
 /// Appends what no legal plan costs less than, where that is below the cost.
-fn put_bound(out: &mut Vec<u8>, standing: Standing) -> Result<(), NoMemory>
-    ensures { OnOk result (out.new.items ≡ out.old.items ++ bound_words standing) }
+fn put_bound(out: &mut Vec<u8>, known: Known) -> Result<(), NoMemory>
+    ensures { OnOk result (out.new.items ≡ out.old.items ++ bound_words known) }
 {
-    match standing {
-        Standing::Legal | Standing::Optimal => Ok(()),
-        Standing::Open(low) => put_low(out, low),
+    match known {
+        Known::Legal | Known::Optimal => Ok(()),
+        Known::Open(low) => put_low(out, low),
     }
 }
 
 /// Appends what is known of a plan, and its cost.
 #[tactic(auto, unfolding(crate::specs::Page::verdict))]
-fn put_verdict(out: &mut Vec<u8>, standing: Standing, cost: u64) -> Result<(), NoMemory>
-    ensures { OnOk result (out.new.items ≡ out.old.items ++ verdict standing cost) }
+fn put_verdict(out: &mut Vec<u8>, known: Known, cost: u64) -> Result<(), NoMemory>
+    ensures { OnOk result (out.new.items ≡ out.old.items ++ verdict known cost) }
 {
-    put(out, standing_word(standing))?;
+    put(out, known_word(known))?;
     put(out, b", total flow time ")?;
     put_count(out, cost, b"minute")?;
-    put_bound(out, standing)
+    put_bound(out, known)
 }
 
 /// Appends the head of the page, with its style sheet.
 #[tactic(auto, unfolding(crate::specs::Page::page_head))]
 pub(crate) fn put_page_head(
     out: &mut Vec<u8>,
-    standing: Standing,
+    known: Known,
     cost: u64,
 ) -> Result<(), NoMemory>
-    ensures { OnOk result (out.new.items ≡ out.old.items ++ page_head standing cost) }
+    ensures { OnOk result (out.new.items ≡ out.old.items ++ page_head known cost) }
 {
     put_form(
         out,
         b"<!DOCTYPE html>\n<html lang=\"en\">\n<head>\n<meta charset=\"utf-8\">\n<meta name=\"viewport\" content=\"width=device-width,initial-scale=1\">\n<title>glock: ",
         &[],
     )?;
-    put_verdict(out, standing, cost)?;
+    put_verdict(out, known, cost)?;
     put_form(out, b"</title>\n<style>", &[])?;
     put_style(out)?;
     put_form(out, b"</style>\n</head>\n<body>\n<main>\n", &[])
@@ -121,11 +121,11 @@ fn put_span(out: &mut Vec<u8>, clock: Clock, events: &[u64]) -> Result<(), NoMem
 
 /// Appends the heading.
 #[tactic(auto, unfolding(crate::specs::Page::heading))]
-pub(crate) fn put_heading(out: &mut Vec<u8>, standing: Standing, cost: u64) -> Result<(), NoMemory>
-    ensures { OnOk result (out.new.items ≡ out.old.items ++ heading standing cost) }
+pub(crate) fn put_heading(out: &mut Vec<u8>, known: Known, cost: u64) -> Result<(), NoMemory>
+    ensures { OnOk result (out.new.items ≡ out.old.items ++ heading known cost) }
 {
     put_form(out, b"<h1>", &[])?;
-    put_verdict(out, standing, cost)?;
+    put_verdict(out, known, cost)?;
     put_form(out, b"</h1>\n<p class=\"sub\">", &[])
 }
 

@@ -10,7 +10,7 @@ mod heads;
 mod page;
 mod style;
 
-pub use heads::Standing;
+pub use heads::Known;
 pub use page::print_picture;
 pub use picture_forms::Clock;
 pub use plain_text::NoMemory;

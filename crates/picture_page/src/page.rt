@@ -4,7 +4,7 @@ ghost use Rattle.lock_rules.specs.Plan.{IsLegal};
 ghost use Rattle.picture_day.specs.Passages.{IsKnownGo, AreKnown, HasChamber, HasShips, IsKnown};
 ghost use Rattle.picture_page.specs.Page.{timetable, decks, page_on, page_with, picture};
 
-use crate::heads::{Standing, put_heading, put_page_head, put_summary};
+use crate::heads::{Known, put_heading, put_page_head, put_summary};
 use chamber_times::cost;
 use day_play::Beat;
 use lock_model::{Instance, Plan};
@@ -64,7 +64,7 @@ fn put_decks(
 #[tactic(auto, unfolding(crate::specs::Page::page_on), using(lock_rules::proofs::LegalLemmas::of_legal_plans))]
 fn page_with(
     alloc: Global,
-    standing: Standing,
+    known: Known,
     clock: Clock,
     instance: &Instance,
     plan: &Plan,
@@ -72,16 +72,16 @@ fn page_with(
 ) -> Result<Vec<u8>, NoMemory>
     requires legal { IsLegal instance.now plan.now }
     requires known { AreKnown instance.now plan.now passages.now }
-    ensures { IfOk result (λ page. page.items ≡ page_with standing clock instance.now plan.now passages.now) }
+    ensures { IfOk result (λ page. page.items ≡ page_with known clock instance.now plan.now passages.now) }
 {
     let total = cost(instance, plan);
     let events = events_of(alloc, instance, passages)?;
     let axis = Axis::new(alloc, clock, events.as_slice())?;
     let ticks = ticks_of(alloc, &axis)?;
     let mut page = Vec::new(alloc);
-    put_page_head(&mut page, standing, total)?;
+    put_page_head(&mut page, known, total)?;
     put_shared(&mut page, &axis, ticks.as_slice())?;
-    put_heading(&mut page, standing, total)?;
+    put_heading(&mut page, known, total)?;
     put_summary(
         &mut page,
         clock,
@@ -100,7 +100,7 @@ fn page_with(
 #[tactic(auto, unfolding(crate::specs::Page::picture))]
 pub fn print_picture(
     alloc: Global,
-    standing: Standing,
+    known: Known,
     clock: Clock,
     instance: &Instance,
     plan: &Plan,
@@ -109,8 +109,8 @@ pub fn print_picture(
     requires legal { IsLegal instance.now plan.now }
     requires known { All (IsKnownGo plan.now) day.now }
     requires few { length day.now ≤ 96 }
-    ensures { IfOk result (λ page. page.items ≡ picture standing clock instance.now plan.now day.now) }
+    ensures { IfOk result (λ page. page.items ≡ picture known clock instance.now plan.now day.now) }
 {
     let passages = passages_of(alloc, instance, plan, day)?;
-    page_with(alloc, standing, clock, instance, plan, passages.as_slice())
+    page_with(alloc, known, clock, instance, plan, passages.as_slice())
 }

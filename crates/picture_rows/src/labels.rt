@@ -37,7 +37,7 @@ pub(crate) fn are_wide(axis: &Axis, passages: &[Passage]) -> bool
     }
 }
 
-/// How a label stands in its room.
+/// How a label stands in its stretch.
 fn stance_of(wide: bool, stretch: &Stretch) -> Stance
     ensures { result ≡ stance_of wide stretch.now }
 {

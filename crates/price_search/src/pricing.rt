@@ -194,7 +194,7 @@ impl Pricing {
         cost: u64,
     ) -> Option<Shown<'a>>
         requires { IsNodeOf instance.now node.now }
-        ensures { IfSome result (λ shown. (shown.instance ≡ instance.now) × (shown.node ≡ node.now) × (shown.prices ≡ prices.now) × (shown.cost ≡ cost)) }
+        ensures { IfSome result (λ shown. (shown.instance ≡ instance.now) × (shown.node ≡ node.now) × (shown.prices ≡ prices.now) × (shown.cuts ≡ self.old.cuts.items) × (shown.cost ≡ cost)) }
     {
         let asked = PricedNode {
             instance,

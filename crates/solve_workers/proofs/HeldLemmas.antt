@@ -1,7 +1,6 @@
 -- What the driver knows of the node in its hand, and how the node leaves it.
-use Rattle.std.proofs.Common.{◌≡◌, ℕ, ◌≤◌, refl, sym, ap, ◌∙◌, subst, arith, Bool, true, false, Some, Ok, Err, OnOk, OnErr}
+use Rattle.std.proofs.Common.{◌≡◌, ℕ, ◌≤◌, refl, sym, ap, ◌∙◌, subst, arith, false, Some, Ok, Err, OnOk, OnErr}
 use Rattle.std.specs.declared.result.Result.{Result}
-use Rattle.std.specs.Bool.{OnTrue, OnFalse}
 use Rattle.lock_model.specs.declared.plan.Plan.{Plan}
 use Rattle.lock_rules.specs.Bound.{bound_of}
 use Rattle.lock_rules.specs.Cut.{HitsNode}
@@ -45,14 +44,6 @@ on_err (Err e) h f = f h
 pub err_of : {A E P : Type 0} (r : Result A E) → P → OnErr r P
 err_of (Ok a) is = tt
 err_of (Err e) is = is
-
-pub on_true : (b t : Bool) (P : Type 0) → b ≡ t → (t ≡ true → P) → OnTrue b P
-on_true b true P e h = subst (λ x. OnTrue x P) (sym e) (h refl)
-on_true b false P e h = subst (λ x. OnTrue x P) (sym e) tt
-
-pub on_false : (b t : Bool) (P : Type 0) → b ≡ t → (t ≡ false → P) → OnFalse b P
-on_false b true P e h = subst (λ x. OnFalse x P) (sym e) tt
-on_false b false P e h = subst (λ x. OnFalse x P) (sym e) (h refl)
 
 module _ (b : Book) (id : ℕ) (n : Node) (holds : HoldsOnly b id (tree_node n)) where
   -- it is a node of the instance, and the slot has its bound

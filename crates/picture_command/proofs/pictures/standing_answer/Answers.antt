@@ -8,8 +8,8 @@ use Rattle.picture_command.proofs.pictures.standing_answer.Goals as goal
 pub returns : goal.returns
 returns c =
     let d = c.args.dossier.now in
-    let standing = c.standing_of-standing.result in
+    let known = c.known_of-known.result in
     let answer = c.plan_page.result in
     let plan = ap (λ (C : OpenCertificate). C.plan) c.certificate.view_is in
-    let told = subst (λ P. TellsPicture c.args.clock standing d.instance P answer.status (bytes_in answer.text)) plan c.plan_page.ensures in
-    open_pictured c.args.clock c.args.bytes.now d.instance d.certificate d.low standing answer.status (bytes_in answer.text) c.requires.standing c.requires.low c.standing_of-standing.ensures told
+    let told = subst (λ P. TellsPicture c.args.clock known d.instance P answer.status (bytes_in answer.text)) plan c.plan_page.ensures in
+    open_pictured c.args.clock c.args.bytes.now d.instance d.certificate d.low known answer.status (bytes_in answer.text) c.requires.standing c.requires.low c.known_of-known.ensures told
