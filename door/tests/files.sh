@@ -28,6 +28,8 @@ printf %s "$(<"$room/evening.lock")" >"$room/cut.lock"
 sed '5s/$/\n\n# later\n/' "$room/evening-early.plan" >"$room/late.plan"
 printf '\n# after the end\n' | cat "$room/evening.lock" - >"$room/tail.lock"
 sed '$d' "$room/evening.lock" >"$room/endless.lock"
+{ cat "$room/evening.plan"; yes '# later' | head -n 20000; echo later; } >"$room/long.plan"
+head -c 16777217 /dev/zero >"$room/huge.plan"
 joined() {
   call $1
   check "joined: $1" gives "$2" "$3" "${4-}"
@@ -43,6 +45,9 @@ judge tail.lock late.plan | 10 | illegal lockage 3 Early | late.plan:10: lockage
 judge evening.lock evening-early.plan | 10 | illegal lockage 3 Early | evening-early.plan:7: lockage 3 Early
 judge endless.lock evening.plan | 3 | line 14 fault 3 Word | evening.plan:2: fault 3 Word: endless.lock has no line end
 judge tail.lock bad.lock | 10 | plan line 3 fault 2 NoMark | bad.lock:1: fault 2 NoMark
+judge evening.lock long.plan | 3 | too long 131072 | evening.lock and long.plan together may have 131072 bytes at most
+picture evening.lock long.plan | 10 | fault 3 Word | fault 3 Word: no line may begin with "later" here
+picture evening.lock huge.plan | 66 | | huge.plan has more than 16777216 bytes; join the two files and give one
 ROWS
 
 # A picture of a dossier says what the dossier shows.
