@@ -2,7 +2,12 @@
 
 explain_plan() {
   case $1 in
-    "plan line "*) explain_line plan "$((${parts[2]} + $(end_of_instance)))" "${parts[4]}" "${parts[5]}" ;;
+    "plan line "*)
+      explain_line plan "$((${parts[2]} + $(end_of_instance)))" "${parts[4]}" "${parts[5]}"
+      if [ "$command" = picture ] && [ "${parts[5]}" = NoMark ]; then
+        say "a dossier has one of these lines there: certificate, certificate 2, certificate 3, certificate open, certificate open 3"
+      fi
+      ;;
     "illegal ship "*) explain_ship "${parts[2]}" "${parts[3]}" ;;
     "illegal lockage "*) explain_lockage "${parts[2]}" "${parts[3]}" "${parts[@]:4}" ;;
   esac
