@@ -60,11 +60,7 @@ fn put_verdict(out: &mut Vec<u8>, known: Known, cost: u64) -> Result<(), NoMemor
 
 /// Appends the head of the page, with its style sheet.
 #[tactic(auto, unfolding(crate::specs::Page::page_head))]
-pub(crate) fn put_page_head(
-    out: &mut Vec<u8>,
-    known: Known,
-    cost: u64,
-) -> Result<(), NoMemory>
+pub(crate) fn put_page_head(out: &mut Vec<u8>, known: Known, cost: u64) -> Result<(), NoMemory>
     ensures { OnOk result (out.new.items ≡ out.old.items ++ page_head known cost) }
 {
     put_form(
