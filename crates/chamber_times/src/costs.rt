@@ -1,11 +1,11 @@
 //! What a plan costs.
-ghost use Rattle.std.specs.Prelude.{◌≡◌, ◌^◌, ◌<◌, ◌≤◌, length, All};
+ghost use Rattle.std.specs.Prelude.{◌≡◌, ◌^◌, ◌*◌, ◌-◌, ◌<◌, ◌≤◌, length, sum_by, All};
 ghost use Rattle.lock_model.specs.Fleet.{ship_at};
 ghost use Rattle.lock_rules.specs.Lines.{end_of};
 ghost use Rattle.lock_rules.specs.Plan.{flow_in, cost_of};
 
 use crate::service::duration;
-use lock_model::{Instance, Lockage, Plan};
+use lock_model::{Instance, Lockage, Plan, Ships};
 
 /// The minute at which a lockage ends.
 #[inline]
@@ -18,6 +18,22 @@ pub fn lockage_end(instance: &Instance, lockage: &Lockage) -> u64
     lockage.start as u64 + duration(instance, lockage.chamber, &lockage.ships)
 }
 
+/// The flow times of ships whose lockage ends at minute `end`, added, in minutes. A ship that arrives
+/// later adds nothing.
+#[inline]
+pub fn flow_until(instance: &Instance, ships: &Ships, end: u64) -> u64
+    requires ships_in { All (λ s. s < length instance.now.ships) ships.now }
+    requires end_small { end ≤ 2 ^ 60 }
+    ensures value { result ≡ sum_by (λ s. end - (ship_at instance.now s).arrival) ships.now }
+    ensures small { result ≤ 8 * end }
+{
+    let mut sum = 0;
+    for &ship in ships.as_slice() {
+        sum += end.saturating_sub(instance.ships.as_slice()[ship as usize].arrival as u64);
+    }
+    sum
+}
+
 /// The flow time of a lockage: its end minus the arrival, added over its ships. It starts no
 /// earlier than they arrive.
 #[inline]
@@ -28,12 +44,7 @@ pub fn flow_time(instance: &Instance, lockage: &Lockage) -> u64
     ensures value { result ≡ flow_in instance.now lockage.now }
     ensures small { result ≤ 2 ^ 36 }
 {
-    let end = lockage_end(instance, lockage);
-    let mut sum = 0;
-    for &ship in lockage.ships.as_slice() {
-        sum += end - instance.ships.as_slice()[ship as usize].arrival as u64;
-    }
-    sum
+    flow_until(instance, &lockage.ships, lockage_end(instance, lockage))
 }
 
 /// The cost of a plan, its total flow time in minutes: over the ships, the end of their lockage

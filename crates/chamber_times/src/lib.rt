@@ -21,7 +21,7 @@ mod timetable;
 mod walk;
 
 pub use breaks::BrokenTime;
-pub use costs::{cost, flow_time, lockage_end};
+pub use costs::{cost, flow_time, flow_until, lockage_end};
 pub use judge::judge_line;
 pub use service::{duration, group_times, last_arrival, ready, stand_after};
 pub use spans::{first_free, is_free};

@@ -5,23 +5,11 @@ ghost use Rattle.first_plan.specs.Merging.{IsBetter, IsAtMost};
 
 use crate::joined::{Joined, joined_ships};
 use chamber_place::{Placed, place};
-use chamber_times::{cost, earliest, flow_time};
+use chamber_times::{cost, earliest, flow_time, flow_until};
 use lock_model::{Group, Instance, Plan, Ships, Spots, deck_of};
 use mooring_rules::{first_clash, judge_plan};
 use plain_text::NoMemory;
 use std::alloc::Global;
-
-// The flow times of ships whose lockage ends at this minute, added.
-fn flow_until(instance: &Instance, ships: &Ships, end: u64) -> u64
-    requires { All (λ s. s < length instance.now.ships) ships.now }
-{
-    let mut flow: u64 = 0;
-    for &ship in ships.as_slice() {
-        let arrival = instance.ships.as_slice()[ship as usize].arrival as u64;
-        flow = flow.saturating_add(end.saturating_sub(arrival));
-    }
-    flow
-}
 
 // The flow times of a line's ships in its earliest timetable, added.
 fn line_flow(instance: &Instance, chamber: u8, line: &[Group]) -> u64

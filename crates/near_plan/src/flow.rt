@@ -3,7 +3,7 @@ ghost use Rattle.std.specs.Prelude.{◌<◌, ◌↔◌, length, All, IsTrue};
 ghost use Rattle.std.specs.Bool.{OnTrue};
 ghost use Rattle.near_plan.specs.Groups.{IsGroupOf};
 
-use chamber_times::{group_times, stand_after};
+use chamber_times::{flow_until, group_times, stand_after};
 use lock_model::{Group, Instance, Ships};
 
 // Whether all these are ships of the instance.
@@ -25,18 +25,6 @@ pub(crate) fn are_known(instance: &Instance, chamber: u8, ships: &Ships) -> bool
     (chamber as usize) < instance.chambers.as_slice().len()
         && ships.len() > 0
         && are_ships(instance, ships.as_slice())
-}
-
-// The flow times of a group's ships that end at this minute, added.
-fn flow_until(instance: &Instance, ships: &Ships, end: u64) -> u64
-    requires { All (λ s. s < length instance.now.ships) ships.now }
-{
-    let mut flow: u64 = 0;
-    for &ship in ships.as_slice() {
-        let arrival = instance.ships.as_slice()[ship as usize].arrival as u64;
-        flow = flow.saturating_add(end.saturating_sub(arrival));
-    }
-    flow
 }
 
 /// The flow time of a line's ships at the earliest, in minutes; the greatest number where a group isn't

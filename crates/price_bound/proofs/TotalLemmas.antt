@@ -1,5 +1,5 @@
 -- The chambers' least worths add up, and tell what the node reaches.
-use Rattle.std.proofs.Common.{◌≡◌, ◌≢◌, ℕ, zero, suc, ◌+◌, ◌*◌, ◌<◌, ◌≤◌, cond, nat_eq, ℤ, pos, neg_ℤ, to_z, of_z, w64, ◌+ℤ◌, ◌-ℤ◌, ◌≤ℤ◌, ◌<ℤ◌, ◌↔◌, Some, None, List, [], ◌∷◌, ◌++◌, length, sum_by, inl, inr, refl, sym, ap, ◌∙◌, subst, arith, All, slice_index_or}
+use Rattle.std.proofs.Common.{◌≡◌, ◌≢◌, ℕ, zero, suc, ◌+◌, ◌*◌, ◌<◌, ◌≤◌, cond, nat_eq, ℤ, pos, neg_ℤ, to_z, of_z, w64, ◌+ℤ◌, ◌-ℤ◌, ◌≤ℤ◌, ◌<ℤ◌, ◌↔◌, Some, List, [], ◌∷◌, ◌++◌, length, sum_by, inl, inr, refl, sym, ap, ◌∙◌, subst, arith, All, slice_index_or}
 use Rattle.std.proofs.lemmas.Int.{ints}
 use Rattle.std.proofs.lemmas.Bool.Decides.{eqb_tells, leb_tells}
 use Rattle.std.proofs.lemmas.List.Sums.{sum_by-append, sum_by-cons}
@@ -16,7 +16,7 @@ use Rattle.lock_rules.proofs.SplitLemmas.{times_in-at}
 use Rattle.lock_rules.proofs.LeafLemmas.{has_number-some}
 use Rattle.price_rules.specs.Prices.{PlainCut, IsLoose, Reaches, paid_in, missing_prices}
 use Rattle.price_bound.specs.Worth.{worth_from, IsKeptGroup, IsLeastOn}
-use Rattle.price_bound.specs.Total.{worths_of, IsLeastSum, HasNone}
+use Rattle.price_bound.specs.Total.{worths_of, IsLeastSum}
 
 sum_by-one : (f : ℕ → ℕ) (n : ℕ) → sum_by f (n ∷ []) ≡ f n
 sum_by-one f n = omega (arith, sum_by-cons f n [])
@@ -85,10 +85,6 @@ module _ (I : Instance) (cuts : List PlainCut) (k : ℕ) (lines : List (List Gro
 
       down : (cost flow paid missing : ℕ) (v : ℤ) → pos (100 * cost) <ℤ ((v +ℤ pos missing) +ℤ pos 100) → v ≤ℤ (pos (100 * flow) -ℤ pos paid) → 100 * cost + paid < 100 * flow + missing + 100
       down cost flow paid missing v h e = omega (arith, ints)
-
-  -- a chamber without loose line
-  pub sum-none : (c : ℕ) → c < length I.chambers → IsLeastOn I c cuts k prices (line_at lines c) None → HasNone I cuts k lines
-  sum-none c known least = record { chamber = c; known = known; none = least.below }
 
 -- sums are far from the ends of their type
 pub sum-rounded : (v : ℤ) → neg_ℤ (pos 4000000000000000) ≤ℤ v → v ≤ℤ pos 40000000000000 → to_z w64 (of_z w64 v) ≡ v

@@ -1,5 +1,5 @@
 -- Loose lines of the least worth, group by group.
-use Rattle.std.proofs.Common.{◌≡◌, ◌≢◌, ℕ, suc, ◌+◌, inl, inr, ◌<◌, ℤ, pos, ◌+ℤ◌, ◌≤ℤ◌, ◌<ℤ◌, Some, List, [], ◌∷◌, ◌++◌, length, drop, All, Contains, refl, sym, ap, ◌∙◌, subst, arith}
+use Rattle.std.proofs.Common.{◌≡◌, ◌≢◌, ℕ, suc, ◌+◌, inl, inr, ◌<◌, ℤ, pos, ◌+ℤ◌, ◌≤ℤ◌, ◌<ℤ◌, Some, List, [], ◌∷◌, ◌++◌, length, drop, All, Contains, sym, ap, ◌∙◌, subst, arith}
 use Rattle.std.specs.Prelude.{slice_index_or}
 use Rattle.std.proofs.Math.Seq.{get_or-append_seam}
 use Rattle.std.proofs.lemmas.Bool.Decides.{eqb_tells, leb_tells}
@@ -87,6 +87,3 @@ module _ (I : Instance) (cuts : List PlainCut) (k : ℕ) (prices : List ℕ) whe
           subst (λ m. IsLeastLine I m cuts k prices (line_at lines m) (slice_index_or (found ++ more ∷ []) m d)) (sym same) (subst (IsLeastLine I n cuts k prices (line_at lines n)) (sym last) is)
     ];
   }
-
-  pub lines-none : (lines : List (List Group)) → AreLeastLines I cuts k lines prices 0 []
-  lines-none lines = record { count = refl; each = λ m d less. absurd (omega (arith, less)) }

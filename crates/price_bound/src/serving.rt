@@ -1,6 +1,5 @@
 //! What a choice is worth that comes next, and what a line's own groups are worth alone.
-ghost use Rattle.std.specs.Prelude.{◌≡◌, ◌+◌, ◌-◌, ◌*◌, ◌<◌, ◌≤◌, ◌≤ℤ◌, neg_ℤ, pos, length, drop, All, max, sum_by};
-ghost use Rattle.lock_model.specs.Fleet.{ship_at};
+ghost use Rattle.std.specs.Prelude.{◌≡◌, ◌+◌, ◌*◌, ◌<◌, ◌≤◌, ◌≤ℤ◌, neg_ℤ, pos, length, drop, All, max};
 ghost use Rattle.price_bound.specs.Worth.{end_after, worth_of, worth_from, IsKeptGroup};
 ghost use Rattle.price_bound.specs.Choosing.{IsChoice};
 ghost use Rattle.price_bound.specs.Cuts.{plain_cuts};
@@ -8,8 +7,8 @@ ghost use Rattle.price_bound.specs.Cuts.{plain_cuts};
 use crate::choice::Choice;
 use crate::line_case::LineCase;
 use crate::state::State;
-use chamber_times::{first_free, group_times, ready, stand_after};
-use lock_model::{Group, Instance};
+use chamber_times::{first_free, flow_until, group_times, ready, stand_after};
+use lock_model::Group;
 
 /// The minute at which a choice ends that comes next, and what it is worth, in hundredths of a
 /// minute.
@@ -50,22 +49,6 @@ pub(crate) fn serve(case: &LineCase, state: &State, choice: &Choice) -> Served
     }
 }
 
-// The flow times of ships that end at this minute, added.
-fn flow_until(instance: &Instance, end: u64, ships: &[u8]) -> u64
-    requires known { All (λ s. s < length instance.now.ships) ships.now }
-    requires arrived { All (λ s. (ship_at instance.now s).arrival ≤ end) ships.now }
-    requires end_small { end ≤ 1000000000 }
-    requires few { length ships.now ≤ 8 }
-    ensures value { result ≡ sum_by (λ s. end - (ship_at instance.now s).arrival) ships.now }
-    ensures small { result ≤ 8 * end }
-{
-    let mut sum = 0;
-    for &ship in ships {
-        sum += end - instance.ships.as_slice()[ship as usize].arrival as u64;
-    }
-    sum
-}
-
 // What some of the line's own groups are worth alone, in hundredths of a minute.
 fn alone_on(case: &LineCase, state: &State, line: &[Group]) -> i64
     requires kept { All (IsKeptGroup case.now.instance.now case.now.depth) line.now }
@@ -81,7 +64,7 @@ fn alone_on(case: &LineCase, state: &State, line: &[Group]) -> i64
     let mut flow = 0;
     for group in line {
         let (_, end) = group_times(case.instance, case.chamber, stand, minute, group);
-        flow += flow_until(case.instance, end, group.ships.as_slice());
+        flow += flow_until(case.instance, &group.ships, end);
         stand = stand_after(group.way);
         minute = end;
     }

@@ -1,21 +1,11 @@
-use Rattle.std.proofs.Common.{◌≡◌, ◌+◌, ◌-◌, ◌<◌, ◌≤◌, [], length, drop, sum_by, sym, ap, ◌∙◌, subst, arith, slice_index_or, ℕ}
+use Rattle.std.proofs.Common.{◌≡◌, ◌+◌, ◌-◌, ◌≤◌, [], length, drop, sum_by, sym, ap, ◌∙◌, arith}
 use Rattle.std.proofs.Math.Seq.{drop-length}
 use Rattle.lock_model.specs.Fleet.{ship_at}
 use Rattle.lock_rules.specs.Bound.{flow_of}
-use Rattle.lock_rules.specs.Timetable.{start_of, timetable_from}
-use Rattle.lock_rules.proofs.TimetableLemmas.{start_of-lawful}
+use Rattle.lock_rules.specs.Timetable.{timetable_from}
 use Rattle.price_bound.specs.Worth.{end_after}
 use Rattle.price_bound.proofs.ServingLemmas.{own-flow, flow-next}
 use Rattle.price_bound.proofs.serving.alone_on.Goals as goal
-
-pub flow_until-flow-requires-clause-arrived : goal.flow_until-flow-requires-clause-arrived
-flow_until-flow-requires-clause-arrived c = λ k d here.
-    let I = c.args.case.now.instance.now in
-    let same = c.as_slice.ensures.value in
-    let g = c.group-item.result in
-    let lawful = start_of-lawful I c.args.case.now.chamber c.args.case.now.chamber_in c.loop-group.stand c.loop-group.minute g in
-    let at = (subst (λ ss. (k d : ℕ) → k < length ss → (ship_at I (slice_index_or ss k d)).arrival ≤ start_of I c.args.case.now.chamber c.loop-group.stand c.loop-group.minute g) (sym same) lawful.arrived) k d here in
-    omega (arith, at, c.group_times-end.ensures.start, c.group_times-end.ensures.end)
 
 pub loop-group-preserved : goal.loop-group-preserved
 loop-group-preserved c =
@@ -26,7 +16,7 @@ loop-group-preserved c =
     let old = c.loop-group.invariant in
     let n = c.args.case.now.chamber in
     let end : c.group_times-end.result.1 ≡ end_after I n c.loop-group.stand c.loop-group.minute g = omega (arith, c.group_times-end.ensures.start, c.group_times-end.ensures.end) in
-    let flow : c.flow_until-flow.result ≡ sum_by (λ s. c.group_times-end.result.1 - (ship_at I s).arrival) g.ships = c.flow_until-flow.ensures.value ∙ ap (sum_by (λ s. c.group_times-end.result.1 - (ship_at I s).arrival)) c.as_slice.ensures.value in
+    let flow : c.flow_until-flow.result ≡ sum_by (λ s. c.group_times-end.result.1 - (ship_at I s).arrival) g.ships = c.flow_until-flow.ensures.value in
     let next = flow-next I n c.args.case.now.depth c.args.case.now.prices.now c.loop-group.stand c.loop-group.minute line i g c.group_times-end.result.1 c.flow_until-flow.result _ c.loop-group.flow c.loop-group-test.true c.group-item.is end flow old.sum in
     let few : i ≤ 23 = omega (arith, c.loop-group-test.true, c.requires.few) in
     record {
