@@ -1,5 +1,5 @@
 -- A slot is split: its children stand behind the slots.
-use Rattle.std.proofs.Common.{◌≡◌, ◌≢◌, ℕ, zero, suc, ◌+◌, ◌-◌, ◌<◌, ◌≤◌, List, [], ◌∷◌, ◌++◌, length, map, refl, sym, ap, ◌∙◌, subst, arith, Bool, true, false, not, cond, nat_le, slice_index_or, slice_set, inl, inr, None, true≢false, le-leb, length-append, append_assoc}
+use Rattle.std.proofs.Common.{◌≡◌, ℕ, zero, suc, ◌+◌, ◌-◌, ◌<◌, ◌≤◌, List, [], ◌∷◌, ◌++◌, length, map, refl, sym, ap, ◌∙◌, subst, arith, Bool, true, false, not, cond, nat_le, slice_index_or, slice_set, inl, inr, None, true≢false, le-leb, length-append, append_assoc}
 use Rattle.std.proofs.lemmas.Bool.{not_from_false, not_from_true, lt-leb}
 use Rattle.std.specs.declared.option.Option.{Option}
 use Rattle.std.proofs.lemmas.Bool.Decides.{leb_tells}
@@ -29,7 +29,7 @@ use Rattle.book_core.specs.Growing.{stored_child, stored_children, with_kids}
 use Rattle.book_core.specs.Keeps.{IsSound, AreTables}
 use Rattle.book_core.specs.Replies.{Does, Steps}
 use Rattle.book_core.proofs.StoredLemmas.{stored-append, node-at, nodes_in}
-use Rattle.book_core.proofs.HandLemmas.{set-changes, hands-let_go, hands-same, state-known}
+use Rattle.book_core.proofs.HandLemmas.{set-changes, hands-let_go, hands-same, state-known, held-open}
 use Rattle.book_core.proofs.BackLemmas.{back-kept}
 use Rattle.book_core.proofs.HeldLemmas.{KeepsNodes}
 use Rattle.book_core.proofs.WaitingLemmas.{Grows, waiting-grown}
@@ -96,11 +96,8 @@ module _ (b : Book) (sound : IsSound b) (id w : ℕ) (held : (slot_at b id).stat
   abbrev pub grown : List Slot
   grown = middle ++ children_in b id
 
-  held-open : slot.Held w ≢ slot.Closed by.Bound
-  held-open e = cc
-
   id-known : id < length b.slots
-  id-known = state-known b.slots id (λ e. held-open (sym held ∙ e))
+  id-known = state-known b.slots id (λ e. held-open w (sym held ∙ e))
 
   change : Changes b.slots id (slot.Split first) middle
   change = set-changes b.slots id (slot.Split first) id-known

@@ -138,8 +138,8 @@ state-known [] id other = absurd (other refl)
 state-known (s ∷ ss) zero other = omega arith
 state-known (s ∷ ss) (suc id) other = let rest = state-known ss id other in omega (arith, rest)
 
-open-held : (w : ℕ) → slot.Held w ≢ slot.Closed by.Bound
-open-held w e = true≢false (ap is_held e)
+pub held-open : (w : ℕ) → slot.Held w ≢ slot.Closed by.Bound
+held-open w e = true≢false (ap is_held e)
 
 -- the hand of a worker tells the slot that it holds
 pub first-held : (b : Book) (hands : List (Option ℕ)) (w : ℕ) → AreHands b.slots hands → hand_at hands w ≡ first_slot b (is_held_by w)
@@ -149,7 +149,7 @@ first-held b hands w good = by_first (first_slot b (is_held_by w)) refl
     by_hand None g e = refl
     by_hand (Some id) g e =
         let is = good.held w id g in
-        let known = state-known b.slots id (λ h. open-held w (sym is ∙ h)) in
+        let known = state-known b.slots id (λ h. held-open w (sym is ∙ h)) in
         absurd (true≢false (sym (held_by-itself w) ∙ ap (is_held_by w) (sym is) ∙ first_slot-none b (is_held_by w) e id known))
 
     by_first : (o : Option ℕ) → first_slot b (is_held_by w) ≡ o → hand_at hands w ≡ o
@@ -182,7 +182,7 @@ some-held b hands good = by_value (has_some hands) (has_slot b is_held) refl ref
     by_value true false e f =
         let hand = some-hand hands e in
         let is = good.held hand.0 hand.1 hand.2 in
-        let known = state-known b.slots hand.1 (λ h. open-held hand.0 (sym is ∙ h)) in
+        let known = state-known b.slots hand.1 (λ h. held-open hand.0 (sym is ∙ h)) in
         absurd (true≢false (sym (list_any_at (λ (s : Slot). is_held s.state) b.slots hand.1 no_slot known (ap is_held is)) ∙ f))
     by_value false true e f =
         let any = Any-from_list_any (λ (s : Slot). is_held s.state) b.slots f in

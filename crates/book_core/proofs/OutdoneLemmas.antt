@@ -32,7 +32,7 @@ use Rattle.book_core.specs.Outdone.{outdone_stored, is_back_in}
 use Rattle.book_core.specs.Hands.{ids_of, AreNodes}
 use Rattle.book_core.specs.Keeps.{IsSound, AreTables}
 use Rattle.book_core.specs.Replies.{IsJudged, Does, Steps}
-use Rattle.book_core.proofs.HandLemmas.{state-known, hands-same}
+use Rattle.book_core.proofs.HandLemmas.{state-known, held-open, hands-same}
 use Rattle.book_core.specs.Path.{IsPath}
 use Rattle.book_core.proofs.HeldLemmas.{KeepsNodes, nodes-kept}
 use Rattle.book_core.proofs.PathLemmas.{path-kept}
@@ -127,9 +127,6 @@ module _ (cost : ℕ) (slots : List Slot) where
           by_test : (t : Bool) → (cond t (record s { state = slot.Closed by.Bound }) s).node ≡ s.node
           by_test true = refl
           by_test false = refl
-
-  held-open : (w : ℕ) → slot.Held w ≢ slot.Closed by.Bound
-  held-open w e = cc
 
   split-open : (n : ℕ) → slot.Split n ≢ slot.Closed by.Bound
   split-open n e = cc

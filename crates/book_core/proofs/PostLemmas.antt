@@ -3,7 +3,8 @@ use Rattle.std.proofs.Common.{◌≡◌, ◌≢◌, ℕ, zero, suc, ◌<◌, Lis
 use Rattle.std.proofs.lemmas.Bool.{not_from_false, not_from_true, false≢true}
 use Rattle.std.specs.declared.option.Option.{Option}
 use Rattle.std.specs.List.{list_all}
-use Rattle.std.proofs.lemmas.Bool.Decides.{Decides-ltb, Decides-by_and}
+use Rattle.std.specs.Bool.{Decides}
+use Rattle.std.proofs.lemmas.Bool.Decides.{Decides-ltb, Decides-by_and, same_from_decides}
 use Rattle.lock_model.specs.Deck.{Deck}
 use Rattle.lock_model.specs.declared.group.Group.{Group}
 use Rattle.lock_rules.specs.Node.{line_at}
@@ -26,8 +27,8 @@ use Rattle.book_core.specs.Replies.{Answers, Does, Steps}
 use Rattle.book_core.proofs.CloseLemmas.{Out, none, pick-true, pick-false}
 use Rattle.book_core.proofs.SoundLemmas.{step-sound}
 
-pub known_ships : (n : ℕ) (ships : List ℕ) → list_all (λ s. nat_lt s n) ships ≡ true → All (λ s. s < n) ships
-known_ships n ships e = (Decides-by_and (λ s. nat_lt s n) (λ s. s < n) (list_all (λ s. nat_lt s n)) (λ s. Decides-ltb s n) refl (λ _ _. refl) ships).0 e
+pub known_ships : (r : Bool) (n : ℕ) (ships : List ℕ) → Decides r (All (λ s. s < n) ships) → r ≡ list_all (λ s. nat_lt s n) ships
+known_ships r n ships decides = same_from_decides r (list_all (λ s. nat_lt s n) ships) decides (Decides-by_and (λ s. nat_lt s n) (λ s. s < n) (list_all (λ s. nat_lt s n)) (λ s. Decides-ltb s n) refl (λ _ _. refl) ships)
 
 -- ---- post
 

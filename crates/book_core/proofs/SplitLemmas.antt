@@ -1,5 +1,5 @@
 -- A held slot is split.
-use Rattle.std.proofs.Common.{◌≡◌, ◌≢◌, ℕ, suc, ◌+◌, ◌<◌, ◌≤◌, List, [], ◌∷◌, ◌++◌, length, map, refl, sym, ap, ◌∙◌, subst, arith, true, slice_index_or, slice_set, length-append}
+use Rattle.std.proofs.Common.{◌≡◌, ℕ, suc, ◌+◌, ◌<◌, ◌≤◌, List, [], ◌∷◌, ◌++◌, length, map, refl, sym, ap, ◌∙◌, subst, arith, true, slice_index_or, slice_set, length-append}
 use Rattle.std.specs.declared.option.Option.{Option}
 use Rattle.std.proofs.lemmas.List.{length-map, length-set}
 use Rattle.lock_rules.specs.Bound.{bound_of}
@@ -23,16 +23,12 @@ use Rattle.book_core.specs.Hands.{ids_of, AreNodes}
 use Rattle.book_core.specs.Path.{IsPath}
 use Rattle.book_core.specs.Keeps.{IsSound, AreTables}
 use Rattle.book_core.specs.Seen.{seen, IsKept}
-use Rattle.book_core.proofs.HandLemmas.{state-known}
+use Rattle.book_core.proofs.HandLemmas.{state-known, held-open}
 use Rattle.book_core.proofs.HeldLemmas.{KeepsNodes, nodes-kept, nodes-let_go}
 use Rattle.book_core.proofs.PathLemmas.{path-kept}
 use Rattle.book_core.proofs.KeptLemmas.{length-slots, is-stored, few-slots}
 use Rattle.book_core.proofs.SettleLemmas.{restated}
 use Rattle.book_core.proofs.GrowLemmas.{grown-is, tables-grown, nodes-grown, length-kids}
-use Rattle.closing_rules.specs.declared.grounds.Ground.TheVariants as by
-
-held-open : (w : ℕ) → slot.Held w ≢ slot.Closed by.Bound
-held-open w e = cc
 
 -- how many slots there are then
 pub kids-few : (b : Book) (id : ℕ) → IsSound (with_kids b id) → (bounds : List ℕ) → (n : ℕ) → bounds ≡ map (bound_of b.case.instance n) (children_of b.case.instance (slot_at b id).node.depth (slot_at b id).node.lines) → length b.slots + length bounds ≤ 50000001

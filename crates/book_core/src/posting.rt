@@ -14,25 +14,17 @@ use crate::growing::make_room;
 use crate::reply::Reply;
 use book_rules::Entry;
 use lock_model::{Instance, deck_of};
+use mooring_rules::has_ships;
 use place_refute::Cut;
 use plain_text::NoMemory;
 
-// Whether all these ships are in the instance.
 #[tactic(auto, using(crate::proofs::PostLemmas::known_ships))]
-fn are_known(instance: &Instance, ships: &[u8]) -> bool
-    ensures value { result ≡ list_all (λ s. nat_lt s (length instance.now.ships)) ships.now }
-    ensures known { IsTrue result → All (λ s. s < length instance.now.ships) ships.now }
-{
-    let count = instance.ships.as_slice().len();
-    ships.iter().all(|&ship| (ship as usize) < count)
-}
-
 // Whether a cut is about a chamber and ships of the instance, and its deck is theirs.
 fn is_own(instance: &Instance, cut: &Cut) -> bool
     ensures { result ≡ is_own_cut instance.now cut.now }
 {
     (cut.chamber as usize) < instance.chambers.as_slice().len()
-        && are_known(instance, cut.ships.as_slice())
+        && has_ships(instance, cut.ships.as_slice())
         && same_deck(&cut.deck, &deck_of(instance, cut.chamber, &cut.ships))
 }
 

@@ -21,11 +21,25 @@ use master_branch::Node;
 use place_refute::Cut;
 use price_bound::{ChamberCut, Prices, Shown};
 
+// Whether two sets of up to eight ships are the same, told ship by ship: a call for so few bytes takes
+// longer, and thousands of cuts may be compared under the lock.
+fn same_ships(some: &[u8], others: &[u8]) -> bool
+    ensures { result ≡ pointwise nat_eq some.now others.now }
+{
+    match some {
+        [] => others.is_empty(),
+        [one, rest @ ..] => match others {
+            [] => false,
+            [other, more @ ..] => one == other && same_ships(rest, more),
+        },
+    }
+}
+
 // Whether a cut is another, but for its refutation.
 fn same_cut(one: &ChamberCut, other: &Cut) -> bool
     ensures { result ≡ (nat_eq one.now.chamber other.now.chamber && pointwise nat_eq one.now.ships other.now.ships) }
 {
-    one.chamber == other.chamber && one.ships == other.ships
+    one.chamber == other.chamber && same_ships(one.ships.as_slice(), other.ships.as_slice())
 }
 
 // Whether the cuts are the first ones of these.

@@ -7,22 +7,10 @@ ghost use Rattle.cert_check.specs.Cuts.{IsUnproved};
 use crate::certificate::CertCut;
 use certificate_rules::Reason;
 use lock_model::{Instance, deck_of};
+use mooring_rules::has_ships;
 use place_refute::check_refutation;
 use plain_text::NoMemory;
 use std::alloc::Global;
-
-// Whether all these ships are in the instance.
-fn are_known(instance: &Instance, ships: &[u8]) -> bool
-    ensures { IsTrue result ↔ All (λ s. s < length instance.now.ships) ships.now }
-{
-    let count = instance.ships.as_slice().len();
-    for &ship in ships {
-        if ship as usize >= count {
-            return false;
-        }
-    }
-    true
-}
 
 // Whether the cut names a chamber and one or more ships of the instance.
 fn is_shaped(instance: &Instance, cut: &CertCut) -> bool
@@ -31,7 +19,7 @@ fn is_shaped(instance: &Instance, cut: &CertCut) -> bool
     let ships = cut.ships.as_slice();
     (cut.chamber as usize) < instance.chambers.as_slice().len()
         && !ships.is_empty()
-        && are_known(instance, ships)
+        && has_ships(instance, ships)
 }
 
 // Why the cut isn't proved, if it isn't.

@@ -6,6 +6,19 @@ ghost use Rattle.mooring_rules.specs.PlanBreaks.{GoesThisWay, HasShape, AreShape
 
 use lock_model::{Instance, Lockage, Plan, Way};
 
+/// Whether the instance has all these ships.
+pub fn has_ships(instance: &Instance, ships: &[u8]) -> bool
+    ensures { IsTrue result ↔ All (λ s. s < length instance.now.ships) ships.now }
+{
+    let count = instance.ships.as_slice().len();
+    for &ship in ships {
+        if ship as usize >= count {
+            return false;
+        }
+    }
+    true
+}
+
 /// Whether the instance has the ship, and it goes this way.
 fn goes_this_way(instance: &Instance, way: Way, ship: u8) -> bool
     ensures { IsTrue result ↔ GoesThisWay instance.now way ship }

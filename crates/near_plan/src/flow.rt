@@ -5,18 +5,7 @@ ghost use Rattle.near_plan.specs.Groups.{IsGroupOf};
 
 use chamber_times::{flow_until, group_times, stand_after};
 use lock_model::{Group, Instance, Ships};
-
-// Whether all these are ships of the instance.
-fn are_ships(instance: &Instance, ships: &[u8]) -> bool
-    ensures { IsTrue result ↔ All (λ s. s < length instance.now.ships) ships.now }
-{
-    for &ship in ships {
-        if ship as usize >= instance.ships.as_slice().len() {
-            return false;
-        }
-    }
-    true
-}
+use mooring_rules::has_ships;
 
 /// Whether a chamber and ships are of the instance, and there is a ship.
 pub(crate) fn are_known(instance: &Instance, chamber: u8, ships: &Ships) -> bool
@@ -24,7 +13,7 @@ pub(crate) fn are_known(instance: &Instance, chamber: u8, ships: &Ships) -> bool
 {
     (chamber as usize) < instance.chambers.as_slice().len()
         && ships.len() > 0
-        && are_ships(instance, ships.as_slice())
+        && has_ships(instance, ships.as_slice())
 }
 
 /// The flow time of a line's ships at the earliest, in minutes; the greatest number where a group isn't

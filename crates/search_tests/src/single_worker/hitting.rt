@@ -1,25 +1,14 @@
 //! Cuts that hit others.
-ghost use Rattle.std.specs.Prelude.{◌≡◌, ◌<◌, length, nat_lt, All, IsTrue};
-ghost use Rattle.std.specs.List.{list_all};
 
 use book_core::Book;
 use lock_model::Instance;
+use mooring_rules::has_ships;
 use place_refute::{Cut, cut_hits};
-
-#[tactic(auto, using(book_core::proofs::PostLemmas::known_ships))]
-// Whether all these ships are in the instance.
-fn are_known(instance: &Instance, ships: &[u8]) -> bool
-    ensures value { result ≡ list_all (λ s. nat_lt s (length instance.now.ships)) ships.now }
-    ensures known { IsTrue result → All (λ s. s < length instance.now.ships) ships.now }
-{
-    let count = instance.ships.as_slice().len();
-    ships.iter().all(|&ship| (ship as usize) < count)
-}
 
 // Whether a cut hits the chamber and the ships of another.
 fn hits(cut: &Cut, instance: &Instance, other: &Cut) -> bool {
     (other.chamber as usize) < instance.chambers.as_slice().len()
-        && are_known(instance, other.ships.as_slice())
+        && has_ships(instance, other.ships.as_slice())
         && cut_hits(cut, instance, other.chamber, &other.ships)
 }
 

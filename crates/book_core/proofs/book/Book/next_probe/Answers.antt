@@ -1,16 +1,11 @@
-use Rattle.std.proofs.Common.{◌≢◌, ℕ, sym, ap, ◌∙◌, subst}
+use Rattle.std.proofs.Common.{sym, ap, ◌∙◌, subst}
 use Rattle.std.specs.Prelude.{IfSome}
 use Rattle.lock_rules.specs.Bound.{least_number}
-use Rattle.closing_rules.specs.declared.grounds.Ground.TheVariants as by
-use Rattle.book_rules.specs.declared.book.SlotState.TheVariants as slot
 use Rattle.book_rules.specs.Book.{Case}
 use Rattle.book_core.specs.Hands.{held_at, IsBounding}
-use Rattle.book_core.proofs.HandLemmas.{state-known}
+use Rattle.book_core.proofs.HandLemmas.{state-known, held-open}
 use Rattle.book_core.proofs.BoundingLemmas.{least-below, bounding, tables-filled, hands-filled, bounds-here}
 use Rattle.book_core.proofs.book.Book.next_probe.Goals as goal
-
-held-open : (w : ℕ) → slot.Held w ≢ slot.Closed by.Bound
-held-open w e = cc
 
 pub fill_hand-requires-clause-hand : goal.fill_hand-requires-clause-hand
 fill_hand-requires-clause-hand c =
