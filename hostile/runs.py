@@ -105,8 +105,14 @@ def crowd(text, minutes):
     return ("\n".join(lines) + "\n").encode()
 
 
+def two_ships(width):
+    """Two equal ships, and a chamber of this width."""
+    ships = "".join(f"ship {name} up 1100 114 0 5\n" for name in ("s1", "s2"))
+    return f"glock 1\nchamber c1 2000 {width} 10 20 5 4 30 15 low 0\n{ships}end\n".encode()
+
+
 def commands(runner):
-    """Each command over the examples and a small crowd."""
+    """Each command over the examples, a small crowd, and two ships that fit side by side or don't."""
     evening, closures = ((EXAMPLES / name).read_bytes() for name in ("evening.lock", "closures-and-cargo.lock"))
     plan = (EXAMPLES / "evening.plan").read_bytes()
     queue = crowd(runner.run("lot --number 3 --ships 8 --chambers 2".split()).text, 20)
@@ -115,7 +121,8 @@ def commands(runner):
     plans = evening + plan
     wanted = [
         ("solve --workers 1", evening), ("solve --workers 2", evening), ("solve --workers 4", queue),
-        ("solve --workers 1 --dossier", queue), ("solve --workers 1 --keep --nodes 3", queue), ("solve", closures),
+        ("solve --workers 1 --dossier", queue), ("solve --workers 1 --dossier", two_ships(232)),
+        ("solve --workers 2 --turns 128", two_ships(240)), ("solve --workers 1 --keep --nodes 3", queue), ("solve", closures),
         ("trial", b""), ("lot --number 1 --ships 24 --chambers 4", b""), ("judge", plans), ("play", plans),
         ("replan --from 60", plans), ("check", dossier), ("lower", kept), ("resume", kept),
     ]

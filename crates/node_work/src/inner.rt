@@ -1,5 +1,8 @@
 //! What becomes of a node that lacks ships.
 ghost use Rattle.std.specs.Prelude.{◌≡◌, ◌<◌, ◌≤◌, length, IfOk, IfSome, IfNone};
+ghost use Rattle.lock_rules.specs.Arrival.{next_ship};
+ghost use Rattle.lock_rules.specs.Bound.{probe_of};
+ghost use Rattle.lock_rules.specs.Throughput.{throughput_of};
 ghost use Rattle.master_branch.specs.Node.{IsNodeOf};
 ghost use Rattle.node_work.specs.Fates.{IsAnyway, IsEarly, IsFate, IsGroupAt};
 
@@ -20,6 +23,7 @@ use std::alloc::Global;
 pub fn closed_early(search: &Search<'_>, bound: u64, best: u64) -> Option<Ground>
     ensures some { IfSome result (IsEarly search.now.instance.now bound best) }
     ensures none { IfNone result (bound < best) }
+    ensures throughput { IfNone result (throughput_of search.now.instance.now < best) }
 {
     if bound >= best {
         Some(Ground::Bound)
@@ -79,7 +83,8 @@ pub fn inner_fate<K: KnownCuts>(
     memory: &mut Memory,
 ) -> Result<Fate, NoMemory>
     requires { foreseen.now.instance.now ≡ search.now.instance.now }
-    ensures { IfOk result (IsFate (K.tells known.now search.now.instance.now) search.now.instance.now search.now.turns best foreseen.now.node) }
+    ensures fate { IfOk result (IsFate (K.tells known.now search.now.instance.now) search.now.instance.now search.now.turns best foreseen.now.node) }
+    ensures probed { IfOk result (λ fate. best ≤ probe_of search.now.instance.now foreseen.now.node.depth foreseen.now.node.lines (next_ship search.now.instance.now foreseen.now.node.depth) → fate ≡ Fate.Closed (Ground.Probe (next_ship search.now.instance.now foreseen.now.node.depth))) }
 {
     if foreseen.least() < best {
         return fate_by_newest(alloc, search, &foreseen.node, known, memory);

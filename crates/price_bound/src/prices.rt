@@ -1,5 +1,5 @@
 //! Prices of the ships of an instance.
-ghost use Rattle.std.specs.Prelude.{◌≡◌, ◌≤◌, ◌↔◌, length, All, IsSome, IfSome, IsTrue};
+ghost use Rattle.std.specs.Prelude.{◌≡◌, ◌≤◌, ◌↔◌, length, map, min, All, IsSome, IfSome, IsTrue};
 ghost use Rattle.price_rules.specs.Prices.{price_at};
 
 use arrayvec::ArrayVec;
@@ -66,7 +66,7 @@ impl Prices {
     /// These prices, but 1,000,000 in the place of all that are above it.
     pub fn capped(prices: &[u32]) -> Prices
         requires { length prices.now ≤ 24 }
-        ensures { length result ≡ length prices.now }
+        ensures { result ≡ map (min 1000000) prices.now }
     {
         let mut items = ArrayVec::new();
         for &price in prices {

@@ -1,7 +1,7 @@
 //! Sources and sinks that fail.
 
 use super::fixture::{
-    Calls, NEVER, Ran, expect_cut_off, expect_ran, run_cut_off, run_over, run_with,
+    Calls, NEVER, Ran, expect_cut_off, expect_ran, run_cut_off, run_into, run_over, run_with,
 };
 use crate::worked::ONE_SHIP;
 use std::alloc::Global;
@@ -69,6 +69,18 @@ fn a_dossier_is_cut_off_where_the_sink_fails(rt: HostRuntime) -> Result<(), Fail
     for fault in 0..5 {
         let ran = run_cut_off(&rt, rt.alloc(), words, ONE_SHIP, fault)?;
         expect_cut_off(&rt, &ran, fault, whole.text.as_slice());
+    }
+    Ok(())
+}
+
+#[test]
+fn a_report_is_cut_off_where_the_room_is_full(rt: HostRuntime) -> Result<(), Fail> {
+    let words = ["solve"].as_slice();
+    let whole = run_over(&rt, rt.alloc(), words, ONE_SHIP.as_bytes())?;
+    let text = whole.text.as_slice();
+    for &(room, code) in &[(0, 5), (1, 5), (16, 5), (1172, 5), (1173, 0), (1174, 0)] {
+        let ran = run_into(&rt, rt.alloc(), words, ONE_SHIP.as_bytes(), room)?;
+        expect_ran(&rt, &ran, code, &text[..room.min(text.len())], "a full room");
     }
     Ok(())
 }

@@ -1,7 +1,7 @@
 //! Runs over a source and a sink in memory.
 ghost use Rattle.std.specs.Prelude.{◌≤◌};
 
-use lock_io::{Gate, MemorySink, MemorySource, OpenGate};
+use lock_io::{FixedSink, Gate, MemorySink, MemorySource, OpenGate};
 use lock_top::{Status, run};
 use std::alloc::Global;
 use std::process::Abort;
@@ -46,6 +46,14 @@ fn only(alloc: Global, number: u64) -> Result<Vec<u64>, Fail> {
     Ok(list)
 }
 
+// A source of this text.
+fn source_of(alloc: Global, text: &[u8], calls: Calls) -> Result<MemorySource, Fail>
+    requires { 1 ≤ calls.bite }
+{
+    let faults = only(alloc, calls.source_fault)?;
+    Ok(MemorySource::new(text.to_vec(alloc)?, calls.bite, faults))
+}
+
 /// Runs past a gate, over a source that hands out at most `bite` bytes a call, and a sink that takes
 /// as many.
 pub(super) fn run_past<R: Threads + Wait + Sync, G: Gate + Sync>(
@@ -59,8 +67,7 @@ pub(super) fn run_past<R: Threads + Wait + Sync, G: Gate + Sync>(
     requires { 1 ≤ calls.bite }
 {
     let list = owned(alloc, words)?;
-    let source_faults = only(alloc, calls.source_fault)?;
-    let mut source = MemorySource::new(text.to_vec(alloc)?, calls.bite, source_faults);
+    let mut source = source_of(alloc, text, calls)?;
     let sink_faults = only(alloc, calls.sink_fault)?;
     let mut sink = MemorySink::new(alloc, calls.bite, sink_faults).map_err(
         |_| "no memory for the sink",
@@ -101,6 +108,27 @@ pub(super) fn run_over<R: Threads + Wait + Sync>(
     text: &[u8],
 ) -> Result<Ran, Fail> {
     run_with(rt, alloc, words, text, LARGE)
+}
+
+/// Runs with no fault but that the sink has a room of so many bytes alone.
+pub(super) fn run_into<R: Threads + Wait + Sync>(
+    rt: &R,
+    alloc: Global,
+    words: &[&str],
+    text: &[u8],
+    room: usize,
+) -> Result<Ran, Fail> {
+    let list = owned(alloc, words)?;
+    let mut source = source_of(alloc, text, LARGE)?;
+    let mut bytes = Vec::new(alloc);
+    bytes.resize(room, 0)?;
+    let mut sink = FixedSink::new(bytes);
+    let status = run(rt, alloc, list.as_slice(), &mut source, &mut sink, &OpenGate);
+    Ok(Ran {
+        status,
+        text: sink.into_bytes(),
+        left: source.as_slice().len(),
+    })
 }
 
 /// The run of this row ended with this code, and wrote this text.

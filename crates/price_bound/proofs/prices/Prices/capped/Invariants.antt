@@ -1,5 +1,5 @@
-use Rattle.std.proofs.Common.{◌≡◌, ◌≤◌, length, All}
+use Rattle.std.proofs.Common.{◌≡◌, ◌≤◌, take, map, min, All}
 use Rattle.price_bound.proofs.prices.Prices.capped.Given as goal
 
 abbrev pub invariant-loop-price : goal.invariant-loop-price
-invariant-loop-price l = (length l.items.items ≡ l.price-index) × All (λ p. p ≤ 1000000) l.items.items
+invariant-loop-price l = (l.items.items ≡ map (min 1000000) (take l.price-index l.prices)) × All (λ p. p ≤ 1000000) l.items.items
