@@ -21,8 +21,8 @@ pub const MOST_AT_A_NODE: u32 = 1_000;
 const FEWEST_MISSING: usize = 5;
 
 // Most of what is gained comes in the first steps. Once the best cost is out of sight, the nodes below
-// are closed sooner than more steps bring it nearer. One worker leaves the first node later, since all
-// others begin with its prices; its span is longer than its patience, so that a going back counts in it.
+// are closed sooner than more steps bring it nearer. The first node is left later, since all others
+// begin with its prices; its span is longer than its patience, so that a going back counts in it.
 const FIRST_PACE: Pace = Pace {
     steps: 200,
     patience: 15,
@@ -37,11 +37,6 @@ const PACE: Pace = Pace {
     spans: 3,
 };
 
-// The pace at the first node, for which several workers wait: they raise its prices faster below it.
-fn first_pace(workers: u8) -> Pace {
-    if workers == 1 { FIRST_PACE } else { PACE }
-}
-
 // The same cuts.
 fn copy_cuts(alloc: Global, cuts: &[ChamberCut]) -> Result<Vec<ChamberCut>, NoMemory> {
     let mut copies = Vec::new(alloc);
@@ -52,13 +47,12 @@ fn copy_cuts(alloc: Global, cuts: &[ChamberCut]) -> Result<Vec<ChamberCut>, NoMe
 }
 
 /// The prices of the nodes on the way from the root to the one in hand, those that are raised at the
-/// node in hand, the pace at the first node, the first cuts of the book, how many rounds may be made
-/// still, and least lines that are kept from call to call.
+/// node in hand, the first cuts of the book, how many rounds may be made still, and least lines that
+/// are kept from call to call.
 #[derive(Debug, Drop)]
 pub struct Pricing {
     pub(crate) path: Vec<Offer>,
     pub(crate) ascent: Ascent,
-    pub(crate) first_pace: Pace,
     pub(crate) left: u32,
     pub(crate) is_first: bool,
     pub(crate) from: u8,
@@ -67,17 +61,14 @@ pub struct Pricing {
 }
 
 impl Pricing {
-    /// Begins with these prices, one for each ship, the search of so many workers, one at least. Several
-    /// leave the first node as soon as any other.
-    pub fn new(alloc: Global, first: Prices, workers: u8) -> Result<Pricing, NoMemory> {
+    /// Begins with these prices, one for each ship.
+    pub fn new(alloc: Global, first: Prices) -> Result<Pricing, NoMemory> {
         let mut path = Vec::new(alloc);
-        let first_pace = first_pace(workers);
-        let ascent = Ascent::new(first.copy(), first_pace);
+        let ascent = Ascent::new(first.copy(), FIRST_PACE);
         append(&mut path, Offer::new(first))?;
         Ok(Pricing {
             path,
             ascent,
-            first_pace,
             left: MOST_ROUNDS,
             is_first: true,
             from: 0,
@@ -99,7 +90,7 @@ impl Pricing {
         ensures deep { self.new.from ≡ self.old.from }
         ensures left { self.new.left ≡ self.old.left }
     {
-        let pace = if self.is_first { self.first_pace } else { PACE };
+        let pace = if self.is_first { FIRST_PACE } else { PACE };
         if let [.., last] = self.path.as_slice() {
             self.ascent = Ascent::new(last.prices.copy(), pace);
         }
@@ -167,7 +158,6 @@ impl Pricing {
         Ok(Pricing {
             path,
             ascent: Ascent::new(self.ascent.best().copy(), PACE),
-            first_pace: self.first_pace,
             left: MOST_ROUNDS,
             is_first: self.is_first,
             from: self.from,

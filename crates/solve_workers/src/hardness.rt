@@ -77,10 +77,10 @@ fn begun_again(alloc: Global, book: Book) -> Book
     fresh
 }
 
-// Prices with which so many workers begin: what each ship costs in the best plan.
-fn first_pricing(alloc: Global, book: &Book, workers: u8) -> Option<Pricing> {
+// Prices to begin with: what each ship costs in the best plan.
+fn first_pricing(alloc: Global, book: &Book) -> Option<Pricing> {
     let first = first_prices(&book.case().instance, book.best());
-    Pricing::new(alloc, first, workers).ok()
+    Pricing::new(alloc, first).ok()
 }
 
 // The board of what was found at the root, if anything was and there is memory for it.
@@ -123,7 +123,7 @@ fn priced<R: Threads + Wait + Sync, G: Gate + Sync>(
     ensures ready { IfOk result (IsReady lent.now.case.now cost) }
     ensures search { driver.new.search ≡ driver.old.search }
 {
-    driver.pricing = first_pricing(lent.alloc, &book, lent.workers);
+    driver.pricing = first_pricing(lent.alloc, &book);
     if lent.workers == 1 {
         return Ok(book);
     }
@@ -132,7 +132,7 @@ fn priced<R: Threads + Wait + Sync, G: Gate + Sync>(
     }
     let pricing = mem::replace(&mut driver.pricing, None);
     let book = priced_by_all(lent, book, pricing, cost)?;
-    driver.pricing = first_pricing(lent.alloc, &book, 1);
+    driver.pricing = first_pricing(lent.alloc, &book);
     Ok(book)
 }
 
