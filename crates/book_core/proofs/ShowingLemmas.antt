@@ -1,5 +1,5 @@
 -- What was shown beside a book, compared with the book.
-use Rattle.std.proofs.Common.{◌≡◌, ℕ, ◌<◌, ◌≤◌, List, [], ◌∷◌, length, map, drop, refl, sym, ap, ◌∙◌, subst, arith, Bool, true, false, not, cond, ◌&&◌, slice_get, nat_eq, Some, None}
+use Rattle.std.proofs.Common.{◌≡◌, ◌≢◌, ℕ, suc, ◌<◌, ◌≤◌, List, [], ◌∷◌, length, map, drop, refl, sym, ap, ◌∙◌, subst, arith, Bool, true, false, not, cond, ◌&&◌, slice_get, nat_eq, Some, None}
 use Rattle.std.specs.declared.option.Option.{Option}
 use Rattle.std.specs.Bool.{Decides}
 use Rattle.std.specs.Cmp.Lexicographic.{pointwise}
@@ -38,6 +38,17 @@ reached-shown claim reached = subst (λ cuts. Reaches claim.instance cuts claim.
 
 -- ---- cuts
 
+neither : (t : Bool) {u : Bool} → u ≡ false → (t && u) ≡ false
+neither true e = e
+neither false e = refl
+
+-- lists that are the same have as many numbers
+pub as_many : (xs ys : List ℕ) → length xs ≢ length ys → pointwise nat_eq xs ys ≡ false
+as_many [] [] other = absurd (other refl)
+as_many [] (y ∷ ys) other = refl
+as_many (x ∷ xs) [] other = refl
+as_many (x ∷ xs) (y ∷ ys) other = neither (nat_eq x y) (as_many xs ys (λ e. other (ap suc e)))
+
 -- the cut is another's, without its refutation
 abbrev pub same_cut : ChamberCut → Cut → Bool
 same_cut c d = nat_eq c.chamber d.chamber && pointwise nat_eq c.ships d.ships
@@ -50,10 +61,6 @@ pub first-more : (shown : List ChamberCut) (cuts : List Cut) → length cuts < l
 first-more [] cuts more = absurd (omega (arith, more))
 first-more (x ∷ xs) [] more = refl
 first-more (x ∷ xs) (y ∷ ys) more = neither (same_cut x y) (first-more xs ys (omega (arith, more)))
-  where
-    neither : (t : Bool) {u : Bool} → u ≡ false → (t && u) ≡ false
-    neither true e = e
-    neither false e = refl
 
 -- ---- instances and nodes
 

@@ -18,13 +18,20 @@ use mooring_rules::has_ships;
 use place_refute::Cut;
 use plain_text::NoMemory;
 
-#[tactic(auto, using(crate::proofs::PostLemmas::known_ships))]
+// Whether the instance has all ships of a cut.
+fn has_its_ships(instance: &Instance, cut: &Cut) -> bool
+    ensures value { result ≡ list_all (λ s. nat_lt s (length instance.now.ships)) cut.now.ships }
+    ensures known { IsTrue result → All (λ s. s < length instance.now.ships) cut.now.ships }
+{
+    has_ships(instance, cut.ships.as_slice())
+}
+
 // Whether a cut is about a chamber and ships of the instance, and its deck is theirs.
 fn is_own(instance: &Instance, cut: &Cut) -> bool
     ensures { result ≡ is_own_cut instance.now cut.now }
 {
     (cut.chamber as usize) < instance.chambers.as_slice().len()
-        && has_ships(instance, cut.ships.as_slice())
+        && has_its_ships(instance, cut)
         && same_deck(&cut.deck, &deck_of(instance, cut.chamber, &cut.ships))
 }
 

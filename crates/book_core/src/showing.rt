@@ -35,11 +35,15 @@ fn same_ships(some: &[u8], others: &[u8]) -> bool
     }
 }
 
-// Whether a cut is another, but for its refutation.
+#[tactic(auto, using(crate::proofs::ShowingLemmas::as_many))]
+// Whether a cut is another, but for its refutation. Once it is known that they have as many ships, each
+// ship costs one test less.
 fn same_cut(one: &ChamberCut, other: &Cut) -> bool
     ensures { result ≡ (nat_eq one.now.chamber other.now.chamber && pointwise nat_eq one.now.ships other.now.ships) }
 {
-    one.chamber == other.chamber && same_ships(one.ships.as_slice(), other.ships.as_slice())
+    one.chamber == other.chamber
+        && one.ships.len() == other.ships.len()
+        && same_ships(one.ships.as_slice(), other.ships.as_slice())
 }
 
 // Whether the cuts are the first ones of these.
