@@ -80,7 +80,13 @@ fn a_report_is_cut_off_where_the_room_is_full(rt: HostRuntime) -> Result<(), Fai
     let text = whole.text.as_slice();
     for &(room, code) in &[(0, 5), (1, 5), (16, 5), (1172, 5), (1173, 0), (1174, 0)] {
         let ran = run_into(&rt, rt.alloc(), words, ONE_SHIP.as_bytes(), room)?;
-        expect_ran(&rt, &ran, code, &text[..room.min(text.len())], "a full room");
+        expect_ran(
+            &rt,
+            &ran,
+            code,
+            &text[..room.min(text.len())],
+            "a full room",
+        );
     }
     Ok(())
 }

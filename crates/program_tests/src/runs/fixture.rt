@@ -123,7 +123,14 @@ pub(super) fn run_into<R: Threads + Wait + Sync>(
     let mut bytes = Vec::new(alloc);
     bytes.resize(room, 0)?;
     let mut sink = FixedSink::new(bytes);
-    let status = run(rt, alloc, list.as_slice(), &mut source, &mut sink, &OpenGate);
+    let status = run(
+        rt,
+        alloc,
+        list.as_slice(),
+        &mut source,
+        &mut sink,
+        &OpenGate,
+    );
     Ok(Ran {
         status,
         text: sink.into_bytes(),
