@@ -1,22 +1,18 @@
 -- What the answers say, from the first failure of a certificate or from its acceptance.
-use Rattle.std.proofs.Common.{◌≡◌, ◌↔◌, ℕ, List, ◌∙◌, ap, sym, subst}
+use Rattle.std.proofs.Common.{◌≡◌, ◌↔◌, ℕ, ◌∙◌, ap, sym, subst}
 use Rattle.lock_model.specs.declared.instance.Instance.{Instance}
-use Rattle.lock_model.specs.declared.plan.Plan.{Plan}
 use Rattle.lock_rules.specs.Plan.{IsCheapest, cost_of}
 use Rattle.lock_rules.specs.Heredity.{IsHereditary}
 use Rattle.lock_model.specs.Deck.{Deck, IsDeck}
 use Rattle.lock_model.specs.Normal.{HasNormal}
 use Rattle.certificate_rules.specs.declared.certificate.FailurePlace.{FailurePlace}
-use Rattle.certificate_rules.specs.declared.certificate.FailurePlace.TheVariants as place
 use Rattle.certificate_rules.specs.declared.certificate.Reason.{Reason}
-use Rattle.closing_rules.specs.ProvedCuts.{CertCut}
 use Rattle.certificate_rules.specs.Certificates.{Certificate, Accepts}
-use Rattle.certificate_rules.specs.Failures.{FailsAt, Fails}
+use Rattle.certificate_rules.specs.Failures.{Fails}
 use Rattle.certificate_rules.proofs.FailLemmas.{fails-not_accepted}
 use Rattle.certificate_rules.proofs.AcceptLemmas.{accepted-cheapest}
 use Rattle.closing_rules.proofs.LawLemmas.{tree-laws}
 use Rattle.cert_check.specs.declared.certificate.Answer.TheVariants.{Accepted, Rejected}
-use Rattle.cert_check.specs.FirstFailure.{FailBeforeMarks}
 use Rattle.cert_check.proofs.FirstFailure.{fails-same}
 
 module _ (I : Instance) (C : Certificate) where

@@ -1,25 +1,13 @@
 -- The ships that a node lacks, as a list and one by one.
-use Rattle.std.proofs.Common.{ℕ, suc, ◌+◌, ◌≤◌, List, [], ◌∷◌, ap, ◌∙◌, arith, cond, Contains, inl, inr}
-use Rattle.std.proofs.lemmas.Bool.Decides.{eqb_tells}
+use Rattle.std.proofs.Common.{ℕ, List, ◌∙◌, arith, Contains}
 use Rattle.std.proofs.lemmas.List.{get_or_default}
 use Rattle.lock_model.specs.declared.instance.Instance.{Instance}
 use Rattle.lock_model.specs.declared.group.Group.{Group}
 use Rattle.lock_rules.specs.Node.{IsNode}
 use Rattle.lock_rules.specs.Arrival.{missing_ships}
-use Rattle.lock_rules.specs.Plan.{times_in}
+use Rattle.price_bound.proofs.MaskLemmas.{times-contains}
 use Rattle.flow_bounds.specs.Missing.{IsMissing}
 use Rattle.flow_bounds.proofs.ProbeLemmas.{missing-once, among-missing}
-
-times-contains : (xs : List ℕ) (s : ℕ) → 1 ≤ times_in xs s → Contains xs s
-times-contains [] s some = absurd (omega arith)
-times-contains (x ∷ xs) s some =
-    elim (eqb_tells x s) [
-      | inl same ↦ (0, omega arith, same.1)
-      | inr other ↦
-          let miss = ap (λ b. cond b 1 0 + times_in xs s) other.0 in
-          let rest = times-contains xs s (omega (arith, some, miss)) in
-          (suc rest.0, omega (arith, rest.1), rest.2)
-    ]
 
 pub missing-contains : (I : Instance) (k : ℕ) (lines : List (List Group)) (s : ℕ) → IsNode I k lines → IsMissing I lines s → Contains (missing_ships I k) s
 missing-contains I k lines s node missing =

@@ -36,7 +36,8 @@ use Rattle.day_play.specs.declared.beat.Act.TheVariants.{Moor}
 use Rattle.day_play.specs.declared.beat.Beat.{Beat}
 use Rattle.lock_rules.specs.Arrival.{numbers_from}
 use Rattle.lock_rules.proofs.LineLemmas.{length-numbers}
-use Rattle.day_play.proofs.OrderLemmas.{ordered-above, put_each-ordered, put_each-among, put_each-from, numbers-within, numbers-among, length-put_each}
+use Rattle.lock_rules.proofs.BoundLemmas.{IsAmong-numbers}
+use Rattle.day_play.proofs.OrderLemmas.{ordered-above, put_each-ordered, put_each-among, put_each-from, numbers-within, length-put_each}
 use Rattle.day_play.proofs.RunLemmas.{RunsHere}
 
 pub apart-swap : (d : Deck) (s : Size) (p : Spot) (t : Size) (q : Spot) → AreApart d s p t q → AreApart d t q s p
@@ -223,7 +224,7 @@ module _ (I : Instance) (P : Plan) (p : ℕ) (known : p < length P.lockages) (le
         (omega (arith, ap length empty, length-put_each (quay_distance I l) [] (numbers_from 0 (length l.ships)), length-numbers 0 (length l.ships)))
         (λ k among. ordered_place k (put_each-from (quay_distance I l) [] (numbers_from 0 (length l.ships)) k among))
         (put_each-ordered (quay_distance I l) [] (numbers_from 0 (length l.ships)) tt)
-        (λ j inside. inr (put_each-among (quay_distance I l) [] (numbers_from 0 (length l.ships)) j (numbers-among 0 (length l.ships) j (omega arith) (omega (arith, inside)))))
+        (λ j inside. inr (put_each-among (quay_distance I l) [] (numbers_from 0 (length l.ships)) j (IsAmong-numbers 0 (length l.ships) j (omega arith) (omega (arith, inside)))))
         (λ t tside tfree tidle moored. goes-run t rest tidle moored (tside ∙ side) (omega (arith, tfree, free)) lawful.free next)))
       where
         ordered_place : (k : ℕ) → IsAmong [] k ⊎ IsAmong (numbers_from 0 (length l.ships)) k → k < length l.ships

@@ -1,6 +1,6 @@
 -- The day of a legal plan is lawful.
-use Rattle.std.proofs.Common.{◌≡◌, ℕ, suc, ◌+◌, ◌<◌, ◌≤◌, List, [], ◌∷◌, ◌++◌, length, map, cond, inl, inr, refl, ap, sym, subst, ◌∙◌, arith, get_or}
-use Rattle.std.proofs.lemmas.Bool.Decides.{eqb_tells, leb_tells}
+use Rattle.std.proofs.Common.{◌≡◌, ℕ, suc, ◌+◌, ◌<◌, ◌≤◌, List, [], ◌∷◌, ◌++◌, length, map, inl, inr, refl, ap, sym, subst, ◌∙◌, arith, get_or}
+use Rattle.std.proofs.lemmas.Bool.Decides.{leb_tells}
 use Rattle.std.proofs.lemmas.List.{append_assoc}
 use Rattle.lock_model.specs.Fleet.{chamber_at}
 use Rattle.lock_model.specs.declared.instance.Instance.{Instance}
@@ -20,14 +20,16 @@ use Rattle.lock_rules.proofs.TimetableLemmas.{turned_at-least}
 use Rattle.chamber_times.specs.Walk.{lockages_at, line_places}
 use Rattle.chamber_times.proofs.WalkLemmas.{lockages_at-line}
 use Rattle.lock_rules.proofs.TreeLemmas.{IsAmong-left, IsAmong-right}
+use Rattle.lock_rules.proofs.BoundLemmas.{IsAmong-numbers}
 use Rattle.day_play.specs.Order.{minute_of, IsOrdered}
 use Rattle.lock_rules.specs.Among.{IsAmong}
 use Rattle.day_play.specs.State.{opening, opening_chamber}
 use Rattle.day_play.specs.Lawful.{IsLawfulDay}
 use Rattle.day_play.specs.Playing.{moor_beats, moor_order, turn_beats, go_beat, done_beat, lockage_beats, line_beats, chamber_beats, beats_of, day_of}
 use Rattle.day_play.specs.declared.beat.Beat.{Beat}
-use Rattle.day_play.proofs.OrderLemmas.{ordered-lower, put_each-ordered, put_each-among, length-put_each, numbers-among}
+use Rattle.day_play.proofs.OrderLemmas.{ordered-lower, put_each-ordered, put_each-among, length-put_each}
 use Rattle.day_play.proofs.RunLemmas.{beats_at, moors_in, RunsHere, IsFresh, idle_not_under, runs-lawful, runs-still, done-gone, done-served, IsAmong-cases}
+use Rattle.day_play.proofs.TimesLemmas.{among-times_in}
 use Rattle.day_play.proofs.BeatLemmas.{beats-few}
 use Rattle.day_play.proofs.ChamberLemmas.{IsGood, line-run}
 use Rattle.day_play.proofs.MixLemmas.{own-once, others-after}
@@ -134,22 +136,11 @@ module _ (I : Instance) (P : Plan) where
   beats-among (d ∷ cs) c x (inr h) own = IsAmong-right (chamber_beats I P d) (beats_of I P cs) x (beats-among cs c x h own)
 
 -- a ship that is served lies in some lockage
-times_in-some : (xs : List ℕ) (i : ℕ) → 1 ≤ times_in xs i → IsAmong xs i
-times_in-some [] i some = absurd (omega arith)
-times_in-some (x ∷ xs) i some =
-    elim (eqb_tells x i) [
-      | inl same ↦ inl same.1
-      | inr other ↦ inr (times_in-some xs i (less (times_in xs i) (subst (λ t. 1 ≤ cond t 1 0 + times_in xs i) other.0 some)))
-    ]
-  where
-    less : (n : ℕ) → 1 ≤ 0 + n → 1 ≤ n
-    less n h = omega (arith, h)
-
 served_in-some : (ls : List Lockage) (i : ℕ) → 1 ≤ served_in ls i → (q : ℕ) × (q < length ls) × IsAmong (get_or ls q no_lockage).ships i
 served_in-some [] i some = absurd (omega arith)
 served_in-some (l ∷ ls) i some =
     elim (leb_tells 1 (times_in l.ships i)) [
-      | inl here ↦ (0, omega arith, times_in-some l.ships i here.1)
+      | inl here ↦ (0, omega arith, among-times_in l.ships i here.1)
       | inr none ↦ let rest = served_in-some ls i (omega (arith, none.1, some)) in (suc rest.0, omega (arith, rest.1), rest.2)
     ]
 
@@ -193,7 +184,7 @@ module _ (I : Instance) (P : Plan) (legal : IsLegal I P) where
       let c = (lockage_at P q).chamber in
       let lockage = legal.lockage q no_lockage known in
       put_each-among minute_of [] (beats_of I P (numbers_from 0 (length I.chambers))) (done_beat I q (lockage_at P q))
-      (beats-among I P (numbers_from 0 (length I.chambers)) c (done_beat I q (lockage_at P q)) (numbers-among 0 (length I.chambers) c (omega arith) (omega (arith, lockage.chamber)))
+      (beats-among I P (numbers_from 0 (length I.chambers)) c (done_beat I q (lockage_at P q)) (IsAmong-numbers 0 (length I.chambers) c (omega arith) (omega (arith, lockage.chamber)))
       (line-done I P (chamber_at I c).stands (chamber_at I c).opens (line_places P c) q (line_places-among P q known)))
 
   -- THE DAY OF A LEGAL PLAN IS LAWFUL.

@@ -16,6 +16,7 @@ use Rattle.lock_rules.specs.Lawful.{duration_of, stand_after}
 use Rattle.lock_rules.specs.Lines.{lockage_at, line_of}
 use Rattle.lock_rules.specs.Plan.{IsLegal, times_in}
 use Rattle.lock_rules.proofs.LineLemmas.{sum_by-lines}
+use Rattle.lock_rules.proofs.BoundLemmas.{IsAmong-filter, IsAmong-numbers}
 use Rattle.lock_rules.proofs.SplitLemmas.{served_in-sum}
 use Rattle.lock_rules.proofs.CountLemmas.{served_in-outside, times_in-between, times_in-above}
 use Rattle.lock_rules.proofs.LegalLemmas.{legal-chambers, legal-ships}
@@ -26,7 +27,7 @@ use Rattle.lock_rules.specs.Among.{IsAmong}
 use Rattle.day_play.specs.Lawful.{ship_of}
 use Rattle.day_play.specs.Playing.{quay_distance, moor_order, moor_beat, moor_beats, turn_beats, go_beat, done_beat, lockage_beats, line_beats, chamber_beats, beats_of}
 use Rattle.day_play.specs.declared.beat.Beat.{Beat}
-use Rattle.day_play.proofs.OrderLemmas.{numbers-within, numbers-among}
+use Rattle.day_play.proofs.OrderLemmas.{numbers-within}
 use Rattle.day_play.proofs.RunLemmas.{moor_count, moors_in}
 
 filter-from : (t : ℕ → Bool) (xs : List ℕ) (q : ℕ) → IsAmong (filter t xs) q → IsAmong xs q × (t q ≡ true)
@@ -37,16 +38,6 @@ filter-from t (x ∷ xs) q h = go (λ later. filter-from t xs q later) (t x) ref
     go more true e (inl here) = (inl here, ap t (sym here) ∙ e)
     go more true e (inr later) = let rest = more later in (inr rest.0, rest.1)
     go more false e later = let rest = more later in (inr rest.0, rest.1)
-
-filter-among : (t : ℕ → Bool) (xs : List ℕ) (q : ℕ) → t q ≡ true → IsAmong xs q → IsAmong (filter t xs) q
-filter-among t [] q e h = absurd h
-filter-among t (x ∷ xs) q e (inl here) = subst (λ b. IsAmong (cond b (x ∷ filter t xs) (filter t xs)) q) (sym (ap t here ∙ e)) (inl here)
-filter-among t (x ∷ xs) q e (inr later) =
-    let rest = filter-among t xs q e later in
-    elim (t x) as (λ b. IsAmong (cond b (x ∷ filter t xs) (filter t xs)) q) [
-      | true ↦ inr rest
-      | false ↦ rest
-    ]
 
 module _ (P : Plan) where
   insert_place-from : (p : ℕ) (ps : List ℕ) (q : ℕ) → IsAmong (insert_place P p ps) q → IsAmong (p ∷ ps) q
@@ -101,7 +92,7 @@ module _ (P : Plan) where
   line_places-among q known =
       let c = (lockage_at P q).chamber in
       sorted_places-among (filter (λ p. nat_eq (lockage_at P p).chamber c) (numbers_from 0 (length P.lockages))) q
-      (filter-among (λ p. nat_eq (lockage_at P p).chamber c) (numbers_from 0 (length P.lockages)) q (eq-eqb c c refl) (numbers-among 0 (length P.lockages) q (omega arith) (omega (arith, known))))
+      (IsAmong-filter (λ p. nat_eq (lockage_at P p).chamber c) (numbers_from 0 (length P.lockages)) q (eq-eqb c c refl) (IsAmong-numbers 0 (length P.lockages) q (omega arith) (omega (arith, known))))
 
 filter-few : (t : ℕ → Bool) (xs : List ℕ) (q : ℕ) → times_in (filter t xs) q ≤ times_in xs q
 filter-few t [] q = omega arith

@@ -17,7 +17,7 @@ use Rattle.lock_rules.proofs.ChildLemmas.{times_on-held}
 use Rattle.lock_rules.proofs.SizeLemmas.{lines_ships, times_in-lines, length-lines}
 use Rattle.lock_rules.proofs.SplitLemmas.{length-order, order-known, times_in-at}
 use Rattle.lock_rules.proofs.ThroughputLemmas.{length-sum}
-use Rattle.closing_rules.proofs.LawLemmas.{contains-times}
+use Rattle.price_bound.proofs.MaskLemmas.{contains-times, times-contains}
 use Rattle.search_worker.specs.Owning.{IsOwnShip, IsOwnGroup, IsOwnLine}
 
 -- Of two lists that are equally long, where the one holds no number more often than the other, both hold each number equally often.
@@ -37,17 +37,6 @@ same-counts (x ∷ xs) ys long few s =
     let parts = times_in-without x s ys some in
     let goal : cond (nat_eq x s) 1 0 + times_in xs s ≡ times_in ys s = omega (arith, rest, parts) in
     goal
-
-times-contains : (xs : List ℕ) (s : ℕ) → 1 ≤ times_in xs s → Contains xs s
-times-contains [] s some = absurd (omega (arith, some))
-times-contains (x ∷ xs) s some =
-    elim (eqb_tells x s) [
-      | inl same ↦ (0, omega arith, same.1)
-      | inr other ↦
-          let miss = times_in-miss s x xs other.0 in
-          let rest = times-contains xs s (omega (arith, some, miss)) in
-          (suc rest.0, omega (arith, rest.1), rest.2)
-    ]
 
 module _ (I : Instance) (first : List ℕ) where
   -- a ship of a group of own ships is among the first ones

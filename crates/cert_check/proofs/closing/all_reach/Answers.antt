@@ -1,4 +1,4 @@
-use Rattle.std.proofs.Common.{◌≡◌, ◌∙◌, ap, arith}
+use Rattle.std.proofs.Common.{◌∙◌, ap, arith}
 use Rattle.lock_rules.specs.Bound.{probe_of}
 use Rattle.master_branch.specs.Steps.{steps_by}
 use Rattle.master_branch.proofs.ChildSteps.{ship-known}

@@ -1,4 +1,4 @@
-use Rattle.std.proofs.Common.{◌≡◌, ◌∙◌, ap}
+use Rattle.std.proofs.Common.{◌∙◌, ap}
 use Rattle.lock_rules.specs.Arrival.{next_ship}
 use Rattle.master_branch.specs.Steps.{steps_by}
 use Rattle.cert_check.proofs.splitting.split.Goals as goal
