@@ -2,6 +2,7 @@
 use Rattle.std.proofs.Common.{◌≡◌, ◌≢◌, ℕ, suc, ◌<◌, ◌≤◌, List, [], ◌∷◌, length, refl, sym, ap, ◌∙◌, subst, arith, Bool, true, false, cond, inl, inr, Some, slice_get, drop, true≢false}
 use Rattle.std.proofs.lemmas.Bool.Decides.{eqb_tells, leb_tells}
 use Rattle.std.proofs.lemmas.Option.{none-some, same_Some}
+use Rattle.lock_rules.specs.Among.{IsAmong}
 use Rattle.lock_rules.specs.Children.{insert_number}
 use Rattle.book_rules.specs.declared.book.SlotState.{SlotState}
 use Rattle.book_rules.specs.declared.book.SlotState.TheVariants as slot
@@ -10,7 +11,7 @@ use Rattle.book_rules.specs.Book.{Book, slot_at, first_slot}
 use Rattle.book_rules.proofs.SlotLemmas.{back-is}
 use Rattle.book_rules.proofs.NextLemmas.{first_slot-is, first_slot-empty}
 use Rattle.book_core.proofs.HandLemmas.{state-known}
-use Rattle.book_core.specs.Tables.{state_in, IsAmong, AreAbove, AreRising, AreBack}
+use Rattle.book_core.specs.Tables.{state_in, AreAbove, AreRising, AreBack}
 use Rattle.book_core.specs.Changes.{Changes}
 use Rattle.closing_rules.specs.declared.grounds.Ground.TheVariants as by
 
@@ -100,10 +101,6 @@ back-given old new id change back good before =
         | inr n ↦ among-kept id back k (good.all k (sym (change.others k n.1) ∙ e))
       ];
     }
-
-pub length-put : (n : ℕ) (ms : List ℕ) → length (insert_number n ms) ≡ suc (length ms)
-length-put n [] = refl
-length-put n (m ∷ ms) = by_order n m ms (λ l. length l ≡ suc (suc (length ms))) (λ less. refl) (λ more. ap suc (length-put n ms))
 
 -- the first of the list is the first Back slot
 pub first-back : (b : Book) (back : List ℕ) → AreBack b.slots back → slice_get back 0 ≡ first_slot b is_back

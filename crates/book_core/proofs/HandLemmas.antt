@@ -10,6 +10,7 @@ use Rattle.book_rules.specs.declared.book.SlotState.TheVariants as slot
 use Rattle.book_rules.specs.Book.{Slot, no_slot, is_held}
 use Rattle.book_rules.specs.Book.{Book, first_slot, has_slot, is_held_by, slot_at}
 use Rattle.std.proofs.lemmas.List.Folds.{Any-from_list_any, list_any_at}
+use Rattle.book_rules.proofs.WorkerLemmas.{same-worker}
 use Rattle.book_rules.proofs.SlotLemmas.{held-is, held_by-is, held_by-itself, first_slot-at, first_slot-none}
 use Rattle.book_core.specs.Tables.{state_in, hand_at, AreHands}
 use Rattle.book_core.specs.Changes.{slot_in, stateless, set_state, Changes, let_go, has_some}
@@ -38,9 +39,6 @@ hand-known (h ∷ hs) (suc w) id e = let rest = hand-known hs w id e in omega (a
 
 not-held : (state : SlotState) (w : ℕ) → is_held state ≡ false → state ≢ slot.Held w
 not-held state w e h = true≢false (sym (ap is_held h) ∙ e)
-
-same-worker : (w v : ℕ) → slot.Held w ≡ slot.Held v → w ≡ v
-same-worker w v e = cc
 
 module _ (old new : List Slot) (id : ℕ) (state : SlotState) (change : Changes old id state new) (hands : List (Option ℕ)) (good : AreHands old hands) where
   -- a slot that no worker holds takes a state in which none does

@@ -2,6 +2,7 @@
 use Rattle.std.proofs.Common.{◌≡◌, ◌≢◌, ℕ, ◌<◌, ◌≤◌, List, [], ◌∷◌, ◌++◌, length, refl, sym, ap, ◌∙◌, subst, arith, Bool, true, false, slice_index_or, slice_set, Some, None}
 use Rattle.std.specs.declared.option.Option.{Option}
 use Rattle.lock_rules.specs.Children.{insert_number}
+use Rattle.lock_rules.proofs.TreeLemmas.{length-insert_number}
 use Rattle.book_rules.specs.declared.book.Entry.{Entry}
 use Rattle.book_rules.specs.declared.book.Entry.TheVariants as entry
 use Rattle.book_rules.specs.declared.book.SlotState.{SlotState}
@@ -19,7 +20,7 @@ use Rattle.book_core.specs.Changes.{Changes, set_state, let_go, leave_back, IsFr
 use Rattle.book_core.specs.Keeps.{AreTables}
 use Rattle.book_core.specs.Seen.{seen}
 use Rattle.book_core.proofs.HandLemmas.{set-changes, state-known, hands-given, hands-let_go, first-held}
-use Rattle.book_core.proofs.BackLemmas.{first-back, first-taken, fewer-back, back-kept, back-given, length-put}
+use Rattle.book_core.proofs.BackLemmas.{first-back, first-taken, fewer-back, back-kept, back-given}
 use Rattle.book_core.proofs.WaitingLemmas.{settles, waiting-kept}
 use Rattle.book_core.proofs.KeptLemmas.{stored-change}
 use Rattle.book_core.proofs.SettleLemmas.{restated}
@@ -86,7 +87,7 @@ module _ (b : Book) (ended : List Bool) (hands : List (Option ℕ)) (back : List
   tables-returned change held known running =
       let is = held-at b id w held in
       let count = count_false-set ended w known running in
-      let more = length-put id back in
+      let more = length-insert_number id back in
       let few = tables.few in
       record {
         hands_are = subst (λ s. AreHands new (let_go s hands)) is (hands-let_go b.slots new id slot.Back change hands tables.hands_are refl);

@@ -8,6 +8,7 @@ use Rattle.list_laws.proofs.Counts.{filter-shorter}
 use Rattle.lock_model.specs.declared.instance.Instance.{Instance}
 use Rattle.lock_model.specs.declared.plan.Plan.{Plan}
 use Rattle.lock_rules.specs.Plan.{cost_of}
+use Rattle.lock_rules.proofs.BoundLemmas.{IsAmong-filter}
 use Rattle.mooring_rules.specs.declared.breaks.BrokenPlan.{BrokenPlan}
 use Rattle.book_rules.specs.declared.book.SlotState.{SlotState}
 use Rattle.book_rules.specs.declared.book.SlotState.TheVariants as slot
@@ -16,6 +17,7 @@ use Rattle.book_rules.specs.Events as machine
 use Rattle.book_rules.specs.Events.{replace}
 use Rattle.book_rules.specs.Step.{step, outdone, replaced}
 use Rattle.book_rules.proofs.CoverLemmas.{got-map}
+use Rattle.book_rules.proofs.NextLemmas.{among-filter}
 use Rattle.book_rules.proofs.SlotLemmas.{back-is}
 use Rattle.book_core.specs.declared.reply.Reply.TheVariants as reply
 use Rattle.book_rules.specs.declared.book.Entry.{Entry}
@@ -25,7 +27,7 @@ use Rattle.book_core.specs.Seen.{seen}
 use Rattle.book_core.specs.declared.stored_slot.StoredSlot.{StoredSlot}
 use Rattle.book_core.specs.declared.waiting.Waiting.{Waiting}
 use Rattle.book_core.specs.Stored.{node_after, slot_with, slots_after, slots_of}
-use Rattle.book_core.specs.Tables.{state_in, IsAmong, AreAbove, AreRising}
+use Rattle.book_core.specs.Tables.{state_in, AreAbove, AreRising}
 use Rattle.book_core.specs.Changes.{slot_in}
 use Rattle.book_core.specs.Next.{stored_at}
 use Rattle.book_core.specs.Outdone.{outdone_stored, is_back_in}
@@ -139,22 +141,6 @@ module _ (cost : ℕ) (slots : List Slot) where
 
   -- ---- those that are Back still
 
-  among-one : (p : ℕ → Bool) (n : ℕ) (ns : List ℕ) (k : ℕ) → (IsAmong (filter p ns) k → IsAmong ns k × (p k ≡ true)) → (t : Bool) → p n ≡ t → IsAmong (cond t (n ∷ filter p ns) (filter p ns)) k → IsAmong (n ∷ ns) k × (p k ≡ true)
-  among-one p n ns k rest true e (inl is) = (inl is, ap p (sym is) ∙ e)
-  among-one p n ns k rest true e (inr g) = let found = rest g in (inr found.0, found.1)
-  among-one p n ns k rest false e g = let found = rest g in (inr found.0, found.1)
-
-  among-filter : (p : ℕ → Bool) (ns : List ℕ) (k : ℕ) → IsAmong (filter p ns) k → IsAmong ns k × (p k ≡ true)
-  among-filter p [] k h = absurd h
-  among-filter p (n ∷ ns) k h = among-one p n ns k (λ g. among-filter p ns k g) (p n) refl h
-
-  filter-among : (p : ℕ → Bool) (ns : List ℕ) (k : ℕ) → IsAmong ns k → p k ≡ true → IsAmong (filter p ns) k
-  filter-among p [] k h e = absurd h
-  filter-among p (n ∷ ns) k (inl is) e = subst (λ t. IsAmong (cond t (n ∷ filter p ns) (filter p ns)) k) (sym (ap p is ∙ e)) (inl is)
-  filter-among p (n ∷ ns) k (inr g) e =
-      let rest = filter-among p ns k g e in
-      elim (p n) as (λ t. IsAmong (cond t (n ∷ filter p ns) (filter p ns)) k) [ true ↦ inr rest | false ↦ rest ]
-
   above-filter : (p : ℕ → Bool) (m : ℕ) (ns : List ℕ) → AreAbove m ns → AreAbove m (filter p ns)
   above-filter p m [] h = tt
   above-filter p m (n ∷ ns) h =
@@ -177,7 +163,7 @@ module _ (cost : ℕ) (slots : List Slot) where
         back_are = record {
           rising = rising-filter p back tables.back_are.rising;
           each = λ k among. back-is (state_in new k) (sym (is k) ∙ (among-filter p back k among).1);
-          all = λ k e. filter-among p back k (tables.back_are.all k (was k slot.Back back-open e)) (is k ∙ ap is_back e);
+          all = λ k e. IsAmong-filter p back k (is k ∙ ap is_back e) (tables.back_are.all k (was k slot.Back back-open e));
         };
         few = omega (arith, less, few);
         waiting_are = waiting-kept slots new (record {

@@ -1,6 +1,7 @@
 -- The tables of a book, by which it finds slots without a walk.
-use Rattle.std.specs.Prelude.{ℕ, ◌≡◌, ◌<◌, ◌≤◌, ◌⊎◌, ⊤, List, [], ◌∷◌, length, slice_index_or, Some, None}
+use Rattle.std.specs.Prelude.{ℕ, ◌≡◌, ◌<◌, ◌≤◌, ⊤, List, [], ◌∷◌, length, slice_index_or, Some, None}
 use Rattle.std.specs.declared.option.Option.{Option}
+use Rattle.lock_rules.specs.Among.{IsAmong}
 use Rattle.book_rules.specs.declared.book.SlotState.{SlotState}
 use Rattle.book_rules.specs.declared.book.SlotState.TheVariants as slot
 use Rattle.book_rules.specs.Book.{Slot, no_slot}
@@ -17,11 +18,6 @@ pub record AreHands (slots : List Slot) (hands : List (Option ℕ)) : Type 0 whe
   pub nine : length hands ≡ 9
   pub held : (w id : ℕ) → hand_at hands w ≡ Some id → state_in slots id ≡ slot.Held w
   pub hand : (w id : ℕ) → state_in slots id ≡ slot.Held w → hand_at hands w ≡ Some id
-
--- the number is one of these
-abbrev pub IsAmong : List ℕ → ℕ → Type 0
-IsAmong [] n = ⊥
-IsAmong (m ∷ ms) n = (m ≡ n) ⊎ IsAmong ms n
 
 -- all are greater than this one
 abbrev pub AreAbove : ℕ → List ℕ → Type 0

@@ -12,6 +12,7 @@ use Rattle.lock_model.specs.declared.placement.Rank.TheVariants.{Left, Right}
 use Rattle.lock_model.specs.declared.placement.Moor.TheVariants.{Ship}
 use Rattle.lock_rules.specs.Arrival.{numbers_from}
 use Rattle.lock_rules.specs.Size.{turn_limit}
+use Rattle.lock_rules.proofs.LineLemmas.{length-numbers}
 use Rattle.refute_rules.specs.Values.{others}
 use Rattle.refute_rules.specs.Choices.{Berth, Lies, Decision, Choice, BerthOf, PairOf, options_of, berths_of, decisions}
 use Rattle.refute_rules.specs.Listing.{cases_from, AreThose}
@@ -55,10 +56,6 @@ whole-append [] ys = omega arith
 whole-append (x ∷ xs) ys = let rest = whole-append xs ys in let more = ap (λ n. x * n) rest in omega (arith, more)
 
 -- ---- the numbers of options
-
-length-numbers : (low n : ℕ) → length (numbers_from low n) ≡ n
-length-numbers low zero = refl
-length-numbers low (suc n) = ap suc (length-numbers (suc low) n)
 
 -- one of n ships has n - 1 others
 others-few : (i low n : ℕ) → low ≤ i → i < low + n → length (filter (λ k. not (nat_eq k i)) (numbers_from low n)) + 1 ≤ n
