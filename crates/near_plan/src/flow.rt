@@ -1,5 +1,5 @@
 //! Flow times of lines.
-ghost use Rattle.std.specs.Prelude.{◌<◌, ◌↔◌, length, All, IsTrue};
+ghost use Rattle.std.specs.Prelude.{◌<◌, length};
 ghost use Rattle.std.specs.Bool.{OnTrue};
 ghost use Rattle.near_plan.specs.Groups.{IsGroupOf};
 
