@@ -1,5 +1,5 @@
 //! The cuts of a certificate: whether each is proved.
-ghost use Rattle.std.specs.Prelude.{◌≡◌, ◌↔◌, All, IsTrue, IfOk, IfNone, IfSome};
+ghost use Rattle.std.specs.Prelude.{◌↔◌, All, IsTrue, IfOk, IfNone, IfSome};
 ghost use Rattle.closing_rules.specs.ProvedCuts.{IsShaped, IsProved};
 ghost use Rattle.certificate_rules.specs.Failures.{CutFails};
 ghost use Rattle.cert_check.specs.Cuts.{IsUnproved};
