@@ -1,6 +1,6 @@
 -- Least lines that are kept, and copies of them.
-use Rattle.std.proofs.Common.{◌≡◌, ℕ, Some, None, List, [], ◌∷◌, ◌++◌, refl, sym, subst}
-use Rattle.std.proofs.lemmas.List.Elements.{All-push, All-append}
+use Rattle.std.proofs.Common.{◌≡◌, ℕ, Some, None, List, [], ◌∷◌, ◌++◌, sym, subst}
+use Rattle.std.proofs.lemmas.List.Elements.{All-push}
 use Rattle.std.specs.declared.option.Option.{Option}
 use Rattle.lock_model.specs.declared.instance.Instance.{Instance}
 use Rattle.lock_model.specs.declared.group.Group.{Group}
@@ -10,7 +10,7 @@ use Rattle.price_bound.specs.declared.cut.ChamberCut.{ChamberCut}
 use Rattle.price_bound.specs.declared.terms.Terms.{Terms}
 use Rattle.price_bound.specs.declared.keeping.KeptLine.{KeptLine}
 use Rattle.price_bound.specs.Worth.{IsLeastOn}
-use Rattle.price_bound.specs.Keeping.{AreTerms, AreUnder, AreLike, AreKept, IsFound, IsKept, IsOf}
+use Rattle.price_bound.specs.Keeping.{AreTerms, AreUnder, AreKept, IsFound, IsKept, IsOf}
 use Rattle.price_bound.specs.Lines.{IsLineWorth, IsLeastLine}
 
 -- a line with the same groups and the same worth is as good
@@ -35,18 +35,3 @@ module _ (I : Instance) (c k : ℕ) (prices : List ℕ) (cuts : List ChamberCut)
   pub kept-more : (terms : Option Terms) (lines : List KeptLine) (kept : KeptLine) → AreUnder I k prices cuts terms → AreKept terms lines → IsOf c line kept → IsFound I c k prices cuts line kept.least → AreKept terms (lines ++ kept ∷ [])
   kept-more None lines kept under are of found = absurd under
   kept-more (Some terms) lines kept under are of found = All-push (IsKept terms) lines kept are (kept-under terms kept under of found)
-
--- what is kept under the same terms may be kept together
-pub kept_both : (terms : Option Terms) (one other : List KeptLine) → AreKept terms one → AreKept terms other → AreKept terms (one ++ other)
-kept_both None one other are all = subst (λ ls. (ls ++ other) ≡ []) (sym are) all
-kept_both (Some terms) one other are all = All-append (IsKept terms) one other are all
-
--- a line that is kept under terms is kept under others that say the same
-pub kept_as : (terms other : Terms) (kept : KeptLine) → AreTerms other.instance other.depth other.prices other.cuts.items terms → IsKept other kept → IsKept terms kept
-kept_as terms other kept under is = kept-under other.instance kept.chamber other.depth other.prices other.cuts.items kept.line.items terms kept under (record { same_chamber = refl; same_line = refl }) is.found
-
--- so is what is kept
-pub kept_like : (one other : Option Terms) (lines : List KeptLine) → AreLike one other → AreKept other lines → AreKept one lines
-kept_like one None lines like are = absurd like
-kept_like None (Some other) lines like are = absurd like
-kept_like (Some one) (Some other) lines like are = λ k d lt. kept_as one other _ like (are k d lt)

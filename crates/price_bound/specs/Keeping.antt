@@ -37,11 +37,6 @@ abbrev pub AreUnder : Instance → ℕ → List ℕ → List ChamberCut → Opti
 AreUnder I k prices cuts None = ⊥
 AreUnder I k prices cuts (Some terms) = AreTerms I k prices cuts terms
 
--- both terms are there and say the same
-abbrev pub AreLike : Option Terms → Option Terms → Type 0
-AreLike one None = ⊥
-AreLike one (Some other) = AreUnder other.instance other.depth other.prices other.cuts.items one
-
 -- what is kept is of this chamber and this line of it
 pub record IsOf (c : ℕ) (line : List Group) (kept : KeptLine) : Type 0 where
   pub same_chamber : kept.chamber ≡ c

@@ -2,7 +2,7 @@
 ghost use Rattle.std.specs.Prelude.{◌≡◌, ◌<◌, ◌↔◌, length, slice_index_or, IfOk, IfSome, IsTrue};
 ghost use Rattle.std.specs.Bool.{OnTrue};
 ghost use Rattle.price_bound.specs.declared.keeping.KeptLine.{KeptLine};
-ghost use Rattle.price_bound.specs.Keeping.{AreKept, AreLike, AreUnder, IsFound, IsOf};
+ghost use Rattle.price_bound.specs.Keeping.{AreUnder, IsFound, IsOf};
 
 use crate::error::{Limits, PriceError, append};
 use crate::line_case::LineCase;
@@ -113,36 +113,6 @@ impl KeptLines {
             alloc,
             terms: None,
             lines: Vec::new(alloc),
-        }
-    }
-
-    #[tactic(auto, using(crate::proofs::KeepLemmas::kept_both))]
-    // Keeps what was kept under the same terms, as far as there is memory.
-    fn take_over(&mut self, mut lines: Vec<KeptLine>)
-        requires { AreKept self.old lines.items }
-        ensures { self.new ≡ self.old }
-    {
-        let _ = self.lines.append(&mut lines);
-    }
-
-    // Whether others are kept under the same terms.
-    fn are_like(&self, other: &KeptLines) -> bool
-        ensures { OnTrue result (AreLike self.now other.now) }
-    {
-        match (&self.terms, &other.terms) {
-            (Some(one), Some(other)) => one.are_same(other),
-            _ => false,
-        }
-    }
-
-    #[tactic(auto, using(crate::proofs::KeepLemmas::kept_like))]
-    /// Takes over what others keep, by the same instance, depth, prices and cuts, as far as there is
-    /// memory; what was kept by other ones is forgotten.
-    pub fn join(&mut self, other: KeptLines) {
-        if self.are_like(&other) {
-            self.take_over(other.lines);
-        } else {
-            *self = other;
         }
     }
 

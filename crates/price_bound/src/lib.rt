@@ -58,5 +58,5 @@ pub use error::{Limits, PriceError};
 pub use keeping::KeptLines;
 pub use loose_line::{LooseLine, LooseLines};
 pub use prices::Prices;
-pub use reaching::{PricedNode, least_lines, price_sum, reaches, work_ahead};
+pub use reaching::{PricedNode, least_lines, price_sum, reaches};
 pub use shown::{Shown, show};

@@ -52,17 +52,6 @@ fn chamber_least<'k>(
     kept.least(&case, limits)
 }
 
-/// Works out a least line of one chamber of the instance and keeps it, so that later calls by the same
-/// instance, node, prices and cuts find it; where that takes more than the limits, or for want of
-/// memory, nothing is kept. The lines of several chambers may be worked out in threads so, and joined.
-pub fn work_ahead(kept: &mut KeptLines, asked: &PricedNode, chamber: u8, limits: Limits)
-    requires { chamber < length asked.now.instance.now.chambers }
-{
-    let order = arrival_order(asked.instance);
-    let (held, _) = order.as_slice().split_at(asked.node.depth() as usize);
-    let _ = chamber_least(kept, asked, held, chamber, limits);
-}
-
 // The least worths of all chambers, added; None where one has no loose line.
 fn added(
     kept: &mut KeptLines,

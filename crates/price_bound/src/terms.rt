@@ -51,16 +51,6 @@ impl Terms {
         })
     }
 
-    // Whether others are the same. What differs most often is compared first.
-    pub(crate) fn are_same(&self, other: &Terms) -> bool
-        ensures { OnTrue result (AreTerms other.now.instance other.now.depth other.now.prices other.now.cuts.items self.now) }
-    {
-        self.depth == other.depth
-            && self.prices == other.prices
-            && same_cuts(&self.cuts, &other.cuts)
-            && same_instance(&self.instance, &other.instance)
-    }
-
     // Whether they are those of a case. What differs most often is compared first.
     pub(crate) fn are_of(&self, case: &LineCase) -> bool
         ensures { OnTrue result (AreTerms case.now.instance.now case.now.depth case.now.prices.now case.now.cuts.now self.now) }
