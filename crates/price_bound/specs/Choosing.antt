@@ -163,7 +163,7 @@ pub record AreListed (I : Instance) (c : ℕ) (cuts : List PlainCut) (k : ℕ) (
   pub early_enough : AreLate I c cuts k prices line 0 choices earlies
   pub late_enough : All (IsLevel I c cuts k prices line choices) levels
 
--- the same for the groups that keep none, or the line's group of one of the first i places
+-- After the first i places of the line: the choices are right, and they cover each uncut group that keeps none of the line's groups, or the one at one of these places.
 pub record AreSome (I : Instance) (c : ℕ) (cuts : List PlainCut) (k : ℕ) (prices : List ℕ) (line : List Group) (i : ℕ) (choices : List Choice) : Type 0 where
   pub each : All (IsChoice I c cuts k prices line) choices
   pub free : (g : Group) → IsUncut I c cuts g → Keeps I k line None g → IsCovered I c k prices choices None g
@@ -175,7 +175,7 @@ pub record HaveEarly (I : Instance) (c : ℕ) (cuts : List PlainCut) (k : ℕ) (
   pub have : HaveMore I c cuts k prices line to base all more
   pub early : AreLate I c cuts k prices line 0 more earlies
 
--- these cover choices that are enough for no group, or for the line's groups of the first i places
+-- After the first i places of the line: some choices cover what `AreSome` says, and these ones cover those choices from minute 0 on.
 pub record AreSomeEarly (I : Instance) (c : ℕ) (cuts : List PlainCut) (k : ℕ) (prices : List ℕ) (line : List Group) (i : ℕ) (earlies : List Choice) : Type 0 where
   pub choices : List Choice
   pub some : AreSome I c cuts k prices line i choices

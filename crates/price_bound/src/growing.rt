@@ -19,8 +19,9 @@ use lock_model::{Group, Ships};
 use master_branch::with_ship;
 use std::alloc::Global;
 
-/// What groups are grown by: the case, the ship sets that the cuts forbid, and the greatest number
-/// of groups.
+/// What groups are grown by: the case; the ship sets that its cuts forbid in its chamber, and for each
+/// ship those that have it, as numbers; what each ship counts in what a group pays; and how many groups
+/// there may be, before it is refused that a ship joins one more.
 #[derive(Drop)]
 pub(crate) struct Growth<'a> {
     pub(crate) case: &'a LineCase<'a>,
