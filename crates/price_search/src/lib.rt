@@ -5,7 +5,7 @@
 //! works out the least loose lines by the prices of the node, asks the placers about their groups, and
 //! raises the prices. The search carries out what it found: it posts the new cuts, gives the plan to
 //! its book, and closes the node where prices reach the best cost. At the first node that prices can
-//! serve, mostly the root, many rounds are made, at any other few.
+//! serve, mostly the root, many rounds are made (`FirstNode`), at any other few.
 //!
 //! Nothing is claimed of prices: what a node reaches by them is shown to who closes it (`Pricing::show`).
 //! So a round promises no more than that its parts are of their types, and that
@@ -23,5 +23,5 @@ mod pricing;
 mod round;
 
 pub use offers::{Offer, Offers};
-pub use pricing::{MOST_AT_A_NODE, Pricing};
+pub use pricing::{FirstNode, MOST_AT_A_NODE, Pricing};
 pub use round::{Asked, LIMITS, Round, RoundEnd};

@@ -30,12 +30,38 @@ const FIRST_PACE: Pace = Pace {
     spans: 10,
 };
 
+const BRIEF_PACE: Pace = Pace {
+    steps: 60,
+    patience: 8,
+    span: 10,
+    spans: 5,
+};
+
 const PACE: Pace = Pace {
     steps: 40,
     patience: 5,
     span: 5,
     spans: 3,
 };
+
+/// How soon a search leaves its first node, which one thread prices.
+#[derive(Clone, Copy, Debug, PartialEq, Eq)]
+pub enum FirstNode {
+    /// Late: the better its prices, the fewer nodes are below it.
+    Long,
+    /// Sooner: others wait for it.
+    Brief,
+}
+
+impl FirstNode {
+    // The pace at the first node.
+    fn pace(self) -> Pace {
+        match self {
+            FirstNode::Long => FIRST_PACE,
+            FirstNode::Brief => BRIEF_PACE,
+        }
+    }
+}
 
 // The same cuts.
 fn copy_cuts(alloc: Global, cuts: &[ChamberCut]) -> Result<Vec<ChamberCut>, NoMemory> {
@@ -47,12 +73,13 @@ fn copy_cuts(alloc: Global, cuts: &[ChamberCut]) -> Result<Vec<ChamberCut>, NoMe
 }
 
 /// The prices of the nodes on the way from the root to the one in hand, those that are raised at the
-/// node in hand, the first cuts of the book, how many rounds may be made still, and least lines that
-/// are kept from call to call.
+/// node in hand, how soon the first node is left, the first cuts of the book, how many rounds may be made
+/// still, and least lines that are kept from call to call.
 #[derive(Debug, Drop)]
 pub struct Pricing {
     pub(crate) path: Vec<Offer>,
     pub(crate) ascent: Ascent,
+    pub(crate) first: FirstNode,
     pub(crate) left: u32,
     pub(crate) is_first: bool,
     pub(crate) from: u8,
@@ -61,14 +88,15 @@ pub struct Pricing {
 }
 
 impl Pricing {
-    /// Begins with these prices, one for each ship.
-    pub fn new(alloc: Global, first: Prices) -> Result<Pricing, NoMemory> {
+    /// Begins with these prices, one for each ship, at the first node.
+    pub fn new(alloc: Global, prices: Prices, first: FirstNode) -> Result<Pricing, NoMemory> {
         let mut path = Vec::new(alloc);
-        let ascent = Ascent::new(first.copy(), FIRST_PACE);
-        append(&mut path, Offer::new(first))?;
+        let ascent = Ascent::new(prices.copy(), first.pace());
+        append(&mut path, Offer::new(prices))?;
         Ok(Pricing {
             path,
             ascent,
+            first,
             left: MOST_ROUNDS,
             is_first: true,
             from: 0,
@@ -90,7 +118,11 @@ impl Pricing {
         ensures deep { self.new.from ≡ self.old.from }
         ensures left { self.new.left ≡ self.old.left }
     {
-        let pace = if self.is_first { FIRST_PACE } else { PACE };
+        let pace = if self.is_first {
+            self.first.pace()
+        } else {
+            PACE
+        };
         if let [.., last] = self.path.as_slice() {
             self.ascent = Ascent::new(last.prices.copy(), pace);
         }
@@ -158,6 +190,7 @@ impl Pricing {
         Ok(Pricing {
             path,
             ascent: Ascent::new(self.ascent.best().copy(), PACE),
+            first: self.first,
             left: MOST_ROUNDS,
             is_first: self.is_first,
             from: self.from,

@@ -4,7 +4,7 @@ use master_branch::root;
 use node_work::{KnownCuts, Search};
 use placed_groups::Memory;
 use price_bound::{ChamberCut, Prices};
-use price_search::{Asked, Pricing, RoundEnd};
+use price_search::{Asked, FirstNode, Pricing, RoundEnd};
 use std::process::Abort;
 use std::test::Fail;
 use worked_locks::two_ships;
@@ -30,7 +30,7 @@ fn rounds_find_the_cut_the_plan_and_the_cost(rt: HostRuntime) -> Result<(), Fail
     let search = Search::new(&instance, 1000);
     let mut memory = Memory::new(rt.alloc());
     let first = Prices::new(&[8500, 8500]).ok_or("no prices")?;
-    let mut pricing = Pricing::new(rt.alloc(), first).map_err(|_| "no memory")?;
+    let mut pricing = Pricing::new(rt.alloc(), first, FirstNode::Long).map_err(|_| "no memory")?;
     pricing.go_to(0);
     let mut best = 200;
     for _ in 0..20 {

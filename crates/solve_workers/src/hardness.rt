@@ -20,7 +20,7 @@ use node_work::Search;
 use place_refute::copy_cut;
 use plain_text::NoMemory;
 use price_raise::first_prices;
-use price_search::Pricing;
+use price_search::{FirstNode, Pricing};
 use search_worker::Board;
 use std::alloc::Global;
 use std::mem;
@@ -77,10 +77,20 @@ fn begun_again(alloc: Global, book: Book) -> Book
     fresh
 }
 
+// How soon so many workers leave the first node. Two, or those of several chambers, are slower where it
+// has worse prices, since more nodes are below it.
+fn first_node(case: &Case, workers: u8) -> FirstNode {
+    if workers > 2 && case.instance.chambers.as_slice().len() == 1 {
+        FirstNode::Brief
+    } else {
+        FirstNode::Long
+    }
+}
+
 // Prices to begin with: what each ship costs in the best plan.
-fn first_pricing(alloc: Global, book: &Book) -> Option<Pricing> {
-    let first = first_prices(&book.case().instance, book.best());
-    Pricing::new(alloc, first).ok()
+fn first_pricing(alloc: Global, book: &Book, first: FirstNode) -> Option<Pricing> {
+    let prices = first_prices(&book.case().instance, book.best());
+    Pricing::new(alloc, prices, first).ok()
 }
 
 // The board of what was found at the root, if anything was and there is memory for it.
@@ -123,7 +133,8 @@ fn priced<R: Threads + Wait + Sync, G: Gate + Sync>(
     ensures ready { IfOk result (IsReady lent.now.case.now cost) }
     ensures search { driver.new.search ≡ driver.old.search }
 {
-    driver.pricing = first_pricing(lent.alloc, &book);
+    let first = first_node(lent.case, lent.workers);
+    driver.pricing = first_pricing(lent.alloc, &book, first);
     if lent.workers == 1 {
         return Ok(book);
     }
@@ -132,7 +143,7 @@ fn priced<R: Threads + Wait + Sync, G: Gate + Sync>(
     }
     let pricing = mem::replace(&mut driver.pricing, None);
     let book = priced_by_all(lent, book, pricing, cost)?;
-    driver.pricing = first_pricing(lent.alloc, &book);
+    driver.pricing = first_pricing(lent.alloc, &book, first);
     Ok(book)
 }
 
