@@ -17,12 +17,21 @@ explain_rejection() {
   say_at "$first_name" "rejected at ${place%% reason *}: $(sentence_of "rejected $reason") Nothing is shown by this dossier."
 }
 
-# A whole dossier and an open one are easily mixed up.
+# A whole dossier and an open one are easily mixed up, and an instance alone is none.
 other_kind() {
   [ -n "$input" ] && [ "${parts[3]}" = NoMark ] || return 0
+  if ends_with_instance; then
+    printf ' Nothing follows that line: ./glock solve makes a dossier, by --dossier or --keep.'
+    return
+  fi
   if [ "$command" = check ] && grep -q '^certificate open' "$input"; then
     printf ' This is an open dossier: ./glock lower, resume or picture reads it.'
   elif [ "$command" != check ] && grep -Eq '^certificate( [0-9])?\s*$' "$input"; then
     printf ' This dossier is of a search that is over: ./glock check or picture reads it.'
   fi
+}
+
+# whether no line with words follows the instance
+ends_with_instance() {
+  awk -v last="$(end_of_instance)" '{ sub(/\r$/, ""); sub(/#.*/, "") } NR > last && NF { exit 1 }' "$input"
 }

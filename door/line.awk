@@ -1,5 +1,5 @@
 # Says what is wrong with one line of an instance or a plan text, where its words tell it; else nothing.
-# `number` is the line and `kind` the name of its fault.
+# `number` is the line, `kind` the name of its fault, and `part` the text in which it is: instance or plan.
 
 BEGIN {
   # the words of each kind of line, after its first one
@@ -40,6 +40,9 @@ BEGIN {
   choice["stand"] = "low or high"
   choice["rank"] = "left or right"
 
+  beginnings["instance"] = "chamber, ship, close (with `glock 2`) or end"
+  beginnings["plan"] = "lockage, berth or end"
+
   many["chamber"] = "4 chamber lines"
   many["ship"] = "24 ship lines"
   many["close"] = "8 close lines for a chamber"
@@ -59,11 +62,13 @@ NR < number && ($1 == "chamber" || $1 == "ship") { line_of[$1 " " $2] = NR }
 NR == number { print sentence(); exit }
 
 function sentence() {
-  if (kind == "NoHeader" && $1 ~ /^\357\273\277/) return "the file begins with a hidden mark of three bytes; save it as UTF-8 without a byte order mark."
-  if (kind == "Count" && $1 in count) return "this line has " NF (NF == 1 ? " word" : " words") "; " count[$1] "."
+  if (kind == "NoHeader") return no_instance()
+  if (kind == "NoMark") return no_plan()
+  if (kind == "Count" && $1 in count) return "this line has " NF (NF == 1 ? " word" : " words") "; " count[$1] "." name_of_two_words()
   if (kind == "Word") return first_wrong_choice()
   if (kind == "Number") return first_no_number()
   if (kind == "Range") return first_out_of_range()
+  if (kind == "Name") return no_name($2)
   if (kind == "Twice" && ($1 " " $2) in line_of)
     return "the name " $2 " is given in line " line_of[$1 " " $2] " already; each " $1 " has its own name."
   if (kind == "TurnOverPass")
@@ -75,14 +80,45 @@ function sentence() {
   return ""
 }
 
+# where the instance must begin and something else does
+function no_instance() {
+  if ($1 ~ /^\357\273\277/) return "the file begins with a hidden mark of three bytes; save it as UTF-8 without a byte order mark."
+  if ($1 == "plan") return "a plan begins here; the file with the chambers and the ships comes first, and the plan after it."
+  return is_report() ? "this is a report; the file with the chambers and the ships is wanted." : ""
+}
+
+# where the plan must begin and something else does
+function no_plan() {
+  if ($1 == "certificate") return "a certificate begins here and no plan; check, lower, resume and picture read dossiers."
+  if ($1 == "glock") return "here the chambers and the ships come a second time; the plan's file is wanted."
+  return is_report() ? "this is a report and no plan text; awk -f examples/plan_of_report.awk makes a plan text of it." : ""
+}
+
+function is_report() { return ($1 == "optimal" || $1 == "open" || $1 == "legal") && $(NF - 1) == "cost" }
+
+# A name with a space in it is two words, of which the second stands for the way.
+function name_of_two_words() {
+  return $1 == "ship" && is_way($4) && !is_way($3) ? " A name is one word, such as " $2 "_" $3 "." : ""
+}
+
+function is_way(word) { return word == "up" || word == "down" }
+
+function no_name(word) {
+  return "\"" word "\" can't be a name: a name has 1 to 12 letters A to Z and a to z, digits, - or _" \
+    (word ~ /^[A-Za-z0-9_-]+$/ ? ", and this one has " length(word) "." : ".")
+}
+
 function first_wrong_choice(    names, i, parts) {
   if ($1 == "plan") return "the plan begins here, and the line end before it is missing."
-  if (!($1 in form)) return $1 == "" ? "" : "no line may begin with \"" $1 "\" here."
+  if (tolower($1) != $1 && tolower($1) in count) return "\"" $1 "\" must be written in small letters: " tolower($1) "."
+  if ($1 == "") return ""
+  if (!($1 in form)) return "no line may begin with \"" $1 "\" here; lines begin with " beginnings[part] "."
   split(form[$1], names, " ")
   for (i = 1; i < NF; i++)
     if (names[i] in choice) {
       split(choice[names[i]], parts, " or ")
-      if ($(i + 1) != parts[1] && $(i + 1) != parts[2]) return "\"" $(i + 1) "\" stands where " choice[names[i]] " must stand."
+      if ($(i + 1) != parts[1] && $(i + 1) != parts[2])
+        return "\"" $(i + 1) "\" stands where " choice[names[i]] " must stand." name_of_two_words()
     }
   return $1 == "close" ? "a line close needs `glock 2` as the first line, and may not follow the line end." : ""
 }
@@ -91,8 +127,16 @@ function first_no_number(    names, i) {
   split(form[$1], names, " ")
   for (i = 1; i < NF; i++)
     if (names[i] in meaning && $(i + 1) !~ /^[0-9]+$/)
-      return "\"" $(i + 1) "\" stands for " meaning[names[i]] ", which must be a whole number: digits alone, no sign, point or unit."
+      return "\"" $(i + 1) "\" stands for " meaning[names[i]] ", which must be a whole number: digits alone, no sign, point or unit." meant_number($(i + 1), names[i])
   return ""
+}
+
+# what a number with a point, or a time of day, may have been meant to be
+function meant_number(word, name) {
+  if (meaning[name] ~ /minute/)
+    return word ~ /^[0-9]+:[0-9][0-9]$/ ? " Times are minutes from a moment that you choose: where it is 17:00, 17:25 is 25." : ""
+  sub(/,/, ".", word)
+  return name != "most" && name != "class" && word ~ /^[0-9]+\.[0-9]$/ ? " Sizes are decimetres: " word " metres are " word * 10 "." : ""
 }
 
 function first_out_of_range(    names, i, word) {

@@ -43,16 +43,23 @@ rows faulty_instance <<'ROWS'
 4s/alva/\xff/ | line 4 fault 1 NotUtf8 | this line holds a byte that is no text
 1s/1/3/ | line 1 fault 2 NoHeader | the first line must be
 1s/^/\xef\xbb\xbf/ | line 1 fault 2 NoHeader | the file begins with a hidden mark
-4s/ship/boat/ | line 4 fault 3 Word | no line may begin with "boat"
+4s/ship/boat/ | line 4 fault 3 Word | no line may begin with "boat" here; lines begin with chamber, ship,
+4s/ship/Ship/ | line 4 fault 3 Word | "Ship" must be written in small letters: ship
+1s/.*/plan/ | line 1 fault 2 NoHeader | a plan begins here
+1s/.*/optimal cost 270/ | line 1 fault 2 NoHeader | this is a report
 4s/up/north/ | line 4 fault 3 Word | "north" stands where up or down must stand
 3s/high/top/ | line 3 fault 3 Word | "top" stands where low or high must stand
 4s/^/close main 1 2\n/ | line 4 fault 3 Word | a line close needs `glock 2`
 4s/ 5$// | line 4 fault 4 Count | this line has 6 words; a ship line has 7 words
 3s/$/ 5/ | line 3 fault 4 Count | this line has 13 words; a chamber line has 12 words
-4s/114/11.4/ | line 4 fault 5 Number | "11.4" stands for the width, which must be a whole number
+4s/114/11.4/ | line 4 fault 5 Number | "11.4" stands for the width, which must be a whole number: digits alone, no sign, point or unit. Sizes are decimetres: 11.4 metres are 114.
+2s/ 5 6 / 0,5 6 / | line 2 fault 5 Number | "0,5" stands for the gap across the chamber, which must be a whole number: digits alone, no sign, point or unit. Sizes are decimetres: 0.5 metres are 5.
+4s/ 0 5$/ 17:25 5/ | line 4 fault 5 Number | "17:25" stands for the minute of arrival, which must be a whole number: digits alone, no sign, point or unit. Times are minutes from a moment
 s/$/\r/;9s/ 5\r/\r/ | line 9 fault 4 Count | this line has 6 words
 2s/ 6 / 9 / | line 2 fault 6 Range | 9 stands for the most ships of a lockage, which must be from 1 to 8
-4s/alva/a.lva/ | line 4 fault 7 Name | a name has 1 to 12 letters
+4s/alva/a.lva/ | line 4 fault 7 Name | "a.lva" can't be a name: a name has 1 to 12 letters A to Z and a to z, digits, - or _.
+4s/alva/alva-and-brio/ | line 4 fault 7 Name | "alva-and-brio" can't be a name: a name has 1 to 12 letters A to Z and a to z, digits, - or _, and this one has 13.
+4s/alva/MS alva/ | line 4 fault 4 Count | this line has 8 words; a ship line has 7 words: ship, name, up or down, length, width, arrival, handling; with `glock 2` a cargo class may follow. A name is one word, such as MS_alva.
 5s/brio/alva/ | line 5 fault 8 Twice | the name alva is given in line 4 already
 2s/30 15/15 30/ | line 2 fault 9 TurnOverPass | the empty turn of 30 minutes is longer than the passage of 15
 2,3d | line 11 fault 10 NoChamber | the lock has no chamber
@@ -73,6 +80,10 @@ faulty_plan() {
 rows faulty_plan <<'ROWS'
 4s/alva/\xff/ | plan line 4 fault 1 NotUtf8 | this line holds a byte that is no text
 2d | plan line 2 fault 2 NoMark | the plan must begin
+2s/plan/legal cost 270/ | plan line 2 fault 2 NoMark | this is a report and no plan text
+2s/plan/glock 1/ | plan line 2 fault 2 NoMark | here the chambers and the ships come a second time
+2s/plan/certificate/ | plan line 2 fault 2 NoMark | a certificate begins here and no plan
+3s/lockage/passage/ | plan line 3 fault 3 Word | no line may begin with "passage" here; lines begin with lockage,
 4s/left/port/ | plan line 4 fault 3 Word | "port" stands where left or right must stand
 4s/ \*$// | plan line 4 fault 4 Count | this line has 5 words; a berth line has 6 words
 3s/ 0$/ noon/ | plan line 3 fault 5 Number | "noon" stands for the minute of the start
@@ -132,6 +143,7 @@ bad_dossier() {
 rows bad_dossier <<'ROWS'
 3s/1100/11oo/ | dossier fault 1 Instance line 3 fault 5 Number | :3: fault 5 Number: "11oo" stands for the length
 6s/$/ open/ | dossier fault 2 NoMark | : fault 2 NoMark: after the instance's line end
+6,7d | dossier fault 2 NoMark | : fault 2 NoMark: after the instance's line end this command wants another line: `certificate`, `certificate 2` or `certificate 3` for check, `certificate open` or `certificate open 3` for lower and resume. Nothing follows that line
 7s/}$// | dossier fault 3 Json | : fault 3 Json: what follows
 7s/"cost"/"price"/ | dossier fault 4 Shape part 1 | : fault 4 Shape: the certificate must have the four entries
 7s/120/-1/ | dossier fault 4 Shape part 2 | : fault 4 Shape: the entry cost

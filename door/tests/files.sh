@@ -127,6 +127,19 @@ rows warned <<'ROWS'
 4s/1100 114/11000 1140/ | 8 | ship alva fits no chamber | The ship looks as if given in centimetres
 ROWS
 
+# The plan text of a report is the report's plan.
+of_report() {
+  call $1 -o x.report
+  awk -f "$top/examples/plan_of_report.awk" "$room/x.report" >"$room/x.plan" 2>"$room/err"
+  call judge evening.lock x.plan
+  check "the plan of the report: $1" gives "$2" "$3" "${4-}"
+}
+rows of_report <<'ROWS'
+solve evening.lock | 0 | legal cost 270
+judge evening.lock evening.plan | 0 | legal cost 270
+solve evening.lock --clock 17:00 | 10 | plan line 2 fault 11 NoEnd | x.plan:2: fault 11 NoEnd
+ROWS
+
 timed() {
   call $1
   check "times of day: $1" gives "$2" "$3" ""
