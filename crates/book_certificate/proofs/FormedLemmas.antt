@@ -36,7 +36,7 @@ use Rattle.closing_rules.specs.ProvedCuts.{IsProved}
 use Rattle.closing_rules.specs.ListedPrices.{ArePrices, AreShapedPrices}
 use Rattle.certificate_rules.specs.Certificates.{Certificate, Closes, IsMarkTree, Accepts}
 use Rattle.certificate_rules.specs.WellFormed.{IsFormedReason, IsFormedRefutation, IsFormedCut, IsFormedLockage, AreFormedPrices, IsFormedGround, IsFormedMark, IsWellFormed}
-use Rattle.closing_rules.proofs.LawLemmas.{contains-times}
+use Rattle.lock_rules.proofs.AmongLemmas.{contains-times}
 use Rattle.book_rules.proofs.MoveLemmas.{TellsAt}
 use Rattle.book_rules.proofs.SlotLemmas.{IsAt}
 use Rattle.book_rules.proofs.StateLemmas.{state-tells}

@@ -9,6 +9,7 @@ use Rattle.lock_model.specs.declared.instance.Instance.{Instance}
 use Rattle.lock_model.specs.declared.plan.Plan.{Plan}
 use Rattle.lock_rules.specs.Plan.{cost_of}
 use Rattle.lock_rules.proofs.BoundLemmas.{IsAmong-filter}
+use Rattle.lock_rules.proofs.AmongLemmas.{among-filter}
 use Rattle.mooring_rules.specs.declared.breaks.BrokenPlan.{BrokenPlan}
 use Rattle.book_rules.specs.declared.book.SlotState.{SlotState}
 use Rattle.book_rules.specs.declared.book.SlotState.TheVariants as slot
@@ -17,7 +18,6 @@ use Rattle.book_rules.specs.Events as machine
 use Rattle.book_rules.specs.Events.{replace}
 use Rattle.book_rules.specs.Step.{step, outdone, replaced}
 use Rattle.book_rules.proofs.CoverLemmas.{got-map}
-use Rattle.book_rules.proofs.NextLemmas.{among-filter}
 use Rattle.book_rules.proofs.SlotLemmas.{back-is}
 use Rattle.book_core.specs.declared.reply.Reply.TheVariants as reply
 use Rattle.book_rules.specs.declared.book.Entry.{Entry}

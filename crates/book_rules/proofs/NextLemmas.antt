@@ -3,12 +3,13 @@ use Rattle.std.proofs.Common.{◌≡◌, ◌≢◌, ℕ, zero, suc, ◌+◌, ◌
 use Rattle.std.proofs.lemmas.Bool.{and_parts}
 use Rattle.std.proofs.lemmas.Option.{same_Some}
 use Rattle.std.specs.declared.option.Option.{Option}
-use Rattle.std.specs.List.{position_or_len, filter}
+use Rattle.std.specs.List.{position_or_len}
 use Rattle.std.proofs.lemmas.Bool.Decides.{leb_tells, eqb_tells}
 use Rattle.lock_model.specs.Ships.{RisesFrom}
 use Rattle.lock_rules.specs.Among.{IsAmong}
 use Rattle.lock_rules.proofs.TreeLemmas.{RisesFrom-less, RisesFrom-filter}
 use Rattle.lock_rules.proofs.BoundLemmas.{IsAmong-filter}
+use Rattle.lock_rules.proofs.AmongLemmas.{among-filter, rises-past}
 use Rattle.book_rules.specs.declared.book.SlotState.{SlotState}
 use Rattle.book_rules.specs.declared.book.SlotState.TheVariants as slot
 use Rattle.book_rules.specs.Book.{Slot, Book, no_slot, slot_at, first_slot, is_fresh}
@@ -78,21 +79,7 @@ where-among test low (x ∷ xs) (suc k) known pass =
       | false ↦ rest
     ]
 
-pub among-filter : (p : ℕ → Bool) (ns : List ℕ) (n : ℕ) → IsAmong (filter p ns) n → IsAmong ns n × (p n ≡ true)
-among-filter p [] n h = absurd h
-among-filter p (m ∷ ms) n h = by_test (p m) refl h (λ g. among-filter p ms n g)
-  where
-    by_test : (t : Bool) → p m ≡ t → IsAmong (cond t (m ∷ filter p ms) (filter p ms)) n → (IsAmong (filter p ms) n → IsAmong ms n × (p n ≡ true)) → IsAmong (m ∷ ms) n × (p n ≡ true)
-    by_test true e (inl same) rest = (inl same, ap p (sym same) ∙ e)
-    by_test true e (inr g) rest = let r = rest g in (inr r.0, r.1)
-    by_test false e g rest = let r = rest g in (inr r.0, r.1)
-
 -- ---- the first that no other beats
-
-pub above-low : (low : ℕ) (ns : List ℕ) (n : ℕ) → RisesFrom low ns → IsAmong ns n → low ≤ n
-above-low low [] n rises h = absurd h
-above-low low (m ∷ ms) n rises (inl same) = omega (arith, rises.0, same)
-above-low low (m ∷ ms) n rises (inr h) = let rest = above-low (suc m) ms n rises.1 h in omega (arith, rest, rises.0)
 
 -- of rising numbers, the one that no other beats and that beats each smaller one
 first_best-is : (beats : ℕ → ℕ → Bool) (low : ℕ) (ns : List ℕ) (n : ℕ) → RisesFrom low ns → IsAmong ns n → ((m : ℕ) → IsAmong ns m → m < n → beats n m ≡ true) → ((m : ℕ) → IsAmong ns m → beats m n ≡ false) → first_best beats ns ≡ Some n
@@ -105,7 +92,7 @@ first_best-is beats low (a ∷ ns) n rises (inl same) smaller none = by_rest (fi
         ap (λ t. cond t (Some c) (Some a)) (ap (beats c) same ∙ none c (inr (rest c refl))) ∙ ap (λ u. Some u) same
 first_best-is beats low (a ∷ ns) n rises (inr among) smaller none =
     let rest = first_best-is beats (suc a) ns n rises.1 among (λ m h less. smaller m (inr h) less) (λ m h. none m (inr h)) in
-    let above = above-low (suc a) ns n rises.1 among in
+    let above = rises-past (suc a) ns n rises.1 among in
     ap (keep_better beats a) rest ∙ ap (λ t. cond t (Some n) (Some a)) (smaller a (inl refl) above)
 
 -- ---- the next Fresh slot

@@ -1,11 +1,10 @@
 -- The tests of sameness decide what they are for.
-use Rattle.std.proofs.Common.{◌≡◌, List, refl, sym, ap, subst, nat_eq}
-use Rattle.std.proofs.Props.{props}
+use Rattle.std.proofs.Common.{◌≡◌, refl, sym, ap, nat_eq}
 use Rattle.std.proofs.lemmas.Bool.{false≢true}
 use Rattle.std.specs.Bool.{Decides}
 use Rattle.std.specs.Cmp.Lexicographic.{pointwise, pointwise_decides, bytes_decides}
 use Rattle.std.proofs.lemmas.Bool.Decides.{Decides-eqb, Decides-and, Decides-like}
-use Rattle.lock_model.specs.Instance.{IsInstance}
+use Rattle.lock_model.proofs.InstanceLemmas.{same_instance as same_parts}
 use Rattle.lock_model.specs.declared.way.Way.{Way}
 use Rattle.lock_model.specs.declared.way.Way.TheVariants.{Up, Down}
 use Rattle.lock_model.specs.declared.way.Stand.{Stand}
@@ -50,21 +49,9 @@ same_ship-decides a b =
 
 -- ---- instances: their limits are a fact, and the same whatever shows it
 
-IsInstance-prop : (cs : List Chamber) (ss : List Ship) → IsProp (IsInstance cs ss)
-IsInstance-prop cs ss = hlevel props
-
-abbrev made : (cs : List Chamber) (ss : List Ship) → IsInstance cs ss → Instance
-made cs ss limits = record { chambers = cs; ships = ss; limits = limits }
-
-made-same : (cs cs' : List Chamber) (ss ss' : List Ship) → cs ≡ cs' → ss ≡ ss' → (a : IsInstance cs ss) (b : IsInstance cs' ss') → made cs ss a ≡ made cs' ss' b
-made-same cs cs' ss ss' p q =
-    let P : List Chamber → Type 0 = λ xs. (a : IsInstance cs ss) (b : IsInstance xs ss') → made cs ss a ≡ made xs ss' b in
-    let Q : List Ship → Type 0 = λ ys. (a : IsInstance cs ss) (b : IsInstance cs ys) → made cs ss a ≡ made cs ys b in
-    subst P p (subst Q q (λ a b. ap (made cs ss) (IsInstance-prop cs ss a b)))
-
 pub same_instance-decides : (a b : Instance) → Decides (same_instance a b) (a ≡ b)
 same_instance-decides a b =
-    Decides-like (same_instance a b) (λ h. made-same a.chambers b.chambers a.ships b.ships h.0 h.1 a.limits b.limits) (λ e. (ap (λ (I : Instance). I.chambers) e, ap (λ (I : Instance). I.ships) e))
+    Decides-like (same_instance a b) (λ h. same_parts a b h.0 h.1) (λ e. (ap (λ (I : Instance). I.chambers) e, ap (λ (I : Instance). I.ships) e))
     (Decides-and (pointwise same_chamber a.chambers b.chambers) (pointwise same_ship a.ships b.ships) (pointwise_decides same_chamber-decides a.chambers b.chambers) (pointwise_decides same_ship-decides a.ships b.ships))
 
 -- ---- nodes

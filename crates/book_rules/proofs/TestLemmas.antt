@@ -17,7 +17,7 @@ use Rattle.lock_rules.specs.Arrival.{numbers_from}
 use Rattle.lock_rules.specs.Node.{line_at}
 use Rattle.lock_rules.specs.Trace.{has_number}
 use Rattle.lock_rules.specs.Cut.{Hits, HitsNode}
-use Rattle.lock_rules.proofs.LineLemmas.{length-numbers}
+use Rattle.lock_rules.proofs.LineLemmas.{length-numbers, numbers-at}
 use Rattle.refute_rules.specs.Cuts.{Cut}
 use Rattle.book_rules.specs.Cover.{IsOwnCut}
 use Rattle.book_rules.specs.Tests.{same_size, same_sizes, same_deck, is_clash, has_clash, is_no_roomier, is_hit, is_node_hit, is_own_cut}
@@ -115,11 +115,6 @@ is_own_cut-decides I cut =
     (Decides-and (nat_lt cut.chamber (length I.chambers)) (list_all (λ s. nat_lt s (length I.ships)) cut.ships) (Decides-ltb cut.chamber (length I.chambers))
     (Decides-by_and (λ s. nat_lt s (length I.ships)) (λ s. s < length I.ships) (list_all (λ s. nat_lt s (length I.ships))) (λ s. Decides-ltb s (length I.ships)) refl (λ _ _. refl) cut.ships))
     (same_deck-decides cut.deck (deck_of I cut.chamber cut.ships)))
-
-numbers-at : (low n k d : ℕ) → k < n → slice_index_or (numbers_from low n) k d ≡ low + k
-numbers-at low zero k d h = absurd (omega (arith, h))
-numbers-at low (suc n) zero d h = omega arith
-numbers-at low (suc n) (suc k) d h = let rest = numbers-at (suc low) n k d (omega (arith, h)) in omega (arith, rest)
 
 -- the test of a line, for one chamber
 line_test : Instance → Cut → List (List Group) → ℕ → Bool

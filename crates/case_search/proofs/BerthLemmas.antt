@@ -5,6 +5,7 @@ use Rattle.lock_model.specs.declared.placement.Rank.{Rank}
 use Rattle.lock_model.specs.declared.placement.Rank.TheVariants.{Left, Right}
 use Rattle.lock_model.specs.declared.placement.Moor.TheVariants.{Quay, Ship}
 use Rattle.lock_rules.specs.Arrival.{numbers_from}
+use Rattle.lock_rules.proofs.LineLemmas.{length-numbers, numbers-at}
 use Rattle.refute_rules.specs.Values.{others}
 use Rattle.refute_rules.specs.Choices.{Berth, berths_of}
 use Rattle.case_search.specs.Berths.{first_berth}
@@ -23,22 +24,13 @@ without-above : (i low n : ℕ) → i < low → without i (numbers_from low n) �
 without-above i low zero h = refl
 without-above i low (suc n) h = without-miss i low (numbers_from (suc low) n) (λ e. omega (arith, h, e)) ∙ ap (λ ks. low ∷ ks) (without-above i (suc low) n (omega (arith, h)))
 
-numbers-length : (low n : ℕ) → length (numbers_from low n) ≡ n
-numbers-length low zero = refl
-numbers-length low (suc n) = ap suc (numbers-length (suc low) n)
-
-number-at : (low n k : ℕ) → k < n → slice_index_or (numbers_from low n) k 0 ≡ low + k
-number-at low zero k h = absurd (omega (arith, h))
-number-at low (suc n) zero h = omega arith
-number-at low (suc n) (suc k) h = let rest = number-at (suc low) n k (omega (arith, h)) in omega (arith, rest)
-
 without-length : (i low n : ℕ) → low ≤ i → i < low + n → length (without i (numbers_from low n)) + 1 ≡ n
 without-length i low zero a b = absurd (omega (arith, a, b))
 without-length i low (suc n) a b =
     elim (eqb_tells low i) [
       | inl y ↦
           let e = ap length (without-hit i low (numbers_from (suc low) n) y.1 ∙ without-above i (suc low) n (let same = y.1 in omega (arith, same))) in
-          let l = numbers-length (suc low) n in
+          let l = length-numbers (suc low) n in
           omega (arith, e, l)
       | inr d ↦
           let e = ap length (without-miss i low (numbers_from (suc low) n) d.1) in
@@ -58,12 +50,12 @@ other-above i low zero k a h l = absurd (omega (arith, l))
 other-above i low (suc n) zero a h l =
     let same : low ≡ i = omega (arith, a, h) in
     ap (λ ks. slice_index_or ks 0 0) (without-hit i low (numbers_from (suc low) n) same ∙ without-above i (suc low) n (omega (arith, same)))
-    ∙ (let at = number-at (suc low) n 0 (omega (arith, l)) in omega (arith, at))
+    ∙ (let at = numbers-at (suc low) n 0 0 (omega (arith, l)) in omega (arith, at))
 other-above i low (suc n) (suc k) a h l =
     elim (eqb_tells low i) [
       | inl y ↦
           ap (λ ks. slice_index_or ks (suc k) 0) (without-hit i low (numbers_from (suc low) n) y.1 ∙ without-above i (suc low) n (let same = y.1 in omega (arith, same)))
-          ∙ (let at = number-at (suc low) n (suc k) (omega (arith, l)) in omega (arith, at))
+          ∙ (let at = numbers-at (suc low) n (suc k) 0 (omega (arith, l)) in omega (arith, at))
       | inr d ↦
           ap (λ ks. slice_index_or ks (suc k) 0) (without-miss i low (numbers_from (suc low) n) d.1)
           ∙ (let rest = other-above i (suc low) n k (let differ = d.1 in omega (arith, a, differ)) (omega (arith, h)) (omega (arith, l)) in omega (arith, rest))

@@ -5,7 +5,7 @@ use Rattle.lock_model.specs.declared.instance.Instance.{Instance}
 use Rattle.lock_model.specs.declared.group.Group.{Group}
 use Rattle.lock_rules.specs.Node.{IsNode}
 use Rattle.lock_rules.specs.Arrival.{missing_ships}
-use Rattle.price_bound.proofs.MaskLemmas.{times-contains}
+use Rattle.lock_rules.proofs.AmongLemmas.{times-contains}
 use Rattle.flow_bounds.specs.Missing.{IsMissing}
 use Rattle.flow_bounds.proofs.ProbeLemmas.{missing-once, among-missing}
 

@@ -5,7 +5,7 @@ use Rattle.line_text.specs.Steps.{◌>>=◌}
 use Rattle.instance_text.specs.Draft.{Draft}
 use Rattle.instance_text.specs.declared.bad.Bad.{Bad}
 use Rattle.instance_text.specs.Reading.{reading, Means, Defect, instance_part, after_instance}
-use Rattle.instance_text.proofs.InstanceLemmas.{same_instance}
+use Rattle.lock_model.proofs.InstanceLemmas.{same_instance}
 use Rattle.instance_text.proofs.TextBackLemmas.{canonical_means}
 use Rattle.instance_text.proofs.PartBackLemmas.{canonical_part, canonical_rest}
 use Rattle.serde_json.specs.Data.{Data}

@@ -23,7 +23,7 @@ use Rattle.chamber_place.specs.Picks.{choice_of, choices_of, IsKnownMoor, IsKnow
 use Rattle.chamber_place.specs.OnItsWay.{most_edges, AreChosen}
 use Rattle.chamber_place.specs.declared.picks.Pick.{Pick}
 use Rattle.chamber_place.specs.declared.picks.Pick.TheVariants.{Lies, Before, Below}
-use Rattle.chamber_place.proofs.OptionLemmas.{numbers-length}
+use Rattle.lock_rules.proofs.LineLemmas.{length-numbers}
 
 -- its ends are variables and differ, and its weight is within the limits
 record IsGoodEdge (vars : ℕ) (e : Edge) : Type 0 where
@@ -203,7 +203,7 @@ module _ (d : Deck) where
   case-edges-few ps few chosen =
       let a = length-append (flat_map (ship_edges d) (numbers_from 0 (length d.ships))) (flat_map (choice_edges d) (choices_of ps)) in
       let s = ships-length (numbers_from 0 (length d.ships)) in
-      let n = numbers-length 0 (length d.ships) in
+      let n = length-numbers 0 (length d.ships) in
       let c = chosen-length (decisions (length d.ships)) ps chosen in
       let most = most-few (length d.ships) few in
       omega (arith, few, a, s, n, c, most)
@@ -211,5 +211,5 @@ module _ (d : Deck) where
   pub first-edges-few : (n : ℕ) → n < 8 → length (flat_map (ship_edges d) (numbers_from 0 n)) ≤ 92
   first-edges-few n h =
       let s = ships-length (numbers_from 0 n) in
-      let l = numbers-length 0 n in
+      let l = length-numbers 0 n in
       omega (arith, h, s, l)

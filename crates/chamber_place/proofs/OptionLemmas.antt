@@ -1,9 +1,10 @@
 -- Decisions and options by their numbers.
-use Rattle.std.proofs.Common.{◌≡◌, ◌≢◌, ℕ, zero, suc, ◌+◌, ◌-◌, ◌*◌, ◌/◌, ◌<◌, ◌≤◌, List, [], ◌∷◌, ◌++◌, length, map, cond, nat_lt, slice_index_or, inl, inr, refl, sym, ap, ◌∙◌, subst, arith, length-append}
+use Rattle.std.proofs.Common.{◌≡◌, ◌≢◌, ℕ, zero, suc, ◌+◌, ◌-◌, ◌*◌, ◌/◌, ◌<◌, ◌≤◌, List, [], ◌∷◌, ◌++◌, length, map, cond, nat_lt, slice_index_or, inl, inr, sym, ap, ◌∙◌, subst, arith, length-append}
 use Rattle.std.proofs.lemmas.Bool.Decides.{leb_tells}
 use Rattle.std.proofs.lemmas.List.{length-map, map-append, get_or-map}
 use Rattle.lock_model.specs.Deck.{Deck}
 use Rattle.lock_rules.specs.Arrival.{numbers_from}
+use Rattle.lock_rules.proofs.LineLemmas.{length-numbers, numbers_more}
 use Rattle.refute_rules.specs.Choices.{BerthOf, PairOf, Lies as LiesAt, Before as IsBefore, berths_of, options_of, decisions}
 use Rattle.case_search.specs.Berths.{first_berth}
 use Rattle.case_search.proofs.BerthLemmas.{berths-length, quay-at, host-at}
@@ -11,26 +12,12 @@ use Rattle.case_search.proofs.ListLemmas.{append-assoc}
 use Rattle.chamber_place.specs.Picks.{IsKnownMoor, decision_of}
 use Rattle.chamber_place.specs.declared.decisions.Decision.{Decision}
 
-pub numbers-push : (low n : ℕ) → numbers_from low (n + 1) ≡ numbers_from low n ++ (low + n) ∷ []
-numbers-push low n = ap (numbers_from low) (more n) ∙ push low n
-  where
-    more : (n : ℕ) → n + 1 ≡ suc n
-    more n = omega arith
-
-    push : (low n : ℕ) → numbers_from low (suc n) ≡ numbers_from low n ++ (low + n) ∷ []
-    push low zero = ap (λ k. k ∷ []) (let e : low ≡ low + 0 = omega arith in e)
-    push low (suc n) = ap (λ l. low ∷ l) (push (suc low) n ∙ ap (λ k. numbers_from (suc low) n ++ k ∷ []) (let e : suc low + n ≡ low + suc n = omega arith in e))
-
-pub numbers-length : (low n : ℕ) → length (numbers_from low n) ≡ n
-numbers-length low zero = refl
-numbers-length low (suc n) = ap suc (numbers-length (suc low) n)
-
 -- ---- how many decisions there are
 pub decisions-length : (n : ℕ) → length (decisions (suc n)) ≡ length (decisions n) + 1 + n
 decisions-length n =
     let a = length-append (decisions n) (BerthOf n ∷ map (λ i. PairOf i n) (numbers_from 0 n)) in
     let m = length-map (numbers_from 0 n) (λ i. PairOf i n) in
-    let l = numbers-length 0 n in
+    let l = length-numbers 0 n in
     omega (arith, a, m, l)
 
 pub decisions-few : (n : ℕ) → n ≤ 8 → length (decisions n) ≤ 36
@@ -60,13 +47,13 @@ ship-more decided new ship lower e d is n =
     ap (map decision_of) n ∙ map-append decision_of decided (d ∷ []) ∙ ap (λ l. l ++ decision_of d ∷ []) e
     ∙ ap (λ c. (decisions ship ++ BerthOf ship ∷ map (λ i. PairOf i ship) (numbers_from 0 lower)) ++ c ∷ []) is
     ∙ append-assoc (decisions ship) (BerthOf ship ∷ map (λ i. PairOf i ship) (numbers_from 0 lower)) (PairOf lower ship ∷ [])
-    ∙ ap (λ l. decisions ship ++ BerthOf ship ∷ l) (sym (map-append (λ i. PairOf i ship) (numbers_from 0 lower) (lower ∷ [])) ∙ ap (map (λ i. PairOf i ship)) (sym (numbers-push 0 lower ∙ ap (λ k. numbers_from 0 lower ++ k ∷ []) (let z : 0 + lower ≡ lower = omega arith in z))))
+    ∙ ap (λ l. decisions ship ++ BerthOf ship ∷ l) (sym (map-append (λ i. PairOf i ship) (numbers_from 0 lower) (lower ∷ [])) ∙ ap (map (λ i. PairOf i ship)) (sym (numbers_more 0 lower ∙ ap (λ k. numbers_from 0 lower ++ k ∷ []) (let z : 0 + lower ≡ lower = omega arith in z))))
 
 pub ship-room : (decided : List Decision) (ship lower : ℕ) → ship < 8 → lower < ship → map decision_of decided ≡ decisions ship ++ BerthOf ship ∷ map (λ i. PairOf i ship) (numbers_from 0 lower) → length decided < 36
 ship-room decided ship lower few less e =
     let l = sym (length-map decided decision_of) ∙ ap length e ∙ length-append (decisions ship) (BerthOf ship ∷ map (λ i. PairOf i ship) (numbers_from 0 lower)) in
     let m = length-map (numbers_from 0 lower) (λ i. PairOf i ship) in
-    let n = numbers-length 0 lower in
+    let n = length-numbers 0 lower in
     let all = decisions-length ship in
     let most = decisions-few (suc ship) (omega (arith, few)) in
     omega (arith, l, m, n, all, most, less)

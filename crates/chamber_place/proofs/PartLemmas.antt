@@ -15,7 +15,7 @@ use Rattle.refute_rules.specs.Refutes.{IsRefuted}
 use Rattle.case_search.proofs.ListLemmas.{append-assoc}
 use Rattle.chamber_place.specs.Placing.{PlaceRefutes}
 use Rattle.chamber_place.specs.Parts.{part_of, IsLeast, KeepsClash, IsPart, IsSmaller, IsRefutedPart, IsSmallerPart, BeginsWithClash}
-use Rattle.chamber_place.proofs.OptionLemmas.{numbers-length}
+use Rattle.lock_rules.proofs.LineLemmas.{length-numbers, numbers-at}
 
 -- ---- a list without one element
 pub remove-length : {X : Type 0} (xs : List X) (k : ℕ) → k < length xs → length (remove xs k) + 1 ≡ length xs
@@ -95,23 +95,18 @@ push-below old more now i h rising e =
     (subst (λ v. All (λ s. s < v) (take (length old + i) (old ++ more))) (get_or-append-add old more i 0) all)
 
 -- ---- all places
-number-at : (low n k d : ℕ) → k < n → slice_index_or (numbers_from low n) k d ≡ low + k
-number-at low zero k d h = absurd (omega (arith, h))
-number-at low (suc n) zero d h = omega arith
-number-at low (suc n) (suc k) d h = let rest = number-at (suc low) n k d (omega (arith, h)) in omega (arith, rest)
-
 pub numbers-below : (n : ℕ) → All (λ s. s < n) (numbers_from 0 n)
 numbers-below n k d l =
-    let m = numbers-length 0 n in
+    let m = length-numbers 0 n in
     let few : k < n = omega (arith, l, m) in
-    let e = number-at 0 n k d few in
+    let e = numbers-at 0 n k d few in
     omega (arith, few, e)
 
 numbers-rising : (n : ℕ) → IsStrictlyIncreasing (numbers_from 0 n)
 numbers-rising n k l =
-    let m = numbers-length 0 n in
-    let p = number-at 0 n k 0 (omega (arith, l, m)) in
-    let q = number-at 0 n (k + 1) 0 (omega (arith, l, m)) in
+    let m = length-numbers 0 n in
+    let p = numbers-at 0 n k 0 (omega (arith, l, m)) in
+    let q = numbers-at 0 n (k + 1) 0 (omega (arith, l, m)) in
     omega (arith, p, q)
 
 own-rest : {X : Type 0} (e : X) (ys xs : List X) → map (λ k. slice_index_or (ys ++ xs) k e) (numbers_from (length ys) (length xs)) ≡ xs
@@ -125,7 +120,7 @@ part-all d = ap (λ ships. record { length = d.length; width = d.width; end = d.
 
 pub all-some : (d : Deck) (n : ℕ) → n ≡ length d.ships → 1 ≤ n → AreSome d (numbers_from 0 n)
 all-some d n e some = record {
-  some = let m = numbers-length 0 n in omega (arith, m, some);
+  some = let m = length-numbers 0 n in omega (arith, m, some);
   rising = numbers-rising n;
   known = subst (λ m. All (λ i. i < m) (numbers_from 0 n)) e (numbers-below n);
 }

@@ -35,7 +35,8 @@ use Rattle.chamber_place.specs.declared.picks.Pick.TheVariants.{Lies, Before, Be
 use Rattle.chamber_place.specs.declared.decisions.Decision.{Decision}
 use Rattle.chamber_place.specs.declared.decisions.Decision.TheVariants.{Berthing, Pair}
 use Rattle.chamber_place.specs.declared.faults.CaseFault.{CaseFault}
-use Rattle.chamber_place.proofs.OptionLemmas.{numbers-push, berth-options, berth-choice}
+use Rattle.chamber_place.proofs.OptionLemmas.{berth-options, berth-choice}
+use Rattle.lock_rules.proofs.LineLemmas.{numbers_more}
 
 -- ---- lists
 pub choices-push : (ps : List Pick) (p : Pick) → choices_of (ps ++ p ∷ []) ≡ choices_of ps ++ choice_of p ∷ []
@@ -89,7 +90,7 @@ ranks-all d ps chosen few i h = few i (berth-known d (decisions (length d.ships)
 -- ---- the empty case
 pub ship-edges-push : (d : Deck) (n : ℕ) → flat_map (ship_edges d) (numbers_from 0 (n + 1)) ≡ flat_map (ship_edges d) (numbers_from 0 n) ++ ship_edges d n
 ship-edges-push d n =
-    ap (flat_map (ship_edges d)) (numbers-push 0 n ∙ ap (λ k. numbers_from 0 n ++ k ∷ []) (let z : 0 + n ≡ n = omega arith in z))
+    ap (flat_map (ship_edges d)) (numbers_more 0 n ∙ ap (λ k. numbers_from 0 n ++ k ∷ []) (let z : 0 + n ≡ n = omega arith in z))
     ∙ flat_map-append (ship_edges d) (numbers_from 0 n) (n ∷ [])
     ∙ ap (λ l. flat_map (ship_edges d) (numbers_from 0 n) ++ l) (append-nil (ship_edges d n))
 

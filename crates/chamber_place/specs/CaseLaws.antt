@@ -1,9 +1,8 @@
 -- What the search rests on: a fault leaves a case inconsistent, and a beginning of a consistent case is consistent.
-use Rattle.std.proofs.Common.{◌≡◌, ℕ, List, [], ◌∷◌, ◌++◌, length, flat_map, Bool, cond, true, false, nat_eq, sym, ap, ◌∙◌, subst, Some, None}
+use Rattle.std.proofs.Common.{◌≡◌, ℕ, List, [], ◌∷◌, ◌++◌, length, flat_map, cond, true, false, nat_eq, sym, ap, ◌∙◌, subst, Some}
 use Rattle.std.proofs.lemmas.Bool.{false≢true}
 use Rattle.std.proofs.lemmas.List.Concat.{flat_map-append}
 use Rattle.std.proofs.lemmas.Option.{none-some}
-use Rattle.std.specs.declared.option.Option.{Option}
 use Rattle.std.proofs.lemmas.List.Elements.{All-from_recursion, recursion_from_All}
 use Rattle.std.specs.List.{AllByRecursion}
 use Rattle.list_laws.proofs.ByRecursion.{all-first}
@@ -20,10 +19,6 @@ use Rattle.case_search.proofs.ListLemmas.{append-assoc}
 use Rattle.chamber_place.specs.Faults.{fault_of}
 use Rattle.chamber_place.specs.OnItsWay.{case_rules}
 
-IsAbsent : {X : Type 0} → Option X → Type 0
-IsAbsent None = Unit {0}
-IsAbsent (Some x) = ⊥
-
 berth-kept : (case more : List Choice) (i : ℕ) (b : Berth) → berth_in case i ≡ Some b → berth_in (case ++ more) i ≡ Some b
 berth-kept [] more i b e = absurd (none-some b e)
 berth-kept (Lies j c ∷ cs) more i b e = (elim (nat_eq j i) as (λ t. cond t (Some c) (berth_in cs i) ≡ Some b → cond t (Some c) (berth_in (cs ++ more) i) ≡ Some b) [
@@ -33,10 +28,6 @@ berth-kept (Lies j c ∷ cs) more i b e = (elim (nat_eq j i) as (λ t. cond t (S
 berth-kept (Before j k ∷ cs) more i b e = berth-kept cs more i b e
 berth-kept (Below j k ∷ cs) more i b e = berth-kept cs more i b e
 berth-kept (Stands j v ∷ cs) more i b e = berth-kept cs more i b e
-
-IsFalse : Bool → Type 0
-IsFalse false = Unit {0}
-IsFalse true = ⊥
 
 module _ (d : Deck) where
   pub consistent-shorter : (case more : List Choice) → IsConsistent d (case ++ more) → IsConsistent d case

@@ -5,7 +5,7 @@ use Rattle.lock_model.specs.declared.instance.Instance.{Instance}
 use Rattle.certificate_rules.specs.Certificates.{Certificate}
 use Rattle.certificate_rules.specs.OpenCertificates.{OpenCertificate}
 use Rattle.instance_text.specs.Draft.{Draft}
-use Rattle.instance_text.proofs.InstanceLemmas.{same_instance}
+use Rattle.lock_model.proofs.InstanceLemmas.{same_instance}
 use Rattle.cert_text.specs.Dossier.{Reads, DossierFault, dossier_in}
 use Rattle.cert_text.specs.declared.bad.BadDossier.{BadDossier as AnyFault}
 use Rattle.resume_book.specs.OpenDossier.{ReadsOpen, OpenDossierFault, open_dossier_in}

@@ -1,15 +1,14 @@
 -- The laws of the tree hold, given heredity and normal placements.
-use Rattle.std.proofs.Common.{ℕ, zero, suc, ◌+◌, ◌≤◌, List, [], ◌∷◌, inl, inr, ap, arith, cond, Contains}
-use Rattle.std.proofs.lemmas.Bool.Decides.{eqb_tells}
+use Rattle.std.proofs.Common.{[], ◌∷◌, arith}
 use Rattle.lock_model.specs.Deck.{Deck, IsDeck}
 use Rattle.lock_model.specs.Fitting.{deck_of}
 use Rattle.lock_model.proofs.FleetLemmas.{IsDeck-deck_of}
 use Rattle.lock_model.specs.declared.instance.Instance.{Instance}
-use Rattle.lock_rules.specs.Plan.{times_in}
 use Rattle.lock_rules.specs.Children.{children_of}
 use Rattle.lock_rules.specs.Arrival.{missing_ships}
 use Rattle.lock_rules.specs.Heredity.{IsHereditary}
 use Rattle.lock_rules.proofs.TreeLemmas.{contains-among}
+use Rattle.lock_rules.proofs.AmongLemmas.{contains-times}
 use Rattle.lock_rules.proofs.SplitLemmas.{bound-holds, probe-holds, children-split}
 use Rattle.lock_rules.proofs.ThroughputLemmas.{throughput-holds}
 use Rattle.lock_rules.proofs.NodeLemmas.{children-nodes, root-node, root-under}
@@ -21,15 +20,6 @@ use Rattle.price_rules.proofs.ReachLemmas.{reached-holds}
 use Rattle.closing_rules.specs.ProvedCuts.{CertCut, IsProved}
 use Rattle.closing_rules.specs.ListedPrices.{cut_in}
 use Rattle.closing_rules.specs.Laws.{TreeLaws}
-
-pub contains-times : (xs : List ℕ) (s : ℕ) → Contains xs s → 1 ≤ times_in xs s
-contains-times [] s h = absurd (omega (arith, h.1))
-contains-times (x ∷ xs) s (zero, known, is) =
-    elim (eqb_tells x s) [
-      | inl y ↦ let here = ap (λ b. cond b 1 0 + times_in xs s) y.0 in omega (arith, here)
-      | inr n ↦ absurd (n.1 is)
-    ]
-contains-times (x ∷ xs) s (suc k, known, is) = let rest = contains-times xs s (k, omega (arith, known), is) in omega (arith, rest)
 
 -- a proved cut holds
 pub proved-holds : ((d : Deck) → IsDeck d → HasNormal d) → (I : Instance) (c : CertCut) → IsProved I c → CutHolds (cut_in I c.chamber c.ships)

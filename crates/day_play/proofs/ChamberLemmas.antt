@@ -20,6 +20,7 @@ use Rattle.lock_model.specs.declared.way.Stand.{Stand}
 use Rattle.lock_model.specs.declared.way.Stand.TheVariants.{Low, High}
 use Rattle.lock_model.specs.declared.way.Way.{Way}
 use Rattle.lock_model.specs.declared.way.Way.TheVariants.{Up, Down}
+use Rattle.lock_rules.proofs.AmongLemmas.{among-numbers}
 use Rattle.lock_rules.specs.Lawful.{IsFree, HasTurned, IsLawfulStart, AreLawfulFrom, duration_of, stand_after}
 use Rattle.lock_rules.specs.Timetable.{first_free}
 use Rattle.lock_rules.specs.Lines.{lockage_at, group_of}
@@ -37,7 +38,7 @@ use Rattle.day_play.specs.declared.beat.Beat.{Beat}
 use Rattle.lock_rules.specs.Arrival.{numbers_from}
 use Rattle.lock_rules.proofs.LineLemmas.{length-numbers}
 use Rattle.lock_rules.proofs.BoundLemmas.{IsAmong-numbers}
-use Rattle.day_play.proofs.OrderLemmas.{ordered-above, put_each-ordered, put_each-among, put_each-from, numbers-within, length-put_each}
+use Rattle.day_play.proofs.OrderLemmas.{ordered-above, put_each-ordered, put_each-among, put_each-from, length-put_each}
 use Rattle.day_play.proofs.RunLemmas.{RunsHere}
 
 pub apart-swap : (d : Deck) (s : Size) (p : Spot) (t : Size) (q : Spot) → AreApart d s p t q → AreApart d t q s p
@@ -229,7 +230,7 @@ module _ (I : Instance) (P : Plan) (p : ℕ) (known : p < length P.lockages) (le
       where
         ordered_place : (k : ℕ) → IsAmong [] k ⊎ IsAmong (numbers_from 0 (length l.ships)) k → k < length l.ships
         ordered_place k (inl none) = absurd none
-        ordered_place k (inr among) = omega (arith, (numbers-within 0 (length l.ships) k among).1)
+        ordered_place k (inr among) = omega (arith, (among-numbers 0 (length l.ships) k among).1)
 
 -- lockage q of the plan is legal, and of chamber c
 pub record IsGood (I : Instance) (P : Plan) (c q : ℕ) : Type 0 where

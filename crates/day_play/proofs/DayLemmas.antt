@@ -10,6 +10,7 @@ use Rattle.lock_model.specs.declared.way.Stand.{Stand}
 use Rattle.lock_model.specs.declared.way.Stand.TheVariants.{Low, High}
 use Rattle.lock_model.specs.declared.way.Way.{Way}
 use Rattle.lock_model.specs.declared.way.Way.TheVariants.{Up, Down}
+use Rattle.lock_rules.proofs.AmongLemmas.{among-append, among-times_in}
 use Rattle.lock_rules.specs.Arrival.{numbers_from}
 use Rattle.lock_rules.specs.Lawful.{HasTurned, IsLawfulStart, AreLawfulFrom, duration_of, stand_after}
 use Rattle.lock_rules.specs.Lines.{lockage_at, group_of, no_lockage}
@@ -28,8 +29,7 @@ use Rattle.day_play.specs.Lawful.{IsLawfulDay}
 use Rattle.day_play.specs.Playing.{moor_beats, moor_order, turn_beats, go_beat, done_beat, lockage_beats, line_beats, chamber_beats, beats_of, day_of}
 use Rattle.day_play.specs.declared.beat.Beat.{Beat}
 use Rattle.day_play.proofs.OrderLemmas.{ordered-lower, put_each-ordered, put_each-among, length-put_each}
-use Rattle.day_play.proofs.RunLemmas.{beats_at, moors_in, RunsHere, IsFresh, idle_not_under, runs-lawful, runs-still, done-gone, done-served, IsAmong-cases}
-use Rattle.day_play.proofs.TimesLemmas.{among-times_in}
+use Rattle.day_play.proofs.RunLemmas.{beats_at, moors_in, RunsHere, IsFresh, idle_not_under, runs-lawful, runs-still, done-gone, done-served}
 use Rattle.day_play.proofs.BeatLemmas.{beats-few}
 use Rattle.day_play.proofs.ChamberLemmas.{IsGood, line-run}
 use Rattle.day_play.proofs.MixLemmas.{own-once, others-after}
@@ -58,9 +58,9 @@ module _ (I : Instance) (p : ℕ) (l : Lockage) where
   lockage-own : (stand : Stand) (from : ℕ) (x : Beat) → IsAmong (lockage_beats I p l stand from) x → x.chamber ≡ l.chamber
   lockage-own stand from x h =
       let ends = go_beat p l ∷ done_beat I p l ∷ [] in
-      elim (IsAmong-cases (turn_beats I p l from stand l.way) (moor_beats p l (moor_order I l) ++ ends) x h) [
+      elim (among-append (turn_beats I p l from stand l.way) (moor_beats p l (moor_order I l) ++ ends) x h) [
         | inl turned ↦ turns-own from stand l.way x turned
-        | inr rest ↦ elim (IsAmong-cases (moor_beats p l (moor_order I l)) ends x rest) [
+        | inr rest ↦ elim (among-append (moor_beats p l (moor_order I l)) ends x rest) [
           | inl moored ↦ moors-own (moor_order I l) x moored
           | inr ended ↦ ends-own x ended
         ]
@@ -99,7 +99,7 @@ module _ (I : Instance) (P : Plan) where
   line-own c stand from [] own x h = absurd h
   line-own c stand from (q ∷ ps) own x h =
       let l = lockage_at P q in
-      elim (IsAmong-cases (lockage_beats I q l stand from) (line_beats I P (stand_after l.way) (l.start + duration_of I l.chamber l.ships) ps) x h) [
+      elim (among-append (lockage_beats I q l stand from) (line_beats I P (stand_after l.way) (l.start + duration_of I l.chamber l.ships) ps) x h) [
         | inl first ↦ lockage-own I q l stand from x first ∙ own q (inl refl)
         | inr rest ↦ line-own c (stand_after l.way) (l.start + duration_of I l.chamber l.ships) ps (λ r among. own r (inr among)) x rest
       ]

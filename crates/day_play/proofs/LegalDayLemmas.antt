@@ -6,6 +6,7 @@ use Rattle.lock_model.specs.Fleet.{ship_at, chamber_at, no_chamber}
 use Rattle.lock_model.specs.Fitting.{size_of, deck_of}
 use Rattle.lock_model.specs.declared.instance.Instance.{Instance}
 use Rattle.lock_model.specs.declared.plan.Plan.{Plan}
+use Rattle.lock_rules.proofs.AmongLemmas.{among-times_in}
 use Rattle.lock_rules.specs.Lawful.{AreLawfulFrom}
 use Rattle.lock_rules.specs.Lines.{no_lockage, lockage_at, group_of, line_of}
 use Rattle.lock_rules.specs.Plan.{IsLegal, IsLegalLockage, IsTimely, times_in, served_in}
@@ -22,7 +23,7 @@ use Rattle.day_play.proofs.PlaceLemmas.{start_at, line_places-from, line_places-
 use Rattle.day_play.proofs.RunLemmas.{idle_not_under}
 use Rattle.day_play.proofs.SoundLemmas.{IsCleared, IsSoundState}
 use Rattle.day_play.proofs.StateLemmas.{sound-opening, sound-after_all}
-use Rattle.day_play.proofs.TimesLemmas.{times_in-among, among-times_in, times_in-absent, increasing-once, ordered-same, served_in-one}
+use Rattle.day_play.proofs.TimesLemmas.{times_in-among, times_in-absent, increasing-once, ordered-same, served_in-one}
 use Rattle.day_play.proofs.WentLemmas.{went, went-lawful, went-from, starts-rise}
 use Rattle.day_play.proofs.OnceLemmas.{HasGone, went-once}
 

@@ -11,6 +11,7 @@ use Rattle.lock_model.specs.declared.way.Stand.TheVariants.{Low, High}
 use Rattle.lock_model.specs.declared.way.Way.{Way}
 use Rattle.lock_model.specs.declared.way.Way.TheVariants.{Up, Down}
 use Rattle.lock_model.specs.Fleet.{chamber_at}
+use Rattle.lock_rules.proofs.AmongLemmas.{among-filter, among-numbers}
 use Rattle.lock_rules.specs.Arrival.{numbers_from}
 use Rattle.lock_rules.specs.Lawful.{duration_of, stand_after}
 use Rattle.lock_rules.specs.Lines.{lockage_at, line_of}
@@ -27,17 +28,7 @@ use Rattle.lock_rules.specs.Among.{IsAmong}
 use Rattle.day_play.specs.Lawful.{ship_of}
 use Rattle.day_play.specs.Playing.{quay_distance, moor_order, moor_beat, moor_beats, turn_beats, go_beat, done_beat, lockage_beats, line_beats, chamber_beats, beats_of}
 use Rattle.day_play.specs.declared.beat.Beat.{Beat}
-use Rattle.day_play.proofs.OrderLemmas.{numbers-within}
 use Rattle.day_play.proofs.RunLemmas.{moor_count, moors_in}
-
-filter-from : (t : ℕ → Bool) (xs : List ℕ) (q : ℕ) → IsAmong (filter t xs) q → IsAmong xs q × (t q ≡ true)
-filter-from t [] q h = absurd h
-filter-from t (x ∷ xs) q h = go (λ later. filter-from t xs q later) (t x) refl h
-  where
-    go : (IsAmong (filter t xs) q → IsAmong xs q × (t q ≡ true)) → (b : Bool) → t x ≡ b → IsAmong (cond b (x ∷ filter t xs) (filter t xs)) q → IsAmong (x ∷ xs) q × (t q ≡ true)
-    go more true e (inl here) = (inl here, ap t (sym here) ∙ e)
-    go more true e (inr later) = let rest = more later in (inr rest.0, rest.1)
-    go more false e later = let rest = more later in (inr rest.0, rest.1)
 
 module _ (P : Plan) where
   insert_place-from : (p : ℕ) (ps : List ℕ) (q : ℕ) → IsAmong (insert_place P p ps) q → IsAmong (p ∷ ps) q
@@ -84,9 +75,9 @@ module _ (P : Plan) where
   -- the places of a chamber's line are those of its lockages
   pub line_places-from : (c q : ℕ) → IsAmong (line_places P c) q → (q < length P.lockages) × ((lockage_at P q).chamber ≡ c)
   line_places-from c q h =
-      let some = filter-from (λ p. nat_eq (lockage_at P p).chamber c) (numbers_from 0 (length P.lockages)) q
+      let some = among-filter (λ p. nat_eq (lockage_at P p).chamber c) (numbers_from 0 (length P.lockages)) q
       (sorted_places-from (filter (λ p. nat_eq (lockage_at P p).chamber c) (numbers_from 0 (length P.lockages))) q h) in
-      (omega (arith, (numbers-within 0 (length P.lockages) q some.0).1), eqb-true (lockage_at P q).chamber c some.1)
+      (omega (arith, (among-numbers 0 (length P.lockages) q some.0).1), eqb-true (lockage_at P q).chamber c some.1)
 
   pub line_places-among : (q : ℕ) → q < length P.lockages → IsAmong (line_places P (lockage_at P q).chamber) q
   line_places-among q known =

@@ -1,9 +1,10 @@
 -- Beats that each chamber may do in its own order are lawful, however the chambers are mixed.
-use Rattle.std.proofs.Common.{◌≡◌, ◌≢◌, ℕ, suc, ◌+◌, ◌<◌, ◌≤◌, List, [], ◌∷◌, ◌++◌, length, filter, cond, nat_eq, eq-eqb, ◌⊎◌, inl, inr, refl, ap, sym, subst, arith, slice_index_or}
+use Rattle.std.proofs.Common.{◌≡◌, ◌≢◌, ℕ, suc, ◌+◌, ◌<◌, ◌≤◌, List, [], ◌∷◌, length, filter, cond, nat_eq, eq-eqb, inl, inr, refl, ap, sym, subst, arith, slice_index_or}
 use Rattle.std.proofs.lemmas.Bool.Decides.{eqb_tells}
 use Rattle.lock_model.specs.declared.instance.Instance.{Instance}
 use Rattle.lock_model.specs.declared.plan.Lockage.{Lockage}
 use Rattle.lock_model.specs.declared.plan.Plan.{Plan}
+use Rattle.lock_rules.proofs.AmongLemmas.{among-append}
 use Rattle.lock_rules.specs.Lines.{lockage_at}
 use Rattle.lock_rules.specs.Among.{IsAmong}
 use Rattle.lock_rules.proofs.TreeLemmas.{IsAmong-left, IsAmong-right}
@@ -13,15 +14,6 @@ use Rattle.day_play.specs.Playing.{done_beat}
 use Rattle.day_play.specs.declared.beat.Act.{Act}
 use Rattle.day_play.specs.declared.beat.Act.TheVariants.{Turn, Moor, Go, Done}
 use Rattle.day_play.specs.declared.beat.Beat.{Beat}
-
-pub IsAmong-cases : {X : Type 0} (xs ys : List X) (x : X) → IsAmong (xs ++ ys) x → IsAmong xs x ⊎ IsAmong ys x
-IsAmong-cases [] ys x h = inr h
-IsAmong-cases (z ∷ xs) ys x (inl e) = inl (inl e)
-IsAmong-cases (z ∷ xs) ys x (inr h) =
-    elim (IsAmong-cases xs ys x h) [
-      | inl left ↦ inl (inr left)
-      | inr right ↦ inr right
-    ]
 
 -- a number of a list stands at some place
 pub IsAmong-place : (xs : List ℕ) (x : ℕ) → IsAmong xs x → (k : ℕ) × (k < length xs) × (slice_index_or xs k 0 ≡ x)
@@ -133,7 +125,7 @@ module _ (I : Instance) (P : Plan) where
     }
     fresh-next Done s n may fresh = record {
       few = λ i. rest_few 0 (n i) (fresh.few i);
-      served = λ i h. elim (IsAmong-cases (lockage_at P p).ships s.served i h) [
+      served = λ i h. elim (among-append (lockage_at P p).ships s.served i h) [
         | inl own ↦
             let at = IsAmong-place (lockage_at P p).ships i own in
             subst (λ i. n i ≡ 0) at.2 (rest_zero 0 (n (ship_of (lockage_at P p) at.0)) (fresh.going c p may.going at.0 at.1))

@@ -8,6 +8,7 @@ use Rattle.lock_model.specs.Placement.{IsInside, AreApart, IsBerthed, spot_at}
 use Rattle.lock_model.specs.Cargo.{GoTogether}
 use Rattle.lock_model.specs.declared.instance.Instance.{Instance}
 use Rattle.lock_model.specs.declared.plan.Plan.{Plan}
+use Rattle.lock_rules.proofs.AmongLemmas.{among-append}
 use Rattle.lock_rules.specs.Lines.{lockage_at}
 use Rattle.lock_rules.proofs.TreeLemmas.{IsAmong-left, IsAmong-right}
 use Rattle.day_play.specs.Rising.{AreRising}
@@ -15,7 +16,7 @@ use Rattle.lock_rules.specs.Among.{IsAmong}
 use Rattle.day_play.specs.State.{Moored, Going, Under, State}
 use Rattle.day_play.specs.Lawful.{ship_of, IsOf, MayMoor, MayGo, MayEnd, IsWaiting}
 use Rattle.day_play.proofs.ChamberLemmas.{apart-swap, together-swap}
-use Rattle.day_play.proofs.RunLemmas.{IsAmong-cases, IsAmong-place}
+use Rattle.day_play.proofs.RunLemmas.{IsAmong-place}
 use Rattle.day_play.proofs.TimesLemmas.{increasing-place, length-among}
 
 module _ (I : Instance) (P : Plan) where
@@ -260,7 +261,7 @@ module _ (I : Instance) (P : Plan) where
 
       end-unserved : (d : ℕ) (m : Moored) → IsAmong (moored d) m → IsAmong ((lockage_at P p).ships ++ s.served) m.ship → ⊥
       end-unserved d m h v =
-          elim (IsAmong-cases (lockage_at P p).ships s.served m.ship v) [
+          elim (among-append (lockage_at P p).ships s.served m.ship v) [
             | inl own ↦ elsewhere d m h (sound.alone c d (record { ship = m.ship; lockage = p }) m (own-moored m.ship own) (come d m h).1 refl)
             | inr old ↦ sound.unserved d m (come d m h).1 old
           ]
@@ -275,7 +276,7 @@ module _ (I : Instance) (P : Plan) where
 
       end-from : (i : ℕ) → IsAmong ((lockage_at P p).ships ++ s.served) i → IsServed (p ∷ s.gone) i
       end-from i h =
-          elim (IsAmong-cases (lockage_at P p).ships s.served i h) [
+          elim (among-append (lockage_at P p).ships s.served i h) [
             | inl own ↦ record { by = p; over = inl refl; own = own }
             | inr old ↦ (let was = sound.from i old in record { by = was.by; over = inr was.over; own = was.own })
           ]

@@ -5,6 +5,7 @@ use Rattle.std.proofs.lemmas.Bool.Decides.{eqb_tells, leb_tells}
 use Rattle.std.proofs.lemmas.List.Kept.{AllPairs-from_increasing}
 use Rattle.lock_model.specs.Ships.{RisesFrom}
 use Rattle.lock_model.specs.declared.plan.Lockage.{Lockage}
+use Rattle.lock_rules.proofs.AmongLemmas.{among-times_in}
 use Rattle.lock_rules.specs.Plan.{times_in, served_in}
 use Rattle.lock_rules.specs.Lines.{no_lockage}
 use Rattle.lock_rules.proofs.CountLemmas.{without, times_in-without}
@@ -24,14 +25,6 @@ times_in-among (y ∷ ys) x (inr h) = more (cond (nat_eq y x) 1 0) (times_in ys 
   where
     more : (a b : ℕ) → 1 ≤ b → 1 ≤ a + b
     more a b h = omega (arith, h)
-
-pub among-times_in : (xs : List ℕ) (x : ℕ) → 1 ≤ times_in xs x → IsAmong xs x
-among-times_in [] x h = absurd (omega (arith, h))
-among-times_in (y ∷ ys) x h =
-    elim (eqb_tells y x) [
-      | inl same ↦ inl same.1
-      | inr other ↦ inr (among-times_in ys x (omega (arith, h, times_in-miss x y ys other.0)))
-    ]
 
 pub times_in-absent : (xs : List ℕ) (x : ℕ) → (IsAmong xs x → ⊥) → times_in xs x ≡ 0
 times_in-absent [] x h = refl

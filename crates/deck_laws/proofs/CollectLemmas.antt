@@ -1,22 +1,17 @@
 -- The places that are reached, one after the other.
-use Rattle.std.proofs.Common.{◌≡◌, ℕ, zero, suc, ◌+◌, List, [], ◌∷◌, ◌++◌, filter, cond, Bool, Option, is_some, sym, ap, ◌∙◌, subst, arith}
+use Rattle.std.proofs.Common.{◌≡◌, ℕ, ◌+◌, List, [], ◌∷◌, ◌++◌, filter, cond, Bool, Option, is_some, sym, ap, ◌∙◌, subst, arith}
 use Rattle.std.specs.List.Sorted.{IsStrictlyIncreasing}
 use Rattle.std.proofs.lemmas.List.Elements.{filter-append}
 use Rattle.lock_rules.specs.Arrival.{numbers_from}
 use Rattle.deck_laws.specs.Reach.{round_at, reached_of}
+use Rattle.lock_rules.proofs.LineLemmas.{numbers_more}
 use Rattle.lock_rules.proofs.NodeLemmas.{increasing-RisesFrom}
 use Rattle.deck_laws.proofs.MemberLemmas.{filter-rises}
 
-numbers-more : (low n : ℕ) → numbers_from low (suc n) ≡ numbers_from low n ++ (low + n) ∷ []
-numbers-more low zero = let e : low ≡ low + 0 = omega arith in ap (λ k. k ∷ []) e
-numbers-more low (suc n) = let e : suc low + n ≡ low + suc n = omega arith in ap (λ rest. low ∷ rest) (numbers-more (suc low) n ∙ ap (λ k. numbers_from (suc low) n ++ k ∷ []) e)
-
 pub reached_more : (rounds : List (Option ℕ)) (n : ℕ) (items longer : List ℕ) (reached : Bool) → items ≡ reached_of rounds n → reached ≡ is_some (round_at rounds n) → longer ≡ items ++ cond reached (n ∷ []) [] → longer ≡ reached_of rounds (n + 1)
 reached_more rounds n items longer reached is by more =
-    let step : n + 1 ≡ suc n = omega arith in
     more ∙ ap (λ b. items ++ cond b (n ∷ []) []) by ∙ ap (λ xs. xs ++ cond (is_some (round_at rounds n)) (n ∷ []) []) is
-    ∙ sym (ap (filter (λ t. is_some (round_at rounds t))) (numbers-more 0 n) ∙ filter-append (λ t. is_some (round_at rounds t)) (numbers_from 0 n) ((0 + n) ∷ []) ∙ ap (λ k. reached_of rounds n ++ filter (λ t. is_some (round_at rounds t)) (k ∷ [])) last)
-    ∙ sym (ap (reached_of rounds) step)
+    ∙ sym (ap (filter (λ t. is_some (round_at rounds t))) (numbers_more 0 n) ∙ filter-append (λ t. is_some (round_at rounds t)) (numbers_from 0 n) ((0 + n) ∷ []) ∙ ap (λ k. reached_of rounds n ++ filter (λ t. is_some (round_at rounds t)) (k ∷ [])) last)
   where
     last : 0 + n ≡ n
     last = omega arith

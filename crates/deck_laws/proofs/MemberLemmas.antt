@@ -1,38 +1,13 @@
 -- Where the elements of a list come from, and rising lists with the same elements.
-use Rattle.std.proofs.Common.{◌≡◌, ℕ, zero, suc, ◌+◌, ◌<◌, ◌≤◌, List, [], ◌∷◌, filter, flat_map, cond, Bool, true, false, ◌⊎◌, inl, inr, refl, sym, ap, ◌∙◌, subst, arith, nat_eq, nat_lt}
+use Rattle.std.proofs.Common.{◌≡◌, ℕ, zero, suc, ◌≤◌, List, [], ◌∷◌, filter, cond, Bool, true, false, ◌⊎◌, inl, inr, refl, sym, subst, arith, nat_eq, nat_lt}
 use Rattle.std.proofs.lemmas.Bool.Decides.{eqb_tells}
 use Rattle.lock_model.specs.Ships.{RisesFrom}
 use Rattle.lock_rules.specs.Arrival.{numbers_from}
 use Rattle.refute_rules.specs.Values.{put_number, rising_of}
 use Rattle.lock_rules.proofs.TreeLemmas.{RisesFrom-less}
 use Rattle.lock_rules.specs.Among.{IsAmong}
-use Rattle.refute_rules.proofs.Among.{among-append}
+use Rattle.lock_rules.proofs.AmongLemmas.{rises-past}
 use Rattle.deck_laws.proofs.ThinLemmas.{ltb_tells}
-
-pub among-filter : {X : Type 0} (p : X → Bool) (xs : List X) (x : X) → IsAmong (filter p xs) x → IsAmong xs x × (p x ≡ true)
-among-filter p [] x h = absurd h
-among-filter p (z ∷ xs) x h = go (λ g. among-filter p xs x g) (p z) refl h
-  where
-    deeper : IsAmong xs x × (p x ≡ true) → IsAmong (z ∷ xs) x × (p x ≡ true)
-    deeper g = (inr g.0, g.1)
-
-    go : (IsAmong (filter p xs) x → IsAmong xs x × (p x ≡ true)) → (b : Bool) → p z ≡ b → IsAmong (cond b (z ∷ filter p xs) (filter p xs)) x → IsAmong (z ∷ xs) x × (p x ≡ true)
-    go rest true e (inl same) = (inl same, ap p (sym same) ∙ e)
-    go rest true e (inr g) = deeper (rest g)
-    go rest false e g = deeper (rest g)
-
-pub among-flat_map : {X Y : Type 0} (f : X → List Y) (xs : List X) (y : Y) → IsAmong (flat_map f xs) y → (x : X) × IsAmong xs x × IsAmong (f x) y
-among-flat_map f [] y h = absurd h
-among-flat_map f (z ∷ xs) y h =
-    elim (among-append (f z) (flat_map f xs) y h) [
-      | inl here ↦ (z, inl refl, here)
-      | inr there ↦ (let rest = among-flat_map f xs y there in (rest.0, inr rest.1, rest.2))
-    ]
-
-pub among-numbers : (low n k : ℕ) → IsAmong (numbers_from low n) k → (low ≤ k) × (k < low + n)
-among-numbers low zero k h = absurd h
-among-numbers low (suc n) k (inl e) = (omega (arith, e), omega (arith, e))
-among-numbers low (suc n) k (inr h) = let rest = among-numbers (suc low) n k h in (omega (arith, rest), omega (arith, rest))
 
 -- ---- one number put into rising numbers
 pub among-put : (t : ℕ) (vs : List ℕ) (u : ℕ) → IsAmong (put_number t vs) u → (t ≡ u) ⊎ IsAmong vs u
@@ -81,11 +56,6 @@ filter-rises p low (suc n) =
       | true ↦ (omega arith, rest)
       | false ↦ RisesFrom-less low (suc low) (filter p (numbers_from (suc low) n)) (omega arith) rest
     ]
-
-rises-past : (low : ℕ) (xs : List ℕ) (u : ℕ) → RisesFrom low xs → IsAmong xs u → low ≤ u
-rises-past low [] u rises h = absurd h
-rises-past low (x ∷ xs) u rises (inl e) = let first = rises.0 in omega (arith, first, e)
-rises-past low (x ∷ xs) u rises (inr h) = let rest = rises-past (suc x) xs u rises.1 h in let first = rises.0 in omega (arith, first, rest)
 
 -- rising lists with the same elements are the same
 pub same-rising : (low : ℕ) (xs ys : List ℕ) → RisesFrom low xs → RisesFrom low ys → ((u : ℕ) → IsAmong xs u → IsAmong ys u) → ((u : ℕ) → IsAmong ys u → IsAmong xs u) → xs ≡ ys

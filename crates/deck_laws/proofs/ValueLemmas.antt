@@ -11,12 +11,13 @@ use Rattle.refute_rules.specs.Reasons.{length_at}
 use Rattle.refute_rules.specs.Values.{others, is_kept, shifts_by, shifts_of, values_after, spot_values}
 use Rattle.lock_rules.proofs.TreeLemmas.{contains-among}
 use Rattle.lock_rules.specs.Among.{IsAmong}
-use Rattle.refute_rules.proofs.Among.{IsAmong-right, IsAmong-filter, IsAmong-flat_map, IsAmong-numbers, among-append}
+use Rattle.refute_rules.proofs.Among.{IsAmong-right, IsAmong-filter, IsAmong-flat_map, IsAmong-numbers, among-append, among-flat_map, among-numbers}
+use Rattle.lock_rules.proofs.AmongLemmas.{among-filter}
 use Rattle.refute_rules.proofs.CaseLemmas.{others-among}
 use Rattle.refute_rules.proofs.AnchorLemmas.{rising-among, values-later, anchored-spot_value}
 use Rattle.deck_laws.specs.Laws.{HoldNormalPlaces}
 use Rattle.deck_laws.specs.Reach.{round_at, least_length, IsStepBy, IsStepOf, IsNextOf, Reaches, HasReached, reached_of}
-use Rattle.deck_laws.proofs.MemberLemmas.{among-filter, among-flat_map, among-numbers, among-rising, rising-rises, filter-rises, same-rising}
+use Rattle.deck_laws.proofs.MemberLemmas.{among-rising, rising-rises, filter-rises, same-rising}
 use Rattle.deck_laws.proofs.ReachLemmas.{some-by, still-some}
 
 -- the number that is there
@@ -103,7 +104,7 @@ values-step : (d : Deck) (k v t : ℕ) → IsAmong (values_after d k) v → IsAm
 values-step d k v t h step kept =
     rising-among (values_after d k ++ filter (is_kept d) (flat_map (shifts_of d) (values_after d k))) t
     (IsAmong-right (values_after d k) (filter (is_kept d) (flat_map (shifts_of d) (values_after d k))) t
-    (IsAmong-filter (is_kept d) (flat_map (shifts_of d) (values_after d k)) t (IsAmong-flat_map (shifts_of d) (values_after d k) v t h step) kept))
+    (IsAmong-filter (is_kept d) (flat_map (shifts_of d) (values_after d k)) t kept (IsAmong-flat_map (shifts_of d) (values_after d k) v t h step)))
 
 -- a value of the next round, and where it comes from
 pub record IsStepped (d : Deck) (k t : ℕ) : Type 0 where
@@ -197,7 +198,7 @@ first_reached d last fresh rounds near room empty is =
         elim (eqb_tells t d.end) [
           | inl y ↦ (
               let zero-is : 0 ≡ r = same_Some 0 r (sym at-end ∙ ap (round_at (first_table last d.end)) (sym y.1) ∙ e) in
-              (omega (arith, zero-is), subst (λ m. IsAmong (values_after d m) t) zero-is (subst (IsAmong (values_after d 0)) (sym y.1) (IsAmong-filter (is_kept d) (d.end ∷ []) d.end (inl refl) kept-end)))
+              (omega (arith, zero-is), subst (λ m. IsAmong (values_after d m) t) zero-is (subst (IsAmong (values_after d 0)) (sym y.1) (IsAmong-filter (is_kept d) (d.end ∷ []) d.end kept-end (inl refl))))
               )
           | inr n ↦ absurd (none-some r (sym (blank t (inside (first_table last d.end) t r e)) ∙ sym (get_or-set_other (blank_table last) d.end t (Some 0) None n.1) ∙ e))
         ]
@@ -234,7 +235,7 @@ reached_values d rounds done =
         let is = done.complete t h in
         let some = some-of (round_at rounds t) is in
         let here = inside rounds t some.0 some.1 in
-        IsAmong-filter (λ t. is_some (round_at rounds t)) (numbers_from 0 (length rounds)) t (IsAmong-numbers 0 (length rounds) t (omega arith) (omega (arith, here))) is
+        IsAmong-filter (λ t. is_some (round_at rounds t)) (numbers_from 0 (length rounds)) t is (IsAmong-numbers 0 (length rounds) t (omega arith) (omega (arith, here)))
 
 -- where no ship has room there are none
 pub no_values : (d : Deck) → d.length < d.end + least_length d + d.end → spot_values d ≡ []

@@ -18,6 +18,7 @@ use Rattle.lock_rules.specs.Lawful.{duration_of}
 use Rattle.lock_rules.specs.Timetable.{first_free, ready_at, last_arrival}
 use Rattle.lock_rules.specs.Children.{insert_number, with_ship}
 use Rattle.lock_rules.proofs.TreeLemmas.{length-insert_number}
+use Rattle.lock_rules.proofs.TimetableLemmas.{last_arrival-max}
 use Rattle.master_branch.specs.Steps.{group_at}
 use Rattle.flow_bounds.specs.declared.load.Load.{Load}
 use Rattle.flow_bounds.specs.declared.walk.Walk.{Walk}
@@ -52,11 +53,6 @@ module _ (I : Instance) where
   last-max low a (x ∷ xs) =
       let turned : max (max low a) (ship_at I x).arrival ≡ max (max low (ship_at I x).arrival) a = omega arith in
       ap (λ n. last_arrival I n xs) turned ∙ last-max (max low (ship_at I x).arrival) a xs
-
-  last-low : (low : ℕ) (xs : List ℕ) → last_arrival I low xs ≡ max low (last_arrival I 0 xs)
-  last-low low xs =
-      let same : low ≡ max 0 low = omega arith in
-      ap (λ n. last_arrival I n xs) same ∙ omega (arith, last-max 0 low xs)
 
   last-insert : (low s : ℕ) (xs : List ℕ) → last_arrival I low (insert_number s xs) ≡ max (last_arrival I low xs) (ship_at I s).arrival
   last-insert low s [] = refl
@@ -97,7 +93,7 @@ module _ (I : Instance) where
       let lock = chamber_at I c in
       let long : lock.pass + load.handling ≡ duration_of I c g.ships = ap (λ n. lock.pass + n) is.handling in
       let ready : ready_at lock w.stand w.done load.way ≡ ready_at lock w.stand w.done g.way = ap (ready_at lock w.stand w.done) is.way in
-      let low : max (ready_at lock w.stand w.done load.way) load.latest ≡ last_arrival I (ready_at lock w.stand w.done g.way) g.ships = omega (arith, ready, is.latest, last-low (ready_at lock w.stand w.done g.way) g.ships) in
+      let low : max (ready_at lock w.stand w.done load.way) load.latest ≡ last_arrival I (ready_at lock w.stand w.done g.way) g.ships = omega (arith, ready, is.latest, last_arrival-max I (ready_at lock w.stand w.done g.way) g.ships) in
       λ i. first_free lock.closures (long i) (low i) + long i
 
 -- one group more, and its load

@@ -4,7 +4,6 @@ pub mod ClosureLemmas
 pub mod ClosingLemmas
 pub mod DraftLemmas
 pub mod EnoughLemmas
-pub mod InstanceLemmas
 pub mod ReadingLemmas
 pub mod PartLemmas
 pub mod PrintLemmas

@@ -6,7 +6,7 @@ use Rattle.instance_text.specs.declared.bad.Bad.{Bad}
 use Rattle.instance_text.specs.declared.bad.Kind.{Kind}
 use Rattle.instance_text.specs.Draft.{Draft}
 use Rattle.instance_text.specs.Reading.{reading, Means, Defect, bad}
-use Rattle.instance_text.proofs.InstanceLemmas.{same_instance}
+use Rattle.lock_model.proofs.InstanceLemmas.{same_instance}
 
 -- what a text means, of these chambers and ships
 abbrev draft_of : Instance → Draft

@@ -3,7 +3,7 @@ use Rattle.std.proofs.Common.{ℕ, ◌≡◌, ◌⊎◌, List, sym, subst, ◌�
 use Rattle.lock_model.specs.declared.instance.Instance.{Instance}
 use Rattle.lock_rules.specs.Unfit.{HasNoUnfit, IsFirstUnfit}
 use Rattle.instance_text.specs.Reading.{Means}
-use Rattle.instance_text.proofs.InstanceLemmas.{same_instance}
+use Rattle.lock_model.proofs.InstanceLemmas.{same_instance}
 use Rattle.instance_text.proofs.ReadingLemmas.{Means-one, Means-no_defect}
 use Rattle.plan_print.specs.Report.{verdict_line}
 use Rattle.command_words.specs.declared.commands.Command.{Command}

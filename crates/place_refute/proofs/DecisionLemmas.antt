@@ -8,7 +8,7 @@ use Rattle.std.specs.List.{AllByRecursion}
 use Rattle.list_laws.proofs.ByRecursion.{all-append}
 use Rattle.lock_model.specs.Deck.{Deck}
 use Rattle.lock_rules.specs.Arrival.{numbers_from}
-use Rattle.lock_rules.proofs.LineLemmas.{numbers_more}
+use Rattle.lock_rules.proofs.LineLemmas.{length-numbers, numbers_more}
 use Rattle.refute_rules.specs.Choices.{Decision, BerthOf, PairOf, PlaceOf, decisions, spot_decisions}
 use Rattle.refute_rules.specs.Values.{spot_values}
 use Rattle.refute_rules.proofs.Among.{all-map, all-flat_map, all-weaker, all-numbers}
@@ -37,13 +37,9 @@ pairs_more ds ship other e =
 pub pairs_whole : (ship : ℕ) → pairs_upto ship ship ≡ decisions (ship + 1)
 pairs_whole ship = let e : suc ship ≡ ship + 1 = omega arith in ap decisions e
 
-numbers-length : (low n : ℕ) → length (numbers_from low n) ≡ n
-numbers-length low zero = refl
-numbers-length low (suc n) = ap suc (numbers-length (suc low) n)
-
 upto-length : (ship other : ℕ) → length (pairs_upto ship other) ≡ length (decisions ship) + 1 + other
 upto-length ship other =
-    omega (arith, length-append (decisions ship) (BerthOf ship ∷ map (λ i. PairOf i ship) (numbers_from 0 other)), length-map (numbers_from 0 other) (λ i. PairOf i ship), numbers-length 0 other)
+    omega (arith, length-append (decisions ship) (BerthOf ship ∷ map (λ i. PairOf i ship) (numbers_from 0 other)), length-map (numbers_from 0 other) (λ i. PairOf i ship), length-numbers 0 other)
 
 twice : (n : ℕ) → 2 * length (decisions n) ≡ n * (n + 1)
 twice zero = refl

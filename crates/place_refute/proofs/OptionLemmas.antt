@@ -7,6 +7,7 @@ use Rattle.lock_model.specs.Deck.{Deck}
 use Rattle.lock_model.specs.declared.placement.Rank.TheVariants.{Left, Right}
 use Rattle.lock_model.specs.declared.placement.Moor.TheVariants.{Ship}
 use Rattle.lock_rules.specs.Arrival.{numbers_from}
+use Rattle.lock_rules.proofs.LineLemmas.{length-numbers, numbers-at}
 use Rattle.refute_rules.specs.Values.{others, spot_values}
 use Rattle.refute_rules.specs.Choices.{Berth, Lies, Before, Stands, BerthOf, PlaceOf, berths_of, options_of}
 use Rattle.place_refute.specs.Picks.{other_at, IsAsked}
@@ -41,20 +42,11 @@ kept-above low (suc n) i h =
       | inr d ↦ ap (λ b. cond (not b) (low ∷ filter (but i) (numbers_from (suc low) n)) (filter (but i) (numbers_from (suc low) n))) d.0 ∙ ap (λ ns. low ∷ ns) (kept-above (suc low) n i (omega (arith, h)))
     ]
 
-numbers-at : (low n p : ℕ) → p < n → get_or (numbers_from low n) p 0 ≡ low + p
-numbers-at low zero p h = absurd (omega (arith, h))
-numbers-at low (suc n) zero h = omega arith
-numbers-at low (suc n) (suc p) h = omega (arith, numbers-at (suc low) n p (omega (arith, h)))
-
-numbers-length : (low n : ℕ) → length (numbers_from low n) ≡ n
-numbers-length low zero = refl
-numbers-length low (suc n) = ap suc (numbers-length (suc low) n)
-
 others-length : (low n i : ℕ) → low ≤ i → i < low + n → suc (length (filter (but i) (numbers_from low n))) ≡ n
 others-length low zero i a b = absurd (omega (arith, a, b))
 others-length low (suc n) i a b =
     elim (eqb_tells low i) [
-      | inl y ↦ ap (λ b. suc (length (cond (not b) (low ∷ filter (but i) (numbers_from (suc low) n)) (filter (but i) (numbers_from (suc low) n))))) y.0 ∙ ap suc (ap length (kept-above (suc low) n i (omega (arith, y.1))) ∙ numbers-length (suc low) n)
+      | inl y ↦ ap (λ b. suc (length (cond (not b) (low ∷ filter (but i) (numbers_from (suc low) n)) (filter (but i) (numbers_from (suc low) n))))) y.0 ∙ ap suc (ap length (kept-above (suc low) n i (omega (arith, y.1))) ∙ length-numbers (suc low) n)
       | inr d ↦ ap (λ b. suc (length (cond (not b) (low ∷ filter (but i) (numbers_from (suc low) n)) (filter (but i) (numbers_from (suc low) n))))) d.0 ∙ ap suc (others-length (suc low) n i (let differ = d.1 in omega (arith, a, differ)) (omega (arith, b)))
     ]
 
@@ -77,7 +69,7 @@ above-at low (suc n) i p a c h =
     elim (eqb_tells low i) [
       | inl y ↦
           ap (λ b. get_or (cond (not b) (low ∷ filter (but i) (numbers_from (suc low) n)) (filter (but i) (numbers_from (suc low) n))) p 0) y.0
-          ∙ ap (λ ns. get_or ns p 0) (kept-above (suc low) n i (omega (arith, y.1))) ∙ numbers-at (suc low) n p (omega (arith, h)) ∙ omega arith
+          ∙ ap (λ ns. get_or ns p 0) (kept-above (suc low) n i (omega (arith, y.1))) ∙ numbers-at (suc low) n p 0 (omega (arith, h)) ∙ omega arith
       | inr d ↦
           ap (λ b. get_or (cond (not b) (low ∷ filter (but i) (numbers_from (suc low) n)) (filter (but i) (numbers_from (suc low) n))) p 0) d.0
           ∙ next (λ p a c h. above-at (suc low) n i p a c h) p (let differ = d.1 in omega (arith, a, differ)) c h

@@ -12,16 +12,10 @@ use Rattle.lock_model.specs.declared.instance.Instance.{Instance}
 use Rattle.lock_rules.specs.Plan.{times_in}
 use Rattle.lock_rules.specs.Children.{insert_number}
 use Rattle.lock_rules.proofs.ChildLemmas.{times_in-insert_number}
-use Rattle.lock_rules.proofs.SplitLemmas.{All-times, times_in-at}
+use Rattle.lock_rules.proofs.AmongLemmas.{contains-times, times-contains}
 use Rattle.price_bound.specs.Sparing.{AreIn, Misses}
 use Rattle.price_bound.specs.Masks.{IsMask, IsSetMask, HasMask, AreMarks, AreHaving, AreNear, AreNears, IsNoted, IsPutNear}
 use Rattle.price_bound.specs.declared.near.Near.{Near}
-
-pub contains-times : (xs : List ℕ) (s : ℕ) → Contains xs s → 1 ≤ times_in xs s
-contains-times xs s held = All-contains (λ s. 1 ≤ times_in xs s) xs s (times_in-at xs) held
-
-pub times-contains : (xs : List ℕ) (s : ℕ) → 1 ≤ times_in xs s → Contains xs s
-times-contains xs s some = All-times (Contains xs) s xs (λ j d here. Contains-get_or xs j d here) some
 
 one-of : (xs : List ℕ) (x y : ℕ) → Contains (xs ++ x ∷ []) y → y ≢ x → Contains xs y
 one-of xs x y at apart = elim (leb_tells (suc at.0) (length xs)) [

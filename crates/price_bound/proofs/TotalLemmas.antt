@@ -9,10 +9,11 @@ use Rattle.lock_model.specs.declared.group.Group.{Group}
 use Rattle.lock_rules.specs.Arrival.{numbers_from, first_ships}
 use Rattle.lock_rules.specs.Bound.{line_flow}
 use Rattle.lock_rules.specs.Plan.{times_in}
-use Rattle.lock_rules.specs.Node.{IsNode, line_at, times_on}
+use Rattle.lock_rules.specs.Node.{IsNode, line_at}
 use Rattle.lock_rules.proofs.LineLemmas.{numbers_more}
 use Rattle.lock_rules.proofs.ChildLemmas.{times_on-held}
 use Rattle.lock_rules.proofs.SplitLemmas.{times_in-at}
+use Rattle.lock_rules.proofs.NodeLemmas.{group-line}
 use Rattle.lock_rules.proofs.LeafLemmas.{has_number-some}
 use Rattle.price_rules.specs.Prices.{PlainCut, IsLoose, Reaches, paid_in, missing_prices}
 use Rattle.price_bound.specs.Worth.{worth_from, IsKeptGroup, IsLeastOn}
@@ -119,8 +120,3 @@ line-kept I k lines node c known = λ j d here.
           let own : 1 ≤ times_in g.ships s = times_in-at g.ships i e inside in
           has_number-some (first_ships I k) s (omega (arith, own, group-line s (line_at lines c) j d here, times_on-held s lines c, node.held s));
     }
-  where
-    group-line : (s : ℕ) (gs : List Group) (j : ℕ) (d : Group) → j < length gs → times_in (slice_index_or gs j d).ships s ≤ times_on s gs
-    group-line s [] j d here = absurd (omega (arith, here))
-    group-line s (g ∷ gs) zero d here = omega arith
-    group-line s (g ∷ gs) (suc j) d here = omega (arith, group-line s gs j d (omega (arith, here)))

@@ -12,7 +12,7 @@ use Rattle.book_rules.proofs.CompleteLemmas.{enough-optimal}
 use Rattle.instance_text.specs.Draft.{Draft}
 use Rattle.instance_text.specs.Reading.{Means, Defect, reading, bad, instance_part, after_instance}
 use Rattle.instance_text.specs.declared.bad.Kind.{Kind}
-use Rattle.instance_text.proofs.InstanceLemmas.{same_instance}
+use Rattle.lock_model.proofs.InstanceLemmas.{same_instance}
 use Rattle.command_words.specs.declared.commands.ReplanOptions.{ReplanOptions}
 use Rattle.plan_text.specs.declared.kinds.PlanKind.{PlanKind}
 use Rattle.plan_text.specs.Reading.{IsPlanText, IsPlanFault, reading as plan_reading}

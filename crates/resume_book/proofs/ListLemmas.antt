@@ -1,17 +1,8 @@
 -- What is among the items of a list, and how many different numbers a list has.
-use Rattle.std.proofs.Common.{◌≡◌, ◌≢◌, ℕ, zero, suc, ◌+◌, ◌<◌, ◌≤◌, List, [], ◌∷◌, inl, inr, length, refl, sym, ap, ◌∙◌, subst, arith, flat_map, All}
+use Rattle.std.proofs.Common.{◌≡◌, ◌≢◌, ℕ, zero, suc, ◌+◌, ◌<◌, ◌≤◌, List, [], ◌∷◌, inl, inr, length, refl, sym, ap, ◌∙◌, subst, arith, All}
 use Rattle.std.specs.List.{range_with_len}
 use Rattle.std.proofs.lemmas.List.Elements.{All-cons, All-nil}
 use Rattle.lock_rules.specs.Among.{IsAmong}
-use Rattle.refute_rules.proofs.Among.{among-append}
-
-pub among-flat_map : {X Y : Type 0} (f : X → List Y) (xs : List X) (y : Y) → IsAmong (flat_map f xs) y → (x : X) × IsAmong xs x × IsAmong (f x) y
-among-flat_map f [] y h = absurd h
-among-flat_map f (x ∷ xs) y h =
-    elim (among-append (f x) (flat_map f xs) y h) [
-      | inl here ↦ (x, inl refl, here)
-      | inr later ↦ let rest = among-flat_map f xs y later in (rest.0, inr rest.1, rest.2)
-    ]
 
 pub range-among : (first n k : ℕ) → k < n → IsAmong (range_with_len first n) (first + k)
 range-among first zero k known = absurd (omega (arith, known))

@@ -7,7 +7,8 @@ use Rattle.book_rules.specs.declared.book.SlotState.TheVariants as slot
 use Rattle.book_rules.specs.Book.{Node, Book, slot_at}
 use Rattle.book_rules.specs.Family.{child_count, KeepsFamily}
 use Rattle.resume_book.specs.Preorder.{children_slots, preorder, slots_in_order}
-use Rattle.resume_book.proofs.ListLemmas.{among-flat_map, range-among, among-range, all-below}
+use Rattle.lock_rules.proofs.AmongLemmas.{among-flat_map}
+use Rattle.resume_book.proofs.ListLemmas.{range-among, among-range, all-below}
 
 pub root-among : (b : Book) (lacking id : ℕ) → IsAmong (preorder b lacking id) id
 root-among b zero id = inl refl

@@ -17,7 +17,8 @@ use Rattle.lock_rules.proofs.ChildLemmas.{times_on-held}
 use Rattle.lock_rules.proofs.SizeLemmas.{lines_ships, times_in-lines, length-lines}
 use Rattle.lock_rules.proofs.SplitLemmas.{length-order, order-known, times_in-at}
 use Rattle.lock_rules.proofs.ThroughputLemmas.{length-sum}
-use Rattle.price_bound.proofs.MaskLemmas.{contains-times, times-contains}
+use Rattle.lock_rules.proofs.AmongLemmas.{contains-times, times-contains}
+use Rattle.lock_rules.proofs.NodeLemmas.{group-line}
 use Rattle.search_worker.specs.Owning.{IsOwnShip, IsOwnGroup, IsOwnLine}
 
 -- Of two lists that are equally long, where the one holds no number more often than the other, both hold each number equally often.
@@ -117,11 +118,6 @@ module _ (I : Instance) (k : ℕ) (lines : List (List Group)) (keeps : KeepsNode
       past = no-chamber;
     }
 
-group-times : (s : ℕ) (gs : List Group) (j : ℕ) (d : Group) → j < length gs → times_in (slice_index_or gs j d).ships s ≤ times_on s gs
-group-times s [] j d here = absurd (omega (arith, here))
-group-times s (g ∷ gs) zero d here = omega arith
-group-times s (g ∷ gs) (suc j) d here = omega (arith, group-times s gs j d (omega (arith, here)))
-
 module _ (I : Instance) (k : ℕ) (lines : List (List Group)) (node : IsNode I k lines) where
   pub node_deep : k ≤ length (order_of I)
   node_deep = let deep = node.depth in omega (arith, deep, length-order I)
@@ -137,7 +133,7 @@ module _ (I : Instance) (k : ℕ) (lines : List (List Group)) (node : IsNode I k
           among =
               let s = slice_index_or g.ships i e in
               let some : 1 ≤ times_in g.ships s = times_in-at g.ships i e known in
-              times-contains (first_ships I k) s (omega (arith, some, group-times s (line_at lines c) j d here, times_on-held s lines c, node.held s));
+              times-contains (first_ships I k) s (omega (arith, some, group-line s (line_at lines c) j d here, times_on-held s lines c, node.held s));
           way_is = good.way i e known;
         };
       }

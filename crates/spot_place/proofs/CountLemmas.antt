@@ -9,7 +9,8 @@ use Rattle.lock_rules.specs.Bound.{least_number}
 use Rattle.refute_rules.specs.Values.{is_kept, shifts_of, values_after, spot_values}
 use Rattle.lock_rules.specs.Among.{IsAmong}
 use Rattle.refute_rules.proofs.Among.{among-append}
-use Rattle.deck_laws.proofs.MemberLemmas.{among-filter, among-rising, rising-rises}
+use Rattle.lock_rules.proofs.AmongLemmas.{among-filter}
+use Rattle.deck_laws.proofs.MemberLemmas.{among-rising, rising-rises}
 
 rises-few : (low n : ℕ) (xs : List ℕ) → low ≤ n → RisesFrom low xs → ((x : ℕ) → IsAmong xs x → x < n) → low + length xs ≤ n
 rises-few low n [] h rises below = omega (arith, h)

@@ -10,6 +10,7 @@ use Rattle.refute_rules.specs.Choices.{Choice, Berth}
 use Rattle.refute_rules.specs.Decided.{berth_in}
 use Rattle.refute_rules.specs.Known.{moor_host, host_of, host_and_more, hosts_within, quay_y, guest_y, moored_y, berth_y, y_within, y_in}
 use Rattle.lock_rules.specs.Among.{IsAmong}
+use Rattle.lock_rules.proofs.TreeLemmas.{contains-among}
 use Rattle.refute_rules.proofs.AnchorLemmas.{AreDistinct, few-distinct}
 use Rattle.spot_place.specs.OnWay.{HasKnownHosts}
 
@@ -25,11 +26,6 @@ map-none f (Some x) e = absurd (none-some (f x) (sym e))
 pub positive : (n i : ℕ) → i < n → (m : ℕ) × (n ≡ suc m)
 positive zero i h = absurd (omega (arith, h))
 positive (suc m) i h = (m, refl)
-
-pub among-contains : {X : Type 0} (xs : List X) (x : X) → IsAmong xs x → Contains xs x
-among-contains [] x h = absurd h
-among-contains (y ∷ ys) x (inl e) = (0, omega arith, e)
-among-contains (y ∷ ys) x (inr h) = let rest = among-contains ys x h in (suc rest.0, omega (arith, rest.1), rest.2)
 
 -- ---- with more steps
 
@@ -83,7 +79,7 @@ module _ (d : Deck) (case : List Choice) (hosts : HasKnownHosts d case) (free : 
       back : IsAmong (hosts_within case (suc steps) i) i → ⊥
       back h =
           let e : (length d.ships - suc steps) + suc steps ≡ length d.ships = omega (arith, few) in
-          free i (among-contains (hosts_within case (length d.ships) i) i (subst (λ n. IsAmong (hosts_within case n i) i) e (hosts-later case (suc steps) (length d.ships - suc steps) i i h)))
+          free i (contains-among (hosts_within case (length d.ships) i) i (subst (λ n. IsAmong (hosts_within case n i) i) e (hosts-later case (suc steps) (length d.ships - suc steps) i i h)))
 
       rest : (o : Option ℕ) → ((k : ℕ) → AreDistinct (k ∷ hosts_within case steps k)) → AreDistinct (host_and_more o (hosts_within case steps))
       rest None more = tt
