@@ -1,5 +1,5 @@
-//! Tests of texts and of what is made of them: sources and sinks, command lines, instances, plans,
-//! reports, days and what is left of a plan.
+//! Tests of texts and of what is made of them: sources and sinks, instances, plans and what is left of
+//! a plan. Command lines, reports, refusals and days stand with the rows of whole runs alone.
 //!
 //! Most read their instances and plans from texts. The crate has no code but its tests.
 #![tactic(auto)]
@@ -7,21 +7,13 @@
 #[cfg(test)]
 mod appending;
 #[cfg(test)]
-mod command_lines;
-#[cfg(test)]
-mod days;
-#[cfg(test)]
 mod gates;
 #[cfg(test)]
 mod instances;
 #[cfg(test)]
 mod plans;
 #[cfg(test)]
-mod refusals;
-#[cfg(test)]
 mod remainders;
-#[cfg(test)]
-mod reports;
 #[cfg(test)]
 mod streams;
 #[cfg(test)]

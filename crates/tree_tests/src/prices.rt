@@ -17,23 +17,8 @@ const ENOUGH: Limits = Limits {
     turns: 1_000_000,
 };
 
-// What a row says of a node: the sum, and the greatest cost that is reached, if there is one.
-#[derive(Drop)]
-struct Row<'a> {
-    path: &'a [u32],
-    prices: &'a [u32],
-    sum: i64,
-    greatest: Option<u64>,
-}
-
-fn sum_row<'a>(path: &'a [u32], prices: &'a [u32], sum: i64, greatest: Option<u64>) -> Row<'a> {
-    Row {
-        path,
-        prices,
-        sum,
-        greatest,
-    }
-}
+// The path of a node, prices, their sum there, and the greatest cost that is reached, if there is one.
+type Row = (&'static [u32], &'static [u32], i64, Option<u64>);
 
 // Holds a row against the bound, whatever was kept before.
 fn check(
@@ -43,64 +28,83 @@ fn check(
     cuts: &[ChamberCut],
     row: &Row,
 ) -> Result<(), Fail> {
-    let node = node_at(instance, row.path).ok_or("no node")?;
-    let prices = Prices::new(row.prices).ok_or("no prices")?;
+    let (path, prices, sum, greatest) = *row;
+    let node = node_at(instance, path).ok_or("no node")?;
+    let prices = Prices::new(prices).ok_or("no prices")?;
     let asked = PricedNode {
         instance,
         node: &node,
         prices: &prices,
         cuts,
     };
-    assert_eq!(rt; price_sum(kept, &asked, ENOUGH), Ok(Some(row.sum)));
+    assert_eq!(rt; price_sum(kept, &asked, ENOUGH), Ok(Some(sum)));
     for cost in 0..300 {
-        let reached = row.greatest.is_some_and(|greatest| cost <= greatest);
+        let reached = greatest.is_some_and(|greatest| cost <= greatest);
         assert_eq!(rt; reaches(kept, &asked, cost, ENOUGH), Ok(reached));
     }
     Ok(())
 }
 
+const ONE_SHIP: &[Row] = &[
+    (&[], &[0], 0, Some(0)),
+    (&[], &[2000], 2000, Some(20)),
+    (&[], &[3400], 3400, Some(34)),
+    (&[], &[3401], 3401, Some(35)),
+    (&[], &[3500], 3500, Some(35)),
+    (&[], &[5000], 3500, Some(35)),
+    (&[], &[8500], 3500, Some(35)),
+    (&[], &[9000], 3000, Some(30)),
+    (&[], &[1_000_000], -98_800_000, None),
+    (&[0], &[0], 3500, Some(35)),
+    (&[0], &[9000], 3500, Some(35)),
+];
+
 #[test]
 fn one_ship(rt: HostRuntime) -> Result<(), Fail> {
     let instance = one().ok_or("no instance")?;
     let mut kept = KeptLines::new(rt.alloc());
-    for case in [
-        sum_row(&[], &[0], 0, Some(0)),
-        sum_row(&[], &[2000], 2000, Some(20)),
-        sum_row(&[], &[3400], 3400, Some(34)),
-        sum_row(&[], &[3401], 3401, Some(35)),
-        sum_row(&[], &[3500], 3500, Some(35)),
-        sum_row(&[], &[5000], 3500, Some(35)),
-        sum_row(&[], &[8500], 3500, Some(35)),
-        sum_row(&[], &[9000], 3000, Some(30)),
-        sum_row(&[], &[1_000_000], -98_800_000, None),
-        sum_row(&[0], &[0], 3500, Some(35)),
-        sum_row(&[0], &[9000], 3500, Some(35)),
-    ] {
-        check(&rt, &mut kept, &instance, &[], &case)?;
+    for row in ONE_SHIP {
+        check(&rt, &mut kept, &instance, &[], row)?;
     }
     Ok(())
 }
+
+const SIDE_BY_SIDE: &[Row] = &[
+    (&[], &[4000, 4000], 7500, Some(75)),
+    (&[], &[3500, 4500], 7000, Some(70)),
+    (&[], &[4500, 4500], 8000, Some(80)),
+    (&[], &[8500, 8500], 8000, Some(80)),
+    (&[0], &[0, 4500], 8000, Some(80)),
+    (&[0], &[0, 4499], 7999, Some(80)),
+    (&[0], &[0, 3000], 6500, Some(65)),
+    (&[0, 0], &[0, 0], 8000, Some(80)),
+    (&[0, 1], &[0, 0], 12000, Some(120)),
+    (&[0, 1], &[7, 7], 12000, Some(120)),
+];
 
 #[test]
 fn two_ships_side_by_side(rt: HostRuntime) -> Result<(), Fail> {
     let instance = two_ships(240).ok_or("no instance")?;
     let mut kept = KeptLines::new(rt.alloc());
-    for case in [
-        sum_row(&[], &[4000, 4000], 7500, Some(75)),
-        sum_row(&[], &[3500, 4500], 7000, Some(70)),
-        sum_row(&[], &[4500, 4500], 8000, Some(80)),
-        sum_row(&[], &[8500, 8500], 8000, Some(80)),
-        sum_row(&[0], &[0, 4500], 8000, Some(80)),
-        sum_row(&[0], &[0, 4499], 7999, Some(80)),
-        sum_row(&[0], &[0, 3000], 6500, Some(65)),
-        sum_row(&[0, 0], &[0, 0], 8000, Some(80)),
-        sum_row(&[0, 1], &[0, 0], 12000, Some(120)),
-        sum_row(&[0, 1], &[7, 7], 12000, Some(120)),
-    ] {
-        check(&rt, &mut kept, &instance, &[], &case)?;
+    for row in SIDE_BY_SIDE {
+        check(&rt, &mut kept, &instance, &[], row)?;
     }
     Ok(())
 }
+
+const CUT: &[Row] = &[
+    (&[], &[3500, 8500], 7000, Some(70)),
+    (&[], &[6000, 6000], 9500, Some(95)),
+    (&[], &[8400, 8400], 11900, Some(119)),
+    (&[], &[8401, 8401], 11901, Some(120)),
+    (&[], &[8500, 8500], 12000, Some(120)),
+    (&[], &[8600, 8600], 12000, Some(120)),
+    (&[], &[13500, 13500], 12000, Some(120)),
+    (&[0], &[0, 8500], 12000, Some(120)),
+    (&[0], &[8500, 8500], 12000, Some(120)),
+    (&[0], &[0, 8400], 11900, Some(119)),
+    (&[0], &[0, 8401], 11901, Some(120)),
+];
 
 #[test]
 fn two_ships_and_their_cut(rt: HostRuntime) -> Result<(), Fail> {
@@ -110,20 +114,8 @@ fn two_ships_and_their_cut(rt: HostRuntime) -> Result<(), Fail> {
         ships: pair(0, 1),
     }];
     let mut kept = KeptLines::new(rt.alloc());
-    for case in [
-        sum_row(&[], &[3500, 8500], 7000, Some(70)),
-        sum_row(&[], &[6000, 6000], 9500, Some(95)),
-        sum_row(&[], &[8400, 8400], 11900, Some(119)),
-        sum_row(&[], &[8401, 8401], 11901, Some(120)),
-        sum_row(&[], &[8500, 8500], 12000, Some(120)),
-        sum_row(&[], &[8600, 8600], 12000, Some(120)),
-        sum_row(&[], &[13500, 13500], 12000, Some(120)),
-        sum_row(&[0], &[0, 8500], 12000, Some(120)),
-        sum_row(&[0], &[8500, 8500], 12000, Some(120)),
-        sum_row(&[0], &[0, 8400], 11900, Some(119)),
-        sum_row(&[0], &[0, 8401], 11901, Some(120)),
-    ] {
-        check(&rt, &mut kept, &instance, &cuts, &case)?;
+    for row in CUT {
+        check(&rt, &mut kept, &instance, &cuts, row)?;
     }
     let node = node_at(&instance, &[0, 0]).ok_or("no node")?;
     let prices = Prices::new(&[0, 0]).ok_or("no prices")?;
@@ -138,39 +130,43 @@ fn two_ships_and_their_cut(rt: HostRuntime) -> Result<(), Fail> {
     Ok(())
 }
 
+const CLOSED: &[Row] = &[
+    (&[], &[7500, 10000], 14000, Some(140)),
+    (&[], &[7500, 9999], 14000, Some(140)),
+    (&[], &[7400, 9900], 13900, Some(139)),
+    (&[], &[9000, 11500], 15500, Some(155)),
+    (&[0], &[0, 10000], 17500, Some(175)),
+    (&[0], &[0, 6500], 14000, Some(140)),
+    (&[0], &[0, 20000], 9500, Some(95)),
+];
+
 #[test]
 fn a_closure(rt: HostRuntime) -> Result<(), Fail> {
     let instance = closed().ok_or("no instance")?;
     let mut kept = KeptLines::new(rt.alloc());
-    for case in [
-        sum_row(&[], &[7500, 10000], 14000, Some(140)),
-        sum_row(&[], &[7500, 9999], 14000, Some(140)),
-        sum_row(&[], &[7400, 9900], 13900, Some(139)),
-        sum_row(&[], &[9000, 11500], 15500, Some(155)),
-        sum_row(&[0], &[0, 10000], 17500, Some(175)),
-        sum_row(&[0], &[0, 6500], 14000, Some(140)),
-        sum_row(&[0], &[0, 20000], 9500, Some(95)),
-    ] {
-        check(&rt, &mut kept, &instance, &[], &case)?;
+    for row in CLOSED {
+        check(&rt, &mut kept, &instance, &[], row)?;
     }
     Ok(())
 }
+
+const TWO_CHAMBERS: &[Row] = &[
+    (&[], &[3500, 2600, 3000], 9100, Some(91)),
+    (&[], &[3500, 2600, 4000], 8600, Some(86)),
+    (&[], &[0, 0, 0], 0, Some(0)),
+    (&[0], &[0, 2600, 3500], 9300, Some(93)),
+    (&[0], &[0, 2600, 4800], 9200, Some(92)),
+    (&[0, 2], &[0, 0, 4000], 10100, Some(101)),
+    (&[0, 2], &[0, 0, 3900], 10000, Some(100)),
+    (&[0, 2], &[0, 0, 6000], 9400, Some(94)),
+];
 
 #[test]
 fn two_chambers_add_up(rt: HostRuntime) -> Result<(), Fail> {
     let instance = two_chambers().ok_or("no instance")?;
     let mut kept = KeptLines::new(rt.alloc());
-    for case in [
-        sum_row(&[], &[3500, 2600, 3000], 9100, Some(91)),
-        sum_row(&[], &[3500, 2600, 4000], 8600, Some(86)),
-        sum_row(&[], &[0, 0, 0], 0, Some(0)),
-        sum_row(&[0], &[0, 2600, 3500], 9300, Some(93)),
-        sum_row(&[0], &[0, 2600, 4800], 9200, Some(92)),
-        sum_row(&[0, 2], &[0, 0, 4000], 10100, Some(101)),
-        sum_row(&[0, 2], &[0, 0, 3900], 10000, Some(100)),
-        sum_row(&[0, 2], &[0, 0, 6000], 9400, Some(94)),
-    ] {
-        check(&rt, &mut kept, &instance, &[], &case)?;
+    for row in TWO_CHAMBERS {
+        check(&rt, &mut kept, &instance, &[], row)?;
     }
     Ok(())
 }
