@@ -2,7 +2,7 @@
 use Rattle.std.proofs.Common.{◌≡◌, ◌∙◌, ◌++◌, ℕ, List, Result, Ok, Err, IfOk, IfErr, sym, ap, ap₂}
 use Rattle.lock_model.specs.declared.instance.Instance.{Instance}
 use Rattle.line_text.specs.Steps.{◌>>=◌}
-use Rattle.instance_text.specs.Draft.{Draft}
+use Rattle.instance_text.specs.Draft.{Draft, draft_of}
 use Rattle.instance_text.specs.declared.bad.Bad.{Bad}
 use Rattle.instance_text.specs.Reading.{reading, Means, Defect, instance_part, after_instance}
 use Rattle.lock_model.proofs.InstanceLemmas.{same_instance}
@@ -28,9 +28,6 @@ shape_before (Ok x) next NoMemory bad = tt
 shape_before (Ok x) next (Fault f) bad = cc
 shape_before (Err n) next NoMemory bad = tt
 shape_before (Err n) next (Fault f) bad = cc
-
-abbrev pub draft_of : Instance → Draft
-draft_of I = record { chambers = I.chambers; ships = I.ships }
 
 module _ {C : Type 0} where
   -- what is made of an instance and of what follows it

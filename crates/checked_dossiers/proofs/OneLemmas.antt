@@ -4,14 +4,11 @@ use Rattle.list_laws.proofs.Variants.{not-ok_and_err, one-ok}
 use Rattle.lock_model.specs.declared.instance.Instance.{Instance}
 use Rattle.certificate_rules.specs.Certificates.{Certificate}
 use Rattle.certificate_rules.specs.OpenCertificates.{OpenCertificate}
-use Rattle.instance_text.specs.Draft.{Draft}
+use Rattle.instance_text.specs.Draft.{Draft, draft_of}
 use Rattle.lock_model.proofs.InstanceLemmas.{same_instance}
 use Rattle.cert_text.specs.Dossier.{Reads, DossierFault, dossier_in}
 use Rattle.cert_text.specs.declared.bad.BadDossier.{BadDossier as AnyFault}
 use Rattle.resume_book.specs.OpenDossier.{ReadsOpen, OpenDossierFault, open_dossier_in}
-
-abbrev draft_of : Instance → Draft
-draft_of I = record { chambers = I.chambers; ships = I.ships }
 
 -- pairs of the same drafts are the same pairs, so what is said of the one is said of the other
 own : {C : Type 0} (P : Instance → C → Type 0) (J I : Instance) (d c : C) → ◌≡◌ {A = Draft × C} (draft_of J, d) (draft_of I, c) → P J d → P I c

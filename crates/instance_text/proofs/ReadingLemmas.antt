@@ -4,13 +4,9 @@ use Rattle.lock_model.specs.declared.instance.Instance.{Instance}
 use Rattle.line_text.proofs.ReaderLemmas as reader
 use Rattle.instance_text.specs.declared.bad.Bad.{Bad}
 use Rattle.instance_text.specs.declared.bad.Kind.{Kind}
-use Rattle.instance_text.specs.Draft.{Draft}
+use Rattle.instance_text.specs.Draft.{Draft, draft_of}
 use Rattle.instance_text.specs.Reading.{reading, Means, Defect, bad}
 use Rattle.lock_model.proofs.InstanceLemmas.{same_instance}
-
--- what a text means, of these chambers and ships
-abbrev draft_of : Instance → Draft
-draft_of I = record { chambers = I.chambers; ships = I.ships }
 
 draft_of-one : (I I' : Instance) → draft_of I ≡ draft_of I' → I ≡ I'
 draft_of-one I I' same = same_instance I I' (ap (λ (d : Draft). d.chambers) same) (ap (λ (d : Draft). d.ships) same)

@@ -18,7 +18,7 @@ use Rattle.instance_text.specs.declared.bad.Bad.{Bad}
 use Rattle.instance_text.specs.declared.format.Format.{Format}
 use Rattle.instance_text.specs.declared.format.Format.TheVariants.{First, Second}
 use Rattle.line_text.specs.declared.progress.Progress.TheVariants.{More}
-use Rattle.instance_text.specs.Draft.{Draft, no_draft}
+use Rattle.instance_text.specs.Draft.{Draft, no_draft, draft_of}
 use Rattle.instance_text.specs.Reading.{reading, Means, read_lines, read_body, read_line, format_of}
 use Rattle.instance_text.specs.Canonical.{chamber_words, closing_words, closings, ship_words, is_plain, header_words, canonical, canonical_words}
 use Rattle.instance_text.proofs.ClosureLemmas.{closures_front}
@@ -129,50 +129,47 @@ grouped a b c d e = simp append_assoc
 abbrev body : Instance → List (List (List ℕ))
 body I = map chamber_words I.chambers ++ (flat_map closings I.chambers ++ (map ship_words I.ships ++ (codes "end" ∷ []) ∷ [] ∷ []))
 
-abbrev drafted : Instance → Draft
-drafted I = record { chambers = I.chambers; ships = I.ships }
-
 fresh_chambers : (I : Instance) → NewChambers [] I.chambers
 fresh_chambers I = new_chambers [] I.chambers I.limits.chamber (λ k d low. All-nil (λ e. e ≢ (get_or I.chambers k d).name)) I.limits.chamber_names
 
 fresh_ships : (I : Instance) → NewShips [] I.ships
 fresh_ships I = new_ships [] I.ships I.limits.ship (λ k d low. All-nil (λ e. e ≢ (get_or I.ships k d).name)) I.limits.ship_names
 
-tail_back : (I : Instance) (format : Format) (m : ℕ) → All (λ s. (s.cargo == 0) ≡ false → format ≡ Second) I.ships → read_body format m (record { chambers = I.chambers; ships = [] }) (map ship_words I.ships ++ (codes "end" ∷ []) ∷ [] ∷ []) ≡ Ok (drafted I)
+tail_back : (I : Instance) (format : Format) (m : ℕ) → All (λ s. (s.cargo == 0) ≡ false → format ≡ Second) I.ships → read_body format m (record { chambers = I.chambers; ships = [] }) (map ship_words I.ships ++ (codes "end" ∷ []) ∷ [] ∷ []) ≡ Ok (draft_of I)
 tail_back I format m fits =
     let chambers = I.limits.chamber_count.0 in
     let ships = I.limits.ship_count.0 in
     let few = I.limits.ship_count.1 in
-    ships_back format m (record { chambers = I.chambers; ships = [] }) I.ships ((codes "end" ∷ []) ∷ [] ∷ []) (Ok (drafted I)) fits (omega arith) (fresh_ships I) (λ m'. end_back format m' (drafted I) (omega arith) (omega arith))
+    ships_back format m (record { chambers = I.chambers; ships = [] }) I.ships ((codes "end" ∷ []) ∷ [] ∷ []) (Ok (draft_of I)) fits (omega arith) (fresh_ships I) (λ m'. end_back format m' (draft_of I) (omega arith) (omega arith))
 
-second_back : (I : Instance) → read_body Second 1 no_draft (body I) ≡ Ok (drafted I)
+second_back : (I : Instance) → read_body Second 1 no_draft (body I) ≡ Ok (draft_of I)
 second_back I =
     let few = I.limits.chamber_count.1 in
-    chambers_back Second 1 no_draft I.chambers (flat_map closings I.chambers ++ (map ship_words I.ships ++ (codes "end" ∷ []) ∷ [] ∷ [])) (Ok (drafted I)) (omega arith) (fresh_chambers I)
-    (λ m. closings_back m (record { chambers = map bare I.chambers; ships = [] }) [] I.chambers (map ship_words I.ships ++ (codes "end" ∷ []) ∷ [] ∷ []) (Ok (drafted I)) refl (fresh_chambers I)
+    chambers_back Second 1 no_draft I.chambers (flat_map closings I.chambers ++ (map ship_words I.ships ++ (codes "end" ∷ []) ∷ [] ∷ [])) (Ok (draft_of I)) (omega arith) (fresh_chambers I)
+    (λ m. closings_back m (record { chambers = map bare I.chambers; ships = [] }) [] I.chambers (map ship_words I.ships ++ (codes "end" ∷ []) ∷ [] ∷ []) (Ok (draft_of I)) refl (fresh_chambers I)
     (λ m'. tail_back I Second m' (λ k d low no_cargo. refl)))
 
-first_back : (I : Instance) → list_all (λ (c : Chamber). length c.closures == 0) I.chambers ≡ true → list_all (λ (s : Ship). s.cargo == 0) I.ships ≡ true → read_body First 1 no_draft (body I) ≡ Ok (drafted I)
+first_back : (I : Instance) → list_all (λ (c : Chamber). length c.closures == 0) I.chambers ≡ true → list_all (λ (s : Ship). s.cargo == 0) I.ships ≡ true → read_body First 1 no_draft (body I) ≡ Ok (draft_of I)
 first_back I never_closed harmless =
     let few = I.limits.chamber_count.1 in
     let none = none_closed I.chambers (AllPass-from_list_all (λ (c : Chamber). length c.closures == 0) I.chambers never_closed) in
     let safe = AllPass-from_list_all (λ (s : Ship). s.cargo == 0) I.ships harmless in
-    subst (λ ls. read_body First 1 no_draft (map chamber_words I.chambers ++ (ls ++ (map ship_words I.ships ++ (codes "end" ∷ []) ∷ [] ∷ []))) ≡ Ok (drafted I)) (sym none.0)
-    (chambers_back First 1 no_draft I.chambers (map ship_words I.ships ++ (codes "end" ∷ []) ∷ [] ∷ []) (Ok (drafted I)) (omega arith) (fresh_chambers I)
-    (λ m. subst (λ cs. read_body First m (record { chambers = cs; ships = [] }) (map ship_words I.ships ++ (codes "end" ∷ []) ∷ [] ∷ []) ≡ Ok (drafted I)) (sym none.1)
+    subst (λ ls. read_body First 1 no_draft (map chamber_words I.chambers ++ (ls ++ (map ship_words I.ships ++ (codes "end" ∷ []) ∷ [] ∷ []))) ≡ Ok (draft_of I)) (sym none.0)
+    (chambers_back First 1 no_draft I.chambers (map ship_words I.ships ++ (codes "end" ∷ []) ∷ [] ∷ []) (Ok (draft_of I)) (omega arith) (fresh_chambers I)
+    (λ m. subst (λ cs. read_body First m (record { chambers = cs; ships = [] }) (map ship_words I.ships ++ (codes "end" ∷ []) ∷ [] ∷ []) ≡ Ok (draft_of I)) (sym none.1)
     (tail_back I First m (λ k d low no_cargo. let h = safe k d low in contradiction (get_or I.ships k d).cargo h no_cargo))))
   where
     contradiction : (n : ℕ) → (n == 0) ≡ true → (n == 0) ≡ false → First ≡ Second
     contradiction n yes_it no_it = cc
 
-lines_back : (I : Instance) → read_lines 0 (canonical_words I ++ [] ∷ []) ≡ Ok (drafted I)
+lines_back : (I : Instance) → read_lines 0 (canonical_words I ++ [] ∷ []) ≡ Ok (draft_of I)
 unfolding canonical_words format_of
 lines_back I = by_plain (is_plain I) refl
   where
     parts : (header : List (List ℕ)) → ((header ∷ map chamber_words I.chambers) ++ flat_map closings I.chambers ++ map ship_words I.ships ++ (codes "end" ∷ []) ∷ []) ++ [] ∷ [] ≡ header ∷ body I
     parts header = grouped (header ∷ map chamber_words I.chambers) (flat_map closings I.chambers) (map ship_words I.ships) ((codes "end" ∷ []) ∷ []) ([] ∷ [])
 
-    by_plain : (plain : Bool) → is_plain I ≡ plain → read_lines 0 (((header_words plain ∷ map chamber_words I.chambers) ++ flat_map closings I.chambers ++ map ship_words I.ships ++ (codes "end" ∷ []) ∷ []) ++ [] ∷ []) ≡ Ok (drafted I)
+    by_plain : (plain : Bool) → is_plain I ≡ plain → read_lines 0 (((header_words plain ∷ map chamber_words I.chambers) ++ flat_map closings I.chambers ++ map ship_words I.ships ++ (codes "end" ∷ []) ∷ []) ++ [] ∷ []) ≡ Ok (draft_of I)
     by_plain true is =
         let holds = and_parts (list_all (λ (c : Chamber). length c.closures == 0) I.chambers) (list_all (λ (s : Ship). s.cargo == 0) I.ships) is in
         ap (read_lines 0) (parts (header_words true)) ∙ first_back I holds.0 holds.1

@@ -2,6 +2,7 @@
 use Rattle.std.specs.Prelude.{◌≢◌, ◌≤◌, List, [], length, All, AllPairs}
 use Rattle.lock_model.specs.Instance.{IsChamber, IsShip}
 use Rattle.lock_model.specs.declared.chamber.Chamber.{Chamber}
+use Rattle.lock_model.specs.declared.instance.Instance.{Instance}
 use Rattle.lock_model.specs.declared.ship.Ship.{Ship}
 
 -- the chambers and ships of the lines so far, in order
@@ -11,6 +12,10 @@ pub record Draft : Type 0 where
 
 abbrev pub no_draft : Draft
 no_draft = record { chambers = []; ships = [] }
+
+-- what has been read where these are all chambers and ships
+abbrev pub draft_of : Instance → Draft
+draft_of I = record { chambers = I.chambers; ships = I.ships }
 
 -- what an instance keeps, but for at least one chamber and one ship
 pub record IsDraft (chambers : List Chamber) (ships : List Ship) : Type 0 where

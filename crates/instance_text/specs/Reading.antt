@@ -12,7 +12,7 @@ use Rattle.line_text.specs.declared.progress.Progress.TheVariants.{More, Ended}
 use Rattle.line_text.specs.Filled.{Filled, first_words}
 use Rattle.line_text.specs.Lines.{lines, words, word_at, is_only, line_of_fault}
 use Rattle.line_text.specs.Steps.{◌>>=◌, ◌>>◌, check, proceed}
-use Rattle.instance_text.specs.Draft.{Draft, no_draft}
+use Rattle.instance_text.specs.Draft.{Draft, no_draft, draft_of}
 use Rattle.instance_text.specs.Chamber.{read_chamber}
 use Rattle.instance_text.specs.Ship.{read_ship}
 use Rattle.instance_text.specs.Closing.{read_closing, with_closure}
@@ -101,7 +101,7 @@ reading text = if is_utf8 text then read_lines 0 (map words (lines text)) else E
 
 -- the text is an instance text of this instance
 unfoldable pub Means : List ℕ → Instance → Type 0
-Means text I = reading text ≡ Ok (record { chambers = I.chambers; ships = I.ships })
+Means text I = reading text ≡ Ok (draft_of I)
 
 -- the text's first defect has this line and this kind
 unfoldable pub Defect : List ℕ → ℕ → Kind → Type 0

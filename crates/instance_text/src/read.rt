@@ -1,6 +1,6 @@
 //! Reading instance texts.
 ghost use Rattle.std.specs.Prelude.{◌≡◌, ◌≤◌, List, ℕ, min, length, map, Ok, Err, IfOk, IfErr, OnOk};
-ghost use Rattle.instance_text.specs.Draft.{Draft as AnyDraft, no_draft};
+ghost use Rattle.instance_text.specs.Draft.{Draft as AnyDraft, no_draft, draft_of};
 ghost use Rattle.line_text.specs.Left.{lines_left};
 ghost use Rattle.line_text.specs.Lines.{lines, words};
 ghost use Rattle.instance_text.specs.Reading.{read_lines, read_line, read_body, read_rest, reading, Means, Defect, bad, length_of_part, instance_part, after_instance};
@@ -94,7 +94,7 @@ fn check_text(bytes: &[u8]) -> Result<(), Bad>
 
 /// What a text means. Answers the first defect exactly where it means no instance.
 fn read_text(bytes: &[u8]) -> Result<Instance, Bad>
-    ensures read { IfOk result (λ i. reading bytes.now ≡ Ok (record { chambers = i.chambers; ships = i.ships })) }
+    ensures read { IfOk result (λ i. reading bytes.now ≡ Ok (draft_of i)) }
     ensures bad { IfErr result (λ b. reading bytes.now ≡ Err b) }
 {
     check_text(bytes)?;
@@ -146,6 +146,16 @@ pub fn read_instance_part(bytes: &[u8]) -> Result<(Instance, usize), Bad>
     let taken = length_of_part(bytes);
     let instance = read_instance(&bytes[..taken])?;
     Ok((instance, taken))
+}
+
+/// The bytes after the instance part of a text, also where that part means no instance. Takes no
+/// memory.
+#[tactic(auto, unfolding(crate::specs::Reading::instance_part), using(crate::proofs::PartLemmas::part_fits, crate::proofs::PartLemmas::rest_is))]
+pub fn after_instance(bytes: &[u8]) -> &[u8]
+    ensures { result.now ≡ after_instance bytes.now }
+{
+    let taken = length_of_part(bytes);
+    &bytes[taken..]
 }
 
 /// The instance of the instance part of a text, and the bytes after that part. Refuses as

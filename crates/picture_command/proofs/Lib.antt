@@ -1,4 +1,3 @@
 pub mod AnswerLemmas
 pub mod DayLemmas
-pub mod AfterLemmas
 pub mod CompleteLemmas

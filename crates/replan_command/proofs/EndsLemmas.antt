@@ -9,7 +9,7 @@ use Rattle.lock_rules.specs.Lines.{no_lockage, lockage_at}
 use Rattle.lock_rules.specs.Singles.{singles_of}
 use Rattle.lock_rules.specs.Unfit.{IsFirstUnfit}
 use Rattle.book_rules.proofs.CompleteLemmas.{enough-optimal}
-use Rattle.instance_text.specs.Draft.{Draft}
+use Rattle.instance_text.specs.Draft.{Draft, draft_of}
 use Rattle.instance_text.specs.Reading.{Means, Defect, reading, bad, instance_part, after_instance}
 use Rattle.instance_text.specs.declared.bad.Kind.{Kind}
 use Rattle.lock_model.proofs.InstanceLemmas.{same_instance}
@@ -30,9 +30,6 @@ use Rattle.replan_command.specs.Replanning.{AnswersPlanText, IsPartRefused, IsPl
 use Rattle.replan_command.specs.Ends.{IsReplanServed, IsRestUnsure, MayEndReplan}
 
 -- ---- bytes mean one instance and one plan, and then have no defect and no fault
-
-abbrev draft_of : Instance → Draft
-draft_of I = record { chambers = I.chambers; ships = I.ships }
 
 reads : (bytes : List ℕ) (I : Instance) → Means bytes I → reading bytes ≡ Ok (draft_of I)
 unfolding Means
