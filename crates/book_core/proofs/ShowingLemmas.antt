@@ -24,7 +24,7 @@ use Rattle.book_core.specs.declared.reply.Reply.TheVariants as reply
 use Rattle.book_core.specs.Keeps.{IsSound}
 use Rattle.book_core.specs.Nodes.{tree_node}
 use Rattle.book_core.specs.Replies.{Answers}
-use Rattle.book_core.specs.Telling.{told_cut, told_shown}
+use Rattle.book_core.specs.Telling.{told_cut, seen_cut, told_shown, are_first}
 use Rattle.book_core.proofs.CloseLemmas.{cheap-refused, high-unrefused, event-refused, event-sound, event-answers}
 
 -- ---- what is claimed of a node is shown of it
@@ -49,18 +49,27 @@ as_many [] (y ∷ ys) other = refl
 as_many (x ∷ xs) [] other = refl
 as_many (x ∷ xs) (y ∷ ys) other = neither (nat_eq x y) (as_many xs ys (λ e. other (ap suc e)))
 
--- the cut is another's, without its refutation
-abbrev pub same_cut : ChamberCut → Cut → Bool
+-- two cuts are the same
+abbrev pub same_cut : ChamberCut → ChamberCut → Bool
 same_cut c d = nat_eq c.chamber d.chamber && pointwise nat_eq c.ships d.ships
 
 -- the same, from place i on
-abbrev pub first_from : List ChamberCut → List Cut → ℕ → Bool
-first_from shown cuts i = are_first_cuts (map told_cut (drop i shown)) (drop i cuts)
+abbrev pub first_from : List ChamberCut → List ChamberCut → ℕ → Bool
+first_from shown cuts i = are_first (drop i shown) (drop i cuts)
 
-pub first-more : (shown : List ChamberCut) (cuts : List Cut) → length cuts < length shown → are_first_cuts (map told_cut shown) cuts ≡ false
+pub first-more : (shown cuts : List ChamberCut) → length cuts < length shown → are_first shown cuts ≡ false
 first-more [] cuts more = absurd (omega (arith, more))
 first-more (x ∷ xs) [] more = refl
 first-more (x ∷ xs) (y ∷ ys) more = neither (same_cut x y) (first-more xs ys (omega (arith, more)))
+
+first-told : (shown : List ChamberCut) (cuts : List Cut) → are_first shown (map seen_cut cuts) ≡ are_first_cuts (map told_cut shown) cuts
+first-told [] cuts = refl
+first-told (x ∷ xs) [] = refl
+first-told (x ∷ xs) (y ∷ ys) = ap (λ t. nat_eq x.chamber y.chamber && pointwise nat_eq x.ships y.ships && t) (first-told xs ys)
+
+-- the first ones of what is seen of cuts are told as their first ones
+pub first_cuts : (shown seen : List ChamberCut) (cuts : List Cut) → seen ≡ map seen_cut cuts → are_first shown seen ≡ are_first_cuts (map told_cut shown) cuts
+first_cuts shown seen cuts is = ap (are_first shown) is ∙ first-told shown cuts
 
 -- ---- instances and nodes
 

@@ -13,7 +13,7 @@ seen a = record {
   case = a.case;
   opening = a.opening;
   slots = slots_of a.case.instance a.slots.items;
-  cuts = a.cuts.items;
+  cuts = a.cuts;
   prices = a.prices.items;
   plans = a.plans.items;
   best = a.best;
@@ -30,4 +30,4 @@ pub record IsKept (a : Inside) : Type 0 where
   pub path : IsPath a.case.instance (slots_of a.case.instance a.slots.items) a.path
   pub roster_is : IsRosterOf a.case.instance a.roster
   pub costs : AreCosts (seen a) a.best_cost a.opening_cost a.throughput
-  pub room : HasRoom a.case.nodes (length a.cuts.items) (length a.plans.items) (length a.prices.items) (vec_capacity a.history)
+  pub room : HasRoom a.case.nodes (length a.cuts) (length a.plans.items) (length a.prices.items) (vec_capacity a.history)

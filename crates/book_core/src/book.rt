@@ -7,6 +7,7 @@ ghost use Rattle.book_rules.specs.Cheap.{opening_cost};
 
 use crate::back_list::BackList;
 use crate::case::Case;
+use crate::cuts::KeptCuts;
 use crate::hand::Hand;
 use crate::path::Path;
 use crate::stored_slot::StoredSlot;
@@ -31,7 +32,7 @@ pub struct Book {
     pub(crate) throughput: u64,
     pub(crate) roster: Roster,
     pub(crate) slots: Vec<StoredSlot>,
-    pub(crate) cuts: Vec<Cut>,
+    pub(crate) cuts: KeptCuts,
     pub(crate) prices: Vec<Prices>,
     pub(crate) plans: Vec<Plan>,
     pub(crate) best: Plan,
@@ -164,7 +165,7 @@ impl Book {
         ensures some { IfSome result (λ cut. slice_get self.now.cuts number ≡ Some cut.now) }
         ensures none { IfNone result (slice_get self.now.cuts number ≡ None) }
     {
-        self.cuts.get(number as usize)
+        self.cuts.get(number)
     }
 
     /// The prices that were posted, in their order: lists of one price for each ship, in hundredths of

@@ -5,6 +5,18 @@ use crate::book::Book;
 use book_rules::Entry;
 use plain_text::NoMemory;
 
+// Room for so many entries of the history.
+pub(crate) fn widen(history: &mut Vec<Entry>, needed: usize) -> Result<(), NoMemory>
+    requires { vec_len history.old ≤ needed }
+    ensures history { history.new.items ≡ history.old.items }
+    ensures wider { vec_capacity history.old ≤ vec_capacity history.new }
+    ensures entries { IfOk result (λ _. needed ≤ vec_capacity history.new) }
+{
+    let more = needed - history.len();
+    history.try_reserve(more)?;
+    Ok(())
+}
+
 // Room for so many entries of the history, and for one more of a list.
 pub(crate) fn make_room<T>(
     history: &mut Vec<Entry>,
@@ -18,8 +30,7 @@ pub(crate) fn make_room<T>(
     ensures entries { IfOk result (λ _. needed ≤ vec_capacity history.new) }
     ensures one { IfOk result (λ _. vec_len list.new < vec_capacity list.new) }
 {
-    let more = needed - history.len();
-    history.try_reserve(more)?;
+    widen(history, needed)?;
     list.try_reserve(1)?;
     Ok(())
 }

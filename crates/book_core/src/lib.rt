@@ -18,6 +18,7 @@
 //!   (the splits that may have a fresh child, by rising first child). A split that has none leaves
 //!   `waiting` when `take` meets it: one `take` may look at several splits, but all of them together
 //!   look at no more splits than there are takes and splits.
+//! - `cuts` has each cut whole, and as prices see it, by which `showing` compares.
 //! - Nodes aren't stored with the slots. A hand has its slot's node, and the bounds of the node's
 //!   children from the first probe of the ship that the node lacks first until the split. `path` has
 //!   the slots on the way from the root to the slot that was taken last, with their nodes: `take`
@@ -38,6 +39,7 @@ mod book;
 mod bounding;
 mod case;
 mod closing;
+mod cuts;
 mod decks;
 mod finding;
 mod foreseen;

@@ -7,6 +7,7 @@ ghost use Rattle.book_core.specs.Growing.{stored_root};
 use crate::back_list::BackList;
 use crate::book::Book;
 use crate::case::Case;
+use crate::cuts::KeptCuts;
 use crate::path::Path;
 use crate::splitting::stored_child;
 use crate::stored_slot::StoredSlot;
@@ -52,7 +53,7 @@ pub fn open_book(alloc: Global, case: &Case, plan: Plan) -> Result<Book, NoMemor
         throughput: throughput(&case.instance),
         roster: Roster::of(&case.instance),
         slots,
-        cuts: Vec::new(alloc),
+        cuts: KeptCuts::new(alloc),
         prices: Vec::new(alloc),
         plans: Vec::new(alloc),
         best: plan,

@@ -10,7 +10,7 @@ ghost use Rattle.book_core.specs.Replies.{Does};
 
 use crate::book::Book;
 use crate::decks::same_deck;
-use crate::growing::make_room;
+use crate::growing::widen;
 use crate::reply::Reply;
 use book_rules::Entry;
 use lock_model::{Instance, deck_of};
@@ -50,8 +50,8 @@ impl Book {
         ensures none { IfErr result (λ _. self.new ≡ self.old) }
     {
         let needed = self.entries_needed()?;
-        make_room(&mut self.history, needed, &mut self.cuts)?;
-        self.cuts.push_reserved(cut);
+        widen(&mut self.history, needed)?;
+        self.cuts.push(cut)?;
         self.history.push_reserved(Entry::Post);
         Ok(())
     }

@@ -4,6 +4,5 @@ pub mod Applied
 pub mod Shares
 pub mod Following
 pub mod Shutting
-pub mod Learning
 pub mod Granting
 pub mod Going

@@ -20,9 +20,9 @@
 //!
 //! Definitions: `specs/Events` says which event of the machine an event is, and what its caller
 //! owes, `Applied` what an event does to a book, `Following` what a taking after it does,
-//! `Shutting` what closing by prices and a taking do, `Going` what nodes ahead do, `Learning` how
-//! cuts are known, `Replies` which replies are accepted, `Shares` what a list of shares is. A share
-//! and the total take no bytes, and are there for the proof alone.
+//! `Shutting` what closing by prices and a taking do, `Going` what nodes ahead do, `Replies` which
+//! replies are accepted, `Shares` what a list of shares is. A share and the total take no bytes, and
+//! are there for the proof alone.
 #![tactic(auto)]
 
 mod ahead;

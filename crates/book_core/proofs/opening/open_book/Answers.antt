@@ -28,7 +28,7 @@ invariant_of-result c =
       case = c.copy.result;
       opening = c.copy-2.result;
       slots = slots_of c.copy.result.instance c.push_reserved.new.self.items;
-      cuts = c.new.result.items;
+      cuts = c.new.result;
       prices = c.new-2.result.items;
       plans = c.new-3.result.items;
       best = plan;
@@ -40,7 +40,7 @@ invariant_of-result c =
       case = c.copy.ensures i;
       opening = c.copy-2.ensures i;
       slots = slots i;
-      cuts = c.new.ensures.items i;
+      cuts = c.new.ensures i;
       prices = c.new-2.ensures.items i;
       plans = c.new-3.ensures.items i;
       best = plan;
@@ -62,5 +62,5 @@ invariant_of-result c =
         opening_is = cost_is ∙ (λ i. cost_of (sym c.copy.ensures i).instance (sym c.copy-2.ensures i));
         throughput_is = c.throughput.ensures.value ∙ ap (λ (k : Case). throughput_of k.instance) (c.case.view_is ∙ sym c.copy.ensures);
       };
-      room = record { enough = omega (arith, c.in_ok-history.ensures.exact, ap length c.new.ensures.items, ap length c.new-2.ensures.items, ap length c.new-3.ensures.items, ap (λ (k : Case). k.nodes) c.case.view_is, ap (λ (k : Case). k.nodes) c.copy.ensures) };
+      room = record { enough = omega (arith, c.in_ok-history.ensures.exact, ap length c.new.ensures, ap length c.new-2.ensures.items, ap length c.new-3.ensures.items, ap (λ (k : Case). k.nodes) c.case.view_is, ap (λ (k : Case). k.nodes) c.copy.ensures) };
     }
