@@ -1,16 +1,13 @@
 -- What `judge` answers to bytes: a status and what is written.
-use Rattle.std.specs.Prelude.{ℕ, ◌≡◌, ◌⊎◌, List, ◌++◌, codes, decimal}
+use Rattle.std.specs.Prelude.{ℕ, ◌≡◌, List, ◌++◌, codes, decimal}
 use Rattle.lock_model.specs.declared.instance.Instance.{Instance}
 use Rattle.lock_model.specs.declared.plan.Plan.{Plan}
 use Rattle.lock_rules.specs.Plan.{IsLegal, cost_of}
-use Rattle.instance_text.specs.Reading.{instance_part}
 use Rattle.plan_text.specs.Neat.{DiffersInX, AreNeat}
 use Rattle.plan_print.specs.Report.{lockages_text}
-use Rattle.run_answers.specs.Refusals.{IsDefect}
-use Rattle.run_answers.specs.Texts.{no_memory_text}
+use Rattle.run_answers.specs.Ended.{IsGoodOr}
 use Rattle.run_answers.specs.declared.status.Status.{Status}
-use Rattle.run_answers.specs.declared.status.Status.TheVariants.{Good, Open, Words, Refused, ReadFault, WriteFault, NoMemory, BadDossier, Unfit, PlanRefused}
-use Rattle.plan_commands.specs.Planned.{IsLegallyPlanned, IsFault, IsBreak}
+use Rattle.plan_commands.specs.Planned.{IsLegallyPlanned, AnswersIllegal}
 
 -- Q is legal, differs from P in x alone with no greater x, and all its placements are normal.
 pub record IsNeatOf (I : Instance) (P Q : Plan) : Type 0 where
@@ -33,13 +30,4 @@ pub record PrintsJudged (bytes text : List ℕ) : Type 0 where
 
 -- what `judge` answers to bytes
 abbrev pub AnswersJudge : List ℕ → Status → List ℕ → Type 0
-AnswersJudge bytes Good text = PrintsJudged bytes text
-AnswersJudge bytes Open text = ⊥
-AnswersJudge bytes Words text = ⊥
-AnswersJudge bytes Refused text = IsDefect (instance_part bytes) text
-AnswersJudge bytes ReadFault text = ⊥
-AnswersJudge bytes WriteFault text = ⊥
-AnswersJudge bytes NoMemory text = text ≡ no_memory_text
-AnswersJudge bytes BadDossier text = ⊥
-AnswersJudge bytes Unfit text = ⊥
-AnswersJudge bytes PlanRefused text = IsFault bytes text ⊎ IsBreak bytes text
+AnswersJudge bytes status text = IsGoodOr (PrintsJudged bytes text) (λ s. AnswersIllegal bytes s text) status

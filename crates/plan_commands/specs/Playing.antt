@@ -1,22 +1,19 @@
 -- What `play` answers to bytes: a status and what is written.
-use Rattle.std.specs.Prelude.{ℕ, ◌≡◌, ◌<◌, ◌⊎◌, List, ◌++◌, length, codes, decimal, ⊤}
+use Rattle.std.specs.Prelude.{ℕ, ◌≡◌, ◌<◌, List, ◌++◌, length, codes, decimal, ⊤}
 use Rattle.std.specs.List.{flat_map}
 use Rattle.lock_model.specs.Fleet.{ship_at, chamber_at}
 use Rattle.lock_model.specs.declared.instance.Instance.{Instance}
 use Rattle.lock_model.specs.declared.plan.Plan.{Plan}
 use Rattle.lock_rules.specs.Lines.{lockage_at}
 use Rattle.instance_text.specs.Canonical.{way_word}
-use Rattle.instance_text.specs.Reading.{instance_part}
 use Rattle.day_play.specs.Lawful.{IsLawfulDay}
 use Rattle.day_play.specs.Playing.{day_of}
 use Rattle.day_play.specs.declared.beat.Act.{Act}
 use Rattle.day_play.specs.declared.beat.Act.TheVariants.{Turn, Moor, Go, Done}
 use Rattle.day_play.specs.declared.beat.Beat.{Beat}
-use Rattle.run_answers.specs.Refusals.{IsDefect}
-use Rattle.run_answers.specs.Texts.{no_memory_text}
+use Rattle.run_answers.specs.Ended.{IsGoodOr}
 use Rattle.run_answers.specs.declared.status.Status.{Status}
-use Rattle.run_answers.specs.declared.status.Status.TheVariants.{Good, Open, Words, Refused, ReadFault, WriteFault, NoMemory, BadDossier, Unfit, PlanRefused}
-use Rattle.plan_commands.specs.Planned.{IsLegallyPlanned, IsFault, IsBreak}
+use Rattle.plan_commands.specs.Planned.{IsLegallyPlanned, AnswersIllegal}
 
 -- what an act for lockage p names is in the instance and in the plan
 abbrev pub IsKnownAct : Instance → Plan → ℕ → Act → Type 0
@@ -55,13 +52,4 @@ pub record PrintsPlayed (bytes text : List ℕ) : Type 0 where
 
 -- what `play` answers to bytes
 abbrev pub AnswersPlay : List ℕ → Status → List ℕ → Type 0
-AnswersPlay bytes Good text = PrintsPlayed bytes text
-AnswersPlay bytes Open text = ⊥
-AnswersPlay bytes Words text = ⊥
-AnswersPlay bytes Refused text = IsDefect (instance_part bytes) text
-AnswersPlay bytes ReadFault text = ⊥
-AnswersPlay bytes WriteFault text = ⊥
-AnswersPlay bytes NoMemory text = text ≡ no_memory_text
-AnswersPlay bytes BadDossier text = ⊥
-AnswersPlay bytes Unfit text = ⊥
-AnswersPlay bytes PlanRefused text = IsFault bytes text ⊎ IsBreak bytes text
+AnswersPlay bytes status text = IsGoodOr (PrintsPlayed bytes text) (λ s. AnswersIllegal bytes s text) status

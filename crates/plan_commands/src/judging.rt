@@ -14,7 +14,7 @@ use mooring_rules::judge_plan;
 use plain_text::{NoMemory, put, put_number};
 use plan_print::print_lockages;
 use plan_text::neat;
-use run_answers::{Answer, PLAN_LIMIT, Status, Text, no_memory, read_source};
+use run_answers::{Answer, PLAN_LIMIT, Status, made, no_memory, read_source};
 use std::alloc::Global;
 
 // The cost of a plan, and the report of another from its second line on.
@@ -39,16 +39,14 @@ fn judged_text(
 }
 
 // What is said of a legal plan.
+#[tactic(auto, using(crate::proofs::AnswerLemmas::neat_prints))]
 fn legal_answer(alloc: Global, bytes: &[u8], instance: &Instance, plan: &Plan) -> Answer
     requires { IsLegallyPlanned bytes.now instance.now plan.now }
     ensures { AnswersJudge bytes.now result.status (bytes_in result.text) }
 {
     let neat = neat(instance, plan);
     match judged_text(alloc, instance, plan, &neat) {
-        Ok(text) => Answer {
-            status: Status::Good,
-            text: Text::Made(text),
-        },
+        Ok(text) => made(Status::Good, text),
         Err(NoMemory) => no_memory(),
     }
 }

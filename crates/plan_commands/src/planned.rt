@@ -12,7 +12,7 @@ use mooring_rules::BrokenPlan;
 use plain_text::NoMemory;
 use plan_refusals::{break_text, fault_text};
 use plan_text::{BadPlan, read_plan};
-use run_answers::{Answer, Status, Text, defect_text, no_memory};
+use run_answers::{Answer, Status, defect_text, made, no_memory};
 use std::alloc::Global;
 
 // The first defect of the instance part.
@@ -21,10 +21,7 @@ fn defect_answer(alloc: Global, bytes: &[u8], bad: Bad) -> Answer
     ensures { AnswersIllegal bytes.now result.status (bytes_in result.text) }
 {
     match defect_text(alloc, bad) {
-        Ok(text) => Answer {
-            status: Status::Refused,
-            text: Text::Made(text),
-        },
+        Ok(text) => made(Status::Refused, text),
         Err(NoMemory) => no_memory(),
     }
 }
@@ -37,10 +34,7 @@ fn fault_answer(alloc: Global, bytes: &[u8], instance: &Instance, bad: BadPlan) 
     ensures { AnswersIllegal bytes.now result.status (bytes_in result.text) }
 {
     match fault_text(alloc, bad) {
-        Ok(text) => Answer {
-            status: Status::PlanRefused,
-            text: Text::Made(text),
-        },
+        Ok(text) => made(Status::PlanRefused, text),
         Err(NoMemory) => no_memory(),
     }
 }
@@ -59,10 +53,7 @@ pub fn break_answer(
     ensures { AnswersIllegal bytes.now result.status (bytes_in result.text) }
 {
     match break_text(alloc, instance, plan, broken) {
-        Ok(text) => Answer {
-            status: Status::PlanRefused,
-            text: Text::Made(text),
-        },
+        Ok(text) => made(Status::PlanRefused, text),
         Err(NoMemory) => no_memory(),
     }
 }

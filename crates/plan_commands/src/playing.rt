@@ -13,7 +13,7 @@ use day_play::{Day, Played, play};
 use lock_io::Source;
 use lock_model::{Instance, Plan};
 use plain_text::NoMemory;
-use run_answers::{Answer, PLAN_LIMIT, Status, Text, no_memory, read_source};
+use run_answers::{Answer, PLAN_LIMIT, Status, made, no_memory, read_source};
 use std::alloc::Global;
 
 // The day of a legal plan.
@@ -25,10 +25,7 @@ fn day_answer(alloc: Global, bytes: &[u8], instance: &Instance, plan: &Plan, day
     ensures { AnswersPlay bytes.now result.status (bytes_in result.text) }
 {
     match day_text(alloc, instance, plan, day) {
-        Ok(text) => Answer {
-            status: Status::Good,
-            text: Text::Made(text),
-        },
+        Ok(text) => made(Status::Good, text),
         Err(NoMemory) => no_memory(),
     }
 }

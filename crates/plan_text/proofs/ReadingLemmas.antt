@@ -13,6 +13,14 @@ lockages-one : (P Q : Plan) → P.lockages ≡ Q.lockages → P ≡ Q
 lockages-one P Q same = ap (λ ls. record { lockages = ls }) same
 
 module _ (I : Instance) (text : List ℕ) where
+  pub IsPlanText-one : (P Q : Plan) → IsPlanText I text P → IsPlanText I text Q → P ≡ Q
+  unfolding IsPlanText
+  IsPlanText-one P Q first second = reader.one_value (reading I text) (λ (R : Plan). R.lockages) lockages-one P Q first second
+
+  pub IsPlanText-no_fault : (P : Plan) (line : ℕ) (kind : PlanKind) → IsPlanText I text P → IsPlanFault I text line kind → ⊥
+  unfolding IsPlanText IsPlanFault
+  IsPlanText-no_fault P line kind first second = reader.no_fault (reading I text) (λ (R : Plan). R.lockages) P (bad line kind) first second
+
   -- a reader that is right where it answers answers all that is so
   pub reads_each : (r : Result Plan BadPlan) → IfOk r (λ P. reading I text ≡ Ok P.lockages) → IfErr r (λ b. reading I text ≡ Err b) → (P : Plan) → IsPlanText I text P → r ≡ Ok P
   unfolding IsPlanText

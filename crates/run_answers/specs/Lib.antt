@@ -1,4 +1,5 @@
 pub mod Statuses
+pub mod Ended
 pub mod Texts
 pub mod Written
 pub mod Sources

@@ -42,6 +42,17 @@ pub fn fixed(status: Status, text: &'static [u8]) -> Answer
     }
 }
 
+/// A status with a text that was made.
+pub fn made(status: Status, text: Vec<u8>) -> Answer
+    ensures status { result.status ≡ status }
+    ensures text { bytes_in result.text ≡ text.items }
+{
+    Answer {
+        status,
+        text: Text::Made(text),
+    }
+}
+
 /// Want of memory, written without memory.
 pub fn no_memory() -> Answer
     ensures status { result.status ≡ Status.NoMemory }

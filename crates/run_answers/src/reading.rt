@@ -3,7 +3,7 @@ ghost use Rattle.std.specs.Prelude.{IfErr, IfOk};
 ghost use Rattle.run_answers.specs.Sources.{IsReadWhole, IsUnreadable, TellsTooLong, drained};
 ghost use Rattle.run_answers.specs.Written.{bytes_in};
 
-use crate::answer::{Answer, Text, fixed, no_memory};
+use crate::answer::{Answer, fixed, made, no_memory};
 use crate::status::Status;
 use crate::texts::too_long_text;
 use lock_io::{ReadError, Source, read_all};
@@ -18,10 +18,7 @@ fn too_long(alloc: Global, most: u64) -> Answer
     ensures { TellsTooLong most result.status (bytes_in result.text) }
 {
     match too_long_text(alloc, most) {
-        Ok(text) => Answer {
-            status: Status::Refused,
-            text: Text::Made(text),
-        },
+        Ok(text) => made(Status::Refused, text),
         Err(NoMemory) => no_memory(),
     }
 }
