@@ -4,7 +4,7 @@ ghost use Rattle.lock_rules.specs.Throughput.{throughput_of};
 ghost use Rattle.lock_rules.specs.Bound.{bound_of};
 ghost use Rattle.master_branch.specs.Node.{IsNodeOf, children, child_lines};
 ghost use Rattle.closing_rules.specs.ProvedCuts.{IsShaped};
-ghost use Rattle.cert_check.specs.Reading.{IsRead, IsStuck, IsChildRead, IsChildStuck, AreRead, AreStuck};
+ghost use Rattle.cert_check.specs.Reading.{whole_kind, IsRead, IsStuck, IsChildRead, IsChildStuck, AreRead, AreStuck};
 ghost use Rattle.cert_check.specs.Splitting.{IsSplit};
 
 use crate::closing::{Claim, closes, reason_against};
@@ -65,8 +65,8 @@ fn read_made_child<'m>(
 ) -> Result<Reading<'m>, NoMemory>
     requires split { IsSplit claim.now parent.now }
     requires within { i < length (children claim.now.instance.now parent.now.node.now) }
-    ensures read { IfOk result (λ reading. IfOk reading (λ rest. IsChildRead claim.now parent.now.node.now i marks.now rest.now)) }
-    ensures stuck { IfOk result (λ reading. IfErr reading (λ stuck. IsChildStuck claim.now parent.now.node.now i marks.now stuck.marks.now stuck.reason)) }
+    ensures read { IfOk result (λ reading. IfOk reading (λ rest. IsChildRead (whole_kind claim.now) parent.now.node.now i marks.now rest.now)) }
+    ensures stuck { IfOk result (λ reading. IfErr reading (λ stuck. IsChildStuck (whole_kind claim.now) parent.now.node.now i marks.now stuck.marks.now stuck.reason)) }
 {
     read_tree(claim, &child_of(claim, parent, i), marks, space)
 }
@@ -83,8 +83,8 @@ fn read_child<'m>(
 ) -> Result<Reading<'m>, NoMemory>
     requires split { IsSplit claim.now parent.now }
     requires within { i < length (children claim.now.instance.now parent.now.node.now) }
-    ensures read { IfOk result (λ reading. IfOk reading (λ rest. IsChildRead claim.now parent.now.node.now i marks.now rest.now)) }
-    ensures stuck { IfOk result (λ reading. IfErr reading (λ stuck. IsChildStuck claim.now parent.now.node.now i marks.now stuck.marks.now stuck.reason)) }
+    ensures read { IfOk result (λ reading. IfOk reading (λ rest. IsChildRead (whole_kind claim.now) parent.now.node.now i marks.now rest.now)) }
+    ensures stuck { IfOk result (λ reading. IfErr reading (λ stuck. IsChildStuck (whole_kind claim.now) parent.now.node.now i marks.now stuck.marks.now stuck.reason)) }
 {
     if let Some(rest) = behind_bound(marks) {
         if child_reaches(claim, parent, i) {
@@ -108,8 +108,8 @@ fn read_children<'m>(
 ) -> Result<Reading<'m>, NoMemory>
     requires node { IsNodeOf claim.now.instance.now node.now }
     requires lacks { node.now.depth < length claim.now.instance.now.ships }
-    ensures read { IfOk result (λ reading. IfOk reading (λ rest. AreRead claim.now node.now (length (children claim.now.instance.now node.now)) marks.now rest.now)) }
-    ensures stuck { IfOk result (λ reading. IfErr reading (λ stuck. AreStuck claim.now node.now marks.now stuck.marks.now stuck.reason)) }
+    ensures read { IfOk result (λ reading. IfOk reading (λ rest. AreRead (whole_kind claim.now) node.now (length (children claim.now.instance.now node.now)) marks.now rest.now)) }
+    ensures stuck { IfOk result (λ reading. IfErr reading (λ stuck. AreStuck (whole_kind claim.now) node.now marks.now stuck.marks.now stuck.reason)) }
 {
     let parent = split(claim, node, &mut space.walks);
     let mut rest = marks;
@@ -132,8 +132,8 @@ pub(crate) fn read_tree<'m>(
     space: &mut Workspace,
 ) -> Result<Reading<'m>, NoMemory>
     requires { IsNodeOf claim.now.instance.now node.now }
-    ensures read { IfOk result (λ reading. IfOk reading (λ rest. IsRead claim.now node.now marks.now rest.now)) }
-    ensures stuck { IfOk result (λ reading. IfErr reading (λ stuck. IsStuck claim.now node.now marks.now stuck.marks.now stuck.reason)) }
+    ensures read { IfOk result (λ reading. IfOk reading (λ rest. IsRead (whole_kind claim.now) node.now marks.now rest.now)) }
+    ensures stuck { IfOk result (λ reading. IfErr reading (λ stuck. IsStuck (whole_kind claim.now) node.now marks.now stuck.marks.now stuck.reason)) }
 {
     let Some((mark, rest)) = first_mark(marks) else {
         return Ok(Err(Stuck {

@@ -54,7 +54,7 @@ module _ {C : Type 0} where
   unfolding Means
   pair_no_rest rest text I bytes f means is bad = ap₂ made means (ap rest (sym is) ∙ bad)
 
-  one-meaning : (told : Result (Draft × C) BadDossier) (I J : Instance) (c d : C) → told ≡ Ok (draft_of I, c) → told ≡ Ok (draft_of J, d) → (I ≡ J) × (c ≡ d)
+  pub one-meaning : (told : Result (Draft × C) BadDossier) (I J : Instance) (c d : C) → told ≡ Ok (draft_of I, c) → told ≡ Ok (draft_of J, d) → (I ≡ J) × (c ≡ d)
   one-meaning told I J c d first second =
       let same : ◌≡◌ {A = Result (Draft × C) BadDossier} (Ok (draft_of I, c)) (Ok (draft_of J, d)) = sym first ∙ second in
       let pair : ◌≡◌ {A = Draft × C} (draft_of I, c) (draft_of J, d) = cc in

@@ -4,7 +4,7 @@ use Rattle.std.specs.Str.{is_utf8}
 use Rattle.lock_model.specs.declared.instance.Instance.{Instance}
 use Rattle.certificate_rules.specs.Certificates.{Certificate}
 use Rattle.line_text.specs.Steps.{◌>>=◌}
-use Rattle.instance_text.specs.Draft.{Draft}
+use Rattle.instance_text.specs.Draft.{Draft, draft_of}
 use Rattle.instance_text.specs.Reading.{reading, instance_part, after_instance}
 use Rattle.instance_text.specs.Canonical.{canonical}
 use Rattle.serde_json.specs.Data.{Data}
@@ -80,7 +80,7 @@ dossier_in text = pair_in rest_in text
 
 -- the text is a dossier of this instance and this certificate
 unfoldable pub Reads : List ℕ → Instance → Certificate → Type 0
-Reads text I C = dossier_in text ≡ Ok (record { chambers = I.chambers; ships = I.ships }, C)
+Reads text I C = dossier_in text ≡ Ok (draft_of I, C)
 
 -- the text's first fault
 unfoldable pub DossierFault : List ℕ → BadDossier → Type 0

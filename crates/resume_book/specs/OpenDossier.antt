@@ -3,7 +3,7 @@ use Rattle.std.specs.Prelude.{ℕ, ◌≡◌, List, Result, Ok, Err, codes, if�
 use Rattle.lock_model.specs.declared.instance.Instance.{Instance}
 use Rattle.certificate_rules.specs.OpenCertificates.{OpenCertificate}
 use Rattle.line_text.specs.Steps.{◌>>=◌}
-use Rattle.instance_text.specs.Draft.{Draft}
+use Rattle.instance_text.specs.Draft.{Draft, draft_of}
 use Rattle.serde_json.specs.Data.{Data}
 use Rattle.cert_text.specs.declared.heading.Form.TheVariants as form
 use Rattle.cert_text.specs.declared.heading.Version.{Version}
@@ -58,7 +58,7 @@ open_dossier_in text = pair_in open_rest_in text
 
 -- the text is an open dossier of this instance and this certificate
 unfoldable pub ReadsOpen : List ℕ → Instance → OpenCertificate → Type 0
-ReadsOpen text I C = open_dossier_in text ≡ Ok (record { chambers = I.chambers; ships = I.ships }, C)
+ReadsOpen text I C = open_dossier_in text ≡ Ok (draft_of I, C)
 
 -- the text's first fault
 abbrev pub OpenDossierFault : List ℕ → BadDossier → Type 0

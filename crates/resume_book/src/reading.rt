@@ -7,7 +7,8 @@ ghost use Rattle.certificate_rules.specs.Failures.{open_reason_of};
 ghost use Rattle.certificate_rules.specs.Low.{leaf_bounds};
 ghost use Rattle.cert_check.specs.Splitting.{IsSplit};
 ghost use Rattle.lock_rules.specs.Bound.{least_number};
-ghost use Rattle.resume_book.specs.Reading.{IsRead, IsStuck, IsChildRead, IsChildStuck, AreRead, AreStuck};
+ghost use Rattle.cert_check.specs.Reading.{IsStuck, IsChildStuck, AreStuck};
+ghost use Rattle.resume_book.specs.Reading.{open_kind, IsReadLow, IsChildReadLow, AreReadLow};
 
 use cert_check::{
     Claim, Ground, Mark, SplitNode, Workspace, child_of, child_reaches, closes, count_children,
@@ -110,8 +111,8 @@ fn read_made_child<'m>(
 ) -> Result<Reading<'m>, NoMemory>
     requires split { IsSplit claim.now parent.now }
     requires within { i < length (children claim.now.instance.now parent.now.node.now) }
-    ensures read { IfOk result (λ reading. IfOk reading (λ read. IsChildRead claim.now parent.now.node.now i low marks.now read.marks.now read.low)) }
-    ensures stuck { IfOk result (λ reading. IfErr reading (λ stuck. IsChildStuck claim.now parent.now.node.now i marks.now stuck.marks.now stuck.reason)) }
+    ensures read { IfOk result (λ reading. IfOk reading (λ read. IsChildReadLow claim.now parent.now.node.now i low marks.now read.marks.now read.low)) }
+    ensures stuck { IfOk result (λ reading. IfErr reading (λ stuck. IsChildStuck (open_kind claim.now) parent.now.node.now i marks.now stuck.marks.now stuck.reason)) }
 {
     read_tree(claim, &child_of(claim, parent, i), low, marks, space)
 }
@@ -129,8 +130,8 @@ fn read_child<'m>(
 ) -> Result<Reading<'m>, NoMemory>
     requires split { IsSplit claim.now parent.now }
     requires within { i < length (children claim.now.instance.now parent.now.node.now) }
-    ensures read { IfOk result (λ reading. IfOk reading (λ read. IsChildRead claim.now parent.now.node.now i low marks.now read.marks.now read.low)) }
-    ensures stuck { IfOk result (λ reading. IfErr reading (λ stuck. IsChildStuck claim.now parent.now.node.now i marks.now stuck.marks.now stuck.reason)) }
+    ensures read { IfOk result (λ reading. IfOk reading (λ read. IsChildReadLow claim.now parent.now.node.now i low marks.now read.marks.now read.low)) }
+    ensures stuck { IfOk result (λ reading. IfErr reading (λ stuck. IsChildStuck (open_kind claim.now) parent.now.node.now i marks.now stuck.marks.now stuck.reason)) }
 {
     if let Some(rest) = behind_bound(marks) {
         if child_reaches(claim, parent, i) {
@@ -155,8 +156,8 @@ fn read_children<'m>(
 ) -> Result<Reading<'m>, NoMemory>
     requires node { IsNodeOf claim.now.instance.now node.now }
     requires lacks { node.now.depth < length claim.now.instance.now.ships }
-    ensures read { IfOk result (λ reading. IfOk reading (λ read. AreRead claim.now node.now (length (children claim.now.instance.now node.now)) low marks.now read.marks.now read.low)) }
-    ensures stuck { IfOk result (λ reading. IfErr reading (λ stuck. AreStuck claim.now node.now marks.now stuck.marks.now stuck.reason)) }
+    ensures read { IfOk result (λ reading. IfOk reading (λ read. AreReadLow claim.now node.now (length (children claim.now.instance.now node.now)) low marks.now read.marks.now read.low)) }
+    ensures stuck { IfOk result (λ reading. IfErr reading (λ stuck. AreStuck (open_kind claim.now) node.now marks.now stuck.marks.now stuck.reason)) }
 {
     let parent = split(claim, node, &mut space.walks);
     let mut rest = marks;
@@ -186,8 +187,8 @@ pub(crate) fn read_tree<'m>(
     space: &mut Workspace,
 ) -> Result<Reading<'m>, NoMemory>
     requires { IsNodeOf claim.now.instance.now node.now }
-    ensures read { IfOk result (λ reading. IfOk reading (λ read. IsRead claim.now node.now low marks.now read.marks.now read.low)) }
-    ensures stuck { IfOk result (λ reading. IfErr reading (λ stuck. IsStuck claim.now node.now marks.now stuck.marks.now stuck.reason)) }
+    ensures read { IfOk result (λ reading. IfOk reading (λ read. IsReadLow claim.now node.now low marks.now read.marks.now read.low)) }
+    ensures stuck { IfOk result (λ reading. IfErr reading (λ stuck. IsStuck (open_kind claim.now) node.now marks.now stuck.marks.now stuck.reason)) }
 {
     let Some((mark, rest)) = first_mark(marks) else {
         return Ok(Err(Stuck {

@@ -4,7 +4,7 @@ use Rattle.std.proofs.lemmas.Result.{IfOk-weaker, IfErr-weaker}
 use Rattle.certificate_rules.specs.declared.certificate.Mark.TheVariants as mark
 use Rattle.certificate_rules.specs.Certificates.{Closes}
 use Rattle.master_branch.specs.Node.{children}
-use Rattle.cert_check.specs.Reading.{IsStuck, IsChildRead, IsChildStuck}
+use Rattle.cert_check.specs.Reading.{whole_kind, IsStuck, IsChildRead, IsChildStuck}
 use Rattle.cert_check.proofs.ReadLemmas.{bound-read, bound-stuck, child-read, child-stuck, more-read, more-stuck, split-read, split-stuck, leaf-stuck}
 use Rattle.cert_check.proofs.TreeLemmas.{not-true}
 use Rattle.cert_check.proofs.reading.+tree.Goals as goal
@@ -22,14 +22,14 @@ pub read_made_child-returns-clause-read : goal.read_made_child-returns-clause-re
 read_made_child-returns-clause-read n c =
     IfOk-weaker c.read_tree.result _ _
     (λ reading. IfOk-weaker reading _ _
-    (λ rest h. child-read c.args.claim.now c.args.parent.now.node.now c.child_of.result c.args.i c.args.marks.now rest.now c.requires.within c.child_of.ensures.depth c.child_of.ensures.lines h))
+    (λ rest h. child-read (whole_kind c.args.claim.now) c.args.parent.now.node.now c.child_of.result c.args.i c.args.marks.now rest.now c.requires.within c.child_of.ensures.depth c.child_of.ensures.lines h))
     c.read_tree.ensures.read
 
 pub read_made_child-returns-clause-stuck : goal.read_made_child-returns-clause-stuck
 read_made_child-returns-clause-stuck n c =
     IfOk-weaker c.read_tree.result _ _
     (λ reading. IfErr-weaker reading _ _
-    (λ stuck h. child-stuck c.args.claim.now c.args.parent.now.node.now c.child_of.result c.args.i c.args.marks.now stuck.marks.now stuck.reason c.requires.within c.child_of.ensures.depth c.child_of.ensures.lines h))
+    (λ stuck h. child-stuck (whole_kind c.args.claim.now) c.args.parent.now.node.now c.child_of.result c.args.i c.args.marks.now stuck.marks.now stuck.reason c.requires.within c.child_of.ensures.depth c.child_of.ensures.lines h))
     c.read_tree.ensures.stuck
 
 pub read_children-returns-in-Err-clause-stuck : goal.read_children-returns-in-Err-clause-stuck
@@ -37,18 +37,18 @@ read_children-returns-in-Err-clause-stuck n c =
     let claim = c.args.claim.now in
     let node : c.split-parent.result.node.now ≡ c.args.node.now = c.split-parent.ensures.node in
     let within : c.loop-i.i < length (children claim.instance.now c.args.node.now) = omega (arith, c.loop-i-test.true, c.count_children-i-end.ensures, ap (λ n. length (children claim.instance.now n)) node) in
-    let own : IsChildStuck claim c.split-parent.result.node.now c.loop-i.i c.loop-i.rest.now c.in-Err.stuck.marks.now c.in-Err.stuck.reason = search rules in
-    more-stuck claim c.args.node.now c.loop-i.i c.args.marks.now c.loop-i.rest.now _ _ within c.loop-i.invariant
-    (subst (λ n. IsChildStuck claim n c.loop-i.i c.loop-i.rest.now c.in-Err.stuck.marks.now c.in-Err.stuck.reason) node own)
+    let own : IsChildStuck (whole_kind claim) c.split-parent.result.node.now c.loop-i.i c.loop-i.rest.now c.in-Err.stuck.marks.now c.in-Err.stuck.reason = search rules in
+    more-stuck (whole_kind claim) c.args.node.now c.loop-i.i c.args.marks.now c.loop-i.rest.now _ _ within c.loop-i.invariant
+    (subst (λ n. IsChildStuck (whole_kind claim) n c.loop-i.i c.loop-i.rest.now c.in-Err.stuck.marks.now c.in-Err.stuck.reason) node own)
 
 pub read_children-loop-i-preserved : goal.read_children-loop-i-preserved
 read_children-loop-i-preserved n c =
     let claim = c.args.claim.now in
     let node : c.split-parent.result.node.now ≡ c.args.node.now = c.split-parent.ensures.node in
     let within : c.loop-i.i < length (children claim.instance.now c.args.node.now) = omega (arith, c.loop-i-test.true, c.count_children-i-end.ensures, ap (λ n. length (children claim.instance.now n)) node) in
-    let own : IsChildRead claim c.split-parent.result.node.now c.loop-i.i c.loop-i.rest.now c.in-Ok.behind.now = search rules in
-    more-read claim c.args.node.now c.loop-i.i c.args.marks.now c.loop-i.rest.now c.in-Ok.behind.now within c.loop-i.invariant
-    (subst (λ n. IsChildRead claim n c.loop-i.i c.loop-i.rest.now c.in-Ok.behind.now) node own)
+    let own : IsChildRead (whole_kind claim) c.split-parent.result.node.now c.loop-i.i c.loop-i.rest.now c.in-Ok.behind.now = search rules in
+    more-read (whole_kind claim) c.args.node.now c.loop-i.i c.args.marks.now c.loop-i.rest.now c.in-Ok.behind.now within c.loop-i.invariant
+    (subst (λ n. IsChildRead (whole_kind claim) n c.loop-i.i c.loop-i.rest.now c.in-Ok.behind.now) node own)
 
 pub read_tree-returns-then-splits-clause-read : goal.read_tree-returns-then-splits-clause-read
 read_tree-returns-then-splits-clause-read n c =
@@ -56,7 +56,7 @@ read_tree-returns-then-splits-clause-read n c =
     let front : c.args.marks.now ≡ mark.Split ∷ c.in-Some.rest.now = c.in-Some.ensures.some ∙ ap (λ m. m ∷ c.in-Some.rest.now) split.0 in
     IfOk-weaker c.read_children.result _ _
     (λ reading. IfOk-weaker reading _ _
-    (λ rest h. split-read c.args.claim.now c.args.node.now c.args.marks.now c.in-Some.rest.now rest.now split.1 front h))
+    (λ rest h. split-read (whole_kind c.args.claim.now) c.args.node.now c.args.marks.now c.in-Some.rest.now rest.now split.1 front h))
     c.read_children.ensures.read
 
 pub read_tree-returns-then-splits-clause-stuck : goal.read_tree-returns-then-splits-clause-stuck
@@ -65,7 +65,7 @@ read_tree-returns-then-splits-clause-stuck n c =
     let front : c.args.marks.now ≡ mark.Split ∷ c.in-Some.rest.now = c.in-Some.ensures.some ∙ ap (λ m. m ∷ c.in-Some.rest.now) split.0 in
     IfOk-weaker c.read_children.result _ _
     (λ reading. IfErr-weaker reading _ _
-    (λ stuck h. split-stuck c.args.claim.now c.args.node.now c.args.marks.now c.in-Some.rest.now stuck.marks.now stuck.reason split.1 front h))
+    (λ stuck h. split-stuck (whole_kind c.args.claim.now) c.args.node.now c.args.marks.now c.in-Some.rest.now stuck.marks.now stuck.reason split.1 front h))
     c.read_children.ensures.stuck
 
 pub read_tree-returns-clause-stuck : goal.read_tree-returns-clause-stuck
@@ -78,5 +78,5 @@ read_tree-returns-clause-stuck n c =
       | inl less ↦ absurd (not-true c.splits.result c.if-splits.false (c.splits.ensures.1 (e, less.1)))
       | inr held ↦ omega (arith, held.1)
     ] in
-    subst (λ r. IsStuck c.args.claim.now node c.args.marks.now c.args.marks.now r) (sym c.reason_against.ensures)
-    (leaf-stuck c.args.claim.now node c.in-Some.mark c.args.marks.now c.in-Some.rest.now c.in-Some.ensures.some open' whole)
+    subst (λ r. IsStuck (whole_kind c.args.claim.now) node c.args.marks.now c.args.marks.now r) (sym c.reason_against.ensures)
+    (leaf-stuck (whole_kind c.args.claim.now) node c.in-Some.mark c.args.marks.now c.in-Some.rest.now c.in-Some.ensures.some open' whole)
