@@ -8,6 +8,7 @@ use Rattle.certificate_rules.specs.OpenCertificates.{OpenCertificate, Stands}
 use Rattle.closing_rules.proofs.BelowLemmas.{least-below}
 use Rattle.command_words.specs.declared.commands.SolveOptions.{SolveOptions}
 use Rattle.run_answers.specs.Sources.{IsFair}
+use Rattle.run_answers.proofs.EndedLemmas.{refused_ended}
 use Rattle.run_answers.specs.declared.status.Status.{Status}
 use Rattle.run_answers.specs.declared.status.Status.TheVariants.{Good, Open, Words, Refused, ReadFault, WriteFault, NoMemory, BadDossier, Unfit, PlanRefused}
 use Rattle.solve_commands.specs.Searching.{PrintsBest, AnswersSearch}
@@ -15,33 +16,15 @@ use Rattle.solve_commands.specs.Keeping.{PrintsLeft}
 use Rattle.dossier_commands.specs.DossierTexts.{lower_text}
 use Rattle.checked_dossiers.specs.Standing.{IsStanding, HasLow, IsNoStanding}
 use Rattle.dossier_commands.specs.Lowering.{PrintsEqual, PrintsGap, AnswersLower}
-use Rattle.dossier_commands.specs.Resuming.{search_on, AnswersResume}
+use Rattle.dossier_commands.specs.Resuming.{search_on, ResumesBest, ResumesOpen, AnswersResume}
 
 -- ---- what is answered to bytes that aren't an open dossier that stands
 
 pub lowers_none : (bytes : List ℕ) (s : Status) (text : List ℕ) → IsNoStanding bytes s text → AnswersLower bytes s text
-lowers_none bytes Good text none = absurd none
-lowers_none bytes Open text none = absurd none
-lowers_none bytes Words text none = none
-lowers_none bytes Refused text none = none
-lowers_none bytes ReadFault text none = none
-lowers_none bytes WriteFault text none = none
-lowers_none bytes NoMemory text none = none
-lowers_none bytes BadDossier text none = none
-lowers_none bytes Unfit text none = none
-lowers_none bytes PlanRefused text none = none
+lowers_none bytes s text none = refused_ended (PrintsEqual bytes text) (PrintsGap bytes text) (λ t. IsNoStanding bytes t text) s (λ never. never) (λ never. never) none
 
 pub resumes_none : (options : SolveOptions) (bytes : List ℕ) (s : Status) (text : List ℕ) → IsNoStanding bytes s text → AnswersResume options bytes s text
-resumes_none options bytes Good text none = absurd none
-resumes_none options bytes Open text none = absurd none
-resumes_none options bytes Words text none = none
-resumes_none options bytes Refused text none = none
-resumes_none options bytes ReadFault text none = none
-resumes_none options bytes WriteFault text none = none
-resumes_none options bytes NoMemory text none = none
-resumes_none options bytes BadDossier text none = none
-resumes_none options bytes Unfit text none = none
-resumes_none options bytes PlanRefused text none = none
+resumes_none options bytes s text none = refused_ended (ResumesBest options bytes text) (ResumesOpen options bytes text) (λ t. IsNoStanding bytes t text) s (λ never. never) (λ never. never) none
 
 -- ---- `lower`
 

@@ -1,14 +1,10 @@
 -- What `lower` answers to the bytes of an open dossier: a status and what is written.
-use Rattle.std.specs.Prelude.{ℕ, ◌≡◌, ◌<◌, ◌⊎◌, List}
+use Rattle.std.specs.Prelude.{ℕ, ◌≡◌, ◌<◌, List}
 use Rattle.lock_model.specs.declared.instance.Instance.{Instance}
 use Rattle.certificate_rules.specs.OpenCertificates.{OpenCertificate}
-use Rattle.certificate_rules.specs.Failures.{OpenFails}
-use Rattle.resume_book.specs.OpenDossier.{ReadsOpen, OpenDossierFault}
-use Rattle.run_answers.specs.Texts.{no_memory_text}
+use Rattle.run_answers.specs.Ended.{IsEndedOr}
 use Rattle.run_answers.specs.declared.status.Status.{Status}
-use Rattle.run_answers.specs.declared.status.Status.TheVariants.{Good, Open, Words, Refused, ReadFault, WriteFault, NoMemory, BadDossier, Unfit, PlanRefused}
-use Rattle.checked_dossiers.specs.Refused.{PrintsFault, PrintsUnfit, PrintsRejected}
-use Rattle.checked_dossiers.specs.Standing.{IsStanding, HasLow}
+use Rattle.checked_dossiers.specs.Standing.{IsStanding, HasLow, IsNoStanding}
 use Rattle.dossier_commands.specs.DossierTexts.{lower_text}
 
 -- The certificate stands with this low and this cost, no legal plan costs less than the low, and both numbers are printed.
@@ -34,13 +30,4 @@ pub record PrintsGap (bytes text : List ℕ) : Type 0 where
 
 -- what is answered to the bytes of an open dossier
 abbrev pub AnswersLower : List ℕ → Status → List ℕ → Type 0
-AnswersLower bytes Good text = PrintsEqual bytes text
-AnswersLower bytes Open text = PrintsGap bytes text
-AnswersLower bytes Words text = ⊥
-AnswersLower bytes Refused text = ⊥
-AnswersLower bytes ReadFault text = ⊥
-AnswersLower bytes WriteFault text = ⊥
-AnswersLower bytes NoMemory text = text ≡ no_memory_text
-AnswersLower bytes BadDossier text = PrintsFault OpenDossierFault bytes text ⊎ PrintsRejected ReadsOpen OpenFails bytes text
-AnswersLower bytes Unfit text = PrintsUnfit ReadsOpen bytes text
-AnswersLower bytes PlanRefused text = ⊥
+AnswersLower bytes status text = IsEndedOr (PrintsEqual bytes text) (PrintsGap bytes text) (λ s. IsNoStanding bytes s text) status

@@ -1,21 +1,17 @@
 -- What `resume` answers to the bytes of an open dossier: a status and what is written.
-use Rattle.std.specs.Prelude.{ℕ, ◌≡◌, ◌+◌, ◌≤◌, ◌⊎◌, List, min}
+use Rattle.std.specs.Prelude.{ℕ, ◌+◌, ◌≤◌, List, min}
 use Rattle.lock_model.specs.declared.instance.Instance.{Instance}
 use Rattle.lock_model.specs.declared.plan.Plan.{Plan}
 use Rattle.lock_rules.specs.Plan.{IsCheapest, cost_of}
 use Rattle.book_rules.specs.Book.{Case}
 use Rattle.certificate_rules.specs.OpenCertificates.{OpenCertificate}
-use Rattle.certificate_rules.specs.Failures.{OpenFails}
 use Rattle.command_words.specs.declared.commands.SolveOptions.{SolveOptions}
-use Rattle.resume_book.specs.OpenDossier.{ReadsOpen, OpenDossierFault}
 use Rattle.resume_book.specs.Prior.{prior_of}
-use Rattle.run_answers.specs.Texts.{no_memory_text}
+use Rattle.run_answers.specs.Ended.{IsEndedOr}
 use Rattle.run_answers.specs.declared.status.Status.{Status}
-use Rattle.run_answers.specs.declared.status.Status.TheVariants.{Good, Open, Words, Refused, ReadFault, WriteFault, NoMemory, BadDossier, Unfit, PlanRefused}
 use Rattle.solve_commands.specs.Searching.{Search, PrintsBest}
 use Rattle.solve_commands.specs.Keeping.{PrintsLeft}
-use Rattle.checked_dossiers.specs.Refused.{PrintsFault, PrintsUnfit, PrintsRejected}
-use Rattle.checked_dossiers.specs.Standing.{IsStanding}
+use Rattle.checked_dossiers.specs.Standing.{IsStanding, IsNoStanding}
 
 -- how many nodes a search may use that goes on from a certificate: those of its marks that are neither bounds nor open leaves, and the given ones, but at most 1,000,000
 abbrev pub budget_of : OpenCertificate → ℕ → ℕ
@@ -46,13 +42,4 @@ pub record ResumesOpen (options : SolveOptions) (bytes text : List ℕ) : Type 0
 
 -- what is answered to the bytes of an open dossier
 abbrev pub AnswersResume : SolveOptions → List ℕ → Status → List ℕ → Type 0
-AnswersResume options bytes Good text = ResumesBest options bytes text
-AnswersResume options bytes Open text = ResumesOpen options bytes text
-AnswersResume options bytes Words text = ⊥
-AnswersResume options bytes Refused text = ⊥
-AnswersResume options bytes ReadFault text = ⊥
-AnswersResume options bytes WriteFault text = ⊥
-AnswersResume options bytes NoMemory text = text ≡ no_memory_text
-AnswersResume options bytes BadDossier text = PrintsFault OpenDossierFault bytes text ⊎ PrintsRejected ReadsOpen OpenFails bytes text
-AnswersResume options bytes Unfit text = PrintsUnfit ReadsOpen bytes text
-AnswersResume options bytes PlanRefused text = ⊥
+AnswersResume options bytes status text = IsEndedOr (ResumesBest options bytes text) (ResumesOpen options bytes text) (λ s. IsNoStanding bytes s text) status

@@ -4,29 +4,8 @@
 
 use lock_io::{OpenGate, StdSink, StdSource, write_all_of};
 use lock_top::{Status, run};
-use run_answers::no_memory;
+use run_answers::{NoWords, given_words, no_memory};
 use std::process::ExitCode;
-use std::{env, io};
-
-// Why the system gave no words.
-#[derive(Clone, Copy)]
-enum NoWords {
-    NoMemory,
-    Other,
-}
-
-// The words after the program's name.
-fn words_of(rt: &HostRuntime) -> Result<Vec<String>, NoWords> {
-    let given = env::args(rt).map_err(|error| match error.kind() {
-        io::ErrorKind::OutOfMemory => NoWords::NoMemory,
-        _ => NoWords::Other,
-    })?;
-    let mut words = Vec::new(rt.alloc());
-    for word in given.skip(1) {
-        words.push(word).map_err(|_| NoWords::NoMemory)?;
-    }
-    Ok(words)
-}
 
 // One word that means nothing.
 fn bad_word(rt: &HostRuntime) -> Result<Vec<String>, NoWords> {
@@ -46,7 +25,7 @@ fn answer_no_memory(rt: &HostRuntime) -> Status {
 }
 
 fn main(rt: HostRuntime) -> ExitCode {
-    let words = match words_of(&rt) {
+    let words = match given_words(&rt) {
         Err(NoWords::Other) => bad_word(&rt),
         words => words,
     };

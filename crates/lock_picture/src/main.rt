@@ -4,33 +4,12 @@
 
 use lock_io::{StdSink, StdSource, write_all_of};
 use picture_command::answer_to;
-use run_answers::{Answer, Status, no_memory};
+use run_answers::{Answer, NoWords, Status, given_words, no_memory};
 use std::process::ExitCode;
-use std::{env, io};
-
-// Why the system gave no words.
-#[derive(Clone, Copy)]
-enum NoWords {
-    NoMemory,
-    Other,
-}
-
-// The words after the program's name.
-fn words_of(rt: &HostRuntime) -> Result<Vec<String>, NoWords> {
-    let given = env::args(rt).map_err(|error| match error.kind() {
-        io::ErrorKind::OutOfMemory => NoWords::NoMemory,
-        _ => NoWords::Other,
-    })?;
-    let mut words = Vec::new(rt.alloc());
-    for word in given.skip(1) {
-        words.push(word).map_err(|_| NoWords::NoMemory)?;
-    }
-    Ok(words)
-}
 
 // What is answered. Where the system gave no words, there are none.
 fn answer(rt: &HostRuntime) -> Answer {
-    let words = match words_of(rt) {
+    let words = match given_words(rt) {
         Err(NoWords::Other) => Ok(Vec::new(rt.alloc())),
         words => words,
     };

@@ -15,40 +15,30 @@ use Rattle.picture_page.specs.declared.heads.Known.TheVariants as known
 use Rattle.plan_commands.specs.Planned.{IsPlanned, AnswersIllegal}
 use Rattle.checked_dossiers.specs.Accepted.{IsAccepted, IsNotAccepted}
 use Rattle.checked_dossiers.specs.Standing.{IsStanding, HasLow, IsNoStanding}
+use Rattle.run_answers.specs.Ended.{IsGoodOr}
 use Rattle.run_answers.specs.Sources.{IsFair}
+use Rattle.run_answers.proofs.EndedLemmas.{refused_good}
 use Rattle.run_answers.specs.Texts.{no_memory_text}
 use Rattle.run_answers.specs.declared.status.Status.{Status}
 use Rattle.run_answers.specs.declared.status.Status.TheVariants.{Good, Open, Words, Refused, ReadFault, WriteFault, NoMemory, BadDossier, Unfit, PlanRefused}
 use Rattle.picture_command.specs.Headings.{heading_in}
-use Rattle.picture_command.specs.Pictures.{IsPicture, PrintsPlan, PrintsCheapest, PrintsBounded, known_of, IsPageOr, AnswersPlan, AnswersDossier, AnswersOpenDossier, AnswersHeaded, AnswersPicture, TellsPicture}
+use Rattle.picture_command.specs.Pictures.{IsPicture, PrintsPlan, PrintsCheapest, PrintsBounded, known_of, AnswersPlan, AnswersDossier, AnswersOpenDossier, AnswersHeaded, AnswersPicture, TellsPicture}
 
 -- ---- what is answered where there is no page
 
-no_page : (Page : Type 0) (Refusal : Status → Type 0) (s : Status) → (Refusal Good → ⊥) → Refusal s → IsPageOr Page Refusal s
-no_page Page Refusal Good never refusal = absurd (never refusal)
-no_page Page Refusal Open never refusal = refusal
-no_page Page Refusal Words never refusal = refusal
-no_page Page Refusal Refused never refusal = refusal
-no_page Page Refusal ReadFault never refusal = refusal
-no_page Page Refusal WriteFault never refusal = refusal
-no_page Page Refusal NoMemory never refusal = refusal
-no_page Page Refusal BadDossier never refusal = refusal
-no_page Page Refusal Unfit never refusal = refusal
-no_page Page Refusal PlanRefused never refusal = refusal
-
 pub plan_refused : (clock : Clock) (bytes : List ℕ) (s : Status) (text : List ℕ) → AnswersIllegal bytes s text → AnswersPlan clock bytes s text
-plan_refused clock bytes s text refusal = no_page (PrintsPlan clock bytes text) (λ t. AnswersIllegal bytes t text) s (λ never. never) refusal
+plan_refused clock bytes s text refusal = refused_good (PrintsPlan clock bytes text) (λ t. AnswersIllegal bytes t text) s (λ never. never) refusal
 
 pub dossier_refused : (clock : Clock) (bytes : List ℕ) (s : Status) (text : List ℕ) → IsNotAccepted bytes s text → AnswersDossier clock bytes s text
-dossier_refused clock bytes s text refusal = no_page (PrintsCheapest clock bytes text) (λ t. IsNotAccepted bytes t text) s (λ never. never) refusal
+dossier_refused clock bytes s text refusal = refused_good (PrintsCheapest clock bytes text) (λ t. IsNotAccepted bytes t text) s (λ never. never) refusal
 
 pub open_refused : (clock : Clock) (bytes : List ℕ) (s : Status) (text : List ℕ) → IsNoStanding bytes s text → AnswersOpenDossier clock bytes s text
-open_refused clock bytes s text refusal = no_page (PrintsBounded clock bytes text) (λ t. IsNoStanding bytes t text) s (λ never. never) refusal
+open_refused clock bytes s text refusal = refused_good (PrintsBounded clock bytes text) (λ t. IsNoStanding bytes t text) s (λ never. never) refusal
 
 -- ---- what is answered where there is a page
 
 page_told : (clock : Clock) (kind : Known) (I : Instance) (P : Plan) (Page : Type 0) (Refusal : Status → Type 0) (s : Status) (text : List ℕ)
-    → (IsPicture clock kind I P text → Page) → (text ≡ no_memory_text → Refusal NoMemory) → TellsPicture clock kind I P s text → IsPageOr Page Refusal s
+    → (IsPicture clock kind I P text → Page) → (text ≡ no_memory_text → Refusal NoMemory) → TellsPicture clock kind I P s text → IsGoodOr Page Refusal s
 page_told clock kind I P Page Refusal Good text page wanting told = page told
 page_told clock kind I P Page Refusal Open text page wanting told = absurd told
 page_told clock kind I P Page Refusal Words text page wanting told = absurd told

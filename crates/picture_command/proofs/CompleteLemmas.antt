@@ -1,11 +1,12 @@
 -- A dossier that is accepted, and an open one that stands, are drawn, want of memory aside.
-use Rattle.std.proofs.Common.{ℕ, ◌≡◌, ◌⊎◌, List, Option, None, Some, Result, Ok, Err, refl, subst, ap, inl, inr}
+use Rattle.std.proofs.Common.{ℕ, ◌≡◌, ◌⊎◌, List, Option, None, Some, Result, Ok, Err, refl, subst, ap}
 use Rattle.std.specs.Prelude.{option_map}
 use Rattle.list_laws.proofs.Variants.{one-ok}
 use Rattle.lock_model.specs.declared.instance.Instance.{Instance}
 use Rattle.certificate_rules.specs.Certificates.{Certificate}
 use Rattle.certificate_rules.specs.OpenCertificates.{OpenCertificate}
 use Rattle.line_text.specs.Steps.{◌>>=◌}
+use Rattle.instance_text.specs.Draft.{draft_of}
 use Rattle.instance_text.specs.Reading.{reading, instance_part, after_instance}
 use Rattle.cert_text.specs.Steps.{or_fault, fault_under}
 use Rattle.cert_text.specs.Certificates.{certificate_in}
@@ -24,10 +25,11 @@ use Rattle.picture_forms.specs.declared.times.Clock.{Clock}
 use Rattle.checked_dossiers.specs.Accepted.{IsAccepted, IsNotAccepted}
 use Rattle.checked_dossiers.specs.Standing.{IsStanding, IsNoStanding}
 use Rattle.checked_dossiers.proofs.ExactLemmas.{accepted_wants, standing_wants}
+use Rattle.run_answers.proofs.EndedLemmas.{good_or}
 use Rattle.run_answers.specs.declared.status.Status.{Status}
-use Rattle.run_answers.specs.declared.status.Status.TheVariants.{Good, Open, Words, Refused, ReadFault, WriteFault, NoMemory, BadDossier, Unfit, PlanRefused}
+use Rattle.run_answers.specs.declared.status.Status.TheVariants.{Good, NoMemory}
 use Rattle.picture_command.specs.Headings.{heading_in}
-use Rattle.picture_command.specs.Pictures.{PrintsCheapest, PrintsBounded, IsPageOr, AnswersHeaded, AnswersPicture}
+use Rattle.picture_command.specs.Pictures.{PrintsCheapest, PrintsBounded, AnswersHeaded, AnswersPicture}
 
 -- ---- the heading of what is read as a dossier
 
@@ -73,36 +75,24 @@ open_rest_version bytes C e = valued_version form.Open bytes (value_in form.Open
 reads_version : (bytes : List ℕ) (I : Instance) (C : Certificate) → Reads bytes I C → HasVersion (version_under form.Whole) (heading_in bytes)
 unfolding Reads dossier_in
 reads_version bytes I C reads =
-    rest_version (after_instance bytes) C (second (fault_under fault.Instance (reading (instance_part bytes))) (rest_in (after_instance bytes)) (record { chambers = I.chambers; ships = I.ships }, C) reads)
+    rest_version (after_instance bytes) C (second (fault_under fault.Instance (reading (instance_part bytes))) (rest_in (after_instance bytes)) (draft_of I, C) reads)
 
 open_reads_version : (bytes : List ℕ) (I : Instance) (C : OpenCertificate) → ReadsOpen bytes I C → HasVersion (version_under form.Open) (heading_in bytes)
 unfolding ReadsOpen open_dossier_in
 open_reads_version bytes I C reads =
-    open_rest_version (after_instance bytes) C (second (fault_under fault.Instance (reading (instance_part bytes))) (open_rest_in (after_instance bytes)) (record { chambers = I.chambers; ships = I.ships }, C) reads)
+    open_rest_version (after_instance bytes) C (second (fault_under fault.Instance (reading (instance_part bytes))) (open_rest_in (after_instance bytes)) (draft_of I, C) reads)
 
 -- ---- how a picture may end
 
-drawn_or : (Page : Type 0) (Refusal : Status → Type 0) (s : Status) → (Refusal s → s ≡ NoMemory) → IsPageOr Page Refusal s → (s ≡ Good) ⊎ (s ≡ NoMemory)
-drawn_or Page Refusal Good wants answer = inl refl
-drawn_or Page Refusal Open wants answer = inr (wants answer)
-drawn_or Page Refusal Words wants answer = inr (wants answer)
-drawn_or Page Refusal Refused wants answer = inr (wants answer)
-drawn_or Page Refusal ReadFault wants answer = inr (wants answer)
-drawn_or Page Refusal WriteFault wants answer = inr (wants answer)
-drawn_or Page Refusal NoMemory wants answer = inr (wants answer)
-drawn_or Page Refusal BadDossier wants answer = inr (wants answer)
-drawn_or Page Refusal Unfit wants answer = inr (wants answer)
-drawn_or Page Refusal PlanRefused wants answer = inr (wants answer)
-
 whole_drawn : (clock : Clock) (bytes : List ℕ) (I : Instance) (C : Certificate) (s : Status) (text : List ℕ) (h : Heading) (version : Version) → IsAccepted bytes I C → version_under form.Whole h ≡ Some version → AnswersHeaded clock (Some h) bytes s text → (s ≡ Good) ⊎ (s ≡ NoMemory)
 whole_drawn clock bytes I C s text (kind.Whole v) version accepted is answer =
-    drawn_or (PrintsCheapest clock bytes text) (λ t. IsNotAccepted bytes t text) s (λ refusal. accepted_wants bytes s text refusal I C accepted) answer
+    good_or (PrintsCheapest clock bytes text) (λ t. IsNotAccepted bytes t text) s (λ refusal. accepted_wants bytes s text refusal I C accepted) answer
 whole_drawn clock bytes I C s text (kind.Open v) version accepted is answer = absurd cc
 
 open_drawn : (clock : Clock) (bytes : List ℕ) (I : Instance) (C : OpenCertificate) (s : Status) (text : List ℕ) (h : Heading) (version : Version) → IsStanding bytes I C → version_under form.Open h ≡ Some version → AnswersHeaded clock (Some h) bytes s text → (s ≡ Good) ⊎ (s ≡ NoMemory)
 open_drawn clock bytes I C s text (kind.Whole v) version stands is answer = absurd cc
 open_drawn clock bytes I C s text (kind.Open v) version stands is answer =
-    drawn_or (PrintsBounded clock bytes text) (λ t. IsNoStanding bytes t text) s (λ refusal. standing_wants bytes s text refusal I C stands) answer
+    good_or (PrintsBounded clock bytes text) (λ t. IsNoStanding bytes t text) s (λ refusal. standing_wants bytes s text refusal I C stands) answer
 
 -- what `check` accepts is drawn
 pub accepted_drawn : (clock : Clock) (bytes : List ℕ) (I : Instance) (C : Certificate) (s : Status) (text : List ℕ) → IsAccepted bytes I C → AnswersPicture clock bytes s text → (s ≡ Good) ⊎ (s ≡ NoMemory)

@@ -16,9 +16,10 @@ use Rattle.picture_page.specs.declared.heads.Known.TheVariants as known
 use Rattle.plan_commands.specs.Planned.{IsLegallyPlanned, AnswersIllegal}
 use Rattle.checked_dossiers.specs.Accepted.{IsAccepted, IsNotAccepted}
 use Rattle.checked_dossiers.specs.Standing.{IsStanding, HasLow, IsNoStanding}
+use Rattle.run_answers.specs.Ended.{IsGoodOr}
 use Rattle.run_answers.specs.Texts.{no_memory_text}
 use Rattle.run_answers.specs.declared.status.Status.{Status}
-use Rattle.run_answers.specs.declared.status.Status.TheVariants.{Good, Open, Words, Refused, ReadFault, WriteFault, NoMemory, BadDossier, Unfit, PlanRefused}
+use Rattle.run_answers.specs.declared.status.Status.TheVariants.{Good, NoMemory}
 use Rattle.picture_command.specs.Headings.{heading_in}
 
 -- The text is the picture of a plan of which this is known and of its day, which is a lawful one.
@@ -53,28 +54,15 @@ pub record PrintsBounded (clock : Clock) (bytes text : List ℕ) : Type 0 where
   pub lowest : HasLow instance certificate low
   pub page : IsPicture clock (known_of low certificate.cost) instance certificate.plan text
 
--- a page, with `Good`, or what is answered where there is none
-abbrev pub IsPageOr : Type 0 → (Status → Type 0) → Status → Type 0
-IsPageOr Page Refusal Good = Page
-IsPageOr Page Refusal Open = Refusal Open
-IsPageOr Page Refusal Words = Refusal Words
-IsPageOr Page Refusal Refused = Refusal Refused
-IsPageOr Page Refusal ReadFault = Refusal ReadFault
-IsPageOr Page Refusal WriteFault = Refusal WriteFault
-IsPageOr Page Refusal NoMemory = Refusal NoMemory
-IsPageOr Page Refusal BadDossier = Refusal BadDossier
-IsPageOr Page Refusal Unfit = Refusal Unfit
-IsPageOr Page Refusal PlanRefused = Refusal PlanRefused
-
 -- what is answered to an instance and a plan, to a dossier, and to an open one
 abbrev pub AnswersPlan : Clock → List ℕ → Status → List ℕ → Type 0
-AnswersPlan clock bytes status text = IsPageOr (PrintsPlan clock bytes text) (λ s. AnswersIllegal bytes s text) status
+AnswersPlan clock bytes status text = IsGoodOr (PrintsPlan clock bytes text) (λ s. AnswersIllegal bytes s text) status
 
 abbrev pub AnswersDossier : Clock → List ℕ → Status → List ℕ → Type 0
-AnswersDossier clock bytes status text = IsPageOr (PrintsCheapest clock bytes text) (λ s. IsNotAccepted bytes s text) status
+AnswersDossier clock bytes status text = IsGoodOr (PrintsCheapest clock bytes text) (λ s. IsNotAccepted bytes s text) status
 
 abbrev pub AnswersOpenDossier : Clock → List ℕ → Status → List ℕ → Type 0
-AnswersOpenDossier clock bytes status text = IsPageOr (PrintsBounded clock bytes text) (λ s. IsNoStanding bytes s text) status
+AnswersOpenDossier clock bytes status text = IsGoodOr (PrintsBounded clock bytes text) (λ s. IsNoStanding bytes s text) status
 
 -- by the heading of a certificate, where the bytes have one
 abbrev pub AnswersHeaded : Clock → Option Heading → List ℕ → Status → List ℕ → Type 0

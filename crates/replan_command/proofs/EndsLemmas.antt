@@ -1,7 +1,6 @@
 -- Where nothing is refused, a part is kept and the rest is searched.
-use Rattle.std.proofs.Common.{ℕ, ◌≡◌, ◌⊎◌, ◌<◌, List, length, subst, ap, inl, inr, arith, Ok, Err}
+use Rattle.std.proofs.Common.{ℕ, ◌≡◌, ◌⊎◌, ◌<◌, List, length, subst, inl, inr, arith}
 use Rattle.std.specs.Prelude.{IfSome}
-use Rattle.list_laws.proofs.Variants.{not-ok_and_err, one-ok}
 use Rattle.lock_model.specs.declared.instance.Instance.{Instance}
 use Rattle.lock_model.specs.declared.plan.Plan.{Plan}
 use Rattle.lock_model.specs.declared.verdict.Verdict.TheVariants.{Optimal, OpenNodes, OpenTurns}
@@ -9,14 +8,11 @@ use Rattle.lock_rules.specs.Lines.{no_lockage, lockage_at}
 use Rattle.lock_rules.specs.Singles.{singles_of}
 use Rattle.lock_rules.specs.Unfit.{IsFirstUnfit}
 use Rattle.book_rules.proofs.CompleteLemmas.{enough-optimal}
-use Rattle.instance_text.specs.Draft.{Draft, draft_of}
-use Rattle.instance_text.specs.Reading.{Means, Defect, reading, bad, instance_part, after_instance}
-use Rattle.instance_text.specs.declared.bad.Kind.{Kind}
-use Rattle.lock_model.proofs.InstanceLemmas.{same_instance}
+use Rattle.instance_text.specs.Reading.{Means, Defect, instance_part, after_instance}
+use Rattle.instance_text.proofs.ReadingLemmas.{Means-one, Means-no_defect}
 use Rattle.command_words.specs.declared.commands.ReplanOptions.{ReplanOptions}
-use Rattle.plan_text.specs.declared.kinds.PlanKind.{PlanKind}
-use Rattle.plan_text.specs.Reading.{IsPlanText, IsPlanFault, reading as plan_reading}
-use Rattle.plan_text.specs.Faults.{bad as bad_plan}
+use Rattle.plan_text.specs.Reading.{IsPlanText, IsPlanFault}
+use Rattle.plan_text.proofs.ReadingLemmas.{IsPlanText-one, IsPlanText-no_fault}
 use Rattle.replan.specs.declared.refusal.ReplanError.{ReplanError}
 use Rattle.replan.specs.declared.refusal.ReplanError.TheVariants.{Kept, Late}
 use Rattle.replan.specs.Kept.{kept_of, kept_places, EndsInTime, CanBeKept}
@@ -28,34 +24,6 @@ use Rattle.run_answers.specs.declared.status.Status.TheVariants.{Good, Open, Wor
 use Rattle.replan_command.specs.Keeping.{PrintsOpen}
 use Rattle.replan_command.specs.Replanning.{AnswersPlanText, IsPartRefused, IsPlanTextFault, AnswersReplan}
 use Rattle.replan_command.specs.Ends.{IsReplanServed, IsRestUnsure, MayEndReplan}
-
--- ---- bytes mean one instance and one plan, and then have no defect and no fault
-
-reads : (bytes : List ℕ) (I : Instance) → Means bytes I → reading bytes ≡ Ok (draft_of I)
-unfolding Means
-reads bytes I means = means
-
-refuses : (bytes : List ℕ) (line : ℕ) (kind : Kind) → Defect bytes line kind → reading bytes ≡ Err (bad line kind)
-unfolding Defect
-refuses bytes line kind defect = defect
-
-plan_reads : (I : Instance) (bytes : List ℕ) (P : Plan) → IsPlanText I bytes P → plan_reading I bytes ≡ Ok P.lockages
-unfolding IsPlanText
-plan_reads I bytes P is = is
-
-plan_refuses : (I : Instance) (bytes : List ℕ) (line : ℕ) (kind : PlanKind) → IsPlanFault I bytes line kind → plan_reading I bytes ≡ Err (bad_plan line kind)
-unfolding IsPlanFault
-plan_refuses I bytes line kind fault = fault
-
-one_instance : (bytes : List ℕ) (I J : Instance) → Means bytes I → Means bytes J → I ≡ J
-one_instance bytes I J first second =
-    let same = one-ok (reading bytes) (draft_of I) (draft_of J) (reads bytes I first) (reads bytes J second) in
-    same_instance I J (ap (λ (d : Draft). d.chambers) same) (ap (λ (d : Draft). d.ships) same)
-
-one_plan : (I : Instance) (bytes : List ℕ) (P Q : Plan) → IsPlanText I bytes P → IsPlanText I bytes Q → P ≡ Q
-one_plan I bytes P Q first second =
-    let same : P.lockages ≡ Q.lockages = one-ok (plan_reading I bytes) P.lockages Q.lockages (plan_reads I bytes P first) (plan_reads I bytes Q second) in
-    λ i. record { lockages = same i }
 
 -- ---- a search ends open only where its nodes or turns aren't surely enough
 
@@ -96,12 +64,12 @@ module _ (options : ReplanOptions) (source : Drained) (I : Instance) (G : Plan) 
 
   -- the bytes that were read mean this instance alone
   same_read : (J : Instance) (bytes : List ℕ) → bytes ≡ served.bytes → Means (instance_part bytes) J → J ≡ I
-  same_read J bytes is means = one_instance (instance_part served.bytes) J I (subst (λ bytes. Means (instance_part bytes) J) is means) served.means
+  same_read J bytes is means = Means-one (instance_part served.bytes) J I (subst (λ bytes. Means (instance_part bytes) J) is means) served.means
 
   -- and this plan alone
   same_planned : (J : Instance) (bytes : List ℕ) (P : Plan) → bytes ≡ served.bytes → J ≡ I → IsPlanText J (after_instance bytes) P → P ≡ G
   same_planned J bytes P is same text =
-      one_plan I (after_instance served.bytes) P G (subst (λ J. IsPlanText J (after_instance served.bytes) P) same (subst (λ bytes. IsPlanText J (after_instance bytes) P) is text)) served.planned
+      IsPlanText-one I (after_instance served.bytes) P G (subst (λ J. IsPlanText J (after_instance served.bytes) P) same (subst (λ bytes. IsPlanText J (after_instance bytes) P) is text)) served.planned
 
   left_ends : (text : List ℕ) → AnswersBytes plan_limit (AnswersReplan options) source Open text → IsRestUnsure options I (kept_of G options.from)
   left_ends text read =
@@ -131,13 +99,13 @@ module _ (options : ReplanOptions) (source : Drained) (I : Instance) (G : Plan) 
   not_refused text (inr read) =
       let told = read.answer in
       let defect = subst (λ bytes. Defect (instance_part bytes) told.line told.kind) (read_is Refused text read) told.defect in
-      not-ok_and_err (reading (instance_part served.bytes)) (draft_of I) (bad told.line told.kind) (reads (instance_part served.bytes) I served.means) (refuses (instance_part served.bytes) told.line told.kind defect)
+      Means-no_defect (instance_part served.bytes) I told.line told.kind served.means defect
 
   -- the plan text has no fault, and its kept part is kept
   no_fault : (text : List ℕ) (J : Instance) (bytes : List ℕ) → bytes ≡ served.bytes → J ≡ I → IsPlanTextFault J (after_instance bytes) text ⊎ AnswersPlanText options J (after_instance bytes) PlanRefused text → ⊥
   no_fault text J bytes is same (inl bad) =
       let fault = subst (λ J. IsPlanFault J (after_instance served.bytes) bad.line bad.kind) same (subst (λ bytes. IsPlanFault J (after_instance bytes) bad.line bad.kind) is bad.fault) in
-      not-ok_and_err (plan_reading I (after_instance served.bytes)) G.lockages (bad_plan bad.line bad.kind) (plan_reads I (after_instance served.bytes) G served.planned) (plan_refuses I (after_instance served.bytes) bad.line bad.kind fault)
+      IsPlanText-no_fault I (after_instance served.bytes) G bad.line bad.kind served.planned fault
   no_fault text J bytes is same (inr planned) =
       let plan = same_planned J bytes planned.plan is same planned.is_text in
       let refused : IsPartRefused I G options.from text = subst (λ P. IsPartRefused I P options.from text) plan (subst (λ J. IsPartRefused J planned.plan options.from text) same planned.answer) in
