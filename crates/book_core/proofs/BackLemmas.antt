@@ -4,6 +4,10 @@ use Rattle.std.proofs.lemmas.Bool.Decides.{eqb_tells, leb_tells}
 use Rattle.std.proofs.lemmas.Option.{none-some, same_Some}
 use Rattle.lock_rules.specs.Among.{IsAmong}
 use Rattle.lock_rules.specs.Children.{insert_number}
+use Rattle.lock_rules.specs.Plan.{times_in}
+use Rattle.lock_rules.proofs.AmongLemmas.{rises-past, among-times_in}
+use Rattle.lock_rules.proofs.NodeLemmas.{RisesFrom-insert}
+use Rattle.lock_rules.proofs.TreeLemmas.{RisesFrom-less}
 use Rattle.book_rules.specs.declared.book.SlotState.{SlotState}
 use Rattle.book_rules.specs.declared.book.SlotState.TheVariants as slot
 use Rattle.book_rules.specs.Book.{Slot, is_back}
@@ -11,21 +15,12 @@ use Rattle.book_rules.specs.Book.{Book, slot_at, first_slot}
 use Rattle.book_rules.proofs.SlotLemmas.{back-is}
 use Rattle.book_rules.proofs.NextLemmas.{first_slot-is, first_slot-empty}
 use Rattle.book_core.proofs.HandLemmas.{state-known}
-use Rattle.book_core.specs.Tables.{state_in, AreAbove, AreRising, AreBack}
+use Rattle.book_core.specs.Tables.{state_in, AreBack}
 use Rattle.book_core.specs.Changes.{Changes}
 use Rattle.closing_rules.specs.declared.grounds.Ground.TheVariants as by
 
 not-back : (state : SlotState) → is_back state ≡ false → state ≢ slot.Back
 not-back state e h = true≢false (sym (ap is_back h) ∙ e)
-
-above-among : (n : ℕ) (ms : List ℕ) (k : ℕ) → AreAbove n ms → IsAmong ms k → n < k
-above-among n [] k above among = absurd among
-above-among n (m ∷ ms) k above (inl e) = let here = above.0 in omega (arith, here, e)
-above-among n (m ∷ ms) k above (inr h) = above-among n ms k above.1 h
-
-above-less : (n m : ℕ) (ms : List ℕ) → n < m → AreAbove m ms → AreAbove n ms
-above-less n m [] less above = tt
-above-less n m (k ∷ ks) less above = let here = above.0 in (omega (arith, less, here), above-less n m ks less above.1)
 
 -- ---- a number is put into a rising list
 
@@ -53,15 +48,8 @@ among-each P n (m ∷ ms) here each k among = by_order n m ms (λ l. IsAmong l k
     (λ more h. elim h [ inl e ↦ subst P e (each m (inl refl)) | inr g ↦ among-each P n ms here (λ i a. each i (inr a)) k g ])
     among
 
-above-put : (b n : ℕ) (ms : List ℕ) → b < n → AreAbove b ms → AreAbove b (insert_number n ms)
-above-put b n [] less above = (less, tt)
-above-put b n (m ∷ ms) less above = by_order n m ms (AreAbove b) (λ h. (less, above)) (λ h. (above.0, above-put b n ms less above.1))
-
-rising-put : (n : ℕ) (ms : List ℕ) → (IsAmong ms n → ⊥) → AreRising ms → AreRising (insert_number n ms)
-rising-put n [] new rising = (tt, tt)
-rising-put n (m ∷ ms) new rising = by_order n m ms AreRising
-    (λ less. ((less, above-less n m ms less rising.0), rising))
-    (λ more. (above-put m n ms (elim (eqb_tells m n) [ inl y ↦ absurd (new (inl y.1)) | inr h ↦ omega (arith, more, h.1) ]) rising.0, rising-put n ms (λ a. new (inr a)) rising.1))
+absent-times : (n : ℕ) (ms : List ℕ) → (IsAmong ms n → ⊥) → times_in ms n ≡ 0
+absent-times n ms absent = elim (leb_tells 1 (times_in ms n)) [ inl y ↦ absurd (absent (among-times_in ms n y.1)) | inr h ↦ omega (arith, h.1) ]
 
 module _ (old new : List Slot) (id : ℕ) (state : SlotState) (change : Changes old id state new) where
   -- a slot that isn't Back takes another state than Back
@@ -81,8 +69,8 @@ module _ (old new : List Slot) (id : ℕ) (state : SlotState) (change : Changes 
   -- the first Back slot takes another state
   pub back-taken : (back : List ℕ) → AreBack old (id ∷ back) → is_back state ≡ false → AreBack new back
   back-taken back good after = record {
-    rising = good.rising.1;
-    each = λ k among. let far = above-among id back k good.rising.0 among in change.others k (λ e. omega (arith, far, e)) ∙ good.each k (inr among);
+    rising = RisesFrom-less 0 (suc id) back (omega arith) good.rising.1;
+    each = λ k among. let far = rises-past (suc id) back k good.rising.1 among in change.others k (λ e. omega (arith, far, e)) ∙ good.each k (inr among);
     all = λ k e. elim (eqb_tells k id) [
       | inl y ↦ absurd (not-back state after (sym change.here ∙ ap (state_in new) (sym y.1) ∙ e))
       | inr n ↦ elim (good.all k (sym (change.others k n.1) ∙ e)) [ inl is ↦ absurd (n.1 (sym is)) | inr h ↦ h ]
@@ -94,7 +82,7 @@ pub back-given : (old new : List Slot) (id : ℕ) → Changes old id slot.Back n
 back-given old new id change back good before =
     let absent : IsAmong back id → ⊥ = λ among. not-back (state_in old id) before (good.each id among) in
     record {
-      rising = rising-put id back absent good.rising;
+      rising = RisesFrom-insert 0 id back (omega arith) (absent-times id back absent) good.rising;
       each = among-each (λ k. state_in new k ≡ slot.Back) id back change.here (λ k among. change.others k (λ e. absent (subst (IsAmong back) e among)) ∙ good.each k among);
       all = λ k e. elim (eqb_tells k id) [
         | inl y ↦ subst (IsAmong (insert_number id back)) (sym y.1) (among-put id back)
@@ -124,7 +112,7 @@ first-back b (x ∷ xs) good = sym (first_slot-is b is_back x (state-known b.slo
     by_state k less false e = refl
     by_state k less true e = absurd (elim (good.all k (back-is (slot_at b k).state e)) [
       | inl same ↦ omega (arith, less, same)
-      | inr h ↦ let above = above-among x xs k good.rising.0 h in omega (arith, less, above)
+      | inr h ↦ let above = rises-past (suc x) xs k good.rising.1 h in omega (arith, less, above)
     ])
 
 -- the first of the list takes another state

@@ -27,7 +27,8 @@ use Rattle.book_core.specs.Seen.{seen}
 use Rattle.book_core.specs.declared.stored_slot.StoredSlot.{StoredSlot}
 use Rattle.book_core.specs.declared.waiting.Waiting.{Waiting}
 use Rattle.book_core.specs.Stored.{node_after, slot_with, slots_after, slots_of}
-use Rattle.book_core.specs.Tables.{state_in, AreAbove, AreRising}
+use Rattle.lock_rules.proofs.TreeLemmas.{RisesFrom-filter}
+use Rattle.book_core.specs.Tables.{state_in}
 use Rattle.book_core.specs.Changes.{slot_in}
 use Rattle.book_core.specs.Next.{stored_at}
 use Rattle.book_core.specs.Outdone.{outdone_stored, is_back_in}
@@ -141,18 +142,6 @@ module _ (cost : ℕ) (slots : List Slot) where
 
   -- ---- those that are Back still
 
-  above-filter : (p : ℕ → Bool) (m : ℕ) (ns : List ℕ) → AreAbove m ns → AreAbove m (filter p ns)
-  above-filter p m [] h = tt
-  above-filter p m (n ∷ ns) h =
-      let rest = above-filter p m ns h.1 in
-      elim (p n) as (λ t. AreAbove m (cond t (n ∷ filter p ns) (filter p ns))) [ true ↦ (h.0, rest) | false ↦ rest ]
-
-  rising-filter : (p : ℕ → Bool) (ns : List ℕ) → AreRising ns → AreRising (filter p ns)
-  rising-filter p [] h = tt
-  rising-filter p (n ∷ ns) h =
-      let rest = rising-filter p ns h.1 in
-      elim (p n) as (λ t. AreRising (cond t (n ∷ filter p ns) (filter p ns))) [ true ↦ (above-filter p n ns h.0, rest) | false ↦ rest ]
-
   pub tables-outdone : (ended : List Bool) (hands : List (Option ℕ)) (back : List ℕ) (waiting : List Waiting) → AreTables slots ended hands back waiting
       → (p : ℕ → Bool) → ((k : ℕ) → p k ≡ is_back (state_in new k)) → AreTables new ended hands (filter p back) waiting
   tables-outdone ended hands back waiting tables p is =
@@ -161,7 +150,7 @@ module _ (cost : ℕ) (slots : List Slot) where
       record {
         hands_are = hands-same slots new hands tables.hands_are (λ w k e. stays k (slot.Held w) (held-open w) refl e) (λ w k e. was k (slot.Held w) (held-open w) e);
         back_are = record {
-          rising = rising-filter p back tables.back_are.rising;
+          rising = RisesFrom-filter p 0 back tables.back_are.rising;
           each = λ k among. back-is (state_in new k) (sym (is k) ∙ (among-filter p back k among).1);
           all = λ k e. IsAmong-filter p back k (is k ∙ ap is_back e) (tables.back_are.all k (was k slot.Back back-open e));
         };

@@ -1,6 +1,7 @@
 -- The tables of a book, by which it finds slots without a walk.
-use Rattle.std.specs.Prelude.{ℕ, ◌≡◌, ◌<◌, ◌≤◌, ⊤, List, [], ◌∷◌, length, slice_index_or, Some, None}
+use Rattle.std.specs.Prelude.{ℕ, ◌≡◌, ◌<◌, ◌≤◌, List, length, slice_index_or, Some, None}
 use Rattle.std.specs.declared.option.Option.{Option}
+use Rattle.lock_model.specs.Ships.{RisesFrom}
 use Rattle.lock_rules.specs.Among.{IsAmong}
 use Rattle.book_rules.specs.declared.book.SlotState.{SlotState}
 use Rattle.book_rules.specs.declared.book.SlotState.TheVariants as slot
@@ -19,18 +20,9 @@ pub record AreHands (slots : List Slot) (hands : List (Option ℕ)) : Type 0 whe
   pub held : (w id : ℕ) → hand_at hands w ≡ Some id → state_in slots id ≡ slot.Held w
   pub hand : (w id : ℕ) → state_in slots id ≡ slot.Held w → hand_at hands w ≡ Some id
 
--- all are greater than this one
-abbrev pub AreAbove : ℕ → List ℕ → Type 0
-AreAbove n [] = ⊤
-AreAbove n (m ∷ ms) = (n < m) × AreAbove n ms
-
-abbrev pub AreRising : List ℕ → Type 0
-AreRising [] = ⊤
-AreRising (m ∷ ms) = AreAbove m ms × AreRising ms
-
 -- the Back slots by rising id
 pub record AreBack (slots : List Slot) (back : List ℕ) : Type 0 where
-  pub rising : AreRising back
+  pub rising : RisesFrom 0 back
   pub each : (id : ℕ) → IsAmong back id → state_in slots id ≡ slot.Back
   pub all : (id : ℕ) → state_in slots id ≡ slot.Back → IsAmong back id
 
