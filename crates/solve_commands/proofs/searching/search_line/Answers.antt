@@ -1,0 +1,13 @@
+use Rattle.std.proofs.Common.{subst}
+use Rattle.book_rules.specs.Book.{Case}
+use Rattle.plan_print.specs.Report.{verdict_line}
+use Rattle.run_answers.specs.Written.{bytes_in}
+use Rattle.solve_commands.specs.Searching.{PrintsOptimal, PrintsOpen, AnswersSearch}
+use Rattle.solve_commands.specs.Solving.{search_of}
+use Rattle.solve_commands.proofs.searching.search_line.Goals as goal
+
+pub returns-in-Ok : goal.returns-in-Ok
+returns-in-Ok g c =
+    subst (λ (k : Case). AnswersSearch (PrintsOptimal verdict_line) (PrintsOpen verdict_line) (search_of k.nodes k.turns k.instance) c.line_answer.result.status (bytes_in c.line_answer.result.text))
+    c.in-Ok.ensures.case
+    c.line_answer.ensures
