@@ -11,20 +11,20 @@ use std::marker::Model;
 /// Up to eight ship numbers, rising.
 #[derive(Debug, Drop)]
 pub struct Ships {
-    // the numbers, and then bytes that say nothing
+    // the numbers, and then zeros, so that sets are compared as numbers of eight bytes
     bytes: [u8; 8],
     count: u8,
 }
 
 impl Model for Ships {
-    ghost use Rattle.std.specs.Prelude.{ℕ, List, ◌≤◌, take};
+    ghost use Rattle.std.specs.Prelude.{ℕ, List, ◌≡◌, ◌≤◌, ◌-◌, take, drop, replicate};
     ghost use Rattle.std.specs.List.Sorted.{IsStrictlyIncreasing};
 
     ghost Value = { List ℕ };
 
     ghost view = { λ a. take a.count a.bytes };
 
-    ghost invariant = { λ a. (a.count ≤ 8) × IsStrictlyIncreasing (take a.count a.bytes) };
+    ghost invariant = { λ a. (a.count ≤ 8) × IsStrictlyIncreasing (take a.count a.bytes) × (drop a.count a.bytes ≡ replicate (8 - a.count) 0) };
 }
 
 impl Ships {
@@ -93,13 +93,20 @@ impl Default for Ships {
     }
 }
 
+// Whether eight bytes are others.
+fn same_bytes(one: [u8; 8], others: [u8; 8]) -> bool
+    ensures { result ≡ pointwise nat_eq one others }
+{
+    u64::from_le_bytes(one) == u64::from_le_bytes(others)
+}
+
 impl PartialEq for Ships {
     ghost eq = { pointwise nat_eq };
 
     ghost laws = { partial_equiv_from_equiv nat_list_eq_equiv };
 
     fn eq(&self, other: &Self) -> bool {
-        self.as_slice() == other.as_slice()
+        self.count == other.count && same_bytes(self.bytes, other.bytes)
     }
 }
 
