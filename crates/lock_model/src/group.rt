@@ -94,6 +94,7 @@ impl Default for Ships {
 }
 
 // Whether eight bytes are others.
+#[inline]
 fn same_bytes(one: [u8; 8], others: [u8; 8]) -> bool
     ensures { result ≡ pointwise nat_eq one others }
 {
@@ -105,6 +106,7 @@ impl PartialEq for Ships {
 
     ghost laws = { partial_equiv_from_equiv nat_list_eq_equiv };
 
+    #[inline]
     fn eq(&self, other: &Self) -> bool {
         self.count == other.count && same_bytes(self.bytes, other.bytes)
     }
