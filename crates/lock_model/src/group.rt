@@ -11,9 +11,9 @@ use std::marker::Model;
 /// Up to eight ship numbers, rising.
 #[derive(Debug, Drop)]
 pub struct Ships {
+    count: u8,
     // the numbers, and then zeros, so that sets are compared as numbers of eight bytes
     bytes: [u8; 8],
-    count: u8,
 }
 
 impl Model for Ships {
@@ -94,7 +94,6 @@ impl Default for Ships {
 }
 
 // Whether eight bytes are others.
-#[inline]
 fn same_bytes(one: [u8; 8], others: [u8; 8]) -> bool
     ensures { result ≡ pointwise nat_eq one others }
 {
@@ -106,7 +105,6 @@ impl PartialEq for Ships {
 
     ghost laws = { partial_equiv_from_equiv nat_list_eq_equiv };
 
-    #[inline]
     fn eq(&self, other: &Self) -> bool {
         self.count == other.count && same_bytes(self.bytes, other.bytes)
     }
