@@ -9,7 +9,7 @@ use Rattle.master_branch.specs.Node.{Node}
 use Rattle.mooring_rules.specs.declared.breaks.BrokenPlan.{BrokenPlan}
 use Rattle.price_rules.specs.Prices.{Reaches}
 use Rattle.price_bound.specs.Claim.{Claim, IsReached}
-use Rattle.price_bound.specs.Cuts.{plain_cut, plain_cuts}
+use Rattle.price_bound.specs.Cuts.{plain_cut, plain_cuts, same_cut}
 use Rattle.price_bound.specs.declared.cut.ChamberCut.{ChamberCut}
 use Rattle.refute_rules.specs.Cuts.{Cut}
 use Rattle.closing_rules.specs.declared.grounds.Ground.TheVariants as by
@@ -24,7 +24,7 @@ use Rattle.book_core.specs.declared.reply.Reply.TheVariants as reply
 use Rattle.book_core.specs.Keeps.{IsSound}
 use Rattle.book_core.specs.Nodes.{tree_node}
 use Rattle.book_core.specs.Replies.{Answers}
-use Rattle.book_core.specs.Telling.{told_cut, seen_cut, told_shown, are_first}
+use Rattle.book_core.specs.Telling.{told_cut, bare_cut, told_shown}
 use Rattle.book_core.proofs.CloseLemmas.{cheap-refused, high-unrefused, event-refused, event-sound, event-answers}
 
 -- ---- what is claimed of a node is shown of it
@@ -42,34 +42,15 @@ neither : (t : Bool) {u : Bool} → u ≡ false → (t && u) ≡ false
 neither true e = e
 neither false e = refl
 
--- lists that are the same have as many numbers
-pub as_many : (xs ys : List ℕ) → length xs ≢ length ys → pointwise nat_eq xs ys ≡ false
-as_many [] [] other = absurd (other refl)
-as_many [] (y ∷ ys) other = refl
-as_many (x ∷ xs) [] other = refl
-as_many (x ∷ xs) (y ∷ ys) other = neither (nat_eq x y) (as_many xs ys (λ e. other (ap suc e)))
-
--- two cuts are the same
-abbrev pub same_cut : ChamberCut → ChamberCut → Bool
-same_cut c d = nat_eq c.chamber d.chamber && pointwise nat_eq c.ships d.ships
-
--- the same, from place i on
-abbrev pub first_from : List ChamberCut → List ChamberCut → ℕ → Bool
-first_from shown cuts i = are_first (drop i shown) (drop i cuts)
-
-pub first-more : (shown cuts : List ChamberCut) → length cuts < length shown → are_first shown cuts ≡ false
+pub first-more : (shown : List ChamberCut) (cuts : List Cut) → length cuts < length shown → are_first_cuts (map told_cut shown) cuts ≡ false
 first-more [] cuts more = absurd (omega (arith, more))
 first-more (x ∷ xs) [] more = refl
-first-more (x ∷ xs) (y ∷ ys) more = neither (same_cut x y) (first-more xs ys (omega (arith, more)))
+first-more (x ∷ xs) (d ∷ ds) more = neither (nat_eq x.chamber d.chamber && pointwise nat_eq x.ships d.ships) (first-more xs ds (omega (arith, more)))
 
-first-told : (shown : List ChamberCut) (cuts : List Cut) → are_first shown (map seen_cut cuts) ≡ are_first_cuts (map told_cut shown) cuts
-first-told [] cuts = refl
-first-told (x ∷ xs) [] = refl
-first-told (x ∷ xs) (y ∷ ys) = ap (λ t. nat_eq x.chamber y.chamber && pointwise nat_eq x.ships y.ships && t) (first-told xs ys)
-
--- the first ones of what is seen of cuts are told as their first ones
-pub first_cuts : (shown seen : List ChamberCut) (cuts : List Cut) → seen ≡ map seen_cut cuts → are_first shown seen ≡ are_first_cuts (map told_cut shown) cuts
-first_cuts shown seen cuts is = ap (are_first shown) is ∙ first-told shown cuts
+pub first-told : (shown : List ChamberCut) (cuts : List Cut) → length shown ≤ length cuts → pointwise same_cut shown (take (length shown) (map bare_cut cuts)) ≡ are_first_cuts (map told_cut shown) cuts
+first-told [] cuts within = refl
+first-told (x ∷ xs) [] within = absurd (omega (arith, within))
+first-told (x ∷ xs) (d ∷ ds) within = ap (λ rest. nat_eq x.chamber d.chamber && pointwise nat_eq x.ships d.ships && rest) (first-told xs ds (omega (arith, within)))
 
 -- ---- instances and nodes
 

@@ -1,31 +1,32 @@
 //! The cuts of a book.
 ghost use Rattle.std.specs.Prelude.{◌≡◌, ◌++◌, ◌∷◌, [], length, map, slice_get, Some, None, IfSome, IfNone, OnOk, IfErr};
-ghost use Rattle.book_core.specs.Telling.{seen_cut};
+ghost use Rattle.book_rules.specs.Shown.{are_first_cuts};
+ghost use Rattle.book_core.specs.Telling.{told_cut};
 
 use place_refute::Cut;
 use plain_text::NoMemory;
-use price_bound::ChamberCut;
+use price_bound::{ChamberCut, same_cuts};
 use std::alloc::Global;
 use std::marker::Model;
 
-/// Cuts in the order in which they were kept. Beside them stands what prices see of each, a tenth as
-/// long: costs that were shown are compared with these under the lock.
+/// Cuts in the order in which they were kept. Beside them stand the chamber and the ships of each, a
+/// tenth as long: costs that were shown are compared with these under the lock.
 #[derive(Debug, Drop)]
 pub(crate) struct KeptCuts {
     cuts: Vec<Cut>,
-    seen: Vec<ChamberCut>,
+    chamber_cuts: Vec<ChamberCut>,
 }
 
 impl Model for KeptCuts {
     ghost use Rattle.std.specs.Prelude.{◌≡◌, List, map};
     ghost use Rattle.refute_rules.specs.Cuts.{Cut as Told};
-    ghost use Rattle.book_core.specs.Telling.{seen_cut};
+    ghost use Rattle.book_core.specs.Telling.{bare_cut};
 
     ghost Value = { List Told };
 
     ghost view = { λ a. a.cuts.items };
 
-    ghost invariant = { λ a. a.seen.items ≡ map seen_cut a.cuts.items };
+    ghost invariant = { λ a. a.chamber_cuts.items ≡ map bare_cut a.cuts.items };
 }
 
 impl KeptCuts {
@@ -35,7 +36,7 @@ impl KeptCuts {
     {
         KeptCuts {
             cuts: Vec::new(alloc),
-            seen: Vec::new(alloc),
+            chamber_cuts: Vec::new(alloc),
         }
     }
 
@@ -54,11 +55,12 @@ impl KeptCuts {
         self.cuts.get(number as usize)
     }
 
-    // What prices see of them.
-    pub(crate) fn seen(&self) -> &[ChamberCut]
-        ensures { result.now ≡ map seen_cut self.now }
+    // Whether these are the first ones.
+    pub(crate) fn are_first(&self, shown: &[ChamberCut]) -> bool
+        ensures { result ≡ are_first_cuts (map told_cut shown.now) self.now }
     {
-        &self.seen
+        let count = shown.len();
+        count <= self.chamber_cuts.len() && same_cuts(shown, &self.chamber_cuts[..count])
     }
 
     // Appends a cut. After want of memory they are as they were, and the cut is dropped.
@@ -67,8 +69,8 @@ impl KeptCuts {
         ensures none { IfErr result (λ _. self.new ≡ self.old) }
     {
         self.cuts.try_reserve(1)?;
-        self.seen.try_reserve(1)?;
-        self.seen.push_reserved(ChamberCut {
+        self.chamber_cuts.try_reserve(1)?;
+        self.chamber_cuts.push_reserved(ChamberCut {
             chamber: cut.chamber,
             ships: cut.ships.copy(),
         });

@@ -1,6 +1,6 @@
 //! The event that closes a slot by what was shown of it beside the book: under its lock a book only
 //! compares, and works nothing out.
-ghost use Rattle.std.specs.Prelude.{◌≡◌, ◌&&◌, true, map, Some, None, slice_get, nat_eq, IfSome, IfNone};
+ghost use Rattle.std.specs.Prelude.{◌≡◌, true, map, Some, None, slice_get, nat_eq, IfSome, IfNone};
 ghost use Rattle.std.specs.Cmp.Lexicographic.{pointwise};
 ghost use Rattle.mooring_rules.specs.declared.breaks.BrokenPlan.{BrokenPlan};
 ghost use Rattle.book_rules.specs.Book.{slot_at, best_cost};
@@ -11,7 +11,7 @@ ghost use Rattle.book_rules.specs.Step.{may_close, is_shown, price_refusal};
 ghost use Rattle.book_core.specs.Nodes.{tree_node};
 ghost use Rattle.book_core.specs.Keeps.{IsSound};
 ghost use Rattle.book_core.specs.Replies.{Answers};
-ghost use Rattle.book_core.specs.Telling.{told_cut, told_shown, are_first};
+ghost use Rattle.book_core.specs.Telling.{told_cut, told_shown};
 
 use crate::book::Book;
 use crate::reply::Reply;
@@ -19,46 +19,6 @@ use book_rules::{Entry, SlotState};
 use closing_rules::Ground;
 use master_branch::Node;
 use price_bound::{ChamberCut, Prices, Shown};
-
-// Whether two sets of up to eight ships are the same, told ship by ship: a call for so few bytes takes
-// longer, and thousands of cuts may be compared under the lock.
-fn same_set(some: &[u8], others: &[u8]) -> bool
-    ensures { result ≡ pointwise nat_eq some.now others.now }
-{
-    match some {
-        [] => others.is_empty(),
-        [one, rest @ ..] => match others {
-            [] => false,
-            [other, more @ ..] => one == other && same_set(rest, more),
-        },
-    }
-}
-
-#[tactic(auto, using(crate::proofs::ShowingLemmas::as_many))]
-// Whether two cuts are the same. Once it is known that they have as many ships, each ship costs one
-// test less.
-fn same_cut(one: &ChamberCut, other: &ChamberCut) -> bool
-    ensures { result ≡ (nat_eq one.now.chamber other.now.chamber && pointwise nat_eq one.now.ships other.now.ships) }
-{
-    one.chamber == other.chamber
-        && one.ships.len() == other.ships.len()
-        && same_set(one.ships.as_slice(), other.ships.as_slice())
-}
-
-// Whether the cuts are the first ones of these.
-fn are_first(shown: &[ChamberCut], cuts: &[ChamberCut]) -> bool
-    ensures { result ≡ are_first shown.now cuts.now }
-{
-    if shown.len() > cuts.len() {
-        return false;
-    }
-    for i in 0..shown.len() {
-        if !same_cut(&shown[i], &cuts[i]) {
-            return false;
-        }
-    }
-    true
-}
 
 // Whether two lists of prices are the same.
 fn same_prices(one: &Prices, other: &Prices) -> bool
@@ -76,12 +36,11 @@ impl Book {
         self.prices.get(number as usize)
     }
 
-    #[tactic(auto, using(crate::proofs::ShowingLemmas::first_cuts))]
     // Whether the cuts are the first ones of the book.
     fn has_first_cuts(&self, shown: &[ChamberCut]) -> bool
         ensures { result ≡ are_first_cuts (map told_cut shown.now) self.now.cuts }
     {
-        are_first(shown, self.cuts.seen())
+        self.cuts.are_first(shown)
     }
 
     // Whether this is the node of a held or parked slot.

@@ -1,3 +1,4 @@
+pub mod CutLemmas
 pub mod ForbiddenLemmas
 pub mod GrowLemmas
 pub mod LineLemmas

@@ -1,5 +1,6 @@
 -- Cuts as a chamber and ships: the sizes and measures are those of the instance.
-use Rattle.std.specs.Prelude.{List, map}
+use Rattle.std.specs.Prelude.{Bool, ◌&&◌, List, map, nat_eq}
+use Rattle.std.specs.Cmp.Lexicographic.{pointwise}
 use Rattle.lock_model.specs.Fitting.{deck_of}
 use Rattle.lock_model.specs.declared.instance.Instance.{Instance}
 use Rattle.price_rules.specs.Prices.{PlainCut}
@@ -11,3 +12,6 @@ plain_cut I cut = record { ships = cut.ships; deck = deck_of I cut.chamber cut.s
 
 abbrev pub plain_cuts : Instance → List ChamberCut → List PlainCut
 plain_cuts I cuts = map (plain_cut I) cuts
+
+abbrev pub same_cut : ChamberCut → ChamberCut → Bool
+same_cut c d = nat_eq c.chamber d.chamber && pointwise nat_eq c.ships d.ships

@@ -53,7 +53,7 @@ mod walking;
 mod weighing;
 
 pub use comparing::same_instance;
-pub use cut::ChamberCut;
+pub use cut::{ChamberCut, same_cuts};
 pub use error::{Limits, PriceError};
 pub use keeping::KeptLines;
 pub use loose_line::{LooseLine, LooseLines};

@@ -1,10 +1,10 @@
 //! What a least line depends on besides its chamber and the chamber's line.
-ghost use Rattle.std.specs.Prelude.{◌≡◌, ◌↔◌, IfOk, IsTrue};
+ghost use Rattle.std.specs.Prelude.{◌≡◌, IfOk};
 ghost use Rattle.std.specs.Bool.{OnTrue};
 ghost use Rattle.price_bound.specs.Keeping.{AreTerms};
 
 use crate::comparing::same_instance;
-use crate::cut::ChamberCut;
+use crate::cut::{ChamberCut, same_cuts};
 use crate::error::{PriceError, append};
 use crate::line_case::LineCase;
 use crate::prices::Prices;
@@ -31,13 +31,6 @@ fn copied(alloc: Global, cuts: &[ChamberCut]) -> Result<Vec<ChamberCut>, PriceEr
     Ok(copies)
 }
 
-// Whether two lists of cuts are the same.
-fn same_cuts(one: &[ChamberCut], other: &[ChamberCut]) -> bool
-    ensures { IsTrue result ↔ one.now ≡ other.now }
-{
-    one == other
-}
-
 impl Terms {
     // Those of a case.
     pub(crate) fn new(alloc: Global, case: &LineCase) -> Result<Terms, PriceError>
@@ -51,6 +44,7 @@ impl Terms {
         })
     }
 
+    #[tactic(auto, using(crate::proofs::CutLemmas::same_row))]
     // Whether they are those of a case. What differs most often is compared first.
     pub(crate) fn are_of(&self, case: &LineCase) -> bool
         ensures { OnTrue result (AreTerms case.now.instance.now case.now.depth case.now.prices.now case.now.cuts.now self.now) }

@@ -5,11 +5,11 @@ use Rattle.std.proofs.lemmas.Option.{slice_get_within, same_Some, none-some}
 use Rattle.list_laws.proofs.Variants.{some-not_none}
 use Rattle.refute_rules.specs.Cuts.{Cut}
 use Rattle.price_bound.specs.declared.cut.ChamberCut.{ChamberCut}
-use Rattle.book_core.specs.Telling.{seen_cut}
+use Rattle.book_core.specs.Telling.{bare_cut}
 
 -- what is known, with all that comes after it
 abbrev pub whole : List ChamberCut → List Cut → List ChamberCut
-whole known cuts = known ++ map seen_cut (drop (length known) cuts)
+whole known cuts = known ++ map bare_cut (drop (length known) cuts)
 
 -- what is left to be learned
 abbrev pub left : List ChamberCut → List Cut → ℕ
@@ -26,20 +26,20 @@ last-drop [] (suc n) at = refl
 last-drop (c ∷ cs) zero at = absurd (some-not_none c at)
 last-drop (c ∷ cs) (suc n) at = last-drop cs n at
 
-module _ (known new : List ChamberCut) (cuts : List Cut) (cut : Cut) (at : slice_get cuts (length known) ≡ Some cut) (is : new ≡ known ++ seen_cut cut ∷ []) where
+module _ (known new : List ChamberCut) (cuts : List Cut) (cut : Cut) (at : slice_get cuts (length known) ≡ Some cut) (is : new ≡ known ++ bare_cut cut ∷ []) where
   long : length new ≡ suc (length known)
-  long = ap length is ∙ length-append known (seen_cut cut ∷ []) ∙ omega (arith)
+  long = ap length is ∙ length-append known (bare_cut cut ∷ []) ∙ omega (arith)
 
-  grown : known ++ map seen_cut (drop (length known) cuts) ≡ (known ++ seen_cut cut ∷ []) ++ map seen_cut (drop (suc (length known)) cuts)
-  grown = ap (λ cs. known ++ map seen_cut cs) (next-drop cuts (length known) cut at) ∙ sym (append_assoc known (seen_cut cut ∷ []) (map seen_cut (drop (suc (length known)) cuts)))
+  grown : known ++ map bare_cut (drop (length known) cuts) ≡ (known ++ bare_cut cut ∷ []) ++ map bare_cut (drop (suc (length known)) cuts)
+  grown = ap (λ cs. known ++ map bare_cut cs) (next-drop cuts (length known) cut at) ∙ sym (append_assoc known (bare_cut cut ∷ []) (map bare_cut (drop (suc (length known)) cuts)))
 
   -- the next cut was appended
   pub one_more : (all : List ChamberCut) → whole known cuts ≡ all → whole new cuts ≡ all
-  one_more all before = ap (λ n. new ++ map seen_cut (drop n cuts)) long ∙ ap (λ xs. xs ++ map seen_cut (drop (suc (length known)) cuts)) is ∙ sym grown ∙ before
+  one_more all before = ap (λ n. new ++ map bare_cut (drop n cuts)) long ∙ ap (λ xs. xs ++ map bare_cut (drop (suc (length known)) cuts)) is ∙ sym grown ∙ before
 
   pub one_fewer : left new cuts < left known cuts
   one_fewer = let within = slice_get_within cuts (length known) cut at in omega (arith, long, within)
 
 -- there is no next one
 pub no_more : (known : List ChamberCut) (cuts : List Cut) (all : List ChamberCut) → slice_get cuts (length known) ≡ None → whole known cuts ≡ all → known ≡ all
-no_more known cuts all at before = sym (ap (λ cs. known ++ map seen_cut cs) (last-drop cuts (length known) at) ∙ append-nil known) ∙ before
+no_more known cuts all at before = sym (ap (λ cs. known ++ map bare_cut cs) (last-drop cuts (length known) at) ∙ append-nil known) ∙ before
