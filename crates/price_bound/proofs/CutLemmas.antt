@@ -1,5 +1,6 @@
 -- Cuts that are compared by their chamber and their ships.
 use Rattle.std.proofs.Common.{◌≡◌, ◌≢◌, ℕ, suc, List, [], ◌∷◌, length, drop, refl, ap, Bool, true, false, ◌&&◌, rules}
+use Rattle.std.specs.Bool.{Decides}
 use Rattle.std.specs.Cmp.Lexicographic.{pointwise}
 use Rattle.std.proofs.lemmas.Slice.Eq.{slice_eq-Decides}
 use Rattle.price_bound.specs.declared.cut.ChamberCut.{ChamberCut}
@@ -20,6 +21,6 @@ as_many same (x ∷ xs) (y ∷ ys) other = neither (same x y) (as_many same xs y
 abbrev pub same_from : List ChamberCut → List ChamberCut → ℕ → Bool
 same_from some others i = pointwise same_cut (drop i some) (drop i others)
 
--- where cut for cut is the same, the lists are
-pub same_row : (some others : List ChamberCut) (same : Bool) → same ≡ pointwise same_cut some others → same ≡ true → some ≡ others
-same_row some others same is yes = (slice_eq-Decides (λ a b. search rules) some others same is).0 yes
+-- lists whose cuts are the same, one by one, are the same
+pub same_row : (some others : List ChamberCut) (same : Bool) → same ≡ pointwise same_cut some others → Decides same (some ≡ others)
+same_row some others same is = slice_eq-Decides (λ a b. search rules) some others same is

@@ -1,5 +1,5 @@
 //! What a least line depends on besides its chamber and the chamber's line.
-ghost use Rattle.std.specs.Prelude.{◌≡◌, IfOk};
+ghost use Rattle.std.specs.Prelude.{◌≡◌, ◌↔◌, IfOk, IsTrue};
 ghost use Rattle.std.specs.Bool.{OnTrue};
 ghost use Rattle.price_bound.specs.Keeping.{AreTerms};
 
@@ -45,13 +45,20 @@ impl Terms {
     }
 
     #[tactic(auto, using(crate::proofs::CutLemmas::same_row))]
+    // Whether their cuts are these.
+    fn have_cuts(&self, cuts: &[ChamberCut]) -> bool
+        ensures { IsTrue result ↔ self.now.cuts.items ≡ cuts.now }
+    {
+        same_cuts(&self.cuts, cuts)
+    }
+
     // Whether they are those of a case. What differs most often is compared first.
     pub(crate) fn are_of(&self, case: &LineCase) -> bool
         ensures { OnTrue result (AreTerms case.now.instance.now case.now.depth case.now.prices.now case.now.cuts.now self.now) }
     {
         self.depth == case.depth
             && self.prices == *case.prices
-            && same_cuts(&self.cuts, case.cuts)
+            && self.have_cuts(case.cuts)
             && same_instance(&self.instance, case.instance)
     }
 }
