@@ -1,16 +1,12 @@
 -- Looking up what a case has decided.
-use Rattle.std.proofs.Common.{◌≡◌, ◌≢◌, ℕ, ◌+◌, ◌<◌, ◌≤◌, cond, List, [], ◌∷◌, length, map, drop, get_or, sym, ap, ◌∙◌, subst, Some, None, ne_eqb, eq-eqb}
+use Rattle.std.proofs.Common.{◌≡◌, ◌≢◌, ℕ, ◌+◌, ◌<◌, ◌≤◌, cond, List, [], ◌∷◌, length, map, drop, get_or, sym, ap, ◌∙◌, Some, None, ne_eqb, eq-eqb}
 use Rattle.std.proofs.lemmas.List.{drop_more, drop_all}
-use Rattle.std.proofs.lemmas.Option.{same_Some}
-use Rattle.lock_model.specs.declared.placement.Rank.{Rank}
-use Rattle.lock_model.specs.declared.placement.Moor.{Moor}
-use Rattle.lock_model.specs.declared.placement.Moor.TheVariants.{Quay, Ship}
 use Rattle.refute_rules.specs.Choices.{Berth as Decided, Choice, Lies}
-use Rattle.refute_rules.specs.Decided.{berth_in, HasOtherRank}
+use Rattle.refute_rules.specs.Decided.{berth_in}
 use Rattle.berth_case.specs.declared.case.Pick.{Pick}
 use Rattle.berth_case.specs.declared.decided.Berth.{Berth}
 use Rattle.berth_case.specs.Picks.{choice_of}
-use Rattle.berth_case.specs.Lookups.{PassesBerth, GivesBerth, IsOfOtherRank}
+use Rattle.berth_case.specs.Lookups.{PassesBerth, GivesBerth}
 
 pub berth_hit : (j i : ℕ) (b : Berth) → j ≡ i → GivesBerth (Lies j (record { rank = b.rank; moor = b.moor })) i b
 berth_hit j i b e = record { give = λ rest. ap (λ t. cond t (Some (record { rank = b.rank; moor = b.moor })) (berth_in rest i)) (eq-eqb j i e) }

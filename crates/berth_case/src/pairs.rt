@@ -1,5 +1,5 @@
 //! What a berth case says of two ships. Numbers of ships may be any numbers.
-ghost use Rattle.std.specs.Prelude.{◌≡◌, ◌≢◌, ◌<◌, ◌↔◌, ◌⊎◌, IsTrue, length};
+ghost use Rattle.std.specs.Prelude.{◌≡◌, ◌≢◌, ◌<◌, ◌↔◌, ◌⊎◌, IsTrue};
 ghost use Rattle.refute_rules.specs.Choices.{Before};
 ghost use Rattle.refute_rules.specs.BerthCases.{DoOverlap, ShareHost, HasOrder};
 ghost use Rattle.refute_rules.specs.BerthTrees.{AreUnordered};

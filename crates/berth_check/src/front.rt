@@ -1,6 +1,5 @@
 //! What stands at the front of the marks that are left.
-ghost use Rattle.std.specs.Prelude.{◌≡◌, ◌≢◌, ◌<◌, ◌≤◌, ◌+◌, ◌↔◌, IsTrue, None, length, slice_index_or};
-ghost use Rattle.refute_rules.specs.Decided.{berth_in};
+ghost use Rattle.std.specs.Prelude.{◌≡◌, ◌≢◌, ◌<◌, ◌≤◌, ◌+◌, ◌↔◌, IsTrue, length, slice_index_or};
 ghost use Rattle.refute_rules.specs.BerthTrees.{IsOpen, OfBerth};
 ghost use Rattle.berth_check.specs.Raises.{AreKnown};
 ghost use Rattle.berth_check.specs.Fronts.{IsFaultAt, IsFront};

@@ -1,10 +1,9 @@
 //! Whether some places along the chamber obey a berth case.
-ghost use Rattle.std.specs.Prelude.{◌≡◌, ◌+◌, ◌<◌, ◌≤◌, ◌↔◌, ℕ, Some, length, IsTrue, IfSome, IfNone};
-ghost use Rattle.refute_rules.specs.Reasons.{length_at};
+ghost use Rattle.std.specs.Prelude.{◌≡◌, ◌+◌, ◌<◌, ◌≤◌, ◌↔◌, Some, length, IsTrue, IfSome, IfNone};
 ghost use Rattle.refute_rules.specs.SpotFaults.{IsInsideAlong};
-ghost use Rattle.refute_rules.specs.BerthCases.{host_in, ObeyAlong, HasOrder};
+ghost use Rattle.refute_rules.specs.BerthCases.{host_in};
 ghost use Rattle.berth_case.specs.Picks.{choice_of};
-ghost use Rattle.berth_check.specs.Raises.{AreKnown, IsKnownChoice, IsOf, IsForced, IsHostObeyed, IsOrderObeyed, AreHostsObeyed, AreOrdersObeyed, AreSettled, AreBelow, AreInside, HasPlaces, x_at};
+ghost use Rattle.berth_check.specs.Raises.{AreKnown, IsKnownChoice, IsOf, IsForced, IsHostObeyed, IsOrderObeyed, AreHostsObeyed, AreOrdersObeyed, AreSettled, AreBelow, AreInside, HasPlaces};
 
 use berth_case::{BerthCase, Pick, host_of, length_of};
 use lock_model::Deck;

@@ -1,10 +1,10 @@
 //! The walk over the marks: the case at hand is read, and its options are put before the others.
-ghost use Rattle.std.specs.Prelude.{◌≡◌, ◌↔◌, ◌≤◌, ◌∷◌, length, drop, IfOk, IsTrue};
+ghost use Rattle.std.specs.Prelude.{◌≡◌, ◌↔◌, ◌≤◌, ◌∷◌, IfOk, IsTrue};
 ghost use Rattle.lock_model.specs.Fitting.{Fits};
 ghost use Rattle.refute_rules.specs.BerthTrees.{IsBerthTree};
 ghost use Rattle.berth_check.specs.Raises.{AreKnown};
 ghost use Rattle.berth_check.specs.Fronts.{AreAllKnown};
-ghost use Rattle.berth_check.specs.Pending.{AreTrees, IsStep};
+ghost use Rattle.berth_check.specs.Pending.{IsStep};
 
 use crate::front::{Front, front_at};
 use crate::pending::{Pending, push_berths, push_orders};

@@ -12,8 +12,7 @@ use Rattle.berth_place.specs.declared.search.Search.{Search}
 use Rattle.berth_place.specs.declared.search.Visit.{Visit}
 use Rattle.berth_place.specs.declared.search.Visit.TheVariants.{Closed, Placed, Spent}
 use Rattle.berth_place.specs.Unfinished.{node_count, IsUnfinishedWithin, IsUnfinished}
-use Rattle.berth_place.specs.Placing.{IsSpentBy}
-use Rattle.berth_place.specs.Visits.{GrewByTree, IsPassed, IsClosed, IsSpent, IsOptionSpent, IsCounted, IsOptionClosed, IsUnder, IsVisit, IsVisitOf}
+use Rattle.berth_place.specs.Visits.{GrewByTree, IsPassed, IsClosed, IsOptionClosed, IsUnder, IsVisit, IsVisitOf}
 
 pub fault-one : (fault : BerthFault) (rest : List ℕ) → node_count (berth_fault_numbers fault ++ rest) ≡ 1 + node_count rest
 fault-one (OtherRank i) rest = refl

@@ -1,6 +1,5 @@
 //! The difference constraints of a berth case along the chamber.
 ghost use Rattle.std.specs.Prelude.{◌≡◌, ◌+◌, ◌*◌, ◌<◌, ◌≤◌, ◌-ℤ◌, ◌≤ℤ◌, neg_ℤ, pos, [], ◌∷◌, ◌++◌, length};
-ghost use Rattle.lock_model.specs.Deck.{Deck as Measured};
 ghost use Rattle.refute_rules.specs.Reasons.{length_at};
 ghost use Rattle.refute_rules.specs.BerthCases.{host_in};
 ghost use Rattle.berth_place.specs.Along.{place_var, place_count, inside_edges, host_edges, berth_edges, first_edges, order_edge};

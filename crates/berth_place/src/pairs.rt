@@ -1,8 +1,7 @@
 //! Pairs of ships that overlap and have no order yet.
 ghost use Rattle.std.specs.Prelude.{◌≡◌, ◌+◌, ◌*◌, ◌<◌, ◌≤◌, ◌↔◌, pos, ◌+ℤ◌, ◌≤ℤ◌, IsTrue, IfSome, IfNone, length};
 ghost use Rattle.diff_rules.specs.Differences.{value_at};
-ghost use Rattle.diff_system.specs.PathTree.{IsSmall};
-ghost use Rattle.berth_place.specs.Along.{place_var, place_count};
+ghost use Rattle.berth_place.specs.Along.{place_var};
 ghost use Rattle.berth_place.specs.Pairs.{ArePairs, AreAllPairs, AreApartAlong, IsBeforeAt, AreAllApart, AreTouching, AreSmallValues, ArePairsBut, ArePartlyPairs};
 
 use crate::along::{along, place_var};

@@ -1,5 +1,5 @@
 //! What a search through berth cases holds.
-ghost use Rattle.std.specs.Prelude.{◌≡◌, ◌+◌, ◌≤◌, [], true, false, IfOk};
+ghost use Rattle.std.specs.Prelude.{◌≡◌, ◌+◌, ◌≤◌, [], IfOk};
 ghost use Rattle.refute_rules.specs.BerthFaults.{IsBerthFault};
 ghost use Rattle.berth_place.specs.Faults.{fault_of};
 ghost use Rattle.berth_place.specs.Visits.{IsVisit, IsTry};

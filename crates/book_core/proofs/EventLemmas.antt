@@ -2,7 +2,7 @@
 use Rattle.std.proofs.Common.{◌≡◌, ◌≢◌, ℕ, suc, ◌≤◌, refl, sym, ap, ◌∙◌, subst, Bool, true, false, cond, nat_eq, slice_index_or, Some, None, ne_eqb, eq-eqb}
 use Rattle.book_rules.specs.Book.{Book, Case, slot_at, first_slot, has_slot, is_back, is_held, is_held_by}
 use Rattle.book_rules.specs.Events as machine
-use Rattle.book_rules.specs.Events.{Event, take, release}
+use Rattle.book_rules.specs.Events.{take, release}
 use Rattle.book_rules.specs.NextSlot.{next_fresh}
 use Rattle.book_rules.specs.Step.{step, given, take_free, take_slot, take_fresh, release_slot}
 use Rattle.book_rules.proofs.SlotLemmas.{next_fresh-at}

@@ -17,7 +17,7 @@ use Rattle.book_rules.specs.Book.{Book, Node, Slot, root, no_slot, slot_at, best
 use Rattle.book_rules.specs.Family.{child_node}
 use Rattle.book_rules.specs.NextSlot.{is_split}
 use Rattle.book_rules.specs.Events as machine
-use Rattle.book_rules.specs.Events.{Event, split}
+use Rattle.book_rules.specs.Events.{split}
 use Rattle.book_rules.specs.Step.{step, child_slots, children_in, split_slot}
 use Rattle.book_core.specs.declared.reply.Reply.TheVariants as reply
 use Rattle.book_core.specs.declared.stored_slot.StoredSlot.{StoredSlot}

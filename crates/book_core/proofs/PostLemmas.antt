@@ -16,7 +16,7 @@ use Rattle.book_rules.specs.declared.book.SlotState.TheVariants as slot
 use Rattle.book_rules.specs.declared.book.Entry.TheVariants as entry
 use Rattle.book_rules.specs.Book.{Book, Node as TreeNode, slot_at, is_held, group_at}
 use Rattle.book_rules.specs.Events as machine
-use Rattle.book_rules.specs.Events.{Event, post, post_prices, park}
+use Rattle.book_rules.specs.Events.{post, post_prices, park}
 use Rattle.book_rules.specs.Tests.{has_clash, is_own_cut}
 use Rattle.book_rules.specs.Step.{step, noted, with_state, posted, priced, parked, park_group, is_lent}
 use Rattle.book_core.specs.declared.reply.Reply.TheVariants as reply

@@ -1,6 +1,6 @@
 //! Which nodes a cut hits.
 ghost use Rattle.std.specs.Prelude.{◌≡◌, ◌<◌, ◌↔◌, length, All, slice_get, IsTrue};
-ghost use Rattle.lock_rules.specs.Cut.{Hits, HitsNode};
+ghost use Rattle.lock_rules.specs.Cut.{HitsNode};
 ghost use Rattle.master_branch.specs.Node.{IsNodeOf};
 ghost use Rattle.book_rules.specs.Book.{slot_at};
 ghost use Rattle.book_core.specs.Nodes.{tree_node};

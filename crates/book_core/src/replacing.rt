@@ -1,5 +1,5 @@
 //! The event that puts a cheaper plan in the place of the best one.
-ghost use Rattle.std.specs.Prelude.{◌≡◌, ◌<◌, ◌∷◌, ◌++◌, [], ◌||◌, map, filter, length, IfOk, IfErr};
+ghost use Rattle.std.specs.Prelude.{◌≡◌, ◌<◌, ◌∷◌, ◌++◌, [], ◌||◌, map, filter, IfOk, IfErr};
 ghost use Rattle.lock_rules.specs.Plan.{cost_of};
 ghost use Rattle.book_rules.specs.Book.{is_fresh, is_back, is_parked};
 ghost use Rattle.book_rules.specs.Events.{replace};

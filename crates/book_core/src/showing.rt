@@ -2,12 +2,11 @@
 //! compares, and works nothing out.
 ghost use Rattle.std.specs.Prelude.{◌≡◌, true, map, Some, None, slice_get, nat_eq, IfSome, IfNone};
 ghost use Rattle.std.specs.Cmp.Lexicographic.{pointwise};
-ghost use Rattle.mooring_rules.specs.declared.breaks.BrokenPlan.{BrokenPlan};
 ghost use Rattle.book_rules.specs.Book.{slot_at, best_cost};
 ghost use Rattle.book_rules.specs.Events.{close_price};
 ghost use Rattle.book_rules.specs.Same.{same_node};
 ghost use Rattle.book_rules.specs.Shown.{are_first_cuts};
-ghost use Rattle.book_rules.specs.Step.{may_close, is_shown, price_refusal};
+ghost use Rattle.book_rules.specs.Step.{may_close, is_shown};
 ghost use Rattle.book_core.specs.Nodes.{tree_node};
 ghost use Rattle.book_core.specs.Keeps.{IsSound};
 ghost use Rattle.book_core.specs.Replies.{Answers};

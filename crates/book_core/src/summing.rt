@@ -3,7 +3,7 @@ ghost use Rattle.std.specs.Prelude.{◌≡◌, ◌∷◌, ◌||◌, List, Some, 
 ghost use Rattle.std.specs.List.{list_any};
 ghost use Rattle.lock_rules.specs.Bound.{least_number};
 ghost use Rattle.flow_bounds.specs.Least.{least_told};
-ghost use Rattle.book_rules.specs.Book.{slot_at, is_fresh, is_back, is_held, is_parked, is_live, first_slot, has_slot};
+ghost use Rattle.book_rules.specs.Book.{slot_at, is_fresh, is_back, is_held, is_parked, first_slot, has_slot};
 ghost use Rattle.book_rules.specs.Verdict.{low_of, verdict_of, parked_verdict};
 ghost use Rattle.book_core.specs.declared.stored_slot.StoredSlot.{StoredSlot as Stored};
 ghost use Rattle.book_core.specs.Summing.{live_bounds};

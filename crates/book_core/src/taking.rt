@@ -1,11 +1,10 @@
 //! The event that gives a slot to a worker.
 ghost use Rattle.std.specs.Prelude.{◌≡◌, ◌≤◌, ◌+◌, false, None, Some, slice_index_or};
 ghost use Rattle.book_rules.specs.declared.book.SlotState.TheVariants as slot;
-ghost use Rattle.book_rules.specs.Book.{slot_at, first_slot, is_back, is_held_by};
+ghost use Rattle.book_rules.specs.Book.{first_slot, is_back, is_held_by};
 ghost use Rattle.book_rules.specs.Events.{take};
 ghost use Rattle.book_rules.specs.NextSlot.{next_fresh};
 ghost use Rattle.book_rules.specs.Step.{given};
-ghost use Rattle.book_core.specs.Changes.{IsFree};
 ghost use Rattle.book_core.specs.Keeps.{IsSound};
 ghost use Rattle.book_core.specs.Replies.{Answers, Grants, HasNode, IsInHand, grant_told, told};
 

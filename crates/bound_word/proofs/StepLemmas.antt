@@ -1,15 +1,15 @@
 -- Each step keeps the rule.
-use Rattle.std.proofs.Common.{ℕ, zero, suc, ◌≡◌, ◌≢◌, ◌+◌, ◌-◌, ◌<◌, ◌≤◌, ◌⊎◌, min, List, [], ◌∷◌, ◌++◌, length, set, slice_set, slice_index, refl, ap, sym, ◌∙◌, subst, inl, inr, ⊎_elim, arith}
-use mathlib.Core.Option.{some, none, some-injective, some-ne-none}
+use Rattle.std.proofs.Common.{ℕ, zero, suc, ◌≡◌, ◌≢◌, ◌+◌, ◌-◌, ◌<◌, ◌≤◌, ◌⊎◌, min, List, [], ◌∷◌, ◌++◌, set, slice_set, slice_index, refl, ap, sym, ◌∙◌, subst, inl, inr, ⊎_elim, arith}
+use mathlib.Core.Option.{some, none}
 use lib.ListN.{get_elem?}
-use Rattle.atomic_table.specs.Table.{State, Step, Me, step, keeps, stepped, Allows, Splits, Joins, Final, Seen}
+use Rattle.atomic_table.specs.Table.{State, Me, step, keeps, Allows, Splits, Joins, Final, Seen}
 use Rattle.atomic_table.proofs.Lists.{at_set, at_snoc, set_else}
 use Rattle.bound_word.specs.declared.view.View.{View}
 use Rattle.bound_word.specs.declared.view.Opening.{Opening}
-use Rattle.bound_word.specs.Views.{least, spent_view, with_seen, with_post, after_split, split_off, joined}
-use Rattle.bound_word.specs.Rule.{least_posted, parts_of, IsLive, KeepsViews}
+use Rattle.bound_word.specs.Views.{least, spent_view, after_split, split_off, joined}
+use Rattle.bound_word.specs.Rule.{least_posted, IsLive, KeepsViews}
 use Rattle.bound_word.specs.Steps.{FindsOwn, Loads, Lowers, Counts}
-use Rattle.bound_word.proofs.RowLemmas.{least-le, least-append, least_posted-le, member, meet_set, set_at, parts_set, parts_member, least_snoc, parts_snoc, IdleIsEmpty, idle, alone}
+use Rattle.bound_word.proofs.RowLemmas.{least-append, least_posted-le, member, meet_set, set_at, parts_set, parts_member, least_snoc, parts_snoc, IdleIsEmpty, alone}
 
 -- a view with a part isn't spent
 pub live : (o : Opening) (word : ℕ) (v : View) → 0 < v.parts → IsLive o word v ⊎ (v ≡ spent_view) → IsLive o word v

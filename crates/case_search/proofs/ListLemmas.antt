@@ -1,7 +1,5 @@
 -- Laws of lists.
 use Rattle.std.proofs.Common.{◌≡◌, ℕ, zero, suc, ◌≤◌, ◌<◌, List, [], ◌∷◌, ◌++◌, length, take, drop, slice_index_or, flat_map, refl, sym, ap, subst, arith, append-nil}
-use Rattle.std.proofs.lemmas.List.{drop_all, take-append-le}
-use Rattle.list_laws.proofs.Lists.{drop-next}
 use Rattle.refute_rules.specs.Trees.{AreInOrder}
 
 pub append-assoc : {X : Type 0} (xs ys zs : List X) → (xs ++ ys) ++ zs ≡ xs ++ (ys ++ zs)

@@ -1,5 +1,5 @@
 //! The berths that a ship has to choose from.
-ghost use Rattle.std.specs.Prelude.{◌≡◌, ◌+◌, ◌-◌, ◌*◌, ◌/◌, ◌%◌, ◌<◌, ◌≤◌, length, slice_index_or, if◌then◌else◌, nat_lt, nat_eq};
+ghost use Rattle.std.specs.Prelude.{◌≡◌, ◌+◌, ◌-◌, ◌*◌, ◌/◌, ◌%◌, ◌<◌, ◌≤◌, slice_index_or, if◌then◌else◌, nat_lt, nat_eq};
 ghost use Rattle.lock_model.specs.declared.placement.Rank.TheVariants.{Left, Right};
 ghost use Rattle.refute_rules.specs.Choices.{berths_of};
 ghost use Rattle.case_search.specs.Berths.{berth_of, first_berth};

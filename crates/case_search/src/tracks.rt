@@ -5,7 +5,7 @@ use std::alloc::AllocError;
 
 /// A case that grows by options and shrinks again.
 pub trait Track {
-    ghost use Rattle.std.specs.Prelude.{ℕ, ◌≡◌, ◌+◌, ◌<◌, ◌↔◌, IsTrue, List, [], ◌∷◌, ◌++◌, length, OnOk, MatchOption};
+    ghost use Rattle.std.specs.Prelude.{◌≡◌, ◌+◌, ◌<◌, ◌↔◌, IsTrue, List, [], ◌∷◌, ◌++◌, length, OnOk, MatchOption};
     ghost use Rattle.lock_model.specs.Deck.{Deck};
     ghost use Rattle.refute_rules.specs.Choices.{Choice};
     ghost use Rattle.case_search.specs.Rules.{Rules, AreSoundRules, options_at, with_option};

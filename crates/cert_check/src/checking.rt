@@ -2,8 +2,7 @@
 ghost use Rattle.std.specs.Prelude.{◌≡◌, ◌↔◌, ℕ, [], length, All, IsTrue, IfOk, IfNone, IfSome};
 ghost use Rattle.lock_rules.specs.Plan.{IsLegal, IsCheapest, cost_of};
 ghost use Rattle.lock_rules.specs.Node.{root_lines};
-ghost use Rattle.lock_rules.specs.Throughput.{throughput_of};
-ghost use Rattle.closing_rules.specs.ProvedCuts.{IsShaped, IsProved};
+ghost use Rattle.closing_rules.specs.ProvedCuts.{IsProved};
 ghost use Rattle.certificate_rules.specs.Certificates.{Closes, IsMarkTree, Accepts};
 ghost use Rattle.certificate_rules.specs.Failures.{Fails};
 ghost use Rattle.certificate_rules.specs.declared.certificate.FailurePlace.{FailurePlace as Place};

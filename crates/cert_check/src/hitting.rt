@@ -3,8 +3,6 @@ ghost use Rattle.std.specs.Prelude.{◌≡◌, ◌<◌, ◌↔◌, length, Conta
 ghost use Rattle.lock_model.specs.Fitting.{deck_of, IsNoRoomier};
 ghost use Rattle.lock_model.specs.Fleet.{chamber_at};
 ghost use Rattle.lock_rules.specs.Cut.{HitsNode};
-ghost use Rattle.lock_rules.specs.Node.{line_at};
-ghost use Rattle.master_branch.specs.Node.{IsNodeOf};
 ghost use Rattle.cert_check.specs.Hitting.{AreTogether, HitsLine, HitsAt};
 
 use crate::certificate::CertCut;

@@ -1,9 +1,6 @@
 //! The marks of a certificate, read once along its tree.
-ghost use Rattle.std.specs.Prelude.{◌≡◌, ◌+◌, ◌<◌, ◌≤◌, ◌↔◌, [], ◌∷◌, length, slice_get, Some, All, IsTrue, IfOk, IfErr, IfNone, IfSome};
-ghost use Rattle.lock_rules.specs.Throughput.{throughput_of};
-ghost use Rattle.lock_rules.specs.Bound.{bound_of};
-ghost use Rattle.master_branch.specs.Node.{IsNodeOf, children, child_lines};
-ghost use Rattle.closing_rules.specs.ProvedCuts.{IsShaped};
+ghost use Rattle.std.specs.Prelude.{◌≡◌, ◌+◌, ◌<◌, ◌≤◌, ◌↔◌, [], ◌∷◌, length, Some, IsTrue, IfOk, IfErr, IfNone, IfSome};
+ghost use Rattle.master_branch.specs.Node.{IsNodeOf, children};
 ghost use Rattle.cert_check.specs.Reading.{whole_kind, IsRead, IsStuck, IsChildRead, IsChildStuck, AreRead, AreStuck};
 ghost use Rattle.cert_check.specs.Splitting.{IsSplit};
 

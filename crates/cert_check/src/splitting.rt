@@ -1,6 +1,5 @@
 //! A node that is split, and what is asked of its children.
 ghost use Rattle.std.specs.Prelude.{◌≡◌, ◌+◌, ◌<◌, ◌≤◌, ◌↔◌, length, slice_get, Some, IsTrue};
-ghost use Rattle.lock_rules.specs.Throughput.{throughput_of};
 ghost use Rattle.lock_rules.specs.Bound.{bound_of};
 ghost use Rattle.master_branch.specs.Node.{IsNodeOf, children, child_lines};
 ghost use Rattle.cert_check.specs.Splitting.{IsSplit};

@@ -1,7 +1,5 @@
 //! The decisions about a deck in order, and their options.
 ghost use Rattle.std.specs.Prelude.{◌≡◌, ◌≢◌, ◌+◌, ◌*◌, ◌≤◌, ◌<◌, ◌++◌, [], ◌∷◌, length, map, slice_index_or};
-ghost use Rattle.lock_model.specs.Deck.{Deck as Measured};
-ghost use Rattle.lock_rules.specs.Arrival.{numbers_from};
 ghost use Rattle.refute_rules.specs.Choices.{options_of, decisions, BerthOf, PairOf, Before};
 ghost use Rattle.chamber_place.specs.Picks.{choice_of, decision_of, IsKnownPick, IsKnownDecision};
 

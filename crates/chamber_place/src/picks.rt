@@ -1,5 +1,5 @@
 //! Options as they are taken, and their edges.
-ghost use Rattle.std.specs.Prelude.{◌≡◌, ◌+◌, ◌≤◌, ◌++◌, ◌<◌, ◌-ℤ◌, pos, [], ◌∷◌, length};
+ghost use Rattle.std.specs.Prelude.{◌≡◌, ◌+◌, ◌≤◌, ◌++◌, ◌<◌, ◌-ℤ◌, [], ◌∷◌, length};
 ghost use Rattle.lock_model.specs.declared.placement.Moor.TheVariants.{Quay, Ship};
 ghost use Rattle.refute_rules.specs.Edges.{choice_edges, berth_edges};
 ghost use Rattle.chamber_place.specs.Picks.{choice_of, IsKnownMoor, IsKnownPick};

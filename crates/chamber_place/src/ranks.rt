@@ -1,6 +1,5 @@
 //! The berths that a case has decided, and their ranks.
-ghost use Rattle.std.specs.Prelude.{ℕ, ◌≡◌, ◌<◌, ◌≤◌, ◌↔◌, [], ◌∷◌, All, IsTrue, IfSome, IfNone, length, option_map};
-ghost use Rattle.lock_model.specs.Deck.{Deck as Measured};
+ghost use Rattle.std.specs.Prelude.{ℕ, ◌≡◌, ◌<◌, ◌≤◌, ◌↔◌, [], ◌∷◌, IsTrue, IfSome, IfNone, option_map};
 ghost use Rattle.refute_rules.specs.Decided.{berth_in, HasOtherRank};
 ghost use Rattle.case_search.specs.Berths.{berth_of};
 ghost use Rattle.chamber_place.specs.Picks.{choice_of, choices_of};

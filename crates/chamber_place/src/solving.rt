@@ -2,7 +2,6 @@
 ghost use Rattle.std.specs.Prelude.{ℕ, ◌≡◌, ◌≤◌, ◌<◌, ◌+◌, ◌*◌, ◌++◌, [], ◌∷◌, length, take, IfOk, IfErr, IfSome, IfNone};
 ghost use Rattle.lock_model.specs.Deck.{IsDeck};
 ghost use Rattle.diff_system.specs.PathTree.{AreLongest};
-ghost use Rattle.lock_rules.specs.Arrival.{numbers_from};
 ghost use Rattle.refute_rules.specs.Choices.{decisions};
 ghost use Rattle.refute_rules.specs.Edges.{case_edges, ship_edges};
 ghost use Rattle.refute_rules.specs.Decided.{HasOtherRank};

@@ -1,5 +1,5 @@
 //! Which chamber serves the next ship first.
-ghost use Rattle.std.specs.Prelude.{◌≡◌, ◌^◌, ◌+◌, ◌<◌, ◌≤◌, ◌∷◌, [], length, All, IfSome, if◌then◌else◌, max};
+ghost use Rattle.std.specs.Prelude.{◌≡◌, ◌^◌, ◌+◌, ◌<◌, ◌≤◌, ◌∷◌, [], length, All, if◌then◌else◌, max};
 ghost use Rattle.lock_rules.specs.Bound.{fits_alone};
 ghost use Rattle.lock_rules.specs.Singles.{Standing as Stood, earlier, choice_from, next_start, next_end};
 

@@ -1,7 +1,7 @@
 //! Ships served alone, one after the other.
-ghost use Rattle.std.specs.Prelude.{◌≡◌, ◌^◌, ◌<◌, ◌≤◌, length, All, max};
+ghost use Rattle.std.specs.Prelude.{◌≡◌, ◌^◌, ◌<◌, ◌≤◌, length, All};
 ghost use Rattle.lock_rules.specs.Unfit.{FitsSome, HasNoUnfit};
-ghost use Rattle.lock_rules.specs.Singles.{Standing as Stood, choice_of, single_lockage, singles_from, first_standings, standing_at, next_end};
+ghost use Rattle.lock_rules.specs.Singles.{Standing as Stood, choice_of, single_lockage, singles_from, first_standings};
 ghost use Rattle.lock_rules.specs.Lawful.{stand_after};
 ghost use Rattle.lock_model.specs.Fleet.{ship_at};
 

@@ -1,12 +1,10 @@
 //! The line of a closure.
 ghost use Rattle.std.specs.Prelude.{◌≡◌, ◌<◌, ◌≤◌, ◌++◌, length, nat_lt, false, IfOk};
 ghost use Rattle.std.specs.List.{list_any, position_or_len};
-ghost use Rattle.std.specs.Str.{bytes_eq};
 ghost use Rattle.lock_model.specs.Closures.{AreClosures, IsClosure};
-ghost use Rattle.lock_model.specs.declared.chamber.Chamber.{Chamber as AnyChamber};
 ghost use Rattle.lock_model.specs.declared.closure.Closure.{Closure as AnyClosure};
 ghost use Rattle.line_text.specs.Texts.{texts};
-ghost use Rattle.instance_text.specs.Closing.{chamber_named, share_a_minute, is_free, closures_of, read_closing, CanClose, put_closure, with_closure};
+ghost use Rattle.instance_text.specs.Closing.{chamber_named, share_a_minute, is_free, read_closing, CanClose, put_closure, with_closure};
 
 use crate::bad::Kind;
 use crate::name::name;

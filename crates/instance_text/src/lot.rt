@@ -1,7 +1,6 @@
 //! Instances made from a number.
 ghost use Rattle.std.specs.Prelude.{◌≡◌, ◌+◌, ◌<◌, ◌≤◌, ◌++◌, [], length, take, codes, decimal, slice_index_or};
 ghost use Rattle.lock_model.specs.Fleet.{no_chamber};
-ghost use Rattle.lock_model.specs.declared.way.Way.{Way as AnyWay};
 ghost use Rattle.instance_text.specs.Lot.{next_state, after_draws, draw, lot_way, lot_ship, lot_ships, lot_chamber, lot_chambers};
 
 use crate::name::copy_name;

@@ -1,5 +1,5 @@
 //! Printing canonical texts.
-ghost use Rattle.std.specs.Prelude.{◌≡◌, ◌==◌, ◌++◌, ◌∷◌, ◌&&◌, [], List, length, map, IfOk, OnOk, codes};
+ghost use Rattle.std.specs.Prelude.{◌≡◌, ◌==◌, ◌++◌, ◌∷◌, ◌&&◌, [], List, length, map, IfOk, OnOk};
 ghost use Rattle.std.specs.List.{flat_map, list_all};
 ghost use Rattle.line_text.specs.Printed.{line};
 ghost use Rattle.instance_text.specs.Canonical.{way_word, stand_word, chamber_words, closing_words, closings, ship_words, cargo_field, is_plain, header_words, canonical};

@@ -1,5 +1,5 @@
 //! Reading instance texts.
-ghost use Rattle.std.specs.Prelude.{◌≡◌, ◌≤◌, List, ℕ, min, length, map, Ok, Err, IfOk, IfErr, OnOk};
+ghost use Rattle.std.specs.Prelude.{◌≡◌, ◌≤◌, ℕ, min, length, map, Ok, Err, IfOk, IfErr, OnOk};
 ghost use Rattle.instance_text.specs.Draft.{Draft as AnyDraft, no_draft, draft_of};
 ghost use Rattle.line_text.specs.Left.{lines_left};
 ghost use Rattle.line_text.specs.Lines.{lines, words};

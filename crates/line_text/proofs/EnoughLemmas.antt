@@ -3,7 +3,7 @@ use Rattle.std.proofs.Common.{◌≡◌, ℕ, ◌<◌, ◌≤◌, ◌==◌, min,
 use Rattle.std.proofs.lemmas.Bool.{cases_lt}
 use Rattle.std.proofs.lemmas.Bool.Decides.{nat_tests}
 use Rattle.std.proofs.lemmas.List.{get_or-take, length-take}
-use Rattle.line_text.specs.Lines.{word_at, is_only}
+use Rattle.line_text.specs.Lines.{word_at}
 
 pub word_enough : (words : List (List ℕ)) (i : ℕ) → i < 13 → word_at (take 13 words) i ≡ word_at words i
 word_enough words i low = get_or-take 13 words i [] low

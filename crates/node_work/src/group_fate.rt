@@ -1,6 +1,5 @@
 //! What becomes of a node by one of its groups.
-ghost use Rattle.std.specs.Prelude.{◌≡◌, ◌<◌, length, IfOk, IfSome, IfNone, All};
-ghost use Rattle.lock_rules.specs.Node.{line_at};
+ghost use Rattle.std.specs.Prelude.{◌≡◌, ◌<◌, length, IfOk, IfSome, All};
 ghost use Rattle.master_branch.specs.Node.{IsNodeOf};
 ghost use Rattle.node_work.specs.Fates.{IsGroupAt, IsAnyway, IsRefutedBy, IsSpentBy};
 

@@ -1,5 +1,5 @@
 -- Which spans of time are shown, and which gaps between them are left out.
-use Rattle.std.specs.Prelude.{ℕ, ◌-◌, List, [], ◌∷◌, Some, None, Bool, true, false, ◌&&◌, nat_le, nat_lt, if◌then◌else◌}
+use Rattle.std.specs.Prelude.{ℕ, ◌-◌, List, [], ◌∷◌, Some, None, Bool, false, ◌&&◌, nat_le, nat_lt, if◌then◌else◌}
 use Rattle.std.specs.declared.option.Option.{Option}
 use Rattle.picture_axis.specs.Capped.{plus}
 use Rattle.picture_axis.specs.Points.{sorted, gaps_after}

@@ -1,5 +1,5 @@
 //! Where time is left out.
-ghost use Rattle.std.specs.Prelude.{◌≡◌, ◌≤◌, ◌++◌, max, OnOk};
+ghost use Rattle.std.specs.Prelude.{◌≡◌, ◌≤◌, ◌++◌, OnOk};
 ghost use Rattle.picture_axis.specs.Axis.{breaks_of, clear_end};
 
 use crate::pieces::Piece;

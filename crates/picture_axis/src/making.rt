@@ -1,5 +1,5 @@
 //! How an axis is made.
-ghost use Rattle.std.specs.Prelude.{◌≡◌, ◌≤◌, length, IfOk};
+ghost use Rattle.std.specs.Prelude.{◌≡◌, ◌≤◌, IfOk};
 ghost use Rattle.picture_axis.specs.Axis.{gap_for, room_for, breaks_in, step_of, framed, scale_of, pieces_of};
 
 use crate::pieces::{Piece, Scale, put_pieces};

@@ -1,5 +1,5 @@
 //! The lines of a lockage and of its ships.
-ghost use Rattle.std.specs.Prelude.{◌≡◌, ◌+◌, ◌<◌, ◌≤◌, ◌^◌, ℕ, [], ◌∷◌, ◌++◌, length, All, OnOk, slice_index_or};
+ghost use Rattle.std.specs.Prelude.{◌≡◌, ◌+◌, ◌<◌, ◌≤◌, ◌^◌, ℕ, [], ◌∷◌, ◌++◌, All, OnOk};
 ghost use Rattle.lock_model.specs.Fleet.{ship_at};
 ghost use Rattle.lock_model.specs.declared.placement.Moor.TheVariants.{Ship as AtShip};
 ghost use Rattle.lock_rules.specs.Lines.{end_of};

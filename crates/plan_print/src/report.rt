@@ -1,5 +1,5 @@
 //! The report of a plan, whole and in its two parts.
-ghost use Rattle.std.specs.Prelude.{◌≡◌, ◌<◌, ◌≤◌, ◌++◌, length, All, OnOk, IfOk};
+ghost use Rattle.std.specs.Prelude.{◌≡◌, ◌<◌, ◌≤◌, ◌++◌, All, OnOk, IfOk};
 ghost use Rattle.lock_model.specs.Fitting.{deck_of};
 ghost use Rattle.lock_rules.specs.Plan.{IsLegal};
 ghost use Rattle.plan_print.specs.Drawing.{IsDrawnAlone};

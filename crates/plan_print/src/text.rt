@@ -2,7 +2,7 @@
 ghost use Rattle.std.specs.Prelude.{◌≡◌, ◌<◌, ◌^◌};
 ghost use Rattle.plan_print.specs.Words.{letter, rank_word};
 
-use lock_model::{Moor, Rank};
+use lock_model::Rank;
 
 /// The letter of the ship at a place of a lockage.
 pub(crate) fn letter(place: u8) -> u8

@@ -1,7 +1,7 @@
 //! The first line of a report: what was shown of the plan.
-ghost use Rattle.std.specs.Prelude.{◌≡◌, ◌<◌, List, ℕ, [], ◌∷◌, ◌++◌, length, All, OnOk, decimal, codes};
+ghost use Rattle.std.specs.Prelude.{◌≡◌, ◌<◌, [], ◌∷◌, ◌++◌, length, All, OnOk, decimal, codes};
 ghost use Rattle.std.specs.List.{flat_map};
-ghost use Rattle.lock_model.specs.Fleet.{ship_at, chamber_at};
+ghost use Rattle.lock_model.specs.Fleet.{ship_at};
 ghost use Rattle.lock_model.specs.declared.verdict.Verdict.TheVariants.{OpenTurns};
 ghost use Rattle.lock_rules.specs.Plan.{IsLegal};
 ghost use Rattle.plan_print.specs.Report.{IsOfInstance, verdict_text, verdict_line};

@@ -1,7 +1,7 @@
 -- Lines as they are appended, word by word.
-use Rattle.std.proofs.Common.{◌≡◌, ℕ, ◌+◌, ◌<◌, List, [], ◌∷◌, ◌++◌, length, drop, get_or, codes, ap, sym, ◌∙◌}
+use Rattle.std.proofs.Common.{◌≡◌, ℕ, ◌+◌, ◌<◌, List, [], ◌∷◌, ◌++◌, codes, ap, sym, ◌∙◌}
 use Rattle.std.specs.List.{flat_map}
-use Rattle.std.proofs.lemmas.List.{append_assoc, drop_more}
+use Rattle.std.proofs.lemmas.List.{append_assoc}
 use Rattle.std.proofs.lemmas.Grind.{flat_map-append}
 use Rattle.lock_model.specs.declared.instance.Instance.{Instance}
 use Rattle.lock_model.specs.declared.placement.Spot.{Spot}
@@ -9,7 +9,7 @@ use Rattle.lock_model.specs.declared.plan.Lockage.{Lockage}
 use Rattle.lock_model.specs.declared.plan.Plan.{Plan}
 use Rattle.line_text.specs.Printed.{line}
 use Rattle.instance_text.proofs.PrintLemmas.{line_is}
-use Rattle.plan_text.specs.Printing.{head_words, berth_words, berths_of, lockage_lines, plan_lines, plan_text}
+use Rattle.plan_text.specs.Printing.{head_words, berths_of, lockage_lines, plan_lines, plan_text}
 
 seven : (o p q r s t u v : List ℕ) → o ++ p ++ q ++ r ++ s ++ t ++ u ++ v ≡ o ++ (p ++ (q ++ (r ++ (s ++ (t ++ (u ++ v))))))
 seven o p q r s t u v = simp append_assoc

@@ -1,7 +1,6 @@
 -- A text names one plan, or has one first fault.
 use Rattle.std.proofs.Common.{◌≡◌, ℕ, List, Result, Ok, Err, IfOk, IfErr, ap}
 use Rattle.lock_model.specs.declared.instance.Instance.{Instance}
-use Rattle.lock_model.specs.declared.plan.Lockage.{Lockage}
 use Rattle.lock_model.specs.declared.plan.Plan.{Plan}
 use Rattle.line_text.proofs.ReaderLemmas as reader
 use Rattle.plan_text.specs.declared.kinds.BadPlan.{BadPlan}

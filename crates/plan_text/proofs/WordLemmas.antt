@@ -1,13 +1,9 @@
 -- The words of printed lines are plain, and mean what was printed.
-use Rattle.std.proofs.Common.{◌≡◌, ◌≢◌, ℕ, ◌<◌, ◌≤◌, ◌^◌, Bool, true, false, ◌||◌, List, [], length, get_or, All, Ok, decimal, codes, refl, sym, subst, ⊎_elim, arith}
-use Rattle.std.specs.List.{list_all}
+use Rattle.std.proofs.Common.{◌≡◌, ◌≢◌, ℕ, ◌<◌, ◌≤◌, ◌^◌, Bool, true, false, ◌||◌, List, [], length, get_or, All, Ok, decimal, codes, refl, sym, subst, arith}
 use Rattle.std.specs.Str.{bytes_eq}
-use Rattle.std.proofs.lemmas.Bool.{cases_lt}
-use Rattle.std.proofs.lemmas.Bool.Decides.{nat_tests}
-use Rattle.std.proofs.lemmas.Fmt.{decimal_nonempty}
-use Rattle.std.proofs.lemmas.List.Elements.{All-weaker, All-head}
+use Rattle.std.proofs.lemmas.List.Elements.{All-head}
 use Rattle.std.proofs.lemmas.Slice.Eq.{bytes_eq-Decides}
-use Rattle.lock_model.specs.Limits.{Within, IsName, is_between, is_name_byte}
+use Rattle.lock_model.specs.Limits.{IsName, is_name_byte}
 use Rattle.lock_model.specs.Fleet.{no_chamber, no_ship, ship_at, chamber_at}
 use Rattle.lock_model.specs.declared.instance.Instance.{Instance}
 use Rattle.lock_model.specs.declared.placement.Moor.{Moor}
@@ -15,7 +11,6 @@ use Rattle.lock_model.specs.declared.placement.Moor.TheVariants.{Quay, Ship}
 use Rattle.lock_model.specs.declared.placement.Rank.{Rank}
 use Rattle.lock_model.specs.declared.placement.Rank.TheVariants.{Left, Right}
 use Rattle.lock_model.specs.declared.way.Way.{Way}
-use Rattle.lock_model.specs.declared.way.Way.TheVariants.{Up, Down}
 use Rattle.instance_text.specs.Canonical.{way_word}
 use Rattle.instance_text.proofs.WordBackLemmas.{way_of_back}
 use Rattle.plan_text.specs.Words.{number, way, rank, chamber_named, ship_named, host}

@@ -10,8 +10,6 @@ use Rattle.line_text.specs.Steps.{◌>>=◌, proceed}
 use Rattle.plan_text.specs.declared.kinds.BadPlan.{BadPlan}
 use Rattle.plan_text.specs.declared.kinds.PlanKind.{PlanKind}
 use Rattle.plan_text.specs.declared.kinds.PlanKind.TheVariants.{NotUtf8, NoMark, Word, NoEnd}
-use Rattle.line_text.specs.declared.progress.Progress.{Progress}
-use Rattle.line_text.specs.declared.progress.Progress.TheVariants.{More, Ended}
 use Rattle.plan_text.specs.Faults.{bad}
 use Rattle.plan_text.specs.Draft.{Draft, no_draft, close}
 use Rattle.plan_text.specs.Lines.{read_line}

@@ -2,7 +2,7 @@
 ghost use Rattle.std.specs.Prelude.{◌≡◌, ◌<◌, ◌≤◌, ◌∷◌, [], ◌++◌, length, None, Some, Ok, Err, IfErr, OnOk};
 ghost use Rattle.std.specs.Option.{is_some};
 ghost use Rattle.plan_text.specs.Berths.{check_hosts, lockage_of};
-ghost use Rattle.plan_text.specs.Draft.{close, close_by};
+ghost use Rattle.plan_text.specs.Draft.{close};
 
 use crate::berth::{Berth, Berths, Head};
 use crate::kinds::BadPlan;

@@ -1,5 +1,5 @@
 //! The lockage that a lockage line and its berth lines make.
-ghost use Rattle.std.specs.Prelude.{◌≡◌, ◌≤◌, ◌<◌, ◌++◌, ◌∷◌, [], ℕ, true, length, map, filter, All};
+ghost use Rattle.std.specs.Prelude.{◌≡◌, ◌≤◌, ◌<◌, ◌++◌, ◌∷◌, [], true, length, filter, All};
 ghost use Rattle.plan_text.specs.Berths.{has_berth, ships_of, spot_of, spots_of, berth_of, lockage_of};
 
 use crate::berth::{Berth, Head};

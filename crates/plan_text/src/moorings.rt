@@ -1,5 +1,5 @@
 //! Berths by ship, and whether each has its host.
-ghost use Rattle.std.specs.Prelude.{◌≡◌, ◌≤◌, length, IfErr, OnOk, Ok, Err};
+ghost use Rattle.std.specs.Prelude.{◌≡◌, ◌≤◌, length, Ok, Err};
 ghost use Rattle.plan_text.specs.Berths.{has_berth, is_hosted_by, check_hosts, berth_of, place_of, moor_of};
 
 use crate::berth::{Berth, Host};

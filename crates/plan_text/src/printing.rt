@@ -1,10 +1,10 @@
 //! Printing plan texts.
-ghost use Rattle.std.specs.Prelude.{◌≡◌, ◌++◌, ◌∷◌, ◌<◌, ◌≤◌, [], ℕ, List, length, map, All, IfOk, OnOk, codes};
+ghost use Rattle.std.specs.Prelude.{◌≡◌, ◌++◌, ◌∷◌, ◌<◌, ◌≤◌, [], length, All, IfOk, OnOk};
 ghost use Rattle.std.specs.List.{flat_map};
 ghost use Rattle.line_text.specs.Printed.{line};
 ghost use Rattle.plan_text.specs.Printing.{host_word, head_words, berth_words, berths_of, lockage_lines, plan_text};
 ghost use Rattle.plan_text.specs.Reading.{IsPlanText, HasPlanText};
-ghost use Rattle.plan_text.specs.Writable.{IsWritableMoor, IsWritableSpot, IsWritable, AreWritable};
+ghost use Rattle.plan_text.specs.Writable.{IsWritableMoor, IsWritableSpot, IsWritable};
 
 use instance_text::way_word;
 use lock_model::{Instance, Lockage, Moor, Plan, Spot};

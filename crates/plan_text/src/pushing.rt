@@ -1,8 +1,7 @@
 //! Plans whose ships are pushed to the near ends of their chambers.
-ghost use Rattle.std.specs.Prelude.{◌≡◌, ◌<◌, ℕ, length};
+ghost use Rattle.std.specs.Prelude.{◌≡◌, ◌<◌};
 ghost use Rattle.lock_model.specs.Fitting.{deck_of};
 ghost use Rattle.lock_rules.specs.Plan.{IsLegal, IsLegalLockage};
-ghost use Rattle.lock_rules.specs.Lines.{lockage_at};
 ghost use Rattle.plan_text.specs.Neat.{IsNearer, DiffersInX, IsNeat, AreNeat};
 
 use deck_laws::normalise;

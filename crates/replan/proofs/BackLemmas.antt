@@ -1,11 +1,11 @@
 -- Every legal plan that keeps the kept plan comes from a legal plan of the rest.
-use Rattle.std.proofs.Common.{◌≡◌, ◌≢◌, ℕ, zero, suc, ◌+◌, ◌-◌, ◌<◌, ◌≤◌, List, [], ◌∷◌, ◌++◌, length, map, max, filter, get_or, All, Bool, not, cond, true, false, true≢false, nat_eq, nat_le, nat_lt, inl, inr, refl, sym, ap, ◌∙◌, subst, arith, sum_by}
+use Rattle.std.proofs.Common.{◌≡◌, ◌≢◌, ℕ, zero, suc, ◌+◌, ◌-◌, ◌<◌, ◌≤◌, List, [], ◌∷◌, ◌++◌, length, map, filter, get_or, All, Bool, not, cond, true, false, true≢false, nat_eq, inl, inr, refl, sym, ap, ◌∙◌, subst, arith, sum_by}
 use Rattle.std.specs.List.Sorted.{IsStrictlyIncreasing}
-use Rattle.std.proofs.lemmas.Bool.{lt-ltb, le-ltb, le-leb, lt-leb, ltb-true, eqb-true}
+use Rattle.std.proofs.lemmas.Bool.{lt-leb, ltb-true, eqb-true}
 use Rattle.std.proofs.lemmas.Bool.Decides.{eqb_tells, leb_tells}
 use Rattle.std.proofs.lemmas.List.{append-nil, length-map, get_or-map}
-use Rattle.std.proofs.lemmas.List.Elements.{All-head, All-tail, All-cons, All-nil, All-map, All-weaker, All-append, All-filter, filter_passes, filter-append}
-use Rattle.std.proofs.lemmas.List.Sums.{sum_by-cons, sum_by-append, get_or-le-sum_by}
+use Rattle.std.proofs.lemmas.List.Elements.{All-head, All-tail, All-map, All-weaker, All-filter, filter_passes, filter-append}
+use Rattle.std.proofs.lemmas.List.Sums.{sum_by-append, get_or-le-sum_by}
 use Rattle.lock_model.specs.Limits.{Within}
 use Rattle.lock_model.specs.Cargo.{HasNoClash}
 use Rattle.lock_model.specs.Placement.{IsLegalPlacement}
@@ -24,13 +24,13 @@ use Rattle.lock_rules.specs.Lawful.{duration_of, stand_after, HasTurned, IsFree,
 use Rattle.lock_rules.specs.Lines.{insert_by_start, sorted_by_start, line_of, group_of}
 use Rattle.lock_rules.specs.Plan.{times_in, served_in, IsLegalLockage, IsLegal, IsLegalPart, IsTimely, flow_in, cost_of}
 use Rattle.lock_rules.proofs.CountLemmas.{times_in-between}
-use Rattle.lock_rules.proofs.LineLemmas.{sum_by-lines, sum_by-plus, All-line, All-insert_by_start, All-sorted_by_start}
+use Rattle.lock_rules.proofs.LineLemmas.{sum_by-lines, sum_by-plus, All-line, All-sorted_by_start}
 use Rattle.lock_rules.proofs.LegalLemmas.{part-chambers, legal-chambers}
 use Rattle.lock_rules.proofs.SplitLemmas.{served_in-sum, times_in-at}
 use Rattle.chamber_times.specs.FirstBreak.{stand_after_all, done_after_all}
 use Rattle.replan.specs.Kept.{starts_before}
-use Rattle.replan.specs.Rest.{chamber_after, ships_left, from_minute, added_of, IsRest}
-use Rattle.replan.specs.Together.{number_of, renumbered, joined, Keeps}
+use Rattle.replan.specs.Rest.{chamber_after, ships_left, added_of, IsRest}
+use Rattle.replan.specs.Together.{number_of, renumbered, Keeps}
 use Rattle.replan.proofs.LeftLemmas.{left-known}
 use Rattle.replan.proofs.RenumberLemmas.{number-less, times_in-filter, served-renumbered, rest-chambers, rest-ships, chamber-rest, ship-rest, deck-rest, duration-rest, left-rise}
 use Rattle.replan.proofs.JoinLemmas.{insert-append, all-before, none-before, sorted-renumbered, filter-renumbered}

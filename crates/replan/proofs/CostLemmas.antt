@@ -1,5 +1,5 @@
 -- What a plan that is put together costs, and how many lockages it has.
-use Rattle.std.proofs.Common.{◌≡◌, ℕ, zero, suc, ◌+◌, ◌-◌, ◌<◌, ◌≤◌, List, [], ◌∷◌, ◌++◌, length, map, max, All, inl, inr, refl, sym, ap, ◌∙◌, subst, arith, sum_by}
+use Rattle.std.proofs.Common.{◌≡◌, ℕ, zero, suc, ◌+◌, ◌-◌, ◌<◌, ◌≤◌, List, [], ◌∷◌, ◌++◌, length, map, All, inl, inr, refl, sym, ap, ◌∙◌, subst, arith, sum_by}
 use Rattle.std.proofs.lemmas.Bool.Decides.{leb_tells}
 use Rattle.std.proofs.lemmas.List.Elements.{All-head, All-tail, All-weaker}
 use Rattle.std.proofs.lemmas.List.Sums.{sum_by-cons, sum_by-append}
@@ -9,14 +9,13 @@ use Rattle.lock_model.specs.declared.instance.Instance.{Instance}
 use Rattle.lock_model.specs.declared.plan.Lockage.{Lockage}
 use Rattle.lock_model.specs.declared.plan.Plan.{Plan}
 use Rattle.lock_rules.specs.Arrival.{numbers_from}
-use Rattle.lock_rules.specs.Lawful.{duration_of}
 use Rattle.lock_rules.specs.Lines.{end_of}
-use Rattle.lock_rules.specs.Plan.{served_in, times_in, IsLegal, flow_in, cost_of}
+use Rattle.lock_rules.specs.Plan.{IsLegal, flow_in, cost_of}
 use Rattle.lock_rules.proofs.CountLemmas.{ships_in, times_in-ships_in, served_in-outside, times_in-between, times_in-above, sum_by-counts}
 use Rattle.lock_rules.proofs.LineLemmas.{length-numbers}
 use Rattle.lock_rules.proofs.LegalLemmas.{legal-chambers, legal-ships, legal-arrived}
 use Rattle.lock_rules.proofs.ThroughputLemmas.{few_lockages, sum_by-numbers, length-sum}
-use Rattle.replan.specs.Rest.{ships_left, from_minute, delay_of, added_of, IsRest}
+use Rattle.replan.specs.Rest.{ships_left, delay_of, added_of, IsRest}
 use Rattle.replan.specs.Together.{number_of, renumbered, joined}
 use Rattle.replan.proofs.RenumberLemmas.{rest-chambers, rest-ships, ship-rest, duration-rest}
 

@@ -1,9 +1,8 @@
 -- The lines of a plan that is put together: the kept lockages, and then those of the rest.
-use Rattle.std.proofs.Common.{◌≡◌, ℕ, zero, suc, ◌+◌, ◌-◌, ◌<◌, ◌≤◌, List, [], ◌∷◌, ◌++◌, length, map, max, filter, get_or, All, Bool, cond, true, false, nat_eq, nat_le, nat_lt, refl, sym, ap, ◌∙◌, subst, arith, sum_by}
+use Rattle.std.proofs.Common.{◌≡◌, ℕ, zero, suc, ◌+◌, ◌-◌, ◌<◌, ◌≤◌, List, [], ◌∷◌, ◌++◌, length, map, filter, get_or, All, cond, true, false, nat_eq, nat_le, refl, sym, ap, ◌∙◌, subst, arith}
 use Rattle.std.proofs.lemmas.Bool.{le-leb, lt-ltb, le-ltb, ltb-true}
 use Rattle.std.proofs.lemmas.List.{append-nil}
-use Rattle.std.proofs.lemmas.List.Elements.{All-head, All-tail, All-cons, All-nil, All-map, All-weaker, All-append, All-filter, filter_passes, filter-append}
-use Rattle.std.proofs.lemmas.List.Sums.{sum_by-cons, sum_by-append}
+use Rattle.std.proofs.lemmas.List.Elements.{All-head, All-tail, All-map, All-weaker, All-append, All-filter, filter_passes, filter-append}
 use Rattle.lock_model.specs.Fleet.{ship_at, chamber_at}
 use Rattle.lock_model.specs.declared.chamber.Chamber.{Chamber}
 use Rattle.lock_model.specs.declared.ship.Ship.{Ship}
@@ -14,14 +13,14 @@ use Rattle.lock_model.specs.declared.way.Stand.TheVariants.{Low, High}
 use Rattle.lock_model.specs.declared.instance.Instance.{Instance}
 use Rattle.lock_model.specs.declared.plan.Lockage.{Lockage}
 use Rattle.lock_model.specs.declared.plan.Plan.{Plan}
-use Rattle.lock_rules.specs.Lawful.{duration_of, stand_after, HasTurn, HasTurned, IsFree, IsLawfulStart, AreLawfulFrom}
-use Rattle.lock_rules.specs.Lines.{insert_by_start, sorted_by_start, line_of, group_of, end_of}
-use Rattle.lock_rules.specs.Plan.{served_in, IsLegalLockage, IsLegal, IsLegalPart, IsTimely, flow_in, cost_of}
+use Rattle.lock_rules.specs.Lawful.{duration_of, stand_after, HasTurned, IsFree, IsLawfulStart, AreLawfulFrom}
+use Rattle.lock_rules.specs.Lines.{insert_by_start, sorted_by_start, line_of, group_of}
+use Rattle.lock_rules.specs.Plan.{IsLegalLockage, IsLegal, IsLegalPart, IsTimely}
 use Rattle.lock_rules.proofs.LineLemmas.{All-line, All-sorted_by_start}
 use Rattle.lock_rules.proofs.LegalLemmas.{legal-arrived, legal-ships}
 use Rattle.chamber_times.specs.FirstBreak.{stand_after_all, done_after_all}
-use Rattle.replan.specs.Kept.{starts_before, kept_of, CanBeKept}
-use Rattle.replan.specs.Rest.{chamber_after, chambers_after, ships_left, from_minute, delay_of, added_of, IsRest}
+use Rattle.replan.specs.Kept.{starts_before, kept_of}
+use Rattle.replan.specs.Rest.{chamber_after, ships_left, IsRest}
 use Rattle.replan.specs.Together.{number_of, renumbered, joined, Keeps}
 use Rattle.replan.proofs.RenumberLemmas.{rest-chambers, rest-ships, chamber-rest, ship-rest, duration-rest, legal-renumbered, once-joined}
 

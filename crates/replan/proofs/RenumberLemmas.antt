@@ -1,19 +1,17 @@
 -- Lockages of the rest, with the ships' numbers in the instance.
-use Rattle.std.proofs.Common.{◌≡◌, ◌≢◌, ℕ, zero, suc, ◌+◌, ◌<◌, ◌≤◌, List, [], ◌∷◌, ◌++◌, length, map, take, max, filter, get_or, All, Bool, cond, true, false, nat_eq, nat_le, inl, inr, refl, sym, ap, ◌∙◌, subst, arith, sum_by}
+use Rattle.std.proofs.Common.{◌≡◌, ◌≢◌, ℕ, zero, suc, ◌+◌, ◌<◌, ◌≤◌, List, [], ◌∷◌, ◌++◌, length, map, take, filter, get_or, All, Bool, cond, true, false, nat_eq, inl, inr, refl, sym, ap, ◌∙◌, subst, arith, sum_by}
 use Rattle.std.specs.List.Sorted.{IsStrictlyIncreasing}
 use Rattle.std.proofs.lemmas.Bool.{eq-eqb, ne_eqb, eqb-true}
 use Rattle.std.proofs.lemmas.Bool.Decides.{eqb_tells, leb_tells}
 use Rattle.std.proofs.lemmas.List.{length-map, get_or-map, get_or-take, get_or_default}
-use Rattle.std.proofs.lemmas.List.Elements.{All-head, All-tail, All-map, All-weaker, All-append, filter_passes}
+use Rattle.std.proofs.lemmas.List.Elements.{All-head, All-tail, All-map, filter_passes}
 use Rattle.std.proofs.lemmas.List.Sums.{sum_by-cons}
 use Rattle.std.proofs.lemmas.List.Kept.{AllPairs-from_increasing}
 use Rattle.lock_model.specs.Limits.{Within}
-use Rattle.lock_model.specs.Deck.{Deck}
 use Rattle.lock_model.specs.Cargo.{HasNoClash}
 use Rattle.lock_model.specs.Placement.{IsLegalPlacement}
 use Rattle.lock_model.specs.Fitting.{size_of, deck_of}
 use Rattle.lock_model.specs.Fleet.{ship_at, chamber_at, no_ship, no_chamber}
-use Rattle.lock_model.specs.declared.deck.Size.{Size}
 use Rattle.lock_model.specs.declared.chamber.Chamber.{Chamber}
 use Rattle.lock_model.specs.declared.ship.Ship.{Ship}
 use Rattle.lock_model.specs.declared.instance.Instance.{Instance}
@@ -25,8 +23,7 @@ use Rattle.lock_rules.specs.Plan.{times_in, served_in, IsLegalLockage, IsLegal, 
 use Rattle.lock_rules.proofs.CountLemmas.{times_in-between}
 use Rattle.lock_rules.proofs.LeafLemmas.{served_in-append}
 use Rattle.lock_rules.proofs.LegalLemmas.{legal-ships}
-use Rattle.replan.specs.Kept.{CanBeKept}
-use Rattle.replan.specs.Rest.{chamber_after, chambers_after, ships_left, from_minute, ships_from, IsRest}
+use Rattle.replan.specs.Rest.{chamber_after, ships_left, from_minute, IsRest}
 use Rattle.replan.specs.Together.{number_of, renumbered, joined}
 use Rattle.replan.proofs.ListLemmas.{filtered-rise, taken_few}
 use Rattle.replan.proofs.LeftLemmas.{left-known, count-after, after_at, from_at, count-from}

@@ -10,7 +10,7 @@ use Rattle.lock_rules.specs.Lines.{line_of}
 use Rattle.lock_rules.specs.Plan.{served_in, cost_of}
 use Rattle.chamber_times.specs.FirstBreak.{stand_after_all, done_after_all}
 use Rattle.replan.specs.declared.remainder.Residual.{Residual}
-use Rattle.replan.specs.Kept.{kept_of, CanBeKept}
+use Rattle.replan.specs.Kept.{CanBeKept}
 
 -- The chamber opens at the end of its last kept lockage by start, and stands as that one leaves it.
 abbrev pub chamber_after : Instance → Plan → ℕ → Chamber

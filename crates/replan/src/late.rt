@@ -1,5 +1,5 @@
 //! Whether kept lockages end when a chamber may still open.
-ghost use Rattle.std.specs.Prelude.{◌≡◌, ◌↔◌, All, IfNone, IfSome, IsNone, List};
+ghost use Rattle.std.specs.Prelude.{◌≡◌, ◌↔◌, All, IfNone, IfSome, IsNone};
 ghost use Rattle.lock_rules.specs.Plan.{IsLegalPart};
 ghost use Rattle.replan.specs.Kept.{EndsInTime, CanBeKept};
 ghost use Rattle.replan.specs.PartBreaks.{IsFirstLate, IsPartRefusal};

@@ -1,6 +1,5 @@
 //! The ships that the kept lockages don't serve.
 ghost use Rattle.std.specs.Prelude.{◌≡◌, ◌+◌, ◌*◌, ◌<◌, ◌≤◌, ◌^◌, length, All, sum_by};
-ghost use Rattle.lock_model.specs.Fleet.{ship_at};
 ghost use Rattle.replan.specs.Rest.{ships_left, from_minute, ships_from, delay_of};
 
 use crate::numbers::Ships24;

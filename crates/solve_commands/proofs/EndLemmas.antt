@@ -1,5 +1,5 @@
 -- What a search that ended well shows, and what is answered to it.
-use Rattle.std.proofs.Common.{ℕ, Bool, true, false, ◌≡◌, ◌≢◌, ◌<◌, refl, List, length, sym, ap, subst, ◌∙◌, inl, inr, All}
+use Rattle.std.proofs.Common.{ℕ, Bool, true, false, ◌≡◌, ◌≢◌, ◌<◌, refl, List, length, sym, subst, ◌∙◌, inl, inr, All}
 use Rattle.std.proofs.lemmas.List.Elements.{All-contains}
 use Rattle.lock_model.specs.declared.instance.Instance.{Instance}
 use Rattle.lock_model.specs.declared.group.Group.{Group}
@@ -7,7 +7,6 @@ use Rattle.lock_model.specs.declared.plan.Plan.{Plan}
 use Rattle.lock_model.specs.declared.verdict.Verdict.{Verdict}
 use Rattle.lock_model.specs.declared.verdict.Verdict.TheVariants.{Optimal, OpenNodes, OpenTurns}
 use Rattle.lock_rules.specs.Node.{line_at}
-use Rattle.lock_rules.specs.Singles.{singles_of}
 use Rattle.lock_rules.proofs.NodeLemmas.{line-known}
 use Rattle.book_rules.specs.Book.{Book}
 use Rattle.book_rules.specs.Verdict.{verdict_of}

@@ -1,7 +1,7 @@
 -- A search ends open only where its nodes or its turns aren't surely enough.
 use Rattle.std.proofs.Common.{ℕ, Bool, true, false, ◌≡◌, ◌<◌, ◌≤◌, List, sym, subst, inl, inr, refl}
 use Rattle.lock_model.specs.declared.verdict.Verdict.TheVariants.{Optimal, OpenNodes, OpenTurns}
-use Rattle.lock_rules.specs.Plan.{IsLegal, cost_of}
+use Rattle.lock_rules.specs.Plan.{cost_of}
 use Rattle.book_rules.specs.Ends.{AreEnough, IsSpentBelow, IsOpenTurns}
 use Rattle.certificate_rules.specs.OpenCertificates.{OpenCertificate}
 use Rattle.book_rules.proofs.GrowLemmas.{law-cheap}

@@ -1,17 +1,16 @@
 -- What the open certificate of a search that ended well and open keeps.
-use Rattle.std.proofs.Common.{ℕ, Bool, true, false, ◌≡◌, ◌≢◌, ◌<◌, ◌≤◌, ◌⊎◌, refl, List, length, sym, subst, ap, ◌∙◌, inl, inr, arith, Some, None, cond, ◌||◌, min, true≢false}
+use Rattle.std.proofs.Common.{ℕ, Bool, true, false, ◌≡◌, ◌≢◌, ◌<◌, ◌≤◌, ◌⊎◌, refl, length, sym, subst, ◌∙◌, inl, inr, arith, Some, None, cond, ◌||◌, min, true≢false}
 use Rattle.std.specs.declared.option.Option.{Option}
 use Rattle.std.proofs.lemmas.List.Folds.{Any-from_list_any}
 use Rattle.std.proofs.lemmas.List.{get_or_default}
 use Rattle.lock_model.specs.declared.instance.Instance.{Instance}
 use Rattle.lock_model.specs.declared.verdict.Verdict.{Verdict}
 use Rattle.lock_model.specs.declared.verdict.Verdict.TheVariants.{Optimal, OpenNodes, OpenTurns}
-use Rattle.lock_rules.specs.Plan.{IsLegal, cost_of}
 use Rattle.book_rules.specs.declared.book.SlotState.{SlotState}
 use Rattle.book_rules.specs.declared.book.SlotState.TheVariants as slot
 use Rattle.book_rules.specs.Book.{Book, Node, Slot, no_slot, slot_at, best_cost, is_fresh, is_back, is_held, is_parked, has_slot, first_slot}
 use Rattle.book_rules.specs.Verdict.{low_of, parked_verdict, turns_verdict, verdict_of}
-use Rattle.book_rules.specs.Ends.{HasNothingOpen, HoldsNothing, EndsWell, IsOpenLow, IsOpenNodes, IsOpenTurns, IsSpentBelow, IsUnderSpent, IsEnd}
+use Rattle.book_rules.specs.Ends.{HasNothingOpen, HoldsNothing, EndsWell, IsOpenLow, IsSpentBelow, IsEnd}
 use Rattle.certificate_rules.specs.OpenCertificates.{OpenCertificate, Stands}
 use Rattle.certificate_rules.specs.Low.{IsLow}
 use Rattle.certificate_rules.specs.WellFormed.{IsWellFormedOpen}

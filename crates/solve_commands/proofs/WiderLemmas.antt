@@ -9,7 +9,7 @@ use Rattle.plan_print.specs.Report.{report}
 use Rattle.run_answers.specs.declared.status.Status.{Status}
 use Rattle.run_answers.specs.declared.status.Status.TheVariants.{Good, Open, Words, Refused, ReadFault, WriteFault, NoMemory, BadDossier, Unfit, PlanRefused}
 use Rattle.solve_commands.specs.Searching.{Search, Print, PrintsOpen, PrintsBest, AnswersSearch, search_in}
-use Rattle.solve_commands.specs.Keeping.{SpendsNodes, SpendsTurns, PrintsKept, PrintsLeft}
+use Rattle.solve_commands.specs.Keeping.{PrintsKept, PrintsLeft}
 
 -- the same search from a plan that costs at most `limit`
 abbrev pub widened : Search → ℕ → Search

@@ -1,5 +1,4 @@
 -- The numbers of the commands' options, in their ranges.
-use Rattle.std.specs.Prelude.{ℕ}
 use Rattle.command_words.specs.declared.commands.SolveOptions.{SolveOptions}
 use Rattle.command_words.specs.declared.commands.LotOptions.{LotOptions}
 use Rattle.command_words.specs.declared.commands.TrialOptions.{TrialOptions}

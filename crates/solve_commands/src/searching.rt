@@ -1,6 +1,5 @@
 //! What is answered at the end of a search.
 ghost use Rattle.std.specs.Prelude.{◌≡◌, ◌≢◌, ◌↔◌, IsTrue, ℕ, IfOk, IfErr};
-ghost use Rattle.lock_rules.specs.Singles.{singles_of};
 ghost use Rattle.lock_model.specs.declared.verdict.Verdict.TheVariants.{Optimal};
 ghost use Rattle.certificate_rules.specs.Certificates.{Accepts};
 ghost use Rattle.book_rules.specs.Ends.{EndsWell, IsEnd};

@@ -3,7 +3,6 @@ ghost use Rattle.std.specs.Prelude.{◌≡◌, ◌≢◌, ◌<◌, ◌≤◌, �
 ghost use Rattle.refute_rules.specs.Decided.{berth_in};
 ghost use Rattle.refute_rules.specs.Known.{y_in, host_of};
 ghost use Rattle.refute_rules.specs.SpotFaults.{IsOutsideAlong, IsOutsideAcross, IsPastHost, AreTouching, spot_fault_numbers};
-ghost use Rattle.spot_place.specs.OnWay.{NoneBelow};
 ghost use Rattle.spot_place.specs.SpotCase.{case_on};
 ghost use Rattle.spot_place.specs.Faults.{IsAt, fault_of};
 

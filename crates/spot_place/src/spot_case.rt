@@ -1,6 +1,5 @@
 //! A spot case on its way through the spot decisions.
 ghost use Rattle.std.specs.Prelude.{◌≡◌, ◌<◌, ◌≤◌, ◌↔◌, ◌-◌, [], ◌∷◌, ◌++◌, length, suc, take, Some, IfSome, IsTrue, false};
-ghost use Rattle.lock_model.specs.Deck.{IsDeck};
 ghost use Rattle.refute_rules.specs.Values.{spot_values};
 ghost use Rattle.refute_rules.specs.SpotFaults.{IsFaultless};
 ghost use Rattle.refute_rules.specs.Decided.{berth_in, x_in};

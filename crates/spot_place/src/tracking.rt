@@ -1,5 +1,5 @@
 //! Spot cases for the search: what it asks of a case.
-ghost use Rattle.std.specs.Prelude.{◌≡◌, ◌<◌, ◌↔◌, ◌++◌, ◌∷◌, [], List, length, IsTrue};
+ghost use Rattle.std.specs.Prelude.{◌≡◌, ◌<◌, ◌↔◌, ◌++◌, ◌∷◌, [], List, length};
 ghost use Rattle.refute_rules.specs.Choices.{Choice};
 ghost use Rattle.refute_rules.specs.SpotFaults.{IsFaultless};
 ghost use Rattle.case_search.specs.Rules.{options_at, with_option};

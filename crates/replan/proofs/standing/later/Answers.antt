@@ -1,6 +1,5 @@
-use Rattle.std.proofs.Common.{◌≡◌, ◌+◌, ◌<◌, ◌≤◌, length, Some, sym, subst, ap, ◌∙◌, arith}
+use Rattle.std.proofs.Common.{◌≡◌, ◌+◌, ◌<◌, ◌≤◌, length, sym, subst, ap, ◌∙◌, arith}
 use Rattle.lock_model.specs.declared.plan.Lockage.{Lockage}
-use Rattle.lock_rules.specs.Lines.{lockage_at}
 use Rattle.replan.specs.Last.{EndsWith, IsLastFrom}
 use Rattle.replan.proofs.KeptLemmas.{read_at}
 use Rattle.replan.proofs.StandingLemmas.{last_kept, last_behind}

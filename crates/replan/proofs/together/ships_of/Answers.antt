@@ -1,4 +1,4 @@
-use Rattle.std.proofs.Common.{◌<◌, length, All, sym, subst, ap, arith}
+use Rattle.std.proofs.Common.{◌<◌, length, All, sym, subst}
 use Rattle.replan.proofs.RenumberLemmas.{rising_more}
 use Rattle.replan.proofs.together.ships_of.Goals as goal
 

@@ -1,6 +1,4 @@
-use Rattle.std.proofs.Common.{ℕ, ◌≡◌, ◌≤◌, ap, sym, ◌∙◌, arith, All, subst, refl}
-use Rattle.bound_word.specs.declared.view.View.{View}
-use Rattle.bound_word.specs.Views.{least}
+use Rattle.std.proofs.Common.{◌≡◌, ◌≤◌, ap, sym, ◌∙◌, arith, All, subst}
 use Rattle.bound_word.specs.Steps.{FindsOwn}
 use Rattle.bound_word.specs.Seats.{Placed, Opened}
 use Rattle.bound_word.proofs.RowLemmas.{least-le, least-all}

@@ -1,4 +1,4 @@
-use Rattle.std.proofs.Common.{ℕ, ◌≡◌, ◌≤◌, ap, sym, ◌∙◌, arith}
+use Rattle.std.proofs.Common.{◌≡◌, ◌≤◌, ap, sym, ◌∙◌, arith}
 use Rattle.bound_word.specs.Seats.{Placed, Opened}
 use Rattle.bound_word.proofs.StepLemmas.{splits}
 use Rattle.bound_word.proofs.table.BoundTable.split.Goals as goal

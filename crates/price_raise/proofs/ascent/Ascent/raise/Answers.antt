@@ -1,4 +1,4 @@
-use Rattle.std.proofs.Common.{refl, arith}
+use Rattle.std.proofs.Common.{arith}
 use Rattle.std.proofs.lemmas.Int.{ints, to_z-of_z}
 use Rattle.price_raise.proofs.RaiseLemmas.{weighed_still}
 use Rattle.price_raise.proofs.ascent.Ascent.raise.Goals as goal
