@@ -37,8 +37,8 @@ pub(crate) struct Question {
     pub(crate) counted: Counted,
 }
 
-// The ships of a set of bits, where they are at most eight.
-fn ships_of(instance: &Instance, set: u32) -> Option<Ships>
+/// The ships of a set of bits, where they are at most eight.
+pub(crate) fn ships_of(instance: &Instance, set: u32) -> Option<Ships>
     ensures { IfSome result (All (λ s. s < length instance.now.ships)) }
 {
     let mut ships = Ships::new();

@@ -4,10 +4,12 @@
 //! ROUNDS` let two placers spend their turns on a crowded deck, `crowd PLACER WHAT TURNS` asks one of
 //! `berths`, `cases`, `spots` and `nobody` about the decks of six ships of the instance text on
 //! standard input (WHAT is `decks`, `undecided` or `turns`), `nodes LOT SHIPS CHAMBERS` and `events
-//! LOT SHIPS CHAMBERS` search a generated instance, and `read ROUNDS` reads the instance text on
-//! standard input. It prints what it counted, and never a time.
+//! LOT SHIPS CHAMBERS` search a generated instance, `read ROUNDS` reads the instance text on standard
+//! input, and `closes CUTS ROUNDS` asks books of its 24 ships with so many cuts to close a slot by a cost
+//! that was shown. It prints what it counted, and never a time.
 #![tactic(auto)]
 
+mod closes;
 mod crowds;
 mod repeats;
 mod searches;
@@ -86,6 +88,18 @@ fn main(rt: HostRuntime) -> io::Result<()> {
             let mut source = StdSource::new(rt.stdin());
             match read_all(alloc, &mut source, 65_536) {
                 Ok(bytes) => repeats::readings(bytes.as_slice(), number_of(words.get(1))),
+                Err(_) => 0,
+            }
+        }
+        Some("closes") => {
+            let mut source = StdSource::new(rt.stdin());
+            match read_all(alloc, &mut source, 65_536) {
+                Ok(bytes) => closes::closes(
+                    alloc,
+                    bytes.as_slice(),
+                    number_of(words.get(1)),
+                    number_of(words.get(2)),
+                ),
                 Err(_) => 0,
             }
         }

@@ -14,7 +14,7 @@ returns-then-count-len c =
     let cuts = c.self.inside.cuts.items in
     c.same_cuts.ensures
     ∙ ap (λ l. pointwise same_cut shown (take (length shown) l)) (c.deref.ensures.value ∙ c.self.invariant)
-    ∙ first-told shown cuts (omega (arith, c.if-count-len.true, c.len.ensures, ap length c.self.invariant, length-map bare_cut cuts))
+    ∙ first-told shown cuts (omega (arith, c.if-count-len.true, c.len.ensures, ap length c.self.invariant, length-map cuts bare_cut))
     ∙ ap (are_first_cuts (map told_cut shown)) c.self.view_is
 
 pub returns-else-count-len : goal.returns-else-count-len
@@ -23,5 +23,5 @@ returns-else-count-len c =
     let cuts = c.self.inside.cuts.items in
     let more : c.len.result < length shown = omega (arith, c.if-count-len.false) in
     lt-leb (length shown) c.len.result more
-    ∙ sym (first-more shown cuts (omega (arith, more, c.len.ensures, ap length c.self.invariant, length-map bare_cut cuts)))
+    ∙ sym (first-more shown cuts (omega (arith, more, c.len.ensures, ap length c.self.invariant, length-map cuts bare_cut)))
     ∙ ap (are_first_cuts (map told_cut shown)) c.self.view_is
