@@ -1,7 +1,4 @@
 //! Events that close a slot by what was shown of its node, beside a book of many cuts.
-ghost use Rattle.std.specs.Prelude.{◌<◌, length};
-ghost use Rattle.first_plan.specs.Unfit.{HasNoUnfit};
-
 use crate::crowds::ships_of;
 use book_core::{Book, Case, Reply, open_book};
 use first_plan::{first_unfit, singles_plan};
@@ -38,9 +35,10 @@ fn cut_of(alloc: Global, instance: &Instance, set: u32) -> Option<Cut> {
 }
 
 // A book of the instance with a cut for each set, these prices, and its root in a worker's hand.
-fn booked(alloc: Global, instance: &Instance, sets: &[u32], prices: &Prices) -> Option<Book>
-    requires { HasNoUnfit instance.now }
-{
+fn booked(alloc: Global, instance: &Instance, sets: &[u32], prices: &Prices) -> Option<Book> {
+    if first_unfit(instance).is_some() {
+        return None;
+    }
     let case = Case::new(instance.copy(), 100, 100);
     let mut book = open_book(alloc, &case, singles_plan(instance)).ok()?;
     for set in sets {
@@ -66,9 +64,6 @@ fn refusals(books: &mut Vec<Book>, shown: &Shown, rounds: u32) -> u64 {
 
 // The same of 64 books of an instance, each with so many cuts.
 fn refused(alloc: Global, instance: &Instance, cuts: u32, rounds: u32) -> Option<u64> {
-    if first_unfit(instance).is_some() {
-        return None;
-    }
     let prices = Prices::new(&[0; 24])?;
     let sets = triples(alloc, cuts)?;
     let mut books = Vec::new(alloc);
