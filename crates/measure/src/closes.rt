@@ -26,7 +26,7 @@ fn triples(alloc: Global, most: u32) -> Option<Vec<u32>> {
 // The cut of a set of ships in the first chamber, where a quick reason refutes them.
 fn cut_of(alloc: Global, instance: &Instance, set: u32) -> Option<Cut> {
     let ships = ships_of(instance, set)?;
-    if instance.chambers.as_slice().is_empty() {
+    if ships.len() == 0 || instance.chambers.as_slice().is_empty() {
         return None;
     }
     let deck = deck_of(instance, 0, &ships);
