@@ -6,7 +6,8 @@ program=$PWD/crates/measure/out/measure
 [ -x "$program" ] || (cd crates/measure && rt run -- none >/dev/null)
 
 text=$(mktemp)
-trap 'rm -f "$text"' EXIT
+queue=$(mktemp)
+trap 'rm -f "$text" "$queue"' EXIT
 {
   echo "glock 1"
   for i in $(seq 1 1072); do printf '# %058d\n' "$i"; done
@@ -14,6 +15,14 @@ trap 'rm -f "$text"' EXIT
   echo "ship s1 up 1100 114 0 5"
   echo "end"
 } >"$text"
+
+# 24 ships, of which no three fit the chamber
+{
+  echo "glock 1"
+  echo "chamber c1 2000 232 10 20 5 4 30 15 low 0"
+  for i in $(seq 1 24); do echo "ship s$i up 1100 114 0 5"; done
+  echo "end"
+} >"$queue"
 
 # seconds that a run takes, as nanoseconds, less those of a run that does nothing
 timed() {
@@ -40,3 +49,5 @@ timed spotcases 20
 echo "the same by spots: $((spent / counted)) nanoseconds a turn ($counted of them)"
 timed read 200
 echo "an instance text of $(wc -c <"$text") bytes: $((spent / 200 / 1000)) microseconds a reading"
+text=$queue timed closes 1000 1000000
+echo "closing a slot by what was shown of it beside 1,000 cuts: $((spent / 1000000)) nanoseconds an event ($counted of them)"
