@@ -1,5 +1,5 @@
 -- A deck and its spots when one ship is left out.
-use Rattle.std.specs.Prelude.{ℕ, zero, suc, ◌≡◌, ◌+◌, ◌-◌, Bool, false, ◌||◌, List, map, nat_eq, nat_lt, if◌then◌else◌}
+use Rattle.std.specs.Prelude.{ℕ, zero, suc, ◌+◌, ◌-◌, Bool, false, ◌||◌, List, map, nat_eq, nat_lt, if◌then◌else◌}
 use Rattle.std.specs.List.{remove}
 use Rattle.lock_model.specs.Deck.{Deck, size_at}
 use Rattle.lock_model.specs.Placement.{spot_at}

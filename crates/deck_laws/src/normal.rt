@@ -1,10 +1,9 @@
 //! Normal placements: every ship is pushed to the near end until something anchored holds it.
-ghost use Rattle.std.specs.Prelude.{◌≡◌, ◌+◌, ◌<◌, ◌≤◌, ◌^◌, ◌⊎◌, ℕ, Bool, true, false, length, IfSome, IfNone};
-ghost use Rattle.lock_model.specs.Deck.{size_at};
+ghost use Rattle.std.specs.Prelude.{◌≡◌, ◌+◌, ◌<◌, ◌≤◌, ◌⊎◌, ℕ, true, false, length, IfSome, IfNone};
 ghost use Rattle.lock_model.specs.Placement.{IsLegalPlacement, spot_at};
 ghost use Rattle.lock_model.specs.Normal.{IsNormal};
 ghost use Rattle.lock_model.specs.declared.placement.Moor.TheVariants.{Ship as ToShip};
-ghost use Rattle.deck_laws.specs.Slack.{Keeps, HasRoom, IsTightBy, IsTight, IsLeastSlack, IsLeastTo, IsSlackTo, done_in};
+ghost use Rattle.deck_laws.specs.Slack.{Keeps, HasRoom, IsTightBy, IsTight, IsLeastSlack, IsLeastTo, done_in};
 ghost use Rattle.deck_laws.specs.Shift.{shifted, shift_from, AreNoFarther};
 
 use lock_model::{Deck, Moor, Spot, Spots};

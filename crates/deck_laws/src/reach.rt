@@ -1,6 +1,6 @@
 //! One round of the search for spot values: from a ship at a known place to the places where
 //! another ship may be held by it.
-ghost use Rattle.std.specs.Prelude.{◌≡◌, ◌+◌, ◌<◌, ◌≤◌, length};
+ghost use Rattle.std.specs.Prelude.{◌+◌, ◌<◌, ◌≤◌, length};
 ghost use Rattle.deck_laws.specs.Reach.{IsPlace, IsBehind, IsFlush, IsFlushOf, IsStepBy, IsStepOf, IsStepAfter, IsNextOf, Reaches};
 
 use lock_model::Deck;

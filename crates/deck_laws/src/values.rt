@@ -1,7 +1,7 @@
 //! Spot values: where an anchored ship may lie along the chamber.
 ghost use Rattle.std.specs.Prelude.{◌≡◌, ◌+◌, ◌-◌, ◌<◌, ◌≤◌, [], ◌∷◌, ◌++◌, length, OnOk, IfOk, IfSome, IfNone, if◌then◌else◌};
 ghost use Rattle.refute_rules.specs.Values.{spot_values};
-ghost use Rattle.deck_laws.specs.Reach.{HasReached, IsTable, least_length, reached_of};
+ghost use Rattle.deck_laws.specs.Reach.{HasReached, least_length, reached_of};
 ghost use Rattle.deck_laws.specs.Laws.{HoldNormalPlaces};
 
 use crate::reach::reach_next;

@@ -1,5 +1,5 @@
 //! A placement in a longer or wider deck.
-ghost use Rattle.std.specs.Prelude.{◌≡◌, ◌+◌, ◌<◌, ◌≤◌, ◌^◌, length};
+ghost use Rattle.std.specs.Prelude.{◌≡◌, ◌+◌, ◌<◌, ◌^◌};
 ghost use Rattle.lock_model.specs.Placement.{IsLegalPlacement};
 ghost use Rattle.deck_laws.specs.Widen.{IsRoomier, wide_spot, wide_spots};
 

@@ -1,5 +1,5 @@
 //! What the service of a group depends on.
-ghost use Rattle.std.specs.Prelude.{◌≡◌, ◌<◌, ◌≤◌, length, All};
+ghost use Rattle.std.specs.Prelude.{◌≡◌, ◌<◌, length, All};
 ghost use Rattle.lock_model.specs.Fleet.{ship_at};
 ghost use Rattle.lock_rules.specs.Children.{single};
 ghost use Rattle.flow_bounds.specs.Load.{no_load, with_one, IsLoad, IsLoadOf};

@@ -1,5 +1,5 @@
 //! The bound of a node.
-ghost use Rattle.std.specs.Prelude.{◌≡◌, ◌≤◌, length};
+ghost use Rattle.std.specs.Prelude.{◌≡◌, ◌≤◌};
 ghost use Rattle.lock_rules.specs.Bound.{node_flow, bound_of, IsLowerBound};
 ghost use Rattle.master_branch.specs.Node.{IsNodeOf};
 ghost use Rattle.flow_bounds.specs.Whole.{IsWholeCost};

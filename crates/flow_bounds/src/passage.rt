@@ -1,5 +1,5 @@
 //! What each ship takes at the least.
-ghost use Rattle.std.specs.Prelude.{◌≡◌, ◌+◌, ◌<◌, ◌≤◌, ◌∷◌, ℕ, List, length, sum_by, IfSome};
+ghost use Rattle.std.specs.Prelude.{◌≡◌, ◌+◌, ◌<◌, ◌≤◌, length, sum_by, IfSome};
 ghost use Rattle.lock_rules.specs.Arrival.{order_of, missing_ships};
 ghost use Rattle.lock_rules.specs.Bound.{fits_alone, passage_on, least_passage};
 ghost use Rattle.lock_rules.specs.Plan.{IsLegal, cost_of};

@@ -1,6 +1,5 @@
 //! The minutes before which a chamber can't have ended its ships, as they come one by one.
 ghost use Rattle.std.specs.Prelude.{◌≡◌, ◌≤◌, ◌<◌, ◌∷◌, ℕ, suc, length};
-ghost use Rattle.lock_model.specs.Fleet.{chamber_at};
 ghost use Rattle.lock_rules.specs.Throughput.{first_arrival, places_on};
 ghost use Rattle.flow_bounds.specs.Places.{minutes_of, IsEnough};
 

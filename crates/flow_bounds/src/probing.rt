@@ -1,14 +1,12 @@
 //! What a node's ships take once one more ship has entered it.
-ghost use Rattle.std.specs.Prelude.{◌≡◌, ◌+◌, ◌<◌, ◌≤◌, ◌∷◌, ◌++◌, [], ℕ, length, map, All, slice_set, insert};
+ghost use Rattle.std.specs.Prelude.{◌≡◌, ◌+◌, ◌<◌, ◌≤◌, ◌∷◌, ◌++◌, [], ℕ, length, map, All};
 ghost use Rattle.std.specs.Bool.{OnTrue, OnFalse};
-ghost use Rattle.lock_model.specs.Fleet.{ship_at};
-ghost use Rattle.lock_rules.specs.Plan.{times_in};
 ghost use Rattle.lock_rules.specs.Arrival.{next_ship};
 ghost use Rattle.lock_rules.specs.Node.{line_at, times_held};
-ghost use Rattle.lock_rules.specs.Children.{with_ship, single, children_by};
+ghost use Rattle.lock_rules.specs.Children.{children_by};
 ghost use Rattle.lock_rules.specs.Bound.{line_flow, node_flow, bound_of, probe_of, least_number, IsLowerBound};
 ghost use Rattle.master_branch.specs.Node.{IsNodeOf, children};
-ghost use Rattle.master_branch.specs.Steps.{group_at, lines_after, IsStep};
+ghost use Rattle.master_branch.specs.Steps.{lines_after, IsStep};
 ghost use Rattle.flow_bounds.specs.Missing.{IsMissing};
 ghost use Rattle.flow_bounds.specs.Roster.{IsRosterOf};
 ghost use Rattle.flow_bounds.specs.Walk.{chamber_of};

@@ -1,5 +1,5 @@
 //! Where the ships of each group of a node lie.
-ghost use Rattle.std.specs.Prelude.{◌≡◌, ◌<◌, ◌≤◌, ◌↔◌, ◌&&◌, [], ◌∷◌, ◌++◌, length, drop, nat_eq, IsTrue};
+ghost use Rattle.std.specs.Prelude.{◌≡◌, ◌<◌, ◌≤◌, ◌&&◌, [], ◌∷◌, ◌++◌, length, nat_eq};
 ghost use Rattle.leaf_plan.specs.Moorings.{same_ships, spots_in};
 
 use arrayvec::ArrayVec;

@@ -1,7 +1,6 @@
 //! Whether a ship lies where its mooring holds it.
 ghost use Rattle.std.specs.Prelude.{◌≡◌, ◌<◌, ◌↔◌, length, IsTrue};
-ghost use Rattle.lock_model.specs.Deck.{size_at};
-ghost use Rattle.lock_model.specs.Placement.{IsAtQuay, IsAtSide, IsAtHost, IsBerthed, spot_at};
+ghost use Rattle.lock_model.specs.Placement.{IsAtQuay, IsAtSide, IsAtHost, IsBerthed};
 
 use lock_model::{Deck, Moor, Rank, Size, Spot};
 

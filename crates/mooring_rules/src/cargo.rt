@@ -1,6 +1,5 @@
 //! Ships of a deck whose cargo clashes.
 ghost use Rattle.std.specs.Prelude.{◌≡◌, ◌<◌, ◌↔◌, false, length, IsTrue, IfNone, IfSome};
-ghost use Rattle.lock_model.specs.Deck.{size_at};
 ghost use Rattle.lock_model.specs.Cargo.{Clash, GoTogether, IsClearOfLater, HasNoClash};
 ghost use Rattle.mooring_rules.specs.CargoBreaks.{ClashesFirst, AreFirstClashing};
 

@@ -1,5 +1,5 @@
 //! The first break of placements, of cargo and of times in a plan.
-ghost use Rattle.std.specs.Prelude.{◌≡◌, ◌<◌, length, IfNone, IfSome};
+ghost use Rattle.std.specs.Prelude.{◌<◌, IfNone, IfSome};
 ghost use Rattle.lock_model.specs.Fitting.{deck_of};
 ghost use Rattle.mooring_rules.specs.PlacementBreaks.{IsFirstBroken};
 ghost use Rattle.mooring_rules.specs.CargoBreaks.{AreFirstClashing};

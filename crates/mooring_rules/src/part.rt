@@ -1,5 +1,5 @@
 //! The judge of a part of a plan.
-ghost use Rattle.std.specs.Prelude.{◌≡◌, ◌<◌, ◌↔◌, ℕ, length, IsNone, IfNone, IfSome};
+ghost use Rattle.std.specs.Prelude.{◌<◌, ◌↔◌, ℕ, length, IsNone, IfNone, IfSome};
 ghost use Rattle.std.specs.List.Sorted.{IsStrictlyIncreasing};
 ghost use Rattle.lock_rules.specs.Lines.{lockage_at};
 ghost use Rattle.lock_rules.specs.Plan.{IsLegalPart};

@@ -1,5 +1,5 @@
 //! The judge of a plan.
-ghost use Rattle.std.specs.Prelude.{◌≡◌, ◌↔◌, IsNone, IfSome};
+ghost use Rattle.std.specs.Prelude.{◌↔◌, IsNone, IfSome};
 ghost use Rattle.lock_rules.specs.Plan.{IsLegal};
 ghost use Rattle.mooring_rules.specs.PlanBreaks.{IsFirstBrokenPlan};
 

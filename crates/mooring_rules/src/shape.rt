@@ -1,5 +1,5 @@
 //! Whether a lockage is made of what the instance has.
-ghost use Rattle.std.specs.Prelude.{◌≡◌, ◌<◌, ◌↔◌, ℕ, length, All, IsTrue, IfNone, IfSome};
+ghost use Rattle.std.specs.Prelude.{◌<◌, ◌↔◌, ℕ, length, All, IsTrue, IfNone, IfSome};
 ghost use Rattle.std.specs.List.Sorted.{IsStrictlyIncreasing};
 ghost use Rattle.lock_rules.specs.Lines.{lockage_at};
 ghost use Rattle.mooring_rules.specs.PlanBreaks.{GoesThisWay, HasShape, AreShaped, IsFirstMisshapen};

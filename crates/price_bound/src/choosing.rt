@@ -1,10 +1,8 @@
 //! The groups that may come next in a loose line of a chamber.
-ghost use Rattle.std.specs.Prelude.{◌≡◌, ◌+◌, ◌<◌, ◌≤◌, ◌↔◌, List, [], ◌++◌, map, length, All, Contains, IsTrue, IfSome, OnOk, IfOk};
-ghost use Rattle.lock_rules.specs.Arrival.{first_ships};
+ghost use Rattle.std.specs.Prelude.{◌≡◌, ◌+◌, ◌<◌, ◌≤◌, List, [], ◌++◌, length, All, OnOk, IfOk};
 ghost use Rattle.price_rules.specs.Prices.{IsUncut};
-ghost use Rattle.price_bound.specs.Sparing.{Misses, AreForbidden};
+ghost use Rattle.price_bound.specs.Sparing.{AreForbidden};
 ghost use Rattle.price_bound.specs.Masks.{AreNears};
-ghost use Rattle.price_bound.specs.Growing.{AreGrown, IsBase};
 ghost use Rattle.price_bound.specs.Choosing.{Keeps, IsChoice, IsBaseOf, HaveMore, PutsGroup, AreLate, HaveEarly, AreSomeEarly, AreEarly};
 ghost use Rattle.price_bound.specs.declared.choice.Choice.{Choice as Plain};
 ghost use Rattle.price_bound.specs.Cuts.{plain_cuts};

@@ -1,5 +1,5 @@
 //! The table of a chamber's line, one choice after another.
-ghost use Rattle.std.specs.Prelude.{◌≡◌, ◌+◌, ◌-◌, ◌*◌, ◌<◌, ◌≤◌, ◌≤ℤ◌, ◌+ℤ◌, pos, neg_ℤ, length, drop, All, IfSome, IfNone, ℕ, IsTrue, None, slice_index_or};
+ghost use Rattle.std.specs.Prelude.{◌≡◌, ◌+◌, ◌-◌, ◌*◌, ◌<◌, ◌≤◌, ◌≤ℤ◌, ◌+ℤ◌, pos, neg_ℤ, length, IfSome, IfNone, ℕ, IsTrue, None};
 ghost use Rattle.std.specs.Int.{int_min};
 ghost use Rattle.price_bound.specs.Choosing.{AreListed, IsChoice, IsCounted, IsValue, Leads, list_at};
 ghost use Rattle.price_bound.specs.Values.{AreValues, IsBest, IsFrame};
@@ -7,7 +7,7 @@ ghost use Rattle.price_bound.specs.Cuts.{plain_cuts};
 
 use crate::choice::Choice;
 use crate::frame::Frame;
-use crate::serving::{Served, alone, serve};
+use crate::serving::{alone, serve};
 use crate::state::State;
 use crate::table::Table;
 use crate::values::Values;

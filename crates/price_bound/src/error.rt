@@ -1,5 +1,5 @@
 //! Why a bound wasn't worked out.
-ghost use Rattle.std.specs.Prelude.{◌≡◌, [], ◌∷◌, ◌++◌, OnOk, IfOk};
+ghost use Rattle.std.specs.Prelude.{◌≡◌, [], ◌∷◌, ◌++◌, OnOk};
 
 /// Why a bound wasn't worked out.
 #[derive(Clone, Copy, Debug, PartialEq, Eq)]

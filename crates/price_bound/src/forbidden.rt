@@ -1,5 +1,5 @@
 //! The ship sets that the cuts forbid a chamber.
-ghost use Rattle.std.specs.Prelude.{◌≡◌, ◌<◌, ◌↔◌, List, [], ◌∷◌, ◌++◌, length, All, Contains, IsTrue, OnOk, IfOk};
+ghost use Rattle.std.specs.Prelude.{◌<◌, ◌↔◌, List, [], ◌∷◌, ◌++◌, length, All, Contains, IsTrue, OnOk, IfOk};
 ghost use Rattle.lock_model.specs.Fleet.{chamber_at};
 ghost use Rattle.price_rules.specs.Prices.{PlainCut as Plain};
 ghost use Rattle.price_bound.specs.Cuts.{plain_cut, plain_cuts};

@@ -1,14 +1,12 @@
 //! Uncut groups, listed by growing them ship by ship.
 ghost use Rattle.std.specs.Prelude.{◌≡◌, ◌+◌, ◌<◌, ◌≤◌, ◌↔◌, length, All, IsTrue, IfSome, IfNone, OnOk, IfOk};
-ghost use Rattle.lock_model.specs.Fleet.{ship_at, chamber_at};
 ghost use Rattle.lock_rules.specs.Plan.{times_in};
 ghost use Rattle.lock_rules.specs.Children.{with_ship};
-ghost use Rattle.price_rules.specs.Prices.{is_missing};
 ghost use Rattle.master_branch.specs.Steps.{group_at};
 ghost use Rattle.price_bound.specs.Sparing.{IsSpared};
 ghost use Rattle.price_bound.specs.Masks.{AreNear, AreNears};
 ghost use Rattle.price_bound.specs.Choosing.{AreRates};
-ghost use Rattle.price_bound.specs.Growing.{IsGrown, AreGrown, MayJoin, IsJoined, IsNew, IsBase};
+ghost use Rattle.price_bound.specs.Growing.{AreGrown, MayJoin, IsJoined, IsNew, IsBase};
 
 use crate::error::{PriceError, append};
 use crate::forbidden::misses_all;

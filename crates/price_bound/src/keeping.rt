@@ -4,7 +4,7 @@ ghost use Rattle.std.specs.Bool.{OnTrue};
 ghost use Rattle.price_bound.specs.declared.keeping.KeptLine.{KeptLine};
 ghost use Rattle.price_bound.specs.Keeping.{AreUnder, IsFound, IsOf};
 
-use crate::error::{Limits, PriceError, append};
+use crate::error::{Limits, PriceError};
 use crate::line_case::LineCase;
 use crate::line_least::line_least;
 use crate::loose_line::{LooseLine, copied};

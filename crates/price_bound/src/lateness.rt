@@ -1,6 +1,6 @@
 //! Choices that are left out from a minute on, since others serve as well from then on or they gain
 //! nothing.
-ghost use Rattle.std.specs.Prelude.{◌≡◌, ◌+◌, ◌*◌, ◌≤◌, length, max, All, IsTrue, IfOk, OnOk};
+ghost use Rattle.std.specs.Prelude.{◌+◌, ◌*◌, ◌≤◌, length, max, All, IsTrue, IfOk, OnOk};
 ghost use Rattle.price_bound.specs.Choosing.{IsChoice, IsServedLate, IsCoveredLate, ServesLate, AreLate, HasLate, soonest};
 ghost use Rattle.price_bound.specs.Cuts.{plain_cuts};
 

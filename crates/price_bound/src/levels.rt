@@ -1,5 +1,5 @@
 //! The levels of a table: the later it is, the fewer choices are enough.
-ghost use Rattle.std.specs.Prelude.{◌≡◌, ◌≤◌, All, IfOk, OnOk};
+ghost use Rattle.std.specs.Prelude.{All, IfOk, OnOk};
 ghost use Rattle.price_bound.specs.Choosing.{IsChoice, IsLevel, AreLate};
 ghost use Rattle.price_bound.specs.Cuts.{plain_cuts};
 

@@ -1,5 +1,5 @@
 //! The least worth of a chamber's loose lines, and a line of that worth.
-ghost use Rattle.std.specs.Prelude.{◌≡◌, ◌≤◌, ◌≤ℤ◌, pos, neg_ℤ, IfOk, IfSome};
+ghost use Rattle.std.specs.Prelude.{◌≤◌, ◌≤ℤ◌, pos, neg_ℤ, IfOk, IfSome};
 ghost use Rattle.price_bound.specs.Choosing.{AreListed};
 ghost use Rattle.price_bound.specs.Lines.{IsLeastLine, IsLineFound};
 ghost use Rattle.price_bound.specs.Cuts.{plain_cuts};

@@ -1,5 +1,5 @@
 //! Choices that are left out, since others serve as well.
-ghost use Rattle.std.specs.Prelude.{◌≡◌, ◌↔◌, length, All, IsTrue, OnOk};
+ghost use Rattle.std.specs.Prelude.{length, All, IsTrue, OnOk};
 ghost use Rattle.std.specs.List.Sorted.{IsPermutation};
 ghost use Rattle.price_bound.specs.Choosing.{IsChoice, Serves, IsServed, HasOne, HavePut};
 ghost use Rattle.price_bound.specs.Cuts.{plain_cuts};

@@ -1,5 +1,5 @@
 //! The costs that a node reaches by prices.
-ghost use Rattle.std.specs.Prelude.{◌≡◌, ◌+◌, ◌*◌, ◌<◌, ◌≤◌, ◌↔◌, ◌≤ℤ◌, ◌<ℤ◌, ◌+ℤ◌, pos, neg_ℤ, length, All, IsTrue, IfOk, IfSome, IfNone, sum_by};
+ghost use Rattle.std.specs.Prelude.{◌≡◌, ◌+◌, ◌*◌, ◌<◌, ◌≤◌, ◌↔◌, ◌≤ℤ◌, ◌<ℤ◌, ◌+ℤ◌, pos, neg_ℤ, length, IsTrue, IfOk, IfSome, IfNone, sum_by};
 ghost use Rattle.lock_rules.specs.Arrival.{first_ships};
 ghost use Rattle.lock_rules.specs.Node.{line_at};
 ghost use Rattle.master_branch.specs.Node.{IsNodeOf};

@@ -1,5 +1,5 @@
 //! The states of a chamber on its line.
-ghost use Rattle.std.specs.Prelude.{◌≡◌, ◌+◌, ◌*◌, ◌<◌, ◌≤◌};
+ghost use Rattle.std.specs.Prelude.{◌≡◌, ◌+◌, ◌*◌, ◌≤◌};
 ghost use Rattle.price_bound.specs.Values.{key_of, side_of};
 
 use lock_model::Stand;

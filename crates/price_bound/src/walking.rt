@@ -1,5 +1,5 @@
 //! A loose line of the least worth, found group by group.
-ghost use Rattle.std.specs.Prelude.{◌≡◌, ◌+◌, ◌<◌, ◌≤◌, ◌↔◌, ◌≤ℤ◌, ◌<ℤ◌, ◌+ℤ◌, pos, neg_ℤ, false, [], ◌++◌, length, drop, IfOk, IfSome, IfNone, OnOk, IsTrue};
+ghost use Rattle.std.specs.Prelude.{◌≡◌, ◌+◌, ◌<◌, ◌≤◌, ◌≤ℤ◌, ◌<ℤ◌, ◌+ℤ◌, pos, neg_ℤ, false, [], ◌++◌, length, drop, IfOk, IfSome, IfNone, OnOk, IsTrue};
 ghost use Rattle.price_bound.specs.Worth.{worth_from};
 ghost use Rattle.price_bound.specs.Choosing.{AreListed, IsChoice, IsCounted, IsValue, Leads};
 ghost use Rattle.price_bound.specs.Values.{AreValues};

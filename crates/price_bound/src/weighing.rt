@@ -1,7 +1,5 @@
 //! The sums of groups that may come next.
-ghost use Rattle.std.specs.Prelude.{◌≡◌, ◌+◌, ◌*◌, ◌<◌, ◌≤◌, ◌↔◌, length, All, IsTrue, sum_by, cond, IfOk};
-ghost use Rattle.lock_model.specs.Fleet.{ship_at};
-ghost use Rattle.price_rules.specs.Prices.{price_at, is_missing};
+ghost use Rattle.std.specs.Prelude.{◌≡◌, ◌+◌, ◌*◌, ◌<◌, ◌≤◌, length, All, sum_by, IfOk};
 ghost use Rattle.price_bound.specs.Choosing.{rate_of, AreRates, AreSums};
 
 use crate::choice::Choice;

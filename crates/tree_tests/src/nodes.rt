@@ -1,5 +1,5 @@
 //! Worked trees.
-ghost use Rattle.std.specs.Prelude.{◌≡◌, ◌<◌, ◌+◌, length, IfSome};
+ghost use Rattle.std.specs.Prelude.{◌<◌, ◌+◌};
 ghost use Rattle.master_branch.specs.Node.{IsNodeOf};
 
 use crate::walk::{child_at, node_at};

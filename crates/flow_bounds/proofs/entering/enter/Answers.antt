@@ -1,4 +1,4 @@
-use Rattle.std.proofs.Common.{◌≡◌, arith, ap, ◌∙◌, subst, slice_set, drop}
+use Rattle.std.proofs.Common.{◌≡◌, arith, ap, subst, slice_set, drop}
 use Rattle.std.specs.List.{insert}
 use Rattle.lock_model.specs.Fleet.{ship_at}
 use Rattle.lock_rules.specs.Node.{line_at}

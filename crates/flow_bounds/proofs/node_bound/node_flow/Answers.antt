@@ -1,4 +1,4 @@
-use Rattle.std.proofs.Common.{◌<◌, ◌∙◌, All, length, sym, subst}
+use Rattle.std.proofs.Common.{◌<◌, All, length, sym, subst}
 use Rattle.lock_rules.proofs.NodeLemmas.{line-known}
 use Rattle.lock_model.specs.declared.group.Group.{Group}
 use Rattle.flow_bounds.proofs.node_bound.node_flow.Goals as goal

@@ -1,4 +1,4 @@
-use Rattle.std.proofs.Common.{◌≡◌, ◌+◌, IsTrue, All, map, nat_le, ap, ◌∙◌, sym, subst, rules}
+use Rattle.std.proofs.Common.{◌≡◌, ◌+◌, IsTrue, All, map, nat_le, sym, subst, rules}
 use Rattle.lock_rules.specs.Children.{children_of}
 use Rattle.lock_rules.specs.Bound.{bound_of}
 use Rattle.flow_bounds.proofs.ChildLemmas.{reached-probe, probe-reached}

@@ -4,7 +4,7 @@ use Rattle.std.proofs.lemmas.Simd.{map-map}
 use Rattle.lock_rules.specs.Bound.{node_flow}
 use Rattle.lock_rules.specs.Node.{line_at}
 use Rattle.master_branch.specs.declared.step.Step.TheVariants.{Join}
-use Rattle.master_branch.specs.Steps.{lines_after, steps_by, IsStep}
+use Rattle.master_branch.specs.Steps.{lines_after, steps_by}
 use Rattle.master_branch.proofs.StepLemmas.{steps-children}
 use Rattle.flow_bounds.specs.Along.{IsAlong}
 use Rattle.flow_bounds.specs.Walk.{chamber_of}
