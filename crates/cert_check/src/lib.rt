@@ -1,12 +1,12 @@
 //! The checker of certificates: whether a plan is cheapest, told without any search.
 //!
 //! A `Certificate` is a cost, cuts with their refutations, a plan, prices, and one mark for each node of
-//! a search tree. `check` answers `Accepted` exactly where the certificate is accepted; then its plan
-//! is legal, has this cost, and no legal plan costs less. Else it answers `Rejected` with the first
-//! place and reason at which the certificate fails, and only want of memory keeps it from an
-//! answer. `one_first_failure` is the law that a certificate that isn't accepted fails first at one
-//! place for one reason. The marks are read once along their tree, and the code shares nothing with
-//! the search but definitions.
+//! a search tree; its lists are `Numbered`. `check` answers `Accepted` exactly where the certificate is
+//! accepted; then its plan is legal, has this cost, and no legal plan costs less. Else it answers
+//! `Rejected` with the first place and reason at which the certificate fails, and only want of memory
+//! keeps it from an answer. `one_first_failure` is the law that a certificate that isn't accepted fails
+//! first at one place for one reason. The marks are read once along their tree, and the code shares
+//! nothing with the search but definitions.
 //!
 //! The parts of the check serve checkers of other certificates: `first_failure_before_marks` (the
 //! plan, the cost, the cuts and the prices), and against a `Claim`, with `chamber_cuts` for it,
@@ -25,6 +25,7 @@ mod closing;
 mod cuts;
 mod hitting;
 mod laws;
+mod numbered;
 mod prices;
 mod reading;
 mod splitting;
@@ -36,6 +37,7 @@ pub use checking::{check, first_failure_before_marks};
 pub use closing::{Claim, closes, reason_against};
 pub use closing_rules::Ground;
 pub use laws::one_first_failure;
+pub use numbered::Numbered;
 pub use prices::chamber_cuts;
 pub use splitting::{SplitNode, child_of, child_reaches, count_children, split};
 pub use workspace::Workspace;
