@@ -33,10 +33,13 @@ rest_back : (C : Certificate) (version : Version) (json : List ℕ) → json_of 
 unfolding rest_in value_in
 rest_back C version json value certificate = rw (heading_back version json, value, certificate) refl
 
--- the canonical dossier is read as the pair
-pub dossier_back : (I : Instance) (C : Certificate) → json_of (json_line (certificate_data C)) ≡ Some (certificate_data C) → certificate_in (version_of C) (certificate_data C) ≡ Ok C → Reads (dossier I C) I C
-unfolding Reads dossier_in dossier
-dossier_back I C value certificate = framed_back I (heading_line (version_of C)) (certificate_data C) C rest_in (rest_back C (version_of C) (json_line (certificate_data C)) value certificate)
+-- what is printed of a certificate is read as the pair
+pub dossier_back : (I : Instance) (C : Certificate) (version : Version) (heading : List ℕ) (d : Data) (text : List ℕ) → heading ≡ heading_line version → d ≡ certificate_data C → text ≡ framed I heading d
+    → json_of (json_line d) ≡ Some d → certificate_in version (certificate_data C) ≡ Ok C → Reads text I C
+unfolding Reads dossier_in
+dossier_back I C version heading d text named same printed back certificate =
+    let json = json_line (certificate_data C) in
+    framed_back I heading d (certificate_data C) C rest_in text printed same back (λ value. ap (λ h. rest_in (h ++ json)) named ∙ rest_back C version json value certificate)
 
 -- ---- one meaning, or one first fault
 

@@ -6,7 +6,9 @@ pub mod CutLemmas
 pub mod SpotLemmas
 pub mod PlanLemmas
 pub mod PriceLemmas
+pub mod TreeLemmas
 pub mod MarkLemmas
+pub mod OpenMarkLemmas
 pub mod VersionLemmas
 pub mod CertificateLemmas
 pub mod HeadingLemmas

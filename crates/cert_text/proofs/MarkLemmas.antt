@@ -1,54 +1,17 @@
--- Marks are read back, and read from numbers one after the other.
-use Rattle.std.proofs.Common.{◌≡◌, ◌∙◌, ◌++◌, ◌+◌, ◌-◌, ◌<◌, ◌≤◌, ◌^◌, ℕ, Bool, true, false, List, [], ◌∷◌, Option, Some, None, refl, ap, arith, map, option_map, All, ◌⊎◌, inl, inr}
+-- Marks are read back.
+use Rattle.std.proofs.Common.{◌≡◌, ◌∙◌, ◌+◌, ◌-◌, ◌<◌, ◌≤◌, ◌^◌, ℕ, Bool, true, false, [], ◌∷◌, Some, None, refl, arith, option_map, ◌⊎◌, inl, inr}
 use Rattle.std.proofs.Math.Bool.{and-false}
 use Rattle.std.specs.Prelude.{◌==◌, if◌then◌else◌}
-use Rattle.std.specs.List.{flat_map}
 use Rattle.std.proofs.lemmas.Bool.Decides.{nat_tests}
 use Rattle.std.proofs.lemmas.Bool.{lt-ltb}
-use Rattle.std.proofs.lemmas.List.Elements.{All-head, All-tail}
-use Rattle.list_laws.proofs.Lists.{none-passes}
 use Rattle.lock_model.specs.Limits.{is_between}
 use Rattle.closing_rules.specs.declared.grounds.Ground.TheVariants.{Bound, Throughput, Probe, Cut, Price}
 use Rattle.certificate_rules.specs.declared.certificate.Mark.{Mark}
 use Rattle.certificate_rules.specs.declared.certificate.Mark.TheVariants.{Split, Leaf}
 use Rattle.certificate_rules.specs.WellFormed.{IsFormedMark}
-use Rattle.serde_json.specs.Data.{Data}
-use Rattle.serde_json.specs.View.{items_of, items_view}
-use Rattle.serde_json.specs.declared.value.Value.{Value}
-use Rattle.cert_text.specs.Steps.{◌>>=◌}
 use Rattle.cert_text.specs.Fields.{number_data}
-use Rattle.cert_text.specs.Versions.{is_price_mark, has_price_mark}
-use Rattle.cert_text.specs.Marks.{mark_numbers, mark_of, mark_in, marks_in, tree_data, tree_in}
-
--- ---- reading numbers one after the other
-
-module _ {M : Type 0} (told : Bool → Data → Option (Option M)) where
-  -- the marks that were found, and then those of the rest
-  abbrev pub rest_told : List M → Bool → List Value → Option (List M)
-  rest_told found begun more = option_map (λ ms. found ++ ms) (marks_in told begun (items_view more))
-
--- ---- reading back
-
--- the numbers of a mark are read as this mark, whatever follows
-pub record ReadsFirst {M : Type 0} (told : Bool → Data → Option (Option M)) (numbers : M → List ℕ) (m : M) : Type 0 where
-  pub first : (more : List ℕ) → marks_in told false (items_of (map number_data (numbers m ++ more))) ≡ (marks_in told false (items_of (map number_data more)) >>= λ ms. Some (m ∷ ms))
-
-pub numbers_back : {M : Type 0} (told : Bool → Data → Option (Option M)) (numbers : M → List ℕ) (ms : List M) → All (ReadsFirst told numbers) ms → marks_in told false (items_of (map number_data (flat_map numbers ms))) ≡ Some ms
-numbers_back told numbers [] each = refl
-numbers_back told numbers (m ∷ ms) each =
-    (All-head (ReadsFirst told numbers) m ms each).first (flat_map numbers ms) ∙ ap (λ o. o >>= λ ns. Some (m ∷ ns)) (numbers_back told numbers ms (All-tail (ReadsFirst told numbers) m ms each))
-
--- a mark that is one number
-pub one_number : {M : Type 0} (told : Bool → Data → Option (Option M)) (numbers : M → List ℕ) (m : M) (n : ℕ) → numbers m ≡ n ∷ [] → told false (number_data n) ≡ Some (Some m) → ReadsFirst told numbers m
-one_number told numbers m n one is = record { first = λ more. rw (one, is) refl }
-
--- a mark that is two
-pub two_numbers : {M : Type 0} (told : Bool → Data → Option (Option M)) (numbers : M → List ℕ) (m : M) (n v : ℕ) → numbers m ≡ n ∷ v ∷ [] → told false (number_data n) ≡ Some None → told true (number_data v) ≡ Some (Some m) → ReadsFirst told numbers m
-two_numbers {M = M} told numbers m n v two sign is = record { first = λ more. rw (two, sign) (rw is (joined (marks_in told false (items_of (map number_data more))))) }
-  where
-    joined : (o : Option (List M)) → ((o >>= λ ms. Some (m ∷ ms)) >>= λ ms. Some ms) ≡ (o >>= λ ms. Some (m ∷ ms))
-    joined None = refl
-    joined (Some ms) = refl
+use Rattle.cert_text.specs.Marks.{mark_numbers, mark_of, mark_in, is_price_mark}
+use Rattle.cert_text.proofs.TreeLemmas.{ReadsFirst, ReadsMarks, one_number, two_numbers}
 
 -- the mark is one number, which is no 3, or 4 and another
 abbrev pub Numbers : Bool → Mark → Type 0
@@ -110,6 +73,5 @@ mark_back : (third : Bool) (m : Mark) → Numbers third m → ReadsFirst (mark_i
 mark_back third m (inl one) = one_number (mark_in third) mark_numbers m one.0 one.1 one.3
 mark_back third m (inr two) = two_numbers (mark_in third) mark_numbers m 4 two.0 two.1 two.2 two.3
 
-pub tree_back : (third : Bool) (ms : List Mark) → All IsFormedMark ms → (third ≡ false → has_price_mark ms ≡ false) → tree_in third (tree_data ms) ≡ Some ms
-tree_back third ms formed plain =
-    numbers_back (mark_in third) mark_numbers ms (λ k d low. mark_back third _ (mark_told third _ (formed k d low) (λ e. none-passes is_price_mark ms (plain e) k d low)))
+pub marks_back : ReadsMarks IsFormedMark mark_numbers mark_in is_price_mark
+marks_back = record { each = λ third m formed plain. mark_back third m (mark_told third m formed plain) }

@@ -1,5 +1,5 @@
 -- An instance and what follows it: a text has one meaning, or one first fault.
-use Rattle.std.proofs.Common.{◌≡◌, ◌∙◌, ◌++◌, ℕ, List, Result, Ok, Err, IfOk, IfErr, sym, ap, ap₂}
+use Rattle.std.proofs.Common.{◌≡◌, ◌∙◌, ◌++◌, ℕ, List, Some, Result, Ok, Err, IfOk, IfErr, sym, ap, ap₂, subst}
 use Rattle.lock_model.specs.declared.instance.Instance.{Instance}
 use Rattle.line_text.specs.Steps.{◌>>=◌}
 use Rattle.instance_text.specs.Draft.{Draft, draft_of}
@@ -9,7 +9,7 @@ use Rattle.lock_model.proofs.InstanceLemmas.{same_instance}
 use Rattle.instance_text.proofs.TextBackLemmas.{canonical_means}
 use Rattle.instance_text.proofs.PartBackLemmas.{canonical_part, canonical_rest}
 use Rattle.serde_json.specs.Data.{Data}
-use Rattle.cert_text.specs.Dossier.{json_line, framed, pair_in}
+use Rattle.cert_text.specs.Dossier.{json_line, json_of, framed, pair_in}
 use Rattle.cert_text.specs.Answers.{IsFault, IsAnswer, IsFaultAnswer}
 use Rattle.cert_text.specs.Steps.{fault_under}
 use Rattle.cert_text.specs.declared.bad.DossierError.{DossierError}
@@ -35,11 +35,17 @@ module _ {C : Type 0} where
   made r s = fault_under fault.Instance r >>= λ d. s >>= λ c. Ok (d, c)
 
   -- a frame is read as its instance and what its value means
-  pub framed_back : (I : Instance) (heading : List ℕ) (d : Data) (c : C) (rest : List ℕ → Result C BadDossier) → rest (heading ++ json_line d) ≡ Ok c → pair_in rest (framed I heading d) ≡ Ok (draft_of I, c)
+  frame_back : (I : Instance) (heading : List ℕ) (d : Data) (c : C) (rest : List ℕ → Result C BadDossier) → rest (heading ++ json_line d) ≡ Ok c → pair_in rest (framed I heading d) ≡ Ok (draft_of I, c)
   unfolding Means
-  framed_back I heading d c rest reads =
+  frame_back I heading d c rest reads =
       let more = heading ++ json_line d in
       ap₂ made (ap reading (canonical_part I more) ∙ canonical_means I) (ap rest (canonical_rest I more) ∙ reads)
+
+  -- a text that is the frame of a value, which is read back
+  pub framed_back : (I : Instance) (heading : List ℕ) (d value : Data) (c : C) (rest : List ℕ → Result C BadDossier) (text : List ℕ) → text ≡ framed I heading d → d ≡ value → json_of (json_line d) ≡ Some d
+      → (json_of (json_line value) ≡ Some value → rest (heading ++ json_line value) ≡ Ok c) → pair_in rest text ≡ Ok (draft_of I, c)
+  framed_back I heading d value c rest text printed same back reads =
+      ap (pair_in rest) (printed ∙ ap (framed I heading) same) ∙ frame_back I heading value c rest (reads (subst (λ v. json_of (json_line v) ≡ Some v) same back))
 
   -- a text is read part by part
   pub pair_no_instance : (rest : List ℕ → Result C BadDossier) (text : List ℕ) (b : Bad) → Defect (instance_part text) b.line b.kind → pair_in rest text ≡ Err (fault.Instance b)

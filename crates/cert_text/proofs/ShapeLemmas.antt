@@ -16,7 +16,8 @@ use Rattle.cert_text.specs.Plans.{spot_data, lockage_data}
 use Rattle.cert_text.specs.declared.heading.Version.{Version}
 use Rattle.cert_text.specs.declared.heading.Version.TheVariants.{First, Second, Third}
 use Rattle.cert_text.specs.Versions.{version_of}
-use Rattle.cert_text.specs.Marks.{mark_numbers, tree_data}
+use Rattle.cert_text.specs.Marks.{mark_numbers}
+use Rattle.cert_text.specs.Trees.{tree_data}
 use Rattle.cert_text.specs.Certificates.{parts_data, certificate_data}
 
 pub list_no_float : {A : Type 0} (f : A → Data) → ((x : A) → has_float (f x) ≡ false) → (xs : List A) → items_have_float (items_of (map f xs)) ≡ false
@@ -55,16 +56,19 @@ lockage_depth l =
     omega arith
 
 -- the parts of a certificate, whatever its marks
-pub parts_no_float : (version : Version) (cost : ℕ) (cuts : List CertCut) (plan : Plan) (prices : List (List ℕ)) (tree : Data) → has_float tree ≡ false → has_float (parts_data version cost cuts plan prices tree) ≡ false
-parts_no_float First cost cuts plan prices tree flat = rw (list_no_float cut_data cut_no_float cuts, list_no_float lockage_data lockage_no_float plan.lockages, flat) refl
-parts_no_float Second cost cuts plan prices tree flat = rw (list_no_float cut_data cut_no_float cuts, list_no_float lockage_data lockage_no_float plan.lockages, flat) refl
-parts_no_float Third cost cuts plan prices tree flat =
-    rw (list_no_float cut_data cut_no_float cuts, list_no_float lockage_data lockage_no_float plan.lockages, list_no_float numbers_data numbers_no_float prices, flat) refl
+pub parts_no_float : {M : Type 0} (numbers : M → List ℕ) (version : Version) (cost : ℕ) (cuts : List CertCut) (plan : Plan) (prices : List (List ℕ)) (tree : List M) → has_float (parts_data version cost cuts plan prices (tree_data numbers tree)) ≡ false
+parts_no_float numbers First cost cuts plan prices tree = rw (list_no_float cut_data cut_no_float cuts, list_no_float lockage_data lockage_no_float plan.lockages, numbers_no_float (flat_map numbers tree)) refl
+parts_no_float numbers Second cost cuts plan prices tree = rw (list_no_float cut_data cut_no_float cuts, list_no_float lockage_data lockage_no_float plan.lockages, numbers_no_float (flat_map numbers tree)) refl
+parts_no_float numbers Third cost cuts plan prices tree =
+    rw (list_no_float cut_data cut_no_float cuts, list_no_float lockage_data lockage_no_float plan.lockages, list_no_float numbers_data numbers_no_float prices, numbers_no_float (flat_map numbers tree)) refl
 
-pub parts_shallow : (version : Version) (cost : ℕ) (cuts : List CertCut) (plan : Plan) (prices : List (List ℕ)) (tree : Data) → depth tree ≤ 1 → depth (parts_data version cost cuts plan prices tree) ≤ max_depth
-parts_shallow version cost cuts plan prices tree flat = go version
+pub parts_shallow : {M : Type 0} (numbers : M → List ℕ) (version : Version) (cost : ℕ) (cuts : List CertCut) (plan : Plan) (prices : List (List ℕ)) (tree : List M) → depth (parts_data version cost cuts plan prices (tree_data numbers tree)) ≤ max_depth
+parts_shallow numbers version cost cuts plan prices tree = go version
   where
-    go : (v : Version) → depth (parts_data v cost cuts plan prices tree) ≤ max_depth
+    flat : depth (tree_data numbers tree) ≤ 1
+    flat = numbers_depth (flat_map numbers tree)
+
+    go : (v : Version) → depth (parts_data v cost cuts plan prices (tree_data numbers tree)) ≤ max_depth
     go First =
         let cuts_depth = list_depth cut_data 2 cut_depth cuts in
         let plan_depth = list_depth lockage_data 3 lockage_depth plan.lockages in
@@ -80,7 +84,7 @@ parts_shallow version cost cuts plan prices tree flat = go version
         omega (arith, cuts_depth, plan_depth, prices_depth, flat)
 
 pub no_float : (C : Certificate) → has_float (certificate_data C) ≡ false
-no_float C = parts_no_float (version_of C) C.cost C.cuts C.plan C.prices (tree_data C.tree) (numbers_no_float (flat_map mark_numbers C.tree))
+no_float C = parts_no_float mark_numbers (version_of C) C.cost C.cuts C.plan C.prices C.tree
 
 pub shallow : (C : Certificate) → depth (certificate_data C) ≤ max_depth
-shallow C = parts_shallow (version_of C) C.cost C.cuts C.plan C.prices (tree_data C.tree) (numbers_depth (flat_map mark_numbers C.tree))
+shallow C = parts_shallow mark_numbers (version_of C) C.cost C.cuts C.plan C.prices C.tree

@@ -1,12 +1,14 @@
 -- What the version of a certificate says of it.
 use Rattle.std.proofs.Common.{◌≡◌, ◌∙◌, ℕ, Bool, true, false, cond, List, [], ◌∷◌, refl, sym, ap, length, arith}
 use Rattle.std.specs.Prelude.{◌||◌, not, ◌==◌}
+use Rattle.std.specs.List.{list_any}
 use Rattle.std.proofs.lemmas.Bool.Decides.{nat_tests}
 use Rattle.closing_rules.specs.ProvedCuts.{CertCut}
 use Rattle.certificate_rules.specs.Certificates.{Certificate}
 use Rattle.cert_text.specs.declared.heading.Version.{Version}
 use Rattle.cert_text.specs.declared.heading.Version.TheVariants.{First, Second, Third}
-use Rattle.cert_text.specs.Versions.{is_third, has_outside, has_price_mark, needs_third, version_of}
+use Rattle.cert_text.specs.Versions.{is_third, has_outside, needs_third, version_of}
+use Rattle.cert_text.specs.Marks.{is_price_mark}
 
 -- A version has all parts: no cut is refuted as a later version does, and before the third there are no prices and no marks for them.
 pub record Suits (version : Version) (cuts : List CertCut) (prices : List (List ℕ)) (marked : Bool) : Type 0 where
@@ -47,12 +49,12 @@ suits_first cuts prices marked none quick =
     let facts = unneeded cuts prices marked none in
     record { inside = quick; unpriced = λ e. facts.1; unmarked = λ e. facts.2 }
 
-pub suited : (C : Certificate) → Suits (version_of C) C.cuts C.prices (has_price_mark C.tree)
+pub suited : (C : Certificate) → Suits (version_of C) C.cuts C.prices (list_any is_price_mark C.tree)
 unfolding version_of
-suited C = go (needs_third C.cuts C.prices (has_price_mark C.tree)) (has_outside First C.cuts) refl refl
+suited C = go (needs_third C.cuts C.prices (list_any is_price_mark C.tree)) (has_outside First C.cuts) refl refl
   where
-    go : (third second : Bool) → needs_third C.cuts C.prices (has_price_mark C.tree) ≡ third → has_outside First C.cuts ≡ second
-        → Suits (cond third Third (cond second Second First)) C.cuts C.prices (has_price_mark C.tree)
-    go true second is same = suits_third C.cuts C.prices (has_price_mark C.tree)
-    go false true is same = suits_second C.cuts C.prices (has_price_mark C.tree) is
-    go false false is same = suits_first C.cuts C.prices (has_price_mark C.tree) is same
+    go : (third second : Bool) → needs_third C.cuts C.prices (list_any is_price_mark C.tree) ≡ third → has_outside First C.cuts ≡ second
+        → Suits (cond third Third (cond second Second First)) C.cuts C.prices (list_any is_price_mark C.tree)
+    go true second is same = suits_third C.cuts C.prices (list_any is_price_mark C.tree)
+    go false true is same = suits_second C.cuts C.prices (list_any is_price_mark C.tree) is
+    go false false is same = suits_first C.cuts C.prices (list_any is_price_mark C.tree) is same

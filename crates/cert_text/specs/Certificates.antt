@@ -1,5 +1,5 @@
 -- A certificate as a JSON value, and the certificate that a value is, or the first part at fault.
-use Rattle.std.specs.Prelude.{ℕ, ◌&&◌, Bool, List, [], ◌∷◌, Result, Ok, codes}
+use Rattle.std.specs.Prelude.{ℕ, ◌&&◌, Bool, Option, List, [], ◌∷◌, Result, Ok, codes}
 use Rattle.serde_json.specs.Data.{Data}
 use Rattle.lock_model.specs.declared.plan.Plan.{Plan}
 use Rattle.closing_rules.specs.ProvedCuts.{CertCut}
@@ -15,7 +15,8 @@ use Rattle.cert_text.specs.Cost.{cost_data, cost_in}
 use Rattle.cert_text.specs.Cuts.{cuts_data, cuts_under}
 use Rattle.cert_text.specs.Plans.{plan_data, plan_in}
 use Rattle.cert_text.specs.Prices.{price_lists_data, prices_under}
-use Rattle.cert_text.specs.Marks.{tree_data, tree_in}
+use Rattle.cert_text.specs.Marks.{mark_numbers, mark_in}
+use Rattle.cert_text.specs.Trees.{tree_data, tree_in}
 
 -- the keys behind the plan: only the third version has prices
 abbrev pub end_members : Version → List (List ℕ) → Data → List (List ℕ × Data)
@@ -29,7 +30,7 @@ parts_data version cost cuts plan prices tree =
     object_data ((codes "cost", cost_data cost) ∷ (codes "cuts", cuts_data cuts) ∷ (codes "plan", plan_data plan) ∷ end_members version prices tree)
 
 abbrev pub certificate_data : Certificate → Data
-certificate_data C = parts_data (version_of C) C.cost C.cuts C.plan C.prices (tree_data C.tree)
+certificate_data C = parts_data (version_of C) C.cost C.cuts C.plan C.prices (tree_data mark_numbers C.tree)
 
 -- an object of the four keys, or of the five of the third version
 abbrev pub has_keys : Data → Bool
@@ -49,10 +50,13 @@ front_in version d = do
   plan ← or_fault 4 (value_at (codes "plan") plan_in d)
   Ok (record { cost = cost; cuts = cuts; plan = plan })
 
--- The certificate, or the number of the first part at fault, which is 5 for the tree and 6 for the prices.
-unfoldable pub certificate_in : Version → Data → Result Certificate ℕ
-certificate_in version d = do
+-- What is made of all parts, where `told` says what a number of the tree says, or the number of the first part at fault, which is 5 for the tree and 6 for the prices.
+abbrev pub made_in : {M C : Type 0} → (Bool → Bool → Data → Option (Option M)) → (Front → List M → List (List ℕ) → C) → Version → Data → Result C ℕ
+made_in told make version d = do
   front ← front_in version d
-  tree ← or_fault 5 (value_at (codes "tree") (tree_in (is_third version)) d)
+  tree ← or_fault 5 (value_at (codes "tree") (tree_in told (is_third version)) d)
   prices ← or_fault 6 (prices_under version d)
-  Ok (record { cost = front.cost; cuts = front.cuts; plan = front.plan; prices = prices; tree = tree })
+  Ok (make front tree prices)
+
+unfoldable pub certificate_in : Version → Data → Result Certificate ℕ
+certificate_in version d = made_in mark_in (λ front tree prices. record { cost = front.cost; cuts = front.cuts; plan = front.plan; prices = prices; tree = tree }) version d

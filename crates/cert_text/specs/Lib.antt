@@ -3,10 +3,12 @@ pub mod Fields
 pub mod Answers
 pub mod Crew
 pub mod Cost
+pub mod Marks
+pub mod OpenMarks
+pub mod Trees
 pub mod Versions
 pub mod Cuts
 pub mod Plans
-pub mod Marks
 pub mod Prices
 pub mod Certificates
 pub mod Heading

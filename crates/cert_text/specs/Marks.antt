@@ -1,15 +1,13 @@
--- Marks as numbers, and trees as JSON values.
-use Rattle.std.specs.Prelude.{ℕ, ◌+◌, ◌-◌, ◌==◌, ◌&&◌, ◌++◌, Bool, true, false, List, [], ◌∷◌, Option, None, Some, option_map, is_none, if◌then◌else◌}
-use Rattle.std.specs.List.{flat_map}
+-- Marks as numbers.
+use Rattle.std.specs.Prelude.{ℕ, ◌+◌, ◌-◌, ◌==◌, ◌&&◌, Bool, true, false, List, [], ◌∷◌, Option, None, Some, option_map, if◌then◌else◌}
 use Rattle.lock_model.specs.Limits.{is_between}
 use Rattle.closing_rules.specs.declared.grounds.Ground.{Ground}
 use Rattle.closing_rules.specs.declared.grounds.Ground.TheVariants.{Bound, Throughput, Probe, Cut, Price}
 use Rattle.certificate_rules.specs.declared.certificate.Mark.{Mark}
 use Rattle.certificate_rules.specs.declared.certificate.Mark.TheVariants.{Split, Leaf}
-use Rattle.serde_json.specs.Data.{Data, Items, no_items, item}
-use Rattle.serde_json.specs.Find.{as_array}
+use Rattle.serde_json.specs.Data.{Data}
 use Rattle.cert_text.specs.Steps.{◌>>=◌}
-use Rattle.cert_text.specs.Fields.{numbers_data, number_in, number_below}
+use Rattle.cert_text.specs.Fields.{number_in, number_below}
 
 -- a mark that names prices is two numbers
 abbrev pub ground_numbers : Ground → List ℕ
@@ -45,23 +43,13 @@ mark_in third false d = do
   n ← number_in d
   if third && n == 4 then Some None else option_map Some (mark_of n)
 
-abbrev pub listed : {M : Type 0} → Option M → List M
-listed None = []
-listed (Some m) = m ∷ []
+abbrev pub is_price : Ground → Bool
+is_price Bound = false
+is_price Throughput = false
+is_price (Probe s) = false
+is_price (Cut number) = false
+is_price (Price number) = true
 
--- the marks that numbers say, the last of which ends one
-abbrev pub marks_in : {M : Type 0} → (Bool → Data → Option (Option M)) → Bool → Items → Option (List M)
-marks_in told true no_items = None
-marks_in told false no_items = Some []
-marks_in told begun (item d more) = do
-  mark ← told begun d
-  marks ← marks_in told (is_none mark) more
-  Some (listed mark ++ marks)
-
-abbrev pub tree_data : List Mark → Data
-tree_data marks = numbers_data (flat_map mark_numbers marks)
-
-abbrev pub tree_in : Bool → Data → Option (List Mark)
-tree_in third d = do
-  items ← as_array d
-  marks_in (mark_in third) false items
+abbrev pub is_price_mark : Mark → Bool
+is_price_mark Split = false
+is_price_mark (Leaf why) = is_price why

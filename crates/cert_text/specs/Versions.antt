@@ -4,13 +4,10 @@ use Rattle.std.specs.List.{list_any}
 use Rattle.refute_rules.specs.declared.refutation.Refutation.{Refutation}
 use Rattle.refute_rules.specs.declared.refutation.Refutation.TheVariants as refutation
 use Rattle.closing_rules.specs.ProvedCuts.{CertCut}
-use Rattle.closing_rules.specs.declared.grounds.Ground.{Ground}
-use Rattle.closing_rules.specs.declared.grounds.Ground.TheVariants as by
-use Rattle.certificate_rules.specs.declared.certificate.Mark.{Mark}
-use Rattle.certificate_rules.specs.declared.certificate.Mark.TheVariants as mark
 use Rattle.certificate_rules.specs.Certificates.{Certificate}
 use Rattle.cert_text.specs.declared.heading.Version.{Version}
 use Rattle.cert_text.specs.declared.heading.Version.TheVariants.{First, Second, Third}
+use Rattle.cert_text.specs.Marks.{is_price_mark}
 
 abbrev pub is_third : Version → Bool
 is_third First = false
@@ -42,25 +39,11 @@ is_outside Third r = false
 abbrev pub has_outside : Version → List CertCut → Bool
 has_outside version = list_any (λ c. is_outside version c.refutation)
 
-abbrev pub is_price : Ground → Bool
-is_price by.Bound = false
-is_price by.Throughput = false
-is_price (by.Probe s) = false
-is_price (by.Cut number) = false
-is_price (by.Price number) = true
-
-abbrev pub is_price_mark : Mark → Bool
-is_price_mark mark.Split = false
-is_price_mark (mark.Leaf why) = is_price why
-
-abbrev pub has_price_mark : List Mark → Bool
-has_price_mark = list_any is_price_mark
-
 -- a part that no version before the third has: prices, a mark for them, or a berth tree
 abbrev pub needs_third : List CertCut → List (List ℕ) → Bool → Bool
 needs_third cuts prices marked = not (length prices == 0) || (marked || has_outside Second cuts)
 
 unfoldable pub version_of : Certificate → Version
 version_of C =
-    if needs_third C.cuts C.prices (has_price_mark C.tree) then Third
+    if needs_third C.cuts C.prices (list_any is_price_mark C.tree) then Third
     else (if has_outside First C.cuts then Second else First)

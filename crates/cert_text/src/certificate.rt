@@ -8,7 +8,6 @@ ghost use Rattle.cert_text.specs.Fields.{value_at};
 ghost use Rattle.cert_text.specs.Cost.{cost_in};
 ghost use Rattle.cert_text.specs.Cuts.{cuts_under};
 ghost use Rattle.cert_text.specs.Plans.{plan_in};
-ghost use Rattle.cert_text.specs.Marks.{tree_in};
 ghost use Rattle.cert_text.specs.Versions.{version_of};
 ghost use Rattle.cert_text.specs.Certificates.{certificate_data, has_keys, is_frame, front_in, certificate_in};
 ghost use Rattle.cert_text.specs.declared.bad.BadDossier.TheVariants.{Shape};
@@ -20,10 +19,10 @@ use crate::heading::Version;
 use crate::parts::{Parts, put_parts};
 use crate::plan::plan_of;
 use crate::prices::prices_at;
-use crate::tree::{put_tree, tree_in};
+use crate::tree::{put_tree, tree_at};
 use crate::value::has_members;
 use crate::version::{has_outside, is_third};
-use cert_check::{CertCuts, Certificate, MarkList};
+use cert_check::{CertCuts, Certificate};
 use lock_model::Plan;
 use plain_text::NoMemory;
 use serde_json::Value;
@@ -119,28 +118,6 @@ fn plan_at(value: &Value) -> Result<Plan, BadDossier>
     match value.get("plan") {
         Some(plan) => plan_of(plan),
         None => Err(BadDossier::Shape(4)),
-    }
-}
-
-/// The marks that a value lists.
-fn tree_of(alloc: Global, third: bool, value: &Value) -> Result<MarkList, DossierError>
-    ensures read { IfOk result (λ tree. tree_in third (view value.now) ≡ Some tree) }
-    ensures shape { IfErr result (IsCausedFault (Shape 5) (tree_in third (view value.now) ≡ None)) }
-{
-    match tree_in(alloc, third, value)? {
-        Some(tree) => Ok(tree),
-        None => Err(DossierError::Fault(BadDossier::Shape(5))),
-    }
-}
-
-/// The marks at the key `tree`.
-fn tree_at(alloc: Global, third: bool, value: &Value) -> Result<MarkList, DossierError>
-    ensures read { IfOk result (λ tree. value_at (codes "tree") (tree_in third) (view value.now) ≡ Some tree) }
-    ensures shape { IfErr result (IsCausedFault (Shape 5) (value_at (codes "tree") (tree_in third) (view value.now) ≡ None)) }
-{
-    match value.get("tree") {
-        Some(tree) => tree_of(alloc, third, tree),
-        None => Err(DossierError::Fault(BadDossier::Shape(5))),
     }
 }
 

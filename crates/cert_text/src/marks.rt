@@ -1,10 +1,11 @@
 //! Marks as numbers.
-ghost use Rattle.std.specs.Prelude.{◌≡◌, ◌++◌, false, Some, None, map, OnOk};
+ghost use Rattle.std.specs.Prelude.{◌≡◌, ◌++◌, false, map, OnOk};
 ghost use Rattle.certificate_rules.specs.WellFormed.{IsFormedGround, IsFormedMark};
 ghost use Rattle.serde_json.specs.View.{view};
 ghost use Rattle.cert_text.specs.Fields.{number_data};
-ghost use Rattle.cert_text.specs.Marks.{ground_numbers, mark_numbers, mark_of, price_mark_in, mark_in};
+ghost use Rattle.cert_text.specs.Marks.{ground_numbers, mark_numbers, mark_of, price_mark_in, mark_in, is_price_mark};
 
+use crate::tree_mark::TreeMark;
 use crate::value::{number_below, push_number};
 use cert_check::{Ground, Mark};
 use serde_json::Value;
@@ -24,17 +25,6 @@ fn push_ground(list: &mut Vec<Value>, why: Ground) -> Result<(), AllocError>
             push_number(list, 4)?;
             push_number(list, number)
         }
-    }
-}
-
-/// Appends the number of a mark, or the two numbers of one that names prices.
-pub fn push_mark(list: &mut Vec<Value>, mark: Mark) -> Result<(), AllocError>
-    requires { IsFormedMark mark }
-    ensures { OnOk result (map view list.new.items ≡ map view list.old.items ++ map number_data (mark_numbers mark)) }
-{
-    match mark {
-        Mark::Split => push_number(list, 0),
-        Mark::Leaf(why) => push_ground(list, why),
     }
 }
 
@@ -72,15 +62,31 @@ fn first_in(third: bool, value: &Value) -> Option<Option<Mark>>
     Some(Some(mark_of(number)?))
 }
 
-/// What a number of a tree says: the mark that it ends, or no mark where it is the 4 that begins one of
-/// two numbers, which only the third version has. `begun` says that such a 4 stands before it. None
-/// where it says nothing. Takes no memory.
-pub fn mark_in(third: bool, begun: bool, value: &Value) -> Option<Option<Mark>>
-    ensures { result ≡ mark_in third begun (view value.now) }
-{
-    if begun {
-        Some(Some(price_mark_in(value)?))
-    } else {
-        first_in(third, value)
+impl TreeMark for Mark {
+    ghost IsFormed = { IsFormedMark };
+
+    ghost numbers = { mark_numbers };
+
+    ghost told = { mark_in };
+
+    ghost names_prices = { is_price_mark };
+
+    fn push_numbers(&self, list: &mut Vec<Value>) -> Result<(), AllocError> {
+        match *self {
+            Mark::Split => push_number(list, 0),
+            Mark::Leaf(why) => push_ground(list, why),
+        }
+    }
+
+    fn told(third: bool, begun: bool, value: &Value) -> Option<Option<Mark>> {
+        if begun {
+            Some(Some(price_mark_in(value)?))
+        } else {
+            first_in(third, value)
+        }
+    }
+
+    fn names_prices(&self) -> bool {
+        matches!(self, Mark::Leaf(Ground::Price(_)))
     }
 }

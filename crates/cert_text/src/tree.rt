@@ -1,39 +1,41 @@
 //! Trees of marks as JSON values.
-ghost use Rattle.std.specs.Prelude.{◌≡◌, ◌++◌, false, All, IfOk, OnOk, map};
+ghost use Rattle.std.specs.Prelude.{◌≡◌, ◌++◌, false, All, IfOk, IfErr, OnOk, Some, None, map, codes};
 ghost use Rattle.std.specs.List.{flat_map};
-ghost use Rattle.certificate_rules.specs.WellFormed.{IsFormedMark};
 ghost use Rattle.serde_json.specs.View.{view, items_view};
-ghost use Rattle.cert_text.specs.Fields.{number_data};
-ghost use Rattle.cert_text.specs.Marks.{mark_numbers, mark_in, listed, marks_in, tree_data, tree_in};
+ghost use Rattle.cert_text.specs.Answers.{IsCausedFault};
+ghost use Rattle.cert_text.specs.Fields.{number_data, value_at};
+ghost use Rattle.cert_text.specs.Trees.{listed, marks_in, tree_data, tree_in};
+ghost use Rattle.cert_text.specs.declared.bad.BadDossier.TheVariants.{Shape};
 
-use crate::marks::{mark_in, push_mark};
-use cert_check::{Mark, MarkList};
+use crate::bad::{BadDossier, DossierError};
+use crate::tree_mark::TreeMark;
+use cert_check::Numbered;
 use serde_json::Value;
 use std::alloc::{AllocError, Global};
 
 /// The numbers of marks in order.
-fn put_all(alloc: Global, marks: &[Mark]) -> Result<Vec<Value>, AllocError>
-    requires { All IsFormedMark marks.now }
-    ensures { IfOk result (λ list. map view list.items ≡ map number_data (flat_map mark_numbers marks.now)) }
+fn put_all<M: TreeMark>(alloc: Global, marks: &[M]) -> Result<Vec<Value>, AllocError>
+    requires { All M.IsFormed marks.now }
+    ensures { IfOk result (λ list. map view list.items ≡ map number_data (flat_map M.numbers marks.now)) }
 {
     let mut list = Vec::with_capacity(alloc, marks.len())?;
-    for &mark in marks {
-        push_mark(&mut list, mark)?;
+    for mark in marks {
+        mark.push_numbers(&mut list)?;
     }
     Ok(list)
 }
 
 /// The marks of a tree as a value.
-pub fn put_tree(alloc: Global, tree: &MarkList) -> Result<Value, AllocError>
-    requires { All IsFormedMark tree.now }
-    ensures { IfOk result (λ v. view v ≡ tree_data tree.now) }
+pub fn put_tree<M: TreeMark>(alloc: Global, tree: &Numbered<M>) -> Result<Value, AllocError>
+    requires { All M.IsFormed tree.now }
+    ensures { IfOk result (λ v. view v ≡ tree_data M.numbers tree.now) }
 {
     let list = put_all(alloc, tree.as_slice())?;
     Ok(Value::Array(list))
 }
 
 /// Appends a mark, if there is one.
-fn push_told(tree: &mut MarkList, told: Option<Mark>) -> Result<(), AllocError>
+fn push_told<M: TreeMark>(tree: &mut Numbered<M>, told: Option<M>) -> Result<(), AllocError>
     ensures { OnOk result (tree.new ≡ tree.old ++ listed told) }
 {
     match told {
@@ -43,13 +45,17 @@ fn push_told(tree: &mut MarkList, told: Option<Mark>) -> Result<(), AllocError>
 }
 
 /// The marks that values say.
-fn marks_in(alloc: Global, third: bool, list: &[Value]) -> Result<Option<MarkList>, AllocError>
-    ensures { IfOk result (λ o. o ≡ marks_in (mark_in third) false (items_view list.now)) }
+fn marks_in<M: TreeMark>(
+    alloc: Global,
+    third: bool,
+    list: &[Value],
+) -> Result<Option<Numbered<M>>, AllocError>
+    ensures { IfOk result (λ o. o ≡ marks_in (M.told third) false (items_view list.now)) }
 {
-    let mut tree = MarkList::with_capacity(alloc, list.len())?;
+    let mut tree = Numbered::with_capacity(alloc, list.len())?;
     let mut begun = false;
     for value in list {
-        let Some(told) = mark_in(third, begun, value) else {
+        let Some(told) = M::told(third, begun, value) else {
             return Ok(None);
         };
         begun = told.is_none();
@@ -62,11 +68,46 @@ fn marks_in(alloc: Global, third: bool, list: &[Value]) -> Result<Option<MarkLis
 }
 
 /// The marks that a value lists.
-pub fn tree_in(alloc: Global, third: bool, value: &Value) -> Result<Option<MarkList>, AllocError>
-    ensures { IfOk result (λ o. o ≡ tree_in third (view value.now)) }
+fn tree_in<M: TreeMark>(
+    alloc: Global,
+    third: bool,
+    value: &Value,
+) -> Result<Option<Numbered<M>>, AllocError>
+    ensures { IfOk result (λ o. o ≡ tree_in M.told third (view value.now)) }
 {
     match value.as_array() {
         Some(list) => marks_in(alloc, third, list.as_slice()),
         None => Ok(None),
+    }
+}
+
+/// The marks that a value lists, or the fault of the fifth part.
+fn tree_of<M: TreeMark>(
+    alloc: Global,
+    third: bool,
+    value: &Value,
+) -> Result<Numbered<M>, DossierError>
+    ensures read { IfOk result (λ tree. tree_in M.told third (view value.now) ≡ Some tree) }
+    ensures shape { IfErr result (IsCausedFault (Shape 5) (tree_in M.told third (view value.now) ≡ None)) }
+{
+    match tree_in(alloc, third, value)? {
+        Some(tree) => Ok(tree),
+        None => Err(DossierError::Fault(BadDossier::Shape(5))),
+    }
+}
+
+/// The marks at the key `tree`, in the third version or in one before it. Answers `Shape(5)` exactly
+/// where there are none, or else want of memory.
+pub fn tree_at<M: TreeMark>(
+    alloc: Global,
+    third: bool,
+    value: &Value,
+) -> Result<Numbered<M>, DossierError>
+    ensures read { IfOk result (λ tree. value_at (codes "tree") (tree_in M.told third) (view value.now) ≡ Some tree) }
+    ensures shape { IfErr result (IsCausedFault (Shape 5) (value_at (codes "tree") (tree_in M.told third) (view value.now) ≡ None)) }
+{
+    match value.get("tree") {
+        Some(tree) => tree_of(alloc, third, tree),
+        None => Err(DossierError::Fault(BadDossier::Shape(5))),
     }
 }

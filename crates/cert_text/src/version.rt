@@ -1,9 +1,11 @@
 //! The version that a certificate is written in.
 ghost use Rattle.std.specs.Prelude.{◌≡◌};
-ghost use Rattle.cert_text.specs.Versions.{is_by_clash, is_by_berths, is_outside, has_outside, is_price_mark, has_price_mark, needs_third, version_of, is_third};
+ghost use Rattle.std.specs.List.{list_any};
+ghost use Rattle.cert_text.specs.Versions.{is_by_clash, is_by_berths, is_outside, has_outside, needs_third, version_of, is_third};
 
 use crate::heading::Version;
-use cert_check::{CertCuts, Certificate, Ground, Mark, MarkList};
+use crate::tree_mark::TreeMark;
+use cert_check::{CertCuts, Certificate, Numbered};
 use price_bound::Prices;
 use refute_rules::Refutation;
 
@@ -54,19 +56,12 @@ pub fn has_outside(version: Version, cuts: &CertCuts) -> bool
     false
 }
 
-/// Whether a mark names prices.
-pub fn is_price_mark(mark: &Mark) -> bool
-    ensures { result ≡ is_price_mark mark.now }
-{
-    matches!(mark, Mark::Leaf(Ground::Price(_)))
-}
-
 /// Whether some mark names prices.
-fn has_price_mark(tree: &MarkList) -> bool
-    ensures { result ≡ has_price_mark tree.now }
+pub fn has_price_mark<M: TreeMark>(tree: &Numbered<M>) -> bool
+    ensures { result ≡ list_any M.names_prices tree.now }
 {
     for mark in tree.as_slice() {
-        if is_price_mark(mark) {
+        if mark.names_prices() {
             return true;
         }
     }

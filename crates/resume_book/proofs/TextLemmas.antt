@@ -1,13 +1,11 @@
 -- The canonical open dossier is read back, and a text is read part by part.
-use Rattle.std.proofs.Common.{◌≡◌, ◌∙◌, ◌++◌, ◌≤◌, ℕ, Bool, true, false, cond, List, [], ◌∷◌, codes, Some, Result, Ok, IfOk, IfErr, refl, sym, ap, ap₂, subst, All, inl, inr}
+use Rattle.std.proofs.Common.{◌≡◌, ◌∙◌, ◌++◌, ◌≤◌, ℕ, Bool, true, false, cond, List, [], ◌∷◌, codes, Some, Result, Ok, IfOk, IfErr, refl, sym, ap, ap₂, subst}
 use Rattle.lock_model.specs.declared.instance.Instance.{Instance}
-use Rattle.std.specs.List.{flat_map}
-use Rattle.list_laws.proofs.Lists.{none-passes}
+use Rattle.std.specs.List.{list_any}
 use Rattle.lock_model.specs.declared.plan.Plan.{Plan}
 use Rattle.closing_rules.specs.ProvedCuts.{CertCut}
 use Rattle.certificate_rules.specs.declared.certificate.OpenMark.{OpenMark}
-use Rattle.certificate_rules.specs.declared.certificate.OpenMark.TheVariants.{Closed, Open}
-use Rattle.certificate_rules.specs.WellFormed.{IsFormedOpenMark, IsWellFormedOpen}
+use Rattle.certificate_rules.specs.WellFormed.{IsWellFormedOpen}
 use Rattle.certificate_rules.specs.OpenCertificates.{OpenCertificate}
 use Rattle.instance_text.specs.declared.bad.Bad.{Bad}
 use Rattle.line_text.specs.Lines.{lines, words, content}
@@ -15,7 +13,6 @@ use Rattle.instance_text.specs.Reading.{Means, Defect, instance_part, after_inst
 use Rattle.serde_json.specs.Data.{Data, depth}
 use Rattle.serde_json.specs.Read.{max_depth}
 use Rattle.serde_json.specs.Written.{has_float}
-use Rattle.serde_json.proofs.OnLiterals.{serde_json_on_literals}
 use Rattle.cert_text.specs.Answers.{IsFault, IsAnswer, IsFaultAnswer}
 use Rattle.cert_text.specs.declared.bad.BadDossier.{BadDossier}
 use Rattle.cert_text.specs.declared.bad.BadDossier.TheVariants as fault
@@ -26,21 +23,20 @@ use Rattle.cert_text.specs.declared.heading.Heading.TheVariants as heading
 use Rattle.cert_text.specs.declared.heading.Version.{Version}
 use Rattle.cert_text.specs.declared.heading.Version.TheVariants.{First, Second, Third}
 use Rattle.cert_text.specs.Versions.{is_third, needs_third}
-use Rattle.cert_text.specs.Cuts.{cuts_data, cuts_in, cuts_under}
+use Rattle.cert_text.specs.Cuts.{cuts_data, cuts_in}
 use Rattle.cert_text.specs.Plans.{plan_data, plan_in}
-use Rattle.cert_text.specs.Prices.{price_lists_data, price_lists_in}
-use Rattle.cert_text.specs.Certificates.{parts_data, front_in}
+use Rattle.cert_text.specs.OpenMarks.{open_numbers, open_mark_in, is_open_price_mark}
+use Rattle.cert_text.specs.Certificates.{front_in}
 use Rattle.cert_text.specs.Heading.{heading_of, headed}
 use Rattle.cert_text.specs.Dossier.{json_line, framed, json_of, value_in}
-use Rattle.cert_text.proofs.ShapeLemmas.{numbers_no_float, numbers_depth, parts_no_float, parts_shallow}
-use Rattle.cert_text.proofs.MarkLemmas.{ReadsFirst, numbers_back, one_number, two_numbers, Numbers, mark_told}
-use Rattle.cert_text.proofs.PriceLemmas.{lists_back}
+use Rattle.cert_text.proofs.ShapeLemmas.{parts_no_float, parts_shallow}
+use Rattle.cert_text.proofs.TreeLemmas.{tree_back}
+use Rattle.cert_text.proofs.OpenMarkLemmas.{open_marks_back}
 use Rattle.cert_text.proofs.VersionLemmas.{Suits, suits_third, suits_second}
 use Rattle.cert_text.specs.Steps.{fault_under}
-use Rattle.cert_text.proofs.CertificateLemmas.{cuts_suit}
+use Rattle.cert_text.proofs.CertificateLemmas.{parts_back}
 use Rattle.cert_text.proofs.HeadingLemmas.{begins}
 use Rattle.cert_text.proofs.PairLemmas.{fault_before, shape_before, framed_back, pair_no_instance, pair_read, pair_no_rest, each_answer, each_fault_answer}
-use Rattle.resume_book.specs.OpenMarks.{open_numbers, open_mark_in, open_tree_data, open_tree_in, is_open_price_mark, has_open_price_mark}
 use Rattle.resume_book.specs.OpenDossier.{open_version, open_line, open_data, open_certificate_in, open_dossier, open_rest_in, open_dossier_in, ReadsOpen, OpenDossierFault, IsFirstOpenFault}
 
 -- ---- the value of an open certificate
@@ -49,52 +45,32 @@ pub front_fault : (version : Version) (d : Data) (e : DossierError) → IsFault 
 unfolding open_certificate_in
 front_fault version d e bad = shape_before (front_in version d) _ e bad
 
-open_mark_back : (third : Bool) (m : OpenMark) → IsFormedOpenMark m → (third ≡ false → is_open_price_mark m ≡ false) → ReadsFirst (open_mark_in third) open_numbers m
-open_mark_back third Open formed plain = one_number (open_mark_in third) open_numbers Open 3 refl refl
-open_mark_back third (Closed m) formed plain = go (mark_told third m formed plain)
-  where
-    go : Numbers third m → ReadsFirst (open_mark_in third) open_numbers (Closed m)
-    go (inl one) = one_number (open_mark_in third) open_numbers (Closed m) one.0 one.1 (rw (one.2, one.3) refl)
-    go (inr two) = two_numbers (open_mark_in third) open_numbers (Closed m) 4 two.0 two.1 (rw two.2 refl) (rw two.3 refl)
-
-open_tree_back : (third : Bool) (ms : List OpenMark) → All IsFormedOpenMark ms → (third ≡ false → has_open_price_mark ms ≡ false) → open_tree_in third (open_tree_data ms) ≡ Some ms
-open_tree_back third ms formed plain =
-    numbers_back (open_mark_in third) open_numbers ms (λ k d low. open_mark_back third _ (formed k d low) (λ e. none-passes is_open_price_mark ms (plain e) k d low))
-
-suited : (C : OpenCertificate) → Suits (open_version C) C.cuts C.prices (has_open_price_mark C.tree)
+suited : (C : OpenCertificate) → Suits (open_version C) C.cuts C.prices (list_any is_open_price_mark C.tree)
 unfolding open_version
-suited C = go (needs_third C.cuts C.prices (has_open_price_mark C.tree)) refl
+suited C = go (needs_third C.cuts C.prices (list_any is_open_price_mark C.tree)) refl
   where
-    go : (third : Bool) → needs_third C.cuts C.prices (has_open_price_mark C.tree) ≡ third → Suits (cond third Third Second) C.cuts C.prices (has_open_price_mark C.tree)
-    go true is = suits_third C.cuts C.prices (has_open_price_mark C.tree)
-    go false is = suits_second C.cuts C.prices (has_open_price_mark C.tree) is
-
-parts_back : (version : Version) (C : OpenCertificate) → Suits version C.cuts C.prices (has_open_price_mark C.tree) → cuts_under version (cuts_data C.cuts) ≡ Some C.cuts → plan_in (plan_data C.plan) ≡ Some C.plan
-    → open_tree_in (is_third version) (open_tree_data C.tree) ≡ Some C.tree → price_lists_in (price_lists_data C.prices) ≡ Some C.prices
-    → open_certificate_in version (parts_data version C.cost C.cuts C.plan C.prices (open_tree_data C.tree)) ≡ Ok C
-unfolding open_certificate_in front_in serde_json_on_literals
-parts_back First C suits cuts plan tree prices =
-    rw (cuts, plan, tree) (ap (λ (ps : List (List ℕ)). let made : OpenCertificate = record { cost = C.cost; cuts = C.cuts; plan = C.plan; prices = ps; tree = C.tree } in Ok made) (sym (suits.unpriced refl)))
-parts_back Second C suits cuts plan tree prices =
-    rw (cuts, plan, tree) (ap (λ (ps : List (List ℕ)). let made : OpenCertificate = record { cost = C.cost; cuts = C.cuts; plan = C.plan; prices = ps; tree = C.tree } in Ok made) (sym (suits.unpriced refl)))
-parts_back Third C suits cuts plan tree prices = rw (cuts, plan, tree, prices) refl
+    go : (third : Bool) → needs_third C.cuts C.prices (list_any is_open_price_mark C.tree) ≡ third → Suits (cond third Third Second) C.cuts C.prices (list_any is_open_price_mark C.tree)
+    go true is = suits_third C.cuts C.prices (list_any is_open_price_mark C.tree)
+    go false is = suits_second C.cuts C.prices (list_any is_open_price_mark C.tree) is
 
 pub open_back : (C : OpenCertificate) (version : Version) (cost : ℕ) (cuts : List CertCut) (plan : Plan) (prices : List (List ℕ)) (tree : List OpenMark)
     → (let made : OpenCertificate = record { cost = cost; cuts = cuts; plan = plan; prices = prices; tree = tree } in made ≡ C) → version ≡ open_version C → IsWellFormedOpen C
     → cuts_in (cuts_data cuts) ≡ Some cuts → plan_in (plan_data plan) ≡ Some plan → open_certificate_in version (open_data C) ≡ Ok C
+unfolding open_certificate_in
 open_back C version cost cuts plan prices tree made is formed cuts_back plan_back =
     let suits = suited C in
     let own_cuts : cuts_in (cuts_data C.cuts) ≡ Some C.cuts = subst (λ (k : OpenCertificate). cuts_in (cuts_data k.cuts) ≡ Some k.cuts) made cuts_back in
     let own_plan : plan_in (plan_data C.plan) ≡ Some C.plan = subst (λ (k : OpenCertificate). plan_in (plan_data k.plan) ≡ Some k.plan) made plan_back in
+    let marks = tree_back open_marks_back (is_third (open_version C)) C.tree formed.marks suits.unmarked in
     ap (λ v. open_certificate_in v (open_data C)) is
-    ∙ parts_back (open_version C) C suits (cuts_suit (open_version C) C.cuts own_cuts suits.inside) own_plan (open_tree_back (is_third (open_version C)) C.tree formed.marks suits.unmarked) (lists_back C.prices formed.prices)
+    ∙ parts_back open_numbers open_mark_in _ (open_version C) (record { cost = C.cost; cuts = C.cuts; plan = C.plan }) C.tree C.prices (list_any is_open_price_mark C.tree) suits own_cuts own_plan marks formed.prices
 
 -- it has no floats and is shallow
 pub no_float : (C : OpenCertificate) → has_float (open_data C) ≡ false
-no_float C = parts_no_float (open_version C) C.cost C.cuts C.plan C.prices (open_tree_data C.tree) (numbers_no_float (flat_map open_numbers C.tree))
+no_float C = parts_no_float open_numbers (open_version C) C.cost C.cuts C.plan C.prices C.tree
 
 pub shallow : (C : OpenCertificate) → depth (open_data C) ≤ max_depth
-shallow C = parts_shallow (open_version C) C.cost C.cuts C.plan C.prices (open_tree_data C.tree) (numbers_depth (flat_map open_numbers C.tree))
+shallow C = parts_shallow open_numbers (open_version C) C.cost C.cuts C.plan C.prices C.tree
 
 -- ---- the text
 
@@ -135,20 +111,24 @@ heading_back Third rest other = begins (open_line Third ++ rest) (codes "certifi
 
 not_first : (C : OpenCertificate) → open_version C ≡ First → ⊥
 unfolding open_version
-not_first C = go (needs_third C.cuts C.prices (has_open_price_mark C.tree))
+not_first C = go (needs_third C.cuts C.prices (list_any is_open_price_mark C.tree))
   where
     go : (third : Bool) → cond third Third Second ≡ First → ⊥
     go true is = cc
     go false is = cc
 
-rest_back : (C : OpenCertificate) (json : List ℕ) → json_of json ≡ Some (open_data C) → open_certificate_in (open_version C) (open_data C) ≡ Ok C → open_rest_in (open_line (open_version C) ++ json) ≡ Ok C
+rest_back : (C : OpenCertificate) (version : Version) (json : List ℕ) → (version ≡ First → ⊥) → json_of json ≡ Some (open_data C) → open_certificate_in version (open_data C) ≡ Ok C → open_rest_in (open_line version ++ json) ≡ Ok C
 unfolding open_rest_in value_in
-rest_back C json value certificate = rw (heading_back (open_version C) json (not_first C), value, certificate) refl
+rest_back C version json other value certificate = rw (heading_back version json other, value, certificate) refl
 
--- the canonical open dossier is read as the pair
-pub dossier_back : (I : Instance) (C : OpenCertificate) → json_of (json_line (open_data C)) ≡ Some (open_data C) → open_certificate_in (open_version C) (open_data C) ≡ Ok C → ReadsOpen (open_dossier I C) I C
-unfolding ReadsOpen open_dossier_in open_dossier
-dossier_back I C value certificate = framed_back I (open_line (open_version C)) (open_data C) C open_rest_in (rest_back C (json_line (open_data C)) value certificate)
+-- what is printed of an open certificate is read as the pair
+pub dossier_back : (I : Instance) (C : OpenCertificate) (version : Version) (heading : List ℕ) (d : Data) (text : List ℕ) → version ≡ open_version C → heading ≡ open_line version → d ≡ open_data C → text ≡ framed I heading d
+    → json_of (json_line d) ≡ Some d → open_certificate_in version (open_data C) ≡ Ok C → ReadsOpen text I C
+unfolding ReadsOpen open_dossier_in
+dossier_back I C version heading d text is named same printed back certificate =
+    let json = json_line (open_data C) in
+    let other : version ≡ First → ⊥ = λ first. not_first C (sym is ∙ first) in
+    framed_back I heading d (open_data C) C open_rest_in text printed same back (λ value. ap (λ h. open_rest_in (h ++ json)) named ∙ rest_back C version json other value certificate)
 
 -- ---- reading part by part
 

@@ -5,5 +5,4 @@ pub mod Certified
 pub mod Writing
 pub mod Reading
 pub mod OneFailure
-pub mod OpenMarks
 pub mod OpenDossier

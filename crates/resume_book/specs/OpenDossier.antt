@@ -1,5 +1,6 @@
 -- Open dossiers: the canonical one, what one means, and its first fault.
 use Rattle.std.specs.Prelude.{ℕ, ◌≡◌, List, Result, Ok, Err, codes, if◌then◌else◌}
+use Rattle.std.specs.List.{list_any}
 use Rattle.lock_model.specs.declared.instance.Instance.{Instance}
 use Rattle.certificate_rules.specs.OpenCertificates.{OpenCertificate}
 use Rattle.line_text.specs.Steps.{◌>>=◌}
@@ -12,29 +13,24 @@ use Rattle.cert_text.specs.declared.bad.BadDossier.{BadDossier}
 use Rattle.cert_text.specs.declared.bad.BadDossier.TheVariants as fault
 use Rattle.cert_text.specs.declared.bad.DossierError.{DossierError}
 use Rattle.cert_text.specs.Answers.{IsFault}
-use Rattle.cert_text.specs.Steps.{or_fault, fault_under}
-use Rattle.cert_text.specs.Fields.{value_at}
-use Rattle.cert_text.specs.Versions.{is_third, needs_third}
-use Rattle.cert_text.specs.Prices.{prices_under}
-use Rattle.cert_text.specs.Certificates.{parts_data, front_in}
+use Rattle.cert_text.specs.Steps.{fault_under}
+use Rattle.cert_text.specs.Versions.{needs_third}
+use Rattle.cert_text.specs.OpenMarks.{open_numbers, open_mark_in, is_open_price_mark}
+use Rattle.cert_text.specs.Trees.{tree_data}
+use Rattle.cert_text.specs.Certificates.{parts_data, made_in}
 use Rattle.cert_text.specs.Dossier.{framed, value_in, pair_in}
-use Rattle.resume_book.specs.OpenMarks.{open_tree_data, open_tree_in, has_open_price_mark}
 
 -- the version of an open certificate, which is the second or the third
 unfoldable pub open_version : OpenCertificate → Version
-open_version C = if needs_third C.cuts C.prices (has_open_price_mark C.tree) then Third else Second
+open_version C = if needs_third C.cuts C.prices (list_any is_open_price_mark C.tree) then Third else Second
 
 -- an open certificate as a JSON value
 abbrev pub open_data : OpenCertificate → Data
-open_data C = parts_data (open_version C) C.cost C.cuts C.plan C.prices (open_tree_data C.tree)
+open_data C = parts_data (open_version C) C.cost C.cuts C.plan C.prices (tree_data open_numbers C.tree)
 
 -- The open certificate that a value is, or the number of the first part at fault, as of a certificate.
 unfoldable pub open_certificate_in : Version → Data → Result OpenCertificate ℕ
-open_certificate_in version d = do
-  front ← front_in version d
-  tree ← or_fault 5 (value_at (codes "tree") (open_tree_in (is_third version)) d)
-  prices ← or_fault 6 (prices_under version d)
-  Ok (record { cost = front.cost; cuts = front.cuts; plan = front.plan; prices = prices; tree = tree })
+open_certificate_in version d = made_in open_mark_in (λ front tree prices. record { cost = front.cost; cuts = front.cuts; plan = front.plan; prices = prices; tree = tree }) version d
 
 -- the heading of a version
 abbrev pub open_line : Version → List ℕ

@@ -11,8 +11,8 @@
 //!
 //! Definitions: `certificate_rules` has open certificates (`specs/OpenCertificates`), their low
 //! (`Low`) and where one fails first (`Failures`). Here `Proven` says what one proves, `Preorder` and
-//! `Certified` what that of a book is, `OneFailure` the law, `OpenMarks` and `OpenDossier` the text
-//! both ways, `Prior` the work. `Reading` says what is read of a node and of its children.
+//! `Certified` what that of a book is, `OneFailure` the law, `OpenDossier` the text both ways, `Prior`
+//! the work. `Reading` says what is read of a node and of its children.
 #![tactic(auto)]
 
 mod book;
@@ -24,7 +24,6 @@ mod marks;
 mod print;
 mod read;
 mod reading;
-mod tree;
 mod value;
 
 pub use book::open_certificate_of;

@@ -1,19 +1,16 @@
 //! Open certificates as JSON values.
-ghost use Rattle.std.specs.Prelude.{◌≡◌, IfOk, IfErr, Some, None, Ok, codes};
+ghost use Rattle.std.specs.Prelude.{◌≡◌, IfOk, IfErr, Ok};
 ghost use Rattle.certificate_rules.specs.WellFormed.{IsWellFormedOpen};
 ghost use Rattle.serde_json.specs.View.{view};
-ghost use Rattle.cert_text.specs.Answers.{IsCausedFault, IsFault};
+ghost use Rattle.cert_text.specs.Answers.{IsFault};
 ghost use Rattle.cert_text.specs.Steps.{fault_under};
-ghost use Rattle.cert_text.specs.Fields.{value_at};
 ghost use Rattle.cert_text.specs.declared.bad.BadDossier.TheVariants.{Shape};
-ghost use Rattle.resume_book.specs.OpenMarks.{open_tree_in};
 ghost use Rattle.resume_book.specs.OpenDossier.{open_version, open_data, open_certificate_in};
 
-use crate::certificate::{OpenCertificate, OpenMarks};
-use crate::tree::{has_open_price_mark, put_tree, tree_of};
+use crate::certificate::OpenCertificate;
 use cert_text::{
-    BadDossier, DossierError, Front, Parts, Version, front_in, is_third, needs_third, prices_at,
-    put_parts,
+    DossierError, Front, Parts, Version, front_in, has_price_mark, is_third, needs_third,
+    prices_at, put_parts, put_tree, tree_at,
 };
 use plain_text::NoMemory;
 use serde_json::Value;
@@ -30,7 +27,7 @@ pub(crate) fn open_version(certificate: &OpenCertificate) -> Version
         tree,
         ..
     } = certificate;
-    if needs_third(cuts, prices.as_slice(), has_open_price_mark(tree)) {
+    if needs_third(cuts, prices.as_slice(), has_price_mark(tree)) {
         Version::Third
     } else {
         Version::Second
@@ -57,17 +54,6 @@ pub(crate) fn put_open(
     };
     let value = put_parts(alloc, version, &parts, tree)?;
     Ok(value)
-}
-
-// The marks at the key `tree`.
-fn tree_at(alloc: Global, third: bool, value: &Value) -> Result<OpenMarks, DossierError>
-    ensures read { IfOk result (λ tree. value_at (codes "tree") (open_tree_in third) (view value.now) ≡ Some tree) }
-    ensures shape { IfErr result (IsCausedFault (Shape 5) (value_at (codes "tree") (open_tree_in third) (view value.now) ≡ None)) }
-{
-    match value.get("tree") {
-        Some(tree) => tree_of(alloc, third, tree),
-        None => Err(DossierError::Fault(BadDossier::Shape(5))),
-    }
 }
 
 // The open certificate that a value writes, or the first part at fault.

@@ -1,7 +1,7 @@
 //! Parts of a dossier, one by one.
 
 use cert_check::{Ground, Mark};
-use cert_text::{BadDossier, cost_of, cuts_of, mark_in, plan_of, push_mark, put_cost};
+use cert_text::{BadDossier, TreeMark, cost_of, cuts_of, plan_of, put_cost};
 use serde_json::Value;
 use std::alloc::Global;
 use std::process::Abort;
@@ -42,7 +42,7 @@ fn an_empty_list_is_no_cuts_and_no_lockages(rt: HostRuntime) -> Result<(), Fail>
 
 // What a number of a tree says, with a price begun before it or not.
 fn told(alloc: Global, begun: bool, text: &str) -> Result<Option<Option<Mark>>, Fail> {
-    Ok(mark_in(true, begun, &value_of(alloc, text)?))
+    Ok(Mark::told(true, begun, &value_of(alloc, text)?))
 }
 
 #[test]
@@ -54,7 +54,7 @@ fn marks_are_read_and_written(rt: HostRuntime) -> Result<(), Fail> {
     let price = Mark::Leaf(Ground::Price(34));
     assert!(rt; told(rt.alloc(), true, "34")? == Some(Some(price)));
     let mut list = Vec::new(rt.alloc());
-    push_mark(&mut list, Mark::Leaf(Ground::Price(7)))?;
+    Mark::Leaf(Ground::Price(7)).push_numbers(&mut list)?;
     assert!(rt; list.len() == 2 && list[1].as_u64() == Some(7));
     Ok(())
 }

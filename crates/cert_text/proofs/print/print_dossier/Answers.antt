@@ -1,9 +1,7 @@
-use Rattle.std.proofs.Common.{◌∙◌, ◌≤◌, Some, ap, sym, subst}
+use Rattle.std.proofs.Common.{◌∙◌, ◌≤◌, ap, sym, subst}
 use Rattle.serde_json.specs.Data.{depth}
 use Rattle.serde_json.specs.Read.{max_depth}
 use Rattle.serde_json.specs.Written.{has_float}
-use Rattle.cert_text.specs.Certificates.{certificate_data, certificate_in}
-use Rattle.cert_text.specs.Dossier.{Reads, json_of, json_line}
 use Rattle.cert_text.proofs.DossierLemmas.{printed_dossier, dossier_back}
 use Rattle.cert_text.proofs.ShapeLemmas.{no_float, shallow}
 use Rattle.cert_text.proofs.print.print_dossier.Goals as goal
@@ -19,8 +17,4 @@ returns-clause-text c = c.in_ok-text.ensures.text ∙ printed_dossier c.args.ins
 
 pub returns-clause-reads_back : goal.returns-clause-reads_back
 returns-clause-reads_back c =
-    let C = c.args.certificate.now in
-    let same = c.in_ok-text.ensures.text ∙ printed_dossier c.args.instance.now C _ _ _ c.version_of-version.ensures c.heading_line.ensures c.in_ok-value.ensures.value in
-    subst (λ t. Reads t c.args.instance.now C) (sym same)
-    (dossier_back c.args.instance.now C (ap (λ d. json_of (json_line d)) (sym c.in_ok-value.ensures.value) ∙ c.in_ok-text.ensures.reads_back ∙ ap Some c.in_ok-value.ensures.value)
-    (ap (λ v. certificate_in v (certificate_data C)) (sym c.version_of-version.ensures) ∙ c.in_ok-value.ensures.reads_back))
+    dossier_back c.args.instance.now c.args.certificate.now _ _ _ _ c.heading_line.ensures c.in_ok-value.ensures.value c.in_ok-text.ensures.text c.in_ok-text.ensures.reads_back c.in_ok-value.ensures.reads_back

@@ -1,9 +1,7 @@
-use Rattle.std.proofs.Common.{◌∙◌, ◌≤◌, Some, ap, sym, subst}
+use Rattle.std.proofs.Common.{◌∙◌, ◌≤◌, ap, sym, subst}
 use Rattle.serde_json.specs.Data.{depth}
 use Rattle.serde_json.specs.Read.{max_depth}
 use Rattle.serde_json.specs.Written.{has_float}
-use Rattle.cert_text.specs.Dossier.{json_of, json_line}
-use Rattle.resume_book.specs.OpenDossier.{open_data, open_certificate_in, ReadsOpen}
 use Rattle.resume_book.proofs.TextLemmas.{no_float, shallow, printed_open, dossier_back}
 use Rattle.resume_book.proofs.print.print_open.Goals as goal
 
@@ -18,8 +16,4 @@ returns-clause-text c = c.in_ok-text.ensures.text ∙ printed_open c.args.instan
 
 pub returns-clause-reads_back : goal.returns-clause-reads_back
 returns-clause-reads_back c =
-    let C = c.args.certificate.now in
-    let same = c.in_ok-text.ensures.text ∙ printed_open c.args.instance.now C _ _ _ c.open_version-version.ensures c.open_line.ensures c.in_ok-value.ensures.value in
-    subst (λ t. ReadsOpen t c.args.instance.now C) (sym same)
-    (dossier_back c.args.instance.now C (ap (λ d. json_of (json_line d)) (sym c.in_ok-value.ensures.value) ∙ c.in_ok-text.ensures.reads_back ∙ ap Some c.in_ok-value.ensures.value)
-    (ap (λ v. open_certificate_in v (open_data C)) (sym c.open_version-version.ensures) ∙ c.in_ok-value.ensures.reads_back))
+    dossier_back c.args.instance.now c.args.certificate.now _ _ _ _ c.open_version-version.ensures c.open_line.ensures c.in_ok-value.ensures.value c.in_ok-text.ensures.text c.in_ok-text.ensures.reads_back c.in_ok-value.ensures.reads_back

@@ -1,15 +1,12 @@
--- Open marks as numbers, and open trees as JSON values.
+-- Open marks as numbers.
 use Rattle.std.specs.Prelude.{ℕ, ◌==◌, Bool, true, false, List, [], ◌∷◌, Option, Some, option_map, if◌then◌else◌}
-use Rattle.std.specs.List.{flat_map, list_any}
 use Rattle.certificate_rules.specs.declared.certificate.Mark.{Mark}
 use Rattle.certificate_rules.specs.declared.certificate.OpenMark.{OpenMark}
 use Rattle.certificate_rules.specs.declared.certificate.OpenMark.TheVariants.{Closed, Open}
 use Rattle.serde_json.specs.Data.{Data}
-use Rattle.serde_json.specs.Find.{as_array}
 use Rattle.cert_text.specs.Steps.{◌>>=◌}
-use Rattle.cert_text.specs.Fields.{numbers_data, number_in}
-use Rattle.cert_text.specs.Versions.{is_price_mark}
-use Rattle.cert_text.specs.Marks.{mark_numbers, mark_in, marks_in}
+use Rattle.cert_text.specs.Fields.{number_in}
+use Rattle.cert_text.specs.Marks.{mark_numbers, mark_in, is_price_mark}
 
 -- an open leaf is 3, another mark as in a dossier
 abbrev pub open_numbers : OpenMark → List ℕ
@@ -26,17 +23,6 @@ open_mark_in third false d = do
   n ← number_in d
   if n == 3 then Some (Some Open) else option_map closed_told (mark_in third false d)
 
-abbrev pub open_tree_data : List OpenMark → Data
-open_tree_data marks = numbers_data (flat_map open_numbers marks)
-
-abbrev pub open_tree_in : Bool → Data → Option (List OpenMark)
-open_tree_in third d = do
-  items ← as_array d
-  marks_in (open_mark_in third) false items
-
 abbrev pub is_open_price_mark : OpenMark → Bool
 is_open_price_mark (Closed m) = is_price_mark m
 is_open_price_mark Open = false
-
-abbrev pub has_open_price_mark : List OpenMark → Bool
-has_open_price_mark = list_any is_open_price_mark
