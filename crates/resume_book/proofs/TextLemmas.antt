@@ -22,15 +22,14 @@ use Rattle.cert_text.specs.declared.heading.Form.TheVariants as form
 use Rattle.cert_text.specs.declared.heading.Heading.TheVariants as heading
 use Rattle.cert_text.specs.declared.heading.Version.{Version}
 use Rattle.cert_text.specs.declared.heading.Version.TheVariants.{First, Second, Third}
-use Rattle.cert_text.specs.Versions.{is_third, needs_third}
+use Rattle.cert_text.specs.Versions.{needs_third}
 use Rattle.cert_text.specs.Cuts.{cuts_data, cuts_in}
 use Rattle.cert_text.specs.Plans.{plan_data, plan_in}
-use Rattle.cert_text.specs.OpenMarks.{open_numbers, open_mark_in, is_open_price_mark}
+use Rattle.cert_text.specs.OpenMarks.{open_numbers, is_open_price_mark}
 use Rattle.cert_text.specs.Certificates.{front_in}
 use Rattle.cert_text.specs.Heading.{heading_of, headed}
 use Rattle.cert_text.specs.Dossier.{json_line, framed, json_of, value_in}
 use Rattle.cert_text.proofs.ShapeLemmas.{parts_no_float, parts_shallow}
-use Rattle.cert_text.proofs.TreeLemmas.{tree_back}
 use Rattle.cert_text.proofs.OpenMarkLemmas.{open_marks_back}
 use Rattle.cert_text.proofs.VersionLemmas.{Suits, suits_third, suits_second}
 use Rattle.cert_text.specs.Steps.{fault_under}
@@ -58,12 +57,10 @@ pub open_back : (C : OpenCertificate) (version : Version) (cost : ℕ) (cuts : L
     → cuts_in (cuts_data cuts) ≡ Some cuts → plan_in (plan_data plan) ≡ Some plan → open_certificate_in version (open_data C) ≡ Ok C
 unfolding open_certificate_in
 open_back C version cost cuts plan prices tree made is formed cuts_back plan_back =
-    let suits = suited C in
     let own_cuts : cuts_in (cuts_data C.cuts) ≡ Some C.cuts = subst (λ (k : OpenCertificate). cuts_in (cuts_data k.cuts) ≡ Some k.cuts) made cuts_back in
     let own_plan : plan_in (plan_data C.plan) ≡ Some C.plan = subst (λ (k : OpenCertificate). plan_in (plan_data k.plan) ≡ Some k.plan) made plan_back in
-    let marks = tree_back open_marks_back (is_third (open_version C)) C.tree formed.marks suits.unmarked in
     ap (λ v. open_certificate_in v (open_data C)) is
-    ∙ parts_back open_numbers open_mark_in _ (open_version C) (record { cost = C.cost; cuts = C.cuts; plan = C.plan }) C.tree C.prices (list_any is_open_price_mark C.tree) suits own_cuts own_plan marks formed.prices
+    ∙ parts_back open_marks_back _ (open_version C) (record { cost = C.cost; cuts = C.cuts; plan = C.plan }) C.tree C.prices (suited C) formed.marks formed.prices own_cuts own_plan
 
 -- it has no floats and is shallow
 pub no_float : (C : OpenCertificate) → has_float (open_data C) ≡ false
