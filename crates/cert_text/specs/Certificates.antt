@@ -58,5 +58,6 @@ made_in told make version d = do
   prices ← or_fault 6 (prices_under version d)
   Ok (make front tree prices)
 
+-- the certificate, made so
 unfoldable pub certificate_in : Version → Data → Result Certificate ℕ
 certificate_in version d = made_in mark_in (λ front tree prices. record { cost = front.cost; cuts = front.cuts; plan = front.plan; prices = prices; tree = tree }) version d
