@@ -11,12 +11,11 @@ use crate::comparing::same_case;
 use crate::cut_list::CutList;
 use crate::offering::{give_free, post_free};
 use crate::opening::opened;
-use crate::root::{PricedRoot, Root};
+use crate::root::{PricedRoot, Root, is_optimal};
 use crate::searching::{Lent, worked, worked_beside};
 use crate::settling::settled;
 use book_core::{Book, Case};
 use lock_io::Gate;
-use lock_model::Verdict;
 use place_refute::copy_cut;
 use plain_text::NoMemory;
 use price_search::Pricing;
@@ -82,11 +81,6 @@ fn priced_by_all<R: Threads + Wait + Sync, G: Gate + Sync>(
     let left = worked(lent, book, board.as_ref())?;
     let none = CutList::new(lent.alloc);
     settled(lent.alloc, left, lent.case, opening, best, &none)
-}
-
-// Whether nothing of a book is open or parked.
-fn is_optimal(book: &Book) -> bool {
-    matches!(book.verdict(), Verdict::Optimal)
 }
 
 // Whether the book of a root is of this case and was opened at no more than this cost.

@@ -6,6 +6,7 @@ ghost use Rattle.solve_workers.specs.Holding.{IsRunning};
 use crate::driver::Driver;
 use crate::driving::drive_some;
 use book_core::Book;
+use lock_model::Verdict;
 use node_work::Search;
 use plain_text::NoMemory;
 use price_search::Pricing;
@@ -21,8 +22,8 @@ pub(crate) struct Root {
     pub(crate) ghost running: { IsRunning book },
 }
 
-/// A book whose root was priced, the prices as they are then, and whether the search came to its end
-/// with that.
+/// A book whose root was priced, the prices as they are then, and whether its best plan is cheapest by
+/// that.
 #[derive(Drop)]
 pub(crate) struct PricedRoot {
     pub(crate) book: Book,
@@ -30,6 +31,11 @@ pub(crate) struct PricedRoot {
     pub(crate) ended: bool,
     pub(crate) ghost free: { HoldsNothing book },
     pub(crate) ghost running: { IsRunning book },
+}
+
+/// Whether nothing of a book is open or parked.
+pub(crate) fn is_optimal(book: &Book) -> bool {
+    matches!(book.verdict(), Verdict::Optimal)
 }
 
 #[tactic(auto, using(crate::proofs::ReadyLemmas::running_still))]
@@ -44,7 +50,8 @@ fn priced(alloc: Global, root: Root, signals: &Signals) -> Result<PricedRoot, No
     let case = book.case().copy();
     let search = Search::new(&case.instance, case.turns);
     let mut driver = Driver::beside(alloc, search, pricing, signals);
-    let ended = drive_some(&mut driver, &mut book, 1)?;
+    drive_some(&mut driver, &mut book, 1)?;
+    let ended = is_optimal(&book);
     if ended {
         signals.call_off();
     }
