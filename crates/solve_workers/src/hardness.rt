@@ -3,57 +3,37 @@ ghost use Rattle.std.specs.Prelude.{◌≡◌, ◌≤◌, IfOk};
 ghost use Rattle.book_rules.specs.Cheap.{opening_cost};
 ghost use Rattle.book_rules.specs.Ends.{HoldsNothing, EndsWell};
 ghost use Rattle.solve_workers.specs.Closable.{IsOwnSearch};
-ghost use Rattle.solve_workers.specs.Driving.{IsDriven};
 ghost use Rattle.solve_workers.specs.Holding.{IsRunning};
 ghost use Rattle.solve_workers.specs.Opening.{IsReady};
 
-use crate::cut_list::CutList;
 use crate::driver::Driver;
 use crate::driving::{drive_some, finish};
-use crate::offering::post_free;
-use crate::opening::opened;
-use crate::searching::{Lent, worked};
-use crate::settling::settled;
+use crate::racing::{afresh, raced};
+use crate::searching::Lent;
 use book_core::{Book, Case};
 use lock_io::Gate;
 use node_work::Search;
-use place_refute::copy_cut;
 use plain_text::NoMemory;
 use price_raise::first_prices;
 use price_search::{FirstNode, Pricing};
-use search_worker::Board;
 use std::alloc::Global;
-use std::mem;
 use std::sync::Wait;
 use std::thread::Threads;
 
-// An instance that isn't solved after so many nodes is hard: some 80 ms of one worker.
+// An instance that isn't solved after so many nodes is hard: some 40 ms of one worker.
 const PLAIN_NODES: u32 = 25_000;
 
-/// How many nodes of a case are searched without prices: all of a small budget.
-pub(crate) fn plain_nodes(case: &Case) -> u32 {
+// Several workers ask prices sooner, beside a search without them.
+const FEW_NODES: u32 = 1_000;
+
+/// How many nodes of a case so many workers search before prices are asked: all of a small budget.
+pub(crate) fn plain_nodes(case: &Case, workers: u8) -> u32 {
     if case.nodes <= PLAIN_NODES {
         u32::MAX
-    } else {
+    } else if workers == 1 {
         PLAIN_NODES
-    }
-}
-
-#[tactic(auto, using(crate::proofs::DrivenLemmas::driven_then, crate::proofs::DrivenLemmas::driven_none))]
-// Posts the cuts of another book, as far as there is memory.
-fn post_cuts(book: &mut Book, other: &Book)
-    requires free { HoldsNothing book.old }
-    ensures free { HoldsNothing book.new }
-    ensures driven { IsDriven book.old book.new }
-{
-    for number in 0..u64::MAX {
-        match other.cut(number) {
-            Some(cut) => match copy_cut(cut) {
-                Ok(copy) => post_free(book, copy),
-                Err(NoMemory) => return,
-            },
-            None => return,
-        }
+    } else {
+        FEW_NODES
     }
 }
 
@@ -67,13 +47,12 @@ fn begun_again(alloc: Global, book: Book) -> Book
     ensures free { HoldsNothing result }
     ensures running { IsRunning result }
 {
-    let Ok(mut fresh) = opened(alloc, book.case(), book.best().copy(), &CutList::new(alloc)) else {
+    let Ok(fresh) = afresh(alloc, &book) else {
         return book;
     };
     if fresh.opening_cost() > book.opening_cost() {
         return book;
     }
-    post_cuts(&mut fresh, &book);
     fresh
 }
 
@@ -93,39 +72,11 @@ fn first_pricing(alloc: Global, book: &Book, first: FirstNode) -> Option<Pricing
     Pricing::new(alloc, prices, first).ok()
 }
 
-// The board of what was found at the root, if anything was and there is memory for it.
-fn board_of(alloc: Global, pricing: Option<Pricing>) -> Option<Board> {
-    Board::new(alloc, pricing?).ok()
-}
-
-#[tactic(auto, using(crate::proofs::ReadyLemmas::best_legal, crate::proofs::ReadyLemmas::best_within, crate::proofs::ReadyLemmas::ready_within_ok))]
-// Lets the workers search a book with prices, and settles it: the book that they leave, or a fresh one
-// of the best plan.
-fn priced_by_all<R: Threads + Wait + Sync, G: Gate + Sync>(
-    lent: &Lent<'_, R, G>,
-    book: Book,
-    pricing: Option<Pricing>,
-    cost: u64,
-) -> Result<Book, NoMemory>
-    requires ready { IsReady lent.now.case.now cost book }
-    ensures { IfOk result (IsReady lent.now.case.now cost) }
-{
-    book.keeps();
-    let opening = book.opening_cost();
-    let best = book.best().copy();
-    let board = board_of(lent.alloc, pricing);
-    let left = worked(lent, book, board.as_ref())?;
-    let none = CutList::new(lent.alloc);
-    settled(lent.alloc, left, lent.case, opening, best, &none)
-}
-
-#[tactic(auto, using(crate::proofs::ReadyLemmas::ready_driven, crate::proofs::DrivenLemmas::own_still))]
-// Searches a book with prices as far as several workers serve: the root on this thread, and then all
-// else by them, who begin with the prices of the root.
+// Gives the driver prices, and searches a book as far as several workers serve.
 fn priced<R: Threads + Wait + Sync, G: Gate + Sync>(
     lent: &Lent<'_, R, G>,
     driver: &mut Driver<'_>,
-    mut book: Book,
+    book: Book,
     cost: u64,
 ) -> Result<Book, NoMemory>
     requires ready { IsReady lent.now.case.now cost book }
@@ -134,15 +85,12 @@ fn priced<R: Threads + Wait + Sync, G: Gate + Sync>(
     ensures search { driver.new.search ≡ driver.old.search }
 {
     let first = first_node(lent.case, lent.workers);
-    driver.pricing = first_pricing(lent.alloc, &book, first);
+    let pricing = first_pricing(lent.alloc, &book, first);
     if lent.workers == 1 {
+        driver.pricing = pricing;
         return Ok(book);
     }
-    if drive_some(driver, &mut book, 1)? {
-        return Ok(book);
-    }
-    let pricing = mem::replace(&mut driver.pricing, None);
-    let book = priced_by_all(lent, book, pricing, cost)?;
+    let book = raced(lent, book, pricing, cost)?;
     driver.pricing = first_pricing(lent.alloc, &book, first);
     Ok(book)
 }
@@ -161,7 +109,7 @@ fn begun<R: Threads + Wait + Sync, G: Gate + Sync>(
     ensures ready { IfOk result (IsReady lent.now.case.now cost) }
     ensures search { driver.new.search ≡ driver.old.search }
 {
-    if drive_some(driver, &mut book, plain_nodes(lent.case))? {
+    if drive_some(driver, &mut book, plain_nodes(lent.case, lent.workers))? {
         return Ok(book);
     }
     let again = begun_again(lent.alloc, book);

@@ -9,7 +9,7 @@ use lock_model::{Instance, Way};
 use master_branch::arrival_order;
 use node_work::Search;
 use search_book::{ShareList, share_book};
-use search_worker::{Board, Hands, Post, search};
+use search_worker::{Board, Hands, Post, Signals, search};
 use std::alloc::Global;
 use std::marker::Brand;
 use std::sync::ledger::{Blank, Ledger};
@@ -71,6 +71,7 @@ fn searched_by<L: Ledger, W: Wait, G: Gate>(
     let Some(hands) = hands_of(&mut shares, own) else {
         return Err(Fail::from("no share"));
     };
+    let signals = Signals::new();
     let post = Post {
         rt,
         alloc,
@@ -82,6 +83,7 @@ fn searched_by<L: Ledger, W: Wait, G: Gate>(
         book: &book,
         pool: &pool,
         word: &word,
+        signals: &signals,
     };
     let Hands { share, seat: own } = search(&post, 0, hands);
     shares.push(share);
