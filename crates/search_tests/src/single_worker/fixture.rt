@@ -30,12 +30,13 @@ pub(crate) fn two_up(width: u32) -> Result<Instance, Fail> {
     Ok(two_ships(width).ok_or("no instance")?)
 }
 
-/// What a worker is given beside its book: the instance that it takes for the book's, and a board of
-/// prices, if any.
+/// What a worker is given beside its book: the instance that it takes for the book's, a board of prices,
+/// if any, and signals.
 #[derive(Clone, Copy)]
 pub(crate) struct Given<'a> {
     pub(crate) instance: &'a Instance,
     pub(crate) board: Option<&'a Board>,
+    pub(crate) signals: &'a Signals,
 }
 
 // A worker's hands: the last share of a list of single parts, and a seat of one part.
@@ -71,7 +72,6 @@ fn searched_by<L: Ledger, W: Wait, G: Gate>(
     let Some(hands) = hands_of(&mut shares, own) else {
         return Err(Fail::from("no share"));
     };
-    let signals = Signals::new();
     let post = Post {
         rt,
         alloc,
@@ -83,7 +83,7 @@ fn searched_by<L: Ledger, W: Wait, G: Gate>(
         book: &book,
         pool: &pool,
         word: &word,
-        signals: &signals,
+        signals: given.signals,
     };
     let Hands { share, seat: own } = search(&post, 0, hands);
     shares.push(share);
@@ -111,9 +111,11 @@ pub(crate) fn searched<W: Wait, G: Gate>(
     book: Book,
 ) -> Result<(Book, u64), Fail> {
     let instance = book.case().instance.copy();
+    let signals = Signals::new();
     let given = Given {
         instance: &instance,
         board: None,
+        signals: &signals,
     };
     searched_as(rt, alloc, gate, book, given)
 }
