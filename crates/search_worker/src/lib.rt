@@ -20,7 +20,7 @@
 //! `knowing` is what a worker knows of cuts.
 //!
 //! `asking` makes each event, and waits. `post` is what workers share, `hands` and `worker` what each
-//! has, `signals` what workers and their caller tell each other. Nothing is claimed of prices: the book takes a closing by them only for what was shown.
+//! has. Nothing is claimed of prices: the book takes a closing by them only for what was shown.
 //!
 //! Definitions: `specs/Owning` says, ship by ship, what the test of a node tests, `Serving` what ties
 //! a worker to its post, and `Ending` how a node may end.
@@ -35,7 +35,6 @@ mod post;
 mod pricing;
 mod searching;
 mod sharing;
-mod signals;
 mod stop;
 mod taking;
 mod trail;
@@ -48,5 +47,4 @@ pub use board::Board;
 pub use hands::Hands;
 pub use post::Post;
 pub use searching::search;
-pub use signals::Signals;
 pub use trusting::is_node_of;

@@ -3,7 +3,6 @@ ghost use Rattle.lock_rules.specs.Arrival.{order_of};
 ghost use Rattle.std.specs.Prelude.{◌≡◌};
 
 use crate::board::Board;
-use crate::signals::Signals;
 use bound_word::BoundTable;
 use cut_pool::Pool;
 use lock_io::Gate;
@@ -16,7 +15,7 @@ use std::sync::ledger::Ledger;
 
 /// What workers share: the handles that they were lent, what is the same for all nodes, with the
 /// ships by arrival, after how many nodes each ends, the prices that they leave each other, if any,
-/// the book under its lock, and the cuts, the best cost and the signals beside it.
+/// the book under its lock, and the cuts and the best cost beside it.
 #[derive(Drop)]
 pub struct Post<'s, L: Ledger, W: Wait, G: Gate> {
     pub rt: &'s W,
@@ -29,7 +28,6 @@ pub struct Post<'s, L: Ledger, W: Wait, G: Gate> {
     pub book: &'s SharedBook<L>,
     pub pool: &'s Pool,
     pub word: &'s BoundTable,
-    pub signals: &'s Signals,
     pub ghost by_arrival: { order ≡ order_of search.instance.now },
 }
 
@@ -45,5 +43,4 @@ pub(crate) fn may_search_beside<L: Ledger + Send + Sync, W: Wait + Sync, G: Gate
     may_share(post.book);
     may_share(post.pool);
     may_share(post.word);
-    may_share(post.signals);
 }

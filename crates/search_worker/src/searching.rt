@@ -15,8 +15,8 @@ use search_book::{Event, Stretch};
 use std::sync::Wait;
 use std::sync::ledger::Ledger;
 
-// Takes slots and works on them, until nothing is open or held, the nodes are spent, the worker has
-// worked on as many nodes as it is to, or it is called off. After a refusal a slot may be held still.
+// Takes slots and works on them, until nothing is open or held, the nodes are spent, or the worker has
+// worked on as many nodes as it is to. After a refusal a slot may be held still.
 fn search_slots<'s, L: Ledger, W: Wait, G: Gate>(
     post: &Post<'s, L, W, G>,
     worker: &mut Worker<L>,
@@ -32,7 +32,7 @@ fn search_slots<'s, L: Ledger, W: Wait, G: Gate>(
             Some(held) => {
                 work(post, worker, stretch, held)?;
                 post.gate.at(worker.number, Point::Closed);
-                if worker.worked >= post.quota || post.signals.is_called_off() {
+                if worker.worked >= post.quota {
                     return Err(Stop);
                 }
             }
@@ -47,14 +47,13 @@ fn pricing_of<L: Ledger, W: Wait, G: Gate>(post: &Post<'_, L, W, G>) -> Option<P
     post.board?.pricing(post.alloc)
 }
 
-/// Searches as worker `number`, 0 to 7, until nothing is open or held or the nodes are spent, which it
-/// tells by the signals, or until it has worked on the post's quota of nodes or is called off. It has no
-/// refusal: where the quota is reached, it is called off or memory is refused, or the book answers what it
-/// answers no worker of these rules, the worker releases and ends, so that no other waits for a node in
-/// its hand. That is done here alone, whatever stopped the search. The quota and the signals are looked
-/// at once a stretch of nodes is handed over, so the quota may be passed by a stretch. The hands come
-/// back, and their seat is of the same table. It waits for the lock, and for other workers while no slot
-/// is open and one is held.
+/// Searches as worker `number`, 0 to 7, until nothing is open or held, the nodes are spent, or it has
+/// worked on the post's quota of nodes. It has no refusal: where the quota is reached or memory is
+/// refused, or the book answers what it answers no worker of these rules, the worker releases and
+/// ends, so that no other waits for a node in its hand. That is done here alone, whatever stopped the
+/// search. The quota is looked at once a stretch of nodes is handed over, so it may be passed by a
+/// stretch. The hands come back, and their seat is of the same table. It waits for the lock, and for
+/// other workers while no slot is open and one is held.
 pub fn search<L: Ledger, W: Wait, G: Gate>(
     post: &Post<'_, L, W, G>,
     number: u8,
@@ -66,11 +65,8 @@ pub fn search<L: Ledger, W: Wait, G: Gate>(
 {
     let mut worker = Worker::new(post.alloc, number, hands, pricing_of(post));
     let mut stretch = Stretch::new(post.alloc, post.search.instance);
-    match search_slots(post, &mut worker, &mut stretch) {
-        Ok(()) => post.signals.tell_done(),
-        Err(Stop) => {
-            ask(post, &mut worker, Event::Release(number));
-        }
+    if let Err(Stop) = search_slots(post, &mut worker, &mut stretch) {
+        ask(post, &mut worker, Event::Release(number));
     }
     worker.hands
 }

@@ -31,7 +31,7 @@ use Rattle.solve_workers.specs.Holding.{HoldsOnly}
 use Rattle.solve_workers.specs.Told.{number_in, is_made, is_want, IsMadeOrWant, IsPostedOrWant}
 use Rattle.solve_workers.proofs.ToldLemmas.{Answer, makes, number_of, told-made, told-number}
 use Rattle.solve_workers.proofs.ClearLemmas.{no_clash-test}
-use Rattle.solve_workers.proofs.FreeLemmas.{none-at, freed, split-freed, is-held}
+use Rattle.solve_workers.proofs.FreeLemmas.{freed, split-freed, is-held}
 use Rattle.closing_rules.specs.declared.grounds.Ground.TheVariants as by
 
 abbrev Out : Type 0
@@ -269,23 +269,3 @@ module _ (b : Book) (id : ℕ) (node : Node) (plan : Plan) (holds : HoldsOnly b 
   pub replaced_better : (r : Reply) (new : Book) → IsLegal b.case.instance plan → is_want r ≡ false → Does b (replace plan) r new → IsBettered b id node cost new
   replaced_better r new legal said (Stays wants) = absurd (true≢false (ap is_want (sym wants.want) ∙ said))
   replaced_better r new legal said (Steps answers) = subst (IsBettered b id node cost) (ap (λ (o : Out). o.0) answers.same) (by_break answers.found (answers.judged.none.1 legal))
-
--- while nothing is held
-module _ (b : Book) (plan : Plan) (free : HoldsNothing b) where
-  replaced-nothing : HoldsNothing (Step.replaced b plan)
-  replaced-nothing = record {
-    none = λ k known. ap (λ (s : Slot). is_held s.state) (outdone-at (cost_of b.case.instance plan) b.slots k) ∙ outdone-off (cost_of b.case.instance plan) (slot_at b k) (none-at b is_held refl free k);
-  }
-
-  nothing-cost : (t : Bool) → HoldsNothing (cond {A = Out} t (b, machine.NotCheaper (cost_of b.case.instance plan) (best_cost b)) (Step.replaced b plan, machine.Replaced (cost_of b.case.instance plan))).0
-  nothing-cost true = free
-  nothing-cost false = replaced-nothing
-
-  nothing-break : (o : Option BrokenPlan) → HoldsNothing (Step.replace_by b plan o).0
-  nothing-break None = nothing-cost (nat_le (best_cost b) (cost_of b.case.instance plan))
-  nothing-break (Some found) = free
-
-  -- whatever becomes of the plan, nothing is held still
-  pub replaced_nothing : (r : Reply) (new : Book) → Does b (replace plan) r new → HoldsNothing new
-  replaced_nothing r new (Stays wants) = subst HoldsNothing (sym wants.same) free
-  replaced_nothing r new (Steps answers) = subst HoldsNothing (ap (λ (o : Out). o.0) answers.same) (nothing-break answers.found)

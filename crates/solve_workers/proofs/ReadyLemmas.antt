@@ -13,16 +13,12 @@ use Rattle.solve_workers.specs.Holding.{IsRunning}
 use Rattle.solve_workers.specs.Opening.{IsReady, opened_with}
 use Rattle.solve_workers.proofs.DrivenLemmas.{driven_cost}
 
--- who has released stays
-pub running_still : (a b : Book) → IsDriven a b → IsRunning a → IsRunning b
-running_still a b driven running = record { running = subst (λ ended. slice_index_or ended 8 false ≡ false) (sym driven.ended) running.running }
-
 pub ready_driven : (case : Case) (cost : ℕ) (old new : Book) → IsReady case cost old → IsDriven old new → HoldsNothing new → IsReady case cost new
 ready_driven case cost old new ready driven free = record {
   case_is = driven.case ∙ ready.case_is;
   opening = let same = driven_cost old new driven in let most = ready.opening in omega (arith, same, most);
   free = free;
-  running = running_still old new driven ready.running;
+  running = record { running = subst (λ ended. slice_index_or ended 8 false ≡ false) (sym driven.ended) ready.running.running };
 }
 
 pub ready_again : (case : Case) (cost : ℕ) (old new : Book) → IsReady case cost old → new.case ≡ old.case → opening_cost new ≤ opening_cost old → HoldsNothing new → IsRunning new → IsReady case cost new
@@ -32,10 +28,6 @@ ready_again case cost old new ready same less free running = record {
   free = free;
   running = running;
 }
-
--- a book of the case that was opened at no more than the cost
-pub ready_of : (case : Case) (cost : ℕ) (b : Book) → b.case ≡ case → opening_cost b ≤ cost → HoldsNothing b → IsRunning b → IsReady case cost b
-ready_of case cost b same less free running = record { case_is = same; opening = less; free = free; running = running }
 
 ready-within : (case : Case) (low high : ℕ) (b : Book) → low ≤ high → IsReady case low b → IsReady case high b
 ready-within case low high b less ready = record {

@@ -3,37 +3,77 @@ ghost use Rattle.std.specs.Prelude.{◌≡◌, ◌≤◌, IfOk};
 ghost use Rattle.book_rules.specs.Cheap.{opening_cost};
 ghost use Rattle.book_rules.specs.Ends.{HoldsNothing, EndsWell};
 ghost use Rattle.solve_workers.specs.Closable.{IsOwnSearch};
+ghost use Rattle.solve_workers.specs.Driving.{IsDriven};
 ghost use Rattle.solve_workers.specs.Holding.{IsRunning};
 ghost use Rattle.solve_workers.specs.Opening.{IsReady};
 
+use crate::cut_list::CutList;
 use crate::driver::Driver;
 use crate::driving::{drive_some, finish};
-use crate::racing::{afresh, raced};
-use crate::searching::Lent;
+use crate::offering::post_free;
+use crate::opening::opened;
+use crate::searching::{Lent, worked};
+use crate::settling::settled;
 use book_core::{Book, Case};
 use lock_io::Gate;
+use lock_model::Verdict;
 use node_work::Search;
+use place_refute::copy_cut;
 use plain_text::NoMemory;
 use price_raise::first_prices;
 use price_search::{FirstNode, Pricing};
+use search_worker::Board;
 use std::alloc::Global;
+use std::mem;
 use std::sync::Wait;
 use std::thread::Threads;
 
-// An instance that isn't solved after so many nodes is hard: some 40 ms of one worker.
+// After so many nodes it is told whether an instance is hard.
+const FIRST_NODES: u32 = 1_000;
+
+// With no more ships than this most instances are solved without prices, so that it is told later.
+const FEW_SHIPS: usize = 16;
+
+// An instance that isn't solved after so many nodes is hard in any case: some 40 ms of one worker.
 const PLAIN_NODES: u32 = 25_000;
 
-// Several workers ask prices sooner, beside a search without them.
-const FEW_NODES: u32 = 1_000;
-
-/// How many nodes of a case so many workers search before prices are asked: all of a small budget.
-pub(crate) fn plain_nodes(case: &Case, workers: u8) -> u32 {
+/// How many nodes of a case are searched before it is told whether it is hard: all of a small budget.
+pub(crate) fn first_nodes(case: &Case) -> u32 {
     if case.nodes <= PLAIN_NODES {
         u32::MAX
-    } else if workers == 1 {
+    } else if case.instance.ships.as_slice().len() <= FEW_SHIPS {
         PLAIN_NODES
     } else {
-        FEW_NODES
+        FIRST_NODES
+    }
+}
+
+// Whether the best plan costs at most a twentieth more than what is open may: such a search mostly ends
+// before prices would have told anything.
+fn is_near(book: &Book) -> bool {
+    match book.verdict() {
+        Verdict::OpenNodes { low, .. } => {
+            book.best_cost().saturating_sub(low) <= book.best_cost() / 20
+        }
+        _ => true,
+    }
+}
+
+#[tactic(auto, using(crate::proofs::DrivenLemmas::driven_then, crate::proofs::DrivenLemmas::driven_none))]
+// Posts the cuts of another book, as far as there is memory.
+fn post_cuts(book: &mut Book, other: &Book)
+    requires free { HoldsNothing book.old }
+    ensures free { HoldsNothing book.new }
+    ensures driven { IsDriven book.old book.new }
+{
+    for number in 0..u64::MAX {
+        match other.cut(number) {
+            Some(cut) => match copy_cut(cut) {
+                Ok(copy) => post_free(book, copy),
+                Err(NoMemory) => return,
+            },
+            None => return,
+        }
     }
 }
 
@@ -47,12 +87,13 @@ fn begun_again(alloc: Global, book: Book) -> Book
     ensures free { HoldsNothing result }
     ensures running { IsRunning result }
 {
-    let Ok(fresh) = afresh(alloc, &book) else {
+    let Ok(mut fresh) = opened(alloc, book.case(), book.best().copy(), &CutList::new(alloc)) else {
         return book;
     };
     if fresh.opening_cost() > book.opening_cost() {
         return book;
     }
+    post_cuts(&mut fresh, &book);
     fresh
 }
 
@@ -72,11 +113,39 @@ fn first_pricing(alloc: Global, book: &Book, first: FirstNode) -> Option<Pricing
     Pricing::new(alloc, prices, first).ok()
 }
 
-// Gives the driver prices, and searches a book as far as several workers serve.
+// The board of what was found at the root, if anything was and there is memory for it.
+fn board_of(alloc: Global, pricing: Option<Pricing>) -> Option<Board> {
+    Board::new(alloc, pricing?).ok()
+}
+
+#[tactic(auto, using(crate::proofs::ReadyLemmas::best_legal, crate::proofs::ReadyLemmas::best_within, crate::proofs::ReadyLemmas::ready_within_ok))]
+// Lets the workers search a book with prices, and settles it: the book that they leave, or a fresh one
+// of the best plan.
+fn priced_by_all<R: Threads + Wait + Sync, G: Gate + Sync>(
+    lent: &Lent<'_, R, G>,
+    book: Book,
+    pricing: Option<Pricing>,
+    cost: u64,
+) -> Result<Book, NoMemory>
+    requires ready { IsReady lent.now.case.now cost book }
+    ensures { IfOk result (IsReady lent.now.case.now cost) }
+{
+    book.keeps();
+    let opening = book.opening_cost();
+    let best = book.best().copy();
+    let board = board_of(lent.alloc, pricing);
+    let left = worked(lent, book, board.as_ref())?;
+    let none = CutList::new(lent.alloc);
+    settled(lent.alloc, left, lent.case, opening, best, &none)
+}
+
+#[tactic(auto, using(crate::proofs::ReadyLemmas::ready_driven, crate::proofs::DrivenLemmas::own_still))]
+// Searches a book with prices as far as several workers serve: the root on this thread, and then all
+// else by them, who begin with the prices of the root.
 fn priced<R: Threads + Wait + Sync, G: Gate + Sync>(
     lent: &Lent<'_, R, G>,
     driver: &mut Driver<'_>,
-    book: Book,
+    mut book: Book,
     cost: u64,
 ) -> Result<Book, NoMemory>
     requires ready { IsReady lent.now.case.now cost book }
@@ -85,19 +154,22 @@ fn priced<R: Threads + Wait + Sync, G: Gate + Sync>(
     ensures search { driver.new.search ≡ driver.old.search }
 {
     let first = first_node(lent.case, lent.workers);
-    let pricing = first_pricing(lent.alloc, &book, first);
+    driver.pricing = first_pricing(lent.alloc, &book, first);
     if lent.workers == 1 {
-        driver.pricing = pricing;
         return Ok(book);
     }
-    let book = raced(lent, book, pricing, cost)?;
+    if drive_some(driver, &mut book, 1)? {
+        return Ok(book);
+    }
+    let pricing = mem::replace(&mut driver.pricing, None);
+    let book = priced_by_all(lent, book, pricing, cost)?;
     driver.pricing = first_pricing(lent.alloc, &book, first);
     Ok(book)
 }
 
 #[tactic(auto, using(crate::proofs::ReadyLemmas::ready_driven, crate::proofs::ReadyLemmas::ready_again, crate::proofs::DrivenLemmas::own_still))]
-// Searches a book so many nodes far. An instance that isn't solved by then is hard: its search begins
-// again, with prices, the best plan and the cuts that were found.
+// Searches a book without prices until it is told whether the instance is hard. One that isn't solved by
+// then begins again, with prices, the best plan and the cuts that were found.
 fn begun<R: Threads + Wait + Sync, G: Gate + Sync>(
     lent: &Lent<'_, R, G>,
     driver: &mut Driver<'_>,
@@ -109,7 +181,10 @@ fn begun<R: Threads + Wait + Sync, G: Gate + Sync>(
     ensures ready { IfOk result (IsReady lent.now.case.now cost) }
     ensures search { driver.new.search ≡ driver.old.search }
 {
-    if drive_some(driver, &mut book, plain_nodes(lent.case, lent.workers))? {
+    if drive_some(driver, &mut book, first_nodes(lent.case))? {
+        return Ok(book);
+    }
+    if is_near(&book) && drive_some(driver, &mut book, PLAIN_NODES)? {
         return Ok(book);
     }
     let again = begun_again(lent.alloc, book);
@@ -117,8 +192,8 @@ fn begun<R: Threads + Wait + Sync, G: Gate + Sync>(
 }
 
 #[tactic(auto, using(crate::proofs::OpeningLemmas::ends_within))]
-/// Drives the search of a book to its end. An instance that isn't solved after so many nodes is hard: it
-/// is searched from the start with prices, with the best plan and the cuts that were found, by the
+/// Drives the search of a book to its end. An instance that is hard without prices is searched from the
+/// start with prices, with the best plan and the cuts that were found, by the
 /// workers first where there are several. All else is done on this thread. Refuses want of memory alone.
 pub(crate) fn driven<R: Threads + Wait + Sync, G: Gate + Sync>(
     lent: &Lent<'_, R, G>,

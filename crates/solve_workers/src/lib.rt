@@ -6,10 +6,9 @@
 //! `comparing`). Then it drives the search to its end on its own thread, so what the contract says
 //! rests on no worker. `solve` does so from the plan of `first_plan` and no cuts.
 //!
-//! An instance that isn't solved after so many nodes is hard: its search begins again, with prices
-//! (`hardness`). With several workers two searches begin beside each other (`racing`): the caller prices
-//! the root (`root`), and the others go on without prices. Where neither comes to its end so, all search
-//! on with the root's prices, and the caller drives on what they leave.
+//! An instance that isn't solved after some nodes, and isn't near it, is hard: its search begins again,
+//! with prices (`hardness`). Several workers search that book too, once the root is priced, and the
+//! caller drives on what they leave.
 //!
 //! - Workers: `crew` deals out what each owns and gathers it again, `running` starts them in threads,
 //!   or runs one on the caller's where none can be made, and waits for all. `search_worker` is the
@@ -36,8 +35,6 @@ mod held;
 mod offering;
 mod opening;
 mod pricing;
-mod racing;
-mod root;
 mod running;
 mod searching;
 mod settling;

@@ -69,16 +69,6 @@ pub(crate) fn give(book: &mut Book, held: &Held, plan: Plan)
     book.replace(plan);
 }
 
-/// Gives a plan to the book while nothing is held, which takes it if it is legal and cheaper.
-pub(crate) fn give_free(book: &mut Book, plan: Plan)
-    requires free { HoldsNothing book.old }
-    ensures free { HoldsNothing book.new }
-    ensures driven { IsDriven book.old book.new }
-{
-    book.keeps();
-    book.replace(plan);
-}
-
 /// Posts prices: the number under which the book keeps them, if it takes them.
 pub(crate) fn post_prices(book: &mut Book, held: &Held, prices: Prices) -> Option<u64>
     requires holds { Holds book.old held.now }

@@ -12,12 +12,14 @@ use crate::held::Held;
 use crate::offering::{close_shown, give, post, post_prices};
 use book_core::Book;
 use lock_model::Instance;
+use node_work::Search;
 use place_refute::Cut;
+use placed_groups::Memory;
 use plain_text::NoMemory;
 use price_bound::{Prices, Shown};
 use price_search::{Asked, MOST_AT_A_NODE, Pricing, Round, RoundEnd};
 use search_book::learn_cuts;
-use std::mem;
+use std::alloc::Global;
 
 #[tactic(auto, using(crate::proofs::DrivenLemmas::driven_none))]
 // Posts a cut, if there is one.
@@ -100,26 +102,27 @@ fn close_by(
 #[tactic(auto, using(crate::proofs::DrivenLemmas::driven_then, crate::proofs::DrivenLemmas::driven_none))]
 // Makes one round and carries out what it found; how it ended.
 fn make_round(
-    driver: &mut Driver<'_>,
+    alloc: Global,
+    search: &Search<'_>,
+    memory: &mut Memory,
     pricing: &mut Pricing,
     book: &mut Book,
     held: &Held,
 ) -> Result<RoundEnd, NoMemory>
     requires holds { Holds book.old held.now }
-    requires own { IsOwnSearch book.old driver.old.search }
+    requires own { IsOwnSearch book.old search.now }
     ensures holds { Holds book.new held.now }
     ensures driven { IsDriven book.old book.new }
-    ensures search { driver.new.search ≡ driver.old.search }
 {
     book.keeps();
     learn_cuts(book, pricing.cuts_mut())?;
     let asked = Asked {
-        search: &driver.search,
+        search,
         node: &held.node,
         best: book.best_cost(),
         known: &*book,
     };
-    let Round { cuts, plan, end } = pricing.round(driver.alloc, &asked, &mut driver.memory)?;
+    let Round { cuts, plan, end } = pricing.round(alloc, &asked, memory)?;
     post_all(book, held, cuts);
     if let Some(plan) = plan {
         give(book, held, plan);
@@ -128,25 +131,27 @@ fn make_round(
 }
 
 #[tactic(auto, using(crate::proofs::DrivenLemmas::driven_then, crate::proofs::DrivenLemmas::driven_none, crate::proofs::DrivenLemmas::own_still))]
-// Makes rounds until the node is closed, prices show no more or nobody needs them; whether it was closed.
-fn make_rounds(driver: &mut Driver<'_>, pricing: &mut Pricing, book: &mut Book, held: &Held) -> bool
+// Makes rounds until the node is closed or prices show no more; whether it was closed.
+fn make_rounds(
+    alloc: Global,
+    search: &Search<'_>,
+    memory: &mut Memory,
+    pricing: &mut Pricing,
+    book: &mut Book,
+    held: &Held,
+) -> bool
     requires holds { Holds book.old held.now }
-    requires own { IsOwnSearch book.old driver.old.search }
+    requires own { IsOwnSearch book.old search.now }
     ensures closed { OnTrue result (HoldsNothing book.new) }
     ensures held { OnFalse result (Holds book.new held.now) }
     ensures driven { IsDriven book.old book.new }
-    ensures search { driver.new.search ≡ driver.old.search }
 {
     book.keeps();
-    let instance = driver.search.instance;
     for _ in 0..MOST_AT_A_NODE {
-        if driver.is_needless() {
-            return false;
-        }
-        match make_round(driver, pricing, book, held) {
+        match make_round(alloc, search, memory, pricing, book, held) {
             Ok(RoundEnd::Again) => {}
             Ok(RoundEnd::Reached(prices)) => {
-                return close_by(instance, pricing, book, held, &prices);
+                return close_by(search.instance, pricing, book, held, &prices);
             }
             Ok(RoundEnd::Open) => {
                 let _ = pricing.keep(held.node.depth());
@@ -181,41 +186,24 @@ fn close_as_inherited(
 #[tactic(auto, using(crate::proofs::DrivenLemmas::driven_then, crate::proofs::DrivenLemmas::driven_none, crate::proofs::DrivenLemmas::own_still))]
 // Closes the held node by the prices of the node above it, or makes rounds; whether it was closed.
 fn close_or_raise(
-    driver: &mut Driver<'_>,
+    alloc: Global,
+    search: &Search<'_>,
+    memory: &mut Memory,
     pricing: &mut Pricing,
     book: &mut Book,
     held: &Held,
 ) -> bool
     requires holds { Holds book.old held.now }
-    requires own { IsOwnSearch book.old driver.old.search }
+    requires own { IsOwnSearch book.old search.now }
     ensures closed { OnTrue result (HoldsNothing book.new) }
     ensures held { OnFalse result (Holds book.new held.now) }
     ensures driven { IsDriven book.old book.new }
-    ensures search { driver.new.search ≡ driver.old.search }
 {
     book.keeps();
-    if close_as_inherited(driver.search.instance, pricing, book, held) {
+    if close_as_inherited(search.instance, pricing, book, held) {
         return true;
     }
-    make_rounds(driver, pricing, book, held)
-}
-
-#[tactic(auto, using(crate::proofs::DrivenLemmas::driven_none))]
-// Asks these prices about the held node, where they may serve; whether it was closed.
-fn price_by(driver: &mut Driver<'_>, pricing: &mut Pricing, book: &mut Book, held: &Held) -> bool
-    requires holds { Holds book.old held.now }
-    requires own { IsOwnSearch book.old driver.old.search }
-    ensures closed { OnTrue result (HoldsNothing book.new) }
-    ensures held { OnFalse result (Holds book.new held.now) }
-    ensures driven { IsDriven book.old book.new }
-    ensures search { driver.new.search ≡ driver.old.search }
-{
-    let depth = held.node.depth();
-    if !pricing.serves(depth, driver.search.instance.ships.as_slice().len()) {
-        return false;
-    }
-    pricing.go_to(depth);
-    close_or_raise(driver, pricing, book, held)
+    make_rounds(alloc, search, memory, pricing, book, held)
 }
 
 /// Asks prices about the held node, where there are any, and carries out what they find; whether the
@@ -228,10 +216,20 @@ pub(crate) fn price(driver: &mut Driver<'_>, book: &mut Book, held: &Held) -> bo
     ensures driven { IsDriven book.old book.new }
     ensures search { driver.new.search ≡ driver.old.search }
 {
-    let Some(mut pricing) = mem::replace(&mut driver.pricing, None) else {
+    let depth = held.node.depth();
+    let ships = driver.search.instance.ships.as_slice().len();
+    let Some(pricing) = &mut driver.pricing else {
         return false;
     };
-    let closed = price_by(driver, &mut pricing, book, held);
-    driver.pricing = Some(pricing);
-    closed
+    if !pricing.serves(depth, ships) {
+        return false;
+    }
+    pricing.go_to(depth);
+    let Driver {
+        alloc,
+        search,
+        memory,
+        ..
+    } = driver;
+    close_or_raise(*alloc, search, memory, pricing, book, held)
 }

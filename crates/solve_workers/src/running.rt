@@ -1,10 +1,8 @@
 //! Workers in threads.
 ghost use Rattle.std.specs.Prelude.{◌≡◌, ◌+◌, ◌<◌, ◌≤◌, vec_len, vec_capacity, All};
 
-use crate::root::{PricedRoot, Root, price_root};
 use bound_word::BoundTable;
 use lock_io::Gate;
-use plain_text::NoMemory;
 use search_worker::{Hands, Post, search};
 use std::snapshot::Snapshot;
 use std::sync::Wait;
@@ -90,54 +88,50 @@ fn join_all<L: Ledger, R: Threads + Wait, G: Gate>(
     ended
 }
 
-// Starts all workers, prices a root meanwhile, if there is one, and waits for the workers.
+// Starts all workers and waits for them.
 fn run_in<'s, E, L: Ledger + Send + Sync, R: Threads + Wait + Sync, G: Gate + Sync>(
     scope: &Scope<'s, E>,
     post: &'s Post<'s, L, R, G>,
     crew: Vec<Hands<L>>,
     mut running: Vec<Running<L>>,
     mut ended: Vec<Hands<L>>,
-    root: Option<Root>,
-) -> (Vec<Hands<L>>, Result<Option<PricedRoot>, NoMemory>)
+) -> Vec<Hands<L>>
     requires few { vec_len crew ≤ 8 }
     requires seats { All (λ h. h.seat.table ≡ post.now.word.now.table) crew.items }
     requires empty { (vec_len running ≡ 0) × (vec_len ended ≡ 0) }
     requires room { (vec_len crew ≤ vec_capacity running) × (vec_len crew ≤ vec_capacity ended) }
-    ensures count { vec_len result.0 ≡ vec_len crew }
-    ensures seats { All (λ h. h.seat.table ≡ post.now.word.now.table) result.0.items }
+    ensures count { vec_len result ≡ vec_len crew }
+    ensures seats { All (λ h. h.seat.table ≡ post.now.word.now.table) result.items }
 {
     start_all(scope, post, crew, &mut running, &mut ended);
-    let found = price_root(post.alloc, root, post.signals);
-    (join_all(post, running, ended), found)
+    join_all(post, running, ended)
 }
 
 /// Runs a worker for each of up to eight hands, each in a thread of its own where one can be made,
-/// prices a root meanwhile, if there is one, and waits for all. What the workers hand back is of the
-/// same table.
+/// and waits for all. What they hand back is of the same table.
 pub(crate) fn run_all<'s, L: Ledger + Send + Sync, R: Threads + Wait + Sync, G: Gate + Sync>(
     post: &Post<'s, L, R, G>,
     crew: Vec<Hands<L>>,
     running: Vec<Running<L>>,
     ended: Vec<Hands<L>>,
-    root: Option<Root>,
-) -> (Vec<Hands<L>>, Result<Option<PricedRoot>, NoMemory>)
+) -> Vec<Hands<L>>
     requires few { vec_len crew ≤ 8 }
     requires seats { All (λ h. h.seat.table ≡ post.now.word.now.table) crew.items }
     requires empty { (vec_len running ≡ 0) × (vec_len ended ≡ 0) }
     requires room { (vec_len crew ≤ vec_capacity running) × (vec_len crew ≤ vec_capacity ended) }
-    ensures count { vec_len result.0 ≡ vec_len crew }
-    ensures seats { All (λ h. h.seat.table ≡ post.now.word.now.table) result.0.items }
+    ensures count { vec_len result ≡ vec_len crew }
+    ensures seats { All (λ h. h.seat.table ≡ post.now.word.now.table) result.items }
 {
     thread::scope(
         thread::scope_env(),
         post.rt,
-        |scope| -> (Vec<Hands<L>>, Result<Option<PricedRoot>, NoMemory>)
+        |scope| -> Vec<Hands<L>>
             requires few { vec_len crew ≤ 8 }
             requires seats { All (λ h. h.seat.table ≡ post.now.word.now.table) crew.items }
             requires empty { (vec_len running ≡ 0) × (vec_len ended ≡ 0) }
             requires room { (vec_len crew ≤ vec_capacity running) × (vec_len crew ≤ vec_capacity ended) }
-            ensures count { vec_len result.0 ≡ vec_len crew }
-            ensures seats { All (λ h. h.seat.table ≡ post.entry.now.word.now.table) result.0.items }
-        { run_in(scope, post, crew, running, ended, root) },
+            ensures count { vec_len result ≡ vec_len crew }
+            ensures seats { All (λ h. h.seat.table ≡ post.entry.now.word.now.table) result.items }
+        { run_in(scope, post, crew, running, ended) },
     )
 }

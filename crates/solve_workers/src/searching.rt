@@ -3,8 +3,7 @@ ghost use Rattle.std.specs.Prelude.{◌≡◌, ◌+◌, ◌≤◌, IfSome};
 ghost use Rattle.boxcar.specs.Table.{Shows};
 
 use crate::crew::{deal, gather};
-use crate::hardness::plain_nodes;
-use crate::root::{PricedRoot, Root};
+use crate::hardness::first_nodes;
 use crate::running::run_all;
 use book_core::{Book, Case};
 use bound_word::BoundTable;
@@ -15,7 +14,7 @@ use node_work::Search;
 use place_refute::{Cut, copy_cut};
 use plain_text::NoMemory;
 use search_book::share_book;
-use search_worker::{Board, Post, Signals};
+use search_worker::{Board, Post};
 use std::alloc::Global;
 use std::marker::Brand;
 use std::sync::Wait;
@@ -50,7 +49,7 @@ fn quota(case: &Case, workers: u8, board: Option<&Board>) -> u32
 {
     match board {
         Some(_) => u32::MAX,
-        None => plain_nodes(case, workers) / workers as u32,
+        None => first_nodes(case) / workers as u32,
     }
 }
 
@@ -66,17 +65,15 @@ pub(crate) struct Lent<'s, R: Threads + Wait + Sync, G: Gate + Sync> {
     pub(crate) ghost few_workers: { workers ≤ 8 },
 }
 
-// Lets the workers search a book of the case, with prices or without, up to so many nodes each, while a
-// root is priced, if there is one. Gives both books back when all have ended; of that of the workers
-// nothing is known but its type. Refuses want of memory alone.
+// Lets the workers search a book of the case, with prices or without, and gives it back when all have
+// ended. Of the book that comes back nothing but its type is known. Refuses want of memory alone, and
+// before any worker began.
 fn searched<L: Ledger + Send + Sync, R: Threads + Wait + Sync, G: Gate + Sync>(
     lent: &Lent<'_, R, G>,
     blank: Blank,
     book: Book,
     board: Option<&Board>,
-    quota: u32,
-    root: Option<Root>,
-) -> Result<(Book, Option<PricedRoot>), NoMemory>
+) -> Result<Book, NoMemory>
     requires name { blank.name ≡ L.name }
     requires parts { blank.parts ≡ L.parts }
     requires one_each { blank.parts ≡ lent.now.workers + 1 }
@@ -91,7 +88,6 @@ fn searched<L: Ledger + Send + Sync, R: Threads + Wait + Sync, G: Gate + Sync>(
     let (word, mut seat) = BoundTable::new(alloc, book.best_cost(), workers + 1)?;
     let (shared, mut shares) = share_book::<L>(blank, book, workers);
     deal(&mut shares, &word, &mut seat, &mut crew, workers);
-    let signals = Signals::new();
     let case = lent.case;
     let instance = &case.instance;
     let post = Post {
@@ -100,17 +96,16 @@ fn searched<L: Ledger + Send + Sync, R: Threads + Wait + Sync, G: Gate + Sync>(
         gate: lent.gate,
         search: Search::new(instance, case.turns),
         order: arrival_order(instance),
-        quota,
+        quota: quota(case, workers, board),
         board,
         book: &shared,
         pool: &pool,
         word: &word,
-        signals: &signals,
     };
-    let (ended, found) = run_all(&post, crew, running, ended, root);
+    let ended = run_all(&post, crew, running, ended);
     gather(ended, &mut shares, &word, &mut seat);
     word.close(seat);
-    Ok((shared.into_book(shares), found?))
+    Ok(shared.into_book(shares))
 }
 
 /// The book as the workers leave it, who have prices or none. One worker alone is the
@@ -124,21 +119,5 @@ pub(crate) fn worked<R: Threads + Wait + Sync, G: Gate + Sync>(
         return Ok(book);
     }
     let blank = Blank::new(lent.workers as u64 + 1);
-    let quota = quota(lent.case, lent.workers, board);
-    let (left, _) = searched::<Brand, R, G>(lent, blank, book, board, quota, None)?;
-    Ok(left)
-}
-
-/// A book as the workers leave it, who have no prices and search so many nodes together, and what becomes
-/// meanwhile of the root of another, which the caller prices. Each worker has a thread of its own where
-/// one can be made.
-pub(crate) fn worked_beside<R: Threads + Wait + Sync, G: Gate + Sync>(
-    lent: &Lent<'_, R, G>,
-    book: Book,
-    root: Root,
-    nodes: u32,
-) -> Result<(Book, Option<PricedRoot>), NoMemory> {
-    let blank = Blank::new(lent.workers as u64 + 1);
-    let quota = nodes / lent.workers as u32;
-    searched::<Brand, R, G>(lent, blank, book, None, quota, Some(root))
+    searched::<Brand, R, G>(lent, blank, book, board)
 }

@@ -6,7 +6,6 @@ use crate::fixture::open;
 use instance_text::make_lot;
 use lock_io::{OpenGate, Point};
 use lock_model::{Verdict, Way};
-use search_worker::Signals;
 use std::test::Fail;
 use worked_locks::pair;
 
@@ -75,38 +74,11 @@ fn no_cut_of_a_worker_hits_a_later_one(rt: HostRuntime) -> Result<(), Fail> {
 fn a_worker_that_cannot_go_on_gives_its_slot_back(rt: HostRuntime) -> Result<(), Fail> {
     let book = open(rt.alloc(), two_up(232)?, 100, 20000)?;
     let other = lock(232, 1, Way::Up)?;
-    let signals = Signals::new();
     let given = Given {
         instance: &other,
         board: None,
-        signals: &signals,
     };
     let (book, _) = searched_as(&rt, rt.alloc(), &OpenGate, book, given)?;
     assert_eq!(rt; (book.held_by(0), book.ended(0)), (None, true));
-    Ok(())
-}
-
-// One that is called off before it begins works on the root and gives back the slot behind it.
-#[test]
-fn a_worker_tells_its_end_or_is_called_off(rt: HostRuntime) -> Result<(), Fail> {
-    for is_called_off in [false, true] {
-        let signals = Signals::new();
-        if is_called_off {
-            signals.call_off();
-        }
-        let book = open(rt.alloc(), two_up(232)?, 100, 20000)?;
-        let instance = two_up(232)?;
-        let given = Given {
-            instance: &instance,
-            board: None,
-            signals: &signals,
-        };
-        let (book, _) = searched_as(&rt, rt.alloc(), &OpenGate, book, given)?;
-        assert_eq!(rt;
-            (book.ended(0), signals.are_done()),
-            (is_called_off, !is_called_off)
-        );
-        assert_eq!(rt; book.held_by(0), None);
-    }
     Ok(())
 }

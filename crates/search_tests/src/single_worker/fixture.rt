@@ -9,7 +9,7 @@ use lock_model::{Instance, Way};
 use master_branch::arrival_order;
 use node_work::Search;
 use search_book::{ShareList, share_book};
-use search_worker::{Board, Hands, Post, Signals, search};
+use search_worker::{Board, Hands, Post, search};
 use std::alloc::Global;
 use std::marker::Brand;
 use std::sync::ledger::{Blank, Ledger};
@@ -30,13 +30,12 @@ pub(crate) fn two_up(width: u32) -> Result<Instance, Fail> {
     Ok(two_ships(width).ok_or("no instance")?)
 }
 
-/// What a worker is given beside its book: the instance that it takes for the book's, a board of prices,
-/// if any, and signals.
+/// What a worker is given beside its book: the instance that it takes for the book's, and a board of
+/// prices, if any.
 #[derive(Clone, Copy)]
 pub(crate) struct Given<'a> {
     pub(crate) instance: &'a Instance,
     pub(crate) board: Option<&'a Board>,
-    pub(crate) signals: &'a Signals,
 }
 
 // A worker's hands: the last share of a list of single parts, and a seat of one part.
@@ -83,7 +82,6 @@ fn searched_by<L: Ledger, W: Wait, G: Gate>(
         book: &book,
         pool: &pool,
         word: &word,
-        signals: given.signals,
     };
     let Hands { share, seat: own } = search(&post, 0, hands);
     shares.push(share);
@@ -111,11 +109,9 @@ pub(crate) fn searched<W: Wait, G: Gate>(
     book: Book,
 ) -> Result<(Book, u64), Fail> {
     let instance = book.case().instance.copy();
-    let signals = Signals::new();
     let given = Given {
         instance: &instance,
         board: None,
-        signals: &signals,
     };
     searched_as(rt, alloc, gate, book, given)
 }

@@ -1,8 +1,7 @@
-use Rattle.std.specs.Prelude.{◌≡◌}
 use Rattle.solve_workers.specs.Closable.{IsOwnSearch}
 use Rattle.solve_workers.specs.Driving.{IsDriven}
 use Rattle.solve_workers.specs.Holds.{Holds}
 use Rattle.solve_workers.proofs.pricing.make_rounds.Given as goal
 
 abbrev pub invariant-loop : goal.invariant-loop
-invariant-loop l = Holds l.book l.held × IsDriven l.initial.book l.book × IsOwnSearch l.book l.driver.search × (l.driver.search ≡ l.initial.driver.search)
+invariant-loop l = Holds l.book l.held × IsDriven l.initial.book l.book × IsOwnSearch l.book l.search
