@@ -1,9 +1,10 @@
 -- Counting choices, and remembering values.
-use Rattle.std.proofs.Common.{◌≡◌, ◌≢◌, ℕ, suc, ◌+◌, ◌-◌, ◌*◌, ◌<◌, ◌≤◌, true, false, cond, ℤ, pos, neg_ℤ, ◌+ℤ◌, ◌≤ℤ◌, to_z, of_z, w64, inl, inr, Some, None, List, [], ◌∷◌, length, drop, filter, All, refl, sym, ap, ◌∙◌, subst, arith, slice_index_or}
+use Rattle.std.proofs.Common.{◌≡◌, ◌≢◌, ℕ, suc, ◌+◌, ◌-◌, ◌*◌, ◌/◌, ◌%◌, ◌<◌, ◌≤◌, true, false, cond, ℤ, pos, neg_ℤ, ◌+ℤ◌, ◌≤ℤ◌, to_z, of_z, w64, inl, inr, Some, None, List, [], ◌∷◌, length, drop, filter, All, refl, sym, ap, ◌∙◌, subst, arith, slice_index_or}
 use Rattle.std.specs.Prelude.{int_lt, IfSome}
 use Rattle.std.specs.Int.{int_min}
 use Rattle.std.specs.declared.option.Option.{Option}
 use Rattle.std.proofs.lemmas.Int.{ints, clamps}
+use Rattle.std.proofs.lemmas.Nat.{div-mul-add, mod-mul-add}
 use Rattle.std.proofs.lemmas.Bool.Decides.{eqb_tells, leb_tells}
 use Rattle.std.proofs.lemmas.List.{get_or_default}
 use Rattle.std.proofs.lemmas.List.Elements.{All-cons, All-head, All-drop}
@@ -205,8 +206,13 @@ module _ (I : Instance) (c : ℕ) (known : c < length I.chambers) (cuts : List P
   value-rounded p stand from v small value = subst (IsValue I c cuts k prices line horizon p stand from) (sym (far-rounded v (value-far v horizon from small value.low value.high))) value
 
   -- the key tells the state
-  same-state : (p q m n s t : ℕ) → p ≤ 24 → q ≤ 24 → s ≤ 1 → t ≤ 1 → (m * 25 + p) * 2 + s ≡ (n * 25 + q) * 2 + t → (p ≡ q) × (m ≡ n) × (s ≡ t)
-  same-state p q m n s t a b x y e = (omega (arith, a, b, x, y, e), omega (arith, a, b, x, y, e), omega (arith, a, b, x, y, e))
+  same-parts : (a b s t : ℕ) → s ≤ 1 → t ≤ 1 → a * 2 + s ≡ b * 2 + t → (a ≡ b) × (s ≡ t)
+  same-parts a b s t x y e = (omega (arith, x, y, e), omega (arith, x, y, e))
+
+  same-state : (w p q m n s t : ℕ) → p < w → q < w → s ≤ 1 → t ≤ 1 → (m * w + p) * 2 + s ≡ (n * w + q) * 2 + t → (p ≡ q) × (m ≡ n) × (s ≡ t)
+  same-state w p q m n s t a b x y e =
+      let parts = same-parts (m * w + p) (n * w + q) s t x y e in
+      (sym (mod-mul-add m w p a) ∙ ap (λ z. z % w) parts.0 ∙ mod-mul-add n w q b, sym (div-mul-add m w p a) ∙ ap (λ z. z / w) parts.0 ∙ div-mul-add n w q b, parts.1)
 
   side-small : (stand : Stand) → side_of stand ≤ 1
   side-small Low = omega arith
@@ -219,27 +225,31 @@ module _ (I : Instance) (c : ℕ) (known : c < length I.chambers) (cuts : List P
   same-side High Low e = absurd (omega (arith, e))
 
   -- one value more is remembered
-  pub values-kept : (old new : Values) (p : ℕ) (stand : Stand) (minute : ℕ) (v : ℤ) → p ≤ 24 → AreValues I c cuts k prices line horizon old → IsValue I c cuts k prices line horizon p stand minute v
-      → Remembers old new (key_of p stand minute) v → AreValues I c cuts k prices line horizon new
+  pub values-kept : (old new : Values) (p : ℕ) (stand : Stand) (minute : ℕ) (v : ℤ) → p ≤ length line → AreValues I c cuts k prices line horizon old → IsValue I c cuts k prices line horizon p stand minute v
+      → Remembers old new (key_of old.places p stand minute) v → AreValues I c cuts k prices line horizon new
   values-kept old new p stand minute v small were value more = record {
-    told = λ q other n u few e. elim (more.told (key_of q other n) u e) [
+    wide = more.wide ∙ were.wide;
+    told = λ q other n u few e. elim (more.told (key_of new.places q other n) u e) [
       | inl y ↦
-          let parts = same-state p q minute n (side_of stand) (side_of other) small few (side-small stand) (side-small other) y.0 in
+          let parts = same-state old.places p q minute n (side_of stand) (side_of other) (in-places p small) (in-places q few) (side-small stand) (side-small other) (y.0 ∙ ap (λ w. key_of w q other n) more.wide) in
           subst (λ u. IsValue I c cuts k prices line horizon q other n u) y.1
           (subst (λ q. IsValue I c cuts k prices line horizon q other n v) parts.0 (subst (λ n. IsValue I c cuts k prices line horizon p other n v) parts.1 (subst (λ s. IsValue I c cuts k prices line horizon p s minute v) (same-side stand other parts.2) value)))
-      | inr held ↦ were.told q other n u few held
+      | inr held ↦ were.told q other n u few (subst (λ w. Holds old (key_of w q other n) u) more.wide held)
     ];
   }
+    where
+      in-places : (q : ℕ) → q ≤ length line → q < old.places
+      in-places q few = omega (arith, were.wide, few)
 
   -- what is found is the value
-  pub found-told : (values : Values) (p : ℕ) (stand : Stand) (minute : ℕ) (o : Option ℤ) → p ≤ 24 → AreValues I c cuts k prices line horizon values → IfSome o (Holds values (key_of p stand minute))
+  pub found-told : (values : Values) (p : ℕ) (stand : Stand) (minute : ℕ) (o : Option ℤ) → p ≤ length line → AreValues I c cuts k prices line horizon values → IfSome o (Holds values (key_of values.places p stand minute))
       → IfSome o (IsValue I c cuts k prices line horizon p stand minute)
   found-told values p stand minute None small are e = tt
   found-told values p stand minute (Some v) small are e = are.told p stand minute v small e
 
   -- nothing is remembered at first
-  pub values-none : (values : Values) → AreEmpty values → AreValues I c cuts k prices line horizon values
-  values-none values none = record { told = λ p stand minute v small held. absurd (none.none (key_of p stand minute) v held) }
+  pub values-none : (values : Values) → AreEmpty (length line + 1) values → AreValues I c cuts k prices line horizon values
+  values-none values none = record { wide = none.wide; told = λ p stand minute v small held. absurd (none.none (key_of values.places p stand minute) v held) }
 
 -- the horizon of the ships before one more
 pub late-next : (I : Instance) (k : ℕ) (prices : List ℕ) (i old new : ℕ) → old ≤ new → (is_missing I k i ≡ true → price_at prices i + 100 * (ship_at I i).arrival ≤ 100 * new)

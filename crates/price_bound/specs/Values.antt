@@ -17,25 +17,28 @@ abbrev pub side_of : Stand → ℕ
 side_of Low = 0
 side_of High = 1
 
--- a number that no other state has: the place is at most 24
-abbrev pub key_of : ℕ → Stand → ℕ → ℕ
-key_of place stand minute = (minute * 25 + place) * 2 + side_of stand
+-- a number that no other state has whose place is one of so many
+abbrev pub key_of : ℕ → ℕ → Stand → ℕ → ℕ
+key_of places place stand minute = (minute * places + place) * 2 + side_of stand
 
 -- the value is remembered under the key, in the row or among the others
 abbrev pub Holds : Values → ℕ → ℤ → Type 0
 Holds values key v = ((place : ℕ) × (key ≡ values.start + place) × (place < length values.row.items) × (slice_index_or values.row.items place None ≡ Some v)) ⊎ (get nat_eq values.others key ≡ Some v)
 
--- nothing is remembered
-pub record AreEmpty (values : Values) : Type 0 where
+-- nothing is remembered, and there are so many places
+pub record AreEmpty (places : ℕ) (values : Values) : Type 0 where
+  pub wide : values.places ≡ places
   pub none : (key : ℕ) (v : ℤ) → ¬ Holds values key v
 
 -- what is remembered is the new value under its key, and what was remembered before
 pub record Remembers (old new : Values) (key : ℕ) (v : ℤ) : Type 0 where
+  pub wide : new.places ≡ old.places
   pub told : (other : ℕ) (u : ℤ) → Holds new other u → ((key ≡ other) × (v ≡ u)) ⊎ Holds old other u
 
--- what is remembered for a state is its value
+-- what is remembered for a state is its value, and each place of the line has room
 pub record AreValues (I : Instance) (c : ℕ) (cuts : List PlainCut) (k : ℕ) (prices : List ℕ) (line : List Group) (horizon : ℕ) (values : Values) : Type 0 where
-  pub told : (p : ℕ) (stand : Stand) (minute : ℕ) (v : ℤ) → p ≤ 24 → Holds values (key_of p stand minute) v → IsValue I c cuts k prices line horizon p stand minute v
+  pub wide : values.places ≡ length line + 1
+  pub told : (p : ℕ) (stand : Stand) (minute : ℕ) (v : ℤ) → p ≤ length line → Holds values (key_of values.places p stand minute) v → IsValue I c cuts k prices line horizon p stand minute v
 
 -- What a state is worth at most so far: some loose line is worth it, and the line's own groups alone are worth no less.
 pub record IsBest (I : Instance) (c : ℕ) (cuts : List PlainCut) (k : ℕ) (prices : List ℕ) (line : List Group) (horizon : ℕ) (p : ℕ) (stand : Stand) (minute : ℕ) (best : ℤ) : Type 0 where

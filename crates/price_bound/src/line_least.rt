@@ -36,7 +36,8 @@ fn line_by(alloc: Global, table: &Table) -> Result<LooseLine, PriceError>
         stand: lock.stands,
         minute: lock.opens as u64,
     };
-    let mut values = Values::new(alloc, state.minute, table.horizon)?;
+    let places = table.case.line.len() as u64 + 1;
+    let mut values = Values::new(alloc, places, state.minute, table.horizon)?;
     let value = value_of(alloc, table, &mut values, &state)?;
     let groups = walked(alloc, table, &mut values, ValuedState { state, value })?;
     Ok(LooseLine {

@@ -1,5 +1,5 @@
 //! The states of a chamber on its line.
-ghost use Rattle.std.specs.Prelude.{◌≡◌, ◌+◌, ◌*◌, ◌≤◌};
+ghost use Rattle.std.specs.Prelude.{◌≡◌, ◌+◌, ◌*◌, ◌<◌, ◌≤◌};
 ghost use Rattle.price_bound.specs.Values.{key_of, side_of};
 
 use lock_model::Stand;
@@ -25,12 +25,14 @@ fn side(stand: Stand) -> u64
 }
 
 impl State {
-    // A number that no other state has.
-    pub(crate) fn key(&self) -> u64
-        requires place { self.now.place ≤ 24 }
+    #[inline(always)]
+    // A number that no other state has whose place is one of so many.
+    pub(crate) fn key(&self, places: u64) -> u64
+        requires few { places ≤ 25 }
+        requires place { self.now.place < places }
         requires minute { self.now.minute ≤ 14000000 }
-        ensures { result ≡ key_of self.now.place self.now.stand self.now.minute }
+        ensures { result ≡ key_of places self.now.place self.now.stand self.now.minute }
     {
-        (self.minute * 25 + self.place as u64) * 2 + side(self.stand)
+        (self.minute * places + self.place as u64) * 2 + side(self.stand)
     }
 }

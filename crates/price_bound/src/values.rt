@@ -10,25 +10,29 @@ use std::collections::HashMap;
 // How many minutes have a place in the row; later ones are rare.
 const ROW_MINUTES: u64 = 600;
 
-/// Values, in hundredths of a minute, by state: those of the first minutes in a row, which is asked
-/// most, and the others in a map.
+/// Values, in hundredths of a minute, by state, whose place is one of so many: those of the first
+/// minutes in a row, which is asked most, and the others in a map.
 #[derive(Debug, Drop)]
 pub(crate) struct Values {
+    pub(crate) places: u64,
     pub(crate) start: u64,
     pub(crate) row: Vec<Option<i64>>,
     pub(crate) others: HashMap<u64, i64>,
 }
 
 impl Values {
-    // None yet, with places for the states from one minute up to another.
-    pub(crate) fn new(alloc: Global, from: u64, to: u64) -> Result<Values, PriceError>
-        requires { from ≤ 14000000 }
-        ensures { IfOk result AreEmpty }
+    // None yet, with room for the states of so many places from one minute up to another. A short row
+    // stays in the nearest cache.
+    pub(crate) fn new(alloc: Global, places: u64, from: u64, to: u64) -> Result<Values, PriceError>
+        requires few { places ≤ 25 }
+        requires from { from ≤ 14000000 }
+        ensures { IfOk result (AreEmpty places) }
     {
         let minutes = to.saturating_sub(from).min(ROW_MINUTES);
-        match vec![in alloc; None; minutes as usize * 50] {
+        match vec![in alloc; None; (minutes * places * 2) as usize] {
             Ok(row) => Ok(Values {
-                start: from * 50,
+                places,
+                start: from * places * 2,
                 row,
                 others: HashMap::new(alloc),
             }),
@@ -36,6 +40,7 @@ impl Values {
         }
     }
 
+    #[inline(always)]
     // The place in the row of the state that has the key, if it has one.
     fn place(&self, key: u64) -> Option<usize>
         ensures { IfSome result (λ place. (key ≡ self.now.start + place) × (place < length self.now.row.items)) }
@@ -51,13 +56,15 @@ impl Values {
         }
     }
 
+    #[inline(always)]
     // What is remembered for a state.
     pub(crate) fn find(&self, state: &State) -> Option<i64>
-        requires place { state.now.place ≤ 24 }
+        requires few { self.now.places ≤ 25 }
+        requires place { state.now.place < self.now.places }
         requires minute { state.now.minute ≤ 14000000 }
-        ensures { IfSome result (Holds self.now (key_of state.now.place state.now.stand state.now.minute)) }
+        ensures { IfSome result (Holds self.now (key_of self.now.places state.now.place state.now.stand state.now.minute)) }
     {
-        let key = state.key();
+        let key = state.key(self.places);
         match self.place(key) {
             Some(place) => self.row[place],
             None => self.others.get(&key).copied(),
@@ -66,11 +73,12 @@ impl Values {
 
     // Remembers a value for a state.
     pub(crate) fn keep(&mut self, state: &State, value: i64) -> Result<(), PriceError>
-        requires place { state.now.place ≤ 24 }
+        requires few { self.old.places ≤ 25 }
+        requires place { state.now.place < self.old.places }
         requires minute { state.now.minute ≤ 14000000 }
-        ensures { OnOk result (Remembers self.old self.new (key_of state.now.place state.now.stand state.now.minute) value) }
+        ensures { OnOk result (Remembers self.old self.new (key_of self.old.places state.now.place state.now.stand state.now.minute) value) }
     {
-        let key = state.key();
+        let key = state.key(self.places);
         match self.place(key) {
             Some(place) => {
                 self.row[place] = Some(value);

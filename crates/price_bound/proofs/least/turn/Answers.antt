@@ -15,7 +15,7 @@ returns-in-None-clause-values c =
     let told = c.in-None.ensures in
     let frame = c.advance.new.frame in
     on_ok_weaker c.keep.result (λ more.
-    values-kept I case.chamber case.chamber_in (plain_cuts I case.cuts.now) case.depth case.prices.now case.line.now table.horizon c.args.values.now c.keep.new.self frame.state.place frame.state.stand frame.state.minute _ (omega (arith, told.frame.place, case.few)) c.requires.values
+    values-kept I case.chamber case.chamber_in (plain_cuts I case.cuts.now) case.depth case.prices.now case.line.now table.horizon c.args.values.now c.keep.new.self frame.state.place frame.state.stand frame.state.minute _ told.frame.place c.requires.values
     (value-rounded I case.chamber case.chamber_in (plain_cuts I case.cuts.now) case.depth case.prices.now case.line.now table.horizon frame.state.place frame.state.stand frame.state.minute frame.best table.small (frame-value I case.chamber case.chamber_in (plain_cuts I case.cuts.now) case.depth case.prices.now case.line.now table.horizon table.choices.now table.levels.now frame c.requires.choices told.none told.frame)) more) c.keep.ensures
 
 pub returns-in_ok-append-in-Some-clause-frames : goal.returns-in_ok-append-in-Some-clause-frames
