@@ -21,14 +21,14 @@ use Rattle.lock_model.specs.Fleet.{ship_at}
 use Rattle.price_rules.specs.Prices.{PlainCut, IsUncut, IsLoose, is_missing, price_at}
 use Rattle.price_bound.specs.declared.frame.Frame.{Frame}
 use Rattle.price_bound.specs.declared.choice.Choice.{Choice}
-use Rattle.price_bound.specs.declared.level.Level.{Level}
+use Rattle.price_bound.specs.declared.menu.Menu.{Menu}
 use Rattle.price_bound.specs.declared.values.Values.{Values}
 use Rattle.price_bound.specs.Worth.{end_after, worth_of, worth_from, IsWorth, IsLeastWorth, IsKeptGroup, IsHorizon}
-use Rattle.price_bound.specs.Choosing.{Keeps, IsChoice, Leads, IsCounted, IsValue, AreListed, list_at}
+use Rattle.price_bound.specs.Choosing.{Keeps, IsChoice, Leads, IsCounted, IsValue, AreMenus, list_of}
 use Rattle.price_bound.specs.Values.{key_of, side_of, AreEmpty, Holds, Remembers, AreValues, IsBest, IsFrame}
 use Rattle.price_bound.specs.Sparing.{IsSpared, AreForbidden}
 use Rattle.price_bound.proofs.LineLemmas.{worth-next, end-later, uncut-trace}
-use Rattle.price_bound.proofs.LateLemmas.{counted-listed}
+use Rattle.price_bound.proofs.MenuLemmas.{counted-menu}
 use Rattle.price_bound.proofs.StepLemmas.{own-worth, alone-least, choices-least}
 
 with-some : (way : Way) (ks : List ℕ) (rest : List Group) → 1 ≤ length ks → with_group way ks rest ≡ record { way = way; ships = ks } ∷ rest
@@ -160,29 +160,29 @@ module _ (I : Instance) (c : ℕ) (known : c < length I.chambers) (cuts : List P
           smaller : (a b : ℤ) → a ≤ℤ b → int_min a b ≡ a
           smaller a b h = omega (arith, ints, clamps)
 
-  module _ (choices : List Choice) (levels : List Level) where
+  module _ (menus : List Menu) where
     -- a frame whose best is less
     pub frame-less : (frame : Frame) (best : ℤ) → best ≤ℤ frame.best → IsBest I c cuts k prices line horizon frame.state.place frame.state.stand frame.state.minute best
-        → IsFrame I c cuts k prices line horizon choices levels frame → IsFrame I c cuts k prices line horizon choices levels (record { state = frame.state; best = best; next = frame.next })
+        → IsFrame I c cuts k prices line horizon menus frame → IsFrame I c cuts k prices line horizon menus (record { state = frame.state; best = best; next = frame.next })
     frame-less frame best less is was = record {
       place = was.place;
       early = was.early;
       best = is;
-      counted = λ j d before here. counted-less frame.state.stand frame.state.minute frame.state.place frame.best best (slice_index_or (list_at choices levels frame.state.minute) j d) less (was.counted j d before here);
+      counted = λ j d e before here. counted-less frame.state.stand frame.state.minute frame.state.place frame.best best (slice_index_or (list_of menus e frame.state.place frame.state.minute) j d) less (was.counted j d e before here);
     }
 
     -- one choice more is counted
-    pub frame-next : (frame : Frame) (best : ℤ) (h : Choice) (i : ℕ) (listed : List Choice) → listed ≡ list_at choices levels frame.state.minute → i < length listed → frame.next ≡ i → h ≡ slice_index_or listed i h → best ≤ℤ frame.best
+    pub frame-next : (frame : Frame) (best : ℤ) (h : Choice) (i : ℕ) (listed : List Choice) → ((e : Menu) → listed ≡ list_of menus e frame.state.place frame.state.minute) → i < length listed → frame.next ≡ i → h ≡ slice_index_or listed i h → best ≤ℤ frame.best
         → IsBest I c cuts k prices line horizon frame.state.place frame.state.stand frame.state.minute best → IsCounted I c cuts k prices line frame.state.stand frame.state.minute frame.state.place best h
-        → IsFrame I c cuts k prices line horizon choices levels frame → IsFrame I c cuts k prices line horizon choices levels (record { state = frame.state; best = best; next = i + 1 })
+        → IsFrame I c cuts k prices line horizon menus frame → IsFrame I c cuts k prices line horizon menus (record { state = frame.state; best = best; next = i + 1 })
     frame-next frame best h i listed same here at held less is counted was = record {
       place = was.place;
       early = was.early;
       best = is;
-      counted = subst (λ listed. (j : ℕ) (d : Choice) → j < i + 1 → j < length listed → IsCounted I c cuts k prices line frame.state.stand frame.state.minute frame.state.place best (slice_index_or listed j d)) same (λ j d before inside. elim (eqb_tells j i) [
+      counted = λ j d e. subst (λ listed. j < i + 1 → j < length listed → IsCounted I c cuts k prices line frame.state.stand frame.state.minute frame.state.place best (slice_index_or listed j d)) (same e) (λ before inside. elim (eqb_tells j i) [
         | inl y ↦ subst (IsCounted I c cuts k prices line frame.state.stand frame.state.minute frame.state.place best) (held ∙ get_or_default listed i h d here ∙ ap (λ i. slice_index_or listed i d) (sym y.1)) counted
         | inr m ↦ counted-less frame.state.stand frame.state.minute frame.state.place frame.best best (slice_index_or listed j d) less
-            (subst (λ listed. j < length listed → IsCounted I c cuts k prices line frame.state.stand frame.state.minute frame.state.place frame.best (slice_index_or listed j d)) (sym same) (was.counted j d (earlier j m.1 before)) inside)
+            (subst (λ listed. j < length listed → IsCounted I c cuts k prices line frame.state.stand frame.state.minute frame.state.place frame.best (slice_index_or listed j d)) (sym (same e)) (was.counted j d e (earlier j m.1 before)) inside)
       ]);
     }
       where
@@ -190,12 +190,12 @@ module _ (I : Instance) (c : ℕ) (known : c < length I.chambers) (cuts : List P
         earlier j apart before = elim (leb_tells (suc j) i) [ inl y ↦ omega (arith, at, y.1) | inr q ↦ absurd (apart (omega (arith, before, q.1))) ]
 
     -- THE LAST CHOICE COUNTED, the best is the value.
-    pub frame-value : (frame : Frame) → AreListed I c cuts k prices line choices levels → length (list_at choices levels frame.state.minute) ≤ frame.next
-        → IsFrame I c cuts k prices line horizon choices levels frame → IsValue I c cuts k prices line horizon frame.state.place frame.state.stand frame.state.minute frame.best
-    frame-value frame are all is = record {
-      least = choices-least I c known cuts k prices line are.choices are.enough frame.state.stand frame.state.minute frame.state.place frame.best is.best.stop
-          (counted-listed I c known cuts k prices line choices levels are frame.state.stand frame.state.minute frame.state.place frame.best
-          (λ h held. subst (IsCounted I c cuts k prices line frame.state.stand frame.state.minute frame.state.place frame.best) held.2 (is.counted held.0 h (omega (arith, held.1, all)) held.1)))
+    pub frame-value : (frame : Frame) (e : Menu) → AreMenus I c cuts k prices line menus → length (list_of menus e frame.state.place frame.state.minute) ≤ frame.next
+        → IsFrame I c cuts k prices line horizon menus frame → IsValue I c cuts k prices line horizon frame.state.place frame.state.stand frame.state.minute frame.best
+    frame-value frame e are all is = record {
+      least = choices-least I c known cuts k prices line are.listed.choices are.listed.enough frame.state.stand frame.state.minute frame.state.place frame.best is.best.stop
+          (counted-menu I c known cuts k prices line menus are frame.state.place frame.state.minute is.place e frame.state.stand frame.best
+          (λ h held. subst (IsCounted I c cuts k prices line frame.state.stand frame.state.minute frame.state.place frame.best) held.2 (is.counted held.0 h e (omega (arith, held.1, all)) held.1)))
           is.best.reached;
       low = is.best.low;
       high = is.best.high;

@@ -9,6 +9,7 @@ pub mod StepLemmas
 pub mod ServingLemmas
 pub mod VainLemmas
 pub mod LateLemmas
+pub mod MenuLemmas
 pub mod FrameLemmas
 pub mod TotalLemmas
 pub mod WalkLemmas

@@ -12,6 +12,7 @@ use Rattle.lock_rules.specs.Trace.{has_number}
 use Rattle.price_rules.specs.Prices.{PlainCut, IsUncut, IsLoose, is_missing, price_at}
 use Rattle.price_bound.specs.declared.choice.Choice.{Choice}
 use Rattle.price_bound.specs.declared.level.Level.{Level}
+use Rattle.price_bound.specs.declared.menu.Menu.{Menu}
 use Rattle.price_bound.specs.Growing.{IsBase}
 use Rattle.price_bound.specs.Worth.{end_after, worth_of, worth_from, IsLeastWorth, ServeAsWell}
 
@@ -163,6 +164,51 @@ pub record AreListed (I : Instance) (c : ℕ) (cuts : List PlainCut) (k : ℕ) (
   pub early_enough : AreLate I c cuts k prices line 0 choices earlies
   pub late_enough : All (IsLevel I c cuts k prices line choices) levels
 
+-- a choice that comes next at place p leads to place q
+abbrev pub Leads : Option ℕ → ℕ → ℕ → Type 0
+Leads None p q = p ≡ q
+Leads (Some j) p q = (j ≡ p) × (suc p ≡ q)
+
+-- of some choices those that may come next at place p
+pub record AreFor (p : ℕ) (choices fors : List Choice) : Type 0 where
+  pub each : All (Contains choices) fors
+  pub whole : (h : Choice) → Contains choices h → (q : ℕ) → Leads h.joins p q → Contains fors h
+
+-- the choice was put behind the others, or it can't come next at place p
+abbrev pub IsPutFor : ℕ → Choice → List Choice → List Choice → Type 0
+IsPutFor p choice old new = (new ≡ old ++ choice ∷ []) ⊎ (((q : ℕ) → ¬ Leads choice.joins p q) × (new ≡ old))
+
+-- the same level, of the choices that may come next at place p
+pub record IsLevelFor (p : ℕ) (level for : Level) : Type 0 where
+  pub from : for.from ≡ level.from
+  pub choices : AreFor p level.choices.items for.choices.items
+
+-- of the first n levels, each for place p
+pub record AreLevelsFor (p : ℕ) (levels : List Level) (n : ℕ) (fors : List Level) : Type 0 where
+  pub count : length fors ≡ n
+  pub each : (j : ℕ) (d e : Level) → j < n → IsLevelFor p (slice_index_or levels j d) (slice_index_or fors j e)
+
+-- of choices and levels, what may come next at place p
+pub record IsMenu (choices : List Choice) (levels : List Level) (p : ℕ) (menu : Menu) : Type 0 where
+  pub choices_for : AreFor p choices menu.choices.items
+  pub levels_for : AreLevelsFor p levels (length levels) menu.levels.items
+
+-- the menus of the first n places
+pub record AreMade (choices : List Choice) (levels : List Level) (n : ℕ) (menus : List Menu) : Type 0 where
+  pub count : length menus ≡ n
+  pub each : (p : ℕ) (e : Menu) → p < n → IsMenu choices levels p (slice_index_or menus p e)
+
+-- the choices that are looked at in a state of a place and a minute
+abbrev pub list_of : List Menu → Menu → ℕ → ℕ → List Choice
+list_of menus e p minute = list_at (slice_index_or menus p e).choices.items (slice_index_or menus p e).levels.items minute
+
+-- the menus of all places of a line, made of choices that are enough for it
+pub record AreMenus (I : Instance) (c : ℕ) (cuts : List PlainCut) (k : ℕ) (prices : List ℕ) (line : List Group) (menus : List Menu) : Type 0 where
+  pub choices : List Choice
+  pub levels : List Level
+  pub listed : AreListed I c cuts k prices line choices levels
+  pub made : AreMade choices levels (length line + 1) menus
+
 -- After the first i places of the line: the choices are right, and they cover each uncut group that keeps none of the line's groups, or the one at one of these places.
 pub record AreSome (I : Instance) (c : ℕ) (cuts : List PlainCut) (k : ℕ) (prices : List ℕ) (line : List Group) (i : ℕ) (choices : List Choice) : Type 0 where
   pub each : All (IsChoice I c cuts k prices line) choices
@@ -186,11 +232,6 @@ pub record AreEarly (I : Instance) (c : ℕ) (cuts : List PlainCut) (k : ℕ) (p
   pub choices : List Choice
   pub enough : AreChoices I c cuts k prices line choices
   pub early : AreLate I c cuts k prices line 0 choices earlies
-
--- a choice that comes next at place p leads to place q
-abbrev pub Leads : Option ℕ → ℕ → ℕ → Type 0
-Leads None p q = p ≡ q
-Leads (Some j) p q = (j ≡ p) × (suc p ≡ q)
 
 -- all lines that go on behind the group from place q are worth at least this
 abbrev pub IsBelow : Instance → ℕ → List PlainCut → ℕ → List ℕ → List Group → Stand → ℕ → ℕ → ℤ → Group → Type 0

@@ -7,11 +7,11 @@ use Rattle.lock_model.specs.declared.way.Stand.{Stand}
 use Rattle.lock_model.specs.declared.way.Stand.TheVariants.{Low, High}
 use Rattle.price_rules.specs.Prices.{PlainCut}
 use Rattle.price_bound.specs.declared.choice.Choice.{Choice}
-use Rattle.price_bound.specs.declared.level.Level.{Level}
+use Rattle.price_bound.specs.declared.menu.Menu.{Menu}
 use Rattle.price_bound.specs.declared.frame.Frame.{Frame}
 use Rattle.price_bound.specs.declared.values.Values.{Values}
 use Rattle.price_bound.specs.Worth.{worth_from, IsWorth}
-use Rattle.price_bound.specs.Choosing.{IsCounted, IsValue, list_at}
+use Rattle.price_bound.specs.Choosing.{IsCounted, IsValue, list_of}
 
 abbrev pub side_of : Stand → ℕ
 side_of Low = 0
@@ -48,8 +48,8 @@ pub record IsBest (I : Instance) (c : ℕ) (cuts : List PlainCut) (k : ℕ) (pri
   pub high : best ≤ℤ pos 6000000000000
 
 -- a state before the horizon, of which the first choices that are looked at are counted
-pub record IsFrame (I : Instance) (c : ℕ) (cuts : List PlainCut) (k : ℕ) (prices : List ℕ) (line : List Group) (horizon : ℕ) (choices : List Choice) (levels : List Level) (frame : Frame) : Type 0 where
+pub record IsFrame (I : Instance) (c : ℕ) (cuts : List PlainCut) (k : ℕ) (prices : List ℕ) (line : List Group) (horizon : ℕ) (menus : List Menu) (frame : Frame) : Type 0 where
   pub place : frame.state.place ≤ length line
   pub early : frame.state.minute < horizon
   pub best : IsBest I c cuts k prices line horizon frame.state.place frame.state.stand frame.state.minute frame.best
-  pub counted : (j : ℕ) (d : Choice) → j < frame.next → j < length (list_at choices levels frame.state.minute) → IsCounted I c cuts k prices line frame.state.stand frame.state.minute frame.state.place frame.best (slice_index_or (list_at choices levels frame.state.minute) j d)
+  pub counted : (j : ℕ) (d : Choice) (e : Menu) → j < frame.next → j < length (list_of menus e frame.state.place frame.state.minute) → IsCounted I c cuts k prices line frame.state.stand frame.state.minute frame.state.place frame.best (slice_index_or (list_of menus e frame.state.place frame.state.minute) j d)

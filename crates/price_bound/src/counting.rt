@@ -1,7 +1,8 @@
 //! The table of a chamber's line, one choice after another.
 ghost use Rattle.std.specs.Prelude.{◌≡◌, ◌+◌, ◌-◌, ◌*◌, ◌<◌, ◌≤◌, ◌≤ℤ◌, ◌+ℤ◌, pos, neg_ℤ, length, IfSome, IfNone, ℕ, IsTrue, None};
 ghost use Rattle.std.specs.Int.{int_min};
-ghost use Rattle.price_bound.specs.Choosing.{AreListed, IsChoice, IsCounted, IsValue, Leads, list_at};
+ghost use Rattle.price_bound.specs.Choosing.{AreMenus, IsChoice, IsCounted, IsValue, Leads, list_of};
+ghost use Rattle.price_bound.specs.declared.menu.Menu.{Menu};
 ghost use Rattle.price_bound.specs.Values.{AreValues, IsBest, IsFrame};
 ghost use Rattle.price_bound.specs.Cuts.{plain_cuts};
 
@@ -18,7 +19,7 @@ use chamber_times::stand_after;
 pub(crate) fn opened(table: &Table, state: State) -> Frame
     requires place { state.place ≤ length table.now.case.now.line.now }
     requires early { state.minute < table.now.horizon }
-    ensures { IsFrame table.now.case.now.instance.now table.now.case.now.chamber (plain_cuts table.now.case.now.instance.now table.now.case.now.cuts.now) table.now.case.now.depth table.now.case.now.prices.now table.now.case.now.line.now table.now.horizon table.now.choices.now table.now.levels.now result }
+    ensures { IsFrame table.now.case.now.instance.now table.now.case.now.chamber (plain_cuts table.now.case.now.instance.now table.now.case.now.cuts.now) table.now.case.now.depth table.now.case.now.prices.now table.now.case.now.line.now table.now.horizon table.now.menus.now result }
 {
     Frame {
         state,
@@ -144,13 +145,13 @@ fn count(
 /// known yet; that state.
 pub(crate) fn advance(table: &Table, values: &Values, frame: &mut Frame) -> Option<State>
     requires values { AreValues table.now.case.now.instance.now table.now.case.now.chamber (plain_cuts table.now.case.now.instance.now table.now.case.now.cuts.now) table.now.case.now.depth table.now.case.now.prices.now table.now.case.now.line.now table.now.horizon values.now }
-    requires choices { AreListed table.now.case.now.instance.now table.now.case.now.chamber (plain_cuts table.now.case.now.instance.now table.now.case.now.cuts.now) table.now.case.now.depth table.now.case.now.prices.now table.now.case.now.line.now table.now.choices.now table.now.levels.now }
-    requires frame { IsFrame table.now.case.now.instance.now table.now.case.now.chamber (plain_cuts table.now.case.now.instance.now table.now.case.now.cuts.now) table.now.case.now.depth table.now.case.now.prices.now table.now.case.now.line.now table.now.horizon table.now.choices.now table.now.levels.now frame.old }
-    ensures frame { IsFrame table.now.case.now.instance.now table.now.case.now.chamber (plain_cuts table.now.case.now.instance.now table.now.case.now.cuts.now) table.now.case.now.depth table.now.case.now.prices.now table.now.case.now.line.now table.now.horizon table.now.choices.now table.now.levels.now frame.new }
-    ensures none { IfNone result (length (list_at table.now.choices.now table.now.levels.now frame.new.state.minute) ≤ frame.new.next) }
+    requires menus { AreMenus table.now.case.now.instance.now table.now.case.now.chamber (plain_cuts table.now.case.now.instance.now table.now.case.now.cuts.now) table.now.case.now.depth table.now.case.now.prices.now table.now.case.now.line.now table.now.menus.now }
+    requires frame { IsFrame table.now.case.now.instance.now table.now.case.now.chamber (plain_cuts table.now.case.now.instance.now table.now.case.now.cuts.now) table.now.case.now.depth table.now.case.now.prices.now table.now.case.now.line.now table.now.horizon table.now.menus.now frame.old }
+    ensures frame { IsFrame table.now.case.now.instance.now table.now.case.now.chamber (plain_cuts table.now.case.now.instance.now table.now.case.now.cuts.now) table.now.case.now.depth table.now.case.now.prices.now table.now.case.now.line.now table.now.horizon table.now.menus.now frame.new }
+    ensures none { IfNone result ((e : Menu) → length (list_of table.now.menus.now e frame.new.state.place frame.new.state.minute) ≤ frame.new.next) }
     ensures some { IfSome result (λ s. (s.place ≤ length table.now.case.now.line.now) × (s.minute < table.now.horizon)) }
 {
-    let choices = table.list(frame.state.minute);
+    let choices = table.list(&frame.state);
     for place in frame.next..choices.len() {
         match count(
             table,

@@ -37,6 +37,8 @@ mod line_case;
 mod line_least;
 mod loose_line;
 mod masks;
+mod menu;
+mod menus;
 mod near;
 mod next_group;
 mod prices;

@@ -1,6 +1,6 @@
 //! The least worth of a chamber's loose lines, and a line of that worth.
 ghost use Rattle.std.specs.Prelude.{◌≤◌, ◌≤ℤ◌, pos, neg_ℤ, IfOk, IfSome};
-ghost use Rattle.price_bound.specs.Choosing.{AreListed};
+ghost use Rattle.price_bound.specs.Choosing.{AreMenus};
 ghost use Rattle.price_bound.specs.Lines.{IsLeastLine, IsLineFound};
 ghost use Rattle.price_bound.specs.Cuts.{plain_cuts};
 
@@ -15,6 +15,7 @@ use crate::levels::levels;
 use crate::line_case::LineCase;
 use crate::loose_line::LooseLine;
 use crate::masks::nears;
+use crate::menus::menus;
 use crate::next_group::ValuedState;
 use crate::state::State;
 use crate::table::Table;
@@ -25,7 +26,7 @@ use std::alloc::Global;
 
 // The least line, by a table.
 fn line_by(alloc: Global, table: &Table) -> Result<LooseLine, PriceError>
-    requires { AreListed table.now.case.now.instance.now table.now.case.now.chamber (plain_cuts table.now.case.now.instance.now table.now.case.now.cuts.now) table.now.case.now.depth table.now.case.now.prices.now table.now.case.now.line.now table.now.choices.now table.now.levels.now }
+    requires { AreMenus table.now.case.now.instance.now table.now.case.now.chamber (plain_cuts table.now.case.now.instance.now table.now.case.now.cuts.now) table.now.case.now.depth table.now.case.now.prices.now table.now.case.now.line.now table.now.menus.now }
     ensures least { IfOk result (IsLeastLine table.now.case.now.instance.now table.now.case.now.chamber (plain_cuts table.now.case.now.instance.now table.now.case.now.cuts.now) table.now.case.now.depth table.now.case.now.prices.now table.now.case.now.line.now) }
     ensures low { IfOk result (λ line. neg_ℤ (pos 816080000000000) ≤ℤ line.worth) }
     ensures high { IfOk result (λ line. line.worth ≤ℤ pos 6000000000000) }
@@ -72,10 +73,10 @@ pub(crate) fn line_least(
     };
     let choices = choices(alloc, &growth)?;
     let levels = levels(alloc, case, &choices, latest(&choices))?;
+    let menus = menus(alloc, case, &choices, &levels)?;
     let table = Table {
         case,
-        choices: &choices,
-        levels: &levels,
+        menus: &menus,
         horizon: horizon(case),
         turns: limits.turns,
     };

@@ -1,7 +1,7 @@
 //! A loose line of the least worth, found group by group.
 ghost use Rattle.std.specs.Prelude.{◌≡◌, ◌+◌, ◌<◌, ◌≤◌, ◌≤ℤ◌, ◌<ℤ◌, ◌+ℤ◌, pos, neg_ℤ, false, [], ◌++◌, length, drop, IfOk, IfSome, IfNone, OnOk, IsTrue};
 ghost use Rattle.price_bound.specs.Worth.{worth_from};
-ghost use Rattle.price_bound.specs.Choosing.{AreListed, IsChoice, IsCounted, IsValue, Leads};
+ghost use Rattle.price_bound.specs.Choosing.{AreMenus, IsChoice, IsCounted, IsValue, Leads};
 ghost use Rattle.price_bound.specs.Values.{AreValues};
 ghost use Rattle.price_bound.specs.Lines.{IsNext, IsBegun, IsLineWorth};
 ghost use Rattle.price_bound.specs.Cuts.{plain_cuts};
@@ -41,7 +41,7 @@ fn next_to(
     choice: &Choice,
     place: u8,
 ) -> Result<Option<NextGroup>, PriceError>
-    requires choices { AreListed table.now.case.now.instance.now table.now.case.now.chamber (plain_cuts table.now.case.now.instance.now table.now.case.now.cuts.now) table.now.case.now.depth table.now.case.now.prices.now table.now.case.now.line.now table.now.choices.now table.now.levels.now }
+    requires menus { AreMenus table.now.case.now.instance.now table.now.case.now.chamber (plain_cuts table.now.case.now.instance.now table.now.case.now.cuts.now) table.now.case.now.depth table.now.case.now.prices.now table.now.case.now.line.now table.now.menus.now }
     requires values { AreValues table.now.case.now.instance.now table.now.case.now.chamber (plain_cuts table.now.case.now.instance.now table.now.case.now.cuts.now) table.now.case.now.depth table.now.case.now.prices.now table.now.case.now.line.now table.now.horizon values.old }
     requires place { from.now.state.place ≤ length table.now.case.now.line.now }
     requires early { from.now.state.minute < table.now.horizon }
@@ -80,7 +80,7 @@ fn next_by(
     from: &ValuedState,
     choice: &Choice,
 ) -> Result<Option<NextGroup>, PriceError>
-    requires choices { AreListed table.now.case.now.instance.now table.now.case.now.chamber (plain_cuts table.now.case.now.instance.now table.now.case.now.cuts.now) table.now.case.now.depth table.now.case.now.prices.now table.now.case.now.line.now table.now.choices.now table.now.levels.now }
+    requires menus { AreMenus table.now.case.now.instance.now table.now.case.now.chamber (plain_cuts table.now.case.now.instance.now table.now.case.now.cuts.now) table.now.case.now.depth table.now.case.now.prices.now table.now.case.now.line.now table.now.menus.now }
     requires values { AreValues table.now.case.now.instance.now table.now.case.now.chamber (plain_cuts table.now.case.now.instance.now table.now.case.now.cuts.now) table.now.case.now.depth table.now.case.now.prices.now table.now.case.now.line.now table.now.horizon values.old }
     requires place { from.now.state.place ≤ length table.now.case.now.line.now }
     requires early { from.now.state.minute < table.now.horizon }
@@ -104,7 +104,7 @@ fn next_choice(
     values: &mut Values,
     from: &ValuedState,
 ) -> Result<Option<NextGroup>, PriceError>
-    requires choices { AreListed table.now.case.now.instance.now table.now.case.now.chamber (plain_cuts table.now.case.now.instance.now table.now.case.now.cuts.now) table.now.case.now.depth table.now.case.now.prices.now table.now.case.now.line.now table.now.choices.now table.now.levels.now }
+    requires menus { AreMenus table.now.case.now.instance.now table.now.case.now.chamber (plain_cuts table.now.case.now.instance.now table.now.case.now.cuts.now) table.now.case.now.depth table.now.case.now.prices.now table.now.case.now.line.now table.now.menus.now }
     requires values { AreValues table.now.case.now.instance.now table.now.case.now.chamber (plain_cuts table.now.case.now.instance.now table.now.case.now.cuts.now) table.now.case.now.depth table.now.case.now.prices.now table.now.case.now.line.now table.now.horizon values.old }
     requires place { from.now.state.place ≤ length table.now.case.now.line.now }
     requires early { from.now.state.minute < table.now.horizon }
@@ -116,7 +116,7 @@ fn next_choice(
     if alone(table.case, &from.state) <= from.value {
         return Ok(None);
     }
-    for choice in table.choices {
+    for choice in table.list(&from.state) {
         match next_by(alloc, table, values, from, choice)? {
             Some(next) => return Ok(Some(next)),
             None => {}
@@ -133,7 +133,7 @@ fn next_group(
     values: &mut Values,
     from: &ValuedState,
 ) -> Result<Option<NextGroup>, PriceError>
-    requires choices { AreListed table.now.case.now.instance.now table.now.case.now.chamber (plain_cuts table.now.case.now.instance.now table.now.case.now.cuts.now) table.now.case.now.depth table.now.case.now.prices.now table.now.case.now.line.now table.now.choices.now table.now.levels.now }
+    requires menus { AreMenus table.now.case.now.instance.now table.now.case.now.chamber (plain_cuts table.now.case.now.instance.now table.now.case.now.cuts.now) table.now.case.now.depth table.now.case.now.prices.now table.now.case.now.line.now table.now.menus.now }
     requires values { AreValues table.now.case.now.instance.now table.now.case.now.chamber (plain_cuts table.now.case.now.instance.now table.now.case.now.cuts.now) table.now.case.now.depth table.now.case.now.prices.now table.now.case.now.line.now table.now.horizon values.old }
     requires place { from.now.state.place ≤ length table.now.case.now.line.now }
     requires minute { from.now.state.minute ≤ 14000000 }
@@ -165,7 +165,7 @@ pub(crate) fn walked(
     values: &mut Values,
     first: ValuedState,
 ) -> Result<Vec<Group>, PriceError>
-    requires choices { AreListed table.now.case.now.instance.now table.now.case.now.chamber (plain_cuts table.now.case.now.instance.now table.now.case.now.cuts.now) table.now.case.now.depth table.now.case.now.prices.now table.now.case.now.line.now table.now.choices.now table.now.levels.now }
+    requires menus { AreMenus table.now.case.now.instance.now table.now.case.now.chamber (plain_cuts table.now.case.now.instance.now table.now.case.now.cuts.now) table.now.case.now.depth table.now.case.now.prices.now table.now.case.now.line.now table.now.menus.now }
     requires values { AreValues table.now.case.now.instance.now table.now.case.now.chamber (plain_cuts table.now.case.now.instance.now table.now.case.now.cuts.now) table.now.case.now.depth table.now.case.now.prices.now table.now.case.now.line.now table.now.horizon values.old }
     requires place { first.state.place ≤ length table.now.case.now.line.now }
     requires minute { first.state.minute ≤ 14000000 }

@@ -1,12 +1,13 @@
 use Rattle.std.proofs.Common.{◌≡◌}
 use Rattle.price_bound.specs.Cuts.{plain_cuts}
-use Rattle.price_bound.specs.Choosing.{list_at}
+use Rattle.price_bound.specs.declared.menu.Menu.{Menu}
+use Rattle.price_bound.specs.Choosing.{list_of}
 use Rattle.price_bound.specs.Values.{IsFrame}
 use Rattle.price_bound.proofs.counting.advance.Given as goal
 
 abbrev pub invariant-loop-place : goal.invariant-loop-place
 invariant-loop-place l = record {
-  frame : IsFrame l.table.case.now.instance.now l.table.case.now.chamber (plain_cuts l.table.case.now.instance.now l.table.case.now.cuts.now) l.table.case.now.depth l.table.case.now.prices.now l.table.case.now.line.now l.table.horizon l.table.choices.now l.table.levels.now l.frame;
+  frame : IsFrame l.table.case.now.instance.now l.table.case.now.chamber (plain_cuts l.table.case.now.instance.now l.table.case.now.cuts.now) l.table.case.now.depth l.table.case.now.prices.now l.table.case.now.line.now l.table.horizon l.table.menus.now l.frame;
   next : l.frame.next ≡ l.place;
-  listed : l.choices ≡ list_at l.table.choices.now l.table.levels.now l.frame.state.minute;
+  listed : (e : Menu) → l.choices ≡ list_of l.table.menus.now e l.frame.state.place l.frame.state.minute;
 }

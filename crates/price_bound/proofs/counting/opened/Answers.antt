@@ -16,5 +16,5 @@ returns c =
       early = c.requires.early;
       best = subst (IsBest I case.chamber (plain_cuts I case.cuts.now) case.depth case.prices.now case.line.now table.horizon state.place state.stand state.minute) (sym (rounded c.alone.result told.low told.high))
           (best-alone I case.chamber case.chamber_in (plain_cuts I case.cuts.now) case.depth case.prices.now case.line.now table.horizon table.uncut case.kept state.place state.stand state.minute c.alone.result told.value told.low told.high);
-      counted = λ j d none here. absurd (omega (arith, none));
+      counted = λ j d e none here. absurd (omega (arith, none));
     }

@@ -10,7 +10,7 @@ turn-requires-clause-frames c =
     let table = c.args.table.now in
     let case = table.case.now in
     let I = case.instance.now in
-    (popped-all (IsFrame I case.chamber (plain_cuts I case.cuts.now) case.depth case.prices.now case.line.now table.horizon table.choices.now table.levels.now) c.loop.frames.items c.pop.new.self.items c.in-Some.frame
+    (popped-all (IsFrame I case.chamber (plain_cuts I case.cuts.now) case.depth case.prices.now case.line.now table.horizon table.menus.now) c.loop.frames.items c.pop.new.self.items c.in-Some.frame
     (c.pop.ensures.items ∙ ap (λ r. c.pop.new.self.items ++ option_to_list r) c.in-Some.is) c.loop.invariant.frames).0
 
 pub turn-requires-clause-frame : goal.turn-requires-clause-frame
@@ -18,5 +18,5 @@ turn-requires-clause-frame c =
     let table = c.args.table.now in
     let case = table.case.now in
     let I = case.instance.now in
-    (popped-all (IsFrame I case.chamber (plain_cuts I case.cuts.now) case.depth case.prices.now case.line.now table.horizon table.choices.now table.levels.now) c.loop.frames.items c.pop.new.self.items c.in-Some.frame
+    (popped-all (IsFrame I case.chamber (plain_cuts I case.cuts.now) case.depth case.prices.now case.line.now table.horizon table.menus.now) c.loop.frames.items c.pop.new.self.items c.in-Some.frame
     (c.pop.ensures.items ∙ ap (λ r. c.pop.new.self.items ++ option_to_list r) c.in-Some.is) c.loop.invariant.frames).1

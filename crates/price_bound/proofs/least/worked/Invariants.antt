@@ -6,5 +6,5 @@ use Rattle.price_bound.proofs.least.worked.Given as goal
 abbrev pub invariant-loop : goal.invariant-loop
 invariant-loop l = record {
   values : AreValues l.table.case.now.instance.now l.table.case.now.chamber (plain_cuts l.table.case.now.instance.now l.table.case.now.cuts.now) l.table.case.now.depth l.table.case.now.prices.now l.table.case.now.line.now l.table.horizon l.values;
-  frames : All (IsFrame l.table.case.now.instance.now l.table.case.now.chamber (plain_cuts l.table.case.now.instance.now l.table.case.now.cuts.now) l.table.case.now.depth l.table.case.now.prices.now l.table.case.now.line.now l.table.horizon l.table.choices.now l.table.levels.now) l.frames.items;
+  frames : All (IsFrame l.table.case.now.instance.now l.table.case.now.chamber (plain_cuts l.table.case.now.instance.now l.table.case.now.cuts.now) l.table.case.now.depth l.table.case.now.prices.now l.table.case.now.line.now l.table.horizon l.table.menus.now) l.frames.items;
 }

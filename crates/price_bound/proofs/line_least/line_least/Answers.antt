@@ -1,8 +1,8 @@
-use Rattle.std.proofs.Common.{◌≡◌, All, refl, sym, subst, rules}
+use Rattle.std.proofs.Common.{◌≡◌, ◌+◌, All, length, refl, sym, ap, ◌∙◌, subst, rules}
 use Rattle.lock_model.specs.Fleet.{chamber_at}
 use Rattle.price_bound.specs.Cuts.{plain_cuts}
 use Rattle.price_bound.specs.Sparing.{IsSpared}
-use Rattle.price_bound.specs.Choosing.{IsChoice, IsLevel, AreListed}
+use Rattle.price_bound.specs.Choosing.{IsChoice, IsLevel, AreMade, AreMenus}
 use Rattle.price_bound.proofs.FrameLemmas.{spared-uncut, cut-least}
 use Rattle.price_bound.proofs.LateLemmas.{listed-by}
 use Rattle.price_bound.proofs.line_least.line_least.Goals as goal
@@ -22,10 +22,12 @@ invariant_of-table c =
     let I = case.instance.now in
     let same : c.deref.result.now ≡ c.in_ok-sets.sets.items = search rules in
     let spared = subst (λ sets. All (IsSpared sets) case.line.now) same (c.if-not-are_spared.ensures.0 refl) in
+    let kept : c.deref-10.result.now ≡ c.in_ok-menus.menus.items = search rules in
     record {
       uncut = spared-uncut I case.chamber (plain_cuts I case.cuts.now) c.in_ok-sets.sets.items c.in_ok-sets.ensures case.line.now case.good case.ships_in spared;
       late = c.horizon.ensures.late;
       small = c.horizon.ensures.small;
+      whole = ap length kept ∙ c.in_ok-menus.ensures.count;
     }
 
 pub levels-requires : goal.levels-requires
@@ -48,5 +50,6 @@ line_by-requires c =
     let later : c.deref-9.result.now ≡ levels = search rules in
     let each = subst (λ choices. All (IsLevel I case.chamber cuts case.depth case.prices.now case.line.now choices) levels) thinned c.in_ok-levels.ensures in
     let listed = listed-by I case.chamber case.chamber_in cuts case.depth case.prices.now case.line.now early.choices choices levels early.enough early.early each in
-    subst (λ levels. AreListed I case.chamber cuts case.depth case.prices.now case.line.now c.deref-8.result.now levels) (sym later)
-    (subst (λ choices. AreListed I case.chamber cuts case.depth case.prices.now case.line.now choices levels) (sym looked) listed)
+    let kept : c.deref-10.result.now ≡ c.in_ok-menus.menus.items = search rules in
+    let made = subst (λ levels. AreMade choices levels (length case.line.now + 1) c.in_ok-menus.menus.items) later (subst (λ choices. AreMade choices c.deref-9.result.now (length case.line.now + 1) c.in_ok-menus.menus.items) looked c.in_ok-menus.ensures) in
+    subst (AreMenus I case.chamber cuts case.depth case.prices.now case.line.now) (sym kept) (record { choices = choices; levels = levels; listed = listed; made = made })
