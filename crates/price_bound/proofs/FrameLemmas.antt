@@ -162,27 +162,29 @@ module _ (I : Instance) (c : ℕ) (known : c < length I.chambers) (cuts : List P
 
   module _ (menus : List Menu) where
     -- a frame whose best is less
-    pub frame-less : (frame : Frame) (best : ℤ) → best ≤ℤ frame.best → IsBest I c cuts k prices line horizon frame.state.place frame.state.stand frame.state.minute best
-        → IsFrame I c cuts k prices line horizon menus frame → IsFrame I c cuts k prices line horizon menus (record { state = frame.state; best = best; next = frame.next })
+    pub frame-less : (frame : Frame) (best : ℤ) → best ≤ℤ frame.best → IsBest I c cuts k prices line horizon frame.ready.state.place frame.ready.state.stand frame.ready.state.minute best
+        → IsFrame I c cuts k prices line horizon menus frame → IsFrame I c cuts k prices line horizon menus (record { ready = frame.ready; best = best; next = frame.next })
     frame-less frame best less is was = record {
+      ready = was.ready;
       place = was.place;
       early = was.early;
       best = is;
-      counted = λ j d e before here. counted-less frame.state.stand frame.state.minute frame.state.place frame.best best (slice_index_or (list_of menus e frame.state.place frame.state.minute) j d) less (was.counted j d e before here);
+      counted = λ j d e before here. counted-less frame.ready.state.stand frame.ready.state.minute frame.ready.state.place frame.best best (slice_index_or (list_of menus e frame.ready.state.place frame.ready.state.minute) j d) less (was.counted j d e before here);
     }
 
     -- one choice more is counted
-    pub frame-next : (frame : Frame) (best : ℤ) (h : Choice) (i : ℕ) (listed : List Choice) → ((e : Menu) → listed ≡ list_of menus e frame.state.place frame.state.minute) → i < length listed → frame.next ≡ i → h ≡ slice_index_or listed i h → best ≤ℤ frame.best
-        → IsBest I c cuts k prices line horizon frame.state.place frame.state.stand frame.state.minute best → IsCounted I c cuts k prices line frame.state.stand frame.state.minute frame.state.place best h
-        → IsFrame I c cuts k prices line horizon menus frame → IsFrame I c cuts k prices line horizon menus (record { state = frame.state; best = best; next = i + 1 })
+    pub frame-next : (frame : Frame) (best : ℤ) (h : Choice) (i : ℕ) (listed : List Choice) → ((e : Menu) → listed ≡ list_of menus e frame.ready.state.place frame.ready.state.minute) → i < length listed → frame.next ≡ i → h ≡ slice_index_or listed i h → best ≤ℤ frame.best
+        → IsBest I c cuts k prices line horizon frame.ready.state.place frame.ready.state.stand frame.ready.state.minute best → IsCounted I c cuts k prices line frame.ready.state.stand frame.ready.state.minute frame.ready.state.place best h
+        → IsFrame I c cuts k prices line horizon menus frame → IsFrame I c cuts k prices line horizon menus (record { ready = frame.ready; best = best; next = i + 1 })
     frame-next frame best h i listed same here at held less is counted was = record {
+      ready = was.ready;
       place = was.place;
       early = was.early;
       best = is;
-      counted = λ j d e. subst (λ listed. j < i + 1 → j < length listed → IsCounted I c cuts k prices line frame.state.stand frame.state.minute frame.state.place best (slice_index_or listed j d)) (same e) (λ before inside. elim (eqb_tells j i) [
-        | inl y ↦ subst (IsCounted I c cuts k prices line frame.state.stand frame.state.minute frame.state.place best) (held ∙ get_or_default listed i h d here ∙ ap (λ i. slice_index_or listed i d) (sym y.1)) counted
-        | inr m ↦ counted-less frame.state.stand frame.state.minute frame.state.place frame.best best (slice_index_or listed j d) less
-            (subst (λ listed. j < length listed → IsCounted I c cuts k prices line frame.state.stand frame.state.minute frame.state.place frame.best (slice_index_or listed j d)) (sym (same e)) (was.counted j d e (earlier j m.1 before)) inside)
+      counted = λ j d e. subst (λ listed. j < i + 1 → j < length listed → IsCounted I c cuts k prices line frame.ready.state.stand frame.ready.state.minute frame.ready.state.place best (slice_index_or listed j d)) (same e) (λ before inside. elim (eqb_tells j i) [
+        | inl y ↦ subst (IsCounted I c cuts k prices line frame.ready.state.stand frame.ready.state.minute frame.ready.state.place best) (held ∙ get_or_default listed i h d here ∙ ap (λ i. slice_index_or listed i d) (sym y.1)) counted
+        | inr m ↦ counted-less frame.ready.state.stand frame.ready.state.minute frame.ready.state.place frame.best best (slice_index_or listed j d) less
+            (subst (λ listed. j < length listed → IsCounted I c cuts k prices line frame.ready.state.stand frame.ready.state.minute frame.ready.state.place frame.best (slice_index_or listed j d)) (sym (same e)) (was.counted j d e (earlier j m.1 before)) inside)
       ]);
     }
       where
@@ -190,12 +192,12 @@ module _ (I : Instance) (c : ℕ) (known : c < length I.chambers) (cuts : List P
         earlier j apart before = elim (leb_tells (suc j) i) [ inl y ↦ omega (arith, at, y.1) | inr q ↦ absurd (apart (omega (arith, before, q.1))) ]
 
     -- THE LAST CHOICE COUNTED, the best is the value.
-    pub frame-value : (frame : Frame) (e : Menu) → AreMenus I c cuts k prices line menus → length (list_of menus e frame.state.place frame.state.minute) ≤ frame.next
-        → IsFrame I c cuts k prices line horizon menus frame → IsValue I c cuts k prices line horizon frame.state.place frame.state.stand frame.state.minute frame.best
+    pub frame-value : (frame : Frame) (e : Menu) → AreMenus I c cuts k prices line menus → length (list_of menus e frame.ready.state.place frame.ready.state.minute) ≤ frame.next
+        → IsFrame I c cuts k prices line horizon menus frame → IsValue I c cuts k prices line horizon frame.ready.state.place frame.ready.state.stand frame.ready.state.minute frame.best
     frame-value frame e are all is = record {
-      least = choices-least I c known cuts k prices line are.listed.choices are.listed.enough frame.state.stand frame.state.minute frame.state.place frame.best is.best.stop
-          (counted-menu I c known cuts k prices line menus are frame.state.place frame.state.minute is.place e frame.state.stand frame.best
-          (λ h held. subst (IsCounted I c cuts k prices line frame.state.stand frame.state.minute frame.state.place frame.best) held.2 (is.counted held.0 h e (omega (arith, held.1, all)) held.1)))
+      least = choices-least I c known cuts k prices line are.listed.choices are.listed.enough frame.ready.state.stand frame.ready.state.minute frame.ready.state.place frame.best is.best.stop
+          (counted-menu I c known cuts k prices line menus are frame.ready.state.place frame.ready.state.minute is.place e frame.ready.state.stand frame.best
+          (λ h held. subst (IsCounted I c cuts k prices line frame.ready.state.stand frame.ready.state.minute frame.ready.state.place frame.best) held.2 (is.counted held.0 h e (omega (arith, held.1, all)) held.1)))
           is.best.reached;
       low = is.best.low;
       high = is.best.high;

@@ -1,13 +1,18 @@
 -- Values that are remembered for states.
-use Rattle.std.specs.Prelude.{ℕ, ◌≡◌, ◌+◌, ◌-◌, ◌*◌, ◌≤◌, ◌<◌, nat_eq, ℤ, pos, ◌+ℤ◌, ◌≤ℤ◌, ◌⊎◌, Some, None, List, length, drop, slice_index_or}
+use Rattle.std.specs.Prelude.{ℕ, max, ◌≡◌, ◌+◌, ◌-◌, ◌*◌, ◌≤◌, ◌<◌, nat_eq, ℤ, pos, ◌+ℤ◌, ◌≤ℤ◌, ◌⊎◌, Some, None, List, length, drop, slice_index_or}
 use Rattle.std.specs.HashMap.{get}
 use Rattle.lock_model.specs.declared.instance.Instance.{Instance}
 use Rattle.lock_model.specs.declared.group.Group.{Group}
+use Rattle.lock_model.specs.Fleet.{chamber_at}
+use Rattle.lock_model.specs.declared.way.Way.{Way}
+use Rattle.lock_model.specs.declared.way.Way.TheVariants.{Up, Down}
 use Rattle.lock_model.specs.declared.way.Stand.{Stand}
 use Rattle.lock_model.specs.declared.way.Stand.TheVariants.{Low, High}
+use Rattle.lock_rules.specs.Timetable.{ready_at}
 use Rattle.price_rules.specs.Prices.{PlainCut}
 use Rattle.price_bound.specs.declared.choice.Choice.{Choice}
 use Rattle.price_bound.specs.declared.menu.Menu.{Menu}
+use Rattle.price_bound.specs.declared.ready.Ready.{Ready}
 use Rattle.price_bound.specs.declared.frame.Frame.{Frame}
 use Rattle.price_bound.specs.declared.values.Values.{Values}
 use Rattle.price_bound.specs.Worth.{worth_from, IsWorth}
@@ -40,6 +45,16 @@ pub record AreValues (I : Instance) (c : ℕ) (cuts : List PlainCut) (k : ℕ) (
   pub wide : values.places ≡ length line + 1
   pub told : (p : ℕ) (stand : Stand) (minute : ℕ) (v : ℤ) → p ≤ length line → Holds values (key_of values.places p stand minute) v → IsValue I c cuts k prices line horizon p stand minute v
 
+-- the first minute for a way
+abbrev pub minute_for : Ready → Way → ℕ
+minute_for ready Up = ready.up
+minute_for ready Down = ready.down
+
+-- these are the first minutes at which chamber c may be ready in the state
+pub record IsReady (I : Instance) (c : ℕ) (ready : Ready) : Type 0 where
+  pub value : (way : Way) → minute_for ready way ≡ ready_at (chamber_at I c) ready.state.stand ready.state.minute way
+  pub small : (way : Way) → minute_for ready way ≤ max ready.state.minute 1000000 + 1000000
+
 -- What a state is worth at most so far: some loose line is worth it, and the line's own groups alone are worth no less.
 pub record IsBest (I : Instance) (c : ℕ) (cuts : List PlainCut) (k : ℕ) (prices : List ℕ) (line : List Group) (horizon : ℕ) (p : ℕ) (stand : Stand) (minute : ℕ) (best : ℤ) : Type 0 where
   pub stop : best ≤ℤ worth_from I c k prices stand minute (drop p line)
@@ -49,7 +64,8 @@ pub record IsBest (I : Instance) (c : ℕ) (cuts : List PlainCut) (k : ℕ) (pri
 
 -- a state before the horizon, of which the first choices that are looked at are counted
 pub record IsFrame (I : Instance) (c : ℕ) (cuts : List PlainCut) (k : ℕ) (prices : List ℕ) (line : List Group) (horizon : ℕ) (menus : List Menu) (frame : Frame) : Type 0 where
-  pub place : frame.state.place ≤ length line
-  pub early : frame.state.minute < horizon
-  pub best : IsBest I c cuts k prices line horizon frame.state.place frame.state.stand frame.state.minute frame.best
-  pub counted : (j : ℕ) (d : Choice) (e : Menu) → j < frame.next → j < length (list_of menus e frame.state.place frame.state.minute) → IsCounted I c cuts k prices line frame.state.stand frame.state.minute frame.state.place frame.best (slice_index_or (list_of menus e frame.state.place frame.state.minute) j d)
+  pub ready : IsReady I c frame.ready
+  pub place : frame.ready.state.place ≤ length line
+  pub early : frame.ready.state.minute < horizon
+  pub best : IsBest I c cuts k prices line horizon frame.ready.state.place frame.ready.state.stand frame.ready.state.minute frame.best
+  pub counted : (j : ℕ) (d : Choice) (e : Menu) → j < frame.next → j < length (list_of menus e frame.ready.state.place frame.ready.state.minute) → IsCounted I c cuts k prices line frame.ready.state.stand frame.ready.state.minute frame.ready.state.place frame.best (slice_index_or (list_of menus e frame.ready.state.place frame.ready.state.minute) j d)

@@ -3,16 +3,16 @@ ghost use Rattle.std.specs.Prelude.{◌≡◌, ◌+◌, ◌-◌, ◌*◌, ◌<�
 ghost use Rattle.std.specs.Int.{int_min};
 ghost use Rattle.price_bound.specs.Choosing.{AreMenus, IsChoice, IsCounted, IsValue, Leads, list_of};
 ghost use Rattle.price_bound.specs.declared.menu.Menu.{Menu};
-ghost use Rattle.price_bound.specs.Values.{AreValues, IsBest, IsFrame};
+ghost use Rattle.price_bound.specs.Values.{AreValues, IsBest, IsFrame, IsReady};
 ghost use Rattle.price_bound.specs.Cuts.{plain_cuts};
 
 use crate::choice::Choice;
 use crate::frame::Frame;
+use crate::ready::Ready;
 use crate::serving::{alone, serve};
 use crate::state::State;
 use crate::table::Table;
 use crate::values::Values;
-use crate::vanity::is_vain;
 use chamber_times::stand_after;
 
 /// A state of which no choice is counted.
@@ -22,12 +22,13 @@ pub(crate) fn opened(table: &Table, state: State) -> Frame
     ensures { IsFrame table.now.case.now.instance.now table.now.case.now.chamber (plain_cuts table.now.case.now.instance.now table.now.case.now.cuts.now) table.now.case.now.depth table.now.case.now.prices.now table.now.case.now.line.now table.now.horizon table.now.menus.now result }
 {
     Frame {
-        state,
+        ready: Ready::new(table.case, state),
         best: alone(table.case, &state),
         next: 0,
     }
 }
 
+#[inline(always)]
 /// The place that a choice leads to from a place, where it may come next there.
 pub(crate) fn led(choice: &Choice, place: u8) -> Option<u8>
     requires { place ≤ 24 }
@@ -40,6 +41,7 @@ pub(crate) fn led(choice: &Choice, place: u8) -> Option<u8>
     }
 }
 
+#[inline(always)]
 /// The value of a state, where it is known.
 pub(crate) fn known(table: &Table, values: &Values, state: &State) -> Option<i64>
     requires values { AreValues table.now.case.now.instance.now table.now.case.now.chamber (plain_cuts table.now.case.now.instance.now table.now.case.now.cuts.now) table.now.case.now.depth table.now.case.now.prices.now table.now.case.now.line.now table.now.horizon values.now }
@@ -55,6 +57,7 @@ pub(crate) fn known(table: &Table, values: &Values, state: &State) -> Option<i64
     }
 }
 
+#[inline(always)]
 /// Whether a choice may be left out: missing ships alone that gain nothing.
 pub(crate) fn is_idle(choice: &Choice, worth: i64) -> bool
     ensures { IsTrue result → (choice.now.joins ≡ None) × (pos 0 ≤ℤ worth) }
@@ -62,6 +65,7 @@ pub(crate) fn is_idle(choice: &Choice, worth: i64) -> bool
     choice.joins.is_none() && worth >= 0
 }
 
+#[inline(always)]
 // The lesser of a value and of what a choice comes to with the value behind it.
 fn lesser(best: i64, worth: i64, behind: i64) -> i64
     requires worth_low { neg_ℤ (pos 1000000000000000) ≤ℤ worth }
@@ -73,27 +77,29 @@ fn lesser(best: i64, worth: i64, behind: i64) -> i64
     best.min(worth + behind)
 }
 
+#[inline(always)]
 // Counts a choice that leads to a place, or names the state behind it whose value isn't known yet.
 fn count_to(
     table: &Table,
     values: &Values,
-    state: &State,
+    ready: &Ready,
     best: &mut i64,
     choice: &Choice,
     place: u8,
 ) -> Option<State>
     requires values { AreValues table.now.case.now.instance.now table.now.case.now.chamber (plain_cuts table.now.case.now.instance.now table.now.case.now.cuts.now) table.now.case.now.depth table.now.case.now.prices.now table.now.case.now.line.now table.now.horizon values.now }
-    requires early { state.now.minute < table.now.horizon }
-    requires best { IsBest table.now.case.now.instance.now table.now.case.now.chamber (plain_cuts table.now.case.now.instance.now table.now.case.now.cuts.now) table.now.case.now.depth table.now.case.now.prices.now table.now.case.now.line.now table.now.horizon state.now.place state.now.stand state.now.minute best.old }
+    requires ready { IsReady table.now.case.now.instance.now table.now.case.now.chamber ready.now }
+    requires early { ready.now.state.minute < table.now.horizon }
+    requires best { IsBest table.now.case.now.instance.now table.now.case.now.chamber (plain_cuts table.now.case.now.instance.now table.now.case.now.cuts.now) table.now.case.now.depth table.now.case.now.prices.now table.now.case.now.line.now table.now.horizon ready.now.state.place ready.now.state.stand ready.now.state.minute best.old }
     requires is { IsChoice table.now.case.now.instance.now table.now.case.now.chamber (plain_cuts table.now.case.now.instance.now table.now.case.now.cuts.now) table.now.case.now.depth table.now.case.now.prices.now table.now.case.now.line.now choice.now }
-    requires leads { Leads choice.now.joins state.now.place place }
+    requires leads { Leads choice.now.joins ready.now.state.place place }
     requires place { place ≤ length table.now.case.now.line.now }
-    ensures best { IsBest table.now.case.now.instance.now table.now.case.now.chamber (plain_cuts table.now.case.now.instance.now table.now.case.now.cuts.now) table.now.case.now.depth table.now.case.now.prices.now table.now.case.now.line.now table.now.horizon state.now.place state.now.stand state.now.minute best.new }
+    ensures best { IsBest table.now.case.now.instance.now table.now.case.now.chamber (plain_cuts table.now.case.now.instance.now table.now.case.now.cuts.now) table.now.case.now.depth table.now.case.now.prices.now table.now.case.now.line.now table.now.horizon ready.now.state.place ready.now.state.stand ready.now.state.minute best.new }
     ensures less { best.new ≤ℤ best.old }
-    ensures none { IfNone result (IsCounted table.now.case.now.instance.now table.now.case.now.chamber (plain_cuts table.now.case.now.instance.now table.now.case.now.cuts.now) table.now.case.now.depth table.now.case.now.prices.now table.now.case.now.line.now state.now.stand state.now.minute state.now.place best.new choice.now) }
+    ensures none { IfNone result (IsCounted table.now.case.now.instance.now table.now.case.now.chamber (plain_cuts table.now.case.now.instance.now table.now.case.now.cuts.now) table.now.case.now.depth table.now.case.now.prices.now table.now.case.now.line.now ready.now.state.stand ready.now.state.minute ready.now.state.place best.new choice.now) }
     ensures some { IfSome result (λ s. (s.place ≤ length table.now.case.now.line.now) × (s.minute < table.now.horizon)) }
 {
-    let served = serve(table.case, state, choice);
+    let served = serve(table.case, ready, choice);
     if is_idle(choice, served.worth) {
         return None;
     }
@@ -111,33 +117,29 @@ fn count_to(
     }
 }
 
+#[inline(always)]
 // Counts a choice, or names the state behind it whose value isn't known yet.
 fn count(
     table: &Table,
     values: &Values,
-    state: &State,
+    ready: &Ready,
     best: &mut i64,
     choice: &Choice,
 ) -> Option<State>
     requires values { AreValues table.now.case.now.instance.now table.now.case.now.chamber (plain_cuts table.now.case.now.instance.now table.now.case.now.cuts.now) table.now.case.now.depth table.now.case.now.prices.now table.now.case.now.line.now table.now.horizon values.now }
-    requires early { state.now.minute < table.now.horizon }
-    requires place { state.now.place ≤ length table.now.case.now.line.now }
-    requires best { IsBest table.now.case.now.instance.now table.now.case.now.chamber (plain_cuts table.now.case.now.instance.now table.now.case.now.cuts.now) table.now.case.now.depth table.now.case.now.prices.now table.now.case.now.line.now table.now.horizon state.now.place state.now.stand state.now.minute best.old }
+    requires ready { IsReady table.now.case.now.instance.now table.now.case.now.chamber ready.now }
+    requires early { ready.now.state.minute < table.now.horizon }
+    requires place { ready.now.state.place ≤ length table.now.case.now.line.now }
+    requires best { IsBest table.now.case.now.instance.now table.now.case.now.chamber (plain_cuts table.now.case.now.instance.now table.now.case.now.cuts.now) table.now.case.now.depth table.now.case.now.prices.now table.now.case.now.line.now table.now.horizon ready.now.state.place ready.now.state.stand ready.now.state.minute best.old }
     requires is { IsChoice table.now.case.now.instance.now table.now.case.now.chamber (plain_cuts table.now.case.now.instance.now table.now.case.now.cuts.now) table.now.case.now.depth table.now.case.now.prices.now table.now.case.now.line.now choice.now }
-    ensures best { IsBest table.now.case.now.instance.now table.now.case.now.chamber (plain_cuts table.now.case.now.instance.now table.now.case.now.cuts.now) table.now.case.now.depth table.now.case.now.prices.now table.now.case.now.line.now table.now.horizon state.now.place state.now.stand state.now.minute best.new }
+    ensures best { IsBest table.now.case.now.instance.now table.now.case.now.chamber (plain_cuts table.now.case.now.instance.now table.now.case.now.cuts.now) table.now.case.now.depth table.now.case.now.prices.now table.now.case.now.line.now table.now.horizon ready.now.state.place ready.now.state.stand ready.now.state.minute best.new }
     ensures less { best.new ≤ℤ best.old }
-    ensures none { IfNone result (IsCounted table.now.case.now.instance.now table.now.case.now.chamber (plain_cuts table.now.case.now.instance.now table.now.case.now.cuts.now) table.now.case.now.depth table.now.case.now.prices.now table.now.case.now.line.now state.now.stand state.now.minute state.now.place best.new choice.now) }
+    ensures none { IfNone result (IsCounted table.now.case.now.instance.now table.now.case.now.chamber (plain_cuts table.now.case.now.instance.now table.now.case.now.cuts.now) table.now.case.now.depth table.now.case.now.prices.now table.now.case.now.line.now ready.now.state.stand ready.now.state.minute ready.now.state.place best.new choice.now) }
     ensures some { IfSome result (λ s. (s.place ≤ length table.now.case.now.line.now) × (s.minute < table.now.horizon)) }
 {
-    match led(choice, state.place) {
+    match led(choice, ready.state.place) {
         None => None,
-        Some(place) => {
-            if is_vain(table.case, choice, state.minute) {
-                None
-            } else {
-                count_to(table, values, state, best, choice, place)
-            }
-        }
+        Some(place) => count_to(table, values, ready, best, choice, place),
     }
 }
 
@@ -148,15 +150,15 @@ pub(crate) fn advance(table: &Table, values: &Values, frame: &mut Frame) -> Opti
     requires menus { AreMenus table.now.case.now.instance.now table.now.case.now.chamber (plain_cuts table.now.case.now.instance.now table.now.case.now.cuts.now) table.now.case.now.depth table.now.case.now.prices.now table.now.case.now.line.now table.now.menus.now }
     requires frame { IsFrame table.now.case.now.instance.now table.now.case.now.chamber (plain_cuts table.now.case.now.instance.now table.now.case.now.cuts.now) table.now.case.now.depth table.now.case.now.prices.now table.now.case.now.line.now table.now.horizon table.now.menus.now frame.old }
     ensures frame { IsFrame table.now.case.now.instance.now table.now.case.now.chamber (plain_cuts table.now.case.now.instance.now table.now.case.now.cuts.now) table.now.case.now.depth table.now.case.now.prices.now table.now.case.now.line.now table.now.horizon table.now.menus.now frame.new }
-    ensures none { IfNone result ((e : Menu) → length (list_of table.now.menus.now e frame.new.state.place frame.new.state.minute) ≤ frame.new.next) }
+    ensures none { IfNone result ((e : Menu) → length (list_of table.now.menus.now e frame.new.ready.state.place frame.new.ready.state.minute) ≤ frame.new.next) }
     ensures some { IfSome result (λ s. (s.place ≤ length table.now.case.now.line.now) × (s.minute < table.now.horizon)) }
 {
-    let choices = table.list(&frame.state);
+    let choices = table.list(&frame.ready.state);
     for place in frame.next..choices.len() {
         match count(
             table,
             values,
-            &frame.state,
+            &frame.ready,
             &mut frame.best,
             &choices[place],
         ) {

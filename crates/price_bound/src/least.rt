@@ -29,7 +29,7 @@ fn turn(
 {
     let mut frame = frame;
     match advance(table, values, &mut frame) {
-        None => values.keep(&frame.state, frame.best),
+        None => values.keep(&frame.ready.state, frame.best),
         Some(state) => {
             append(frames, frame)?;
             append(frames, opened(table, state))

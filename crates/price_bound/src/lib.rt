@@ -44,6 +44,7 @@ mod next_group;
 mod prices;
 mod pruning;
 mod reaching;
+mod ready;
 mod serving;
 mod shown;
 mod state;

@@ -53,12 +53,7 @@ fn levels_for(alloc: Global, levels: &[Level], place: u8) -> Result<Vec<Level>, 
 }
 
 // What may come next at a place.
-fn menu(
-    alloc: Global,
-    choices: &[Choice],
-    levels: &[Level],
-    place: u8,
-) -> Result<Menu, PriceError>
+fn menu(alloc: Global, choices: &[Choice], levels: &[Level], place: u8) -> Result<Menu, PriceError>
     requires { place ≤ 24 }
     ensures { IfOk result (IsMenu choices.now levels.now place) }
 {

@@ -2,12 +2,14 @@
 ghost use Rattle.std.specs.Prelude.{◌≡◌, ◌+◌, ◌*◌, ◌<◌, ◌≤◌, ◌≤ℤ◌, neg_ℤ, pos, length, drop, All, max};
 ghost use Rattle.price_bound.specs.Worth.{end_after, worth_of, worth_from, IsKeptGroup};
 ghost use Rattle.price_bound.specs.Choosing.{IsChoice};
+ghost use Rattle.price_bound.specs.Values.{IsReady};
 ghost use Rattle.price_bound.specs.Cuts.{plain_cuts};
 
 use crate::choice::Choice;
 use crate::line_case::LineCase;
+use crate::ready::Ready;
 use crate::state::State;
-use chamber_times::{first_free, flow_until, group_times, ready, stand_after};
+use chamber_times::{first_free, flow_until, group_times, stand_after};
 use lock_model::Group;
 
 /// The minute at which a choice ends that comes next, and what it is worth, in hundredths of a
@@ -18,6 +20,7 @@ pub(crate) struct Served {
     pub(crate) worth: i64,
 }
 
+#[inline(always)]
 // The product of a number of ships and a minute.
 fn product(count: u64, end: u64) -> u64
     requires count { count ≤ 8 }
@@ -29,19 +32,21 @@ fn product(count: u64, end: u64) -> u64
 }
 
 /// Serves a choice next.
-pub(crate) fn serve(case: &LineCase, state: &State, choice: &Choice) -> Served
+#[inline(always)]
+pub(crate) fn serve(case: &LineCase, ready: &Ready, choice: &Choice) -> Served
     requires is { IsChoice case.now.instance.now case.now.chamber (plain_cuts case.now.instance.now case.now.cuts.now) case.now.depth case.now.prices.now case.now.line.now choice.now }
-    requires minute { state.now.minute ≤ 14000000 }
-    ensures end { result.end ≡ end_after case.now.instance.now case.now.chamber state.now.stand state.now.minute choice.now.group }
-    ensures worth { result.worth ≡ worth_of case.now.instance.now case.now.chamber case.now.depth case.now.prices.now state.now.stand state.now.minute choice.now.group }
-    ensures small { result.end ≤ max state.now.minute 1000000 + 12000000 }
+    requires ready { IsReady case.now.instance.now case.now.chamber ready.now }
+    requires minute { ready.now.state.minute ≤ 14000000 }
+    ensures end { result.end ≡ end_after case.now.instance.now case.now.chamber ready.now.state.stand ready.now.state.minute choice.now.group }
+    ensures worth { result.worth ≡ worth_of case.now.instance.now case.now.chamber case.now.depth case.now.prices.now ready.now.state.stand ready.now.state.minute choice.now.group }
+    ensures small { result.end ≤ max ready.now.state.minute 1000000 + 12000000 }
     ensures low { neg_ℤ (pos 808000000) ≤ℤ result.worth }
     ensures high { result.worth ≤ℤ pos 30000000000 }
 {
     let lock = case.lock();
-    let ready = ready(lock, state.stand, state.minute, choice.group.way);
     let long = choice.duration as u64;
-    let end = first_free(&lock.closures, long, ready.max(choice.last as u64)) + long;
+    let from = ready.minute(choice.group.way).max(choice.last as u64);
+    let end = first_free(&lock.closures, long, from) + long;
     let sum = product(choice.group.ships.len() as u64, end);
     Served {
         end,

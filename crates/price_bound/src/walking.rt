@@ -11,6 +11,7 @@ use crate::counting::{is_idle, led};
 use crate::error::{PriceError, append};
 use crate::least::value_of;
 use crate::next_group::{NextGroup, ValuedState};
+use crate::ready::Ready;
 use crate::serving::{alone, serve};
 use crate::state::State;
 use crate::table::Table;
@@ -53,7 +54,8 @@ fn next_to(
     ensures some { IfOk result (λ next. IfSome next (IsNext table.now.case.now.instance.now table.now.case.now.chamber (plain_cuts table.now.case.now.instance.now table.now.case.now.cuts.now) table.now.case.now.depth table.now.case.now.prices.now table.now.case.now.line.now table.now.horizon from.now)) }
     ensures none { IfOk result (λ next. IfNone next (IsCounted table.now.case.now.instance.now table.now.case.now.chamber (plain_cuts table.now.case.now.instance.now table.now.case.now.cuts.now) table.now.case.now.depth table.now.case.now.prices.now table.now.case.now.line.now from.now.state.stand from.now.state.minute from.now.state.place (from.now.value +ℤ pos 1) choice.now)) }
 {
-    let served = serve(table.case, &from.state, choice);
+    let ready = Ready::new(table.case, from.state);
+    let served = serve(table.case, &ready, choice);
     if is_idle(choice, served.worth) {
         return Ok(None);
     }

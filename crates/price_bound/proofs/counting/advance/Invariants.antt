@@ -9,5 +9,5 @@ abbrev pub invariant-loop-place : goal.invariant-loop-place
 invariant-loop-place l = record {
   frame : IsFrame l.table.case.now.instance.now l.table.case.now.chamber (plain_cuts l.table.case.now.instance.now l.table.case.now.cuts.now) l.table.case.now.depth l.table.case.now.prices.now l.table.case.now.line.now l.table.horizon l.table.menus.now l.frame;
   next : l.frame.next ≡ l.place;
-  listed : (e : Menu) → l.choices ≡ list_of l.table.menus.now e l.frame.state.place l.frame.state.minute;
+  listed : (e : Menu) → l.choices ≡ list_of l.table.menus.now e l.frame.ready.state.place l.frame.ready.state.minute;
 }

@@ -25,7 +25,7 @@ returns-in-Some-clause-less c =
     let told = c.in-Some.ensures.some in
     let served = c.serve-served.ensures in
     let best = c.requires.best in
-    let same = lesser-rounded c.lesser.result c.args.best.now c.serve-served.result.worth c.in-Some.value (value-far c.args.best.now table.horizon c.args.state.now.minute table.small best.low best.high) (worth-far c.serve-served.result.worth served.low served.high)
+    let same = lesser-rounded c.lesser.result c.args.best.now c.serve-served.result.worth c.in-Some.value (value-far c.args.best.now table.horizon c.args.ready.now.state.minute table.small best.low best.high) (worth-far c.serve-served.result.worth served.low served.high)
     (value-far c.in-Some.value table.horizon c.serve-served.result.end table.small told.low told.high) c.lesser.ensures in
     subst (λ v. v ≤ℤ c.args.best.now) same (lesser-less c.args.best.now c.serve-served.result.worth c.in-Some.value)
 
@@ -34,7 +34,7 @@ returns-in-Some-clause-best c =
     let table = c.args.table.now in
     let case = table.case.now in
     let I = case.instance.now in
-    let state = c.args.state.now in
+    let state = c.args.ready.now.state in
     let choice = c.args.choice.now in
     let told = c.in-Some.ensures.some in
     let served = c.serve-served.ensures in
@@ -52,7 +52,7 @@ returns-in-Some-clause-none c =
     let table = c.args.table.now in
     let case = table.case.now in
     let I = case.instance.now in
-    let state = c.args.state.now in
+    let state = c.args.ready.now.state in
     let choice = c.args.choice.now in
     let told = c.in-Some.ensures.some in
     let served = c.serve-served.ensures in

@@ -17,8 +17,8 @@ returns-in-None-clause-values c =
     let frame = c.advance.new.frame in
     let e = some-menu I case.chamber (plain_cuts I case.cuts.now) case.depth case.prices.now case.line.now table.menus.now c.requires.menus in
     on_ok_weaker c.keep.result (λ more.
-    values-kept I case.chamber case.chamber_in (plain_cuts I case.cuts.now) case.depth case.prices.now case.line.now table.horizon c.args.values.now c.keep.new.self frame.state.place frame.state.stand frame.state.minute _ told.frame.place c.requires.values
-    (value-rounded I case.chamber case.chamber_in (plain_cuts I case.cuts.now) case.depth case.prices.now case.line.now table.horizon frame.state.place frame.state.stand frame.state.minute frame.best table.small (frame-value I case.chamber case.chamber_in (plain_cuts I case.cuts.now) case.depth case.prices.now case.line.now table.horizon table.menus.now frame e c.requires.menus (told.none e) told.frame)) more) c.keep.ensures
+    values-kept I case.chamber case.chamber_in (plain_cuts I case.cuts.now) case.depth case.prices.now case.line.now table.horizon c.args.values.now c.keep.new.self frame.ready.state.place frame.ready.state.stand frame.ready.state.minute _ told.frame.place c.requires.values
+    (value-rounded I case.chamber case.chamber_in (plain_cuts I case.cuts.now) case.depth case.prices.now case.line.now table.horizon frame.ready.state.place frame.ready.state.stand frame.ready.state.minute frame.best table.small (frame-value I case.chamber case.chamber_in (plain_cuts I case.cuts.now) case.depth case.prices.now case.line.now table.horizon table.menus.now frame e c.requires.menus (told.none e) told.frame)) more) c.keep.ensures
 
 pub returns-in_ok-append-in-Some-clause-frames : goal.returns-in_ok-append-in-Some-clause-frames
 returns-in_ok-append-in-Some-clause-frames c =

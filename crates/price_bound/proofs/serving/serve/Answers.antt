@@ -1,27 +1,28 @@
-use Rattle.std.proofs.Common.{◌∙◌, arith}
+use Rattle.std.proofs.Common.{sym, ◌∙◌, arith}
+use Rattle.lock_rules.specs.Timetable.{ready_at}
 use Rattle.price_bound.proofs.ChoiceLemmas.{rates-sum}
 use Rattle.price_bound.proofs.ServingLemmas.{sums-end, sums-worth, sums-low}
 use Rattle.price_bound.proofs.serving.serve.Goals as goal
 
 pub product-sum-requires-clause-end : goal.product-sum-requires-clause-end
-product-sum-requires-clause-end c = omega (arith, c.first_free.ensures.small, c.max.ensures, c.ready-ready.ensures.small, c.requires.minute, c.requires.is.sums.short, c.requires.is.sums.soon)
+product-sum-requires-clause-end c = omega (arith, c.first_free.ensures.small, c.max-from.ensures, c.minute.ensures, c.requires.ready.small c.args.choice.now.group.way, c.requires.minute, c.requires.is.sums.short, c.requires.is.sums.soon)
 
 pub returns-clause-end : goal.returns-clause-end
 returns-clause-end c =
     let I = c.args.case.now.instance.now in
     let sums = c.requires.is.sums in
-    sums-end I c.args.case.now.chamber c.args.case.now.depth c.args.case.now.prices.now c.args.state.now.stand c.args.state.now.minute c.args.choice.now.group c.lock-lock.result.now c.ready-ready.result c.args.choice.now.last c.max.result c.first_free.result c.args.choice.now.duration
-    c.lock-lock.ensures c.ready-ready.ensures.value sums.last c.max.ensures c.first_free.ensures.value sums.duration
+    sums-end I c.args.case.now.chamber c.args.case.now.depth c.args.case.now.prices.now c.args.ready.now.state.stand c.args.ready.now.state.minute c.args.choice.now.group c.lock-lock.result.now c.minute.result c.args.choice.now.last c.max-from.result c.first_free.result c.args.choice.now.duration
+    c.lock-lock.ensures (c.minute.ensures ∙ c.requires.ready.value c.args.choice.now.group.way ∙ (λ i. ready_at (sym c.lock-lock.ensures i) c.args.ready.now.state.stand c.args.ready.now.state.minute c.args.choice.now.group.way)) sums.last c.max-from.ensures c.first_free.ensures.value sums.duration
 
 pub returns-clause-worth : goal.returns-clause-worth
 returns-clause-worth c =
     let I = c.args.case.now.instance.now in
     let sums = c.requires.is.sums in
-    sums-worth I c.args.case.now.chamber c.args.case.now.depth c.args.case.now.prices.now c.args.state.now.stand c.args.state.now.minute c.args.choice.now.group c.args.case.now.chamber_in c.len.result _ c.product-sum.result c.args.choice.now.pays
+    sums-worth I c.args.case.now.chamber c.args.case.now.depth c.args.case.now.prices.now c.args.ready.now.state.stand c.args.ready.now.state.minute c.args.choice.now.group c.args.case.now.chamber_in c.len.result _ c.product-sum.result c.args.choice.now.pays
     c.len.ensures.value (returns-clause-end c) c.product-sum.ensures.value (sums.pays ∙ rates-sum I c.args.case.now.depth c.args.case.now.prices.now c.args.choice.now.group.ships) c.product-sum.ensures.small (omega (arith, sums.fair))
 
 pub returns-clause-small : goal.returns-clause-small
-returns-clause-small c = omega (arith, c.first_free.ensures.small, c.max.ensures, c.ready-ready.ensures.small, c.requires.is.sums.short, c.requires.is.sums.soon)
+returns-clause-small c = omega (arith, c.first_free.ensures.small, c.max-from.ensures, c.minute.ensures, c.requires.ready.small c.args.choice.now.group.way, c.requires.is.sums.short, c.requires.is.sums.soon)
 
 pub returns-clause-low : goal.returns-clause-low
 returns-clause-low c = sums-low c.product-sum.result c.args.choice.now.pays c.product-sum.ensures.small c.requires.is.sums.fair
