@@ -11,16 +11,19 @@ use crate::choice::Choice;
 use crate::error::{PriceError, append};
 use crate::growing::{Growth, grown};
 use crate::lateness::late_choices;
-use crate::pruning::{add, few_first, order, put_each};
+use crate::pruning::{few_first, order, put_each, put_shelved};
+use crate::shelf::Shelf;
 use crate::vanity::is_vain;
 use crate::weighing::weighed;
 use lock_model::{Group, Ships, Way};
 use std::alloc::Global;
 
-// Appends the choice of a grown group, unless it is empty or gains nothing.
+// Puts the choice of a grown group to the others, unless it is empty or gains nothing, or one of them
+// serves as well.
 fn add_group(
     growth: &Growth,
     choices: &mut Vec<Choice>,
+    shelf: &mut Shelf,
     group: &Group,
     joins: Option<u8>,
 ) -> Result<(), PriceError>
@@ -37,7 +40,7 @@ fn add_group(
     if is_vain(growth.case, &choice, 0) {
         return Ok(());
     }
-    add(growth.case, choices, choice)
+    put_shelved(growth.case, choices, shelf, choice)
 }
 
 // Appends the choices that join a group, or that join none.
@@ -54,9 +57,10 @@ fn add_grown(
     requires base { IsBaseOf growth.now.case.now.instance.now growth.now.case.now.chamber growth.now.case.now.depth growth.now.case.now.line.now joins base.now }
     ensures { OnOk result (HaveMore growth.now.case.now.instance.now growth.now.case.now.chamber (plain_cuts growth.now.case.now.instance.now growth.now.case.now.cuts.now) growth.now.case.now.depth growth.now.case.now.prices.now growth.now.case.now.line.now joins base.now choices.old.items choices.new.items) }
 {
+    let mut shelf = Shelf::new(growth.case.lock().pass);
     let groups = grown(alloc, growth, base)?;
     for group in &groups {
-        add_group(growth, choices, group, joins)?;
+        add_group(growth, choices, &mut shelf, group, joins)?;
     }
     Ok(())
 }

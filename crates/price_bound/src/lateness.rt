@@ -73,18 +73,32 @@ fn is_covered_late(case: &LineCase, lates: &[Choice], choice: &Choice, late: u64
     is_vain(case, choice, late) || is_served_late(lates, choice, late)
 }
 
-// Puts a choice to the others, unless they cover it from the minute on.
+// Where those begin that join the same group as a choice and have its way, if the last ones do. The
+// choices of a line come in such stretches, and no other one serves.
+fn stretch(lates: &[Choice], first: usize, choice: &Choice) -> usize
+    requires { first ≤ length lates.now }
+    ensures { result ≤ length lates.now }
+{
+    match lates {
+        [.., last] if last.joins == choice.joins && last.group.way == choice.group.way => first,
+        _ => lates.len(),
+    }
+}
+
+// Puts a choice to the others, unless those from the first one on cover it from the minute on.
 fn put_late(
     case: &LineCase,
     lates: &mut Vec<Choice>,
+    first: usize,
     choice: &Choice,
     late: u64,
 ) -> Result<(), PriceError>
+    requires first { first ≤ length lates.old.items }
     requires late { late ≤ 4294967296 }
     requires is { IsChoice case.now.instance.now case.now.chamber (plain_cuts case.now.instance.now case.now.cuts.now) case.now.depth case.now.prices.now case.now.line.now choice.now }
     ensures { OnOk result (HasLate case.now.instance.now case.now.chamber case.now.depth case.now.prices.now late choice.now lates.old.items lates.new.items) }
 {
-    if is_covered_late(case, lates, choice, late) {
+    if is_covered_late(case, &lates[first..], choice, late) {
         return Ok(());
     }
     append(lates, choice.copy())
@@ -102,8 +116,10 @@ pub(crate) fn late_choices(
     ensures { IfOk result (λ lates. AreLate case.now.instance.now case.now.chamber (plain_cuts case.now.instance.now case.now.cuts.now) case.now.depth case.now.prices.now case.now.line.now late choices.now lates.items) }
 {
     let mut lates = Vec::new(alloc);
+    let mut first = 0;
     for choice in choices {
-        put_late(case, &mut lates, choice, late)?;
+        first = stretch(&lates, first, choice);
+        put_late(case, &mut lates, first, choice, late)?;
     }
     Ok(lates)
 }

@@ -46,6 +46,7 @@ mod pruning;
 mod reaching;
 mod ready;
 mod serving;
+mod shelf;
 mod shown;
 mod state;
 mod table;

@@ -7,6 +7,7 @@ ghost use Rattle.price_bound.specs.Cuts.{plain_cuts};
 use crate::choice::Choice;
 use crate::error::{PriceError, append};
 use crate::line_case::LineCase;
+use crate::shelf::Shelf;
 
 // Whether a choice joins the same group as another, has its way and is no worse by its sums.
 fn serves(other: &Choice, choice: &Choice) -> bool
@@ -34,12 +35,8 @@ fn is_served(case: &LineCase, choices: &[Choice], choice: &Choice) -> bool
     false
 }
 
-/// Appends a choice to the others.
-pub(crate) fn add(
-    case: &LineCase,
-    choices: &mut Vec<Choice>,
-    choice: Choice,
-) -> Result<(), PriceError>
+// Appends a choice to the others.
+fn add(case: &LineCase, choices: &mut Vec<Choice>, choice: Choice) -> Result<(), PriceError>
     requires each { All (IsChoice case.now.instance.now case.now.chamber (plain_cuts case.now.instance.now case.now.cuts.now) case.now.depth case.now.prices.now case.now.line.now) choices.old.items }
     requires is { IsChoice case.now.instance.now case.now.chamber (plain_cuts case.now.instance.now case.now.cuts.now) case.now.depth case.now.prices.now case.now.line.now choice }
     ensures { OnOk result (HasOne case.now.instance.now case.now.chamber (plain_cuts case.now.instance.now case.now.cuts.now) case.now.depth case.now.prices.now case.now.line.now choice choices.old.items choices.new.items) }
@@ -56,6 +53,37 @@ fn put(case: &LineCase, choices: &mut Vec<Choice>, choice: Choice) -> Result<(),
     if is_served(case, choices, &choice) {
         return Ok(());
     }
+    add(case, choices, choice)
+}
+
+// Whether the choice at a place, if there is one, serves as well as a choice.
+fn is_served_at(case: &LineCase, choices: &[Choice], place: Option<usize>, choice: &Choice) -> bool
+    requires each { All (IsChoice case.now.instance.now case.now.chamber (plain_cuts case.now.instance.now case.now.cuts.now) case.now.depth case.now.prices.now case.now.line.now) choices.now }
+    requires is { IsChoice case.now.instance.now case.now.chamber (plain_cuts case.now.instance.now case.now.cuts.now) case.now.depth case.now.prices.now case.now.line.now choice.now }
+    ensures { IsTrue result → IsServed case.now.instance.now case.now.depth case.now.prices.now choices.now choice.now.joins choice.now.group }
+{
+    match place {
+        Some(place) if place < choices.len() => serves(&choices[place], choice),
+        _ => false,
+    }
+}
+
+/// Puts a choice to the others, unless the one on the shelf serves as well. Of many choices in no order
+/// most are left out so, before the others are put in order.
+pub(crate) fn put_shelved(
+    case: &LineCase,
+    choices: &mut Vec<Choice>,
+    shelf: &mut Shelf,
+    choice: Choice,
+) -> Result<(), PriceError>
+    requires each { All (IsChoice case.now.instance.now case.now.chamber (plain_cuts case.now.instance.now case.now.cuts.now) case.now.depth case.now.prices.now case.now.line.now) choices.old.items }
+    requires is { IsChoice case.now.instance.now case.now.chamber (plain_cuts case.now.instance.now case.now.cuts.now) case.now.depth case.now.prices.now case.now.line.now choice }
+    ensures { OnOk result (HasOne case.now.instance.now case.now.chamber (plain_cuts case.now.instance.now case.now.cuts.now) case.now.depth case.now.prices.now case.now.line.now choice choices.old.items choices.new.items) }
+{
+    if is_served_at(case, choices, shelf.find(&choice), &choice) {
+        return Ok(());
+    }
+    shelf.note(choices, &choice);
     add(case, choices, choice)
 }
 

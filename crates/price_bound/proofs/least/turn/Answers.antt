@@ -1,4 +1,4 @@
-use Rattle.std.proofs.Common.{All, sym, subst, arith}
+use Rattle.std.proofs.Common.{All, sym, subst}
 use Rattle.std.proofs.lemmas.Result.{on_ok_weaker}
 use Rattle.std.proofs.lemmas.List.Elements.{All-push}
 use Rattle.price_bound.specs.declared.frame.Frame.{Frame}

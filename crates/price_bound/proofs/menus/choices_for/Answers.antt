@@ -1,7 +1,7 @@
-use Rattle.std.proofs.Common.{◌≡◌, ◌+◌, ◌++◌, [], ◌∷◌, suc, take, length, sym, ap, ◌∙◌, subst, arith}
+use Rattle.std.proofs.Common.{◌≡◌, ◌+◌, ◌++◌, [], ◌∷◌, suc, take, sym, ap, ◌∙◌, subst, arith}
 use Rattle.std.proofs.Math.Seq.{take-suc}
 use Rattle.price_bound.specs.Choosing.{AreFor}
-use Rattle.price_bound.proofs.MenuLemmas.{for-first, for-next}
+use Rattle.price_bound.proofs.MenuLemmas.{for-next}
 use Rattle.price_bound.proofs.menus.choices_for.Goals as goal
 
 pub loop-choice-preserved : goal.loop-choice-preserved

@@ -1,4 +1,4 @@
-use Rattle.std.proofs.Common.{◌≡◌, ◌+◌, length, sym, subst, arith}
+use Rattle.std.proofs.Common.{◌+◌, sym, subst}
 use Rattle.price_bound.specs.Choosing.{AreMade}
 use Rattle.price_bound.proofs.MenuLemmas.{made-next}
 use Rattle.price_bound.proofs.menus.menus.Goals as goal
