@@ -9,6 +9,7 @@ use crate::error::{PriceError, append};
 use crate::line_case::LineCase;
 use crate::shelf::Shelf;
 
+#[inline(always)]
 // Whether a choice joins the same group as another, has its way and is no worse by its sums.
 fn serves(other: &Choice, choice: &Choice) -> bool
     ensures { IsTrue result → Serves other.now choice.now }
@@ -56,6 +57,7 @@ fn put(case: &LineCase, choices: &mut Vec<Choice>, choice: Choice) -> Result<(),
     add(case, choices, choice)
 }
 
+#[inline(always)]
 // Whether the choice at a place, if there is one, serves as well as a choice.
 fn is_served_at(case: &LineCase, choices: &[Choice], place: Option<usize>, choice: &Choice) -> bool
     requires each { All (IsChoice case.now.instance.now case.now.chamber (plain_cuts case.now.instance.now case.now.cuts.now) case.now.depth case.now.prices.now case.now.line.now) choices.now }

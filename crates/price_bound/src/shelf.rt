@@ -20,6 +20,7 @@ impl Shelf {
         }
     }
 
+    #[inline(always)]
     // The row and the column of a choice; those of long handling share the last column.
     fn cell(&self, choice: &Choice) -> (usize, usize)
         ensures row { result.0 < 9 }
@@ -29,6 +30,7 @@ impl Shelf {
         (choice.group.ships.len().min(8), handled.min(63))
     }
 
+    #[inline(always)]
     // The place of the choice of as many ships and minutes that pays most, if there is one.
     pub(crate) fn find(&self, choice: &Choice) -> Option<usize> {
         let (row, column) = self.cell(choice);
@@ -36,6 +38,7 @@ impl Shelf {
         Some(place as usize)
     }
 
+    #[inline(always)]
     // Notes a choice that comes behind these, if it pays more than the one that was noted.
     pub(crate) fn note(&mut self, choices: &[Choice], choice: &Choice) {
         let pays_most = match self.find(choice) {
