@@ -57,7 +57,7 @@ fn add_grown(
     requires base { IsBaseOf growth.now.case.now.instance.now growth.now.case.now.chamber growth.now.case.now.depth growth.now.case.now.line.now joins base.now }
     ensures { OnOk result (HaveMore growth.now.case.now.instance.now growth.now.case.now.chamber (plain_cuts growth.now.case.now.instance.now growth.now.case.now.cuts.now) growth.now.case.now.depth growth.now.case.now.prices.now growth.now.case.now.line.now joins base.now choices.old.items choices.new.items) }
 {
-    let mut shelf = Shelf::new(growth.case.lock().pass);
+    let mut shelf = Shelf::new(growth.case.lock.pass);
     let groups = grown(alloc, growth, base)?;
     for group in &groups {
         add_group(growth, choices, &mut shelf, group, joins)?;

@@ -23,7 +23,7 @@ pub(crate) fn opened(table: &Table, state: State) -> Frame
 {
     Frame {
         ready: Ready::new(table.case, state),
-        best: alone(table.case, &state),
+        best: alone(table.case, state),
         next: 0,
     }
 }
@@ -43,17 +43,17 @@ pub(crate) fn led(choice: &Choice, place: u8) -> Option<u8>
 
 #[inline(always)]
 /// The value of a state, where it is known.
-pub(crate) fn known(table: &Table, values: &Values, state: &State) -> Option<i64>
+pub(crate) fn known(table: &Table, values: &Values, state: State) -> Option<i64>
     requires values { AreValues table.now.case.now.instance.now table.now.case.now.chamber (plain_cuts table.now.case.now.instance.now table.now.case.now.cuts.now) table.now.case.now.depth table.now.case.now.prices.now table.now.case.now.line.now table.now.horizon values.now }
-    requires place { state.now.place ≤ length table.now.case.now.line.now }
-    requires minute { state.now.minute ≤ 14000000 }
-    ensures some { IfSome result (IsValue table.now.case.now.instance.now table.now.case.now.chamber (plain_cuts table.now.case.now.instance.now table.now.case.now.cuts.now) table.now.case.now.depth table.now.case.now.prices.now table.now.case.now.line.now table.now.horizon state.now.place state.now.stand state.now.minute) }
-    ensures none { IfNone result (state.now.minute < table.now.horizon) }
+    requires place { state.place ≤ length table.now.case.now.line.now }
+    requires minute { state.minute ≤ 14000000 }
+    ensures some { IfSome result (IsValue table.now.case.now.instance.now table.now.case.now.chamber (plain_cuts table.now.case.now.instance.now table.now.case.now.cuts.now) table.now.case.now.depth table.now.case.now.prices.now table.now.case.now.line.now table.now.horizon state.place state.stand state.minute) }
+    ensures none { IfNone result (state.minute < table.now.horizon) }
 {
     if state.minute >= table.horizon {
         Some(alone(table.case, state))
     } else {
-        values.find(state)
+        values.find(&state)
     }
 }
 
@@ -108,7 +108,7 @@ fn count_to(
         stand: stand_after(choice.group.way),
         minute: served.end,
     };
-    match known(table, values, &behind) {
+    match known(table, values, behind) {
         None => Some(behind),
         Some(value) => {
             *best = lesser(*best, served.worth, value);

@@ -41,7 +41,7 @@ fn is_tight(case: &LineCase, cut: &ChamberCut) -> bool
     ensures { IsTrue result ↔ IsNoRoomierThan (chamber_at case.now.instance.now case.now.chamber) (chamber_at case.now.instance.now cut.now.chamber) }
 {
     is_no_roomier(
-        case.lock(),
+        case.lock,
         &case.instance.chambers.as_slice()[cut.chamber as usize],
     )
 }

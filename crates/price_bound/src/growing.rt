@@ -81,7 +81,7 @@ fn joined(growth: &Growth, near: &[u32], group: &Group, ship: u8) -> Option<Grou
     ensures some { IfSome result (λ g. MayJoin growth.now.case.now.instance.now growth.now.case.now.chamber growth.now.sets.now ship group.now × (g ≡ with_ship ship group.now)) }
     ensures none { IfNone result (¬ MayJoin growth.now.case.now.instance.now growth.now.case.now.chamber growth.now.sets.now ship group.now) }
 {
-    if group.ships.len() >= growth.case.lock().most as usize {
+    if group.ships.len() >= growth.case.lock.most as usize {
         return None;
     }
     let joined = with_more(group, ship);

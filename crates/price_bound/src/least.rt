@@ -89,7 +89,7 @@ pub(crate) fn value_of(
     ensures values { IfOk result (λ _. AreValues table.now.case.now.instance.now table.now.case.now.chamber (plain_cuts table.now.case.now.instance.now table.now.case.now.cuts.now) table.now.case.now.depth table.now.case.now.prices.now table.now.case.now.line.now table.now.horizon values.new) }
     ensures value { IfOk result (IsValue table.now.case.now.instance.now table.now.case.now.chamber (plain_cuts table.now.case.now.instance.now table.now.case.now.cuts.now) table.now.case.now.depth table.now.case.now.prices.now table.now.case.now.line.now table.now.horizon state.now.place state.now.stand state.now.minute) }
 {
-    match known(table, values, state) {
+    match known(table, values, *state) {
         Some(value) => Ok(value),
         None => worked(alloc, table, values, *state),
     }

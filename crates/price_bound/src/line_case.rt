@@ -10,8 +10,8 @@ use crate::cut::ChamberCut;
 use crate::prices::Prices;
 use lock_model::{Chamber, Group, Instance};
 
-/// A chamber and its line at a node of a depth, the ships that the node holds, the prices and the
-/// cuts.
+/// A chamber, by number and as it is, and its line at a node of a depth, the ships that the node holds,
+/// the prices and the cuts.
 #[derive(Drop)]
 pub(crate) struct LineCase<'a> {
     pub(crate) instance: &'a Instance,
@@ -20,7 +20,9 @@ pub(crate) struct LineCase<'a> {
     pub(crate) depth: u8,
     pub(crate) held: &'a [u8],
     pub(crate) chamber: u8,
+    pub(crate) lock: &'a Chamber,
     pub(crate) line: &'a [Group],
+    pub(crate) ghost locked: { lock.now ≡ chamber_at instance.now chamber },
     pub(crate) ghost chamber_in: { chamber < length instance.now.chambers },
     pub(crate) ghost holds: { held.now ≡ first_ships instance.now depth },
     pub(crate) ghost kept: { All (IsKeptGroup instance.now depth) line.now },
@@ -30,13 +32,6 @@ pub(crate) struct LineCase<'a> {
 }
 
 impl LineCase<'_> {
-    // The chamber.
-    pub(crate) fn lock(&self) -> &Chamber
-        ensures { result.now ≡ chamber_at self.now.instance.now self.now.chamber }
-    {
-        &self.instance.chambers.as_slice()[self.chamber as usize]
-    }
-
     // Whether the node lacks a ship.
     pub(crate) fn lacks(&self, ship: u8) -> bool
         ensures { result ≡ is_missing self.now.instance.now self.now.depth ship }

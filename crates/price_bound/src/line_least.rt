@@ -31,7 +31,7 @@ fn line_by(alloc: Global, table: &Table) -> Result<LooseLine, PriceError>
     ensures low { IfOk result (λ line. neg_ℤ (pos 816080000000000) ≤ℤ line.worth) }
     ensures high { IfOk result (λ line. line.worth ≤ℤ pos 6000000000000) }
 {
-    let lock = table.case.lock();
+    let lock = table.case.lock;
     let state = State {
         place: 0,
         stand: lock.stands,

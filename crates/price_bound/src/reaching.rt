@@ -47,6 +47,7 @@ fn chamber_least<'k>(
         depth: asked.node.depth(),
         held,
         chamber,
+        lock: &asked.instance.chambers.as_slice()[chamber as usize],
         line: asked.node.line(chamber),
     };
     kept.least(&case, limits)

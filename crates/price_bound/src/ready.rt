@@ -23,7 +23,7 @@ impl Ready {
         ensures same { result.state ≡ state }
         ensures is { IsReady case.now.instance.now case.now.chamber result }
     {
-        let lock = case.lock();
+        let lock = case.lock;
         Ready {
             state,
             up: ready(lock, state.stand, state.minute, Way::Up),

@@ -43,7 +43,7 @@ pub(crate) fn serve(case: &LineCase, ready: &Ready, choice: &Choice) -> Served
     ensures low { neg_ℤ (pos 808000000) ≤ℤ result.worth }
     ensures high { result.worth ≤ℤ pos 30000000000 }
 {
-    let lock = case.lock();
+    let lock = case.lock;
     let long = choice.duration as u64;
     let from = ready.minute(choice.group.way).max(choice.last as u64);
     let end = first_free(&lock.closures, long, from) + long;
@@ -77,12 +77,12 @@ fn alone_on(case: &LineCase, state: &State, line: &[Group]) -> i64
 }
 
 /// What the line's own groups from the state's place on are worth alone, in hundredths of a minute.
-pub(crate) fn alone(case: &LineCase, state: &State) -> i64
-    requires place { state.now.place ≤ length case.now.line.now }
-    requires minute { state.now.minute ≤ 14000000 }
-    ensures value { result ≡ worth_from case.now.instance.now case.now.chamber case.now.depth case.now.prices.now state.now.stand state.now.minute (drop state.now.place case.now.line.now) }
+pub(crate) fn alone(case: &LineCase, state: State) -> i64
+    requires place { state.place ≤ length case.now.line.now }
+    requires minute { state.minute ≤ 14000000 }
+    ensures value { result ≡ worth_from case.now.instance.now case.now.chamber case.now.depth case.now.prices.now state.stand state.minute (drop state.place case.now.line.now) }
     ensures low { pos 0 ≤ℤ result }
     ensures high { result ≤ℤ pos 6000000000000 }
 {
-    alone_on(case, state, &case.line[state.place as usize..])
+    alone_on(case, &state, &case.line[state.place as usize..])
 }

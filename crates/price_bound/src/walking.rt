@@ -115,7 +115,7 @@ fn next_choice(
     ensures some { IfOk result (λ next. IfSome next (IsNext table.now.case.now.instance.now table.now.case.now.chamber (plain_cuts table.now.case.now.instance.now table.now.case.now.cuts.now) table.now.case.now.depth table.now.case.now.prices.now table.now.case.now.line.now table.now.horizon from.now)) }
     ensures none { IfOk result (λ next. IfNone next (worth_from table.now.case.now.instance.now table.now.case.now.chamber table.now.case.now.depth table.now.case.now.prices.now from.now.state.stand from.now.state.minute (drop from.now.state.place table.now.case.now.line.now) ≡ from.now.value)) }
 {
-    if alone(table.case, &from.state) <= from.value {
+    if alone(table.case, from.state) <= from.value {
         return Ok(None);
     }
     for choice in table.list(&from.state) {

@@ -9,7 +9,7 @@ returns-then-state-table-clause-some c =
     let table = c.args.table.now in
     let case = table.case.now in
     let I = case.instance.now in
-    let state = c.args.state.now in
+    let state = c.args.state in
     let told = c.alone.ensures in
     subst (IsValue I case.chamber (plain_cuts case.instance.now case.cuts.now) case.depth case.prices.now case.line.now table.horizon state.place state.stand state.minute) (sym (rounded c.alone.result told.low told.high))
     (value-alone I case.chamber case.chamber_in (plain_cuts case.instance.now case.cuts.now) case.depth case.prices.now case.line.now table.horizon table.uncut case.kept table.late state.place state.stand state.minute c.alone.result c.if-state-table.true told.value told.low told.high)
@@ -18,6 +18,6 @@ pub returns-else-state-table-clause-some : goal.returns-else-state-table-clause-
 returns-else-state-table-clause-some c =
     let table = c.args.table.now in
     let case = table.case.now in
-    let state = c.args.state.now in
+    let state = c.args.state in
     found-told case.instance.now case.chamber case.chamber_in (plain_cuts case.instance.now case.cuts.now) case.depth case.prices.now case.line.now table.horizon c.args.values.now state.place state.stand state.minute c.find.result
     (omega (arith, c.requires.place, case.few)) c.requires.values c.find.ensures

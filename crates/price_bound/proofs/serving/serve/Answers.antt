@@ -11,8 +11,8 @@ pub returns-clause-end : goal.returns-clause-end
 returns-clause-end c =
     let I = c.args.case.now.instance.now in
     let sums = c.requires.is.sums in
-    sums-end I c.args.case.now.chamber c.args.case.now.depth c.args.case.now.prices.now c.args.ready.now.state.stand c.args.ready.now.state.minute c.args.choice.now.group c.lock-lock.result.now c.minute.result c.args.choice.now.last c.max-from.result c.first_free.result c.args.choice.now.duration
-    c.lock-lock.ensures (c.minute.ensures ∙ c.requires.ready.value c.args.choice.now.group.way ∙ (λ i. ready_at (sym c.lock-lock.ensures i) c.args.ready.now.state.stand c.args.ready.now.state.minute c.args.choice.now.group.way)) sums.last c.max-from.ensures c.first_free.ensures.value sums.duration
+    sums-end I c.args.case.now.chamber c.args.case.now.depth c.args.case.now.prices.now c.args.ready.now.state.stand c.args.ready.now.state.minute c.args.choice.now.group c.args.case.now.lock.now c.minute.result c.args.choice.now.last c.max-from.result c.first_free.result c.args.choice.now.duration
+    c.args.case.now.locked (c.minute.ensures ∙ c.requires.ready.value c.args.choice.now.group.way ∙ (λ i. ready_at (sym c.args.case.now.locked i) c.args.ready.now.state.stand c.args.ready.now.state.minute c.args.choice.now.group.way)) sums.last c.max-from.ensures c.first_free.ensures.value sums.duration
 
 pub returns-clause-worth : goal.returns-clause-worth
 returns-clause-worth c =
