@@ -13,13 +13,17 @@
 #![tactic(auto)]
 
 mod draft;
+mod entering;
 mod fitting;
-mod flow;
 mod keeping;
+mod known;
+mod load;
 mod near;
 mod plan;
 mod putting;
+mod row;
 mod sets;
+mod walk;
 
 pub use fitting::{Fitting, fits};
 pub use near::near_plan;

@@ -2,25 +2,16 @@
 ghost use Rattle.std.specs.Prelude.{◌≡◌, ◌<◌, length};
 
 use crate::draft::Draft;
+use crate::entering::{Place, flow_with};
 use crate::fitting::{Fitting, fits};
-use crate::flow::line_flow;
+use crate::row::Row;
 use crate::sets::with;
 use lock_model::{Group, Instance, Line, Ships};
 use plain_text::NoMemory;
-use std::alloc::Global;
-
-/// Where a ship may be put into a line.
-#[derive(Clone, Copy, Debug, PartialEq, Eq)]
-enum Place {
-    /// Into the group of this number.
-    Into(usize),
-    /// Into a group of its own before that of this number, or behind the last one.
-    Before(usize),
-}
 
 /// A chamber and a place in its line for a ship, and the flow times of the draft with it, in minutes.
 #[derive(Clone, Copy, Debug, PartialEq, Eq)]
-struct Trial {
+pub(crate) struct Trial {
     chamber: u8,
     place: Place,
     flow: u64,
@@ -79,30 +70,8 @@ fn line_with(
     }
 }
 
-// Appends a trial of a place, where the ship can be put there and the draft stays below so many minutes.
-fn try_place(
-    instance: &Instance,
-    draft: &Draft,
-    ship: u8,
-    mut trial: Trial,
-    below: u64,
-    trials: &mut Vec<Trial>,
-) -> Result<(), NoMemory>
-    requires chamber_in { trial.chamber < length instance.now.chambers }
-    requires ship_in { ship < length instance.now.ships }
-{
-    let line = draft.line(trial.chamber);
-    if let Some((longer, _)) = line_with(instance, trial.chamber, line, ship, trial.place) {
-        let flow = line_flow(instance, trial.chamber, longer.as_slice());
-        trial.flow = trial.flow.saturating_add(flow);
-        if trial.flow < below && trials.push(trial).is_err() {
-            return Err(NoMemory);
-        }
-    }
-    Ok(())
-}
-
-// Tries all places of a chamber's line.
+// Appends the trials of all places of a chamber's line where the ship can be put and the draft stays
+// below so many minutes.
 fn try_line(
     instance: &Instance,
     draft: &Draft,
@@ -114,18 +83,22 @@ fn try_line(
     requires chamber_in { chamber < length instance.now.chambers }
     requires ship_in { ship < length instance.now.ships }
 {
-    let line = draft.line(chamber).as_slice();
-    let others = draft
-        .flow(instance)
-        .saturating_sub(line_flow(instance, chamber, line));
-    for i in 0..line.len() + 1 {
+    let row = draft.row(chamber);
+    let others = draft.flow().saturating_sub(row.flow());
+    let below = below.saturating_sub(others);
+    for i in 0..row.line().as_slice().len() + 1 {
         for place in [Place::Into(i), Place::Before(i)] {
-            let trial = Trial {
-                chamber,
-                place,
-                flow: others,
-            };
-            try_place(instance, draft, ship, trial, below, trials)?;
+            if let Some(flow) = flow_with(instance, chamber, row, ship, place, below) {
+                let flow = others.saturating_add(flow);
+                let trial = Trial {
+                    chamber,
+                    place,
+                    flow,
+                };
+                if trials.push(trial).is_err() {
+                    return Err(NoMemory);
+                }
+            }
         }
     }
     Ok(())
@@ -146,39 +119,39 @@ fn put_so<F: Fitting>(
     if trial.chamber as usize >= instance.chambers.as_slice().len() {
         return Ok(false);
     }
-    let line = draft.line(trial.chamber);
+    let line = draft.row(trial.chamber).line();
     let Some((longer, ships)) = line_with(instance, trial.chamber, line, ship, trial.place) else {
         return Ok(false);
     };
     if fits(instance, trial.chamber, &ships, fitting)?.is_none() {
         return Ok(false);
     }
-    draft.set_line(trial.chamber, longer);
+    draft.set_row(trial.chamber, Row::of(instance, trial.chamber, longer));
     Ok(true)
 }
 
 /// Puts a ship where it costs least and fits, if the flow times of the draft stay below so many
 /// minutes; whether it was put.
 pub(crate) fn put<F: Fitting>(
-    alloc: Global,
     instance: &Instance,
     draft: &mut Draft,
     ship: u8,
     below: u64,
+    trials: &mut Vec<Trial>,
     fitting: &mut F,
 ) -> Result<bool, NoMemory>
     requires ship_in { ship < length instance.now.ships }
     requires same { F.instance fitting.old ≡ instance.now }
     ensures same { F.instance fitting.new ≡ instance.now }
 {
-    let mut trials = Vec::new(alloc);
+    trials.clear();
     for chamber in 0..instance.chambers.as_slice().len() as u8 {
-        try_line(instance, draft, ship, chamber, below, &mut trials)?;
+        try_line(instance, draft, ship, chamber, below, trials)?;
     }
     if trials.sort_by_key(|trial| trial.flow).is_err() {
         return Err(NoMemory);
     }
-    for trial in &trials {
+    for trial in trials.as_slice() {
         if put_so(instance, draft, ship, trial, fitting)? {
             return Ok(true);
         }
