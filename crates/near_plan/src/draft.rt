@@ -1,9 +1,9 @@
 //! Lines of groups as they are made.
 ghost use Rattle.std.specs.Prelude.{◌<◌, length, IfSome};
 
+use crate::lines::{group_of, line_without};
 use crate::row::Row;
-use crate::sets::without;
-use lock_model::{Group, Instance, Line};
+use lock_model::{Instance, Line};
 use std::mem;
 
 /// A row of groups for each of four chambers, of which an instance may have fewer.
@@ -17,35 +17,6 @@ pub(crate) struct Draft {
 pub(crate) struct Standing {
     pub(crate) chamber: u8,
     group: usize,
-}
-
-// The number of the group of a line that has a ship.
-fn group_of(line: &Line, ship: u8) -> Option<usize> {
-    for (i, group) in line.as_slice().iter().enumerate() {
-        if group.ships.as_slice().contains(&ship) {
-            return Some(i);
-        }
-    }
-    None
-}
-
-// A line without a ship of the group of this number, which goes if it had no other.
-fn line_without(line: &Line, number: usize, ship: u8) -> Line {
-    let mut rest = Line::new();
-    for (i, group) in line.as_slice().iter().enumerate() {
-        let ships = if i == number {
-            without(&group.ships, ship)
-        } else {
-            group.ships.copy()
-        };
-        if ships.len() > 0 && rest.as_slice().len() < 24 {
-            rest.push(Group {
-                way: group.way,
-                ships,
-            });
-        }
-    }
-    rest
 }
 
 impl Draft {

@@ -1,19 +1,11 @@
 //! A ship that enters a row.
 ghost use Rattle.std.specs.Prelude.{◌<◌, ◌≤◌, length};
 
+use crate::lines::Place;
 use crate::load::Load;
 use crate::row::Row;
 use crate::walk::Walk;
 use lock_model::Instance;
-
-/// Where a ship may be put into a line.
-#[derive(Clone, Copy, Debug, PartialEq, Eq)]
-pub(crate) enum Place {
-    /// Into the group of this number.
-    Into(usize),
-    /// Into a group of its own before that of this number, or behind the last one.
-    Before(usize),
-}
 
 // How far the walk along a line is once a ship has entered it: the walk after the ship's group, and the
 // number of the first group behind it.

@@ -2,11 +2,11 @@
 ghost use Rattle.std.specs.Prelude.{◌≡◌, ◌<◌, length};
 
 use crate::draft::Draft;
-use crate::entering::{Place, flow_with};
+use crate::entering::flow_with;
 use crate::fitting::{Fitting, fits};
+use crate::lines::{Place, group_with, line_with};
 use crate::row::Row;
-use crate::sets::with;
-use lock_model::{Group, Instance, Line, Ships};
+use lock_model::Instance;
 use plain_text::NoMemory;
 
 /// A chamber and a place in its line for a ship, and the flow times of the draft with it, in minutes.
@@ -17,61 +17,35 @@ pub(crate) struct Trial {
     flow: u64,
 }
 
-// The group of a ship that joins a group, where the chamber serves both.
-fn joined(instance: &Instance, chamber: u8, group: &Group, ship: u8) -> Option<Group>
-    requires chamber_in { chamber < length instance.now.chambers }
-    requires ship_in { ship < length instance.now.ships }
-{
-    let most = instance.chambers.as_slice()[chamber as usize].most as usize;
-    let way = instance.ships.as_slice()[ship as usize].way;
-    if group.way != way || group.ships.len() >= most {
-        return None;
-    }
-    Some(Group {
-        way,
-        ships: with(&group.ships, ship),
-    })
-}
-
-// A line with a ship at a place, and the ships of its group there.
-fn line_with(
+// Appends a trial of a place, where the ship can be put there and the draft stays below so many minutes.
+fn try_place(
     instance: &Instance,
-    chamber: u8,
-    line: &Line,
+    draft: &Draft,
     ship: u8,
-    place: Place,
-) -> Option<(Line, Ships)>
-    requires chamber_in { chamber < length instance.now.chambers }
+    mut trial: Trial,
+    below: u64,
+    trials: &mut Vec<Trial>,
+) -> Result<(), NoMemory>
+    requires chamber_in { trial.chamber < length instance.now.chambers }
     requires ship_in { ship < length instance.now.ships }
 {
-    let mut longer = line.copy();
-    match place {
-        Place::Into(i) => {
-            let group = joined(instance, chamber, line.as_slice().get(i)?, ship)?;
-            let ships = group.ships.copy();
-            longer.set(i, group);
-            Some((longer, ships))
-        }
-        Place::Before(i) => {
-            let ships = Ships::single(ship);
-            let way = instance.ships.as_slice()[ship as usize].way;
-            if i > line.as_slice().len() || line.as_slice().len() >= 24 {
-                return None;
-            }
-            longer.insert(
-                i,
-                Group {
-                    way,
-                    ships: ships.copy(),
-                },
-            );
-            Some((longer, ships))
+    let Trial {
+        chamber,
+        place,
+        flow: others,
+    } = trial;
+    let row = draft.row(chamber);
+    let below = below.saturating_sub(others);
+    if let Some(flow) = flow_with(instance, chamber, row, ship, place, below) {
+        trial.flow = others.saturating_add(flow);
+        if trials.push(trial).is_err() {
+            return Err(NoMemory);
         }
     }
+    Ok(())
 }
 
-// Appends the trials of all places of a chamber's line where the ship can be put and the draft stays
-// below so many minutes.
+// Tries all places of a chamber's line.
 fn try_line(
     instance: &Instance,
     draft: &Draft,
@@ -85,20 +59,14 @@ fn try_line(
 {
     let row = draft.row(chamber);
     let others = draft.flow().saturating_sub(row.flow());
-    let below = below.saturating_sub(others);
     for i in 0..row.line().as_slice().len() + 1 {
         for place in [Place::Into(i), Place::Before(i)] {
-            if let Some(flow) = flow_with(instance, chamber, row, ship, place, below) {
-                let flow = others.saturating_add(flow);
-                let trial = Trial {
-                    chamber,
-                    place,
-                    flow,
-                };
-                if trials.push(trial).is_err() {
-                    return Err(NoMemory);
-                }
-            }
+            let trial = Trial {
+                chamber,
+                place,
+                flow: others,
+            };
+            try_place(instance, draft, ship, trial, below, trials)?;
         }
     }
     Ok(())
@@ -120,12 +88,15 @@ fn put_so<F: Fitting>(
         return Ok(false);
     }
     let line = draft.row(trial.chamber).line();
-    let Some((longer, ships)) = line_with(instance, trial.chamber, line, ship, trial.place) else {
+    let Some(group) = group_with(instance, line, ship, trial.place) else {
         return Ok(false);
     };
-    if fits(instance, trial.chamber, &ships, fitting)?.is_none() {
+    if fits(instance, trial.chamber, &group.ships, fitting)?.is_none() {
         return Ok(false);
     }
+    let Some(longer) = line_with(line, trial.place, group) else {
+        return Ok(false);
+    };
     draft.set_row(trial.chamber, Row::of(instance, trial.chamber, longer));
     Ok(true)
 }
