@@ -101,3 +101,24 @@ pub(crate) fn flow_with(
     };
     finish(instance, chamber, row, entered, below)
 }
+
+/// Whether a ship that enters a row at group `i` or behind takes so long itself that the row doesn't stay
+/// below so many minutes.
+pub(crate) fn is_too_late(
+    instance: &Instance,
+    chamber: u8,
+    row: &Row,
+    ship: u8,
+    i: usize,
+    below: u64,
+) -> bool
+    requires chamber_in { chamber < length instance.now.chambers }
+    requires ship_in { ship < length instance.now.ships }
+    requires place { i ≤ 24 }
+{
+    let pass = instance.chambers.as_slice()[chamber as usize].pass as u64;
+    let ship = &instance.ships.as_slice()[ship as usize];
+    let waits = row.walk(i).done.saturating_sub(ship.arrival as u64);
+    let own = waits.saturating_add(pass + ship.handling as u64);
+    row.flow().saturating_add(own) >= below
+}

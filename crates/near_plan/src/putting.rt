@@ -2,7 +2,7 @@
 ghost use Rattle.std.specs.Prelude.{◌≡◌, ◌<◌, length};
 
 use crate::draft::Draft;
-use crate::entering::flow_with;
+use crate::entering::{flow_with, is_too_late};
 use crate::fitting::{Fitting, fits};
 use crate::lines::{Place, group_with, line_with};
 use crate::row::Row;
@@ -17,7 +17,7 @@ pub(crate) struct Trial {
     flow: u64,
 }
 
-// Appends a trial of a place, where the ship can be put there and the draft stays below so many minutes.
+// Appends a trial of a place, where the ship can be put there and its row stays below so many minutes.
 fn try_place(
     instance: &Instance,
     draft: &Draft,
@@ -35,7 +35,6 @@ fn try_place(
         flow: others,
     } = trial;
     let row = draft.row(chamber);
-    let below = below.saturating_sub(others);
     if let Some(flow) = flow_with(instance, chamber, row, ship, place, below) {
         trial.flow = others.saturating_add(flow);
         if trials.push(trial).is_err() {
@@ -45,7 +44,7 @@ fn try_place(
     Ok(())
 }
 
-// Tries all places of a chamber's line.
+// Tries all places of a chamber's line, but those behind one where the ship comes too late.
 fn try_line(
     instance: &Instance,
     draft: &Draft,
@@ -59,7 +58,11 @@ fn try_line(
 {
     let row = draft.row(chamber);
     let others = draft.flow().saturating_sub(row.flow());
+    let below = below.saturating_sub(others);
     for i in 0..row.line().as_slice().len() + 1 {
+        if is_too_late(instance, chamber, row, ship, i, below) {
+            break;
+        }
         for place in [Place::Into(i), Place::Before(i)] {
             let trial = Trial {
                 chamber,

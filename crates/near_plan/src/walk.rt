@@ -13,7 +13,7 @@ const LATEST: u64 = 1 << 40;
 #[derive(Clone, Copy, Debug)]
 pub(crate) struct Walk {
     stand: Stand,
-    done: u64,
+    pub(crate) done: u64,
     pub(crate) flow: u64,
 }
 
