@@ -1,91 +1,73 @@
 //! Lines of groups as they are made.
-ghost use Rattle.std.specs.Prelude.{◌<◌};
+ghost use Rattle.std.specs.Prelude.{◌<◌, length, IfSome};
 
-use crate::flow::line_flow;
-use crate::sets::without;
-use lock_model::{Group, Instance, Line};
+use crate::lines::{group_of, line_without};
+use crate::row::Row;
+use lock_model::{Instance, Line};
+use std::mem;
 
-/// A line of groups for each of four chambers.
+/// A row of groups for each of four chambers, of which an instance may have fewer.
 #[derive(Debug, Drop)]
 pub(crate) struct Draft {
-    lines: [Line; 4],
+    rows: [Row; 4],
 }
 
-// Whether a ship is in a group of a line.
-fn is_in(line: &Line, ship: u8) -> bool {
-    for group in line.as_slice() {
-        if group.ships.as_slice().contains(&ship) {
-            return true;
-        }
-    }
-    false
-}
-
-// A line without a ship; a group that had no other goes.
-fn line_without(line: &Line, ship: u8) -> Line {
-    let mut rest = Line::new();
-    for group in line.as_slice() {
-        let ships = without(&group.ships, ship);
-        if ships.len() > 0 && rest.as_slice().len() < 24 {
-            rest.push(Group {
-                way: group.way,
-                ships,
-            });
-        }
-    }
-    rest
+/// Where a ship stands: the chamber, and the number of the group in its line.
+#[derive(Clone, Copy, Debug)]
+pub(crate) struct Standing {
+    pub(crate) chamber: u8,
+    group: usize,
 }
 
 impl Draft {
     /// Lines without groups.
-    pub(crate) fn new() -> Draft {
-        Draft {
-            lines: [Line::new(), Line::new(), Line::new(), Line::new()],
+    pub(crate) fn new(instance: &Instance) -> Draft {
+        let mut rows = [Row::new(), Row::new(), Row::new(), Row::new()];
+        for chamber in 0..instance.chambers.as_slice().len() as u8 {
+            rows[chamber as usize] = Row::of(instance, chamber, Line::new());
         }
+        Draft { rows }
     }
 
-    /// The line of a chamber.
-    pub(crate) fn line(&self, chamber: u8) -> &Line
+    /// The row of a chamber.
+    pub(crate) fn row(&self, chamber: u8) -> &Row
         requires { chamber < 4 }
     {
-        &self.lines[chamber as usize]
+        &self.rows[chamber as usize]
     }
 
-    /// Puts a line in the place of that of a chamber.
-    pub(crate) fn set_line(&mut self, chamber: u8, line: Line)
+    /// Puts a row in the place of that of a chamber, which is given back.
+    pub(crate) fn set_row(&mut self, chamber: u8, row: Row) -> Row
         requires { chamber < 4 }
     {
-        self.lines[chamber as usize] = line;
+        mem::replace(&mut self.rows[chamber as usize], row)
     }
 
-    /// Whether a ship is in a group.
-    pub(crate) fn has(&self, ship: u8) -> bool {
-        for line in &self.lines {
-            if is_in(line, ship) {
-                return true;
+    /// Where a ship stands.
+    pub(crate) fn find(&self, instance: &Instance, ship: u8) -> Option<Standing>
+        ensures { IfSome result (λ at. at.chamber < length instance.now.chambers) }
+    {
+        for chamber in 0..instance.chambers.as_slice().len() as u8 {
+            if let Some(group) = group_of(self.row(chamber).line(), ship) {
+                return Some(Standing { chamber, group });
             }
         }
-        false
+        None
     }
 
-    /// The lines without a ship.
-    pub(crate) fn without(&self, ship: u8) -> Draft {
-        let [first, second, third, fourth] = &self.lines;
-        Draft {
-            lines: [
-                line_without(first, ship),
-                line_without(second, ship),
-                line_without(third, ship),
-                line_without(fourth, ship),
-            ],
-        }
+    /// Takes a ship out of where it stands; the row as it was is given back.
+    pub(crate) fn take_out(&mut self, instance: &Instance, ship: u8, at: Standing) -> Row
+        requires { at.chamber < length instance.now.chambers }
+    {
+        let rest = line_without(self.row(at.chamber).line(), at.group, ship);
+        self.set_row(at.chamber, Row::of(instance, at.chamber, rest))
     }
 
     /// The flow times of all ships at the earliest, added, in minutes.
-    pub(crate) fn flow(&self, instance: &Instance) -> u64 {
+    pub(crate) fn flow(&self) -> u64 {
         let mut flow: u64 = 0;
-        for chamber in 0..instance.chambers.as_slice().len() as u8 {
-            flow = flow.saturating_add(line_flow(instance, chamber, self.line(chamber).as_slice()));
+        for row in &self.rows {
+            flow = flow.saturating_add(row.flow());
         }
         flow
     }

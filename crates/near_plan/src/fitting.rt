@@ -2,7 +2,7 @@
 ghost use Rattle.std.specs.Prelude.{◌≡◌, ◌<◌, ◌≤◌, length, All};
 ghost use Rattle.lock_model.specs.declared.instance.Instance.{Instance as AnyInstance};
 
-use crate::flow::are_known;
+use crate::known::are_known;
 use lock_model::{Instance, Ships, Spots};
 use plain_text::NoMemory;
 

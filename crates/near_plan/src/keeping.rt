@@ -1,18 +1,19 @@
 //! What is kept of loose lines.
-ghost use Rattle.std.specs.Prelude.{◌≡◌, ◌<◌};
+ghost use Rattle.std.specs.Prelude.{◌≡◌, ◌<◌, length};
 
 use crate::draft::Draft;
 use crate::fitting::{Fitting, fits};
+use crate::row::Row;
 use crate::sets::without;
 use lock_model::{Group, Instance, Ships};
 use plain_text::NoMemory;
 use price_bound::LooseLines;
 
 // The ships of a group that the draft lacks.
-fn lacking(draft: &Draft, ships: &Ships) -> Ships {
+fn lacking(instance: &Instance, draft: &Draft, ships: &Ships) -> Ships {
     let mut kept = ships.copy();
     for &ship in ships.as_slice() {
-        if draft.has(ship) {
+        if draft.find(instance, ship).is_some() {
             kept = without(&kept, ship);
         }
     }
@@ -50,19 +51,19 @@ fn keep_group<F: Fitting>(
     group: &Group,
     fitting: &mut F,
 ) -> Result<(), NoMemory>
-    requires chamber { chamber < 4 }
+    requires chamber { chamber < length instance.now.chambers }
     requires same { F.instance fitting.old ≡ instance.now }
     ensures same { F.instance fitting.new ≡ instance.now }
 {
-    let kept = lacking(draft, &group.ships);
+    let kept = lacking(instance, draft, &group.ships);
     let ships = fitting_ships(instance, chamber, kept, fitting)?;
-    let mut line = draft.line(chamber).copy();
+    let mut line = draft.row(chamber).line().copy();
     if ships.len() > 0 && line.as_slice().len() < 24 {
         line.push(Group {
             way: group.way,
             ships,
         });
-        draft.set_line(chamber, line);
+        draft.set_row(chamber, Row::of(instance, chamber, line));
     }
     Ok(())
 }
@@ -75,7 +76,7 @@ fn keep_line<F: Fitting>(
     groups: &[Group],
     fitting: &mut F,
 ) -> Result<(), NoMemory>
-    requires chamber { chamber < 4 }
+    requires chamber { chamber < length instance.now.chambers }
     requires same { F.instance fitting.old ≡ instance.now }
     ensures same { F.instance fitting.new ≡ instance.now }
 {
@@ -95,9 +96,9 @@ pub(crate) fn kept<F: Fitting>(
     requires same { F.instance fitting.old ≡ instance.now }
     ensures same { F.instance fitting.new ≡ instance.now }
 {
-    let mut draft = Draft::new();
+    let mut draft = Draft::new(instance);
     for (chamber, line) in lines.lines.as_slice().iter().enumerate() {
-        if chamber < 4 {
+        if chamber < instance.chambers.as_slice().len() {
             keep_line(
                 instance,
                 &mut draft,

@@ -1,12 +1,12 @@
 //! A plan near loose lines.
-ghost use Rattle.std.specs.Prelude.{◌≡◌, ◌<◌, IfOk, IfSome};
+ghost use Rattle.std.specs.Prelude.{◌≡◌, ◌<◌, length, IfOk, IfSome};
 ghost use Rattle.lock_rules.specs.Plan.{IsLegal, cost_of};
 
 use crate::draft::Draft;
 use crate::fitting::Fitting;
 use crate::keeping::kept;
 use crate::plan::plan_of;
-use crate::putting::put;
+use crate::putting::{Trial, put};
 use lock_model::{Instance, Plan};
 use master_branch::arrival_order;
 use plain_text::NoMemory;
@@ -18,9 +18,9 @@ const MOST_ROUNDS: u32 = 3;
 
 // Puts all ships in that the draft lacks, in arrival order; whether all could be put.
 fn complete<F: Fitting>(
-    alloc: Global,
     instance: &Instance,
     draft: &mut Draft,
+    trials: &mut Vec<Trial>,
     fitting: &mut F,
 ) -> Result<bool, NoMemory>
     requires same { F.instance fitting.old ≡ instance.now }
@@ -28,18 +28,43 @@ fn complete<F: Fitting>(
 {
     let order = arrival_order(instance);
     for &ship in order.as_slice() {
-        if !draft.has(ship) && !put(alloc, instance, draft, ship, u64::MAX, fitting)? {
+        let lacks = draft.find(instance, ship).is_none();
+        if lacks && !put(instance, draft, ship, u64::MAX, trials, fitting)? {
             return Ok(false);
         }
     }
     Ok(true)
 }
 
-// Takes each ship out and puts it in again, where that gains; whether one gained.
-fn better<F: Fitting>(
-    alloc: Global,
+// Takes a ship out and puts it in again, where that gains; else the draft is as it was.
+fn better_for<F: Fitting>(
     instance: &Instance,
     draft: &mut Draft,
+    ship: u8,
+    trials: &mut Vec<Trial>,
+    fitting: &mut F,
+) -> Result<bool, NoMemory>
+    requires ship_in { ship < length instance.now.ships }
+    requires same { F.instance fitting.old ≡ instance.now }
+    ensures same { F.instance fitting.new ≡ instance.now }
+{
+    let Some(at) = draft.find(instance, ship) else {
+        return Ok(false);
+    };
+    let now = draft.flow();
+    let before = draft.take_out(instance, ship, at);
+    let gained = put(instance, draft, ship, now, trials, fitting)?;
+    if !gained {
+        draft.set_row(at.chamber, before);
+    }
+    Ok(gained)
+}
+
+// Takes each ship out and puts it in again, where that gains; whether one gained.
+fn better<F: Fitting>(
+    instance: &Instance,
+    draft: &mut Draft,
+    trials: &mut Vec<Trial>,
     fitting: &mut F,
 ) -> Result<bool, NoMemory>
     requires same { F.instance fitting.old ≡ instance.now }
@@ -47,12 +72,7 @@ fn better<F: Fitting>(
 {
     let mut gained = false;
     for ship in 0..instance.ships.as_slice().len() as u8 {
-        let now = draft.flow(instance);
-        let mut less = draft.without(ship);
-        if put(alloc, instance, &mut less, ship, now, fitting)? {
-            *draft = less;
-            gained = true;
-        }
+        gained |= better_for(instance, draft, ship, trials, fitting)?;
     }
     Ok(gained)
 }
@@ -72,15 +92,16 @@ pub fn near_plan<F: Fitting>(
     ensures cheaper { IfOk result (λ found. IfSome found (λ plan. cost_of instance.now plan < below)) }
 {
     let mut draft = kept(instance, lines, fitting)?;
-    if !complete(alloc, instance, &mut draft, fitting)? {
+    let mut trials = Vec::new(alloc);
+    if !complete(instance, &mut draft, &mut trials, fitting)? {
         return Ok(None);
     }
     for _ in 0..MOST_ROUNDS {
-        if !better(alloc, instance, &mut draft, fitting)? {
+        if !better(instance, &mut draft, &mut trials, fitting)? {
             break;
         }
     }
-    if draft.flow(instance) >= below {
+    if draft.flow() >= below {
         return Ok(None);
     }
     plan_of(instance, &draft, below, fitting)

@@ -5,7 +5,7 @@ ghost use Rattle.lock_rules.specs.Plan.{IsLegal, cost_of};
 
 use crate::draft::Draft;
 use crate::fitting::{Fitting, fits};
-use crate::flow::are_known;
+use crate::known::are_known;
 use chamber_times::{cost, earliest};
 use lock_model::{Group, Instance, Lockage, Lockages, Plan};
 use mooring_rules::judge_plan;
@@ -90,7 +90,7 @@ pub(crate) fn plan_of<F: Fitting>(
 {
     let mut lockages = Lockages::new();
     for chamber in 0..instance.chambers.as_slice().len() as u8 {
-        let groups = draft.line(chamber).as_slice();
+        let groups = draft.row(chamber).line().as_slice();
         if !add_line(instance, chamber, groups, &mut lockages, fitting)? {
             return Ok(None);
         }

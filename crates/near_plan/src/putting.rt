@@ -2,84 +2,22 @@
 ghost use Rattle.std.specs.Prelude.{◌≡◌, ◌<◌, length};
 
 use crate::draft::Draft;
+use crate::entering::{flow_with, is_too_late};
 use crate::fitting::{Fitting, fits};
-use crate::flow::line_flow;
-use crate::sets::with;
-use lock_model::{Group, Instance, Line, Ships};
+use crate::lines::{Place, group_with, line_with};
+use crate::row::Row;
+use lock_model::Instance;
 use plain_text::NoMemory;
-use std::alloc::Global;
-
-/// Where a ship may be put into a line.
-#[derive(Clone, Copy, Debug, PartialEq, Eq)]
-enum Place {
-    /// Into the group of this number.
-    Into(usize),
-    /// Into a group of its own before that of this number, or behind the last one.
-    Before(usize),
-}
 
 /// A chamber and a place in its line for a ship, and the flow times of the draft with it, in minutes.
 #[derive(Clone, Copy, Debug, PartialEq, Eq)]
-struct Trial {
+pub(crate) struct Trial {
     chamber: u8,
     place: Place,
     flow: u64,
 }
 
-// The group of a ship that joins a group, where the chamber serves both.
-fn joined(instance: &Instance, chamber: u8, group: &Group, ship: u8) -> Option<Group>
-    requires chamber_in { chamber < length instance.now.chambers }
-    requires ship_in { ship < length instance.now.ships }
-{
-    let most = instance.chambers.as_slice()[chamber as usize].most as usize;
-    let way = instance.ships.as_slice()[ship as usize].way;
-    if group.way != way || group.ships.len() >= most {
-        return None;
-    }
-    Some(Group {
-        way,
-        ships: with(&group.ships, ship),
-    })
-}
-
-// A line with a ship at a place, and the ships of its group there.
-fn line_with(
-    instance: &Instance,
-    chamber: u8,
-    line: &Line,
-    ship: u8,
-    place: Place,
-) -> Option<(Line, Ships)>
-    requires chamber_in { chamber < length instance.now.chambers }
-    requires ship_in { ship < length instance.now.ships }
-{
-    let mut longer = line.copy();
-    match place {
-        Place::Into(i) => {
-            let group = joined(instance, chamber, line.as_slice().get(i)?, ship)?;
-            let ships = group.ships.copy();
-            longer.set(i, group);
-            Some((longer, ships))
-        }
-        Place::Before(i) => {
-            let ships = Ships::single(ship);
-            let way = instance.ships.as_slice()[ship as usize].way;
-            if i > line.as_slice().len() || line.as_slice().len() >= 24 {
-                return None;
-            }
-            longer.insert(
-                i,
-                Group {
-                    way,
-                    ships: ships.copy(),
-                },
-            );
-            Some((longer, ships))
-        }
-    }
-}
-
-// Appends a trial of a place, where the ship can be put there and the draft stays below so many minutes.
+// Appends a trial of a place, where the ship can be put there and its row stays below so many minutes.
 fn try_place(
     instance: &Instance,
     draft: &Draft,
@@ -91,18 +29,22 @@ fn try_place(
     requires chamber_in { trial.chamber < length instance.now.chambers }
     requires ship_in { ship < length instance.now.ships }
 {
-    let line = draft.line(trial.chamber);
-    if let Some((longer, _)) = line_with(instance, trial.chamber, line, ship, trial.place) {
-        let flow = line_flow(instance, trial.chamber, longer.as_slice());
-        trial.flow = trial.flow.saturating_add(flow);
-        if trial.flow < below && trials.push(trial).is_err() {
+    let Trial {
+        chamber,
+        place,
+        flow: others,
+    } = trial;
+    let row = draft.row(chamber);
+    if let Some(flow) = flow_with(instance, chamber, row, ship, place, below) {
+        trial.flow = others.saturating_add(flow);
+        if trials.push(trial).is_err() {
             return Err(NoMemory);
         }
     }
     Ok(())
 }
 
-// Tries all places of a chamber's line.
+// Tries all places of a chamber's line, but those behind one where the ship comes too late.
 fn try_line(
     instance: &Instance,
     draft: &Draft,
@@ -114,11 +56,13 @@ fn try_line(
     requires chamber_in { chamber < length instance.now.chambers }
     requires ship_in { ship < length instance.now.ships }
 {
-    let line = draft.line(chamber).as_slice();
-    let others = draft
-        .flow(instance)
-        .saturating_sub(line_flow(instance, chamber, line));
-    for i in 0..line.len() + 1 {
+    let row = draft.row(chamber);
+    let others = draft.flow().saturating_sub(row.flow());
+    let below = below.saturating_sub(others);
+    for i in 0..row.line().as_slice().len() + 1 {
+        if is_too_late(instance, chamber, row, ship, i, below) {
+            break;
+        }
         for place in [Place::Into(i), Place::Before(i)] {
             let trial = Trial {
                 chamber,
@@ -146,39 +90,42 @@ fn put_so<F: Fitting>(
     if trial.chamber as usize >= instance.chambers.as_slice().len() {
         return Ok(false);
     }
-    let line = draft.line(trial.chamber);
-    let Some((longer, ships)) = line_with(instance, trial.chamber, line, ship, trial.place) else {
+    let line = draft.row(trial.chamber).line();
+    let Some(group) = group_with(instance, line, ship, trial.place) else {
         return Ok(false);
     };
-    if fits(instance, trial.chamber, &ships, fitting)?.is_none() {
+    if fits(instance, trial.chamber, &group.ships, fitting)?.is_none() {
         return Ok(false);
     }
-    draft.set_line(trial.chamber, longer);
+    let Some(longer) = line_with(line, trial.place, group) else {
+        return Ok(false);
+    };
+    draft.set_row(trial.chamber, Row::of(instance, trial.chamber, longer));
     Ok(true)
 }
 
 /// Puts a ship where it costs least and fits, if the flow times of the draft stay below so many
 /// minutes; whether it was put.
 pub(crate) fn put<F: Fitting>(
-    alloc: Global,
     instance: &Instance,
     draft: &mut Draft,
     ship: u8,
     below: u64,
+    trials: &mut Vec<Trial>,
     fitting: &mut F,
 ) -> Result<bool, NoMemory>
     requires ship_in { ship < length instance.now.ships }
     requires same { F.instance fitting.old ≡ instance.now }
     ensures same { F.instance fitting.new ≡ instance.now }
 {
-    let mut trials = Vec::new(alloc);
+    trials.clear();
     for chamber in 0..instance.chambers.as_slice().len() as u8 {
-        try_line(instance, draft, ship, chamber, below, &mut trials)?;
+        try_line(instance, draft, ship, chamber, below, trials)?;
     }
     if trials.sort_by_key(|trial| trial.flow).is_err() {
         return Err(NoMemory);
     }
-    for trial in &trials {
+    for trial in trials.as_slice() {
         if put_so(instance, draft, ship, trial, fitting)? {
             return Ok(true);
         }
