@@ -16,7 +16,6 @@ use crate::searching::{Lent, worked};
 use crate::settling::settled;
 use book_core::{Book, Case};
 use lock_io::Gate;
-use lock_model::Verdict;
 use node_work::Search;
 use place_refute::copy_cut;
 use plain_text::NoMemory;
@@ -28,34 +27,18 @@ use std::mem;
 use std::sync::Wait;
 use std::thread::Threads;
 
-// After so many nodes it is told whether an instance is hard.
+// An instance that isn't solved after so many nodes is hard.
 const FIRST_NODES: u32 = 1_000;
 
-// With no more ships than this most instances are solved without prices, so that it is told later.
-const FEW_SHIPS: usize = 16;
-
-// An instance that isn't solved after so many nodes is hard in any case: some 40 ms of one worker.
-const PLAIN_NODES: u32 = 25_000;
+// A budget of no more nodes than this is searched without prices to its end.
+const SMALL_BUDGET: u32 = 25_000;
 
 /// How many nodes of a case are searched before it is told whether it is hard: all of a small budget.
 pub(crate) fn first_nodes(case: &Case) -> u32 {
-    if case.nodes <= PLAIN_NODES {
+    if case.nodes <= SMALL_BUDGET {
         u32::MAX
-    } else if case.instance.ships.as_slice().len() <= FEW_SHIPS {
-        PLAIN_NODES
     } else {
         FIRST_NODES
-    }
-}
-
-// Whether the best plan costs at most a twentieth more than what is open may: such a search mostly ends
-// before prices would have told anything.
-fn is_near(book: &Book) -> bool {
-    match book.verdict() {
-        Verdict::OpenNodes { low, .. } => {
-            book.best_cost().saturating_sub(low) <= book.best_cost() / 20
-        }
-        _ => true,
     }
 }
 
@@ -168,8 +151,8 @@ fn priced<R: Threads + Wait + Sync, G: Gate + Sync>(
 }
 
 #[tactic(auto, using(crate::proofs::ReadyLemmas::ready_driven, crate::proofs::ReadyLemmas::ready_again, crate::proofs::DrivenLemmas::own_still))]
-// Searches a book without prices until it is told whether the instance is hard. One that isn't solved by
-// then begins again, with prices, the best plan and the cuts that were found.
+// Searches a book without prices for its first nodes. An instance that isn't solved by then begins again,
+// with prices, the best plan and the cuts that were found.
 fn begun<R: Threads + Wait + Sync, G: Gate + Sync>(
     lent: &Lent<'_, R, G>,
     driver: &mut Driver<'_>,
@@ -182,9 +165,6 @@ fn begun<R: Threads + Wait + Sync, G: Gate + Sync>(
     ensures search { driver.new.search ≡ driver.old.search }
 {
     if drive_some(driver, &mut book, first_nodes(lent.case))? {
-        return Ok(book);
-    }
-    if is_near(&book) && drive_some(driver, &mut book, PLAIN_NODES)? {
         return Ok(book);
     }
     let again = begun_again(lent.alloc, book);
