@@ -1,11 +1,12 @@
 -- Choices by their sums, and what is enough of them.
-use Rattle.std.proofs.Common.{◌≡◌, ◌≢◌, ℕ, suc, ◌+◌, ◌*◌, ◌<◌, ◌≤◌, true, cond, ◌⊎◌, inl, inr, Some, None, List, [], ◌∷◌, ◌++◌, length, drop, filter, sum_by, All, Contains, refl, sym, ap, ◌∙◌, subst, arith, slice_index_or}
+use Rattle.std.proofs.Common.{◌≡◌, ◌≢◌, ℕ, zero, suc, ◌+◌, ◌*◌, ◌<◌, ◌≤◌, ℤ, pos, ◌≤ℤ◌, true, cond, ◌⊎◌, inl, inr, Some, None, List, [], ◌∷◌, ◌++◌, length, drop, filter, sum_by, All, Contains, refl, sym, ap, ◌∙◌, subst, arith, slice_index_or}
 use Rattle.std.specs.declared.option.Option.{Option}
 use Rattle.std.proofs.Math.Seq.{get_or-append_seam, drop-cons}
 use Rattle.std.proofs.lemmas.Bool.Decides.{eqb_tells, leb_tells}
 use Rattle.std.proofs.lemmas.List.{get_or_append_left, get_or_default, length-append, length-drop}
 use Rattle.std.specs.List.Sorted.{IsPermutation}
 use Rattle.std.proofs.lemmas.List.Sorted.{All-permutation, Contains-permutation}
+use Rattle.std.proofs.lemmas.Int.{ints}
 use Rattle.std.proofs.lemmas.List.Sums.{sum_by-cons}
 use Rattle.std.proofs.lemmas.List.Elements.{All-push, All-append, All-weaker, Contains-append_left, Contains-append_right}
 use Rattle.list_laws.proofs.Lists.{same-heads}
@@ -17,15 +18,20 @@ use Rattle.lock_model.specs.declared.way.Way.TheVariants.{Up, Down}
 use Rattle.lock_rules.specs.Arrival.{first_ships}
 use Rattle.lock_rules.specs.Node.{IsNodeGroup}
 use Rattle.lock_rules.specs.Trace.{has_number}
+use Rattle.lock_rules.specs.Children.{insert_number}
+use Rattle.lock_rules.proofs.AmongLemmas.{contains-times}
 use Rattle.lock_rules.proofs.CountLemmas.{sum_by-passing}
+use Rattle.lock_rules.proofs.TreeLemmas.{length-insert_number}
 use Rattle.lock_rules.proofs.SplitLemmas.{filter-all}
 use Rattle.price_rules.specs.Prices.{PlainCut, IsUncut, is_missing, price_at}
 use Rattle.price_bound.specs.declared.choice.Choice.{Choice}
-use Rattle.price_bound.specs.Worth.{arrivals_of, paid_on, ServeAsWell, IsKeptGroup}
+use Rattle.price_bound.specs.Worth.{arrivals_of, paid_on, ServeAsWell, ServeFrom, IsKeptGroup}
 use Rattle.price_bound.specs.Sparing.{AreForbidden}
 use Rattle.price_bound.specs.Growing.{IsGrown, AreGrown}
 use Rattle.price_bound.specs.Choosing.{Keeps, rate_of, IsChoice, Serves, IsServed, IsOn, IsBaseOf, IsVain, IsCovered, HaveMore, HasOne, HavePut, HaveSome, AreSome, AreChoices}
-use Rattle.price_bound.proofs.ServeLemmas.{serve-themselves, serve-through}
+use Rattle.price_bound.proofs.ServeLemmas.{serve-themselves, serve-from, serve-both, serve-later, serve-worth}
+use Rattle.price_bound.proofs.IdleLemmas.{fewer-serve, sum-insert}
+use Rattle.price_bound.proofs.GrowLemmas.{is_other, again, grown-fewer, missing-fresh}
 
 module _ (I : Instance) (k : ℕ) (prices : List ℕ) where
   -- the rates of ships are what they pay and 100 times their arrivals
@@ -42,15 +48,15 @@ module _ (I : Instance) (k : ℕ) (prices : List ℕ) where
         sum_by-cons (λ s. (ship_at I s).arrival) s ss,
       )
 
-  pub served-itself : (choices : List Choice) (h : Choice) → Contains choices h → IsServed I k prices choices h.joins h.group
-  served-itself choices h held = record { choice = h; held = held; joins = refl; way = refl; as_good = serve-themselves I k prices h.group.ships }
+  pub served-itself : (c : ℕ) (choices : List Choice) (h : Choice) → Contains choices h → IsServed I c k prices choices h.joins h.group
+  served-itself c choices h held = record { choice = h; held = held; joins = refl; way = refl; as_good = serve-from I c k prices h.group.ships h.group.ships 0 (serve-themselves I k prices h.group.ships) }
 
   -- more choices serve what fewer do
-  pub served-more : (old new : List Choice) (to : Option ℕ) (g : Group) → ((h : Choice) → Contains old h → Contains new h) → IsServed I k prices old to g → IsServed I k prices new to g
-  served-more old new to g more served = record { choice = served.choice; held = more served.choice served.held; joins = served.joins; way = served.way; as_good = served.as_good }
+  pub served-more : (c : ℕ) (old new : List Choice) (to : Option ℕ) (g : Group) → ((h : Choice) → Contains old h → Contains new h) → IsServed I c k prices old to g → IsServed I c k prices new to g
+  served-more c old new to g more served = record { choice = served.choice; held = more served.choice served.held; joins = served.joins; way = served.way; as_good = served.as_good }
 
   pub covered-more : (c : ℕ) (old new : List Choice) (to : Option ℕ) (g : Group) → ((h : Choice) → Contains old h → Contains new h) → IsCovered I c k prices old to g → IsCovered I c k prices new to g
-  covered-more c old new to g more covered = elim covered [ inl served ↦ inl (served-more old new to g more served) | inr vain ↦ inr vain ]
+  covered-more c old new to g more covered = elim covered [ inl served ↦ inl (served-more c old new to g more served) | inr vain ↦ inr vain ]
 
   same-kept : (line : List Group) (to : Option ℕ) (g h : Group) → Keeps I k line to g → Keeps I k line to h → filter (has_number (first_ships I k)) g.ships ≡ filter (has_number (first_ships I k)) h.ships
   same-kept line None g h first second = first ∙ sym second
@@ -67,14 +73,14 @@ module _ (I : Instance) (k : ℕ) (prices : List ℕ) where
       pays = omega (arith, serves.pays, first.sums.pays, second.sums.pays, rates-sum other.group.ships, rates-sum choice.group.ships);
     }
 
-    pub served-by : (choices : List Choice) (other choice : Choice) → Contains choices other → Serves other choice → IsChoice I c cuts k prices line other → IsChoice I c cuts k prices line choice → IsServed I k prices choices choice.joins choice.group
-    served-by choices other choice held serves first second = record { choice = other; held = held; joins = serves.joins; way = serves.way; as_good = serves-well other choice serves first second }
+    pub served-by : (choices : List Choice) (other choice : Choice) → Contains choices other → Serves other choice → IsChoice I c cuts k prices line other → IsChoice I c cuts k prices line choice → IsServed I c k prices choices choice.joins choice.group
+    served-by choices other choice held serves first second = record { choice = other; held = held; joins = serves.joins; way = serves.way; as_good = serve-from I c k prices other.group.ships choice.group.ships 0 (serves-well other choice serves first second) }
 
     pub one-pushed : (old : List Choice) (choice : Choice) → All (IsChoice I c cuts k prices line) old → IsChoice I c cuts k prices line choice → HasOne I c cuts k prices line choice old (old ++ choice ∷ [])
     one-pushed old choice each is = record {
       each = All-push (IsChoice I c cuts k prices line) old choice each is;
       kept = λ h at. (at.0, omega (arith, at.1, length-append old (choice ∷ [])), get_or_append_left old (choice ∷ []) h at.0 at.1 ∙ at.2);
-      served = served-itself (old ++ choice ∷ []) choice (length old, omega (arith, length-append old (choice ∷ [])), get_or-append_seam old choice [] choice);
+      served = served-itself c (old ++ choice ∷ []) choice (length old, omega (arith, length-append old (choice ∷ [])), get_or-append_seam old choice [] choice);
     }
 
     -- choices put one after another
@@ -89,8 +95,8 @@ module _ (I : Instance) (k : ℕ) (prices : List ℕ) where
       done = λ j d less inside. elim (eqb_tells j i) [
         | inl y ↦
             let same : h ≡ slice_index_or more j d = is ∙ get_or_default more i h d here ∙ ap (λ i. slice_index_or more i d) (sym y.1) in
-            subst (λ h. IsServed I k prices new h.joins h.group) same one.served
-        | inr m ↦ served-more now new (slice_index_or more j d).joins (slice_index_or more j d).group one.kept (have.done j d (earlier i j less m.1) inside)
+            subst (λ h. IsServed I c k prices new h.joins h.group) same one.served
+        | inr m ↦ served-more c now new (slice_index_or more j d).joins (slice_index_or more j d).group one.kept (have.done j d (earlier i j less m.1) inside)
       ];
     }
       where
@@ -114,16 +120,16 @@ module _ (I : Instance) (k : ℕ) (prices : List ℕ) where
         covered = λ g uncut on. elim (have.covered g uncut on) [ inl first ↦ inl (put-served more old new put g first) | inr vain ↦ inr vain ];
       }
         where
-          put-served : (more old new : List Choice) → HavePut I c cuts k prices line more (length more) old new → (g : Group) → IsServed I k prices more to g → IsServed I k prices new to g
+          put-served : (more old new : List Choice) → HavePut I c cuts k prices line more (length more) old new → (g : Group) → IsServed I c k prices more to g → IsServed I c k prices new to g
           put-served more old new put g first =
               let at = first.held in
-              let then = subst (λ h. IsServed I k prices new h.joins h.group) at.2 (put.done at.0 first.choice at.1 at.1) in
+              let then = subst (λ h. IsServed I c k prices new h.joins h.group) at.2 (put.done at.0 first.choice at.1 at.1) in
               record {
                 choice = then.choice;
                 held = then.held;
                 joins = then.joins ∙ first.joins;
                 way = then.way ∙ first.way;
-                as_good = serve-through I k prices then.choice.group.ships first.choice.group.ships g.ships then.as_good first.as_good;
+                as_good = serve-both I c k prices then.choice.group.ships first.choice.group.ships g.ships 0 then.as_good first.as_good;
               }
 
       -- choices put to others
@@ -155,7 +161,7 @@ module _ (I : Instance) (k : ℕ) (prices : List ℕ) where
         allowed = All-weaker (λ s. s < length I.ships) (λ s. (has_number (first_ships I k) s ≡ true) ⊎ (s < length I.ships)) (λ s h. inr h) g.ships uncut.known;
       }
 
-      module _ (to : Option ℕ) (groups : List Group) (grown : AreGrown I c k sets base (length I.ships) groups) where
+      module _ (to : Option ℕ) (groups : List Group) (grown : AreGrown I c k prices sets base (length I.ships) groups) where
         before : (i j : ℕ) → j < suc i → j ≢ i → j < i
         before i j less m = elim (leb_tells (suc j) i) [ inl y ↦ y.1 | inr q ↦ absurd (m (omega (arith, less, q.1))) ]
 
@@ -178,7 +184,7 @@ module _ (I : Instance) (k : ℕ) (prices : List ℕ) where
           done = λ j e less inside some. elim (eqb_tells j i) [
             | inl y ↦
                 let same : choice.group ≡ slice_index_or groups j e = is ∙ sym (ap (λ j. slice_index_or groups j e) y.1 ∙ get_or_default groups i e d here) in
-                inl (subst (IsServed I k prices new to) same (subst (λ to. IsServed I k prices new to choice.group) joins one.served))
+                inl (subst (IsServed I c k prices new to) same (subst (λ to. IsServed I c k prices new to choice.group) joins one.served))
             | inr m ↦ covered-more c now new to (slice_index_or groups j e) one.kept (have.done j e (before i j less m.1) inside some)
           ];
         }
@@ -194,13 +200,51 @@ module _ (I : Instance) (k : ℕ) (prices : List ℕ) where
           ];
         }
 
-        pub some-done : (old new : List Choice) → HaveSome I c cuts k prices line to groups (length groups) old new → HaveMore I c cuts k prices line to base old new
-        some-done old new have = record {
+        -- a group that others serve for is covered where they are
+        covered-by : (known : c < length I.chambers) (choices : List Choice) (way : Way) (hs gs : List ℕ) → ServeFrom I c k prices 0 hs gs → IsCovered I c k prices choices to (record { way = way; ships = hs }) → IsCovered I c k prices choices to (record { way = way; ships = gs })
+        covered-by known choices way hs gs well (inl served) = inl (record {
+          choice = served.choice;
+          held = served.held;
+          joins = served.joins;
+          way = served.way;
+          as_good = serve-both I c k prices served.choice.group.ships hs gs 0 served.as_good well;
+        })
+        covered-by known choices way hs gs well (inr vain) = inr (record {
+          alone = vain.alone;
+          gainless = λ stand from past. above _ _ (vain.gainless stand from past) (serve-worth I c known k prices way hs gs stand from (serve-later I c k prices hs gs 0 from (omega arith) well));
+        })
+          where
+            above : (u v : ℤ) → pos 0 ≤ℤ u → u ≤ℤ v → pos 0 ≤ℤ v
+            above u v h j = omega (arith, ints)
+
+        -- ALL ARE COVERED: one with a ship that gains nothing as it is without the ship.
+        covered-all : (known : c < length I.chambers) (old new : List Choice) → HaveSome I c cuts k prices line to groups (length groups) old new → (n : ℕ) (g : Group) → length g.ships ≤ n → IsUncut I c cuts g → IsOn I k base g → IsCovered I c k prices new to g
+        covered-all known old new have zero g small uncut on = absurd (omega (arith, small, uncut.good.count.0))
+        covered-all known old new have (suc n) g small uncut on =
+            let is = uncut-grown g uncut on in
+            elim (grown.whole g is) [
+              | inl at ↦ subst (IsCovered I c k prices new to) at.2 (have.done at.0 g at.1 at.1 (subst (λ g. 1 ≤ length g.ships) (sym at.2) uncut.good.count.0))
+              | inr idler ↦
+                  let s = idler.ship in
+                  let less = filter (is_other s) g.ships in
+                  let h : Group = record { way = g.way; ships = less } in
+                  let fewer = grown-fewer I c k prices sets base (length I.ships) s g (missing-fresh I k s idler.missing) is in
+                  let back : insert_number s less ≡ g.ships = again s g.ships is.rising (contains-times g.ships s idler.held) in
+                  let count : length g.ships ≡ suc (length less) = ap length (sym back) ∙ length-insert_number s less in
+                  let sums = rates-sum g.ships in
+                  let others = rates-sum less in
+                  let more : sum_by (rate_of I k prices) g.ships ≡ rate_of I k prices s + sum_by (rate_of I k prices) less = ap (sum_by (rate_of I k prices)) (sym back) ∙ sum-insert (rate_of I k prices) s less in
+                  let rate : rate_of I k prices s ≡ 100 * (ship_at I s).arrival + price_at prices s = λ i. 100 * (ship_at I s).arrival + cond (idler.missing i) (price_at prices s) 0 in
+                  let well = fewer-serve I c k prices (is_other s) s (rate_of I k prices s) g.ships back (omega (arith, sums, others, more)) (omega (arith, rate, idler.idle)) in
+                  covered-by known new g.way less g.ships well
+                  (covered-all known old new have n h (omega (arith, count, small)) (grown-uncut (length I.ships) h fewer (omega (arith, count, idler.several))) (record { way = on.way; keeps = fewer.keeps }))
+            ]
+
+        pub some-done : (known : c < length I.chambers) (old new : List Choice) → HaveSome I c cuts k prices line to groups (length groups) old new → HaveMore I c cuts k prices line to base old new
+        some-done known old new have = record {
           each = have.each;
           kept = have.kept;
-          covered = λ g uncut on.
-              let at = grown.whole g (uncut-grown g uncut on) in
-              subst (IsCovered I c k prices new to) at.2 (have.done at.0 g at.1 at.1 (subst (λ g. 1 ≤ length g.ships) (sym at.2) uncut.good.count.0));
+          covered = λ g uncut on. covered-all known old new have (length g.ships) g (omega arith) uncut on;
         }
 
 module _ (I : Instance) (c k : ℕ) (line : List Group) where

@@ -21,7 +21,8 @@ use Rattle.lock_rules.proofs.SplitLemmas.{RisesFrom-increasing, All-times, times
 use Rattle.lock_rules.proofs.NodeLemmas.{RisesFrom-insert, All-insert_number, increasing-RisesFrom}
 use Rattle.price_rules.specs.Prices.{is_missing}
 use Rattle.price_bound.specs.Sparing.{Misses}
-use Rattle.price_bound.specs.Growing.{IsAllowed, IsGrown, AreGrown, MayJoin, AreJoining, IsNew, IsBase, IsJoined}
+use Rattle.price_bound.specs.Growing.{IsAllowed, IsGrown, AreGrown, HasIdler, MayJoin, AreJoining, IsNew, IsBase, IsJoined}
+use Rattle.price_bound.proofs.IdleLemmas.{idler-more}
 
 -- a number stands once at most among rising numbers
 rising-once : (low s : ℕ) (xs : List ℕ) → RisesFrom low xs → times_in xs s ≤ 1
@@ -46,7 +47,7 @@ module _ (n : ℕ) where
   other-else t differ = elim (eqb_tells t n) [ inl y ↦ absurd (differ y.1) | inr m ↦ ap not (sym m.0) ]
 
   -- a number that is taken out of rising numbers and put in again
-  again : (xs : List ℕ) → IsStrictlyIncreasing xs → 1 ≤ times_in xs n → insert_number n (filter is_other xs) ≡ xs
+  pub again : (xs : List ℕ) → IsStrictlyIncreasing xs → 1 ≤ times_in xs n → insert_number n (filter is_other xs) ≡ xs
   again xs rising some =
       let rises = RisesFrom-increasing xs rising in
       sym (filter-present is_other (λ _. true) n other-itself refl other-else 0 xs rises (omega (arith, some, rising-once 0 n xs rises))) ∙ filter-all xs
@@ -98,22 +99,22 @@ before i j less m = elim (leb_tells (suc j) i) [ inl y ↦ y.1 | inr q ↦ absur
 same-place : (gs : List Group) (i j : ℕ) (e d : Group) → i < length gs → j ≡ i → slice_index_or gs j e ≡ slice_index_or gs i d
 same-place gs i j e d here same = ap (λ j. slice_index_or gs j e) same ∙ get_or_default gs i e d here
 
-module _ (I : Instance) (c k : ℕ) (sets : List (List ℕ)) (base : Group) where
+module _ (I : Instance) (c k : ℕ) (prices : List ℕ) (sets : List (List ℕ)) (base : Group) where
   abbrev kept : ℕ → Bool
   kept = has_number (first_ships I k)
 
   -- at first the base alone
-  pub grown-first : IsGrown I c k sets base 0 base → AreGrown I c k sets base 0 (base ∷ [])
+  pub grown-first : IsGrown I c k sets base 0 base → AreGrown I c k prices sets base 0 (base ∷ [])
   grown-first is = record {
     each = All-cons (IsGrown I c k sets base 0) base [] is (All-nil (IsGrown I c k sets base 0));
-    whole = λ g h. (0, omega arith, same g h);
+    whole = λ g h. inl (0, omega arith, same g h);
   }
     where
       same : (g : Group) → IsGrown I c k sets base 0 g → base ≡ g
       same g h = λ i. record { way = sym h.way i; ships = (sym h.keeps ∙ all-kept I k g.ships h.allowed) i }
 
   -- none where a forbidden set is in the base
-  pub grown-none : (n : ℕ) → ¬ All (Misses base.ships) sets → AreGrown I c k sets base n []
+  pub grown-none : (n : ℕ) → ¬ All (Misses base.ships) sets → AreGrown I c k prices sets base n []
   grown-none n hit = record {
     each = All-nil (IsGrown I c k sets base n);
     whole = λ g h. absurd (hit (misses-fewer base.ships g.ships sets (subst (All (Contains g.ships)) h.keeps (All-filter kept (Contains g.ships) g.ships (λ j d here. Contains-get_or g.ships j d here))) h.missed));
@@ -134,6 +135,22 @@ module _ (I : Instance) (c k : ℕ) (sets : List (List ℕ)) (base : Group) wher
       step : (s : ℕ) → IsAllowed I k n s → IsAllowed I k (suc n) s
       step s (inl h) = inl h
       step s (inr h) = inr (omega (arith, h))
+
+  -- without a missing ship it was grown too
+  pub grown-fewer : (n s : ℕ) (g : Group) → kept s ≡ false → IsGrown I c k sets base n g → IsGrown I c k sets base n (record { way = g.way; ships = filter (is_other s) g.ships })
+  grown-fewer n s g fresh h =
+      let less = filter (is_other s) g.ships in
+      let among : All (Contains g.ships) less = All-filter (is_other s) (Contains g.ships) g.ships (λ j d here. Contains-get_or g.ships j d here) in
+      record {
+        rising = increasing-RisesFrom 0 less (RisesFrom-filter (is_other s) 0 g.ships (RisesFrom-increasing g.ships h.rising));
+        known = All-filter (is_other s) (λ t. t < length I.ships) g.ships h.known;
+        few = omega (arith, h.few, filter-shorter (is_other s) g.ships);
+        way = h.way;
+        ways = All-filter (is_other s) (λ t. (ship_at I t).way ≡ base.way) g.ships h.ways;
+        missed = misses-fewer less g.ships sets among h.missed;
+        keeps = keeps-without s kept fresh g.ships ∙ h.keeps;
+        allowed = All-filter (is_other s) (IsAllowed I k n) g.ships h.allowed;
+      }
 
   module _ (n : ℕ) (fresh : kept n ≡ false) where
     -- a grown group doesn't have the ship yet
@@ -208,8 +225,8 @@ module _ (I : Instance) (c k : ℕ) (sets : List (List ℕ)) (base : Group) wher
         lower s other (inl h) = inl h
         lower s other (inr h) = elim (leb_tells (suc s) n) [ inl y ↦ inr y.1 | inr q ↦ absurd (other (omega (arith, h, q.1))) ]
 
-    module _ (old : List Group) (were : AreGrown I c k sets base n old) where
-      pub joining-start : AreJoining I c k sets base n old 0 old
+    module _ (old : List Group) (were : AreGrown I c k prices sets base n old) where
+      pub joining-start : AreJoining I c k prices sets base n old 0 old
       joining-start = record {
         each = All-weaker (IsGrown I c k sets base n) (IsGrown I c k sets base (suc n)) (grown-more n) old were.each;
         long = omega arith;
@@ -218,52 +235,64 @@ module _ (I : Instance) (c k : ℕ) (sets : List (List ℕ)) (base : Group) wher
       }
 
       -- WHAT WAS GROWN and all that may join: the groups with one ship more.
-      pub joining-done : (groups : List Group) → AreJoining I c k sets base n old (length old) groups → AreGrown I c k sets base (suc n) groups
+      pub joining-done : (groups : List Group) → AreJoining I c k prices sets base n old (length old) groups → AreGrown I c k prices sets base (suc n) groups
       joining-done groups are = record {
         each = are.each;
         whole = λ g h. elim (leb_tells 1 (times_in g.ships n)) [
           | inl some ↦
               let parts = grown-without g h some.1 in
               let less : Group = record { way = g.way; ships = filter (is_other n) g.ships } in
-              let at = were.whole less parts.0 in
-              let may : MayJoin I c sets n (slice_index_or old at.0 less) = subst (MayJoin I c sets n) (sym at.2) parts.1 in
-              let held : Contains groups (with_ship n (slice_index_or old at.0 less)) = are.done at.0 less at.1 at.1 may in
-              let back : with_ship n (slice_index_or old at.0 less) ≡ g = ap (with_ship n) at.2 ∙ (λ i. record { way = g.way; ships = again n g.ships h.rising some.1 i }) in
-              subst (Contains groups) back held
-          | inr none ↦
-              let at = were.whole g (grown-same g h (omega (arith, none.1))) in
-              (at.0, omega (arith, at.1, are.long), are.first at.0 g at.1 ∙ at.2)
+              let back : with_ship n less ≡ g = λ i. record { way = g.way; ships = again n g.ships h.rising some.1 i } in
+              elim (were.whole less parts.0) [
+                | inl at ↦
+                    let may : MayJoin I c sets n (slice_index_or old at.0 less) = subst (MayJoin I c sets n) (sym at.2) parts.1 in
+                    subst (λ g. (Contains groups g) ⊎ HasIdler I c k prices g) (ap (with_ship n) at.2 ∙ back) (are.done at.0 less at.1 at.1 may)
+                | inr idler ↦ inr (idler-more I c k prices (is_other n) g idler)
+              ]
+          | inr none ↦ elim (were.whole g (grown-same g h (omega (arith, none.1)))) [
+            | inl at ↦ inl (at.0, omega (arith, at.1, are.long), are.first at.0 g at.1 ∙ at.2)
+            | inr idler ↦ inr idler
+          ]
         ];
       }
 
-      pub joining-next : (i : ℕ) (d : Group) (groups new : List Group) → i < length old → n < length I.ships → (ship_at I n).way ≡ base.way → AreJoining I c k sets base n old i groups
-          → IsJoined I c sets n (slice_index_or old i d) groups new → AreJoining I c k sets base n old (suc i) new
+      -- what is held or has a ship that gains nothing stays so with a group more
+      still : (gs : List Group) (x g : Group) → (Contains gs g) ⊎ HasIdler I c k prices g → (Contains (gs ++ x ∷ []) g) ⊎ HasIdler I c k prices g
+      still gs x g (inl held) = inl (Contains-before_push gs x g held)
+      still gs x g (inr idler) = inr idler
+
+      left : (g joined : Group) (groups : List Group) → (¬ MayJoin I c sets n g) ⊎ HasIdler I c k prices (with_ship n g) → MayJoin I c sets n g → with_ship n g ≡ joined → (Contains groups joined) ⊎ HasIdler I c k prices joined
+      left g joined groups (inl never) may same = absurd (never may)
+      left g joined groups (inr idler) may same = inr (subst (HasIdler I c k prices) same idler)
+
+      pub joining-next : (i : ℕ) (d : Group) (groups new : List Group) → i < length old → n < length I.ships → (ship_at I n).way ≡ base.way → AreJoining I c k prices sets base n old i groups
+          → IsJoined I c k prices sets n (slice_index_or old i d) groups new → AreJoining I c k prices sets base n old (suc i) new
       joining-next i d groups new here known way are (inl joined) =
           let g = slice_index_or old i d in
           let grown = grown-with g known way (were.each i d here) joined.0 in
           let longer = length-append groups (with_ship n g ∷ []) in
-          subst (AreJoining I c k sets base n old (suc i)) (sym joined.1) (record {
+          subst (AreJoining I c k prices sets base n old (suc i)) (sym joined.1) (record {
             each = All-push (IsGrown I c k sets base (suc n)) groups (with_ship n g) are.each grown;
             long = omega (arith, are.long, longer);
             first = λ j e inside. get_or_append_left groups (with_ship n g ∷ []) e j (omega (arith, inside, are.long)) ∙ are.first j e inside;
             done = λ j e less inside may. elim (eqb_tells j i) [
-              | inl y ↦ subst (Contains (groups ++ with_ship n g ∷ [])) (ap (with_ship n) (sym (same-place old i j e d here y.1))) (length groups, omega (arith, longer), get_or-append_seam groups (with_ship n g) [] (with_ship n g))
-              | inr m ↦ Contains-before_push groups (with_ship n g) (with_ship n (slice_index_or old j e)) (are.done j e (before i j less m.1) inside may)
+              | inl y ↦ inl (subst (Contains (groups ++ with_ship n g ∷ [])) (ap (with_ship n) (sym (same-place old i j e d here y.1))) (length groups, omega (arith, longer), get_or-append_seam groups (with_ship n g) [] (with_ship n g)))
+              | inr m ↦ still groups (with_ship n g) (with_ship n (slice_index_or old j e)) (are.done j e (before i j less m.1) inside may)
             ];
           })
       joining-next i d groups new here known way are (inr not) =
-          subst (AreJoining I c k sets base n old (suc i)) (sym not.1) (record {
+          subst (AreJoining I c k prices sets base n old (suc i)) (sym not.1) (record {
             each = are.each;
             long = are.long;
             first = are.first;
             done = λ j e less inside may. elim (eqb_tells j i) [
-              | inl y ↦ absurd (not.0 (subst (MayJoin I c sets n) (same-place old i j e d here y.1) may))
+              | inl y ↦ left (slice_index_or old i d) (with_ship n (slice_index_or old j e)) groups not.0 (subst (MayJoin I c sets n) (same-place old i j e d here y.1) may) (ap (with_ship n) (sym (same-place old i j e d here y.1)))
               | inr m ↦ are.done j e (before i j less m.1) inside may
             ];
           })
 
   -- a ship that may not join any group changes nothing
-  pub grown-skip : (n : ℕ) (groups : List Group) → ¬ IsNew I k base n → AreGrown I c k sets base n groups → AreGrown I c k sets base (suc n) groups
+  pub grown-skip : (n : ℕ) (groups : List Group) → ¬ IsNew I k base n → AreGrown I c k prices sets base n groups → AreGrown I c k prices sets base (suc n) groups
   grown-skip n groups old are = record {
     each = All-weaker (IsGrown I c k sets base n) (IsGrown I c k sets base (suc n)) (grown-more n) groups are.each;
     whole = λ g h. are.whole g (record {

@@ -1,5 +1,6 @@
 pub mod CutLemmas
 pub mod ForbiddenLemmas
+pub mod IdleLemmas
 pub mod GrowLemmas
 pub mod LineLemmas
 pub mod ChoiceLemmas

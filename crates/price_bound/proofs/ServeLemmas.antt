@@ -1,5 +1,5 @@
 -- Ships that serve as well as others make a line worth no more; so few options are enough.
-use Rattle.std.proofs.Common.{◌≡◌, ℕ, ◌+◌, ◌-◌, ◌*◌, ◌<◌, ◌≤◌, ℤ, pos, ◌+ℤ◌, ◌-ℤ◌, ◌≤ℤ◌, List, [], ◌∷◌, length, All, sum_by, refl, sym, subst, ◌∙◌, arith}
+use Rattle.std.proofs.Common.{◌≡◌, ℕ, ◌+◌, ◌-◌, ◌*◌, ◌<◌, ◌≤◌, ℤ, pos, ◌+ℤ◌, ◌-ℤ◌, ◌≤ℤ◌, List, [], ◌∷◌, length, All, sum_by, refl, sym, subst, arith}
 use Rattle.std.proofs.lemmas.Int.{ints}
 use Rattle.std.proofs.lemmas.Nat.{mul-le}
 use Rattle.std.proofs.lemmas.List.Sums.{sum_by-cons, sum_by-le-sum_by}
@@ -34,16 +34,6 @@ module _ (I : Instance) where
   pub serve-themselves : (k : ℕ) (prices ships : List ℕ) → ServeAsWell I k prices ships ships
   serve-themselves k prices ships = record { count = omega arith; same = refl; early = omega arith; quick = omega arith; pays = omega arith }
 
-  -- what serves as well as ships that serve as well as others serves as well as these: so an option that another one serves for can go
-  pub serve-through : (k : ℕ) (prices ks hs gs : List ℕ) → ServeAsWell I k prices ks hs → ServeAsWell I k prices hs gs → ServeAsWell I k prices ks gs
-  serve-through k prices ks hs gs first second = record {
-    count = omega (arith, first.count, second.count);
-    same = first.same ∙ second.same;
-    early = omega (arith, first.early, second.early);
-    quick = omega (arith, first.quick, second.quick);
-    pays = omega (arith, first.pays, second.pays);
-  }
-
   -- from any minute on
   pub serve-from : (c k : ℕ) (prices hs gs : List ℕ) (from : ℕ) → ServeAsWell I k prices hs gs → ServeFrom I c k prices from hs gs
   serve-from c k prices hs gs from well = record {
@@ -51,6 +41,28 @@ module _ (I : Instance) where
     early = omega (arith, well.early);
     quick = well.quick;
     pays = omega (arith, well.pays, mul-le (length hs) (soonest_of I c from gs) (length gs) (soonest_of I c from gs) well.count (omega arith));
+  }
+
+  -- the soonest ends of ships that serve from a minute on are no later
+  soonest-served : (c k : ℕ) (prices hs gs : List ℕ) (from : ℕ) → ServeFrom I c k prices from hs gs → soonest_of I c from hs ≤ soonest_of I c from gs
+  soonest-served c k prices hs gs from well = omega (arith, well.early, well.quick)
+
+  -- what serves for ships that serve for others serves for these: so an option that another one serves for can go
+  pub serve-both : (c k : ℕ) (prices ks hs gs : List ℕ) (from : ℕ) → ServeFrom I c k prices from ks hs → ServeFrom I c k prices from hs gs → ServeFrom I c k prices from ks gs
+  serve-both c k prices ks hs gs from first second = record {
+    count = omega (arith, first.count, second.count);
+    early = omega (arith, first.early, second.early);
+    quick = omega (arith, first.quick, second.quick);
+    pays = omega (arith, first.pays, second.pays, later-more (length ks) (length hs) (soonest_of I c from hs) (soonest_of I c from gs) first.count (soonest-served c k prices hs gs from second));
+  }
+
+  -- and from each later minute on
+  pub serve-later : (c k : ℕ) (prices hs gs : List ℕ) (late from : ℕ) → late ≤ from → ServeFrom I c k prices late hs gs → ServeFrom I c k prices from hs gs
+  serve-later c k prices hs gs late from past well = record {
+    count = well.count;
+    early = omega (arith, past, well.early);
+    quick = well.quick;
+    pays = omega (arith, well.pays, later-more (length hs) (length gs) (soonest_of I c late gs) (soonest_of I c from gs) well.count (omega (arith, past)));
   }
 
   module _ (c : ℕ) (known : c < length I.chambers) where

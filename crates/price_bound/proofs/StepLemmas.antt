@@ -16,7 +16,7 @@ use Rattle.price_rules.specs.Prices.{PlainCut, IsUncut, IsLoose}
 use Rattle.price_bound.specs.declared.choice.Choice.{Choice}
 use Rattle.price_bound.specs.Worth.{end_after, worth_of, worth_from, IsWorth, IsLeastWorth, IsKeptGroup, IsHorizon}
 use Rattle.price_bound.specs.Choosing.{Keeps, Leads, IsServed, IsVain, AreChoices, IsBelow, IsCounted}
-use Rattle.price_bound.proofs.ServeLemmas.{serve-from, serve-line, worth-skipped}
+use Rattle.price_bound.proofs.ServeLemmas.{serve-later, serve-line, worth-skipped}
 use Rattle.price_bound.proofs.LineLemmas.{worth-next, late-least}
 
 module _ (I : Instance) (c : ℕ) (known : c < length I.chambers) (cuts : List PlainCut) (k : ℕ) (prices : List ℕ) where
@@ -48,11 +48,11 @@ module _ (I : Instance) (c : ℕ) (known : c < length I.chambers) (cuts : List P
       (counted : (h : Choice) → Contains choices h → IsCounted I c cuts k prices line stand from p best h) where
     -- a choice that serves as well as the first group of a loose line
     served-below : (g : Group) (gs : List Group) (to : Option ℕ) (q : ℕ) → Leads to p q → IsLoose I c cuts k (drop q line) gs → (to ≡ None → best ≤ℤ worth_from I c k prices stand from gs)
-        → IsServed I k prices choices to g → best ≤ℤ worth_from I c k prices stand from (g ∷ gs)
+        → IsServed I c k prices choices to g → best ≤ℤ worth_from I c k prices stand from (g ∷ gs)
     served-below g gs to q leads loose skip served =
         let h : Group = record { way = g.way; ships = served.choice.group.ships } in
         let same : served.choice.group ≡ h = λ i. record { way = served.way i; ships = served.choice.group.ships } in
-        let here = serve-line I c known k prices g.way served.choice.group.ships g.ships stand from (serve-from I c k prices served.choice.group.ships g.ships from served.as_good) gs in
+        let here = serve-line I c known k prices g.way served.choice.group.ships g.ships stand from (serve-later I c k prices served.choice.group.ships g.ships 0 from (omega arith) served.as_good) gs in
         let next = worth-next I c k prices stand from g gs in
         elim (counted served.choice served.held q (subst (λ to. Leads to p q) (sym served.joins) leads)) [
           | inl below ↦ under best (worth_from I c k prices stand from (g ∷ gs)) (worth_of I c k prices stand from g +ℤ worth_from I c k prices (stand_after g.way) (end_after I c stand from g) gs)

@@ -1,5 +1,5 @@
 -- Missing ships alone that gain nothing.
-use Rattle.std.proofs.Common.{◌≡◌, ℕ, ◌+◌, ◌*◌, ◌<◌, ◌≤◌, max, inr, ℤ, pos, ◌-ℤ◌, ◌≤ℤ◌, None, List, length, ◌∙◌, arith}
+use Rattle.std.proofs.Common.{◌≡◌, ℕ, ◌+◌, ◌*◌, ◌<◌, ◌≤◌, max, ℤ, pos, ◌-ℤ◌, ◌≤ℤ◌, None, List, length, ◌∙◌, arith}
 use Rattle.std.proofs.lemmas.Int.{ints}
 use Rattle.std.proofs.lemmas.Nat.{mul-le}
 use Rattle.lock_model.specs.declared.instance.Instance.{Instance}
@@ -10,7 +10,7 @@ use Rattle.lock_rules.proofs.TimetableLemmas.{start_of-lawful, last_arrival-leas
 use Rattle.price_rules.specs.Prices.{PlainCut, paid_by}
 use Rattle.price_bound.specs.declared.choice.Choice.{Choice}
 use Rattle.price_bound.specs.Worth.{end_after, worth_of, arrivals_of}
-use Rattle.price_bound.specs.Choosing.{IsChoice, IsVain, IsCounted}
+use Rattle.price_bound.specs.Choosing.{IsChoice, IsVain}
 use Rattle.price_bound.proofs.SumLemmas.{worth-sums}
 use Rattle.price_bound.proofs.ChoiceLemmas.{rates-sum}
 
@@ -34,7 +34,3 @@ module _ (I : Instance) (c : ℕ) (known : c < length I.chambers) (cuts : List P
     where
       step : (w : ℤ) (m n p q : ℕ) → w ≡ (pos (100 * m) -ℤ pos q) → p ≡ q → p ≤ 100 * n → n ≤ m → pos 0 ≤ℤ w
       step w m n p q e same h j = omega (arith, ints)
-
-  -- So nothing is lost without them.
-  pub vain-counted : (stand : Stand) (from p : ℕ) (best : ℤ) (h : Choice) → IsVain I c k prices from h.joins h.group → IsCounted I c cuts k prices line stand from p best h
-  vain-counted stand from p best h vain = λ q leads. inr (vain.alone, vain.gainless stand from (omega arith))

@@ -14,7 +14,7 @@ use Rattle.price_bound.specs.declared.choice.Choice.{Choice}
 use Rattle.price_bound.specs.declared.level.Level.{Level}
 use Rattle.price_bound.specs.declared.menu.Menu.{Menu}
 use Rattle.price_bound.specs.Growing.{IsBase}
-use Rattle.price_bound.specs.Worth.{end_after, worth_of, worth_from, IsLeastWorth, ServeAsWell}
+use Rattle.price_bound.specs.Worth.{end_after, worth_of, worth_from, IsLeastWorth, ServeFrom}
 
 -- The ships that the group keeps are none, or those of the line's group of the place that it joins, whose way it has.
 abbrev pub Keeps : Instance → ℕ → List Group → Option ℕ → Group → Type 0
@@ -113,16 +113,16 @@ pub record IsBaseOf (I : Instance) (c k : ℕ) (line : List Group) (to : Option 
   pub keeps : (g : Group) → IsOn I k base g → Keeps I k line to g
 
 -- one of the choices joins the same group, has the same way and serves as well
-pub record IsServed (I : Instance) (k : ℕ) (prices : List ℕ) (choices : List Choice) (to : Option ℕ) (g : Group) : Type 0 where
+pub record IsServed (I : Instance) (c k : ℕ) (prices : List ℕ) (choices : List Choice) (to : Option ℕ) (g : Group) : Type 0 where
   pub choice : Choice
   pub held : Contains choices choice
   pub joins : choice.joins ≡ to
   pub way : choice.group.way ≡ g.way
-  pub as_good : ServeAsWell I k prices choice.group.ships g.ships
+  pub as_good : ServeFrom I c k prices 0 choice.group.ships g.ships
 
 -- one of the choices serves as well as the group, or it gains nothing in any state
 abbrev pub IsCovered : Instance → ℕ → ℕ → List ℕ → List Choice → Option ℕ → Group → Type 0
-IsCovered I c k prices choices to g = IsServed I k prices choices to g ⊎ IsVain I c k prices 0 to g
+IsCovered I c k prices choices to g = IsServed I c k prices choices to g ⊎ IsVain I c k prices 0 to g
 
 -- to the choices others were put, all of them right, and each uncut group on the base is covered
 pub record HaveMore (I : Instance) (c : ℕ) (cuts : List PlainCut) (k : ℕ) (prices : List ℕ) (line : List Group) (to : Option ℕ) (base : Group) (old new : List Choice) : Type 0 where
@@ -134,13 +134,13 @@ pub record HaveMore (I : Instance) (c : ℕ) (cuts : List PlainCut) (k : ℕ) (p
 pub record HasOne (I : Instance) (c : ℕ) (cuts : List PlainCut) (k : ℕ) (prices : List ℕ) (line : List Group) (choice : Choice) (old new : List Choice) : Type 0 where
   pub each : All (IsChoice I c cuts k prices line) new
   pub kept : (h : Choice) → Contains old h → Contains new h
-  pub served : IsServed I k prices new choice.joins choice.group
+  pub served : IsServed I c k prices new choice.joins choice.group
 
 -- the first i of the choices `more` were put to the others, or are served by them
 pub record HavePut (I : Instance) (c : ℕ) (cuts : List PlainCut) (k : ℕ) (prices : List ℕ) (line : List Group) (more : List Choice) (i : ℕ) (old new : List Choice) : Type 0 where
   pub each : All (IsChoice I c cuts k prices line) new
   pub kept : (h : Choice) → Contains old h → Contains new h
-  pub done : (j : ℕ) (d : Choice) → j < i → j < length more → IsServed I k prices new (slice_index_or more j d).joins (slice_index_or more j d).group
+  pub done : (j : ℕ) (d : Choice) → j < i → j < length more → IsServed I c k prices new (slice_index_or more j d).joins (slice_index_or more j d).group
 
 -- a choice of the group was put to the others or is served by one, or the group is empty or gains nothing
 pub record PutsGroup (I : Instance) (c : ℕ) (cuts : List PlainCut) (k : ℕ) (prices : List ℕ) (line : List Group) (to : Option ℕ) (g : Group) (old new : List Choice) : Type 0 where

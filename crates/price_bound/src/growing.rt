@@ -6,10 +6,11 @@ ghost use Rattle.master_branch.specs.Steps.{group_at};
 ghost use Rattle.price_bound.specs.Sparing.{IsSpared};
 ghost use Rattle.price_bound.specs.Masks.{AreNear, AreNears};
 ghost use Rattle.price_bound.specs.Choosing.{AreRates};
-ghost use Rattle.price_bound.specs.Growing.{AreGrown, MayJoin, IsJoined, IsNew, IsBase};
+ghost use Rattle.price_bound.specs.Growing.{AreGrown, MayJoin, IsJoined, IsNew, IsBase, IsPutJoined};
 
 use crate::error::{PriceError, append};
 use crate::forbidden::misses_all;
+use crate::idling::has_idler;
 use crate::line_case::LineCase;
 use crate::masks::{mask_of, misses_all_of};
 use crate::near::Near;
@@ -92,6 +93,21 @@ fn joined(growth: &Growth, near: &[u32], group: &Group, ship: u8) -> Option<Grou
     }
 }
 
+// Appends a group that has grown, unless one of its ships gains nothing: nor does it in any group that
+// grows from this one.
+fn put_joined(growth: &Growth, groups: &mut Vec<Group>, group: Group) -> Result<(), PriceError>
+    requires { All (λ s. s < length growth.now.case.now.instance.now.ships) group.ships }
+    ensures { OnOk result (IsPutJoined growth.now.case.now.instance.now growth.now.case.now.chamber growth.now.case.now.depth growth.now.case.now.prices.now group groups.old.items groups.new.items) }
+{
+    if has_idler(growth, &group) {
+        return Ok(());
+    }
+    if groups.len() >= growth.most {
+        return Err(PriceError::TooMany);
+    }
+    append(groups, group)
+}
+
 // Joins a ship to the group at a place, where that may be.
 fn join(
     growth: &Growth,
@@ -107,16 +123,11 @@ fn join(
     requires place { place < length groups.old.items }
     requires absent { times_in (group_at groups.old.items place).ships ship ≡ 0 }
     requires few { length (group_at groups.old.items place).ships ≤ 8 }
-    ensures { OnOk result (IsJoined growth.now.case.now.instance.now growth.now.case.now.chamber growth.now.sets.now ship (group_at groups.old.items place) groups.old.items groups.new.items) }
+    ensures { OnOk result (IsJoined growth.now.case.now.instance.now growth.now.case.now.chamber growth.now.case.now.depth growth.now.case.now.prices.now growth.now.sets.now ship (group_at groups.old.items place) groups.old.items groups.new.items) }
 {
     match joined(growth, near, &groups[place], ship) {
         None => Ok(()),
-        Some(group) => {
-            if groups.len() >= growth.most {
-                return Err(PriceError::TooMany);
-            }
-            append(groups, group)
-        }
+        Some(group) => put_joined(growth, groups, group),
     }
 }
 
@@ -131,8 +142,8 @@ fn join_each(
     requires near { AreNear growth.now.case.now.instance.now growth.now.sets.now (length growth.now.sets.now) ship near.now }
     requires known { ship < length growth.now.case.now.instance.now.ships }
     requires new { IsNew growth.now.case.now.instance.now growth.now.case.now.depth base.now ship }
-    requires grown { AreGrown growth.now.case.now.instance.now growth.now.case.now.chamber growth.now.case.now.depth growth.now.sets.now base.now ship groups.old.items }
-    ensures { OnOk result (AreGrown growth.now.case.now.instance.now growth.now.case.now.chamber growth.now.case.now.depth growth.now.sets.now base.now (ship + 1) groups.new.items) }
+    requires grown { AreGrown growth.now.case.now.instance.now growth.now.case.now.chamber growth.now.case.now.depth growth.now.case.now.prices.now growth.now.sets.now base.now ship groups.old.items }
+    ensures { OnOk result (AreGrown growth.now.case.now.instance.now growth.now.case.now.chamber growth.now.case.now.depth growth.now.case.now.prices.now growth.now.sets.now base.now (ship + 1) groups.new.items) }
 {
     for place in 0..groups.len() {
         join(growth, near, groups, place, ship)?;
@@ -144,8 +155,8 @@ fn join_each(
 fn grow(growth: &Growth, base: &Group, groups: &mut Vec<Group>, ship: u8) -> Result<(), PriceError>
     requires nears { AreNears growth.now.case.now.instance.now growth.now.sets.now (length growth.now.case.now.instance.now.ships) growth.now.nears.now }
     requires known { ship < length growth.now.case.now.instance.now.ships }
-    requires grown { AreGrown growth.now.case.now.instance.now growth.now.case.now.chamber growth.now.case.now.depth growth.now.sets.now base.now ship groups.old.items }
-    ensures { OnOk result (AreGrown growth.now.case.now.instance.now growth.now.case.now.chamber growth.now.case.now.depth growth.now.sets.now base.now (ship + 1) groups.new.items) }
+    requires grown { AreGrown growth.now.case.now.instance.now growth.now.case.now.chamber growth.now.case.now.depth growth.now.case.now.prices.now growth.now.sets.now base.now ship groups.old.items }
+    ensures { OnOk result (AreGrown growth.now.case.now.instance.now growth.now.case.now.chamber growth.now.case.now.depth growth.now.case.now.prices.now growth.now.sets.now base.now (ship + 1) groups.new.items) }
 {
     if !may_grow(growth.case, base, ship) {
         return Ok(());
@@ -162,7 +173,7 @@ fn grow(growth: &Growth, base: &Group, groups: &mut Vec<Group>, ship: u8) -> Res
 // The base alone, where no forbidden set is in it.
 fn ungrown(alloc: Global, growth: &Growth, base: &Group) -> Result<Vec<Group>, PriceError>
     requires { IsBase growth.now.case.now.instance.now growth.now.case.now.chamber growth.now.case.now.depth base.now }
-    ensures { IfOk result (λ groups. AreGrown growth.now.case.now.instance.now growth.now.case.now.chamber growth.now.case.now.depth growth.now.sets.now base.now 0 groups.items) }
+    ensures { IfOk result (λ groups. AreGrown growth.now.case.now.instance.now growth.now.case.now.chamber growth.now.case.now.depth growth.now.case.now.prices.now growth.now.sets.now base.now 0 groups.items) }
 {
     let mut groups = Vec::new(alloc);
     if !misses_all(growth.sets, base.ships.as_slice()) {
@@ -177,7 +188,7 @@ fn ungrown(alloc: Global, growth: &Growth, base: &Group) -> Result<Vec<Group>, P
 pub(crate) fn grown(alloc: Global, growth: &Growth, base: &Group) -> Result<Vec<Group>, PriceError>
     requires nears { AreNears growth.now.case.now.instance.now growth.now.sets.now (length growth.now.case.now.instance.now.ships) growth.now.nears.now }
     requires base { IsBase growth.now.case.now.instance.now growth.now.case.now.chamber growth.now.case.now.depth base.now }
-    ensures { IfOk result (λ groups. AreGrown growth.now.case.now.instance.now growth.now.case.now.chamber growth.now.case.now.depth growth.now.sets.now base.now (length growth.now.case.now.instance.now.ships) groups.items) }
+    ensures { IfOk result (λ groups. AreGrown growth.now.case.now.instance.now growth.now.case.now.chamber growth.now.case.now.depth growth.now.case.now.prices.now growth.now.sets.now base.now (length growth.now.case.now.instance.now.ships) groups.items) }
 {
     let count = growth.case.instance.ships.as_slice().len() as u8;
     let mut groups = ungrown(alloc, growth, base)?;

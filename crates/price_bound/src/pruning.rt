@@ -26,7 +26,7 @@ fn serves(other: &Choice, choice: &Choice) -> bool
 fn is_served(case: &LineCase, choices: &[Choice], choice: &Choice) -> bool
     requires each { All (IsChoice case.now.instance.now case.now.chamber (plain_cuts case.now.instance.now case.now.cuts.now) case.now.depth case.now.prices.now case.now.line.now) choices.now }
     requires is { IsChoice case.now.instance.now case.now.chamber (plain_cuts case.now.instance.now case.now.cuts.now) case.now.depth case.now.prices.now case.now.line.now choice.now }
-    ensures { IsTrue result → IsServed case.now.instance.now case.now.depth case.now.prices.now choices.now choice.now.joins choice.now.group }
+    ensures { IsTrue result → IsServed case.now.instance.now case.now.chamber case.now.depth case.now.prices.now choices.now choice.now.joins choice.now.group }
 {
     for other in choices {
         if serves(other, choice) {
@@ -62,7 +62,7 @@ fn put(case: &LineCase, choices: &mut Vec<Choice>, choice: Choice) -> Result<(),
 fn is_served_at(case: &LineCase, choices: &[Choice], place: Option<usize>, choice: &Choice) -> bool
     requires each { All (IsChoice case.now.instance.now case.now.chamber (plain_cuts case.now.instance.now case.now.cuts.now) case.now.depth case.now.prices.now case.now.line.now) choices.now }
     requires is { IsChoice case.now.instance.now case.now.chamber (plain_cuts case.now.instance.now case.now.cuts.now) case.now.depth case.now.prices.now case.now.line.now choice.now }
-    ensures { IsTrue result → IsServed case.now.instance.now case.now.depth case.now.prices.now choices.now choice.now.joins choice.now.group }
+    ensures { IsTrue result → IsServed case.now.instance.now case.now.chamber case.now.depth case.now.prices.now choices.now choice.now.joins choice.now.group }
 {
     match place {
         Some(place) if place < choices.len() => serves(&choices[place], choice),

@@ -12,7 +12,7 @@ add_group-requires-clause-uncut c = λ some.
     let I = case.instance.now in
     let sets = c.args.growth.now.sets.now in
     let same : c.deref-group-items.result.now ≡ c.in_ok-groups.groups.items = search rules in
-    let grown = subst (AreGrown I case.chamber case.depth sets c.args.base.now (length I.ships)) (sym same) c.in_ok-groups.ensures in
+    let grown = subst (AreGrown I case.chamber case.depth case.prices.now sets c.args.base.now (length I.ships)) (sym same) c.in_ok-groups.ensures in
     let own : IsGrown I case.chamber case.depth sets c.args.base.now (length I.ships) c.group-item.result =
     subst (IsGrown I case.chamber case.depth sets c.args.base.now (length I.ships)) (sym c.group-item.is) (grown.each c.loop-group.group-index c.group-item.result c.loop-group-test.true) in
     grown-uncut I case.depth case.prices.now case.chamber (plain_cuts case.instance.now case.cuts.now) case.line.now sets c.requires.sets c.args.base.now (length I.ships) c.group-item.result own some
@@ -26,7 +26,7 @@ loop-group-preserved c =
     let i = c.loop-group.group-index in
     let up : suc i ≡ i + 1 = omega arith in
     let same : groups ≡ c.in_ok-groups.groups.items = search rules in
-    let grown = subst (AreGrown I case.chamber case.depth sets c.args.base.now (length I.ships)) (sym same) c.in_ok-groups.ensures in
+    let grown = subst (AreGrown I case.chamber case.depth case.prices.now sets c.args.base.now (length I.ships)) (sym same) c.in_ok-groups.ensures in
     let puts : PutsGroup I case.chamber (plain_cuts case.instance.now case.cuts.now) case.depth case.prices.now case.line.now c.args.joins c.group-item.result c.loop-group.choices.items c.add_group.new.choices.items = c.in_ok-add_group.ensures in
     let have = c.loop-group.invariant in
     subst (λ i. HaveSome I case.chamber (plain_cuts case.instance.now case.cuts.now) case.depth case.prices.now case.line.now c.args.joins groups i c.args.choices.now.items c.add_group.new.choices.items) up
@@ -50,7 +50,7 @@ returns c =
     let sets = c.args.growth.now.sets.now in
     let groups = c.deref-group-items.result.now in
     let same : groups ≡ c.in_ok-groups.groups.items = search rules in
-    let grown = subst (AreGrown I case.chamber case.depth sets c.args.base.now (length I.ships)) (sym same) c.in_ok-groups.ensures in
+    let grown = subst (AreGrown I case.chamber case.depth case.prices.now sets c.args.base.now (length I.ships)) (sym same) c.in_ok-groups.ensures in
     let all : c.loop-group.group-index ≡ length groups = omega (arith, c.loop-group-test.false, c.loop-group.auto.group-index-end) in
-    some-done I case.depth case.prices.now case.chamber (plain_cuts case.instance.now case.cuts.now) case.line.now sets c.requires.sets c.args.base.now c.args.joins groups grown c.args.choices.now.items c.loop-group.choices.items
+    some-done I case.depth case.prices.now case.chamber (plain_cuts case.instance.now case.cuts.now) case.line.now sets c.requires.sets c.args.base.now c.args.joins groups grown case.chamber_in c.args.choices.now.items c.loop-group.choices.items
     (subst (λ i. HaveSome I case.chamber (plain_cuts case.instance.now case.cuts.now) case.depth case.prices.now case.line.now c.args.joins groups i c.args.choices.now.items c.loop-group.choices.items) all c.loop-group.invariant)

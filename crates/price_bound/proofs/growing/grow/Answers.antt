@@ -10,10 +10,11 @@ returns-then-not-may_grow c =
     let I = c.args.growth.now.case.now.instance.now in
     let n = c.args.growth.now.case.now.chamber in
     let k = c.args.growth.now.case.now.depth in
+    let prices = c.args.growth.now.case.now.prices.now in
     let sets = c.args.growth.now.sets.now in
     let up : suc c.args.ship ≡ c.args.ship + 1 = omega arith in
     let old : ¬ IsNew I k c.args.base.now c.args.ship = search rules in
-    subst (λ m. AreGrown I n k sets c.args.base.now m c.args.groups.now.items) up (grown-skip I n k sets c.args.base.now c.args.ship c.args.groups.now.items old c.requires.grown)
+    subst (λ m. AreGrown I n k prices sets c.args.base.now m c.args.groups.now.items) up (grown-skip I n k prices sets c.args.base.now c.args.ship c.args.groups.now.items old c.requires.grown)
 
 pub join_each-requires-clause-near : goal.join_each-requires-clause-near
 join_each-requires-clause-near c =

@@ -10,7 +10,7 @@ use Rattle.price_bound.proofs.growing.join_each.Goals as goal
 
 pub loop-place-init : goal.loop-place-init
 loop-place-init c =
-    joining-start c.args.growth.now.case.now.instance.now c.args.growth.now.case.now.chamber c.args.growth.now.case.now.depth c.args.growth.now.sets.now c.args.base.now c.args.ship
+    joining-start c.args.growth.now.case.now.instance.now c.args.growth.now.case.now.chamber c.args.growth.now.case.now.depth c.args.growth.now.case.now.prices.now c.args.growth.now.sets.now c.args.base.now c.args.ship
     (missing-fresh c.args.growth.now.case.now.instance.now c.args.growth.now.case.now.depth c.args.ship c.requires.new.missing) c.args.groups.now.items c.requires.grown
 
 pub returns : goal.returns
@@ -18,25 +18,27 @@ returns c =
     let I = c.args.growth.now.case.now.instance.now in
     let n = c.args.growth.now.case.now.chamber in
     let k = c.args.growth.now.case.now.depth in
+    let prices = c.args.growth.now.case.now.prices.now in
     let sets = c.args.growth.now.sets.now in
     let old = c.args.groups.now.items in
     let all : c.loop-place.place ≡ length old = omega (arith, c.loop-place-test.false, c.loop-place.auto.place-end, c.len-place-end.ensures, c.args.groups.now.ok) in
     let up : suc c.args.ship ≡ c.args.ship + 1 = omega arith in
-    subst (λ m. AreGrown I n k sets c.args.base.now m c.loop-place.groups.items) up
-    (joining-done I n k sets c.args.base.now c.args.ship (missing-fresh I k c.args.ship c.requires.new.missing) old c.requires.grown c.loop-place.groups.items
-    (subst (λ i. AreJoining I n k sets c.args.base.now c.args.ship old i c.loop-place.groups.items) all c.loop-place.invariant))
+    subst (λ m. AreGrown I n k prices sets c.args.base.now m c.loop-place.groups.items) up
+    (joining-done I n k prices sets c.args.base.now c.args.ship (missing-fresh I k c.args.ship c.requires.new.missing) old c.requires.grown c.loop-place.groups.items
+    (subst (λ i. AreJoining I n k prices sets c.args.base.now c.args.ship old i c.loop-place.groups.items) all c.loop-place.invariant))
 
 pub join-requires-clause-absent : goal.join-requires-clause-absent
 join-requires-clause-absent c =
     let I = c.args.growth.now.case.now.instance.now in
     let n = c.args.growth.now.case.now.chamber in
     let k = c.args.growth.now.case.now.depth in
+    let prices = c.args.growth.now.case.now.prices.now in
     let sets = c.args.growth.now.sets.now in
     let old = c.args.groups.now.items in
     let place = c.loop-place.place in
     let here : place < length old = omega (arith, c.loop-place-test.true, c.len-place-end.ensures, c.args.groups.now.ok) in
     subst (λ g. times_in g.ships c.args.ship ≡ 0) (sym (c.loop-place.invariant.first place _ here))
-    (grown-absent I n k sets c.args.base.now c.args.ship (missing-fresh I k c.args.ship c.requires.new.missing) (group_at old place) (c.requires.grown.each place _ here))
+    (grown-absent I n k prices sets c.args.base.now c.args.ship (missing-fresh I k c.args.ship c.requires.new.missing) (group_at old place) (c.requires.grown.each place _ here))
 
 pub join-requires-clause-spared : goal.join-requires-clause-spared
 join-requires-clause-spared c =
@@ -61,11 +63,12 @@ loop-place-preserved c =
     let I = c.args.growth.now.case.now.instance.now in
     let n = c.args.growth.now.case.now.chamber in
     let k = c.args.growth.now.case.now.depth in
+    let prices = c.args.growth.now.case.now.prices.now in
     let sets = c.args.growth.now.sets.now in
     let old = c.args.groups.now.items in
     let place = c.loop-place.place in
     let here : place < length old = omega (arith, c.loop-place-test.true, c.len-place-end.ensures, c.args.groups.now.ok) in
     let up : suc place ≡ place + 1 = omega arith in
-    let step = subst (λ g. IsJoined I n sets c.args.ship g c.loop-place.groups.items c.join.new.groups.items) (c.loop-place.invariant.first place _ here) c.in_ok-join.ensures in
-    subst (λ i. AreJoining I n k sets c.args.base.now c.args.ship old i c.join.new.groups.items) up
-    (joining-next I n k sets c.args.base.now c.args.ship (missing-fresh I k c.args.ship c.requires.new.missing) old c.requires.grown place _ c.loop-place.groups.items c.join.new.groups.items here c.requires.known c.requires.new.way c.loop-place.invariant step)
+    let step = subst (λ g. IsJoined I n k prices sets c.args.ship g c.loop-place.groups.items c.join.new.groups.items) (c.loop-place.invariant.first place _ here) c.in_ok-join.ensures in
+    subst (λ i. AreJoining I n k prices sets c.args.base.now c.args.ship old i c.join.new.groups.items) up
+    (joining-next I n k prices sets c.args.base.now c.args.ship (missing-fresh I k c.args.ship c.requires.new.missing) old c.requires.grown place _ c.loop-place.groups.items c.join.new.groups.items here c.requires.known c.requires.new.way c.loop-place.invariant step)
