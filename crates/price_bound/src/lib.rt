@@ -3,7 +3,8 @@
 //! `reaches` says whether a node reaches a cost by prices and cuts, exactly; `price_sum` is the sum
 //! by which it does; `show` makes a `Shown`, the value that carries the fact. For each chamber the
 //! least of `100 * flow - paid` over its loose lines is found apart: the uncut groups of missing ships
-//! are grown ship by ship, those that gain nothing or that another one serves for as well are left out, and the states of the chamber that can be reached are worked out with their values remembered, up to
+//! are grown ship by ship, those that gain nothing or that another one serves for as well are left out,
+//! and the states of the chamber that can be reached are worked out with their values remembered, up to
 //! the minute from which on missing ships may be left out of a line.
 //!
 //! What is worked out is kept for later calls in `KeptLines`, which helps speed alone; nothing else that
