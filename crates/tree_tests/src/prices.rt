@@ -208,9 +208,9 @@ fn more_groups_or_turns_than_allowed_are_refused(rt: HostRuntime) -> Result<(), 
         cuts: &[],
     };
     for (groups, turns, sum) in [
-        (4, 1000, Ok(Some(7500))),
-        (3, 1000, Err(PriceError::TooMany)),
-        (4, 0, Err(PriceError::TooMany)),
+        (3, 1000, Ok(Some(7500))),
+        (2, 1000, Err(PriceError::TooMany)),
+        (3, 0, Err(PriceError::TooMany)),
     ] {
         let mut kept = KeptLines::new(rt.alloc());
         assert_eq!(rt; price_sum(&mut kept, &asked, Limits { groups, turns }), sum);
