@@ -1,9 +1,9 @@
 -- What may come next, place by place.
-use Rattle.std.proofs.Common.{◌≡◌, ℕ, suc, Bool, true, false, ◌⊎◌, ℤ, ◌+◌, ◌<◌, ◌≤◌, cond, nat_lt, inl, inr, List, [], ◌∷◌, ◌++◌, length, All, Contains, refl, sym, ap, ◌∙◌, subst, arith, slice_index_or}
+use Rattle.std.proofs.Common.{◌≡◌, ℕ, suc, Bool, true, false, ◌⊎◌, ℤ, ◌+◌, ◌<◌, ◌≤◌, cond, nat_lt, inl, inr, List, [], ◌∷◌, ◌++◌, length, All, Contains, sym, ap, ◌∙◌, subst, arith, slice_index_or}
 use Rattle.std.proofs.Math.Seq.{get_or-append_seam}
 use Rattle.std.proofs.lemmas.Bool.Decides.{leb_tells}
 use Rattle.std.proofs.lemmas.List.{get_or_append_left, get_or_default, length-append}
-use Rattle.std.proofs.lemmas.List.Elements.{All-nil, All-contains, All-push, All-weaker, Contains-append_left, Contains-push}
+use Rattle.std.proofs.lemmas.List.Elements.{All-contains, All-push, All-weaker, Contains-append_left, Contains-push}
 use Rattle.list_laws.proofs.Lists.{Contains-before_push}
 use Rattle.lock_model.specs.declared.instance.Instance.{Instance}
 use Rattle.lock_model.specs.declared.group.Group.{Group}
@@ -14,9 +14,6 @@ use Rattle.price_bound.specs.declared.level.Level.{Level}
 use Rattle.price_bound.specs.declared.menu.Menu.{Menu}
 use Rattle.price_bound.specs.Choosing.{IsChoice, IsCounted, Leads, AreFor, IsPutFor, IsLevelFor, AreLevelsFor, IsMenu, AreMade, AreMenus, list_at, list_of}
 use Rattle.price_bound.proofs.LateLemmas.{counted-listed, listed-each}
-
-pub for-first : (p : ℕ) → AreFor p [] []
-for-first p = record { each = All-nil (Contains []); whole = λ h held q leads. absurd (omega (arith, held.1)) }
 
 -- an element of a list with one item more is that item or one of the others
 last-or : (xs : List Choice) (x y : Choice) → Contains (xs ++ x ∷ []) y → (Contains xs y) ⊎ (x ≡ y)
@@ -48,9 +45,6 @@ for-next p seen h old new put are = elim put [
     more : All (Contains (seen ++ h ∷ [])) old
     more = All-weaker (Contains seen) (Contains (seen ++ h ∷ [])) (λ g held. Contains-append_left seen (h ∷ []) g held) old are.each
 
-pub levels-first : (p : ℕ) (levels : List Level) → AreLevelsFor p levels 0 []
-levels-first p levels = record { count = refl; each = λ j d e none. absurd (omega (arith, none)) }
-
 pub levels-next : (p : ℕ) (levels : List Level) (n : ℕ) (fors : List Level) (level for : Level) → n < length levels → slice_index_or levels n level ≡ level → IsLevelFor p level for → AreLevelsFor p levels n fors → AreLevelsFor p levels (n + 1) (fors ++ for ∷ [])
 levels-next p levels n fors level for here at is are = record {
   count = omega (arith, are.count, length-append fors (for ∷ []));
@@ -63,9 +57,6 @@ levels-next p levels n fors level for here at is are = record {
         (subst (λ l. IsLevelFor p l (slice_index_or (fors ++ for ∷ []) n e)) (sym at ∙ get_or_default levels n level d here) (subst (IsLevelFor p level) (sym last) is))
   ];
 }
-
-pub made-first : (choices : List Choice) (levels : List Level) → AreMade choices levels 0 []
-made-first choices levels = record { count = refl; each = λ p e none. absurd (omega (arith, none)) }
 
 pub made-next : (choices : List Choice) (levels : List Level) (n : ℕ) (menus : List Menu) (menu : Menu) → IsMenu choices levels n menu → AreMade choices levels n menus → AreMade choices levels (n + 1) (menus ++ menu ∷ [])
 made-next choices levels n menus menu is are = record {
