@@ -145,11 +145,6 @@ module _ (I : Instance) (c : ℕ) (known : c < length I.chambers) (cuts : List P
     late_enough = All-weaker (IsLevel I c cuts k prices line earlies) (IsLevel I c cuts k prices line choices) (λ level is. late-through 0 level.from choices earlies level.choices.items (omega arith) enough.each early is) levels all;
   }
 
--- what isn't past a list isn't past one that may have a choice more
-pub still-within : (first : ℕ) (h : Choice) (old new : List Choice) → first ≤ length old → (new ≡ old) ⊎ (new ≡ old ++ h ∷ []) → first ≤ length new
-still-within first h old new within (inl same) = subst (λ hs. first ≤ length hs) (sym same) within
-still-within first h old new within (inr more) = subst (λ hs. first ≤ length hs) (sym more) (omega (arith, within, length-append old (h ∷ [])))
-
 -- more choices serve what fewer do
 later-served : (late : ℕ) (h : Choice) (old new : List Choice) → (new ≡ old) ⊎ (new ≡ old ++ h ∷ []) → (g : Choice) → IsServedLate late old g → IsServedLate late new g
 later-served late h old new more g served = elim more [

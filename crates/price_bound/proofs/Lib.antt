@@ -6,6 +6,7 @@ pub mod LineLemmas
 pub mod ChoiceLemmas
 pub mod ServeLemmas
 pub mod SumLemmas
+pub mod WeighLemmas
 pub mod StepLemmas
 pub mod ServingLemmas
 pub mod VainLemmas

@@ -13,6 +13,7 @@ use Rattle.price_rules.specs.Prices.{PlainCut, IsUncut, IsLoose, is_missing, pri
 use Rattle.price_bound.specs.declared.choice.Choice.{Choice}
 use Rattle.price_bound.specs.declared.level.Level.{Level}
 use Rattle.price_bound.specs.declared.menu.Menu.{Menu}
+use Rattle.price_bound.specs.declared.sums.Sums.{Sums}
 use Rattle.price_bound.specs.Growing.{IsBase}
 use Rattle.price_bound.specs.Worth.{end_after, worth_of, worth_from, IsLeastWorth, ServeFrom}
 
@@ -39,6 +40,17 @@ pub record AreSums (I : Instance) (c k : ℕ) (prices : List ℕ) (choice : Choi
   pub short : choice.duration ≤ 9000000
   pub soon : choice.last ≤ 1000000
   pub fair : choice.pays ≤ 808000000
+
+-- the sums of these ships
+pub record AreSumsOf (I : Instance) (c k : ℕ) (prices ships : List ℕ) (sums : Sums) : Type 0 where
+  pub duration : sums.duration ≡ duration_of I c ships
+  pub last : sums.last ≡ last_arrival I 0 ships
+  pub pays : sums.pays ≡ sum_by (rate_of I k prices) ships
+
+-- for each of the groups its sums
+pub record AreWeighed (I : Instance) (c k : ℕ) (prices : List ℕ) (groups : List Group) (sums : List Sums) : Type 0 where
+  pub count : length sums ≡ length groups
+  pub each : (j : ℕ) (d : Group) (e : Sums) → j < length groups → AreSumsOf I c k prices (slice_index_or groups j d).ships (slice_index_or sums j e)
 
 -- a choice is an uncut group with its sums
 pub record IsChoice (I : Instance) (c : ℕ) (cuts : List PlainCut) (k : ℕ) (prices : List ℕ) (line : List Group) (choice : Choice) : Type 0 where

@@ -1,5 +1,5 @@
 -- Values that are remembered for states.
-use Rattle.std.specs.Prelude.{ℕ, max, ◌≡◌, ◌+◌, ◌-◌, ◌*◌, ◌≤◌, ◌<◌, nat_eq, ℤ, pos, ◌+ℤ◌, ◌≤ℤ◌, ◌⊎◌, Some, None, List, length, drop, slice_index_or}
+use Rattle.std.specs.Prelude.{ℕ, max, ◌≡◌, ◌+◌, ◌-◌, ◌*◌, ◌≤◌, ◌<◌, nat_eq, ℤ, pos, ◌+ℤ◌, ◌≤ℤ◌, ◌⊎◌, Some, None, List, length, drop, slice_index_or, true, []}
 use Rattle.std.specs.HashMap.{get}
 use Rattle.lock_model.specs.declared.instance.Instance.{Instance}
 use Rattle.lock_model.specs.declared.group.Group.{Group}
@@ -50,10 +50,11 @@ abbrev pub minute_for : Ready → Way → ℕ
 minute_for ready Up = ready.up
 minute_for ready Down = ready.down
 
--- these are the first minutes at which chamber c may be ready in the state
+-- these are the first minutes at which chamber c may be ready in the state, and what is said to be always open has no closures
 pub record IsReady (I : Instance) (c : ℕ) (ready : Ready) : Type 0 where
   pub value : (way : Way) → minute_for ready way ≡ ready_at (chamber_at I c) ready.state.stand ready.state.minute way
   pub small : (way : Way) → minute_for ready way ≤ max ready.state.minute 1000000 + 1000000
+  pub open_always : ready.always_open ≡ true → (chamber_at I c).closures ≡ []
 
 -- What a state is worth at most so far: some loose line is worth it, and the line's own groups alone are worth no less.
 pub record IsBest (I : Instance) (c : ℕ) (cuts : List PlainCut) (k : ℕ) (prices : List ℕ) (line : List Group) (horizon : ℕ) (p : ℕ) (stand : Stand) (minute : ℕ) (best : ℤ) : Type 0 where

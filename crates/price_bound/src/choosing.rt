@@ -3,7 +3,7 @@ ghost use Rattle.std.specs.Prelude.{◌≡◌, ◌+◌, ◌<◌, ◌≤◌, List
 ghost use Rattle.price_rules.specs.Prices.{IsUncut};
 ghost use Rattle.price_bound.specs.Sparing.{AreForbidden};
 ghost use Rattle.price_bound.specs.Masks.{AreNears};
-ghost use Rattle.price_bound.specs.Choosing.{Keeps, IsChoice, IsBaseOf, HaveMore, PutsGroup, AreLate, HaveEarly, AreSomeEarly, AreEarly};
+ghost use Rattle.price_bound.specs.Choosing.{AreSumsOf, Keeps, IsChoice, IsBaseOf, HaveMore, PutsGroup, AreLate, HaveEarly, AreSomeEarly, AreEarly};
 ghost use Rattle.price_bound.specs.declared.choice.Choice.{Choice as Plain};
 ghost use Rattle.price_bound.specs.Cuts.{plain_cuts};
 
@@ -12,7 +12,8 @@ use crate::error::{PriceError, append};
 use crate::growing::{Growth, grown};
 use crate::lateness::late_choices;
 use crate::pruning::{few_first, order, put_each, put_shelved};
-use crate::shelf::Shelf;
+use crate::shelf::{Merit, Shelf};
+use crate::sums::Sums;
 use crate::vanity::is_vain;
 use crate::weighing::weighed;
 use lock_model::{Group, Ships, Way};
@@ -25,10 +26,12 @@ fn add_group(
     choices: &mut Vec<Choice>,
     shelf: &mut Shelf,
     group: &Group,
+    sums: &Sums,
     joins: Option<u8>,
 ) -> Result<(), PriceError>
     requires each { All (IsChoice growth.now.case.now.instance.now growth.now.case.now.chamber (plain_cuts growth.now.case.now.instance.now growth.now.case.now.cuts.now) growth.now.case.now.depth growth.now.case.now.prices.now growth.now.case.now.line.now) choices.old.items }
     requires known { All (λ s. s < length growth.now.case.now.instance.now.ships) group.now.ships }
+    requires sums { AreSumsOf growth.now.case.now.instance.now growth.now.case.now.chamber growth.now.case.now.depth growth.now.case.now.prices.now group.now.ships sums.now }
     requires uncut { 1 ≤ length group.now.ships → IsUncut growth.now.case.now.instance.now growth.now.case.now.chamber (plain_cuts growth.now.case.now.instance.now growth.now.case.now.cuts.now) group.now }
     requires keeps { Keeps growth.now.case.now.instance.now growth.now.case.now.depth growth.now.case.now.line.now joins group.now }
     ensures { OnOk result (PutsGroup growth.now.case.now.instance.now growth.now.case.now.chamber (plain_cuts growth.now.case.now.instance.now growth.now.case.now.cuts.now) growth.now.case.now.depth growth.now.case.now.prices.now growth.now.case.now.line.now joins group.now choices.old.items choices.new.items) }
@@ -36,7 +39,7 @@ fn add_group(
     if group.ships.len() == 0 {
         return Ok(());
     }
-    let choice = weighed(growth, group.copy(), joins);
+    let choice = weighed(growth, group.copy(), sums, joins);
     if is_vain(growth.case, &choice, 0) {
         return Ok(());
     }
@@ -57,10 +60,17 @@ fn add_grown(
     requires base { IsBaseOf growth.now.case.now.instance.now growth.now.case.now.chamber growth.now.case.now.depth growth.now.case.now.line.now joins base.now }
     ensures { OnOk result (HaveMore growth.now.case.now.instance.now growth.now.case.now.chamber (plain_cuts growth.now.case.now.instance.now growth.now.case.now.cuts.now) growth.now.case.now.depth growth.now.case.now.prices.now growth.now.case.now.line.now joins base.now choices.old.items choices.new.items) }
 {
-    let mut shelf = Shelf::new(growth.case.lock.pass);
-    let groups = grown(alloc, growth, base)?;
-    for group in &groups {
-        add_group(growth, choices, &mut shelf, group, joins)?;
+    let mut shelf = Shelf::new(growth.case.lock.pass, Merit::Pays);
+    let listed = grown(alloc, growth, base)?;
+    for (place, group) in listed.groups.iter().enumerate() {
+        add_group(
+            growth,
+            choices,
+            &mut shelf,
+            group,
+            &listed.sums[place],
+            joins,
+        )?;
     }
     Ok(())
 }

@@ -5,7 +5,7 @@ ghost use Rattle.lock_rules.specs.Children.{with_ship};
 ghost use Rattle.master_branch.specs.Steps.{group_at};
 ghost use Rattle.price_bound.specs.Sparing.{IsSpared};
 ghost use Rattle.price_bound.specs.Masks.{AreNear, AreNears};
-ghost use Rattle.price_bound.specs.Choosing.{AreRates};
+ghost use Rattle.price_bound.specs.Choosing.{AreRates, AreSumsOf, AreWeighed};
 ghost use Rattle.price_bound.specs.Growing.{AreGrown, MayJoin, IsJoined, IsNew, IsBase, IsPutJoined};
 
 use crate::error::{PriceError, append};
@@ -14,6 +14,8 @@ use crate::idling::has_idler;
 use crate::line_case::LineCase;
 use crate::masks::{mask_of, misses_all_of};
 use crate::near::Near;
+use crate::sums::Sums;
+use crate::weighing::{more_sums, sums_of};
 use lock_model::{Group, Ships};
 use master_branch::with_ship;
 use std::alloc::Global;
@@ -31,6 +33,13 @@ pub(crate) struct Growth<'a> {
     pub(crate) rates: &'a [u32],
     pub(crate) most: usize,
     pub(crate) ghost rated: { AreRates case.now.instance.now case.now.depth case.now.prices.now (length case.now.instance.now.ships) rates.now },
+}
+
+/// Groups that have grown, and for each its sums.
+#[derive(Drop)]
+pub(crate) struct WeighedGroups {
+    pub(crate) groups: Vec<Group>,
+    pub(crate) sums: Vec<Sums>,
 }
 
 // Whether the node lacks the ship and it has the way of the group.
@@ -93,19 +102,35 @@ fn joined(growth: &Growth, near: &[u32], group: &Group, ship: u8) -> Option<Grou
     }
 }
 
+// Whether one of the ships that joined may gain nothing at the soonest end of those that have these
+// sums; `has_idler` tells.
+fn may_idle(sums: &Sums) -> bool {
+    sums.least as u64 <= 100 * (sums.last as u64 + sums.duration as u64)
+}
+
 // Appends a group that has grown, unless one of its ships gains nothing: nor does it in any group that
 // grows from this one.
-fn put_joined(growth: &Growth, groups: &mut Vec<Group>, group: Group) -> Result<(), PriceError>
-    requires { All (λ s. s < length growth.now.case.now.instance.now.ships) group.ships }
-    ensures { OnOk result (IsPutJoined growth.now.case.now.instance.now growth.now.case.now.chamber growth.now.case.now.depth growth.now.case.now.prices.now group groups.old.items groups.new.items) }
+fn put_joined(
+    growth: &Growth,
+    groups: &mut Vec<Group>,
+    sums: &mut Vec<Sums>,
+    group: Group,
+    own: Sums,
+) -> Result<(), PriceError>
+    requires known { All (λ s. s < length growth.now.case.now.instance.now.ships) group.ships }
+    requires weighed { AreWeighed growth.now.case.now.instance.now growth.now.case.now.chamber growth.now.case.now.depth growth.now.case.now.prices.now groups.old.items sums.old.items }
+    requires own { AreSumsOf growth.now.case.now.instance.now growth.now.case.now.chamber growth.now.case.now.depth growth.now.case.now.prices.now group.ships own }
+    ensures weighed { OnOk result (AreWeighed growth.now.case.now.instance.now growth.now.case.now.chamber growth.now.case.now.depth growth.now.case.now.prices.now groups.new.items sums.new.items) }
+    ensures put { OnOk result (IsPutJoined growth.now.case.now.instance.now growth.now.case.now.chamber growth.now.case.now.depth growth.now.case.now.prices.now group groups.old.items groups.new.items) }
 {
-    if has_idler(growth, &group) {
+    if may_idle(&own) && has_idler(growth, &group) {
         return Ok(());
     }
     if groups.len() >= growth.most {
         return Err(PriceError::TooMany);
     }
-    append(groups, group)
+    append(groups, group)?;
+    append(sums, own)
 }
 
 // Joins a ship to the group at a place, where that may be.
@@ -113,6 +138,7 @@ fn join(
     growth: &Growth,
     near: &[u32],
     groups: &mut Vec<Group>,
+    sums: &mut Vec<Sums>,
     place: usize,
     ship: u8,
 ) -> Result<(), PriceError>
@@ -123,11 +149,16 @@ fn join(
     requires place { place < length groups.old.items }
     requires absent { times_in (group_at groups.old.items place).ships ship ≡ 0 }
     requires few { length (group_at groups.old.items place).ships ≤ 8 }
-    ensures { OnOk result (IsJoined growth.now.case.now.instance.now growth.now.case.now.chamber growth.now.case.now.depth growth.now.case.now.prices.now growth.now.sets.now ship (group_at groups.old.items place) groups.old.items groups.new.items) }
+    requires weighed { AreWeighed growth.now.case.now.instance.now growth.now.case.now.chamber growth.now.case.now.depth growth.now.case.now.prices.now groups.old.items sums.old.items }
+    ensures weighed { OnOk result (AreWeighed growth.now.case.now.instance.now growth.now.case.now.chamber growth.now.case.now.depth growth.now.case.now.prices.now groups.new.items sums.new.items) }
+    ensures joined { OnOk result (IsJoined growth.now.case.now.instance.now growth.now.case.now.chamber growth.now.case.now.depth growth.now.case.now.prices.now growth.now.sets.now ship (group_at groups.old.items place) groups.old.items groups.new.items) }
 {
     match joined(growth, near, &groups[place], ship) {
         None => Ok(()),
-        Some(group) => put_joined(growth, groups, group),
+        Some(group) => {
+            let own = more_sums(growth, &sums[place], ship);
+            put_joined(growth, groups, sums, group, own)
+        }
     }
 }
 
@@ -137,26 +168,37 @@ fn join_each(
     near: &[u32],
     base: &Group,
     groups: &mut Vec<Group>,
+    sums: &mut Vec<Sums>,
     ship: u8,
 ) -> Result<(), PriceError>
     requires near { AreNear growth.now.case.now.instance.now growth.now.sets.now (length growth.now.sets.now) ship near.now }
     requires known { ship < length growth.now.case.now.instance.now.ships }
     requires new { IsNew growth.now.case.now.instance.now growth.now.case.now.depth base.now ship }
     requires grown { AreGrown growth.now.case.now.instance.now growth.now.case.now.chamber growth.now.case.now.depth growth.now.case.now.prices.now growth.now.sets.now base.now ship groups.old.items }
-    ensures { OnOk result (AreGrown growth.now.case.now.instance.now growth.now.case.now.chamber growth.now.case.now.depth growth.now.case.now.prices.now growth.now.sets.now base.now (ship + 1) groups.new.items) }
+    requires weighed { AreWeighed growth.now.case.now.instance.now growth.now.case.now.chamber growth.now.case.now.depth growth.now.case.now.prices.now groups.old.items sums.old.items }
+    ensures weighed { OnOk result (AreWeighed growth.now.case.now.instance.now growth.now.case.now.chamber growth.now.case.now.depth growth.now.case.now.prices.now groups.new.items sums.new.items) }
+    ensures grown { OnOk result (AreGrown growth.now.case.now.instance.now growth.now.case.now.chamber growth.now.case.now.depth growth.now.case.now.prices.now growth.now.sets.now base.now (ship + 1) groups.new.items) }
 {
     for place in 0..groups.len() {
-        join(growth, near, groups, place, ship)?;
+        join(growth, near, groups, sums, place, ship)?;
     }
     Ok(())
 }
 
 // Joins a ship to each of the groups, where the node lacks it and it has their way.
-fn grow(growth: &Growth, base: &Group, groups: &mut Vec<Group>, ship: u8) -> Result<(), PriceError>
+fn grow(
+    growth: &Growth,
+    base: &Group,
+    groups: &mut Vec<Group>,
+    sums: &mut Vec<Sums>,
+    ship: u8,
+) -> Result<(), PriceError>
     requires nears { AreNears growth.now.case.now.instance.now growth.now.sets.now (length growth.now.case.now.instance.now.ships) growth.now.nears.now }
     requires known { ship < length growth.now.case.now.instance.now.ships }
     requires grown { AreGrown growth.now.case.now.instance.now growth.now.case.now.chamber growth.now.case.now.depth growth.now.case.now.prices.now growth.now.sets.now base.now ship groups.old.items }
-    ensures { OnOk result (AreGrown growth.now.case.now.instance.now growth.now.case.now.chamber growth.now.case.now.depth growth.now.case.now.prices.now growth.now.sets.now base.now (ship + 1) groups.new.items) }
+    requires weighed { AreWeighed growth.now.case.now.instance.now growth.now.case.now.chamber growth.now.case.now.depth growth.now.case.now.prices.now groups.old.items sums.old.items }
+    ensures weighed { OnOk result (AreWeighed growth.now.case.now.instance.now growth.now.case.now.chamber growth.now.case.now.depth growth.now.case.now.prices.now groups.new.items sums.new.items) }
+    ensures grown { OnOk result (AreGrown growth.now.case.now.instance.now growth.now.case.now.chamber growth.now.case.now.depth growth.now.case.now.prices.now growth.now.sets.now base.now (ship + 1) groups.new.items) }
 {
     if !may_grow(growth.case, base, ship) {
         return Ok(());
@@ -166,6 +208,7 @@ fn grow(growth: &Growth, base: &Group, groups: &mut Vec<Group>, ship: u8) -> Res
         &growth.nears[ship as usize].masks,
         base,
         groups,
+        sums,
         ship,
     )
 }
@@ -183,17 +226,32 @@ fn ungrown(alloc: Global, growth: &Growth, base: &Group) -> Result<Vec<Group>, P
     Ok(groups)
 }
 
+// The sums of groups.
+fn sums_of_all(alloc: Global, growth: &Growth, groups: &[Group]) -> Result<Vec<Sums>, PriceError>
+    requires { All (λ g. All (λ s. s < length growth.now.case.now.instance.now.ships) g.ships) groups.now }
+    ensures { IfOk result (λ sums. AreWeighed growth.now.case.now.instance.now growth.now.case.now.chamber growth.now.case.now.depth growth.now.case.now.prices.now groups.now sums.items) }
+{
+    let mut sums = Vec::new(alloc);
+    for group in groups {
+        append(&mut sums, sums_of(growth, &group.ships))?;
+    }
+    Ok(sums)
+}
+
 /// The base joined by missing ships of its way, or by none, in all ways that the chamber may serve
-/// and that hold no forbidden set; the empty group among them where the base is empty.
-pub(crate) fn grown(alloc: Global, growth: &Growth, base: &Group) -> Result<Vec<Group>, PriceError>
+/// and that hold no forbidden set, and the sums of each; the empty group among them where the base is
+/// empty.
+pub(crate) fn grown(alloc: Global, growth: &Growth, base: &Group) -> Result<WeighedGroups, PriceError>
     requires nears { AreNears growth.now.case.now.instance.now growth.now.sets.now (length growth.now.case.now.instance.now.ships) growth.now.nears.now }
     requires base { IsBase growth.now.case.now.instance.now growth.now.case.now.chamber growth.now.case.now.depth base.now }
-    ensures { IfOk result (λ groups. AreGrown growth.now.case.now.instance.now growth.now.case.now.chamber growth.now.case.now.depth growth.now.case.now.prices.now growth.now.sets.now base.now (length growth.now.case.now.instance.now.ships) groups.items) }
+    ensures grown { IfOk result (λ listed. AreGrown growth.now.case.now.instance.now growth.now.case.now.chamber growth.now.case.now.depth growth.now.case.now.prices.now growth.now.sets.now base.now (length growth.now.case.now.instance.now.ships) listed.groups.items) }
+    ensures weighed { IfOk result (λ listed. AreWeighed growth.now.case.now.instance.now growth.now.case.now.chamber growth.now.case.now.depth growth.now.case.now.prices.now listed.groups.items listed.sums.items) }
 {
     let count = growth.case.instance.ships.as_slice().len() as u8;
     let mut groups = ungrown(alloc, growth, base)?;
+    let mut sums = sums_of_all(alloc, growth, &groups)?;
     for ship in 0..count {
-        grow(growth, base, &mut groups, ship)?;
+        grow(growth, base, &mut groups, &mut sums, ship)?;
     }
-    Ok(groups)
+    Ok(WeighedGroups { groups, sums })
 }

@@ -7,6 +7,7 @@ ghost use Rattle.price_bound.specs.Cuts.{plain_cuts};
 use crate::choice::Choice;
 use crate::error::{PriceError, append};
 use crate::line_case::LineCase;
+use crate::shelf::{Merit, Shelf};
 use crate::vanity::{is_vain, worth_by};
 use std::alloc::Global;
 
@@ -64,43 +65,77 @@ fn is_served_late(lates: &[Choice], choice: &Choice, late: u64) -> bool
     false
 }
 
+// Whether the choice at a place, if there is one, serves as well as a choice from the minute on.
+fn is_served_late_at(lates: &[Choice], place: Option<usize>, choice: &Choice, late: u64) -> bool
+    requires late { late ≤ 4294967296 }
+    requires short { choice.now.duration ≤ 9000000 }
+    requires soon { choice.now.last ≤ 1000000 }
+    ensures { IsTrue result → IsServedLate late lates.now choice.now }
+{
+    match place {
+        Some(place) if place < lates.len() => serves_late(&lates[place], choice, late),
+        _ => false,
+    }
+}
+
+// Whether one of the choices on the shelf of no more ships serves as well as a choice from the minute
+// on.
+fn is_served_late_on(lates: &[Choice], shelf: &Shelf, choice: &Choice, late: u64) -> bool
+    requires late { late ≤ 4294967296 }
+    requires short { choice.now.duration ≤ 9000000 }
+    requires soon { choice.now.last ≤ 1000000 }
+    ensures { IsTrue result → IsServedLate late lates.now choice.now }
+{
+    for ships in 1..choice.group.ships.len() + 1 {
+        if is_served_late_at(lates, shelf.find(ships, choice), choice, late) {
+            return true;
+        }
+    }
+    false
+}
+
 // Whether a choice gains nothing or one of the choices serves as well from the minute on.
-fn is_covered_late(case: &LineCase, lates: &[Choice], choice: &Choice, late: u64) -> bool
+fn is_covered_late(
+    case: &LineCase,
+    lates: &[Choice],
+    shelf: &Shelf,
+    choice: &Choice,
+    late: u64,
+) -> bool
     requires late { late ≤ 4294967296 }
     requires is { IsChoice case.now.instance.now case.now.chamber (plain_cuts case.now.instance.now case.now.cuts.now) case.now.depth case.now.prices.now case.now.line.now choice.now }
     ensures { IsTrue result → IsCoveredLate case.now.instance.now case.now.chamber case.now.depth case.now.prices.now late lates.now choice.now }
 {
-    is_vain(case, choice, late) || is_served_late(lates, choice, late)
+    is_vain(case, choice, late)
+        || is_served_late_on(lates, shelf, choice, late)
+        || (shelf.is_vague(choice) && is_served_late(lates, choice, late))
 }
 
-// Where those begin that join the same group as a choice and have its way, if the last ones do. The
+// Clears the shelf where a choice doesn't join the same group as the last one, or has another way: the
 // choices of a line come in such stretches, and no other one serves.
-fn stretch(lates: &[Choice], first: usize, choice: &Choice) -> usize
-    requires { first ≤ length lates.now }
-    ensures { result ≤ length lates.now }
-{
+fn begin_stretch(case: &LineCase, lates: &[Choice], shelf: &mut Shelf, choice: &Choice) {
     match lates {
-        [.., last] if last.joins == choice.joins && last.group.way == choice.group.way => first,
-        _ => lates.len(),
+        [.., last] if last.joins == choice.joins && last.group.way == choice.group.way => {}
+        _ => *shelf = Shelf::new(case.lock.pass, Merit::Pays),
     }
 }
 
-// Puts a choice to the others, unless those from the first one on cover it from the minute on.
+// Puts a choice to the others, unless one of them covers it from the minute on.
 fn put_late(
     case: &LineCase,
     lates: &mut Vec<Choice>,
-    first: usize,
+    shelf: &mut Shelf,
     choice: &Choice,
     late: u64,
 ) -> Result<(), PriceError>
-    requires first { first ≤ length lates.old.items }
     requires late { late ≤ 4294967296 }
     requires is { IsChoice case.now.instance.now case.now.chamber (plain_cuts case.now.instance.now case.now.cuts.now) case.now.depth case.now.prices.now case.now.line.now choice.now }
     ensures { OnOk result (HasLate case.now.instance.now case.now.chamber case.now.depth case.now.prices.now late choice.now lates.old.items lates.new.items) }
 {
-    if is_covered_late(case, &lates[first..], choice, late) {
+    if is_covered_late(case, lates, shelf, choice, late) {
         return Ok(());
     }
+    shelf.note(lates, choice);
     append(lates, choice.copy())
 }
 
@@ -116,10 +151,10 @@ pub(crate) fn late_choices(
     ensures { IfOk result (λ lates. AreLate case.now.instance.now case.now.chamber (plain_cuts case.now.instance.now case.now.cuts.now) case.now.depth case.now.prices.now case.now.line.now late choices.now lates.items) }
 {
     let mut lates = Vec::new(alloc);
-    let mut first = 0;
+    let mut shelf = Shelf::new(case.lock.pass, Merit::Pays);
     for choice in choices {
-        first = stretch(&lates, first, choice);
-        put_late(case, &mut lates, first, choice, late)?;
+        begin_stretch(case, &lates, &mut shelf, choice);
+        put_late(case, &mut lates, &mut shelf, choice, late)?;
     }
     Ok(lates)
 }

@@ -50,6 +50,7 @@ mod serving;
 mod shelf;
 mod shown;
 mod state;
+mod sums;
 mod table;
 mod terms;
 mod values;

@@ -7,7 +7,7 @@ ghost use Rattle.price_bound.specs.Cuts.{plain_cuts};
 use crate::choice::Choice;
 use crate::error::{PriceError, append};
 use crate::line_case::LineCase;
-use crate::shelf::Shelf;
+use crate::shelf::{Merit, Shelf};
 
 #[inline(always)]
 // Whether a choice joins the same group as another, has its way and is no worse by its sums.
@@ -45,18 +45,6 @@ fn add(case: &LineCase, choices: &mut Vec<Choice>, choice: Choice) -> Result<(),
     append(choices, choice)
 }
 
-// Puts a choice to the others, unless one of them serves as well.
-fn put(case: &LineCase, choices: &mut Vec<Choice>, choice: Choice) -> Result<(), PriceError>
-    requires each { All (IsChoice case.now.instance.now case.now.chamber (plain_cuts case.now.instance.now case.now.cuts.now) case.now.depth case.now.prices.now case.now.line.now) choices.old.items }
-    requires is { IsChoice case.now.instance.now case.now.chamber (plain_cuts case.now.instance.now case.now.cuts.now) case.now.depth case.now.prices.now case.now.line.now choice }
-    ensures { OnOk result (HasOne case.now.instance.now case.now.chamber (plain_cuts case.now.instance.now case.now.cuts.now) case.now.depth case.now.prices.now case.now.line.now choice choices.old.items choices.new.items) }
-{
-    if is_served(case, choices, &choice) {
-        return Ok(());
-    }
-    add(case, choices, choice)
-}
-
 #[inline(always)]
 // Whether the choice at a place, if there is one, serves as well as a choice.
 fn is_served_at(case: &LineCase, choices: &[Choice], place: Option<usize>, choice: &Choice) -> bool
@@ -68,6 +56,41 @@ fn is_served_at(case: &LineCase, choices: &[Choice], place: Option<usize>, choic
         Some(place) if place < choices.len() => serves(&choices[place], choice),
         _ => false,
     }
+}
+
+// Whether one of the choices on the shelf of no more ships serves as well as a choice.
+fn is_served_on(case: &LineCase, choices: &[Choice], shelf: &Shelf, choice: &Choice) -> bool
+    requires each { All (IsChoice case.now.instance.now case.now.chamber (plain_cuts case.now.instance.now case.now.cuts.now) case.now.depth case.now.prices.now case.now.line.now) choices.now }
+    requires is { IsChoice case.now.instance.now case.now.chamber (plain_cuts case.now.instance.now case.now.cuts.now) case.now.depth case.now.prices.now case.now.line.now choice.now }
+    ensures { IsTrue result → IsServed case.now.instance.now case.now.chamber case.now.depth case.now.prices.now choices.now choice.now.joins choice.now.group }
+{
+    for ships in 1..choice.group.ships.len() + 1 {
+        if is_served_at(case, choices, shelf.find(ships, choice), choice) {
+            return true;
+        }
+    }
+    false
+}
+
+// Puts a choice to the others, unless one of them serves as well.
+fn put(
+    case: &LineCase,
+    choices: &mut Vec<Choice>,
+    shelf: &mut Shelf,
+    choice: Choice,
+) -> Result<(), PriceError>
+    requires each { All (IsChoice case.now.instance.now case.now.chamber (plain_cuts case.now.instance.now case.now.cuts.now) case.now.depth case.now.prices.now case.now.line.now) choices.old.items }
+    requires is { IsChoice case.now.instance.now case.now.chamber (plain_cuts case.now.instance.now case.now.cuts.now) case.now.depth case.now.prices.now case.now.line.now choice }
+    ensures { OnOk result (HasOne case.now.instance.now case.now.chamber (plain_cuts case.now.instance.now case.now.cuts.now) case.now.depth case.now.prices.now case.now.line.now choice choices.old.items choices.new.items) }
+{
+    if is_served_on(case, choices, shelf, &choice) {
+        return Ok(());
+    }
+    if shelf.is_vague(&choice) && is_served(case, choices, &choice) {
+        return Ok(());
+    }
+    shelf.note(choices, &choice);
+    add(case, choices, choice)
 }
 
 /// Puts a choice to the others, unless the one on the shelf serves as well. Of many choices in no order
@@ -82,14 +105,15 @@ pub(crate) fn put_shelved(
     requires is { IsChoice case.now.instance.now case.now.chamber (plain_cuts case.now.instance.now case.now.cuts.now) case.now.depth case.now.prices.now case.now.line.now choice }
     ensures { OnOk result (HasOne case.now.instance.now case.now.chamber (plain_cuts case.now.instance.now case.now.cuts.now) case.now.depth case.now.prices.now case.now.line.now choice choices.old.items choices.new.items) }
 {
-    if is_served_at(case, choices, shelf.find(&choice), &choice) {
+    let found = shelf.find(choice.group.ships.len(), &choice);
+    if is_served_at(case, choices, found, &choice) {
         return Ok(());
     }
     shelf.note(choices, &choice);
     add(case, choices, choice)
 }
 
-/// Puts choices to the others, one after another, each unless one of them serves as well.
+/// Puts choices, those that pay most first, to the others, each unless one of them serves as well.
 pub(crate) fn put_each(
     case: &LineCase,
     choices: &mut Vec<Choice>,
@@ -99,8 +123,9 @@ pub(crate) fn put_each(
     requires others { All (IsChoice case.now.instance.now case.now.chamber (plain_cuts case.now.instance.now case.now.cuts.now) case.now.depth case.now.prices.now case.now.line.now) more.now }
     ensures { OnOk result (HavePut case.now.instance.now case.now.chamber (plain_cuts case.now.instance.now case.now.cuts.now) case.now.depth case.now.prices.now case.now.line.now more.now (length more.now) choices.old.items choices.new.items) }
 {
+    let mut shelf = Shelf::new(case.lock.pass, Merit::Soon);
     for choice in more {
-        put(case, choices, choice.copy())?;
+        put(case, choices, &mut shelf, choice.copy())?;
     }
     Ok(())
 }

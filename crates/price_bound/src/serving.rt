@@ -9,7 +9,7 @@ use crate::choice::Choice;
 use crate::line_case::LineCase;
 use crate::ready::Ready;
 use crate::state::State;
-use chamber_times::{first_free, flow_until, group_times, stand_after};
+use chamber_times::{flow_until, group_times, stand_after};
 use lock_model::Group;
 
 /// The minute at which a choice ends that comes next, and what it is worth, in hundredths of a
@@ -43,10 +43,9 @@ pub(crate) fn serve(case: &LineCase, ready: &Ready, choice: &Choice) -> Served
     ensures low { neg_ℤ (pos 808000000) ≤ℤ result.worth }
     ensures high { result.worth ≤ℤ pos 30000000000 }
 {
-    let lock = case.lock;
     let long = choice.duration as u64;
     let from = ready.minute(choice.group.way).max(choice.last as u64);
-    let end = first_free(&lock.closures, long, from) + long;
+    let end = ready.first_free(case, long, from) + long;
     let sum = product(choice.group.ships.len() as u64, end);
     Served {
         end,

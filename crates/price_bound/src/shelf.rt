@@ -1,52 +1,89 @@
-//! Where among some choices the one stands that most likely serves as well as another.
+//! Where among some choices those stand that most likely serve as well as another.
 ghost use Rattle.std.specs.Prelude.{◌<◌};
 
 use crate::choice::Choice;
 
-/// By number of ships and by minutes of handling the place among some choices of the one that pays most.
-/// It helps speed alone: whoever finds a place asks the choice there.
+// How many minutes of handling have a column of their own.
+const COLUMNS: usize = 64;
+
+/// By which of its sums a choice most likely serves as well as others.
+#[derive(Clone, Copy, Debug, PartialEq, Eq)]
+pub(crate) enum Merit {
+    /// It pays much.
+    Pays,
+    /// Its last ship arrives soon.
+    Soon,
+}
+
+/// By number of ships and by minutes of handling the place among some choices of the best one by its
+/// merit of as many ships and at most so many minutes. It helps speed alone: whoever finds a place asks
+/// the choice there.
 #[derive(Drop)]
 pub(crate) struct Shelf {
     pass: u32,
-    places: [[Option<u16>; 64]; 9],
+    merit: Merit,
+    places: [[Option<u16>; COLUMNS]; 9],
 }
 
 impl Shelf {
     // No place yet, for a chamber that takes so many minutes to pass.
-    pub(crate) fn new(pass: u32) -> Shelf {
+    pub(crate) fn new(pass: u32, merit: Merit) -> Shelf {
         Shelf {
             pass,
-            places: [[None; 64]; 9],
+            merit,
+            places: [[None; COLUMNS]; 9],
         }
     }
 
-    #[inline(always)]
-    // The row and the column of a choice; those of long handling share the last column.
-    fn cell(&self, choice: &Choice) -> (usize, usize)
-        ensures row { result.0 < 9 }
-        ensures column { result.1 < 64 }
-    {
-        let handled = choice.duration.saturating_sub(self.pass) as usize;
-        (choice.group.ships.len().min(8), handled.min(63))
+    // The minutes of handling of a choice.
+    fn handled(&self, choice: &Choice) -> usize {
+        choice.duration.saturating_sub(self.pass) as usize
     }
 
-    #[inline(always)]
-    // The place of the choice of as many ships and minutes that pays most, if there is one.
-    pub(crate) fn find(&self, choice: &Choice) -> Option<usize> {
-        let (row, column) = self.cell(choice);
-        let place = self.places[row][column]?;
+    // The column of a choice; those of long handling share the last one.
+    fn column(&self, choice: &Choice) -> usize
+        ensures { result < 64 }
+    {
+        self.handled(choice).min(COLUMNS - 1)
+    }
+
+    // Whether a choice shares its column with others of longer or shorter handling, so that others may
+    // serve than the shelf has.
+    pub(crate) fn is_vague(&self, choice: &Choice) -> bool {
+        self.handled(choice) >= COLUMNS - 1
+    }
+
+    // The place of the best choice of so many ships and at most as many minutes, if there is one.
+    pub(crate) fn find(&self, ships: usize, choice: &Choice) -> Option<usize> {
+        let place = self.places[ships.min(8)][self.column(choice)]?;
         Some(place as usize)
     }
 
-    #[inline(always)]
-    // Notes a choice that comes behind these, if it pays more than the one that was noted.
-    pub(crate) fn note(&mut self, choices: &[Choice], choice: &Choice) {
-        let pays_most = match self.find(choice) {
-            Some(place) if place < choices.len() => choice.pays > choices[place].pays,
+    // Whether a choice is better than another by the merit.
+    fn is_better(&self, choice: &Choice, other: &Choice) -> bool {
+        match self.merit {
+            Merit::Pays => choice.pays > other.pays,
+            Merit::Soon => choice.last < other.last,
+        }
+    }
+
+    // Whether a choice is better than the one at a place, if there is one.
+    fn beats(&self, choices: &[Choice], place: Option<u16>, choice: &Choice) -> bool {
+        match place {
+            Some(place) if (place as usize) < choices.len() => {
+                self.is_better(choice, &choices[place as usize])
+            }
             _ => true,
-        };
-        if pays_most {
-            let (row, column) = self.cell(choice);
+        }
+    }
+
+    // Notes a choice that comes behind these, in the columns where it is the best one.
+    pub(crate) fn note(&mut self, choices: &[Choice], choice: &Choice) {
+        let row = choice.group.ships.len().min(8);
+        for column in self.column(choice)..COLUMNS {
+            if !self.beats(choices, self.places[row][column], choice) {
+                return;
+            }
             self.places[row][column] = u16::try_from(choices.len()).ok();
         }
     }

@@ -1,13 +1,15 @@
 //! The sums of groups that may come next.
-ghost use Rattle.std.specs.Prelude.{◌≡◌, ◌+◌, ◌*◌, ◌<◌, ◌≤◌, length, All, sum_by, IfOk};
-ghost use Rattle.price_bound.specs.Choosing.{rate_of, AreRates, AreSums};
+ghost use Rattle.std.specs.Prelude.{ℕ, ◌≡◌, ◌+◌, ◌*◌, ◌<◌, ◌≤◌, List, length, All, sum_by, IfOk};
+ghost use Rattle.lock_rules.specs.Children.{insert_number};
+ghost use Rattle.price_bound.specs.Choosing.{rate_of, AreRates, AreSums, AreSumsOf};
 
 use crate::choice::Choice;
 use crate::error::{PriceError, append};
 use crate::growing::Growth;
 use crate::line_case::LineCase;
+use crate::sums::Sums;
 use chamber_times::{duration, last_arrival};
-use lock_model::Group;
+use lock_model::{Group, Ships};
 use std::alloc::Global;
 
 // What a ship counts: 100 times its arrival, and its price where the node lacks it.
@@ -58,22 +60,51 @@ fn paid(growth: &Growth, ships: &[u8]) -> u32
     sum
 }
 
+/// The sums of ships that none has joined.
+pub(crate) fn sums_of(growth: &Growth, ships: &Ships) -> Sums
+    requires { All (λ s. s < length growth.now.case.now.instance.now.ships) ships.now }
+    ensures { AreSumsOf growth.now.case.now.instance.now growth.now.case.now.chamber growth.now.case.now.depth growth.now.case.now.prices.now ships.now result }
+{
+    let case = growth.case;
+    Sums {
+        duration: duration(case.instance, case.chamber, ships) as u32,
+        last: last_arrival(case.instance, 0, ships) as u32,
+        pays: paid(growth, ships.as_slice()),
+        least: u32::MAX,
+    }
+}
+
+/// The sums of ships that have those sums, once another one has joined them.
+pub(crate) fn more_sums(growth: &Growth, sums: &Sums, ship: u8) -> Sums
+    requires known { ship < length growth.now.case.now.instance.now.ships }
+    requires short { sums.now.duration ≤ 9000000 }
+    requires fair { sums.now.pays ≤ 808000000 }
+    ensures { (ships : List ℕ) → AreSumsOf growth.now.case.now.instance.now growth.now.case.now.chamber growth.now.case.now.depth growth.now.case.now.prices.now ships sums.now → AreSumsOf growth.now.case.now.instance.now growth.now.case.now.chamber growth.now.case.now.depth growth.now.case.now.prices.now (insert_number ship ships) result }
+{
+    let own = &growth.case.instance.ships.as_slice()[ship as usize];
+    let rate = known_rate(growth, ship);
+    Sums {
+        duration: sums.duration + own.handling,
+        last: sums.last.max(own.arrival),
+        pays: sums.pays + rate,
+        least: sums.least.min(rate),
+    }
+}
+
 /// A group with its sums.
-pub(crate) fn weighed(growth: &Growth, group: Group, joins: Option<u8>) -> Choice
-    requires { All (λ s. s < length growth.now.case.now.instance.now.ships) group.ships }
+pub(crate) fn weighed(growth: &Growth, group: Group, sums: &Sums, joins: Option<u8>) -> Choice
+    requires known { All (λ s. s < length growth.now.case.now.instance.now.ships) group.ships }
+    requires few { length group.ships ≤ 8 }
+    requires sums { AreSumsOf growth.now.case.now.instance.now growth.now.case.now.chamber growth.now.case.now.depth growth.now.case.now.prices.now group.ships sums.now }
     ensures group { result.group ≡ group }
     ensures joins { result.joins ≡ joins }
     ensures sums { AreSums growth.now.case.now.instance.now growth.now.case.now.chamber growth.now.case.now.depth growth.now.case.now.prices.now result }
 {
-    let case = growth.case;
-    let duration = duration(case.instance, case.chamber, &group.ships) as u32;
-    let last = last_arrival(case.instance, 0, &group.ships) as u32;
-    let pays = paid(growth, group.ships.as_slice());
     Choice {
         group,
         joins,
-        duration,
-        last,
-        pays,
+        duration: sums.duration,
+        last: sums.last,
+        pays: sums.pays,
     }
 }

@@ -5,8 +5,8 @@ use Rattle.price_bound.specs.declared.near.Near.{Near}
 use Rattle.price_bound.proofs.GrowLemmas.{grown-skip}
 use Rattle.price_bound.proofs.growing.grow.Goals as goal
 
-pub returns-then-not-may_grow : goal.returns-then-not-may_grow
-returns-then-not-may_grow c =
+pub returns-then-not-may_grow-clause-grown : goal.returns-then-not-may_grow-clause-grown
+returns-then-not-may_grow-clause-grown c =
     let I = c.args.growth.now.case.now.instance.now in
     let n = c.args.growth.now.case.now.chamber in
     let k = c.args.growth.now.case.now.depth in

@@ -1,8 +1,8 @@
-use Rattle.std.proofs.Common.{◌≡◌, ◌≤◌, ◌+◌, ◌++◌, [], ◌∷◌, suc, take, sym, ap, ◌∙◌, subst, arith, rules, length}
+use Rattle.std.proofs.Common.{◌≡◌, ◌+◌, ◌++◌, [], ◌∷◌, suc, take, sym, ap, ◌∙◌, subst, arith}
 use Rattle.std.proofs.Math.Seq.{take-suc}
 use Rattle.price_bound.specs.Cuts.{plain_cuts}
 use Rattle.price_bound.specs.Choosing.{IsChoice, AreLate}
-use Rattle.price_bound.proofs.LateLemmas.{late-next, still-within}
+use Rattle.price_bound.proofs.LateLemmas.{late-next}
 use Rattle.price_bound.proofs.lateness.late_choices.Goals as goal
 
 pub loop-choice-preserved : goal.loop-choice-preserved
@@ -17,8 +17,5 @@ loop-choice-preserved c =
     let more : take i choices ++ h ∷ [] ≡ take (i + 1) choices = (λ j. take i choices ++ c.choice-item.is j ∷ []) ∙ sym (take-suc choices i h here) ∙ ap (λ n. take n choices) up in
     let is : IsChoice I case.chamber (plain_cuts I case.cuts.now) case.depth case.prices.now case.line.now h =
     subst (IsChoice I case.chamber (plain_cuts I case.cuts.now) case.depth case.prices.now case.line.now) (sym c.choice-item.is) (c.requires.each i h here) in
-    let are = subst (λ cs. AreLate I case.chamber (plain_cuts I case.cuts.now) case.depth case.prices.now case.line.now c.args.late cs c.put_late.new.lates.items) more
-    (late-next I case.chamber (plain_cuts I case.cuts.now) case.depth case.prices.now case.line.now c.args.late (take i choices) h c.loop-choice.lates.items c.put_late.new.lates.items is c.in_ok-put_late.ensures c.loop-choice.invariant.are) in
-    let same : c.deref.result.now ≡ c.loop-choice.lates.items = search rules in
-    let within : c.stretch-first.result ≤ length c.loop-choice.lates.items = subst (λ hs. c.stretch-first.result ≤ length hs) same c.stretch-first.ensures in
-    record { first = still-within c.stretch-first.result h c.loop-choice.lates.items c.put_late.new.lates.items within c.in_ok-put_late.ensures.more; are = are }
+    subst (λ cs. AreLate I case.chamber (plain_cuts I case.cuts.now) case.depth case.prices.now case.line.now c.args.late cs c.put_late.new.lates.items) more
+    (late-next I case.chamber (plain_cuts I case.cuts.now) case.depth case.prices.now case.line.now c.args.late (take i choices) h c.loop-choice.lates.items c.put_late.new.lates.items is c.in_ok-put_late.ensures c.loop-choice.invariant)
