@@ -12,9 +12,11 @@ use Rattle.lock_model.specs.declared.instance.Instance.{Instance}
 use Rattle.lock_rules.specs.Plan.{times_in}
 use Rattle.lock_rules.specs.Children.{insert_number}
 use Rattle.lock_rules.proofs.ChildLemmas.{times_in-insert_number}
+use Rattle.lock_rules.proofs.NodeLemmas.{All-insert_number}
 use Rattle.lock_rules.proofs.AmongLemmas.{contains-times, times-contains}
 use Rattle.price_bound.specs.Sparing.{AreIn, Misses}
-use Rattle.price_bound.specs.Masks.{IsMask, IsSetMask, HasMask, AreMarks, AreHaving, AreNear, AreNears, IsNoted, IsPutNear}
+use Rattle.price_bound.specs.Masks.{IsMask, IsSetMask, HasMask, AreMarks, AreAllowed, IsBetween, AreHaving, AreNear, AreNears, IsNoted, IsPutNear}
+use Rattle.price_bound.specs.Growing.{IsAllowed}
 use Rattle.price_bound.specs.declared.near.Near.{Near}
 
 one-of : (xs : List ℕ) (x y : ℕ) → Contains (xs ++ x ∷ []) y → y ≢ x → Contains xs y
@@ -92,12 +94,12 @@ module _ (I : Instance) (sets : List (List ℕ)) where
     ];
   }
 
--- those of the masks that have all bits of a number
-module _ (own : ℕ) (marks : List ℕ) where
-  pub having-first : AreHaving own marks 0 []
+-- those of the masks that lie between two numbers
+module _ (own early : ℕ) (marks : List ℕ) where
+  pub having-first : AreHaving own early marks 0 []
   having-first = record { each = λ j d here. absurd (omega (arith, here)); whole = λ j d none here. absurd (omega (arith, none)) }
 
-  pub having-next : (i mask : ℕ) (old new : List ℕ) → i < length marks → mask ≡ slice_index_or marks i mask → IsPutNear own mask old new → AreHaving own marks i old → AreHaving own marks (i + 1) new
+  pub having-next : (i mask : ℕ) (old new : List ℕ) → i < length marks → mask ≡ slice_index_or marks i mask → IsPutNear own early mask old new → AreHaving own early marks i old → AreHaving own early marks (i + 1) new
   having-next i mask old new here is put have = record {
     each = elim put [
       | inl more ↦ subst (All (Contains marks)) (sym more.1) (All-push (Contains marks) old mask have.each (i, here, sym is))
@@ -106,63 +108,93 @@ module _ (own : ℕ) (marks : List ℕ) where
     whole = λ j d less inside bits. elim (eqb_tells j i) [
       | inl y ↦
           let same : mask ≡ slice_index_or marks j d = is ∙ get_or_default marks i mask d here ∙ ap (λ i. slice_index_or marks i d) (sym y.1) in
-          subst (Contains new) same (last put (subst (λ m. bit_and own m ≡ own) (sym same) bits))
+          subst (Contains new) same (last put (subst (IsBetween own early) (sym same) bits))
       | inr m ↦ kept put (slice_index_or marks j d) (have.whole j d (earlier i j m.1 less) inside bits)
     ];
   }
     where
-      last : IsPutNear own mask old new → bit_and own mask ≡ own → Contains new mask
+      last : IsPutNear own early mask old new → IsBetween own early mask → Contains new mask
       last (inl more) bits = subst (λ xs. Contains xs mask) (sym more.1) (Contains-push old mask)
       last (inr left) bits = absurd (left.0 bits)
 
-      kept : IsPutNear own mask old new → (m : ℕ) → Contains old m → Contains new m
+      kept : IsPutNear own early mask old new → (m : ℕ) → Contains old m → Contains new m
       kept (inl more) m held = subst (λ xs. Contains xs m) (sym more.1) (Contains-before_push old mask m held)
       kept (inr left) m held = subst (λ xs. Contains xs m) (sym left.1) held
 
-  -- of the sets' masks they are those of the sets that have the ship
-  pub having-done : (I : Instance) (sets : List (List ℕ)) (ship : ℕ) (masks : List ℕ) → IsMask own (ship ∷ []) → AreMarks I sets (length sets) marks → AreHaving own marks (length marks) masks → AreNear I sets (length sets) ship masks
-  having-done I sets ship masks is are have = record {
+  -- of the sets' masks they are those of the sets that the ship may complete
+  pub having-done : (I : Instance) (k : ℕ) (sets : List (List ℕ)) (ship : ℕ) (ships : List ℕ) (masks : List ℕ) → IsMask own (ship ∷ []) → IsMask early ships → AreAllowed I k ship (length I.ships) ships
+      → AreMarks I sets (length sets) marks → AreHaving own early marks (length marks) masks → AreNear I k sets (length sets) ship masks
+  having-done I k sets ship ships masks is early_is allowed are have = record {
     each = All-weaker (Contains marks) (IsSetMask I sets) (λ m held. All-contains (IsSetMask I sets) marks m are.each held) masks have.each;
-    whole = λ j d less inside has known.
+    whole = λ j d less inside has late known.
         let set = slice_index_or sets j d in
         let mine = are.whole j d less inside known in
         let bits : bit_and own mine.mask ≡ own = in-mask own mine.mask (ship ∷ []) set is mine.is (record { among = All-cons (Contains set) ship [] has (All-nil (Contains set)) }) in
-        let held : Contains masks (slice_index_or marks mine.held.0 mine.mask) = have.whole mine.held.0 mine.mask mine.held.1 mine.held.1 (subst (λ m. bit_and own m ≡ own) (sym mine.held.2) bits) in
+        let within : All (Contains ships) set = λ i e here. allowed.whole (slice_index_or set i e) (known i e here) (late i e here) in
+        let before : bit_and mine.mask early ≡ mine.mask = in-mask mine.mask early set ships mine.is early_is (record { among = within }) in
+        let held : Contains masks (slice_index_or marks mine.held.0 mine.mask) = have.whole mine.held.0 mine.mask mine.held.1 mine.held.1 (subst (IsBetween own early) (sym mine.held.2) (bits, before)) in
         record { mask = mine.mask; held = subst (Contains masks) mine.held.2 held; is = mine.is };
   }
 
+-- ships that are allowed, listed one after another
+module _ (I : Instance) (k ship : ℕ) where
+  pub allowed-first : AreAllowed I k ship 0 []
+  allowed-first = record { small = All-nil (λ s. s < 32); whole = λ s none is. absurd (omega (arith, none)) }
+
+  pub allowed-more : (n : ℕ) (old : List ℕ) → n < 32 → AreAllowed I k ship n old → AreAllowed I k ship (n + 1) (old ++ n ∷ [])
+  allowed-more n old few are = record {
+    small = All-push (λ s. s < 32) old n are.small few;
+    whole = λ s less is. elim (eqb_tells s n) [
+      | inl y ↦ subst (Contains (old ++ n ∷ [])) (sym y.1) (Contains-push old n)
+      | inr m ↦ Contains-before_push old n s (are.whole s (earlier n s m.1 less) is)
+    ];
+  }
+
+  pub allowed-less : (n : ℕ) (old : List ℕ) → ¬ IsAllowed I k (suc ship) n → AreAllowed I k ship n old → AreAllowed I k ship (n + 1) old
+  allowed-less n old out are = record {
+    small = are.small;
+    whole = λ s less is. elim (eqb_tells s n) [
+      | inl y ↦ absurd (out (subst (IsAllowed I k (suc ship)) y.1 is))
+      | inr m ↦ are.whole s (earlier n s m.1 less) is
+    ];
+  }
+
 -- the masks near one ship more
-pub nears-next : (I : Instance) (sets : List (List ℕ)) (n : ℕ) (old : List Near) (near : Near) → AreNear I sets (length sets) n near.masks.items → AreNears I sets n old → AreNears I sets (n + 1) (old ++ near ∷ [])
-nears-next I sets n old near is are = record {
+pub nears-next : (I : Instance) (k : ℕ) (sets : List (List ℕ)) (n : ℕ) (old : List Near) (near : Near) → AreNear I k sets (length sets) n near.masks.items → AreNears I k sets n old → AreNears I k sets (n + 1) (old ++ near ∷ [])
+nears-next I k sets n old near is are = record {
   count = omega (arith, are.count, length-append old (near ∷ []));
   each = λ s d less. elim (eqb_tells s n) [
     | inl y ↦
         let at : near ≡ slice_index_or (old ++ near ∷ []) n d = sym (get_or-append_seam old near [] d) ∙ ap (λ i. slice_index_or (old ++ near ∷ []) i d) are.count in
-        subst (λ s. AreNear I sets (length sets) s (slice_index_or (old ++ near ∷ []) s d).masks.items) (sym y.1) (subst (λ (near : Near). AreNear I sets (length sets) n near.masks.items) at is)
+        subst (λ s. AreNear I k sets (length sets) s (slice_index_or (old ++ near ∷ []) s d).masks.items) (sym y.1) (subst (λ (near : Near). AreNear I k sets (length sets) n near.masks.items) at is)
     | inr m ↦
         let before = earlier n s m.1 less in
-        subst (λ (near : Near). AreNear I sets (length sets) s near.masks.items) (sym (get_or_append_left old (near ∷ []) d s (omega (arith, are.count, before)))) (are.each s d before)
+        subst (λ (near : Near). AreNear I k sets (length sets) s near.masks.items) (sym (get_or_append_left old (near ∷ []) d s (omega (arith, are.count, before)))) (are.each s d before)
   ];
 }
 
-pub nears-first : (I : Instance) (sets : List (List ℕ)) → AreNears I sets 0 []
-nears-first I sets = record { count = refl; each = λ s d none. absurd (omega (arith, none)) }
+pub nears-first : (I : Instance) (k : ℕ) (sets : List (List ℕ)) → AreNears I k sets 0 []
+nears-first I k sets = record { count = refl; each = λ s d none. absurd (omega (arith, none)) }
 
-module _ (I : Instance) (sets : List (List ℕ)) (ship : ℕ) where
-  module _ (masks : List ℕ) (near : AreNear I sets (length sets) ship masks) (ships : List ℕ) (mask : ℕ) (is : IsMask mask (insert_number ship ships))
+module _ (I : Instance) (k : ℕ) (sets : List (List ℕ)) (ship : ℕ) where
+  module _ (masks : List ℕ) (near : AreNear I k sets (length sets) ship masks) (ships : List ℕ) (mask : ℕ) (is : IsMask mask (insert_number ship ships))
       (known : All (λ s. s < length I.ships) (insert_number ship ships)) (few : length I.ships ≤ 32) where
     -- NO OTHER SET can be among ships that held none before the ship.
-    pub near-missed : All (Misses ships) sets → All (λ m. ¬ (bit_and m mask ≡ m)) masks → All (Misses (insert_number ship ships)) sets
-    near-missed before apart = λ j d here within.
+    pub near-missed : All (IsAllowed I k ship) ships → All (Misses ships) sets → All (λ m. ¬ (bit_and m mask ≡ m)) masks → All (Misses (insert_number ship ships)) sets
+    near-missed allowed before apart = λ j d here within.
         let set = slice_index_or sets j d in
         elim (leb_tells 1 (times_in set ship)) [
           | inl some ↦
               let mine = All-weaker (Contains (insert_number ship ships)) (λ s. s < length I.ships) (λ s h. All-contains (λ s. s < length I.ships) (insert_number ship ships) s known h) set within.among in
-              let own = near.whole j d here here (times-contains set ship some.1) mine in
+              let ends = All-weaker (Contains (insert_number ship ships)) (IsAllowed I k (suc ship)) (λ s h. All-contains (IsAllowed I k (suc ship)) (insert_number ship ships) s completed h) set within.among in
+              let own = near.whole j d here here (times-contains set ship some.1) ends mine in
               All-contains (λ m. ¬ (bit_and m mask ≡ m)) masks own.mask apart own.held (in-mask own.mask mask set (insert_number ship ships) own.is is within)
           | inr none ↦ before j d here (record { among = λ i e inside. old set i e inside (omega (arith, none.1)) (within.among i e inside) })
         ]
       where
+        completed : All (IsAllowed I k (suc ship)) (insert_number ship ships)
+        completed = All-insert_number (IsAllowed I k (suc ship)) ship ships (inr (omega arith)) (All-weaker (IsAllowed I k ship) (IsAllowed I k (suc ship)) (λ s is. elim is [ inl held ↦ inl held | inr less ↦ inr (omega (arith, less)) ]) ships allowed)
+
         old : (set : List ℕ) (i e : ℕ) → i < length set → times_in set ship ≡ 0 → Contains (insert_number ship ships) (slice_index_or set i e) → Contains ships (slice_index_or set i e)
         old set i e inside none held =
             let s = slice_index_or set i e in

@@ -1,8 +1,9 @@
 -- Ships as the bits of a number.
-use Rattle.std.specs.Prelude.{ℕ, ◌≡◌, ◌<◌, ◌^◌, ◌⊎◌, List, [], ◌∷◌, ◌++◌, length, All, Contains, bit_and, slice_index_or}
+use Rattle.std.specs.Prelude.{ℕ, suc, ◌≡◌, ◌<◌, ◌^◌, ◌⊎◌, List, [], ◌∷◌, ◌++◌, length, All, Contains, bit_and, slice_index_or}
 use Rattle.std.specs.Int.{bit_at}
 use Rattle.lock_model.specs.declared.instance.Instance.{Instance}
 use Rattle.price_bound.specs.declared.near.Near.{Near}
+use Rattle.price_bound.specs.Growing.{IsAllowed}
 
 -- the bits of the number are these ships
 pub record IsMask (mask : ℕ) (ships : List ℕ) : Type 0 where
@@ -23,10 +24,15 @@ pub record HasMask (masks : List ℕ) (set : List ℕ) : Type 0 where
   pub held : Contains masks mask
   pub is : IsMask mask set
 
--- masks of sets, and of each of the first i sets that has the ship and whose ships are the instance's
-pub record AreNear (I : Instance) (sets : List (List ℕ)) (i ship : ℕ) (masks : List ℕ) : Type 0 where
+-- Masks of sets, and of each of the first i sets that the ship may complete: one that has the ship, no later one that is missing, and ships of the instance alone.
+pub record AreNear (I : Instance) (k : ℕ) (sets : List (List ℕ)) (i ship : ℕ) (masks : List ℕ) : Type 0 where
   pub each : All (IsSetMask I sets) masks
-  pub whole : (j : ℕ) (d : List ℕ) → j < i → j < length sets → Contains (slice_index_or sets j d) ship → All (λ s. s < length I.ships) (slice_index_or sets j d) → HasMask masks (slice_index_or sets j d)
+  pub whole : (j : ℕ) (d : List ℕ) → j < i → j < length sets → Contains (slice_index_or sets j d) ship → All (IsAllowed I k (suc ship)) (slice_index_or sets j d) → All (λ s. s < length I.ships) (slice_index_or sets j d) → HasMask masks (slice_index_or sets j d)
+
+-- of the first n ships those that are allowed up to a ship, all of them below 32
+pub record AreAllowed (I : Instance) (k ship n : ℕ) (ships : List ℕ) : Type 0 where
+  pub small : All (λ s. s < 32) ships
+  pub whole : (s : ℕ) → s < n → IsAllowed I k (suc ship) s → Contains ships s
 
 -- masks of sets, and of each of the first i sets whose ships are the instance's
 pub record AreMarks (I : Instance) (sets : List (List ℕ)) (i : ℕ) (masks : List ℕ) : Type 0 where
@@ -39,16 +45,20 @@ IsNoted I set old new =
     ((mask : ℕ) × IsMask mask set × All (λ s. s < length I.ships) set × (new ≡ old ++ mask ∷ []))
     ⊎ ((¬ All (λ s. s < length I.ships) set) × (new ≡ old))
 
--- some of the numbers, and each of the first i that has all bits of a number
-pub record AreHaving (own : ℕ) (marks : List ℕ) (i : ℕ) (masks : List ℕ) : Type 0 where
+-- the number has all bits of one number, and none but those of another
+abbrev pub IsBetween : ℕ → ℕ → ℕ → Type 0
+IsBetween own early mask = (bit_and own mask ≡ own) × (bit_and mask early ≡ mask)
+
+-- some of the numbers, and each of the first i that lies between two others
+pub record AreHaving (own early : ℕ) (marks : List ℕ) (i : ℕ) (masks : List ℕ) : Type 0 where
   pub each : All (Contains marks) masks
-  pub whole : (j d : ℕ) → j < i → j < length marks → bit_and own (slice_index_or marks j d) ≡ own → Contains masks (slice_index_or marks j d)
+  pub whole : (j d : ℕ) → j < i → j < length marks → IsBetween own early (slice_index_or marks j d) → Contains masks (slice_index_or marks j d)
 
--- the mask was appended, or it lacks a bit of the number
-abbrev pub IsPutNear : ℕ → ℕ → List ℕ → List ℕ → Type 0
-IsPutNear own mask old new = ((bit_and own mask ≡ own) × (new ≡ old ++ mask ∷ [])) ⊎ ((¬ (bit_and own mask ≡ own)) × (new ≡ old))
+-- the mask was appended, or it doesn't lie between the numbers
+abbrev pub IsPutNear : ℕ → ℕ → ℕ → List ℕ → List ℕ → Type 0
+IsPutNear own early mask old new = (IsBetween own early mask × (new ≡ old ++ mask ∷ [])) ⊎ ((¬ IsBetween own early mask) × (new ≡ old))
 
--- for each of the first n ships the masks of the sets that have it
-pub record AreNears (I : Instance) (sets : List (List ℕ)) (n : ℕ) (nears : List Near) : Type 0 where
+-- for each of the first n ships the masks of the sets that it may complete
+pub record AreNears (I : Instance) (k : ℕ) (sets : List (List ℕ)) (n : ℕ) (nears : List Near) : Type 0 where
   pub count : length nears ≡ n
-  pub each : (s : ℕ) (d : Near) → s < n → AreNear I sets (length sets) s (slice_index_or nears s d).masks.items
+  pub each : (s : ℕ) (d : Near) → s < n → AreNear I k sets (length sets) s (slice_index_or nears s d).masks.items

@@ -6,7 +6,7 @@ ghost use Rattle.master_branch.specs.Steps.{group_at};
 ghost use Rattle.price_bound.specs.Sparing.{IsSpared};
 ghost use Rattle.price_bound.specs.Masks.{AreNear, AreNears};
 ghost use Rattle.price_bound.specs.Choosing.{AreRates, AreSumsOf, AreWeighed};
-ghost use Rattle.price_bound.specs.Growing.{AreGrown, MayJoin, IsJoined, IsNew, IsBase, IsPutJoined};
+ghost use Rattle.price_bound.specs.Growing.{AreGrown, IsAllowed, MayJoin, IsJoined, IsNew, IsBase, IsPutJoined};
 
 use crate::error::{PriceError, append};
 use crate::forbidden::misses_all;
@@ -27,7 +27,7 @@ use std::alloc::Global;
 pub(crate) struct Growth<'a> {
     pub(crate) case: &'a LineCase<'a>,
     pub(crate) sets: &'a [Ships],
-    /// For each ship the sets that have it.
+    /// For each ship the sets that it may complete.
     pub(crate) nears: &'a [Near],
     /// What each ship counts: 100 times its arrival, and its price where the node lacks it.
     pub(crate) rates: &'a [u32],
@@ -82,9 +82,10 @@ fn with_more(group: &Group, ship: u8) -> Group
 // The group with a ship more, where the chamber may serve them together and no forbidden set is
 // among them.
 fn joined(growth: &Growth, near: &[u32], group: &Group, ship: u8) -> Option<Group>
-    requires near { AreNear growth.now.case.now.instance.now growth.now.sets.now (length growth.now.sets.now) ship near.now }
+    requires near { AreNear growth.now.case.now.instance.now growth.now.case.now.depth growth.now.sets.now (length growth.now.sets.now) ship near.now }
     requires known { ship < length growth.now.case.now.instance.now.ships }
     requires ships_in { All (λ s. s < length growth.now.case.now.instance.now.ships) group.now.ships }
+    requires allowed { All (IsAllowed growth.now.case.now.instance.now growth.now.case.now.depth ship) group.now.ships }
     requires spared { IsSpared growth.now.sets.now group.now }
     requires absent { times_in group.now.ships ship ≡ 0 }
     requires few { length group.now.ships ≤ 8 }
@@ -142,9 +143,10 @@ fn join(
     place: usize,
     ship: u8,
 ) -> Result<(), PriceError>
-    requires near { AreNear growth.now.case.now.instance.now growth.now.sets.now (length growth.now.sets.now) ship near.now }
+    requires near { AreNear growth.now.case.now.instance.now growth.now.case.now.depth growth.now.sets.now (length growth.now.sets.now) ship near.now }
     requires known { ship < length growth.now.case.now.instance.now.ships }
     requires ships_in { All (λ s. s < length growth.now.case.now.instance.now.ships) (group_at groups.old.items place).ships }
+    requires allowed { All (IsAllowed growth.now.case.now.instance.now growth.now.case.now.depth ship) (group_at groups.old.items place).ships }
     requires spared { IsSpared growth.now.sets.now (group_at groups.old.items place) }
     requires place { place < length groups.old.items }
     requires absent { times_in (group_at groups.old.items place).ships ship ≡ 0 }
@@ -171,7 +173,7 @@ fn join_each(
     sums: &mut Vec<Sums>,
     ship: u8,
 ) -> Result<(), PriceError>
-    requires near { AreNear growth.now.case.now.instance.now growth.now.sets.now (length growth.now.sets.now) ship near.now }
+    requires near { AreNear growth.now.case.now.instance.now growth.now.case.now.depth growth.now.sets.now (length growth.now.sets.now) ship near.now }
     requires known { ship < length growth.now.case.now.instance.now.ships }
     requires new { IsNew growth.now.case.now.instance.now growth.now.case.now.depth base.now ship }
     requires grown { AreGrown growth.now.case.now.instance.now growth.now.case.now.chamber growth.now.case.now.depth growth.now.case.now.prices.now growth.now.sets.now base.now ship groups.old.items }
@@ -193,7 +195,7 @@ fn grow(
     sums: &mut Vec<Sums>,
     ship: u8,
 ) -> Result<(), PriceError>
-    requires nears { AreNears growth.now.case.now.instance.now growth.now.sets.now (length growth.now.case.now.instance.now.ships) growth.now.nears.now }
+    requires nears { AreNears growth.now.case.now.instance.now growth.now.case.now.depth growth.now.sets.now (length growth.now.case.now.instance.now.ships) growth.now.nears.now }
     requires known { ship < length growth.now.case.now.instance.now.ships }
     requires grown { AreGrown growth.now.case.now.instance.now growth.now.case.now.chamber growth.now.case.now.depth growth.now.case.now.prices.now growth.now.sets.now base.now ship groups.old.items }
     requires weighed { AreWeighed growth.now.case.now.instance.now growth.now.case.now.chamber growth.now.case.now.depth growth.now.case.now.prices.now groups.old.items sums.old.items }
@@ -241,8 +243,12 @@ fn sums_of_all(alloc: Global, growth: &Growth, groups: &[Group]) -> Result<Vec<S
 /// The base joined by missing ships of its way, or by none, in all ways that the chamber may serve
 /// and that hold no forbidden set, and the sums of each; the empty group among them where the base is
 /// empty.
-pub(crate) fn grown(alloc: Global, growth: &Growth, base: &Group) -> Result<WeighedGroups, PriceError>
-    requires nears { AreNears growth.now.case.now.instance.now growth.now.sets.now (length growth.now.case.now.instance.now.ships) growth.now.nears.now }
+pub(crate) fn grown(
+    alloc: Global,
+    growth: &Growth,
+    base: &Group,
+) -> Result<WeighedGroups, PriceError>
+    requires nears { AreNears growth.now.case.now.instance.now growth.now.case.now.depth growth.now.sets.now (length growth.now.case.now.instance.now.ships) growth.now.nears.now }
     requires base { IsBase growth.now.case.now.instance.now growth.now.case.now.chamber growth.now.case.now.depth base.now }
     ensures grown { IfOk result (λ listed. AreGrown growth.now.case.now.instance.now growth.now.case.now.chamber growth.now.case.now.depth growth.now.case.now.prices.now growth.now.sets.now base.now (length growth.now.case.now.instance.now.ships) listed.groups.items) }
     ensures weighed { IfOk result (λ listed. AreWeighed growth.now.case.now.instance.now growth.now.case.now.chamber growth.now.case.now.depth growth.now.case.now.prices.now listed.groups.items listed.sums.items) }

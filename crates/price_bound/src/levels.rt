@@ -11,7 +11,7 @@ use crate::line_case::LineCase;
 use std::alloc::Global;
 
 // How many levels there are.
-const COUNT: u32 = 5;
+const COUNT: u32 = 8;
 
 // How many minutes lie between two levels.
 const STEP: u32 = 30;

@@ -62,7 +62,7 @@ pub(crate) fn line_least(
     if !are_spared(&sets, case.line) {
         return Ok(None);
     }
-    let nears = nears(alloc, case.instance, &sets)?;
+    let nears = nears(alloc, case, &sets)?;
     let rates = rates(alloc, case)?;
     let growth = Growth {
         case,

@@ -1,10 +1,10 @@
 //! Ship sets as numbers, so that a group is held against many of them fast.
-ghost use Rattle.std.specs.Prelude.{ℕ, ◌≡◌, ◌<◌, ◌↔◌, List, length, All, IsTrue, IfOk, OnOk, bit_and};
-ghost use Rattle.lock_model.specs.declared.instance.Instance.{Instance as Plain};
-ghost use Rattle.price_bound.specs.Masks.{IsMask, IsNoted, AreMarks, IsPutNear, AreHaving, AreNear, AreNears};
+ghost use Rattle.std.specs.Prelude.{ℕ, ◌≡◌, ◌+◌, ◌<◌, ◌↔◌, List, length, All, IsTrue, IfOk, OnOk, bit_and};
+ghost use Rattle.price_bound.specs.Masks.{IsMask, IsNoted, AreMarks, AreAllowed, IsBetween, IsPutNear, AreHaving, AreNear, AreNears};
 
 use crate::error::{PriceError, append};
 use crate::forbidden::are_known;
+use crate::line_case::LineCase;
 use crate::near::Near;
 use lock_model::{Instance, Ships};
 use std::alloc::Global;
@@ -61,51 +61,79 @@ fn marks(alloc: Global, instance: &Instance, sets: &[Ships]) -> Result<Vec<u32>,
     Ok(masks)
 }
 
-// Appends a mask, where it has all bits of a number.
-fn put_near(masks: &mut Vec<u32>, own: u32, mask: u32) -> Result<(), PriceError>
-    ensures { OnOk result (IsPutNear own mask masks.old.items masks.new.items) }
+// Whether a number has all bits of one number, and none but those of another.
+fn is_between(own: u32, early: u32, mask: u32) -> bool
+    ensures { IsTrue result ↔ IsBetween own early mask }
 {
-    if is_among(own, mask) {
+    is_among(own, mask) && is_among(mask, early)
+}
+
+// Appends a mask, where it lies between two numbers.
+fn put_near(masks: &mut Vec<u32>, own: u32, early: u32, mask: u32) -> Result<(), PriceError>
+    ensures { OnOk result (IsPutNear own early mask masks.old.items masks.new.items) }
+{
+    if is_between(own, early, mask) {
         return append(masks, mask);
     }
     Ok(())
 }
 
-// Those of the masks that have all bits of a number.
-fn having(alloc: Global, marks: &[u32], own: u32) -> Result<Vec<u32>, PriceError>
-    ensures { IfOk result (λ masks. AreHaving own marks.now (length marks.now) masks.items) }
+// Those of the masks that lie between two numbers.
+fn having(alloc: Global, marks: &[u32], own: u32, early: u32) -> Result<Vec<u32>, PriceError>
+    ensures { IfOk result (λ masks. AreHaving own early marks.now (length marks.now) masks.items) }
 {
     let mut masks = Vec::new(alloc);
     for &mask in marks {
-        put_near(&mut masks, own, mask)?;
+        put_near(&mut masks, own, early, mask)?;
     }
     Ok(masks)
 }
 
-// Those of the masks that have a ship.
-fn near(alloc: Global, marks: &[u32], ship: u8) -> Result<Near, PriceError>
+// Appends a ship, where the node holds it or it is no later than another one.
+fn put_allowed(ships: &mut Vec<u8>, case: &LineCase, last: u8, ship: u8) -> Result<(), PriceError>
+    requires few { ship < 32 }
+    requires before { AreAllowed case.now.instance.now case.now.depth last ship ships.old.items }
+    ensures { OnOk result (AreAllowed case.now.instance.now case.now.depth last (ship + 1) ships.new.items) }
+{
+    if ship <= last || !case.lacks(ship) {
+        return append(ships, ship);
+    }
+    Ok(())
+}
+
+// The ships that the node holds, and those up to a ship.
+fn allowed(alloc: Global, case: &LineCase, last: u8) -> Result<Vec<u8>, PriceError>
+    ensures { IfOk result (λ ships. AreAllowed case.now.instance.now case.now.depth last (length case.now.instance.now.ships) ships.items) }
+{
+    let mut ships = Vec::new(alloc);
+    for ship in 0..case.instance.ships.as_slice().len() as u8 {
+        put_allowed(&mut ships, case, last, ship)?;
+    }
+    Ok(ships)
+}
+
+// Those of the masks of sets that a ship may complete.
+fn near(alloc: Global, case: &LineCase, marks: &[u32], ship: u8) -> Result<Near, PriceError>
     requires { ship < 32 }
-    ensures { IfOk result (λ near. (I : Plain) (sets : List (List ℕ)) → AreMarks I sets (length sets) marks.now → AreNear I sets (length sets) ship near.masks.items) }
+    ensures { IfOk result (λ near. (sets : List (List ℕ)) → AreMarks case.now.instance.now sets (length sets) marks.now → AreNear case.now.instance.now case.now.depth sets (length sets) ship near.masks.items) }
 {
     let own = mask_of(&[ship]);
+    let early = mask_of(&allowed(alloc, case, ship)?);
     Ok(Near {
-        masks: having(alloc, marks, own)?,
+        masks: having(alloc, marks, own, early)?,
     })
 }
 
-/// For each ship the masks of the sets that have it. Where a group that holds no set is joined by the
+/// For each ship the masks of the sets that it may complete where ships join one after another: those
+/// that have it, but no later one that the node lacks. Where a group that holds no set is joined by the
 /// ship, no other one can be in it then.
-pub(crate) fn nears(
-    alloc: Global,
-    instance: &Instance,
-    sets: &[Ships],
-) -> Result<Vec<Near>, PriceError>
-    ensures { IfOk result (λ nears. AreNears instance.now sets.now (length instance.now.ships) nears.items) }
+pub(crate) fn nears(alloc: Global, case: &LineCase, sets: &[Ships]) -> Result<Vec<Near>, PriceError>
+    ensures { IfOk result (λ nears. AreNears case.now.instance.now case.now.depth sets.now (length case.now.instance.now.ships) nears.items) }
 {
-    let marks = marks(alloc, instance, sets)?;
+    let marks = marks(alloc, case.instance, sets)?;
     let mut nears = Vec::new(alloc);
-    for ship in 0..instance.ships.as_slice().len() as u8 {
-        append(&mut nears, near(alloc, &marks, ship)?)?;
+    for ship in 0..case.instance.ships.as_slice().len() as u8 {
+        append(&mut nears, near(alloc, case, &marks, ship)?)?;
     }
     Ok(nears)
 }

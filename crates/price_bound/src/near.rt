@@ -1,6 +1,6 @@
-//! Which forbidden sets a ship has.
+//! Which forbidden sets a ship may complete.
 
-/// Masks of the sets that have a ship.
+/// Masks of the sets that a ship may complete.
 #[derive(Debug, Drop)]
 pub struct Near {
     pub masks: Vec<u32>,

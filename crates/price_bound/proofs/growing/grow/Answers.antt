@@ -22,5 +22,5 @@ join_each-requires-clause-near c =
     let sets = c.args.growth.now.sets.now in
     let near = c.index-growth-ship.result in
     let same : c.deref.result.now ≡ near.masks.items = search rules in
-    subst (AreNear I sets (length sets) c.args.ship) (sym same)
-    (subst (λ (near : Near). AreNear I sets (length sets) c.args.ship near.masks.items) (sym c.index-growth-ship.is) (c.requires.nears.each c.args.ship near c.requires.known))
+    subst (AreNear I c.args.growth.now.case.now.depth sets (length sets) c.args.ship) (sym same)
+    (subst (λ (near : Near). AreNear I c.args.growth.now.case.now.depth sets (length sets) c.args.ship near.masks.items) (sym c.index-growth-ship.is) (c.requires.nears.each c.args.ship near c.requires.known))

@@ -32,7 +32,7 @@ returns-then-misses_all_of-clause-some c =
     let is : IsMask c.mask_of.result (insert_number ship old) = subst (IsMask c.mask_of.result) ships c.mask_of.ensures in
     let apart : All (λ m. ¬ (bit_and m c.mask_of.result ≡ m)) c.args.near.now = c.if-misses_all_of.ensures.0 refl in
     let most = ap (λ l. l.most) c.args.growth.now.case.now.locked in
-    (record { room = omega (arith, c.if-len-growth.false, c.len.ensures.value, most); missed = near-missed I sets ship c.args.near.now c.requires.near old c.mask_of.result is known few c.requires.spared.missed apart }, same)
+    (record { room = omega (arith, c.if-len-growth.false, c.len.ensures.value, most); missed = near-missed I c.args.growth.now.case.now.depth sets ship c.args.near.now c.requires.near old c.mask_of.result is known few c.requires.allowed c.requires.spared.missed apart }, same)
 
 pub returns-else-misses_all_of-clause-none : goal.returns-else-misses_all_of-clause-none
 returns-else-misses_all_of-clause-none c = λ may.
@@ -46,4 +46,4 @@ returns-else-misses_all_of-clause-none c = λ may.
     let few : length I.ships ≤ 32 = omega (arith, I.limits.ship_count.1) in
     let is : IsMask c.mask_of.result (insert_number ship old) = subst (IsMask c.mask_of.result) ships c.mask_of.ensures in
     let hit : ¬ All (λ m. ¬ (bit_and m c.mask_of.result ≡ m)) c.args.near.now = search rules in
-    hit (missed-near I sets ship c.args.near.now c.requires.near old c.mask_of.result is known few may.missed)
+    hit (missed-near I c.args.growth.now.case.now.depth sets ship c.args.near.now c.requires.near old c.mask_of.result is known few may.missed)

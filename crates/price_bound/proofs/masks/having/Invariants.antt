@@ -2,4 +2,4 @@ use Rattle.price_bound.specs.Masks.{AreHaving}
 use Rattle.price_bound.proofs.masks.having.Given as goal
 
 abbrev pub invariant-loop-mask : goal.invariant-loop-mask
-invariant-loop-mask l = AreHaving l.own l.marks l.mask-index l.masks.items
+invariant-loop-mask l = AreHaving l.own l.early l.marks l.mask-index l.masks.items
