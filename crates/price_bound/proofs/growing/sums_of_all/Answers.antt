@@ -1,7 +1,6 @@
-use Rattle.std.proofs.Common.{◌≡◌, ◌+◌, ◌<◌, ◌++◌, [], ◌∷◌, suc, take, length, All, sym, ap, ◌∙◌, subst, arith}
-use Rattle.std.proofs.Math.Seq.{take-suc, take-length}
-use Rattle.lock_model.specs.declared.group.Group.{Group}
-use Rattle.price_bound.specs.Choosing.{AreSumsOf, AreWeighed}
+use Rattle.std.proofs.Common.{◌≡◌, ◌+◌, ◌++◌, [], ◌∷◌, suc, take, sym, ap, ◌∙◌, subst, arith}
+use Rattle.std.proofs.Math.Seq.{take-suc}
+use Rattle.price_bound.specs.Choosing.{AreWeighed}
 use Rattle.price_bound.proofs.WeighLemmas.{weighed-none, weighed-more}
 use Rattle.price_bound.proofs.growing.sums_of_all.Goals as goal
 
