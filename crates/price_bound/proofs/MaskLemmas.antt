@@ -150,15 +150,6 @@ module _ (I : Instance) (k ship : ℕ) where
     ];
   }
 
-  pub allowed-less : (n : ℕ) (old : List ℕ) → ¬ IsAllowed I k (suc ship) n → AreAllowed I k ship n old → AreAllowed I k ship (n + 1) old
-  allowed-less n old out are = record {
-    small = are.small;
-    whole = λ s less is. elim (eqb_tells s n) [
-      | inl y ↦ absurd (out (subst (IsAllowed I k (suc ship)) y.1 is))
-      | inr m ↦ are.whole s (earlier n s m.1 less) is
-    ];
-  }
-
 -- the masks near one ship more
 pub nears-next : (I : Instance) (k : ℕ) (sets : List (List ℕ)) (n : ℕ) (old : List Near) (near : Near) → AreNear I k sets (length sets) n near.masks.items → AreNears I k sets n old → AreNears I k sets (n + 1) (old ++ near ∷ [])
 nears-next I k sets n old near is are = record {
