@@ -1,5 +1,5 @@
 -- Sets of ships as the bits of numbers.
-use Rattle.std.proofs.Common.{◌≡◌, ◌≢◌, ℕ, suc, ◌+◌, ◌*◌, ◌^◌, ◌%◌, ◌<◌, ◌≤◌, min, cond, inl, inr, w32, List, [], ◌∷◌, ◌++◌, length, All, Contains, refl, sym, ap, ◌∙◌, subst, arith, slice_index_or, bit_and, bit_or}
+use Rattle.std.proofs.Common.{◌≡◌, ◌≢◌, ℕ, suc, ◌+◌, ◌*◌, ◌^◌, ◌%◌, ◌<◌, ◌≤◌, min, cond, true, inl, inr, w32, List, [], ◌∷◌, ◌++◌, length, All, Contains, refl, sym, ap, ◌∙◌, subst, arith, slice_index_or, bit_and, bit_or}
 use Rattle.std.specs.Int.{bit_at}
 use Rattle.std.proofs.Math.Seq.{get_or-append_seam}
 use Rattle.std.proofs.lemmas.Bool.Decides.{eqb_tells, leb_tells}
@@ -14,6 +14,7 @@ use Rattle.lock_rules.specs.Children.{insert_number}
 use Rattle.lock_rules.proofs.ChildLemmas.{times_in-insert_number}
 use Rattle.lock_rules.proofs.NodeLemmas.{All-insert_number}
 use Rattle.lock_rules.proofs.AmongLemmas.{contains-times, times-contains}
+use Rattle.price_rules.specs.Prices.{is_missing}
 use Rattle.price_bound.specs.Sparing.{AreIn, Misses}
 use Rattle.price_bound.specs.Masks.{IsMask, IsSetMask, HasMask, AreMarks, AreAllowed, IsBetween, AreHaving, AreNear, AreNears, IsNoted, IsPutNear}
 use Rattle.price_bound.specs.Growing.{IsAllowed}
@@ -151,16 +152,16 @@ module _ (I : Instance) (k ship : ℕ) where
   }
 
 -- the masks near one ship more
-pub nears-next : (I : Instance) (k : ℕ) (sets : List (List ℕ)) (n : ℕ) (old : List Near) (near : Near) → AreNear I k sets (length sets) n near.masks.items → AreNears I k sets n old → AreNears I k sets (n + 1) (old ++ near ∷ [])
+pub nears-next : (I : Instance) (k : ℕ) (sets : List (List ℕ)) (n : ℕ) (old : List Near) (near : Near) → (is_missing I k n ≡ true → AreNear I k sets (length sets) n near.masks.items) → AreNears I k sets n old → AreNears I k sets (n + 1) (old ++ near ∷ [])
 nears-next I k sets n old near is are = record {
   count = omega (arith, are.count, length-append old (near ∷ []));
-  each = λ s d less. elim (eqb_tells s n) [
+  each = λ s d less missing. elim (eqb_tells s n) [
     | inl y ↦
         let at : near ≡ slice_index_or (old ++ near ∷ []) n d = sym (get_or-append_seam old near [] d) ∙ ap (λ i. slice_index_or (old ++ near ∷ []) i d) are.count in
-        subst (λ s. AreNear I k sets (length sets) s (slice_index_or (old ++ near ∷ []) s d).masks.items) (sym y.1) (subst (λ (near : Near). AreNear I k sets (length sets) n near.masks.items) at is)
+        subst (λ s. AreNear I k sets (length sets) s (slice_index_or (old ++ near ∷ []) s d).masks.items) (sym y.1) (subst (λ (near : Near). AreNear I k sets (length sets) n near.masks.items) at (is (subst (λ s. is_missing I k s ≡ true) y.1 missing)))
     | inr m ↦
         let before = earlier n s m.1 less in
-        subst (λ (near : Near). AreNear I k sets (length sets) s near.masks.items) (sym (get_or_append_left old (near ∷ []) d s (omega (arith, are.count, before)))) (are.each s d before)
+        subst (λ (near : Near). AreNear I k sets (length sets) s near.masks.items) (sym (get_or_append_left old (near ∷ []) d s (omega (arith, are.count, before)))) (are.each s d before missing)
   ];
 }
 

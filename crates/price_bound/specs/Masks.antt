@@ -1,8 +1,9 @@
 -- Ships as the bits of a number.
-use Rattle.std.specs.Prelude.{ℕ, suc, ◌≡◌, ◌<◌, ◌^◌, ◌⊎◌, List, [], ◌∷◌, ◌++◌, length, All, Contains, bit_and, slice_index_or}
+use Rattle.std.specs.Prelude.{ℕ, suc, ◌≡◌, ◌<◌, ◌^◌, ◌⊎◌, true, List, [], ◌∷◌, ◌++◌, length, All, Contains, bit_and, slice_index_or}
 use Rattle.std.specs.Int.{bit_at}
 use Rattle.lock_model.specs.declared.instance.Instance.{Instance}
 use Rattle.price_bound.specs.declared.near.Near.{Near}
+use Rattle.price_rules.specs.Prices.{is_missing}
 use Rattle.price_bound.specs.Growing.{IsAllowed}
 
 -- the bits of the number are these ships
@@ -58,7 +59,7 @@ pub record AreHaving (own early : ℕ) (marks : List ℕ) (i : ℕ) (masks : Lis
 abbrev pub IsPutNear : ℕ → ℕ → ℕ → List ℕ → List ℕ → Type 0
 IsPutNear own early mask old new = (IsBetween own early mask × (new ≡ old ++ mask ∷ [])) ⊎ ((¬ IsBetween own early mask) × (new ≡ old))
 
--- for each of the first n ships the masks of the sets that it may complete
+-- for each of the first n ships that is missing the masks of the sets that it may complete
 pub record AreNears (I : Instance) (k : ℕ) (sets : List (List ℕ)) (n : ℕ) (nears : List Near) : Type 0 where
   pub count : length nears ≡ n
-  pub each : (s : ℕ) (d : Near) → s < n → AreNear I k sets (length sets) s (slice_index_or nears s d).masks.items
+  pub each : (s : ℕ) (d : Near) → s < n → is_missing I k s ≡ true → AreNear I k sets (length sets) s (slice_index_or nears s d).masks.items

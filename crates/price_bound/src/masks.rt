@@ -1,5 +1,6 @@
 //! Ship sets as numbers, so that a group is held against many of them fast.
-ghost use Rattle.std.specs.Prelude.{ℕ, ◌≡◌, ◌+◌, ◌<◌, ◌↔◌, List, length, All, IsTrue, IfOk, OnOk, bit_and};
+ghost use Rattle.std.specs.Prelude.{ℕ, ◌≡◌, ◌+◌, ◌<◌, ◌↔◌, true, List, length, All, IsTrue, IfOk, OnOk, bit_and};
+ghost use Rattle.price_rules.specs.Prices.{is_missing};
 ghost use Rattle.price_bound.specs.Masks.{IsMask, IsNoted, AreMarks, AreAllowed, IsBetween, IsPutNear, AreHaving, AreNear, AreNears};
 
 use crate::error::{PriceError, append};
@@ -124,16 +125,30 @@ fn near(alloc: Global, case: &LineCase, marks: &[u32], ship: u8) -> Result<Near,
     })
 }
 
-/// For each ship the masks of the sets that it may complete where ships join one after another: those
-/// that have it, but no later one that the node lacks. Where a group that holds no set is joined by the
-/// ship, no other one can be in it then.
+// The same, where the node lacks the ship; of one that it holds nothing is asked.
+fn near_missing(alloc: Global, case: &LineCase, marks: &[u32], ship: u8) -> Result<Near, PriceError>
+    requires { ship < 32 }
+    ensures { IfOk result (λ near. (sets : List (List ℕ)) → AreMarks case.now.instance.now sets (length sets) marks.now → is_missing case.now.instance.now case.now.depth ship ≡ true → AreNear case.now.instance.now case.now.depth sets (length sets) ship near.masks.items) }
+{
+    if case.lacks(ship) {
+        near(alloc, case, marks, ship)
+    } else {
+        Ok(Near {
+            masks: Vec::new(alloc),
+        })
+    }
+}
+
+/// For each missing ship the masks of the sets that it may complete where ships join one after another:
+/// those that have it, but no later one that the node lacks. Where a group that holds no set is joined
+/// by the ship, no other one can be in it then.
 pub(crate) fn nears(alloc: Global, case: &LineCase, sets: &[Ships]) -> Result<Vec<Near>, PriceError>
     ensures { IfOk result (λ nears. AreNears case.now.instance.now case.now.depth sets.now (length case.now.instance.now.ships) nears.items) }
 {
     let marks = marks(alloc, case.instance, sets)?;
     let mut nears = Vec::new(alloc);
     for ship in 0..case.instance.ships.as_slice().len() as u8 {
-        append(&mut nears, near(alloc, case, &marks, ship)?)?;
+        append(&mut nears, near_missing(alloc, case, &marks, ship)?)?;
     }
     Ok(nears)
 }

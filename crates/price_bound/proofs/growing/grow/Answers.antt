@@ -20,7 +20,8 @@ pub join_each-requires-clause-near : goal.join_each-requires-clause-near
 join_each-requires-clause-near c =
     let I = c.args.growth.now.case.now.instance.now in
     let sets = c.args.growth.now.sets.now in
+    let new : IsNew I c.args.growth.now.case.now.depth c.args.base.now c.args.ship = search rules in
     let near = c.index-growth-ship.result in
     let same : c.deref.result.now ≡ near.masks.items = search rules in
     subst (AreNear I c.args.growth.now.case.now.depth sets (length sets) c.args.ship) (sym same)
-    (subst (λ (near : Near). AreNear I c.args.growth.now.case.now.depth sets (length sets) c.args.ship near.masks.items) (sym c.index-growth-ship.is) (c.requires.nears.each c.args.ship near c.requires.known))
+    (subst (λ (near : Near). AreNear I c.args.growth.now.case.now.depth sets (length sets) c.args.ship near.masks.items) (sym c.index-growth-ship.is) (c.requires.nears.each c.args.ship near c.requires.known new.missing))

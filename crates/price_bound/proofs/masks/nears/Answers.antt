@@ -14,7 +14,7 @@ loop-ship-preserved c =
     let same : c.deref.result.now ≡ c.in_ok-marks.marks.items = search rules in
     let marks = subst (AreMarks I sets (length sets)) (sym same) c.in_ok-marks.ensures in
     subst (AreNears I c.args.case.now.depth sets (n + 1)) (sym c.in_ok-append.ensures)
-    (nears-next I c.args.case.now.depth sets n c.loop-ship.nears.items c.in_ok-near.field-0 (c.in_ok-near.ensures sets marks) c.loop-ship.invariant)
+    (nears-next I c.args.case.now.depth sets n c.loop-ship.nears.items c.in_ok-near_missing.field-0 (c.in_ok-near_missing.ensures sets marks) c.loop-ship.invariant)
 
 pub returns : goal.returns
 returns c =
