@@ -51,6 +51,7 @@ fn add_grown(
     alloc: Global,
     growth: &Growth,
     choices: &mut Vec<Choice>,
+    shelf: &mut Shelf,
     base: &Group,
     joins: Option<u8>,
 ) -> Result<(), PriceError>
@@ -60,17 +61,10 @@ fn add_grown(
     requires base { IsBaseOf growth.now.case.now.instance.now growth.now.case.now.chamber growth.now.case.now.depth growth.now.case.now.line.now joins base.now }
     ensures { OnOk result (HaveMore growth.now.case.now.instance.now growth.now.case.now.chamber (plain_cuts growth.now.case.now.instance.now growth.now.case.now.cuts.now) growth.now.case.now.depth growth.now.case.now.prices.now growth.now.case.now.line.now joins base.now choices.old.items choices.new.items) }
 {
-    let mut shelf = Shelf::new(growth.case.lock.pass, Merit::Pays);
+    shelf.clear(Merit::Pays);
     let listed = grown(alloc, growth, base)?;
     for (place, group) in listed.groups.iter().enumerate() {
-        add_group(
-            growth,
-            choices,
-            &mut shelf,
-            group,
-            &listed.sums[place],
-            joins,
-        )?;
+        add_group(growth, choices, shelf, group, &listed.sums[place], joins)?;
     }
     Ok(())
 }
@@ -79,6 +73,7 @@ fn add_grown(
 fn ordered(
     alloc: Global,
     growth: &Growth,
+    shelf: &mut Shelf,
     base: &Group,
     joins: Option<u8>,
 ) -> Result<Vec<Choice>, PriceError>
@@ -88,7 +83,7 @@ fn ordered(
     ensures { IfOk result (λ more. HaveMore growth.now.case.now.instance.now growth.now.case.now.chamber (plain_cuts growth.now.case.now.instance.now growth.now.case.now.cuts.now) growth.now.case.now.depth growth.now.case.now.prices.now growth.now.case.now.line.now joins base.now [] more.items) }
 {
     let mut choices = Vec::new(alloc);
-    add_grown(alloc, growth, &mut choices, base, joins)?;
+    add_grown(alloc, growth, &mut choices, shelf, base, joins)?;
     order(&mut choices)?;
     Ok(choices)
 }
@@ -97,6 +92,7 @@ fn ordered(
 fn served(
     alloc: Global,
     growth: &Growth,
+    shelf: &mut Shelf,
     base: &Group,
     joins: Option<u8>,
 ) -> Result<Vec<Choice>, PriceError>
@@ -105,9 +101,9 @@ fn served(
     requires base { IsBaseOf growth.now.case.now.instance.now growth.now.case.now.chamber growth.now.case.now.depth growth.now.case.now.line.now joins base.now }
     ensures { IfOk result (λ more. HaveMore growth.now.case.now.instance.now growth.now.case.now.chamber (plain_cuts growth.now.case.now.instance.now growth.now.case.now.cuts.now) growth.now.case.now.depth growth.now.case.now.prices.now growth.now.case.now.line.now joins base.now [] more.items) }
 {
-    let more = ordered(alloc, growth, base, joins)?;
+    let more = ordered(alloc, growth, shelf, base, joins)?;
     let mut choices = Vec::new(alloc);
-    put_each(growth.case, &mut choices, &more)?;
+    put_each(growth.case, &mut choices, shelf, &more)?;
     few_first(&mut choices)?;
     Ok(choices)
 }
@@ -127,6 +123,7 @@ fn put_grown(
     alloc: Global,
     growth: &Growth,
     choices: &mut Vec<Choice>,
+    shelf: &mut Shelf,
     base: &Group,
     joins: Option<u8>,
 ) -> Result<(), PriceError>
@@ -135,8 +132,8 @@ fn put_grown(
     requires base { IsBaseOf growth.now.case.now.instance.now growth.now.case.now.chamber growth.now.case.now.depth growth.now.case.now.line.now joins base.now }
     ensures { OnOk result ((all : List Plain) → All (IsChoice growth.now.case.now.instance.now growth.now.case.now.chamber (plain_cuts growth.now.case.now.instance.now growth.now.case.now.cuts.now) growth.now.case.now.depth growth.now.case.now.prices.now growth.now.case.now.line.now) all → AreLate growth.now.case.now.instance.now growth.now.case.now.chamber (plain_cuts growth.now.case.now.instance.now growth.now.case.now.cuts.now) growth.now.case.now.depth growth.now.case.now.prices.now growth.now.case.now.line.now 0 all choices.old.items → HaveEarly growth.now.case.now.instance.now growth.now.case.now.chamber (plain_cuts growth.now.case.now.instance.now growth.now.case.now.cuts.now) growth.now.case.now.depth growth.now.case.now.prices.now growth.now.case.now.line.now joins base.now all choices.new.items) }
 {
-    let more = served(alloc, growth, base, joins)?;
-    let enough = late_choices(alloc, growth.case, &more, 0)?;
+    let more = served(alloc, growth, shelf, base, joins)?;
+    let enough = late_choices(alloc, growth.case, shelf, &more, 0)?;
     append_all(choices, &enough)
 }
 
@@ -151,28 +148,43 @@ fn empty(way: Way) -> Group
 }
 
 // The choices whose ships are all missing.
-fn free_choices(alloc: Global, growth: &Growth) -> Result<Vec<Choice>, PriceError>
+fn free_choices(
+    alloc: Global,
+    growth: &Growth,
+    shelf: &mut Shelf,
+) -> Result<Vec<Choice>, PriceError>
     requires sets { AreForbidden growth.now.case.now.instance.now growth.now.case.now.chamber (plain_cuts growth.now.case.now.instance.now growth.now.case.now.cuts.now) growth.now.sets.now }
     requires nears { AreNears growth.now.case.now.instance.now growth.now.case.now.depth growth.now.sets.now (length growth.now.case.now.instance.now.ships) growth.now.nears.now }
     ensures { IfOk result (λ choices. AreSomeEarly growth.now.case.now.instance.now growth.now.case.now.chamber (plain_cuts growth.now.case.now.instance.now growth.now.case.now.cuts.now) growth.now.case.now.depth growth.now.case.now.prices.now growth.now.case.now.line.now 0 choices.items) }
 {
     let mut choices = Vec::new(alloc);
-    put_grown(alloc, growth, &mut choices, &empty(Way::Up), None)?;
-    put_grown(alloc, growth, &mut choices, &empty(Way::Down), None)?;
+    put_grown(alloc, growth, &mut choices, shelf, &empty(Way::Up), None)?;
+    put_grown(alloc, growth, &mut choices, shelf, &empty(Way::Down), None)?;
     Ok(choices)
 }
 
 /// Uncut groups that are enough for the chamber's line: for each uncut group that keeps one of the
 /// line's groups, or none, one of them serves as well, or it gains nothing.
-pub(crate) fn choices(alloc: Global, growth: &Growth) -> Result<Vec<Choice>, PriceError>
+pub(crate) fn choices(
+    alloc: Global,
+    growth: &Growth,
+    shelf: &mut Shelf,
+) -> Result<Vec<Choice>, PriceError>
     requires sets { AreForbidden growth.now.case.now.instance.now growth.now.case.now.chamber (plain_cuts growth.now.case.now.instance.now growth.now.case.now.cuts.now) growth.now.sets.now }
     requires nears { AreNears growth.now.case.now.instance.now growth.now.case.now.depth growth.now.sets.now (length growth.now.case.now.instance.now.ships) growth.now.nears.now }
     ensures { IfOk result (λ choices. AreEarly growth.now.case.now.instance.now growth.now.case.now.chamber (plain_cuts growth.now.case.now.instance.now growth.now.case.now.cuts.now) growth.now.case.now.depth growth.now.case.now.prices.now growth.now.case.now.line.now choices.items) }
 {
     let line = growth.case.line;
-    let mut choices = free_choices(alloc, growth)?;
+    let mut choices = free_choices(alloc, growth, shelf)?;
     for place in 0..line.len() {
-        put_grown(alloc, growth, &mut choices, &line[place], Some(place as u8))?;
+        put_grown(
+            alloc,
+            growth,
+            &mut choices,
+            shelf,
+            &line[place],
+            Some(place as u8),
+        )?;
     }
     Ok(choices)
 }

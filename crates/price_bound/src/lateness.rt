@@ -113,10 +113,10 @@ fn is_covered_late(
 
 // Clears the shelf where a choice doesn't join the same group as the last one, or has another way: the
 // choices of a line come in such stretches, and no other one serves.
-fn begin_stretch(case: &LineCase, lates: &[Choice], shelf: &mut Shelf, choice: &Choice) {
+fn begin_stretch(lates: &[Choice], shelf: &mut Shelf, choice: &Choice) {
     match lates {
         [.., last] if last.joins == choice.joins && last.group.way == choice.group.way => {}
-        _ => *shelf = Shelf::new(case.lock.pass, Merit::Pays),
+        _ => shelf.clear(Merit::Pays),
     }
 }
 
@@ -143,6 +143,7 @@ fn put_late(
 pub(crate) fn late_choices(
     alloc: Global,
     case: &LineCase,
+    shelf: &mut Shelf,
     choices: &[Choice],
     late: u64,
 ) -> Result<Vec<Choice>, PriceError>
@@ -151,10 +152,9 @@ pub(crate) fn late_choices(
     ensures { IfOk result (λ lates. AreLate case.now.instance.now case.now.chamber (plain_cuts case.now.instance.now case.now.cuts.now) case.now.depth case.now.prices.now case.now.line.now late choices.now lates.items) }
 {
     let mut lates = Vec::new(alloc);
-    let mut shelf = Shelf::new(case.lock.pass, Merit::Pays);
     for choice in choices {
-        begin_stretch(case, &lates, &mut shelf, choice);
-        put_late(case, &mut lates, &mut shelf, choice, late)?;
+        begin_stretch(&lates, shelf, choice);
+        put_late(case, &mut lates, shelf, choice, late)?;
     }
     Ok(lates)
 }

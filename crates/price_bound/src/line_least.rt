@@ -17,6 +17,7 @@ use crate::loose_line::LooseLine;
 use crate::masks::nears;
 use crate::menus::menus;
 use crate::next_group::ValuedState;
+use crate::shelf::Shelf;
 use crate::state::State;
 use crate::table::Table;
 use crate::values::Values;
@@ -71,8 +72,9 @@ pub(crate) fn line_least(
         rates: &rates,
         most: limits.groups,
     };
-    let choices = choices(alloc, &growth)?;
-    let levels = levels(alloc, case, &choices, latest(&choices))?;
+    let mut shelf = Shelf::new(case.lock.pass);
+    let choices = choices(alloc, &growth, &mut shelf)?;
+    let levels = levels(alloc, case, &mut shelf, &choices, latest(&choices))?;
     let menus = menus(alloc, case, &choices, &levels)?;
     let table = Table {
         case,

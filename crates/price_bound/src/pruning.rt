@@ -117,15 +117,16 @@ pub(crate) fn put_shelved(
 pub(crate) fn put_each(
     case: &LineCase,
     choices: &mut Vec<Choice>,
+    shelf: &mut Shelf,
     more: &[Choice],
 ) -> Result<(), PriceError>
     requires each { All (IsChoice case.now.instance.now case.now.chamber (plain_cuts case.now.instance.now case.now.cuts.now) case.now.depth case.now.prices.now case.now.line.now) choices.old.items }
     requires others { All (IsChoice case.now.instance.now case.now.chamber (plain_cuts case.now.instance.now case.now.cuts.now) case.now.depth case.now.prices.now case.now.line.now) more.now }
     ensures { OnOk result (HavePut case.now.instance.now case.now.chamber (plain_cuts case.now.instance.now case.now.cuts.now) case.now.depth case.now.prices.now case.now.line.now more.now (length more.now) choices.old.items choices.new.items) }
 {
-    let mut shelf = Shelf::new(case.lock.pass, Merit::Soon);
+    shelf.clear(Merit::Soon);
     for choice in more {
-        put(case, choices, &mut shelf, choice.copy())?;
+        put(case, choices, shelf, choice.copy())?;
     }
     Ok(())
 }

@@ -17,22 +17,31 @@ pub(crate) enum Merit {
 
 /// By number of ships and by minutes of handling the place among some choices of the best one by its
 /// merit of as many ships and at most so many minutes. It helps speed alone: whoever finds a place asks
-/// the choice there.
+/// the choice there. A chamber's line has one for all its lists, since clearing it takes its time: what
+/// stands in rows that aren't in use counts for nothing.
 #[derive(Drop)]
 pub(crate) struct Shelf {
     pass: u32,
     merit: Merit,
+    in_use: [bool; 9],
     places: [[Option<u16>; COLUMNS]; 9],
 }
 
 impl Shelf {
     // No place yet, for a chamber that takes so many minutes to pass.
-    pub(crate) fn new(pass: u32, merit: Merit) -> Shelf {
+    pub(crate) fn new(pass: u32) -> Shelf {
         Shelf {
             pass,
-            merit,
+            merit: Merit::Pays,
+            in_use: [false; 9],
             places: [[None; COLUMNS]; 9],
         }
+    }
+
+    // Forgets all places; from now on choices are good by this merit.
+    pub(crate) fn clear(&mut self, merit: Merit) {
+        self.merit = merit;
+        self.in_use = [false; 9];
     }
 
     // The minutes of handling of a choice.
@@ -55,7 +64,11 @@ impl Shelf {
 
     // The place of the best choice of so many ships and at most as many minutes, if there is one.
     pub(crate) fn find(&self, ships: usize, choice: &Choice) -> Option<usize> {
-        let place = self.places[ships.min(8)][self.column(choice)]?;
+        let row = ships.min(8);
+        if !self.in_use[row] {
+            return None;
+        }
+        let place = self.places[row][self.column(choice)]?;
         Some(place as usize)
     }
 
@@ -77,9 +90,20 @@ impl Shelf {
         }
     }
 
+    // Puts a row into use.
+    fn use_row(&mut self, row: usize)
+        requires { row < 9 }
+    {
+        if !self.in_use[row] {
+            self.in_use[row] = true;
+            self.places[row] = [None; COLUMNS];
+        }
+    }
+
     // Notes a choice that comes behind these, in the columns where it is the best one.
     pub(crate) fn note(&mut self, choices: &[Choice], choice: &Choice) {
         let row = choice.group.ships.len().min(8);
+        self.use_row(row);
         for column in self.column(choice)..COLUMNS {
             if !self.beats(choices, self.places[row][column], choice) {
                 return;
