@@ -1,20 +1,12 @@
-//! Tests of texts and of what is made of them: sources and sinks, instances, plans and what is left of
-//! a plan. Command lines, reports, refusals and days stand with the rows of whole runs alone.
+//! Tests of gates, of std's readers and writers that fail, and of plans as texts. Instance texts, faults
+//! of texts, what is left of a plan, command lines, reports and days stand with the rows of whole runs.
 //!
-//! Most read their instances and plans from texts. The crate has no code but its tests.
+//! The crate has no code but its tests.
 #![tactic(auto)]
 
 #[cfg(test)]
-mod appending;
-#[cfg(test)]
 mod gates;
-#[cfg(test)]
-mod instances;
 #[cfg(test)]
 mod plans;
 #[cfg(test)]
-mod remainders;
-#[cfg(test)]
 mod streams;
-#[cfg(test)]
-mod worked;

@@ -1,34 +1,29 @@
-//! Plan texts. More of their faults stand with the rows of whole runs.
+//! Plan texts that are printed. Their faults stand with the rows of whole runs.
 ghost use Rattle.std.specs.Prelude.{IfSome};
 ghost use Rattle.plan_text.specs.Reading.{HasPlanText};
 
-use crate::worked::{SIDE, instance_of};
+use instance_text::read_instance;
 use lock_model::{Instance, Plan};
-use plan_text::{BadPlan, PlanKind, print_plan, read_plan};
+use plan_text::{print_plan, read_plan};
 use std::alloc::Global;
-use std::process::Abort;
 use std::test::Fail;
+
+/// Two ships that lie side by side.
+const SIDE: &[u8] =
+    b"glock 1\nchamber c1 2000 240 10 20 5 4 30 15 low 0\nship s1 up 1100 114 0 5\nship s2 up 1100 114 0 5\nend\n";
 
 const SIDE_PLAN: &[u8] =
     b"plan\nlockage c1 up 0\nberth s1 40 0 left *\nberth s2 40 126 right *\nend\n";
 
-/// A text after the two ships, and the line and the kind of its first fault.
-type Refused = (&'static [u8], u64, PlanKind);
-
-const FRAMES: &[Refused] = &[
-    (b"\n# none\n", 3, PlanKind::NoMark),
-    (b"plan\nboat\n", 2, PlanKind::Word),
+/// Plan texts, and what is printed of their plans.
+const PRINTED: [(&[u8], &[u8]); 3] = [
+    (SIDE_PLAN, SIDE_PLAN),
+    (
+        b"\r\nplan # two\r\n\tlockage c1 up 000\nberth s2 040 0126 right *\nberth s1 0040 0 left *\r\nend",
+        SIDE_PLAN,
+    ),
+    (b"plan\nend\n", b"plan\nend\n"),
 ];
-
-const LOCKAGES: &[Refused] = &[(b"plan\nlockage c2 north 0\n", 2, PlanKind::Unknown)];
-
-const BERTHS: &[Refused] = &[(b"plan\nberth s1 0\n", 2, PlanKind::Loose)];
-
-const HOSTS: &[Refused] = &[(
-    b"plan\nlockage c1 up 0\nberth s1 0 0 left s2\n\nend\n",
-    3,
-    PlanKind::Host,
-)];
 
 /// The plan of a text, if it is a plan text.
 fn plan_of(instance: &Instance, text: &[u8]) -> Option<Plan>
@@ -40,46 +35,17 @@ fn plan_of(instance: &Instance, text: &[u8]) -> Option<Plan>
     }
 }
 
-fn expect_refused(rt: &impl Abort, instance: &Instance, rows: &[Refused]) {
-    for &(text, line, kind) in rows {
-        assert!(rt; read_plan(instance, text) == Err(BadPlan { line, kind }));
-    }
-}
-
-#[test]
-fn the_first_fault_is_named(rt: HostRuntime) -> Result<(), Fail> {
-    let instance = instance_of(SIDE)?;
-    for rows in [FRAMES, LOCKAGES, BERTHS, HOSTS] {
-        expect_refused(&rt, &instance, rows);
-    }
-    Ok(())
-}
-
-/// The lock, a plan text, and what is printed of its plan.
-type Printed = (&'static [u8], &'static [u8], &'static [u8]);
-
-const PRINTED: &[Printed] = &[
-    (SIDE, SIDE_PLAN, SIDE_PLAN),
-    (
-        SIDE,
-        b"\r\nplan # two\r\n\tlockage c1 up 000\nberth s2 040 0126 right *\nberth s1 0040 0 left *\r\nend",
-        SIDE_PLAN,
-    ),
-    (SIDE, b"plan\nend\n", b"plan\nend\n"),
-];
-
 /// What is printed of the plan of a text.
-fn printed(alloc: Global, lock: &[u8], text: &[u8]) -> Result<Vec<u8>, Fail> {
-    let instance = instance_of(lock)?;
+fn printed(alloc: Global, text: &[u8]) -> Result<Vec<u8>, Fail> {
+    let instance = read_instance(SIDE).map_err(|_| "no instance")?;
     let plan = plan_of(&instance, text).ok_or("no plan")?;
-    Ok(print_plan(alloc, &instance, &plan).map_err(|_| "no memory")?)
+    Ok(print_plan(alloc, &instance, &plan)?)
 }
 
 #[test]
 fn plans_are_printed(rt: HostRuntime) -> Result<(), Fail> {
-    for &(lock, text, want) in PRINTED {
-        let got = printed(rt.alloc(), lock, text)?;
-        assert_eq!(rt; got.as_slice(), want);
+    for (text, want) in PRINTED {
+        assert!(rt; printed(rt.alloc(), text)?.as_slice() == want);
     }
     Ok(())
 }
