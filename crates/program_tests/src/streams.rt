@@ -1,5 +1,5 @@
-//! Std's readers and writers that fail in mid-stream. Sources and sinks in memory that fail stand with
-//! the runs of the program.
+//! Std's readers and writers that fail in mid-stream. Sources and sinks in memory that fail stand in
+//! `runs`.
 
 use lock_io::{ReadError, StdSink, StdSource, WriteFault, read_all, write_all_of};
 use std::io;

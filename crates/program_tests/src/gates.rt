@@ -1,5 +1,5 @@
-//! Gates with one worker, and with a third. That two meet, and what the held one hears, stands with
-//! the runs of the program.
+//! Gates with one worker, and with a third. That two meet, and what the held one hears, stands in
+//! `runs`.
 
 use lock_io::{Gate, LastGate, MeetGate, OpenGate, Point};
 use std::thread::join;
