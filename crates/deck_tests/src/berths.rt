@@ -78,10 +78,7 @@ fn worked_decks_fit_are_refuted_or_need_more_turns(rt: HostRuntime) -> Result<()
     for ((room, ships), turns, wanted) in PLACED {
         let deck = deck(room, ships).ok_or("no deck")?;
         let placed = place_by_berths(rt.alloc(), &deck, turns)?;
-        assert!(rt;
-            told(rt.alloc(), &deck, &placed) == wanted,
-            "{ships:?} {turns}"
-        );
+        assert!(rt; told(rt.alloc(), &deck, &placed) == wanted);
     }
     Ok(())
 }

@@ -2,7 +2,7 @@
 //!
 //! The crate has no code but its tests, each over the public items of the crate that it names:
 //! `mooring_rules` (`moorings`), `deck_laws` (`laws`), `ship_shapes` (`shapes`), `berth_check` and
-//! `berth_place` (`berths`), `place_refute` (`refutations`), `chamber_place` (`cases`), `spot_place`
+//! `berth_place` (`berths`), `place_refute` (`cuts`), `chamber_place` (`cases`), `spot_place`
 //! (`spots`), `placed_groups` (`answers`).
 //! Breaks of placements, and refutations that hold or don't, stand with the rows of whole runs and
 //! those of the second checker too. Lengths are decimetres.
@@ -15,13 +15,13 @@ mod berths;
 #[cfg(test)]
 mod cases;
 #[cfg(test)]
+mod cuts;
+#[cfg(test)]
 mod fixture;
 #[cfg(test)]
 mod laws;
 #[cfg(test)]
 mod moorings;
-#[cfg(test)]
-mod refutations;
 #[cfg(test)]
 mod shapes;
 #[cfg(test)]

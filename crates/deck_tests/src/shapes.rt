@@ -79,7 +79,7 @@ fn is_found(reason: &Option<Quick>, found: Found) -> bool {
 fn the_first_reason_is_found(rt: HostRuntime) -> Result<(), Fail> {
     for (measures, ships, found) in WORKED {
         let deck = deck_of(measures, ships).ok_or("no deck")?;
-        assert!(rt; is_found(&find_reason(&deck), found), "at {ships:?}");
+        assert!(rt; is_found(&find_reason(&deck), found));
     }
     Ok(())
 }
