@@ -2,9 +2,8 @@
 mod asking;
 mod memory;
 mod parking;
-mod pricing;
 
-use crate::fixture::{NARROW, SIDE, narrow, open, open_cheap, side_by_side, swift};
+use crate::fixture::{NARROW, SIDE, narrow, open, side_by_side};
 use asking::{Ask, expect};
 use closing_rules::Ground;
 use lock_model::Verdict;
@@ -13,7 +12,7 @@ use std::test::Fail;
 #[test]
 fn events_answer_as_the_table_says(rt: HostRuntime) -> Result<(), Fail> {
     let mut book = open(rt.alloc(), narrow()?, 3)?;
-    assert_eq!(rt; (book.used(), book.slot_state(2)), (0, None));
+    assert!(rt; (book.used(), book.slot_state(2)) == (0, None));
     let asks = &[
         Ask::Take(0),
         Ask::Take(0),
@@ -37,62 +36,6 @@ fn events_answer_as_the_table_says(rt: HostRuntime) -> Result<(), Fail> {
     )
 }
 
-#[test]
-fn throughput_and_probe_leave_what_is_cheaper(rt: HostRuntime) -> Result<(), Fail> {
-    let mut book = open(rt.alloc(), narrow()?, 3)?;
-    let asks = &[
-        Ask::Take(0),
-        Ask::Close(0, Ground::Throughput),
-        Ask::Close(0, Ground::Probe(2)),
-        Ask::Close(0, Ground::Probe(0)),
-        Ask::Close(1, Ground::Probe(0)),
-        Ask::Split(0),
-        Ask::Take(0),
-        Ask::Close(1, Ground::Probe(0)),
-        Ask::Close(1, Ground::Probe(1)),
-    ];
-    let replies =
-        "Node(0, 0) Cheaper(70, 120) Absent(2) Cheaper(70, 120) NotHeld(1) Made(1) Node(1, 1) Absent(0) Cheaper(80, 120) ";
-    expect(
-        &rt,
-        rt.alloc(),
-        &mut book,
-        asks,
-        replies,
-        (3, "Split(1) Held(0) "),
-    )
-}
-
-#[test]
-fn the_throughput_closes_what_is_no_cheaper(rt: HostRuntime) -> Result<(), Fail> {
-    let mut book = open(rt.alloc(), swift()?, 3)?;
-    let asks = &[Ask::Take(0), Ask::Close(0, Ground::Throughput)];
-    let end = (2, "Closed(Throughput) ");
-    expect(&rt, rt.alloc(), &mut book, asks, "Node(0, 0) Closed ", end)?;
-    assert_eq!(rt; book.verdict(), Verdict::Optimal);
-    Ok(())
-}
-
-#[test]
-fn a_probe_closes_what_is_no_cheaper(rt: HostRuntime) -> Result<(), Fail> {
-    let mut book = open_cheap(rt.alloc(), side_by_side()?)?;
-    let asks = &[
-        Ask::Take(0),
-        Ask::Split(0),
-        Ask::Take(0),
-        Ask::Close(1, Ground::Probe(1)),
-    ];
-    let replies = "Node(0, 0) Made(1) Node(1, 1) Closed ";
-    expect(
-        &rt,
-        rt.alloc(),
-        &mut book,
-        asks,
-        replies,
-        (4, "Split(1) Closed(Probe(1)) "),
-    )
-}
-
 // The way to the node of both ships in one group, slot 2; the other children of slot 1 are closed by
 // their bound.
 const TO_BOTH: [Ask; 6] = [
@@ -110,7 +53,7 @@ fn a_cut_closes_the_slot_that_it_hits(rt: HostRuntime) -> Result<(), Fail> {
     let replies = "Node(0, 0) Made(1) Node(1, 1) Made(3) Node(2, 2) Whole(2) ";
     let end = (5, "Split(1) Split(2) Held(0) Closed(Bound) Closed(Bound) ");
     expect(&rt, rt.alloc(), &mut book, &TO_BOTH, replies, end)?;
-    assert_eq!(rt; book.verdict(), Verdict::OpenNodes { used: 3, low: 80 });
+    assert!(rt; book.verdict() == Verdict::OpenNodes { used: 3, low: 80 });
     let asks = &[
         Ask::Release(0),
         Ask::Take(8),
@@ -126,7 +69,7 @@ fn a_cut_closes_the_slot_that_it_hits(rt: HostRuntime) -> Result<(), Fail> {
         "Split(1) Split(2) Closed(Cut(0)) Closed(Bound) Closed(Bound) ",
     );
     expect(&rt, rt.alloc(), &mut book, asks, replies, end)?;
-    assert_eq!(rt; book.verdict(), Verdict::Optimal);
+    assert!(rt; book.verdict() == Verdict::Optimal);
     Ok(())
 }
 
@@ -150,16 +93,6 @@ fn a_cheaper_plan_is_put_in_place_once(rt: HostRuntime) -> Result<(), Fail> {
         "Split(1) Split(2) Closed(Bound) Closed(Bound) Closed(Bound) ",
     );
     expect(&rt, rt.alloc(), &mut book, asks, replies, end)?;
-    assert_eq!(rt; (book.best_cost(), book.opening_cost()), (80, 120));
-    Ok(())
-}
-
-#[test]
-fn a_spent_budget_is_told(rt: HostRuntime) -> Result<(), Fail> {
-    let mut book = open(rt.alloc(), narrow()?, 2)?;
-    let replies = "Node(0, 0) Made(1) Node(1, 1) Made(3) NodesSpent(2) NotHeld(2) ";
-    let end = (4, "Split(1) Split(2) Fresh Closed(Bound) Closed(Bound) ");
-    expect(&rt, rt.alloc(), &mut book, &TO_BOTH, replies, end)?;
-    assert_eq!(rt; book.verdict(), Verdict::OpenNodes { used: 2, low: 80 });
+    assert!(rt; (book.best_cost(), book.opening_cost()) == (80, 120));
     Ok(())
 }

@@ -5,9 +5,12 @@ use crate::fixture::{
 };
 use book_certificate::{CertError, certificate_of};
 use book_core::{Book, Reply};
-use cert_check::{Answer, Ground, Mark, check};
-use lock_model::{Instance, Plan};
+use cert_check::{
+    Answer, CertCut, CertCuts, FailurePlace, Ground, Mark, Reason, check, one_first_failure,
+};
+use lock_model::{Instance, Plan, Ships};
 use master_branch::root;
+use place_refute::Refutation;
 use price_bound::{ChamberCut, KeptLines, Limits, PricedNode, Prices, show};
 use std::alloc::Global;
 use std::process::Abort;
@@ -115,9 +118,9 @@ const TO_THE_CUT: [Deed; 6] = [
 // The certificate of a finished book has these marks, and is accepted with its cost.
 fn expect_marks(rt: &impl Abort, alloc: Global, book: &Book, marks: &[Mark]) -> Result<(), Fail> {
     let certificate = certificate_of(alloc, book).map_err(|_| "no certificate")?;
-    assert_eq!(rt; certificate.tree.as_slice(), marks);
+    assert!(rt; certificate.tree.as_slice() == marks);
     let answer = check(alloc, &book.case().instance, &certificate);
-    assert_eq!(rt; answer, Ok(Answer::Accepted(book.best_cost())));
+    assert!(rt; answer == Ok(Answer::Accepted(book.best_cost())));
     Ok(())
 }
 
@@ -126,7 +129,7 @@ fn a_probe_a_bound_or_prices_finish_a_book(rt: HostRuntime) -> Result<(), Fail> 
     let alloc = rt.alloc();
     let probed = &[Take(0), Split(0), Take(0), CloseProbe(1, 1)];
     let book = driven(alloc, SideBySide, both(), probed)?;
-    assert_eq!(rt; book.best_cost(), 80);
+    assert!(rt; book.best_cost() == 80);
     expect_marks(
         &rt,
         alloc,
@@ -134,11 +137,11 @@ fn a_probe_a_bound_or_prices_finish_a_book(rt: HostRuntime) -> Result<(), Fail> 
         &[Mark::Split, Mark::Leaf(Ground::Probe(1))],
     )?;
     let book = driven(alloc, Twin, one_each(), &[])?;
-    assert_eq!(rt; book.best_cost(), 70);
+    assert!(rt; book.best_cost() == 70);
     expect_marks(&rt, alloc, &book, &[Mark::Leaf(Ground::Bound)])?;
     let priced = &[Take(0), CloseRootByPrices];
     let book = driven(alloc, Narrow, one_after_the_other(50), priced)?;
-    assert_eq!(rt; book.best_cost(), 120);
+    assert!(rt; book.best_cost() == 120);
     expect_marks(&rt, alloc, &book, &[Mark::Leaf(Ground::Price(0))])
 }
 
@@ -174,7 +177,7 @@ const IN_PREORDER: [Mark; 11] = [
 #[test]
 fn finished_books_give_marks_in_preorder(rt: HostRuntime) -> Result<(), Fail> {
     let book = driven(rt.alloc(), Twin, one_after_the_other(50), &BY_TURNS)?;
-    assert_eq!(rt; book.best_cost(), 70);
+    assert!(rt; book.best_cost() == 70);
     expect_marks(&rt, rt.alloc(), &book, &IN_PREORDER)
 }
 
@@ -189,8 +192,32 @@ fn a_book_with_a_slot_left_open_or_held_has_none(rt: HostRuntime) -> Result<(), 
         )?;
         match certificate_of(rt.alloc(), &book) {
             Ok(_) => panic!(rt; "a slot is left after {deeds} deeds"),
-            Err(error) => assert_eq!(rt; error, CertError::StillOpen),
+            Err(error) => assert!(rt; error == CertError::StillOpen),
         }
     }
+    Ok(())
+}
+
+// A cut of no ships, which no dossier has.
+fn empty_cut(alloc: Global) -> Result<CertCuts, Fail> {
+    let mut cuts = CertCuts::new(alloc);
+    cuts.push(CertCut {
+        chamber: 0,
+        ships: Ships::new(),
+        refutation: Refutation::Clash(0, 1),
+    })?;
+    Ok(cuts)
+}
+
+#[test]
+fn a_cut_of_no_ships_is_rejected(rt: HostRuntime) -> Result<(), Fail> {
+    one_first_failure();
+    let alloc = rt.alloc();
+    let book = driven(alloc, Narrow, one_after_the_other(50), &TO_THE_CUT)?;
+    let mut certificate = certificate_of(alloc, &book).map_err(|_| "no certificate")?;
+    certificate.cuts = empty_cut(alloc)?;
+    let answer = check(alloc, &book.case().instance, &certificate);
+    let misshapen = Answer::Rejected(FailurePlace::Cut(0), Reason::CutShape);
+    assert!(rt; answer == Ok(misshapen));
     Ok(())
 }

@@ -28,15 +28,6 @@ pub(crate) fn side_by_side() -> Result<Instance, Fail> {
     Ok(two_ships(SIDE).ok_or("no instance")?)
 }
 
-/// Two ships that fit side by side, but for their cargos, which clash.
-pub(crate) fn clashing() -> Result<Instance, Fail> {
-    let mut first = ship(b's', Way::Up, 0);
-    first.cargo = 1;
-    let mut second = ship(b't', Way::Up, 0);
-    second.cargo = 2;
-    Ok(one_chamber(chamber(b'c', SIDE), first, second).ok_or("no instance")?)
-}
-
 /// Two ships of two ways, one a lockage, and a chamber that turns in no time.
 pub(crate) fn swift() -> Result<Instance, Fail> {
     let mut only = chamber(b'c', SIDE);
@@ -157,11 +148,6 @@ pub(crate) fn open(alloc: Global, instance: Instance, nodes: u32) -> Result<Book
 /// The book of an instance for 100 nodes and so many turns, opened with its singles plan.
 pub(crate) fn open_turns(alloc: Global, instance: Instance, turns: u32) -> Result<Book, Fail> {
     Ok(open_for(alloc, instance, 100, turns).ok_or("no book")?)
-}
-
-/// The book of an instance, opened with both ships side by side.
-pub(crate) fn open_cheap(alloc: Global, instance: Instance) -> Result<Book, Fail> {
-    Ok(open_with(alloc, instance, 100, 128, both()).ok_or("no book")?)
 }
 
 /// The cut of both ships in a chamber of this width, by a row of them, if it is narrow enough; its

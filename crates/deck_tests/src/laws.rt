@@ -14,8 +14,8 @@ use worked_locks::{BASE, deck_of};
 #[test]
 fn spot_values_are_steps_from_the_near_end(rt: HostRuntime) -> Result<(), Fail> {
     let deck = deck_of(BASE, &[(500, 60), (300, 60)]).ok_or("no deck")?;
-    let values = spot_values(rt.alloc(), &deck).map_err(|_| "no memory")?;
-    assert_eq!(rt; values.as_slice(), [10, 210, 330, 530].as_slice());
+    let values = spot_values(rt.alloc(), &deck)?;
+    assert!(rt; values.as_slice() == [10, 210, 330, 530].as_slice());
     let short = deck_of(
         Measures {
             length: 100,
@@ -24,8 +24,8 @@ fn spot_values_are_steps_from_the_near_end(rt: HostRuntime) -> Result<(), Fail> 
         &[(90, 50)],
     )
     .ok_or("no deck")?;
-    let none = spot_values(rt.alloc(), &short).map_err(|_| "no memory")?;
-    assert_eq!(rt; none.as_slice().len(), 0);
+    let none = spot_values(rt.alloc(), &short)?;
+    assert!(rt; none.as_slice().len() == 0);
     Ok(())
 }
 
@@ -53,11 +53,11 @@ fn widened(deck: &Deck, width: u32) -> Option<Deck>
 fn a_flush_pair_is_pushed_to_the_near_end(rt: HostRuntime) -> Result<(), Fail> {
     let deck = deck_of(BASE, &[(500, 60), (500, 60)]).ok_or("no deck")?;
     let mut spots = spots_of(&[(40, 0, LEFT, QUAY), (40, 65, LEFT, Moor::Ship(0))]);
-    assert_eq!(rt; spots.as_slice().len(), deck.ships.as_slice().len());
+    assert!(rt; spots.as_slice().len() == deck.ships.as_slice().len());
     assert!(rt; judge_spots(&deck, &spots).is_none());
     normalise(&deck, &mut spots);
     let pushed = spots_of(&[(10, 0, LEFT, QUAY), (10, 65, LEFT, Moor::Ship(0))]);
-    assert_eq!(rt; spots, pushed);
+    assert!(rt; spots == pushed);
     Ok(())
 }
 
@@ -69,8 +69,8 @@ fn guests_take_the_mooring_of_the_ship_that_is_left_out(rt: HostRuntime) -> Resu
         (20, 65, LEFT, Moor::Ship(0)),
         (30, 120, LEFT, Moor::Ship(1)),
     ]);
-    assert_eq!(rt; deck.ships.as_slice().len(), 3);
-    assert_eq!(rt; spots.as_slice().len(), deck.ships.as_slice().len());
+    assert!(rt; deck.ships.as_slice().len() == 3);
+    assert!(rt; spots.as_slice().len() == deck.ships.as_slice().len());
     assert!(rt; judge_spots(&deck, &spots).is_none());
     for (ship, first, second) in [
         (0, (20, 0, LEFT, QUAY), (30, 55, LEFT, Moor::Ship(0))),
@@ -78,8 +78,8 @@ fn guests_take_the_mooring_of_the_ship_that_is_left_out(rt: HostRuntime) -> Resu
     ] {
         assert!(rt; ship < 3);
         let (rest, moved) = thin_out(&deck, &spots, ship);
-        assert_eq!(rt; rest.ships.as_slice().len(), 2, "without ship {ship}");
-        assert_eq!(rt; moved, spots_of(&[first, second]), "without ship {ship}");
+        assert!(rt; rest.ships.as_slice().len() == 2);
+        assert!(rt; moved == spots_of(&[first, second]));
     }
     Ok(())
 }
@@ -87,13 +87,13 @@ fn guests_take_the_mooring_of_the_ship_that_is_left_out(rt: HostRuntime) -> Resu
 #[test]
 fn the_right_rank_follows_its_quay(rt: HostRuntime) -> Result<(), Fail> {
     let deck = deck_of(BASE, TWINS).ok_or("no deck")?;
-    assert_eq!(rt; deck.width, 240);
+    assert!(rt; deck.width == 240);
     let wider = widened(&deck, 250).ok_or("no deck")?;
     let mut spots = spots_of(&[(10, 0, LEFT, QUAY), (10, 126, RIGHT, QUAY)]);
-    assert_eq!(rt; spots.as_slice().len(), deck.ships.as_slice().len());
+    assert!(rt; spots.as_slice().len() == deck.ships.as_slice().len());
     assert!(rt; judge_spots(&deck, &spots).is_none());
     widen(&deck, &wider, &mut spots);
     let follows = spots_of(&[(10, 0, LEFT, QUAY), (10, 136, RIGHT, QUAY)]);
-    assert_eq!(rt; spots, follows);
+    assert!(rt; spots == follows);
     Ok(())
 }

@@ -1,9 +1,9 @@
-//! Tests of the crates of decks and placers, and of the model below them.
+//! Tests of the crates of decks and placers.
 //!
 //! The crate has no code but its tests, each over the public items of the crate that it names:
-//! `lock_model` (`model`), `mooring_rules` (`moorings`), `deck_laws` (`laws`), `ship_shapes`
-//! (`shapes`), `berth_check` and `berth_place` (`berths`), `place_refute` (`refutations`),
-//! `case_search` and `chamber_place` (`cases`), `spot_place` (`spots`), `placed_groups` (`answers`).
+//! `mooring_rules` (`moorings`), `deck_laws` (`laws`), `ship_shapes` (`shapes`), `berth_check` and
+//! `berth_place` (`berths`), `place_refute` (`cuts`), `chamber_place` (`cases`), `spot_place`
+//! (`spots`), `placed_groups` (`answers`).
 //! Breaks of placements, and refutations that hold or don't, stand with the rows of whole runs and
 //! those of the second checker too. Lengths are decimetres.
 #![tactic(auto)]
@@ -15,15 +15,13 @@ mod berths;
 #[cfg(test)]
 mod cases;
 #[cfg(test)]
+mod cuts;
+#[cfg(test)]
 mod fixture;
 #[cfg(test)]
 mod laws;
 #[cfg(test)]
-mod model;
-#[cfg(test)]
 mod moorings;
-#[cfg(test)]
-mod refutations;
 #[cfg(test)]
 mod shapes;
 #[cfg(test)]

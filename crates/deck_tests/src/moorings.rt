@@ -51,11 +51,11 @@ const PLACEMENTS: [Judged; 8] = [
 
 #[test]
 fn the_first_break_of_a_placement_is_named(rt: HostRuntime) -> Result<(), Fail> {
-    for (i, (ships, places, want)) in PLACEMENTS.iter().enumerate() {
+    for (ships, places, want) in &PLACEMENTS {
         let deck = deck_of(BASE, ships).ok_or("over a limit")?;
         let spots = spots_of(places);
-        assert_eq!(rt; spots.as_slice().len(), deck.ships.as_slice().len());
-        assert_eq!(rt; judge_spots(&deck, &spots), *want, "row {i}");
+        assert!(rt; spots.as_slice().len() == deck.ships.as_slice().len());
+        assert!(rt; judge_spots(&deck, &spots) == *want);
     }
     Ok(())
 }

@@ -10,8 +10,8 @@ fn the_first_whole_spot_case_is_placed(rt: HostRuntime) -> Result<(), Fail> {
     let deck = deck_of(BASE, TWINS).ok_or("no deck")?;
     let expected = spots_of(&[(10, 0, LEFT, QUAY), (10, 126, RIGHT, QUAY)]);
     for turns in [7, 20_000] {
-        match place_by_spots(rt.alloc(), &deck, turns).map_err(|_| "no memory")? {
-            SpotPlaced::Fits(spots) => assert_eq!(rt; spots, expected),
+        match place_by_spots(rt.alloc(), &deck, turns)? {
+            SpotPlaced::Fits(spots) => assert!(rt; spots == expected),
             _ => return Err("the twins fit".into()),
         }
     }
@@ -40,14 +40,14 @@ const UNFIT: [Tried; 6] = [
 fn a_deck_is_refuted_or_its_turns_are_spent(rt: HostRuntime) -> Result<(), Fail> {
     for (measures, ships, turns, tree) in UNFIT {
         let deck = deck_of(measures, ships).ok_or("no deck")?;
-        match place_by_spots(rt.alloc(), &deck, turns).map_err(|_| "no memory")? {
+        match place_by_spots(rt.alloc(), &deck, turns)? {
             SpotPlaced::Fits(_) => return Err("no whole case is among these".into()),
             SpotPlaced::Refuted(marks) => {
-                assert_eq!(rt; Some(marks.as_slice()), tree);
+                assert!(rt; Some(marks.as_slice()) == tree);
             }
             SpotPlaced::Spent(hard) => {
-                assert_eq!(rt; tree, None);
-                assert_eq!(rt; hard.turns, turns);
+                assert!(rt; tree.is_none());
+                assert!(rt; hard.turns == turns);
             }
         }
     }

@@ -1,19 +1,9 @@
-//! Seats of one table, in one thread and in two.
+//! Seats of one table, in two threads.
 ghost use Rattle.std.specs.Prelude.{◌≡◌};
 
 use bound_word::{BoundSeat, BoundTable};
 use std::test::Fail;
 use std::thread::join;
-
-#[test]
-fn a_seat_reads_the_least_that_it_posted(rt: HostRuntime) -> Result<(), Fail> {
-    let (table, mut seat) = BoundTable::new(rt.alloc(), 120, 1).map_err(|_| "no memory")?;
-    assert_eq!(rt; table.lower(&mut seat, 80), 120);
-    assert_eq!(rt; table.load(&mut seat), 80);
-    assert_eq!(rt; table.lower(&mut seat, 100), 80);
-    assert_eq!(rt; table.close(seat), 80);
-    Ok(())
-}
 
 // Posts a cost in a thread, and gives the seat back.
 fn lowered(table: &BoundTable, mut seat: BoundSeat, cost: u64) -> BoundSeat
@@ -37,7 +27,7 @@ fn loaded(table: &BoundTable, mut seat: BoundSeat) -> (BoundSeat, u64)
 
 #[test]
 fn seats_of_two_threads_share_the_word(rt: HostRuntime) -> Result<(), Fail> {
-    let (table, mut first) = BoundTable::new(rt.alloc(), 120, 2).map_err(|_| "no memory")?;
+    let (table, mut first) = BoundTable::new(rt.alloc(), 120, 2)?;
     let second = table.split(&mut first);
     let shared = &table;
     let (mut first, (mut second, number)) = join(
@@ -46,8 +36,8 @@ fn seats_of_two_threads_share_the_word(rt: HostRuntime) -> Result<(), Fail> {
         move || loaded(shared, second),
     );
     assert!(rt; number == 80 || number == 120);
-    assert_eq!(rt; table.load(&mut second), 80);
+    assert!(rt; table.load(&mut second) == 80);
     table.join(&mut first, second);
-    assert_eq!(rt; table.close(first), 80);
+    assert!(rt; table.close(first) == 80);
     Ok(())
 }

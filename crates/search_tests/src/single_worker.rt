@@ -2,4 +2,3 @@
 mod alone;
 mod fixture;
 mod hitting;
-mod nodes;

@@ -1,9 +1,9 @@
 //! Tests of the crates of time, tree and bounds, and of the plans that are made by them.
 //!
 //! The crate has no code but its tests, each over the public items of the crate that it names:
-//! `chamber_times` (`times`), `master_branch` (`nodes`), `flow_bounds` (`bounds`), `price_bound`
-//! (`prices`), `price_raise` (`raising`), `near_plan` (`near`), `first_plan` (`singles`). Times are
-//! minutes, and lengths are decimetres.
+//! `master_branch` (`nodes`), `flow_bounds` (`bounds`), `price_bound` (`prices`), `price_raise`
+//! (`raising`), `near_plan` (`near`), `first_plan` (`singles`). Times are minutes, and lengths are
+//! decimetres.
 #![tactic(auto)]
 
 #[cfg(test)]
@@ -20,7 +20,5 @@ mod prices;
 mod raising;
 #[cfg(test)]
 mod singles;
-#[cfg(test)]
-mod times;
 #[cfg(test)]
 mod walk;

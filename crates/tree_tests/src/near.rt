@@ -68,11 +68,9 @@ fn each_ship_is_kept_once_or_put_in(rt: HostRuntime) -> Result<(), Fail> {
         let mut fitting = OneByOne {
             instance: &instance,
         };
-        let found = near_plan(rt.alloc(), &instance, &lines, below, &mut fitting).map_err(
-            |_| "no memory",
-        )?;
+        let found = near_plan(rt.alloc(), &instance, &lines, below, &mut fitting)?;
         let count = found.map(|plan| plan.lockages.as_slice().len());
-        assert_eq!(rt; count, lockages);
+        assert!(rt; count == lockages);
     }
     Ok(())
 }

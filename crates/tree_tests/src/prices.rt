@@ -7,6 +7,7 @@ use locks::{closed, one, two_chambers};
 use price_bound::{
     ChamberCut, KeptLines, Limits, PriceError, PricedNode, Prices, price_sum, reaches, show,
 };
+use std::alloc::Global;
 use std::process::Abort;
 use std::test::Fail;
 use worked_locks::{pair, two_ships};
@@ -37,10 +38,26 @@ fn check(
         prices: &prices,
         cuts,
     };
-    assert_eq!(rt; price_sum(kept, &asked, ENOUGH), Ok(Some(sum)));
+    assert!(rt; price_sum(kept, &asked, ENOUGH) == Ok(Some(sum)));
     for cost in 0..300 {
         let reached = greatest.is_some_and(|greatest| cost <= greatest);
-        assert_eq!(rt; reaches(kept, &asked, cost, ENOUGH), Ok(reached));
+        assert!(rt; reaches(kept, &asked, cost, ENOUGH) == Ok(reached));
+    }
+    Ok(())
+}
+
+// Holds rows against the bound of an instance.
+fn check_all(
+    rt: &impl Abort,
+    alloc: Global,
+    instance: Option<Instance>,
+    cuts: &[ChamberCut],
+    rows: &[Row],
+) -> Result<(), Fail> {
+    let instance = instance.ok_or("no instance")?;
+    let mut kept = KeptLines::new(alloc);
+    for row in rows {
+        check(rt, &mut kept, &instance, cuts, row)?;
     }
     Ok(())
 }
@@ -59,16 +76,6 @@ const ONE_SHIP: &[Row] = &[
     (&[0], &[9000], 3500, Some(35)),
 ];
 
-#[test]
-fn one_ship(rt: HostRuntime) -> Result<(), Fail> {
-    let instance = one().ok_or("no instance")?;
-    let mut kept = KeptLines::new(rt.alloc());
-    for row in ONE_SHIP {
-        check(&rt, &mut kept, &instance, &[], row)?;
-    }
-    Ok(())
-}
-
 const SIDE_BY_SIDE: &[Row] = &[
     (&[], &[4000, 4000], 7500, Some(75)),
     (&[], &[3500, 4500], 7000, Some(70)),
@@ -81,16 +88,6 @@ const SIDE_BY_SIDE: &[Row] = &[
     (&[0, 1], &[0, 0], 12000, Some(120)),
     (&[0, 1], &[7, 7], 12000, Some(120)),
 ];
-
-#[test]
-fn two_ships_side_by_side(rt: HostRuntime) -> Result<(), Fail> {
-    let instance = two_ships(240).ok_or("no instance")?;
-    let mut kept = KeptLines::new(rt.alloc());
-    for row in SIDE_BY_SIDE {
-        check(&rt, &mut kept, &instance, &[], row)?;
-    }
-    Ok(())
-}
 
 const CUT: &[Row] = &[
     (&[], &[3500, 8500], 7000, Some(70)),
@@ -113,10 +110,7 @@ fn two_ships_and_their_cut(rt: HostRuntime) -> Result<(), Fail> {
         chamber: 0,
         ships: pair(0, 1),
     }];
-    let mut kept = KeptLines::new(rt.alloc());
-    for row in CUT {
-        check(&rt, &mut kept, &instance, &cuts, row)?;
-    }
+    check_all(&rt, rt.alloc(), two_ships(232), &cuts, CUT)?;
     let node = node_at(&instance, &[0, 0]).ok_or("no node")?;
     let prices = Prices::new(&[0, 0]).ok_or("no prices")?;
     let asked = PricedNode {
@@ -125,8 +119,9 @@ fn two_ships_and_their_cut(rt: HostRuntime) -> Result<(), Fail> {
         prices: &prices,
         cuts: &cuts,
     };
-    assert_eq!(rt; price_sum(&mut kept, &asked, ENOUGH), Ok(None));
-    assert_eq!(rt; reaches(&mut kept, &asked, u64::MAX, ENOUGH), Ok(true));
+    let mut kept = KeptLines::new(rt.alloc());
+    assert!(rt; price_sum(&mut kept, &asked, ENOUGH) == Ok(None));
+    assert!(rt; reaches(&mut kept, &asked, u64::MAX, ENOUGH) == Ok(true));
     Ok(())
 }
 
@@ -140,16 +135,6 @@ const CLOSED: &[Row] = &[
     (&[0], &[0, 20000], 9500, Some(95)),
 ];
 
-#[test]
-fn a_closure(rt: HostRuntime) -> Result<(), Fail> {
-    let instance = closed().ok_or("no instance")?;
-    let mut kept = KeptLines::new(rt.alloc());
-    for row in CLOSED {
-        check(&rt, &mut kept, &instance, &[], row)?;
-    }
-    Ok(())
-}
-
 const TWO_CHAMBERS: &[Row] = &[
     (&[], &[3500, 2600, 3000], 9100, Some(91)),
     (&[], &[3500, 2600, 4000], 8600, Some(86)),
@@ -162,13 +147,11 @@ const TWO_CHAMBERS: &[Row] = &[
 ];
 
 #[test]
-fn two_chambers_add_up(rt: HostRuntime) -> Result<(), Fail> {
-    let instance = two_chambers().ok_or("no instance")?;
-    let mut kept = KeptLines::new(rt.alloc());
-    for row in TWO_CHAMBERS {
-        check(&rt, &mut kept, &instance, &[], row)?;
-    }
-    Ok(())
+fn locks_without_cuts(rt: HostRuntime) -> Result<(), Fail> {
+    check_all(&rt, rt.alloc(), one(), &[], ONE_SHIP)?;
+    check_all(&rt, rt.alloc(), two_ships(240), &[], SIDE_BY_SIDE)?;
+    check_all(&rt, rt.alloc(), closed(), &[], CLOSED)?;
+    check_all(&rt, rt.alloc(), two_chambers(), &[], TWO_CHAMBERS)
 }
 
 #[test]
@@ -213,7 +196,7 @@ fn more_groups_or_turns_than_allowed_are_refused(rt: HostRuntime) -> Result<(), 
         (3, 0, Err(PriceError::TooMany)),
     ] {
         let mut kept = KeptLines::new(rt.alloc());
-        assert_eq!(rt; price_sum(&mut kept, &asked, Limits { groups, turns }), sum);
+        assert!(rt; price_sum(&mut kept, &asked, Limits { groups, turns }) == sum);
     }
     Ok(())
 }

@@ -32,12 +32,12 @@ fn ships_are_served_alone_by_the_chamber_that_ends_first(rt: HostRuntime) -> Res
         let short = chamber(b'b', 1500, second);
         let (one, other) = (ship(b's', Way::Up, 1100, 0), ship(b't', way, 1100, arrival));
         let instance = two_by_two(long, short, one, other).ok_or("no instance")?;
-        assert_eq!(rt; first_unfit(&instance), None);
+        assert!(rt; first_unfit(&instance).is_none());
         let plan = singles_plan(&instance);
         let lockages = plan.lockages.as_slice();
-        assert_eq!(rt; lockages.len(), 2);
-        assert_eq!(rt; [lockages[0].chamber, lockages[1].chamber], chambers);
-        assert_eq!(rt; [lockages[0].start, lockages[1].start], starts);
+        assert!(rt; lockages.len() == 2);
+        assert!(rt; [lockages[0].chamber, lockages[1].chamber] == chambers);
+        assert!(rt; [lockages[0].start, lockages[1].start] == starts);
     }
     Ok(())
 }
@@ -49,8 +49,8 @@ fn lockages_are_merged_where_their_ships_fit_together(rt: HostRuntime) -> Result
     for (width, lockages, minutes) in [(240, 1, 80), (232, 2, 120)] {
         let instance = two_ships(width).ok_or("no instance")?;
         let plan = first_plan(rt.alloc(), &instance, 128).map_err(|_| "no plan")?;
-        assert_eq!(rt; plan.lockages.as_slice().len(), lockages);
-        assert_eq!(rt; cost(&instance, &plan), minutes);
+        assert!(rt; plan.lockages.as_slice().len() == lockages);
+        assert!(rt; cost(&instance, &plan) == minutes);
     }
     Ok(())
 }

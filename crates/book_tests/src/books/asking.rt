@@ -1,6 +1,5 @@
 //! What books answer, as text.
 
-use super::pricing::{Claimed, close_shown, prices_of};
 use crate::fixture::{both, one_after_the_other, row_cut};
 use crate::spent_decks::spent_both;
 use book_core::{Book, Reply};
@@ -10,7 +9,7 @@ use std::process::Abort;
 use std::test::Fail;
 
 /// What is asked of a book.
-#[derive(Clone, Copy, Debug)]
+#[derive(Clone, Copy)]
 pub(crate) enum Ask {
     Take(u8),
     Split(u32),
@@ -20,10 +19,6 @@ pub(crate) enum Ask {
     Post(u32),
     /// The slot is parked at this group of a chamber, whose deck is that of both ships.
     Park(u32, u8, u8),
-    /// So many prices, all the same.
-    Prices(u8, u32),
-    /// The slot is closed by the prices of this number, of which so much is shown.
-    ClosePrice(u32, u64, Claimed),
     /// The plan of both ships side by side.
     Both,
     /// The plan of one ship from minute 0, and the other from this minute.
@@ -42,8 +37,6 @@ pub(crate) fn reply_of(alloc: Global, book: &mut Book, ask: Ask) -> Result<Reply
             let hard = spent_both(alloc, book)?;
             book.park(id, chamber, place, &hard)
         }
-        Ask::Prices(count, price) => book.post_prices(prices_of(count, price)?),
-        Ask::ClosePrice(id, number, claimed) => close_shown(alloc, book, id, number, claimed)?,
         Ask::Both => book.replace(both()),
         Ask::After(start) => book.replace(one_after_the_other(start)),
     })
@@ -90,8 +83,8 @@ pub(crate) fn expect(
     end: (u64, &str),
 ) -> Result<(), Fail> {
     let text = replies_to(alloc, book, asks)?;
-    assert_eq!(rt; text.as_str(), replies);
+    assert!(rt; text.as_str() == replies);
     let states = states_of(alloc, book)?;
-    assert_eq!(rt; (book.history_len(), states.as_str()), end);
+    assert!(rt; (book.history_len(), states.as_str()) == end);
     Ok(())
 }

@@ -34,11 +34,11 @@ fn expect_split(rt: &impl Abort, book: &mut Book) {
     let before = told(book);
     let mut reply = book.split(0);
     if reply == Reply::NoMemory {
-        assert_eq!(rt; told(book), before);
-        assert_eq!(rt; book.held_by(0), Some(0));
+        assert!(rt; told(book) == before);
+        assert!(rt; book.held_by(0) == Some(0));
         reply = book.split(0);
     }
-    assert_eq!(rt; reply, Reply::Made(1));
+    assert!(rt; reply == Reply::Made(1));
 }
 
 // The plan of both ships is put in place likewise.
@@ -46,10 +46,10 @@ fn expect_replaced(rt: &impl Abort, book: &mut Book) {
     let before = told(book);
     let mut reply = book.replace(both());
     if reply == Reply::NoMemory {
-        assert_eq!(rt; told(book), before);
+        assert!(rt; told(book) == before);
         reply = book.replace(both());
     }
-    assert_eq!(rt; reply, Reply::Replaced(80));
+    assert!(rt; reply == Reply::Replaced(80));
 }
 
 #[test]
@@ -59,6 +59,6 @@ fn a_split_and_a_plan_wait_for_memory(rt: HostRuntime) -> Result<(), Fail> {
     expect_split(&rt, &mut book);
     book.take(0);
     expect_replaced(&rt, &mut book);
-    assert_eq!(rt; book.close_probe(1, 1), Reply::Closed);
+    assert!(rt; book.close_probe(1, 1) == Reply::Closed);
     Ok(())
 }

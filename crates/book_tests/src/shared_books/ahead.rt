@@ -12,7 +12,7 @@ use std::sync::ledger::{Ledger, Share};
 use std::test::*;
 
 /// Which nodes are handed over: of the narrow chamber, but for `Swift`.
-#[derive(Clone, Copy, Debug)]
+#[derive(Clone, Copy)]
 pub(crate) enum Way {
     /// The root and its child are split.
     Both,

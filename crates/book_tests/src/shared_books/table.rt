@@ -30,10 +30,10 @@ fn told(book: &Book) -> (u64, u32, u32, u64, bool, bool) {
 
 // What both books tell is the same, and so many events were accepted.
 fn expect_told(rt: &impl Abort, book: &Book, twin: &Book, events: u64) {
-    assert_eq!(rt; told(book), told(twin));
-    assert_eq!(rt; book.history_len(), events);
+    assert!(rt; told(book) == told(twin));
+    assert!(rt; book.history_len() == events);
     for id in 0..twin.slots() {
-        assert_eq!(rt; book.slot_state(id), twin.slot_state(id));
+        assert!(rt; book.slot_state(id) == twin.slot_state(id));
     }
 }
 

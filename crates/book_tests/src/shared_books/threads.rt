@@ -78,7 +78,7 @@ fn wait_of<L: Ledger + Send + Sync, R: Threads + Wait + Sync>(
 fn who_waits_is_told_of_a_split(rt: HostRuntime) -> Result<(), Fail> {
     let book = open_turns(rt.alloc(), narrow()?, 128)?;
     let done = wait_of::<Brand, _>(&rt, Blank::new(3), book, true);
-    assert_eq!(rt; done, Some((3, Some(1))));
+    assert!(rt; done == Some((3, Some(1))));
     Ok(())
 }
 
@@ -86,6 +86,6 @@ fn who_waits_is_told_of_a_split(rt: HostRuntime) -> Result<(), Fail> {
 fn who_waits_is_told_of_an_ending(rt: HostRuntime) -> Result<(), Fail> {
     let book = open_turns(rt.alloc(), narrow()?, 128)?;
     let done = wait_of::<Brand, _>(&rt, Blank::new(3), book, false);
-    assert_eq!(rt; done, Some((3, Some(0))));
+    assert!(rt; done == Some((3, Some(0))));
     Ok(())
 }

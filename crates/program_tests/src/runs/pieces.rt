@@ -33,14 +33,8 @@ fn expect_report<R: Threads + Wait + Sync + Abort>(
         sink_fault: NEVER,
     };
     let ran = run_with(rt, alloc, &["solve"], ONE_SHIP.as_bytes(), calls)?;
-    expect_ran(
-        rt,
-        &ran,
-        0,
-        lines_of(alloc, REPORT_OF_ONE)?.as_slice(),
-        "one ship",
-    );
-    assert_eq!(rt; ran.left, 0);
+    expect_ran(rt, &ran, 0, lines_of(alloc, REPORT_OF_ONE)?.as_slice());
+    assert!(rt; ran.left == 0);
     Ok(())
 }
 

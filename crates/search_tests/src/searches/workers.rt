@@ -50,7 +50,7 @@ fn a_search_keeps_the_cuts_that_it_is_given(rt: HostRuntime) -> Result<(), Fail>
     let plan = first.best().copy();
     let few = one_node(&case);
     let book = solve_from(&rt, rt.alloc(), &few, plan, cuts, 1, &OpenGate)?.book;
-    assert_eq!(rt; book.opening_cost(), first.best_cost());
+    assert!(rt; book.opening_cost() == first.best_cost());
     assert!(rt; book.cut(0).is_some() && book.cut(1).is_none());
     Ok(())
 }

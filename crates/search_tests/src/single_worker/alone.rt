@@ -1,42 +1,11 @@
 //! What one worker makes of a book.
 
-use super::fixture::{Given, PointGate, lock, searched, searched_as, two_up};
+use super::fixture::{Given, PointGate, one_at_a_time, searched, searched_as, two_up};
 use super::hitting::has_hit_cut;
 use crate::fixture::open;
 use instance_text::make_lot;
 use lock_io::{OpenGate, Point};
-use lock_model::{Verdict, Way};
 use std::test::Fail;
-use worked_locks::pair;
-
-// The group of both ships, which one turn leaves hard and spot-hard.
-fn spent() -> Verdict {
-    Verdict::OpenTurns {
-        chamber: 0,
-        ships: pair(0, 1),
-        turns: 1,
-        low: 80,
-    }
-}
-
-// The ships fit side by side from width 233 on.
-#[test]
-fn one_worker_searches_to_the_end(rt: HostRuntime) -> Result<(), Fail> {
-    for (width, nodes, turns, cost, verdict) in [
-        (232, 100, 20000, 120, Verdict::Optimal),
-        (233, 100, 20000, 80, Verdict::Optimal),
-        (232, 1, 20000, 120, Verdict::OpenNodes { used: 1, low: 70 }),
-        (232, 2, 20000, 120, Verdict::OpenNodes { used: 2, low: 80 }),
-        (240, 100, 1, 120, spent()),
-    ] {
-        let book = open(rt.alloc(), two_up(width)?, nodes, turns)?;
-        let (book, least) = searched(&rt, rt.alloc(), &OpenGate, book)?;
-        assert_eq!(rt; book.verdict(), verdict);
-        assert_eq!(rt; (book.best_cost(), least), (cost, cost));
-        assert_eq!(rt; (book.held_by(0), book.ended(0)), (None, false));
-    }
-    Ok(())
-}
 
 // The root and its child are split at once; the node of both ships in one group, which the worker is
 // given then, is closed by a cut.
@@ -47,11 +16,11 @@ fn a_worker_calls_the_gate_as_it_goes(rt: HostRuntime) -> Result<(), Fail> {
     searched(&rt, rt.alloc(), &gate, book)?;
     let mut points = gate.points().into_iter();
     for depth in [0, 2] {
-        assert_eq!(rt; points.next(), Some(Point::Took(depth)));
-        assert_eq!(rt; points.next(), Some(Point::Read(120)));
-        assert_eq!(rt; points.next(), Some(Point::Closed));
+        assert!(rt; points.next() == Some(Point::Took(depth)));
+        assert!(rt; points.next() == Some(Point::Read(120)));
+        assert!(rt; points.next() == Some(Point::Closed));
     }
-    assert_eq!(rt; points.next(), None);
+    assert!(rt; points.next().is_none());
     Ok(())
 }
 
@@ -73,12 +42,12 @@ fn no_cut_of_a_worker_hits_a_later_one(rt: HostRuntime) -> Result<(), Fail> {
 #[test]
 fn a_worker_that_cannot_go_on_gives_its_slot_back(rt: HostRuntime) -> Result<(), Fail> {
     let book = open(rt.alloc(), two_up(232)?, 100, 20000)?;
-    let other = lock(232, 1, Way::Up)?;
+    let other = one_at_a_time()?;
     let given = Given {
         instance: &other,
         board: None,
     };
     let (book, _) = searched_as(&rt, rt.alloc(), &OpenGate, book, given)?;
-    assert_eq!(rt; (book.held_by(0), book.ended(0)), (None, true));
+    assert!(rt; (book.held_by(0), book.ended(0)) == (None, true));
     Ok(())
 }

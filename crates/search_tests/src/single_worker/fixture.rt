@@ -17,11 +17,11 @@ use std::sync::{Mutex, Wait};
 use std::test::Fail;
 use worked_locks::{chamber, one_chamber, ship, two_ships};
 
-/// Two ships that come at once, the first up, and a chamber of this width for so many ships.
-pub(crate) fn lock(width: u32, most: u8, second: Way) -> Result<Instance, Fail> {
-    let mut only = chamber(b'c', width);
-    only.most = most;
-    let (first, second) = (ship(b's', Way::Up, 0), ship(b't', second, 0));
+/// Two ships that want up at once, and a chamber that serves one at a time.
+pub(crate) fn one_at_a_time() -> Result<Instance, Fail> {
+    let mut only = chamber(b'c', 232);
+    only.most = 1;
+    let (first, second) = (ship(b's', Way::Up, 0), ship(b't', Way::Up, 0));
     Ok(one_chamber(only, first, second).ok_or("no instance")?)
 }
 

@@ -1,4 +1,5 @@
-//! Gates with one worker and with two.
+//! Gates with one worker, and with a third. That two meet, and what the held one hears, stands in
+//! `runs`.
 
 use lock_io::{Gate, LastGate, MeetGate, OpenGate, Point};
 use std::thread::join;
@@ -24,7 +25,7 @@ fn one_worker_is_let_go_and_meets_nobody(rt: HostRuntime) {
         }
         assert!(rt; !meet.met());
         assert!(rt; !last.freed());
-        assert_eq!(rt; last.heard(), None);
+        assert!(rt; last.heard() == None);
     }
 }
 
@@ -36,17 +37,6 @@ fn works<G: Gate>(gate: &G, worker: u8) {
     gate.at(worker, Point::Read(270));
     gate.at(worker, Point::Closed);
     gate.at(worker, Point::Idle);
-}
-
-#[test]
-fn two_workers_meet(rt: HostRuntime) {
-    let meet = MeetGate::new(10_000_000);
-    join(&rt, || works(&meet, 0), || works(&meet, 1));
-    assert!(rt; meet.met());
-    let last = LastGate::new(10_000_000);
-    join(&rt, || works(&last, 7), || works(&last, 200));
-    assert!(rt; last.freed());
-    assert_eq!(rt; last.heard(), Some(210));
 }
 
 #[test]

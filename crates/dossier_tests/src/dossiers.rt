@@ -1,6 +1,0 @@
-//! Worked dossiers.
-
-mod faults;
-mod fixture;
-mod parts;
-mod reading;
