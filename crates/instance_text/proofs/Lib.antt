@@ -13,3 +13,5 @@ pub mod LineBackLemmas
 pub mod PlainLemmas
 pub mod TextBackLemmas
 pub mod PartBackLemmas
+pub mod ChamberParts
+pub mod ShipParts

@@ -2,7 +2,7 @@
 ghost use Rattle.std.specs.Prelude.{◌≡◌, ◌≢◌, ◌<◌, ◌≤◌, All, length, IfOk};
 ghost use Rattle.lock_model.specs.Instance.{IsShip};
 ghost use Rattle.line_text.specs.Texts.{texts};
-ghost use Rattle.instance_text.specs.Ship.{is_ship_count, cargo, read_ship};
+ghost use Rattle.instance_text.specs.Ship.{is_ship_count, cargo, read_measures, AreMeasures, read_ship};
 
 use crate::bad::Kind;
 use crate::format::Format;
@@ -35,9 +35,35 @@ fn cargo(words: &[&[u8]]) -> Result<u8, Kind>
     Ok(class as u8)
 }
 
+/// How large a ship is, when it comes, and how long it is handled.
+struct Measures {
+    length: u32,
+    width: u32,
+    arrival: u32,
+    handling: u32,
+}
+
+/// The measures of a line. The first defect is that of a word from left to right.
+#[tactic(auto, unfolding(crate::specs::Ship::read_measures))]
+fn read_measures(words: &[&[u8]]) -> Result<Measures, Kind>
+    requires { 7 ≤ length words.now }
+    ensures value { result ≡ read_measures (texts words.now) }
+    ensures good { IfOk result AreMeasures }
+{
+    let length = number(word_at(words, 3), 1, 100_000)?;
+    let width = number(word_at(words, 4), 1, 100_000)?;
+    let arrival = number(word_at(words, 5), 0, 1_000_000)?;
+    let handling = number(word_at(words, 6), 0, 1_000_000)?;
+    Ok(Measures {
+        length,
+        width,
+        arrival,
+        handling,
+    })
+}
+
 /// The ship of a line that comes after these ships. The first defect is, in this order: `Count`,
 /// `Range` for a 25th ship, that of a word from left to right.
-#[tactic(auto, unfolding(crate::specs::Ship::read_ship))]
 pub fn read_ship(format: Format, earlier: &[Ship], words: &[&[u8]]) -> Result<Ship, Kind>
     ensures value { result ≡ read_ship format earlier.now (texts words.now) }
     ensures room { IfOk result (λ s. length earlier.now < 24) }
@@ -48,10 +74,12 @@ pub fn read_ship(format: Format, earlier: &[Ship], words: &[&[u8]]) -> Result<Sh
     check(earlier.len() < 24, Kind::Range)?;
     let name = new_ship_name(earlier, word_at(words, 1))?;
     let way = way(word_at(words, 2))?;
-    let length = number(word_at(words, 3), 1, 100_000)?;
-    let width = number(word_at(words, 4), 1, 100_000)?;
-    let arrival = number(word_at(words, 5), 0, 1_000_000)?;
-    let handling = number(word_at(words, 6), 0, 1_000_000)?;
+    let Measures {
+        length,
+        width,
+        arrival,
+        handling,
+    } = read_measures(words)?;
     let cargo = cargo(words)?;
     Ok(Ship {
         name,
