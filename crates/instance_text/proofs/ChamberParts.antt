@@ -6,7 +6,7 @@ use Rattle.instance_text.specs.declared.bad.Kind.TheVariants.{Count, Range, Turn
 use Rattle.line_text.specs.Lines.{word_at}
 use Rattle.line_text.specs.Steps.{◌>>=◌, ◌>>◌, check}
 use Rattle.instance_text.specs.Words.{number, new_name, stand}
-use Rattle.instance_text.specs.Chamber.{read_chamber, read_sizes, read_work}
+use Rattle.instance_text.specs.Chamber.{read_chamber, read_dimensions, read_work}
 
 -- two tests, a step, and five steps twice that make one value each
 in_parts : {A B C M1 M2 M3 M4 M5 N1 N2 N3 N4 N5 S W X E : Type 0} (a : Result A E) (b : Result B E) (c : Result C E) (m1 : Result M1 E) (m2 : Result M2 E) (m3 : Result M3 E) (m4 : Result M4 E) (m5 : Result M5 E) (n1 : Result N1 E) (n2 : Result N2 E) (n3 : Result N3 E) (n4 : Result N4 E) (n5 : Result N5 E) (sizes : M1 → M2 → M3 → M4 → M5 → S) (work : N1 → N2 → N3 → N4 → N5 → W) (whole : C → S → W → Result X E) → (a >> (b >> (c >>= λ name. (m1 >>= λ m1x. m2 >>= λ m2x. m3 >>= λ m3x. m4 >>= λ m4x. m5 >>= λ m5x. Ok (sizes m1x m2x m3x m4x m5x)) >>= λ s. (n1 >>= λ n1x. n2 >>= λ n2x. n3 >>= λ n3x. n4 >>= λ n4x. n5 >>= λ n5x. Ok (work n1x n2x n3x n4x n5x)) >>= λ w. whole name s w))) ≡ (a >> (b >> (c >>= λ name. m1 >>= λ m1x. m2 >>= λ m2x. m3 >>= λ m3x. m4 >>= λ m4x. m5 >>= λ m5x. n1 >>= λ n1x. n2 >>= λ n2x. n3 >>= λ n3x. n4 >>= λ n4x. n5 >>= λ n5x. whole name (sizes m1x m2x m3x m4x m5x) (work n1x n2x n3x n4x n5x))))
@@ -30,13 +30,13 @@ chamber_by_parts earlier words = do
   check (length words == 12) Count
   check (nat_lt (length earlier) 4) Range
   name ← new_name (map (λ c. c.name) earlier) (word_at words 1)
-  sizes ← read_sizes words
+  sizes ← read_dimensions words
   work ← read_work words
   check (nat_le work.turn work.pass) TurnOverPass
   Ok (record { name = name; length = sizes.length; width = sizes.width; end = sizes.end; gap = sizes.gap; side = sizes.side; most = work.most; pass = work.pass; turn = work.turn; stands = work.stands; opens = work.opens; closures = [] })
 
 pub parts_read : (earlier : List Chamber) (words : List (List ℕ)) → chamber_by_parts earlier words ≡ read_chamber earlier words
-unfolding read_chamber read_sizes read_work
+unfolding read_chamber read_dimensions read_work
 parts_read earlier words = in_parts
     (check (length words == 12) Count)
     (check (nat_lt (length earlier) 4) Range)

@@ -4,7 +4,7 @@ use Rattle.lock_model.specs.declared.chamber.Chamber.{Chamber}
 use Rattle.lock_model.specs.Limits.{Within}
 use Rattle.instance_text.specs.declared.bad.Kind.{Kind}
 use Rattle.instance_text.specs.declared.bad.Kind.TheVariants.{Count, Range, TurnOverPass}
-use Rattle.instance_text.specs.declared.chamber_line.Sizes.{Sizes}
+use Rattle.instance_text.specs.declared.chamber_line.Dimensions.{Dimensions}
 use Rattle.instance_text.specs.declared.chamber_line.Work.{Work}
 use Rattle.line_text.specs.Lines.{word_at}
 use Rattle.line_text.specs.Steps.{◌>>=◌, ◌>>◌, check}
@@ -30,8 +30,8 @@ read_chamber earlier words = do
   Ok (record { name = name; length = length; width = width; end = end; gap = gap; side = side; most = most; pass = pass; turn = turn; stands = stands; opens = opens; closures = [] })
 
 -- the part `<length> <width> <end> <gap> <side>` of such a line
-unfoldable pub read_sizes : List (List ℕ) → Result Sizes Kind
-read_sizes words = do
+unfoldable pub read_dimensions : List (List ℕ) → Result Dimensions Kind
+read_dimensions words = do
   length ← number 1 100000 (word_at words 2)
   width ← number 1 100000 (word_at words 3)
   end ← number 0 10000 (word_at words 4)
@@ -39,7 +39,7 @@ read_sizes words = do
   side ← number 0 10000 (word_at words 6)
   Ok (record { length = length; width = width; end = end; gap = gap; side = side })
 
-pub record AreSizes (s : Sizes) : Type 0 where
+pub record AreDimensions (s : Dimensions) : Type 0 where
   pub length : Within 1 100000 s.length
   pub width : Within 1 100000 s.width
   pub end : s.end ≤ 10000

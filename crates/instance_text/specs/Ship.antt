@@ -6,7 +6,7 @@ use Rattle.instance_text.specs.declared.bad.Kind.{Kind}
 use Rattle.instance_text.specs.declared.bad.Kind.TheVariants.{Count, Range}
 use Rattle.instance_text.specs.declared.format.Format.{Format}
 use Rattle.instance_text.specs.declared.format.Format.TheVariants.{First, Second}
-use Rattle.instance_text.specs.declared.ship_line.Measures.{Measures}
+use Rattle.instance_text.specs.declared.ship_line.Figures.{Figures}
 use Rattle.line_text.specs.Steps.{◌>>=◌, ◌>>◌, check}
 use Rattle.instance_text.specs.Words.{number, new_name, way}
 use Rattle.line_text.specs.Lines.{word_at}
@@ -35,15 +35,15 @@ read_ship format earlier words = do
   Ok (record { name = name; way = way; length = length; width = width; arrival = arrival; handling = handling; cargo = cargo })
 
 -- the part `<length> <width> <arrival> <handling>` of such a line
-unfoldable pub read_measures : List (List ℕ) → Result Measures Kind
-read_measures words = do
+unfoldable pub read_figures : List (List ℕ) → Result Figures Kind
+read_figures words = do
   length ← number 1 100000 (word_at words 3)
   width ← number 1 100000 (word_at words 4)
   arrival ← number 0 1000000 (word_at words 5)
   handling ← number 0 1000000 (word_at words 6)
   Ok (record { length = length; width = width; arrival = arrival; handling = handling })
 
-pub record AreMeasures (m : Measures) : Type 0 where
+pub record AreFigures (m : Figures) : Type 0 where
   pub length : Within 1 100000 m.length
   pub width : Within 1 100000 m.width
   pub arrival : m.arrival ≤ 1000000

@@ -2,7 +2,7 @@
 ghost use Rattle.std.specs.Prelude.{◌≡◌, ◌≢◌, ◌<◌, ◌≤◌, All, length, IfOk};
 ghost use Rattle.lock_model.specs.Instance.{IsChamber};
 ghost use Rattle.line_text.specs.Texts.{texts};
-ghost use Rattle.instance_text.specs.Chamber.{read_sizes, AreSizes, read_work, IsWork, read_chamber};
+ghost use Rattle.instance_text.specs.Chamber.{read_dimensions, AreDimensions, read_work, IsWork, read_chamber};
 
 use crate::bad::Kind;
 use crate::name::new_chamber_name;
@@ -12,7 +12,7 @@ use line_text::{check, word_at};
 use lock_model::{Chamber, Closures, Stand};
 
 /// How large a chamber is, and what ships in it keep free.
-struct Sizes {
+struct Dimensions {
     length: u32,
     width: u32,
     end: u32,
@@ -29,19 +29,19 @@ struct Work {
     opens: u32,
 }
 
-/// The sizes of a line. The first defect is that of a word from left to right.
-#[tactic(auto, unfolding(crate::specs::Chamber::read_sizes))]
-fn read_sizes(words: &[&[u8]]) -> Result<Sizes, Kind>
+/// The dimensions on a line. The first defect is that of a word from left to right.
+#[tactic(auto, unfolding(crate::specs::Chamber::read_dimensions))]
+fn read_dimensions(words: &[&[u8]]) -> Result<Dimensions, Kind>
     requires { length words.now ≡ 12 }
-    ensures value { result ≡ read_sizes (texts words.now) }
-    ensures good { IfOk result AreSizes }
+    ensures value { result ≡ read_dimensions (texts words.now) }
+    ensures good { IfOk result AreDimensions }
 {
     let length = number(word_at(words, 2), 1, 100_000)?;
     let width = number(word_at(words, 3), 1, 100_000)?;
     let end = number(word_at(words, 4), 0, 10_000)?;
     let gap = number(word_at(words, 5), 0, 10_000)?;
     let side = number(word_at(words, 6), 0, 10_000)?;
-    Ok(Sizes {
+    Ok(Dimensions {
         length,
         width,
         end,
@@ -50,7 +50,7 @@ fn read_sizes(words: &[&[u8]]) -> Result<Sizes, Kind>
     })
 }
 
-/// The work of a line. The first defect is that of a word from left to right.
+/// The work on a line. The first defect is that of a word from left to right.
 #[tactic(auto, unfolding(crate::specs::Chamber::read_work))]
 fn read_work(words: &[&[u8]]) -> Result<Work, Kind>
     requires { length words.now ≡ 12 }
@@ -82,13 +82,13 @@ pub fn read_chamber(earlier: &[Chamber], words: &[&[u8]]) -> Result<Chamber, Kin
     check(words.len() == 12, Kind::Count)?;
     check(earlier.len() < 4, Kind::Range)?;
     let name = new_chamber_name(earlier, word_at(words, 1))?;
-    let Sizes {
+    let Dimensions {
         length,
         width,
         end,
         gap,
         side,
-    } = read_sizes(words)?;
+    } = read_dimensions(words)?;
     let Work {
         most,
         pass,

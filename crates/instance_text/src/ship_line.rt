@@ -2,7 +2,7 @@
 ghost use Rattle.std.specs.Prelude.{◌≡◌, ◌≢◌, ◌<◌, ◌≤◌, All, length, IfOk};
 ghost use Rattle.lock_model.specs.Instance.{IsShip};
 ghost use Rattle.line_text.specs.Texts.{texts};
-ghost use Rattle.instance_text.specs.Ship.{is_ship_count, cargo, read_measures, AreMeasures, read_ship};
+ghost use Rattle.instance_text.specs.Ship.{is_ship_count, cargo, read_figures, AreFigures, read_ship};
 
 use crate::bad::Kind;
 use crate::format::Format;
@@ -36,25 +36,25 @@ fn cargo(words: &[&[u8]]) -> Result<u8, Kind>
 }
 
 /// How large a ship is, when it comes, and how long it is handled.
-struct Measures {
+struct Figures {
     length: u32,
     width: u32,
     arrival: u32,
     handling: u32,
 }
 
-/// The measures of a line. The first defect is that of a word from left to right.
-#[tactic(auto, unfolding(crate::specs::Ship::read_measures))]
-fn read_measures(words: &[&[u8]]) -> Result<Measures, Kind>
+/// The figures on a line. The first defect is that of a word from left to right.
+#[tactic(auto, unfolding(crate::specs::Ship::read_figures))]
+fn read_figures(words: &[&[u8]]) -> Result<Figures, Kind>
     requires { 7 ≤ length words.now }
-    ensures value { result ≡ read_measures (texts words.now) }
-    ensures good { IfOk result AreMeasures }
+    ensures value { result ≡ read_figures (texts words.now) }
+    ensures good { IfOk result AreFigures }
 {
     let length = number(word_at(words, 3), 1, 100_000)?;
     let width = number(word_at(words, 4), 1, 100_000)?;
     let arrival = number(word_at(words, 5), 0, 1_000_000)?;
     let handling = number(word_at(words, 6), 0, 1_000_000)?;
-    Ok(Measures {
+    Ok(Figures {
         length,
         width,
         arrival,
@@ -74,12 +74,12 @@ pub fn read_ship(format: Format, earlier: &[Ship], words: &[&[u8]]) -> Result<Sh
     check(earlier.len() < 24, Kind::Range)?;
     let name = new_ship_name(earlier, word_at(words, 1))?;
     let way = way(word_at(words, 2))?;
-    let Measures {
+    let Figures {
         length,
         width,
         arrival,
         handling,
-    } = read_measures(words)?;
+    } = read_figures(words)?;
     let cargo = cargo(words)?;
     Ok(Ship {
         name,
