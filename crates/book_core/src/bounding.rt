@@ -16,9 +16,9 @@ use flow_bounds::{is_missing, probe};
 use master_branch::Node;
 
 impl Book {
-    // The probe of the ship that a held slot's node lacks first: the least bound of the children.
-    // Their bounds stay in the hand.
-    fn next_probe(&mut self, id: u32) -> u64
+    /// The probe of the ship that a held slot's node lacks first: the least bound of the children.
+    /// Their bounds stay in the hand. The book is the same. Takes no memory.
+    pub fn next_probe(&mut self, id: u32) -> u64
         requires held { is_held (slot_at self.old id).state ≡ true }
         requires lacks { (slot_at self.old id).node.depth < length self.old.case.instance.ships }
         ensures same { self.new ≡ self.old }

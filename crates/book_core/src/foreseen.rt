@@ -10,6 +10,7 @@ ghost use Rattle.book_core.specs.Nodes.{tree_node};
 
 use crate::book::Book;
 use crate::hands::lay_bounds;
+use crate::probed::Probed;
 use book_rules::SlotState;
 use flow_bounds::{Bounds, Roster, child_bounds};
 use lock_model::Instance;
@@ -53,6 +54,18 @@ impl<'i> Foreseen<'i> {
         ensures probe { result ≡ probe_of self.now.instance.now self.now.node.depth self.now.node.lines (next_ship self.now.instance.now self.now.node.depth) }
     {
         self.bounds.least()
+    }
+
+    /// The node with the least of the bounds.
+    pub fn probed(&self) -> Probed<'_>
+        ensures instance { result.instance.now ≡ self.now.instance.now }
+        ensures node { result.node.now ≡ self.now.node }
+    {
+        Probed {
+            instance: self.instance,
+            node: &self.node,
+            least: self.least(),
+        }
     }
 }
 

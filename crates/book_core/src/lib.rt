@@ -24,8 +24,9 @@
 //!   the slots on the way from the root to the slot that was taken last, with their nodes: `take`
 //!   cuts it off where the way to the new slot leaves it, and makes the nodes from there on, which is
 //!   one in a depth-first search. The node of a slot that no worker holds is made from the root's
-//!   (`nodes`). `bounding` has the probes and the bounds. Bounds may also be worked out without the
-//!   book (`foreseen`) and laid into the hand, where they are of its instance and of the slot's node.
+//!   (`nodes`). `bounding` has the probes and the bounds, and `probed` is a node with the probe of the
+//!   ship that it lacks first. Bounds may also be worked out without the book (`foreseen`) and laid into
+//!   the hand, where they are of its instance and of the slot's node.
 //!
 //! Definitions: `book_rules` has the machine (`specs/Book`, `Events`, `Step`), the replay, the
 //! cover and the counts. Here `specs/Replies` says what it is that a method is a step, `Telling` what
@@ -55,6 +56,7 @@ mod parking;
 mod path;
 mod posting;
 mod pricing;
+mod probed;
 mod releasing;
 mod replacing;
 mod reply;
@@ -70,4 +72,5 @@ pub use case::Case;
 pub use foreseen::Foreseen;
 pub use laws::every_list_keeps;
 pub use opening::open_book;
+pub use probed::Probed;
 pub use reply::{Grant, Reply};

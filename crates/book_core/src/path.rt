@@ -128,9 +128,12 @@ impl Path {
         ensures path { IsPath instance.now (slots_of instance.now slots.now) self.new }
         ensures ends { EndsAt id self.new.nodes.items }
     {
-        let mut node = self.last().copy();
-        step(&mut node, instance, roster, slots, id);
-        self.nodes.push_reserved(PathNode { id, node });
+        let mut next = PathNode {
+            id,
+            node: self.last().copy(),
+        };
+        step(&mut next.node, instance, roster, slots, id);
+        self.nodes.push_reserved(next);
     }
 
     // It leads to this slot: it is cut off where the way to the slot leaves it, and goes on from

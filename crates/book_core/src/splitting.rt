@@ -125,21 +125,6 @@ impl Book {
         self.instance().ships.as_slice().len() <= depth as usize
     }
 
-    // Splits the slot that this worker holds.
-    fn split_held(&mut self, id: u32, worker: u8) -> Reply
-        requires held { (slot_at self.old id).state ≡ slot.Held worker }
-        requires sound { IsSound self.old }
-        ensures { Does self.old (split id) result self.new }
-    {
-        if self.is_whole(id) {
-            return Reply::Whole(id);
-        }
-        match self.grow(id, worker) {
-            Ok(count) => Reply::Made(count),
-            Err(NoMemory) => Reply::NoMemory,
-        }
-    }
-
     /// Splits a held slot, whose node lacks a ship: its children are appended in order, those closed
     /// whose bound is at least the best cost. Refuses `NotHeld`, then `Whole`, and `NoMemory`, after
     /// which the book is as it was.
@@ -147,9 +132,16 @@ impl Book {
         ensures { Does self.old (split id) result self.new }
     {
         self.keeps();
-        match self.holder(id) {
-            Some(worker) => self.split_held(id, worker),
-            None => Reply::NotHeld(id),
+        let worker = match self.holder(id) {
+            Some(worker) => worker,
+            None => return Reply::NotHeld(id),
+        };
+        if self.is_whole(id) {
+            return Reply::Whole(id);
+        }
+        match self.grow(id, worker) {
+            Ok(count) => Reply::Made(count),
+            Err(NoMemory) => Reply::NoMemory,
         }
     }
 }

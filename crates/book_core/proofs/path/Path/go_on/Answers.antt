@@ -8,5 +8,5 @@ pub returns-clause-path : goal.returns-clause-path
 returns-clause-path c =
     let I = c.args.instance.now in
     let S = slots_of I c.args.slots.now in
-    path-next I S c.args.self.now c.requires.path (slot_in S c.args.id).parent c.requires.from c.copy-node.result (c.copy-node.ensures ∙ c.last.ensures)
+    path-next I S c.args.self.now c.requires.path (slot_in S c.args.id).parent c.requires.from c.copy.result (c.copy.ensures ∙ c.last.ensures)
     c.args.id c.step.new.node c.step.ensures.deeper c.step.ensures.to (record { nodes = c.push_reserved.new.self }) c.push_reserved.ensures.items c.push_reserved.ensures.capacity
