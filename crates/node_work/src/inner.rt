@@ -11,7 +11,7 @@ use crate::group_fate::group_fate;
 use crate::known_cuts::KnownCuts;
 use crate::last::last_group;
 use crate::search::Search;
-use book_core::Foreseen;
+use book_core::Probed;
 use closing_rules::Ground;
 use master_branch::Node;
 use placed_groups::Memory;
@@ -69,7 +69,7 @@ fn fate_by_newest<K: KnownCuts>(
     }
 }
 
-/// What becomes of a node that lacks ships, whose children's bounds are worked out, where the best
+/// What becomes of a node that lacks ships, whose next ship's probe is worked out, where the best
 /// plan costs so many minutes: it is closed by the probe of the next ship; or its newest group is
 /// known to fit or the placers find that it does, and it is split; or a known cut or a new one hits
 /// that group, or it is spent. What the placers find is remembered. Its only refusal is want of
@@ -77,18 +77,18 @@ fn fate_by_newest<K: KnownCuts>(
 pub fn inner_fate<K: KnownCuts>(
     alloc: Global,
     search: &Search<'_>,
-    foreseen: &Foreseen<'_>,
+    probed: &Probed<'_>,
     best: u64,
     known: &K,
     memory: &mut Memory,
 ) -> Result<Fate, NoMemory>
-    requires { foreseen.now.instance.now ≡ search.now.instance.now }
-    ensures fate { IfOk result (IsFate (K.tells known.now search.now.instance.now) search.now.instance.now search.now.turns best foreseen.now.node) }
-    ensures probed { IfOk result (λ fate. best ≤ probe_of search.now.instance.now foreseen.now.node.depth foreseen.now.node.lines (next_ship search.now.instance.now foreseen.now.node.depth) → fate ≡ Fate.Closed (Ground.Probe (next_ship search.now.instance.now foreseen.now.node.depth))) }
+    requires { probed.now.instance.now ≡ search.now.instance.now }
+    ensures fate { IfOk result (IsFate (K.tells known.now search.now.instance.now) search.now.instance.now search.now.turns best probed.now.node.now) }
+    ensures probed { IfOk result (λ fate. best ≤ probe_of search.now.instance.now probed.now.node.now.depth probed.now.node.now.lines (next_ship search.now.instance.now probed.now.node.now.depth) → fate ≡ Fate.Closed (Ground.Probe (next_ship search.now.instance.now probed.now.node.now.depth))) }
 {
-    if foreseen.least() < best {
-        return fate_by_newest(alloc, search, &foreseen.node, known, memory);
+    if probed.least < best {
+        return fate_by_newest(alloc, search, probed.node, known, memory);
     }
-    let ship = search.roster.ship(search.instance, foreseen.node.depth());
+    let ship = search.roster.ship(search.instance, probed.node.depth());
     Ok(Fate::Closed(Ground::Probe(ship)))
 }

@@ -33,7 +33,14 @@ pub(crate) fn foreseen_fate<L: Ledger, W: Wait, G: Gate>(
 {
     let known = posted_cuts(post.pool, &worker.tokens);
     let memory = &mut worker.memory;
-    let fate = inner_fate(post.alloc, &post.search, foreseen, best, &known, memory)?;
+    let fate = inner_fate(
+        post.alloc,
+        &post.search,
+        &foreseen.probed(),
+        best,
+        &known,
+        memory,
+    )?;
     Ok(fate)
 }
 

@@ -1,8 +1,10 @@
 -- What the driver knows of the node in its hand, and how the node leaves it.
-use Rattle.std.proofs.Common.{◌≡◌, ℕ, ◌≤◌, refl, sym, ap, ◌∙◌, subst, arith, false, Some, Ok, Err, OnOk, OnErr}
+use Rattle.std.proofs.Common.{◌≡◌, ℕ, ◌<◌, ◌≤◌, length, refl, sym, ap, ◌∙◌, subst, arith, Bool, true, false, Some, Ok, Err, OnOk, OnErr, true≢false}
+use Rattle.std.specs.Bool.{OnFalse}
 use Rattle.std.specs.declared.result.Result.{Result}
 use Rattle.lock_model.specs.declared.plan.Plan.{Plan}
-use Rattle.lock_rules.specs.Bound.{bound_of}
+use Rattle.lock_rules.specs.Arrival.{next_ship}
+use Rattle.lock_rules.specs.Bound.{bound_of, probe_of}
 use Rattle.lock_rules.specs.Cut.{HitsNode}
 use Rattle.lock_rules.specs.Node.{IsNode}
 use Rattle.lock_rules.specs.Plan.{IsLegal}
@@ -12,6 +14,7 @@ use Rattle.master_branch.specs.Node.{Node, IsNodeOf}
 use Rattle.book_rules.specs.Book.{Book, Case, Node as TreeNode, best_cost, no_slot, slot_at, bound_at}
 use Rattle.book_rules.specs.Ends.{HoldsNothing}
 use Rattle.book_rules.specs.Events.{close, post, park, replace}
+use Rattle.book_rules.specs.Step.{probe_at}
 use Rattle.book_core.specs.declared.reply.Reply.{Reply}
 use Rattle.book_core.specs.Keeps.{IsSound}
 use Rattle.book_core.specs.Nodes.{tree_node}
@@ -26,7 +29,9 @@ use Rattle.node_work.specs.declared.search.Search.{Search}
 use Rattle.node_work.specs.Fates.{IsNeverPriced, IsAnyway, IsEarly, IsFate, IsNodeCut, IsPlanAt, IsSpentAt}
 use Rattle.node_work.specs.Known.{HitsShips}
 use Rattle.solve_workers.specs.Closable.{IsClosable, IsDriversFate, IsOwnSearch}
+use Rattle.solve_workers.specs.Driving.{IsDriven}
 use Rattle.solve_workers.specs.Holding.{HoldsOnly}
+use Rattle.solve_workers.specs.Holds.{HoldsSlot, node_at}
 use Rattle.solve_workers.specs.Told.{number_in, is_want}
 use Rattle.solve_workers.proofs.FreeLemmas.{held-known}
 use Rattle.solve_workers.proofs.CloseLemmas.{sure_shut}
@@ -44,6 +49,19 @@ on_err (Err e) h f = f h
 pub err_of : {A E P : Type 0} (r : Result A E) → P → OnErr r P
 err_of (Ok a) is = tt
 err_of (Err e) is = is
+
+-- the slot with its own node
+pub as_node : TreeNode → Node
+as_node t = record { depth = t.depth; lines = t.lines }
+
+pub slot_holds : (b : Book) (id : ℕ) (n : Node) → HoldsOnly b id (tree_node n) → HoldsSlot b id
+slot_holds b id n holds = record { held = holds.held; others = holds.others; node_is = refl }
+
+pub slot_node : (b : Book) (id : ℕ) (n : Node) → HoldsOnly b id (tree_node n) → node_at b id ≡ n
+slot_node b id n holds = ap as_node holds.node_is
+
+pub slot_closable : (b : Book) (id : ℕ) (n : Node) (why : Ground) → HoldsOnly b id (tree_node n) → IsClosable b n why → IsClosable b (node_at b id) why
+slot_closable b id n why holds is = subst (λ (m : Node). IsClosable b m why) (sym (slot_node b id n holds)) is
 
 module _ (b : Book) (id : ℕ) (n : Node) (holds : HoldsOnly b id (tree_node n)) where
   -- it is a node of the instance, and the slot has its bound
@@ -69,20 +87,53 @@ module _ (b : Book) (id : ℕ) (n : Node) (holds : HoldsOnly b id (tree_node n))
       sure_shut b id (tree_node n) holds r new why slot_is answers
 
   -- the plan of the node makes its bound too high
-  pub complete_closable : (plan : Plan) (r : Reply) (mid : Book) → IsSound b → IsPlanAt b.case.instance n plan → is_want r ≡ false → Does b (replace plan) r mid → IsClosable mid n by.Bound
+  pub complete_closable : (plan : Plan) (r : Reply) (mid : Book) → IsSound b → IsPlanAt b.case.instance n plan → is_want r ≡ false → Does b (replace plan) r mid → IsClosable mid (node_at mid id) by.Bound
   complete_closable plan r mid sound is told does =
       let better = replaced_better b id (tree_node n) plan holds r mid is.legal told does in
       let best = better.best in
       let cost = is.cost in
-      record { closed = subst (λ (k : Case). best_cost mid ≤ bound_of k.instance n.depth n.lines) (sym better.case) (omega (arith, best, cost)) }
+      slot_closable mid id n by.Bound better.holds
+      (record { closed = subst (λ (k : Case). best_cost mid ≤ bound_of k.instance n.depth n.lines) (sym better.case) (omega (arith, best, cost)) })
 
-  pub complete_holds : (plan : Plan) (r : Reply) (mid : Book) → IsLegal b.case.instance plan → is_want r ≡ false → Does b (replace plan) r mid → HoldsOnly mid id (tree_node n)
-  complete_holds plan r mid legal told does = (replaced_better b id (tree_node n) plan holds r mid legal told does).holds
+  pub complete_holds : (plan : Plan) (r : Reply) (mid : Book) → IsLegal b.case.instance plan → is_want r ≡ false → Does b (replace plan) r mid → HoldsSlot mid id
+  complete_holds plan r mid legal told does = slot_holds mid id n (replaced_better b id (tree_node n) plan holds r mid legal told does).holds
 
   -- the node is parked at a group that is spent
   pub spent_frees : (c p : ℕ) (told : Tried) (r : Reply) (new : Book) → IsSpentAt b.case.instance b.case.turns n.lines c p told → Answers b (park id c p told.deck told.turns) r new → HoldsNothing new
   spent_frees c p told r new spent answers =
       parked_frees b id (tree_node n) c p told.deck told.turns spent.group r new holds spent.there spent.deck (let same = spent.turns_are in omega (arith, same)) spent.clear answers
+
+-- what prices leave of the slot where they don't close it
+pub on_false : {P Q : Type 0} (t : Bool) → OnFalse t P → (P → Q) → OnFalse t Q
+on_false true h f = h
+on_false false h f = f h
+
+pub of_false : {P : Type 0} (t : Bool) → OnFalse t P → t ≡ false → P
+of_false true h e = absurd (true≢false e)
+of_false false h e = h
+
+pub slot_still : (new : Book) (id k : ℕ) (n : Node) → k ≡ id → HoldsOnly new k (tree_node n) → HoldsSlot new id
+slot_still new id k n is holds = subst (HoldsSlot new) is (slot_holds new k n holds)
+
+pub node_still : (b new : Book) (id k : ℕ) (n : Node) → k ≡ id → HoldsOnly b k (tree_node n) → HoldsOnly new k (tree_node n) → (slot_at new id).node ≡ (slot_at b id).node
+node_still b new id k n is before after = subst (λ m. (slot_at new m).node ≡ (slot_at b m).node) is (after.node_is ∙ sym before.node_is)
+
+pub still_lacks : (b new : Book) (id : ℕ) → IsDriven b new → (slot_at new id).node ≡ (slot_at b id).node → (slot_at b id).node.depth < length b.case.instance.ships → (slot_at new id).node.depth < length new.case.instance.ships
+still_lacks b new id driven same lacks =
+    subst (λ (k : Case). (slot_at new id).node.depth < length k.instance.ships) (sym driven.case)
+    (subst (λ (t : TreeNode). t.depth < length b.case.instance.ships) (sym same) lacks)
+
+-- what the search knows of the node in hand
+module _ (b : Book) (id : ℕ) (search : Search) (own : IsOwnSearch b search) where
+  pub search_lacks : (n : Node) → n ≡ node_at b id → (slot_at b id).node.depth < length b.case.instance.ships → n.depth < length search.instance.now.ships
+  search_lacks n is lacks =
+      subst (λ (m : Node). m.depth < length search.instance.now.ships) (sym is)
+      (subst (λ (I : Instance). (slot_at b id).node.depth < length I.ships) (sym own.instance_is) lacks)
+
+  pub search_least : (n : Node) (least : ℕ) → n ≡ node_at b id → least ≡ probe_at b id (next_ship b.case.instance (slot_at b id).node.depth) → least ≡ probe_of search.instance.now n.depth n.lines (next_ship search.instance.now n.depth)
+  search_least n least is told =
+      subst (λ (m : Node). least ≡ probe_of search.instance.now m.depth m.lines (next_ship search.instance.now m.depth)) (sym is)
+      (subst (λ (I : Instance). least ≡ probe_of I (slot_at b id).node.depth (slot_at b id).node.lines (next_ship I (slot_at b id).node.depth)) (sym own.instance_is) told)
 
 -- a cut that was kept and hits the node
 pub posted_closable : (b : Book) (n : Node) (cut : Cut) (r : Reply) (new : Book) (number : ℕ) → Does b (post cut) r new → number_in r ≡ Some number → IsNodeCut b.case.instance n.lines cut → IsClosable new n (by.Cut number)

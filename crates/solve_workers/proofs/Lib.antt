@@ -5,6 +5,7 @@ pub mod ClearLemmas
 pub mod CloseLemmas
 pub mod GrowLemmas
 pub mod TakeLemmas
+pub mod GrantLemmas
 pub mod TidyLemmas
 pub mod OpeningLemmas
 pub mod HeldLemmas

@@ -129,6 +129,10 @@ left-more b id low tidied = record {
   };
 }
 
+-- a slot that isn't parked is passed
+pub tidied_past : (b : Book) (id : ℕ) → is_parked (slot_at b id).state ≡ false → IsTidied b id → IsTidied b (id + 1)
+tidied_past b id off tidied = left-more b id (λ c p is. absurd (true≢false (sym (ap is_parked is) ∙ off))) tidied
+
 more-by : (b : Book) (id : ℕ) (out : Out) → IsTidied b id → TidyOut b id out → IsTidied out.0 (id + 1)
 more-by b id out tidied (Closes parked same) = subst (λ u. IsTidied u (id + 1)) (sym same) (closed-more b id parked tidied)
 more-by b id out tidied (Leaves low same) = subst (λ u. IsTidied u (id + 1)) (sym same) (left-more b id low tidied)

@@ -2,8 +2,15 @@
 use Rattle.std.specs.Prelude.{ℕ, Bool, true, false, Some, None, ⊤}
 use Rattle.std.specs.declared.option.Option.{Option}
 use Rattle.master_branch.specs.Node.{Node}
+use Rattle.book_core.specs.declared.reply.Grant.{Grant}
+use Rattle.book_core.specs.declared.reply.Grant.TheVariants as grant
 use Rattle.book_core.specs.declared.reply.Reply.{Reply}
 use Rattle.book_core.specs.declared.reply.Reply.TheVariants as reply
+
+-- the slot that was given
+abbrev pub slot_in : Grant → Option ℕ
+slot_in (grant.Slot id) = Some id
+slot_in _ = None
 
 -- the slot that was given, and its node
 abbrev pub node_in : Reply → Option (ℕ × Node)

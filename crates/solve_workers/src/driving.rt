@@ -1,5 +1,6 @@
 //! The search from where a book stands to its end.
-ghost use Rattle.std.specs.Prelude.{◌≡◌, length, OnOk};
+ghost use Rattle.std.specs.Prelude.{◌≡◌, ◌+◌, ◌<◌, length, OnOk};
+ghost use Rattle.book_rules.specs.Book.{slot_at, is_parked};
 ghost use Rattle.book_rules.specs.Cheap.{opening_cost};
 ghost use Rattle.book_rules.specs.Ends.{HoldsNothing, EndsWell};
 ghost use Rattle.solve_workers.specs.Driving.{IsDriven};
@@ -10,6 +11,7 @@ use crate::driver::Driver;
 use crate::held::take;
 use crate::working::work;
 use book_core::Book;
+use book_rules::SlotState;
 use node_work::Search;
 use plain_text::NoMemory;
 use std::alloc::Global;
@@ -24,8 +26,8 @@ fn drive_nodes(driver: &mut Driver<'_>, book: &mut Book) -> Result<(), NoMemory>
     ensures done { OnOk result (IsDone book.new) }
     ensures driven { IsDriven book.old book.new }
 {
-    'slots: while let Some(held) = take(book) {
-        work(driver, book, &held)?;
+    'slots: while let Some(id) = take(book) {
+        work(driver, book, id)?;
     }
     Ok(())
 }
@@ -47,15 +49,43 @@ pub(crate) fn drive_some(
 {
     'slots: while book.used() < most {
         match take(book) {
-            Some(held) => work(driver, book, &held)?,
+            Some(id) => work(driver, book, id)?,
             None => return Ok(true),
         }
     }
     Ok(false)
 }
 
+// Whether a slot is parked.
+fn is_parked(book: &Book, id: u32) -> bool
+    requires { id < length book.now.slots }
+    ensures { result ≡ is_parked (slot_at book.now id).state }
+{
+    match book.slot_state(id) {
+        Some(SlotState::Parked(_, _)) => true,
+        Some(_) => false,
+        None => unreachable!(),
+    }
+}
+
+#[tactic(auto, using(crate::proofs::DrivenLemmas::driven_none, crate::proofs::TidyLemmas::tidied_past))]
+// Closes a slot if it is parked and its bound is at least the best cost, below which the book refuses.
+fn close_if_parked(book: &mut Book, id: u32)
+    requires known { id < length book.old.slots }
+    requires tidied { IsTidied book.old id }
+    ensures tidied { IsTidied book.new (id + 1) }
+    ensures count { length book.new.slots ≡ length book.old.slots }
+    ensures driven { IsDriven book.old book.new }
+{
+    if !is_parked(book, id) {
+        return;
+    }
+    book.keeps();
+    book.close_bound(id);
+}
+
 #[tactic(auto, using(crate::proofs::DrivenLemmas::driven_none, crate::proofs::TidyLemmas::tidied_none))]
-// Closes each parked slot whose bound is at least the best cost; the book refuses the others.
+// Closes each parked slot whose bound is at least the best cost.
 fn close_parked(book: &mut Book)
     requires free { HoldsNothing book.old }
     requires done { IsDone book.old }
@@ -63,8 +93,7 @@ fn close_parked(book: &mut Book)
     ensures driven { IsDriven book.old book.new }
 {
     for id in 0..book.slots() {
-        book.keeps();
-        book.close_bound(id);
+        close_if_parked(book, id);
     }
 }
 

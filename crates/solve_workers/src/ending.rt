@@ -1,12 +1,12 @@
 //! How the node that the driver holds ends.
 ghost use Rattle.std.specs.Prelude.{◌≡◌, ◌<◌, length, OnOk, OnErr};
+ghost use Rattle.book_rules.specs.Book.{slot_at};
 ghost use Rattle.book_rules.specs.Ends.{HoldsNothing};
 ghost use Rattle.node_work.specs.Fates.{IsNodeCut, IsPlanAt, IsSpentAt};
 ghost use Rattle.solve_workers.specs.Closable.{IsClosable, IsDriversFate};
 ghost use Rattle.solve_workers.specs.Driving.{IsDriven};
-ghost use Rattle.solve_workers.specs.Holds.{Holds};
+ghost use Rattle.solve_workers.specs.Holds.{HoldsSlot, node_at};
 
-use crate::held::Held;
 use crate::told::{is_want, made, posted};
 use book_core::Book;
 use closing_rules::Ground;
@@ -16,33 +16,33 @@ use place_refute::{Cut, Hard};
 use plain_text::NoMemory;
 
 /// Closes the held node on a ground that holds.
-pub(crate) fn close(book: &mut Book, held: &Held, why: Ground)
-    requires holds { Holds book.old held.now }
-    requires closed { IsClosable book.old held.now.node why }
+pub(crate) fn close(book: &mut Book, id: u32, why: Ground)
+    requires holds { HoldsSlot book.old id }
+    requires closed { IsClosable book.old (node_at book.old id) why }
     ensures freed { HoldsNothing book.new }
     ensures driven { IsDriven book.old book.new }
 {
     book.keeps();
-    book.close(held.id, why);
+    book.close(id, why);
 }
 
 /// Splits the held node, which lacks a ship.
-pub(crate) fn split(book: &mut Book, held: &Held) -> Result<(), NoMemory>
-    requires holds { Holds book.old held.now }
-    requires lacks { held.now.node.depth < length book.old.case.instance.ships }
+pub(crate) fn split(book: &mut Book, id: u32) -> Result<(), NoMemory>
+    requires holds { HoldsSlot book.old id }
+    requires lacks { (slot_at book.old id).node.depth < length book.old.case.instance.ships }
     ensures freed { OnOk result (HoldsNothing book.new) }
     ensures kept { OnErr result (book.new ≡ book.old) }
     ensures driven { IsDriven book.old book.new }
 {
     book.keeps();
-    let reply = book.split(held.id);
+    let reply = book.split(id);
     made(&reply)
 }
 
 // Keeps a cut that hits the held node, and closes the node by it.
-fn refute(book: &mut Book, held: &Held, cut: Cut) -> Result<(), NoMemory>
-    requires holds { Holds book.old held.now }
-    requires cut { IsNodeCut book.old.case.instance held.now.node.lines cut }
+fn refute(book: &mut Book, id: u32, cut: Cut) -> Result<(), NoMemory>
+    requires holds { HoldsSlot book.old id }
+    requires cut { IsNodeCut book.old.case.instance (node_at book.old id).lines cut }
     ensures freed { OnOk result (HoldsNothing book.new) }
     ensures kept { OnErr result (book.new ≡ book.old) }
     ensures driven { IsDriven book.old book.new }
@@ -50,14 +50,14 @@ fn refute(book: &mut Book, held: &Held, cut: Cut) -> Result<(), NoMemory>
     book.keeps();
     let reply = book.post(cut);
     let number = posted(&reply)?;
-    close(book, held, Ground::Cut(number));
+    close(book, id, Ground::Cut(number));
     Ok(())
 }
 
 // Gives the plan of the held node to the book, and closes the node: its bound is the plan's cost.
-fn complete(book: &mut Book, held: &Held, plan: Plan) -> Result<(), NoMemory>
-    requires holds { Holds book.old held.now }
-    requires plan { IsPlanAt book.old.case.instance held.now.node plan }
+fn complete(book: &mut Book, id: u32, plan: Plan) -> Result<(), NoMemory>
+    requires holds { HoldsSlot book.old id }
+    requires plan { IsPlanAt book.old.case.instance (node_at book.old id) plan }
     ensures freed { OnOk result (HoldsNothing book.new) }
     ensures kept { OnErr result (book.new ≡ book.old) }
     ensures driven { IsDriven book.old book.new }
@@ -66,36 +66,36 @@ fn complete(book: &mut Book, held: &Held, plan: Plan) -> Result<(), NoMemory>
     if is_want(&book.replace(plan)) {
         return Err(NoMemory);
     }
-    close(book, held, Ground::Bound);
+    close(book, id, Ground::Bound);
     Ok(())
 }
 
 // Parks the held node at a group that is spent.
-fn park(book: &mut Book, held: &Held, chamber: u8, place: u8, hard: &Hard)
-    requires holds { Holds book.old held.now }
-    requires spent { IsSpentAt book.old.case.instance book.old.case.turns held.now.node.lines chamber place hard.now }
+fn park(book: &mut Book, id: u32, chamber: u8, place: u8, hard: &Hard)
+    requires holds { HoldsSlot book.old id }
+    requires spent { IsSpentAt book.old.case.instance book.old.case.turns (node_at book.old id).lines chamber place hard.now }
     ensures freed { HoldsNothing book.new }
     ensures driven { IsDriven book.old book.new }
 {
     book.keeps();
-    book.park(held.id, chamber, place, hard);
+    book.park(id, chamber, place, hard);
 }
 
 /// Ends the held node as its fate says. Refuses want of memory alone, after which the book is as it
 /// was.
-pub(crate) fn end(book: &mut Book, held: &Held, fate: Fate) -> Result<(), NoMemory>
-    requires holds { Holds book.old held.now }
-    requires fate { IsDriversFate book.old held.now.node fate }
+pub(crate) fn end(book: &mut Book, id: u32, fate: Fate) -> Result<(), NoMemory>
+    requires holds { HoldsSlot book.old id }
+    requires fate { IsDriversFate book.old (node_at book.old id) fate }
     ensures freed { OnOk result (HoldsNothing book.new) }
     ensures kept { OnErr result (book.new ≡ book.old) }
     ensures driven { IsDriven book.old book.new }
 {
     match fate {
-        Fate::Closed(why) => close(book, held, why),
-        Fate::Split => return split(book, held),
-        Fate::Plan(plan) => return complete(book, held, Box::into_inner(plan)),
-        Fate::Refuted(cut) => return refute(book, held, Box::into_inner(cut)),
-        Fate::Spent(chamber, place, hard) => park(book, held, chamber, place, &*hard),
+        Fate::Closed(why) => close(book, id, why),
+        Fate::Split => return split(book, id),
+        Fate::Plan(plan) => return complete(book, id, Box::into_inner(plan)),
+        Fate::Refuted(cut) => return refute(book, id, Box::into_inner(cut)),
+        Fate::Spent(chamber, place, hard) => park(book, id, chamber, place, &*hard),
     }
     Ok(())
 }

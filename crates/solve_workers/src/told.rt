@@ -1,17 +1,16 @@
 //! What a reply tells.
 ghost use Rattle.std.specs.Prelude.{◌≡◌, true, Some, IfOk, OnOk, OnErr};
-ghost use Rattle.solve_workers.specs.Told.{node_in, number_in, is_closed, is_made, is_want, IsMadeOrWant, IsPostedOrWant};
+ghost use Rattle.solve_workers.specs.Told.{slot_in, number_in, is_closed, is_made, is_want, IsMadeOrWant, IsPostedOrWant};
 
-use book_core::Reply;
-use master_branch::Node;
+use book_core::{Grant, Reply};
 use plain_text::NoMemory;
 
-/// The slot that was given, and its node.
-pub(crate) fn node_in(reply: Reply) -> Option<(u32, Node)>
-    ensures { result ≡ node_in reply }
+/// The slot that was given.
+pub(crate) fn slot_in(grant: Grant) -> Option<u32>
+    ensures { result ≡ slot_in grant }
 {
-    match reply {
-        Reply::Node(id, node) => Some((id, node)),
+    match grant {
+        Grant::Slot(id) => Some(id),
         _ => None,
     }
 }

@@ -1,93 +1,124 @@
 //! The work on the node that the driver holds.
-ghost use Rattle.std.specs.Prelude.{◌≡◌, ◌<◌, length, OnOk};
+ghost use Rattle.std.specs.Prelude.{◌≡◌, ◌<◌, ◌≤◌, length, IfOk, OnOk};
+ghost use Rattle.std.specs.Bool.{OnTrue, OnFalse};
+ghost use Rattle.lock_rules.specs.Arrival.{next_ship};
 ghost use Rattle.book_rules.specs.Book.{best_cost, slot_at};
 ghost use Rattle.book_rules.specs.Ends.{HoldsNothing};
-ghost use Rattle.solve_workers.specs.Closable.{IsOwnSearch};
+ghost use Rattle.book_rules.specs.Step.{probe_at};
+ghost use Rattle.solve_workers.specs.Closable.{IsDriversFate, IsOwnSearch};
 ghost use Rattle.solve_workers.specs.Driving.{IsDriven};
-ghost use Rattle.solve_workers.specs.Holds.{Holds};
+ghost use Rattle.solve_workers.specs.Holds.{HoldsSlot, node_at};
 
 use crate::driver::Driver;
 use crate::ending::{close, end, split};
-use crate::held::Held;
+use crate::held::{Held, held_bound, held_node};
 use crate::pricing::price;
-use book_core::{Book, Foreseen};
+use book_core::{Book, Probed};
 use node_work::{Fate, closed_early, inner_fate, whole_fate};
 use plain_text::NoMemory;
 
 // Works on the held node, which holds all ships.
-fn work_whole(driver: &mut Driver<'_>, book: &mut Book, held: &Held) -> Result<(), NoMemory>
-    requires holds { Holds book.old held.now }
+fn work_whole(driver: &mut Driver<'_>, book: &mut Book, id: u32) -> Result<(), NoMemory>
+    requires holds { HoldsSlot book.old id }
     requires own { IsOwnSearch book.old driver.old.search }
-    requires whole { held.now.node.depth ≡ length book.old.case.instance.ships }
+    requires whole { (slot_at book.old id).node.depth ≡ length book.old.case.instance.ships }
     ensures freed { OnOk result (HoldsNothing book.new) }
     ensures driven { IsDriven book.old book.new }
     ensures search { driver.new.search ≡ driver.old.search }
 {
     book.keeps();
     let memory = &mut driver.memory;
-    let fate = whole_fate(driver.alloc, &driver.search, &held.node, &*book, memory)?;
-    end(book, held, fate)
+    let node = held_node(book, id);
+    let fate = whole_fate(driver.alloc, &driver.search, node, &*book, memory)?;
+    end(book, id, fate)
+}
+
+#[tactic(auto, using(crate::proofs::DrivenLemmas::driven_none))]
+// Whether prices, if there are any, close the held node. Only they need a copy of it.
+fn is_priced(driver: &mut Driver<'_>, book: &mut Book, id: u32) -> bool
+    requires holds { HoldsSlot book.old id }
+    requires own { IsOwnSearch book.old driver.old.search }
+    ensures closed { OnTrue result (HoldsNothing book.new) }
+    ensures held { OnFalse result (HoldsSlot book.new id) }
+    ensures node { OnFalse result ((slot_at book.new id).node ≡ (slot_at book.old id).node) }
+    ensures driven { IsDriven book.old book.new }
+    ensures search { driver.new.search ≡ driver.old.search }
+{
+    if driver.pricing.is_none() {
+        return false;
+    }
+    let held = Held::of(book, id);
+    price(driver, book, &held)
 }
 
 #[tactic(auto, using(crate::proofs::DrivenLemmas::driven_then))]
-// Splits the held node, which lacks a ship, unless prices close it. The bounds of its children were
-// worked out.
-fn split_unless_priced(
-    driver: &mut Driver<'_>,
-    book: &mut Book,
-    held: &Held,
-    foreseen: &Foreseen<'_>,
-) -> Result<(), NoMemory>
-    requires holds { Holds book.old held.now }
+// Splits the held node, which lacks a ship, unless prices close it.
+fn split_unless_priced(driver: &mut Driver<'_>, book: &mut Book, id: u32) -> Result<(), NoMemory>
+    requires holds { HoldsSlot book.old id }
     requires own { IsOwnSearch book.old driver.old.search }
-    requires lacks { held.now.node.depth < length book.old.case.instance.ships }
-    requires instance { foreseen.now.instance.now ≡ book.old.case.instance }
-    requires node { foreseen.now.node ≡ held.now.node }
+    requires lacks { (slot_at book.old id).node.depth < length book.old.case.instance.ships }
     ensures freed { OnOk result (HoldsNothing book.new) }
     ensures driven { IsDriven book.old book.new }
     ensures search { driver.new.search ≡ driver.old.search }
 {
-    if price(driver, book, held) {
+    if is_priced(driver, book, id) {
         return Ok(());
     }
-    book.keeps();
-    book.lay(held.id, foreseen);
-    split(book, held)
+    split(book, id)
 }
 
-#[tactic(auto, using(crate::proofs::HeldLemmas::own_fate))]
-// Works on the held node, which lacks ships; the bounds of its children are worked out once.
-fn work_inner(
+// What becomes of the held node, which lacks ships, by the probe of the next one. The node is looked
+// at in the book.
+fn fate_of(
     driver: &mut Driver<'_>,
-    book: &mut Book,
-    held: &Held,
+    book: &Book,
+    id: u32,
     best: u64,
-) -> Result<(), NoMemory>
-    requires holds { Holds book.old held.now }
+    least: u64,
+) -> Result<Fate, NoMemory>
+    requires holds { HoldsSlot book.now id }
+    requires own { IsOwnSearch book.now driver.old.search }
+    requires lacks { (slot_at book.now id).node.depth < length book.now.case.instance.ships }
+    requires best { best ≡ best_cost book.now }
+    requires least { least ≡ probe_at book.now id (next_ship book.now.case.instance (slot_at book.now id).node.depth) }
+    ensures fate { IfOk result (IsDriversFate book.now (node_at book.now id)) }
+    ensures search { driver.new.search ≡ driver.old.search }
+{
+    book.keeps();
+    let node = held_node(book, id);
+    let probed = Probed {
+        instance: driver.search.instance,
+        node,
+        least,
+    };
+    let memory = &mut driver.memory;
+    let fate = inner_fate(driver.alloc, &driver.search, &probed, best, book, memory)?;
+    Ok(fate)
+}
+
+// Works on the held node, which lacks ships. The bounds of its children are worked out once, in the
+// book's hand.
+fn work_inner(driver: &mut Driver<'_>, book: &mut Book, id: u32, best: u64) -> Result<(), NoMemory>
+    requires holds { HoldsSlot book.old id }
     requires own { IsOwnSearch book.old driver.old.search }
-    requires lacks { held.now.node.depth < length book.old.case.instance.ships }
+    requires lacks { (slot_at book.old id).node.depth < length book.old.case.instance.ships }
     requires best { best ≡ best_cost book.old }
     ensures freed { OnOk result (HoldsNothing book.new) }
     ensures driven { IsDriven book.old book.new }
     ensures search { driver.new.search ≡ driver.old.search }
 {
-    book.keeps();
-    let search = &driver.search;
-    let foreseen = Foreseen::new(search.instance, &search.roster, held.node.copy());
-    let memory = &mut driver.memory;
-    let fate = inner_fate(driver.alloc, search, &foreseen, best, &*book, memory)?;
+    let least = book.next_probe(id);
+    let fate = fate_of(driver, book, id, best, least)?;
     if let Fate::Split = fate {
-        return split_unless_priced(driver, book, held, &foreseen);
+        return split_unless_priced(driver, book, id);
     }
-    book.lay(held.id, &foreseen);
-    end(book, held, fate)
+    end(book, id, fate)
 }
 
 #[tactic(auto, using(crate::proofs::HeldLemmas::early_closable, crate::proofs::HeldLemmas::held_bound, crate::proofs::DrivenLemmas::driven_then))]
 /// Works on the held node until it is closed, split or parked. Refuses want of memory alone.
-pub(crate) fn work(driver: &mut Driver<'_>, book: &mut Book, held: &Held) -> Result<(), NoMemory>
-    requires holds { Holds book.old held.now }
-    requires bound { held.now.bound ≡ (slot_at book.old held.now.id).bound }
+pub(crate) fn work(driver: &mut Driver<'_>, book: &mut Book, id: u32) -> Result<(), NoMemory>
+    requires holds { HoldsSlot book.old id }
     requires own { IsOwnSearch book.old driver.old.search }
     ensures freed { OnOk result (HoldsNothing book.new) }
     ensures driven { IsDriven book.old book.new }
@@ -95,13 +126,14 @@ pub(crate) fn work(driver: &mut Driver<'_>, book: &mut Book, held: &Held) -> Res
 {
     book.keeps();
     let best = book.best_cost();
-    if let Some(why) = closed_early(&driver.search, held.bound, best) {
-        close(book, held, why);
+    if let Some(why) = closed_early(&driver.search, held_bound(book, id), best) {
+        close(book, id, why);
         return Ok(());
     }
-    if (held.node.depth() as usize) < driver.search.instance.ships.as_slice().len() {
-        work_inner(driver, book, held, best)
+    let depth = held_node(book, id).depth() as usize;
+    if depth < driver.search.instance.ships.as_slice().len() {
+        work_inner(driver, book, id, best)
     } else {
-        work_whole(driver, book, held)
+        work_whole(driver, book, id)
     }
 }

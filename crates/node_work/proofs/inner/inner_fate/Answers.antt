@@ -4,12 +4,12 @@ use Rattle.node_work.proofs.inner.inner_fate.Goals as goal
 
 pub returns-clause-fate : goal.returns-clause-fate
 returns-clause-fate g c =
-    let f = c.args.foreseen.now in
-    probe_closes c.args.search.now.instance.now f.instance.now f.node.depth c.depth.result f.node.lines c.ship-ship.result c.args.best c.least.result
-    c.requires c.depth.ensures.value f.lacks c.ship-ship.ensures.value c.least.ensures.probe (omega (arith, c.if-least-best.false))
+    let f = c.args.probed.now in
+    probe_closes c.args.search.now.instance.now f.instance.now f.node.now.depth c.depth.result f.node.now.lines c.ship-ship.result c.args.best f.least
+    c.requires c.depth.ensures.value f.lacks c.ship-ship.ensures.value f.least_is (omega (arith, c.if-probed-best.false))
 
-pub returns-then-least-best-clause-probed : goal.returns-then-least-best-clause-probed
-returns-then-least-best-clause-probed g c =
-    let f = c.args.foreseen.now in
-    probe_cheap c.args.search.now.instance.now f.instance.now f.node.depth f.node.lines c.args.best c.least.result c.fate_by_newest.result
-    c.requires c.least.ensures.probe c.if-least-best.true
+pub returns-then-probed-best-clause-probed : goal.returns-then-probed-best-clause-probed
+returns-then-probed-best-clause-probed g c =
+    let f = c.args.probed.now in
+    probe_cheap c.args.search.now.instance.now f.instance.now f.node.now.depth f.node.now.lines c.args.best f.least c.fate_by_newest.result
+    c.requires f.least_is c.if-probed-best.true
