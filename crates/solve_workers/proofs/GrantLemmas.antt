@@ -1,7 +1,6 @@
 -- A grant is a reply to a taking, and what it gives is held.
 use Rattle.std.proofs.Common.{◌≡◌, ℕ, suc, ◌≤◌, refl, sym, ap, ◌∙◌, arith, Some, None, IfSome, IfNone}
 use Rattle.std.specs.declared.option.Option.{Option}
-use Rattle.std.proofs.lemmas.Option.{none-some}
 use Rattle.book_rules.specs.Book.{Book}
 use Rattle.book_rules.specs.Ends.{HoldsNothing}
 use Rattle.book_rules.specs.Events.{take}
@@ -21,7 +20,7 @@ use Rattle.solve_workers.proofs.DrivenLemmas.{driven_by}
 use Rattle.solve_workers.proofs.TakeLemmas.{taken_holds, taken_falls, refused_done, refused_free}
 
 -- the reply that the grant stands for
-reply_of : Book → Grant → Reply
+abbrev reply_of : Book → Grant → Reply
 reply_of b (grant.Slot id) = reply.Node id (node_at b id)
 reply_of b (grant.Ended worker) = reply.Ended worker
 reply_of b (grant.Holds id) = reply.Holds id
@@ -37,7 +36,7 @@ told-reply b (grant.NodesSpent used) = refl
 told-reply b grant.Idle = refl
 told-reply b grant.Done = refl
 
-with-node : Book → Option ℕ → Option (ℕ × Node)
+abbrev with-node : Book → Option ℕ → Option (ℕ × Node)
 with-node b None = None
 with-node b (Some id) = Some (id, node_at b id)
 

@@ -51,7 +51,7 @@ err_of (Ok a) is = tt
 err_of (Err e) is = is
 
 -- the slot with its own node
-pub as_node : TreeNode → Node
+abbrev pub as_node : TreeNode → Node
 as_node t = record { depth = t.depth; lines = t.lines }
 
 pub slot_holds : (b : Book) (id : ℕ) (n : Node) → HoldsOnly b id (tree_node n) → HoldsSlot b id
