@@ -11,6 +11,7 @@ use Rattle.refute_rules.specs.declared.refutation.Refutation.{Refutation}
 use Rattle.refute_rules.specs.Refutes.{IsRefuted}
 use Rattle.refute_rules.specs.Cuts.{Cut, IsCut}
 use Rattle.chamber_place.specs.Parts.{IsShrunk}
+use Rattle.node_work.specs.declared.first_placer.FirstPlacer.{FirstPlacer}
 use Rattle.node_work.specs.Settling.{IsCutOf, IsPartOf, IsCutFrom, shrink_turns}
 
 module _ (I : Instance) (c : ℕ) (S : List ℕ) where
@@ -86,19 +87,19 @@ pub part_is : (I : Instance) (c : ℕ) (S part : List ℕ) (d : Deck) (r : Refut
 part_is I c S part d r is among some refuted = record { among = among; some = some; refuted = subst (λ e. IsRefuted e r) is refuted }
 
 -- a cut that was shrunk from a part
-pub cut_from : (I : Instance) (c : ℕ) (S part : List ℕ) (d : Deck) (r : Refutation) (turns few : ℕ) (cut : Cut) → IsPartOf I c S part r → d ≡ deck_of I c part → few ≡ shrink_turns turns r → IsShrunk c part d r few cut → IsCut cut → IsCutFrom I c S turns cut
-cut_from I c S part d r turns few cut is_part is same shrunk proved = record {
+pub cut_from : (first : FirstPlacer) (I : Instance) (c : ℕ) (S part : List ℕ) (d : Deck) (r : Refutation) (turns few : ℕ) (cut : Cut) → IsPartOf I c S part r → d ≡ deck_of I c part → few ≡ shrink_turns first turns r → IsShrunk c part d r few cut → IsCut cut → IsCutFrom first I c S turns cut
+cut_from first I c S part d r turns few cut is_part is same shrunk proved = record {
   proved = proved;
   part = part;
   refutation = r;
   is_part = is_part;
-  shrunk = subst (λ e. IsShrunk c part e r (shrink_turns turns r) cut) is (subst (λ n. IsShrunk c part d r n cut) same shrunk);
+  shrunk = subst (λ e. IsShrunk c part e r (shrink_turns first turns r) cut) is (subst (λ n. IsShrunk c part d r n cut) same shrunk);
 }
 
 -- it hits all of the ships
-pub cut_settles : (I : Instance) (c : ℕ) (S : List ℕ) (turns : ℕ) (cut : Cut) → c < length I.chambers → All (λ s. s < length I.ships) S → IsCutFrom I c S turns cut → IsCutOf I c S cut
-cut_settles I c S turns cut inside ships from =
-    let own = shrunk-hits I c from.part from.refutation (shrink_turns turns from.refutation) cut inside (known_among I S from.part ships from.is_part.among) from.shrunk from.proved in
+pub cut_settles : (first : FirstPlacer) (I : Instance) (c : ℕ) (S : List ℕ) (turns : ℕ) (cut : Cut) → c < length I.chambers → All (λ s. s < length I.ships) S → IsCutFrom first I c S turns cut → IsCutOf I c S cut
+cut_settles first I c S turns cut inside ships from =
+    let own = shrunk-hits I c from.part from.refutation (shrink_turns first turns from.refutation) cut inside (known_among I S from.part ships from.is_part.among) from.shrunk from.proved in
     record {
       proved = own.proved;
       own = own.own;

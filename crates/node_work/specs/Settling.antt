@@ -15,6 +15,8 @@ use Rattle.refute_rules.specs.Cuts.{Cut, IsCut}
 use Rattle.place_refute.specs.Tried.{Tried}
 use Rattle.chamber_place.specs.Parts.{IsShrunk}
 use Rattle.book_rules.specs.Cover.{IsOwnCut}
+use Rattle.node_work.specs.declared.first_placer.FirstPlacer.{FirstPlacer}
+use Rattle.node_work.specs.declared.first_placer.FirstPlacer.TheVariants as first_placer
 use Rattle.node_work.specs.declared.settling.Answer.{Answer}
 use Rattle.node_work.specs.declared.settling.Answer.TheVariants as answer
 use Rattle.node_work.specs.declared.settling.Settled.{Settled}
@@ -31,13 +33,18 @@ pub record IsCutOf (I : Instance) (c : ℕ) (S : List ℕ) (cut : Cut) : Type 0 
   pub own : IsOwnCut I cut
   pub hits : Hits cut.ships cut.deck I c S
 
+-- how many turns `place` has for each smaller deck of a part that it or the placer by spots refuted
+abbrev pub turns_by_cases : FirstPlacer → ℕ → ℕ
+turns_by_cases first_placer.Cases turns = turns
+turns_by_cases first_placer.Berths turns = 1
+
 -- how many turns `place` has for each smaller deck where a cut is shrunk
-abbrev pub shrink_turns : ℕ → Refutation → ℕ
-shrink_turns turns (refutation.Berths marks) = 1
-shrink_turns turns (refutation.Quick q) = turns
-shrink_turns turns (refutation.Cases marks) = turns
-shrink_turns turns (refutation.Spots marks) = turns
-shrink_turns turns (refutation.Clash i j) = turns
+abbrev pub shrink_turns : FirstPlacer → ℕ → Refutation → ℕ
+shrink_turns first turns (refutation.Berths marks) = 1
+shrink_turns first turns (refutation.Quick q) = turns_by_cases first turns
+shrink_turns first turns (refutation.Cases marks) = turns_by_cases first turns
+shrink_turns first turns (refutation.Spots marks) = turns_by_cases first turns
+shrink_turns first turns (refutation.Clash i j) = turns
 
 -- some of the ships S, and a refutation of the deck of chamber c with these alone
 pub record IsPartOf (I : Instance) (c : ℕ) (S part : List ℕ) (r : Refutation) : Type 0 where
@@ -46,12 +53,12 @@ pub record IsPartOf (I : Instance) (c : ℕ) (S part : List ℕ) (r : Refutation
   pub refuted : IsRefuted (deck_of I c part) r
 
 -- the cut is proved, and was shrunk from a refutation of the deck of some of the ships S
-pub record IsCutFrom (I : Instance) (c : ℕ) (S : List ℕ) (turns : ℕ) (cut : Cut) : Type 0 where
+pub record IsCutFrom (first : FirstPlacer) (I : Instance) (c : ℕ) (S : List ℕ) (turns : ℕ) (cut : Cut) : Type 0 where
   pub proved : IsCut cut
   pub part : List ℕ
   pub refutation : Refutation
   pub is_part : IsPartOf I c S part refutation
-  pub shrunk : IsShrunk c part (deck_of I c part) refutation (shrink_turns turns refutation) cut
+  pub shrunk : IsShrunk c part (deck_of I c part) refutation (shrink_turns first turns refutation) cut
 
 -- the deck is spent for these turns, which is told of it, and no two of its ships clash
 pub record IsTooHard (d : Deck) (turns : ℕ) (hard spots : Tried) : Type 0 where

@@ -2,8 +2,9 @@
 ghost use Rattle.std.specs.Prelude.{◌≡◌, ◌<◌, ◌≤◌, ◌+◌, length, All, Contains, IfOk, IfSome};
 ghost use Rattle.refute_rules.specs.Refutes.{IsRefuted};
 ghost use Rattle.lock_model.specs.Fitting.{deck_of};
-ghost use Rattle.node_work.specs.Settling.{shrink_turns, IsPartOf, IsCutFrom};
+ghost use Rattle.node_work.specs.Settling.{turns_by_cases, shrink_turns, IsPartOf, IsCutFrom};
 
+use crate::first_placer::FirstPlacer;
 use crate::last::is_among;
 use berth_place::{BerthPlaced, place_by_berths};
 use chamber_place::shrink;
@@ -15,7 +16,7 @@ use std::alloc::Global;
 
 /// Ships that are asked about, and their chamber.
 #[derive(Clone, Copy)]
-pub(crate) struct Asked<'i> {
+pub(crate) struct GroupAsked<'i> {
     pub(crate) instance: &'i Instance,
     pub(crate) chamber: u8,
     pub(crate) ships: &'i Ships,
@@ -60,7 +61,7 @@ fn without(ships: &Ships, gone: u8) -> Ships
 #[tactic(auto, using(crate::proofs::CutLemmas::part_is))]
 fn berth_part(
     alloc: Global,
-    asked: &Asked<'_>,
+    asked: &GroupAsked<'_>,
     ships: Ships,
     turns: u32,
 ) -> Result<Option<Part>, NoMemory>
@@ -84,7 +85,7 @@ fn berth_part(
 // The part without a ship, where the placer by berths refutes what is left, or the part itself.
 fn left_out(
     alloc: Global,
-    asked: &Asked<'_>,
+    asked: &GroupAsked<'_>,
     part: Part,
     gone: u8,
     turns: u32,
@@ -105,7 +106,12 @@ fn left_out(
 }
 
 // Leaves each ship out in turn, as long as the placer by berths refutes what is left.
-fn least_part(alloc: Global, asked: &Asked<'_>, part: Part, turns: u32) -> Result<Part, NoMemory>
+fn least_part(
+    alloc: Global,
+    asked: &GroupAsked<'_>,
+    part: Part,
+    turns: u32,
+) -> Result<Part, NoMemory>
     requires chamber_in { asked.now.chamber < length asked.now.instance.now.chambers }
     requires ships_in { All (λ s. s < length asked.now.instance.now.ships) asked.now.ships.now }
     requires part { IsPartOf asked.now.instance.now asked.now.chamber asked.now.ships.now part.ships part.refutation }
@@ -118,11 +124,21 @@ fn least_part(alloc: Global, asked: &Asked<'_>, part: Part, turns: u32) -> Resul
     Ok(least)
 }
 
-// The least part where a berth tree refutes the ships, or all of them.
+// Whether the placer by berths is asked about fewer ships before a cut is shrunk. It answers soon for
+// what itself refuted; where it comes first, for all but a clash, of which its tree tells nothing.
+fn is_left_out_first(first: FirstPlacer, refutation: &Refutation) -> bool {
+    match first {
+        FirstPlacer::Cases => matches!(refutation, Refutation::Berths(_)),
+        FirstPlacer::Berths => !matches!(refutation, Refutation::Clash(_, _)),
+    }
+}
+
+// The least part where ships are left out first, or all of them.
 #[tactic(auto, using(crate::proofs::CutLemmas::whole_is))]
 fn begun_part(
     alloc: Global,
-    asked: &Asked<'_>,
+    asked: &GroupAsked<'_>,
+    first: FirstPlacer,
     refutation: Refutation,
     turns: u32,
 ) -> Result<Part, NoMemory>
@@ -132,41 +148,55 @@ fn begun_part(
     requires refuted { IsRefuted (deck_of asked.now.instance.now asked.now.chamber asked.now.ships.now) refutation }
     ensures { IfOk result (λ begun. IsPartOf asked.now.instance.now asked.now.chamber asked.now.ships.now begun.ships begun.refutation) }
 {
-    let is_by_berths = matches!(&refutation, Refutation::Berths(_));
+    let is_first = is_left_out_first(first, &refutation);
     let part = Part {
         ships: asked.ships.copy(),
         refutation,
     };
-    if is_by_berths {
+    if is_first {
         least_part(alloc, asked, part, turns)
     } else {
         Ok(part)
     }
 }
 
+// How many turns `place` has for each smaller deck of a part that it or the placer by spots refuted.
+fn turns_by_cases(first: FirstPlacer, turns: u32) -> u32
+    requires { 1 ≤ turns }
+    ensures value { result ≡ turns_by_cases first turns }
+    ensures some { 1 ≤ result }
+{
+    match first {
+        FirstPlacer::Cases => turns,
+        FirstPlacer::Berths => 1,
+    }
+}
+
 // How many turns `place` has for each smaller deck where a cut is shrunk. What the placer by berths
 // couldn't make smaller `place` seldom can, so there it gets one, and still finds quick reasons.
-fn shrink_turns(refutation: &Refutation, turns: u32) -> u32
+fn shrink_turns(first: FirstPlacer, refutation: &Refutation, turns: u32) -> u32
     requires { 1 ≤ turns }
-    ensures value { result ≡ shrink_turns turns refutation.now }
+    ensures value { result ≡ shrink_turns first turns refutation.now }
     ensures some { 1 ≤ result }
 {
     match refutation {
         Refutation::Berths(_) => 1,
-        Refutation::Quick(_) => turns,
-        Refutation::Cases(_) => turns,
-        Refutation::Spots(_) => turns,
+        Refutation::Quick(_) => turns_by_cases(first, turns),
+        Refutation::Cases(_) => turns_by_cases(first, turns),
+        Refutation::Spots(_) => turns_by_cases(first, turns),
         Refutation::Clash(_, _) => turns,
     }
 }
 
-/// The cut of ships whose deck is refuted. Where a berth tree refutes it, ships are left out first as
-/// long as the placer by berths refutes the rest, with these turns each time. Then the cut is no
-/// larger than it has to be for `place`: with all turns, or with one of a berth tree.
+/// The cut of ships whose deck is refuted. Where a berth tree refutes it, or the placer by berths comes
+/// first and no two ships clash, ships are left out as long as that placer refutes the rest, with these
+/// turns each time; then the cut is no larger than it has to be for `place` with one turn. Any other
+/// cut is no larger than it has to be for `place` with all turns.
 #[tactic(auto, using(crate::proofs::CutLemmas::as_many, crate::proofs::CutLemmas::cut_from))]
 pub(crate) fn cut_of(
     alloc: Global,
-    asked: &Asked<'_>,
+    asked: &GroupAsked<'_>,
+    first: FirstPlacer,
     refutation: Refutation,
     turns: u32,
 ) -> Result<Cut, NoMemory>
@@ -175,14 +205,14 @@ pub(crate) fn cut_of(
     requires some { 1 ≤ length asked.now.ships.now }
     requires turns { 1 ≤ turns }
     requires refuted { IsRefuted (deck_of asked.now.instance.now asked.now.chamber asked.now.ships.now) refutation }
-    ensures { IfOk result (IsCutFrom asked.now.instance.now asked.now.chamber asked.now.ships.now turns) }
+    ensures { IfOk result (IsCutFrom first asked.now.instance.now asked.now.chamber asked.now.ships.now turns) }
 {
-    let begun = begun_part(alloc, asked, refutation, turns)?;
+    let begun = begun_part(alloc, asked, first, refutation, turns)?;
     let Part {
         ships: own,
         refutation: why,
     } = begun;
     let deck = deck_of(asked.instance, asked.chamber, &own);
-    let few = shrink_turns(&why, turns);
+    let few = shrink_turns(first, &why, turns);
     shrink(alloc, asked.chamber, &own, &deck, why, few)
 }

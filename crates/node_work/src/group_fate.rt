@@ -5,6 +5,7 @@ ghost use Rattle.node_work.specs.Fates.{IsGroupAt, IsAnyway, IsRefutedBy, IsSpen
 
 use crate::boxed::boxed;
 use crate::fate::Fate;
+use crate::first_placer::FirstPlacer;
 use crate::known_cuts::KnownCuts;
 use crate::recalling::settle_known;
 use crate::search::Search;
@@ -69,7 +70,7 @@ fn new_group_fate<K: KnownCuts>(
     if let Some(number) = known_if_new(search.instance, chamber, ships, known, memory) {
         return Ok(Some(Fate::Closed(Ground::Cut(number))));
     }
-    match settle_known(alloc, search.instance, chamber, ships, search.turns, memory)? {
+    match settle_known(alloc, search, FirstPlacer::Cases, chamber, ships, memory)? {
         Settled::Fits(_) => Ok(None),
         Settled::Refuted(cut) => Ok(Some(refuted(alloc, cut)?)),
         Settled::Spent(hard, _) => Ok(Some(spent(alloc, chamber, place, hard)?)),

@@ -12,7 +12,9 @@
 //! group of a node that is only split: there nothing rests on it.
 //!
 //! What is found of a group's ships (`settle_known`) comes from three placers, asked one after the
-//! other (`settling`), and the cut of what one of them refutes is shrunk (`cutting`).
+//! other (`settling`), and the cut of what one of them refutes is shrunk (`cutting`). The groups of a
+//! node are asked about by cases first, and those that prices propose by berths (`FirstPlacer`), since
+//! they crowd the deck.
 //!
 //! Definitions: `specs/Fates` (what becomes of a node), `Known` (cuts of a book), `Settling` (what is
 //! found of a group), `Last` (the group that a ship is in), `Lines` (the moorings of a node as they
@@ -22,6 +24,7 @@
 mod boxed;
 mod cutting;
 mod fate;
+mod first_placer;
 mod group_fate;
 mod inner;
 mod known_cuts;
@@ -32,6 +35,7 @@ mod settling;
 mod whole;
 
 pub use fate::Fate;
+pub use first_placer::FirstPlacer;
 pub use inner::{closed_early, inner_fate};
 pub use known_cuts::KnownCuts;
 pub use recalling::settle_known;

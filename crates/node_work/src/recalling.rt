@@ -5,6 +5,9 @@ ghost use Rattle.refute_rules.specs.Cases.{IsHard};
 ghost use Rattle.refute_rules.specs.Spots.{IsSpotHard};
 ghost use Rattle.node_work.specs.Settling.{AreMooredAt, IsSettled, IsRecalled};
 
+use crate::cutting::GroupAsked;
+use crate::first_placer::FirstPlacer;
+use crate::search::Search;
 use crate::settling::{Settled, settle};
 use lock_model::{Deck, Instance, Ships, Spots, deck_of};
 use mooring_rules::{first_clash, judge_spots};
@@ -153,48 +156,51 @@ fn copy_spots(known: &HardSpots) -> HardSpots {
     hard_spots(known.deck.copy(), known.turns)
 }
 
-/// Asks the placers whether ships fit a chamber, within so many turns of each, and remembers what
+/// Asks the placers whether ships fit a chamber, within the search's turns of each, and remembers what
 /// they find. Its only refusal is want of memory.
 pub(crate) fn settle_anew(
     alloc: Global,
-    instance: &Instance,
+    search: &Search<'_>,
+    first: FirstPlacer,
     chamber: u8,
     ships: &Ships,
-    turns: u32,
     memory: &mut Memory,
 ) -> Result<Settled, NoMemory>
-    requires chamber_in { chamber < length instance.now.chambers }
-    requires ships_in { All (λ s. s < length instance.now.ships) ships.now }
+    requires chamber_in { chamber < length search.now.instance.now.chambers }
+    requires ships_in { All (λ s. s < length search.now.instance.now.ships) ships.now }
     requires some { 1 ≤ length ships.now }
-    requires turns { 1 ≤ turns }
-    ensures { IfOk result (IsSettled instance.now chamber ships.now turns) }
+    ensures { IfOk result (IsSettled search.now.instance.now chamber ships.now search.now.turns) }
 {
-    let settled = settle(alloc, instance, chamber, ships, turns)?;
+    let asked = GroupAsked {
+        instance: search.instance,
+        chamber,
+        ships,
+    };
+    let settled = settle(alloc, &asked, first, search.turns)?;
     if let Some(said) = said_of(&settled) {
         memory.keep(chamber, ships, said)?;
     }
     Ok(settled)
 }
 
-/// Finds out whether ships fit a chamber, within so many turns of each placer, and remembers it;
-/// what was found before is tested again, and no placer is asked. Its only refusal is want of
-/// memory.
+/// Finds out whether ships fit a chamber, within the search's turns of each placer, and remembers it;
+/// what was found before is tested again, and no placer is asked, whichever came first then. Its only
+/// refusal is want of memory.
 pub fn settle_known(
     alloc: Global,
-    instance: &Instance,
+    search: &Search<'_>,
+    first: FirstPlacer,
     chamber: u8,
     ships: &Ships,
-    turns: u32,
     memory: &mut Memory,
 ) -> Result<Settled, NoMemory>
-    requires chamber_in { chamber < length instance.now.chambers }
-    requires ships_in { All (λ s. s < length instance.now.ships) ships.now }
+    requires chamber_in { chamber < length search.now.instance.now.chambers }
+    requires ships_in { All (λ s. s < length search.now.instance.now.ships) ships.now }
     requires some { 1 ≤ length ships.now }
-    requires turns { 1 ≤ turns }
-    ensures { IfOk result (IsSettled instance.now chamber ships.now turns) }
+    ensures { IfOk result (IsSettled search.now.instance.now chamber ships.now search.now.turns) }
 {
-    match recall(instance, chamber, ships, turns, memory) {
+    match recall(search.instance, chamber, ships, search.turns, memory) {
         Some(settled) => Ok(settled),
-        None => settle_anew(alloc, instance, chamber, ships, turns, memory),
+        None => settle_anew(alloc, search, first, chamber, ships, memory),
     }
 }

@@ -5,10 +5,11 @@ ghost use Rattle.lock_model.specs.Cargo.{HasNoClash};
 ghost use Rattle.refute_rules.specs.Cases.{IsHard};
 ghost use Rattle.node_work.specs.Settling.{IsAnswered, IsSettled};
 
-use crate::cutting::{Asked, cut_of};
+use crate::cutting::{GroupAsked, cut_of};
+use crate::first_placer::FirstPlacer;
 use berth_place::{BerthPlaced, place_by_berths};
 use chamber_place::{Placed, place};
-use lock_model::{Deck, Instance, Moor, Rank, Ships, Spot, Spots, deck_of};
+use lock_model::{Deck, Moor, Rank, Spot, Spots, deck_of};
 use mooring_rules::{first_clash, judge_spots};
 use place_refute::{Cut, Hard, HardSpots};
 use plain_text::NoMemory;
@@ -38,7 +39,7 @@ pub(crate) enum Answer {
     Spent(Hard, HardSpots),
 }
 
-// The most turns that `place` is asked before the placer by berths.
+// The most turns that `place` is asked before the placer by berths, where `place` comes first.
 const FIRST_TURNS: u32 = 500;
 
 // The spot of a ship alone: at the near end of the left quay.
@@ -68,15 +69,15 @@ fn spots_alone(deck: &Deck) -> Option<Spots>
     }
 }
 
-// How many of these turns `place` is asked before the placer by berths: at most 500.
-fn first_turns(turns: u32) -> u32
+// How many of these turns `place` is asked before the placer by berths.
+fn first_turns(first: FirstPlacer, turns: u32) -> u32
     requires { 1 ≤ turns }
     ensures { 1 ≤ result }
 {
-    if turns < FIRST_TURNS {
-        turns
-    } else {
-        FIRST_TURNS
+    match first {
+        FirstPlacer::Berths => 1,
+        FirstPlacer::Cases if turns < FIRST_TURNS => turns,
+        FirstPlacer::Cases => FIRST_TURNS,
     }
 }
 
@@ -122,7 +123,12 @@ fn ask_by_berths(alloc: Global, deck: &Deck, turns: u32) -> Result<Answer, NoMem
 }
 
 // Asks the placers about ships of which no two clash, the one by cases with its first turns alone.
-fn ask_in_turn(alloc: Global, deck: &Deck, turns: u32) -> Result<Answer, NoMemory>
+fn ask_in_turn(
+    alloc: Global,
+    deck: &Deck,
+    first: FirstPlacer,
+    turns: u32,
+) -> Result<Answer, NoMemory>
     requires turns { 1 ≤ turns }
     requires clear { HasNoClash deck.now }
     ensures { IfOk result (IsAnswered deck.now turns) }
@@ -130,7 +136,7 @@ fn ask_in_turn(alloc: Global, deck: &Deck, turns: u32) -> Result<Answer, NoMemor
     if let Some(spots) = spots_alone(deck) {
         return Ok(Answer::Fits(spots));
     }
-    match place(alloc, deck, first_turns(turns))? {
+    match place(alloc, deck, first_turns(first, turns))? {
         Placed::Fits(spots) => Ok(Answer::Fits(spots)),
         Placed::Refuted(refutation) => Ok(Answer::Refuted(refutation)),
         Placed::Spent(_) => ask_by_berths(alloc, deck, turns),
@@ -138,46 +144,41 @@ fn ask_in_turn(alloc: Global, deck: &Deck, turns: u32) -> Result<Answer, NoMemor
 }
 
 // Finds out whether the ships of this deck fit it.
-fn ask(alloc: Global, deck: &Deck, turns: u32) -> Result<Answer, NoMemory>
+fn ask(alloc: Global, deck: &Deck, first: FirstPlacer, turns: u32) -> Result<Answer, NoMemory>
     requires { 1 ≤ turns }
     ensures { IfOk result (IsAnswered deck.now turns) }
 {
     match first_clash(deck) {
-        Some((first, second)) => Ok(Answer::Refuted(Refutation::Clash(first, second))),
-        None => ask_in_turn(alloc, deck, turns),
+        Some((one, other)) => Ok(Answer::Refuted(Refutation::Clash(one, other))),
+        None => ask_in_turn(alloc, deck, first, turns),
     }
 }
 
 #[tactic(auto, using(crate::proofs::CutLemmas::cut_settles))]
 /// Finds out whether ships fit a chamber, within so many turns of each placer. Two ships that clash
 /// refute it, and a ship that fits alone lies at the near end of the left quay. For all others the
-/// placers are asked, each where those before it were spent: `place` with at most 500 of the turns,
-/// then `place_by_berths`, `place` and `place_by_spots` with all turns. So `Spent` comes only where
-/// all three gave up. Its only refusal is want of memory.
+/// placers are asked, each where those before it were spent: `place` with at most 500 of the turns, or
+/// with one where the placer by berths is to come first; then `place_by_berths`, `place` and
+/// `place_by_spots` with all turns. So `Spent` comes only where all three gave up. Its only refusal is
+/// want of memory.
 pub(crate) fn settle(
     alloc: Global,
-    instance: &Instance,
-    chamber: u8,
-    ships: &Ships,
+    asked: &GroupAsked<'_>,
+    first: FirstPlacer,
     turns: u32,
 ) -> Result<Settled, NoMemory>
-    requires chamber_in { chamber < length instance.now.chambers }
-    requires ships_in { All (λ s. s < length instance.now.ships) ships.now }
-    requires some { 1 ≤ length ships.now }
+    requires chamber_in { asked.now.chamber < length asked.now.instance.now.chambers }
+    requires ships_in { All (λ s. s < length asked.now.instance.now.ships) asked.now.ships.now }
+    requires some { 1 ≤ length asked.now.ships.now }
     requires turns { 1 ≤ turns }
-    ensures { IfOk result (IsSettled instance.now chamber ships.now turns) }
+    ensures { IfOk result (IsSettled asked.now.instance.now asked.now.chamber asked.now.ships.now turns) }
 {
-    let deck = deck_of(instance, chamber, ships);
-    match ask(alloc, &deck, turns)? {
+    let deck = deck_of(asked.instance, asked.chamber, asked.ships);
+    match ask(alloc, &deck, first, turns)? {
         Answer::Fits(spots) => Ok(Settled::Fits(spots)),
         Answer::Spent(hard, spots) => Ok(Settled::Spent(hard, spots)),
         Answer::Refuted(refutation) => {
-            let asked = Asked {
-                instance,
-                chamber,
-                ships,
-            };
-            let cut = cut_of(alloc, &asked, refutation, turns)?;
+            let cut = cut_of(alloc, asked, first, refutation, turns)?;
             Ok(Settled::Refuted(cut))
         }
     }

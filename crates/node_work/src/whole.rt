@@ -7,6 +7,7 @@ ghost use Rattle.node_work.specs.Lines.{IsMooredUpTo};
 
 use crate::boxed::boxed;
 use crate::fate::Fate;
+use crate::first_placer::FirstPlacer;
 use crate::group_fate::{known_if_new, refuted, spent};
 use crate::known_cuts::KnownCuts;
 use crate::recalling::settle_known;
@@ -49,7 +50,7 @@ fn moor_line<K: KnownCuts>(
         if let Some(number) = known_if_new(search.instance, chamber, ships, known, memory) {
             return Ok(Some(Fate::Closed(Ground::Cut(number))));
         }
-        match settle_known(alloc, search.instance, chamber, ships, search.turns, memory)? {
+        match settle_known(alloc, search, FirstPlacer::Cases, chamber, ships, memory)? {
             Settled::Fits(spots) => moorings.push(Mooring {
                 chamber,
                 ships: ships.copy(),

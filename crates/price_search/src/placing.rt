@@ -5,7 +5,7 @@ use crate::appending::append;
 use crate::round::Asked;
 use lock_model::{Instance, Ships, Spots};
 use near_plan::Fitting;
-use node_work::{KnownCuts, Search, Settled, settle_known};
+use node_work::{FirstPlacer, KnownCuts, Search, Settled, settle_known};
 use place_refute::{Cut, cut_hits};
 use placed_groups::Memory;
 use plain_text::NoMemory;
@@ -73,12 +73,8 @@ impl<K: KnownCuts> Fitting for Placer<'_, '_, K> {
         if self.is_cut(chamber, ships) {
             return Ok(None);
         }
-        let Search {
-            instance,
-            turns,
-            ..
-        } = self.search;
-        match settle_known(self.alloc, instance, chamber, ships, *turns, self.memory)? {
+        let first = FirstPlacer::Berths;
+        match settle_known(self.alloc, self.search, first, chamber, ships, self.memory)? {
             Settled::Fits(spots) => Ok(Some(spots)),
             Settled::Spent(_, _) => Ok(None),
             Settled::Refuted(cut) => {
