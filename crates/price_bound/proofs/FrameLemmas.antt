@@ -57,6 +57,11 @@ lesser-rounded r b w v far-b far-w far-v is =
     last : (r b w v : ℤ) → r ≡ int_min b (w +ℤ v) → neg_ℤ (pos 1000000000000000) ≤ℤ b → b ≤ℤ pos 1000000000000000 → neg_ℤ (pos 1000000000000000) ≤ℤ w → w ≤ℤ pos 1000000000000000 → neg_ℤ (pos 1000000000000000) ≤ℤ v → v ≤ℤ pos 1000000000000000 → to_z w64 (of_z w64 r) ≡ r
     last r b w v e h1 h2 h3 h4 h5 h6 = omega (arith, ints, clamps)
 
+-- a choice leads to one place
+pub one-way : (to : Option ℕ) (p q r : ℕ) → Leads to p q → Leads to p r → q ≡ r
+one-way None p q r first second = sym first ∙ second
+one-way (Some j) p q r first second = sym first.1 ∙ second.1
+
 module _ (I : Instance) (c : ℕ) (known : c < length I.chambers) (cuts : List PlainCut) (k : ℕ) (prices : List ℕ) (line : List Group) (horizon : ℕ) where
   pub counted-less : (stand : Stand) (from p : ℕ) (best less : ℤ) (h : Choice) → less ≤ℤ best → IsCounted I c cuts k prices line stand from p best h → IsCounted I c cuts k prices line stand from p less h
   counted-less stand from p best less h low counted = λ q leads. elim (counted q leads) [
@@ -92,10 +97,6 @@ module _ (I : Instance) (c : ℕ) (known : c < length I.chambers) (cuts : List P
     }
 
   module _ (own : All (IsKeptGroup I k) line) (p : ℕ) (stand : Stand) (from : ℕ) (h : Choice) (is : IsChoice I c cuts k prices line h) (q : ℕ) (leads : Leads h.joins p q) where
-    one-way : (to : Option ℕ) (p q r : ℕ) → Leads to p q → Leads to p r → q ≡ r
-    one-way None p q r first second = sym first ∙ second
-    one-way (Some j) p q r first second = sym first.1 ∙ second.1
-
     -- what is left behind the choice joins it to the line
     joins-line : (to : Option ℕ) (p q : ℕ) (g : Group) → Keeps I k line to g → Leads to p q → with_group g.way (filter (has_number (first_ships I k)) g.ships) (drop q line) ≡ drop p line
     joins-line None p q g keeps leads = (λ i. with_group g.way (keeps i) (drop q line)) ∙ ap (λ q. drop q line) (sym leads)

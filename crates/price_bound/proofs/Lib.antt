@@ -3,6 +3,7 @@ pub mod ForbiddenLemmas
 pub mod IdleLemmas
 pub mod GrowLemmas
 pub mod LineLemmas
+pub mod BarLemmas
 pub mod ChoiceLemmas
 pub mod ServeLemmas
 pub mod SumLemmas

@@ -79,15 +79,21 @@ module _ (I : Instance) where
         let rest = flow-dominated (stand_after g.way) (stand_after g.way) end done gs (Dominates-later (chamber_at I c) (stand_after g.way) end done (closures_kept I c known) ends) in
         omega (arith, less, rest)
 
+    step : (x y p : ℕ) → x ≤ y → (pos (100 * x) -ℤ pos p) ≤ℤ (pos (100 * y) -ℤ pos p)
+    step x y p h = omega (arith, ints)
+
     -- a group before a line makes the line worth no less
     pub worth-skipped : (k : ℕ) (prices : List ℕ) (stand : Stand) (from : ℕ) (g : Group) (gs : List Group) → worth_from I c k prices stand from gs ≤ℤ worth_from I c k prices (stand_after g.way) (end_after I c stand from g) gs
     worth-skipped k prices stand from g gs =
         step (flow_of I gs (timetable_from I c stand from gs)) (flow_of I gs (timetable_from I c (stand_after g.way) (end_after I c stand from g) gs)) (paid_in I k prices gs)
         (flow-dominated stand (stand_after g.way) from (end_after I c stand from g) gs
         (Dominates-skipped I c known stand stand from from (start_of I c stand from g) g (Dominates-itself (chamber_at I c) stand from) (start_of-lawful I c known stand from g)))
-      where
-        step : (x y p : ℕ) → x ≤ y → (pos (100 * x) -ℤ pos p) ≤ℤ (pos (100 * y) -ℤ pos p)
-        step x y p h = omega (arith, ints)
+
+    -- a line that begins later is worth no less
+    pub worth-later : (k : ℕ) (prices : List ℕ) (stand : Stand) (from later : ℕ) (gs : List Group) → from ≤ later → worth_from I c k prices stand from gs ≤ℤ worth_from I c k prices stand later gs
+    worth-later k prices stand from later gs less =
+        step (flow_of I gs (timetable_from I c stand from gs)) (flow_of I gs (timetable_from I c stand later gs)) (paid_in I k prices gs)
+        (flow-dominated stand stand from later gs (Dominates-later (chamber_at I c) stand from later (closures_kept I c known) less))
 
     module _ (k : ℕ) (prices : List ℕ) (way : Way) (hs gs : List ℕ) (stand : Stand) (from : ℕ) (well : ServeFrom I c k prices from hs gs) where
       abbrev g : Group

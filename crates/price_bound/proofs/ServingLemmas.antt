@@ -59,14 +59,13 @@ module _ (I : Instance) (c k : ℕ) (prices : List ℕ) where
         (λ i. start i + long i)
 
     -- its worth
-    pub sums-worth : c < length I.chambers → (count end sum pays : ℕ) → count ≡ length g.ships → end ≡ end_after I c stand from g → sum ≡ count * end → pays ≡ paid_by I k prices g + 100 * arrivals_of I g.ships → sum ≤ 240000000 → pays < 4294967296
-        → to_z w64 (of_z w64 (to_z w64 (100 * sum) -ℤ to_z w64 pays)) ≡ worth_of I c k prices stand from g
-    sums-worth known count end sum pays counted ends product paid small less =
-        step sum pays (length g.ships * end_after I c stand from g) (paid_by I k prices g + 100 * arrivals_of I g.ships) (product ∙ (λ i. counted i * ends i)) paid small less ∙ sym (worth-sums I c stand from g known k prices)
-      where
-        step : (f p x y : ℕ) → f ≡ x → p ≡ y → f ≤ 240000000 → p < 4294967296 → to_z w64 (of_z w64 (to_z w64 (100 * f) -ℤ to_z w64 p)) ≡ (pos (100 * x) -ℤ pos y)
-        step f p x y e h a b = omega (arith, ints)
+    pub sums-worth : c < length I.chambers → (end pays : ℕ) → end ≡ end_after I c stand from g → pays ≡ paid_by I k prices g + 100 * arrivals_of I g.ships → (pos (100 * (length g.ships * end)) -ℤ pos pays) ≡ worth_of I c k prices stand from g
+    sums-worth known end pays ends paid = (λ i. pos (100 * (length g.ships * ends i)) -ℤ pos (paid i)) ∙ sym (worth-sums I c stand from g known k prices)
 
--- which is not far below 0
+-- which is reckoned in numbers of its type
+pub sums-plain : (f p n : ℕ) → f ≡ n → f ≤ 240000000 → p < 4294967296 → to_z w64 (of_z w64 (to_z w64 (100 * f) -ℤ to_z w64 p)) ≡ (pos (100 * n) -ℤ pos p)
+sums-plain f p n e a b = omega (arith, ints)
+
+-- and is not far below 0
 pub sums-low : (f p : ℕ) → f ≤ 240000000 → p ≤ 808000000 → neg_ℤ (pos 808000000) ≤ℤ to_z w64 (of_z w64 (to_z w64 (100 * f) -ℤ to_z w64 p))
 sums-low f p few small = omega (arith, ints)

@@ -1,5 +1,5 @@
 -- Values that are remembered for states.
-use Rattle.std.specs.Prelude.{ℕ, max, ◌≡◌, ◌+◌, ◌-◌, ◌*◌, ◌≤◌, ◌<◌, nat_eq, ℤ, pos, ◌+ℤ◌, ◌≤ℤ◌, ◌⊎◌, Some, None, List, length, drop, slice_index_or, true, []}
+use Rattle.std.specs.Prelude.{ℕ, max, ◌≡◌, ◌+◌, ◌-◌, ◌*◌, ◌≤◌, ◌<◌, nat_eq, ℤ, pos, neg_ℤ, ◌+ℤ◌, ◌≤ℤ◌, ◌⊎◌, Some, None, List, length, drop, slice_index_or, true, []}
 use Rattle.std.specs.HashMap.{get}
 use Rattle.lock_model.specs.declared.instance.Instance.{Instance}
 use Rattle.lock_model.specs.declared.group.Group.{Group}
@@ -13,10 +13,12 @@ use Rattle.price_rules.specs.Prices.{PlainCut}
 use Rattle.price_bound.specs.declared.choice.Choice.{Choice}
 use Rattle.price_bound.specs.declared.menu.Menu.{Menu}
 use Rattle.price_bound.specs.declared.ready.Ready.{Ready}
+use Rattle.price_bound.specs.declared.route.Route.{Route}
+use Rattle.price_bound.specs.declared.route.Bar.{Bar}
 use Rattle.price_bound.specs.declared.frame.Frame.{Frame}
 use Rattle.price_bound.specs.declared.values.Values.{Values}
-use Rattle.price_bound.specs.Worth.{worth_from, IsWorth}
-use Rattle.price_bound.specs.Choosing.{IsCounted, IsValue, list_of}
+use Rattle.price_bound.specs.Worth.{end_after, worth_of, worth_from, IsWorth}
+use Rattle.price_bound.specs.Choosing.{IsChoice, IsCounted, IsValue, Leads, list_of}
 
 abbrev pub side_of : Stand → ℕ
 side_of Low = 0
@@ -70,3 +72,16 @@ pub record IsFrame (I : Instance) (c : ℕ) (cuts : List PlainCut) (k : ℕ) (pr
   pub early : frame.ready.state.minute < horizon
   pub best : IsBest I c cuts k prices line horizon frame.ready.state.place frame.ready.state.stand frame.ready.state.minute frame.best
   pub counted : (j : ℕ) (d : Choice) (e : Menu) → j < frame.next → j < length (list_of menus e frame.ready.state.place frame.ready.state.minute) → IsCounted I c cuts k prices line frame.ready.state.stand frame.ready.state.minute frame.ready.state.place frame.best (slice_index_or (list_of menus e frame.ready.state.place frame.ready.state.minute) j d)
+
+-- a route from the state: where its choices lead, and the first minute for their way
+pub record IsRoute (ready : Ready) (route : Route) : Type 0 where
+  pub leads : Leads route.joins ready.state.place route.place
+  pub minute : route.minute ≡ minute_for ready route.way
+
+-- A choice of the route that ends no sooner than the bar and is worth no less is counted.
+pub record IsBar (I : Instance) (c : ℕ) (cuts : List PlainCut) (k : ℕ) (prices : List ℕ) (line : List Group) (ready : Ready) (route : Route) (best : ℤ) (bar : Bar) : Type 0 where
+  pub low : neg_ℤ (pos 2000000000000000) ≤ℤ bar.worth
+  pub high : bar.worth ≤ℤ pos 2000000000000000
+  pub over : (h : Choice) → IsChoice I c cuts k prices line h → h.joins ≡ route.joins → h.group.way ≡ route.way
+      → bar.end ≤ end_after I c ready.state.stand ready.state.minute h.group → bar.worth ≤ℤ worth_of I c k prices ready.state.stand ready.state.minute h.group → worth_of I c k prices ready.state.stand ready.state.minute h.group ≤ℤ pos 30000000000
+      → IsCounted I c cuts k prices line ready.state.stand ready.state.minute ready.state.place best h

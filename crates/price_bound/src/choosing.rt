@@ -11,7 +11,7 @@ use crate::choice::Choice;
 use crate::error::{PriceError, append};
 use crate::growing::{Growth, grown};
 use crate::lateness::late_choices;
-use crate::pruning::{few_first, order, put_each, put_shelved};
+use crate::pruning::{order, put_each, put_shelved, short_first};
 use crate::shelf::{Merit, Shelf};
 use crate::sums::Sums;
 use crate::vanity::is_vain;
@@ -88,7 +88,7 @@ fn ordered(
     Ok(choices)
 }
 
-// The same, but none for which another one serves as well; those of few ships first.
+// The same, but none for which another one serves as well; those of short handling first.
 fn served(
     alloc: Global,
     growth: &Growth,
@@ -104,7 +104,7 @@ fn served(
     let more = ordered(alloc, growth, shelf, base, joins)?;
     let mut choices = Vec::new(alloc);
     put_each(growth.case, &mut choices, shelf, &more)?;
-    few_first(&mut choices)?;
+    short_first(&mut choices)?;
     Ok(choices)
 }
 
@@ -133,7 +133,7 @@ fn put_grown(
     ensures { OnOk result ((all : List Plain) → All (IsChoice growth.now.case.now.instance.now growth.now.case.now.chamber (plain_cuts growth.now.case.now.instance.now growth.now.case.now.cuts.now) growth.now.case.now.depth growth.now.case.now.prices.now growth.now.case.now.line.now) all → AreLate growth.now.case.now.instance.now growth.now.case.now.chamber (plain_cuts growth.now.case.now.instance.now growth.now.case.now.cuts.now) growth.now.case.now.depth growth.now.case.now.prices.now growth.now.case.now.line.now 0 all choices.old.items → HaveEarly growth.now.case.now.instance.now growth.now.case.now.chamber (plain_cuts growth.now.case.now.instance.now growth.now.case.now.cuts.now) growth.now.case.now.depth growth.now.case.now.prices.now growth.now.case.now.line.now joins base.now all choices.new.items) }
 {
     let more = served(alloc, growth, shelf, base, joins)?;
-    let enough = late_choices(alloc, growth.case, shelf, &more, 0)?;
+    let enough = late_choices(alloc, growth.case, &more, 0)?;
     append_all(choices, &enough)
 }
 

@@ -9,8 +9,10 @@ ghost use Rattle.price_bound.specs.Cuts.{plain_cuts};
 use crate::choice::Choice;
 use crate::frame::Frame;
 use crate::ready::Ready;
+use crate::route::Route;
 use crate::serving::{alone, serve};
 use crate::state::State;
+use crate::sweeping::swept;
 use crate::table::Table;
 use crate::values::Values;
 use chamber_times::stand_after;
@@ -66,8 +68,8 @@ pub(crate) fn is_idle(choice: &Choice, worth: i64) -> bool
 }
 
 #[inline(always)]
-// The lesser of a value and of what a choice comes to with the value behind it.
-fn lesser(best: i64, worth: i64, behind: i64) -> i64
+/// The lesser of a value and of what a choice comes to with the value behind it.
+pub(crate) fn lesser(best: i64, worth: i64, behind: i64) -> i64
     requires worth_low { neg_ℤ (pos 1000000000000000) ≤ℤ worth }
     requires worth_high { worth ≤ℤ pos 1000000000000000 }
     requires behind_low { neg_ℤ (pos 1000000000000000) ≤ℤ behind }
@@ -143,6 +145,59 @@ fn count(
     }
 }
 
+// Counts the next choice, or names the state behind it whose value isn't known yet.
+fn count_next(
+    table: &Table,
+    values: &Values,
+    choices: &[Choice],
+    frame: &mut Frame,
+) -> Option<State>
+    requires values { AreValues table.now.case.now.instance.now table.now.case.now.chamber (plain_cuts table.now.case.now.instance.now table.now.case.now.cuts.now) table.now.case.now.depth table.now.case.now.prices.now table.now.case.now.line.now table.now.horizon values.now }
+    requires menus { AreMenus table.now.case.now.instance.now table.now.case.now.chamber (plain_cuts table.now.case.now.instance.now table.now.case.now.cuts.now) table.now.case.now.depth table.now.case.now.prices.now table.now.case.now.line.now table.now.menus.now }
+    requires frame { IsFrame table.now.case.now.instance.now table.now.case.now.chamber (plain_cuts table.now.case.now.instance.now table.now.case.now.cuts.now) table.now.case.now.depth table.now.case.now.prices.now table.now.case.now.line.now table.now.horizon table.now.menus.now frame.old }
+    requires listed { (e : Menu) → choices.now ≡ list_of table.now.menus.now e frame.old.ready.state.place frame.old.ready.state.minute }
+    requires here { frame.old.next < length choices.now }
+    ensures frame { IsFrame table.now.case.now.instance.now table.now.case.now.chamber (plain_cuts table.now.case.now.instance.now table.now.case.now.cuts.now) table.now.case.now.depth table.now.case.now.prices.now table.now.case.now.line.now table.now.horizon table.now.menus.now frame.new }
+    ensures same { frame.new.ready ≡ frame.old.ready }
+    ensures none { IfNone result (frame.new.next ≡ frame.old.next + 1) }
+    ensures some { IfSome result (λ s. (s.place ≤ length table.now.case.now.line.now) × (s.minute < table.now.horizon)) }
+{
+    match count(
+        table,
+        values,
+        &frame.ready,
+        &mut frame.best,
+        &choices[frame.next],
+    ) {
+        Some(state) => Some(state),
+        None => {
+            frame.next += 1;
+            None
+        }
+    }
+}
+
+// A frame of which more choices are counted, where the next one may come next in a chamber without
+// closures, or the same frame.
+fn swept_from(table: &Table, values: &Values, choices: &[Choice], frame: Frame) -> Frame
+    requires values { AreValues table.now.case.now.instance.now table.now.case.now.chamber (plain_cuts table.now.case.now.instance.now table.now.case.now.cuts.now) table.now.case.now.depth table.now.case.now.prices.now table.now.case.now.line.now table.now.horizon values.now }
+    requires menus { AreMenus table.now.case.now.instance.now table.now.case.now.chamber (plain_cuts table.now.case.now.instance.now table.now.case.now.cuts.now) table.now.case.now.depth table.now.case.now.prices.now table.now.case.now.line.now table.now.menus.now }
+    requires frame { IsFrame table.now.case.now.instance.now table.now.case.now.chamber (plain_cuts table.now.case.now.instance.now table.now.case.now.cuts.now) table.now.case.now.depth table.now.case.now.prices.now table.now.case.now.line.now table.now.horizon table.now.menus.now frame }
+    requires listed { (e : Menu) → choices.now ≡ list_of table.now.menus.now e frame.ready.state.place frame.ready.state.minute }
+    requires here { frame.next < length choices.now }
+    ensures frame { IsFrame table.now.case.now.instance.now table.now.case.now.chamber (plain_cuts table.now.case.now.instance.now table.now.case.now.cuts.now) table.now.case.now.depth table.now.case.now.prices.now table.now.case.now.line.now table.now.horizon table.now.menus.now result }
+    ensures same { result.ready ≡ frame.ready }
+    ensures more { frame.next ≤ result.next }
+{
+    if !frame.ready.always_open {
+        return frame;
+    }
+    match Route::of(&choices[frame.next], &frame.ready) {
+        Some(route) => swept(table, values, &route, choices, frame),
+        None => frame,
+    }
+}
+
 /// Counts choices one after another, until all are counted or the value of a state behind one isn't
 /// known yet; that state.
 pub(crate) fn advance(table: &Table, values: &Values, frame: &mut Frame) -> Option<State>
@@ -154,16 +209,13 @@ pub(crate) fn advance(table: &Table, values: &Values, frame: &mut Frame) -> Opti
     ensures some { IfSome result (λ s. (s.place ≤ length table.now.case.now.line.now) × (s.minute < table.now.horizon)) }
 {
     let choices = table.list(&frame.ready.state);
-    for place in frame.next..choices.len() {
-        match count(
-            table,
-            values,
-            &frame.ready,
-            &mut frame.best,
-            &choices[place],
-        ) {
-            Some(state) => return Some(state),
-            None => frame.next = place + 1,
+    while frame.next < choices.len() {
+        let before = frame.next;
+        *frame = swept_from(table, values, choices, *frame);
+        if frame.next == before {
+            if let Some(state) = count_next(table, values, choices, frame) {
+                return Some(state);
+            }
         }
     }
     None

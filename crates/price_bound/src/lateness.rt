@@ -4,10 +4,10 @@ ghost use Rattle.std.specs.Prelude.{◌+◌, ◌*◌, ◌≤◌, length, max, Al
 ghost use Rattle.price_bound.specs.Choosing.{IsChoice, IsServedLate, IsCoveredLate, ServesLate, AreLate, HasLate, soonest};
 ghost use Rattle.price_bound.specs.Cuts.{plain_cuts};
 
+use crate::bests::Bests;
 use crate::choice::Choice;
 use crate::error::{PriceError, append};
 use crate::line_case::LineCase;
-use crate::shelf::{Merit, Shelf};
 use crate::vanity::{is_vain, worth_by};
 use std::alloc::Global;
 
@@ -50,21 +50,6 @@ fn serves_late(other: &Choice, choice: &Choice, late: u64) -> bool
         && pays_enough(other, choice, late)
 }
 
-// Whether one of the choices serves as well as a choice from the minute on.
-fn is_served_late(lates: &[Choice], choice: &Choice, late: u64) -> bool
-    requires late { late ≤ 4294967296 }
-    requires short { choice.now.duration ≤ 9000000 }
-    requires soon { choice.now.last ≤ 1000000 }
-    ensures { IsTrue result → IsServedLate late lates.now choice.now }
-{
-    for other in lates {
-        if serves_late(other, choice, late) {
-            return true;
-        }
-    }
-    false
-}
-
 // Whether the choice at a place, if there is one, serves as well as a choice from the minute on.
 fn is_served_late_at(lates: &[Choice], place: Option<usize>, choice: &Choice, late: u64) -> bool
     requires late { late ≤ 4294967296 }
@@ -78,16 +63,15 @@ fn is_served_late_at(lates: &[Choice], place: Option<usize>, choice: &Choice, la
     }
 }
 
-// Whether one of the choices on the shelf of no more ships serves as well as a choice from the minute
-// on.
-fn is_served_late_on(lates: &[Choice], shelf: &Shelf, choice: &Choice, late: u64) -> bool
+// Whether one of the best choices of no more ships serves as well as a choice from the minute on.
+fn is_served_late_on(lates: &[Choice], bests: &Bests, choice: &Choice, late: u64) -> bool
     requires late { late ≤ 4294967296 }
     requires short { choice.now.duration ≤ 9000000 }
     requires soon { choice.now.last ≤ 1000000 }
     ensures { IsTrue result → IsServedLate late lates.now choice.now }
 {
     for ships in 1..choice.group.ships.len() + 1 {
-        if is_served_late_at(lates, shelf.find(ships, choice), choice, late) {
+        if is_served_late_at(lates, bests.find(ships), choice, late) {
             return true;
         }
     }
@@ -98,7 +82,7 @@ fn is_served_late_on(lates: &[Choice], shelf: &Shelf, choice: &Choice, late: u64
 fn is_covered_late(
     case: &LineCase,
     lates: &[Choice],
-    shelf: &Shelf,
+    bests: &Bests,
     choice: &Choice,
     late: u64,
 ) -> bool
@@ -106,17 +90,15 @@ fn is_covered_late(
     requires is { IsChoice case.now.instance.now case.now.chamber (plain_cuts case.now.instance.now case.now.cuts.now) case.now.depth case.now.prices.now case.now.line.now choice.now }
     ensures { IsTrue result → IsCoveredLate case.now.instance.now case.now.chamber case.now.depth case.now.prices.now late lates.now choice.now }
 {
-    is_vain(case, choice, late)
-        || is_served_late_on(lates, shelf, choice, late)
-        || (shelf.is_vague(choice) && is_served_late(lates, choice, late))
+    is_vain(case, choice, late) || is_served_late_on(lates, bests, choice, late)
 }
 
-// Clears the shelf where a choice doesn't join the same group as the last one, or has another way: the
-// choices of a line come in such stretches, and no other one serves.
-fn begin_stretch(lates: &[Choice], shelf: &mut Shelf, choice: &Choice) {
+// Forgets the best choices where a choice doesn't join the same group as the last one, or has another
+// way: the choices of a line come in such stretches, and no other one serves.
+fn begin_stretch(lates: &[Choice], bests: &mut Bests, choice: &Choice) {
     match lates {
         [.., last] if last.joins == choice.joins && last.group.way == choice.group.way => {}
-        _ => shelf.clear(Merit::Pays),
+        _ => bests.clear(),
     }
 }
 
@@ -124,7 +106,7 @@ fn begin_stretch(lates: &[Choice], shelf: &mut Shelf, choice: &Choice) {
 fn put_late(
     case: &LineCase,
     lates: &mut Vec<Choice>,
-    shelf: &mut Shelf,
+    bests: &mut Bests,
     choice: &Choice,
     late: u64,
 ) -> Result<(), PriceError>
@@ -132,18 +114,18 @@ fn put_late(
     requires is { IsChoice case.now.instance.now case.now.chamber (plain_cuts case.now.instance.now case.now.cuts.now) case.now.depth case.now.prices.now case.now.line.now choice.now }
     ensures { OnOk result (HasLate case.now.instance.now case.now.chamber case.now.depth case.now.prices.now late choice.now lates.old.items lates.new.items) }
 {
-    if is_covered_late(case, lates, shelf, choice, late) {
+    if is_covered_late(case, lates, bests, choice, late) {
         return Ok(());
     }
-    shelf.note(lates, choice);
+    bests.note(lates, choice);
     append(lates, choice.copy())
 }
 
-/// Of some choices those that are enough from a minute on.
+/// Of some choices those that are enough from a minute on. Fewest are kept where those of short handling
+/// come first, and of these those of few ships: so what may serve stands before.
 pub(crate) fn late_choices(
     alloc: Global,
     case: &LineCase,
-    shelf: &mut Shelf,
     choices: &[Choice],
     late: u64,
 ) -> Result<Vec<Choice>, PriceError>
@@ -152,9 +134,10 @@ pub(crate) fn late_choices(
     ensures { IfOk result (λ lates. AreLate case.now.instance.now case.now.chamber (plain_cuts case.now.instance.now case.now.cuts.now) case.now.depth case.now.prices.now case.now.line.now late choices.now lates.items) }
 {
     let mut lates = Vec::new(alloc);
+    let mut bests = Bests::new();
     for choice in choices {
-        begin_stretch(&lates, shelf, choice);
-        put_late(case, &mut lates, shelf, choice, late)?;
+        begin_stretch(&lates, &mut bests, choice);
+        put_late(case, &mut lates, &mut bests, choice, late)?;
     }
     Ok(lates)
 }

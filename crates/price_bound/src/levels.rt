@@ -8,7 +8,6 @@ use crate::error::{PriceError, append};
 use crate::lateness::late_choices;
 use crate::level::Level;
 use crate::line_case::LineCase;
-use crate::shelf::Shelf;
 use std::alloc::Global;
 
 // How many levels there are.
@@ -21,7 +20,6 @@ const STEP: u32 = 30;
 fn thinned(
     alloc: Global,
     case: &LineCase,
-    shelf: &mut Shelf,
     levels: &[Level],
     choices: &[Choice],
     from: u32,
@@ -32,9 +30,9 @@ fn thinned(
 {
     match levels.last() {
         Some(level) if level.from <= from as u64 => {
-            late_choices(alloc, case, shelf, &level.choices, from as u64)
+            late_choices(alloc, case, &level.choices, from as u64)
         }
-        _ => late_choices(alloc, case, shelf, choices, from as u64),
+        _ => late_choices(alloc, case, choices, from as u64),
     }
 }
 
@@ -42,7 +40,6 @@ fn thinned(
 fn add_level(
     alloc: Global,
     case: &LineCase,
-    shelf: &mut Shelf,
     levels: &mut Vec<Level>,
     choices: &[Choice],
     from: u32,
@@ -51,7 +48,7 @@ fn add_level(
     requires levels { All (IsLevel case.now.instance.now case.now.chamber (plain_cuts case.now.instance.now case.now.cuts.now) case.now.depth case.now.prices.now case.now.line.now choices.now) levels.old.items }
     ensures { OnOk result (All (IsLevel case.now.instance.now case.now.chamber (plain_cuts case.now.instance.now case.now.cuts.now) case.now.depth case.now.prices.now case.now.line.now choices.now) levels.new.items) }
 {
-    let lates = thinned(alloc, case, shelf, levels, choices, from)?;
+    let lates = thinned(alloc, case, levels, choices, from)?;
     append(
         levels,
         Level {
@@ -65,7 +62,6 @@ fn add_level(
 pub(crate) fn levels(
     alloc: Global,
     case: &LineCase,
-    shelf: &mut Shelf,
     choices: &[Choice],
     first: u32,
 ) -> Result<Vec<Level>, PriceError>
@@ -77,7 +73,6 @@ pub(crate) fn levels(
         add_level(
             alloc,
             case,
-            shelf,
             &mut levels,
             choices,
             first.saturating_add(step * STEP),

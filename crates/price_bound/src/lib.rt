@@ -18,6 +18,7 @@
 //! the steps.
 #![tactic(auto)]
 
+mod bests;
 mod choice;
 mod choosing;
 mod comparing;
@@ -46,11 +47,13 @@ mod prices;
 mod pruning;
 mod reaching;
 mod ready;
+mod route;
 mod serving;
 mod shelf;
 mod shown;
 mod state;
 mod sums;
+mod sweeping;
 mod table;
 mod terms;
 mod values;

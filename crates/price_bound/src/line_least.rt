@@ -74,7 +74,7 @@ pub(crate) fn line_least(
     };
     let mut shelf = Shelf::new(case.lock.pass);
     let choices = choices(alloc, &growth, &mut shelf)?;
-    let levels = levels(alloc, case, &mut shelf, &choices, latest(&choices))?;
+    let levels = levels(alloc, case, &choices, latest(&choices))?;
     let menus = menus(alloc, case, &choices, &levels)?;
     let table = Table {
         case,

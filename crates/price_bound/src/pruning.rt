@@ -142,12 +142,12 @@ pub(crate) fn order(choices: &mut Vec<Choice>) -> Result<(), PriceError>
     }
 }
 
-/// Puts the choices of few ships first: one serves as well as others from a minute on only where it is
-/// no more ships.
-pub(crate) fn few_first(choices: &mut Vec<Choice>) -> Result<(), PriceError>
+/// Puts the choices of short handling first, and of these those of few ships: one serves as well as
+/// others from a minute on only where it takes no longer and is no more ships.
+pub(crate) fn short_first(choices: &mut Vec<Choice>) -> Result<(), PriceError>
     ensures { OnOk result (IsPermutation choices.old.items choices.new.items) }
 {
-    match choices.sort_by_key(|choice| choice.group.ships.len()) {
+    match choices.sort_by_key(|choice| (choice.duration, choice.group.ships.len())) {
         Ok(()) => Ok(()),
         Err(_) => Err(PriceError::NoMemory),
     }

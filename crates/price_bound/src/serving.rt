@@ -1,8 +1,8 @@
 //! What a choice is worth that comes next, and what a line's own groups are worth alone.
-ghost use Rattle.std.specs.Prelude.{◌≡◌, ◌+◌, ◌*◌, ◌<◌, ◌≤◌, ◌≤ℤ◌, neg_ℤ, pos, length, drop, All, max};
+ghost use Rattle.std.specs.Prelude.{◌≡◌, ◌+◌, ◌*◌, ◌<◌, ◌≤◌, ◌≤ℤ◌, ◌-ℤ◌, neg_ℤ, pos, true, length, drop, All, max};
 ghost use Rattle.price_bound.specs.Worth.{end_after, worth_of, worth_from, IsKeptGroup};
 ghost use Rattle.price_bound.specs.Choosing.{IsChoice};
-ghost use Rattle.price_bound.specs.Values.{IsReady};
+ghost use Rattle.price_bound.specs.Values.{IsReady, minute_for};
 ghost use Rattle.price_bound.specs.Cuts.{plain_cuts};
 
 use crate::choice::Choice;
@@ -31,6 +31,23 @@ fn product(count: u64, end: u64) -> u64
     count * end
 }
 
+#[inline(always)]
+// A choice that ends at a minute.
+fn ended(choice: &Choice, end: u64) -> Served
+    requires end { end ≤ 30000000 }
+    requires fair { choice.now.pays ≤ 808000000 }
+    ensures end { result.end ≡ end }
+    ensures worth { result.worth ≡ (pos (100 * (length choice.now.group.ships * end)) -ℤ pos choice.now.pays) }
+    ensures low { neg_ℤ (pos 808000000) ≤ℤ result.worth }
+    ensures high { result.worth ≤ℤ pos 30000000000 }
+{
+    let sum = product(choice.group.ships.len() as u64, end);
+    Served {
+        end,
+        worth: (100 * sum) as i64 - choice.pays as i64,
+    }
+}
+
 /// Serves a choice next.
 #[inline(always)]
 pub(crate) fn serve(case: &LineCase, ready: &Ready, choice: &Choice) -> Served
@@ -45,12 +62,25 @@ pub(crate) fn serve(case: &LineCase, ready: &Ready, choice: &Choice) -> Served
 {
     let long = choice.duration as u64;
     let from = ready.minute(choice.group.way).max(choice.last as u64);
-    let end = ready.first_free(case, long, from) + long;
-    let sum = product(choice.group.ships.len() as u64, end);
-    Served {
-        end,
-        worth: (100 * sum) as i64 - choice.pays as i64,
-    }
+    ended(choice, ready.first_free(case, long, from) + long)
+}
+
+/// Serves a choice next in a chamber without closures that may be ready for it at a minute.
+#[inline(always)]
+pub(crate) fn serve_open(case: &LineCase, ready: &Ready, minute: u64, choice: &Choice) -> Served
+    requires is { IsChoice case.now.instance.now case.now.chamber (plain_cuts case.now.instance.now case.now.cuts.now) case.now.depth case.now.prices.now case.now.line.now choice.now }
+    requires ready { IsReady case.now.instance.now case.now.chamber ready.now }
+    requires minute { ready.now.state.minute ≤ 14000000 }
+    requires open { ready.now.always_open ≡ true }
+    requires first { minute ≡ minute_for ready.now choice.now.group.way }
+    ensures end { result.end ≡ end_after case.now.instance.now case.now.chamber ready.now.state.stand ready.now.state.minute choice.now.group }
+    ensures worth { result.worth ≡ worth_of case.now.instance.now case.now.chamber case.now.depth case.now.prices.now ready.now.state.stand ready.now.state.minute choice.now.group }
+    ensures small { result.end ≤ max ready.now.state.minute 1000000 + 12000000 }
+    ensures low { neg_ℤ (pos 808000000) ≤ℤ result.worth }
+    ensures high { result.worth ≤ℤ pos 30000000000 }
+{
+    let from = minute.max(choice.last as u64);
+    ended(choice, from + choice.duration as u64)
 }
 
 // What some of the line's own groups are worth alone, in hundredths of a minute.

@@ -71,6 +71,18 @@ impl Values {
         }
     }
 
+    #[inline(always)]
+    // What is remembered for a state in the row.
+    pub(crate) fn in_row(&self, state: &State) -> Option<i64>
+        requires few { self.now.places ≤ 25 }
+        requires place { state.now.place < self.now.places }
+        requires minute { state.now.minute ≤ 14000000 }
+        ensures { IfSome result (Holds self.now (key_of self.now.places state.now.place state.now.stand state.now.minute)) }
+    {
+        let place = self.place(state.key(self.places))?;
+        self.row[place]
+    }
+
     // Remembers a value for a state.
     pub(crate) fn keep(&mut self, state: &State, value: i64) -> Result<(), PriceError>
         requires few { self.old.places ≤ 25 }

@@ -30,4 +30,4 @@ returns c =
     let put = c.put_each.new.choices.items in
     let done = put-done I case.depth case.prices.now case.chamber cuts case.line.now c.args.joins c.args.base.now c.deref.result.now c.new-choices.result.items put more c.in_ok-put_each.ensures in
     let all = subst (λ old. HaveMore I case.chamber cuts case.depth case.prices.now case.line.now c.args.joins c.args.base.now old put) c.new-choices.ensures.items done in
-    more-ordered I case.depth case.prices.now case.chamber cuts case.line.now c.args.joins c.args.base.now [] put c.few_first.new.choices.items c.in_ok-few_first.ensures all
+    more-ordered I case.depth case.prices.now case.chamber cuts case.line.now c.args.joins c.args.base.now [] put c.short_first.new.choices.items c.in_ok-short_first.ensures all

@@ -1,13 +1,15 @@
-use Rattle.std.proofs.Common.{◌≡◌}
+use Rattle.std.proofs.Common.{◌≡◌, ◌-◌, length}
 use Rattle.price_bound.specs.Cuts.{plain_cuts}
 use Rattle.price_bound.specs.declared.menu.Menu.{Menu}
 use Rattle.price_bound.specs.Choosing.{list_of}
 use Rattle.price_bound.specs.Values.{IsFrame}
 use Rattle.price_bound.proofs.counting.advance.Given as goal
 
-abbrev pub invariant-loop-place : goal.invariant-loop-place
-invariant-loop-place l = record {
+abbrev pub decreases-loop-frame : goal.decreases-loop-frame
+decreases-loop-frame l = length l.choices - l.frame.next
+
+abbrev pub invariant-loop-frame : goal.invariant-loop-frame
+invariant-loop-frame l = record {
   frame : IsFrame l.table.case.now.instance.now l.table.case.now.chamber (plain_cuts l.table.case.now.instance.now l.table.case.now.cuts.now) l.table.case.now.depth l.table.case.now.prices.now l.table.case.now.line.now l.table.horizon l.table.menus.now l.frame;
-  next : l.frame.next ≡ l.place;
   listed : (e : Menu) → l.choices ≡ list_of l.table.menus.now e l.frame.ready.state.place l.frame.ready.state.minute;
 }
