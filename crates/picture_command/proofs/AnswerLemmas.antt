@@ -9,7 +9,7 @@ use Rattle.certificate_rules.specs.OpenCertificates.{OpenCertificate}
 use Rattle.cert_text.specs.declared.heading.Heading.{Heading}
 use Rattle.cert_text.specs.declared.heading.Version.{Version}
 use Rattle.cert_text.specs.declared.heading.Heading.TheVariants as heading
-use Rattle.picture_forms.specs.declared.times.Clock.{Clock}
+use Rattle.picture_page.specs.declared.times.Clock.{Clock}
 use Rattle.picture_page.specs.declared.heads.Known.{Known}
 use Rattle.picture_page.specs.declared.heads.Known.TheVariants as known
 use Rattle.plan_commands.specs.Planned.{IsPlanned, AnswersIllegal}

@@ -21,7 +21,7 @@ use Rattle.cert_text.specs.declared.heading.Version.{Version}
 use Rattle.cert_text.specs.declared.bad.BadDossier.{BadDossier as AnyFault}
 use Rattle.cert_text.specs.declared.bad.BadDossier.TheVariants as fault
 use Rattle.resume_book.specs.OpenDossier.{open_certificate_in, open_rest_in, open_dossier_in, ReadsOpen}
-use Rattle.picture_forms.specs.declared.times.Clock.{Clock}
+use Rattle.picture_page.specs.declared.times.Clock.{Clock}
 use Rattle.checked_dossiers.specs.Accepted.{IsAccepted, IsNotAccepted}
 use Rattle.checked_dossiers.specs.Standing.{IsStanding, IsNoStanding}
 use Rattle.checked_dossiers.proofs.ExactLemmas.{accepted_wants, standing_wants}

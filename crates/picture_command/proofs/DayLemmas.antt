@@ -8,8 +8,8 @@ use Rattle.day_play.specs.Playing.{day_of}
 use Rattle.day_play.specs.declared.beat.Act.{Act}
 use Rattle.day_play.specs.declared.beat.Act.TheVariants.{Turn, Moor, Go, Done}
 use Rattle.day_play.specs.declared.beat.Beat.{Beat}
-use Rattle.picture_forms.specs.declared.times.Clock.{Clock}
-use Rattle.picture_day.specs.Passages.{is_go, IsKnownGo}
+use Rattle.picture_page.specs.declared.times.Clock.{Clock}
+use Rattle.picture_page.specs.Passages.{is_go, IsKnownGo}
 use Rattle.picture_page.specs.Page.{picture}
 use Rattle.picture_page.specs.declared.heads.Known.{Known}
 use Rattle.plan_commands.specs.Playing.{IsKnownAct, IsKnownBeat}

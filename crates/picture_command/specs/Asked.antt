@@ -2,8 +2,8 @@
 use Rattle.std.specs.Prelude.{ℕ, ◌+◌, ◌*◌, ◌-◌, List, [], ◌∷◌, length, slice_index_or, Some, None, Bool, ◌&&◌, nat_le, nat_lt, nat_eq, codes, if◌then◌else◌}
 use Rattle.std.specs.Str.{bytes_eq}
 use Rattle.std.specs.declared.option.Option.{Option}
-use Rattle.picture_forms.specs.declared.times.Clock.{Clock}
-use Rattle.picture_forms.specs.declared.times.Clock.TheVariants.{Minutes, Day}
+use Rattle.picture_page.specs.declared.times.Clock.{Clock}
+use Rattle.picture_page.specs.declared.times.Clock.TheVariants.{Minutes, Day}
 
 abbrev pub is_digit : ℕ → Bool
 is_digit b = nat_le 48 b && nat_le b 57

@@ -9,7 +9,7 @@ use Rattle.cert_text.specs.declared.heading.Heading.{Heading}
 use Rattle.cert_text.specs.declared.heading.Heading.TheVariants as heading
 use Rattle.day_play.specs.Lawful.{IsLawfulDay}
 use Rattle.day_play.specs.Playing.{day_of}
-use Rattle.picture_forms.specs.declared.times.Clock.{Clock}
+use Rattle.picture_page.specs.declared.times.Clock.{Clock}
 use Rattle.picture_page.specs.Page.{picture}
 use Rattle.picture_page.specs.declared.heads.Known.{Known}
 use Rattle.picture_page.specs.declared.heads.Known.TheVariants as known

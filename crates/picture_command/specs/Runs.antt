@@ -1,7 +1,7 @@
 -- What is answered to words and a source.
 use Rattle.std.specs.Prelude.{ℕ, ◌≡◌, List, Some, None}
 use Rattle.std.specs.declared.option.Option.{Option}
-use Rattle.picture_forms.specs.declared.times.Clock.{Clock}
+use Rattle.picture_page.specs.declared.times.Clock.{Clock}
 use Rattle.checked_dossiers.specs.Refused.{dossier_limit}
 use Rattle.run_answers.specs.Sources.{Drained, IsUnread, AnswersSource}
 use Rattle.run_answers.specs.Texts.{bad_words_text}

@@ -4,20 +4,20 @@ use Rattle.lock_model.specs.declared.instance.Instance.{Instance}
 use Rattle.lock_model.specs.declared.plan.Plan.{Plan}
 use Rattle.lock_rules.specs.Plan.{cost_of}
 use Rattle.day_play.specs.declared.beat.Beat.{Beat}
-use Rattle.picture_forms.specs.Forms.{filled}
-use Rattle.picture_forms.specs.Times.{time_text}
-use Rattle.picture_forms.specs.Words.{plural, count_text}
-use Rattle.picture_forms.specs.declared.times.Clock.{Clock}
-use Rattle.picture_forms.specs.declared.times.Clock.TheVariants.{Minutes, Day}
-use Rattle.picture_axis.specs.Axis.{Drawn, axis_of}
-use Rattle.picture_axis.specs.Ticks.{ticks_of}
-use Rattle.picture_day.specs.Passages.{passages_of, events_of}
-use Rattle.picture_day.specs.declared.passage.Passage.{Passage}
-use Rattle.picture_rows.specs.Shared.{shared}
-use Rattle.picture_rows.specs.Lanes.{chambers_table}
-use Rattle.picture_rows.specs.ShipRows.{ships_table}
-use Rattle.picture_rows.specs.Legend.{legend}
-use Rattle.picture_cards.specs.Cards.{cards}
+use Rattle.picture_page.specs.Forms.{filled}
+use Rattle.picture_page.specs.Times.{time_text}
+use Rattle.picture_page.specs.Words.{plural, count_text}
+use Rattle.picture_page.specs.declared.times.Clock.{Clock}
+use Rattle.picture_page.specs.declared.times.Clock.TheVariants.{Minutes, Day}
+use Rattle.picture_page.specs.Axis.{Drawn, axis_of}
+use Rattle.picture_page.specs.Ticks.{ticks_of}
+use Rattle.picture_page.specs.Passages.{passages_of, events_of}
+use Rattle.picture_page.specs.declared.passage.Passage.{Passage}
+use Rattle.picture_page.specs.Shared.{shared}
+use Rattle.picture_page.specs.Lanes.{chambers_table}
+use Rattle.picture_page.specs.ShipRows.{ships_table}
+use Rattle.picture_page.specs.Legend.{legend}
+use Rattle.picture_page.specs.Cards.{cards}
 use Rattle.picture_page.specs.declared.style.TheConstants.{STYLE}
 use Rattle.picture_page.specs.declared.heads.Known.{Known}
 use Rattle.picture_page.specs.declared.heads.Known.TheVariants.{Legal, Optimal, Open}
@@ -65,8 +65,8 @@ span_word Minutes = codes "minutes "
 span_word (Day offset) = codes "from "
 
 -- from the first event to the last
-unfoldable pub span : Clock → List ℕ → List ℕ
-span clock events = span_word clock ++ time_text clock (least_of events) ++ codes " to " ++ time_text clock (greatest_of events)
+unfoldable pub event_span : Clock → List ℕ → List ℕ
+event_span clock events = span_word clock ++ time_text clock (least_of events) ++ codes " to " ++ time_text clock (greatest_of events)
 
 unfoldable pub heading : Known → ℕ → List ℕ
 heading known cost = filled (codes "<h1>") [] ++ verdict known cost ++ filled (codes "</h1>\n<p class=\"sub\">") []
@@ -74,7 +74,7 @@ heading known cost = filled (codes "<h1>") [] ++ verdict known cost ++ filled (c
 -- what a page of so many lockages shows
 unfoldable pub summary : Clock → Instance → ℕ → List ℕ → List ℕ
 summary clock I lockages events =
-    span clock events ++ filled (codes " &#183; ") [] ++ count_text (length I.ships) (codes "ship")
+    event_span clock events ++ filled (codes " &#183; ") [] ++ count_text (length I.ships) (codes "ship")
     ++ filled (codes " &#183; ") [] ++ count_text lockages (codes "lockage") ++ filled (codes " &#183; ") [] ++ count_text (length I.chambers) (codes "chamber") ++ filled (codes "</p>\n") []
 
 -- the timetable: chambers and ships along one axis

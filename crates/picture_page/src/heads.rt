@@ -1,10 +1,12 @@
 //! The head and the heading of a page.
 ghost use Rattle.std.specs.Prelude.{◌≡◌, ◌++◌, OnOk};
-ghost use Rattle.picture_page.specs.Page.{known_word, low_words, bound_words, verdict, page_head, least_of, greatest_of, span_word, span, heading, summary};
+ghost use Rattle.picture_page.specs.Page.{known_word, low_words, bound_words, verdict, page_head, least_of, greatest_of, span_word, event_span, heading, summary};
 
+use crate::form::put_form;
 use crate::style::put_style;
+use crate::times::{Clock, put_time};
+use crate::words::put_count;
 use lock_model::Instance;
-use picture_forms::{Clock, put_count, put_form, put_time};
 use plain_text::{NoMemory, put};
 
 /// What is known of a plan.
@@ -105,9 +107,9 @@ fn span_word(clock: Clock) -> &'static [u8]
 }
 
 /// Appends the span from the first event to the last.
-#[tactic(auto, unfolding(crate::specs::Page::span))]
-fn put_span(out: &mut Vec<u8>, clock: Clock, events: &[u64]) -> Result<(), NoMemory>
-    ensures { OnOk result (out.new.items ≡ out.old.items ++ span clock events.now) }
+#[tactic(auto, unfolding(crate::specs::Page::event_span))]
+fn put_event_span(out: &mut Vec<u8>, clock: Clock, events: &[u64]) -> Result<(), NoMemory>
+    ensures { OnOk result (out.new.items ≡ out.old.items ++ event_span clock events.now) }
 {
     put(out, span_word(clock))?;
     put_time(out, clock, least_of(events))?;
@@ -136,7 +138,7 @@ pub(crate) fn put_summary(
 ) -> Result<(), NoMemory>
     ensures { OnOk result (out.new.items ≡ out.old.items ++ summary clock instance.now lockages events.now) }
 {
-    put_span(out, clock, events)?;
+    put_event_span(out, clock, events)?;
     put_form(out, b" &#183; ", &[])?;
     put_count(out, instance.ships.as_slice().len() as u64, b"ship")?;
     put_form(out, b" &#183; ", &[])?;

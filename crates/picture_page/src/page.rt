@@ -1,18 +1,27 @@
 //! The page.
 ghost use Rattle.std.specs.Prelude.{◌≡◌, ◌≤◌, ◌<◌, ◌++◌, length, All, OnOk, IfOk};
 ghost use Rattle.lock_rules.specs.Plan.{IsLegal};
-ghost use Rattle.picture_day.specs.Passages.{IsKnownGo, AreKnown, HasChamber, HasShips, IsKnown};
+ghost use Rattle.picture_page.specs.Passages.{IsKnownGo};
+ghost use Rattle.picture_page.specs.KnownPassages.{AreKnown, HasChamber, HasShips, IsKnown};
 ghost use Rattle.picture_page.specs.Page.{timetable, decks, page_on, page_with, picture};
 
+use crate::axis::Axis;
+use crate::cards::put_cards;
+use crate::events::events_of;
+use crate::form::put_form;
 use crate::heads::{Known, put_heading, put_page_head, put_summary};
+use crate::lanes::put_chambers;
+use crate::legend::put_legend;
+use crate::passage::Passage;
+use crate::passages::passages_of;
+use crate::shared::put_shared;
+use crate::ship_rows::put_ships;
+use crate::ticks::ticks_of;
+use crate::times::Clock;
+use crate::words::put_plural;
 use chamber_times::cost;
 use day_play::Beat;
 use lock_model::{Instance, Plan};
-use picture_axis::{Axis, ticks_of};
-use picture_cards::put_cards;
-use picture_day::{Passage, events_of, passages_of};
-use picture_forms::{Clock, put_form, put_plural};
-use picture_rows::{put_chambers, put_legend, put_shared, put_ships};
 use plain_text::NoMemory;
 use std::alloc::Global;
 

@@ -2,7 +2,7 @@
 ghost use Rattle.std.specs.Prelude.{◌≡◌, ◌++◌, OnOk};
 ghost use Rattle.picture_page.specs.Page.{style_sheet};
 
-use picture_forms::put_form;
+use crate::form::put_form;
 use plain_text::NoMemory;
 
 /// The style sheet of a page.

@@ -1,7 +1,7 @@
 use Rattle.std.specs.Prelude.{codes}
 use Rattle.std.proofs.Common.{append_assoc}
 use Rattle.std.proofs.lemmas.Result.{IfOk-equal}
-use Rattle.picture_forms.specs.Words.{count_text}
+use Rattle.picture_page.specs.Words.{count_text}
 use Rattle.picture_page.specs.Page.{low_words}
 use Rattle.picture_page.proofs.heads.put_low.Goals as goal
 

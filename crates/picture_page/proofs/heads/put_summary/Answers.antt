@@ -14,7 +14,7 @@ returns c =
       c.in_ok-put_form-2.ensures,
       c.in_ok-put_count.ensures,
       c.in_ok-put_form.ensures,
-      c.in_ok-put_span.ensures,
+      c.in_ok-put_event_span.ensures,
       c.as_slice.ensures.value,
       c.as_slice-2.ensures.value,
     ) (simp append_assoc))

@@ -1,5 +1,5 @@
 use Rattle.std.proofs.Common.{subst, sym}
-use Rattle.picture_day.specs.Passages.{AreKnown}
+use Rattle.picture_page.specs.KnownPassages.{AreKnown}
 use Rattle.picture_page.proofs.page.print_picture.Goals as goal
 
 pub page_with-requires-clause-known : goal.page_with-requires-clause-known

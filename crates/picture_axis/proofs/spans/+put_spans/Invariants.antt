@@ -1,5 +1,0 @@
-use Rattle.std.proofs.Common.{length}
-use Rattle.picture_axis.proofs.spans.+put_spans.Given as goal
-
-abbrev pub decreases-put_spans : goal.decreases-put_spans
-decreases-put_spans l = length l.points.now

@@ -1,5 +1,0 @@
-use Rattle.std.proofs.Common.{length}
-use Rattle.picture_axis.proofs.spans.+put_with_ends.Given as goal
-
-abbrev pub decreases-put_with_ends : goal.decreases-put_with_ends
-decreases-put_with_ends l = length l.spans.now

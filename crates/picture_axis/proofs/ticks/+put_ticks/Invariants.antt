@@ -1,5 +1,0 @@
-use Rattle.std.proofs.Common.{length}
-use Rattle.picture_axis.proofs.ticks.+put_ticks.Given as goal
-
-abbrev pub decreases-put_ticks : goal.decreases-put_ticks
-decreases-put_ticks l = length l.marks.now

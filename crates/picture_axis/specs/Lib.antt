@@ -1,6 +1,0 @@
-pub mod Capped
-pub mod Points
-pub mod Spans
-pub mod Steps
-pub mod Axis
-pub mod Ticks

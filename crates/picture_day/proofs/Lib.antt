@@ -1,2 +1,0 @@
-pub mod PassageLemmas
-pub mod LineLemmas

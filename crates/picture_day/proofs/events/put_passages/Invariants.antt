@@ -1,7 +1,0 @@
-use Rattle.std.proofs.Common.{◌≡◌, ◌++◌, take}
-use Rattle.std.specs.List.{flat_map}
-use Rattle.picture_day.specs.Passages.{passage_events}
-use Rattle.picture_day.proofs.events.put_passages.Given as goal
-
-abbrev pub invariant-loop-passage : goal.invariant-loop-passage
-invariant-loop-passage l = l.events.items ≡ l.initial.events.items ++ flat_map (passage_events l.instance) (take l.passage-index l.passages)

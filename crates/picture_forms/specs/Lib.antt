@@ -1,4 +1,0 @@
-pub mod Forms
-pub mod Times
-pub mod Words
-pub mod Shapes

@@ -1,0 +1,7 @@
+use Rattle.std.proofs.Common.{◌≡◌, ◌++◌, take}
+use Rattle.std.specs.List.{flat_map}
+use Rattle.picture_page.specs.Ground.{turn_of}
+use Rattle.picture_page.proofs.ground.put_turns.Given as goal
+
+abbrev pub invariant-loop-passage : goal.invariant-loop-passage
+invariant-loop-passage l = l.out.items ≡ l.initial.out.items ++ flat_map (turn_of l.axis l.long) (take l.passage-index l.line)

@@ -1,0 +1,21 @@
+use Rattle.std.proofs.Common.{append_assoc}
+use Rattle.std.proofs.lemmas.Result.{IfOk-equal}
+use Rattle.picture_page.specs.ShipRows.{row_wait}
+use Rattle.picture_page.proofs.ship_rows.put_row_wait.Goals as goal
+
+pub returns : goal.returns
+unfolding row_wait
+returns c =
+    IfOk-equal c.put_count.result _ _ _ c.put_count.ensures
+    (rw (
+      c.in_ok-put_form-4.ensures,
+      c.in_ok-put_time.ensures,
+      c.in_ok-put_form-3.ensures,
+      c.in_ok-put-2.ensures,
+      c.in_ok-put_form-2.ensures,
+      c.in_ok-put.ensures,
+      c.in_ok-put_form.ensures,
+      c.as_slice.ensures.value,
+      c.way_word.ensures,
+      c.saturating_sub.ensures,
+    ) (simp append_assoc))

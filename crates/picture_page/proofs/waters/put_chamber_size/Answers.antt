@@ -1,0 +1,10 @@
+use Rattle.std.proofs.Common.{append_assoc}
+use Rattle.std.proofs.lemmas.Result.{IfOk-equal}
+use Rattle.picture_page.specs.Waters.{chamber_size}
+use Rattle.picture_page.proofs.waters.put_chamber_size.Goals as goal
+
+pub returns : goal.returns
+unfolding chamber_size
+returns c =
+    IfOk-equal c.put_form-2.result _ _ _ c.put_form-2.ensures
+    (rw (c.in_ok-put_measures.ensures, c.in_ok-put_form.ensures) (simp append_assoc))

@@ -1,0 +1,80 @@
+//! When something happens.
+ghost use Rattle.std.specs.Prelude.{◌≡◌, ◌<◌, [], ◌∷◌, ◌++◌, length, All, OnOk, IfOk};
+ghost use Rattle.std.specs.List.{flat_map};
+ghost use Rattle.picture_page.specs.Passages.{turn_events, passage_events, events_of};
+ghost use Rattle.picture_page.specs.KnownPassages.{HasChamber};
+
+use crate::passage::Passage;
+use lock_model::{Instance, Ship};
+use std::alloc::{AllocError, Global};
+
+/// Appends the arrivals of ships.
+fn put_arrivals(events: &mut Vec<u64>, ships: &[Ship]) -> Result<(), AllocError>
+    ensures { OnOk result (events.new.items ≡ events.old.items ++ flat_map (λ s. s.arrival ∷ []) ships.now) }
+{
+    for ship in ships {
+        events.push(ship.arrival as u64)?;
+    }
+    Ok(())
+}
+
+/// Appends the beginning and the end of an empty turn, where there is one.
+fn put_turn_events(events: &mut Vec<u64>, long: u32, turn: Option<u32>) -> Result<(), AllocError>
+    ensures { OnOk result (events.new.items ≡ events.old.items ++ turn_events long turn) }
+{
+    match turn {
+        None => Ok(()),
+        Some(minute) => {
+            events.push(minute as u64)?;
+            events.push(minute as u64 + long as u64)?;
+            Ok(())
+        }
+    }
+}
+
+/// Appends the events of a passage.
+fn put_passage_events(
+    events: &mut Vec<u64>,
+    instance: &Instance,
+    passage: &Passage,
+) -> Result<(), AllocError>
+    requires { passage.now.chamber < length instance.now.chambers }
+    ensures { OnOk result (events.new.items ≡ events.old.items ++ passage_events instance.now passage.now) }
+{
+    events.push(passage.start as u64)?;
+    events.push(passage.end())?;
+    let chamber = &instance.chambers.as_slice()[passage.chamber as usize];
+    put_turn_events(events, chamber.turn, passage.turn)
+}
+
+/// Appends the events of passages.
+fn put_all_events(
+    events: &mut Vec<u64>,
+    instance: &Instance,
+    passages: &[Passage],
+) -> Result<(), AllocError>
+    requires { All (HasChamber instance.now) passages.now }
+    ensures { OnOk result (events.new.items ≡ events.old.items ++ flat_map (passage_events instance.now) passages.now) }
+{
+    for passage in passages {
+        put_passage_events(events, instance, passage)?;
+    }
+    Ok(())
+}
+
+/// All minutes at which something happens: arrivals of ships, and beginnings and ends of lockages and
+/// of empty turns. The only refusal is want of memory.
+#[tactic(auto, unfolding(crate::specs::Passages::events_of))]
+pub(crate) fn events_of(
+    alloc: Global,
+    instance: &Instance,
+    passages: &[Passage],
+) -> Result<Vec<u64>, AllocError>
+    requires { All (HasChamber instance.now) passages.now }
+    ensures { IfOk result (λ events. events.items ≡ events_of instance.now passages.now) }
+{
+    let mut events = Vec::new(alloc);
+    put_arrivals(&mut events, instance.ships.as_slice())?;
+    put_all_events(&mut events, instance, passages)?;
+    Ok(events)
+}

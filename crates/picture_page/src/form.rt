@@ -1,0 +1,27 @@
+//! Texts with numbers in the places of their `%` signs.
+ghost use Rattle.std.specs.Prelude.{◌≡◌, ◌++◌, OnOk};
+ghost use Rattle.picture_page.specs.Forms.{filled};
+
+use plain_text::{NoMemory, put, put_number};
+
+/// Appends a text with these numbers in decimal, one after the other, in the places of its `%`
+/// signs. Signs without a number stay, and numbers without a sign are left out.
+#[tactic(auto, using(crate::proofs::FormLemmas::filled_none), unfolding(crate::specs::Forms::filled))]
+pub(crate) fn put_form(out: &mut Vec<u8>, form: &[u8], numbers: &[u64]) -> Result<(), NoMemory>
+    ensures { OnOk result (out.new.items ≡ out.old.items ++ filled form.now numbers.now) }
+{
+    let [number, others @ ..] = numbers else {
+        return put(out, form);
+    };
+    match form {
+        [] => Ok(()),
+        [b'%', rest @ ..] => {
+            put_number(out, *number)?;
+            put_form(out, rest, others)
+        }
+        [byte, rest @ ..] => {
+            put(out, &[*byte])?;
+            put_form(out, rest, numbers)
+        }
+    }
+}

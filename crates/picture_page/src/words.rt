@@ -1,0 +1,57 @@
+//! Lengths and counts.
+ghost use Rattle.std.specs.Prelude.{◌≡◌, ◌≤◌, ◌++◌, length, OnOk};
+ghost use Rattle.picture_page.specs.Words.{metres, measures, plural, count_text};
+
+use crate::form::put_form;
+use crate::times::digits;
+use plain_text::{NoMemory, put, put_number};
+
+/// Appends a length of so many decimetres in metres.
+#[tactic(auto, unfolding(crate::specs::Words::metres))]
+pub(crate) fn put_metres(out: &mut Vec<u8>, decimetres: u32) -> Result<(), NoMemory>
+    ensures { OnOk result (out.new.items ≡ out.old.items ++ metres decimetres) }
+{
+    let numbers = [decimetres as u64 / 10, decimetres as u64 % 10];
+    put_form(out, b"%.%", &numbers)
+}
+
+/// How many characters a length of so many decimetres has in metres.
+#[tactic(auto, using(crate::proofs::TimeLemmas::of_widths))]
+pub(crate) fn metres_width(decimetres: u32) -> u64
+    ensures value { result ≡ length (metres decimetres) }
+    ensures small { result ≤ 42 }
+{
+    digits(decimetres as u64 / 10) + 2
+}
+
+/// Appends a length and a width of so many decimetres in metres.
+#[tactic(auto, unfolding(crate::specs::Words::measures))]
+pub(crate) fn put_measures(out: &mut Vec<u8>, length: u32, width: u32) -> Result<(), NoMemory>
+    ensures { OnOk result (out.new.items ≡ out.old.items ++ measures length width) }
+{
+    put_metres(out, length)?;
+    put(out, b" &#215; ")?;
+    put_metres(out, width)?;
+    put(out, b" m")
+}
+
+/// Appends the ending of a name where there isn't just one thing.
+pub(crate) fn put_plural(out: &mut Vec<u8>, count: u64) -> Result<(), NoMemory>
+    ensures { OnOk result (out.new.items ≡ out.old.items ++ plural count) }
+{
+    if count == 1 {
+        return Ok(());
+    }
+    put(out, b"s")
+}
+
+/// Appends a count of things that have this name.
+#[tactic(auto, unfolding(crate::specs::Words::count_text))]
+pub(crate) fn put_count(out: &mut Vec<u8>, count: u64, name: &[u8]) -> Result<(), NoMemory>
+    ensures { OnOk result (out.new.items ≡ out.old.items ++ count_text count name.now) }
+{
+    put_number(out, count)?;
+    put(out, b" ")?;
+    put(out, name)?;
+    put_plural(out, count)
+}

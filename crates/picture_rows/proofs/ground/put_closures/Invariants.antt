@@ -1,7 +1,0 @@
-use Rattle.std.proofs.Common.{◌≡◌, ◌++◌, take}
-use Rattle.std.specs.List.{flat_map}
-use Rattle.picture_rows.specs.Ground.{closure_of}
-use Rattle.picture_rows.proofs.ground.put_closures.Given as goal
-
-abbrev pub invariant-loop-closure : goal.invariant-loop-closure
-invariant-loop-closure l = l.out.items ≡ l.initial.out.items ++ flat_map (closure_of l.axis) (take l.closure-index l.closure-items)

@@ -1,5 +1,0 @@
-use Rattle.std.proofs.Common.{length}
-use Rattle.picture_rows.proofs.labels.+are_wide.Given as goal
-
-abbrev pub decreases-are_wide : goal.decreases-are_wide
-decreases-are_wide l = length l.passages.now

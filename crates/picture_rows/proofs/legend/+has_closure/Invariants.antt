@@ -1,5 +1,0 @@
-use Rattle.std.proofs.Common.{length}
-use Rattle.picture_rows.proofs.legend.+has_closure.Given as goal
-
-abbrev pub decreases-has_closure : goal.decreases-has_closure
-decreases-has_closure l = length l.closures.now

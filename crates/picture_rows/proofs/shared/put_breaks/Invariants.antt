@@ -1,7 +1,0 @@
-use Rattle.std.proofs.Common.{◌≡◌, ◌++◌, take}
-use Rattle.std.specs.List.{flat_map}
-use Rattle.picture_rows.specs.Shared.{break_at}
-use Rattle.picture_rows.proofs.shared.put_breaks.Given as goal
-
-abbrev pub invariant-loop-at : goal.invariant-loop-at
-invariant-loop-at l = l.out.items ≡ l.initial.out.items ++ flat_map (break_at l.axis l.top l.bottom) (take l.at-index l.at-items)
