@@ -71,13 +71,7 @@ fn with_more(group: &Group, mask: u32, ship: u8) -> Group
 
 // The group with a ship more, where the chamber may serve them together and no forbidden set is
 // among them.
-fn joined(
-    growth: &Growth,
-    near: &[u32],
-    group: &Group,
-    mask: u32,
-    ship: u8,
-) -> Option<Group>
+fn joined(growth: &Growth, near: &[u32], group: &Group, mask: u32, ship: u8) -> Option<Group>
     requires mask { IsMask mask group.now.ships }
     requires near { AreNear growth.now.case.now.instance.now growth.now.case.now.depth growth.now.sets.now (length growth.now.sets.now) ship near.now }
     requires known { ship < length growth.now.case.now.instance.now.ships }

@@ -1,4 +1,4 @@
-use Rattle.std.proofs.Common.{◌≡◌, ◌<◌, ◌++◌, [], ◌∷◌, All, sym, ap, ◌∙◌, subst}
+use Rattle.std.proofs.Common.{◌≡◌, ◌<◌, ◌++◌, [], ◌∷◌, All, sym, ap, ◌∙◌}
 use Rattle.lock_rules.specs.Children.{insert_number}
 use Rattle.price_bound.proofs.GrowLemmas.{insert-last}
 use Rattle.price_bound.proofs.growing.with_more.Goals as goal

@@ -1,4 +1,4 @@
-use Rattle.std.proofs.Common.{◌≡◌, ◌<◌, All, length, sym, subst, arith}
+use Rattle.std.proofs.Common.{◌<◌, All, length, sym, subst, arith}
 use Rattle.std.proofs.lemmas.List.Elements.{All-weaker}
 use Rattle.price_bound.proofs.weighing.sums_of.Goals as goal
 
