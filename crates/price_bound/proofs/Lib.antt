@@ -9,6 +9,7 @@ pub mod ServeLemmas
 pub mod SumLemmas
 pub mod WeighLemmas
 pub mod StepLemmas
+pub mod SweepLemmas
 pub mod ServingLemmas
 pub mod VainLemmas
 pub mod LateLemmas

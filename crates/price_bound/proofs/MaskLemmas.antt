@@ -1,9 +1,9 @@
 -- Sets of ships as the bits of numbers.
-use Rattle.std.proofs.Common.{◌≡◌, ◌≢◌, ℕ, suc, ◌+◌, ◌*◌, ◌^◌, ◌%◌, ◌<◌, ◌≤◌, min, cond, true, inl, inr, w32, List, [], ◌∷◌, ◌++◌, length, All, Contains, refl, sym, ap, ◌∙◌, subst, arith, slice_index_or, bit_and, bit_or}
+use Rattle.std.proofs.Common.{◌≡◌, ◌≢◌, ℕ, suc, ◌+◌, ◌*◌, ◌^◌, ◌/◌, ◌%◌, ◌<◌, ◌≤◌, min, cond, true, inl, inr, w32, List, [], ◌∷◌, ◌++◌, length, All, Contains, refl, sym, ap, ◌∙◌, subst, arith, slice_index_or, bit_and, bit_or}
 use Rattle.std.specs.Int.{bit_at}
 use Rattle.std.proofs.Math.Seq.{get_or-append_seam}
 use Rattle.std.proofs.lemmas.Bool.Decides.{eqb_tells, leb_tells}
-use Rattle.std.proofs.lemmas.Nat.{or_of_32}
+use Rattle.std.proofs.lemmas.Nat.{or_of_32, pow_pos, le-div}
 use Rattle.std.proofs.lemmas.Nat.Bits.{bit_at_and, bit_at-lt, bit_at_above, bit_at_set_same, bit_at_set_other, same_from_bits}
 use Rattle.std.proofs.lemmas.List.{get_or_append_left, get_or_default, length-append}
 use Rattle.std.proofs.lemmas.List.Elements.{All-cons, All-nil, All-weaker, All-contains, All-push, Contains-get_or, Contains-push}
@@ -41,6 +41,34 @@ mask-next mask s xs within is = record {
     | inr m ↦ Contains-before_push xs s t (is.only t few (sym (bit_at_set_other w32 mask s within t m.1) ∙ bit))
   ];
 }
+
+-- one ship more, wherever it is put
+pub mask-insert : (mask s : ℕ) (xs : List ℕ) → s < 32 → IsMask mask xs → IsMask (bit_or mask (1 * 2 ^ s % 2 ^ 32)) (insert_number s xs)
+mask-insert mask s xs within is = record {
+  small = or_of_32 mask (1 * 2 ^ s % 2 ^ 32) is.small (omega arith);
+  has = λ t at. elim (eqb_tells s t) [
+    | inl y ↦ ap (bit_at (bit_or mask (1 * 2 ^ s % 2 ^ 32))) (sym y.1) ∙ bit_at_set_same w32 mask s within
+    | inr m ↦
+        let held : Contains xs t = times-contains xs t (omega (arith, times_in-insert_number s t xs, ap {B = ℕ} (λ b. cond b 1 0) m.0, contains-times (insert_number s xs) t at)) in
+        bit_at_set_other w32 mask s within t (λ e. m.1 (sym e)) ∙ is.has t held
+  ];
+  only = λ t few bit. elim (eqb_tells s t) [
+    | inl y ↦ times-contains (insert_number s xs) t (omega (arith, times_in-insert_number s t xs, ap {B = ℕ} (λ b. cond b 1 0) y.0))
+    | inr m ↦
+        let held = is.only t few (sym (bit_at_set_other w32 mask s within t (λ e. m.1 (sym e))) ∙ bit) in
+        times-contains (insert_number s xs) t (omega (arith, times_in-insert_number s t xs, contains-times xs t held))
+  ];
+}
+
+-- where a number has no bit from a ship on, all its ships are before that one
+pub before-mask : (mask s : ℕ) (xs : List ℕ) → IsMask mask xs → mask / 2 ^ s ≡ 0 → All (λ t. t < s) xs
+before-mask mask s xs is none = λ j d here.
+    let t = slice_index_or xs j d in
+    let low : mask < 2 ^ s = elim (leb_tells (suc mask) (2 ^ s)) [ inl y ↦ y.1 | inr q ↦ absurd (omega (arith, none, le-div 1 mask (2 ^ s) (pow_pos s) (omega (arith, q.1)))) ] in
+    elim (leb_tells (suc t) s) [
+      | inl less ↦ less.1
+      | inr past ↦ absurd (omega (arith, is.has t (Contains-get_or xs j d here), bit_at_above mask s t low (omega (arith, past.1))))
+    ]
 
 -- a set is among ships where its bits are
 pub mask-in : (m mask : ℕ) (set ships : List ℕ) → All (λ s. s < 32) set → IsMask m set → IsMask mask ships → bit_and m mask ≡ m → AreIn ships set

@@ -11,6 +11,7 @@ use Rattle.lock_model.specs.declared.group.Group.{Group}
 use Rattle.lock_rules.specs.Timetable.{last_arrival}
 use Rattle.lock_rules.specs.Children.{insert_number}
 use Rattle.price_bound.specs.declared.sums.Sums.{Sums}
+use Rattle.price_bound.specs.Masks.{IsMask}
 use Rattle.price_bound.specs.Choosing.{rate_of, AreRates, AreSumsOf, AreWeighed}
 use Rattle.price_bound.proofs.IdleLemmas.{sum-insert}
 
@@ -39,11 +40,12 @@ module _ (I : Instance) where
   module _ (c k : ℕ) (prices : List ℕ) where
     -- a ship more
     pub more-sums : (old new : Sums) (s : ℕ) (ships : List ℕ) → new.duration ≡ old.duration + (ship_at I s).handling → new.last ≡ max old.last (ship_at I s).arrival → new.pays ≡ old.pays + rate_of I k prices s
-        → AreSumsOf I c k prices ships old → AreSumsOf I c k prices (insert_number s ships) new
-    more-sums old new s ships longer later dearer are = record {
+        → IsMask new.mask (insert_number s ships) → AreSumsOf I c k prices ships old → AreSumsOf I c k prices (insert_number s ships) new
+    more-sums old new s ships longer later dearer mask are = record {
       duration = omega (arith, longer, are.duration, sum-insert (λ s. (ship_at I s).handling) s ships);
       last = later ∙ ap (λ n. max n (ship_at I s).arrival) are.last ∙ sym (last-insert 0 s ships);
       pays = omega (arith, dearer, are.pays, sum-insert (rate_of I k prices) s ships);
+      mask = mask;
     }
 
     -- what a ship counts is small
@@ -63,6 +65,11 @@ module _ (I : Instance) where
     sums-fair rates rated own ships known few are =
         let counted = sum_by-le (rate_of I k prices) 101000000 ships (All-weaker (λ s. s < length I.ships) (λ s. rate_of I k prices s ≤ 101000000) (rate-small rates rated) ships known) in
         omega (arith, are.pays, counted, few)
+
+    -- those of one of the groups
+    pub weighed-at : (groups : List Group) (sums : List Sums) → AreWeighed I c k prices groups sums → (j : ℕ) (g : Group) (own : Sums) → j < length groups → g ≡ slice_index_or groups j g → own ≡ slice_index_or sums j own → AreSumsOf I c k prices g.ships own
+    weighed-at groups sums are j g own here at is =
+        subst (AreSumsOf I c k prices g.ships) (sym is) (subst (λ (h : Group). AreSumsOf I c k prices h.ships (slice_index_or sums j own)) (sym at) (are.each j g own here))
 
     -- no groups
     pub weighed-none : AreWeighed I c k prices [] []

@@ -15,6 +15,7 @@ use Rattle.price_bound.specs.declared.level.Level.{Level}
 use Rattle.price_bound.specs.declared.menu.Menu.{Menu}
 use Rattle.price_bound.specs.declared.sums.Sums.{Sums}
 use Rattle.price_bound.specs.Growing.{IsBase}
+use Rattle.price_bound.specs.Masks.{IsMask}
 use Rattle.price_bound.specs.Worth.{end_after, worth_of, worth_from, IsLeastWorth, ServeFrom}
 
 -- The ships that the group keeps are none, or those of the line's group of the place that it joins, whose way it has.
@@ -46,6 +47,7 @@ pub record AreSumsOf (I : Instance) (c k : ℕ) (prices ships : List ℕ) (sums 
   pub duration : sums.duration ≡ duration_of I c ships
   pub last : sums.last ≡ last_arrival I 0 ships
   pub pays : sums.pays ≡ sum_by (rate_of I k prices) ships
+  pub mask : IsMask sums.mask ships
 
 -- for each of the groups its sums
 pub record AreWeighed (I : Instance) (c k : ℕ) (prices : List ℕ) (groups : List Group) (sums : List Sums) : Type 0 where

@@ -4,7 +4,7 @@ ghost use Rattle.lock_rules.specs.Plan.{times_in};
 ghost use Rattle.lock_rules.specs.Children.{with_ship};
 ghost use Rattle.master_branch.specs.Steps.{group_at};
 ghost use Rattle.price_bound.specs.Sparing.{IsSpared};
-ghost use Rattle.price_bound.specs.Masks.{AreNear, AreNears};
+ghost use Rattle.price_bound.specs.Masks.{AreNear, AreNears, IsMask};
 ghost use Rattle.price_bound.specs.Choosing.{AreRates, AreSumsOf, AreWeighed};
 ghost use Rattle.price_bound.specs.Growing.{AreGrown, IsAllowed, MayJoin, IsJoined, IsNew, IsBase, IsPutJoined};
 
@@ -12,7 +12,7 @@ use crate::error::{PriceError, append};
 use crate::forbidden::misses_all;
 use crate::idling::has_idler;
 use crate::line_case::LineCase;
-use crate::masks::{mask_of, misses_all_of};
+use crate::masks::{are_before, misses_all_of, with_bit};
 use crate::near::Near;
 use crate::sums::Sums;
 use crate::weighing::{more_sums, sums_of};
@@ -50,25 +50,15 @@ fn may_grow(case: &LineCase, base: &Group, ship: u8) -> bool
     case.instance.ships.as_slice()[ship as usize].way == base.way && case.lacks(ship)
 }
 
-// Whether all these ships are before one.
-fn are_before(ships: &[u8], ship: u8) -> bool
-    ensures { IsTrue result → All (λ s. s < ship) ships.now }
-{
-    for &other in ships {
-        if other >= ship {
-            return false;
-        }
-    }
-    true
-}
-
 // The group with a ship more, which mostly comes behind all others.
-fn with_more(group: &Group, ship: u8) -> Group
+fn with_more(group: &Group, mask: u32, ship: u8) -> Group
+    requires known { ship < 32 }
+    requires mask { IsMask mask group.now.ships }
     requires room { length group.now.ships < 8 }
     requires absent { times_in group.now.ships ship ≡ 0 }
     ensures { result ≡ with_ship ship group.now }
 {
-    if !are_before(group.ships.as_slice(), ship) {
+    if !are_before(mask, ship) {
         return with_ship(group, ship);
     }
     let mut ships = group.ships.copy();
@@ -81,7 +71,8 @@ fn with_more(group: &Group, ship: u8) -> Group
 
 // The group with a ship more, where the chamber may serve them together and no forbidden set is
 // among them.
-fn joined(growth: &Growth, near: &[u32], group: &Group, ship: u8) -> Option<Group>
+fn joined(growth: &Growth, near: &[u32], group: &Group, mask: u32, ship: u8) -> Option<Group>
+    requires mask { IsMask mask group.now.ships }
     requires near { AreNear growth.now.case.now.instance.now growth.now.case.now.depth growth.now.sets.now (length growth.now.sets.now) ship near.now }
     requires known { ship < length growth.now.case.now.instance.now.ships }
     requires ships_in { All (λ s. s < length growth.now.case.now.instance.now.ships) group.now.ships }
@@ -95,9 +86,8 @@ fn joined(growth: &Growth, near: &[u32], group: &Group, ship: u8) -> Option<Grou
     if group.ships.len() >= growth.case.lock.most as usize {
         return None;
     }
-    let joined = with_more(group, ship);
-    if misses_all_of(near, mask_of(joined.ships.as_slice())) {
-        Some(joined)
+    if misses_all_of(near, with_bit(mask, ship)) {
+        Some(with_more(group, mask, ship))
     } else {
         None
     }
@@ -155,11 +145,12 @@ fn join(
     ensures weighed { OnOk result (AreWeighed growth.now.case.now.instance.now growth.now.case.now.chamber growth.now.case.now.depth growth.now.case.now.prices.now groups.new.items sums.new.items) }
     ensures joined { OnOk result (IsJoined growth.now.case.now.instance.now growth.now.case.now.chamber growth.now.case.now.depth growth.now.case.now.prices.now growth.now.sets.now ship (group_at groups.old.items place) groups.old.items groups.new.items) }
 {
-    match joined(growth, near, &groups[place], ship) {
+    let own = &sums[place];
+    match joined(growth, near, &groups[place], own.mask, ship) {
         None => Ok(()),
         Some(group) => {
-            let own = more_sums(growth, &sums[place], ship);
-            put_joined(growth, groups, sums, group, own)
+            let more = more_sums(growth, own, ship);
+            put_joined(growth, groups, sums, group, more)
         }
     }
 }

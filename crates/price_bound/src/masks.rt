@@ -1,5 +1,6 @@
 //! Ship sets as numbers, so that a group is held against many of them fast.
 ghost use Rattle.std.specs.Prelude.{ℕ, ◌≡◌, ◌+◌, ◌<◌, ◌↔◌, true, List, length, All, IsTrue, IfOk, OnOk, bit_and};
+ghost use Rattle.lock_rules.specs.Children.{insert_number};
 ghost use Rattle.price_rules.specs.Prices.{is_missing};
 ghost use Rattle.price_bound.specs.Masks.{IsMask, IsNoted, AreMarks, AreAllowed, IsBetween, IsPutNear, AreHaving, AreNear, AreNears};
 
@@ -20,6 +21,24 @@ pub(crate) fn mask_of(ships: &[u8]) -> u32
         mask = mask | 1 << ship;
     }
     mask
+}
+
+#[inline(always)]
+/// The number whose bits are those ships and one more.
+pub(crate) fn with_bit(mask: u32, ship: u8) -> u32
+    requires { ship < 32 }
+    ensures { (ships : List ℕ) → IsMask mask ships → IsMask result (insert_number ship ships) }
+{
+    mask | 1 << ship
+}
+
+#[inline(always)]
+/// Whether all ships of a number are before one.
+pub(crate) fn are_before(mask: u32, ship: u8) -> bool
+    requires { ship < 32 }
+    ensures { (ships : List ℕ) → IsMask mask ships → IsTrue result → All (λ s. s < ship) ships }
+{
+    mask >> ship == 0
 }
 
 // Whether all bits of a set are among those of a number.

@@ -26,7 +26,7 @@ pub(crate) struct Counted {
 #[inline(always)]
 // Counts a choice, where it is of the route and reaches the bar or the value behind it stands in the
 // row; whether that is so.
-fn pass(
+fn sweep_one(
     table: &Table,
     values: &Values,
     ready: &Ready,
@@ -102,7 +102,7 @@ pub(crate) fn swept(
         bar: route.first_bar(),
     };
     for place in frame.next..choices.len() {
-        if !pass(table, values, &ready, route, &mut counted, &choices[place]) {
+        if !sweep_one(table, values, &ready, route, &mut counted, &choices[place]) {
             return Frame {
                 ready,
                 best: counted.best,

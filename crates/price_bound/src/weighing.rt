@@ -7,6 +7,7 @@ use crate::choice::Choice;
 use crate::error::{PriceError, append};
 use crate::growing::Growth;
 use crate::line_case::LineCase;
+use crate::masks::{mask_of, with_bit};
 use crate::sums::Sums;
 use chamber_times::{duration, last_arrival};
 use lock_model::{Group, Ships};
@@ -71,6 +72,7 @@ pub(crate) fn sums_of(growth: &Growth, ships: &Ships) -> Sums
         last: last_arrival(case.instance, 0, ships) as u32,
         pays: paid(growth, ships.as_slice()),
         least: u32::MAX,
+        mask: mask_of(ships.as_slice()),
     }
 }
 
@@ -88,6 +90,7 @@ pub(crate) fn more_sums(growth: &Growth, sums: &Sums, ship: u8) -> Sums
         last: sums.last.max(own.arrival),
         pays: sums.pays + rate,
         least: sums.least.min(rate),
+        mask: with_bit(sums.mask, ship),
     }
 }
 

@@ -8,8 +8,8 @@ use Rattle.price_bound.proofs.FrameLemmas.{frame-less, frame-next, value-far, fa
 use Rattle.price_bound.proofs.BarLemmas.{bar-first}
 use Rattle.price_bound.proofs.sweeping.swept.Goals as goal
 
-pub pass-requires-clause-is : goal.pass-requires-clause-is
-pass-requires-clause-is c =
+pub sweep_one-requires-clause-is : goal.sweep_one-requires-clause-is
+sweep_one-requires-clause-is c =
     let table = c.args.table.now in
     let case = table.case.now in
     let I = case.instance.now in
@@ -26,19 +26,19 @@ loop-place-preserved c =
     let before = c.loop-place.invariant in
     let was : Frame = record { ready = c.args.frame.ready; best = c.loop-place.counted.best; next = c.loop-place.place } in
     record {
-      frame = frame-next I case.chamber case.chamber_in (plain_cuts I case.cuts.now) case.depth case.prices.now case.line.now table.horizon table.menus.now was c.pass.new.counted.best c.index-choices-place.result c.loop-place.place c.args.choices.now c.requires.listed c.loop-place-test.true refl c.index-choices-place.is c.pass.ensures.less c.pass.ensures.best (c.if-not-pass.ensures.counted refl) before.frame;
-      bar = c.pass.ensures.bar;
+      frame = frame-next I case.chamber case.chamber_in (plain_cuts I case.cuts.now) case.depth case.prices.now case.line.now table.horizon table.menus.now was c.sweep_one.new.counted.best c.index-choices-place.result c.loop-place.place c.args.choices.now c.requires.listed c.loop-place-test.true refl c.index-choices-place.is c.sweep_one.ensures.less c.sweep_one.ensures.best (c.if-not-sweep_one.ensures.counted refl) before.frame;
+      bar = c.sweep_one.ensures.bar;
       more = omega (arith, before.more);
     }
 
-pub returns-then-not-pass-clause-frame : goal.returns-then-not-pass-clause-frame
-returns-then-not-pass-clause-frame c =
+pub returns-then-not-sweep_one-clause-frame : goal.returns-then-not-sweep_one-clause-frame
+returns-then-not-sweep_one-clause-frame c =
     let table = c.args.table.now in
     let case = table.case.now in
     let I = case.instance.now in
     let was : Frame = record { ready = c.args.frame.ready; best = c.loop-place.counted.best; next = c.loop-place.place } in
-    let less = frame-less I case.chamber case.chamber_in (plain_cuts I case.cuts.now) case.depth case.prices.now case.line.now table.horizon table.menus.now was c.pass.new.counted.best c.pass.ensures.less c.pass.ensures.best c.loop-place.invariant.frame in
-    subst (λ best. IsFrame I case.chamber (plain_cuts I case.cuts.now) case.depth case.prices.now case.line.now table.horizon table.menus.now (record { ready = c.args.frame.ready; best = best; next = c.loop-place.place })) (sym (far-rounded c.pass.new.counted.best (value-far c.pass.new.counted.best table.horizon c.args.frame.ready.state.minute table.small c.pass.ensures.best.low c.pass.ensures.best.high))) less
+    let less = frame-less I case.chamber case.chamber_in (plain_cuts I case.cuts.now) case.depth case.prices.now case.line.now table.horizon table.menus.now was c.sweep_one.new.counted.best c.sweep_one.ensures.less c.sweep_one.ensures.best c.loop-place.invariant.frame in
+    subst (λ best. IsFrame I case.chamber (plain_cuts I case.cuts.now) case.depth case.prices.now case.line.now table.horizon table.menus.now (record { ready = c.args.frame.ready; best = best; next = c.loop-place.place })) (sym (far-rounded c.sweep_one.new.counted.best (value-far c.sweep_one.new.counted.best table.horizon c.args.frame.ready.state.minute table.small c.sweep_one.ensures.best.low c.sweep_one.ensures.best.high))) less
 
 pub loop-place-init : goal.loop-place-init
 loop-place-init c =

@@ -13,4 +13,5 @@ returns c = λ ships are.
     (λ i. c.args.sums.now.duration + (own i).handling)
     (c.max.ensures ∙ (λ i. max c.args.sums.now.last (own i).arrival))
     (ap (λ n. c.args.sums.now.pays + n) c.known_rate-rate.ensures.value)
+    (c.with_bit.ensures ships are.mask)
     are
