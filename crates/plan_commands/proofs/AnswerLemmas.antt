@@ -9,8 +9,8 @@ use Rattle.lock_rules.specs.Plan.{IsLegal}
 use Rattle.plan_text.specs.Neat.{DiffersInX, AreNeat}
 use Rattle.plan_text.specs.Reading.{IsPlanFault}
 use Rattle.plan_text.specs.declared.kinds.PlanKind.{PlanKind}
-use Rattle.plan_refusals.specs.FaultTexts.{fault_text}
-use Rattle.plan_refusals.specs.BreakTexts.{break_text}
+use Rattle.plan_text.specs.FaultTexts.{fault_text}
+use Rattle.plan_text.specs.BreakTexts.{break_text}
 use Rattle.run_answers.specs.Sources.{IsFair}
 use Rattle.run_answers.proofs.EndedLemmas.{refused_good}
 use Rattle.run_answers.specs.declared.status.Status.{Status}

@@ -8,8 +8,8 @@ use Rattle.mooring_rules.specs.PlanBreaks.{IsFirstBrokenPlan}
 use Rattle.mooring_rules.specs.declared.breaks.BrokenPlan.{BrokenPlan}
 use Rattle.plan_text.specs.Reading.{IsPlanText, IsPlanFault}
 use Rattle.plan_text.specs.declared.kinds.PlanKind.{PlanKind}
-use Rattle.plan_refusals.specs.FaultTexts.{fault_text}
-use Rattle.plan_refusals.specs.BreakTexts.{break_text}
+use Rattle.plan_text.specs.FaultTexts.{fault_text}
+use Rattle.plan_text.specs.BreakTexts.{break_text}
 use Rattle.run_answers.specs.Refusals.{IsDefect}
 use Rattle.run_answers.specs.Texts.{no_memory_text}
 use Rattle.run_answers.specs.declared.status.Status.{Status}

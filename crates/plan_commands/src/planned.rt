@@ -10,8 +10,7 @@ use instance_text::{Bad, split_instance};
 use lock_model::{Instance, Plan};
 use mooring_rules::BrokenPlan;
 use plain_text::NoMemory;
-use plan_refusals::{break_text, fault_text};
-use plan_text::{BadPlan, read_plan};
+use plan_text::{BadPlan, break_text, fault_text, read_plan};
 use run_answers::{Answer, Status, defect_text, made, no_memory};
 use std::alloc::Global;
 

@@ -7,3 +7,5 @@ pub mod Reading
 pub mod Writable
 pub mod Printing
 pub mod Neat
+pub mod FaultTexts
+pub mod BreakTexts

@@ -6,7 +6,7 @@ use lock_model::{Rank, Way};
 use std::marker::Model;
 
 /// What a lockage line says: the chamber by its number, and the minute of the start.
-#[derive(Clone, Copy, Debug, PartialEq, Eq)]
+#[derive(Clone, Copy)]
 pub struct Head {
     pub chamber: u8,
     pub way: Way,
@@ -14,7 +14,7 @@ pub struct Head {
 }
 
 /// What a ship is moored to: the quay of its rank, or a ship by its number in the instance.
-#[derive(Clone, Copy, Debug, PartialEq, Eq, Default)]
+#[derive(Clone, Copy, Default)]
 pub enum Host {
     #[default]
     Quay,
@@ -23,7 +23,7 @@ pub enum Host {
 
 /// What a berth line says, with its number in the text. The ship is numbered as in the instance,
 /// and x and y are decimetres.
-#[derive(Clone, Copy, Debug, PartialEq, Eq, Default)]
+#[derive(Clone, Copy, Default)]
 pub struct Berth {
     pub line: u64,
     pub ship: u8,
@@ -34,7 +34,7 @@ pub struct Berth {
 }
 
 /// Up to eight berths in the order of their lines.
-#[derive(Debug, PartialEq, Eq, Drop)]
+#[derive(Drop)]
 pub struct Berths {
     items: ArrayVec<Berth, 8>,
 }

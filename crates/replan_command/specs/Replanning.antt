@@ -7,8 +7,8 @@ use Rattle.instance_text.specs.Reading.{Means, instance_part, after_instance}
 use Rattle.command_words.specs.declared.commands.ReplanOptions.{ReplanOptions}
 use Rattle.plan_text.specs.declared.kinds.PlanKind.{PlanKind}
 use Rattle.plan_text.specs.Reading.{IsPlanText, IsPlanFault}
-use Rattle.plan_refusals.specs.FaultTexts.{fault_text}
-use Rattle.plan_refusals.specs.BreakTexts.{break_text, late_text}
+use Rattle.plan_text.specs.FaultTexts.{fault_text}
+use Rattle.plan_text.specs.BreakTexts.{break_text, late_text}
 use Rattle.replan.specs.declared.refusal.ReplanError.{ReplanError}
 use Rattle.replan.specs.declared.refusal.ReplanError.TheVariants.{Kept, Late}
 use Rattle.replan.specs.Kept.{kept_of, kept_places, CanBeKept}

@@ -1,9 +1,9 @@
 //! The first fault of a plan text.
 ghost use Rattle.std.specs.Prelude.{◌≡◌, ◌++◌, IfOk, OnOk};
-ghost use Rattle.plan_refusals.specs.FaultTexts.{number_of, name_of, fault_text};
+ghost use Rattle.plan_text.specs.FaultTexts.{number_of, name_of, fault_text};
 
+use crate::kinds::{BadPlan, PlanKind};
 use plain_text::{NoMemory, put, put_number};
-use plan_text::{BadPlan, PlanKind};
 use std::alloc::Global;
 
 // The number of a kind of fault.

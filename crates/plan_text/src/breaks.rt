@@ -3,7 +3,7 @@ ghost use Rattle.std.specs.Prelude.{◌≡◌, ◌++◌, IfOk, OnOk, codes};
 ghost use Rattle.lock_model.specs.Fleet.{ship_at};
 ghost use Rattle.lock_rules.specs.Lines.{lockage_at};
 ghost use Rattle.mooring_rules.specs.declared.breaks.BrokenPlan.TheVariants.{Deck, Clash};
-ghost use Rattle.plan_refusals.specs.BreakTexts.{name_in, one_named, two_named, placement_words, lockage_head, lockage_text, ship_text, time_text, break_text, late_text};
+ghost use Rattle.plan_text.specs.BreakTexts.{name_in, one_named, two_named, placement_words, lockage_head, lockage_text, ship_text, time_text, break_text, late_text};
 
 use chamber_times::BrokenTime;
 use lock_model::{Instance, Plan};

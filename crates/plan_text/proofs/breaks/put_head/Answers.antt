@@ -1,8 +1,8 @@
 use Rattle.std.proofs.Common.{◌+◌, ◌++◌, ap, ◌∙◌, codes, append_assoc}
 use Rattle.std.specs.Prelude.{decimal}
 use Rattle.std.proofs.lemmas.Result.{IfOk-equal}
-use Rattle.plan_refusals.specs.BreakTexts.{lockage_head}
-use Rattle.plan_refusals.proofs.breaks.put_head.Goals as goal
+use Rattle.plan_text.specs.BreakTexts.{lockage_head}
+use Rattle.plan_text.proofs.breaks.put_head.Goals as goal
 
 pub returns : goal.returns
 unfolding lockage_head
