@@ -5,3 +5,6 @@ pub mod LineLemmas
 pub mod LastLemmas
 pub mod DeckLemmas
 pub mod ProbeLemmas
+pub mod LeafLemmas
+pub mod MooringLemmas
+pub mod WholeLemmas

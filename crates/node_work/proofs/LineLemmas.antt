@@ -9,9 +9,9 @@ use Rattle.lock_model.specs.declared.group.Group.{Group}
 use Rattle.lock_model.specs.declared.placement.Spot.{Spot}
 use Rattle.lock_rules.specs.Node.{line_at, IsNode}
 use Rattle.book_rules.specs.Book.{no_group}
-use Rattle.leaf_plan.specs.declared.moorings.Mooring.{Mooring}
-use Rattle.leaf_plan.specs.Moorings.{IsMoored, HasMooring, AreMoored}
-use Rattle.leaf_plan.proofs.LineLemmas.{sizes_step, room_for}
+use Rattle.node_work.specs.declared.moorings.Mooring.{Mooring}
+use Rattle.node_work.specs.Moorings.{IsMoored, HasMooring, AreMoored}
+use Rattle.node_work.proofs.LeafLemmas.{sizes_step, room_for}
 use Rattle.node_work.specs.Settling.{AreMooredAt}
 use Rattle.node_work.specs.Lines.{IsMooredUpTo, AreMooredBelow}
 

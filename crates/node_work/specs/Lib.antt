@@ -3,3 +3,4 @@ pub mod Known
 pub mod Fates
 pub mod Last
 pub mod Lines
+pub mod Moorings

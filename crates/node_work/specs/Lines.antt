@@ -5,8 +5,8 @@ use Rattle.lock_model.specs.declared.group.Group.{Group}
 use Rattle.lock_rules.specs.Arrival.{numbers_from}
 use Rattle.lock_rules.specs.Node.{line_at}
 use Rattle.book_rules.specs.Book.{no_group}
-use Rattle.leaf_plan.specs.declared.moorings.Mooring.{Mooring}
-use Rattle.leaf_plan.specs.Moorings.{IsMoored, HasMooring}
+use Rattle.node_work.specs.declared.moorings.Mooring.{Mooring}
+use Rattle.node_work.specs.Moorings.{IsMoored, HasMooring}
 
 -- the first n groups of a line of chamber c are moored beside what was moored before
 pub record IsMooredUpTo (I : Instance) (c : ℕ) (line : List Group) (n : ℕ) (old new : List Mooring) : Type 0 where

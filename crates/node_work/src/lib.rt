@@ -8,8 +8,10 @@
 //!
 //! Of a node that lacks ships one group is looked at, the one that its parent doesn't have (`last`,
 //! `inner`); of a node that holds all ships every group, since its plan needs the spots of all
-//! (`whole`). What is remembered is tested again before a fact rests on it (`recalling`), but for a
-//! group of a node that is only split: there nothing rests on it.
+//! (`whole`). Once each has a legal mooring, `leaf_plan` gives the plan of the node at the earliest: it
+//! is legal and costs the node's bound, so no legal plan under the node costs less. What is remembered
+//! is tested again before a fact rests on it (`recalling`), but for a group of a node that is only
+//! split: there nothing rests on it.
 //!
 //! What is found of a group's ships (`settle_known`) comes from three placers, asked one after the
 //! other (`settling`), and the cut of what one of them refutes is shrunk (`cutting`). The groups of a
@@ -17,8 +19,9 @@
 //! they crowd the deck.
 //!
 //! Definitions: `specs/Fates` (what becomes of a node), `Known` (cuts of a book), `Settling` (what is
-//! found of a group), `Last` (the group that a ship is in), `Lines` (the moorings of a node as they
-//! are made).
+//! found of a group), `Last` (the group that a ship is in), `Moorings` (where the groups of a node
+//! lie); the plan of a node's lines at the earliest stands in `lock_rules` (`specs/Leaf`). `Lines` (the
+//! moorings of a node as they are made) serves proofs alone.
 #![tactic(auto)]
 
 mod boxed;
@@ -29,6 +32,8 @@ mod group_fate;
 mod inner;
 mod known_cuts;
 mod last;
+mod leaf;
+mod moorings;
 mod recalling;
 mod search;
 mod settling;
@@ -38,6 +43,8 @@ pub use fate::Fate;
 pub use first_placer::FirstPlacer;
 pub use inner::{closed_early, inner_fate};
 pub use known_cuts::KnownCuts;
+pub use leaf::leaf_plan;
+pub use moorings::{Mooring, Moorings};
 pub use recalling::settle_known;
 pub use search::Search;
 pub use settling::Settled;

@@ -1,9 +1,9 @@
 use Rattle.std.proofs.Common.{◌≡◌, ◌++◌, ◌∷◌, ◌∙◌, [], length, ap, arith, slice_index_or, take, refl}
 use Rattle.lock_rules.specs.Leaf.{lockages_on}
-use Rattle.leaf_plan.specs.Moorings.{spots_by}
-use Rattle.leaf_plan.proofs.LineLemmas.{line_more, line_whole}
+use Rattle.node_work.specs.Moorings.{spots_by}
+use Rattle.node_work.proofs.LeafLemmas.{line_more, line_whole}
 use Rattle.std.proofs.lemmas.List.{length-append}
-use Rattle.leaf_plan.proofs.leaf.append_line.Goals as goal
+use Rattle.node_work.proofs.leaf.append_line.Goals as goal
 
 pub loop-i-preserved : goal.loop-i-preserved
 loop-i-preserved c =

@@ -9,10 +9,10 @@ use Rattle.lock_rules.specs.Leaf.{lockages_on, plan_of}
 use Rattle.lock_rules.specs.Node.{line_at}
 use Rattle.lock_rules.specs.Plan.{IsLegal, cost_of}
 use Rattle.lock_rules.proofs.NodeLemmas.{line-known}
-use Rattle.leaf_plan.specs.Moorings.{spots_by}
-use Rattle.leaf_plan.proofs.LineLemmas.{chambers_step, sizes_step, room_for, line_length}
-use Rattle.leaf_plan.proofs.WholeLemmas.{whole_legal, whole_cost}
-use Rattle.leaf_plan.proofs.leaf.leaf_plan.Goals as goal
+use Rattle.node_work.specs.Moorings.{spots_by}
+use Rattle.node_work.proofs.LeafLemmas.{chambers_step, sizes_step, room_for, line_length}
+use Rattle.node_work.proofs.WholeLemmas.{whole_legal, whole_cost}
+use Rattle.node_work.proofs.leaf.leaf_plan.Goals as goal
 
 pub append_line-requires-clause-ships_in : goal.append_line-requires-clause-ships_in
 append_line-requires-clause-ships_in c =

@@ -3,8 +3,8 @@ use Rattle.std.specs.List.{flat_map}
 use Rattle.lock_rules.specs.Arrival.{numbers_from}
 use Rattle.lock_rules.specs.Leaf.{lockages_on}
 use Rattle.lock_rules.specs.Node.{line_at}
-use Rattle.leaf_plan.specs.Moorings.{spots_by}
-use Rattle.leaf_plan.proofs.leaf.leaf_plan.Given as goal
+use Rattle.node_work.specs.Moorings.{spots_by}
+use Rattle.node_work.proofs.leaf.leaf_plan.Given as goal
 
 abbrev pub invariant-loop-chamber : goal.invariant-loop-chamber
 invariant-loop-chamber l =

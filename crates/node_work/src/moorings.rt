@@ -1,6 +1,6 @@
 //! Where the ships of each group of a node lie.
 ghost use Rattle.std.specs.Prelude.{◌≡◌, ◌<◌, ◌≤◌, ◌&&◌, [], ◌∷◌, ◌++◌, length, nat_eq};
-ghost use Rattle.leaf_plan.specs.Moorings.{same_ships, spots_in};
+ghost use Rattle.node_work.specs.Moorings.{same_ships, spots_in};
 
 use arrayvec::ArrayVec;
 use lock_model::{Ships, Spots};
@@ -8,7 +8,7 @@ use std::marker::Model;
 
 /// The spots of ships that are served together by a chamber, one spot for each ship in the ships'
 /// order.
-#[derive(Debug, PartialEq, Eq, Default, Drop)]
+#[derive(Default, Drop)]
 pub struct Mooring {
     pub chamber: u8,
     pub ships: Ships,
@@ -16,14 +16,14 @@ pub struct Mooring {
 }
 
 /// Up to 24 moorings.
-#[derive(Debug, PartialEq, Eq, Drop)]
+#[derive(Drop)]
 pub struct Moorings {
     items: ArrayVec<Mooring, 24>,
 }
 
 impl Model for Moorings {
     ghost use Rattle.std.specs.Prelude.{List};
-    ghost use Rattle.leaf_plan.specs.declared.moorings.Mooring.{Mooring};
+    ghost use Rattle.node_work.specs.declared.moorings.Mooring.{Mooring};
 
     ghost Value = { List Mooring };
 

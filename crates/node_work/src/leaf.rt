@@ -4,7 +4,7 @@ ghost use Rattle.lock_rules.specs.Plan.{IsLegal, cost_of};
 ghost use Rattle.lock_rules.specs.Bound.{bound_of};
 ghost use Rattle.lock_rules.specs.Leaf.{lockages_on, plan_of};
 ghost use Rattle.master_branch.specs.Node.{IsNodeOf};
-ghost use Rattle.leaf_plan.specs.Moorings.{AreMoored, spots_by};
+ghost use Rattle.node_work.specs.Moorings.{AreMoored, spots_by};
 
 use crate::moorings::Moorings;
 use chamber_times::earliest;

@@ -10,8 +10,8 @@ use Rattle.lock_model.specs.declared.group.Group.{Group}
 use Rattle.lock_model.specs.declared.placement.Spot.{Spot}
 use Rattle.lock_rules.specs.Node.{line_at}
 use Rattle.lock_rules.specs.Leaf.{AllFit}
-use Rattle.leaf_plan.specs.declared.moorings.Mooring.{Mooring}
-use Rattle.leaf_plan.specs.Moorings.{same_ships, spots_in, spots_by, IsMoored, HasMooring, AreMoored}
+use Rattle.node_work.specs.declared.moorings.Mooring.{Mooring}
+use Rattle.node_work.specs.Moorings.{same_ships, spots_in, spots_by, IsMoored, HasMooring, AreMoored}
 
 -- lists of other lengths differ
 pub same_length : (ss ts : List ℕ) → length ss ≢ length ts → false ≡ same_ships ss ts

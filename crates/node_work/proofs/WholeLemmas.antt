@@ -7,9 +7,9 @@ use Rattle.lock_rules.specs.Leaf.{plan_of}
 use Rattle.lock_rules.specs.Plan.{IsLegal, cost_of}
 use Rattle.lock_rules.specs.Bound.{bound_of}
 use Rattle.lock_rules.proofs.LeafLemmas.{leaf-legal, leaf-cost}
-use Rattle.leaf_plan.specs.declared.moorings.Mooring.{Mooring}
-use Rattle.leaf_plan.specs.Moorings.{AreMoored, spots_by}
-use Rattle.leaf_plan.proofs.MooringLemmas.{moored_fit}
+use Rattle.node_work.specs.declared.moorings.Mooring.{Mooring}
+use Rattle.node_work.specs.Moorings.{AreMoored, spots_by}
+use Rattle.node_work.proofs.MooringLemmas.{moored_fit}
 
 module _ (I : Instance) (k : ℕ) (lines : List (List Group)) (ms : List Mooring) (node : IsNode I k lines) (whole : k ≡ length I.ships) (moored : AreMoored I ms lines) where
   own : IsNode I (length I.ships) lines

@@ -1,7 +1,7 @@
 use Rattle.std.proofs.Common.{◌≡◌, ◌+◌, ◌++◌, length, take}
 use Rattle.lock_rules.specs.Leaf.{lockages_on}
-use Rattle.leaf_plan.specs.Moorings.{spots_by}
-use Rattle.leaf_plan.proofs.leaf.append_line.Given as goal
+use Rattle.node_work.specs.Moorings.{spots_by}
+use Rattle.node_work.proofs.leaf.append_line.Given as goal
 
 abbrev pub invariant-loop-i : goal.invariant-loop-i
 invariant-loop-i l =

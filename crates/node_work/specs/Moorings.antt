@@ -7,7 +7,7 @@ use Rattle.lock_model.specs.declared.instance.Instance.{Instance}
 use Rattle.lock_model.specs.declared.group.Group.{Group}
 use Rattle.lock_model.specs.declared.placement.Spot.{Spot}
 use Rattle.lock_rules.specs.Node.{line_at}
-use Rattle.leaf_plan.specs.declared.moorings.Mooring.{Mooring}
+use Rattle.node_work.specs.declared.moorings.Mooring.{Mooring}
 
 -- two lists of ships are the same
 abbrev pub same_ships : List ℕ → List ℕ → Bool

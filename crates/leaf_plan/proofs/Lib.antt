@@ -1,3 +1,0 @@
-pub mod MooringLemmas
-pub mod LineLemmas
-pub mod WholeLemmas
