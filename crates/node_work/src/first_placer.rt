@@ -1,12 +1,11 @@
 //! Which placer is asked first.
 
-/// Which placer is asked with more than one turn first. Prices propose crowded decks, of which the
-/// placer by berths decides most far sooner than `place`, and by smaller trees.
+/// Which placer is asked first. Prices propose crowded decks, of which the placer by berths decides
+/// most far sooner than `place`, and by smaller trees.
 #[derive(Clone, Copy, Debug, PartialEq, Eq)]
 pub enum FirstPlacer {
     /// `place` has at most 500 turns before the placer by berths.
     Cases,
-    /// `place` has one turn before the placer by berths, which tells quick reasons and decks that one
-    /// case settles.
+    /// Only a quick reason is looked for before the placer by berths.
     Berths,
 }

@@ -14,6 +14,7 @@ use mooring_rules::{first_clash, judge_spots};
 use place_refute::{Cut, Hard, HardSpots};
 use plain_text::NoMemory;
 use refute_rules::Refutation;
+use ship_shapes::find_reason;
 use spot_place::{SpotPlaced, place_by_spots};
 use std::alloc::Global;
 
@@ -69,15 +70,15 @@ fn spots_alone(deck: &Deck) -> Option<Spots>
     }
 }
 
-// How many of these turns `place` is asked before the placer by berths.
-fn first_turns(first: FirstPlacer, turns: u32) -> u32
+// How many of these turns `place` is asked before the placer by berths, where `place` comes first.
+fn first_turns(turns: u32) -> u32
     requires { 1 ≤ turns }
     ensures { 1 ≤ result }
 {
-    match first {
-        FirstPlacer::Berths => 1,
-        FirstPlacer::Cases if turns < FIRST_TURNS => turns,
-        FirstPlacer::Cases => FIRST_TURNS,
+    if turns < FIRST_TURNS {
+        turns
+    } else {
+        FIRST_TURNS
     }
 }
 
@@ -109,7 +110,7 @@ fn ask_all(alloc: Global, deck: &Deck, turns: u32) -> Result<Answer, NoMemory>
     }
 }
 
-// Asks the placer by berths, where the one by cases has spent its first turns.
+// Asks the placer by berths, and the other two where that one has spent its turns.
 fn ask_by_berths(alloc: Global, deck: &Deck, turns: u32) -> Result<Answer, NoMemory>
     requires turns { 1 ≤ turns }
     requires clear { HasNoClash deck.now }
@@ -122,7 +123,32 @@ fn ask_by_berths(alloc: Global, deck: &Deck, turns: u32) -> Result<Answer, NoMem
     }
 }
 
-// Asks the placers about ships of which no two clash, the one by cases with its first turns alone.
+// Asks `place` with its first turns, and the placer by berths where these are spent.
+fn ask_cases_first(alloc: Global, deck: &Deck, turns: u32) -> Result<Answer, NoMemory>
+    requires turns { 1 ≤ turns }
+    requires clear { HasNoClash deck.now }
+    ensures { IfOk result (IsAnswered deck.now turns) }
+{
+    match place(alloc, deck, first_turns(turns))? {
+        Placed::Fits(spots) => Ok(Answer::Fits(spots)),
+        Placed::Refuted(refutation) => Ok(Answer::Refuted(refutation)),
+        Placed::Spent(_) => ask_by_berths(alloc, deck, turns),
+    }
+}
+
+// Asks the placer by berths, of decks that have no quick reason.
+fn ask_berths_first(alloc: Global, deck: &Deck, turns: u32) -> Result<Answer, NoMemory>
+    requires turns { 1 ≤ turns }
+    requires clear { HasNoClash deck.now }
+    ensures { IfOk result (IsAnswered deck.now turns) }
+{
+    match find_reason(deck) {
+        Some(reason) => Ok(Answer::Refuted(Refutation::Quick(reason))),
+        None => ask_by_berths(alloc, deck, turns),
+    }
+}
+
+// Asks the placers about ships of which no two clash.
 fn ask_in_turn(
     alloc: Global,
     deck: &Deck,
@@ -136,10 +162,9 @@ fn ask_in_turn(
     if let Some(spots) = spots_alone(deck) {
         return Ok(Answer::Fits(spots));
     }
-    match place(alloc, deck, first_turns(first, turns))? {
-        Placed::Fits(spots) => Ok(Answer::Fits(spots)),
-        Placed::Refuted(refutation) => Ok(Answer::Refuted(refutation)),
-        Placed::Spent(_) => ask_by_berths(alloc, deck, turns),
+    match first {
+        FirstPlacer::Cases => ask_cases_first(alloc, deck, turns),
+        FirstPlacer::Berths => ask_berths_first(alloc, deck, turns),
     }
 }
 
@@ -158,9 +183,9 @@ fn ask(alloc: Global, deck: &Deck, first: FirstPlacer, turns: u32) -> Result<Ans
 /// Finds out whether ships fit a chamber, within so many turns of each placer. Two ships that clash
 /// refute it, and a ship that fits alone lies at the near end of the left quay. For all others the
 /// placers are asked, each where those before it were spent: `place` with at most 500 of the turns, or
-/// with one where the placer by berths is to come first; then `place_by_berths`, `place` and
-/// `place_by_spots` with all turns. So `Spent` comes only where all three gave up. Its only refusal is
-/// want of memory.
+/// only a quick reason is looked for where the placer by berths is to come first; then
+/// `place_by_berths`, `place` and `place_by_spots` with all turns. So `Spent` comes only where all three
+/// gave up. Its only refusal is want of memory.
 pub(crate) fn settle(
     alloc: Global,
     asked: &GroupAsked<'_>,
