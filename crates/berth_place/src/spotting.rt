@@ -13,7 +13,9 @@ ghost use Rattle.berth_place.specs.Spotting.{IsSpotOf, AreSpotsOf};
 
 use crate::along::place_var;
 use crate::faults::BerthFault;
-use berth_check::{Berth, BerthCase, berth_of, has_other_rank, is_outside_across, leads_back, y_of};
+use berth_check::{
+    Berth, BerthCase, berth_of, has_other_rank, is_outside_across, leads_back, y_of,
+};
 use lock_model::{Deck, Spot, Spots};
 
 // A fault of a ship.
