@@ -1,6 +1,7 @@
 -- Hosts that lead on, and known y, from what is looked up.
 use Rattle.std.proofs.Common.{◌≡◌, ◌≢◌, ℕ, zero, suc, ◌+◌, ◌<◌, ℤ, Bool, IsTrue, ◌↔◌, List, ◌∷◌, length, Contains, sym, ap, ◌∙◌, subst, arith, Some, None, option_map, slice_index_or}
 use Rattle.std.proofs.lemmas.Option.{none-some, same_Some}
+use Rattle.std.specs.declared.option.Option.{Option}
 use Rattle.lock_model.specs.Deck.{Deck}
 use Rattle.lock_model.specs.declared.placement.Rank.{Rank}
 use Rattle.lock_model.specs.declared.placement.Moor.TheVariants.{Ship}
@@ -35,8 +36,8 @@ leads_later case steps before from host ship b e h n tells =
       λ has. tells.1 (contains-next host (hosts_within case before host) ship n (subst (λ hosts. Contains hosts ship) step has)),
     )
 
-pub y_host : (d : Deck) (case : List Choice) (steps before ship host : ℕ) (rank : Rank) (y : ℤ) → steps ≡ before + 1 → Some (record { rank = rank; moor = Ship host }) ≡ berth_in case ship → Some y ≡ y_within d case before host → Some (guest_y d ship host rank y) ≡ y_within d case steps ship
-y_host d case steps before ship host rank y e berth told =
+pub y_host : (d : Deck) (case : List Choice) (steps before ship host : ℕ) (rank : Rank) (host_y : Option ℤ) → steps ≡ before + 1 → Some (record { rank = rank; moor = Ship host }) ≡ berth_in case ship → host_y ≡ y_within d case before host → option_map (guest_y d ship host rank) host_y ≡ y_within d case steps ship
+y_host d case steps before ship host rank host_y e berth told =
     let same : steps ≡ suc before = omega (arith, e) in
     ap (option_map (guest_y d ship host rank)) told ∙ ap (λ o. berth_y d ship o (y_within d case before)) berth ∙ ap (λ k. y_within d case k ship) (sym same)
 

@@ -1,5 +1,5 @@
 //! How ships lie across the chamber. Numbers of ships may be any numbers.
-ghost use Rattle.std.specs.Prelude.{◌≡◌, ◌<◌, ◌↔◌, IsTrue, pos, ◌+ℤ◌, ◌≤ℤ◌, ◌+◌};
+ghost use Rattle.std.specs.Prelude.{◌≡◌, ◌<◌, ◌↔◌, IsTrue, pos, ◌+ℤ◌, ◌≤ℤ◌, ◌+◌, IfSome, option_map};
 ghost use Rattle.refute_rules.specs.Reasons.{width_at};
 ghost use Rattle.refute_rules.specs.Known.{quay_y, guest_y};
 ghost use Rattle.refute_rules.specs.SpotFaults.{IsInsideAcross};
@@ -19,8 +19,8 @@ pub fn quay_y(deck: &Deck, ship: u32, rank: Rank) -> i64
     }
 }
 
-/// y at a host that lies at a known y, so many ships down to a quay.
-pub fn guest_y(deck: &Deck, ship: u32, host: u8, rank: Rank, y: i64, steps: u8) -> i64
+// y at a host that lies at a known y, so many ships down to a quay.
+fn guest_y(deck: &Deck, ship: u32, host: u8, rank: Rank, y: i64, steps: u8) -> i64
     requires few { steps < 8 }
     requires bound { IsWithinReach steps y }
     ensures value { result ≡ guest_y deck.now ship host rank y }
@@ -34,6 +34,26 @@ pub fn guest_y(deck: &Deck, ship: u32, host: u8, rank: Rank, y: i64, steps: u8) 
     match rank {
         Rank::Left => y + beside,
         Rank::Right => y - beside,
+    }
+}
+
+/// y at a host, where that of the host is known, so many ships down to a quay.
+pub fn y_at_host(
+    deck: &Deck,
+    ship: u32,
+    host: u8,
+    rank: Rank,
+    host_y: Option<i64>,
+    steps: u8,
+) -> Option<i64>
+    requires few { steps < 8 }
+    requires bound { IfSome host_y (IsWithinReach steps) }
+    ensures value { result ≡ option_map (guest_y deck.now ship host rank) host_y }
+    ensures bound { IfSome result (IsWithinReach (steps + 1)) }
+{
+    match host_y {
+        None => None,
+        Some(y) => Some(guest_y(deck, ship, host, rank, y, steps)),
     }
 }
 

@@ -13,7 +13,7 @@ use crate::spans::{are_too_many, is_crowd, is_too_long};
 use lock_model::Deck;
 
 /// A leaf, a split by a ship's berth, or a split by the order of two ships, and where it ends.
-#[derive(Clone, Copy, Debug, PartialEq, Eq)]
+#[derive(Clone, Copy)]
 pub(crate) enum Front {
     Leaf(usize),
     Berth(u8, usize),

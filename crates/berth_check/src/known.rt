@@ -4,7 +4,7 @@ ghost use Rattle.refute_rules.specs.Known.{hosts_within, y_within, y_in};
 ghost use Rattle.refute_rules.specs.SpotFaults.{IsOutsideAcross};
 ghost use Rattle.berth_check.specs.Reach.{IsWithinReach};
 
-use crate::across::{guest_y, is_inside_across, quay_y};
+use crate::across::{is_inside_across, quay_y, y_at_host};
 use crate::case::BerthCase;
 use crate::decided::{berth_of, host_of};
 use lock_model::{Deck, Moor};
@@ -43,8 +43,8 @@ fn y_within(deck: &Deck, case: &BerthCase, steps: u8, ship: u32) -> Option<i64>
     match berth.moor {
         Moor::Quay => Some(quay_y(deck, ship, berth.rank)),
         Moor::Ship(host) => {
-            let y = y_within(deck, case, steps - 1, host as u32)?;
-            Some(guest_y(deck, ship, host, berth.rank, y, steps - 1))
+            let host_y = y_within(deck, case, steps - 1, host as u32);
+            y_at_host(deck, ship, host, berth.rank, host_y, steps - 1)
         }
     }
 }

@@ -36,7 +36,7 @@ mod sizes;
 mod spans;
 mod walk;
 
-pub use across::{guest_y, is_below, is_inside_across, quay_y};
+pub use across::{is_below, is_inside_across, quay_y, y_at_host};
 pub use case::{BerthCase, Pick};
 pub use decided::{Berth, berth_of, has_other_rank, host_of};
 pub use known::{is_outside_across, leads_back, y_of};

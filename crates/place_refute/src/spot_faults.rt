@@ -8,7 +8,7 @@ ghost use Rattle.place_refute.specs.SpotReads.{IsWithinHost, IsPast, HasNoPlace,
 
 use crate::case::Case;
 use crate::decided::{berth_of, host_of, x_of};
-use berth_check::{guest_y, is_below, is_inside_across, length_of, quay_y};
+use berth_check::{is_below, is_inside_across, length_of, quay_y, y_at_host};
 use lock_model::{Deck, Moor};
 
 // Where a ship lies, in decimetres.
@@ -52,8 +52,8 @@ fn y_within(deck: &Deck, case: &Case, steps: u8, ship: u32) -> Option<i64>
     match berth.moor {
         Moor::Quay => Some(quay_y(deck, ship, berth.rank)),
         Moor::Ship(host) => {
-            let y = y_within(deck, case, steps - 1, host as u32)?;
-            Some(guest_y(deck, ship, host, berth.rank, y, steps - 1))
+            let host_y = y_within(deck, case, steps - 1, host as u32);
+            y_at_host(deck, ship, host, berth.rank, host_y, steps - 1)
         }
     }
 }
