@@ -1,35 +1,51 @@
--- The options of an open split are about ships of the deck.
-use Rattle.std.proofs.Common.{◌≡◌, ℕ, ◌+◌, ◌<◌, ◌≤◌, List, [], ◌∷◌, ◌++◌, length, not, nat_eq, true, arith}
-use Rattle.std.specs.List.{AllByRecursion}
-use Rattle.list_laws.proofs.ByRecursion.{all-append}
+-- Hosts that lead on, and known y, from what is looked up.
+use Rattle.std.proofs.Common.{◌≡◌, ◌≢◌, ℕ, zero, suc, ◌+◌, ◌<◌, ℤ, Bool, IsTrue, ◌↔◌, List, ◌∷◌, length, Contains, sym, ap, ◌∙◌, subst, arith, Some, None, option_map, slice_index_or}
+use Rattle.std.proofs.lemmas.Option.{none-some, same_Some}
+use Rattle.std.specs.declared.option.Option.{Option}
 use Rattle.lock_model.specs.Deck.{Deck}
-use Rattle.lock_model.specs.declared.placement.Rank.TheVariants.{Left, Right}
+use Rattle.lock_model.specs.declared.placement.Rank.{Rank}
 use Rattle.lock_model.specs.declared.placement.Moor.TheVariants.{Ship}
-use Rattle.lock_rules.specs.Arrival.{numbers_from}
-use Rattle.refute_rules.specs.Choices.{Choice, Lies, Berth, berths_of}
-use Rattle.refute_rules.specs.Values.{others}
-use Rattle.refute_rules.proofs.Among.{all-map, all-flat_map, all-weaker, all-numbers}
-use Rattle.refute_rules.proofs.Packing.{all-filter}
-use Rattle.refute_rules.specs.BerthTrees.{Split, OfBerth, OfOrder, IsOpen, split_options}
-use Rattle.berth_check.specs.Raises.{IsKnownChoice, AreKnown}
-use Rattle.berth_check.proofs.RaiseLemmas.{known_pair}
+use Rattle.refute_rules.specs.Choices.{Choice}
+use Rattle.refute_rules.specs.Decided.{berth_in}
+use Rattle.refute_rules.specs.Known.{host_of, host_and_more, hosts_within, berth_y, guest_y, y_within, y_in}
+use Rattle.refute_rules.specs.SpotFaults.{IsInsideAcross, IsOutsideAcross}
 
-berths-known : (d : Deck) (i : ℕ) → i < length d.ships → AllByRecursion (λ (b : Berth). IsKnownChoice d (Lies i b)) (berths_of (length d.ships) i)
-berths-known d i known =
-    let n = length d.ships in
-    let below : AllByRecursion (λ k. k < n) (numbers_from 0 n) = all-weaker (λ k. (0 ≤ k) × (k < 0 + n)) (λ k. k < n) (λ k h. omega (arith, h.1)) (numbers_from 0 n) (all-numbers 0 n) in
-    let hosts : AllByRecursion (λ k. (k < n) × (not (nat_eq k i) ≡ true)) (others n i) = all-filter (λ k. k < n) (λ k. not (nat_eq k i)) (numbers_from 0 n) below in (
-      (known, tt),
-      (
-        (known, tt),
-        all-flat_map (λ (b : Berth). IsKnownChoice d (Lies i b)) (λ k. record { rank = Left; moor = Ship k } ∷ record { rank = Right; moor = Ship k } ∷ []) (others n i)
-            (all-weaker (λ k. (k < n) × (not (nat_eq k i) ≡ true)) (λ k. AllByRecursion (λ (b : Berth). IsKnownChoice d (Lies i b)) (record { rank = Left; moor = Ship k } ∷ record { rank = Right; moor = Ship k } ∷ [])) (λ k h. ((known, h.0), ((known, h.0), tt))) (others n i) hosts),
-      ),
+contains-later : (x : ℕ) (xs : List ℕ) (y : ℕ) → Contains xs y → Contains (x ∷ xs) y
+contains-later x xs y h = let less = h.1 in (suc h.0, omega (arith, less), h.2)
+
+contains-next : (x : ℕ) (xs : List ℕ) (y : ℕ) → x ≢ y → Contains (x ∷ xs) y → Contains xs y
+contains-next x xs y n h = step h.0 h.1 h.2
+  where
+    step : (k : ℕ) → k < length (x ∷ xs) → slice_index_or (x ∷ xs) k y ≡ y → Contains xs y
+    step zero less e = absurd (n e)
+    step (suc k) less e = (k, omega (arith, less), e)
+
+-- the hosts from a ship on are its host and the hosts from that on
+hosts-step : (case : List Choice) (steps before from host : ℕ) → steps ≡ before + 1 → Some host ≡ host_of (berth_in case from) → hosts_within case steps from ≡ host ∷ hosts_within case before host
+hosts-step case steps before from host e h =
+    let same : steps ≡ suc before = omega (arith, e) in
+    ap (λ k. hosts_within case k from) same ∙ ap (λ o. host_and_more o (hosts_within case before)) (sym h)
+
+pub leads_here : (case : List Choice) (steps before from host ship : ℕ) → steps ≡ before + 1 → Some host ≡ host_of (berth_in case from) → host ≡ ship → Contains (hosts_within case steps from) ship
+leads_here case steps before from host ship e h same = subst (λ hosts. Contains hosts ship) (sym (hosts-step case steps before from host e h)) (0, omega arith, same)
+
+pub leads_later : (case : List Choice) (steps before from host ship : ℕ) (b : Bool) → steps ≡ before + 1 → Some host ≡ host_of (berth_in case from) → host ≢ ship → IsTrue b ↔ Contains (hosts_within case before host) ship → IsTrue b ↔ Contains (hosts_within case steps from) ship
+leads_later case steps before from host ship b e h n tells =
+    let step = hosts-step case steps before from host e h in (
+      λ yes. subst (λ hosts. Contains hosts ship) (sym step) (contains-later host (hosts_within case before host) ship (tells.0 yes)),
+      λ has. tells.1 (contains-next host (hosts_within case before host) ship n (subst (λ hosts. Contains hosts ship) step has)),
     )
 
-pub options-known : (d : Deck) (case : List Choice) (split : Split) → AreKnown d case → IsOpen d case split → AllByRecursion (IsKnownChoice d) (split_options d split)
-options-known d case (OfBerth i) known h = all-map (IsKnownChoice d) (Lies i) (berths_of (length d.ships) i) (berths-known d i h.0)
-options-known d case (OfOrder i j) known h = let ships = known_pair d case i j known h in ((ships.0, ships.1), ((ships.1, ships.0), tt))
+pub y_host : (d : Deck) (case : List Choice) (steps before ship host : ℕ) (rank : Rank) (host_y : Option ℤ) → steps ≡ before + 1 → Some (record { rank = rank; moor = Ship host }) ≡ berth_in case ship → host_y ≡ y_within d case before host → option_map (guest_y d ship host rank) host_y ≡ y_within d case steps ship
+y_host d case steps before ship host rank host_y e berth told =
+    let same : steps ≡ suc before = omega (arith, e) in
+    ap (option_map (guest_y d ship host rank)) told ∙ ap (λ o. berth_y d ship o (y_within d case before)) berth ∙ ap (λ k. y_within d case k ship) (sym same)
 
-pub extended-known : (d : Deck) (case : List Choice) (choice : Choice) → AreKnown d case → IsKnownChoice d choice → AreKnown d (case ++ choice ∷ [])
-extended-known d case choice known h = record { all = all-append (IsKnownChoice d) case (choice ∷ []) known.all (h, tt) }
+pub across_outside : (d : Deck) (case : List Choice) (i : ℕ) (y : ℤ) → Some y ≡ y_in d case i → (IsInsideAcross d i y → ⊥) → IsOutsideAcross d case i
+across_outside d case i y e out = record { y = y; known = sym e; outside = out }
+
+pub across_inside : (d : Deck) (case : List Choice) (i : ℕ) (y : ℤ) → Some y ≡ y_in d case i → IsInsideAcross d i y → IsOutsideAcross d case i → ⊥
+across_inside d case i y e inside out = out.outside (subst (IsInsideAcross d i) (same_Some y out.y (e ∙ out.known)) inside)
+
+pub across_open : (d : Deck) (case : List Choice) (i : ℕ) → None ≡ y_in d case i → IsOutsideAcross d case i → ⊥
+across_open d case i e out = none-some out.y (e ∙ out.known)

@@ -1,6 +1,12 @@
+pub mod CaseLemmas
+pub mod LookupLemmas
+pub mod KnownLemmas
+pub mod PairLemmas
+pub mod FaultLemmas
+pub mod CrowdLemmas
 pub mod TreeLemmas
 pub mod RaiseLemmas
-pub mod KnownLemmas
+pub mod OptionLemmas
 pub mod FrontLemmas
 pub mod PendingLemmas
 pub mod StepLemmas

@@ -8,7 +8,7 @@ use Rattle.lock_rules.specs.Arrival.{numbers_from}
 use Rattle.refute_rules.specs.Choices.{Choice, Lies, Berth}
 use Rattle.refute_rules.specs.BerthTrees.{OfBerth}
 use Rattle.berth_check.specs.declared.pending.Branch.{Branch}
-use Rattle.berth_case.specs.Picks.{choice_of}
+use Rattle.berth_check.specs.Picks.{choice_of}
 use Rattle.berth_check.specs.Pending.{AreKept, cases_after, extensions, with_berth, host_cases}
 
 pub reverse_push : {X : Type 0} (xs : List X) (x : X) → reverse (xs ++ x ∷ []) ≡ x ∷ reverse xs

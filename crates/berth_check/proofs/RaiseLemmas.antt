@@ -10,8 +10,8 @@ use Rattle.lock_model.specs.declared.placement.Moor.{Moor}
 use Rattle.lock_model.specs.declared.placement.Moor.TheVariants.{Quay, Ship}
 use Rattle.refute_rules.specs.Decided.{berth_in}
 use Rattle.refute_rules.specs.Known.{host_of, moor_host, berth_y, y_within}
-use Rattle.berth_case.specs.declared.case.Pick.{Pick}
-use Rattle.berth_case.specs.Picks.{choice_of, IsKnownMoor}
+use Rattle.berth_check.specs.declared.case.Pick.{Pick}
+use Rattle.berth_check.specs.Picks.{choice_of, IsKnownMoor}
 use Rattle.refute_rules.specs.SpotFaults.{IsInsideAlong}
 use Rattle.std.proofs.Common.{ℤ, ◌⊎◌, cond, map, get_or, set, ◌≡◌, ℕ, zero, suc, ◌+◌, ◌-◌, ◌<◌, ◌≤◌, List, [], ◌∷◌, length, inl, inr, refl, sym, ap, ◌∙◌, subst, arith, Some, None}
 use Rattle.lock_model.specs.Deck.{Deck}

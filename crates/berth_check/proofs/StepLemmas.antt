@@ -16,7 +16,7 @@ use Rattle.berth_check.specs.Raises.{IsKnownChoice, AreKnown}
 use Rattle.berth_check.specs.Fronts.{IsLeafUpTo, IsSplitUpTo, HasNoTreeAt, AreAllKnown}
 use Rattle.berth_check.specs.Pending.{AreTrees, extensions, IsRead, IsNoTree}
 use Rattle.berth_check.proofs.TreeLemmas.{leaf-step, split-step}
-use Rattle.berth_check.proofs.KnownLemmas.{options-known, extended-known}
+use Rattle.berth_check.proofs.OptionLemmas.{options-known, extended-known}
 
 module _ (d : Deck) (case : List Choice) (old new : List (List Choice)) (marks : List ℕ) (at : ℕ) where
   pub step_none : HasNoTreeAt d case marks at → IsNoTree d (case ∷ old) marks at

@@ -1,3 +1,8 @@
+pub mod Picks
+pub mod Lookups
+pub mod Reach
+pub mod PairReads
+pub mod CrowdReads
 pub mod Raises
 pub mod Fronts
 pub mod Pending

@@ -9,7 +9,7 @@ use Rattle.lock_model.specs.declared.placement.Moor.TheVariants.{Ship}
 use Rattle.refute_rules.specs.Choices.{Choice, Lies}
 use Rattle.refute_rules.specs.Trees.{AreInOrder}
 use Rattle.refute_rules.specs.BerthTrees.{Split, split_options, BeginsWithTree}
-use Rattle.berth_case.specs.Picks.{choice_of}
+use Rattle.berth_check.specs.Picks.{choice_of}
 use Rattle.berth_check.specs.Fronts.{AreAllKnown}
 use Rattle.berth_check.specs.declared.pending.Branch.{Branch}
 

@@ -6,7 +6,7 @@ use Rattle.refute_rules.specs.Reasons.{length_at}
 use Rattle.refute_rules.specs.Choices.{Choice, Lies, Before, Below, Stands}
 use Rattle.refute_rules.specs.SpotFaults.{IsInsideAlong}
 use Rattle.refute_rules.specs.BerthCases.{host_in, ObeyAlong}
-use Rattle.berth_case.specs.Picks.{IsKnownMoor}
+use Rattle.berth_check.specs.Picks.{IsKnownMoor}
 
 abbrev pub x_at : List ℕ → ℕ → ℕ
 x_at xs i = slice_index_or xs i 0

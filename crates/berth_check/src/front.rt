@@ -4,15 +4,16 @@ ghost use Rattle.refute_rules.specs.BerthTrees.{IsOpen, OfBerth};
 ghost use Rattle.berth_check.specs.Raises.{AreKnown};
 ghost use Rattle.berth_check.specs.Fronts.{IsFaultAt, IsFront};
 
+use crate::case::BerthCase;
+use crate::decided::{berth_of, has_other_rank};
+use crate::known::{is_outside_across, leads_back};
+use crate::pairs::are_unordered;
 use crate::places::has_places;
-use berth_case::{
-    BerthCase, are_too_many, are_unordered, berth_of, has_other_rank, is_crowd, is_outside_across,
-    is_too_long, leads_back,
-};
+use crate::spans::{are_too_many, is_crowd, is_too_long};
 use lock_model::Deck;
 
 /// A leaf, a split by a ship's berth, or a split by the order of two ships, and where it ends.
-#[derive(Clone, Copy, Debug, PartialEq, Eq)]
+#[derive(Clone, Copy)]
 pub(crate) enum Front {
     Leaf(usize),
     Berth(u8, usize),

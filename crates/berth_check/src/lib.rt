@@ -1,21 +1,46 @@
-//! Berth trees checked without any search.
+//! Berth cases of a deck, and berth trees checked without any search.
+//!
+//! A `BerthCase` keeps the berths of some ships, and which of two ships lies before the other. It
+//! grows by options and shrinks again. What it says is read exactly, whatever numbers of ships it is
+//! asked about:
+//! - `decided`: the berth of a ship, its host, and whether that has the other rank.
+//! - `across`: where ships lie across the chamber.
+//! - `known`: hosts that lead back to a ship, its y, and whether it is outside across the chamber.
+//! - `pairs`: two ships that overlap, or that have no order yet.
+//! - `spans`: a ship longer than its host, guests that are too many, ships too long one behind the
+//!   other.
 //!
 //! `check_berth_tree` says exactly whether some marks are a berth tree of a deck; then the deck
 //! doesn't fit. One walk over the marks and no recursion over the tree: the cases whose trees are
-//! still to be read lie on a stack. It shares no search with a placer.
-//!
+//! still to be read lie on a stack. It shares with a placer what a case says, and no search.
 //! - `walk` reads the case at hand and goes on with its options; `front` tells what stands at a
 //!   place of the marks; `pending` is the case at hand and the stack.
 //! - `places` says whether some places along the chamber obey a case, for the leaf that names no
-//!   walk. The other leaves are those of `berth_case`.
+//!   walk.
 //!
-//! Definitions: `refute_rules`. Here `specs/Pending` and `Fronts` say what is read and what is left,
-//! and `Raises` how places are raised.
+//! Definitions: `refute_rules` says what a case is, what faults it may have, and what a berth tree
+//! is. Here `specs/Picks` says how options are kept, and `Lookups` and `Reach` what is looked up. Of
+//! private functions alone speak `PairReads` and `CrowdReads`, what is looked up of more ships;
+//! `Pending` and `Fronts`, what is read and what is left; and `Raises`, how places are raised.
 #![tactic(auto)]
 
+mod across;
+mod case;
+mod decided;
 mod front;
+mod known;
+mod pairs;
 mod pending;
 mod places;
+mod sizes;
+mod spans;
 mod walk;
 
+pub use across::{is_below, is_inside_across, quay_y, y_at_host};
+pub use case::{BerthCase, Pick};
+pub use decided::{Berth, berth_of, has_other_rank, host_of};
+pub use known::{is_outside_across, leads_back, y_of};
+pub use pairs::{are_unordered, do_overlap};
+pub use sizes::{length_of, width_of};
+pub use spans::{are_too_many, is_crowd, is_too_long};
 pub use walk::check_berth_tree;

@@ -2,17 +2,17 @@
 ghost use Rattle.std.specs.Prelude.{◌≡◌, [], ◌∷◌, ◌++◌, length, flat_map, IfOk, OnOk};
 ghost use Rattle.lock_rules.specs.Arrival.{numbers_from};
 ghost use Rattle.refute_rules.specs.BerthTrees.{OfBerth, OfOrder};
-ghost use Rattle.berth_case.specs.Picks.{choice_of};
+ghost use Rattle.berth_check.specs.Picks.{choice_of};
 ghost use Rattle.berth_check.specs.Pending.{extensions, host_cases, IsAdvanced};
 
-use berth_case::{BerthCase, Pick};
+use crate::case::{BerthCase, Pick};
 use lock_model::{Deck, Moor, Rank};
 use plain_text::NoMemory;
 use std::alloc::Global;
 use std::marker::Model;
 
 /// An option that is still to be read, behind the first so many options of the case at hand.
-#[derive(Clone, Copy, Debug, PartialEq, Eq)]
+#[derive(Clone, Copy)]
 pub(crate) struct Branch {
     kept: usize,
     pick: Pick,

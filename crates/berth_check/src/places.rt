@@ -2,10 +2,12 @@
 ghost use Rattle.std.specs.Prelude.{◌≡◌, ◌+◌, ◌<◌, ◌≤◌, ◌↔◌, Some, length, IsTrue, IfSome, IfNone};
 ghost use Rattle.refute_rules.specs.SpotFaults.{IsInsideAlong};
 ghost use Rattle.refute_rules.specs.BerthCases.{host_in};
-ghost use Rattle.berth_case.specs.Picks.{choice_of};
+ghost use Rattle.berth_check.specs.Picks.{choice_of};
 ghost use Rattle.berth_check.specs.Raises.{AreKnown, IsKnownChoice, IsOf, IsForced, IsHostObeyed, IsOrderObeyed, AreHostsObeyed, AreOrdersObeyed, AreSettled, AreBelow, AreInside, HasPlaces};
 
-use berth_case::{BerthCase, Pick, host_of, length_of};
+use crate::case::{BerthCase, Pick};
+use crate::decided::host_of;
+use crate::sizes::length_of;
 use lock_model::Deck;
 
 // A place that a ship is raised to.

@@ -9,7 +9,7 @@ use Rattle.case_search.specs.Berths.{first_berth}
 use Rattle.case_search.proofs.BerthLemmas.{berths-length}
 use Rattle.refute_rules.specs.BerthTrees.{Split, OfBerth, IsOpen, split_options}
 use Rattle.berth_check.specs.Raises.{IsKnownChoice, AreKnown}
-use Rattle.berth_check.proofs.KnownLemmas.{options-known, extended-known}
+use Rattle.berth_check.proofs.OptionLemmas.{options-known, extended-known}
 use Rattle.berth_place.specs.Known.{IsBerth, AreBerths}
 
 module _ (d : Deck) (ship : ℕ) (known : ship < length d.ships) where

@@ -9,7 +9,7 @@ use Rattle.refute_rules.specs.Choices.{Choice, Before}
 use Rattle.refute_rules.specs.BerthCases.{HasOrder, ObeyAlong}
 use Rattle.refute_rules.specs.BerthTrees.{OfOrder, AreUnordered, split_options}
 use Rattle.berth_check.specs.Raises.{AreKnown}
-use Rattle.berth_check.proofs.KnownLemmas.{extended-known}
+use Rattle.berth_check.proofs.OptionLemmas.{extended-known}
 use Rattle.berth_place.specs.declared.pairs.Pair.{Pair}
 use Rattle.berth_place.specs.declared.search.Search.{Search}
 use Rattle.berth_place.specs.Along.{place_count, order_edges, first_edges, along_edges}

@@ -5,7 +5,7 @@ ghost use Rattle.refute_rules.specs.BerthCases.{host_in};
 ghost use Rattle.berth_place.specs.Along.{place_var, place_count, inside_edges, host_edges, berth_edges, first_edges, order_edge};
 ghost use Rattle.berth_check.specs.Raises.{AreKnown};
 
-use berth_case::{BerthCase, host_of, length_of};
+use berth_check::{BerthCase, host_of, length_of};
 use diff_system::{Edge, Edges};
 use lock_model::Deck;
 

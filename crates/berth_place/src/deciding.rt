@@ -8,7 +8,7 @@ ghost use Rattle.berth_place.specs.Visits.{IsBerthing, IsVisit, IsVisitOf};
 use crate::likely::found_fault;
 use crate::ordering::order_ships;
 use crate::search::{Search, Visit, close, try_option};
-use berth_case::{BerthCase, Pick, berth_of, length_of};
+use berth_check::{BerthCase, Pick, berth_of, length_of};
 use case_search::berth_option;
 use lock_model::Deck;
 use plain_text::NoMemory;

@@ -3,7 +3,7 @@ ghost use Rattle.std.specs.Prelude.{◌≡◌, [], ◌∷◌, ◌++◌, IsTrue, 
 ghost use Rattle.refute_rules.specs.BerthFaults.{IsBerthFault, berth_fault_numbers};
 ghost use Rattle.berth_place.specs.Faults.{fault_of};
 
-use berth_case::{
+use berth_check::{
     BerthCase, are_too_many, has_other_rank, is_crowd, is_outside_across, is_too_long, leads_back,
 };
 use lock_model::Deck;

@@ -1,6 +1,6 @@
 //! Where ships lie across the chamber, as far as a case decides it.
 
-use berth_case::{BerthCase, host_of, width_of, y_of};
+use berth_check::{BerthCase, host_of, width_of, y_of};
 use lock_model::Deck;
 
 /// What a ship covers across the chamber: nothing that is known, more than the chamber has, or from

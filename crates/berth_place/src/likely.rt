@@ -7,7 +7,7 @@ ghost use Rattle.berth_place.specs.Faults.{fault_of};
 use crate::crowds::{likely_crowd, span_of};
 use crate::faults::{BerthFault, stands};
 use crate::lanes::{Lane, OPEN, Strip, lane_of};
-use berth_case::{BerthCase, Pick, berth_of, leads_back, length_of};
+use berth_check::{BerthCase, Pick, berth_of, leads_back, length_of};
 use lock_model::{Deck, Moor, Rank};
 
 // A fault of a ship that lies at a host.

@@ -13,7 +13,7 @@ use crate::faults::BerthFault;
 use crate::pairs::{Pair, Pairs, first_touching, overlapping, without};
 use crate::search::{Search, Visit, close, try_option};
 use crate::spotting::{spots_of, whole_fault};
-use berth_case::Pick;
+use berth_check::Pick;
 use diff_system::{LongestPaths, Numbers};
 use lock_model::Deck;
 use plain_text::NoMemory;

@@ -6,7 +6,7 @@ ghost use Rattle.berth_place.specs.Pairs.{ArePairs, AreAllPairs, AreApartAlong, 
 
 use crate::along::{along, place_var};
 use arrayvec::ArrayVec;
-use berth_case::{BerthCase, do_overlap};
+use berth_check::{BerthCase, do_overlap};
 use lock_model::Deck;
 
 /// Two ships of a deck, the lower number first.

@@ -5,7 +5,7 @@ ghost use Rattle.berth_place.specs.Faults.{fault_of};
 ghost use Rattle.berth_place.specs.Visits.{IsVisit, IsTry};
 
 use crate::faults::{BerthFault, write_fault};
-use berth_case::BerthCase;
+use berth_check::BerthCase;
 use diff_system::Edges;
 use lock_model::{Deck, Spots};
 use plain_text::NoMemory;

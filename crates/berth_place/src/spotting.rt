@@ -2,7 +2,7 @@
 ghost use Rattle.std.specs.Prelude.{◌≡◌, ◌<◌, ◌≤◌, ◌≤ℤ◌, pos, Some, length, IfSome, IfNone};
 ghost use Rattle.refute_rules.specs.Decided.{berth_in};
 ghost use Rattle.refute_rules.specs.Known.{y_in};
-ghost use Rattle.berth_case.specs.Lookups.{told_berth};
+ghost use Rattle.berth_check.specs.Lookups.{told_berth};
 ghost use Rattle.diff_rules.specs.Differences.{value_at};
 ghost use Rattle.refute_rules.specs.BerthFaults.{IsBerthFault};
 ghost use Rattle.berth_place.specs.Along.{place_var};
@@ -13,7 +13,9 @@ ghost use Rattle.berth_place.specs.Spotting.{IsSpotOf, AreSpotsOf};
 
 use crate::along::place_var;
 use crate::faults::BerthFault;
-use berth_case::{Berth, BerthCase, berth_of, has_other_rank, is_outside_across, leads_back, y_of};
+use berth_check::{
+    Berth, BerthCase, berth_of, has_other_rank, is_outside_across, leads_back, y_of,
+};
 use lock_model::{Deck, Spot, Spots};
 
 // A fault of a ship.

@@ -4,8 +4,8 @@ use Rattle.std.proofs.lemmas.List.{drop_more, drop_all}
 use Rattle.refute_rules.specs.Choices.{Choice, Stands}
 use Rattle.refute_rules.specs.Decided.{berth_in, x_in}
 use Rattle.place_refute.specs.declared.decision.Pick.{Pick}
-use Rattle.berth_case.specs.declared.decided.Berth.{Berth}
-use Rattle.berth_case.specs.Lookups.{PassesBerth, GivesBerth}
+use Rattle.berth_check.specs.declared.decided.Berth.{Berth}
+use Rattle.berth_check.specs.Lookups.{PassesBerth, GivesBerth}
 use Rattle.place_refute.specs.Picks.{choice_of}
 use Rattle.place_refute.specs.Lookups.{PassesPlace, GivesPlace}
 

@@ -3,16 +3,16 @@ ghost use Rattle.std.specs.Prelude.{◌≡◌, ◌↔◌, IsTrue, IfSome, IfNone
 ghost use Rattle.refute_rules.specs.Decided.{berth_in, x_in, HasOtherRank};
 ghost use Rattle.refute_rules.specs.Known.{host_of, moor_host};
 ghost use Rattle.place_refute.specs.Picks.{choice_of};
-ghost use Rattle.berth_case.specs.Lookups.{told_berth, PassesBerth, GivesBerth, IsOfOtherRank};
+ghost use Rattle.berth_check.specs.Lookups.{told_berth, PassesBerth, GivesBerth, IsOfOtherRank};
 ghost use Rattle.place_refute.specs.Lookups.{PassesPlace, GivesPlace};
 
 use crate::case::Case;
 use crate::decision::Pick;
-use berth_case::Berth;
+use berth_check::Berth;
 use lock_model::{Moor, Rank};
 
 // The berth that an option gives a ship.
-#[tactic(auto, using(berth_case::proofs::LookupLemmas::berth_hit, berth_case::proofs::LookupLemmas::berth_miss))]
+#[tactic(auto, using(berth_check::proofs::LookupLemmas::berth_hit, berth_check::proofs::LookupLemmas::berth_miss))]
 fn berth_by(pick: &Pick, ship: u32) -> Option<Berth>
     ensures none { IfNone result (PassesBerth (choice_of pick.now) ship) }
     ensures some { IfSome result (GivesBerth (choice_of pick.now) ship) }

@@ -8,7 +8,7 @@ use lock_model::{Moor, Rank};
 use std::marker::Model;
 
 /// What is decided: a ship's berth, how two ships are apart, or a ship's place along the chamber.
-#[derive(Clone, Copy, Debug, PartialEq, Eq)]
+#[derive(Clone, Copy)]
 pub(crate) enum Decision {
     Berth(u8),
     Pair(u8, u8),
@@ -17,7 +17,7 @@ pub(crate) enum Decision {
 
 /// An option of a decision: a ship lies at a berth, a ship is before another or below it, or a ship
 /// stands at an x.
-#[derive(Clone, Copy, Debug, PartialEq, Eq)]
+#[derive(Clone, Copy)]
 pub(crate) enum Pick {
     Lies(u8, Rank, Moor),
     Before(u8, u8),

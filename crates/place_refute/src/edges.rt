@@ -1,5 +1,5 @@
 //! The difference constraints of a deck and of its options.
-ghost use Rattle.std.specs.Prelude.{◌≡◌, ◌+◌, ◌*◌, ◌≤◌, ◌++◌, ◌<◌, ◌-ℤ◌, neg_ℤ, pos, [], ◌∷◌, length, take};
+ghost use Rattle.std.specs.Prelude.{◌≡◌, ◌+◌, ◌*◌, ◌≤◌, ◌++◌, ◌<◌, ◌-ℤ◌, ◌≤ℤ◌, neg_ℤ, pos, [], ◌∷◌, length, take};
 ghost use Rattle.lock_model.specs.declared.placement.Moor.TheVariants.{Ship};
 ghost use Rattle.refute_rules.specs.Reasons.{length_at, width_at};
 ghost use Rattle.refute_rules.specs.Edges.{choice_edges, berth_edges, ship_edges};
@@ -110,13 +110,22 @@ fn beside(deck: &Deck, ship: u8) -> i64
     deck.width as i64 - deck.ships.as_slice()[ship as usize].width as i64
 }
 
+// The last x before the far end.
+fn last_along(deck: &Deck) -> i64
+    ensures value { result ≡ pos deck.now.length -ℤ pos deck.now.end }
+    ensures low { neg_ℤ (pos 4294967295) ≤ℤ result }
+    ensures high { result ≤ℤ pos 4294967295 }
+{
+    deck.length as i64 - deck.end as i64
+}
+
 // What a ship's x stays away from the far end, below 0.
 fn back_along(deck: &Deck, ship: u8) -> i64
     requires { ship < length deck.now.ships }
     ensures { result ≡ neg_ℤ (pos deck.now.length -ℤ pos deck.now.end -ℤ pos (length_at deck.now ship)) }
 {
     let length = deck.ships.as_slice()[ship as usize].length as i64;
-    -(deck.length as i64 - deck.end as i64 - length)
+    -(last_along(deck) - length)
 }
 
 // What a ship's y stays away from the right quay, below 0.

@@ -1,24 +1,27 @@
 //! What a cut hits.
 ghost use Rattle.std.specs.Prelude.{◌≡◌, ◌<◌, ◌↔◌, length, All, IsTrue};
-ghost use Rattle.lock_model.specs.Fitting.{Fits, IsNoRoomier, deck_of};
+ghost use Rattle.lock_model.specs.Fitting.{Fits, IsNoRoomier, deck_of, size_of};
 ghost use Rattle.lock_model.specs.Fleet.{chamber_at};
 ghost use Rattle.lock_rules.specs.Cut.{Hits};
 ghost use Rattle.refute_rules.specs.Cuts.{IsCut};
 ghost use Rattle.place_refute.specs.CutHits.{IsShipHit, AreShipsHit};
 
 use crate::cut::Cut;
-use lock_model::{Instance, Ships, Size, no_roomier};
+use lock_model::{Instance, Ship, Ships, Size, no_roomier};
+
+// Whether a ship has this size.
+fn has_size(ship: &Ship, size: &Size) -> bool
+    ensures { IsTrue result ↔ size.now ≡ size_of ship.now }
+{
+    ship.length == size.length && ship.width == size.width && ship.cargo == size.cargo
+}
 
 // Whether a ship is among these ships of the instance, and has this size there.
 fn is_ship_hit(instance: &Instance, ships: &[u8], ship: u8, size: &Size) -> bool
     requires { All (λ s. s < length instance.now.ships) ships.now }
     ensures { IsTrue result ↔ IsShipHit instance.now ships.now ship size.now }
 {
-    if !ships.contains(&ship) {
-        return false;
-    }
-    let own = &instance.ships.as_slice()[ship as usize];
-    own.length == size.length && own.width == size.width && own.cargo == size.cargo
+    ships.contains(&ship) && has_size(&instance.ships.as_slice()[ship as usize], size)
 }
 
 // Whether all these ships of a cut are among the others, and have their sizes in the instance.

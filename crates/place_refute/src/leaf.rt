@@ -14,7 +14,7 @@ use crate::walk::is_positive_cycle;
 use lock_model::Deck;
 
 /// What trees are of.
-#[derive(Clone, Copy, Debug, PartialEq, Eq)]
+#[derive(Clone, Copy)]
 pub(crate) enum Trees {
     OfCases,
     OfSpots,

@@ -3,12 +3,12 @@ ghost use Rattle.std.specs.Prelude.{◌≡◌, ◌≤◌, ◌↔◌, Contains, �
 ghost use Rattle.refute_rules.specs.Reasons.{length_at};
 ghost use Rattle.refute_rules.specs.Known.{hosts_within, y_within, y_in};
 ghost use Rattle.refute_rules.specs.SpotFaults.{IsOutsideAlong, IsOutsideAcross, IsPastHost, AreTouching, AreApartAt, IsInsideAlong};
-ghost use Rattle.berth_case.specs.Reach.{IsWithinReach};
+ghost use Rattle.berth_check.specs.Reach.{IsWithinReach};
 ghost use Rattle.place_refute.specs.SpotReads.{IsWithinHost, IsPast, HasNoPlace, LiesAt};
 
 use crate::case::Case;
 use crate::decided::{berth_of, host_of, x_of};
-use berth_case::{guest_y, is_below, is_inside_across, length_of, quay_y};
+use berth_check::{is_below, is_inside_across, length_of, quay_y, y_at_host};
 use lock_model::{Deck, Moor};
 
 // Where a ship lies, in decimetres.
@@ -39,7 +39,7 @@ pub(crate) fn leads_back(deck: &Deck, case: &Case, ship: u32) -> bool
 }
 
 // A ship's y, where at most so many ships lead down to a quay.
-#[tactic(auto, using(berth_case::proofs::KnownLemmas::y_host))]
+#[tactic(auto, using(berth_check::proofs::KnownLemmas::y_host))]
 fn y_within(deck: &Deck, case: &Case, steps: u8, ship: u32) -> Option<i64>
     requires { steps ≤ 8 }
     ensures value { result ≡ y_within deck.now case.now.choices steps ship }
@@ -52,8 +52,8 @@ fn y_within(deck: &Deck, case: &Case, steps: u8, ship: u32) -> Option<i64>
     match berth.moor {
         Moor::Quay => Some(quay_y(deck, ship, berth.rank)),
         Moor::Ship(host) => {
-            let y = y_within(deck, case, steps - 1, host as u32)?;
-            Some(guest_y(deck, ship, host, berth.rank, y, steps - 1))
+            let host_y = y_within(deck, case, steps - 1, host as u32);
+            y_at_host(deck, ship, host, berth.rank, host_y, steps - 1)
         }
     }
 }
@@ -86,7 +86,7 @@ fn is_outside_along(deck: &Deck, case: &Case, ship: u32) -> bool
 }
 
 // Whether a ship's y is known and it isn't inside across the chamber.
-#[tactic(auto, using(berth_case::proofs::KnownLemmas::across_outside, berth_case::proofs::KnownLemmas::across_inside, berth_case::proofs::KnownLemmas::across_open))]
+#[tactic(auto, using(berth_check::proofs::KnownLemmas::across_outside, berth_check::proofs::KnownLemmas::across_inside, berth_check::proofs::KnownLemmas::across_open))]
 fn is_outside_across(deck: &Deck, case: &Case, ship: u32) -> bool
     ensures { IsTrue result ↔ IsOutsideAcross deck.now case.now.choices ship }
 {

@@ -1,5 +1,5 @@
 use Rattle.std.proofs.Common.{◌-◌, IsTrue, nat_eq, rules, arith}
-use Rattle.berth_case.proofs.KnownLemmas.{leads_here, leads_later}
+use Rattle.berth_check.proofs.KnownLemmas.{leads_here, leads_later}
 use Rattle.place_refute.proofs.spot_faults.+leads_to.Goals as goal
 
 pub returns-then-host-ship : goal.returns-then-host-ship

@@ -1,6 +1,6 @@
 use Rattle.std.proofs.Common.{◌≡◌, [], ◌∷◌, ◌++◌, length, take, ◌+◌, sym, ap, ◌∙◌, arith}
 use Rattle.std.proofs.lemmas.List.{length-take-le, length-append}
-use Rattle.berth_case.specs.Picks.{choice_of}
+use Rattle.berth_check.specs.Picks.{choice_of}
 use Rattle.berth_check.specs.Pending.{Ahead}
 use Rattle.berth_check.proofs.PendingLemmas.{branch_below, branch_left, branch_taken}
 use Rattle.berth_check.proofs.pending.Pending.advance.Goals as goal

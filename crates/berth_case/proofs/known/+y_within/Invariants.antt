@@ -1,4 +1,0 @@
-use Rattle.berth_case.proofs.known.+y_within.Given as goal
-
-abbrev pub decreases-y_within : goal.decreases-y_within
-decreases-y_within l = l.steps

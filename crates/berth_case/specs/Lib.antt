@@ -1,5 +1,0 @@
-pub mod Picks
-pub mod Lookups
-pub mod Reach
-pub mod PairReads
-pub mod CrowdReads

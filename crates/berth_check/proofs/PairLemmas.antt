@@ -1,0 +1,61 @@
+-- Two ships of a berth case, from what is looked up.
+use Rattle.std.proofs.Common.{◌≡◌, ◌≢◌, ℕ, ◌+◌, ◌<◌, ◌≤◌, ℤ, inl, inr, List, [], length, map, get_or, Contains, sym, ap, ◌∙◌, subst, arith, Some, None}
+use Rattle.std.proofs.lemmas.List.{get_or-map, length-map}
+use Rattle.std.proofs.lemmas.Map.Made.{Contains-tail}
+use Rattle.std.proofs.lemmas.Option.{none-some, same_Some}
+use Rattle.lock_model.specs.Deck.{Deck}
+use Rattle.refute_rules.specs.Choices.{Choice, Before}
+use Rattle.refute_rules.specs.Known.{y_in}
+use Rattle.refute_rules.specs.BerthCases.{host_in, HasOrder, DoOverlap, ShareHost}
+use Rattle.berth_check.specs.declared.case.Pick.{Pick}
+use Rattle.berth_check.specs.Picks.{choice_of}
+use Rattle.berth_check.specs.PairReads.{ArePassing, IsOrderLater}
+use Rattle.berth_check.proofs.LookupLemmas.{left_from, left-more, left-none}
+
+module _ (d : Deck) (case : List Choice) (i j : ℕ) where
+  pub overlap_yes : (p q : ℤ) → Some p ≡ y_in d case i → Some q ≡ y_in d case j → (ArePassing d i p j q → ⊥) → DoOverlap d case i j
+  overlap_yes p q a b n = record { yi = p; yj = q; known_i = sym a; known_j = sym b; not_below = λ h. n (inl h); not_above = λ h. n (inr h) }
+
+  pub overlap_no : (p q : ℤ) → Some p ≡ y_in d case i → Some q ≡ y_in d case j → ArePassing d i p j q → DoOverlap d case i j → ⊥
+  overlap_no p q a b h o =
+      let first : p ≡ o.yi = same_Some p o.yi (a ∙ o.known_i) in
+      let second : q ≡ o.yj = same_Some q o.yj (b ∙ o.known_j) in
+      elim (subst (λ u. ArePassing d i o.yi j u) second (subst (λ u. ArePassing d i u j q) first h)) [ inl u ↦ o.not_below u | inr u ↦ o.not_above u ]
+
+  pub overlap_first : None ≡ y_in d case i → DoOverlap d case i j → ⊥
+  overlap_first a o = none-some o.yi (a ∙ o.known_i)
+
+  pub overlap_second : None ≡ y_in d case j → DoOverlap d case i j → ⊥
+  overlap_second a o = none-some o.yj (a ∙ o.known_j)
+
+module _ (case : List Choice) (i j : ℕ) where
+  pub host_yes : (h k : ℕ) → Some h ≡ host_in case i → Some k ≡ host_in case j → h ≡ k → ShareHost case i j
+  host_yes h k a b e = record { host = h; of_i = sym a; of_j = sym (ap Some e ∙ b) }
+
+  pub host_no : (h k : ℕ) → Some h ≡ host_in case i → Some k ≡ host_in case j → h ≢ k → ShareHost case i j → ⊥
+  host_no h k a b n s = n (same_Some h s.host (a ∙ s.of_i) ∙ sym (same_Some k s.host (b ∙ s.of_j)))
+
+  pub host_first : None ≡ host_in case i → ShareHost case i j → ⊥
+  host_first a s = none-some s.host (a ∙ s.of_i)
+
+  pub host_second : None ≡ host_in case j → ShareHost case i j → ⊥
+  host_second a s = none-some s.host (a ∙ s.of_j)
+
+-- options that are those of a case
+module _ (ps : List Pick) (case : List Choice) (i j : ℕ) where
+  pub order_begun : map choice_of ps ≡ case → IsOrderLater case (left_from ps 0) i j
+  order_begun same = record { later = λ h. subst (λ cs. Contains cs (Before i j)) (sym same) h }
+
+  pub order_passed : (k : ℕ) (z : Pick) → k < length ps → (choice_of (get_or ps k z) ≡ Before i j → ⊥) → IsOrderLater case (left_from ps k) i j → IsOrderLater case (left_from ps (k + 1)) i j
+  order_passed k z here n l = record {
+    later = λ h. Contains-tail (choice_of (get_or ps k z)) (left_from ps (k + 1)) (Before i j) n (subst (λ cs. Contains cs (Before i j)) (left-more ps k z here) (l.later h));
+  }
+
+  pub order_found : (k : ℕ) (z : Pick) → map choice_of ps ≡ case → k < length ps → choice_of (get_or ps k z) ≡ Before i j → HasOrder case i j
+  order_found k z all here same = subst (λ cs. Contains cs (Before i j)) all (k, omega (arith, length-map ps choice_of, here), get_or-map choice_of ps k z (Before i j) here ∙ same)
+
+  pub order_absent : (k : ℕ) → length ps ≤ k → IsOrderLater case (left_from ps k) i j → HasOrder case i j → ⊥
+  order_absent k long l h = nothing (subst (λ cs. Contains cs (Before i j)) (left-none ps k long) (l.later h))
+    where
+      nothing : Contains [] (Before i j) → ⊥
+      nothing o = let short : o.0 < 0 = o.1 in omega (arith, short)
