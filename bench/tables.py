@@ -3,12 +3,14 @@
 
 LOT and CROWD are commands that print an instance: `LOT NUMBER SHIPS CHAMBERS` and `CROWD NUMBER SHIPS CHAMBERS`. It asks the kernel for the
 times at which the program enters and leaves the call for one chamber's line (uprobes, so it needs root and a program with its symbols), and
-counts the calls that worked a table out. It prints the number of tables, and their median, 99th percentile and greatest time in
-milliseconds: at the root, at nodes of 12 ships, and of all together."""
+counts the calls that worked a table out. Each instance is solved five times, which works out the same tables in the same order, and of each
+table the least time counts, since whatever else is at work only makes it longer. It prints the number of tables, and their median, 99th
+percentile and greatest time in milliseconds: at the root, at nodes of 12 ships, and of all together."""
 import re, statistics, subprocess, sys
 
 TRACING = "/sys/kernel/tracing"
 CALL, TABLE = "price_bound::reaching::chamber_least", "price_bound::horizon::horizon"
+RUNS = 5
 
 
 def write(file, text, how=">"):
@@ -25,7 +27,14 @@ def offsets(program):
 
 
 def tables(program, instance):
-    """The depth of the node and the milliseconds of each table."""
+    """The depth of the node and the least milliseconds of each table."""
+    runs = [one_run(program, instance) for _ in range(RUNS)]
+    assert all([depth for depth, _ in run] == [depth for depth, _ in runs[0]] for run in runs), "runs differ in their tables"
+    return [(same[0][0], min(time for _, time in same)) for same in zip(*runs)]
+
+
+def one_run(program, instance):
+    """The depth of the node and the milliseconds of each table of one run."""
     write("trace", "")
     subprocess.run([program, "solve", "--workers", "1"], input=instance, stdout=subprocess.DEVNULL, check=True)
     found, asked = [], None
