@@ -35,7 +35,7 @@ turn_box axis from to =
     filled (codes "<g><title>empty turn") [] ++ span_text axis.clock from to
     ++ filled (codes "</title><rect class=\"o\" x=\"%\" y=\"10\" width=\"%\" height=\"29\"/></g>") (x_of axis from ∷ (x_of axis to - x_of axis from) ∷ [])
 
-abbrev pub turn_ground : Drawn → ℕ → Option ℕ → List ℕ
+unfoldable pub turn_ground : Drawn → ℕ → Option ℕ → List ℕ
 turn_ground axis long None = []
 turn_ground axis long (Some minute) = turn_box axis minute (minute + long)
 
@@ -53,7 +53,7 @@ stand_before Up = Low
 stand_before Down = High
 
 -- the water line up to an empty turn and through it, where there is one before a lockage of this way
-abbrev pub slope : Drawn → ℕ → Way → Option ℕ → List ℕ
+unfoldable pub slope : Drawn → ℕ → Way → Option ℕ → List ℕ
 slope axis long way None = []
 slope axis long way (Some minute) = filled (codes "H%L% %") (x_of axis minute ∷ x_of axis (minute + long) ∷ water_at (stand_before way) ∷ [])
 
@@ -81,10 +81,10 @@ closure_box axis from to =
     (x_of axis from ∷ (x_of axis to - x_of axis from) ∷ x_of axis from ∷ (x_of axis to - x_of axis from) ∷ [])
 
 -- it is drawn where it has a minute that isn't left out
-abbrev pub closure_of : Drawn → Closure → List ℕ
+unfoldable pub closure_of : Drawn → Closure → List ℕ
 closure_of axis k = if shows axis.pieces k.from k.to then (closure_box axis k.from k.to) else []
 
 -- the bar at the minute at which a chamber opens, where it is on the axis and not at its beginning
-abbrev pub opening : Drawn → ℕ → List ℕ
+unfoldable pub opening : Drawn → ℕ → List ℕ
 opening axis opens =
     if nat_le opens (first_minute axis.pieces) || nat_lt (last_minute axis.pieces) opens then [] else (filled (codes "<path class=\"nb\" d=\"M% 6V43\"/>") (x_of axis opens ∷ []))

@@ -41,7 +41,7 @@ abbrev pub hull_middle : Hull → ℕ
 hull_middle h = (h.top + h.bottom) / 2
 
 -- its outline, 3 units inside, with the bow to the right for up and to the left for down
-abbrev pub outline : Way → Hull → List ℕ
+unfoldable pub outline : Way → Hull → List ℕ
 outline Up h =
     filled (codes "<path class=\"hu\" d=\"M% %H%L% %V%L% %H%Z\"/></g>")
     ((h.near + 3) ∷ (h.top + 3) ∷ (h.far - 3 - bow_of h) ∷ (h.far - 3) ∷ (h.top + 3 + hull_width h / 3) ∷ (h.bottom - 3 - hull_width h / 3) ∷ (h.far - 3 - bow_of h) ∷ (h.bottom - 3) ∷ (h.near + 3) ∷ [])

@@ -35,12 +35,12 @@ stance_of true r = Beside
 stance_of false r = if nat_le 18 (stretch_width r) then Stacked else Narrow
 
 -- a number and its arrow side by side, from a pixel on
-abbrev pub side_by_side : ℕ → ℕ → Way → ℕ → List ℕ
+unfoldable pub side_by_side : ℕ → ℕ → Way → ℕ → List ℕ
 side_by_side x digits way number =
     filled (codes "<text class=\"n1\" x=\"%\" y=\"29\">%</text>") (x ∷ number ∷ []) ++ arrow_at way (x + 9 * digits + 4) 19
 
 -- a number above its arrow
-abbrev pub stacked : ℕ → Way → ℕ → List ℕ
+unfoldable pub stacked : ℕ → Way → ℕ → List ℕ
 stacked middle way number = filled (codes "<text class=\"n2\" x=\"%\" y=\"23\">%</text>") (middle ∷ number ∷ []) ++ arrow_at way (middle - 4) 26
 
 -- in a narrow box the arrow alone, where it has room
@@ -51,7 +51,7 @@ narrow_arrow way r = if nat_le 13 (stretch_width r) then (arrow_at way (stretch_
 abbrev pub fits_above : ℕ → ℕ → ℕ → Bool
 fits_above last digits middle = nat_le (last + 2 + 3 * digits) middle
 
-abbrev pub number_above : ℕ → ℕ → ℕ → List ℕ
+unfoldable pub number_above : ℕ → ℕ → ℕ → List ℕ
 number_above last middle number =
     if fits_above last (digits_of number) middle then (filled (codes "<text class=\"n3\" x=\"%\" y=\"8\">%</text>") (middle ∷ number ∷ [])) else []
 

@@ -5,12 +5,12 @@ use Rattle.lock_model.specs.declared.way.Way.TheVariants.{Up, Down}
 use Rattle.picture_page.specs.Forms.{filled}
 
 -- an arrow as a picture of its own
-abbrev pub arrow : Way → List ℕ
+unfoldable pub arrow : Way → List ℕ
 arrow Up = codes "<svg class=\"a\" width=\"9\" height=\"11\" aria-hidden=\"true\"><use href=\"#u\"/></svg>"
 arrow Down = codes "<svg class=\"a\" width=\"9\" height=\"11\" aria-hidden=\"true\"><use href=\"#d\"/></svg>"
 
 -- an arrow at a point of a picture
-abbrev pub arrow_at : Way → ℕ → ℕ → List ℕ
+unfoldable pub arrow_at : Way → ℕ → ℕ → List ℕ
 arrow_at Up x y = filled (codes "<use href=\"#u\" x=\"%\" y=\"%\"/>") (x ∷ y ∷ [])
 arrow_at Down x y = filled (codes "<use href=\"#d\" x=\"%\" y=\"%\"/>") (x ∷ y ∷ [])
 
@@ -21,7 +21,7 @@ cargo_mark cargo =
     filled (codes "<svg class=\"k\" width=\"15\" height=\"15\"><title>cargo class %</title><use href=\"#k\"/><text x=\"7\" y=\"11\">%</text></svg>") (cargo ∷ cargo ∷ [])
 
 -- A passage from x on, so wide, between two heights: its ground, the water in it, which rises or falls, and its outline.
-abbrev pub passage_box : Way → ℕ → ℕ → ℕ → ℕ → List ℕ
+unfoldable pub passage_box : Way → ℕ → ℕ → ℕ → ℕ → List ℕ
 passage_box Up x width top bottom =
     filled (codes "<rect class=\"b0\" x=\"%\" y=\"%\" width=\"%\" height=\"%\"/><path class=\"w0\" d=\"M% %H%L% %Z\"/><rect class=\"e0\" x=\"%\" y=\"%\" width=\"%\" height=\"%\"/>")
     (x ∷ top ∷ width ∷ (bottom - top) ∷ x ∷ bottom ∷ (x + width) ∷ (x + width) ∷ top ∷ x ∷ top ∷ width ∷ (bottom - top) ∷ [])

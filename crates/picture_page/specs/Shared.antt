@@ -22,7 +22,7 @@ hatching =
     ++ filled (codes "<path d=\"M0 0H6V6H0Z\" fill=\"#fff\"/><path d=\"M1 0V6\" stroke=\"#5b6a77\" stroke-width=\"2\"/></pattern>\n") []
 
 -- the grid line of a tick in a row so high
-abbrev pub grid_line : ℕ → Tick → List ℕ
+unfoldable pub grid_line : ℕ → Tick → List ℕ
 grid_line height t = filled (codes "<path d=\"M% 0V%\"/>") (t.x ∷ height ∷ [])
 
 -- the grids of ships' rows and of lanes
@@ -32,7 +32,7 @@ grids ticks =
     ++ codes "</g>\n<g id=\"G\" class=\"g\">" ++ flat_map (grid_line 44) ticks ++ codes "</g>\n"
 
 -- a break between two heights: a white strip between two slanted edges
-abbrev pub break_shape : ℕ → ℕ → ℕ → ℕ → List ℕ
+unfoldable pub break_shape : ℕ → ℕ → ℕ → ℕ → List ℕ
 break_shape middle half top bottom =
     filled (codes "<path class=\"tb\" d=\"M% %H%L% %H%Z\"/><path class=\"tl\" d=\"M% %L% %M% %L% %\"/>")
     ((middle + 2 - half) ∷ top ∷ (middle + half + 2) ∷ (middle + half - 2) ∷ bottom ∷ (middle - (half + 2)) ∷ (middle + 2 - half) ∷ top ∷ (middle - (half + 2)) ∷ bottom ∷ (middle + half + 2) ∷ top ∷ (middle + half - 2) ∷ bottom ∷ [])
@@ -54,7 +54,7 @@ tick_label clock minute None = []
 tick_label clock minute (Some middle) = filled (codes "<text x=\"%\" y=\"14\">") (middle ∷ []) ++ time_text clock minute ++ codes "</text>"
 
 -- a tick of the axis
-abbrev pub tick_text : Clock → Tick → List ℕ
+unfoldable pub tick_text : Clock → Tick → List ℕ
 tick_text clock t = filled (codes "<path class=\"tl\" d=\"M% 17V22\"/>") (t.x ∷ []) ++ tick_label clock t.minute t.label
 
 -- THE SHARED SHAPES

@@ -35,11 +35,11 @@ row_passage clock name p =
     filled (codes ", passes in lockage % of chamber ") (p.number ∷ []) ++ name ++ span_text clock p.start (end_of p) ++ filled (codes "</title><use href=\"#g\"/>") []
 
 -- the line of a wait between two pixels, where it has some
-abbrev pub wait_line : ℕ → ℕ → List ℕ
+unfoldable pub wait_line : ℕ → ℕ → List ℕ
 wait_line from to = if nat_le to from then [] else (filled (codes "<path class=\"p\" d=\"M% 8H%\"/>") (from ∷ to ∷ []))
 
 -- the number of a passage in its box where that has room, else behind the box, which ends at a pixel
-abbrev pub row_number : ℕ → Stretch → ℕ → List ℕ
+unfoldable pub row_number : ℕ → Stretch → ℕ → List ℕ
 row_number number r end =
     if nat_le (r.from + 7 * digits_of number + 14) r.to then (filled (codes "<text class=\"n3\" x=\"%\" y=\"12\">%</text>") (stretch_middle r ∷ number ∷ []))
     else (filled (codes "<text class=\"n4\" x=\"%\" y=\"12\">%</text>") ((end + 4) ∷ number ∷ []))

@@ -17,7 +17,7 @@ use Rattle.picture_page.specs.declared.hulls.Hull.{Hull}
 use Rattle.picture_page.specs.declared.scales.DeckScale.{DeckScale}
 
 -- a bollard on the quay of a rank, with its line to a hull
-abbrev pub bollard : Rank → Hull → ℕ → List ℕ
+unfoldable pub bollard : Rank → Hull → ℕ → List ℕ
 bollard Left h x =
     filled (codes "<rect class=\"bo\" x=\"%\" y=\"%\" width=\"32\" height=\"10\"/><path class=\"ti\" d=\"M% %V%\"/>")
     ((x - 16) ∷ (h.top - 24) ∷ x ∷ (h.top - 19) ∷ (h.top + 5) ∷ [])
@@ -26,7 +26,7 @@ bollard Right h x =
     ((x - 16) ∷ (h.bottom + 14) ∷ x ∷ (h.bottom + 19) ∷ (h.bottom - 5) ∷ [])
 
 -- a line with a dot at either end, between two heights
-abbrev pub dotted_line : ℕ → ℕ → ℕ → List ℕ
+unfoldable pub dotted_line : ℕ → ℕ → ℕ → List ℕ
 dotted_line x from to =
     filled (codes "<path class=\"ti\" d=\"M% %V%\"/><circle class=\"bo\" cx=\"%\" cy=\"%\" r=\"7\"/><circle class=\"bo\" cx=\"%\" cy=\"%\" r=\"7\"/>")
     (x ∷ from ∷ to ∷ x ∷ from ∷ x ∷ to ∷ [])

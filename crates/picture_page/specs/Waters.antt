@@ -11,7 +11,7 @@ abbrev pub drawn : DeckScale → ℕ → ℕ
 drawn scale v = max (units_of scale v) 8
 
 -- a gate from a pixel on, with leaves so long, in a chamber so wide; it points to the high water
-abbrev pub gate : ℕ → ℕ → ℕ → List ℕ
+unfoldable pub gate : ℕ → ℕ → ℕ → List ℕ
 gate x leaf width = filled (codes "<path class=\"gt\" d=\"M% 32L% %L% %\"/>") (x ∷ (x + leaf) ∷ (32 + width / 2) ∷ x ∷ (32 + width) ∷ [])
 
 abbrev pub leaf_of : ℕ → ℕ
@@ -25,7 +25,7 @@ basin length width =
     ++ gate (88 - leaf_of width) (leaf_of width) width ++ gate (length + 104) (leaf_of width) width
 
 -- the lines that ships keep clear of, where the chamber asks it
-abbrev pub ends : DeckScale → Chamber → ℕ → List ℕ
+unfoldable pub ends : DeckScale → Chamber → ℕ → List ℕ
 ends scale c width =
     if nat_eq c.end 0 then [] else
     (filled (codes "<path class=\"ed\" d=\"M% 32V%M% 32V%\"/>") ((96 + units_of scale c.end) ∷ (32 + width) ∷ (96 + units_of scale (c.length - c.end)) ∷ (32 + width) ∷ []))

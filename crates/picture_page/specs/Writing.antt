@@ -24,7 +24,7 @@ room_in Down h = record { from = h.near + 36 + bow_of h; to = h.far - 24 }
 abbrev pub is_marked : ℕ → Hull → Room → Bool
 is_marked cargo h r = (nat_lt 0 cargo && nat_le 68 (hull_width h)) && nat_le (r.from + 88) r.to
 
-abbrev pub mark : ℕ → Hull → Room → List ℕ
+unfoldable pub mark : ℕ → Hull → Room → List ℕ
 mark cargo h r =
     if is_marked cargo h r then
     (filled (codes "<use href=\"#k\" transform=\"translate(% %) scale(4)\"/><text class=\"sm mi\" x=\"%\" y=\"%\">%</text>")

@@ -12,7 +12,7 @@ use std::marker::Model;
 
 /// Where each minute lies, in pixels from 20 to 788: pieces of time at one scale, with breaks of one
 /// width between them.
-#[derive(Debug, Drop)]
+#[derive(Drop)]
 pub(crate) struct Axis {
     pieces: Vec<Piece>,
     breaks: Vec<u16>,

@@ -24,11 +24,7 @@ fn put_turn_events(events: &mut Vec<u64>, long: u32, turn: Option<u32>) -> Resul
 {
     match turn {
         None => Ok(()),
-        Some(minute) => {
-            events.push(minute as u64)?;
-            events.push(minute as u64 + long as u64)?;
-            Ok(())
-        }
+        Some(minute) => { events.extend_from_slice(&[minute as u64, minute as u64 + long as u64]) }
     }
 }
 
@@ -41,8 +37,7 @@ fn put_passage_events(
     requires { passage.now.chamber < length instance.now.chambers }
     ensures { OnOk result (events.new.items ≡ events.old.items ++ passage_events instance.now passage.now) }
 {
-    events.push(passage.start as u64)?;
-    events.push(passage.end())?;
+    events.extend_from_slice(&[passage.start as u64, passage.end()])?;
     let chamber = &instance.chambers.as_slice()[passage.chamber as usize];
     put_turn_events(events, chamber.turn, passage.turn)
 }

@@ -62,6 +62,7 @@ fn put_turn_box(out: &mut Vec<u8>, axis: &Axis, from: u64, to: u64) -> Result<()
 }
 
 /// Appends an empty turn of so many minutes, where there is one.
+#[tactic(auto, unfolding(crate::specs::Ground::turn_ground))]
 fn put_turn_ground(
     out: &mut Vec<u8>,
     axis: &Axis,
@@ -108,6 +109,7 @@ fn put_closure_box(out: &mut Vec<u8>, axis: &Axis, from: u64, to: u64) -> Result
 }
 
 /// Appends a closure, where it has a minute that isn't left out.
+#[tactic(auto, unfolding(crate::specs::Ground::closure_of))]
 fn put_closure(out: &mut Vec<u8>, axis: &Axis, closure: &Closure) -> Result<(), NoMemory>
     ensures { OnOk result (out.new.items ≡ out.old.items ++ closure_of axis.now closure.now) }
 {
@@ -136,6 +138,7 @@ pub(crate) fn put_closures(
 
 /// Appends the bar at the minute at which a chamber opens, where it is on the axis and not at its
 /// beginning.
+#[tactic(auto, unfolding(crate::specs::Ground::opening))]
 pub(crate) fn put_opening(out: &mut Vec<u8>, axis: &Axis, opens: u64) -> Result<(), NoMemory>
     ensures { OnOk result (out.new.items ≡ out.old.items ++ opening axis.now opens) }
 {

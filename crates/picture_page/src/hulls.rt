@@ -7,7 +7,7 @@ use crate::scales::{DeckScale, units_of};
 use lock_model::{Instance, Lockage, Ship, Spot};
 
 /// What a ship covers, in units: along the chamber and across it.
-#[derive(Clone, Copy, Debug, PartialEq, Eq)]
+#[derive(Clone, Copy)]
 pub(crate) struct Hull {
     pub(crate) near: u32,
     pub(crate) far: u32,

@@ -12,7 +12,7 @@ use lock_model::Way;
 use plain_text::{NoMemory, put};
 
 /// How the label of a passage stands.
-#[derive(Clone, Copy, Debug, PartialEq, Eq)]
+#[derive(Clone, Copy)]
 pub(crate) enum Stance {
     /// Its number and its arrow side by side.
     Beside,
@@ -53,6 +53,7 @@ fn stance_of(wide: bool, stretch: &Stretch) -> Stance
 }
 
 /// Appends a number and its arrow side by side, from a pixel on.
+#[tactic(auto, unfolding(crate::specs::Labels::side_by_side))]
 fn put_beside(out: &mut Vec<u8>, x: u64, digits: u64, way: Way, number: u8) -> Result<(), NoMemory>
     requires x_small { x < 2 ^ 40 }
     requires few { digits ≤ 2 }
@@ -67,6 +68,7 @@ fn put_beside(out: &mut Vec<u8>, x: u64, digits: u64, way: Way, number: u8) -> R
 }
 
 /// Appends a number above its arrow.
+#[tactic(auto, unfolding(crate::specs::Labels::stacked))]
 fn put_stacked(out: &mut Vec<u8>, middle: u64, way: Way, number: u8) -> Result<(), NoMemory>
     ensures { OnOk result (out.new.items ≡ out.old.items ++ stacked middle way number) }
 {
@@ -99,6 +101,7 @@ fn fits_above(last: u64, digits: u64, middle: u64) -> bool
 }
 
 /// Appends a number above its box, where it has room.
+#[tactic(auto, unfolding(crate::specs::Labels::number_above))]
 fn put_number_above(
     out: &mut Vec<u8>,
     last: u64,

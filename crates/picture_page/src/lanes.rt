@@ -1,6 +1,7 @@
 //! The lanes: a row for each chamber.
 ghost use Rattle.std.specs.Prelude.{◌≡◌, ◌≤◌, ◌<◌, ◌++◌, length, All, OnOk};
 ghost use Rattle.std.specs.List.{flat_map};
+ghost use Rattle.lock_model.specs.Fleet.{ship_at};
 ghost use Rattle.picture_page.specs.KnownPassages.{HasShips};
 ghost use Rattle.picture_page.specs.Lanes.{axis_head, stand_word, closed_text, lane_name, lane_title, next_name, names, box_width, box_title, lockage_box, lane_ground, lane_end, lane, lane_at, lanes, chambers_table};
 
@@ -90,6 +91,14 @@ fn put_lane_title(
     put_form(out, b"</title><use href=\"#G\"/>", &[])
 }
 
+/// The name of a ship.
+fn name_of(instance: &Instance, ship: u8) -> &[u8]
+    requires { ship < length instance.now.ships }
+    ensures { result.now ≡ (ship_at instance.now ship).name }
+{
+    instance.ships.as_slice()[ship as usize].name.as_slice()
+}
+
 /// Appends the names of ships, each after a comma.
 fn put_next_names(out: &mut Vec<u8>, instance: &Instance, ships: &[u8]) -> Result<(), NoMemory>
     requires { All (λ s. s < length instance.now.ships) ships.now }
@@ -97,10 +106,7 @@ fn put_next_names(out: &mut Vec<u8>, instance: &Instance, ships: &[u8]) -> Resul
 {
     for &ship in ships {
         put(out, b", ")?;
-        put(
-            out,
-            instance.ships.as_slice()[ship as usize].name.as_slice(),
-        )?;
+        put(out, name_of(instance, ship))?;
     }
     Ok(())
 }
@@ -113,10 +119,7 @@ fn put_names(out: &mut Vec<u8>, instance: &Instance, ships: &[u8]) -> Result<(),
     match ships {
         [] => Ok(()),
         [first, rest @ ..] => {
-            put(
-                out,
-                instance.ships.as_slice()[*first as usize].name.as_slice(),
-            )?;
+            put(out, name_of(instance, *first))?;
             put_next_names(out, instance, rest)
         }
     }

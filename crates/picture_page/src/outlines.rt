@@ -11,6 +11,7 @@ use lock_model::{Instance, Lockage, Way};
 use plain_text::{NoMemory, put};
 
 /// Appends the outline of a hull, which is bound this way.
+#[tactic(auto, unfolding(crate::specs::Hulls::outline))]
 fn put_outline(out: &mut Vec<u8>, way: Way, hull: &Hull) -> Result<(), NoMemory>
     ensures { OnOk result (out.new.items ≡ out.old.items ++ outline way hull.now) }
 {

@@ -6,7 +6,7 @@ use lock_model::{Ships, Way};
 
 /// A lockage of a day: its number from 1 on, its place in the plan, its chamber, its way, its ships,
 /// the minute of the empty turn before it where it has one, its start, and how many minutes it takes.
-#[derive(Debug, Drop)]
+#[derive(Drop)]
 pub(crate) struct Passage {
     pub(crate) number: u8,
     pub(crate) place: u8,

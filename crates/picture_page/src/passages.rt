@@ -1,5 +1,6 @@
 //! The lockages of a day.
 ghost use Rattle.std.specs.Prelude.{◌≡◌, ◌+◌, ◌<◌, ◌≤◌, ◌++◌, length, All, OnOk, IfOk};
+ghost use Rattle.lock_rules.specs.Lines.{lockage_at};
 ghost use Rattle.lock_rules.specs.Plan.{IsLegal, IsLegalLockage};
 ghost use Rattle.picture_page.specs.Passages.{is_turn, is_go, turn_before, passage_in, passages_from, passages_of, line_of, IsKnownGo};
 ghost use Rattle.picture_page.specs.KnownPassages.{AreKnown};
@@ -70,6 +71,16 @@ fn passage_in(
     }
 }
 
+/// The lockage at a place of a legal plan with its number, and what the day says of it.
+fn passage_at(instance: &Instance, plan: &Plan, day: &[Beat], number: u8, place: u8) -> Passage
+    requires legal { IsLegal instance.now plan.now }
+    requires within { place < length plan.now.lockages }
+    ensures { result ≡ passage_in instance.now day.now number place (lockage_at plan.now place) }
+{
+    let lockage = &plan.lockages.as_slice()[place as usize];
+    passage_in(instance, day, number, place, lockage)
+}
+
 /// Appends the lockages that begin in these beats, numbered from a number on.
 fn put_passages(
     passages: &mut Vec<Passage>,
@@ -88,8 +99,7 @@ fn put_passages(
         [] => Ok(()),
         [beat, rest @ ..] => {
             if is_go(beat.act) {
-                let lockage = &plan.lockages.as_slice()[beat.lockage as usize];
-                passages.push(passage_in(instance, day, number, beat.lockage, lockage))?;
+                passages.push(passage_at(instance, plan, day, number, beat.lockage))?;
                 put_passages(passages, instance, plan, day, number + 1, rest)
             } else {
                 put_passages(passages, instance, plan, day, number, rest)

@@ -12,7 +12,7 @@ pub(crate) const LEFT: u16 = 20;
 pub(crate) const RIGHT: u64 = 788;
 
 /// A piece of the axis: its first and last minute, and where they lie, in pixels.
-#[derive(Clone, Copy, Debug, PartialEq, Eq)]
+#[derive(Clone, Copy)]
 pub(crate) struct Piece {
     pub(crate) from: u64,
     pub(crate) to: u64,
@@ -22,7 +22,7 @@ pub(crate) struct Piece {
 
 /// How minutes become pixels: all pieces have so many minutes and so many pixels, and a break is so
 /// wide.
-#[derive(Clone, Copy, Debug, PartialEq, Eq)]
+#[derive(Clone, Copy)]
 pub(crate) struct AxisScale {
     pub(crate) total: u64,
     pub(crate) room: u64,

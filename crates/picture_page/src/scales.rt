@@ -14,7 +14,7 @@ const MOST_WIDTH: u16 = 800;
 const MOST: u64 = 100_000;
 
 /// So many units, each a quarter of a pixel, for so many decimetres.
-#[derive(Clone, Copy, Debug, PartialEq, Eq)]
+#[derive(Clone, Copy)]
 pub(crate) struct DeckScale {
     pub(crate) units: u16,
     pub(crate) decimetres: u32,

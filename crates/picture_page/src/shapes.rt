@@ -7,6 +7,7 @@ use lock_model::Way;
 use plain_text::{NoMemory, put};
 
 /// Appends an arrow that says a way, as a picture of its own.
+#[tactic(auto, unfolding(crate::specs::Shapes::arrow))]
 pub(crate) fn put_arrow(out: &mut Vec<u8>, way: Way) -> Result<(), NoMemory>
     ensures { OnOk result (out.new.items ≡ out.old.items ++ arrow way) }
 {
@@ -23,6 +24,7 @@ pub(crate) fn put_arrow(out: &mut Vec<u8>, way: Way) -> Result<(), NoMemory>
 }
 
 /// Appends an arrow that says a way, at a point of a picture.
+#[tactic(auto, unfolding(crate::specs::Shapes::arrow_at))]
 pub(crate) fn put_arrow_at(out: &mut Vec<u8>, way: Way, x: u64, y: u64) -> Result<(), NoMemory>
     ensures { OnOk result (out.new.items ≡ out.old.items ++ arrow_at way x y) }
 {
@@ -49,6 +51,7 @@ pub(crate) fn put_cargo(out: &mut Vec<u8>, cargo: u8) -> Result<(), NoMemory>
 
 /// Appends the box of a passage with the water in it, rising or falling. It begins at `x`, is so
 /// wide, and lies between two heights.
+#[tactic(auto, unfolding(crate::specs::Shapes::passage_box))]
 pub(crate) fn put_passage_box(
     out: &mut Vec<u8>,
     way: Way,

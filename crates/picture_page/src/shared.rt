@@ -49,6 +49,7 @@ fn put_hatching(out: &mut Vec<u8>) -> Result<(), NoMemory>
 }
 
 /// Appends the grid line of a tick in a row so high.
+#[tactic(auto, unfolding(crate::specs::Shared::grid_line))]
 fn put_grid_line(out: &mut Vec<u8>, height: u64, tick: &Tick) -> Result<(), NoMemory>
     ensures { OnOk result (out.new.items ≡ out.old.items ++ grid_line height tick.now) }
 {
@@ -78,6 +79,7 @@ fn put_grids(out: &mut Vec<u8>, ticks: &[Tick]) -> Result<(), NoMemory>
 }
 
 /// Appends a break between two heights.
+#[tactic(auto, unfolding(crate::specs::Shared::break_shape))]
 fn put_break_shape(
     out: &mut Vec<u8>,
     middle: u64,
@@ -167,6 +169,7 @@ fn put_tick_label(
 }
 
 /// Appends a tick of the axis.
+#[tactic(auto, unfolding(crate::specs::Shared::tick_text))]
 fn put_tick_text(out: &mut Vec<u8>, clock: Clock, tick: &Tick) -> Result<(), NoMemory>
     ensures { OnOk result (out.new.items ≡ out.old.items ++ tick_text clock tick.now) }
 {

@@ -69,6 +69,7 @@ fn put_row_passage(
 }
 
 /// Appends the line of a wait between two pixels, where it has some.
+#[tactic(auto, unfolding(crate::specs::ShipRows::wait_line))]
 fn put_wait_line(out: &mut Vec<u8>, from: u16, to: u16) -> Result<(), NoMemory>
     ensures { OnOk result (out.new.items ≡ out.old.items ++ wait_line from to) }
 {
@@ -83,6 +84,7 @@ fn put_wait_line(out: &mut Vec<u8>, from: u16, to: u16) -> Result<(), NoMemory>
 }
 
 /// Appends the number of a passage in its box where that has room, else behind it.
+#[tactic(auto, unfolding(crate::specs::ShipRows::row_number))]
 fn put_row_number(
     out: &mut Vec<u8>,
     passage: &Passage,

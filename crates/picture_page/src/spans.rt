@@ -1,5 +1,5 @@
 //! Which spans of time are shown, and which gaps between them are left out.
-ghost use Rattle.std.specs.Prelude.{◌≡◌, ◌++◌, OnOk, IfOk};
+ghost use Rattle.std.specs.Prelude.{◌≡◌, [], ◌∷◌, ◌++◌, OnOk, IfOk};
 ghost use Rattle.picture_page.specs.Points.{sorted, gaps_after};
 ghost use Rattle.picture_page.specs.Spans.{limit_in, is_cut, spans_after, spans_in, spans_of, total_of, with_ends, first_of, last_of};
 
@@ -10,7 +10,7 @@ use std::alloc::{AllocError, Global};
 const SHORT: u64 = 120;
 
 /// A span of minutes, both ends included.
-#[derive(Clone, Copy, Debug, PartialEq, Eq)]
+#[derive(Clone, Copy)]
 pub(crate) struct Span {
     pub(crate) from: u64,
     pub(crate) to: u64,
@@ -43,6 +43,14 @@ fn is_cut(limit: Option<u64>, gap: u64) -> bool
     }
 }
 
+/// Appends a span.
+fn put_span(spans: &mut Vec<Span>, from: u64, to: u64) -> Result<(), AllocError>
+    ensures { OnOk result (spans.new.items ≡ spans.old.items ++ record { from = from; to = to } ∷ []) }
+{
+    spans.push(Span { from, to })?;
+    Ok(())
+}
+
 /// Appends the spans that points make which rise, where a span was begun.
 fn put_spans(
     spans: &mut Vec<Span>,
@@ -54,13 +62,10 @@ fn put_spans(
     ensures { OnOk result (spans.new.items ≡ spans.old.items ++ spans_after limit from to points.now) }
 {
     match points {
-        [] => {
-            spans.push(Span { from, to })?;
-            Ok(())
-        }
+        [] => put_span(spans, from, to),
         [point, rest @ ..] => {
             if is_cut(limit, point.saturating_sub(to)) {
-                spans.push(Span { from, to })?;
+                put_span(spans, from, to)?;
                 put_spans(spans, limit, *point, *point, rest)
             } else {
                 put_spans(spans, limit, from, *point, rest)
@@ -128,18 +133,9 @@ pub(crate) fn put_with_ends(
     match spans {
         [] => Ok(()),
         [span, rest @ ..] => match rest {
-            [] => {
-                out.push(Span {
-                    from: first,
-                    to: last,
-                })?;
-                Ok(())
-            }
+            [] => put_span(out, first, last),
             [next, ..] => {
-                out.push(Span {
-                    from: first,
-                    to: span.to,
-                })?;
+                put_span(out, first, span.to)?;
                 put_with_ends(out, next.from, last, rest)
             }
         },

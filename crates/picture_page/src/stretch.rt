@@ -6,7 +6,7 @@ use crate::axis::Axis;
 use crate::passage::Passage;
 
 /// The pixels of a passage from its start that no break cuts.
-#[derive(Clone, Copy, Debug, PartialEq, Eq)]
+#[derive(Clone, Copy)]
 pub(crate) struct Stretch {
     pub(crate) from: u16,
     pub(crate) to: u32,

@@ -12,7 +12,7 @@ use std::alloc::{AllocError, Global};
 const PLOT: u16 = 812;
 
 /// A tick at a minute and a pixel, and the middle of its label where it has one.
-#[derive(Clone, Copy, Debug, PartialEq, Eq)]
+#[derive(Clone, Copy)]
 pub(crate) struct Tick {
     pub(crate) minute: u64,
     pub(crate) x: u16,
@@ -20,7 +20,7 @@ pub(crate) struct Tick {
 }
 
 /// Where the label of a tick may stand.
-#[derive(Clone, Copy, Debug, PartialEq, Eq)]
+#[derive(Clone, Copy)]
 pub(crate) enum Place {
     /// It begins a little left of the tick, or so that it ends with the picture.
     From,
@@ -29,7 +29,7 @@ pub(crate) enum Place {
 }
 
 /// A tick before its label is placed.
-#[derive(Clone, Copy, Debug, PartialEq, Eq)]
+#[derive(Clone, Copy)]
 pub(crate) struct Mark {
     pub(crate) minute: u64,
     pub(crate) x: u16,
@@ -59,7 +59,6 @@ fn multiples_to(step: u64, first: u64, last: u64) -> u64
 }
 
 /// Appends marks at so many multiples of the step.
-#[tactic(auto, using(crate::proofs::TickLemmas::map_more))]
 fn put_multiples(
     marks: &mut Vec<Mark>,
     axis: &Axis,

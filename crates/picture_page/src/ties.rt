@@ -10,6 +10,7 @@ use lock_model::{Instance, Lockage, Moor, Rank, Spot, Way};
 use plain_text::NoMemory;
 
 /// Appends a bollard on the quay of a rank, with its line to a hull.
+#[tactic(auto, unfolding(crate::specs::Ties::bollard))]
 fn put_bollard(out: &mut Vec<u8>, rank: Rank, hull: &Hull, x: u64) -> Result<(), NoMemory>
     ensures { OnOk result (out.new.items ≡ out.old.items ++ bollard rank hull.now x) }
 {
@@ -36,6 +37,7 @@ fn put_bollard(out: &mut Vec<u8>, rank: Rank, hull: &Hull, x: u64) -> Result<(),
 }
 
 /// Appends a line with a dot at either end, between two heights.
+#[tactic(auto, unfolding(crate::specs::Ties::dotted_line))]
 fn put_dotted_line(out: &mut Vec<u8>, x: u64, from: u64, to: u64) -> Result<(), NoMemory>
     ensures { OnOk result (out.new.items ≡ out.old.items ++ dotted_line x from to) }
 {

@@ -33,6 +33,7 @@ fn stand_before(way: Way) -> Stand
 
 /// Appends the water line up to an empty turn and through it, where there is one before a lockage of
 /// this way.
+#[tactic(auto, unfolding(crate::specs::Ground::slope))]
 fn put_slope(
     out: &mut Vec<u8>,
     axis: &Axis,

@@ -17,6 +17,7 @@ pub(crate) fn drawn(scale: &DeckScale, decimetres: u32) -> u32
 }
 
 /// Appends a gate.
+#[tactic(auto, unfolding(crate::specs::Waters::gate))]
 fn put_gate(out: &mut Vec<u8>, x: u32, leaf: u32, width: u32) -> Result<(), NoMemory>
     ensures { OnOk result (out.new.items ≡ out.old.items ++ gate x leaf width) }
 {
@@ -46,6 +47,7 @@ fn put_basin(out: &mut Vec<u8>, length: u32, width: u32) -> Result<(), NoMemory>
 }
 
 /// Appends the lines that ships keep clear of in a chamber drawn so wide, where it asks it.
+#[tactic(auto, unfolding(crate::specs::Waters::ends))]
 fn put_ends(
     out: &mut Vec<u8>,
     scale: &DeckScale,

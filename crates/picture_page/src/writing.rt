@@ -11,7 +11,7 @@ use lock_model::{Instance, Lockage, Ship, Way};
 use plain_text::{NoMemory, put};
 
 /// The room in a hull for what is written, in units along the chamber. The end may come first.
-#[derive(Clone, Copy, Debug, PartialEq, Eq)]
+#[derive(Clone, Copy)]
 pub(crate) struct Room {
     pub(crate) from: u64,
     pub(crate) to: u64,
@@ -46,6 +46,7 @@ fn is_marked(cargo: u8, hull: &Hull, room: &Room) -> bool
 }
 
 /// Appends the mark of cargo, where it has room.
+#[tactic(auto, unfolding(crate::specs::Writing::mark))]
 fn put_mark(out: &mut Vec<u8>, cargo: u8, hull: &Hull, room: &Room) -> Result<(), NoMemory>
     requires { room.now.from < 2 ^ 34 }
     ensures { OnOk result (out.new.items ≡ out.old.items ++ mark cargo hull.now room.now) }
