@@ -5,7 +5,7 @@ ghost use Rattle.picture_page.specs.Scales.{deck_scale};
 ghost use Rattle.picture_page.specs.Cards.{head_words, head_times, card_head, parting, title_ship, title_ships, height_of, card_title, deck_picture, list_ship, list_row, list_rows, card, card_of, cards};
 
 use crate::berths::{put_berth, ship_of, spot_of};
-use crate::form::put_form;
+use crate::form::{put_between, put_form};
 use crate::outlines::put_hulls;
 use crate::passage::Passage;
 use crate::scales::{DeckScale, deck_scale};
@@ -30,9 +30,7 @@ fn put_head_words(out: &mut Vec<u8>, name: &[u8], passage: &Passage) -> Result<(
         &[passage.number as u64],
     )?;
     put_arrow(out, passage.way)?;
-    put_form(out, b"</b><span>", &[])?;
-    put(out, way_word(passage.way))?;
-    put_form(out, b" in <strong>", &[])?;
+    put_between(out, b"</b><span>", way_word(passage.way), b" in <strong>")?;
     put(out, name)
 }
 
@@ -161,9 +159,7 @@ fn put_list_ship(out: &mut Vec<u8>, ship: &Ship, place: u8) -> Result<(), NoMemo
     requires { place < 8 }
     ensures { OnOk result (out.new.items ≡ out.old.items ++ list_ship ship.now place) }
 {
-    put_form(out, b"<tr><td>", &[])?;
-    put(out, &[b'A' + place])?;
-    put_form(out, b"</td><td>", &[])?;
+    put_between(out, b"<tr><td>", &[b'A' + place], b"</td><td>")?;
     put(out, ship.name.as_slice())?;
     put_cargo(out, ship.cargo)?;
     put_form(out, b"</td><td class=\"v\">", &[])?;

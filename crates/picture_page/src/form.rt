@@ -1,5 +1,5 @@
 //! Texts with numbers in the places of their `%` signs.
-ghost use Rattle.std.specs.Prelude.{◌≡◌, ◌++◌, OnOk};
+ghost use Rattle.std.specs.Prelude.{[], ◌≡◌, ◌++◌, OnOk};
 ghost use Rattle.picture_page.specs.Forms.{filled};
 
 use plain_text::{NoMemory, put, put_number};
@@ -24,4 +24,18 @@ pub(crate) fn put_form(out: &mut Vec<u8>, form: &[u8], numbers: &[u64]) -> Resul
             put_form(out, rest, numbers)
         }
     }
+}
+
+/// Appends a text between two others.
+pub(crate) fn put_between(
+    out: &mut Vec<u8>,
+    before: &[u8],
+    text: &[u8],
+    after: &[u8],
+) -> Result<(), NoMemory>
+    ensures { OnOk result (out.new.items ≡ out.old.items ++ (filled before.now [] ++ text.now ++ filled after.now [])) }
+{
+    put_form(out, before, &[])?;
+    put(out, text)?;
+    put_form(out, after, &[])
 }

@@ -6,7 +6,7 @@ ghost use Rattle.picture_page.specs.KnownPassages.{HasShips};
 ghost use Rattle.picture_page.specs.Lanes.{axis_head, stand_word, closed_text, lane_name, lane_title, next_name, names, box_width, box_title, lockage_box, lane_ground, lane_end, lane, lane_at, lanes, chambers_table};
 
 use crate::axis::Axis;
-use crate::form::put_form;
+use crate::form::{put_between, put_form};
 use crate::ground::{put_closures, put_ground, put_opening, put_span};
 use crate::labels::{are_wide, put_labels, put_opens};
 use crate::passage::Passage;
@@ -58,9 +58,8 @@ fn put_closed(out: &mut Vec<u8>, clock: Clock, closures: &Closures) -> Result<()
 fn put_lane_name(out: &mut Vec<u8>, chamber: &Chamber) -> Result<(), NoMemory>
     ensures { OnOk result (out.new.items ≡ out.old.items ++ lane_name chamber.now) }
 {
-    put_form(out, b"<tr><th scope=\"row\"><b>", &[])?;
-    put(out, chamber.name.as_slice())?;
-    put_form(out, b"</b><small>", &[])?;
+    let name = chamber.name.as_slice();
+    put_between(out, b"<tr><th scope=\"row\"><b>", name, b"</b><small>")?;
     put_measures(out, chamber.length, chamber.width)?;
     put_form(out, b"</small></th>", &[])
 }
@@ -75,17 +74,19 @@ fn put_lane_title(
 ) -> Result<(), NoMemory>
     ensures { OnOk result (out.new.items ≡ out.old.items ++ lane_title clock count chamber.now) }
 {
-    put_form(
+    put_between(
         out,
         b"<td><svg width=\"812\" height=\"44\" role=\"img\"><title>Chamber ",
-        &[],
+        chamber.name.as_slice(),
+        b": opens ",
     )?;
-    put(out, chamber.name.as_slice())?;
-    put_form(out, b": opens ", &[])?;
     put_time(out, clock, chamber.opens as u64)?;
-    put_form(out, b", stands ", &[])?;
-    put(out, stand_word(chamber.stands))?;
-    put_form(out, b" at first, ", &[])?;
+    put_between(
+        out,
+        b", stands ",
+        stand_word(chamber.stands),
+        b" at first, ",
+    )?;
     put_count(out, count, b"lockage")?;
     put_closed(out, clock, &chamber.closures)?;
     put_form(out, b"</title><use href=\"#G\"/>", &[])

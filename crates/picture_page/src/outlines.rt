@@ -3,12 +3,12 @@ ghost use Rattle.std.specs.Prelude.{◌≡◌, ◌<◌, ◌++◌, length, All, O
 ghost use Rattle.picture_page.specs.Hulls.{outline, hull_text, hulls};
 
 use crate::berths::{put_berth, ship_of};
-use crate::form::put_form;
+use crate::form::{put_between, put_form};
 use crate::hulls::{Hull, hull_of};
 use crate::scales::DeckScale;
 use crate::words::put_measures;
 use lock_model::{Instance, Lockage, Way};
-use plain_text::{NoMemory, put};
+use plain_text::NoMemory;
 
 /// Appends the outline of a hull, which is bound this way.
 #[tactic(auto, unfolding(crate::specs::Hulls::outline))]
@@ -52,9 +52,7 @@ fn put_hull(
     ensures { OnOk result (out.new.items ≡ out.old.items ++ hull_text scale.now instance.now lockage.now place) }
 {
     let ship = ship_of(instance, lockage, place);
-    put_form(out, b"<g><title>", &[])?;
-    put(out, ship.name.as_slice())?;
-    put_form(out, b", ", &[])?;
+    put_between(out, b"<g><title>", ship.name.as_slice(), b", ")?;
     put_measures(out, ship.length, ship.width)?;
     put_form(out, b", ", &[])?;
     put_berth(out, instance, lockage, place)?;

@@ -4,7 +4,7 @@ ghost use Rattle.picture_page.specs.KnownPassages.{HasChamber};
 ghost use Rattle.picture_page.specs.ShipRows.{row_name, row_wait, row_passage, wait_line, row_number, row_picture, row, row_among, rows, ships_table};
 
 use crate::axis::Axis;
-use crate::form::put_form;
+use crate::form::{put_between, put_form};
 use crate::ground::put_span;
 use crate::lanes::{box_width, put_axis};
 use crate::passage::Passage;
@@ -34,13 +34,12 @@ fn put_row_name(out: &mut Vec<u8>, ship: &Ship) -> Result<(), NoMemory>
 fn put_row_wait(out: &mut Vec<u8>, clock: Clock, ship: &Ship, start: u32) -> Result<(), NoMemory>
     ensures { OnOk result (out.new.items ≡ out.old.items ++ row_wait clock ship.now start) }
 {
-    put_form(
+    put_between(
         out,
         b"<td><svg width=\"812\" height=\"16\" role=\"img\"><title>",
-        &[],
+        ship.name.as_slice(),
+        b", ",
     )?;
-    put(out, ship.name.as_slice())?;
-    put_form(out, b", ", &[])?;
     put(out, way_word(ship.way))?;
     put_form(out, b": arrives ", &[])?;
     put_time(out, clock, ship.arrival as u64)?;

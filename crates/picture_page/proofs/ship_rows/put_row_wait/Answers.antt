@@ -8,13 +8,11 @@ unfolding row_wait
 returns c =
     IfOk-equal c.put_count.result _ _ _ c.put_count.ensures
     (rw (
-      c.in_ok-put_form-4.ensures,
-      c.in_ok-put_time.ensures,
-      c.in_ok-put_form-3.ensures,
-      c.in_ok-put-2.ensures,
       c.in_ok-put_form-2.ensures,
-      c.in_ok-put.ensures,
+      c.in_ok-put_time.ensures,
       c.in_ok-put_form.ensures,
+      c.in_ok-put.ensures,
+      c.in_ok-put_between.ensures,
       c.as_slice.ensures.value,
       c.way_word.ensures,
       c.saturating_sub.ensures,
