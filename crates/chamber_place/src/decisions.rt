@@ -9,7 +9,7 @@ use case_search::berth_option;
 use lock_model::Deck;
 
 /// What is decided: the berth of a ship, or how two ships are apart, the lower number first.
-#[derive(Clone, Copy, Debug, PartialEq, Eq)]
+#[derive(Clone, Copy)]
 pub(crate) enum Decision {
     Berthing(u8),
     Pair(u8, u8),

@@ -62,15 +62,20 @@ pub(crate) fn least_along(deck: &Deck) -> i64
     deck.end as i64
 }
 
+/// The end of the room along the chamber.
+fn last_along(deck: &Deck) -> i64
+    ensures { result ≡ pos deck.now.length -ℤ pos deck.now.end }
+{
+    deck.length as i64 - deck.end as i64
+}
+
 /// The greatest x that keeps a ship inside, with the other sign.
 pub(crate) fn back_along(deck: &Deck, ship: u8) -> i64
     requires { ship < length deck.now.ships }
     ensures { result ≡ neg_ℤ (pos deck.now.length -ℤ pos deck.now.end -ℤ pos (length_at deck.now ship)) }
 {
-    let room = deck.length as i64
-        - deck.end as i64
-        - deck.ships.as_slice()[ship as usize].length as i64;
-    -room
+    let length = deck.ships.as_slice()[ship as usize].length as i64;
+    -(last_along(deck) - length)
 }
 
 /// The greatest y that keeps a ship inside.

@@ -10,7 +10,7 @@ use diff_system::{Edge, Edges};
 use lock_model::{Deck, Moor, Rank};
 
 /// An option of a decision: a ship lies at a berth, a ship is before another, or below another.
-#[derive(Clone, Copy, Debug, PartialEq, Eq)]
+#[derive(Clone, Copy)]
 pub(crate) enum Pick {
     Lies(u8, Berth),
     Before(u8, u8),

@@ -1,5 +1,5 @@
 -- What has been read stays within the limits of an instance.
-use Rattle.std.proofs.Common.{◌≡◌, ◌≢◌, ℕ, ◌<◌, ◌≤◌, List, [], ◌∷◌, ◌++◌, length, get_or, set, All, sym, ap, refl, subst, ◌∙◌, ⊎_elim, arith}
+use Rattle.std.proofs.Common.{◌≡◌, ◌≢◌, ℕ, ◌<◌, List, [], ◌∷◌, ◌++◌, length, get_or, set, All, sym, ap, refl, subst, ◌∙◌, ⊎_elim, arith}
 use Rattle.std.proofs.lemmas.Bool.{cases_eq}
 use Rattle.std.proofs.lemmas.List.{length_push, length-set, get_or_default, get_or-set_same, get_or-set_other}
 use Rattle.std.proofs.lemmas.List.Elements.{All-nil, All-push, All-set}
@@ -9,7 +9,7 @@ use Rattle.lock_model.specs.Fleet.{no_chamber}
 use Rattle.lock_model.specs.declared.chamber.Chamber.{Chamber}
 use Rattle.lock_model.specs.declared.closure.Closure.{Closure}
 use Rattle.lock_model.specs.declared.ship.Ship.{Ship}
-use Rattle.instance_text.specs.Draft.{IsDraft}
+use Rattle.instance_text.specs.Draft.{IsDraft, IsWhole}
 use Rattle.instance_text.specs.Closing.{CanClose, with_closure, put_closure}
 use Rattle.instance_text.proofs.ClosureLemmas.{put_closure-kept}
 
@@ -67,10 +67,10 @@ one_more_closure cs ss place closure draft can =
       ship_names = draft.ship_names;
     }
 
-pub whole : (cs : List Chamber) (ss : List Ship) → IsDraft cs ss → 1 ≤ length cs → 1 ≤ length ss → IsInstance cs ss
-whole cs ss draft chamber ship = record {
-  chamber_count = (chamber, draft.few_chambers);
-  ship_count = (ship, draft.few_ships);
+pub whole : (cs : List Chamber) (ss : List Ship) → IsDraft cs ss → IsWhole (record { chambers = cs; ships = ss }) → IsInstance cs ss
+whole cs ss draft enough = record {
+  chamber_count = (enough.chamber, draft.few_chambers);
+  ship_count = (enough.ship, draft.few_ships);
   chamber = draft.chamber;
   ship = draft.ship;
   chamber_names = draft.chamber_names;

@@ -2,6 +2,7 @@ pub mod Rows
 pub mod NameLemmas
 pub mod ClosureLemmas
 pub mod ClosingLemmas
+pub mod ClosingParts
 pub mod DraftLemmas
 pub mod EnoughLemmas
 pub mod ReadingLemmas

@@ -1,5 +1,5 @@
 -- Lines as they are appended, word by word.
-use Rattle.std.proofs.Common.{◌≡◌, ℕ, Bool, true, false, cond, List, [], ◌∷◌, ◌++◌, codes, map, ap, sym, ◌∙◌, refl}
+use Rattle.std.proofs.Common.{◌≡◌, ℕ, Bool, true, false, cond, List, [], ◌∷◌, ◌++◌, codes, decimal, map, ap, sym, ◌∙◌, refl}
 use Rattle.std.specs.List.{join_with_byte, flat_map}
 use Rattle.std.proofs.lemmas.List.{append_assoc}
 use Rattle.std.proofs.lemmas.Grind.{flat_map-append}
@@ -7,7 +7,7 @@ use Rattle.lock_model.specs.declared.instance.Instance.{Instance}
 use Rattle.lock_model.specs.declared.chamber.Chamber.{Chamber}
 use Rattle.lock_model.specs.declared.ship.Ship.{Ship}
 use Rattle.line_text.specs.Printed.{line}
-use Rattle.instance_text.specs.Canonical.{chamber_words, closings, ship_words, header_words, is_plain, canonical, canonical_words}
+use Rattle.instance_text.specs.Canonical.{field, chamber_words, closings, ship_words, header_words, is_plain, canonical, canonical_words}
 
 -- words with one space between before a rest
 abbrev pub line_before : List (List ℕ) → List ℕ → List ℕ
@@ -20,18 +20,45 @@ line_is [] rest = refl
 line_is (w ∷ []) rest = refl
 line_is (w ∷ v ∷ more) rest = append_assoc w (32 ∷ join_with_byte 32 (v ∷ more)) rest ∙ ap (λ xs. w ++ 32 ∷ xs) (line_is (v ∷ more) rest)
 
-eleven : (o p q r s t u v w x y : List ℕ) → o ++ p ++ q ++ r ++ s ++ t ++ u ++ v ++ w ++ x ++ y ≡ o ++ (p ++ (q ++ (r ++ (s ++ (t ++ (u ++ (v ++ (w ++ (x ++ y)))))))))
-eleven o p q r s t u v w x y = simp append_assoc
+-- numbers after spaces before a rest
+abbrev fields_before : List ℕ → List ℕ → List ℕ
+fields_before [] rest = rest
+fields_before (n ∷ more) rest = 32 ∷ (decimal n ++ fields_before more rest)
 
-fifteen : (o p q r s t u v w x y a b c d : List ℕ) → o ++ p ++ q ++ r ++ s ++ t ++ u ++ v ++ w ++ x ++ y ++ a ++ b ++ c ++ d ≡ o ++ (p ++ (q ++ (r ++ (s ++ (t ++ (u ++ (v ++ (w ++ (x ++ (y ++ (a ++ (b ++ (c ++ d)))))))))))))
-fifteen o p q r s t u v w x y a b c d = simp append_assoc
+fields_are : (numbers rest : List ℕ) → flat_map field numbers ++ rest ≡ fields_before numbers rest
+unfolding field
+fields_are [] rest = refl
+fields_are (n ∷ more) rest = append_assoc (field n) (flat_map field more) rest ∙ ap (λ xs. field n ++ xs) (fields_are more rest)
 
-pub ship_line : (o n w a b c d e : List ℕ) (none : Bool) → o ++ codes "ship " ++ n ++ codes " " ++ w ++ 32 ∷ a ++ 32 ∷ b ++ 32 ∷ c ++ 32 ∷ d ++ cond none [] (32 ∷ e) ++ 10 ∷ [] ≡ o ++ line ((codes "ship" ∷ n ∷ w ∷ a ∷ b ∷ c ∷ d ∷ []) ++ cond none [] (e ∷ []))
-ship_line o n w a b c d e true = eleven o (codes "ship ") n (codes " ") w (32 ∷ a) (32 ∷ b) (32 ∷ c) (32 ∷ d) [] (10 ∷ []) ∙ ap (λ xs. o ++ xs) (sym (line_is (codes "ship" ∷ n ∷ w ∷ a ∷ b ∷ c ∷ d ∷ []) (10 ∷ [])))
-ship_line o n w a b c d e false = eleven o (codes "ship ") n (codes " ") w (32 ∷ a) (32 ∷ b) (32 ∷ c) (32 ∷ d) (32 ∷ e) (10 ∷ []) ∙ ap (λ xs. o ++ xs) (sym (line_is (codes "ship" ∷ n ∷ w ∷ a ∷ b ∷ c ∷ d ∷ e ∷ []) (10 ∷ [])))
+eight : (o p q r s t u v : List ℕ) → o ++ p ++ q ++ r ++ s ++ t ++ u ++ v ≡ o ++ (p ++ (q ++ (r ++ (s ++ (t ++ (u ++ v))))))
+eight o p q r s t u v = simp append_assoc
 
-pub chamber_line : (o n a b c d e f g h s i : List ℕ) → o ++ codes "chamber " ++ n ++ 32 ∷ a ++ 32 ∷ b ++ 32 ∷ c ++ 32 ∷ d ++ 32 ∷ e ++ 32 ∷ f ++ 32 ∷ g ++ 32 ∷ h ++ codes " " ++ s ++ 32 ∷ i ++ 10 ∷ [] ≡ o ++ line (codes "chamber" ∷ n ∷ a ∷ b ∷ c ∷ d ∷ e ∷ f ∷ g ∷ h ∷ s ∷ i ∷ [])
-chamber_line o n a b c d e f g h s i = fifteen o (codes "chamber ") n (32 ∷ a) (32 ∷ b) (32 ∷ c) (32 ∷ d) (32 ∷ e) (32 ∷ f) (32 ∷ g) (32 ∷ h) (codes " ") s (32 ∷ i) (10 ∷ []) ∙ ap (λ xs. o ++ xs) (sym (line_is (codes "chamber" ∷ n ∷ a ∷ b ∷ c ∷ d ∷ e ∷ f ∷ g ∷ h ∷ s ∷ i ∷ []) (10 ∷ [])))
+pub ship_line : (o n w : List ℕ) (a b c d e : ℕ) (none : Bool) → o ++ codes "ship " ++ n ++ codes " " ++ w ++ flat_map field (a ∷ b ∷ c ∷ d ∷ []) ++ cond none [] (field e) ++ 10 ∷ [] ≡ o ++ line ((codes "ship" ∷ n ∷ w ∷ decimal a ∷ decimal b ∷ decimal c ∷ decimal d ∷ []) ++ cond none [] (decimal e ∷ []))
+unfolding field
+ship_line o n w a b c d e true = eight o (codes "ship ") n (codes " ") w (flat_map field (a ∷ b ∷ c ∷ d ∷ [])) [] (10 ∷ [])
+    ∙ ap (λ xs. o ++ (codes "ship " ++ (n ++ 32 ∷ (w ++ xs)))) (fields_are (a ∷ b ∷ c ∷ d ∷ []) (10 ∷ []))
+    ∙ ap (λ xs. o ++ xs) (sym (line_is (codes "ship" ∷ n ∷ w ∷ decimal a ∷ decimal b ∷ decimal c ∷ decimal d ∷ []) (10 ∷ [])))
+ship_line o n w a b c d e false = eight o (codes "ship ") n (codes " ") w (flat_map field (a ∷ b ∷ c ∷ d ∷ [])) (field e) (10 ∷ [])
+    ∙ ap (λ xs. o ++ (codes "ship " ++ (n ++ 32 ∷ (w ++ xs)))) (fields_are (a ∷ b ∷ c ∷ d ∷ []) (field e ++ 10 ∷ []))
+    ∙ ap (λ xs. o ++ xs) (sym (line_is (codes "ship" ∷ n ∷ w ∷ decimal a ∷ decimal b ∷ decimal c ∷ decimal d ∷ decimal e ∷ []) (10 ∷ [])))
+
+nine : (o p q r s t u v w : List ℕ) → o ++ p ++ q ++ r ++ s ++ t ++ u ++ v ++ w ≡ o ++ (p ++ (q ++ (r ++ (s ++ (t ++ (u ++ (v ++ w)))))))
+nine o p q r s t u v w = simp append_assoc
+
+pub chamber_line : (o n : List ℕ) (a b c d e f g h : ℕ) (s : List ℕ) (i : ℕ) → o ++ codes "chamber " ++ n ++ flat_map field (a ∷ b ∷ c ∷ d ∷ e ∷ []) ++ flat_map field (f ∷ g ∷ h ∷ []) ++ codes " " ++ s ++ field i ++ 10 ∷ [] ≡ o ++ line (codes "chamber" ∷ n ∷ decimal a ∷ decimal b ∷ decimal c ∷ decimal d ∷ decimal e ∷ decimal f ∷ decimal g ∷ decimal h ∷ s ∷ decimal i ∷ [])
+unfolding field
+chamber_line o n a b c d e f g h s i = nine o (codes "chamber ") n (flat_map field (a ∷ b ∷ c ∷ d ∷ e ∷ [])) (flat_map field (f ∷ g ∷ h ∷ [])) (codes " ") s (field i) (10 ∷ [])
+    ∙ ap (λ xs. o ++ (codes "chamber " ++ (n ++ xs))) (fields_are (a ∷ b ∷ c ∷ d ∷ e ∷ []) (flat_map field (f ∷ g ∷ h ∷ []) ++ (codes " " ++ (s ++ (field i ++ 10 ∷ [])))))
+    ∙ ap (λ xs. o ++ (codes "chamber " ++ (n ++ fields_before (a ∷ b ∷ c ∷ d ∷ e ∷ []) xs))) (fields_are (f ∷ g ∷ h ∷ []) (codes " " ++ (s ++ (field i ++ 10 ∷ []))))
+    ∙ ap (λ xs. o ++ xs) (sym (line_is (codes "chamber" ∷ n ∷ decimal a ∷ decimal b ∷ decimal c ∷ decimal d ∷ decimal e ∷ decimal f ∷ decimal g ∷ decimal h ∷ s ∷ decimal i ∷ []) (10 ∷ [])))
+
+five : (o p q r s : List ℕ) → o ++ p ++ q ++ r ++ s ≡ o ++ (p ++ (q ++ (r ++ s)))
+five o p q r s = simp append_assoc
+
+pub closing_line : (o n : List ℕ) (a b : ℕ) → o ++ codes "close " ++ n ++ flat_map field (a ∷ b ∷ []) ++ 10 ∷ [] ≡ o ++ line (codes "close" ∷ n ∷ decimal a ∷ decimal b ∷ [])
+closing_line o n a b = five o (codes "close ") n (flat_map field (a ∷ b ∷ [])) (10 ∷ [])
+    ∙ ap (λ xs. o ++ (codes "close " ++ (n ++ xs))) (fields_are (a ∷ b ∷ []) (10 ∷ []))
+    ∙ ap (λ xs. o ++ xs) (sym (line_is (codes "close" ∷ n ∷ decimal a ∷ decimal b ∷ []) (10 ∷ [])))
 
 -- the canonical text part by part
 pub canonical_is : (I : Instance) → canonical I ≡ line (header_words (is_plain I)) ++ flat_map line (map chamber_words I.chambers) ++ flat_map line (flat_map closings I.chambers) ++ flat_map line (map ship_words I.ships) ++ codes "end\n"

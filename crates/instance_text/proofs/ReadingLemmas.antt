@@ -5,7 +5,8 @@ use Rattle.line_text.proofs.ReaderLemmas as reader
 use Rattle.instance_text.specs.declared.bad.Bad.{Bad}
 use Rattle.instance_text.specs.declared.bad.Kind.{Kind}
 use Rattle.instance_text.specs.Draft.{Draft, draft_of}
-use Rattle.instance_text.specs.Reading.{reading, Means, Defect, bad}
+use Rattle.line_text.specs.declared.progress.Progress.{Progress}
+use Rattle.instance_text.specs.Reading.{reading, Means, Defect, bad, answered}
 use Rattle.lock_model.proofs.InstanceLemmas.{same_instance}
 
 draft_of-one : (I I' : Instance) → draft_of I ≡ draft_of I' → I ≡ I'
@@ -38,3 +39,12 @@ pub defect_if : (text : List ℕ) (r : Result Instance Bad) → IfErr r (λ b. r
 unfolding Defect
 defect_if text (Ok J) err = err
 defect_if text (Err b) err = err
+
+-- what a line says, by whether it has a fault
+pub read_if : (read : Result (Progress × Draft) Kind) (draft : Draft) (r : Result Progress Kind) → read ≡ answered draft r → IfOk r (λ p. read ≡ Ok (p, draft))
+read_if read draft (Ok p) value = value
+read_if read draft (Err kind) value = tt
+
+pub bad_if : (read : Result (Progress × Draft) Kind) (draft : Draft) (r : Result Progress Kind) → read ≡ answered draft r → IfErr r (λ kind. read ≡ Err kind)
+bad_if read draft (Ok p) value = tt
+bad_if read draft (Err kind) value = value

@@ -30,13 +30,17 @@ closing_words name k = codes "close" ∷ name ∷ decimal k.from ∷ decimal k.t
 abbrev pub closings : Chamber → List (List (List ℕ))
 closings c = map (closing_words c.name) c.closures
 
+-- a number as it stands in a line, after a space
+unfoldable pub field : ℕ → List ℕ
+field n = 32 ∷ decimal n
+
 -- a cargo class other than 0 as a last word
 abbrev pub cargo_words : ℕ → List (List ℕ)
 cargo_words cargo = if cargo == 0 then [] else decimal cargo ∷ []
 
 -- the same as it stands in the line
 abbrev pub cargo_field : ℕ → List ℕ
-cargo_field cargo = if cargo == 0 then [] else 32 ∷ decimal cargo
+cargo_field cargo = if cargo == 0 then [] else field cargo
 
 unfoldable pub ship_words : Ship → List (List ℕ)
 ship_words s = (codes "ship" ∷ s.name ∷ way_word s.way ∷ decimal s.length ∷ decimal s.width ∷ decimal s.arrival ∷ decimal s.handling ∷ []) ++ cargo_words s.cargo

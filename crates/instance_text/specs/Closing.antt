@@ -40,6 +40,22 @@ read_closing chambers words = do
   check (is_free (record { from = from; to = to }) (closures_of chambers place)) Overlap
   Ok (place, record { from = from; to = to })
 
+-- the part `<chamber>` of such a line: the number of a chamber that has room for one more closure
+unfoldable pub chamber_to_close : List Chamber → List ℕ → Result ℕ Kind
+chamber_to_close chambers word = do
+  word ← name word
+  place ← chamber_named chambers word
+  check (nat_lt (length (closures_of chambers place)) 8) Range
+  Ok place
+
+-- the part `<from> <to>`: a closure that is free of the others of its chamber
+unfoldable pub read_minutes : List Closure → List (List ℕ) → Result Closure Kind
+read_minutes others words = do
+  from ← number 0 1000000 (word_at words 2)
+  to ← number 0 1000000 (word_at words 3)
+  check (is_free (record { from = from; to = to }) others) Overlap
+  Ok (record { from = from; to = to })
+
 -- what such a line shows of a closure
 pub record CanClose (chambers : List Chamber) (place : ℕ) (closure : Closure) : Type 0 where
   pub known : place < length chambers

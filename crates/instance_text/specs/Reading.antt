@@ -52,6 +52,11 @@ read_line format draft words =
     else (if bytes_eq (word_at words 0) (codes "end") then read_end draft words
     else Err Word))))
 
+-- how far a line brings the text, with the draft that it leaves
+abbrev pub answered : Draft → Result Progress Kind → Result (Progress × Draft) Kind
+answered draft (Ok progress) = Ok (progress, draft)
+answered draft (Err kind) = Err kind
+
 -- the format that the words of the header name
 unfoldable pub format_of : List (List ℕ) → Option Format
 format_of words =

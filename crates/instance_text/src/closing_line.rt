@@ -4,7 +4,7 @@ ghost use Rattle.std.specs.List.{list_any, position_or_len};
 ghost use Rattle.lock_model.specs.Closures.{AreClosures, IsClosure};
 ghost use Rattle.lock_model.specs.declared.closure.Closure.{Closure as AnyClosure};
 ghost use Rattle.line_text.specs.Texts.{texts};
-ghost use Rattle.instance_text.specs.Closing.{chamber_named, share_a_minute, is_free, read_closing, CanClose, put_closure, with_closure};
+ghost use Rattle.instance_text.specs.Closing.{chamber_named, share_a_minute, is_free, closures_of, chamber_to_close, read_minutes, read_closing, CanClose, put_closure, with_closure};
 
 use crate::bad::Kind;
 use crate::name::name;
@@ -47,24 +47,46 @@ fn is_free(closure: Closure, others: &[Closure]) -> bool
     closure.from < closure.to && !is_overlap(closure, others)
 }
 
+/// The chamber that a line names, which has room for one more closure. The first defect is, in
+/// this order: that of the name, `Unknown`, `Range` for a ninth closure of the chamber.
+#[tactic(auto, unfolding(crate::specs::Closing::chamber_to_close))]
+fn chamber_to_close(chambers: &[Chamber], word: &[u8]) -> Result<usize, Kind>
+    ensures value { result ≡ chamber_to_close chambers.now word.now }
+    ensures known { IfOk result (λ place. place < length chambers.now) }
+    ensures room { IfOk result (λ place. length (closures_of chambers.now place) < 8) }
+{
+    name(word)?;
+    let place = chamber_named(chambers, word)?;
+    check(chambers[place].closures.as_slice().len() < 8, Kind::Range)?;
+    Ok(place)
+}
+
+/// The closure of a line, beside the others of its chamber. The first defect is that of a number
+/// from left to right, then `Overlap`.
+#[tactic(auto, unfolding(crate::specs::Closing::read_minutes))]
+fn read_minutes(others: &[Closure], words: &[&[u8]]) -> Result<Closure, Kind>
+    requires { length words.now ≡ 4 }
+    ensures value { result ≡ read_minutes others.now (texts words.now) }
+    ensures good { IfOk result IsClosure }
+    ensures apart { IfOk result (λ closure. list_any (share_a_minute closure) others.now ≡ false) }
+{
+    let from = number(word_at(words, 2), 0, 1_000_000)?;
+    let to = number(word_at(words, 3), 0, 1_000_000)?;
+    let closure = Closure { from, to };
+    check(is_free(closure, others), Kind::Overlap)?;
+    Ok(closure)
+}
+
 /// The chamber and the closure of a line. The first defect is, in this order: `Count`, that of the
 /// name, `Unknown`, `Range` for a ninth closure of the chamber, that of a number from left to
 /// right, `Overlap`.
-#[tactic(auto, unfolding(crate::specs::Closing::read_closing))]
 pub fn read_closing(chambers: &[Chamber], words: &[&[u8]]) -> Result<(usize, Closure), Kind>
     ensures value { result ≡ read_closing chambers.now (texts words.now) }
     ensures good { IfOk result (λ r. CanClose chambers.now r.0 r.1) }
 {
     check(words.len() == 4, Kind::Count)?;
-    let word = word_at(words, 1);
-    name(word)?;
-    let place = chamber_named(chambers, word)?;
-    let others = chambers[place].closures.as_slice();
-    check(others.len() < 8, Kind::Range)?;
-    let from = number(word_at(words, 2), 0, 1_000_000)?;
-    let to = number(word_at(words, 3), 0, 1_000_000)?;
-    let closure = Closure { from, to };
-    check(is_free(closure, others), Kind::Overlap)?;
+    let place = chamber_to_close(chambers, word_at(words, 1))?;
+    let closure = read_minutes(chambers[place].closures.as_slice(), words)?;
     Ok((place, closure))
 }
 

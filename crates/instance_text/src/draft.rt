@@ -1,5 +1,5 @@
 //! An instance as far as it has been read.
-ghost use Rattle.std.specs.Prelude.{◌≡◌, ◌≢◌, ◌<◌, ◌≤◌, ◌∷◌, [], ◌++◌, All, length};
+ghost use Rattle.std.specs.Prelude.{◌≡◌, ◌≢◌, ◌<◌, ◌∷◌, [], ◌++◌, All, length};
 ghost use Rattle.lock_model.specs.Instance.{IsChamber, IsShip};
 ghost use Rattle.instance_text.specs.Closing.{CanClose, with_closure};
 
@@ -28,7 +28,7 @@ impl Model for Draft {
 }
 
 impl Draft {
-    ghost use Rattle.instance_text.specs.Draft.{no_draft};
+    ghost use Rattle.instance_text.specs.Draft.{no_draft, IsWhole};
 
     /// Nothing yet.
     #[tactic(auto, using(crate::proofs::DraftLemmas::nothing))]
@@ -89,8 +89,7 @@ impl Draft {
     /// The instance, once there are a chamber and a ship.
     #[tactic(auto, using(crate::proofs::DraftLemmas::whole))]
     pub fn into_instance(self) -> Instance
-        requires chamber { 1 ≤ length self.chambers }
-        requires ship { 1 ≤ length self.ships }
+        requires { IsWhole self }
         ensures chambers { result.chambers ≡ self.chambers }
         ensures ships { result.ships ≡ self.ships }
     {

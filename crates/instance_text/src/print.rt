@@ -7,7 +7,7 @@ ghost use Rattle.instance_text.specs.Reading.{Means};
 ghost use Rattle.lock_model.specs.declared.chamber.Chamber.{Chamber as AnyChamber};
 ghost use Rattle.lock_model.specs.declared.ship.Ship.{Ship as AnyShip};
 
-use crate::append::put_field;
+use crate::append::{put_field, put_fields};
 use lock_model::{Chamber, Closure, Instance, Ship, Stand, Way};
 use plain_text::{NoMemory, put};
 use std::alloc::Global;
@@ -38,14 +38,17 @@ fn put_chamber(out: &mut Vec<u8>, chamber: &Chamber) -> Result<(), NoMemory>
 {
     put(out, b"chamber ")?;
     put(out, chamber.name.as_slice())?;
-    put_field(out, chamber.length)?;
-    put_field(out, chamber.width)?;
-    put_field(out, chamber.end)?;
-    put_field(out, chamber.gap)?;
-    put_field(out, chamber.side)?;
-    put_field(out, u32::from(chamber.most))?;
-    put_field(out, chamber.pass)?;
-    put_field(out, chamber.turn)?;
+    put_fields(
+        out,
+        &[
+            chamber.length,
+            chamber.width,
+            chamber.end,
+            chamber.gap,
+            chamber.side,
+        ],
+    )?;
+    put_fields(out, &[u32::from(chamber.most), chamber.pass, chamber.turn])?;
     put(out, b" ")?;
     put(out, stand_word(chamber.stands))?;
     put_field(out, chamber.opens)?;
@@ -53,14 +56,12 @@ fn put_chamber(out: &mut Vec<u8>, chamber: &Chamber) -> Result<(), NoMemory>
 }
 
 /// Appends the line of a closure of the chamber of this name.
-#[tactic(auto, unfolding(crate::specs::Canonical::closing_words), using(std::proofs::lemmas::List::append_assoc))]
 fn put_closing(out: &mut Vec<u8>, name: &[u8], closure: Closure) -> Result<(), NoMemory>
     ensures { OnOk result (out.new.items ≡ out.old.items ++ line (closing_words name.now closure)) }
 {
     put(out, b"close ")?;
     put(out, name)?;
-    put_field(out, closure.from)?;
-    put_field(out, closure.to)?;
+    put_fields(out, &[closure.from, closure.to])?;
     put(out, b"\n")
 }
 
@@ -82,10 +83,7 @@ fn put_ship(out: &mut Vec<u8>, ship: &Ship) -> Result<(), NoMemory>
     put(out, ship.name.as_slice())?;
     put(out, b" ")?;
     put(out, way_word(ship.way))?;
-    put_field(out, ship.length)?;
-    put_field(out, ship.width)?;
-    put_field(out, ship.arrival)?;
-    put_field(out, ship.handling)?;
+    put_fields(out, &[ship.length, ship.width, ship.arrival, ship.handling])?;
     put_cargo(out, ship.cargo)?;
     put(out, b"\n")
 }

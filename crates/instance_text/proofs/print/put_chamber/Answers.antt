@@ -1,4 +1,3 @@
-use Rattle.std.proofs.Common.{decimal}
 use Rattle.std.proofs.lemmas.Result.{IfOk-equal}
 use Rattle.instance_text.specs.Canonical.{chamber_words, stand_word}
 use Rattle.instance_text.proofs.PrintLemmas.{chamber_line}
@@ -9,4 +8,5 @@ unfolding chamber_words
 returns c =
     let h = c.args.chamber.now in
     IfOk-equal c.put-5.result _ _ _ c.put-5.ensures
-    (rw (c.in_ok-put_field-9.ensures, c.in_ok-put-4.ensures, c.stand_word.ensures, c.in_ok-put-3.ensures, c.in_ok-put_field-8.ensures, c.in_ok-put_field-7.ensures, c.in_ok-put_field-6.ensures, c.from.ensures, c.in_ok-put_field-5.ensures, c.in_ok-put_field-4.ensures, c.in_ok-put_field-3.ensures, c.in_ok-put_field-2.ensures, c.in_ok-put_field.ensures, c.in_ok-put-2.ensures, c.as_slice.ensures.value, c.in_ok-put.ensures) (chamber_line c.args.out.now.items h.name (decimal h.length) (decimal h.width) (decimal h.end) (decimal h.gap) (decimal h.side) (decimal h.most) (decimal h.pass) (decimal h.turn) (stand_word h.stands) (decimal h.opens)))
+    (rw (c.in_ok-put_field.ensures, c.in_ok-put-4.ensures, c.stand_word.ensures, c.in_ok-put-3.ensures, c.in_ok-put_fields-2.ensures, c.from.ensures, c.in_ok-put_fields.ensures, c.in_ok-put-2.ensures, c.as_slice.ensures.value, c.in_ok-put.ensures)
+    (chamber_line c.args.out.now.items h.name h.length h.width h.end h.gap h.side h.most h.pass h.turn (stand_word h.stands) h.opens))
