@@ -27,7 +27,10 @@ use Rattle.price_rules.specs.Prices.{PlainCut, IsUncut, is_missing, price_at}
 use Rattle.price_bound.specs.declared.choice.Choice.{Choice}
 use Rattle.price_bound.specs.Worth.{arrivals_of, paid_on, ServeAsWell, ServeFrom, IsKeptGroup}
 use Rattle.price_bound.specs.Sparing.{AreForbidden}
-use Rattle.price_bound.specs.Growing.{IsGrown, AreGrown}
+use Rattle.price_bound.specs.Growing.{AreBelow, IsGrown}
+use Rattle.price_bound.specs.Stock.{IsGrownList}
+use Rattle.price_bound.specs.declared.grown_lists.GrownGroup.{GrownGroup}
+use Rattle.price_bound.specs.declared.grown_lists.GrownList.{GrownList}
 use Rattle.price_bound.specs.Choosing.{Keeps, rate_of, IsChoice, Serves, IsServed, IsOn, IsBaseOf, IsVain, IsCovered, HaveMore, HasOne, HavePut, HaveSome, AreSome, AreChoices}
 use Rattle.price_bound.proofs.ServeLemmas.{serve-themselves, serve-from, serve-both, serve-later, serve-worth}
 use Rattle.price_bound.proofs.IdleLemmas.{fewer-serve, sum-insert}
@@ -161,91 +164,97 @@ module _ (I : Instance) (k : ℕ) (prices : List ℕ) where
         allowed = All-weaker (λ s. s < length I.ships) (λ s. (has_number (first_ships I k) s ≡ true) ⊎ (s < length I.ships)) (λ s h. inr h) g.ships uncut.known;
       }
 
-      module _ (to : Option ℕ) (groups : List Group) (grown : AreGrown I c k prices sets base (length I.ships) groups) where
-        before : (i j : ℕ) → j < suc i → j ≢ i → j < i
-        before i j less m = elim (leb_tells (suc j) i) [ inl y ↦ y.1 | inr q ↦ absurd (m (omega (arith, less, q.1))) ]
+    module _ (sets : List (List ℕ)) (are : AreForbidden I c cuts sets) (to : Option ℕ) (ceilings : List ℕ) (below : AreBelow prices ceilings) (list : GrownList) (grown : IsGrownList I c k ceilings sets list) where
+      abbrev groups : List GrownGroup
+      groups = list.groups.items
 
-        -- an empty group is no choice
-        pub some-skip : (i : ℕ) (d : Group) (old new : List Choice) → i < length groups → length (slice_index_or groups i d).ships ≡ 0 → HaveSome I c cuts k prices line to groups i old new → HaveSome I c cuts k prices line to groups (suc i) old new
-        some-skip i d old new here none have = record {
-          each = have.each;
-          kept = have.kept;
-          done = λ j e less inside some. elim (eqb_tells j i) [
-            | inl y ↦ let same = ap (λ j. slice_index_or groups j e) y.1 ∙ get_or_default groups i e d here in absurd (omega (arith, some, none, ap (λ (g : Group). length g.ships) same))
-            | inr m ↦ have.done j e (before i j less m.1) inside some
-          ];
-        }
+      before : (i j : ℕ) → j < suc i → j ≢ i → j < i
+      before i j less m = elim (leb_tells (suc j) i) [ inl y ↦ y.1 | inr q ↦ absurd (m (omega (arith, less, q.1))) ]
 
-        pub some-next : (i : ℕ) (d : Group) (old now new : List Choice) (choice : Choice) → i < length groups → choice.joins ≡ to → choice.group ≡ slice_index_or groups i d
-            → HaveSome I c cuts k prices line to groups i old now → HasOne I c cuts k prices line choice now new → HaveSome I c cuts k prices line to groups (suc i) old new
-        some-next i d old now new choice here joins is have one = record {
-          each = one.each;
-          kept = λ h at. one.kept h (have.kept h at);
-          done = λ j e less inside some. elim (eqb_tells j i) [
-            | inl y ↦
-                let same : choice.group ≡ slice_index_or groups j e = is ∙ sym (ap (λ j. slice_index_or groups j e) y.1 ∙ get_or_default groups i e d here) in
-                inl (subst (IsServed I c k prices new to) same (subst (λ to. IsServed I c k prices new to choice.group) joins one.served))
-            | inr m ↦ covered-more c now new to (slice_index_or groups j e) one.kept (have.done j e (before i j less m.1) inside some)
-          ];
-        }
+      -- an empty group is no choice
+      pub some-skip : (i : ℕ) (d : GrownGroup) (old new : List Choice) → i < length groups → length (slice_index_or groups i d).group.ships ≡ 0 → HaveSome I c cuts k prices line to groups i old new → HaveSome I c cuts k prices line to groups (suc i) old new
+      some-skip i d old new here none have = record {
+        each = have.each;
+        kept = have.kept;
+        done = λ j e less inside some. elim (eqb_tells j i) [
+          | inl y ↦ let same = ap (λ j. slice_index_or groups j e) y.1 ∙ get_or_default groups i e d here in absurd (omega (arith, some, none, ap (λ (one : GrownGroup). length one.group.ships) same))
+          | inr m ↦ have.done j e (before i j less m.1) inside some
+        ];
+      }
 
-        -- a group that gains nothing is left out
-        pub some-vain : (i : ℕ) (d : Group) (old new : List Choice) → i < length groups → IsVain I c k prices 0 to (slice_index_or groups i d) → HaveSome I c cuts k prices line to groups i old new → HaveSome I c cuts k prices line to groups (suc i) old new
-        some-vain i d old new here vain have = record {
-          each = have.each;
-          kept = have.kept;
-          done = λ j e less inside some. elim (eqb_tells j i) [
-            | inl y ↦ inr (subst (IsVain I c k prices 0 to) (sym (ap (λ j. slice_index_or groups j e) y.1 ∙ get_or_default groups i e d here)) vain)
-            | inr m ↦ have.done j e (before i j less m.1) inside some
-          ];
-        }
+      pub some-next : (i : ℕ) (d : GrownGroup) (old now new : List Choice) (choice : Choice) → i < length groups → choice.joins ≡ to → choice.group ≡ (slice_index_or groups i d).group
+          → HaveSome I c cuts k prices line to groups i old now → HasOne I c cuts k prices line choice now new → HaveSome I c cuts k prices line to groups (suc i) old new
+      some-next i d old now new choice here joins is have one = record {
+        each = one.each;
+        kept = λ h at. one.kept h (have.kept h at);
+        done = λ j e less inside some. elim (eqb_tells j i) [
+          | inl y ↦
+              let same : choice.group ≡ (slice_index_or groups j e).group = is ∙ ap (λ (one : GrownGroup). one.group) (sym (ap (λ j. slice_index_or groups j e) y.1 ∙ get_or_default groups i e d here)) in
+              inl (subst (IsServed I c k prices new to) same (subst (λ to. IsServed I c k prices new to choice.group) joins one.served))
+          | inr m ↦ covered-more c now new to (slice_index_or groups j e).group one.kept (have.done j e (before i j less m.1) inside some)
+        ];
+      }
 
-        -- a group that others serve for is covered where they are
-        covered-by : (known : c < length I.chambers) (choices : List Choice) (way : Way) (hs gs : List ℕ) → ServeFrom I c k prices 0 hs gs → IsCovered I c k prices choices to (record { way = way; ships = hs }) → IsCovered I c k prices choices to (record { way = way; ships = gs })
-        covered-by known choices way hs gs well (inl served) = inl (record {
-          choice = served.choice;
-          held = served.held;
-          joins = served.joins;
-          way = served.way;
-          as_good = serve-both I c k prices served.choice.group.ships hs gs 0 served.as_good well;
-        })
-        covered-by known choices way hs gs well (inr vain) = inr (record {
-          alone = vain.alone;
-          gainless = λ stand from past. above _ _ (vain.gainless stand from past) (serve-worth I c known k prices way hs gs stand from (serve-later I c k prices hs gs 0 from (omega arith) well));
-        })
-          where
-            above : (u v : ℤ) → pos 0 ≤ℤ u → u ≤ℤ v → pos 0 ≤ℤ v
-            above u v h j = omega (arith, ints)
+      -- a group that gains nothing is left out
+      pub some-vain : (i : ℕ) (d : GrownGroup) (old new : List Choice) → i < length groups → IsVain I c k prices 0 to (slice_index_or groups i d).group → HaveSome I c cuts k prices line to groups i old new → HaveSome I c cuts k prices line to groups (suc i) old new
+      some-vain i d old new here vain have = record {
+        each = have.each;
+        kept = have.kept;
+        done = λ j e less inside some. elim (eqb_tells j i) [
+          | inl y ↦ inr (subst (λ (one : GrownGroup). IsVain I c k prices 0 to one.group) (sym (ap (λ j. slice_index_or groups j e) y.1 ∙ get_or_default groups i e d here)) vain)
+          | inr m ↦ have.done j e (before i j less m.1) inside some
+        ];
+      }
 
-        -- ALL ARE COVERED: one with a ship that gains nothing as it is without the ship.
-        covered-all : (known : c < length I.chambers) (old new : List Choice) → HaveSome I c cuts k prices line to groups (length groups) old new → (n : ℕ) (g : Group) → length g.ships ≤ n → IsUncut I c cuts g → IsOn I k base g → IsCovered I c k prices new to g
-        covered-all known old new have zero g small uncut on = absurd (omega (arith, small, uncut.good.count.0))
-        covered-all known old new have (suc n) g small uncut on =
-            let is = uncut-grown g uncut on in
-            elim (grown.whole g is) [
-              | inl at ↦ subst (IsCovered I c k prices new to) at.2 (have.done at.0 g at.1 at.1 (subst (λ g. 1 ≤ length g.ships) (sym at.2) uncut.good.count.0))
-              | inr idler ↦
-                  let s = idler.ship in
-                  let less = filter (is_other s) g.ships in
-                  let h : Group = record { way = g.way; ships = less } in
-                  let fewer = grown-fewer I c k prices sets base (length I.ships) s g (missing-fresh I k s idler.missing) is in
-                  let back : insert_number s less ≡ g.ships = again s g.ships is.rising (contains-times g.ships s idler.held) in
-                  let count : length g.ships ≡ suc (length less) = ap length (sym back) ∙ length-insert_number s less in
-                  let sums = rates-sum g.ships in
-                  let others = rates-sum less in
-                  let more : sum_by (rate_of I k prices) g.ships ≡ rate_of I k prices s + sum_by (rate_of I k prices) less = ap (sum_by (rate_of I k prices)) (sym back) ∙ sum-insert (rate_of I k prices) s less in
-                  let rate : rate_of I k prices s ≡ 100 * (ship_at I s).arrival + price_at prices s = λ i. 100 * (ship_at I s).arrival + cond (idler.missing i) (price_at prices s) 0 in
-                  let well = fewer-serve I c k prices (is_other s) s (rate_of I k prices s) g.ships back (omega (arith, sums, others, more)) (omega (arith, rate, idler.idle)) in
-                  covered-by known new g.way less g.ships well
-                  (covered-all known old new have n h (omega (arith, count, small)) (grown-uncut (length I.ships) h fewer (omega (arith, count, idler.several))) (record { way = on.way; keeps = fewer.keeps }))
-            ]
+      -- a group that others serve for is covered where they are
+      covered-by : (known : c < length I.chambers) (choices : List Choice) (way : Way) (hs gs : List ℕ) → ServeFrom I c k prices 0 hs gs → IsCovered I c k prices choices to (record { way = way; ships = hs }) → IsCovered I c k prices choices to (record { way = way; ships = gs })
+      covered-by known choices way hs gs well (inl served) = inl (record {
+        choice = served.choice;
+        held = served.held;
+        joins = served.joins;
+        way = served.way;
+        as_good = serve-both I c k prices served.choice.group.ships hs gs 0 served.as_good well;
+      })
+      covered-by known choices way hs gs well (inr vain) = inr (record {
+        alone = vain.alone;
+        gainless = λ stand from past. above _ _ (vain.gainless stand from past) (serve-worth I c known k prices way hs gs stand from (serve-later I c k prices hs gs 0 from (omega arith) well));
+      })
+        where
+          above : (u v : ℤ) → pos 0 ≤ℤ u → u ≤ℤ v → pos 0 ≤ℤ v
+          above u v h j = omega (arith, ints)
 
-        pub some-done : (known : c < length I.chambers) (old new : List Choice) → HaveSome I c cuts k prices line to groups (length groups) old new → HaveMore I c cuts k prices line to base old new
-        some-done known old new have = record {
-          each = have.each;
-          kept = have.kept;
-          covered = λ g uncut on. covered-all known old new have (length g.ships) g (omega arith) uncut on;
-        }
+      -- ALL ARE COVERED: one with a ship that gains nothing as it is without the ship.
+      covered-all : (known : c < length I.chambers) (old new : List Choice) → HaveSome I c cuts k prices line to groups (length groups) old new → (n : ℕ) (g : Group) → length g.ships ≤ n → IsUncut I c cuts g → IsOn I k list.base g → IsCovered I c k prices new to g
+      covered-all known old new have zero g small uncut on = absurd (omega (arith, small, uncut.good.count.0))
+      covered-all known old new have (suc n) g small uncut on =
+          let is = uncut-grown sets are list.base g uncut on in
+          elim (grown.whole g is) [
+            | inl has ↦
+                let at = has.held in
+                let same : (slice_index_or groups at.0 has.one).group ≡ g = ap (λ (one : GrownGroup). one.group) at.2 ∙ has.is in
+                subst (IsCovered I c k prices new to) same (have.done at.0 has.one at.1 at.1 (subst (λ (g : Group). 1 ≤ length g.ships) (sym same) uncut.good.count.0))
+            | inr idler ↦
+                let s = idler.ship in
+                let less = filter (is_other s) g.ships in
+                let h : Group = record { way = g.way; ships = less } in
+                let fewer = grown-fewer I c k prices sets list.base (length I.ships) s g (missing-fresh I k s idler.missing) is in
+                let back : insert_number s less ≡ g.ships = again s g.ships is.rising (contains-times g.ships s idler.held) in
+                let count : length g.ships ≡ suc (length less) = ap length (sym back) ∙ length-insert_number s less in
+                let sums = rates-sum g.ships in
+                let others = rates-sum less in
+                let more : sum_by (rate_of I k prices) g.ships ≡ rate_of I k prices s + sum_by (rate_of I k prices) less = ap (sum_by (rate_of I k prices)) (sym back) ∙ sum-insert (rate_of I k prices) s less in
+                let rate : rate_of I k prices s ≡ 100 * (ship_at I s).arrival + price_at prices s = λ i. 100 * (ship_at I s).arrival + cond (idler.missing i) (price_at prices s) 0 in
+                let well = fewer-serve I c k prices (is_other s) s (rate_of I k prices s) g.ships back (omega (arith, sums, others, more)) (omega (arith, rate, idler.idle, below s)) in
+                covered-by known new g.way less g.ships well
+                (covered-all known old new have n h (omega (arith, count, small)) (grown-uncut sets are list.base (length I.ships) h fewer (omega (arith, count, idler.several))) (record { way = on.way; keeps = fewer.keeps }))
+          ]
+
+      pub some-done : (known : c < length I.chambers) (old new : List Choice) → HaveSome I c cuts k prices line to groups (length groups) old new → HaveMore I c cuts k prices line to list.base old new
+      some-done known old new have = record {
+        each = have.each;
+        kept = have.kept;
+        covered = λ g uncut on. covered-all known old new have (length g.ships) g (omega arith) uncut on;
+      }
 
 module _ (I : Instance) (c k : ℕ) (line : List Group) where
   -- a group of the line

@@ -1,6 +1,7 @@
 -- Least lines that are kept, and copies of them.
-use Rattle.std.proofs.Common.{◌≡◌, ℕ, Some, None, List, [], ◌∷◌, ◌++◌, sym, subst}
-use Rattle.std.proofs.lemmas.List.Elements.{All-push}
+use Rattle.std.proofs.Common.{◌≡◌, ℕ, ◌≤◌, Some, None, List, [], ◌∷◌, ◌++◌, length, take, ◌∙◌, ap, arith, sym, subst}
+use Rattle.std.proofs.lemmas.List.{take-take}
+use Rattle.std.proofs.lemmas.List.Elements.{All-push, All-weaker}
 use Rattle.std.specs.declared.option.Option.{Option}
 use Rattle.lock_model.specs.declared.instance.Instance.{Instance}
 use Rattle.lock_model.specs.declared.group.Group.{Group}
@@ -10,7 +11,12 @@ use Rattle.price_bound.specs.declared.cut.ChamberCut.{ChamberCut}
 use Rattle.price_bound.specs.declared.terms.Terms.{Terms}
 use Rattle.price_bound.specs.declared.keeping.KeptLine.{KeptLine}
 use Rattle.price_bound.specs.Worth.{IsLeastOn}
-use Rattle.price_bound.specs.Keeping.{AreTerms, AreUnder, AreKept, IsFound, IsKept, IsOf}
+use Rattle.price_bound.specs.declared.kept_groups.ChamberGroups.{ChamberGroups}
+use Rattle.price_bound.specs.declared.kept_groups.KeptGroups.{KeptGroups}
+use Rattle.price_bound.specs.Cuts.{plain_cuts}
+use Rattle.price_bound.specs.Sparing.{AreForbidden}
+use Rattle.price_bound.specs.Stock.{IsStock, AreStocks, AreStocked}
+use Rattle.price_bound.specs.Keeping.{AreFirst, AreTerms, LeadTo, AreUnder, AreKept, IsFound, IsKept, IsOf}
 use Rattle.price_bound.specs.Lines.{IsLineWorth, IsLeastLine}
 
 -- a line with the same groups and the same worth is as good
@@ -35,3 +41,41 @@ module _ (I : Instance) (c k : ℕ) (prices : List ℕ) (cuts : List ChamberCut)
   pub kept-more : (terms : Option Terms) (lines : List KeptLine) (kept : KeptLine) → AreUnder I k prices cuts terms → AreKept terms lines → IsOf c line kept → IsFound I c k prices cuts line kept.least → AreKept terms (lines ++ kept ∷ [])
   kept-more None lines kept under are of found = absurd under
   kept-more (Some terms) lines kept under are of found = All-push (IsKept terms) lines kept are (kept-under terms kept under of found)
+
+-- as many of the first of these cuts
+same-seen : (some all : List ChamberCut) (n : ℕ) → AreFirst some all → n ≤ length some → take n all ≡ take n some
+same-seen some all n first few = sym (take-take n (length some) all few) ∙ ap (take n) first.same
+
+-- what is kept of a chamber serves where cuts come behind the others
+stock-more : (I : Instance) (k : ℕ) (some all : List ChamberCut) (ceilings : List ℕ) → AreFirst some all → (own : ChamberGroups) → IsStock I k some ceilings own → IsStock I k all ceilings own
+stock-more I k some all ceilings first own is = record {
+  seen = omega (arith, is.seen, first.few);
+  forbidden = subst (λ ts. AreForbidden I own.chamber (plain_cuts I ts) own.sets.items) (sym (same-seen some all own.seen first is.seen)) is.forbidden;
+  nears = is.nears;
+  lists = is.lists;
+}
+
+-- the same of all chambers
+pub stocks-more : (I : Instance) (k : ℕ) (some all : List ChamberCut) (groups : KeptGroups) → AreFirst some all → AreStocks I k some groups → AreStocks I k all groups
+stocks-more I k some all groups first are = All-weaker (IsStock I k some groups.ceilings) (IsStock I k all groups.ceilings) (stock-more I k some all groups.ceilings first) groups.chambers.items are
+
+module _ (I : Instance) (k : ℕ) (cuts : List ChamberCut) (groups : KeptGroups) where
+  -- groups that are kept under terms of a case are kept under the case
+  stocks-of : (terms : Terms) → terms.instance ≡ I → terms.depth ≡ k → AreStocks terms.instance terms.depth cuts groups → AreStocks I k cuts groups
+  stocks-of terms instance depth are = subst (λ d. AreStocks I d cuts groups) depth (subst (λ J. AreStocks J terms.depth cuts groups) instance are)
+
+  -- and the other way round
+  stocks-to : (terms : Terms) → terms.instance ≡ I → terms.depth ≡ k → AreStocks I k cuts groups → AreStocks terms.instance terms.depth cuts groups
+  stocks-to terms instance depth are = subst (λ J. AreStocks J terms.depth cuts groups) (sym instance) (subst (λ d. AreStocks I d cuts groups) (sym depth) are)
+
+  -- the same where the terms may be missing
+  pub stocked-to : (prices : List ℕ) (terms : Option Terms) → AreUnder I k prices cuts terms → AreStocks I k cuts groups → AreStocked terms groups
+  stocked-to prices None under are = absurd under
+  stocked-to prices (Some terms) under are = subst (λ ts. AreStocks terms.instance terms.depth ts groups) (sym under.same_cuts) (stocks-to terms under.same_instance under.same_depth are)
+
+-- groups that are kept under terms are kept under those that these go on to
+pub stocks-on : (I : Instance) (k : ℕ) (cuts : List ChamberCut) (old new : Terms) (groups : KeptGroups) → LeadTo I k cuts old → LeadTo I k cuts new → AreFirst old.cuts.items new.cuts.items → AreStocked (Some old) groups → AreStocked (Some new) groups
+stocks-on I k cuts old new groups from to first are =
+    stocks-to I k new.cuts.items groups new to.same_instance to.same_depth
+    (stocks-more I k old.cuts.items new.cuts.items groups first
+    (stocks-of I k old.cuts.items groups old from.same_instance from.same_depth are))

@@ -9,6 +9,8 @@ pub mod ServeLemmas
 pub mod SumLemmas
 pub mod WeighLemmas
 pub mod StepLemmas
+pub mod StockLemmas
+pub mod SparedLemmas
 pub mod SweepLemmas
 pub mod ServingLemmas
 pub mod VainLemmas

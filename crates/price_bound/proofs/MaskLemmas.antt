@@ -94,7 +94,7 @@ in-mask m mask set ships is all within = same_from_bits (bit_and m mask) m (λ s
       | inr past ↦ omega (arith, bit_at_above m 32 s is.small (omega (arith, past.1)))
     ]
 
-earlier : (i j : ℕ) → j ≢ i → j < i + 1 → j < i
+pub earlier : (i j : ℕ) → j ≢ i → j < i + 1 → j < i
 earlier i j apart less = elim (leb_tells (suc j) i) [ inl y ↦ y.1 | inr q ↦ absurd (apart (omega (arith, less, q.1))) ]
 
 module _ (I : Instance) (sets : List (List ℕ)) where

@@ -11,6 +11,7 @@ use Rattle.lock_rules.specs.Arrival.{first_ships}
 use Rattle.lock_rules.specs.Trace.{has_number}
 use Rattle.price_rules.specs.Prices.{PlainCut, IsUncut, IsLoose, is_missing, price_at}
 use Rattle.price_bound.specs.declared.choice.Choice.{Choice}
+use Rattle.price_bound.specs.declared.grown_lists.GrownGroup.{GrownGroup}
 use Rattle.price_bound.specs.declared.level.Level.{Level}
 use Rattle.price_bound.specs.declared.menu.Menu.{Menu}
 use Rattle.price_bound.specs.declared.sums.Sums.{Sums}
@@ -43,16 +44,15 @@ pub record AreSums (I : Instance) (c k : ℕ) (prices : List ℕ) (choice : Choi
   pub fair : choice.pays ≤ 808000000
 
 -- the sums of these ships
-pub record AreSumsOf (I : Instance) (c k : ℕ) (prices ships : List ℕ) (sums : Sums) : Type 0 where
+pub record AreSumsOf (I : Instance) (c : ℕ) (ships : List ℕ) (sums : Sums) : Type 0 where
   pub duration : sums.duration ≡ duration_of I c ships
   pub last : sums.last ≡ last_arrival I 0 ships
-  pub pays : sums.pays ≡ sum_by (rate_of I k prices) ships
   pub mask : IsMask sums.mask ships
 
 -- for each of the groups its sums
-pub record AreWeighed (I : Instance) (c k : ℕ) (prices : List ℕ) (groups : List Group) (sums : List Sums) : Type 0 where
+pub record AreWeighed (I : Instance) (c : ℕ) (groups : List Group) (sums : List Sums) : Type 0 where
   pub count : length sums ≡ length groups
-  pub each : (j : ℕ) (d : Group) (e : Sums) → j < length groups → AreSumsOf I c k prices (slice_index_or groups j d).ships (slice_index_or sums j e)
+  pub each : (j : ℕ) (d : Group) (e : Sums) → j < length groups → AreSumsOf I c (slice_index_or groups j d).ships (slice_index_or sums j e)
 
 -- a choice is an uncut group with its sums
 pub record IsChoice (I : Instance) (c : ℕ) (cuts : List PlainCut) (k : ℕ) (prices : List ℕ) (line : List Group) (choice : Choice) : Type 0 where
@@ -161,10 +161,10 @@ pub record PutsGroup (I : Instance) (c : ℕ) (cuts : List PlainCut) (k : ℕ) (
   pub puts : ((length g.ships ≡ 0) × (new ≡ old)) ⊎ ((choice : Choice) × (choice.joins ≡ to) × (choice.group ≡ g) × HasOne I c cuts k prices line choice old new) ⊎ (IsVain I c k prices 0 to g × (new ≡ old))
 
 -- the same said of the first i of the grown groups
-pub record HaveSome (I : Instance) (c : ℕ) (cuts : List PlainCut) (k : ℕ) (prices : List ℕ) (line : List Group) (to : Option ℕ) (groups : List Group) (i : ℕ) (old new : List Choice) : Type 0 where
+pub record HaveSome (I : Instance) (c : ℕ) (cuts : List PlainCut) (k : ℕ) (prices : List ℕ) (line : List Group) (to : Option ℕ) (groups : List GrownGroup) (i : ℕ) (old new : List Choice) : Type 0 where
   pub each : All (IsChoice I c cuts k prices line) new
   pub kept : (h : Choice) → Contains old h → Contains new h
-  pub done : (j : ℕ) (d : Group) → j < i → j < length groups → 1 ≤ length (slice_index_or groups j d).ships → IsCovered I c k prices new to (slice_index_or groups j d)
+  pub done : (j : ℕ) (d : GrownGroup) → j < i → j < length groups → 1 ≤ length (slice_index_or groups j d).group.ships → IsCovered I c k prices new to (slice_index_or groups j d).group
 
 -- These choices are enough for the line: they cover each uncut group.
 pub record AreChoices (I : Instance) (c : ℕ) (cuts : List PlainCut) (k : ℕ) (prices : List ℕ) (line : List Group) (choices : List Choice) : Type 0 where

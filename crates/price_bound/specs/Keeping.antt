@@ -1,5 +1,5 @@
 -- What least lines are kept under, and that they are least by it.
-use Rattle.std.specs.Prelude.{ℕ, ◌≡◌, ◌≤ℤ◌, pos, neg_ℤ, Some, None, List, [], All, IfSome}
+use Rattle.std.specs.Prelude.{ℕ, ◌≡◌, ◌≤◌, ◌≤ℤ◌, pos, neg_ℤ, Some, None, List, [], length, take, All, IfSome}
 use Rattle.std.specs.declared.option.Option.{Option}
 use Rattle.lock_model.specs.declared.instance.Instance.{Instance}
 use Rattle.lock_model.specs.declared.group.Group.{Group}
@@ -9,6 +9,8 @@ use Rattle.price_bound.specs.declared.terms.Terms.{Terms}
 use Rattle.price_bound.specs.declared.keeping.KeptLine.{KeptLine}
 use Rattle.price_bound.specs.Lines.{IsLineFound}
 use Rattle.price_bound.specs.Cuts.{plain_cuts}
+use Rattle.price_bound.specs.Stock.{AreStocked}
+use Rattle.price_bound.specs.declared.kept_groups.KeptGroups.{KeptGroups}
 
 -- the terms name this instance, depth, prices and cuts
 pub record AreTerms (I : Instance) (k : ℕ) (prices : List ℕ) (cuts : List ChamberCut) (terms : Terms) : Type 0 where
@@ -16,6 +18,23 @@ pub record AreTerms (I : Instance) (k : ℕ) (prices : List ℕ) (cuts : List Ch
   pub same_depth : terms.depth ≡ k
   pub same_prices : terms.prices ≡ prices
   pub same_cuts : terms.cuts.items ≡ cuts
+
+-- these cuts are the first of others
+pub record AreFirst (some all : List ChamberCut) : Type 0 where
+  pub few : length some ≤ length all
+  pub same : take (length some) all ≡ some
+
+-- the terms name this instance and depth, and the first of these cuts
+pub record LeadTo (I : Instance) (k : ℕ) (cuts : List ChamberCut) (terms : Terms) : Type 0 where
+  pub same_instance : terms.instance ≡ I
+  pub same_depth : terms.depth ≡ k
+  pub first_cuts : AreFirst terms.cuts.items cuts
+
+-- the terms have gone on from n of these cuts to the first i of them
+pub record HaveGone (I : Instance) (k : ℕ) (prices : List ℕ) (cuts : List ChamberCut) (n i : ℕ) (terms : Terms) : Type 0 where
+  pub are : AreTerms I k prices (take i cuts) terms
+  pub from : n ≤ i
+  pub to : i ≤ length cuts
 
 -- what was found of a chamber's line, and how far its worth is from the ends of its type
 pub record IsFound (I : Instance) (c k : ℕ) (prices : List ℕ) (cuts : List ChamberCut) (line : List Group) (found : Option LooseLine) : Type 0 where
@@ -41,3 +60,8 @@ AreUnder I k prices cuts (Some terms) = AreTerms I k prices cuts terms
 pub record IsOf (c : ℕ) (line : List Group) (kept : KeptLine) : Type 0 where
   pub same_chamber : kept.chamber ≡ c
   pub same_line : kept.line.items ≡ line
+
+-- the same of lines and of groups
+pub record AreAllKept (terms : Option Terms) (lines : List KeptLine) (groups : KeptGroups) : Type 0 where
+  pub lines_kept : AreKept terms lines
+  pub groups_kept : AreStocked terms groups

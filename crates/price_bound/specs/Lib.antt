@@ -1,6 +1,7 @@
 pub mod Cuts
 pub mod Worth
 pub mod Sparing
+pub mod Stock
 pub mod Growing
 pub mod Masks
 pub mod Choosing

@@ -5,15 +5,16 @@ ghost use Rattle.price_bound.specs.Sparing.{AreForbidden};
 ghost use Rattle.price_bound.specs.Masks.{AreNears};
 ghost use Rattle.price_bound.specs.Choosing.{AreSumsOf, Keeps, IsChoice, IsBaseOf, HaveMore, PutsGroup, AreLate, HaveEarly, AreSomeEarly, AreEarly};
 ghost use Rattle.price_bound.specs.declared.choice.Choice.{Choice as Plain};
+ghost use Rattle.price_bound.specs.Stock.{IsGrownList};
 ghost use Rattle.price_bound.specs.Cuts.{plain_cuts};
 
 use crate::choice::Choice;
 use crate::error::{PriceError, append};
-use crate::growing::{Growth, grown};
+use crate::growing::Growth;
+use crate::grown_lists::{GrownGroup, GrownList, list_for};
 use crate::lateness::late_choices;
 use crate::pruning::{order, put_each, put_shelved, short_first};
 use crate::shelf::{Merit, Shelf};
-use crate::sums::Sums;
 use crate::vanity::is_vain;
 use crate::weighing::weighed;
 use lock_model::{Group, Ships, Way};
@@ -25,21 +26,20 @@ fn add_group(
     growth: &Growth,
     choices: &mut Vec<Choice>,
     shelf: &mut Shelf,
-    group: &Group,
-    sums: &Sums,
+    grown: &GrownGroup,
     joins: Option<u8>,
 ) -> Result<(), PriceError>
     requires each { All (IsChoice growth.now.case.now.instance.now growth.now.case.now.chamber (plain_cuts growth.now.case.now.instance.now growth.now.case.now.cuts.now) growth.now.case.now.depth growth.now.case.now.prices.now growth.now.case.now.line.now) choices.old.items }
-    requires known { All (λ s. s < length growth.now.case.now.instance.now.ships) group.now.ships }
-    requires sums { AreSumsOf growth.now.case.now.instance.now growth.now.case.now.chamber growth.now.case.now.depth growth.now.case.now.prices.now group.now.ships sums.now }
-    requires uncut { 1 ≤ length group.now.ships → IsUncut growth.now.case.now.instance.now growth.now.case.now.chamber (plain_cuts growth.now.case.now.instance.now growth.now.case.now.cuts.now) group.now }
-    requires keeps { Keeps growth.now.case.now.instance.now growth.now.case.now.depth growth.now.case.now.line.now joins group.now }
-    ensures { OnOk result (PutsGroup growth.now.case.now.instance.now growth.now.case.now.chamber (plain_cuts growth.now.case.now.instance.now growth.now.case.now.cuts.now) growth.now.case.now.depth growth.now.case.now.prices.now growth.now.case.now.line.now joins group.now choices.old.items choices.new.items) }
+    requires known { All (λ s. s < length growth.now.case.now.instance.now.ships) grown.now.group.ships }
+    requires sums { AreSumsOf growth.now.case.now.instance.now growth.now.case.now.chamber grown.now.group.ships grown.now.sums }
+    requires uncut { 1 ≤ length grown.now.group.ships → IsUncut growth.now.case.now.instance.now growth.now.case.now.chamber (plain_cuts growth.now.case.now.instance.now growth.now.case.now.cuts.now) grown.now.group }
+    requires keeps { Keeps growth.now.case.now.instance.now growth.now.case.now.depth growth.now.case.now.line.now joins grown.now.group }
+    ensures { OnOk result (PutsGroup growth.now.case.now.instance.now growth.now.case.now.chamber (plain_cuts growth.now.case.now.instance.now growth.now.case.now.cuts.now) growth.now.case.now.depth growth.now.case.now.prices.now growth.now.case.now.line.now joins grown.now.group choices.old.items choices.new.items) }
 {
-    if group.ships.len() == 0 {
+    if grown.group.ships.len() == 0 {
         return Ok(());
     }
-    let choice = weighed(growth, group.copy(), sums, joins);
+    let choice = weighed(growth, grown, joins);
     if is_vain(growth.case, &choice, 0) {
         return Ok(());
     }
@@ -48,23 +48,21 @@ fn add_group(
 
 // Appends the choices that join a group, or that join none.
 fn add_grown(
-    alloc: Global,
     growth: &Growth,
     choices: &mut Vec<Choice>,
     shelf: &mut Shelf,
-    base: &Group,
+    list: &GrownList,
     joins: Option<u8>,
 ) -> Result<(), PriceError>
     requires each { All (IsChoice growth.now.case.now.instance.now growth.now.case.now.chamber (plain_cuts growth.now.case.now.instance.now growth.now.case.now.cuts.now) growth.now.case.now.depth growth.now.case.now.prices.now growth.now.case.now.line.now) choices.old.items }
     requires sets { AreForbidden growth.now.case.now.instance.now growth.now.case.now.chamber (plain_cuts growth.now.case.now.instance.now growth.now.case.now.cuts.now) growth.now.sets.now }
-    requires nears { AreNears growth.now.case.now.instance.now growth.now.case.now.depth growth.now.sets.now (length growth.now.case.now.instance.now.ships) growth.now.nears.now }
-    requires base { IsBaseOf growth.now.case.now.instance.now growth.now.case.now.chamber growth.now.case.now.depth growth.now.case.now.line.now joins base.now }
-    ensures { OnOk result (HaveMore growth.now.case.now.instance.now growth.now.case.now.chamber (plain_cuts growth.now.case.now.instance.now growth.now.case.now.cuts.now) growth.now.case.now.depth growth.now.case.now.prices.now growth.now.case.now.line.now joins base.now choices.old.items choices.new.items) }
+    requires list { IsGrownList growth.now.case.now.instance.now growth.now.case.now.chamber growth.now.case.now.depth growth.now.ceilings.now growth.now.sets.now list.now }
+    requires base { IsBaseOf growth.now.case.now.instance.now growth.now.case.now.chamber growth.now.case.now.depth growth.now.case.now.line.now joins list.now.base }
+    ensures { OnOk result (HaveMore growth.now.case.now.instance.now growth.now.case.now.chamber (plain_cuts growth.now.case.now.instance.now growth.now.case.now.cuts.now) growth.now.case.now.depth growth.now.case.now.prices.now growth.now.case.now.line.now joins list.now.base choices.old.items choices.new.items) }
 {
     shelf.clear(Merit::Pays);
-    let listed = grown(alloc, growth, base)?;
-    for (place, group) in listed.groups.iter().enumerate() {
-        add_group(growth, choices, shelf, group, &listed.sums[place], joins)?;
+    for grown in &list.groups {
+        add_group(growth, choices, shelf, grown, joins)?;
     }
     Ok(())
 }
@@ -74,16 +72,16 @@ fn ordered(
     alloc: Global,
     growth: &Growth,
     shelf: &mut Shelf,
-    base: &Group,
+    list: &GrownList,
     joins: Option<u8>,
 ) -> Result<Vec<Choice>, PriceError>
     requires sets { AreForbidden growth.now.case.now.instance.now growth.now.case.now.chamber (plain_cuts growth.now.case.now.instance.now growth.now.case.now.cuts.now) growth.now.sets.now }
-    requires nears { AreNears growth.now.case.now.instance.now growth.now.case.now.depth growth.now.sets.now (length growth.now.case.now.instance.now.ships) growth.now.nears.now }
-    requires base { IsBaseOf growth.now.case.now.instance.now growth.now.case.now.chamber growth.now.case.now.depth growth.now.case.now.line.now joins base.now }
-    ensures { IfOk result (λ more. HaveMore growth.now.case.now.instance.now growth.now.case.now.chamber (plain_cuts growth.now.case.now.instance.now growth.now.case.now.cuts.now) growth.now.case.now.depth growth.now.case.now.prices.now growth.now.case.now.line.now joins base.now [] more.items) }
+    requires list { IsGrownList growth.now.case.now.instance.now growth.now.case.now.chamber growth.now.case.now.depth growth.now.ceilings.now growth.now.sets.now list.now }
+    requires base { IsBaseOf growth.now.case.now.instance.now growth.now.case.now.chamber growth.now.case.now.depth growth.now.case.now.line.now joins list.now.base }
+    ensures { IfOk result (λ more. HaveMore growth.now.case.now.instance.now growth.now.case.now.chamber (plain_cuts growth.now.case.now.instance.now growth.now.case.now.cuts.now) growth.now.case.now.depth growth.now.case.now.prices.now growth.now.case.now.line.now joins list.now.base [] more.items) }
 {
     let mut choices = Vec::new(alloc);
-    add_grown(alloc, growth, &mut choices, shelf, base, joins)?;
+    add_grown(growth, &mut choices, shelf, list, joins)?;
     order(&mut choices)?;
     Ok(choices)
 }
@@ -93,15 +91,15 @@ fn served(
     alloc: Global,
     growth: &Growth,
     shelf: &mut Shelf,
-    base: &Group,
+    list: &GrownList,
     joins: Option<u8>,
 ) -> Result<Vec<Choice>, PriceError>
     requires sets { AreForbidden growth.now.case.now.instance.now growth.now.case.now.chamber (plain_cuts growth.now.case.now.instance.now growth.now.case.now.cuts.now) growth.now.sets.now }
-    requires nears { AreNears growth.now.case.now.instance.now growth.now.case.now.depth growth.now.sets.now (length growth.now.case.now.instance.now.ships) growth.now.nears.now }
-    requires base { IsBaseOf growth.now.case.now.instance.now growth.now.case.now.chamber growth.now.case.now.depth growth.now.case.now.line.now joins base.now }
-    ensures { IfOk result (λ more. HaveMore growth.now.case.now.instance.now growth.now.case.now.chamber (plain_cuts growth.now.case.now.instance.now growth.now.case.now.cuts.now) growth.now.case.now.depth growth.now.case.now.prices.now growth.now.case.now.line.now joins base.now [] more.items) }
+    requires list { IsGrownList growth.now.case.now.instance.now growth.now.case.now.chamber growth.now.case.now.depth growth.now.ceilings.now growth.now.sets.now list.now }
+    requires base { IsBaseOf growth.now.case.now.instance.now growth.now.case.now.chamber growth.now.case.now.depth growth.now.case.now.line.now joins list.now.base }
+    ensures { IfOk result (λ more. HaveMore growth.now.case.now.instance.now growth.now.case.now.chamber (plain_cuts growth.now.case.now.instance.now growth.now.case.now.cuts.now) growth.now.case.now.depth growth.now.case.now.prices.now growth.now.case.now.line.now joins list.now.base [] more.items) }
 {
-    let more = ordered(alloc, growth, shelf, base, joins)?;
+    let more = ordered(alloc, growth, shelf, list, joins)?;
     let mut choices = Vec::new(alloc);
     put_each(growth.case, &mut choices, shelf, &more)?;
     short_first(&mut choices)?;
@@ -124,15 +122,15 @@ fn put_grown(
     growth: &Growth,
     choices: &mut Vec<Choice>,
     shelf: &mut Shelf,
-    base: &Group,
+    list: &GrownList,
     joins: Option<u8>,
 ) -> Result<(), PriceError>
     requires sets { AreForbidden growth.now.case.now.instance.now growth.now.case.now.chamber (plain_cuts growth.now.case.now.instance.now growth.now.case.now.cuts.now) growth.now.sets.now }
-    requires nears { AreNears growth.now.case.now.instance.now growth.now.case.now.depth growth.now.sets.now (length growth.now.case.now.instance.now.ships) growth.now.nears.now }
-    requires base { IsBaseOf growth.now.case.now.instance.now growth.now.case.now.chamber growth.now.case.now.depth growth.now.case.now.line.now joins base.now }
-    ensures { OnOk result ((all : List Plain) → All (IsChoice growth.now.case.now.instance.now growth.now.case.now.chamber (plain_cuts growth.now.case.now.instance.now growth.now.case.now.cuts.now) growth.now.case.now.depth growth.now.case.now.prices.now growth.now.case.now.line.now) all → AreLate growth.now.case.now.instance.now growth.now.case.now.chamber (plain_cuts growth.now.case.now.instance.now growth.now.case.now.cuts.now) growth.now.case.now.depth growth.now.case.now.prices.now growth.now.case.now.line.now 0 all choices.old.items → HaveEarly growth.now.case.now.instance.now growth.now.case.now.chamber (plain_cuts growth.now.case.now.instance.now growth.now.case.now.cuts.now) growth.now.case.now.depth growth.now.case.now.prices.now growth.now.case.now.line.now joins base.now all choices.new.items) }
+    requires list { IsGrownList growth.now.case.now.instance.now growth.now.case.now.chamber growth.now.case.now.depth growth.now.ceilings.now growth.now.sets.now list.now }
+    requires base { IsBaseOf growth.now.case.now.instance.now growth.now.case.now.chamber growth.now.case.now.depth growth.now.case.now.line.now joins list.now.base }
+    ensures { OnOk result ((all : List Plain) → All (IsChoice growth.now.case.now.instance.now growth.now.case.now.chamber (plain_cuts growth.now.case.now.instance.now growth.now.case.now.cuts.now) growth.now.case.now.depth growth.now.case.now.prices.now growth.now.case.now.line.now) all → AreLate growth.now.case.now.instance.now growth.now.case.now.chamber (plain_cuts growth.now.case.now.instance.now growth.now.case.now.cuts.now) growth.now.case.now.depth growth.now.case.now.prices.now growth.now.case.now.line.now 0 all choices.old.items → HaveEarly growth.now.case.now.instance.now growth.now.case.now.chamber (plain_cuts growth.now.case.now.instance.now growth.now.case.now.cuts.now) growth.now.case.now.depth growth.now.case.now.prices.now growth.now.case.now.line.now joins list.now.base all choices.new.items) }
 {
-    let more = served(alloc, growth, shelf, base, joins)?;
+    let more = served(alloc, growth, shelf, list, joins)?;
     let enough = late_choices(alloc, growth.case, &more, 0)?;
     append_all(choices, &enough)
 }
@@ -151,15 +149,20 @@ fn empty(way: Way) -> Group
 fn free_choices(
     alloc: Global,
     growth: &Growth,
+    lists: &mut Vec<GrownList>,
     shelf: &mut Shelf,
 ) -> Result<Vec<Choice>, PriceError>
     requires sets { AreForbidden growth.now.case.now.instance.now growth.now.case.now.chamber (plain_cuts growth.now.case.now.instance.now growth.now.case.now.cuts.now) growth.now.sets.now }
     requires nears { AreNears growth.now.case.now.instance.now growth.now.case.now.depth growth.now.sets.now (length growth.now.case.now.instance.now.ships) growth.now.nears.now }
-    ensures { IfOk result (λ choices. AreSomeEarly growth.now.case.now.instance.now growth.now.case.now.chamber (plain_cuts growth.now.case.now.instance.now growth.now.case.now.cuts.now) growth.now.case.now.depth growth.now.case.now.prices.now growth.now.case.now.line.now 0 choices.items) }
+    requires lists { All (IsGrownList growth.now.case.now.instance.now growth.now.case.now.chamber growth.now.case.now.depth growth.now.ceilings.now growth.now.sets.now) lists.old.items }
+    ensures lists { All (IsGrownList growth.now.case.now.instance.now growth.now.case.now.chamber growth.now.case.now.depth growth.now.ceilings.now growth.now.sets.now) lists.new.items }
+    ensures some { IfOk result (λ choices. AreSomeEarly growth.now.case.now.instance.now growth.now.case.now.chamber (plain_cuts growth.now.case.now.instance.now growth.now.case.now.cuts.now) growth.now.case.now.depth growth.now.case.now.prices.now growth.now.case.now.line.now 0 choices.items) }
 {
     let mut choices = Vec::new(alloc);
-    put_grown(alloc, growth, &mut choices, shelf, &empty(Way::Up), None)?;
-    put_grown(alloc, growth, &mut choices, shelf, &empty(Way::Down), None)?;
+    let up = list_for(alloc, lists, growth, &empty(Way::Up))?;
+    put_grown(alloc, growth, &mut choices, shelf, &lists[up], None)?;
+    let down = list_for(alloc, lists, growth, &empty(Way::Down))?;
+    put_grown(alloc, growth, &mut choices, shelf, &lists[down], None)?;
     Ok(choices)
 }
 
@@ -168,23 +171,21 @@ fn free_choices(
 pub(crate) fn choices(
     alloc: Global,
     growth: &Growth,
+    lists: &mut Vec<GrownList>,
     shelf: &mut Shelf,
 ) -> Result<Vec<Choice>, PriceError>
     requires sets { AreForbidden growth.now.case.now.instance.now growth.now.case.now.chamber (plain_cuts growth.now.case.now.instance.now growth.now.case.now.cuts.now) growth.now.sets.now }
     requires nears { AreNears growth.now.case.now.instance.now growth.now.case.now.depth growth.now.sets.now (length growth.now.case.now.instance.now.ships) growth.now.nears.now }
-    ensures { IfOk result (λ choices. AreEarly growth.now.case.now.instance.now growth.now.case.now.chamber (plain_cuts growth.now.case.now.instance.now growth.now.case.now.cuts.now) growth.now.case.now.depth growth.now.case.now.prices.now growth.now.case.now.line.now choices.items) }
+    requires lists { All (IsGrownList growth.now.case.now.instance.now growth.now.case.now.chamber growth.now.case.now.depth growth.now.ceilings.now growth.now.sets.now) lists.old.items }
+    ensures lists { All (IsGrownList growth.now.case.now.instance.now growth.now.case.now.chamber growth.now.case.now.depth growth.now.ceilings.now growth.now.sets.now) lists.new.items }
+    ensures early { IfOk result (λ choices. AreEarly growth.now.case.now.instance.now growth.now.case.now.chamber (plain_cuts growth.now.case.now.instance.now growth.now.case.now.cuts.now) growth.now.case.now.depth growth.now.case.now.prices.now growth.now.case.now.line.now choices.items) }
 {
     let line = growth.case.line;
-    let mut choices = free_choices(alloc, growth, shelf)?;
+    let mut choices = free_choices(alloc, growth, lists, shelf)?;
     for place in 0..line.len() {
-        put_grown(
-            alloc,
-            growth,
-            &mut choices,
-            shelf,
-            &line[place],
-            Some(place as u8),
-        )?;
+        let own = list_for(alloc, lists, growth, &line[place])?;
+        let joins = Some(place as u8);
+        put_grown(alloc, growth, &mut choices, shelf, &lists[own], joins)?;
     }
     Ok(choices)
 }

@@ -6,7 +6,7 @@ ghost use Rattle.master_branch.specs.Steps.{group_at};
 ghost use Rattle.price_bound.specs.Sparing.{IsSpared};
 ghost use Rattle.price_bound.specs.Masks.{AreNear, AreNears, IsMask};
 ghost use Rattle.price_bound.specs.Choosing.{AreRates, AreSumsOf, AreWeighed};
-ghost use Rattle.price_bound.specs.Growing.{AreGrown, IsAllowed, MayJoin, IsJoined, IsNew, IsBase, IsPutJoined};
+ghost use Rattle.price_bound.specs.Growing.{AreBelow, AreGrown, IsAllowed, MayJoin, IsJoined, IsNew, IsBase, IsPutJoined};
 
 use crate::error::{PriceError, append};
 use crate::forbidden::misses_all;
@@ -14,15 +14,16 @@ use crate::idling::has_idler;
 use crate::line_case::LineCase;
 use crate::masks::{are_before, misses_all_of, with_bit};
 use crate::near::Near;
+use crate::prices::Prices;
 use crate::sums::Sums;
 use crate::weighing::{more_sums, sums_of};
 use lock_model::{Group, Ships};
 use master_branch::with_ship;
 use std::alloc::Global;
 
-/// What groups are grown by: the case; the ship sets that its cuts forbid in its chamber, and for each
-/// ship those that have it, as numbers; what each ship counts in what a group pays; and how many groups
-/// there may be, before it is refused that a ship joins one more.
+/// What groups are grown and weighed by: the case; the ship sets that its cuts forbid in its chamber, and
+/// for each ship those that have it, as numbers; what each ship counts in what a group pays; and how many
+/// groups there may be, before it is refused that a ship joins one more.
 #[derive(Drop)]
 pub(crate) struct Growth<'a> {
     pub(crate) case: &'a LineCase<'a>,
@@ -31,8 +32,14 @@ pub(crate) struct Growth<'a> {
     pub(crate) nears: &'a [Near],
     /// What each ship counts: 100 times its arrival, and its price where the node lacks it.
     pub(crate) rates: &'a [u32],
+    /// Prices that are no lower, by which groups are left out as they grow, and what each ship counts
+    /// by these.
+    pub(crate) ceilings: &'a Prices,
+    pub(crate) high_rates: &'a [u32],
     pub(crate) most: usize,
     pub(crate) ghost rated: { AreRates case.now.instance.now case.now.depth case.now.prices.now (length case.now.instance.now.ships) rates.now },
+    pub(crate) ghost high_rated: { AreRates case.now.instance.now case.now.depth ceilings.now (length case.now.instance.now.ships) high_rates.now },
+    pub(crate) ghost below: { AreBelow case.now.prices.now ceilings.now },
 }
 
 /// Groups that have grown, and for each its sums.
@@ -96,7 +103,7 @@ fn joined(growth: &Growth, near: &[u32], group: &Group, mask: u32, ship: u8) -> 
 // Whether one of the ships that joined may gain nothing at the soonest end of those that have these
 // sums; `has_idler` tells.
 fn may_idle(sums: &Sums) -> bool {
-    sums.least as u64 <= 100 * (sums.last as u64 + sums.duration as u64)
+    sums.least as u64 <= 100 * sums.end()
 }
 
 // Appends a group that has grown, unless one of its ships gains nothing: nor does it in any group that
@@ -109,12 +116,12 @@ fn put_joined(
     own: Sums,
 ) -> Result<(), PriceError>
     requires known { All (λ s. s < length growth.now.case.now.instance.now.ships) group.ships }
-    requires weighed { AreWeighed growth.now.case.now.instance.now growth.now.case.now.chamber growth.now.case.now.depth growth.now.case.now.prices.now groups.old.items sums.old.items }
-    requires own { AreSumsOf growth.now.case.now.instance.now growth.now.case.now.chamber growth.now.case.now.depth growth.now.case.now.prices.now group.ships own }
-    ensures weighed { OnOk result (AreWeighed growth.now.case.now.instance.now growth.now.case.now.chamber growth.now.case.now.depth growth.now.case.now.prices.now groups.new.items sums.new.items) }
-    ensures put { OnOk result (IsPutJoined growth.now.case.now.instance.now growth.now.case.now.chamber growth.now.case.now.depth growth.now.case.now.prices.now group groups.old.items groups.new.items) }
+    requires weighed { AreWeighed growth.now.case.now.instance.now growth.now.case.now.chamber groups.old.items sums.old.items }
+    requires own { AreSumsOf growth.now.case.now.instance.now growth.now.case.now.chamber group.ships own }
+    ensures weighed { OnOk result (AreWeighed growth.now.case.now.instance.now growth.now.case.now.chamber groups.new.items sums.new.items) }
+    ensures put { OnOk result (IsPutJoined growth.now.case.now.instance.now growth.now.case.now.chamber growth.now.case.now.depth growth.now.ceilings.now group groups.old.items groups.new.items) }
 {
-    if may_idle(&own) && has_idler(growth, &group) {
+    if may_idle(&own) && has_idler(growth, &group, own.end()) {
         return Ok(());
     }
     if groups.len() >= growth.most {
@@ -141,9 +148,9 @@ fn join(
     requires place { place < length groups.old.items }
     requires absent { times_in (group_at groups.old.items place).ships ship ≡ 0 }
     requires few { length (group_at groups.old.items place).ships ≤ 8 }
-    requires weighed { AreWeighed growth.now.case.now.instance.now growth.now.case.now.chamber growth.now.case.now.depth growth.now.case.now.prices.now groups.old.items sums.old.items }
-    ensures weighed { OnOk result (AreWeighed growth.now.case.now.instance.now growth.now.case.now.chamber growth.now.case.now.depth growth.now.case.now.prices.now groups.new.items sums.new.items) }
-    ensures joined { OnOk result (IsJoined growth.now.case.now.instance.now growth.now.case.now.chamber growth.now.case.now.depth growth.now.case.now.prices.now growth.now.sets.now ship (group_at groups.old.items place) groups.old.items groups.new.items) }
+    requires weighed { AreWeighed growth.now.case.now.instance.now growth.now.case.now.chamber groups.old.items sums.old.items }
+    ensures weighed { OnOk result (AreWeighed growth.now.case.now.instance.now growth.now.case.now.chamber groups.new.items sums.new.items) }
+    ensures joined { OnOk result (IsJoined growth.now.case.now.instance.now growth.now.case.now.chamber growth.now.case.now.depth growth.now.ceilings.now growth.now.sets.now ship (group_at groups.old.items place) groups.old.items groups.new.items) }
 {
     let own = &sums[place];
     match joined(growth, near, &groups[place], own.mask, ship) {
@@ -167,10 +174,10 @@ fn join_each(
     requires near { AreNear growth.now.case.now.instance.now growth.now.case.now.depth growth.now.sets.now (length growth.now.sets.now) ship near.now }
     requires known { ship < length growth.now.case.now.instance.now.ships }
     requires new { IsNew growth.now.case.now.instance.now growth.now.case.now.depth base.now ship }
-    requires grown { AreGrown growth.now.case.now.instance.now growth.now.case.now.chamber growth.now.case.now.depth growth.now.case.now.prices.now growth.now.sets.now base.now ship groups.old.items }
-    requires weighed { AreWeighed growth.now.case.now.instance.now growth.now.case.now.chamber growth.now.case.now.depth growth.now.case.now.prices.now groups.old.items sums.old.items }
-    ensures weighed { OnOk result (AreWeighed growth.now.case.now.instance.now growth.now.case.now.chamber growth.now.case.now.depth growth.now.case.now.prices.now groups.new.items sums.new.items) }
-    ensures grown { OnOk result (AreGrown growth.now.case.now.instance.now growth.now.case.now.chamber growth.now.case.now.depth growth.now.case.now.prices.now growth.now.sets.now base.now (ship + 1) groups.new.items) }
+    requires grown { AreGrown growth.now.case.now.instance.now growth.now.case.now.chamber growth.now.case.now.depth growth.now.ceilings.now growth.now.sets.now base.now ship groups.old.items }
+    requires weighed { AreWeighed growth.now.case.now.instance.now growth.now.case.now.chamber groups.old.items sums.old.items }
+    ensures weighed { OnOk result (AreWeighed growth.now.case.now.instance.now growth.now.case.now.chamber groups.new.items sums.new.items) }
+    ensures grown { OnOk result (AreGrown growth.now.case.now.instance.now growth.now.case.now.chamber growth.now.case.now.depth growth.now.ceilings.now growth.now.sets.now base.now (ship + 1) groups.new.items) }
 {
     for place in 0..groups.len() {
         join(growth, near, groups, sums, place, ship)?;
@@ -188,10 +195,10 @@ fn grow(
 ) -> Result<(), PriceError>
     requires nears { AreNears growth.now.case.now.instance.now growth.now.case.now.depth growth.now.sets.now (length growth.now.case.now.instance.now.ships) growth.now.nears.now }
     requires known { ship < length growth.now.case.now.instance.now.ships }
-    requires grown { AreGrown growth.now.case.now.instance.now growth.now.case.now.chamber growth.now.case.now.depth growth.now.case.now.prices.now growth.now.sets.now base.now ship groups.old.items }
-    requires weighed { AreWeighed growth.now.case.now.instance.now growth.now.case.now.chamber growth.now.case.now.depth growth.now.case.now.prices.now groups.old.items sums.old.items }
-    ensures weighed { OnOk result (AreWeighed growth.now.case.now.instance.now growth.now.case.now.chamber growth.now.case.now.depth growth.now.case.now.prices.now groups.new.items sums.new.items) }
-    ensures grown { OnOk result (AreGrown growth.now.case.now.instance.now growth.now.case.now.chamber growth.now.case.now.depth growth.now.case.now.prices.now growth.now.sets.now base.now (ship + 1) groups.new.items) }
+    requires grown { AreGrown growth.now.case.now.instance.now growth.now.case.now.chamber growth.now.case.now.depth growth.now.ceilings.now growth.now.sets.now base.now ship groups.old.items }
+    requires weighed { AreWeighed growth.now.case.now.instance.now growth.now.case.now.chamber groups.old.items sums.old.items }
+    ensures weighed { OnOk result (AreWeighed growth.now.case.now.instance.now growth.now.case.now.chamber groups.new.items sums.new.items) }
+    ensures grown { OnOk result (AreGrown growth.now.case.now.instance.now growth.now.case.now.chamber growth.now.case.now.depth growth.now.ceilings.now growth.now.sets.now base.now (ship + 1) groups.new.items) }
 {
     if !may_grow(growth.case, base, ship) {
         return Ok(());
@@ -209,7 +216,7 @@ fn grow(
 // The base alone, where no forbidden set is in it.
 fn ungrown(alloc: Global, growth: &Growth, base: &Group) -> Result<Vec<Group>, PriceError>
     requires { IsBase growth.now.case.now.instance.now growth.now.case.now.chamber growth.now.case.now.depth base.now }
-    ensures { IfOk result (λ groups. AreGrown growth.now.case.now.instance.now growth.now.case.now.chamber growth.now.case.now.depth growth.now.case.now.prices.now growth.now.sets.now base.now 0 groups.items) }
+    ensures { IfOk result (λ groups. AreGrown growth.now.case.now.instance.now growth.now.case.now.chamber growth.now.case.now.depth growth.now.ceilings.now growth.now.sets.now base.now 0 groups.items) }
 {
     let mut groups = Vec::new(alloc);
     if !misses_all(growth.sets, base.ships.as_slice()) {
@@ -222,7 +229,7 @@ fn ungrown(alloc: Global, growth: &Growth, base: &Group) -> Result<Vec<Group>, P
 // The sums of groups.
 fn sums_of_all(alloc: Global, growth: &Growth, groups: &[Group]) -> Result<Vec<Sums>, PriceError>
     requires { All (λ g. All (λ s. s < length growth.now.case.now.instance.now.ships) g.ships) groups.now }
-    ensures { IfOk result (λ sums. AreWeighed growth.now.case.now.instance.now growth.now.case.now.chamber growth.now.case.now.depth growth.now.case.now.prices.now groups.now sums.items) }
+    ensures { IfOk result (λ sums. AreWeighed growth.now.case.now.instance.now growth.now.case.now.chamber groups.now sums.items) }
 {
     let mut sums = Vec::new(alloc);
     for group in groups {
@@ -241,8 +248,8 @@ pub(crate) fn grown(
 ) -> Result<WeighedGroups, PriceError>
     requires nears { AreNears growth.now.case.now.instance.now growth.now.case.now.depth growth.now.sets.now (length growth.now.case.now.instance.now.ships) growth.now.nears.now }
     requires base { IsBase growth.now.case.now.instance.now growth.now.case.now.chamber growth.now.case.now.depth base.now }
-    ensures grown { IfOk result (λ listed. AreGrown growth.now.case.now.instance.now growth.now.case.now.chamber growth.now.case.now.depth growth.now.case.now.prices.now growth.now.sets.now base.now (length growth.now.case.now.instance.now.ships) listed.groups.items) }
-    ensures weighed { IfOk result (λ listed. AreWeighed growth.now.case.now.instance.now growth.now.case.now.chamber growth.now.case.now.depth growth.now.case.now.prices.now listed.groups.items listed.sums.items) }
+    ensures grown { IfOk result (λ listed. AreGrown growth.now.case.now.instance.now growth.now.case.now.chamber growth.now.case.now.depth growth.now.ceilings.now growth.now.sets.now base.now (length growth.now.case.now.instance.now.ships) listed.groups.items) }
+    ensures weighed { IfOk result (λ listed. AreWeighed growth.now.case.now.instance.now growth.now.case.now.chamber listed.groups.items listed.sums.items) }
 {
     let count = growth.case.instance.ships.as_slice().len() as u8;
     let mut groups = ungrown(alloc, growth, base)?;

@@ -6,38 +6,28 @@ ghost use Rattle.price_bound.specs.Growing.{HasIdler};
 ghost use Rattle.price_bound.specs.Worth.{soonest_of};
 
 use crate::growing::Growth;
-use crate::line_case::LineCase;
-use chamber_times::{duration, last_arrival};
-use lock_model::{Group, Ships};
+use lock_model::Group;
 
-// The soonest minute by which ships can be served.
-fn soonest(case: &LineCase, ships: &Ships) -> u64
-    requires { All (λ s. s < length case.now.instance.now.ships) ships.now }
-    ensures value { result ≡ soonest_of case.now.instance.now case.now.chamber 0 ships.now }
-    ensures small { result ≤ 100000000 }
-{
-    last_arrival(case.instance, 0, ships) + duration(case.instance, case.chamber, ships)
-}
-
-// Whether the node lacks a ship and it gains nothing where it is served by a minute.
+// Whether the node lacks a ship and it gains nothing at the ceilings where it is served by a minute.
 fn is_idle(growth: &Growth, ship: u8, end: u64) -> bool
     requires known { ship < length growth.now.case.now.instance.now.ships }
-    requires small { end ≤ 100000000 }
-    ensures { IsTrue result → (is_missing growth.now.case.now.instance.now growth.now.case.now.depth ship ≡ true) × (price_at growth.now.case.now.prices.now ship + 100 * (ship_at growth.now.case.now.instance.now ship).arrival ≤ 100 * end) }
+    requires small { end ≤ 10000000000 }
+    ensures { IsTrue result → (is_missing growth.now.case.now.instance.now growth.now.case.now.depth ship ≡ true) × (price_at growth.now.ceilings.now ship + 100 * (ship_at growth.now.case.now.instance.now ship).arrival ≤ 100 * end) }
 {
-    growth.rates[ship as usize] as u64 <= 100 * end && growth.case.lacks(ship)
+    growth.high_rates[ship as usize] as u64 <= 100 * end && growth.case.lacks(ship)
 }
 
-/// Whether a group has several ships and one that the node lacks gains nothing, even at their soonest
-/// end: then the others serve as well, and so does what grows from them.
-pub(crate) fn has_idler(growth: &Growth, group: &Group) -> bool
-    requires { All (λ s. s < length growth.now.case.now.instance.now.ships) group.now.ships }
-    ensures { IsTrue result → HasIdler growth.now.case.now.instance.now growth.now.case.now.chamber growth.now.case.now.depth growth.now.case.now.prices.now group.now }
+/// Whether a group has several ships, and one that the node lacks gains nothing at the ceilings, even at
+/// their soonest end: then the others serve as well, and so does what grows from them.
+pub(crate) fn has_idler(growth: &Growth, group: &Group, end: u64) -> bool
+    requires known { All (λ s. s < length growth.now.case.now.instance.now.ships) group.now.ships }
+    requires end { end ≡ soonest_of growth.now.case.now.instance.now growth.now.case.now.chamber 0 group.now.ships }
+    requires small { end ≤ 10000000000 }
+    ensures { IsTrue result → HasIdler growth.now.case.now.instance.now growth.now.case.now.chamber growth.now.case.now.depth growth.now.ceilings.now group.now }
 {
     if group.ships.len() < 2 {
         return false;
     }
-    let end = soonest(growth.case, &group.ships);
     for &ship in group.ships.as_slice() {
         if is_idle(growth, ship, end) {
             return true;

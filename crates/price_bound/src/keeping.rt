@@ -3,10 +3,11 @@ ghost use Rattle.std.specs.Prelude.{◌≡◌, ◌<◌, ◌↔◌, length, slice
 ghost use Rattle.std.specs.Bool.{OnTrue};
 ghost use Rattle.price_bound.specs.declared.keeping.KeptLine.{KeptLine};
 ghost use Rattle.price_bound.specs.Keeping.{AreUnder, IsFound, IsOf};
+ghost use Rattle.price_bound.specs.Stock.{AreStocks};
 
 use crate::error::{Limits, PriceError};
+use crate::kept_groups::KeptGroups;
 use crate::line_case::LineCase;
-use crate::line_least::line_least;
 use crate::loose_line::{LooseLine, copied};
 use crate::terms::Terms;
 use lock_model::Group;
@@ -72,38 +73,48 @@ fn are_many(kept: &[KeptLine]) -> bool {
 }
 
 // A least line of the chamber of a case, worked out.
-fn worked_out(alloc: Global, case: &LineCase, limits: Limits) -> Result<KeptLine, PriceError>
+fn worked_out(
+    alloc: Global,
+    groups: &mut KeptGroups,
+    case: &LineCase,
+    limits: Limits,
+) -> Result<KeptLine, PriceError>
+    requires { AreStocks case.now.instance.now case.now.depth case.now.cuts.now groups.old }
+    ensures keeps { AreStocks case.now.instance.now case.now.depth case.now.cuts.now groups.new }
     ensures is { IfOk result (IsOf case.now.chamber case.now.line.now) }
     ensures found { IfOk result (λ kept. IsFound case.now.instance.now case.now.chamber case.now.depth case.now.prices.now case.now.cuts.now case.now.line.now kept.least) }
 {
     Ok(KeptLine {
         chamber: case.chamber,
         line: copied(alloc, case.line)?,
-        least: line_least(alloc, case, limits)?,
+        least: groups.least(alloc, case, limits)?,
     })
 }
 
-/// Least lines that were worked out, kept for later calls by the same instance, depth, prices and cuts;
-/// a call by others forgets them. They help speed alone: with any kept lines a call answers the same,
-/// but for its limits, which aren't asked of a line that is kept. At most 100 lines are kept, in less
-/// than 200 kilobytes besides a copy of the cuts and what the last line takes.
+/// Least lines that were worked out, kept for later calls by the same instance, depth, prices and cuts,
+/// and the groups that they were made from, kept for calls by other prices and more cuts; a call by
+/// others forgets them. They help speed alone: with anything kept a call answers the same, but for its
+/// limits, which aren't asked of what is kept. At most 100 lines are kept, in less than 200 kilobytes
+/// besides a copy of the cuts and what the last line takes, and for each way and each group of a line as
+/// many groups as the limits allow, in 32 bytes each.
 #[derive(Debug, Drop)]
 pub struct KeptLines {
     alloc: Global,
     terms: Option<Terms>,
     lines: Vec<KeptLine>,
+    groups: KeptGroups,
 }
 
 impl Model for KeptLines {
     ghost use Rattle.std.specs.declared.option.Option.{Option};
     ghost use Rattle.price_bound.specs.declared.terms.Terms.{Terms};
-    ghost use Rattle.price_bound.specs.Keeping.{AreKept};
+    ghost use Rattle.price_bound.specs.Keeping.{AreAllKept};
 
     ghost Value = { Option Terms };
 
     ghost view = { λ a. a.terms };
 
-    ghost invariant = { λ a. AreKept a.terms a.lines.items };
+    ghost invariant = { λ a. AreAllKept a.terms a.lines.items a.groups };
 }
 
 impl KeptLines {
@@ -113,6 +124,7 @@ impl KeptLines {
             alloc,
             terms: None,
             lines: Vec::new(alloc),
+            groups: KeptGroups::new(alloc),
         }
     }
 
@@ -131,16 +143,24 @@ impl KeptLines {
         }
     }
 
-    // Forgets what is kept under other terms than those of a case.
+    // Goes under the terms of a case: what is kept under others is forgotten, but groups are kept where
+    // only the prices differ or cuts came behind the others.
     fn go_under(&mut self, case: &LineCase) -> Result<(), PriceError>
         ensures { IfOk result (λ _. AreUnder case.now.instance.now case.now.depth case.now.prices.now case.now.cuts.now self.new) }
     {
-        if !self.are_under(case) {
-            let terms = Terms::new(self.alloc, case)?;
-            self.lines.clear();
-            self.terms = Some(terms);
+        if self.are_under(case) {
+            return Ok(());
         }
-        Ok(())
+        self.lines.clear();
+        match &mut self.terms {
+            Some(terms) if terms.lead_to(case) => terms.go_on(case),
+            _ => {
+                self.groups.clear();
+                let terms = Terms::new(self.alloc, case)?;
+                self.terms = Some(terms);
+                Ok(())
+            }
+        }
     }
 
     // Forgets what is kept once it is much, unless the line of a case is among it.
@@ -166,7 +186,7 @@ impl KeptLines {
         if let Some(place) = place_of(&self.lines, case) {
             return Ok(&self.lines[place].least);
         }
-        let kept = worked_out(self.alloc, case, limits)?;
+        let kept = worked_out(self.alloc, &mut self.groups, case, limits)?;
         let place = self.lines.len();
         match self.lines.push(kept) {
             Ok(()) => Ok(&self.lines[place].least),

@@ -8,14 +8,15 @@
 //! the minute from which on missing ships may be left out of a line.
 //!
 //! What is worked out is kept for later calls in `KeptLines`, which helps speed alone; nothing else that
-//! a call is given changes. Refused are want of memory, and more groups or turns than the caller's
-//! `Limits` allow.
+//! a call is given changes. Groups are grown at ceilings of the prices, so that they serve until a price
+//! is above its own, and under the cuts so far, so that those which a later cut forbids are taken out.
+//! Refused are want of memory, and more groups or turns than the caller's `Limits` allow.
 //!
 //! Definitions: `price_rules` says what loose lines are, what they pay and what a node reaches. Here
 //! `specs/Cuts` says what cuts are by chamber and ships, `Claim` what a `Shown` carries, `Worth` what
 //! lines are worth and their least, `Lines` which lines are least, `Total` the sum over the chambers,
-//! `Keeping` what lines are kept under; `Sparing`, `Growing`, `Masks`, `Choosing` and `Values` are of
-//! the steps.
+//! `Keeping` what lines are kept under; `Sparing`, `Growing`, `Masks`, `Choosing`, `Values` and
+//! `Stock` are of the steps.
 #![tactic(auto)]
 
 mod bests;
@@ -28,9 +29,11 @@ mod error;
 mod forbidden;
 mod frame;
 mod growing;
+mod grown_lists;
 mod horizon;
 mod idling;
 mod keeping;
+mod kept_groups;
 mod lateness;
 mod least;
 mod level;

@@ -1,5 +1,5 @@
 //! One chamber's part of the bound.
-ghost use Rattle.std.specs.Prelude.{◌≡◌, ◌<◌, ◌≤◌, length, All};
+ghost use Rattle.std.specs.Prelude.{◌≡◌, ◌<◌, ◌≤◌, length, drop, All};
 ghost use Rattle.lock_model.specs.Fleet.{chamber_at};
 ghost use Rattle.lock_rules.specs.Arrival.{first_ships};
 ghost use Rattle.lock_rules.specs.Node.{IsNodeGroup};
@@ -37,5 +37,24 @@ impl LineCase<'_> {
         ensures { result ≡ is_missing self.now.instance.now self.now.depth ship }
     {
         !self.held.contains(&ship)
+    }
+
+    // The same under the cuts from a place on.
+    pub(crate) fn after(&self, place: usize) -> LineCase<'_>
+        requires { place ≤ length self.now.cuts.now }
+        ensures instance { result.instance.now ≡ self.now.instance.now }
+        ensures chamber { result.chamber ≡ self.now.chamber }
+        ensures cuts { result.cuts.now ≡ drop place self.now.cuts.now }
+    {
+        LineCase {
+            instance: self.instance,
+            cuts: &self.cuts[place..],
+            prices: self.prices,
+            depth: self.depth,
+            held: self.held,
+            chamber: self.chamber,
+            lock: self.lock,
+            line: self.line,
+        }
     }
 }

@@ -1,20 +1,22 @@
 //! The least worth of a chamber's loose lines, and a line of that worth.
-ghost use Rattle.std.specs.Prelude.{◌≤◌, ◌≤ℤ◌, pos, neg_ℤ, IfOk, IfSome};
+ghost use Rattle.std.specs.Prelude.{◌≤◌, ◌≤ℤ◌, pos, neg_ℤ, length, All, IfOk, IfSome};
+ghost use Rattle.price_bound.specs.Sparing.{AreForbidden};
+ghost use Rattle.price_bound.specs.Masks.{AreNears};
 ghost use Rattle.price_bound.specs.Choosing.{AreMenus};
+ghost use Rattle.price_bound.specs.Stock.{IsGrownList};
 ghost use Rattle.price_bound.specs.Lines.{IsLeastLine, IsLineFound};
 ghost use Rattle.price_bound.specs.Cuts.{plain_cuts};
 
 use crate::choosing::choices;
-use crate::error::{Limits, PriceError};
-use crate::forbidden::{are_spared, forbidden};
+use crate::error::PriceError;
+use crate::forbidden::are_spared;
 use crate::growing::Growth;
+use crate::grown_lists::GrownList;
 use crate::horizon::horizon;
 use crate::lateness::latest;
 use crate::least::value_of;
 use crate::levels::levels;
-use crate::line_case::LineCase;
 use crate::loose_line::LooseLine;
-use crate::masks::nears;
 use crate::menus::menus;
 use crate::next_group::ValuedState;
 use crate::shelf::Shelf;
@@ -22,7 +24,6 @@ use crate::state::State;
 use crate::table::Table;
 use crate::values::Values;
 use crate::walking::walked;
-use crate::weighing::rates;
 use std::alloc::Global;
 
 // The least line, by a table.
@@ -49,38 +50,34 @@ fn line_by(alloc: Global, table: &Table) -> Result<LooseLine, PriceError>
 }
 
 /// A loose line of the chamber with the least of 100 times the flow time minus what is paid, over all
-/// its loose lines; None where there is no loose line.
+/// its loose lines; None where there is no loose line. Groups that grow are kept in the lists.
 pub(crate) fn line_least(
     alloc: Global,
-    case: &LineCase,
-    limits: Limits,
+    growth: &Growth,
+    lists: &mut Vec<GrownList>,
+    turns: u64,
 ) -> Result<Option<LooseLine>, PriceError>
-    ensures least { IfOk result (IsLineFound case.now.instance.now case.now.chamber (plain_cuts case.now.instance.now case.now.cuts.now) case.now.depth case.now.prices.now case.now.line.now) }
+    requires sets { AreForbidden growth.now.case.now.instance.now growth.now.case.now.chamber (plain_cuts growth.now.case.now.instance.now growth.now.case.now.cuts.now) growth.now.sets.now }
+    requires nears { AreNears growth.now.case.now.instance.now growth.now.case.now.depth growth.now.sets.now (length growth.now.case.now.instance.now.ships) growth.now.nears.now }
+    requires lists { All (IsGrownList growth.now.case.now.instance.now growth.now.case.now.chamber growth.now.case.now.depth growth.now.ceilings.now growth.now.sets.now) lists.old.items }
+    ensures lists { All (IsGrownList growth.now.case.now.instance.now growth.now.case.now.chamber growth.now.case.now.depth growth.now.ceilings.now growth.now.sets.now) lists.new.items }
+    ensures least { IfOk result (IsLineFound growth.now.case.now.instance.now growth.now.case.now.chamber (plain_cuts growth.now.case.now.instance.now growth.now.case.now.cuts.now) growth.now.case.now.depth growth.now.case.now.prices.now growth.now.case.now.line.now) }
     ensures low { IfOk result (λ found. IfSome found (λ line. neg_ℤ (pos 816080000000000) ≤ℤ line.worth)) }
     ensures high { IfOk result (λ found. IfSome found (λ line. line.worth ≤ℤ pos 6000000000000)) }
 {
-    let sets = forbidden(alloc, case)?;
-    if !are_spared(&sets, case.line) {
+    let case = growth.case;
+    if !are_spared(growth.sets, case.line) {
         return Ok(None);
     }
-    let nears = nears(alloc, case, &sets)?;
-    let rates = rates(alloc, case)?;
-    let growth = Growth {
-        case,
-        sets: &sets,
-        nears: &nears,
-        rates: &rates,
-        most: limits.groups,
-    };
     let mut shelf = Shelf::new(case.lock.pass);
-    let choices = choices(alloc, &growth, &mut shelf)?;
+    let choices = choices(alloc, growth, lists, &mut shelf)?;
     let levels = levels(alloc, case, &choices, latest(&choices))?;
     let menus = menus(alloc, case, &choices, &levels)?;
     let table = Table {
         case,
         menus: &menus,
         horizon: horizon(case),
-        turns: limits.turns,
+        turns,
     };
     Ok(Some(line_by(alloc, &table)?))
 }

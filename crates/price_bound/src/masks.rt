@@ -70,8 +70,12 @@ fn note(masks: &mut Vec<u32>, instance: &Instance, set: &[u8]) -> Result<(), Pri
     Ok(())
 }
 
-// The masks of the sets.
-fn marks(alloc: Global, instance: &Instance, sets: &[Ships]) -> Result<Vec<u32>, PriceError>
+/// The masks of the sets whose ships are the instance's.
+pub(crate) fn marks(
+    alloc: Global,
+    instance: &Instance,
+    sets: &[Ships],
+) -> Result<Vec<u32>, PriceError>
     ensures { IfOk result (λ masks. AreMarks instance.now sets.now (length sets.now) masks.items) }
 {
     let mut masks = Vec::new(alloc);

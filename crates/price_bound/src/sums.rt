@@ -1,12 +1,23 @@
 //! The sums of groups that grow.
+ghost use Rattle.std.specs.Prelude.{◌≡◌, ◌+◌, ◌≤◌};
 
-/// The sums of a group by which it is compared and served, as in a `Choice`; the least that one of the
-/// ships that joined it counts, which helps speed alone; and the number whose bits are its ships.
+/// Those sums of a group by which it is served that don't hang on prices; the least that one of the
+/// ships that joined it may count, which helps speed alone; and the number whose bits are its ships.
 #[derive(Clone, Copy, Debug, PartialEq, Eq)]
 pub(crate) struct Sums {
     pub(crate) duration: u32,
     pub(crate) last: u32,
-    pub(crate) pays: u32,
     pub(crate) least: u32,
     pub(crate) mask: u32,
+}
+
+impl Sums {
+    #[inline(always)]
+    // The soonest minute by which the ships can be served.
+    pub(crate) fn end(&self) -> u64
+        ensures value { result ≡ self.now.last + self.now.duration }
+        ensures small { result ≤ 10000000000 }
+    {
+        self.last as u64 + self.duration as u64
+    }
 }

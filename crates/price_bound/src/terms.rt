@@ -1,7 +1,7 @@
 //! What a least line depends on besides its chamber and the chamber's line.
-ghost use Rattle.std.specs.Prelude.{◌≡◌, ◌↔◌, IfOk, IsTrue};
+ghost use Rattle.std.specs.Prelude.{◌≡◌, ◌↔◌, IfOk, OnOk, IsTrue};
 ghost use Rattle.std.specs.Bool.{OnTrue};
-ghost use Rattle.price_bound.specs.Keeping.{AreTerms};
+ghost use Rattle.price_bound.specs.Keeping.{AreFirst, AreTerms, LeadTo};
 
 use crate::comparing::same_instance;
 use crate::cut::{ChamberCut, same_cuts};
@@ -60,5 +60,39 @@ impl Terms {
             && self.prices == *case.prices
             && self.have_cuts(case.cuts)
             && same_instance(&self.instance, case.instance)
+    }
+
+    #[tactic(auto, using(crate::proofs::CutLemmas::same_row))]
+    // Whether the cuts are the first of these.
+    fn are_first(&self, cuts: &[ChamberCut]) -> bool
+        ensures { OnTrue result (AreFirst self.now.cuts.items cuts.now) }
+    {
+        self.cuts.len() <= cuts.len() && same_cuts(&self.cuts, &cuts[..self.cuts.len()])
+    }
+
+    // Whether only prices differ from those of a case, or cuts came behind the others.
+    pub(crate) fn lead_to(&self, case: &LineCase) -> bool
+        ensures { OnTrue result (LeadTo case.now.instance.now case.now.depth case.now.cuts.now self.now) }
+    {
+        self.depth == case.depth
+            && self.are_first(case.cuts)
+            && same_instance(&self.instance, case.instance)
+    }
+
+    // Takes the prices of a case, and the cuts that came behind the others.
+    pub(crate) fn go_on(&mut self, case: &LineCase) -> Result<(), PriceError>
+        requires { LeadTo case.now.instance.now case.now.depth case.now.cuts.now self.old }
+        ensures leads { LeadTo case.now.instance.now case.now.depth case.now.cuts.now self.new }
+        ensures more { AreFirst self.old.cuts.items self.new.cuts.items }
+        ensures are { OnOk result (AreTerms case.now.instance.now case.now.depth case.now.prices.now case.now.cuts.now self.new) }
+    {
+        self.prices = case.prices.copy();
+        for place in self.cuts.len()..case.cuts.len() {
+            match self.cuts.push(case.cuts[place].copy()) {
+                Ok(()) => {}
+                Err(_) => return Err(PriceError::NoMemory),
+            }
+        }
+        Ok(())
     }
 }

@@ -6,34 +6,36 @@ ghost use Rattle.price_bound.specs.Choosing.{rate_of, AreRates, AreSums, AreSums
 use crate::choice::Choice;
 use crate::error::{PriceError, append};
 use crate::growing::Growth;
+use crate::grown_lists::GrownGroup;
 use crate::line_case::LineCase;
 use crate::masks::{mask_of, with_bit};
+use crate::prices::Prices;
 use crate::sums::Sums;
 use chamber_times::{duration, last_arrival};
-use lock_model::{Group, Ships};
+use lock_model::Ships;
 use std::alloc::Global;
 
-// What a ship counts: 100 times its arrival, and its price where the node lacks it.
-fn rate(case: &LineCase, ship: u8) -> u32
+// What a ship counts by some prices: 100 times its arrival, and its price where the node lacks it.
+fn rate(case: &LineCase, prices: &Prices, ship: u8) -> u32
     requires { ship < length case.now.instance.now.ships }
-    ensures value { result ≡ rate_of case.now.instance.now case.now.depth case.now.prices.now ship }
+    ensures value { result ≡ rate_of case.now.instance.now case.now.depth prices.now ship }
     ensures small { result ≤ 101000000 }
 {
     let arrival = 100 * case.instance.ships.as_slice()[ship as usize].arrival;
     if case.lacks(ship) {
-        arrival + case.prices.at(ship)
+        arrival + prices.at(ship)
     } else {
         arrival
     }
 }
 
-/// What each ship counts.
-pub(crate) fn rates(alloc: Global, case: &LineCase) -> Result<Vec<u32>, PriceError>
-    ensures { IfOk result (λ rates. AreRates case.now.instance.now case.now.depth case.now.prices.now (length case.now.instance.now.ships) rates.items) }
+/// What each ship counts by some prices.
+pub(crate) fn rates(alloc: Global, case: &LineCase, prices: &Prices) -> Result<Vec<u32>, PriceError>
+    ensures { IfOk result (λ rates. AreRates case.now.instance.now case.now.depth prices.now (length case.now.instance.now.ships) rates.items) }
 {
     let mut rates = Vec::new(alloc);
     for ship in 0..case.instance.ships.as_slice().len() as u8 {
-        append(&mut rates, rate(case, ship))?;
+        append(&mut rates, rate(case, prices, ship))?;
     }
     Ok(rates)
 }
@@ -64,13 +66,12 @@ fn paid(growth: &Growth, ships: &[u8]) -> u32
 /// The sums of ships that none has joined.
 pub(crate) fn sums_of(growth: &Growth, ships: &Ships) -> Sums
     requires { All (λ s. s < length growth.now.case.now.instance.now.ships) ships.now }
-    ensures { AreSumsOf growth.now.case.now.instance.now growth.now.case.now.chamber growth.now.case.now.depth growth.now.case.now.prices.now ships.now result }
+    ensures { AreSumsOf growth.now.case.now.instance.now growth.now.case.now.chamber ships.now result }
 {
     let case = growth.case;
     Sums {
         duration: duration(case.instance, case.chamber, ships) as u32,
         last: last_arrival(case.instance, 0, ships) as u32,
-        pays: paid(growth, ships.as_slice()),
         least: u32::MAX,
         mask: mask_of(ships.as_slice()),
     }
@@ -80,34 +81,31 @@ pub(crate) fn sums_of(growth: &Growth, ships: &Ships) -> Sums
 pub(crate) fn more_sums(growth: &Growth, sums: &Sums, ship: u8) -> Sums
     requires known { ship < length growth.now.case.now.instance.now.ships }
     requires short { sums.now.duration ≤ 9000000 }
-    requires fair { sums.now.pays ≤ 808000000 }
-    ensures { (ships : List ℕ) → AreSumsOf growth.now.case.now.instance.now growth.now.case.now.chamber growth.now.case.now.depth growth.now.case.now.prices.now ships sums.now → AreSumsOf growth.now.case.now.instance.now growth.now.case.now.chamber growth.now.case.now.depth growth.now.case.now.prices.now (insert_number ship ships) result }
+    ensures { (ships : List ℕ) → AreSumsOf growth.now.case.now.instance.now growth.now.case.now.chamber ships sums.now → AreSumsOf growth.now.case.now.instance.now growth.now.case.now.chamber (insert_number ship ships) result }
 {
     let own = &growth.case.instance.ships.as_slice()[ship as usize];
-    let rate = known_rate(growth, ship);
     Sums {
         duration: sums.duration + own.handling,
         last: sums.last.max(own.arrival),
-        pays: sums.pays + rate,
-        least: sums.least.min(rate),
+        least: sums.least.min(growth.high_rates[ship as usize]),
         mask: with_bit(sums.mask, ship),
     }
 }
 
-/// A group with its sums.
-pub(crate) fn weighed(growth: &Growth, group: Group, sums: &Sums, joins: Option<u8>) -> Choice
-    requires known { All (λ s. s < length growth.now.case.now.instance.now.ships) group.ships }
-    requires few { length group.ships ≤ 8 }
-    requires sums { AreSumsOf growth.now.case.now.instance.now growth.now.case.now.chamber growth.now.case.now.depth growth.now.case.now.prices.now group.ships sums.now }
-    ensures group { result.group ≡ group }
+/// A group that has grown as a choice, with what it pays.
+pub(crate) fn weighed(growth: &Growth, grown: &GrownGroup, joins: Option<u8>) -> Choice
+    requires known { All (λ s. s < length growth.now.case.now.instance.now.ships) grown.now.group.ships }
+    requires few { length grown.now.group.ships ≤ 8 }
+    requires sums { AreSumsOf growth.now.case.now.instance.now growth.now.case.now.chamber grown.now.group.ships grown.now.sums }
+    ensures group { result.group ≡ grown.now.group }
     ensures joins { result.joins ≡ joins }
     ensures sums { AreSums growth.now.case.now.instance.now growth.now.case.now.chamber growth.now.case.now.depth growth.now.case.now.prices.now result }
 {
     Choice {
-        group,
+        group: grown.group.copy(),
         joins,
-        duration: sums.duration,
-        last: sums.last,
-        pays: sums.pays,
+        duration: grown.sums.duration,
+        last: grown.sums.last,
+        pays: paid(growth, grown.group.ships.as_slice()),
     }
 }

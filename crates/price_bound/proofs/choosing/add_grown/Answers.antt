@@ -1,69 +1,82 @@
-use Rattle.std.proofs.Common.{◌≡◌, ◌+◌, suc, length, inl, inr, sym, ap, ◌∙◌, subst, arith, rules, slice_index_or}
-use Rattle.lock_model.specs.declared.group.Group.{Group}
+use Rattle.std.proofs.Common.{◌≡◌, ◌+◌, ◌<◌, suc, length, inl, inr, sym, ap, ◌∙◌, subst, arith, slice_index_or}
+use Rattle.price_bound.specs.declared.grown_lists.GrownGroup.{GrownGroup}
 use Rattle.price_bound.specs.Cuts.{plain_cuts}
-use Rattle.price_bound.specs.Growing.{IsGrown, AreGrown}
-use Rattle.price_bound.specs.Choosing.{AreSumsOf, AreWeighed, HaveSome, IsVain, PutsGroup}
+use Rattle.price_bound.specs.Choosing.{HaveSome, IsVain, PutsGroup}
 use Rattle.price_bound.proofs.ChoiceLemmas.{grown-uncut, some-skip, some-next, some-vain, some-done}
+use Rattle.price_bound.proofs.StockLemmas.{grown-at}
 use Rattle.price_bound.proofs.choosing.add_grown.Goals as goal
+
+pub loop-grown-init : goal.loop-grown-init
+loop-grown-init c = record {
+  each = c.requires.each;
+  kept = λ h at. at;
+  done = λ j d none. absurd (omega (arith, none));
+}
+
+pub add_group-requires-clause-known : goal.add_group-requires-clause-known
+add_group-requires-clause-known c =
+    let case = c.args.growth.now.case.now in
+    let own = grown-at case.instance.now case.chamber case.depth c.args.growth.now.ceilings.now c.args.growth.now.sets.now c.args.list.now c.deref-grown-items.result.now c.loop-grown.grown-index c.grown-item.result c.requires.list c.deref-grown-items.ensures.value c.loop-grown-test.true c.grown-item.is in
+    own.grown.known
+
+pub add_group-requires-clause-sums : goal.add_group-requires-clause-sums
+add_group-requires-clause-sums c =
+    let case = c.args.growth.now.case.now in
+    let own = grown-at case.instance.now case.chamber case.depth c.args.growth.now.ceilings.now c.args.growth.now.sets.now c.args.list.now c.deref-grown-items.result.now c.loop-grown.grown-index c.grown-item.result c.requires.list c.deref-grown-items.ensures.value c.loop-grown-test.true c.grown-item.is in
+    own.sums
 
 pub add_group-requires-clause-uncut : goal.add_group-requires-clause-uncut
 add_group-requires-clause-uncut c = λ some.
     let case = c.args.growth.now.case.now in
     let I = case.instance.now in
-    let sets = c.args.growth.now.sets.now in
-    let same : c.deref-group-items.result.now ≡ c.in_ok-listed.listed.groups.items = search rules in
-    let grown = subst (AreGrown I case.chamber case.depth case.prices.now sets c.args.base.now (length I.ships)) (sym same) c.in_ok-listed.ensures.grown in
-    let own : IsGrown I case.chamber case.depth sets c.args.base.now (length I.ships) c.group-item.result =
-    subst (IsGrown I case.chamber case.depth sets c.args.base.now (length I.ships)) (sym c.group-item.is) (grown.each c.loop-place.place c.group-item.result c.loop-place-test.true) in
-    grown-uncut I case.depth case.prices.now case.chamber (plain_cuts case.instance.now case.cuts.now) case.line.now sets c.requires.sets c.args.base.now (length I.ships) c.group-item.result own some
+    let own = grown-at case.instance.now case.chamber case.depth c.args.growth.now.ceilings.now c.args.growth.now.sets.now c.args.list.now c.deref-grown-items.result.now c.loop-grown.grown-index c.grown-item.result c.requires.list c.deref-grown-items.ensures.value c.loop-grown-test.true c.grown-item.is in
+    grown-uncut I case.depth case.prices.now case.chamber (plain_cuts I case.cuts.now) case.line.now c.args.growth.now.sets.now c.requires.sets c.args.list.now.base (length I.ships) c.grown-item.result.group own.grown some
 
-pub add_group-requires-clause-sums : goal.add_group-requires-clause-sums
-add_group-requires-clause-sums c =
+pub add_group-requires-clause-keeps : goal.add_group-requires-clause-keeps
+add_group-requires-clause-keeps c =
+    let case = c.args.growth.now.case.now in
+    let own = grown-at case.instance.now case.chamber case.depth c.args.growth.now.ceilings.now c.args.growth.now.sets.now c.args.list.now c.deref-grown-items.result.now c.loop-grown.grown-index c.grown-item.result c.requires.list c.deref-grown-items.ensures.value c.loop-grown-test.true c.grown-item.is in
+    c.requires.base.keeps c.grown-item.result.group (record { way = own.grown.way; keeps = own.grown.keeps })
+
+pub loop-grown-preserved : goal.loop-grown-preserved
+loop-grown-preserved c =
     let case = c.args.growth.now.case.now in
     let I = case.instance.now in
-    let groups = c.deref-group-items.result.now in
-    let place = c.loop-place.place in
-    let g = c.group-item.result in
-    let own = c.index.result.now in
-    let same : groups ≡ c.in_ok-listed.listed.groups.items = search rules in
-    let weighed = subst (λ gs. AreWeighed I case.chamber case.depth case.prices.now gs c.in_ok-listed.listed.sums.items) (sym same) c.in_ok-listed.ensures.weighed in
-    subst (λ h. AreSumsOf I case.chamber case.depth case.prices.now g.ships h) (sym c.index.ensures)
-    (subst (λ (h : Group). AreSumsOf I case.chamber case.depth case.prices.now h.ships (slice_index_or c.in_ok-listed.listed.sums.items place own)) (sym c.group-item.is) (weighed.each place g own c.loop-place-test.true))
-
-pub loop-place-preserved : goal.loop-place-preserved
-loop-place-preserved c =
-    let case = c.args.growth.now.case.now in
-    let I = case.instance.now in
+    let cuts = plain_cuts I case.cuts.now in
     let sets = c.args.growth.now.sets.now in
-    let groups = c.deref-group-items.result.now in
-    let i = c.loop-place.place in
+    let list = c.args.list.now in
+    let groups = list.groups.items in
+    let one = c.grown-item.result in
+    let i = c.loop-grown.grown-index in
+    let same = c.deref-grown-items.ensures.value in
+    let at : one ≡ slice_index_or groups i one = c.grown-item.is ∙ ap (λ gs. slice_index_or gs i one) same in
+    let here : i < length groups = omega (arith, c.loop-grown-test.true, ap length same) in
     let up : suc i ≡ i + 1 = omega arith in
-    let same : groups ≡ c.in_ok-listed.listed.groups.items = search rules in
-    let grown = subst (AreGrown I case.chamber case.depth case.prices.now sets c.args.base.now (length I.ships)) (sym same) c.in_ok-listed.ensures.grown in
-    let puts : PutsGroup I case.chamber (plain_cuts case.instance.now case.cuts.now) case.depth case.prices.now case.line.now c.args.joins c.group-item.result c.loop-place.choices.items c.add_group.new.choices.items = c.in_ok-add_group.ensures in
-    let have = c.loop-place.invariant in
-    subst (λ i. HaveSome I case.chamber (plain_cuts case.instance.now case.cuts.now) case.depth case.prices.now case.line.now c.args.joins groups i c.args.choices.now.items c.add_group.new.choices.items) up
-    (elim puts.puts [
+    let puts : PutsGroup I case.chamber cuts case.depth case.prices.now case.line.now c.args.joins one.group c.loop-grown.choices.items c.add_group.new.choices.items = c.in_ok-add_group.ensures in
+    let have = c.loop-grown.invariant in
+    let is : HaveSome I case.chamber cuts case.depth case.prices.now case.line.now c.args.joins groups (suc i) c.args.choices.now.items c.add_group.new.choices.items =
+    elim puts.puts [
       | inl none ↦
-          subst (HaveSome I case.chamber (plain_cuts case.instance.now case.cuts.now) case.depth case.prices.now case.line.now c.args.joins groups (suc i) c.args.choices.now.items) (sym none.1)
-          (some-skip I case.depth case.prices.now case.chamber (plain_cuts case.instance.now case.cuts.now) case.line.now sets c.requires.sets c.args.base.now c.args.joins groups grown i c.group-item.result c.args.choices.now.items c.loop-place.choices.items c.loop-place-test.true
-          (ap (λ (g : Group). length g.ships) (sym c.group-item.is) ∙ none.0) have)
-      | inr (inl one) ↦
-          some-next I case.depth case.prices.now case.chamber (plain_cuts case.instance.now case.cuts.now) case.line.now sets c.requires.sets c.args.base.now c.args.joins groups grown i c.group-item.result c.args.choices.now.items c.loop-place.choices.items c.add_group.new.choices.items one.0 c.loop-place-test.true one.1 (one.2 ∙ c.group-item.is) have one.3
+          subst (HaveSome I case.chamber cuts case.depth case.prices.now case.line.now c.args.joins groups (suc i) c.args.choices.now.items) (sym none.1)
+          (some-skip I case.depth case.prices.now case.chamber cuts case.line.now sets c.requires.sets c.args.joins c.args.growth.now.ceilings.now c.args.growth.now.below list c.requires.list i one c.args.choices.now.items c.loop-grown.choices.items here
+          (ap (λ (g : GrownGroup). length g.group.ships) (sym at) ∙ none.0) have)
+      | inr (inl put) ↦
+          some-next I case.depth case.prices.now case.chamber cuts case.line.now sets c.requires.sets c.args.joins c.args.growth.now.ceilings.now c.args.growth.now.below list c.requires.list i one c.args.choices.now.items c.loop-grown.choices.items c.add_group.new.choices.items put.0 here put.1
+          (put.2 ∙ ap (λ (g : GrownGroup). g.group) at) have put.3
       | inr (inr vain) ↦
-          subst (HaveSome I case.chamber (plain_cuts case.instance.now case.cuts.now) case.depth case.prices.now case.line.now c.args.joins groups (suc i) c.args.choices.now.items) (sym vain.1)
-          (some-vain I case.depth case.prices.now case.chamber (plain_cuts case.instance.now case.cuts.now) case.line.now sets c.requires.sets c.args.base.now c.args.joins groups grown i c.group-item.result c.args.choices.now.items c.loop-place.choices.items c.loop-place-test.true
-          (subst (IsVain I case.chamber case.depth case.prices.now 0 c.args.joins) c.group-item.is vain.0) have)
-    ])
+          subst (HaveSome I case.chamber cuts case.depth case.prices.now case.line.now c.args.joins groups (suc i) c.args.choices.now.items) (sym vain.1)
+          (some-vain I case.depth case.prices.now case.chamber cuts case.line.now sets c.requires.sets c.args.joins c.args.growth.now.ceilings.now c.args.growth.now.below list c.requires.list i one c.args.choices.now.items c.loop-grown.choices.items here
+          (subst (λ (g : GrownGroup). IsVain I case.chamber case.depth case.prices.now 0 c.args.joins g.group) at vain.0) have)
+    ] in
+    subst (λ i. HaveSome I case.chamber cuts case.depth case.prices.now case.line.now c.args.joins groups i c.args.choices.now.items c.add_group.new.choices.items) up is
 
 pub returns : goal.returns
 returns c =
     let case = c.args.growth.now.case.now in
     let I = case.instance.now in
-    let sets = c.args.growth.now.sets.now in
-    let groups = c.deref-group-items.result.now in
-    let same : groups ≡ c.in_ok-listed.listed.groups.items = search rules in
-    let grown = subst (AreGrown I case.chamber case.depth case.prices.now sets c.args.base.now (length I.ships)) (sym same) c.in_ok-listed.ensures.grown in
-    let all : c.loop-place.place ≡ length groups = omega (arith, c.loop-place-test.false, c.loop-place.auto.place-end) in
-    some-done I case.depth case.prices.now case.chamber (plain_cuts case.instance.now case.cuts.now) case.line.now sets c.requires.sets c.args.base.now c.args.joins groups grown case.chamber_in c.args.choices.now.items c.loop-place.choices.items
-    (subst (λ i. HaveSome I case.chamber (plain_cuts case.instance.now case.cuts.now) case.depth case.prices.now case.line.now c.args.joins groups i c.args.choices.now.items c.loop-place.choices.items) all c.loop-place.invariant)
+    let cuts = plain_cuts I case.cuts.now in
+    let list = c.args.list.now in
+    let groups = list.groups.items in
+    let all : c.loop-grown.grown-index ≡ length groups = omega (arith, c.loop-grown-test.false, c.loop-grown.auto.grown-index-end, ap length c.deref-grown-items.ensures.value) in
+    some-done I case.depth case.prices.now case.chamber cuts case.line.now c.args.growth.now.sets.now c.requires.sets c.args.joins c.args.growth.now.ceilings.now c.args.growth.now.below list c.requires.list case.chamber_in c.args.choices.now.items c.loop-grown.choices.items
+    (subst (λ i. HaveSome I case.chamber cuts case.depth case.prices.now case.line.now c.args.joins groups i c.args.choices.now.items c.loop-grown.choices.items) all c.loop-grown.invariant)

@@ -8,5 +8,5 @@ pub returns : goal.returns
 returns c =
     let case = c.args.growth.now.case.now in
     let I = case.instance.now in
-    more-ordered I case.depth case.prices.now case.chamber (plain_cuts I case.cuts.now) case.line.now c.args.joins c.args.base.now [] c.add_grown.new.choices.items c.order.new.choices.items c.in_ok-order.ensures
-    (subst (λ old. HaveMore I case.chamber (plain_cuts I case.cuts.now) case.depth case.prices.now case.line.now c.args.joins c.args.base.now old c.add_grown.new.choices.items) c.new-choices.ensures.items c.in_ok-add_grown.ensures)
+    more-ordered I case.depth case.prices.now case.chamber (plain_cuts I case.cuts.now) case.line.now c.args.joins c.args.list.now.base [] c.add_grown.new.choices.items c.order.new.choices.items c.in_ok-order.ensures
+    (subst (λ old. HaveMore I case.chamber (plain_cuts I case.cuts.now) case.depth case.prices.now case.line.now c.args.joins c.args.list.now.base old c.add_grown.new.choices.items) c.new-choices.ensures.items c.in_ok-add_grown.ensures)

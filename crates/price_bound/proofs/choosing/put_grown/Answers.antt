@@ -24,5 +24,5 @@ returns c =
     let put : c.deref-2.result.now ≡ enough = search rules in
     let late = subst (λ more. AreLate I case.chamber cuts case.depth case.prices.now case.line.now 0 more enough) same c.in_ok-enough.ensures in
     on_ok_weaker c.append_all.result (λ appended all each first.
-    subst (HaveEarly I case.chamber cuts case.depth case.prices.now case.line.now c.args.joins c.args.base.now all) (sym (appended ∙ ap (λ xs. old ++ xs) put))
-    (early-together I case.chamber cuts case.depth case.prices.now case.line.now c.args.joins c.args.base.now all more old enough each c.in_ok-more.ensures first late)) c.append_all.ensures
+    subst (HaveEarly I case.chamber cuts case.depth case.prices.now case.line.now c.args.joins c.args.list.now.base all) (sym (appended ∙ ap (λ xs. old ++ xs) put))
+    (early-together I case.chamber cuts case.depth case.prices.now case.line.now c.args.joins c.args.list.now.base all more old enough each c.in_ok-more.ensures first late)) c.append_all.ensures

@@ -26,8 +26,8 @@ returns c =
     let I = case.instance.now in
     let cuts = plain_cuts I case.cuts.now in
     let same : c.deref.result.now ≡ c.in_ok-more.more.items = search rules in
-    let more = subst (HaveMore I case.chamber cuts case.depth case.prices.now case.line.now c.args.joins c.args.base.now []) (sym same) c.in_ok-more.ensures in
+    let more = subst (HaveMore I case.chamber cuts case.depth case.prices.now case.line.now c.args.joins c.args.list.now.base []) (sym same) c.in_ok-more.ensures in
     let put = c.put_each.new.choices.items in
-    let done = put-done I case.depth case.prices.now case.chamber cuts case.line.now c.args.joins c.args.base.now c.deref.result.now c.new-choices.result.items put more c.in_ok-put_each.ensures in
-    let all = subst (λ old. HaveMore I case.chamber cuts case.depth case.prices.now case.line.now c.args.joins c.args.base.now old put) c.new-choices.ensures.items done in
-    more-ordered I case.depth case.prices.now case.chamber cuts case.line.now c.args.joins c.args.base.now [] put c.short_first.new.choices.items c.in_ok-short_first.ensures all
+    let done = put-done I case.depth case.prices.now case.chamber cuts case.line.now c.args.joins c.args.list.now.base c.deref.result.now c.new-choices.result.items put more c.in_ok-put_each.ensures in
+    let all = subst (λ old. HaveMore I case.chamber cuts case.depth case.prices.now case.line.now c.args.joins c.args.list.now.base old put) c.new-choices.ensures.items done in
+    more-ordered I case.depth case.prices.now case.chamber cuts case.line.now c.args.joins c.args.list.now.base [] put c.short_first.new.choices.items c.in_ok-short_first.ensures all

@@ -2,13 +2,13 @@ use Rattle.std.proofs.Common.{◌≡◌, ◌<◌, ◌≤◌, ◌∙◌, All, len
 use Rattle.std.proofs.lemmas.List.{get_or_default}
 use Rattle.lock_rules.proofs.NodeLemmas.{All-insert_number}
 use Rattle.master_branch.specs.Steps.{group_at}
-use Rattle.price_bound.proofs.WeighLemmas.{weighed-at, sums-short, sums-fair}
+use Rattle.price_bound.proofs.WeighLemmas.{weighed-at, sums-short}
 use Rattle.price_bound.proofs.growing.join.Goals as goal
 
 pub joined-requires-clause-mask : goal.joined-requires-clause-mask
 joined-requires-clause-mask c =
     let case = c.args.growth.now.case.now in
-    (weighed-at case.instance.now case.chamber case.depth case.prices.now c.args.groups.now.items c.args.sums.now.items c.requires.weighed c.args.place c.index.result.now c.index-own.result.now c.requires.place c.index.ensures c.index-own.ensures).mask
+    (weighed-at case.instance.now case.chamber c.args.groups.now.items c.args.sums.now.items c.requires.weighed c.args.place c.index.result.now c.index-own.result.now c.requires.place c.index.ensures c.index-own.ensures).mask
 
 pub more_sums-more-requires-clause-short : goal.more_sums-more-requires-clause-short
 more_sums-more-requires-clause-short c =
@@ -17,18 +17,8 @@ more_sums-more-requires-clause-short c =
     let group = c.index.result.now in
     let own = c.index-own.result.now in
     let same : group_at c.args.groups.now.items c.args.place ≡ group = get_or_default c.args.groups.now.items c.args.place _ group c.requires.place ∙ sym c.index.ensures in
-    sums-short I case.chamber case.depth case.prices.now case.chamber_in own group.ships (subst (λ g. All (λ s. s < length I.ships) g.ships) same c.requires.ships_in) (subst (λ g. length g.ships ≤ 8) same c.requires.few)
-    (weighed-at I case.chamber case.depth case.prices.now c.args.groups.now.items c.args.sums.now.items c.requires.weighed c.args.place group own c.requires.place c.index.ensures c.index-own.ensures)
-
-pub more_sums-more-requires-clause-fair : goal.more_sums-more-requires-clause-fair
-more_sums-more-requires-clause-fair c =
-    let case = c.args.growth.now.case.now in
-    let I = case.instance.now in
-    let group = c.index.result.now in
-    let own = c.index-own.result.now in
-    let same : group_at c.args.groups.now.items c.args.place ≡ group = get_or_default c.args.groups.now.items c.args.place _ group c.requires.place ∙ sym c.index.ensures in
-    sums-fair I case.chamber case.depth case.prices.now c.args.growth.now.rates.now c.args.growth.now.rated own group.ships (subst (λ g. All (λ s. s < length I.ships) g.ships) same c.requires.ships_in) (subst (λ g. length g.ships ≤ 8) same c.requires.few)
-    (weighed-at I case.chamber case.depth case.prices.now c.args.groups.now.items c.args.sums.now.items c.requires.weighed c.args.place group own c.requires.place c.index.ensures c.index-own.ensures)
+    sums-short I case.chamber case.chamber_in own group.ships (subst (λ g. All (λ s. s < length I.ships) g.ships) same c.requires.ships_in) (subst (λ g. length g.ships ≤ 8) same c.requires.few)
+    (weighed-at I case.chamber c.args.groups.now.items c.args.sums.now.items c.requires.weighed c.args.place group own c.requires.place c.index.ensures c.index-own.ensures)
 
 pub put_joined-requires-clause-known : goal.put_joined-requires-clause-known
 put_joined-requires-clause-known c =

@@ -11,7 +11,7 @@ use Rattle.price_bound.proofs.growing.join_each.Goals as goal
 pub loop-place-init : goal.loop-place-init
 loop-place-init c = record {
   joining =
-      joining-start c.args.growth.now.case.now.instance.now c.args.growth.now.case.now.chamber c.args.growth.now.case.now.depth c.args.growth.now.case.now.prices.now c.args.growth.now.sets.now c.args.base.now c.args.ship
+      joining-start c.args.growth.now.case.now.instance.now c.args.growth.now.case.now.chamber c.args.growth.now.case.now.depth c.args.growth.now.ceilings.now c.args.growth.now.sets.now c.args.base.now c.args.ship
       (missing-fresh c.args.growth.now.case.now.instance.now c.args.growth.now.case.now.depth c.args.ship c.requires.new.missing) c.args.groups.now.items c.requires.grown;
   weighed = c.requires.weighed;
 }
@@ -21,7 +21,7 @@ returns-clause-grown c =
     let I = c.args.growth.now.case.now.instance.now in
     let n = c.args.growth.now.case.now.chamber in
     let k = c.args.growth.now.case.now.depth in
-    let prices = c.args.growth.now.case.now.prices.now in
+    let prices = c.args.growth.now.ceilings.now in
     let sets = c.args.growth.now.sets.now in
     let old = c.args.groups.now.items in
     let all : c.loop-place.place ≡ length old = omega (arith, c.loop-place-test.false, c.loop-place.auto.place-end, c.len-place-end.ensures, c.args.groups.now.ok) in
@@ -35,7 +35,7 @@ join-requires-clause-absent c =
     let I = c.args.growth.now.case.now.instance.now in
     let n = c.args.growth.now.case.now.chamber in
     let k = c.args.growth.now.case.now.depth in
-    let prices = c.args.growth.now.case.now.prices.now in
+    let prices = c.args.growth.now.ceilings.now in
     let sets = c.args.growth.now.sets.now in
     let old = c.args.groups.now.items in
     let place = c.loop-place.place in
@@ -74,7 +74,7 @@ loop-place-preserved c =
     let I = c.args.growth.now.case.now.instance.now in
     let n = c.args.growth.now.case.now.chamber in
     let k = c.args.growth.now.case.now.depth in
-    let prices = c.args.growth.now.case.now.prices.now in
+    let prices = c.args.growth.now.ceilings.now in
     let sets = c.args.growth.now.sets.now in
     let old = c.args.groups.now.items in
     let place = c.loop-place.place in

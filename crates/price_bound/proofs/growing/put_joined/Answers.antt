@@ -9,6 +9,6 @@ returns-clause-weighed c =
     let case = c.args.growth.now.case.now in
     let I = case.instance.now in
     on_ok_weaker c.append-2.result (λ pushed.
-    subst (AreWeighed I case.chamber case.depth case.prices.now c.append.new.list.items) (sym pushed)
-    (subst (λ gs. AreWeighed I case.chamber case.depth case.prices.now gs (c.args.sums.now.items ++ c.args.own ∷ [])) (sym c.in_ok-append.ensures)
-    (weighed-more I case.chamber case.depth case.prices.now c.args.groups.now.items c.args.sums.now.items c.args.group c.args.own c.requires.own c.requires.weighed))) c.append-2.ensures
+    subst (AreWeighed I case.chamber c.append.new.list.items) (sym pushed)
+    (subst (λ gs. AreWeighed I case.chamber gs (c.args.sums.now.items ++ c.args.own ∷ [])) (sym c.in_ok-append.ensures)
+    (weighed-more I case.chamber c.args.groups.now.items c.args.sums.now.items c.args.group c.args.own c.requires.own c.requires.weighed))) c.append-2.ensures

@@ -9,7 +9,7 @@ returns-then-not-misses_all c =
     let I = c.args.growth.now.case.now.instance.now in
     let n = c.args.growth.now.case.now.chamber in
     let k = c.args.growth.now.case.now.depth in
-    let prices = c.args.growth.now.case.now.prices.now in
+    let prices = c.args.growth.now.ceilings.now in
     let sets = c.args.growth.now.sets.now in
     let hit : ¬ All (Misses c.as_slice.result.now) sets = search rules in
     subst (AreGrown I n k prices sets c.args.base.now 0) (sym c.new-groups.ensures.items)
@@ -20,7 +20,7 @@ returns c =
     let I = c.args.growth.now.case.now.instance.now in
     let n = c.args.growth.now.case.now.chamber in
     let k = c.args.growth.now.case.now.depth in
-    let prices = c.args.growth.now.case.now.prices.now in
+    let prices = c.args.growth.now.ceilings.now in
     let sets = c.args.growth.now.sets.now in
     let misses : All (Misses c.as_slice.result.now) sets = c.if-not-misses_all.ensures.0 refl in
     let own : All (Misses c.args.base.now.ships) sets = subst (λ ships. All (Misses ships) sets) c.as_slice.ensures.value misses in

@@ -9,22 +9,18 @@ use Rattle.price_bound.proofs.line_least.line_least.Goals as goal
 
 pub returns-then-not-are_spared-clause-least : goal.returns-then-not-are_spared-clause-least
 returns-then-not-are_spared-clause-least c =
-    let case = c.args.case.now in
+    let case = c.args.growth.now.case.now in
     let I = case.instance.now in
-    let same : c.deref.result.now ≡ c.in_ok-sets.sets.items = search rules in
-    let held : ¬ All (IsSpared c.deref.result.now) case.line.now = search rules in
-    cut-least I case.chamber (plain_cuts I case.cuts.now) c.in_ok-sets.sets.items c.in_ok-sets.ensures case.depth case.prices.now (chamber_at I case.chamber).stands (chamber_at I case.chamber).opens case.line.now case.ships_in
-    (subst (λ sets. ¬ All (IsSpared sets) case.line.now) same held)
+    let held : ¬ All (IsSpared c.args.growth.now.sets.now) case.line.now = search rules in
+    cut-least I case.chamber (plain_cuts I case.cuts.now) c.args.growth.now.sets.now c.requires.sets case.depth case.prices.now (chamber_at I case.chamber).stands (chamber_at I case.chamber).opens case.line.now case.ships_in held
 
 pub invariant_of-table : goal.invariant_of-table
 invariant_of-table c =
-    let case = c.args.case.now in
+    let case = c.args.growth.now.case.now in
     let I = case.instance.now in
-    let same : c.deref.result.now ≡ c.in_ok-sets.sets.items = search rules in
-    let spared = subst (λ sets. All (IsSpared sets) case.line.now) same (c.if-not-are_spared.ensures.0 refl) in
-    let kept : c.deref-10.result.now ≡ c.in_ok-menus.menus.items = search rules in
+    let kept : c.deref-5.result.now ≡ c.in_ok-menus.menus.items = search rules in
     record {
-      uncut = spared-uncut I case.chamber (plain_cuts I case.cuts.now) c.in_ok-sets.sets.items c.in_ok-sets.ensures case.line.now case.good case.ships_in spared;
+      uncut = spared-uncut I case.chamber (plain_cuts I case.cuts.now) c.args.growth.now.sets.now c.requires.sets case.line.now case.good case.ships_in (c.if-not-are_spared.ensures.0 refl);
       late = c.horizon.ensures.late;
       small = c.horizon.ensures.small;
       whole = ap length kept ∙ c.in_ok-menus.ensures.count;
@@ -32,24 +28,24 @@ invariant_of-table c =
 
 pub levels-requires : goal.levels-requires
 levels-requires c =
-    let case = c.args.case.now in
+    let case = c.args.growth.now.case.now in
     let I = case.instance.now in
-    let same : c.deref-6.result.now ≡ c.in_ok-choices.choices.items = search rules in
-    record { each = subst (All (IsChoice I case.chamber (plain_cuts I case.cuts.now) case.depth case.prices.now case.line.now)) (sym same) c.in_ok-choices.ensures.early.each }
+    let same : c.deref.result.now ≡ c.in_ok-choices.choices.items = search rules in
+    record { each = subst (All (IsChoice I case.chamber (plain_cuts I case.cuts.now) case.depth case.prices.now case.line.now)) (sym same) c.in_ok-choices.ensures.early.early.each }
 
 pub line_by-requires : goal.line_by-requires
 line_by-requires c =
-    let case = c.args.case.now in
+    let case = c.args.growth.now.case.now in
     let I = case.instance.now in
     let cuts = plain_cuts I case.cuts.now in
     let choices = c.in_ok-choices.choices.items in
     let levels = c.in_ok-levels.levels.items in
-    let early = c.in_ok-choices.ensures in
-    let thinned : c.deref-6.result.now ≡ choices = search rules in
-    let looked : c.deref-8.result.now ≡ choices = search rules in
-    let later : c.deref-9.result.now ≡ levels = search rules in
+    let early = c.in_ok-choices.ensures.early in
+    let thinned : c.deref.result.now ≡ choices = search rules in
+    let looked : c.deref-3.result.now ≡ choices = search rules in
+    let later : c.deref-4.result.now ≡ levels = search rules in
     let each = subst (λ choices. All (IsLevel I case.chamber cuts case.depth case.prices.now case.line.now choices) levels) thinned c.in_ok-levels.ensures in
     let listed = listed-by I case.chamber case.chamber_in cuts case.depth case.prices.now case.line.now early.choices choices levels early.enough early.early each in
-    let kept : c.deref-10.result.now ≡ c.in_ok-menus.menus.items = search rules in
-    let made = subst (λ levels. AreMade choices levels (length case.line.now + 1) c.in_ok-menus.menus.items) later (subst (λ choices. AreMade choices c.deref-9.result.now (length case.line.now + 1) c.in_ok-menus.menus.items) looked c.in_ok-menus.ensures) in
+    let kept : c.deref-5.result.now ≡ c.in_ok-menus.menus.items = search rules in
+    let made = subst (λ levels. AreMade choices levels (length case.line.now + 1) c.in_ok-menus.menus.items) later (subst (λ choices. AreMade choices c.deref-4.result.now (length case.line.now + 1) c.in_ok-menus.menus.items) looked c.in_ok-menus.ensures) in
     subst (AreMenus I case.chamber cuts case.depth case.prices.now case.line.now) (sym kept) (record { choices = choices; levels = levels; listed = listed; made = made })

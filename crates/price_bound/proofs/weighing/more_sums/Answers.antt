@@ -1,4 +1,4 @@
-use Rattle.std.proofs.Common.{◌≡◌, ◌+◌, max, ◌∙◌, ap, slice_index_or}
+use Rattle.std.proofs.Common.{◌≡◌, ◌+◌, max, ◌∙◌, slice_index_or}
 use Rattle.std.proofs.lemmas.List.{get_or_default}
 use Rattle.lock_model.specs.Fleet.{ship_at, no_ship}
 use Rattle.price_bound.proofs.WeighLemmas.{more-sums}
@@ -9,9 +9,8 @@ returns c = λ ships are.
     let case = c.args.growth.now.case.now in
     let I = case.instance.now in
     let own : c.index-as_slice-ship.result ≡ ship_at I c.args.ship = c.index-as_slice-ship.is ∙ (λ i. slice_index_or (c.as_slice.ensures.value i) c.args.ship c.index-as_slice-ship.result) ∙ get_or_default I.ships c.args.ship c.index-as_slice-ship.result no_ship c.requires.known in
-    more-sums I case.chamber case.depth case.prices.now c.args.sums.now _ c.args.ship ships
+    more-sums I case.chamber c.args.sums.now _ c.args.ship ships
     (λ i. c.args.sums.now.duration + (own i).handling)
     (c.max.ensures ∙ (λ i. max c.args.sums.now.last (own i).arrival))
-    (ap (λ n. c.args.sums.now.pays + n) c.known_rate-rate.ensures.value)
     (c.with_bit.ensures ships are.mask)
     are

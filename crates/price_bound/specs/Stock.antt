@@ -1,0 +1,78 @@
+-- Groups that have grown, kept for prices up to their ceilings and under cuts of which more may come.
+use Rattle.std.specs.Prelude.{ℕ, ◌≡◌, ◌<◌, ◌≤◌, ◌⊎◌, Some, None, List, [], ◌∷◌, ◌++◌, length, take, All, Contains, bit_and, slice_index_or}
+use Rattle.std.specs.declared.option.Option.{Option}
+use Rattle.lock_model.specs.declared.instance.Instance.{Instance}
+use Rattle.lock_model.specs.declared.group.Group.{Group}
+use Rattle.price_bound.specs.declared.cut.ChamberCut.{ChamberCut}
+use Rattle.price_bound.specs.declared.sums.Sums.{Sums}
+use Rattle.price_bound.specs.declared.terms.Terms.{Terms}
+use Rattle.price_bound.specs.declared.grown_lists.GrownGroup.{GrownGroup}
+use Rattle.price_bound.specs.declared.grown_lists.GrownList.{GrownList}
+use Rattle.price_bound.specs.declared.kept_groups.ChamberGroups.{ChamberGroups}
+use Rattle.price_bound.specs.declared.kept_groups.KeptGroups.{KeptGroups}
+use Rattle.price_bound.specs.Cuts.{plain_cuts}
+use Rattle.price_bound.specs.Sparing.{AreForbidden}
+use Rattle.price_bound.specs.Masks.{AreNears}
+use Rattle.price_bound.specs.Growing.{IsGrown, HasIdler}
+use Rattle.price_bound.specs.Choosing.{AreSumsOf}
+
+-- of the first n groups each with its sums
+pub record ArePaired (groups : List Group) (sums : List Sums) (n : ℕ) (pairs : List GrownGroup) : Type 0 where
+  pub count : length pairs ≡ n
+  pub each : (j : ℕ) (d : GrownGroup) → j < n → (slice_index_or pairs j d).group ≡ slice_index_or groups j d.group × (slice_index_or pairs j d).sums ≡ slice_index_or sums j d.sums
+
+-- the group has grown from the base by any ships, and its sums are its own
+pub record IsGrownGroup (I : Instance) (c k : ℕ) (sets : List (List ℕ)) (base : Group) (one : GrownGroup) : Type 0 where
+  pub grown : IsGrown I c k sets base (length I.ships) one.group
+  pub sums : AreSumsOf I c one.group.ships one.sums
+
+-- one of these is the group
+pub record HasGroup (groups : List GrownGroup) (g : Group) : Type 0 where
+  pub one : GrownGroup
+  pub held : Contains groups one
+  pub is : one.group ≡ g
+
+-- The list holds all that grows from its base but some with a ship that gains nothing at these prices.
+pub record IsGrownList (I : Instance) (c k : ℕ) (prices : List ℕ) (sets : List (List ℕ)) (list : GrownList) : Type 0 where
+  pub each : All (IsGrownGroup I c k sets list.base) list.groups.items
+  pub whole : (g : Group) → IsGrown I c k sets list.base (length I.ships) g → HasGroup list.groups.items g ⊎ HasIdler I c k prices g
+
+-- none of the sets of these masks is among the ships of another mask
+abbrev pub IsApart : List ℕ → ℕ → Type 0
+IsApart masks mask = All (λ m. ¬ (bit_and m mask ≡ m)) masks
+
+-- the group was put behind the others, or one of the masks' sets is among its ships
+abbrev pub IsPutSpared : List ℕ → GrownGroup → List GrownGroup → List GrownGroup → Type 0
+IsPutSpared masks one old new = (IsApart masks one.sums.mask × (new ≡ old ++ one ∷ [])) ⊎ ((¬ IsApart masks one.sums.mask) × (new ≡ old))
+
+-- some of the groups without the masks' sets, and each of the first i
+pub record AreSpared (masks : List ℕ) (groups : List GrownGroup) (i : ℕ) (spared : List GrownGroup) : Type 0 where
+  pub each : All (Contains groups) spared
+  pub apart : All (λ one. IsApart masks one.sums.mask) spared
+  pub whole : (j : ℕ) (d : GrownGroup) → j < i → j < length groups → IsApart masks (slice_index_or groups j d).sums.mask → Contains spared (slice_index_or groups j d)
+
+-- the same list without the groups that hold one of the masks' sets
+pub record IsSparedList (masks : List ℕ) (list spared : GrownList) : Type 0 where
+  pub base : spared.base ≡ list.base
+  pub groups : AreSpared masks list.groups.items (length list.groups.items) spared.groups.items
+
+-- of the first n lists
+pub record AreSparedLists (masks : List ℕ) (lists : List GrownList) (n : ℕ) (spared : List GrownList) : Type 0 where
+  pub count : length spared ≡ n
+  pub each : (j : ℕ) (d e : GrownList) → j < n → IsSparedList masks (slice_index_or lists j d) (slice_index_or spared j e)
+
+-- What is kept of a chamber at nodes of depth k: the sets that the first of the cuts forbid it, and what has grown at the ceilings without these.
+pub record IsStock (I : Instance) (k : ℕ) (cuts : List ChamberCut) (ceilings : List ℕ) (own : ChamberGroups) : Type 0 where
+  pub seen : own.seen ≤ length cuts
+  pub forbidden : AreForbidden I own.chamber (plain_cuts I (take own.seen cuts)) own.sets.items
+  pub nears : AreNears I k own.sets.items (length I.ships) own.nears.items
+  pub lists : All (IsGrownList I own.chamber k ceilings own.sets.items) own.lists.items
+
+-- all that is kept of chambers
+abbrev pub AreStocks : Instance → ℕ → List ChamberCut → KeptGroups → Type 0
+AreStocks I k cuts kept = All (IsStock I k cuts kept.ceilings) kept.chambers.items
+
+-- the same under the terms; without terms nothing is kept
+abbrev pub AreStocked : Option Terms → KeptGroups → Type 0
+AreStocked None kept = kept.chambers.items ≡ []
+AreStocked (Some terms) kept = AreStocks terms.instance terms.depth terms.cuts.items kept

@@ -1,0 +1,321 @@
+//! What is worked out of chambers whatever the prices are, kept for later calls.
+ghost use Rattle.std.specs.Prelude.{ℕ, ◌≡◌, ◌<◌, ◌≤◌, List, [], ◌++◌, length, slice_index_or, All, IsTrue, IfOk, IfSome, OnOk};
+ghost use Rattle.lock_model.specs.declared.instance.Instance.{Instance as PlainInstance};
+ghost use Rattle.price_bound.specs.declared.cut.ChamberCut.{ChamberCut};
+ghost use Rattle.price_bound.specs.declared.kept_groups.ChamberGroups.{ChamberGroups as Plain};
+ghost use Rattle.price_bound.specs.Growing.{AreBelow};
+ghost use Rattle.price_bound.specs.Keeping.{IsFound};
+ghost use Rattle.price_bound.specs.Stock.{IsPutSpared, IsSparedList, AreSparedLists, IsStock, AreStocks};
+
+use crate::error::{Limits, PriceError, append};
+use crate::forbidden::forbidden;
+use crate::growing::Growth;
+use crate::grown_lists::{GrownGroup, GrownList};
+use crate::line_case::LineCase;
+use crate::line_least::line_least;
+use crate::loose_line::LooseLine;
+use crate::masks::{marks, misses_all_of, nears};
+use crate::near::Near;
+use crate::prices::Prices;
+use crate::weighing::rates;
+use lock_model::Ships;
+use std::alloc::Global;
+
+/// What is kept of a chamber: how many of the cuts were looked at, the ship sets that these forbid, for
+/// each ship those that it may complete, and the groups that have grown from some bases.
+#[derive(Debug, Drop)]
+pub(crate) struct ChamberGroups {
+    pub(crate) chamber: u8,
+    pub(crate) seen: usize,
+    pub(crate) sets: Vec<Ships>,
+    pub(crate) nears: Vec<Near>,
+    pub(crate) lists: Vec<GrownList>,
+}
+
+/// Groups of chambers that have grown at ceilings of the prices. By prices that are no higher, those that
+/// were left out gain nothing either.
+#[derive(Debug, Drop)]
+pub(crate) struct KeptGroups {
+    pub(crate) ceilings: Prices,
+    pub(crate) chambers: Vec<ChamberGroups>,
+}
+
+// Prices that are higher by a quarter and ten minutes, so that prices which are raised step by step
+// stay below them for a while.
+fn ceilings_of(prices: &Prices) -> Prices {
+    let mut high = [0; 24];
+    for (ship, &price) in prices.as_slice().iter().enumerate() {
+        high[ship] = price.saturating_add(price / 4 + 1_000);
+    }
+    Prices::capped(&high[..prices.as_slice().len()])
+}
+
+// Whether no price is above its ceiling.
+fn are_below(prices: &Prices, ceilings: &Prices) -> bool
+    ensures { IsTrue result → AreBelow prices.now ceilings.now }
+{
+    for ship in 0..prices.as_slice().len() as u8 {
+        if prices.at(ship) > ceilings.at(ship) {
+            return false;
+        }
+    }
+    true
+}
+
+// Appends a group that has grown, where none of the sets of these masks is among its ships.
+fn put_spared(
+    groups: &mut Vec<GrownGroup>,
+    one: &GrownGroup,
+    masks: &[u32],
+) -> Result<(), PriceError>
+    ensures { OnOk result (IsPutSpared masks.now one.now groups.old.items groups.new.items) }
+{
+    if misses_all_of(masks, one.sums.mask) {
+        return append(groups, one.copy());
+    }
+    Ok(())
+}
+
+// What has grown from a base, without the groups that hold one of the sets of these masks.
+fn spared_list(alloc: Global, list: &GrownList, masks: &[u32]) -> Result<GrownList, PriceError>
+    ensures { IfOk result (IsSparedList masks.now list.now) }
+{
+    let mut groups = Vec::new(alloc);
+    for one in &list.groups {
+        put_spared(&mut groups, one, masks)?;
+    }
+    Ok(GrownList {
+        base: list.base.copy(),
+        groups,
+    })
+}
+
+// The same of all bases.
+fn spared_lists(
+    alloc: Global,
+    lists: &[GrownList],
+    masks: &[u32],
+) -> Result<Vec<GrownList>, PriceError>
+    ensures { IfOk result (λ spared. AreSparedLists masks.now lists.now (length lists.now) spared.items) }
+{
+    let mut spared = Vec::new(alloc);
+    for list in lists {
+        append(&mut spared, spared_list(alloc, list, masks)?)?;
+    }
+    Ok(spared)
+}
+
+// Appends sets.
+fn append_sets(sets: &mut Vec<Ships>, more: &[Ships]) -> Result<(), PriceError>
+    ensures { OnOk result (sets.new.items ≡ sets.old.items ++ more.now) }
+{
+    for set in more {
+        append(sets, set.copy())?;
+    }
+    Ok(())
+}
+
+// Nothing yet of the chamber of a case.
+fn fresh(alloc: Global, case: &LineCase) -> Result<ChamberGroups, PriceError>
+    ensures chamber { IfOk result (λ own. own.chamber ≡ case.now.chamber) }
+    ensures stock { (ceilings : List ℕ) → IfOk result (IsStock case.now.instance.now case.now.depth case.now.cuts.now ceilings) }
+{
+    Ok(ChamberGroups {
+        chamber: case.chamber,
+        seen: 0,
+        sets: Vec::new(alloc),
+        nears: nears(alloc, case, &[])?,
+        lists: Vec::new(alloc),
+    })
+}
+
+// What is kept of the chamber of a case, once all its cuts were looked at.
+fn up_to_date(
+    alloc: Global,
+    own: ChamberGroups,
+    case: &LineCase,
+) -> Result<ChamberGroups, PriceError>
+    requires chamber { own.chamber ≡ case.now.chamber }
+    requires seen { own.seen ≤ length case.now.cuts.now }
+    ensures chamber { IfOk result (λ whole. whole.chamber ≡ case.now.chamber) }
+    ensures seen { IfOk result (λ whole. whole.seen ≡ length case.now.cuts.now) }
+    ensures stock { (ceilings : List ℕ) → IsStock case.now.instance.now case.now.depth case.now.cuts.now ceilings own → IfOk result (IsStock case.now.instance.now case.now.depth case.now.cuts.now ceilings) }
+{
+    if own.seen == case.cuts.len() {
+        return Ok(own);
+    }
+    let added = forbidden(alloc, &case.after(own.seen))?;
+    let masks = marks(alloc, case.instance, &added)?;
+    let lists = spared_lists(alloc, &own.lists, &masks)?;
+    let mut sets = own.sets;
+    append_sets(&mut sets, &added)?;
+    Ok(ChamberGroups {
+        chamber: own.chamber,
+        seen: case.cuts.len(),
+        nears: nears(alloc, case, &sets)?,
+        sets,
+        lists,
+    })
+}
+
+// The place of what is kept of the chamber of a case, if it is there.
+fn place_of(chambers: &[ChamberGroups], case: &LineCase) -> Option<usize>
+    ensures place { IfSome result (λ place. place < length chambers.now) }
+    ensures is { IfSome result (λ place. (default : Plain) → (slice_index_or chambers.now place default).chamber ≡ case.now.chamber) }
+{
+    for (place, own) in chambers.iter().enumerate() {
+        if own.chamber == case.chamber {
+            return Some(place);
+        }
+    }
+    None
+}
+
+// A loose line of the chamber of a case of the least worth, if there is a loose one, by what is kept of the
+// chamber, where no price is above its ceiling.
+fn least_of(
+    alloc: Global,
+    own: &mut ChamberGroups,
+    ceilings: &Prices,
+    case: &LineCase,
+    limits: Limits,
+) -> Result<Option<LooseLine>, PriceError>
+    requires below { AreBelow case.now.prices.now ceilings.now }
+    requires chamber { own.old.chamber ≡ case.now.chamber }
+    requires seen { own.old.seen ≡ length case.now.cuts.now }
+    requires stock { IsStock case.now.instance.now case.now.depth case.now.cuts.now ceilings.now own.old }
+    ensures stock { IsStock case.now.instance.now case.now.depth case.now.cuts.now ceilings.now own.new }
+    ensures found { IfOk result (IsFound case.now.instance.now case.now.chamber case.now.depth case.now.prices.now case.now.cuts.now case.now.line.now) }
+{
+    let own_rates = rates(alloc, case, case.prices)?;
+    let high_rates = rates(alloc, case, ceilings)?;
+    let growth = Growth {
+        case,
+        sets: &own.sets,
+        nears: &own.nears,
+        rates: &own_rates,
+        ceilings,
+        high_rates: &high_rates,
+        most: limits.groups,
+    };
+    line_least(alloc, &growth, &mut own.lists, limits.turns)
+}
+
+impl KeptGroups {
+    /// Nothing yet.
+    pub(crate) fn new(alloc: Global) -> KeptGroups
+        ensures { result.chambers.items ≡ [] }
+    {
+        KeptGroups {
+            ceilings: Prices::capped(&[]),
+            chambers: Vec::new(alloc),
+        }
+    }
+
+    /// Forgets all.
+    pub(crate) fn clear(&mut self)
+        ensures { self.new.chambers.items ≡ [] }
+    {
+        self.chambers.clear();
+    }
+
+    // Takes these ceilings; what has grown at others is forgotten.
+    fn go_to(&mut self, ceilings: Prices)
+        ensures ceilings { self.new.ceilings ≡ ceilings }
+        ensures none { self.new.chambers.items ≡ [] }
+    {
+        self.ceilings = ceilings;
+        self.chambers.clear();
+    }
+
+    // Sees to it that no price is above its ceiling.
+    fn rise_to(&mut self, prices: &Prices)
+        ensures below { AreBelow prices.now self.new.ceilings }
+        ensures keeps { (I : PlainInstance) (k : ℕ) (cuts : List ChamberCut) → AreStocks I k cuts self.old → AreStocks I k cuts self.new }
+    {
+        if are_below(prices, &self.ceilings) {
+            return;
+        }
+        self.go_to(ceilings_of(prices));
+        if !are_below(prices, &self.ceilings) {
+            self.go_to(prices.copy());
+        }
+    }
+
+    // Takes out what is kept of the chamber of a case; where nothing is, it begins.
+    fn removed(&mut self, alloc: Global, case: &LineCase) -> Result<ChamberGroups, PriceError>
+        requires { AreStocks case.now.instance.now case.now.depth case.now.cuts.now self.old }
+        ensures ceilings { self.new.ceilings ≡ self.old.ceilings }
+        ensures keeps { AreStocks case.now.instance.now case.now.depth case.now.cuts.now self.new }
+        ensures chamber { IfOk result (λ own. own.chamber ≡ case.now.chamber) }
+        ensures stock { IfOk result (IsStock case.now.instance.now case.now.depth case.now.cuts.now self.old.ceilings) }
+    {
+        if let Some(place) = place_of(&self.chambers, case) {
+            return Ok(self.chambers.swap_remove(place));
+        }
+        fresh(alloc, case)
+    }
+
+    // The same, once all cuts were looked at.
+    fn taken(&mut self, alloc: Global, case: &LineCase) -> Result<ChamberGroups, PriceError>
+        requires { AreStocks case.now.instance.now case.now.depth case.now.cuts.now self.old }
+        ensures ceilings { self.new.ceilings ≡ self.old.ceilings }
+        ensures keeps { AreStocks case.now.instance.now case.now.depth case.now.cuts.now self.new }
+        ensures chamber { IfOk result (λ own. own.chamber ≡ case.now.chamber) }
+        ensures seen { IfOk result (λ own. own.seen ≡ length case.now.cuts.now) }
+        ensures stock { IfOk result (IsStock case.now.instance.now case.now.depth case.now.cuts.now self.old.ceilings) }
+    {
+        let own = self.removed(alloc, case)?;
+        up_to_date(alloc, own, case)
+    }
+
+    // Keeps what was taken out. Where memory is wanting it is forgotten, which costs time alone.
+    fn put_back(&mut self, own: ChamberGroups)
+        ensures ceilings { self.new.ceilings ≡ self.old.ceilings }
+        ensures keeps { (I : PlainInstance) (k : ℕ) (cuts : List ChamberCut) → AreStocks I k cuts self.old → IsStock I k cuts self.old.ceilings own → AreStocks I k cuts self.new }
+    {
+        let _ = self.chambers.push(own);
+    }
+
+    // A loose line of the chamber of a case of the least worth, if there is a loose one, where no price is
+    // above its ceiling.
+    fn least_by(
+        &mut self,
+        alloc: Global,
+        case: &LineCase,
+        limits: Limits,
+    ) -> Result<Option<LooseLine>, PriceError>
+        requires below { AreBelow case.now.prices.now self.old.ceilings }
+        requires keeps { AreStocks case.now.instance.now case.now.depth case.now.cuts.now self.old }
+        ensures ceilings { self.new.ceilings ≡ self.old.ceilings }
+        ensures keeps { AreStocks case.now.instance.now case.now.depth case.now.cuts.now self.new }
+        ensures found { IfOk result (IsFound case.now.instance.now case.now.chamber case.now.depth case.now.prices.now case.now.cuts.now case.now.line.now) }
+    {
+        let mut own = self.taken(alloc, case)?;
+        let found = least_of(alloc, &mut own, &self.ceilings, case, limits);
+        self.put_back(own);
+        found
+    }
+
+    /// A loose line of the chamber of a case of the least worth, if there is a loose one. Where at the
+    /// ceilings too many groups grow, these are lowered to the prices.
+    pub(crate) fn least(
+        &mut self,
+        alloc: Global,
+        case: &LineCase,
+        limits: Limits,
+    ) -> Result<Option<LooseLine>, PriceError>
+        requires { AreStocks case.now.instance.now case.now.depth case.now.cuts.now self.old }
+        ensures keeps { AreStocks case.now.instance.now case.now.depth case.now.cuts.now self.new }
+        ensures found { IfOk result (IsFound case.now.instance.now case.now.chamber case.now.depth case.now.prices.now case.now.cuts.now case.now.line.now) }
+    {
+        self.rise_to(case.prices);
+        match self.least_by(alloc, case, limits) {
+            Err(PriceError::TooMany) if self.ceilings != *case.prices => {
+                self.go_to(case.prices.copy());
+                self.least_by(alloc, case, limits)
+            }
+            found => found,
+        }
+    }
+}
