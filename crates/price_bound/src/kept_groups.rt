@@ -40,12 +40,12 @@ pub(crate) struct KeptGroups {
     pub(crate) chambers: Vec<ChamberGroups>,
 }
 
-// Prices that are higher by a quarter and ten minutes, so that prices which are raised step by step
-// stay below them for a while.
+// Prices that are higher by a sixteenth and a minute, so that prices which are raised step by step stay
+// below them for a while. The higher they are, the more groups grow where ships arrive far apart.
 fn ceilings_of(prices: &Prices) -> Prices {
     let mut high = [0; 24];
     for (ship, &price) in prices.as_slice().iter().enumerate() {
-        high[ship] = price.saturating_add(price / 4 + 1_000);
+        high[ship] = price.saturating_add(price / 16 + 100);
     }
     Prices::capped(&high[..prices.as_slice().len()])
 }
