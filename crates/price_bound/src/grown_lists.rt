@@ -1,10 +1,9 @@
 //! Lists of groups that have grown, one for each base, which serve until prices rise above the ceilings.
-ghost use Rattle.std.specs.Prelude.{◌≡◌, ◌<◌, length, slice_index_or, filter, take, map, zip, All, IfSome, IfOk, OnOk};
+ghost use Rattle.std.specs.Prelude.{◌≡◌, ◌<◌, length, slice_index_or, All, IfSome, IfOk, OnOk};
 ghost use Rattle.std.specs.List.Sorted.{IsPermutation};
 ghost use Rattle.price_bound.specs.declared.grown_lists.GrownList.{GrownList as Plain};
 ghost use Rattle.price_bound.specs.Masks.{AreNears};
-ghost use Rattle.price_bound.specs.Growing.{AreGrown, IsBase};
-ghost use Rattle.price_bound.specs.Choosing.{AreWeighed};
+ghost use Rattle.price_bound.specs.Growing.{IsBase};
 ghost use Rattle.price_bound.specs.Stock.{IsGrownList, ArePaired};
 
 use crate::error::{PriceError, append};

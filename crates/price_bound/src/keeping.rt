@@ -93,10 +93,11 @@ fn worked_out(
 
 /// Least lines that were worked out, kept for later calls by the same instance, depth, prices and cuts,
 /// and the groups that they were made from, kept for calls by other prices and more cuts; a call by
-/// others forgets them. They help speed alone: with anything kept a call answers the same, but for its
-/// limits, which aren't asked of what is kept. At most 100 lines are kept, in less than 200 kilobytes
-/// besides a copy of the cuts and what the last line takes, and for each way and each group of a line as
-/// many groups as the limits allow, in 32 bytes each.
+/// others forgets them. They help speed alone: with anything kept a call finds the same sums, but for its
+/// limits, which aren't asked of what is kept; where several lines are least, which one it gives may hang
+/// on what is kept. At most 100 lines are kept, in less than 200 kilobytes besides a copy of the cuts and
+/// what the last line takes. Of each chamber, for each way and each group of a line, as many groups are
+/// kept as the limits allow, or as grow where there are none, 28 bytes each.
 #[derive(Debug, Drop)]
 pub struct KeptLines {
     alloc: Global,
