@@ -4,9 +4,10 @@ ghost use Rattle.lock_rules.specs.Plan.{IsLegal, cost_of};
 ghost use Rattle.first_plan.specs.Merging.{IsBetter, IsAtMost};
 
 use crate::joined::{Joined, joined_ships};
+use berth_place::{BerthPlaced, place_by_berths};
 use chamber_place::{Placed, place};
 use chamber_times::{cost, earliest, flow_time, flow_until};
-use lock_model::{Group, Instance, Plan, Ships, Spots, deck_of};
+use lock_model::{Deck, Group, Instance, Plan, Ships, Spots, deck_of};
 use mooring_rules::{first_clash, judge_plan};
 use plain_text::NoMemory;
 use std::alloc::Global;
@@ -40,20 +41,22 @@ fn chamber_flow(instance: &Instance, plan: &Plan, chamber: u8) -> u64
     flow
 }
 
-// The spots that the placer found, if any.
-fn found_spots(placed: Placed) -> Option<Spots> {
-    match placed {
-        Placed::Fits(spots) => Some(spots),
-        Placed::Refuted(_refutation) => None,
-        Placed::Spent(_hard) => None,
+// The most turns that `place` is asked about one merge, and the placer by berths where these are spent. On
+// crowded decks `place` could take seconds, and a turn of the other one takes a tenth as long.
+const MOST_TURNS: u32 = 50;
+
+const MOST_BERTH_TURNS: u32 = 500;
+
+// Spots that the placer by berths finds, if any.
+fn spots_by_berths(alloc: Global, deck: &Deck, turns: u32) -> Result<Option<Spots>, NoMemory> {
+    match place_by_berths(alloc, deck, turns.min(MOST_BERTH_TURNS))? {
+        BerthPlaced::Fits(spots) => Ok(Some(spots)),
+        BerthPlaced::Refuted(_marks) => Ok(None),
+        BerthPlaced::Spent(_marks) => Ok(None),
     }
 }
 
-// The most turns that the placer is asked about one merge. On crowded decks it could take seconds, and
-// a better plan to begin with saves few nodes.
-const MOST_TURNS: u32 = 500;
-
-// Spots of ships of which no two clash, where the placer finds any.
+// Spots of ships of which no two clash, where a placer finds any.
 fn spots_for(
     alloc: Global,
     instance: &Instance,
@@ -70,8 +73,11 @@ fn spots_for(
     if first_clash(&deck).is_some() {
         return Ok(None);
     }
-    let placed = place(alloc, &deck, turns.min(MOST_TURNS))?;
-    Ok(found_spots(placed))
+    match place(alloc, &deck, turns.min(MOST_TURNS))? {
+        Placed::Fits(spots) => Ok(Some(spots)),
+        Placed::Refuted(_refutation) => Ok(None),
+        Placed::Spent(_hard) => spots_by_berths(alloc, &deck, turns),
+    }
 }
 
 // The plan, where it is legal and costs less than another.

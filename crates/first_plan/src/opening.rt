@@ -37,9 +37,10 @@ pub fn singles_plan(instance: &Instance) -> Plan
 }
 
 /// The opening plan: the singles plan, whose lockages of one chamber are merged, two at a time,
-/// where no two of their ships clash, the placer fits them within so many turns, at least 1 and 500 at the most, and the
-/// cost falls. It is legal, and costs at most what the singles plan costs. `Unfit` comes exactly
-/// where a ship fits no chamber, and names the first.
+/// where no two of their ships clash, a placer fits them within so many turns, at least 1, and the cost
+/// falls: the placer by cases and relations in at most 50 turns, else the one by berths in at most 500.
+/// It is legal, and costs at most what the singles plan costs. `Unfit` comes exactly where a ship fits
+/// no chamber, and names the first.
 pub fn first_plan(alloc: Global, instance: &Instance, turns: u32) -> Result<Plan, FirstError>
     requires { 1 ≤ turns }
     ensures plan { IfOk result (IsAtMost instance.now (singles_of instance.now)) }

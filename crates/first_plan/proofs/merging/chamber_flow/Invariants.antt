@@ -1,4 +1,4 @@
-use Rattle.std.proofs.Common.{◌≤◌, ◌*◌, ◌^◌}
+use Rattle.std.proofs.Common.{◌≤◌, ◌*◌}
 use Rattle.first_plan.proofs.merging.chamber_flow.Given as goal
 
 abbrev pub invariant-loop-lockage : goal.invariant-loop-lockage
