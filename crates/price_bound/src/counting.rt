@@ -12,7 +12,7 @@ use crate::ready::Ready;
 use crate::route::Route;
 use crate::serving::{alone, serve};
 use crate::state::State;
-use crate::sweeping::swept;
+use crate::sweeping::sweep;
 use crate::table::Table;
 use crate::values::Values;
 use chamber_times::stand_after;
@@ -177,24 +177,22 @@ fn count_next(
     }
 }
 
-// A frame of which more choices are counted, where the next one may come next in a chamber without
-// closures, or the same frame.
-fn swept_from(table: &Table, values: &Values, choices: &[Choice], frame: Frame) -> Frame
+// Counts more choices of a frame, where the next one may come next in a chamber without closures.
+fn sweep_from(table: &Table, values: &Values, choices: &[Choice], frame: &mut Frame)
     requires values { AreValues table.now.case.now.instance.now table.now.case.now.chamber (plain_cuts table.now.case.now.instance.now table.now.case.now.cuts.now) table.now.case.now.depth table.now.case.now.prices.now table.now.case.now.line.now table.now.horizon values.now }
     requires menus { AreMenus table.now.case.now.instance.now table.now.case.now.chamber (plain_cuts table.now.case.now.instance.now table.now.case.now.cuts.now) table.now.case.now.depth table.now.case.now.prices.now table.now.case.now.line.now table.now.menus.now }
-    requires frame { IsFrame table.now.case.now.instance.now table.now.case.now.chamber (plain_cuts table.now.case.now.instance.now table.now.case.now.cuts.now) table.now.case.now.depth table.now.case.now.prices.now table.now.case.now.line.now table.now.horizon table.now.menus.now frame }
-    requires listed { (e : Menu) → choices.now ≡ list_of table.now.menus.now e frame.ready.state.place frame.ready.state.minute }
-    requires here { frame.next < length choices.now }
-    ensures frame { IsFrame table.now.case.now.instance.now table.now.case.now.chamber (plain_cuts table.now.case.now.instance.now table.now.case.now.cuts.now) table.now.case.now.depth table.now.case.now.prices.now table.now.case.now.line.now table.now.horizon table.now.menus.now result }
-    ensures same { result.ready ≡ frame.ready }
-    ensures more { frame.next ≤ result.next }
+    requires frame { IsFrame table.now.case.now.instance.now table.now.case.now.chamber (plain_cuts table.now.case.now.instance.now table.now.case.now.cuts.now) table.now.case.now.depth table.now.case.now.prices.now table.now.case.now.line.now table.now.horizon table.now.menus.now frame.old }
+    requires listed { (e : Menu) → choices.now ≡ list_of table.now.menus.now e frame.old.ready.state.place frame.old.ready.state.minute }
+    requires here { frame.old.next < length choices.now }
+    ensures frame { IsFrame table.now.case.now.instance.now table.now.case.now.chamber (plain_cuts table.now.case.now.instance.now table.now.case.now.cuts.now) table.now.case.now.depth table.now.case.now.prices.now table.now.case.now.line.now table.now.horizon table.now.menus.now frame.new }
+    ensures same { frame.new.ready ≡ frame.old.ready }
+    ensures more { frame.old.next ≤ frame.new.next }
 {
     if !frame.ready.always_open {
-        return frame;
+        return;
     }
-    match Route::of(&choices[frame.next], &frame.ready) {
-        Some(route) => swept(table, values, &route, choices, frame),
-        None => frame,
+    if let Some(route) = Route::of(&choices[frame.next], &frame.ready) {
+        sweep(table, values, &route, choices, frame);
     }
 }
 
@@ -211,7 +209,7 @@ pub(crate) fn advance(table: &Table, values: &Values, frame: &mut Frame) -> Opti
     let choices = table.list(&frame.ready.state);
     while frame.next < choices.len() {
         let before = frame.next;
-        *frame = swept_from(table, values, choices, *frame);
+        sweep_from(table, values, choices, frame);
         if frame.next == before {
             if let Some(state) = count_next(table, values, choices, frame) {
                 return Some(state);

@@ -1,5 +1,5 @@
 //! The levels of a table: the later it is, the fewer choices are enough.
-ghost use Rattle.std.specs.Prelude.{All, IfOk, OnOk};
+ghost use Rattle.std.specs.Prelude.{◌≤◌, All, IfOk, OnOk};
 ghost use Rattle.price_bound.specs.Choosing.{IsChoice, IsLevel, AreLate};
 ghost use Rattle.price_bound.specs.Cuts.{plain_cuts};
 
@@ -15,6 +15,16 @@ const COUNT: u32 = 8;
 
 // How many minutes lie between two levels.
 const STEP: u32 = 30;
+
+// As many choices have no levels: to make these would take longer than all states do.
+const FEW: usize = 8;
+
+// How many levels some choices have.
+fn count_for(choices: &[Choice]) -> u32
+    ensures { result ≤ 8 }
+{
+    if choices.len() > FEW { COUNT } else { 0 }
+}
 
 // Of some choices those that are enough from a minute on, by the last level, where it is no later.
 fn thinned(
@@ -58,7 +68,8 @@ fn add_level(
     )
 }
 
-/// Levels of some choices: the first one at a minute, and the others each half an hour later.
+/// Levels of some choices: the first one at a minute, and the others each half an hour later. A few choices
+/// have none.
 pub(crate) fn levels(
     alloc: Global,
     case: &LineCase,
@@ -69,7 +80,7 @@ pub(crate) fn levels(
     ensures { IfOk result (λ levels. All (IsLevel case.now.instance.now case.now.chamber (plain_cuts case.now.instance.now case.now.cuts.now) case.now.depth case.now.prices.now case.now.line.now choices.now) levels.items) }
 {
     let mut levels = Vec::new(alloc);
-    for step in 0..COUNT {
+    for step in 0..count_for(choices) {
         add_level(
             alloc,
             case,

@@ -74,27 +74,27 @@ fn sweep_one(
 }
 
 #[inline(never)]
-/// A frame of which more choices are counted: those of the route one after another, up to one of
-/// another route, or whose value behind it doesn't stand in the row. Apart from what calls others, the
-/// loop keeps what it needs in registers.
-pub(crate) fn swept(
+/// Counts more choices of a frame: those of the route one after another, up to one of another route, or
+/// whose value behind it doesn't stand in the row. Apart from what calls others, the loop keeps what it
+/// needs in registers.
+pub(crate) fn sweep(
     table: &Table,
     values: &Values,
     route: &Route,
     choices: &[Choice],
-    frame: Frame,
-) -> Frame
+    frame: &mut Frame,
+)
     requires values { AreValues table.now.case.now.instance.now table.now.case.now.chamber (plain_cuts table.now.case.now.instance.now table.now.case.now.cuts.now) table.now.case.now.depth table.now.case.now.prices.now table.now.case.now.line.now table.now.horizon values.now }
     requires menus { AreMenus table.now.case.now.instance.now table.now.case.now.chamber (plain_cuts table.now.case.now.instance.now table.now.case.now.cuts.now) table.now.case.now.depth table.now.case.now.prices.now table.now.case.now.line.now table.now.menus.now }
-    requires frame { IsFrame table.now.case.now.instance.now table.now.case.now.chamber (plain_cuts table.now.case.now.instance.now table.now.case.now.cuts.now) table.now.case.now.depth table.now.case.now.prices.now table.now.case.now.line.now table.now.horizon table.now.menus.now frame }
-    requires open { frame.ready.always_open ≡ true }
-    requires route { IsRoute frame.ready route.now }
+    requires frame { IsFrame table.now.case.now.instance.now table.now.case.now.chamber (plain_cuts table.now.case.now.instance.now table.now.case.now.cuts.now) table.now.case.now.depth table.now.case.now.prices.now table.now.case.now.line.now table.now.horizon table.now.menus.now frame.old }
+    requires open { frame.old.ready.always_open ≡ true }
+    requires route { IsRoute frame.old.ready route.now }
     requires place { route.now.place ≤ length table.now.case.now.line.now }
-    requires listed { (e : Menu) → choices.now ≡ list_of table.now.menus.now e frame.ready.state.place frame.ready.state.minute }
-    requires here { frame.next < length choices.now }
-    ensures frame { IsFrame table.now.case.now.instance.now table.now.case.now.chamber (plain_cuts table.now.case.now.instance.now table.now.case.now.cuts.now) table.now.case.now.depth table.now.case.now.prices.now table.now.case.now.line.now table.now.horizon table.now.menus.now result }
-    ensures same { result.ready ≡ frame.ready }
-    ensures more { frame.next ≤ result.next }
+    requires listed { (e : Menu) → choices.now ≡ list_of table.now.menus.now e frame.old.ready.state.place frame.old.ready.state.minute }
+    requires here { frame.old.next < length choices.now }
+    ensures frame { IsFrame table.now.case.now.instance.now table.now.case.now.chamber (plain_cuts table.now.case.now.instance.now table.now.case.now.cuts.now) table.now.case.now.depth table.now.case.now.prices.now table.now.case.now.line.now table.now.horizon table.now.menus.now frame.new }
+    ensures same { frame.new.ready ≡ frame.old.ready }
+    ensures more { frame.old.next ≤ frame.new.next }
 {
     let ready = frame.ready;
     let mut counted = Counted {
@@ -103,16 +103,11 @@ pub(crate) fn swept(
     };
     for place in frame.next..choices.len() {
         if !sweep_one(table, values, &ready, route, &mut counted, &choices[place]) {
-            return Frame {
-                ready,
-                best: counted.best,
-                next: place,
-            };
+            frame.best = counted.best;
+            frame.next = place;
+            return;
         }
     }
-    Frame {
-        ready,
-        best: counted.best,
-        next: choices.len(),
-    }
+    frame.best = counted.best;
+    frame.next = choices.len();
 }
