@@ -9,7 +9,7 @@ percentile and greatest time in milliseconds: at the root, at nodes of 12 ships,
 import re, statistics, subprocess, sys
 
 TRACING = "/sys/kernel/tracing"
-CALL, TABLE = "price_bound::reaching::chamber_least", "price_bound::horizon::horizon"
+CALL, TABLE = "price_bound::reaching::chamber_least", "price_bound::kept_groups::KeptGroups::least_by"
 RUNS = 5
 
 
