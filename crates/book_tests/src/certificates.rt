@@ -3,19 +3,17 @@
 use crate::fixture::{
     NARROW, both, narrow, one_after_the_other, one_each, open_with, row_cut, side_by_side, twin,
 };
+use crate::priced_root::{PricedRoot, both_prices};
 use book_certificate::{CertError, certificate_of};
 use book_core::{Book, Reply};
 use cert_check::{
     Answer, CertCut, CertCuts, FailurePlace, Ground, Mark, Reason, check, one_first_failure,
 };
 use lock_model::{Instance, Plan, Ships};
-use master_branch::root;
 use place_refute::Refutation;
-use price_bound::{ChamberCut, KeptLines, Limits, PricedNode, Prices, show};
 use std::alloc::Global;
 use std::process::Abort;
 use std::test::Fail;
-use worked_locks::pair;
 
 /// The lock of a book.
 #[derive(Clone, Copy)]
@@ -51,31 +49,13 @@ use Deed::*;
 
 // Posts the cut and prices, and closes the root by them; whether the book accepted all of it.
 fn closes_root_by_prices(alloc: Global, book: &mut Book) -> Result<bool, Fail> {
-    let prices = Prices::new(&[8500, 8500]).ok_or("no prices")?;
     if book.post(row_cut(alloc, NARROW)?) != Reply::Posted(0)
-        || book.post_prices(prices.copy()) != Reply::Priced(0)
+        || book.post_prices(both_prices(8500)?) != Reply::Priced(0)
     {
         return Ok(false);
     }
-    let instance = narrow()?;
-    let mut cuts = Vec::new(alloc);
-    cuts.push(ChamberCut {
-        chamber: 0,
-        ships: pair(0, 1),
-    })?;
-    let asked = PricedNode {
-        instance: &instance,
-        node: &root(&instance),
-        prices: &prices,
-        cuts: cuts.as_slice(),
-    };
-    let limits = Limits {
-        groups: 1000,
-        turns: 1000,
-    };
-    let Ok(Some(shown)) = show(&mut KeptLines::new(alloc), &asked, 120, limits) else {
-        return Ok(false);
-    };
+    let root = PricedRoot::new(alloc)?;
+    let shown = root.shown(alloc)?;
     Ok(book.close_price(0, 0, &shown) == Reply::Closed)
 }
 
@@ -125,24 +105,27 @@ fn expect_marks(rt: &impl Abort, alloc: Global, book: &Book, marks: &[Mark]) -> 
 }
 
 #[test]
-fn a_probe_a_bound_or_prices_finish_a_book(rt: HostRuntime) -> Result<(), Fail> {
-    let alloc = rt.alloc();
+fn a_probe_finishes_a_book(rt: HostRuntime) -> Result<(), Fail> {
     let probed = &[Take(0), Split(0), Take(0), CloseProbe(1, 1)];
-    let book = driven(alloc, SideBySide, both(), probed)?;
+    let book = driven(rt.alloc(), SideBySide, both(), probed)?;
     assert!(rt; book.best_cost() == 80);
-    expect_marks(
-        &rt,
-        alloc,
-        &book,
-        &[Mark::Split, Mark::Leaf(Ground::Probe(1))],
-    )?;
-    let book = driven(alloc, Twin, one_each(), &[])?;
+    let marks = [Mark::Split, Mark::Leaf(Ground::Probe(1))];
+    expect_marks(&rt, rt.alloc(), &book, &marks)
+}
+
+#[test]
+fn a_bound_finishes_a_book(rt: HostRuntime) -> Result<(), Fail> {
+    let book = driven(rt.alloc(), Twin, one_each(), &[])?;
     assert!(rt; book.best_cost() == 70);
-    expect_marks(&rt, alloc, &book, &[Mark::Leaf(Ground::Bound)])?;
+    expect_marks(&rt, rt.alloc(), &book, &[Mark::Leaf(Ground::Bound)])
+}
+
+#[test]
+fn prices_finish_a_book(rt: HostRuntime) -> Result<(), Fail> {
     let priced = &[Take(0), CloseRootByPrices];
-    let book = driven(alloc, Narrow, one_after_the_other(50), priced)?;
+    let book = driven(rt.alloc(), Narrow, one_after_the_other(50), priced)?;
     assert!(rt; book.best_cost() == 120);
-    expect_marks(&rt, alloc, &book, &[Mark::Leaf(Ground::Price(0))])
+    expect_marks(&rt, rt.alloc(), &book, &[Mark::Leaf(Ground::Price(0))])
 }
 
 // Two workers split by turns, so that the slots stand in another order than the tree.
@@ -209,15 +192,19 @@ fn empty_cut(alloc: Global) -> Result<CertCuts, Fail> {
     Ok(cuts)
 }
 
+// What the check says of a book's certificate with a cut of no ships in the place of its own cuts.
+fn checked_without_ships(alloc: Global, book: &Book) -> Result<Answer, Fail> {
+    let mut certificate = certificate_of(alloc, book).map_err(|_| "no certificate")?;
+    certificate.cuts = empty_cut(alloc)?;
+    Ok(check(alloc, &book.case().instance, &certificate)?)
+}
+
 #[test]
 fn a_cut_of_no_ships_is_rejected(rt: HostRuntime) -> Result<(), Fail> {
     one_first_failure();
-    let alloc = rt.alloc();
-    let book = driven(alloc, Narrow, one_after_the_other(50), &TO_THE_CUT)?;
-    let mut certificate = certificate_of(alloc, &book).map_err(|_| "no certificate")?;
-    certificate.cuts = empty_cut(alloc)?;
-    let answer = check(alloc, &book.case().instance, &certificate);
+    let book = driven(rt.alloc(), Narrow, one_after_the_other(50), &TO_THE_CUT)?;
+    let answer = checked_without_ships(rt.alloc(), &book)?;
     let misshapen = Answer::Rejected(FailurePlace::Cut(0), Reason::CutShape);
-    assert!(rt; answer == Ok(misshapen));
+    assert!(rt; answer == misshapen);
     Ok(())
 }

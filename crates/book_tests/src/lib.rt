@@ -12,6 +12,8 @@ mod certificates;
 #[cfg(test)]
 mod fixture;
 #[cfg(test)]
+mod priced_root;
+#[cfg(test)]
 mod shared_books;
 #[cfg(test)]
 mod spent_decks;

@@ -16,6 +16,9 @@ mod searches;
 
 use crowds::{Asked, Counted, Question};
 use lock_io::{StdSource, read_all};
+use std::alloc::Global;
+use std::sync::Wait;
+use std::thread::Threads;
 use std::{env, io};
 
 // The number that a word writes, or 1.
@@ -43,67 +46,66 @@ fn counted_by(word: Option<&String>) -> Counted {
     }
 }
 
-fn main(rt: HostRuntime) -> io::Result<()> {
-    let alloc = rt.alloc();
-    let mut words = Vec::new(alloc);
-    for word in env::args(&rt)?.skip(1) {
-        words.push(word)?;
-    }
-    let counted = match words.first().map(|word| word.as_str()) {
-        Some("bounds") => repeats::bounds(
-            number_of(words.get(1)),
-            number_of(words.get(2)),
-            number_of(words.get(3)),
-        ),
-        Some("spots") => repeats::spots(alloc, number_of(words.get(1))),
-        Some("cases") => repeats::cases(alloc, number_of(words.get(1))),
-        Some("spotcases") => repeats::spot_cases(alloc, number_of(words.get(1))),
+// What a call that reads the instance text on standard input counts.
+fn counted_of_text(alloc: Global, text: &[u8], words: &[String]) -> u64 {
+    match words.first().map(|word| word.as_str()) {
         Some("crowd") => {
             let question = Question {
                 asked: asked_by(words.get(1)),
                 counted: counted_by(words.get(2)),
                 turns: number_of(words.get(3)),
             };
-            let mut source = StdSource::new(rt.stdin());
-            match read_all(alloc, &mut source, 65_536) {
-                Ok(bytes) => crowds::crowd(alloc, bytes.as_slice(), question),
-                Err(_) => 0,
-            }
+            crowds::crowd(alloc, text, question)
         }
-        Some("nodes") => searches::nodes(
-            &rt,
-            alloc,
-            number_of(words.get(1)),
-            number_of(words.get(2)),
-            number_of(words.get(3)),
-        ),
-        Some("events") => searches::events(
-            &rt,
-            alloc,
-            number_of(words.get(1)),
-            number_of(words.get(2)),
-            number_of(words.get(3)),
-        ),
-        Some("read") => {
-            let mut source = StdSource::new(rt.stdin());
-            match read_all(alloc, &mut source, 65_536) {
-                Ok(bytes) => repeats::readings(bytes.as_slice(), number_of(words.get(1))),
-                Err(_) => 0,
-            }
-        }
+        Some("read") => repeats::readings(text, number_of(words.get(1))),
         Some("closes") => {
-            let mut source = StdSource::new(rt.stdin());
-            match read_all(alloc, &mut source, 65_536) {
-                Ok(bytes) => closes::closes(
-                    alloc,
-                    bytes.as_slice(),
-                    number_of(words.get(1)),
-                    number_of(words.get(2)),
-                ),
-                Err(_) => 0,
-            }
+            closes::closes(
+                alloc,
+                text,
+                number_of(words.get(1)),
+                number_of(words.get(2)),
+            )
         }
         _ => 0,
+    }
+}
+
+// What a call that makes its instances itself counts; None for one that reads a text.
+fn counted_of_lots<R: Threads + Wait + Sync>(
+    rt: &R,
+    alloc: Global,
+    words: &[String],
+) -> Option<u64> {
+    let first = number_of(words.get(1));
+    let second = number_of(words.get(2));
+    let third = number_of(words.get(3));
+    match words.first().map(|word| word.as_str()) {
+        Some("bounds") => Some(repeats::bounds(first, second, third)),
+        Some("spots") => Some(repeats::spots(alloc, first)),
+        Some("cases") => Some(repeats::cases(alloc, first)),
+        Some("spotcases") => Some(repeats::spot_cases(alloc, first)),
+        Some("nodes") => Some(searches::nodes(rt, alloc, first, second, third)),
+        Some("events") => Some(searches::events(rt, alloc, first, second, third)),
+        Some("crowd" | "read" | "closes") => None,
+        _ => Some(0),
+    }
+}
+
+fn main(rt: HostRuntime) -> io::Result<()> {
+    let alloc = rt.alloc();
+    let mut words = Vec::new(alloc);
+    for word in env::args(&rt)?.skip(1) {
+        words.push(word)?;
+    }
+    let counted = match counted_of_lots(&rt, alloc, words.as_slice()) {
+        Some(counted) => counted,
+        None => {
+            let mut source = StdSource::new(rt.stdin());
+            match read_all(alloc, &mut source, 65_536) {
+                Ok(text) => counted_of_text(alloc, text.as_slice(), words.as_slice()),
+                Err(_) => 0,
+            }
+        }
     };
     println!(rt; "{counted}")?;
     Ok(())

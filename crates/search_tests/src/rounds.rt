@@ -4,7 +4,7 @@ use master_branch::root;
 use node_work::{KnownCuts, Search};
 use placed_groups::Memory;
 use price_bound::{ChamberCut, Prices};
-use price_search::{Asked, FirstNode, Pricing, RoundEnd};
+use price_search::{Asked, FirstNode, Pricing, Round, RoundEnd};
 use std::process::Abort;
 use std::test::Fail;
 use worked_locks::two_ships;
@@ -21,6 +21,18 @@ impl KnownCuts for NoCut {
     fn find(&self, _instance: &Instance, _chamber: u8, _ships: &Ships) -> Option<u64> {
         None
     }
+}
+
+// Has the rounds that follow know the cuts of this one.
+fn keep_cuts(pricing: &mut Pricing, round: &Round) -> Result<(), Fail> {
+    for cut in &round.cuts {
+        let known = ChamberCut {
+            chamber: cut.chamber,
+            ships: cut.ships.copy(),
+        };
+        pricing.cuts_mut().push(known)?;
+    }
+    Ok(())
 }
 
 #[test]
@@ -41,13 +53,7 @@ fn rounds_find_the_cut_the_plan_and_the_cost(rt: HostRuntime) -> Result<(), Fail
             known: &NoCut,
         };
         let round = pricing.round(rt.alloc(), &asked, &mut memory)?;
-        for cut in &round.cuts {
-            let known = ChamberCut {
-                chamber: cut.chamber,
-                ships: cut.ships.copy(),
-            };
-            pricing.cuts_mut().push(known)?;
-        }
+        keep_cuts(&mut pricing, &round)?;
         if round.plan.is_some() {
             best = 120;
         }

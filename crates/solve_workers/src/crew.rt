@@ -4,15 +4,29 @@ ghost use Rattle.std.specs.Prelude.{◌≡◌, ◌+◌, ◌≤◌, length, vec_l
 use bound_word::{BoundSeat, BoundTable};
 use search_book::ShareList;
 use search_worker::Hands;
-use std::sync::ledger::{Ledger, Share};
+use std::sync::ledger::Ledger;
 
-// A worker's hands: a share and a seat of one part each.
-fn hands_of<L: Ledger>(share: Share<L>, seat: BoundSeat) -> Hands<L>
-    requires share { share.parts ≡ 1 }
-    requires seat { seat.view.parts ≡ 1 }
-    ensures share { result.share ≡ share }
-    ensures seat { result.seat ≡ seat }
+// A worker's hands: a share and a part of the seat, where more than one of each is left.
+fn hands_from<L: Ledger>(
+    shares: &mut ShareList<L>,
+    word: &BoundTable,
+    seat: &mut BoundSeat,
+) -> Hands<L>
+    requires shares { All (λ share. share.parts ≡ 1) shares.old }
+    requires some { 1 ≤ length shares.old }
+    requires table { seat.old.table ≡ word.now.table }
+    requires parts { 2 ≤ seat.old.view.parts }
+    ensures shares { All (λ share. share.parts ≡ 1) shares.new }
+    ensures count { length shares.new + 1 ≡ length shares.old }
+    ensures rest { sum_by (λ share. share.parts) shares.new + 1 ≡ sum_by (λ share. share.parts) shares.old }
+    ensures table { seat.new.table ≡ seat.old.table }
+    ensures parts { seat.new.view.parts + 1 ≡ seat.old.view.parts }
+    ensures hands { result.seat.table ≡ word.now.table }
 {
+    let Some(share) = shares.pop() else {
+        unreachable!()
+    };
+    let seat = word.split(seat);
     Hands { share, seat }
 }
 
@@ -40,11 +54,7 @@ pub(crate) fn deal<L: Ledger>(
     ensures seats { All (λ hands. hands.seat.table ≡ word.now.table) crew.new.items }
 {
     for _worker in 0..workers {
-        let Some(share) = shares.pop() else {
-            unreachable!()
-        };
-        let own = word.split(seat);
-        crew.push_reserved(hands_of(share, own));
+        crew.push_reserved(hands_from(shares, word, seat));
     }
 }
 

@@ -1,12 +1,12 @@
 //! The search of a book by workers.
-ghost use Rattle.std.specs.Prelude.{◌≡◌, ◌+◌, ◌≤◌, IfSome};
+ghost use Rattle.std.specs.Prelude.{◌≡◌, ◌+◌, ◌≤◌, vec_len, vec_capacity, IfOk, IfSome};
 ghost use Rattle.boxcar.specs.Table.{Shows};
 
 use crate::crew::{deal, gather};
 use crate::hardness::first_nodes;
-use crate::running::run_all;
+use crate::running::{Running, run_all};
 use book_core::{Book, Case};
-use bound_word::BoundTable;
+use bound_word::{BoundSeat, BoundTable};
 use cut_pool::{Pool, Token};
 use lock_io::Gate;
 use master_branch::arrival_order;
@@ -14,7 +14,7 @@ use node_work::Search;
 use place_refute::{Cut, copy_cut};
 use plain_text::NoMemory;
 use search_book::share_book;
-use search_worker::{Board, Post};
+use search_worker::{Board, Hands, Post};
 use std::alloc::Global;
 use std::marker::Brand;
 use std::sync::Wait;
@@ -65,9 +65,103 @@ pub(crate) struct Lent<'s, R: Threads + Wait + Sync, G: Gate + Sync> {
     pub(crate) ghost few_workers: { workers ≤ 8 },
 }
 
+// What workers have beside their book: the pool of its cuts, and the table of the best cost with the
+// one seat that has all of its parts.
+#[derive(Drop)]
+struct Beside {
+    pool: Pool,
+    word: BoundTable,
+    seat: BoundSeat,
+    ghost table: { seat.table ≡ word.table },
+    ghost whole: { seat.view.parts ≡ word.about.parts },
+}
+
+impl Beside {
+    // What so many workers and their caller have beside this book.
+    fn new<W: Wait>(rt: &W, alloc: Global, book: &Book, parts: u8) -> Result<Beside, NoMemory>
+        requires { 1 ≤ parts }
+        ensures parts { IfOk result (λ made. made.word.about.parts ≡ parts) }
+    {
+        let pool = Pool::new(alloc)?;
+        post_cuts(rt, &pool, book);
+        let (word, seat) = BoundTable::new(alloc, book.best_cost(), parts)?;
+        Ok(Beside { pool, word, seat })
+    }
+}
+
+// Empty lists with room for so many workers: before they work, in their threads, and after.
+#[derive(Drop)]
+struct Rooms<L: Ledger> {
+    workers: u8,
+    crew: Vec<Hands<L>>,
+    running: Vec<Running<L>>,
+    ended: Vec<Hands<L>>,
+    ghost empty: { (vec_len crew ≡ 0) × (vec_len running ≡ 0) × (vec_len ended ≡ 0) },
+    ghost room: { (workers ≤ vec_capacity crew) × (workers ≤ vec_capacity running) × (workers ≤ vec_capacity ended) },
+}
+
+impl<L: Ledger> Rooms<L> {
+    fn new(alloc: Global, workers: u8) -> Result<Rooms<L>, NoMemory>
+        ensures workers { IfOk result (λ rooms. rooms.workers ≡ workers) }
+    {
+        Ok(Rooms {
+            workers,
+            crew: Vec::with_capacity(alloc, workers as usize)?,
+            running: Vec::with_capacity(alloc, workers as usize)?,
+            ended: Vec::with_capacity(alloc, workers as usize)?,
+        })
+    }
+}
+
 // Lets the workers search a book of the case, with prices or without, and gives it back when all have
-// ended. Of the book that comes back nothing but its type is known. Refuses want of memory alone, and
-// before any worker began.
+// ended. Of the book that comes back nothing but its type is known.
+fn searched_in<L: Ledger + Send + Sync, R: Threads + Wait + Sync, G: Gate + Sync>(
+    lent: &Lent<'_, R, G>,
+    board: Option<&Board>,
+    blank: Blank,
+    book: Book,
+    beside: Beside,
+    rooms: Rooms<L>,
+) -> Book
+    requires name { blank.name ≡ L.name }
+    requires parts { blank.parts ≡ L.parts }
+    requires one_each { blank.parts ≡ lent.now.workers + 1 }
+    requires seats { beside.word.about.parts ≡ lent.now.workers + 1 }
+    requires rooms { rooms.workers ≡ lent.now.workers }
+{
+    let Beside {
+        pool,
+        word,
+        mut seat,
+    } = beside;
+    let Rooms {
+        workers,
+        mut crew,
+        running,
+        ended,
+    } = rooms;
+    let (shared, mut shares) = share_book::<L>(blank, book, workers);
+    deal(&mut shares, &word, &mut seat, &mut crew, workers);
+    let case = lent.case;
+    let post = Post {
+        rt: lent.rt,
+        alloc: lent.alloc,
+        gate: lent.gate,
+        search: Search::new(&case.instance, case.turns),
+        order: arrival_order(&case.instance),
+        quota: quota(case, workers, board),
+        board,
+        book: &shared,
+        pool: &pool,
+        word: &word,
+    };
+    let ended = run_all(&post, crew, running, ended);
+    gather(ended, &mut shares, &word, &mut seat);
+    word.close(seat);
+    shared.into_book(shares)
+}
+
+// The same. Refuses want of memory alone, and before any worker began.
 fn searched<L: Ledger + Send + Sync, R: Threads + Wait + Sync, G: Gate + Sync>(
     lent: &Lent<'_, R, G>,
     blank: Blank,
@@ -78,34 +172,9 @@ fn searched<L: Ledger + Send + Sync, R: Threads + Wait + Sync, G: Gate + Sync>(
     requires parts { blank.parts ≡ L.parts }
     requires one_each { blank.parts ≡ lent.now.workers + 1 }
 {
-    let workers = lent.workers;
-    let alloc = lent.alloc;
-    let mut crew = Vec::with_capacity(alloc, workers as usize)?;
-    let running = Vec::with_capacity(alloc, workers as usize)?;
-    let ended = Vec::with_capacity(alloc, workers as usize)?;
-    let pool = Pool::new(alloc)?;
-    post_cuts(lent.rt, &pool, &book);
-    let (word, mut seat) = BoundTable::new(alloc, book.best_cost(), workers + 1)?;
-    let (shared, mut shares) = share_book::<L>(blank, book, workers);
-    deal(&mut shares, &word, &mut seat, &mut crew, workers);
-    let case = lent.case;
-    let instance = &case.instance;
-    let post = Post {
-        rt: lent.rt,
-        alloc,
-        gate: lent.gate,
-        search: Search::new(instance, case.turns),
-        order: arrival_order(instance),
-        quota: quota(case, workers, board),
-        board,
-        book: &shared,
-        pool: &pool,
-        word: &word,
-    };
-    let ended = run_all(&post, crew, running, ended);
-    gather(ended, &mut shares, &word, &mut seat);
-    word.close(seat);
-    Ok(shared.into_book(shares))
+    let rooms = Rooms::<L>::new(lent.alloc, lent.workers)?;
+    let beside = Beside::new(lent.rt, lent.alloc, &book, lent.workers + 1)?;
+    Ok(searched_in(lent, board, blank, book, beside, rooms))
 }
 
 /// The book as the workers leave it, who have prices or none. One worker alone is the

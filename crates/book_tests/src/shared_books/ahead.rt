@@ -52,16 +52,14 @@ fn push_next(stretch: &mut Stretch<'_>, source: &mut Book, ending: Ending) -> Re
     Ok(())
 }
 
-// The nodes of a way.
-fn stretch_of<'i>(alloc: Global, instance: &'i Instance, way: Way) -> Result<Stretch<'i>, Fail> {
-    let mut stretch = Stretch::new(alloc, instance);
-    let mut source = open_turns(alloc, instance.copy(), 128)?;
-    push_next(&mut stretch, &mut source, first_ending(way))?;
+// The nodes of a way are appended.
+fn push_way(alloc: Global, stretch: &mut Stretch<'_>, way: Way) -> Result<(), Fail> {
+    let mut source = open_turns(alloc, stretch.instance.copy(), 128)?;
+    push_next(stretch, &mut source, first_ending(way))?;
     if let Way::RootTwice = way {
-        source = open_turns(alloc, instance.copy(), 128)?;
+        source = open_turns(alloc, stretch.instance.copy(), 128)?;
     }
-    push_next(&mut stretch, &mut source, Ending::Split)?;
-    Ok(stretch)
+    push_next(stretch, &mut source, Ending::Split)
 }
 
 fn first_ending(way: Way) -> Ending {
@@ -104,7 +102,8 @@ pub(crate) fn go_ahead<L: Ledger, R: Wait>(
         Way::Swift => swift()?,
         _ => narrow()?,
     };
-    let stretch = stretch_of(alloc, &instance, way)?;
+    let mut stretch = Stretch::new(alloc, &instance);
+    push_way(alloc, &mut stretch, way)?;
     let (place, id, next) = gone(rt, shared, mine, &stretch)?;
     if (place, id) == last_of(way) {
         Ok(next)

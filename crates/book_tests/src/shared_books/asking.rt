@@ -3,8 +3,9 @@ ghost use Rattle.std.specs.Prelude.{◌≡◌, IfOk};
 ghost use Rattle.search_book.specs.Events.{IsAllowed};
 
 use super::ahead::{Way, go_ahead, went};
-use super::shutting::{both_prices, close_by_price, closed_by_price};
+use super::shutting::{close_by_price, closed_by_price};
 use crate::fixture::{NARROW, both, row_cut};
+use crate::priced_root::both_prices;
 use crate::spent_decks::spent_both;
 use book_core::{Book, Reply};
 use closing_rules::Ground;

@@ -20,6 +20,12 @@ fn driven(alloc: Global, case: &Case) -> Result<Book, Fail> {
     Ok(book)
 }
 
+// Two ships in a chamber of this width, with so many nodes and turns.
+fn driven_ships(alloc: Global, width: u32, nodes: u32, turns: u32) -> Result<Book, Fail> {
+    let case = case_of(two_ships(width).ok_or("no instance")?, nodes, turns).ok_or("no case")?;
+    driven(alloc, &case)
+}
+
 // The root and its one child have bound 70. Of the child's three children the one that joins the
 // ships has bound 80, and the others 120, which is the cost of the singles plan. The ships fit side
 // by side from width 233 on; with one turn their deck is hard and spot-hard.
@@ -52,8 +58,7 @@ fn small_searches_end_as_worked_out_by_hand(rt: HostRuntime) -> Result<(), Fail>
         (233, 100, 20000, 3, 80, Verdict::Optimal),
         (240, 100, 1, 3, 120, spent),
     ] {
-        let case = case_of(two_ships(width).ok_or("no instance")?, nodes, turns).ok_or("no case")?;
-        let book = driven(rt.alloc(), &case)?;
+        let book = driven_ships(rt.alloc(), width, nodes, turns)?;
         assert!(rt; (book.used(), book.best_cost()) == (used, cost));
         assert!(rt; book.verdict() == verdict);
         assert!(rt; book.held_by(8).is_none());

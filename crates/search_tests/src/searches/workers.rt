@@ -9,7 +9,9 @@ use place_refute::{Cut, copy_cut};
 use plain_text::NoMemory;
 use solve_workers::{CutList, solve, solve_from};
 use std::alloc::Global;
+use std::sync::Wait;
 use std::test::Fail;
+use std::thread::Threads;
 use worked_locks::two_ships;
 
 // A copy of a cut of a book; None where it has none of this number.
@@ -41,15 +43,24 @@ fn one_node(case: &Case) -> Case
     Case::new(case.instance.copy(), 1, case.turns)
 }
 
+// A search of the root alone, from the plan and the first cut of a book of the same case.
+fn searched_on<R: Threads + Wait + Sync>(
+    rt: &R,
+    alloc: Global,
+    first: &Book,
+) -> Result<Book, NoMemory> {
+    let cuts = first_cut(alloc, first)?;
+    let case = one_node(first.case());
+    let plan = first.best().copy();
+    Ok(solve_from(rt, alloc, &case, plan, cuts, 1, &OpenGate)?.book)
+}
+
 // A search that takes the root alone finds no cut itself.
 #[test]
 fn a_search_keeps_the_cuts_that_it_is_given(rt: HostRuntime) -> Result<(), Fail> {
     let case = case_of(two_ships(232).ok_or("no instance")?, 3, 20000).ok_or("no case")?;
     let first = solve(&rt, rt.alloc(), &case, 1, &OpenGate)?.book;
-    let cuts = first_cut(rt.alloc(), &first)?;
-    let plan = first.best().copy();
-    let few = one_node(&case);
-    let book = solve_from(&rt, rt.alloc(), &few, plan, cuts, 1, &OpenGate)?.book;
+    let book = searched_on(&rt, rt.alloc(), &first)?;
     assert!(rt; book.opening_cost() == first.best_cost());
     assert!(rt; book.cut(0).is_some() && book.cut(1).is_none());
     Ok(())

@@ -65,10 +65,9 @@ fn searched_by<L: Ledger, W: Wait, G: Gate>(
 {
     let turns = book.case().turns;
     let pool = Pool::new(alloc)?;
-    let (word, mut seat) = BoundTable::new(alloc, book.opening_cost(), 2)?;
-    let own = word.split(&mut seat);
+    let (word, seat) = BoundTable::new(alloc, book.opening_cost(), 1)?;
     let (book, mut shares) = share_book::<L>(blank, book, 1);
-    let Some(hands) = hands_of(&mut shares, own) else {
+    let Some(hands) = hands_of(&mut shares, seat) else {
         return Err(Fail::from("no share"));
     };
     let post = Post {
@@ -83,9 +82,8 @@ fn searched_by<L: Ledger, W: Wait, G: Gate>(
         pool: &pool,
         word: &word,
     };
-    let Hands { share, seat: own } = search(&post, 0, hands);
+    let Hands { share, seat } = search(&post, 0, hands);
     shares.push(share);
-    word.join(&mut seat, own);
     Ok((book.into_book(shares), word.close(seat)))
 }
 

@@ -1,0 +1,66 @@
+//! The root of the narrow lock, which the prices of its two ships and the cut of both close.
+ghost use Rattle.master_branch.specs.Node.{IsNodeOf};
+
+use crate::fixture::narrow;
+use lock_model::Instance;
+use master_branch::{Node, root};
+use price_bound::{ChamberCut, KeptLines, Limits, PricedNode, Prices, Shown, show};
+use std::alloc::Global;
+use std::test::Fail;
+use worked_locks::pair;
+
+const LIMITS: Limits = Limits {
+    groups: 100,
+    turns: 10_000,
+};
+
+/// So much for each of both ships.
+pub(crate) fn both_prices(price: u32) -> Result<Prices, Fail> {
+    Ok(Prices::new(&[price, price]).ok_or("no prices")?)
+}
+
+// The cut of both ships.
+fn both_cut(alloc: Global) -> Result<Vec<ChamberCut>, Fail> {
+    let mut cuts = Vec::new(alloc);
+    cuts.push(ChamberCut {
+        chamber: 0,
+        ships: pair(0, 1),
+    })?;
+    Ok(cuts)
+}
+
+/// The root, 8,500 for each ship, and the cut.
+#[derive(Drop)]
+pub(crate) struct PricedRoot {
+    instance: Instance,
+    node: Node,
+    prices: Prices,
+    cuts: Vec<ChamberCut>,
+    ghost is: { IsNodeOf instance node },
+}
+
+impl PricedRoot {
+    pub(crate) fn new(alloc: Global) -> Result<PricedRoot, Fail> {
+        let cuts = both_cut(alloc)?;
+        let prices = both_prices(8500)?;
+        let instance = narrow()?;
+        let node = root(&instance);
+        Ok(PricedRoot {
+            instance,
+            node,
+            prices,
+            cuts,
+        })
+    }
+
+    /// That it reaches the cost of its best plan.
+    pub(crate) fn shown(&self, alloc: Global) -> Result<Shown<'_>, Fail> {
+        let asked = PricedNode {
+            instance: &self.instance,
+            node: &self.node,
+            prices: &self.prices,
+            cuts: self.cuts.as_slice(),
+        };
+        Ok(show(&mut KeptLines::new(alloc), &asked, 120, LIMITS)?.ok_or("not shown")?)
+    }
+}
