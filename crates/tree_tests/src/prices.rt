@@ -154,6 +154,17 @@ fn locks_without_cuts(rt: HostRuntime) -> Result<(), Fail> {
     check_all(&rt, rt.alloc(), two_chambers(), &[], TWO_CHAMBERS)
 }
 
+// The node reaches 120 and no more, and what is shown of that says of what it was shown.
+fn expect_shown(rt: &impl Abort, alloc: Global, asked: &PricedNode<'_>) -> Result<(), Fail> {
+    let mut kept = KeptLines::new(alloc);
+    assert!(rt; show(&mut kept, asked, 121, ENOUGH)?.is_none());
+    let shown = show(&mut kept, asked, 120, ENOUGH)?.ok_or("not shown")?;
+    assert!(rt; shown.instance() == asked.instance && shown.node() == asked.node);
+    assert!(rt; shown.prices() == asked.prices && shown.cuts() == asked.cuts);
+    assert!(rt; shown.cost() == 120);
+    Ok(())
+}
+
 #[test]
 fn a_shown_cost_names_what_it_was_shown_of(rt: HostRuntime) -> Result<(), Fail> {
     let instance = two_ships(232).ok_or("no instance")?;
@@ -169,14 +180,7 @@ fn a_shown_cost_names_what_it_was_shown_of(rt: HostRuntime) -> Result<(), Fail> 
         prices: &prices,
         cuts: &cuts,
     };
-    let mut kept = KeptLines::new(rt.alloc());
-    assert!(rt; show(&mut kept, &asked, 121, ENOUGH)?.is_none());
-    let shown = show(&mut kept, &asked, 120, ENOUGH)?.ok_or("not shown")?;
-    assert!(rt;
-        shown.instance() == &instance && shown.node() == &node && shown.prices() == &prices
-    );
-    assert!(rt; shown.cuts() == &cuts[..] && shown.cost() == 120);
-    Ok(())
+    expect_shown(&rt, rt.alloc(), &asked)
 }
 
 #[test]

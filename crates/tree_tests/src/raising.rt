@@ -16,6 +16,18 @@ fn standing(first: u8, second: u8) -> Stands {
     stands
 }
 
+// An ascent from these prices of two ships, of one step.
+fn ascent_from(start: [u32; 2]) -> Result<Ascent, Fail> {
+    let prices = Prices::new(&start).ok_or("no prices")?;
+    let pace = Pace {
+        steps: 1,
+        patience: 15,
+        span: 10,
+        spans: 1,
+    };
+    Ok(Ascent::new(prices, pace))
+}
+
 #[test]
 fn ships_that_lack_get_dearer(rt: HostRuntime) -> Result<(), Fail> {
     for (start, first, second, sum, goal, goes_on, tried) in [
@@ -33,14 +45,7 @@ fn ships_that_lack_get_dearer(rt: HostRuntime) -> Result<(), Fail> {
         // each stands once: there is no way up
         ([3500, 3500], 1, 1, 7000, 70, false, [3500, 3500]),
     ] {
-        let prices = Prices::new(&start).ok_or("no prices")?;
-        let pace = Pace {
-            steps: 1,
-            patience: 15,
-            span: 10,
-            spans: 1,
-        };
-        let mut ascent = Ascent::new(prices, pace);
+        let mut ascent = ascent_from(start)?;
         assert!(rt; ascent.raise(&[0, 1], &standing(first, second), sum, goal) == goes_on);
         assert!(rt; ascent.tried().as_slice() == tried.as_slice());
         assert!(rt; ascent.best().as_slice() == start.as_slice());
