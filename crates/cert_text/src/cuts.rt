@@ -24,12 +24,12 @@ fn put_cut(alloc: Global, cut: &CertCut) -> Result<Value, AllocError>
     ensures value { IfOk result (λ v. view v ≡ cut_data cut.now) }
     ensures reads_back { IfOk result (λ _. cut_in (cut_data cut.now) ≡ Some cut.now) }
 {
-    let ships = put_ships(alloc, &cut.ships)?;
-    let why = put_why(alloc, &cut.refutation)?;
-    let chamber = put_byte(cut.chamber);
     let mut map = Map::new(alloc);
+    let chamber = put_byte(cut.chamber);
     serde_json::put(&mut map, alloc, "chamber", chamber)?;
+    let ships = put_ships(alloc, &cut.ships)?;
     serde_json::put(&mut map, alloc, "ships", ships)?;
+    let why = put_why(alloc, &cut.refutation)?;
     serde_json::put(&mut map, alloc, "why", why)?;
     Ok(Value::Object(map))
 }

@@ -38,12 +38,12 @@ fn put_members(alloc: Global, parts: &Parts, tree: Value) -> Result<Map<String, 
     ensures cuts_back { IfOk result (λ _. cuts_in (cuts_data parts.now.cuts.now) ≡ Some parts.now.cuts.now) }
     ensures plan_back { IfOk result (λ _. plan_in (plan_data parts.now.plan.now) ≡ Some parts.now.plan.now) }
 {
-    let cost = put_cost(parts.cost)?;
-    let cuts = put_cuts(alloc, parts.cuts)?;
-    let plan = put_plan(alloc, parts.plan)?;
     let mut map = Map::new(alloc);
+    let cost = put_cost(parts.cost)?;
     serde_json::put(&mut map, alloc, "cost", cost)?;
+    let cuts = put_cuts(alloc, parts.cuts)?;
     serde_json::put(&mut map, alloc, "cuts", cuts)?;
+    let plan = put_plan(alloc, parts.plan)?;
     serde_json::put(&mut map, alloc, "plan", plan)?;
     serde_json::put(&mut map, alloc, "tree", tree)?;
     Ok(map)

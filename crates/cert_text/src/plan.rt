@@ -33,16 +33,16 @@ fn put_lockage(alloc: Global, lockage: &Lockage) -> Result<Value, AllocError>
     ensures value { IfOk result (λ v. view v ≡ lockage_data lockage.now) }
     ensures reads_back { IfOk result (λ _. lockage_in (lockage_data lockage.now) ≡ Some lockage.now) }
 {
-    let chamber = put_byte(lockage.chamber);
-    let ships = put_ships(alloc, &lockage.ships)?;
-    let spots = put_spots(alloc, &lockage.spots)?;
-    let start = put_word(lockage.start);
-    let way = put_byte(way_number(lockage.way));
     let mut map = Map::new(alloc);
+    let chamber = put_byte(lockage.chamber);
     serde_json::put(&mut map, alloc, "chamber", chamber)?;
+    let ships = put_ships(alloc, &lockage.ships)?;
     serde_json::put(&mut map, alloc, "ships", ships)?;
+    let spots = put_spots(alloc, &lockage.spots)?;
     serde_json::put(&mut map, alloc, "spots", spots)?;
+    let start = put_word(lockage.start);
     serde_json::put(&mut map, alloc, "start", start)?;
+    let way = put_byte(way_number(lockage.way));
     serde_json::put(&mut map, alloc, "way", way)?;
     Ok(Value::Object(map))
 }
