@@ -2,15 +2,18 @@
 ghost use Rattle.std.specs.Prelude.{◌≤◌, ◌<◌, length, IsTrue};
 ghost use Rattle.refute_rules.specs.Clashes.{IsClashingPair};
 
-use crate::fixture::{LEFT, Laden, NARROW, Place, QUAY, RIGHT, TWINS, laden_deck, spots_of};
+use crate::fixture::{
+    LEFT, Laden, NARROW, Place, QUAY, RIGHT, TWINS, laden_deck, spots_of, worked_deck,
+};
 use chamber_place::{Placed, place, shrink};
 use lock_model::{Deck, Measures, Ships};
+use place_refute::Cut;
 use refute_rules::{Quick, Refutation};
 use ship_shapes::holds;
 use std::alloc::Global;
 use std::process::Abort;
 use std::test::Fail;
-use worked_locks::{BASE, deck_of, pair};
+use worked_locks::{BASE, pair};
 
 /// No ship is as long or as wide as this chamber, and none has a gap to keep.
 const SQUARE: Measures = Measures {
@@ -41,7 +44,7 @@ fn expect_fits(
 
 #[test]
 fn two_ships_take_five_turns(rt: HostRuntime) -> Result<(), Fail> {
-    let deck = deck_of(BASE, TWINS).ok_or("no deck")?;
+    let deck = worked_deck(BASE, TWINS)?;
     match place(rt.alloc(), &deck, 4)? {
         Placed::Spent(hard) => {
             assert!(rt; hard.turns == 4);
@@ -55,7 +58,7 @@ fn two_ships_take_five_turns(rt: HostRuntime) -> Result<(), Fail> {
 
 #[test]
 fn a_deck_without_a_quick_reason_gets_a_case_tree(rt: HostRuntime) -> Result<(), Fail> {
-    let deck = deck_of(SQUARE, &FOUR).ok_or("no deck")?;
+    let deck = worked_deck(SQUARE, &FOUR)?;
     match place(rt.alloc(), &deck, 20_000)? {
         Placed::Refuted(Refutation::Cases(marks)) => {
             assert!(rt; marks.as_slice().len() == 7444);
@@ -65,24 +68,21 @@ fn a_deck_without_a_quick_reason_gets_a_case_tree(rt: HostRuntime) -> Result<(),
     Ok(())
 }
 
-#[test]
-fn a_needless_ship_is_left_out(rt: HostRuntime) -> Result<(), Fail> {
-    let deck = deck_of(NARROW, &[(1100, 114), (1100, 114), (380, 50)]).ok_or("no deck")?;
+/// The cut that is left of three ships, of which the first two are a row.
+fn row_left(rt: &impl Abort, alloc: Global, deck: &Deck) -> Result<Cut, Fail> {
     let reason = Quick::Row(pair(0, 1));
-    assert!(rt; holds(&deck, &reason));
+    assert!(rt; holds(deck, &reason));
     let mut ships = pair(0, 1);
     ships.push(2);
     assert!(rt; ships.len() == deck.ships.as_slice().len());
-    let cut = shrink(
-        rt.alloc(),
-        0,
-        &ships,
-        &deck,
-        Refutation::Quick(reason),
-        20_000,
-    )?;
-    assert!(rt; cut.chamber == 0);
-    assert!(rt; cut.ships == pair(0, 1));
+    Ok(shrink(alloc, 0, &ships, deck, Refutation::Quick(reason), 20_000)?)
+}
+
+#[test]
+fn a_needless_ship_is_left_out(rt: HostRuntime) -> Result<(), Fail> {
+    let deck = worked_deck(NARROW, &[(1100, 114), (1100, 114), (380, 50)])?;
+    let cut = row_left(&rt, rt.alloc(), &deck)?;
+    assert!(rt; cut.chamber == 0 && cut.ships == pair(0, 1));
     assert!(rt; matches!(&cut.refutation, Refutation::Quick(Quick::Row(_))));
     Ok(())
 }

@@ -1,14 +1,15 @@
 //! Worked cuts. Refutations that hold or don't stand with the second checker.
-use crate::fixture::{NARROW, TWINS};
+use crate::fixture::{NARROW, TWINS, worked_deck};
 use lock_model::{Chambers, Instance, ShipList, Ships, Way};
 use place_refute::{Cut, CutError, Quick, Refutation, copy_cut, cut_hits, make_cut};
 use std::alloc::Global;
+use std::process::Abort;
 use std::test::Fail;
-use worked_locks::{are_known, chamber, deck_of, pair, ship};
+use worked_locks::{are_known, chamber, pair, ship};
 
 // The cut of ships 0 and 1 in the narrow chamber by a row of them.
 fn cut_by(alloc: Global, first: u8, second: u8) -> Result<Result<Cut, CutError>, Fail> {
-    let deck = deck_of(NARROW, TWINS).ok_or("no deck")?;
+    let deck = worked_deck(NARROW, TWINS)?;
     let ships = pair(0, 1);
     if ships.len() != deck.ships.as_slice().len() {
         return Err("not one size a ship".into());
@@ -26,11 +27,18 @@ fn cut_of_both(alloc: Global) -> Result<Cut, Fail> {
 }
 
 #[test]
-fn a_cut_is_made_where_its_refutation_holds(rt: HostRuntime) -> Result<(), Fail> {
+fn no_cut_is_made_where_its_refutation_fails(rt: HostRuntime) -> Result<(), Fail> {
     match cut_by(rt.alloc(), 0, 0)? {
-        Ok(_) => return Err("one ship is no row".into()),
-        Err(error) => assert!(rt; error == CutError::NotRefuted),
+        Ok(_) => Err("one ship is no row".into()),
+        Err(error) => {
+            assert!(rt; error == CutError::NotRefuted);
+            Ok(())
+        }
     }
+}
+
+#[test]
+fn a_cut_is_made_where_its_refutation_holds(rt: HostRuntime) -> Result<(), Fail> {
     let cut = cut_of_both(rt.alloc())?;
     let copy = copy_cut(&cut)?;
     assert!(rt; copy.chamber == 0 && copy.ships == pair(0, 1) && copy.deck == cut.deck);
@@ -48,6 +56,14 @@ fn three_ships(width: u32) -> Option<Instance> {
     Instance::new(chambers, ships)
 }
 
+// Whether the cut hits these of three ships in a chamber of this width.
+fn is_hit(rt: &impl Abort, cut: &Cut, width: u32, ships: &Ships) -> Result<bool, Fail> {
+    let lock = three_ships(width).ok_or("no instance")?;
+    assert!(rt; lock.chambers.as_slice().len() == 1);
+    assert!(rt; are_known(ships.as_slice(), lock.ships.as_slice().len()));
+    Ok(cut_hits(cut, &lock, 0, ships))
+}
+
 #[test]
 fn a_cut_hits_its_ships_in_no_more_room(rt: HostRuntime) -> Result<(), Fail> {
     let cut = cut_of_both(rt.alloc())?;
@@ -62,10 +78,7 @@ fn a_cut_hits_its_ships_in_no_more_room(rt: HostRuntime) -> Result<(), Fail> {
         (232, &pair(1, 2), false),
         (232, &pair(0, 0), false),
     ] {
-        let lock = three_ships(width).ok_or("no instance")?;
-        assert!(rt; lock.chambers.as_slice().len() == 1);
-        assert!(rt; are_known(ships.as_slice(), lock.ships.as_slice().len()));
-        assert!(rt; cut_hits(&cut, &lock, 0, ships) == hit);
+        assert!(rt; is_hit(&rt, &cut, width, ships)? == hit);
     }
     Ok(())
 }

@@ -1,6 +1,7 @@
 //! Measures, decks with cargo, and places of ships.
 use lock_model::{Deck, Measures, Moor, Rank, Size, Sizes, Spot, Spots};
-use worked_locks::BASE;
+use std::test::Fail;
+use worked_locks::{BASE, deck_of};
 
 /// Two base ships don't lie side by side here.
 pub(crate) const NARROW: Measures = Measures { width: 232, ..BASE };
@@ -13,6 +14,11 @@ pub(crate) const SHORT: Measures = Measures {
 
 /// Two base ships by length and width.
 pub(crate) const TWINS: &[(u32, u32)] = &[(1100, 114), (1100, 114)];
+
+/// The deck of ships without cargo, by length and width.
+pub(crate) fn worked_deck(measures: Measures, ships: &[(u32, u32)]) -> Result<Deck, Fail> {
+    Ok(deck_of(measures, ships).ok_or("no deck")?)
+}
 
 /// Where a ship lies: its x and y, its rank, and what it is moored to.
 pub(crate) type Place = (u32, u32, Rank, Moor);

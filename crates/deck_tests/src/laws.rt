@@ -4,28 +4,27 @@
 ghost use Rattle.std.specs.Prelude.{◌≤◌, IfSome};
 ghost use Rattle.deck_laws.specs.Widen.{IsRoomier};
 
-use crate::fixture::{LEFT, QUAY, RIGHT, TWINS, spots_of};
+use crate::fixture::{LEFT, Place, QUAY, RIGHT, SHORT, TWINS, spots_of, worked_deck};
 use deck_laws::{heredity, normal_form, normalise, spot_values, thin_out, widen};
-use lock_model::{Deck, Measures, Moor};
+use lock_model::{Deck, Measures, Moor, Spots};
 use mooring_rules::judge_spots;
+use std::process::Abort;
 use std::test::Fail;
-use worked_locks::{BASE, deck_of};
+use worked_locks::BASE;
 
 #[test]
 fn spot_values_are_steps_from_the_near_end(rt: HostRuntime) -> Result<(), Fail> {
-    let deck = deck_of(BASE, &[(500, 60), (300, 60)]).ok_or("no deck")?;
+    let deck = worked_deck(BASE, &[(500, 60), (300, 60)])?;
     let values = spot_values(rt.alloc(), &deck)?;
     assert!(rt; values.as_slice() == [10, 210, 330, 530].as_slice());
-    let short = deck_of(
-        Measures {
-            length: 100,
-            ..BASE
-        },
-        &[(90, 50)],
-    )
-    .ok_or("no deck")?;
-    let none = spot_values(rt.alloc(), &short)?;
-    assert!(rt; none.as_slice().len() == 0);
+    Ok(())
+}
+
+#[test]
+fn a_ship_that_fills_its_chamber_has_no_spot_value(rt: HostRuntime) -> Result<(), Fail> {
+    let deck = worked_deck(SHORT, &[(90, 50)])?;
+    let values = spot_values(rt.alloc(), &deck)?;
+    assert!(rt; values.as_slice().is_empty());
     Ok(())
 }
 
@@ -51,7 +50,7 @@ fn widened(deck: &Deck, width: u32) -> Option<Deck>
 
 #[test]
 fn a_flush_pair_is_pushed_to_the_near_end(rt: HostRuntime) -> Result<(), Fail> {
-    let deck = deck_of(BASE, &[(500, 60), (500, 60)]).ok_or("no deck")?;
+    let deck = worked_deck(BASE, &[(500, 60), (500, 60)])?;
     let mut spots = spots_of(&[(40, 0, LEFT, QUAY), (40, 65, LEFT, Moor::Ship(0))]);
     assert!(rt; spots.as_slice().len() == deck.ships.as_slice().len());
     assert!(rt; judge_spots(&deck, &spots).is_none());
@@ -61,32 +60,34 @@ fn a_flush_pair_is_pushed_to_the_near_end(rt: HostRuntime) -> Result<(), Fail> {
     Ok(())
 }
 
+// Without this ship the other two lie at these places.
+fn expect_left(rt: &impl Abort, deck: &Deck, spots: &Spots, ship: u8, places: &[Place]) {
+    assert!(rt; deck.ships.as_slice().len() == 3 && ship < 3);
+    assert!(rt; spots.as_slice().len() == deck.ships.as_slice().len());
+    assert!(rt; judge_spots(deck, spots).is_none());
+    let (rest, left) = thin_out(deck, spots, ship);
+    assert!(rt; rest.ships.as_slice().len() == 2);
+    assert!(rt; left == spots_of(places));
+}
+
 #[test]
 fn guests_take_the_mooring_of_the_ship_that_is_left_out(rt: HostRuntime) -> Result<(), Fail> {
-    let deck = deck_of(BASE, &[(600, 60), (500, 50), (400, 40)]).ok_or("no deck")?;
+    let deck = worked_deck(BASE, &[(600, 60), (500, 50), (400, 40)])?;
     let spots = spots_of(&[
         (10, 0, LEFT, QUAY),
         (20, 65, LEFT, Moor::Ship(0)),
         (30, 120, LEFT, Moor::Ship(1)),
     ]);
-    assert!(rt; deck.ships.as_slice().len() == 3);
-    assert!(rt; spots.as_slice().len() == deck.ships.as_slice().len());
-    assert!(rt; judge_spots(&deck, &spots).is_none());
-    for (ship, first, second) in [
-        (0, (20, 0, LEFT, QUAY), (30, 55, LEFT, Moor::Ship(0))),
-        (1, (10, 0, LEFT, QUAY), (30, 65, LEFT, Moor::Ship(0))),
-    ] {
-        assert!(rt; ship < 3);
-        let (rest, moved) = thin_out(&deck, &spots, ship);
-        assert!(rt; rest.ships.as_slice().len() == 2);
-        assert!(rt; moved == spots_of(&[first, second]));
-    }
+    let without_first = [(20, 0, LEFT, QUAY), (30, 55, LEFT, Moor::Ship(0))];
+    expect_left(&rt, &deck, &spots, 0, &without_first);
+    let without_second = [(10, 0, LEFT, QUAY), (30, 65, LEFT, Moor::Ship(0))];
+    expect_left(&rt, &deck, &spots, 1, &without_second);
     Ok(())
 }
 
 #[test]
 fn the_right_rank_follows_its_quay(rt: HostRuntime) -> Result<(), Fail> {
-    let deck = deck_of(BASE, TWINS).ok_or("no deck")?;
+    let deck = worked_deck(BASE, TWINS)?;
     assert!(rt; deck.width == 240);
     let wider = widened(&deck, 250).ok_or("no deck")?;
     let mut spots = spots_of(&[(10, 0, LEFT, QUAY), (10, 126, RIGHT, QUAY)]);

@@ -1,9 +1,10 @@
 //! Worked breaks of placements. More of them, and those of plans, stand with the rows of whole runs.
-use crate::fixture::{LEFT, Place, QUAY, RIGHT, spots_of};
+use crate::fixture::{LEFT, Place, QUAY, RIGHT, spots_of, worked_deck};
 use lock_model::Moor;
 use mooring_rules::{Broken, judge_spots};
+use std::process::Abort;
 use std::test::Fail;
-use worked_locks::{BASE, deck_of};
+use worked_locks::BASE;
 
 /// Ships by length and width, their places, and the first break.
 type Judged = (&'static [(u32, u32)], &'static [Place], Option<Broken>);
@@ -49,13 +50,19 @@ const PLACEMENTS: [Judged; 8] = [
     ),
 ];
 
+fn expect_judged(rt: &impl Abort, judged: &Judged) -> Result<(), Fail> {
+    let (ships, places, want) = judged;
+    let deck = worked_deck(BASE, ships)?;
+    let spots = spots_of(places);
+    assert!(rt; spots.as_slice().len() == deck.ships.as_slice().len());
+    assert!(rt; judge_spots(&deck, &spots) == *want);
+    Ok(())
+}
+
 #[test]
 fn the_first_break_of_a_placement_is_named(rt: HostRuntime) -> Result<(), Fail> {
-    for (ships, places, want) in &PLACEMENTS {
-        let deck = deck_of(BASE, ships).ok_or("over a limit")?;
-        let spots = spots_of(places);
-        assert!(rt; spots.as_slice().len() == deck.ships.as_slice().len());
-        assert!(rt; judge_spots(&deck, &spots) == *want);
+    for judged in &PLACEMENTS {
+        expect_judged(&rt, judged)?;
     }
     Ok(())
 }

@@ -1,9 +1,9 @@
 //! Reasons that are seen from the shapes of ships, found by hand.
-use crate::fixture::{NARROW, TWINS};
+use crate::fixture::{NARROW, TWINS, worked_deck};
 use lock_model::Measures;
 use ship_shapes::{Quick, find_reason};
 use std::test::Fail;
-use worked_locks::{BASE, deck_of};
+use worked_locks::BASE;
 
 const BARE: Measures = Measures {
     length: 100,
@@ -78,7 +78,7 @@ fn is_found(reason: &Option<Quick>, found: Found) -> bool {
 #[test]
 fn the_first_reason_is_found(rt: HostRuntime) -> Result<(), Fail> {
     for (measures, ships, found) in WORKED {
-        let deck = deck_of(measures, ships).ok_or("no deck")?;
+        let deck = worked_deck(measures, ships)?;
         assert!(rt; is_found(&find_reason(&deck), found));
     }
     Ok(())

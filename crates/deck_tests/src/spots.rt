@@ -1,13 +1,15 @@
 //! Decks placed and refuted by spots.
-use crate::fixture::{LEFT, NARROW, QUAY, RIGHT, SHORT, TWINS, spots_of};
+use crate::fixture::{LEFT, NARROW, QUAY, RIGHT, SHORT, TWINS, spots_of, worked_deck};
 use lock_model::Measures;
 use spot_place::{SpotPlaced, place_by_spots};
+use std::alloc::Global;
+use std::process::Abort;
 use std::test::Fail;
-use worked_locks::{BASE, deck_of};
+use worked_locks::BASE;
 
 #[test]
 fn the_first_whole_spot_case_is_placed(rt: HostRuntime) -> Result<(), Fail> {
-    let deck = deck_of(BASE, TWINS).ok_or("no deck")?;
+    let deck = worked_deck(BASE, TWINS)?;
     let expected = spots_of(&[(10, 0, LEFT, QUAY), (10, 126, RIGHT, QUAY)]);
     for turns in [7, 20_000] {
         match place_by_spots(rt.alloc(), &deck, turns)? {
@@ -36,20 +38,22 @@ const UNFIT: [Tried; 6] = [
     (BASE, TWINS, 1, None),
 ];
 
+fn expect_unfit(rt: &impl Abort, alloc: Global, tried: Tried) -> Result<(), Fail> {
+    let (measures, ships, turns, tree) = tried;
+    let deck = worked_deck(measures, ships)?;
+    assert!(rt; turns >= 1);
+    match place_by_spots(alloc, &deck, turns)? {
+        SpotPlaced::Fits(_) => return Err("no whole case is among these".into()),
+        SpotPlaced::Refuted(marks) => assert!(rt; Some(marks.as_slice()) == tree),
+        SpotPlaced::Spent(hard) => assert!(rt; tree.is_none() && hard.turns == turns),
+    }
+    Ok(())
+}
+
 #[test]
 fn a_deck_is_refuted_or_its_turns_are_spent(rt: HostRuntime) -> Result<(), Fail> {
-    for (measures, ships, turns, tree) in UNFIT {
-        let deck = deck_of(measures, ships).ok_or("no deck")?;
-        match place_by_spots(rt.alloc(), &deck, turns)? {
-            SpotPlaced::Fits(_) => return Err("no whole case is among these".into()),
-            SpotPlaced::Refuted(marks) => {
-                assert!(rt; Some(marks.as_slice()) == tree);
-            }
-            SpotPlaced::Spent(hard) => {
-                assert!(rt; tree.is_none());
-                assert!(rt; hard.turns == turns);
-            }
-        }
+    for tried in UNFIT {
+        expect_unfit(&rt, rt.alloc(), tried)?;
     }
     Ok(())
 }
