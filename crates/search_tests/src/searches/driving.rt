@@ -20,7 +20,7 @@ fn driven(alloc: Global, case: &Case) -> Result<Book, Fail> {
     Ok(book)
 }
 
-// Two ships in a chamber of this width, with so many nodes and turns.
+// The book of two ships in a chamber of this width, driven to its end within so many nodes and turns.
 fn driven_ships(alloc: Global, width: u32, nodes: u32, turns: u32) -> Result<Book, Fail> {
     let case = case_of(two_ships(width).ok_or("no instance")?, nodes, turns).ok_or("no case")?;
     driven(alloc, &case)
