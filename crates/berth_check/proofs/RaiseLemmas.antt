@@ -11,12 +11,12 @@ use Rattle.lock_model.specs.declared.placement.Moor.TheVariants.{Quay, Ship}
 use Rattle.refute_rules.specs.Decided.{berth_in}
 use Rattle.refute_rules.specs.Known.{host_of, moor_host, berth_y, y_within}
 use Rattle.berth_check.specs.declared.case.Pick.{Pick}
-use Rattle.berth_check.specs.Picks.{choice_of, IsKnownMoor}
+use Rattle.berth_check.specs.Picks.{choice_of}
 use Rattle.refute_rules.specs.SpotFaults.{IsInsideAlong}
 use Rattle.std.proofs.Common.{ℤ, ◌⊎◌, cond, map, get_or, set, ◌≡◌, ℕ, zero, suc, ◌+◌, ◌-◌, ◌<◌, ◌≤◌, List, [], ◌∷◌, length, inl, inr, refl, sym, ap, ◌∙◌, subst, arith, Some, None}
 use Rattle.lock_model.specs.Deck.{Deck}
 use Rattle.refute_rules.specs.Reasons.{length_at}
-use Rattle.refute_rules.specs.Choices.{Choice, Lies, Before, Below, Stands, Berth}
+use Rattle.refute_rules.specs.Choices.{Choice, Lies, Before, Below, Stands, Berth, IsKnownMoor}
 use Rattle.refute_rules.specs.BerthCases.{host_in}
 use Rattle.refute_rules.specs.BerthTrees.{AreUnordered}
 use Rattle.berth_check.specs.Raises.{x_at, IsForced, IsHostObeyed, IsOrderObeyed, AreOrdersObeyed, AreSettled, AreBelow, AreInside, HasPlaces, room_of, IsKnownChoice, AreKnown, IsOf}

@@ -3,10 +3,9 @@ use Rattle.std.specs.Prelude.{ℕ, ◌≡◌, ◌+◌, ◌-◌, ◌≤◌, ◌<�
 use Rattle.std.specs.List.{AllByRecursion}
 use Rattle.lock_model.specs.Deck.{Deck}
 use Rattle.refute_rules.specs.Reasons.{length_at}
-use Rattle.refute_rules.specs.Choices.{Choice, Lies, Before, Below, Stands}
+use Rattle.refute_rules.specs.Choices.{Choice, Lies, Before, Below, Stands, IsKnownMoor}
 use Rattle.refute_rules.specs.SpotFaults.{IsInsideAlong}
 use Rattle.refute_rules.specs.BerthCases.{host_in, ObeyAlong}
-use Rattle.berth_check.specs.Picks.{IsKnownMoor}
 
 abbrev pub x_at : List ℕ → ℕ → ℕ
 x_at xs i = slice_index_or xs i 0

@@ -8,7 +8,7 @@ use Rattle.std.proofs.lemmas.List.Elements.{All-from_recursion, All-contains}
 use Rattle.list_laws.proofs.ByRecursion.{all-append}
 use Rattle.lock_model.specs.Deck.{Deck, IsDeck, no_size}
 use Rattle.lock_rules.specs.Arrival.{numbers_from}
-use Rattle.lock_rules.specs.Among.{IsAmong}
+use Rattle.list_laws.specs.Among.{IsAmong}
 use Rattle.lock_rules.proofs.LineLemmas.{numbers_more}
 use Rattle.lock_rules.proofs.TreeLemmas.{contains-among}
 use Rattle.diff_rules.specs.declared.edges.Edge.{Edge}

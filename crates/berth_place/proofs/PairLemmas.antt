@@ -5,7 +5,7 @@ use Rattle.std.specs.List.{AllByRecursion}
 use Rattle.std.proofs.lemmas.Bool.Decides.{eqb_tells}
 use Rattle.list_laws.proofs.ByRecursion.{all-append}
 use Rattle.lock_model.specs.Deck.{Deck}
-use Rattle.lock_rules.specs.Among.{IsAmong}
+use Rattle.list_laws.specs.Among.{IsAmong}
 use Rattle.diff_system.specs.PathTree.{IsSmall}
 use Rattle.refute_rules.specs.Choices.{Choice, Before}
 use Rattle.refute_rules.proofs.Among.{IsAmong-left, IsAmong-right}

@@ -4,7 +4,7 @@ use Rattle.std.proofs.lemmas.Int.{ints}
 use Rattle.lock_model.specs.Deck.{Deck}
 use Rattle.lock_model.specs.Placement.{IsLegalPlacement, spot_at}
 use Rattle.lock_model.specs.declared.placement.Spot.{Spot}
-use Rattle.lock_rules.specs.Among.{IsAmong}
+use Rattle.list_laws.specs.Among.{IsAmong}
 use Rattle.lock_model.specs.declared.placement.Moor.TheVariants.{Ship}
 use Rattle.diff_rules.specs.declared.edges.Edge.{Edge}
 use Rattle.diff_rules.specs.Differences.{value_at}

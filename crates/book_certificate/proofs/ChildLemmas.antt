@@ -3,7 +3,8 @@ use Rattle.std.proofs.Common.{◌≡◌, ℕ, suc, ◌+◌, ◌-◌, ◌<◌, �
 use Rattle.std.specs.declared.option.Option.{Option}
 use Rattle.std.proofs.lemmas.Bool.Decides.{leb_tells}
 use Rattle.book_rules.specs.declared.book.SlotState.TheVariants as slot
-use Rattle.book_rules.specs.Book.{Node, Book, slot_at}
+use Rattle.book_rules.specs.Book.{Book, slot_at}
+use Rattle.lock_rules.specs.Node.{Node}
 use Rattle.book_rules.specs.NextSlot.{first_child}
 use Rattle.book_rules.specs.Family.{child_count, IsChildSlot, KeepsFamily}
 

@@ -8,7 +8,7 @@ use Rattle.lock_model.specs.Deck.{Deck}
 use Rattle.lock_model.specs.declared.instance.Instance.{Instance}
 use Rattle.lock_model.specs.declared.group.Group.{Group}
 use Rattle.lock_rules.specs.Cut.{HitsNode}
-use Rattle.lock_rules.specs.Node.{root_lines}
+use Rattle.lock_rules.specs.Node.{Node, root_lines}
 use Rattle.lock_rules.specs.Children.{children_of}
 use Rattle.refute_rules.specs.Cuts.{Cut}
 use Rattle.price_rules.specs.Prices.{Reaches}
@@ -20,7 +20,7 @@ use Rattle.book_rules.specs.declared.book.SlotState.{SlotState}
 use Rattle.book_rules.specs.declared.book.SlotState.TheVariants as slot
 use Rattle.certificate_rules.specs.declared.certificate.Mark.{Mark}
 use Rattle.certificate_rules.specs.declared.certificate.Mark.TheVariants as mark
-use Rattle.book_rules.specs.Book.{Node, Book, slot_at, no_slot, best_cost}
+use Rattle.book_rules.specs.Book.{Book, slot_at, no_slot, best_cost}
 use Rattle.book_rules.specs.Cover.{KeepsBook}
 use Rattle.book_rules.specs.States as book_states
 use Rattle.book_rules.specs.States.{KeepsStates, IsHitBy}

@@ -28,7 +28,8 @@ use Rattle.book_rules.specs.declared.book.SlotState.{SlotState}
 use Rattle.book_rules.specs.declared.book.SlotState.TheVariants as slot
 use Rattle.certificate_rules.specs.declared.certificate.Mark.{Mark}
 use Rattle.certificate_rules.specs.declared.certificate.Mark.TheVariants as mark
-use Rattle.book_rules.specs.Book.{Node, Book, root, slot_at, best_cost}
+use Rattle.book_rules.specs.Book.{Book, slot_at, best_cost}
+use Rattle.lock_rules.specs.Node.{Node, root}
 use Rattle.book_rules.specs.Cover.{KeepsBook, IsOwnCut}
 use Rattle.book_rules.specs.States.{KeepsStates}
 use Rattle.book_rules.specs.Family.{KeepsFamily}

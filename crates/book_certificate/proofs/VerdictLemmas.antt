@@ -6,7 +6,8 @@ use Rattle.std.specs.List.{list_any}
 use Rattle.lock_model.specs.declared.verdict.Verdict.TheVariants as verdict
 use Rattle.book_rules.specs.declared.book.SlotState.{SlotState}
 use Rattle.book_rules.specs.declared.book.SlotState.TheVariants as slot
-use Rattle.book_rules.specs.Book.{Node, Slot, Book, no_slot, slot_at, is_fresh, is_back, is_held, is_parked, is_live, has_slot, first_slot}
+use Rattle.book_rules.specs.Book.{Slot, Book, no_slot, slot_at, is_fresh, is_back, is_held, is_parked, is_live, has_slot, first_slot}
+use Rattle.lock_rules.specs.Node.{Node}
 use Rattle.book_rules.specs.Verdict.{low_of, parked_verdict, turns_verdict, verdict_of}
 use Rattle.book_rules.proofs.SlotLemmas.{first_slot-at, first_slot-none}
 

@@ -6,7 +6,8 @@ use Rattle.refute_rules.specs.Trees.{AreInOrder}
 use Rattle.book_rules.specs.declared.book.SlotState.TheVariants as slot
 use Rattle.certificate_rules.specs.declared.certificate.Mark.{Mark}
 use Rattle.certificate_rules.specs.declared.certificate.Mark.TheVariants as mark
-use Rattle.book_rules.specs.Book.{Node, Book, root, slot_at}
+use Rattle.book_rules.specs.Book.{Book, slot_at}
+use Rattle.lock_rules.specs.Node.{Node, root}
 use Rattle.book_rules.specs.Family.{child_count}
 use Rattle.cert_check.proofs.TreeLemmas.{in_order-append, lacks-one}
 use Rattle.book_certificate.specs.Preorder.{leaf_mark, AreMarksOf}

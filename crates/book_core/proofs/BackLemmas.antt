@@ -2,7 +2,7 @@
 use Rattle.std.proofs.Common.{◌≡◌, ◌≢◌, ℕ, suc, ◌<◌, ◌≤◌, List, [], ◌∷◌, length, refl, sym, ap, ◌∙◌, subst, arith, Bool, true, false, cond, inl, inr, Some, slice_get, drop, true≢false}
 use Rattle.std.proofs.lemmas.Bool.Decides.{eqb_tells, leb_tells}
 use Rattle.std.proofs.lemmas.Option.{none-some, same_Some}
-use Rattle.lock_rules.specs.Among.{IsAmong}
+use Rattle.list_laws.specs.Among.{IsAmong}
 use Rattle.lock_rules.specs.Children.{insert_number}
 use Rattle.lock_rules.specs.Plan.{times_in}
 use Rattle.lock_rules.proofs.AmongLemmas.{rises-past, among-times_in}

@@ -8,13 +8,12 @@ use Rattle.lock_rules.specs.Arrival.{next_ship}
 use Rattle.lock_rules.specs.Bound.{bound_of, least_number}
 use Rattle.lock_rules.specs.Children.{children_of}
 use Rattle.book_rules.specs.declared.book.SlotState.TheVariants as slot
-use Rattle.book_rules.specs.Book.{Book, Node as TreeNode, Slot, slot_at}
+use Rattle.book_rules.specs.Book.{Book, Slot, slot_at}
+use Rattle.lock_rules.specs.Node.{Node}
 use Rattle.book_rules.specs.Step.{probe_at}
-use Rattle.master_branch.specs.Node.{Node}
 use Rattle.flow_bounds.proofs.ChildLemmas.{least-child}
 use Rattle.book_core.specs.declared.book.Book.TheInside.{Inside}
 use Rattle.book_core.specs.declared.hand.Hand.{Hand}
-use Rattle.book_core.specs.Nodes.{tree_node}
 use Rattle.book_core.specs.Stored.{slots_of}
 use Rattle.book_core.specs.Hands.{id_of, ids_of, held_at, bounds_in, bounds_below, bounds_at, filled, laid, IsNodeIn, IsHand, IsHandOf, IsBounding, AreNodes}
 use Rattle.std.proofs.lemmas.List.{get_or-set_same, set-set}
@@ -25,9 +24,9 @@ use Rattle.book_core.proofs.HeldLemmas.{at-any, ids-at, length-ids, ids-filled, 
 use Rattle.book_core.proofs.NodeLemmas.{slot-node}
 
 -- the bounds below a slot's node
-pub below-at : (b : Book) (id : ℕ) (I : Instance) → I ≡ b.case.instance → (node : Node) → tree_node node ≡ (slot_at b id).node → bounds_below I node ≡ bounds_at b id
+pub below-at : (b : Book) (id : ℕ) (I : Instance) → I ≡ b.case.instance → (node : Node) → node ≡ (slot_at b id).node → bounds_below I node ≡ bounds_at b id
 below-at b id I I_is node same =
-    ap (λ J. bounds_below J node) I_is ∙ ap (λ (n : TreeNode). map (bound_of b.case.instance (n.depth + 1)) (children_of b.case.instance n.depth n.lines)) same
+    ap (λ J. bounds_below J node) I_is ∙ ap (λ (n : Node). map (bound_of b.case.instance (n.depth + 1)) (children_of b.case.instance n.depth n.lines)) same
 
 -- the least of them is the probe of the ship that the node lacks first
 pub least-below : (b : Book) → IsSound b → (id : ℕ) → id < length b.slots → (slot_at b id).node.depth < length b.case.instance.ships → least_number (bounds_at b id) ≡ probe_at b id (next_ship b.case.instance (slot_at b id).node.depth)
@@ -84,7 +83,7 @@ module _ (a : Inside) (kept : IsKept a) (b : Book) (same : seen a ≡ b) (w id :
       by-hand None e = tt
       by-hand (Some g) e =
           let is : IsHand a.case.instance S g = subst (λ h. IfSome h (IsHand a.case.instance S)) e (kept.nodes.each w) in
-          let depth : g.node.depth ≡ (slot_at b id).node.depth = ap (λ (n : TreeNode). n.depth) (hand-of g e).own.same in
+          let depth : g.node.depth ≡ (slot_at b id).node.depth = ap (λ (n : Node). n.depth) (hand-of g e).own.same in
           let ships : length a.case.instance.ships ≡ length b.case.instance.ships = ap (λ (u : Book). length u.case.instance.ships) same in
           record { node = is.own.node; lacks = omega (arith, lacks, depth, ships); bounds = is.bounds }
 

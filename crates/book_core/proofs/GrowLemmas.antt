@@ -7,13 +7,13 @@ use Rattle.std.proofs.lemmas.List.{get_or-append-add}
 use Rattle.std.proofs.Math.ListN.{get_or-append}
 use Rattle.lock_model.specs.declared.instance.Instance.{Instance}
 use Rattle.lock_model.specs.declared.group.Group.{Group}
-use Rattle.lock_rules.specs.Node.{root_lines}
+use Rattle.lock_rules.specs.Node.{Node, root, root_lines}
 use Rattle.lock_rules.specs.Bound.{bound_of}
 use Rattle.lock_rules.specs.Children.{children_of}
 use Rattle.mooring_rules.specs.declared.breaks.BrokenPlan.{BrokenPlan}
 use Rattle.book_rules.specs.declared.book.SlotState.{SlotState}
 use Rattle.book_rules.specs.declared.book.SlotState.TheVariants as slot
-use Rattle.book_rules.specs.Book.{Book, Node, Slot, root, no_slot, slot_at, best_cost, is_back, is_held}
+use Rattle.book_rules.specs.Book.{Book, Slot, no_slot, slot_at, best_cost, is_back, is_held}
 use Rattle.book_rules.specs.Family.{child_node}
 use Rattle.book_rules.specs.NextSlot.{is_split}
 use Rattle.book_rules.specs.Events as machine

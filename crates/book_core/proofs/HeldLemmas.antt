@@ -6,7 +6,7 @@ use Rattle.lock_model.specs.declared.instance.Instance.{Instance}
 use Rattle.book_rules.specs.declared.book.SlotState.{SlotState}
 use Rattle.book_rules.specs.declared.book.SlotState.TheVariants as slot
 use Rattle.book_rules.specs.Book.{Slot}
-use Rattle.master_branch.specs.Node.{Node}
+use Rattle.lock_rules.specs.Node.{Node}
 use Rattle.book_core.specs.declared.hand.Hand.{Hand}
 use Rattle.book_core.specs.Hands.{id_of, ids_of, held_at, filled, IsNodeIn, IsHand, AreNodes}
 use Rattle.book_core.specs.Tables.{hand_at}

@@ -3,19 +3,18 @@ use Rattle.std.proofs.Common.{◌≡◌, ℕ, zero, suc, ◌<◌, List, [], ◌�
 use Rattle.lock_model.specs.declared.instance.Instance.{Instance}
 use Rattle.lock_model.specs.declared.group.Group.{Group}
 use Rattle.lock_rules.specs.Arrival.{order_of, missing_ships}
-use Rattle.lock_rules.specs.Node.{IsNode}
+use Rattle.lock_rules.specs.Node.{Node, IsNode}
 use Rattle.lock_rules.specs.Trace.{has_number}
-use Rattle.book_rules.specs.Book.{Book, Node as TreeNode, slot_at}
+use Rattle.book_rules.specs.Book.{Book, slot_at}
 use Rattle.book_rules.specs.Step.{is_missing, probe_at}
 use Rattle.book_rules.proofs.TestLemmas.{has_number-decides}
 use Rattle.flow_bounds.specs.Missing.{IsMissing}
 use Rattle.flow_bounds.proofs.ProbeLemmas.{among-missing, other-held}
 use Rattle.lock_rules.specs.Bound.{probe_of}
-use Rattle.master_branch.specs.Node.{Node, IsNodeOf}
+use Rattle.master_branch.specs.Node.{IsNodeOf}
 use Rattle.std.specs.List.{list_any}
 use Rattle.lock_rules.proofs.SplitLemmas.{length-order}
 use Rattle.book_core.specs.Hands.{IsNextShip}
-use Rattle.book_core.specs.Nodes.{tree_node}
 
 contains-at : (xs : List ℕ) (i s : ℕ) → i < length xs → slice_index_or xs i 0 ≡ s → slice_index_or xs i s ≡ s
 contains-at [] i s known is = absurd (omega (arith, known))
@@ -58,9 +57,9 @@ next-true b id s next =
     ap (has_number (missing_ships I k)) next.next ∙ next-number (order_of I) k (omega (arith, next.lacks, length-order I))
 
 -- of a slot's node
-module _ (b : Book) (id : ℕ) (I : Instance) (I_is : I ≡ b.case.instance) (node : Node) (same : tree_node node ≡ (slot_at b id).node) (good : IsNodeOf I node) (s : ℕ) where
+module _ (b : Book) (id : ℕ) (I : Instance) (I_is : I ≡ b.case.instance) (node : Node) (same : node ≡ (slot_at b id).node) (good : IsNodeOf I node) (s : ℕ) where
   by_node : (P : Bool → Type 0) → P (has_number (missing_ships I node.depth) s) → P (is_missing b id s)
-  by_node P h = subst (λ (n : TreeNode). P (has_number (missing_ships b.case.instance n.depth) s)) same (subst (λ J. P (has_number (missing_ships J node.depth) s)) I_is h)
+  by_node P h = subst (λ (n : Node). P (has_number (missing_ships b.case.instance n.depth) s)) same (subst (λ J. P (has_number (missing_ships J node.depth) s)) I_is h)
 
   pub is-missing : IsMissing I node.lines s → is_missing b id s ≡ true
   is-missing missing = by_node (λ t. t ≡ true) (missing-true I node.depth node.lines good s missing)
@@ -69,4 +68,4 @@ module _ (b : Book) (id : ℕ) (I : Instance) (I_is : I ≡ b.case.instance) (no
   not-missing other = by_node (λ t. t ≡ false) (missing-false I node.depth node.lines good s other)
 
   pub probe-is : probe_of I node.depth node.lines s ≡ probe_at b id s
-  probe-is = ap (λ J. probe_of J node.depth node.lines s) I_is ∙ ap (λ (n : TreeNode). probe_of b.case.instance n.depth n.lines s) same
+  probe-is = ap (λ J. probe_of J node.depth node.lines s) I_is ∙ ap (λ (n : Node). probe_of b.case.instance n.depth n.lines s) same

@@ -2,12 +2,11 @@
 use Rattle.std.proofs.Common.{◌≡◌, ℕ, zero, suc, ◌+◌, ◌<◌, List, [], ◌∷◌, length, sym, ap, ◌∙◌, arith, slice_index_or, slice_get, Some}
 use Rattle.std.proofs.lemmas.Option.{same_Some, none-some}
 use Rattle.lock_model.specs.declared.instance.Instance.{Instance}
-use Rattle.lock_rules.specs.Node.{IsNode, root_lines}
+use Rattle.lock_rules.specs.Node.{Node, IsNode, root_lines}
 use Rattle.book_rules.specs.Book.{Book, no_slot, slot_at}
 use Rattle.book_rules.specs.Family.{child_node, child_count, IsBorn, HasChildren}
-use Rattle.master_branch.specs.Node.{Node, children}
+use Rattle.master_branch.specs.Node.{children}
 use Rattle.book_core.specs.Keeps.{IsSound}
-use Rattle.book_core.specs.Nodes.{tree_node}
 
 got-or : {X : Type 0} (xs : List X) (k : ℕ) (x d : X) → slice_get xs k ≡ Some x → slice_index_or xs k d ≡ x
 got-or [] k x d e = absurd (none-some x e)
@@ -39,7 +38,7 @@ module _ (b : Book) (sound : IsSound b) (id : ℕ) (known : id < length b.slots)
     node-born = sym (ap (λ k. (slot_at b k).node) born.place) ∙ (family.child (slot_at b id).number born.number).node_is
 
 -- a child that is found by its number
-pub child-is : (I : Instance) (old new : Node) (k : ℕ) → new.depth ≡ old.depth + 1 → slice_get (children I old) k ≡ Some new.lines → tree_node new ≡ child_node I (tree_node old) k
+pub child-is : (I : Instance) (old new : Node) (k : ℕ) → new.depth ≡ old.depth + 1 → slice_get (children I old) k ≡ Some new.lines → new ≡ child_node I old k
 child-is I old new k depth lines =
     let is : slice_index_or (children I old) k root_lines ≡ new.lines = got-or (children I old) k new.lines root_lines lines in
     let deep : new.depth ≡ suc old.depth = omega (arith, depth) in

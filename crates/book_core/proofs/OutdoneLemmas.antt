@@ -13,7 +13,8 @@ use Rattle.lock_rules.proofs.AmongLemmas.{among-filter}
 use Rattle.mooring_rules.specs.declared.breaks.BrokenPlan.{BrokenPlan}
 use Rattle.book_rules.specs.declared.book.SlotState.{SlotState}
 use Rattle.book_rules.specs.declared.book.SlotState.TheVariants as slot
-use Rattle.book_rules.specs.Book.{Book, Node, Slot, best_cost, is_fresh, is_back, is_parked}
+use Rattle.book_rules.specs.Book.{Book, Slot, best_cost, is_fresh, is_back, is_parked}
+use Rattle.lock_rules.specs.Node.{Node}
 use Rattle.book_rules.specs.Events as machine
 use Rattle.book_rules.specs.Events.{replace}
 use Rattle.book_rules.specs.Step.{step, outdone, replaced}

@@ -5,14 +5,14 @@ use Rattle.list_laws.proofs.Lists.{length-push}
 use Rattle.lock_model.specs.declared.instance.Instance.{Instance}
 use Rattle.book_rules.specs.Book.{Book, Slot}
 use Rattle.book_rules.specs.Family.{child_node, child_count}
-use Rattle.master_branch.specs.Node.{Node, IsNodeOf, children, root}
+use Rattle.master_branch.specs.Node.{IsNodeOf, children}
+use Rattle.lock_rules.specs.Node.{Node, root}
 use Rattle.book_core.specs.declared.path.Path.{Path}
 use Rattle.book_core.specs.declared.path.PathNode.{PathNode}
 use Rattle.book_core.specs.declared.stored_slot.StoredSlot.{StoredSlot}
 use Rattle.book_core.specs.Changes.{slot_in}
 use Rattle.book_core.specs.Hands.{IsNodeIn}
 use Rattle.book_core.specs.Keeps.{IsSound}
-use Rattle.book_core.specs.Nodes.{tree_node}
 use Rattle.book_core.specs.Path.{EndsAt, IsEntry, IsPath, IsChild, IsTree, entry_at, last_on, root_entry}
 use Rattle.book_core.specs.Stored.{slots_of, IsStoredAs}
 use Rattle.book_core.proofs.HeldLemmas.{KeepsNodes, node-kept}
@@ -84,7 +84,7 @@ module _ (I : Instance) (slots : List Slot) where
   pub root-in : IsTree I slots → (id : ℕ) → id < length slots → id ≡ 0 → (node : Node) → node ≡ root → IsNodeOf I node → IsNodeIn I slots id node
   root-in tree id known first node is good = record {
     known = known;
-    same = ap tree_node is ∙ sym tree.root ∙ ap (λ k. (slot_in slots k).node) (sym first);
+    same = is ∙ sym tree.root ∙ ap (λ k. (slot_in slots k).node) (sym first);
     node = good;
   }
 

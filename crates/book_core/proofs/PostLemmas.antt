@@ -7,14 +7,14 @@ use Rattle.std.specs.Bool.{Decides}
 use Rattle.std.proofs.lemmas.Bool.Decides.{Decides-ltb, Decides-by_and, same_from_decides}
 use Rattle.lock_model.specs.Deck.{Deck}
 use Rattle.lock_model.specs.declared.group.Group.{Group}
-use Rattle.lock_rules.specs.Node.{line_at}
+use Rattle.lock_rules.specs.Node.{Node as TreeNode, line_at}
 use Rattle.refute_rules.specs.Cuts.{Cut, IsCut}
 use Rattle.refute_rules.specs.Spots.{IsSpent}
 use Rattle.mooring_rules.specs.declared.breaks.BrokenPlan.{BrokenPlan}
 use Rattle.closing_rules.specs.ListedPrices.{ArePrices}
 use Rattle.book_rules.specs.declared.book.SlotState.TheVariants as slot
 use Rattle.book_rules.specs.declared.book.Entry.TheVariants as entry
-use Rattle.book_rules.specs.Book.{Book, Node as TreeNode, slot_at, is_held, group_at}
+use Rattle.book_rules.specs.Book.{Book, slot_at, is_held, group_at}
 use Rattle.book_rules.specs.Events as machine
 use Rattle.book_rules.specs.Events.{post, post_prices, park}
 use Rattle.book_rules.specs.Tests.{has_clash, is_own_cut}

@@ -5,7 +5,7 @@ use Rattle.std.specs.Bool.{Decides}
 use Rattle.std.specs.Cmp.Lexicographic.{pointwise}
 use Rattle.std.proofs.lemmas.Bool.Decides.{Decides-like, same_from_decides}
 use Rattle.lock_model.specs.declared.instance.Instance.{Instance}
-use Rattle.master_branch.specs.Node.{Node}
+use Rattle.lock_rules.specs.Node.{Node}
 use Rattle.mooring_rules.specs.declared.breaks.BrokenPlan.{BrokenPlan}
 use Rattle.price_rules.specs.Prices.{Reaches}
 use Rattle.price_bound.specs.Claim.{Claim, IsReached}
@@ -13,7 +13,7 @@ use Rattle.price_bound.specs.Cuts.{plain_cut, plain_cuts, same_cut}
 use Rattle.price_bound.specs.declared.cut.ChamberCut.{ChamberCut}
 use Rattle.refute_rules.specs.Cuts.{Cut}
 use Rattle.closing_rules.specs.declared.grounds.Ground.TheVariants as by
-use Rattle.book_rules.specs.Book.{Book, Node as TreeNode, best_cost}
+use Rattle.book_rules.specs.Book.{Book, best_cost}
 use Rattle.book_rules.specs.Events as machine
 use Rattle.book_rules.specs.Events.{close_price}
 use Rattle.book_rules.specs.Same.{same_instance, same_node}
@@ -22,7 +22,6 @@ use Rattle.book_rules.specs.Step.{may_close, is_shown, price_refusal, cheaper_th
 use Rattle.book_rules.proofs.SameLemmas.{same_instance-decides, same_node-decides}
 use Rattle.book_core.specs.declared.reply.Reply.TheVariants as reply
 use Rattle.book_core.specs.Keeps.{IsSound}
-use Rattle.book_core.specs.Nodes.{tree_node}
 use Rattle.book_core.specs.Replies.{Answers}
 use Rattle.book_core.specs.Telling.{told_cut, bare_cut, told_shown}
 use Rattle.book_core.proofs.CloseLemmas.{cheap-refused, high-unrefused, event-refused, event-sound, event-answers}
@@ -57,10 +56,10 @@ first-told (x ∷ xs) (d ∷ ds) within = ap (λ rest. nat_eq x.chamber d.chambe
 pub told-instance : (r : Bool) (I J : Instance) → Decides r (I ≡ J) → r ≡ same_instance I J
 told-instance r I J decides = same_from_decides r (same_instance I J) decides (same_instance-decides I J)
 
-pub told-node : (r : Bool) (m n : Node) (t : TreeNode) → Decides r (m ≡ n) → tree_node n ≡ t → r ≡ same_node (tree_node m) t
+pub told-node : (r : Bool) (m n : Node) (t : Node) → Decides r (m ≡ n) → n ≡ t → r ≡ same_node m t
 told-node r m n t decides is =
-    same_from_decides r (same_node (tree_node m) t) decides
-    (Decides-like (same_node (tree_node m) t) (λ e i. record { depth = ((e ∙ sym is) i).depth; lines = ((e ∙ sym is) i).lines }) (λ e. ap tree_node e ∙ is) (same_node-decides (tree_node m) t))
+    same_from_decides r (same_node m t) decides
+    (Decides-like (same_node m t) (λ e. e ∙ sym is) (λ e. e ∙ is) (same_node-decides m t))
 
 -- ---- the four tests, one after the other
 

@@ -2,7 +2,8 @@
 use Rattle.std.proofs.Common.{◌≡◌, ℕ, zero, suc, ◌<◌, List, [], ◌∷◌, ◌++◌, length, refl, sym, ap, ◌∙◌, arith, slice_index_or, slice_set, append-nil}
 use Rattle.lock_model.specs.declared.instance.Instance.{Instance}
 use Rattle.book_rules.specs.declared.book.SlotState.{SlotState}
-use Rattle.book_rules.specs.Book.{Node, Slot, root, no_slot}
+use Rattle.book_rules.specs.Book.{Slot, no_slot}
+use Rattle.lock_rules.specs.Node.{Node, root}
 use Rattle.book_core.specs.declared.stored_slot.StoredSlot.{StoredSlot}
 use Rattle.book_core.specs.Stored.{node_after, slot_with, slots_after, IsStoredAs}
 

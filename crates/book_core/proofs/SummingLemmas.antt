@@ -3,7 +3,8 @@ use Rattle.std.proofs.Common.{◌≡◌, ℕ, suc, ◌+◌, ◌<◌, List, [], �
 use Rattle.std.specs.List.{list_any, position, position_or_len}
 use Rattle.lock_model.specs.declared.instance.Instance.{Instance}
 use Rattle.book_rules.specs.declared.book.SlotState.{SlotState}
-use Rattle.book_rules.specs.Book.{Book, Node, Slot, is_live, is_parked, first_slot}
+use Rattle.book_rules.specs.Book.{Book, Slot, is_live, is_parked, first_slot}
+use Rattle.lock_rules.specs.Node.{Node}
 use Rattle.book_rules.proofs.SlotLemmas.{first_slot-at}
 use Rattle.book_core.specs.declared.stored_slot.StoredSlot.{StoredSlot}
 use Rattle.book_core.specs.Stored.{node_after, slot_with, slots_after, slots_of}

@@ -4,7 +4,8 @@ use Rattle.lock_model.specs.declared.instance.Instance.{Instance}
 use Rattle.refute_rules.specs.Cuts.{Cut}
 use Rattle.book_rules.specs.declared.book.SlotState.TheVariants as slot
 use Rattle.book_rules.specs.declared.book.Entry.TheVariants as entry
-use Rattle.book_rules.specs.Book.{Book, root, bound_at}
+use Rattle.book_rules.specs.Book.{Book, bound_at}
+use Rattle.lock_rules.specs.Node.{root}
 use Rattle.book_rules.specs.Step.{noted, with_children}
 use Rattle.book_core.specs.declared.stored_slot.StoredSlot.{StoredSlot}
 use Rattle.closing_rules.specs.declared.grounds.Ground.TheVariants as by

@@ -5,10 +5,10 @@ use Rattle.lock_model.specs.declared.instance.Instance.{Instance}
 use Rattle.lock_rules.specs.Arrival.{next_ship}
 use Rattle.lock_rules.specs.Bound.{bound_of}
 use Rattle.lock_rules.specs.Children.{children_of}
-use Rattle.master_branch.specs.Node.{Node, IsNodeOf, children}
+use Rattle.master_branch.specs.Node.{IsNodeOf, children}
+use Rattle.lock_rules.specs.Node.{Node}
 use Rattle.book_rules.specs.Book.{Book, Slot, no_slot, slot_at}
 use Rattle.book_core.specs.declared.hand.Hand.{Hand}
-use Rattle.book_core.specs.Nodes.{tree_node}
 
 -- the slot in a hand, and those in hands
 abbrev pub id_of : Option Hand → Option ℕ
@@ -57,7 +57,7 @@ pub record IsBounding (I : Instance) (hand : Hand) : Type 0 where
 -- the node is that of slot id
 pub record IsNodeIn (I : Instance) (slots : List Slot) (id : ℕ) (n : Node) : Type 0 where
   pub known : id < length slots
-  pub same : tree_node n ≡ (slice_index_or slots id no_slot).node
+  pub same : n ≡ (slice_index_or slots id no_slot).node
   pub node : IsNodeOf I n
 
 -- a hand has the node of its slot, and the bounds in it are those of the node's children

@@ -1,6 +1,5 @@
 pub mod Case
 pub mod Stored
-pub mod Nodes
 pub mod Replies
 pub mod Telling
 pub mod Hands

@@ -1,9 +1,8 @@
 -- The way from the root to a slot, and how each slot's node comes from its parent's.
 use Rattle.std.specs.Prelude.{ℕ, ◌≡◌, ◌-◌, ◌≤◌, ◌<◌, List, length, slice_index_or, vec_capacity}
 use Rattle.lock_model.specs.declared.instance.Instance.{Instance}
-use Rattle.master_branch.specs.Node.{root}
+use Rattle.lock_rules.specs.Node.{root as tree_root}
 use Rattle.book_rules.specs.Book.{Slot}
-use Rattle.book_rules.specs.Book.{root as tree_root}
 use Rattle.book_rules.specs.Family.{child_node, child_count}
 use Rattle.book_core.specs.declared.path.Path.{Path}
 use Rattle.book_core.specs.declared.path.PathNode.{PathNode}
@@ -12,7 +11,7 @@ use Rattle.book_core.specs.Hands.{IsNodeIn}
 
 -- the root with its node
 abbrev pub root_entry : PathNode
-root_entry = record { id = 0; node = root }
+root_entry = record { id = 0; node = tree_root }
 
 abbrev pub entry_at : List PathNode → ℕ → PathNode
 entry_at nodes k = slice_index_or nodes k root_entry

@@ -18,7 +18,7 @@ use Rattle.book_core.specs.declared.reply.Reply.TheVariants as reply
 
 -- the machine's reply; none for want of memory
 abbrev pub told : Reply → Option (machine.Reply BrokenPlan)
-told (reply.Node id node) = Some (machine.Node id (record { depth = node.depth; lines = node.lines }))
+told (reply.Node id node) = Some (machine.Node id node)
 told (reply.Made count) = Some (machine.Made count)
 told reply.Closed = Some machine.Closed
 told (reply.Posted number) = Some (machine.Posted number)

@@ -1,7 +1,8 @@
 -- The slots of a book, from what is stored of them.
 use Rattle.std.specs.Prelude.{◌≡◌, List, [], ◌∷◌, ◌++◌, slice_index_or}
 use Rattle.lock_model.specs.declared.instance.Instance.{Instance}
-use Rattle.book_rules.specs.Book.{Node, Slot, root}
+use Rattle.book_rules.specs.Book.{Slot}
+use Rattle.lock_rules.specs.Node.{Node, root}
 use Rattle.book_rules.specs.Family.{child_node}
 use Rattle.book_core.specs.declared.stored_slot.StoredSlot.{StoredSlot}
 

@@ -4,7 +4,6 @@ use Rattle.price_bound.specs.Claim.{Claim}
 use Rattle.price_bound.specs.declared.cut.ChamberCut.{ChamberCut}
 use Rattle.refute_rules.specs.Cuts.{Cut}
 use Rattle.book_rules.specs.Shown.{Shown, ChamberCut as ToldCut}
-use Rattle.book_core.specs.Nodes.{tree_node}
 
 -- a cut without its deck and its refutation
 abbrev pub bare_cut : Cut → ChamberCut
@@ -16,7 +15,7 @@ told_cut cut = record { chamber = cut.chamber; ships = cut.ships }
 abbrev pub told_shown : Claim → Shown
 told_shown claim = record {
   instance = claim.instance;
-  node = tree_node claim.node;
+  node = claim.node;
   prices = claim.prices;
   cuts = map told_cut claim.cuts;
   cost = claim.cost;

@@ -6,7 +6,6 @@ ghost use Rattle.master_branch.specs.Node.{IsNodeOf};
 ghost use Rattle.book_rules.specs.Book.{slot_at, is_held};
 ghost use Rattle.book_rules.specs.Step.{is_missing, probe_at};
 ghost use Rattle.book_core.specs.Hands.{IsNextShip};
-ghost use Rattle.book_core.specs.Nodes.{tree_node};
 
 use crate::book::Book;
 use crate::hand::least_in;
@@ -38,7 +37,7 @@ impl Book {
     // The probe of a slot's node, which is given, and any ship; None exactly where the node doesn't
     // lack the ship.
     fn probe_in(&self, id: u32, node: &Node, ship: u8) -> Option<u64>
-        requires value { tree_node node.now ≡ (slot_at self.now id).node }
+        requires value { node.now ≡ (slot_at self.now id).node }
         requires node { IsNodeOf self.now.case.instance node.now }
         ensures some { IfSome result (λ least. (is_missing self.now id ship ≡ true) × (least ≡ probe_at self.now id ship)) }
         ensures none { IfNone result (is_missing self.now id ship ≡ false) }

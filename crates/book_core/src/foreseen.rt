@@ -6,7 +6,6 @@ ghost use Rattle.lock_rules.specs.Bound.{least_number, probe_of};
 ghost use Rattle.master_branch.specs.Node.{IsNodeOf};
 ghost use Rattle.book_rules.specs.Book.{slot_at};
 ghost use Rattle.book_core.specs.Hands.{bounds_below, bounds_at};
-ghost use Rattle.book_core.specs.Nodes.{tree_node};
 
 use crate::book::Book;
 use crate::hands::lay_bounds;
@@ -95,7 +94,7 @@ impl Book {
     /// (`node_in_hand`). The book is the same. Takes no memory.
     pub fn lay(&mut self, id: u32, foreseen: &Foreseen<'_>)
         requires instance { foreseen.now.instance.now ≡ self.old.case.instance }
-        requires node { tree_node foreseen.now.node ≡ (slot_at self.old id).node }
+        requires node { foreseen.now.node ≡ (slot_at self.old id).node }
         ensures { self.new ≡ self.old }
     {
         self.keep_bounds(id, foreseen.bounds.copy());

@@ -3,7 +3,6 @@ ghost use Rattle.std.specs.Prelude.{◌≡◌, ◌<◌, ◌↔◌, length, All, 
 ghost use Rattle.lock_rules.specs.Cut.{HitsNode};
 ghost use Rattle.master_branch.specs.Node.{IsNodeOf};
 ghost use Rattle.book_rules.specs.Book.{slot_at};
-ghost use Rattle.book_core.specs.Nodes.{tree_node};
 ghost use Rattle.book_rules.specs.Step.{hits_in};
 ghost use Rattle.book_core.specs.Hitting.{HitsLine};
 
@@ -42,7 +41,7 @@ pub(crate) fn hits_node(instance: &Instance, cut: &Cut, node: &Node) -> bool
 impl Book {
     // Whether the cut of this number hits a group of a slot's node, which is given.
     fn hits_in(&self, id: u32, node: &Node, number: u64) -> bool
-        requires value { tree_node node.now ≡ (slot_at self.now id).node }
+        requires value { node.now ≡ (slot_at self.now id).node }
         requires node { IsNodeOf self.now.case.instance node.now }
         ensures { result ≡ hits_in self.now id (slice_get self.now.cuts number) }
     {

@@ -4,7 +4,6 @@ ghost use Rattle.lock_rules.specs.Arrival.{next_ship};
 ghost use Rattle.book_rules.specs.Book.{slot_at, is_held};
 ghost use Rattle.master_branch.specs.Node.{IsNodeOf};
 ghost use Rattle.book_core.specs.Hands.{IsHandOf, IsNodeIn};
-ghost use Rattle.book_core.specs.Nodes.{tree_node};
 
 use crate::book::Book;
 use crate::hand::Hand;
@@ -31,7 +30,7 @@ impl Book {
     // The node of a slot that a worker holds.
     pub(crate) fn held_node(&self, id: u32) -> &Node
         requires { is_held (slot_at self.now id).state ≡ true }
-        ensures value { tree_node result.now ≡ (slot_at self.now id).node }
+        ensures value { result.now ≡ (slot_at self.now id).node }
         ensures node { IsNodeOf self.now.case.instance result.now }
     {
         match self.hand_of(id) {
@@ -64,7 +63,7 @@ impl Book {
     // The node of a slot, made step by step from the root's: for slots that no worker holds.
     pub(crate) fn node_of(&self, id: u32) -> Node
         requires { id < length self.now.slots }
-        ensures value { tree_node result ≡ (slot_at self.now id).node }
+        ensures value { result ≡ (slot_at self.now id).node }
         ensures node { IsNodeOf self.now.case.instance result }
     {
         let case = &self.case;

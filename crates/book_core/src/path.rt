@@ -1,7 +1,8 @@
 //! The way from the root to a slot, with the nodes on it.
 ghost use Rattle.std.specs.Prelude.{◌≡◌, ◌+◌, ◌<◌, ◌≤◌, ◌∷◌, [], length, vec_capacity, IfOk};
 ghost use Rattle.std.specs.Bool.{OnTrue};
-ghost use Rattle.master_branch.specs.Node.{IsNodeOf, root as tree_root};
+ghost use Rattle.master_branch.specs.Node.{IsNodeOf};
+ghost use Rattle.lock_rules.specs.Node.{root as tree_root};
 ghost use Rattle.flow_bounds.specs.Roster.{IsRosterOf};
 ghost use Rattle.book_core.specs.Changes.{slot_in};
 ghost use Rattle.book_core.specs.Hands.{IsNodeIn};

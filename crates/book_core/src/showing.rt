@@ -7,7 +7,6 @@ ghost use Rattle.book_rules.specs.Events.{close_price};
 ghost use Rattle.book_rules.specs.Same.{same_node};
 ghost use Rattle.book_rules.specs.Shown.{are_first_cuts};
 ghost use Rattle.book_rules.specs.Step.{may_close, is_shown};
-ghost use Rattle.book_core.specs.Nodes.{tree_node};
 ghost use Rattle.book_core.specs.Keeps.{IsSound};
 ghost use Rattle.book_core.specs.Replies.{Answers};
 ghost use Rattle.book_core.specs.Telling.{told_cut, told_shown};
@@ -45,7 +44,7 @@ impl Book {
     // Whether this is the node of a held or parked slot.
     fn has_node(&self, id: u32, node: &Node) -> bool
         requires { may_close self.now id ≡ true }
-        ensures { result ≡ same_node (tree_node node.now) (slot_at self.now id).node }
+        ensures { result ≡ same_node node.now (slot_at self.now id).node }
     {
         match self.hand_of(id) {
             Some(hand) => node.equals(&hand.node),

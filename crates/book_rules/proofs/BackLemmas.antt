@@ -6,7 +6,8 @@ use Rattle.lock_model.specs.declared.plan.Plan.{Plan}
 use Rattle.lock_rules.specs.Plan.{cost_of}
 use Rattle.lock_rules.specs.Children.{children_of}
 use Rattle.book_rules.specs.declared.book.SlotState.TheVariants as slot
-use Rattle.book_rules.specs.Book.{Case, Book, slot_at, best_cost, bound_at, root, opening_book, is_back}
+use Rattle.book_rules.specs.Book.{Case, Book, slot_at, best_cost, bound_at, opening_book, is_back}
+use Rattle.lock_rules.specs.Node.{root}
 use Rattle.book_rules.specs.Events.{Event, IsOwed}
 use Rattle.book_rules.specs.Step
 use Rattle.book_rules.specs.Room.{count_false}

@@ -15,7 +15,8 @@ use Rattle.refute_rules.specs.declared.refutation.Refutation.TheVariants as refu
 use Rattle.refute_rules.specs.declared.refutation.Quick.TheVariants as quick
 use Rattle.book_rules.specs.declared.book.SlotState.TheVariants as slot
 use Rattle.book_rules.specs.declared.book.Entry.TheVariants as entry
-use Rattle.book_rules.specs.Book.{Book, Node as TreeNode, root, slot_at, opening_book}
+use Rattle.book_rules.specs.Book.{Book, slot_at, opening_book}
+use Rattle.lock_rules.specs.Node.{Node as TreeNode, root}
 use Rattle.book_rules.specs.Verdict.{verdict_of}
 use Rattle.book_rules.specs.Events.{Event, take, split, close, park, release}
 use Rattle.book_rules.specs.Events.{Reply, Node, Made, Closed, Parked, Released, Ended, Holds, Idle, Done, NotHeld, Cheaper, NoHit, OtherDeck, Absent}

@@ -13,7 +13,7 @@ use Rattle.lock_model.specs.declared.instance.Instance.{Instance}
 use Rattle.lock_model.specs.declared.group.Group.{Group}
 use Rattle.lock_model.specs.declared.plan.Plan.{Plan}
 use Rattle.lock_rules.specs.Plan.{IsLegal, IsCheapest, cost_of}
-use Rattle.lock_rules.specs.Node.{IsNode}
+use Rattle.lock_rules.specs.Node.{Node as TreeNode, root, IsNode}
 use Rattle.lock_rules.specs.Trace.{IsUnder}
 use Rattle.lock_rules.specs.Children.{children_of}
 use Rattle.lock_rules.specs.Cut.{HitsNode}
@@ -26,7 +26,7 @@ use Rattle.book_rules.specs.declared.book.SlotState.TheVariants as slot
 use Rattle.book_rules.specs.declared.book.Entry.{Entry}
 use Rattle.book_rules.specs.declared.book.Entry.TheVariants as entry
 use Rattle.book_rules.specs.Tests.{has_clash, is_own_cut}
-use Rattle.book_rules.specs.Book.{Case, Slot, Book, Node as TreeNode, root, no_slot, slot_at, best_cost, bound_at, new_slot, opening_book, is_fresh, is_back, is_held, is_held_by, is_parked, is_live, first_slot, group_at}
+use Rattle.book_rules.specs.Book.{Case, Slot, Book, no_slot, slot_at, best_cost, bound_at, new_slot, opening_book, is_fresh, is_back, is_held, is_held_by, is_parked, is_live, first_slot, group_at}
 use Rattle.book_rules.specs.Events.{Event, Reply, IsOwed, take, split, close, post, post_prices, close_price, park, replace, release}
 use Rattle.book_rules.specs.Events.{Replaced, Ended, NodesSpent, NotHeld, Whole, OtherDeck, OtherPrices, NotCheaper, Clashes}
 use Rattle.book_rules.specs.NextSlot

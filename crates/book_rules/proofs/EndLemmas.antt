@@ -11,7 +11,7 @@ use Rattle.lock_model.specs.declared.verdict.Verdict.TheVariants as verdict
 use Rattle.lock_rules.specs.Plan.{IsLegal, cost_of}
 use Rattle.lock_rules.specs.Node.{root_lines, line_at}
 use Rattle.lock_rules.specs.Bound.{least_number}
-use Rattle.lock_rules.specs.Among.{IsAmong}
+use Rattle.list_laws.specs.Among.{IsAmong}
 use Rattle.book_rules.specs.declared.book.SlotState.{SlotState}
 use Rattle.book_rules.specs.declared.book.SlotState.TheVariants as slot
 use Rattle.book_rules.specs.Book.{Slot, Book, no_slot, no_group, slot_at, best_cost, ships_at, is_fresh, is_back, is_held, is_parked, is_live, has_slot, first_slot}

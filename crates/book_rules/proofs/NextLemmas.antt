@@ -6,7 +6,7 @@ use Rattle.std.specs.declared.option.Option.{Option}
 use Rattle.std.specs.List.{position_or_len}
 use Rattle.std.proofs.lemmas.Bool.Decides.{leb_tells, eqb_tells}
 use Rattle.lock_model.specs.Ships.{RisesFrom}
-use Rattle.lock_rules.specs.Among.{IsAmong}
+use Rattle.list_laws.specs.Among.{IsAmong}
 use Rattle.lock_rules.proofs.TreeLemmas.{RisesFrom-less, RisesFrom-filter}
 use Rattle.lock_rules.proofs.BoundLemmas.{IsAmong-filter}
 use Rattle.lock_rules.proofs.AmongLemmas.{among-filter, rises-past}

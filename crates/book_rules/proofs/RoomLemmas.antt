@@ -9,7 +9,8 @@ use Rattle.book_rules.specs.declared.book.Entry.{Entry}
 use Rattle.book_rules.specs.declared.book.Entry.TheVariants as entry
 use Rattle.book_rules.specs.declared.book.SlotState.{SlotState}
 use Rattle.book_rules.specs.declared.book.SlotState.TheVariants as slot
-use Rattle.book_rules.specs.Book.{Case, Slot, Book, slot_at, best_cost, bound_at, root, opening_book, is_back, is_held, is_parked}
+use Rattle.book_rules.specs.Book.{Case, Slot, Book, slot_at, best_cost, bound_at, opening_book, is_back, is_held, is_parked}
+use Rattle.lock_rules.specs.Node.{root}
 use Rattle.book_rules.specs.Events.{Event, Reply, IsOwed, is_acceptance, post, post_prices, replace}
 use Rattle.book_rules.specs.Step
 use Rattle.book_rules.specs.Room.{count_slots, count_false, room_of}

@@ -14,8 +14,9 @@ use Rattle.lock_model.specs.declared.chamber.Chamber.{Chamber}
 use Rattle.lock_model.specs.declared.ship.Ship.{Ship}
 use Rattle.lock_model.specs.declared.instance.Instance.{Instance}
 use Rattle.lock_model.specs.declared.group.Group.{Group}
-use Rattle.book_rules.specs.Book.{Node}
-use Rattle.book_rules.specs.Same.{same_way, same_stand, same_closure, same_chamber, same_ship, same_instance, same_group, same_node}
+use Rattle.lock_rules.specs.Node.{Node}
+use Rattle.lock_rules.specs.Children.{same_way}
+use Rattle.book_rules.specs.Same.{same_stand, same_closure, same_chamber, same_ship, same_instance, same_group, same_node}
 
 same_way-decides : (a b : Way) → Decides (same_way a b) (a ≡ b)
 same_way-decides Up Up = (λ e. refl, λ e. refl)

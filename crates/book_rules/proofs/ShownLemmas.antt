@@ -10,7 +10,8 @@ use Rattle.price_rules.specs.Prices.{Reaches}
 use Rattle.price_rules.proofs.ReachLemmas.{reached-stays}
 use Rattle.refute_rules.specs.Cuts.{Cut}
 use Rattle.closing_rules.specs.ListedPrices.{cut_in, IsPricedBy}
-use Rattle.book_rules.specs.Book.{Book, Node, slot_at, best_cost}
+use Rattle.book_rules.specs.Book.{Book, slot_at, best_cost}
+use Rattle.lock_rules.specs.Node.{Node}
 use Rattle.book_rules.specs.Same.{same_instance, same_node}
 use Rattle.book_rules.specs.Shown.{ChamberCut, Shown, shown_cuts, IsShown, chamber_cut, are_first_cuts}
 use Rattle.book_rules.specs.States.{cuts_in}

@@ -9,7 +9,8 @@ use Rattle.book_rules.specs.declared.book.Entry.{Entry}
 use Rattle.book_rules.specs.declared.book.Entry.TheVariants as entry
 use Rattle.book_rules.specs.declared.book.SlotState.{SlotState}
 use Rattle.book_rules.specs.declared.book.SlotState.TheVariants as slot
-use Rattle.book_rules.specs.Book.{Case, Slot, Book, no_slot, best_cost, bound_at, root, new_slot, opening_book, is_held}
+use Rattle.book_rules.specs.Book.{Case, Slot, Book, no_slot, best_cost, bound_at, new_slot, opening_book, is_held}
+use Rattle.lock_rules.specs.Node.{root}
 use Rattle.book_rules.specs.Events.{Event, IsOwed}
 use Rattle.book_rules.specs.Step
 use Rattle.book_rules.specs.Workers.{KeepsWorkers}

@@ -7,7 +7,7 @@ use Rattle.lock_model.specs.declared.group.Group.{Group}
 use Rattle.lock_model.specs.declared.way.Way.TheVariants.{Up}
 use Rattle.lock_model.specs.declared.plan.Plan.{Plan}
 use Rattle.lock_rules.specs.Plan.{cost_of}
-use Rattle.lock_rules.specs.Node.{root_lines, line_at}
+use Rattle.lock_rules.specs.Node.{Node, root, line_at}
 use Rattle.lock_rules.specs.Bound.{bound_of}
 use Rattle.refute_rules.specs.Cuts.{Cut}
 use Rattle.book_rules.specs.declared.book.SlotState.{SlotState}
@@ -20,11 +20,6 @@ pub record Case : Type 0 where
   pub instance : Instance
   pub nodes : ℕ
   pub turns : ℕ
-
--- a node of the tree: how many ships it holds, and its lists of groups
-pub record Node : Type 0 where
-  pub depth : ℕ
-  pub lines : List (List Group)
 
 -- A slot holds a node, the child of this number of the node of its parent; the root's are 0.
 pub record Slot : Type 0 where
@@ -46,9 +41,6 @@ pub record Book : Type 0 where
   pub used : ℕ
   pub ended : List Bool
   pub history : List Entry
-
-abbrev pub root : Node
-root = record { depth = 0; lines = root_lines }
 
 abbrev pub no_slot : Slot
 no_slot = record { parent = 0; number = 0; node = root; bound = 0; state = slot.Closed by.Bound }

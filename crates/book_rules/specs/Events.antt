@@ -6,7 +6,7 @@ use Rattle.refute_rules.specs.Spots.{IsSpent}
 use Rattle.refute_rules.specs.Cuts.{Cut, IsCut}
 use Rattle.closing_rules.specs.declared.grounds.Ground.{Ground}
 use Rattle.closing_rules.specs.ListedPrices.{ArePrices}
-use Rattle.book_rules.specs.Book.{Node as TreeNode}
+use Rattle.lock_rules.specs.Node.{Node as TreeNode}
 use Rattle.book_rules.specs.Shown.{Shown, IsShown}
 
 -- The events; `park` names slot, chamber and place, and carries the deck and the turns of the lent value; `close_price` names slot and prices, and carries what was shown.

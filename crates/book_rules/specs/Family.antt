@@ -1,9 +1,9 @@
 -- How the slots of a book make a tree.
 use Rattle.std.specs.Prelude.{ℕ, suc, ◌≡◌, ◌+◌, ◌<◌, length, slice_index_or}
 use Rattle.lock_model.specs.declared.instance.Instance.{Instance}
-use Rattle.lock_rules.specs.Node.{root_lines}
+use Rattle.lock_rules.specs.Node.{Node, root, root_lines}
 use Rattle.lock_rules.specs.Children.{children_of}
-use Rattle.book_rules.specs.Book.{Node, Book, root, slot_at}
+use Rattle.book_rules.specs.Book.{Book, slot_at}
 use Rattle.book_rules.specs.declared.book.SlotState.TheVariants as slot
 
 -- how many children a node has

@@ -1,8 +1,6 @@
 -- Whether two instances are the same, and two nodes.
 use Rattle.std.specs.Prelude.{Bool, true, false, ◌&&◌, nat_eq}
 use Rattle.std.specs.Cmp.Lexicographic.{pointwise}
-use Rattle.lock_model.specs.declared.way.Way.{Way}
-use Rattle.lock_model.specs.declared.way.Way.TheVariants.{Up, Down}
 use Rattle.lock_model.specs.declared.way.Stand.{Stand}
 use Rattle.lock_model.specs.declared.way.Stand.TheVariants.{Low, High}
 use Rattle.lock_model.specs.declared.closure.Closure.{Closure}
@@ -10,13 +8,8 @@ use Rattle.lock_model.specs.declared.chamber.Chamber.{Chamber}
 use Rattle.lock_model.specs.declared.ship.Ship.{Ship}
 use Rattle.lock_model.specs.declared.instance.Instance.{Instance}
 use Rattle.lock_model.specs.declared.group.Group.{Group}
-use Rattle.book_rules.specs.Book.{Node}
-
-abbrev pub same_way : Way → Way → Bool
-same_way Up Up = true
-same_way Up Down = false
-same_way Down Up = false
-same_way Down Down = true
+use Rattle.lock_rules.specs.Node.{Node}
+use Rattle.lock_rules.specs.Children.{same_way}
 
 abbrev pub same_stand : Stand → Stand → Bool
 same_stand Low Low = true

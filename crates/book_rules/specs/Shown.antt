@@ -5,7 +5,7 @@ use Rattle.lock_model.specs.declared.instance.Instance.{Instance}
 use Rattle.price_rules.specs.Prices.{PlainCut, Reaches}
 use Rattle.refute_rules.specs.Cuts.{Cut}
 use Rattle.closing_rules.specs.ListedPrices.{cut_in}
-use Rattle.book_rules.specs.Book.{Node}
+use Rattle.lock_rules.specs.Node.{Node}
 
 -- a cut without its refutation: what it hits depends on its chamber and ships alone
 pub record ChamberCut : Type 0 where

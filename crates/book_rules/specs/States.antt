@@ -4,13 +4,13 @@ use Rattle.lock_model.specs.Fitting.{deck_of}
 use Rattle.lock_model.specs.Cargo.{HasNoClash}
 use Rattle.lock_model.specs.declared.instance.Instance.{Instance}
 use Rattle.lock_model.specs.declared.group.Group.{Group}
-use Rattle.lock_rules.specs.Node.{line_at}
+use Rattle.lock_rules.specs.Node.{Node, line_at}
 use Rattle.lock_rules.specs.Cut.{HitsNode}
 use Rattle.refute_rules.specs.Spots.{IsSpent}
 use Rattle.refute_rules.specs.Cuts.{Cut}
 use Rattle.book_rules.specs.declared.book.SlotState.{SlotState}
 use Rattle.book_rules.specs.declared.book.SlotState.TheVariants as slot
-use Rattle.book_rules.specs.Book.{Case, Node, Slot, Book, best_cost, ships_at}
+use Rattle.book_rules.specs.Book.{Case, Slot, Book, best_cost, ships_at}
 use Rattle.price_rules.specs.Prices.{PlainCut}
 use Rattle.closing_rules.specs.ListedPrices.{cut_in, IsPricedBy}
 use Rattle.closing_rules.specs.Grounds.{IsClosedBy}

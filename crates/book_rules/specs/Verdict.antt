@@ -4,7 +4,8 @@ use Rattle.std.specs.declared.option.Option.{Option}
 use Rattle.lock_model.specs.declared.verdict.Verdict.{Verdict}
 use Rattle.lock_rules.specs.Bound.{least_number}
 use Rattle.book_rules.specs.declared.book.SlotState.{SlotState}
-use Rattle.book_rules.specs.Book.{Node, Slot, Book, slot_at, is_fresh, is_back, is_held, is_parked, is_live, has_slot, first_slot, ships_at}
+use Rattle.book_rules.specs.Book.{Slot, Book, slot_at, is_fresh, is_back, is_held, is_parked, is_live, has_slot, first_slot, ships_at}
+use Rattle.lock_rules.specs.Node.{Node}
 use Rattle.lock_model.specs.declared.verdict.Verdict.TheVariants as verdict
 use Rattle.book_rules.specs.declared.book.SlotState.TheVariants as slot
 

@@ -8,7 +8,8 @@ use Rattle.certificate_rules.specs.declared.certificate.Mark.TheVariants as mark
 use Rattle.certificate_rules.specs.declared.certificate.Reason.{Reason}
 use Rattle.certificate_rules.specs.Certificates.{Closes, IsMarkTree}
 use Rattle.certificate_rules.specs.Failures.{FailInOrder, TreeFails, reason_of}
-use Rattle.master_branch.specs.Node.{Node, children, child_lines}
+use Rattle.master_branch.specs.Node.{children, child_lines}
+use Rattle.lock_rules.specs.Node.{Node}
 use Rattle.cert_check.specs.declared.closing.Claim.{Claim}
 
 -- what marks of a kind say of an instance's nodes: which one splits a node, which end one, and why another doesn't

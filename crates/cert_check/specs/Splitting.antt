@@ -2,7 +2,8 @@
 use Rattle.std.specs.Prelude.{◌≡◌, ◌+◌, ◌<◌, List, Bool, length, map, nat_le}
 use Rattle.lock_rules.specs.Arrival.{next_ship}
 use Rattle.lock_rules.specs.Bound.{bound_of}
-use Rattle.master_branch.specs.Node.{Node, IsNodeOf, children}
+use Rattle.master_branch.specs.Node.{IsNodeOf, children}
+use Rattle.lock_rules.specs.Node.{Node}
 use Rattle.master_branch.specs.Steps.{steps_by}
 use Rattle.cert_check.specs.declared.closing.Claim.{Claim}
 use Rattle.cert_check.specs.declared.splitting.SplitNode.{SplitNode}

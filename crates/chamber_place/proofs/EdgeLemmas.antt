@@ -16,10 +16,10 @@ use Rattle.diff_rules.specs.Differences.{IsSystem, IsPositiveCycle, no_edge}
 use Rattle.refute_rules.specs.Choices.{Decision as Told, decisions}
 use Rattle.refute_rules.specs.Edges.{x_var, y_var, edge, ship_edges, berth_edges, choice_edges, case_edges}
 use Rattle.refute_rules.specs.Cases.{vars_of}
-use Rattle.lock_rules.specs.Among.{IsAmong}
+use Rattle.list_laws.specs.Among.{IsAmong}
 use Rattle.refute_rules.proofs.Among.{IsAmong-left, IsAmong-flat_map, IsAmong-numbers, all-flat_map, all-weaker, all-numbers}
 use Rattle.lock_rules.proofs.TreeLemmas.{contains-among}
-use Rattle.chamber_place.specs.Picks.{choice_of, choices_of, IsKnownMoor, IsKnownPick}
+use Rattle.chamber_place.specs.Picks.{choice_of, choices_of, IsMoorOfOthers, IsKnownPick}
 use Rattle.chamber_place.specs.OnItsWay.{most_edges, AreChosen}
 use Rattle.chamber_place.specs.declared.picks.Pick.{Pick}
 use Rattle.chamber_place.specs.declared.picks.Pick.TheVariants.{Lies, Before, Below}
@@ -58,7 +58,7 @@ module _ (d : Deck) (limits : IsDeck d) where
   one-edge : (u v : ℕ) (w : ℤ) → u < vars_of d → v < vars_of d → u ≢ v → negsuc 999999 ≤ℤ w → w ≤ℤ pos 1000000 → Good (edge u v w)
   one-edge u v w a b n low high = record { from = a; to = b; low = low; high = high; differ = n }
 
-  berth-good : (i : ℕ) (r : Rank) (m : Moor) → i < length d.ships → IsKnownMoor d i m → AllByRecursion Good (berth_edges d i r m)
+  berth-good : (i : ℕ) (r : Rank) (m : Moor) → i < length d.ships → IsMoorOfOthers d i m → AllByRecursion Good (berth_edges d i r m)
   berth-good i Left Quay h k = (one-edge (y_var i) 0 (pos 0) (omega (arith, h)) (omega (arith, h)) (λ e. omega (arith, e)) (omega (arith, ints)) (omega (arith, ints)), tt)
   berth-good i Right Quay h k =
       let wide = (limits.sizes i no_size h).wide in

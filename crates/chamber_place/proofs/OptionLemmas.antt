@@ -9,7 +9,7 @@ use Rattle.refute_rules.specs.Choices.{BerthOf, PairOf, Lies as LiesAt, Before a
 use Rattle.case_search.specs.Berths.{first_berth}
 use Rattle.case_search.proofs.BerthLemmas.{berths-length, quay-at, host-at}
 use Rattle.case_search.proofs.ListLemmas.{append-assoc}
-use Rattle.chamber_place.specs.Picks.{IsKnownMoor, decision_of}
+use Rattle.chamber_place.specs.Picks.{IsMoorOfOthers, decision_of}
 use Rattle.chamber_place.specs.declared.decisions.Decision.{Decision}
 
 -- ---- how many decisions there are
@@ -72,10 +72,10 @@ berth-options d i h = length-map (berths_of (length d.ships) i) (LiesAt i) ∙ b
 pub berth-choice : (d : Deck) (i option : ℕ) → i < length d.ships → option < 2 * length d.ships → slice_index_or (options_of d (BerthOf i)) option (IsBefore 0 0) ≡ LiesAt i (slice_index_or (berths_of (length d.ships) i) option first_berth)
 berth-choice d i option h l = let n = berths-length (length d.ships) i h in get_or-map (LiesAt i) (berths_of (length d.ships) i) option first_berth (IsBefore 0 0) (omega (arith, n, l))
 
-pub moor-known : (d : Deck) (i option : ℕ) → i < length d.ships → option < 2 * length d.ships → IsKnownMoor d i (slice_index_or (berths_of (length d.ships) i) option first_berth).moor
+pub moor-known : (d : Deck) (i option : ℕ) → i < length d.ships → option < 2 * length d.ships → IsMoorOfOthers d i (slice_index_or (berths_of (length d.ships) i) option first_berth).moor
 moor-known d i option h l = elim (leb_tells 2 option) [
-  | inl y ↦ subst (λ b. IsKnownMoor d i b.moor) (sym (host-at (length d.ships) i option h y.1 l)) (other y.1)
-  | inr n ↦ subst (λ b. IsKnownMoor d i b.moor) (sym (quay-at (length d.ships) i option (let few = n.1 in omega (arith, few)))) tt
+  | inl y ↦ subst (λ b. IsMoorOfOthers d i b.moor) (sym (host-at (length d.ships) i option h y.1 l)) (other y.1)
+  | inr n ↦ subst (λ b. IsMoorOfOthers d i b.moor) (sym (quay-at (length d.ships) i option (let few = n.1 in omega (arith, few)))) tt
 ]
   where
     other : 2 ≤ option → (cond (nat_lt (option / 2 - 1) i) (option / 2 - 1) (option / 2 - 1 + 1) < length d.ships) × (cond (nat_lt (option / 2 - 1) i) (option / 2 - 1) (option / 2 - 1 + 1) ≢ i)

@@ -11,7 +11,7 @@ use Rattle.refute_rules.specs.Decided.{berth_in}
 use Rattle.refute_rules.specs.Listing.{IsFirstWithin, HasMore}
 use Rattle.refute_rules.specs.Cases.{IsConsistent, IsWhole, IsHard, IsCaseFault, case_fault_numbers, AreSpotsOf, cases_of}
 use Rattle.refute_rules.specs.Trees.{IsCaseTree}
-use Rattle.lock_rules.specs.Among.{IsAmong}
+use Rattle.list_laws.specs.Among.{IsAmong}
 use Rattle.refute_rules.proofs.Among.{IsAmong-left, IsAmong-right}
 use Rattle.refute_rules.proofs.FitLemmas.{case-legal, whole-chosen, decided}
 use Rattle.case_search.specs.Found.{IsRefutedBy as FoundRefuted}

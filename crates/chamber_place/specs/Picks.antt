@@ -23,12 +23,12 @@ decision_of (Berthing i) = BerthOf i
 decision_of (Pair i j) = PairOf i j
 
 -- the ships are those of the deck, and no ship is named twice
-abbrev pub IsKnownMoor : Deck → ℕ → Moor → Type 0
-IsKnownMoor d i Quay = Unit {0}
-IsKnownMoor d i (Ship k) = (k < length d.ships) × (k ≢ i)
+abbrev pub IsMoorOfOthers : Deck → ℕ → Moor → Type 0
+IsMoorOfOthers d i Quay = Unit {0}
+IsMoorOfOthers d i (Ship k) = (k < length d.ships) × (k ≢ i)
 
 abbrev pub IsKnownPick : Deck → Pick → Type 0
-IsKnownPick d (Lies i b) = (i < length d.ships) × IsKnownMoor d i b.moor
+IsKnownPick d (Lies i b) = (i < length d.ships) × IsMoorOfOthers d i b.moor
 IsKnownPick d (Before i j) = (i < length d.ships) × (j < length d.ships) × (i ≢ j)
 IsKnownPick d (Below i j) = (i < length d.ships) × (j < length d.ships) × (i ≢ j)
 

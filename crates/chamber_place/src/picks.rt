@@ -2,7 +2,7 @@
 ghost use Rattle.std.specs.Prelude.{◌≡◌, ◌+◌, ◌≤◌, ◌++◌, ◌<◌, ◌-ℤ◌, [], ◌∷◌, length};
 ghost use Rattle.lock_model.specs.declared.placement.Moor.TheVariants.{Quay, Ship};
 ghost use Rattle.refute_rules.specs.Edges.{choice_edges, berth_edges};
-ghost use Rattle.chamber_place.specs.Picks.{choice_of, IsKnownMoor, IsKnownPick};
+ghost use Rattle.chamber_place.specs.Picks.{choice_of, IsMoorOfOthers, IsKnownPick};
 
 use crate::names::{across, along, longer, room_across, x_var, y_var};
 use case_search::Berth;
@@ -133,7 +133,7 @@ fn add_berth(deck: &Deck, ship: u8, berth: Berth, edges: &mut Edges)
     requires few { length deck.now.ships ≤ 8 }
     requires room { length edges.old ≤ 92 }
     requires ship { ship < length deck.now.ships }
-    requires host { IsKnownMoor deck.now ship berth.moor }
+    requires host { IsMoorOfOthers deck.now ship berth.moor }
     ensures { edges.new ≡ edges.old ++ berth_edges deck.now ship berth.rank berth.moor }
 {
     match berth.moor {

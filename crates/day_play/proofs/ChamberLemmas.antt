@@ -21,7 +21,7 @@ use Rattle.lock_model.specs.declared.way.Stand.TheVariants.{Low, High}
 use Rattle.lock_model.specs.declared.way.Way.{Way}
 use Rattle.lock_model.specs.declared.way.Way.TheVariants.{Up, Down}
 use Rattle.lock_rules.proofs.AmongLemmas.{among-numbers}
-use Rattle.lock_rules.specs.Lawful.{IsFree, HasTurned, IsLawfulStart, AreLawfulFrom, duration_of, stand_after}
+use Rattle.lock_rules.specs.Lawful.{IsFree, HasTurned, IsLawfulStart, AreLawfulFrom, duration_of, stand_after, stand_before}
 use Rattle.lock_rules.specs.Timetable.{first_free}
 use Rattle.lock_rules.specs.Lines.{lockage_at, group_of}
 use Rattle.lock_rules.specs.Plan.{IsLegalLockage}
@@ -29,9 +29,9 @@ use Rattle.lock_rules.proofs.FreeLemmas.{first_free-from, first_free-free}
 use Rattle.lock_rules.proofs.TimetableLemmas.{turned_at-least, closures_kept}
 use Rattle.chamber_times.specs.Walk.{lockages_at}
 use Rattle.day_play.specs.Order.{IsOrdered}
-use Rattle.lock_rules.specs.Among.{IsAmong}
+use Rattle.list_laws.specs.Among.{IsAmong}
 use Rattle.day_play.specs.State.{Moored, Idle, ChamberState, other_side, chamber_after}
-use Rattle.day_play.specs.Lawful.{IsOf, HasMoored, MayMoor, MayTurn, ship_of, side_before}
+use Rattle.day_play.specs.Lawful.{IsOf, HasMoored, MayMoor, MayTurn, ship_of}
 use Rattle.day_play.specs.Playing.{gap_to, quay_distance, moor_beats, moor_order, turn_beats, go_beat, done_beat, lockage_beats, line_beats}
 use Rattle.day_play.specs.declared.beat.Act.TheVariants.{Moor}
 use Rattle.day_play.specs.declared.beat.Beat.{Beat}
@@ -60,7 +60,7 @@ nearer : (d : Deck) (s : Size) (p : Spot) (t : Size) (q : Spot) (rank : Rank) (a
 nearer d s p t q Left across wide inside beside = omega (arith, beside, wide)
 nearer d s p t q Right across wide inside beside = omega (arith, beside, wide, inside)
 
-pub other_before : (way : Way) → other_side (side_before way) ≡ stand_after way
+pub other_before : (way : Way) → other_side (stand_before way) ≡ stand_after way
 other_before Up = refl
 other_before Down = refl
 
@@ -181,7 +181,7 @@ module _ (I : Instance) (P : Plan) (p : ℕ) (known : p < length P.lockages) (le
     }
 
     -- all ships are moored: the lockage begins and ends
-    goes-run : (s : ChamberState) (rest : List Beat) → s.going ≡ Idle → ((j : ℕ) → j < length l.ships → HasMoored s p l j) → s.side ≡ side_before l.way → s.free ≤ l.start
+    goes-run : (s : ChamberState) (rest : List Beat) → s.going ≡ Idle → ((j : ℕ) → j < length l.ships → HasMoored s p l j) → s.side ≡ stand_before l.way → s.free ≤ l.start
         → IsFree (chamber_at I l.chamber).closures l.start (l.start + duration_of I l.chamber l.ships)
         → RunsHere I P (record { side = stand_after l.way; free = l.start + duration_of I l.chamber l.ships; moored = []; going = Idle }) rest
         → RunsHere I P s (go_beat p l ∷ done_beat I p l ∷ rest)
@@ -195,7 +195,7 @@ module _ (I : Instance) (P : Plan) (p : ℕ) (known : p < length P.lockages) (le
 
     -- the turn, where one is needed
     turn-run : (stand : Stand) (from : ℕ) (way : Way) (rest : List Beat) → HasTurned (chamber_at I l.chamber) stand way from l.start → from ≤ l.start
-        → ((s : ChamberState) → s.moored ≡ [] → s.going ≡ Idle → s.side ≡ side_before way → s.free ≤ l.start → RunsHere I P s rest)
+        → ((s : ChamberState) → s.moored ≡ [] → s.going ≡ Idle → s.side ≡ stand_before way → s.free ≤ l.start → RunsHere I P s rest)
         → RunsHere I P (record { side = stand; free = from; moored = []; going = Idle }) (turn_beats I p l from stand way ++ rest)
     turn-run Low from Up rest turned later next = next (record { side = Low; free = from; moored = []; going = Idle }) refl refl refl later
     turn-run Low from Down rest turned later next = (

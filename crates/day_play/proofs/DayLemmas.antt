@@ -23,7 +23,7 @@ use Rattle.chamber_times.proofs.WalkLemmas.{lockages_at-line}
 use Rattle.lock_rules.proofs.TreeLemmas.{IsAmong-left, IsAmong-right}
 use Rattle.lock_rules.proofs.BoundLemmas.{IsAmong-numbers}
 use Rattle.day_play.specs.Order.{minute_of, IsOrdered}
-use Rattle.lock_rules.specs.Among.{IsAmong}
+use Rattle.list_laws.specs.Among.{IsAmong}
 use Rattle.day_play.specs.State.{opening, opening_chamber}
 use Rattle.day_play.specs.Lawful.{IsLawfulDay}
 use Rattle.day_play.specs.Playing.{moor_beats, moor_order, turn_beats, go_beat, done_beat, lockage_beats, line_beats, chamber_beats, beats_of, day_of}

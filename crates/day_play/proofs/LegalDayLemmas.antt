@@ -13,7 +13,7 @@ use Rattle.lock_rules.specs.Plan.{IsLegal, IsLegalLockage, IsTimely, times_in, s
 use Rattle.chamber_times.specs.Walk.{lockages_at, line_places}
 use Rattle.chamber_times.proofs.WalkLemmas.{lockages_at-line}
 use Rattle.day_play.specs.Rising.{AreRising}
-use Rattle.lock_rules.specs.Among.{IsAmong}
+use Rattle.list_laws.specs.Among.{IsAmong}
 use Rattle.day_play.specs.State.{opening, after_all}
 use Rattle.day_play.specs.Lawful.{IsLawfulDay, HasLawfulDay}
 use Rattle.day_play.specs.Playing.{day_of}

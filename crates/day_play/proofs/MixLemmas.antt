@@ -6,7 +6,7 @@ use Rattle.lock_model.specs.declared.instance.Instance.{Instance}
 use Rattle.lock_model.specs.declared.plan.Plan.{Plan}
 use Rattle.lock_rules.specs.Arrival.{numbers_from}
 use Rattle.day_play.specs.Order.{put_by, put_each, minute_of, IsOrdered}
-use Rattle.lock_rules.specs.Among.{IsAmong}
+use Rattle.list_laws.specs.Among.{IsAmong}
 use Rattle.day_play.specs.Playing.{chamber_beats, beats_of}
 use Rattle.day_play.specs.declared.beat.Beat.{Beat}
 use Rattle.day_play.proofs.OrderLemmas.{ordered-above, put_by-ordered, put_each-ordered, put_by-from, put_each-append}

@@ -7,7 +7,7 @@ use Rattle.lock_rules.specs.Lines.{lockage_at}
 use Rattle.lock_rules.specs.Plan.{times_in}
 use Rattle.lock_rules.proofs.TreeLemmas.{times_in-hit, times_in-miss}
 use Rattle.day_play.specs.Rising.{AreRising}
-use Rattle.lock_rules.specs.Among.{IsAmong}
+use Rattle.list_laws.specs.Among.{IsAmong}
 use Rattle.day_play.specs.State.{Under, State, chamber_after, state_after, after, after_all}
 use Rattle.day_play.specs.Lawful.{MayGo, MayDo, AreLawfulBeats}
 use Rattle.day_play.specs.declared.beat.Act.{Act}

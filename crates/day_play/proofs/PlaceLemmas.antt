@@ -24,7 +24,7 @@ use Rattle.lock_rules.proofs.LegalLemmas.{legal-chambers, legal-ships}
 use Rattle.chamber_times.specs.Walk.{lockages_at, line_places, insert_place, sorted_places}
 use Rattle.chamber_times.proofs.WalkLemmas.{lockages_at-line}
 use Rattle.day_play.specs.Order.{put_by, put_each, minute_of, IsOrdered}
-use Rattle.lock_rules.specs.Among.{IsAmong}
+use Rattle.list_laws.specs.Among.{IsAmong}
 use Rattle.day_play.specs.Lawful.{ship_of}
 use Rattle.day_play.specs.Playing.{quay_distance, moor_order, moor_beat, moor_beats, turn_beats, go_beat, done_beat, lockage_beats, line_beats, chamber_beats, beats_of}
 use Rattle.day_play.specs.declared.beat.Beat.{Beat}

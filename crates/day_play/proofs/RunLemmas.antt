@@ -6,7 +6,7 @@ use Rattle.lock_model.specs.declared.plan.Lockage.{Lockage}
 use Rattle.lock_model.specs.declared.plan.Plan.{Plan}
 use Rattle.lock_rules.proofs.AmongLemmas.{among-append}
 use Rattle.lock_rules.specs.Lines.{lockage_at}
-use Rattle.lock_rules.specs.Among.{IsAmong}
+use Rattle.list_laws.specs.Among.{IsAmong}
 use Rattle.lock_rules.proofs.TreeLemmas.{IsAmong-left, IsAmong-right}
 use Rattle.day_play.specs.State.{Moored, Going, Idle, Under, ChamberState, State, chamber_after, state_after, gone_after, served_after, after, after_all}
 use Rattle.day_play.specs.Lawful.{ship_of, IsStill, MayDo, MayEnter, AreLawfulBeats}

@@ -12,7 +12,7 @@ use Rattle.lock_rules.proofs.AmongLemmas.{among-append}
 use Rattle.lock_rules.specs.Lines.{lockage_at}
 use Rattle.lock_rules.proofs.TreeLemmas.{IsAmong-left, IsAmong-right}
 use Rattle.day_play.specs.Rising.{AreRising}
-use Rattle.lock_rules.specs.Among.{IsAmong}
+use Rattle.list_laws.specs.Among.{IsAmong}
 use Rattle.day_play.specs.State.{Moored, Going, Under, State}
 use Rattle.day_play.specs.Lawful.{ship_of, IsOf, MayMoor, MayGo, MayEnd, IsWaiting}
 use Rattle.day_play.proofs.ChamberLemmas.{apart-swap, together-swap}

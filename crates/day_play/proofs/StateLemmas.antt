@@ -4,7 +4,7 @@ use Rattle.lock_model.specs.Fleet.{chamber_at}
 use Rattle.lock_model.specs.declared.instance.Instance.{Instance}
 use Rattle.lock_model.specs.declared.plan.Plan.{Plan}
 use Rattle.day_play.specs.Rising.{AreRising}
-use Rattle.lock_rules.specs.Among.{IsAmong}
+use Rattle.list_laws.specs.Among.{IsAmong}
 use Rattle.day_play.specs.State.{Moored, Going, Under, State, chamber_after, state_after, opening, after, after_all}
 use Rattle.day_play.specs.Lawful.{MayDo, MayEnter, IsLawful, AreLawfulBeats}
 use Rattle.day_play.specs.declared.beat.Act.{Act}

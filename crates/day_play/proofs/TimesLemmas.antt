@@ -12,7 +12,7 @@ use Rattle.lock_rules.proofs.CountLemmas.{without, times_in-without}
 use Rattle.lock_rules.proofs.SplitLemmas.{RisesFrom-increasing}
 use Rattle.lock_rules.proofs.TreeLemmas.{times_in-hit, times_in-miss}
 use Rattle.day_play.specs.Order.{IsOrdered}
-use Rattle.lock_rules.specs.Among.{IsAmong}
+use Rattle.list_laws.specs.Among.{IsAmong}
 use Rattle.day_play.proofs.OrderLemmas.{ordered-above}
 
 pub times_in-own : (x : ℕ) (xs : List ℕ) → times_in (x ∷ xs) x ≡ 1 + times_in xs x

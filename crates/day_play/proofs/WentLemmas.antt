@@ -10,13 +10,13 @@ use Rattle.lock_model.specs.declared.way.Stand.{Stand}
 use Rattle.lock_model.specs.declared.way.Stand.TheVariants.{Low, High}
 use Rattle.lock_model.specs.declared.way.Way.{Way}
 use Rattle.lock_model.specs.declared.way.Way.TheVariants.{Up, Down}
-use Rattle.lock_rules.specs.Lawful.{IsFree, HasTurn, HasTurned, IsLawfulStart, AreLawfulFrom, duration_of, stand_after}
+use Rattle.lock_rules.specs.Lawful.{IsFree, HasTurn, HasTurned, IsLawfulStart, AreLawfulFrom, duration_of, stand_after, stand_before}
 use Rattle.lock_rules.specs.Lines.{lockage_at, group_of}
 use Rattle.chamber_times.specs.Walk.{lockages_at}
 use Rattle.day_play.specs.Rising.{AreRising}
-use Rattle.lock_rules.specs.Among.{IsAmong}
+use Rattle.list_laws.specs.Among.{IsAmong}
 use Rattle.day_play.specs.State.{Going, Idle, Under, ChamberState, State, other_side, chamber_after, state_after, after}
-use Rattle.day_play.specs.Lawful.{side_before, MayTurn, MayGo, MayEnd, MayDo, AreLawfulBeats}
+use Rattle.day_play.specs.Lawful.{MayTurn, MayGo, MayEnd, MayDo, AreLawfulBeats}
 use Rattle.day_play.specs.declared.beat.Act.{Act}
 use Rattle.day_play.specs.declared.beat.Act.TheVariants.{Turn, Moor, Go, Done}
 use Rattle.day_play.specs.declared.beat.Beat.{Beat}
@@ -43,7 +43,7 @@ IsLow Low = Unit {0}
 IsLow High = ⊥
 
 -- the chamber stands on the other side than before, and has had room for a turn, where the way needs one
-turned-by : (c : Chamber) (stand side : Stand) (way : Way) (from free start : ℕ) → side ≡ side_before way → (side ≡ stand) ⊎ HasTurn c from free → free ≤ start → HasTurned c stand way from start
+turned-by : (c : Chamber) (stand side : Stand) (way : Way) (from free start : ℕ) → side ≡ stand_before way → (side ≡ stand) ⊎ HasTurn c from free → free ≤ start → HasTurned c stand way from start
 turned-by c Low side Up from free start needed stood later = tt
 turned-by c High side Down from free start needed stood later = tt
 turned-by c Low side Down from free start needed (inl e) later = absurd (subst IsLow (sym e ∙ needed) tt)

@@ -9,14 +9,10 @@ use Rattle.lock_model.specs.declared.instance.Instance.{Instance}
 use Rattle.lock_model.specs.declared.placement.Moor.TheVariants.{Ship}
 use Rattle.lock_model.specs.declared.plan.Lockage.{Lockage}
 use Rattle.lock_model.specs.declared.plan.Plan.{Plan}
-use Rattle.lock_model.specs.declared.way.Stand.{Stand}
-use Rattle.lock_model.specs.declared.way.Stand.TheVariants.{Low, High}
-use Rattle.lock_model.specs.declared.way.Way.{Way}
-use Rattle.lock_model.specs.declared.way.Way.TheVariants.{Up, Down}
-use Rattle.lock_rules.specs.Lawful.{IsFree, duration_of}
+use Rattle.lock_rules.specs.Lawful.{IsFree, duration_of, stand_before}
 use Rattle.lock_rules.specs.Lines.{lockage_at}
 use Rattle.day_play.specs.Order.{IsOrdered, minute_of}
-use Rattle.lock_rules.specs.Among.{IsAmong}
+use Rattle.list_laws.specs.Among.{IsAmong}
 use Rattle.day_play.specs.State.{Moored, Idle, Under, ChamberState, State, opening, after, after_all}
 use Rattle.day_play.specs.declared.beat.Act.{Act}
 use Rattle.day_play.specs.declared.beat.Act.TheVariants.{Turn, Moor, Go, Done}
@@ -25,11 +21,6 @@ use Rattle.day_play.specs.declared.beat.Beat.{Beat}
 -- the ship at place k of the lockage's deck
 abbrev pub ship_of : Lockage → ℕ → ℕ
 ship_of l k = slice_index_or l.ships k 0
-
--- the side where a chamber has to stand for a lockage of this way
-abbrev pub side_before : Way → Stand
-side_before Up = Low
-side_before Down = High
 
 -- the ship at place k of lockage p's deck is moored for it
 abbrev pub HasMoored : ChamberState → ℕ → Lockage → ℕ → Type 0
@@ -90,7 +81,7 @@ module _ (I : Instance) (P : Plan) where
     pub some : 1 ≤ length (lockage_at P p).ships
     pub all : (k : ℕ) → k < length (lockage_at P p).ships → HasMoored s p (lockage_at P p) k
     pub later : s.free ≤ t
-    pub side : s.side ≡ side_before (lockage_at P p).way
+    pub side : s.side ≡ stand_before (lockage_at P p).way
     pub free : IsFree (chamber_at I c).closures t (t + duration_of I c (lockage_at P p).ships)
 
   -- lockage p is under way, and is over now

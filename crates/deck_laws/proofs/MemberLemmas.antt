@@ -5,7 +5,7 @@ use Rattle.lock_model.specs.Ships.{RisesFrom}
 use Rattle.lock_rules.specs.Arrival.{numbers_from}
 use Rattle.refute_rules.specs.Values.{put_number, rising_of}
 use Rattle.lock_rules.proofs.TreeLemmas.{RisesFrom-less}
-use Rattle.lock_rules.specs.Among.{IsAmong}
+use Rattle.list_laws.specs.Among.{IsAmong}
 use Rattle.lock_rules.proofs.AmongLemmas.{rises-past}
 use Rattle.deck_laws.proofs.ThinLemmas.{ltb_tells}
 

@@ -10,7 +10,7 @@ use Rattle.lock_rules.specs.Arrival.{numbers_from}
 use Rattle.refute_rules.specs.Reasons.{length_at}
 use Rattle.refute_rules.specs.Values.{others, is_kept, shifts_by, shifts_of, values_after, spot_values}
 use Rattle.lock_rules.proofs.TreeLemmas.{contains-among}
-use Rattle.lock_rules.specs.Among.{IsAmong}
+use Rattle.list_laws.specs.Among.{IsAmong}
 use Rattle.refute_rules.proofs.Among.{IsAmong-right, IsAmong-filter, IsAmong-flat_map, IsAmong-numbers, among-append, among-flat_map, among-numbers}
 use Rattle.lock_rules.proofs.AmongLemmas.{among-filter}
 use Rattle.refute_rules.proofs.CaseLemmas.{others-among}

@@ -6,7 +6,7 @@ use Rattle.lock_rules.specs.Bound.{least_number}
 use Rattle.lock_rules.specs.Arrival.{numbers_from}
 use Rattle.refute_rules.specs.Reasons.{length_at}
 use Rattle.refute_rules.specs.Values.{values_after}
-use Rattle.lock_rules.specs.Among.{IsAmong}
+use Rattle.list_laws.specs.Among.{IsAmong}
 
 -- the round that reaches t first
 abbrev pub round_at : List (Option ℕ) → ℕ → Option ℕ

@@ -5,8 +5,9 @@ use Rattle.diff_rules.specs.declared.edges.Edge.{Edge}
 use Rattle.diff_rules.specs.Differences.{value_at, edge_at, no_edge, LeadsTo, IsSimpleCycle, IsSystem}
 use Rattle.diff_system.specs.PathTree.{PathTree, parent_at, above, Rises, IsAbove, IsPathTree}
 use Rattle.diff_system.specs.Rounds.{Raises, IsDeep}
-use Rattle.diff_system.specs.Walks.{IsAmong, AreAhead, IsTail}
-use Rattle.diff_system.proofs.DistinctLemmas.{pairs-differ}
+use Rattle.list_laws.specs.Among.{IsAmong}
+use Rattle.diff_system.specs.Walks.{AreAhead, IsTail}
+use Rattle.list_laws.proofs.Distinct.{pairs-differ}
 use Rattle.diff_system.proofs.TreeLemmas.{rises-unique, depth-few}
 
 module _ (edges : List Edge) (parents : List ℕ) where

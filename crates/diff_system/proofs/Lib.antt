@@ -1,4 +1,3 @@
-pub mod DistinctLemmas
 pub mod TreeLemmas
 pub mod RaiseLemmas
 pub mod CycleLemmas

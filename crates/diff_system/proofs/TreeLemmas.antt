@@ -6,8 +6,8 @@ use Rattle.std.specs.List.{AllByRecursion}
 use Rattle.diff_rules.specs.declared.edges.Edge.{Edge}
 use Rattle.diff_rules.specs.Differences.{value_at, edge_at, no_edge, Obeys, IsSystem}
 use Rattle.diff_system.specs.PathTree.{PathTree, parent_at, above, Rises, depth_of, IsParent, IsPathTree, AreLongest}
-use Rattle.diff_system.specs.Walks.{IsAmong, AreDistinct}
-use Rattle.diff_system.proofs.DistinctLemmas.{few-distinct}
+use Rattle.list_laws.specs.Among.{IsAmong, AreDistinct}
+use Rattle.list_laws.proofs.Distinct.{few-distinct}
 
 module _ (edges : List Edge) (parents : List ℕ) where
   -- a variable has one depth

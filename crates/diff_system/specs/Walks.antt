@@ -1,17 +1,10 @@
 -- Walks that climb the tree.
 use Rattle.std.specs.Prelude.{ℕ, suc, ◌≡◌, ◌+◌, ◌≤◌, ◌+ℤ◌, ◌<ℤ◌, ◌⊎◌, List, [], ◌∷◌, length}
+use Rattle.list_laws.specs.Among.{AreDistinct}
 use Rattle.diff_rules.specs.declared.edges.Edge.{Edge}
 use Rattle.diff_rules.specs.Differences.{value_at, edge_at, LeadsTo, total_of}
 use Rattle.diff_system.specs.PathTree.{PathTree, Rises}
 use Rattle.diff_system.specs.Rounds.{IsDeep}
-
-abbrev pub IsAmong : List ℕ → ℕ → Type 0
-IsAmong [] x = ⊥
-IsAmong (y ∷ ys) x = (y ≡ x) ⊎ IsAmong ys x
-
-abbrev pub AreDistinct : List ℕ → Type 0
-AreDistinct [] = Unit {0}
-AreDistinct (x ∷ xs) = (IsAmong xs x → ⊥) × AreDistinct xs
 
 -- each edge ends at x, or deeper than so many parent edges
 abbrev pub AreAhead : List Edge → List ℕ → ℕ → ℕ → List ℕ → Type 0

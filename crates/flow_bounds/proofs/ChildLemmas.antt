@@ -12,7 +12,7 @@ use Rattle.lock_rules.specs.Arrival.{numbers_from, order_of, missing_ships, next
 use Rattle.lock_rules.specs.Node.{IsNode, line_at}
 use Rattle.lock_rules.specs.Children.{single, joined, added, children_at, children_by, children_of}
 use Rattle.lock_rules.specs.Bound.{node_flow, least_passage, least_number, bound_of, probe_of}
-use Rattle.lock_rules.specs.Among.{IsAmong}
+use Rattle.list_laws.specs.Among.{IsAmong}
 use Rattle.lock_rules.proofs.TreeLemmas.{IsAmong-map, IsAmong-right, IsAmong-added}
 use Rattle.lock_rules.proofs.BoundLemmas.{IsAmong-numbers}
 use Rattle.lock_rules.proofs.SplitLemmas.{IsAmong-flat_map, length-order, next-missing, missing-known}

@@ -5,7 +5,8 @@
 //! defect with its line and kind, exactly where they mean none.
 //!
 //! For other texts of lines and words, which `line_text` reads, `split_instance` and `after_instance`
-//! give what follows the instance, and `way_of` and `way_word` go from words to ways and back.
+//! give what follows the instance, and `way_of` and `way_word` go from words to ways and back, and `stand_word` says
+//! where a chamber stands.
 //!
 //! Definitions: `specs/Words` (numbers and names), `Chamber`, `Ship` and `Closing` (the words of a
 //! line), `Reading` (what a text means, its first defect, its instance part and what follows it),
@@ -30,6 +31,6 @@ mod side;
 pub use bad::{Bad, Kind};
 pub use lot::make_lot;
 pub use plain_text::NoMemory;
-pub use print::{print_instance, way_word};
+pub use print::{print_instance, stand_word, way_word};
 pub use read::{after_instance, read_instance, read_instance_part, split_instance};
 pub use side::way_of;

@@ -22,8 +22,8 @@ pub fn way_word(way: Way) -> &'static [u8]
     }
 }
 
-/// The word for the side where a chamber stands.
-fn stand_word(stand: Stand) -> &'static [u8]
+/// The word for the side where a chamber stands: `low` or `high`.
+pub fn stand_word(stand: Stand) -> &'static [u8]
     ensures { result.now ≡ stand_word stand }
 {
     match stand {

@@ -2,3 +2,4 @@ pub mod Lists
 pub mod ByRecursion
 pub mod Counts
 pub mod Variants
+pub mod Distinct

@@ -10,7 +10,7 @@ use Rattle.lock_rules.specs.Children.{children_of}
 use Rattle.lock_rules.specs.Unfit.{HasNoUnfit}
 use Rattle.lock_rules.specs.Singles.{singles_plan}
 use Rattle.lock_rules.specs.Search.{IsWholeUnder, IsLeastUnder, IsLeastBound, FitsAreDecided, whole_bound}
-use Rattle.lock_rules.specs.Among.{IsAmong}
+use Rattle.list_laws.specs.Among.{IsAmong}
 use Rattle.lock_rules.proofs.TreeLemmas.{contains-among}
 use Rattle.lock_rules.proofs.SinglesLemmas.{singles-legal}
 use Rattle.lock_rules.proofs.SearchLemmas.{plan-whole}

@@ -19,7 +19,7 @@ use Rattle.lock_rules.specs.Trace.{has_number, trace_of, IsUnder}
 use Rattle.lock_rules.specs.Leaf.{plan_of, AllFit}
 use Rattle.lock_rules.specs.Search.{LeadsToWhole, IsWholeNode, IsLeastBound, HasWholeNode, HasPlanAtBound, IsCheapestCost, whole_bound}
 use Rattle.lock_rules.proofs.LineLemmas.{All-line, line-chamber}
-use Rattle.lock_rules.specs.Among.{IsAmong}
+use Rattle.list_laws.specs.Among.{IsAmong}
 use Rattle.lock_rules.proofs.TreeLemmas.{contains-among}
 use Rattle.lock_rules.proofs.SplitLemmas.{children-split, bound-holds}
 use Rattle.lock_rules.proofs.NodeLemmas.{children-nodes, root-node, root-under}

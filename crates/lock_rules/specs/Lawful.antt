@@ -15,6 +15,11 @@ use Rattle.lock_model.specs.declared.way.Stand.TheVariants.{Low, High}
 abbrev pub duration_of : Instance → ℕ → List ℕ → ℕ
 duration_of I c ships = (chamber_at I c).pass + sum_by (λ s. (ship_at I s).handling) ships
 
+-- where the chamber stands before a lockage
+abbrev pub stand_before : Way → Stand
+stand_before Up = Low
+stand_before Down = High
+
 -- where a lockage leaves the chamber
 abbrev pub stand_after : Way → Stand
 stand_after Up = High

@@ -51,6 +51,14 @@ pub record IsNode (I : Instance) (k : ℕ) (lines : List (List Group)) : Type 0 
   pub groups : (c : ℕ) → c < length I.chambers → All (IsNodeGroup I c) (line_at lines c)
   pub past : (c : ℕ) → length I.chambers ≤ c → line_at lines c ≡ []
 
+-- a node: how many ships it holds, and its lists of groups
+pub record Node : Type 0 where
+  pub depth : ℕ
+  pub lines : List (List Group)
+
 -- the node of depth 0
 abbrev pub root_lines : List (List Group)
 root_lines = [] ∷ [] ∷ [] ∷ [] ∷ []
+
+abbrev pub root : Node
+root = record { depth = 0; lines = root_lines }

@@ -6,14 +6,14 @@ use Rattle.lock_model.specs.declared.instance.Instance.{Instance}
 use Rattle.lock_model.specs.declared.group.Group.{Group}
 use Rattle.lock_model.specs.declared.plan.Plan.{Plan}
 use Rattle.lock_rules.specs.Plan.{IsLegal}
-use Rattle.lock_rules.specs.Node.{line_at, IsNode, root_lines}
+use Rattle.lock_rules.specs.Node.{Node, line_at, IsNode, root_lines}
 use Rattle.lock_rules.specs.Trace.{IsUnder}
 use Rattle.lock_rules.specs.Size.{width_at, node_limit}
-use Rattle.lock_rules.specs.Among.{IsAmong}
+use Rattle.list_laws.specs.Among.{IsAmong}
 use Rattle.lock_rules.proofs.SplitLemmas.{children-split, under-one}
 use Rattle.lock_rules.proofs.ChildLemmas.{children-distinct}
 use Rattle.lock_rules.proofs.NodeLemmas.{children-nodes}
-use Rattle.master_branch.specs.Node.{Node, IsNodeOf, children, child_lines}
+use Rattle.master_branch.specs.Node.{IsNodeOf, children, child_lines}
 use Rattle.master_branch.specs.Split.{IsUnderOneChild}
 
 -- lines that agree in each chamber are equal

@@ -1,20 +1,11 @@
--- A node of the search tree as contracts see it.
+-- The nodes of an instance, and their children.
 use Rattle.std.specs.Prelude.{ℕ, List, slice_index_or}
 use Rattle.lock_model.specs.declared.instance.Instance.{Instance}
 use Rattle.lock_model.specs.declared.group.Group.{Group}
-use Rattle.lock_rules.specs.Node.{IsNode, root_lines}
+use Rattle.lock_rules.specs.Node.{Node, IsNode, root_lines}
 use Rattle.lock_rules.specs.Children.{children_of}
 
--- how many ships it holds, and its lists of groups
-pub record Node : Type 0 where
-  pub depth : ℕ
-  pub lines : List (List Group)
-
--- the node of depth 0
-abbrev pub root : Node
-root = record { depth = 0; lines = root_lines }
-
--- a node of the instance
+-- the node is one of the instance
 abbrev pub IsNodeOf : Instance → Node → Type 0
 IsNodeOf I node = IsNode I node.depth node.lines
 

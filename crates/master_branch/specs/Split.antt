@@ -3,7 +3,8 @@ use Rattle.std.specs.Prelude.{ℕ, suc, ◌≡◌, ◌<◌, length}
 use Rattle.lock_model.specs.declared.instance.Instance.{Instance}
 use Rattle.lock_model.specs.declared.plan.Plan.{Plan}
 use Rattle.lock_rules.specs.Trace.{IsUnder}
-use Rattle.master_branch.specs.Node.{Node, children, child_lines}
+use Rattle.master_branch.specs.Node.{children, child_lines}
+use Rattle.lock_rules.specs.Node.{Node}
 
 -- the plan lies under child i
 abbrev pub IsUnderChild : Instance → Node → Plan → ℕ → Type 0

@@ -1,9 +1,9 @@
 //! Nodes of the search tree.
 ghost use Rattle.std.specs.Prelude.{◌≡◌, ◌↔◌, ◌<◌, ◌≤◌, length, IsTrue};
 ghost use Rattle.lock_model.specs.declared.plan.Plan.{Plan as AnyPlan};
-ghost use Rattle.lock_rules.specs.Node.{KeepsNode, line_at};
+ghost use Rattle.lock_rules.specs.Node.{root, KeepsNode, line_at};
 ghost use Rattle.lock_rules.specs.Trace.{IsUnder};
-ghost use Rattle.master_branch.specs.Node.{IsNodeOf, root};
+ghost use Rattle.master_branch.specs.Node.{IsNodeOf};
 
 use crate::lines::Lines;
 use lock_model::{Group, Instance};
@@ -21,8 +21,7 @@ pub struct Node {
 const _: () = prove!(size_of::<Node>() == 264);
 
 impl Model for Node {
-    ghost use Rattle.lock_rules.specs.Node.{KeepsNode};
-    ghost use Rattle.master_branch.specs.Node.{Node as Held};
+    ghost use Rattle.lock_rules.specs.Node.{Node as Held, KeepsNode};
 
     ghost Value = { Held };
 

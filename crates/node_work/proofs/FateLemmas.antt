@@ -5,12 +5,11 @@ use Rattle.lock_model.specs.Fitting.{deck_of}
 use Rattle.lock_model.specs.Cargo.{HasNoClash}
 use Rattle.lock_model.specs.declared.instance.Instance.{Instance}
 use Rattle.lock_model.specs.declared.group.Group.{Group}
-use Rattle.lock_rules.specs.Node.{line_at, IsNode}
+use Rattle.lock_rules.specs.Node.{Node, line_at, IsNode}
 use Rattle.lock_rules.proofs.NodeLemmas.{line-known}
 use Rattle.refute_rules.specs.Cuts.{Cut}
 use Rattle.refute_rules.specs.Spots.{IsSpent}
 use Rattle.place_refute.specs.Tried.{Tried}
-use Rattle.master_branch.specs.Node.{Node}
 use Rattle.closing_rules.specs.declared.grounds.Ground.TheVariants as by
 use Rattle.node_work.specs.declared.fate.Fate.{Fate}
 use Rattle.node_work.specs.declared.fate.Fate.TheVariants as fate

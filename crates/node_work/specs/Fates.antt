@@ -4,13 +4,12 @@ use Rattle.lock_model.specs.Fitting.{deck_of}
 use Rattle.lock_model.specs.Cargo.{HasNoClash}
 use Rattle.lock_model.specs.declared.instance.Instance.{Instance}
 use Rattle.lock_model.specs.declared.group.Group.{Group}
-use Rattle.lock_rules.specs.Node.{line_at}
+use Rattle.lock_rules.specs.Node.{Node, line_at}
 use Rattle.lock_rules.specs.Cut.{HitsNode}
 use Rattle.refute_rules.specs.Spots.{IsSpent}
 use Rattle.refute_rules.specs.Cuts.{Cut, IsCut}
 use Rattle.place_refute.specs.Tried.{Tried}
 use Rattle.book_rules.specs.Cover.{IsOwnCut}
-use Rattle.master_branch.specs.Node.{Node}
 use Rattle.lock_model.specs.declared.plan.Plan.{Plan as AnyPlan}
 use Rattle.lock_rules.specs.Plan.{IsLegal, cost_of}
 use Rattle.lock_rules.specs.Bound.{bound_of}

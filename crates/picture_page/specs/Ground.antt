@@ -7,8 +7,7 @@ use Rattle.lock_model.specs.declared.closure.Closure.{Closure}
 use Rattle.lock_model.specs.declared.way.Stand.{Stand}
 use Rattle.lock_model.specs.declared.way.Stand.TheVariants.{Low, High}
 use Rattle.lock_model.specs.declared.way.Way.{Way}
-use Rattle.lock_model.specs.declared.way.Way.TheVariants.{Up, Down}
-use Rattle.lock_rules.specs.Lawful.{stand_after}
+use Rattle.lock_rules.specs.Lawful.{stand_after, stand_before}
 use Rattle.picture_page.specs.Forms.{filled}
 use Rattle.picture_page.specs.Times.{time_text}
 use Rattle.picture_page.specs.declared.times.Clock.{Clock}
@@ -46,11 +45,6 @@ turn_of axis long p = turn_ground axis long p.turn
 abbrev pub water_at : Stand → ℕ
 water_at Low = 39
 water_at High = 10
-
--- the side where a lockage of this way begins
-abbrev pub stand_before : Way → Stand
-stand_before Up = Low
-stand_before Down = High
 
 -- the water line up to an empty turn and through it, where there is one before a lockage of this way
 unfoldable pub slope : Drawn → ℕ → Way → Option ℕ → List ℕ

@@ -5,9 +5,7 @@ use Rattle.lock_model.specs.Fleet.{ship_at, chamber_at}
 use Rattle.lock_model.specs.declared.chamber.Chamber.{Chamber}
 use Rattle.lock_model.specs.declared.closure.Closure.{Closure}
 use Rattle.lock_model.specs.declared.instance.Instance.{Instance}
-use Rattle.lock_model.specs.declared.way.Stand.{Stand}
-use Rattle.lock_model.specs.declared.way.Stand.TheVariants.{Low, High}
-use Rattle.instance_text.specs.Canonical.{way_word}
+use Rattle.instance_text.specs.Canonical.{way_word, stand_word}
 use Rattle.picture_page.specs.Forms.{filled}
 use Rattle.picture_page.specs.Shapes.{passage_box}
 use Rattle.picture_page.specs.Times.{time_text}
@@ -22,10 +20,6 @@ use Rattle.picture_page.specs.Labels.{are_wide, labels, opens_label}
 -- the axis in the head of a table
 unfoldable pub axis_head : List ℕ
 axis_head = codes "<svg width=\"812\" height=\"22\" aria-hidden=\"true\"><use href=\"#x\"/><use href=\"#A\"/></svg>"
-
-abbrev pub stand_word : Stand → List ℕ
-stand_word Low = codes "low"
-stand_word High = codes "high"
 
 unfoldable pub closed_text : Clock → Closure → List ℕ
 closed_text clock k = codes ", closed" ++ span_text clock k.from k.to

@@ -3,7 +3,7 @@ ghost use Rattle.std.specs.Prelude.{◌≡◌, ◌≤◌, ◌<◌, ◌++◌, len
 ghost use Rattle.std.specs.List.{flat_map};
 ghost use Rattle.lock_model.specs.Fleet.{ship_at};
 ghost use Rattle.picture_page.specs.KnownPassages.{HasShips};
-ghost use Rattle.picture_page.specs.Lanes.{axis_head, stand_word, closed_text, lane_name, lane_title, next_name, names, box_width, box_title, lockage_box, lane_ground, lane_end, lane, lane_at, lanes, chambers_table};
+ghost use Rattle.picture_page.specs.Lanes.{axis_head, closed_text, lane_name, lane_title, next_name, names, box_width, box_title, lockage_box, lane_ground, lane_end, lane, lane_at, lanes, chambers_table};
 
 use crate::axis::Axis;
 use crate::form::{put_between, put_form};
@@ -15,8 +15,8 @@ use crate::shapes::put_passage_box;
 use crate::times::{Clock, put_time};
 use crate::water::put_water;
 use crate::words::{put_count, put_measures, put_plural};
-use instance_text::way_word;
-use lock_model::{Chamber, Closures, Instance, Stand};
+use instance_text::{stand_word, way_word};
+use lock_model::{Chamber, Closures, Instance};
 use plain_text::{NoMemory, put, put_number};
 use std::alloc::Global;
 
@@ -29,16 +29,6 @@ pub(crate) fn put_axis(out: &mut Vec<u8>) -> Result<(), NoMemory>
         out,
         b"<svg width=\"812\" height=\"22\" aria-hidden=\"true\"><use href=\"#x\"/><use href=\"#A\"/></svg>",
     )
-}
-
-/// The word for a side.
-fn stand_word(stand: Stand) -> &'static [u8]
-    ensures { result.now ≡ stand_word stand }
-{
-    match stand {
-        Stand::Low => b"low",
-        Stand::High => b"high",
-    }
 }
 
 /// Appends when a chamber is closed.

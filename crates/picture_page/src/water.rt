@@ -1,7 +1,8 @@
 //! The water between the lockages of a lane.
 ghost use Rattle.std.specs.Prelude.{◌≡◌, ◌<◌, ◌++◌, OnOk};
 ghost use Rattle.std.specs.List.{flat_map};
-ghost use Rattle.picture_page.specs.Ground.{water_at, stand_before, slope, wave, open_water, water};
+ghost use Rattle.lock_rules.specs.Lawful.{stand_before};
+ghost use Rattle.picture_page.specs.Ground.{water_at, slope, wave, open_water, water};
 
 use crate::axis::Axis;
 use crate::form::put_form;

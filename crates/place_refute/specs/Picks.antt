@@ -1,10 +1,8 @@
 -- Decisions and their options as the code keeps them.
 use Rattle.std.specs.Prelude.{ℕ, ◌≡◌, ◌+◌, ◌<◌, List, length, nat_lt, if◌then◌else◌}
 use Rattle.lock_model.specs.Deck.{Deck}
-use Rattle.lock_model.specs.declared.placement.Moor.{Moor}
-use Rattle.lock_model.specs.declared.placement.Moor.TheVariants.{Quay, Ship}
 use Rattle.refute_rules.specs.Values.{spot_values}
-use Rattle.refute_rules.specs.Choices.{Choice, Lies as LiesAt, Before as IsBefore, Below as IsBelow, Stands as StandsAt, Decision as Asked, BerthOf, PairOf, PlaceOf}
+use Rattle.refute_rules.specs.Choices.{Choice, Lies as LiesAt, Before as IsBefore, Below as IsBelow, Stands as StandsAt, Decision as Asked, BerthOf, PairOf, PlaceOf, IsKnownMoor}
 use Rattle.place_refute.specs.declared.decision.Pick.{Pick}
 use Rattle.place_refute.specs.declared.decision.Pick.TheVariants.{Lies, Before, Below, Stands}
 use Rattle.place_refute.specs.declared.decision.Decision.{Decision}
@@ -22,10 +20,6 @@ decision_of (Pair i j) = PairOf i j
 decision_of (Place i) = PlaceOf i
 
 -- the ships of an option are ships of the deck
-abbrev pub IsKnownMoor : Deck → Moor → Type 0
-IsKnownMoor d Quay = Unit {0}
-IsKnownMoor d (Ship k) = k < length d.ships
-
 abbrev pub IsKnownPick : Deck → Pick → Type 0
 IsKnownPick d (Lies i rank moor) = (i < length d.ships) × IsKnownMoor d moor
 IsKnownPick d (Before i j) = (i < length d.ships) × (j < length d.ships)

@@ -16,7 +16,7 @@ use Rattle.price_bound.specs.declared.kept_groups.KeptGroups.{KeptGroups}
 use Rattle.price_bound.specs.Cuts.{plain_cuts}
 use Rattle.price_bound.specs.Sparing.{AreForbidden}
 use Rattle.price_bound.specs.Stock.{IsStock, AreStocks, AreStocked}
-use Rattle.price_bound.specs.Keeping.{AreFirst, AreTerms, LeadTo, AreUnder, AreKept, IsFound, IsKept, IsOf}
+use Rattle.price_bound.specs.Keeping.{AreFirst, AreTerms, LeadTo, AreUnder, AreKeptUnder, IsFound, IsKeptUnder, IsOf}
 use Rattle.price_bound.specs.Lines.{IsLineWorth, IsLeastLine}
 
 -- a line with the same groups and the same worth is as good
@@ -28,7 +28,7 @@ copy-least I c cuts k prices line one other groups worth is = record {
 
 module _ (I : Instance) (c k : ℕ) (prices : List ℕ) (cuts : List ChamberCut) (line : List Group) where
   -- what was found of a case is found under its terms
-  pub kept-under : (terms : Terms) (kept : KeptLine) → AreTerms I k prices cuts terms → IsOf c line kept → IsFound I c k prices cuts line kept.least → IsKept terms kept
+  pub kept-under : (terms : Terms) (kept : KeptLine) → AreTerms I k prices cuts terms → IsOf c line kept → IsFound I c k prices cuts line kept.least → IsKeptUnder terms kept
   kept-under terms kept under of found =
       let one = subst (λ J. IsFound J c k prices cuts line kept.least) (sym under.same_instance) found in
       let two = subst (λ d. IsFound terms.instance c d prices cuts line kept.least) (sym under.same_depth) one in
@@ -38,9 +38,9 @@ module _ (I : Instance) (c k : ℕ) (prices : List ℕ) (cuts : List ChamberCut)
       record { found = subst (λ gs. IsFound terms.instance kept.chamber terms.depth terms.prices terms.cuts.items gs kept.least) (sym of.same_line) five }
 
   -- one line more
-  pub kept-more : (terms : Option Terms) (lines : List KeptLine) (kept : KeptLine) → AreUnder I k prices cuts terms → AreKept terms lines → IsOf c line kept → IsFound I c k prices cuts line kept.least → AreKept terms (lines ++ kept ∷ [])
+  pub kept-more : (terms : Option Terms) (lines : List KeptLine) (kept : KeptLine) → AreUnder I k prices cuts terms → AreKeptUnder terms lines → IsOf c line kept → IsFound I c k prices cuts line kept.least → AreKeptUnder terms (lines ++ kept ∷ [])
   kept-more None lines kept under are of found = absurd under
-  kept-more (Some terms) lines kept under are of found = All-push (IsKept terms) lines kept are (kept-under terms kept under of found)
+  kept-more (Some terms) lines kept under are of found = All-push (IsKeptUnder terms) lines kept are (kept-under terms kept under of found)
 
 -- as many of the first of these cuts
 same-seen : (some all : List ChamberCut) (n : ℕ) → AreFirst some all → n ≤ length some → take n all ≡ take n some

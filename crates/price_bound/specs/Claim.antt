@@ -1,7 +1,7 @@
 -- What is claimed of a node by prices and cuts, and when it is shown.
 use Rattle.std.specs.Prelude.{ℕ, List}
 use Rattle.lock_model.specs.declared.instance.Instance.{Instance}
-use Rattle.master_branch.specs.Node.{Node}
+use Rattle.lock_rules.specs.Node.{Node}
 use Rattle.price_rules.specs.Prices.{Reaches}
 use Rattle.price_bound.specs.declared.cut.ChamberCut.{ChamberCut}
 use Rattle.price_bound.specs.Cuts.{plain_cuts}

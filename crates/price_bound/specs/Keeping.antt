@@ -43,13 +43,13 @@ pub record IsFound (I : Instance) (c k : ℕ) (prices : List ℕ) (cuts : List C
   pub high : IfSome found (λ line. line.worth ≤ℤ pos 6000000000000)
 
 -- what is kept was found under the terms
-pub record IsKept (terms : Terms) (kept : KeptLine) : Type 0 where
+pub record IsKeptUnder (terms : Terms) (kept : KeptLine) : Type 0 where
   pub found : IsFound terms.instance kept.chamber terms.depth terms.prices terms.cuts.items kept.line.items kept.least
 
 -- all of these were found under the terms; without terms there are none
-abbrev pub AreKept : Option Terms → List KeptLine → Type 0
-AreKept None kept = kept ≡ []
-AreKept (Some terms) kept = All (IsKept terms) kept
+abbrev pub AreKeptUnder : Option Terms → List KeptLine → Type 0
+AreKeptUnder None kept = kept ≡ []
+AreKeptUnder (Some terms) kept = All (IsKeptUnder terms) kept
 
 -- the terms are there, and name this instance, depth, prices and cuts
 abbrev pub AreUnder : Instance → ℕ → List ℕ → List ChamberCut → Option Terms → Type 0
@@ -63,5 +63,5 @@ pub record IsOf (c : ℕ) (line : List Group) (kept : KeptLine) : Type 0 where
 
 -- the same of lines and of groups
 pub record AreAllKept (terms : Option Terms) (lines : List KeptLine) (groups : KeptGroups) : Type 0 where
-  pub lines_kept : AreKept terms lines
+  pub lines_kept : AreKeptUnder terms lines
   pub groups_kept : AreStocked terms groups

@@ -22,7 +22,7 @@ use Rattle.refute_rules.specs.Choices.{Choice, Before, Berth}
 use Rattle.refute_rules.specs.Decided.{berth_in}
 use Rattle.refute_rules.specs.Known.{host_of, moor_host}
 use Rattle.refute_rules.specs.SpotFaults as spot
-use Rattle.lock_rules.specs.Among.{IsAmong}
+use Rattle.list_laws.specs.Among.{IsAmong}
 use Rattle.refute_rules.proofs.Among.{all-weaker, all-numbers}
 use Rattle.refute_rules.proofs.TreeLemmas.{in_order-one}
 use Rattle.refute_rules.proofs.CaseLemmas.{IsGoodChoice, IsGoodCase, berth-told, moored-as, berth-goes_on}

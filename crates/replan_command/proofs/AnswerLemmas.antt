@@ -11,8 +11,8 @@ use Rattle.replan.specs.Rest.{ships_left}
 use Rattle.run_answers.specs.Sources.{IsFair}
 use Rattle.run_answers.specs.declared.status.Status.{Status}
 use Rattle.run_answers.specs.declared.status.Status.TheVariants.{Good, Open, Words, Refused, ReadFault, WriteFault, NoMemory, BadDossier, Unfit, PlanRefused}
-use Rattle.replan_command.specs.Keeping.{PrintsKeeping, PrintsRestDossier, PrintsBestAs, PrintsBest, prints_dossier}
-use Rattle.replan_command.specs.Replanning.{AnswersKept, AnswersPlan, AnswersBehind, AnswersInstance, AnswersReplan}
+use Rattle.replan_command.specs.Keeping.{PrintsKeeping, PrintsRestDossier, PrintsBestAs, PrintsBestKeeping, prints_dossier}
+use Rattle.replan_command.specs.Replanning.{AnswersKept, AnswersReplanPlan, AnswersBehind, AnswersReplanInstance, AnswersReplan}
 
 -- ---- by what is printed where all is shown
 
@@ -30,16 +30,16 @@ open_answers A B options I K Unfit text left answer = absurd answer
 open_answers A B options I K PlanRefused text left answer = absurd answer
 
 module _ (options : ReplanOptions) (I : Instance) (K : Plan) (status : Status) (text : List ℕ) (rest : prints_dossier options.dossier (ships_left I K) ≡ options.dossier) where
-  pub dossier_asked : true ≡ options.dossier → AnswersKept (PrintsRestDossier I K options.from) options I K status text → AnswersKept (PrintsBest options.dossier I K options.from) options I K status text
+  pub dossier_asked : true ≡ options.dossier → AnswersKept (PrintsRestDossier I K options.from) options I K status text → AnswersKept (PrintsBestKeeping options.dossier I K options.from) options I K status text
   dossier_asked is answer = subst (λ b. AnswersKept (PrintsBestAs b I K options.from) options I K status text) (is ∙ sym rest) answer
 
-  pub report_asked : false ≡ options.dossier → AnswersKept (PrintsKeeping I K options.from) options I K status text → AnswersKept (PrintsBest options.dossier I K options.from) options I K status text
+  pub report_asked : false ≡ options.dossier → AnswersKept (PrintsKeeping I K options.from) options I K status text → AnswersKept (PrintsBestKeeping options.dossier I K options.from) options I K status text
   report_asked is answer = subst (λ b. AnswersKept (PrintsBestAs b I K options.from) options I K status text) (is ∙ sym rest) answer
 
 -- ---- from the kept part to the plan, the bytes behind the instance, the instance, and all bytes
 
 pub part_answers : (options : ReplanOptions) (I : Instance) (G : Plan) (status : Status) (text : List ℕ) → CanBeKept I (kept_of G options.from)
-    → AnswersKept (PrintsBest options.dossier I (kept_of G options.from) options.from) options I (kept_of G options.from) status text → AnswersPlan options I G status text
+    → AnswersKept (PrintsBestKeeping options.dossier I (kept_of G options.from) options.from) options I (kept_of G options.from) status text → AnswersReplanPlan options I G status text
 part_answers options I G Good text can answer = record { can = can; answer = answer }
 part_answers options I G Open text can answer = record { can = can; answer = answer }
 part_answers options I G Words text can answer = absurd answer
@@ -53,10 +53,10 @@ part_answers options I G PlanRefused text can answer = absurd answer
 
 -- the same, where the residual has the kept plan
 pub kept_answers : (options : ReplanOptions) (I : Instance) (G K : Plan) (status : Status) (text : List ℕ) → K ≡ kept_of G options.from → CanBeKept I (kept_of G options.from)
-    → AnswersKept (PrintsBest options.dossier I K options.from) options I K status text → AnswersPlan options I G status text
-kept_answers options I G K status text is can answer = part_answers options I G status text can (subst (λ K. AnswersKept (PrintsBest options.dossier I K options.from) options I K status text) is answer)
+    → AnswersKept (PrintsBestKeeping options.dossier I K options.from) options I K status text → AnswersReplanPlan options I G status text
+kept_answers options I G K status text is can answer = part_answers options I G status text can (subst (λ K. AnswersKept (PrintsBestKeeping options.dossier I K options.from) options I K status text) is answer)
 
-pub plan_answers : (options : ReplanOptions) (I : Instance) (bytes : List ℕ) (G : Plan) (status : Status) (text : List ℕ) → IsPlanText I bytes G → AnswersPlan options I G status text → AnswersBehind options I bytes status text
+pub plan_answers : (options : ReplanOptions) (I : Instance) (bytes : List ℕ) (G : Plan) (status : Status) (text : List ℕ) → IsPlanText I bytes G → AnswersReplanPlan options I G status text → AnswersBehind options I bytes status text
 plan_answers options I bytes G Good text is answer = record { plan = G; is_text = is; answer = answer }
 plan_answers options I bytes G Open text is answer = record { plan = G; is_text = is; answer = answer }
 plan_answers options I bytes G Words text is answer = answer
@@ -68,7 +68,7 @@ plan_answers options I bytes G BadDossier text is answer = answer
 plan_answers options I bytes G Unfit text is answer = answer
 plan_answers options I bytes G PlanRefused text is answer = inr (record { plan = G; is_text = is; answer = answer })
 
-pub behind_answers : (options : ReplanOptions) (I : Instance) (bytes : List ℕ) (status : Status) (text : List ℕ) → HasNoUnfit I → AnswersBehind options I bytes status text → AnswersInstance options I bytes status text
+pub behind_answers : (options : ReplanOptions) (I : Instance) (bytes : List ℕ) (status : Status) (text : List ℕ) → HasNoUnfit I → AnswersBehind options I bytes status text → AnswersReplanInstance options I bytes status text
 behind_answers options I bytes Good text fit answer = record { fit = fit; answer = answer }
 behind_answers options I bytes Open text fit answer = record { fit = fit; answer = answer }
 behind_answers options I bytes Words text fit answer = answer
@@ -81,10 +81,10 @@ behind_answers options I bytes Unfit text fit answer = absurd answer
 behind_answers options I bytes PlanRefused text fit answer = record { fit = fit; answer = answer }
 
 pub answers_meant : (options : ReplanOptions) (I : Instance) (bytes behind : List ℕ) (status : Status) (text : List ℕ) → Means (instance_part bytes) I → behind ≡ after_instance bytes
-    → AnswersInstance options I behind status text → AnswersReplan options bytes status text
-answers_meant options I bytes behind status text means is answer = by_status status (subst (λ behind. AnswersInstance options I behind status text) is answer)
+    → AnswersReplanInstance options I behind status text → AnswersReplan options bytes status text
+answers_meant options I bytes behind status text means is answer = by_status status (subst (λ behind. AnswersReplanInstance options I behind status text) is answer)
   where
-    by_status : (status : Status) → AnswersInstance options I (after_instance bytes) status text → AnswersReplan options bytes status text
+    by_status : (status : Status) → AnswersReplanInstance options I (after_instance bytes) status text → AnswersReplan options bytes status text
     by_status Good answer = record { instance = I; means = means; answer = answer }
     by_status Open answer = record { instance = I; means = means; answer = answer }
     by_status Words answer = answer

@@ -21,7 +21,7 @@ use Rattle.mooring_rules.proofs.PlanLemmas.{IsFirstBrokenPart-illegal}
 use Rattle.run_answers.specs.Sources.{Drained, IsTooLong, AnswersBytes, AnswersSource, plan_limit}
 use Rattle.run_answers.specs.declared.status.Status.{Status}
 use Rattle.run_answers.specs.declared.status.Status.TheVariants.{Good, Open, Words, Refused, ReadFault, WriteFault, NoMemory, BadDossier, Unfit, PlanRefused}
-use Rattle.replan_command.specs.Keeping.{PrintsOpen}
+use Rattle.replan_command.specs.Keeping.{PrintsOpenKeeping}
 use Rattle.replan_command.specs.Replanning.{AnswersPlanText, IsPartRefused, IsPlanTextFault, AnswersReplan}
 use Rattle.replan_command.specs.Ends.{IsReplanServed, IsRestUnsure, MayEndReplan}
 
@@ -33,7 +33,7 @@ nodes_open used low e = cc
 turns_open : (chamber : ℕ) (ships : List ℕ) (turns low : ℕ) → OpenTurns chamber ships turns low ≡ Optimal → ⊥
 turns_open chamber ships turns low e = cc
 
-open_unsure : (options : ReplanOptions) (I : Instance) (K : Plan) (text : List ℕ) → PrintsOpen options.nodes options.turns I K options.from text → IsRestUnsure options I K
+open_unsure : (options : ReplanOptions) (I : Instance) (K : Plan) (text : List ℕ) → PrintsOpenKeeping options.nodes options.turns I K options.from text → IsRestUnsure options I K
 open_unsure options I K text (inl n) = record {
   rest = n.rest;
   is_rest = n.together.is_rest;

@@ -21,7 +21,7 @@ use Rattle.replan.proofs.LeftLemmas.{left-known}
 use Rattle.replan.proofs.RenumberLemmas.{rest-chambers, rest-ships, left-rise}
 use Rattle.run_answers.specs.declared.status.Status.{Status}
 use Rattle.solve_commands.specs.Searching.{PrintsDossier, status_of}
-use Rattle.replan_command.specs.Keeping.{IsCheapestKeeping, PrintsKeeping, PrintsRestDossier, PrintsBestAs, PrintsBest, prints_dossier, IsPutTogether, in_whole}
+use Rattle.replan_command.specs.Keeping.{IsCheapestKeeping, PrintsKeeping, PrintsRestDossier, PrintsBestAs, PrintsBestKeeping, prints_dossier, IsPutTogether, in_whole}
 use Rattle.replan_command.specs.Searches.{IsLeftOf, IsToldBelow}
 use Rattle.replan_command.specs.Replanning.{AnswersKept}
 use Rattle.replan_command.proofs.RestLemmas.{rest_fits, all_kept_legal, all_kept_cheapest, joined_cheapest}
@@ -44,7 +44,7 @@ module _ (I : Instance) (M : ℕ) (r : Residual) (of : IsLeftOf I M r) where
   done_legal none = all_kept_legal I r.kept left_can (left_done none)
 
   -- the report of the kept plan is printed, whether a dossier is asked for or not
-  pub done_prints : (asked : Bool) (text : List ℕ) → r.rest ≡ None → text ≡ report I r.kept Optimal → PrintsBest asked I r.kept M text
+  pub done_prints : (asked : Bool) (text : List ℕ) → r.rest ≡ None → text ≡ report I r.kept Optimal → PrintsBestKeeping asked I r.kept M text
   done_prints asked text none shown =
       let cheapest = all_kept_cheapest I r.kept M left_can left_early (left_done none) in
       subst (λ ns. PrintsBestAs (prints_dossier asked ns) I r.kept M text) (sym (left_done none)) (record { plan = r.kept; cheapest = cheapest; shown = shown })

@@ -41,8 +41,8 @@ prints_dossier asked [] = false
 prints_dossier asked (ship ∷ ships) = asked
 
 -- what is printed where all is shown: the report of the whole plan, or the dossier of the rest
-abbrev pub PrintsBest : Bool → Instance → Plan → ℕ → List ℕ → Type 0
-PrintsBest asked I K M text = PrintsBestAs (prints_dossier asked (ships_left I K)) I K M text
+abbrev pub PrintsBestKeeping : Bool → Instance → Plan → ℕ → List ℕ → Type 0
+PrintsBestKeeping asked I K M text = PrintsBestAs (prints_dossier asked (ships_left I K)) I K M text
 
 -- P is the plan Q of the rest R put together with the kept plan
 pub record IsPutTogether (I : Instance) (K : Plan) (M : ℕ) (R : Instance) (Q P : Plan) : Type 0 where
@@ -59,7 +59,7 @@ in_whole ns added (OpenNodes used low) = OpenNodes used (low + added)
 in_whole ns added (OpenTurns chamber ships turns low) = OpenTurns chamber (map (number_of ns) ships) turns (low + added)
 
 -- a plan is printed as open, for all nodes of the search of the rest were used
-pub record PrintsOpenNodes (nodes : ℕ) (I : Instance) (K : Plan) (M : ℕ) (text : List ℕ) : Type 0 where
+pub record PrintsNodesKeeping (nodes : ℕ) (I : Instance) (K : Plan) (M : ℕ) (text : List ℕ) : Type 0 where
   pub rest : Instance
   pub found : Plan
   pub plan : Plan
@@ -70,7 +70,7 @@ pub record PrintsOpenNodes (nodes : ℕ) (I : Instance) (K : Plan) (M : ℕ) (te
   pub shown : text ≡ report I plan (in_whole (ships_left I K) (added_of I K M) (OpenNodes used low))
 
 -- a plan is printed as open, for the turns of the search of the rest were spent on the named ships
-pub record PrintsOpenTurns (turns : ℕ) (I : Instance) (K : Plan) (M : ℕ) (text : List ℕ) : Type 0 where
+pub record PrintsTurnsKeeping (turns : ℕ) (I : Instance) (K : Plan) (M : ℕ) (text : List ℕ) : Type 0 where
   pub rest : Instance
   pub found : Plan
   pub plan : Plan
@@ -82,5 +82,5 @@ pub record PrintsOpenTurns (turns : ℕ) (I : Instance) (K : Plan) (M : ℕ) (te
   pub left : IsOpenTurns rest turns (singles_of rest) found chamber ships spent low
   pub shown : text ≡ report I plan (in_whole (ships_left I K) (added_of I K M) (OpenTurns chamber ships spent low))
 
-abbrev pub PrintsOpen : ℕ → ℕ → Instance → Plan → ℕ → List ℕ → Type 0
-PrintsOpen nodes turns I K M text = PrintsOpenNodes nodes I K M text ⊎ PrintsOpenTurns turns I K M text
+abbrev pub PrintsOpenKeeping : ℕ → ℕ → Instance → Plan → ℕ → List ℕ → Type 0
+PrintsOpenKeeping nodes turns I K M text = PrintsNodesKeeping nodes I K M text ⊎ PrintsTurnsKeeping turns I K M text

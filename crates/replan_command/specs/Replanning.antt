@@ -17,12 +17,12 @@ use Rattle.run_answers.specs.Refusals.{IsDefect, IsUnfitShip}
 use Rattle.run_answers.specs.Texts.{no_memory_text}
 use Rattle.run_answers.specs.declared.status.Status.{Status}
 use Rattle.run_answers.specs.declared.status.Status.TheVariants.{Good, Open, Words, Refused, ReadFault, WriteFault, NoMemory, BadDossier, Unfit, PlanRefused}
-use Rattle.replan_command.specs.Keeping.{PrintsBest, PrintsOpen}
+use Rattle.replan_command.specs.Keeping.{PrintsBestKeeping, PrintsOpenKeeping}
 
 -- What is answered where the plan K can be kept, and `Best` is what is printed where all is shown.
 abbrev pub AnswersKept : (List ℕ → Type 0) → ReplanOptions → Instance → Plan → Status → List ℕ → Type 0
 AnswersKept Best options I K Good text = Best text
-AnswersKept Best options I K Open text = PrintsOpen options.nodes options.turns I K options.from text
+AnswersKept Best options I K Open text = PrintsOpenKeeping options.nodes options.turns I K options.from text
 AnswersKept Best options I K Words text = ⊥
 AnswersKept Best options I K Refused text = ⊥
 AnswersKept Best options I K ReadFault text = ⊥
@@ -35,7 +35,7 @@ AnswersKept Best options I K PlanRefused text = ⊥
 -- the kept part of the plan G can be kept, and this is answered
 pub record AnswersPart (options : ReplanOptions) (I : Instance) (G : Plan) (status : Status) (text : List ℕ) : Type 0 where
   pub can : CanBeKept I (kept_of G options.from)
-  pub answer : AnswersKept (PrintsBest options.dossier I (kept_of G options.from) options.from) options I (kept_of G options.from) status text
+  pub answer : AnswersKept (PrintsBestKeeping options.dossier I (kept_of G options.from) options.from) options I (kept_of G options.from) status text
 
 -- why the kept part can't be kept: its first break, or its first lockage that ends too late
 abbrev pub refusal_text : Instance → Plan → ReplanError → List ℕ
@@ -49,23 +49,23 @@ pub record IsPartRefused (I : Instance) (G : Plan) (M : ℕ) (text : List ℕ) :
   pub shown : text ≡ refusal_text I G error
 
 -- what is answered to a plan of the instance
-abbrev pub AnswersPlan : ReplanOptions → Instance → Plan → Status → List ℕ → Type 0
-AnswersPlan options I G Good text = AnswersPart options I G Good text
-AnswersPlan options I G Open text = AnswersPart options I G Open text
-AnswersPlan options I G Words text = ⊥
-AnswersPlan options I G Refused text = ⊥
-AnswersPlan options I G ReadFault text = ⊥
-AnswersPlan options I G WriteFault text = ⊥
-AnswersPlan options I G NoMemory text = text ≡ no_memory_text
-AnswersPlan options I G BadDossier text = ⊥
-AnswersPlan options I G Unfit text = ⊥
-AnswersPlan options I G PlanRefused text = IsPartRefused I G options.from text
+abbrev pub AnswersReplanPlan : ReplanOptions → Instance → Plan → Status → List ℕ → Type 0
+AnswersReplanPlan options I G Good text = AnswersPart options I G Good text
+AnswersReplanPlan options I G Open text = AnswersPart options I G Open text
+AnswersReplanPlan options I G Words text = ⊥
+AnswersReplanPlan options I G Refused text = ⊥
+AnswersReplanPlan options I G ReadFault text = ⊥
+AnswersReplanPlan options I G WriteFault text = ⊥
+AnswersReplanPlan options I G NoMemory text = text ≡ no_memory_text
+AnswersReplanPlan options I G BadDossier text = ⊥
+AnswersReplanPlan options I G Unfit text = ⊥
+AnswersReplanPlan options I G PlanRefused text = IsPartRefused I G options.from text
 
 -- the bytes are a plan text of a plan, and this is answered to it
 pub record AnswersPlanText (options : ReplanOptions) (I : Instance) (bytes : List ℕ) (status : Status) (text : List ℕ) : Type 0 where
   pub plan : Plan
   pub is_text : IsPlanText I bytes plan
-  pub answer : AnswersPlan options I plan status text
+  pub answer : AnswersReplanPlan options I plan status text
 
 -- the first fault of the bytes as a plan text
 pub record IsPlanTextFault (I : Instance) (bytes text : List ℕ) : Type 0 where
@@ -93,33 +93,33 @@ pub record AnswersFit (options : ReplanOptions) (I : Instance) (bytes : List ℕ
   pub answer : AnswersBehind options I bytes status text
 
 -- what is answered to an instance and the bytes behind it
-abbrev pub AnswersInstance : ReplanOptions → Instance → List ℕ → Status → List ℕ → Type 0
-AnswersInstance options I bytes Good text = AnswersFit options I bytes Good text
-AnswersInstance options I bytes Open text = AnswersFit options I bytes Open text
-AnswersInstance options I bytes Words text = ⊥
-AnswersInstance options I bytes Refused text = ⊥
-AnswersInstance options I bytes ReadFault text = ⊥
-AnswersInstance options I bytes WriteFault text = ⊥
-AnswersInstance options I bytes NoMemory text = text ≡ no_memory_text
-AnswersInstance options I bytes BadDossier text = ⊥
-AnswersInstance options I bytes Unfit text = IsUnfitShip I text
-AnswersInstance options I bytes PlanRefused text = AnswersFit options I bytes PlanRefused text
+abbrev pub AnswersReplanInstance : ReplanOptions → Instance → List ℕ → Status → List ℕ → Type 0
+AnswersReplanInstance options I bytes Good text = AnswersFit options I bytes Good text
+AnswersReplanInstance options I bytes Open text = AnswersFit options I bytes Open text
+AnswersReplanInstance options I bytes Words text = ⊥
+AnswersReplanInstance options I bytes Refused text = ⊥
+AnswersReplanInstance options I bytes ReadFault text = ⊥
+AnswersReplanInstance options I bytes WriteFault text = ⊥
+AnswersReplanInstance options I bytes NoMemory text = text ≡ no_memory_text
+AnswersReplanInstance options I bytes BadDossier text = ⊥
+AnswersReplanInstance options I bytes Unfit text = IsUnfitShip I text
+AnswersReplanInstance options I bytes PlanRefused text = AnswersFit options I bytes PlanRefused text
 
 -- the instance part of the bytes means an instance, and this is answered to it and the bytes behind it
-pub record AnswersMeant (options : ReplanOptions) (bytes : List ℕ) (status : Status) (text : List ℕ) : Type 0 where
+pub record AnswersReplanMeant (options : ReplanOptions) (bytes : List ℕ) (status : Status) (text : List ℕ) : Type 0 where
   pub instance : Instance
   pub means : Means (instance_part bytes) instance
-  pub answer : AnswersInstance options instance (after_instance bytes) status text
+  pub answer : AnswersReplanInstance options instance (after_instance bytes) status text
 
 -- WHAT `replan` ANSWERS TO BYTES
 abbrev pub AnswersReplan : ReplanOptions → List ℕ → Status → List ℕ → Type 0
-AnswersReplan options bytes Good text = AnswersMeant options bytes Good text
-AnswersReplan options bytes Open text = AnswersMeant options bytes Open text
+AnswersReplan options bytes Good text = AnswersReplanMeant options bytes Good text
+AnswersReplan options bytes Open text = AnswersReplanMeant options bytes Open text
 AnswersReplan options bytes Words text = ⊥
 AnswersReplan options bytes Refused text = IsDefect (instance_part bytes) text
 AnswersReplan options bytes ReadFault text = ⊥
 AnswersReplan options bytes WriteFault text = ⊥
 AnswersReplan options bytes NoMemory text = text ≡ no_memory_text
 AnswersReplan options bytes BadDossier text = ⊥
-AnswersReplan options bytes Unfit text = AnswersMeant options bytes Unfit text
-AnswersReplan options bytes PlanRefused text = AnswersMeant options bytes PlanRefused text
+AnswersReplan options bytes Unfit text = AnswersReplanMeant options bytes Unfit text
+AnswersReplan options bytes PlanRefused text = AnswersReplanMeant options bytes PlanRefused text

@@ -5,7 +5,7 @@ ghost use Rattle.lock_rules.specs.Unfit.{HasNoUnfit};
 ghost use Rattle.book_rules.specs.Verdict.{verdict_of};
 ghost use Rattle.run_answers.specs.Written.{bytes_in};
 ghost use Rattle.replan_command.specs.Options.{AreReplanNumbers};
-ghost use Rattle.replan_command.specs.Keeping.{PrintsKeeping, PrintsRestDossier, PrintsBest};
+ghost use Rattle.replan_command.specs.Keeping.{PrintsKeeping, PrintsRestDossier, PrintsBestKeeping};
 ghost use Rattle.replan_command.specs.Searches.{IsLeftOf, HasSearched};
 ghost use Rattle.replan_command.specs.Replanning.{AnswersKept};
 
@@ -35,7 +35,7 @@ fn all_kept_answer(
 ) -> Answer
     requires left { IsLeftOf instance.now options.now.from left.now }
     requires done { left.now.rest ≡ None }
-    ensures { AnswersKept (PrintsBest options.now.dossier instance.now left.now.kept options.now.from) options.now instance.now left.now.kept result.status (bytes_in result.text) }
+    ensures { AnswersKept (PrintsBestKeeping options.now.dossier instance.now left.now.kept options.now.from) options.now instance.now left.now.kept result.status (bytes_in result.text) }
 {
     match print_report(alloc, instance, &left.kept, &Verdict::Optimal) {
         Ok(text) => Answer {
@@ -110,7 +110,7 @@ fn found_answer(
     requires left { IsLeftOf instance.now options.now.from left.now }
     requires rest { left.now.rest ≡ Some book.now.case.instance }
     requires searched { HasSearched options.now book.now }
-    ensures { AnswersKept (PrintsBest options.now.dossier instance.now left.now.kept options.now.from) options.now instance.now left.now.kept result.status (bytes_in result.text) }
+    ensures { AnswersKept (PrintsBestKeeping options.now.dossier instance.now left.now.kept options.now.from) options.now instance.now left.now.kept result.status (bytes_in result.text) }
 {
     if options.dossier {
         certified_answer(alloc, instance, left, book, options)
@@ -150,7 +150,7 @@ pub(crate) fn kept_answer<R: Threads + Wait + Sync, G: Gate + Sync>(
     requires fit { HasNoUnfit instance.now }
     requires numbers { AreReplanNumbers options.now }
     requires left { IsLeftOf instance.now options.now.from left.now }
-    ensures { AnswersKept (PrintsBest options.now.dossier instance.now left.now.kept options.now.from) options.now instance.now left.now.kept result.status (bytes_in result.text) }
+    ensures { AnswersKept (PrintsBestKeeping options.now.dossier instance.now left.now.kept options.now.from) options.now instance.now left.now.kept result.status (bytes_in result.text) }
 {
     let Some(rest) = left.rest.as_ref() else {
         return all_kept_answer(alloc, instance, left, options);

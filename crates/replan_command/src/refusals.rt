@@ -6,7 +6,7 @@ ghost use Rattle.plan_text.specs.Reading.{IsPlanFault};
 ghost use Rattle.replan.specs.Kept.{kept_of, kept_places};
 ghost use Rattle.replan.specs.PartBreaks.{IsPartRefusal};
 ghost use Rattle.run_answers.specs.Written.{bytes_in};
-ghost use Rattle.replan_command.specs.Replanning.{refusal_text, AnswersPlan, AnswersBehind, AnswersInstance, AnswersReplan};
+ghost use Rattle.replan_command.specs.Replanning.{refusal_text, AnswersReplanPlan, AnswersBehind, AnswersReplanInstance, AnswersReplan};
 
 use command_words::ReplanOptions;
 use instance_text::Bad;
@@ -45,7 +45,7 @@ pub(crate) fn unfit_answer(
     options: &ReplanOptions,
 ) -> Answer
     requires { IsFirstUnfit instance.now ship }
-    ensures { AnswersInstance options.now instance.now bytes.now result.status (bytes_in result.text) }
+    ensures { AnswersReplanInstance options.now instance.now bytes.now result.status (bytes_in result.text) }
 {
     match unfit_text(alloc, instance, ship) {
         Ok(text) => Answer {
@@ -100,7 +100,7 @@ pub(crate) fn refusal_answer(
     options: &ReplanOptions,
 ) -> Answer
     requires { IsPartRefusal instance.now (kept_of plan.now options.now.from) (kept_places plan.now options.now.from) error }
-    ensures { AnswersPlan options.now instance.now plan.now result.status (bytes_in result.text) }
+    ensures { AnswersReplanPlan options.now instance.now plan.now result.status (bytes_in result.text) }
 {
     match refusal_text(alloc, instance, plan, error) {
         Ok(text) => Answer {

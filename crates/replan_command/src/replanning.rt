@@ -3,7 +3,7 @@ ghost use Rattle.lock_rules.specs.Unfit.{HasNoUnfit};
 ghost use Rattle.run_answers.specs.Sources.{AnswersSource, drained, plan_limit};
 ghost use Rattle.run_answers.specs.Written.{bytes_in};
 ghost use Rattle.replan_command.specs.Options.{AreReplanNumbers};
-ghost use Rattle.replan_command.specs.Replanning.{AnswersPlan, AnswersBehind, AnswersInstance, AnswersReplan};
+ghost use Rattle.replan_command.specs.Replanning.{AnswersReplanPlan, AnswersBehind, AnswersReplanInstance, AnswersReplan};
 
 use crate::keeping::kept_answer;
 use crate::refusals::{defect_answer, fault_answer, refusal_answer, unfit_answer};
@@ -31,7 +31,7 @@ fn plan_answer<R: Threads + Wait + Sync, G: Gate + Sync>(
 ) -> Answer
     requires fit { HasNoUnfit instance.now }
     requires numbers { AreReplanNumbers options.now }
-    ensures { AnswersPlan options.now instance.now plan.now result.status (bytes_in result.text) }
+    ensures { AnswersReplanPlan options.now instance.now plan.now result.status (bytes_in result.text) }
 {
     match residual(instance, plan, options.from) {
         Ok(left) => kept_answer(rt, alloc, instance, &left, options, gate),
@@ -70,7 +70,7 @@ fn instance_answer<R: Threads + Wait + Sync, G: Gate + Sync>(
     gate: &G,
 ) -> Answer
     requires { AreReplanNumbers options.now }
-    ensures { AnswersInstance options.now instance.now bytes.now result.status (bytes_in result.text) }
+    ensures { AnswersReplanInstance options.now instance.now bytes.now result.status (bytes_in result.text) }
 {
     match first_unfit(instance) {
         Some(ship) => unfit_answer(alloc, instance, ship, bytes, options),

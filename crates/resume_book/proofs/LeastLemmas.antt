@@ -2,7 +2,7 @@
 use Rattle.std.proofs.Common.{◌≡◌, ℕ, ◌≤◌, List, [], ◌∷◌, ◌++◌, inl, inr, refl, ap, ◌∙◌, subst, arith, min}
 use Rattle.std.proofs.lemmas.Bool.Decides.{leb_tells}
 use Rattle.lock_rules.specs.Bound.{least_number}
-use Rattle.lock_rules.specs.Among.{IsAmong}
+use Rattle.list_laws.specs.Among.{IsAmong}
 use Rattle.closing_rules.proofs.BelowLemmas.{HasBelow}
 
 least-min : (a b : ℕ) (ys : List ℕ) → least_number (min a b ∷ ys) ≡ min a (least_number (b ∷ ys))

@@ -4,13 +4,14 @@ use Rattle.std.specs.declared.option.Option.{Option}
 use Rattle.std.specs.List.{list_any}
 use Rattle.lock_model.specs.declared.verdict.Verdict.TheVariants as verdict
 use Rattle.lock_rules.specs.Bound.{least_number}
-use Rattle.lock_rules.specs.Among.{IsAmong}
+use Rattle.list_laws.specs.Among.{IsAmong}
 use Rattle.lock_rules.proofs.TreeLemmas.{IsAmong-left, IsAmong-right}
 use Rattle.refute_rules.proofs.Among.{among-append}
 use Rattle.book_rules.specs.declared.book.SlotState.{SlotState}
 use Rattle.book_rules.specs.declared.book.SlotState.TheVariants as slot
 use Rattle.certificate_rules.specs.declared.certificate.OpenMark.TheVariants.{Open}
-use Rattle.book_rules.specs.Book.{Node, Slot, Book, no_slot, slot_at, is_fresh, is_back, is_held, is_parked, is_live, has_slot, first_slot}
+use Rattle.book_rules.specs.Book.{Slot, Book, no_slot, slot_at, is_fresh, is_back, is_held, is_parked, is_live, has_slot, first_slot}
+use Rattle.lock_rules.specs.Node.{Node}
 use Rattle.book_rules.specs.Verdict.{low_of, parked_verdict, turns_verdict, verdict_of}
 use Rattle.certificate_rules.specs.Low.{leaf_bounds}
 use Rattle.book_rules.proofs.SlotLemmas.{first_slot-at}

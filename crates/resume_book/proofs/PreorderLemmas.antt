@@ -1,10 +1,11 @@
 -- The slots of a book in preorder: each is a slot, and each slot is among them.
 use Rattle.std.proofs.Common.{◌≡◌, ℕ, zero, suc, ◌+◌, ◌-◌, ◌<◌, ◌≤◌, inl, inr, length, refl, sym, ap, subst, arith}
-use Rattle.lock_rules.specs.Among.{IsAmong}
+use Rattle.list_laws.specs.Among.{IsAmong}
 use Rattle.lock_rules.proofs.SplitLemmas.{IsAmong-flat_map}
 use Rattle.book_rules.specs.declared.book.SlotState.{SlotState}
 use Rattle.book_rules.specs.declared.book.SlotState.TheVariants as slot
-use Rattle.book_rules.specs.Book.{Node, Book, slot_at}
+use Rattle.book_rules.specs.Book.{Book, slot_at}
+use Rattle.lock_rules.specs.Node.{Node}
 use Rattle.book_rules.specs.Family.{child_count, KeepsFamily}
 use Rattle.resume_book.specs.Preorder.{children_slots, preorder, slots_in_order}
 use Rattle.lock_rules.proofs.AmongLemmas.{among-flat_map}

@@ -4,13 +4,13 @@ use Rattle.std.proofs.lemmas.List.{take_more, take_all}
 use Rattle.lock_model.specs.declared.instance.Instance.{Instance}
 use Rattle.lock_model.specs.declared.group.Group.{Group}
 use Rattle.lock_rules.specs.Bound.{bound_of, least_number}
-use Rattle.lock_rules.specs.Node.{root_lines}
+use Rattle.lock_rules.specs.Node.{Node, root_lines}
 use Rattle.certificate_rules.specs.declared.certificate.Mark.TheVariants as mark
 use Rattle.certificate_rules.specs.declared.certificate.OpenMark.{OpenMark}
 use Rattle.certificate_rules.specs.declared.certificate.OpenMark.TheVariants.{Closed}
 use Rattle.certificate_rules.specs.declared.certificate.Reason.TheVariants as reason
 use Rattle.certificate_rules.specs.Low.{OpenInOrder, HasOpen, leaf_bounds}
-use Rattle.master_branch.specs.Node.{Node, children, child_lines}
+use Rattle.master_branch.specs.Node.{children, child_lines}
 use Rattle.cert_check.specs.declared.closing.Claim.{Claim}
 use Rattle.cert_check.specs.Reading.{MarkKind, IsChildStuck}
 use Rattle.cert_check.proofs.TreeLemmas.{lacks-one}

@@ -4,7 +4,7 @@ use Rattle.std.specs.List.{range_with_len, flat_map}
 use Rattle.std.proofs.lemmas.List.{append_assoc, map-append}
 use Rattle.lock_model.specs.declared.instance.Instance.{Instance}
 use Rattle.lock_model.specs.declared.group.Group.{Group}
-use Rattle.lock_rules.specs.Node.{root_lines}
+use Rattle.lock_rules.specs.Node.{Node, root_lines}
 use Rattle.lock_rules.specs.Bound.{bound_of}
 use Rattle.lock_rules.specs.Children.{children_of}
 use Rattle.refute_rules.specs.Trees.{AreInOrder}
@@ -13,7 +13,7 @@ use Rattle.book_rules.specs.declared.book.SlotState.TheVariants as slot
 use Rattle.certificate_rules.specs.declared.certificate.Mark.TheVariants as mark
 use Rattle.certificate_rules.specs.declared.certificate.OpenMark.{OpenMark}
 use Rattle.certificate_rules.specs.declared.certificate.OpenMark.TheVariants.{Closed}
-use Rattle.book_rules.specs.Book.{Node, Book, no_slot, slot_at, best_cost}
+use Rattle.book_rules.specs.Book.{Book, no_slot, slot_at, best_cost}
 use Rattle.book_rules.specs.Cover.{KeepsBook}
 use Rattle.book_rules.specs.States.{KeepsStates}
 use Rattle.book_rules.specs.Family.{HasChildren, KeepsFamily}

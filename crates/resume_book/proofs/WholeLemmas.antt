@@ -12,7 +12,8 @@ use Rattle.book_rules.specs.declared.book.SlotState.TheVariants as slot
 use Rattle.certificate_rules.specs.declared.certificate.Mark.TheVariants as mark
 use Rattle.certificate_rules.specs.declared.certificate.OpenMark.{OpenMark}
 use Rattle.certificate_rules.specs.declared.certificate.OpenMark.TheVariants.{Closed}
-use Rattle.book_rules.specs.Book.{Node, Slot, Book, root, slot_at, best_cost, is_fresh}
+use Rattle.book_rules.specs.Book.{Slot, Book, slot_at, best_cost, is_fresh}
+use Rattle.lock_rules.specs.Node.{Node, root}
 use Rattle.book_rules.specs.Verdict.{verdict_of}
 use Rattle.book_rules.specs.Cover.{KeepsBook}
 use Rattle.book_rules.specs.Parts.{KeepsParts}

@@ -6,7 +6,8 @@ use Rattle.std.proofs.lemmas.Grind.{flat_map-append}
 use Rattle.book_rules.specs.declared.book.SlotState.{SlotState}
 use Rattle.book_rules.specs.declared.book.SlotState.TheVariants as slot
 use Rattle.certificate_rules.specs.declared.certificate.OpenMark.{OpenMark}
-use Rattle.book_rules.specs.Book.{Node, Book, root, slot_at}
+use Rattle.book_rules.specs.Book.{Book, slot_at}
+use Rattle.lock_rules.specs.Node.{Node, root}
 use Rattle.book_rules.specs.Family.{child_count}
 use Rattle.book_rules.specs.NextSlot.{is_split}
 use Rattle.cert_check.proofs.TreeLemmas.{lacks-one}

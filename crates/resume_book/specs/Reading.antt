@@ -8,7 +8,8 @@ use Rattle.certificate_rules.specs.declared.certificate.OpenMark.TheVariants.{Cl
 use Rattle.certificate_rules.specs.OpenCertificates.{ClosesOrOpen}
 use Rattle.certificate_rules.specs.Low.{OpenInOrder, HasOpen}
 use Rattle.certificate_rules.specs.Failures.{open_reason_of}
-use Rattle.master_branch.specs.Node.{Node, children, child_lines}
+use Rattle.master_branch.specs.Node.{children, child_lines}
+use Rattle.lock_rules.specs.Node.{Node}
 use Rattle.cert_check.specs.Reading.{MarkKind, IsRead, IsChildRead, AreRead}
 use Rattle.cert_check.specs.declared.closing.Claim.{Claim}
 

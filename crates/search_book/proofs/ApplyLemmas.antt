@@ -10,15 +10,15 @@ use Rattle.book_core.specs.declared.reply.Reply.{Reply}
 use Rattle.book_core.specs.Replies.{Answers, Does, Steps, Stays}
 use Rattle.search_book.specs.declared.event.Event.{Event}
 use Rattle.search_book.specs.declared.event.Event.TheVariants as event
-use Rattle.search_book.specs.Replies.{is_acceptance, accepted}
+use Rattle.search_book.specs.Replies.{is_accepting, accepted}
 use Rattle.search_book.specs.Applied.{Applies}
 
 pub record Counts (old : Book) (r : Reply) (new : Book) : Type 0 where
   pub count : length new.history ≡ length old.history + accepted r
   pub case : new.case ≡ old.case
-  pub refused : is_acceptance r ≡ false → new ≡ old
+  pub refused : is_accepting r ≡ false → new ≡ old
 
-leaves : (old : Book) (r : Reply) (new : Book) → is_acceptance r ≡ false → new ≡ old → Counts old r new
+leaves : (old : Book) (r : Reply) (new : Book) → is_accepting r ≡ false → new ≡ old → Counts old r new
 leaves old r new said same =
     let none : accepted r ≡ 0 = ap (λ t. cond t 1 0) said in
     let long = ap (λ (b : Book). length b.history) same in
@@ -26,7 +26,7 @@ leaves old r new said same =
 
 pub answers-count : (old : Book) (e : machine.Event) (r : Reply) (new : Book) → Answers old e r new → Counts old r new
 answers-count old e r new answers =
-    let same_test : is_acceptance r ≡ machine.is_acceptance answers.answer = ap (λ a. option_map_or machine.is_acceptance a false) answers.said in
+    let same_test : is_accepting r ≡ machine.is_acceptance answers.answer = ap (λ a. option_map_or machine.is_acceptance a false) answers.said in
     elim (subst (IsStep old e) answers.same (each-step (λ _ _. answers.found) old e)) [
       | Refused said same ↦ leaves old r new (same_test ∙ said) same
       | Accepted done ↦
@@ -37,7 +37,7 @@ answers-count old e r new answers =
 
 does-count : (old : Book) (e : machine.Event) (r : Reply) (new : Book) → Does old e r new → Counts old r new
 does-count old e r new (Steps answers) = answers-count old e r new answers
-does-count old e r new (Stays wants) = leaves old r new (ap is_acceptance wants.want) wants.same
+does-count old e r new (Stays wants) = leaves old r new (ap is_accepting wants.want) wants.same
 
 pub applies-count : (old : Book) (e : Event) (r : Reply) (new : Book) → Applies old e r new → Counts old r new
 applies-count old (event.Take w) r new h = answers-count old (machine.take w) r new h.step
@@ -49,5 +49,5 @@ applies-count old (event.Replace plan) r new h = does-count old (machine.replace
 applies-count old (event.PostPrices prices) r new h = does-count old (machine.post_prices prices.value) r new h
 applies-count old (event.Release w) r new h = answers-count old (machine.release w) r new h
 
-pub on-refused : (old : Book) (e : Event) (r : Reply) (new : Book) → Applies old e r new → OnFalse (is_acceptance r) (new ≡ old)
-on-refused old e r new h = OnFalse_from (is_acceptance r) (new ≡ old) (applies-count old e r new h).refused
+pub on-refused : (old : Book) (e : Event) (r : Reply) (new : Book) → Applies old e r new → OnFalse (is_accepting r) (new ≡ old)
+on-refused old e r new h = OnFalse_from (is_accepting r) (new ≡ old) (applies-count old e r new h).refused

@@ -4,13 +4,12 @@ use Rattle.std.proofs.lemmas.Option.{same_Some}
 use Rattle.std.specs.List.{All}
 use Rattle.std.proofs.lemmas.List.Elements.{All-take, All-drop}
 use Rattle.mooring_rules.specs.declared.breaks.BrokenPlan.{BrokenPlan}
-use Rattle.master_branch.specs.Node.{Node, IsNodeOf}
+use Rattle.master_branch.specs.Node.{IsNodeOf}
+use Rattle.lock_rules.specs.Node.{Node}
 use Rattle.book_rules.specs.Book.{Book, slot_at, is_held}
-use Rattle.book_rules.specs.Book.{Node as TreeNode}
 use Rattle.book_rules.specs.Events as machine
 use Rattle.book_rules.specs.Step.{step}
 use Rattle.book_core.specs.Hands.{IsNodeIn}
-use Rattle.book_core.specs.Nodes.{tree_node}
 use Rattle.book_core.specs.declared.reply.Grant.{Grant}
 use Rattle.book_core.specs.declared.reply.Grant.TheVariants as grant
 use Rattle.book_core.specs.declared.reply.Reply.{Reply}
@@ -24,7 +23,7 @@ use Rattle.search_book.specs.declared.next.Next.TheVariants as next
 use Rattle.search_book.specs.Applied.{Applies, Takes}
 use Rattle.search_book.specs.Going.{GoesAhead, IsNextAhead, IsStop, Passes, ending_of}
 use Rattle.search_book.specs.Granting.{IsAstray, IsFirstAt, IsHeldAt}
-use Rattle.search_book.specs.Replies.{is_acceptance}
+use Rattle.search_book.specs.Replies.{is_accepting}
 use Rattle.book_core.proofs.EventLemmas.{grants-answers, grants-node}
 
 -- ---- a taking
@@ -33,7 +32,7 @@ use Rattle.book_core.proofs.EventLemmas.{grants-answers, grants-node}
 pub grants-takes : (old : Book) (w : ℕ) (g : Grant) (new : Book) (r : Reply) → Grants old w g new → told r ≡ Some (grant_told new g) → HasNode new.case.instance r → Takes old w r new
 grants-takes old w g new r grants said node = record { step = grants-answers old w g new grants r said; node = grants-node old w g new grants r node }
 
-told-slot : (new : Book) (id : ℕ) (node : Node) → tree_node node ≡ (slot_at new id).node → told (reply.Node id node) ≡ Some (grant_told new (grant.Slot id))
+told-slot : (new : Book) (id : ℕ) (node : Node) → node ≡ (slot_at new id).node → told (reply.Node id node) ≡ Some (grant_told new (grant.Slot id))
 told-slot new id node same = ap (λ n. Some (machine.Node id n)) same
 
 -- a slot was given whose node is known
@@ -42,7 +41,7 @@ takes-slot old w id new node grants is = grants-takes old w (grant.Slot id) new 
 
 -- ---- an event and a taking
 
-pub passes : (old : Book) (e : Event) (ended : Reply) (between : Book) → Applies old e ended between → is_acceptance ended ≡ true
+pub passes : (old : Book) (e : Event) (ended : Reply) (between : Book) → Applies old e ended between → is_accepting ended ≡ true
     → (w id : ℕ) (rest : List Ahead) (new : Book) → Grants between w (grant.Slot id) new → IsFirstAt new id rest → Passes old e w rest id new
 passes old e ended between step said w id [] new grants is = is
 passes old e ended between step said w id (a ∷ rest) new grants is =
@@ -51,21 +50,21 @@ passes old e ended between step said w id (a ∷ rest) new grants is =
 -- the slot and the node of a reply to a taking
 record IsSlot (b : Book) (g : Grant) (id : ℕ) (node : Node) : Type 0 where
   is : g ≡ grant.Slot id
-  same : tree_node node ≡ (slot_at b id).node
+  same : node ≡ (slot_at b id).node
 
-abbrev told_node : ℕ → TreeNode → machine.Reply BrokenPlan
+abbrev told_node : ℕ → Node → machine.Reply BrokenPlan
 told_node id n = machine.Node id n
 
-same-id : (a b : ℕ) (n m : TreeNode) → told_node a n ≡ told_node b m → a ≡ b
+same-id : (a b : ℕ) (n m : Node) → told_node a n ≡ told_node b m → a ≡ b
 same-id a b n m e = cc
 
-same-node : (a b : ℕ) (n m : TreeNode) → told_node a n ≡ told_node b m → n ≡ m
+same-node : (a b : ℕ) (n m : Node) → told_node a n ≡ told_node b m → n ≡ m
 same-node a b n m e = cc
 
-slot-of : (b : Book) (g : Grant) (id : ℕ) (node : Node) → told_node id (tree_node node) ≡ grant_told b g → IsSlot b g id node
+slot-of : (b : Book) (g : Grant) (id : ℕ) (node : Node) → told_node id node ≡ grant_told b g → IsSlot b g id node
 slot-of b (grant.Slot k) id node e =
-    let own : id ≡ k = same-id id k (tree_node node) (slot_at b k).node e in
-    record { is = ap grant.Slot (sym own); same = same-node id k (tree_node node) (slot_at b k).node e ∙ ap (λ i. (slot_at b i).node) (sym own) }
+    let own : id ≡ k = same-id id k node (slot_at b k).node e in
+    record { is = ap grant.Slot (sym own); same = same-node id k node (slot_at b k).node e ∙ ap (λ i. (slot_at b i).node) (sym own) }
 slot-of b (grant.Ended k) id node e = cc
 slot-of b (grant.Holds k) id node e = cc
 slot-of b (grant.NodesSpent k) id node e = cc
@@ -83,12 +82,12 @@ none-ahead _ h = h
 -- a taking that gave no slot of the next node has a reply without it
 off-way : (b : Book) (g : Grant) (rest : List Ahead) → IsAstray b g rest → IsInHand b g → (r : Reply) → told r ≡ Some (grant_told b g) → HasNode b.case.instance r → IsNextAhead (next.Taken r) rest → ⊥
 off-way b g (a ∷ rest) astray held (reply.Node id node) said is same =
-    let slot = slot-of b g id node (same_Some (told_node id (tree_node node)) (grant_told b g) said) in
+    let slot = slot-of b g id node (same_Some (told_node id node) (grant_told b g) said) in
     astray.off id slot.is (subst (IsHeldAt b id) same (held-by-grant b g id node held is slot))
 off-way b g [] astray held r said is same = none-ahead r same
 off-way b g (a ∷ rest) astray held _ said is same = same
 
-pub stops : (old : Book) (e : Event) (ended : Reply) (between : Book) → Applies old e ended between → is_acceptance ended ≡ true
+pub stops : (old : Book) (e : Event) (ended : Reply) (between : Book) → Applies old e ended between → is_accepting ended ≡ true
     → (w : ℕ) (g : Grant) (rest : List Ahead) (new : Book) → Grants between w g new → IsInHand new g → IsAstray new g rest
     → (r : Reply) → told r ≡ Some (grant_told new g) → HasNode new.case.instance r → IsStop old e w rest (next.Taken r) new
 stops old e ended between step said w g rest new grants held astray r tells node = record {
@@ -135,4 +134,4 @@ pub held-own : (b : Book) (id : ℕ) (own node : Node) → is_held (slot_at b id
 held-own b id own node held is same = subst (IsHeldAt b id) same (record { held = held; same = is.same; of = is.node })
 
 pub own-held : (b : Book) (id : ℕ) (own node : Node) → IsNodeIn b.case.instance b.slots id own → IsHeldAt b id node → own ≡ node
-own-held b id own node is held = ap (λ (n : TreeNode). record { depth = n.depth; lines = n.lines }) (is.same ∙ sym held.same)
+own-held b id own node is held = is.same ∙ sym held.same

@@ -1,9 +1,9 @@
 -- The slot that a taking gives, beside the node that is next ahead.
 use Rattle.std.specs.Prelude.{ℕ, ◌≡◌, true, List, [], ◌∷◌, Ok, Err}
 use Rattle.std.specs.declared.result.Result.{Result}
-use Rattle.master_branch.specs.Node.{Node, IsNodeOf}
+use Rattle.master_branch.specs.Node.{IsNodeOf}
+use Rattle.lock_rules.specs.Node.{Node}
 use Rattle.book_rules.specs.Book.{Book, slot_at, is_held}
-use Rattle.book_core.specs.Nodes.{tree_node}
 use Rattle.book_core.specs.declared.reply.Grant.{Grant}
 use Rattle.book_core.specs.declared.reply.Grant.TheVariants as grant
 use Rattle.search_book.specs.declared.ahead.Ahead.{Ahead}
@@ -18,7 +18,7 @@ granted _ = 0
 -- a worker holds slot id, which has this node
 pub record IsHeldAt (b : Book) (id : ℕ) (node : Node) : Type 0 where
   pub held : is_held (slot_at b id).state ≡ true
-  pub same : tree_node node ≡ (slot_at b id).node
+  pub same : node ≡ (slot_at b id).node
   pub of : IsNodeOf b.case.instance node
 
 -- the same of the first of these

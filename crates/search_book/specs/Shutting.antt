@@ -9,7 +9,7 @@ use Rattle.search_book.specs.declared.next.Next.{Next}
 use Rattle.search_book.specs.declared.next.Next.TheVariants as next
 use Rattle.search_book.specs.declared.shutting.ByPrice.{ByPrice}
 use Rattle.search_book.specs.Applied.{Takes}
-use Rattle.search_book.specs.Replies.{is_acceptance}
+use Rattle.search_book.specs.Replies.{is_accepting}
 
 -- the machine's event
 abbrev pub closing_of : ByPrice → machine.Event
@@ -18,7 +18,7 @@ closing_of closing = machine.close_price closing.id closing.number (told_shown c
 -- the closing was refused, and that is all
 pub record IsShutRefused (old : Book) (closing : ByPrice) (r : Reply) (new : Book) : Type 0 where
   pub step : Answers old (closing_of closing) r new
-  pub refused : is_acceptance r ≡ false
+  pub refused : is_accepting r ≡ false
   pub same : new ≡ old
 
 -- the slot was closed, and then worker w took a slot or was refused
@@ -26,7 +26,7 @@ pub record IsShut (old : Book) (closing : ByPrice) (w : ℕ) (r : Reply) (new : 
   pub ended : Reply
   pub between : Book
   pub step : Answers old (closing_of closing) ended between
-  pub accepted : is_acceptance ended ≡ true
+  pub accepted : is_accepting ended ≡ true
   pub taken : Takes between w r new
 
 abbrev pub Shuts : Book → ByPrice → ℕ → Next → Book → Type 0

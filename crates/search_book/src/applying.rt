@@ -6,12 +6,12 @@ ghost use Rattle.book_rules.specs.Events as machine;
 ghost use Rattle.search_book.specs.Applied.{Applies};
 ghost use Rattle.search_book.specs.Events.{IsAllowed};
 ghost use Rattle.search_book.specs.Following.{Follows, counted};
-ghost use Rattle.search_book.specs.Replies.{is_acceptance, accepted};
+ghost use Rattle.search_book.specs.Replies.{is_accepting, accepted};
 
 use crate::event::Event;
 use crate::kept::Kept;
 use crate::next::Next;
-use crate::replies::is_acceptance;
+use crate::replies::is_accepting;
 use book_core::{Book, Reply};
 use lock_model::Plan;
 use place_refute::Cut;
@@ -62,7 +62,7 @@ fn make_counted(book: &mut Book, event: Event) -> Reply
     ensures step { Applies book.old event result book.new }
     ensures count { length book.new.history ≡ length book.old.history + accepted result }
     ensures case { book.new.case ≡ book.old.case }
-    ensures refused { OnFalse (is_acceptance result) (book.new ≡ book.old) }
+    ensures refused { OnFalse (is_accepting result) (book.new ≡ book.old) }
 {
     make(book, event)
 }
@@ -76,14 +76,14 @@ pub fn apply<L: Ledger>(kept: &mut Kept<L>, share: &mut Share<L>, event: Event) 
     requires part { 0 < share.old.parts }
     requires allowed { IsAllowed event }
     ensures step { Applies kept.old.book event result kept.new.book }
-    ensures refused { OnFalse (is_acceptance result) (kept.new.book ≡ kept.old.book) }
+    ensures refused { OnFalse (is_accepting result) (kept.new.book ≡ kept.old.book) }
     ensures case { kept.new.book.case ≡ kept.old.book.case }
     ensures total { kept.new.tally.total ≡ kept.old.tally.total + accepted result }
     ensures amount { share.new.amount ≡ share.old.amount + accepted result }
     ensures parts { share.new.parts ≡ share.old.parts }
 {
     let reply = make_counted(&mut kept.book, event);
-    if is_acceptance(&reply) {
+    if is_accepting(&reply) {
         kept.tally.add(share, 1);
     }
     reply
@@ -105,7 +105,7 @@ pub fn apply_and_take<L: Ledger>(
     ensures parts { share.new.parts ≡ share.old.parts }
 {
     let reply = apply(kept, share, ending);
-    if !is_acceptance(&reply) {
+    if !is_accepting(&reply) {
         return Next::Refused(reply);
     }
     Next::Taken(apply(kept, share, Event::Take(worker)))

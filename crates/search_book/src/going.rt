@@ -3,7 +3,6 @@ ghost use Rattle.std.specs.Prelude.{◌≡◌, ◌↔◌, ◌+◌, ◌<◌, ◌�
 ghost use Rattle.std.specs.Bool.{OnTrue};
 ghost use Rattle.book_core.specs.declared.reply.Grant.TheVariants as grant;
 ghost use Rattle.book_rules.specs.Book.{slot_at};
-ghost use Rattle.book_core.specs.Nodes.{tree_node};
 ghost use Rattle.book_core.specs.Replies.{Grants, IsInHand};
 ghost use Rattle.search_book.specs.Events.{IsAllowed};
 ghost use Rattle.search_book.specs.Going.{GoesAhead, IsStop, Passes, ending_of, gone_count};
@@ -15,7 +14,7 @@ use crate::event::Event;
 use crate::gone::Gone;
 use crate::kept::Kept;
 use crate::next::Next;
-use crate::replies::is_acceptance;
+use crate::replies::is_accepting;
 use book_core::{Book, Grant};
 use master_branch::Node;
 use std::sync::ledger::{Ledger, Share};
@@ -94,7 +93,7 @@ fn pass<L: Ledger>(
     ensures parts { share.new.parts ≡ share.old.parts }
 {
     let reply = apply(kept, share, ending);
-    if !is_acceptance(&reply) {
+    if !is_accepting(&reply) {
         return Err(Next::Refused(reply));
     }
     let grant = take_slot(kept, share, worker);
@@ -119,7 +118,7 @@ fn may_lay(book: &Book, id: u32, stretch: &Stretch<'_>) -> bool
 // Lays the bounds of a node's children into the hand that holds the slot.
 fn lay(book: &mut Book, id: u32, one: &Ahead<'_>, may: bool)
     requires instance { OnTrue may (one.now.foreseen.instance.now ≡ book.old.case.instance) }
-    requires node { OnTrue may (tree_node one.now.foreseen.node ≡ (slot_at book.old id).node) }
+    requires node { OnTrue may (one.now.foreseen.node ≡ (slot_at book.old id).node) }
     ensures { book.new ≡ book.old }
 {
     if may {

@@ -1,13 +1,13 @@
 //! What a reply says.
 ghost use Rattle.std.specs.Prelude.{◌≡◌};
 ghost use Rattle.std.specs.Bool.{OnTrue};
-ghost use Rattle.search_book.specs.Replies.{is_acceptance, is_idle, accepted};
+ghost use Rattle.search_book.specs.Replies.{is_accepting, is_idle, accepted};
 
 use book_core::Reply;
 
 /// Whether a reply accepts its event.
-pub(crate) fn is_acceptance(reply: &Reply) -> bool
-    ensures { result ≡ is_acceptance reply.now }
+pub(crate) fn is_accepting(reply: &Reply) -> bool
+    ensures { result ≡ is_accepting reply.now }
 {
     match reply {
         Reply::Node(_, _)

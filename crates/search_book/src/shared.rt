@@ -13,7 +13,7 @@ use crate::gone::Gone;
 use crate::kept::Kept;
 use crate::learning::learn_cuts;
 use crate::next::Next;
-use crate::replies::{is_acceptance, is_idle};
+use crate::replies::{is_accepting, is_idle};
 use crate::shutting::{ByPrice, close_price_and_take};
 use book_core::Reply;
 use plain_text::NoMemory;
@@ -95,7 +95,7 @@ impl<L: Ledger> SharedBook<L> {
     {
         let mut kept = self.lock_soon(rt);
         let reply = apply(&mut *kept, share, event);
-        if is_acceptance(&reply) {
+        if is_accepting(&reply) {
             self.leave(kept);
         }
         reply
@@ -199,7 +199,7 @@ impl<L: Ledger> SharedBook<L> {
         for _ in rt.forever() {
             let reply = apply(&mut *kept, share, Event::Take(worker));
             if !is_idle(&reply) {
-                if is_acceptance(&reply) {
+                if is_accepting(&reply) {
                     self.leave(kept);
                 }
                 return reply;

@@ -3,14 +3,14 @@ ghost use Rattle.std.specs.Prelude.{◌≡◌, ◌+◌, ◌<◌, ◌≤◌, leng
 ghost use Rattle.std.specs.Bool.{OnFalse};
 ghost use Rattle.book_core.specs.Replies.{Answers};
 ghost use Rattle.search_book.specs.Following.{counted};
-ghost use Rattle.search_book.specs.Replies.{is_acceptance, accepted};
+ghost use Rattle.search_book.specs.Replies.{is_accepting, accepted};
 ghost use Rattle.search_book.specs.Shutting.{Shuts, closing_of};
 
 use crate::applying::apply;
 use crate::event::Event;
 use crate::kept::Kept;
 use crate::next::Next;
-use crate::replies::is_acceptance;
+use crate::replies::is_accepting;
 use book_core::{Book, Reply};
 use price_bound::Shown;
 use std::sync::ledger::{Ledger, Share};
@@ -27,7 +27,7 @@ pub struct ByPrice<'a> {
 fn close_counted(book: &mut Book, closing: &ByPrice<'_>) -> Reply
     ensures step { Answers book.old (closing_of closing.now) result book.new }
     ensures count { length book.new.history ≡ length book.old.history + accepted result }
-    ensures refused { OnFalse (is_acceptance result) (book.new ≡ book.old) }
+    ensures refused { OnFalse (is_accepting result) (book.new ≡ book.old) }
 {
     book.close_price(closing.id, closing.number, closing.shown)
 }
@@ -49,7 +49,7 @@ pub fn close_price_and_take<L: Ledger>(
     ensures parts { share.new.parts ≡ share.old.parts }
 {
     let reply = close_counted(&mut kept.book, closing);
-    if !is_acceptance(&reply) {
+    if !is_accepting(&reply) {
         return Next::Refused(reply);
     }
     kept.tally.add(share, 1);

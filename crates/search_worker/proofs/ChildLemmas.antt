@@ -3,7 +3,8 @@ use Rattle.std.proofs.Common.{◌≡◌, ℕ, ◌+◌, ◌<◌, List, length, ap
 use Rattle.std.proofs.lemmas.List.{length-map}
 use Rattle.lock_model.specs.declared.instance.Instance.{Instance}
 use Rattle.lock_rules.specs.Bound.{bound_of}
-use Rattle.master_branch.specs.Node.{Node, children}
+use Rattle.master_branch.specs.Node.{children}
+use Rattle.lock_rules.specs.Node.{Node}
 use Rattle.book_core.specs.Hands.{bounds_below}
 
 pub number_within : (I : Instance) (node : Node) (bounds : List ℕ) (number : ℕ) → bounds ≡ bounds_below I node → number < length bounds → number < length (children I node)

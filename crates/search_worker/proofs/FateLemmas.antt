@@ -1,7 +1,7 @@
 -- A group that is spent is spot-hard.
 use Rattle.std.proofs.Common.{ℕ, List}
 use Rattle.lock_model.specs.declared.instance.Instance.{Instance}
-use Rattle.master_branch.specs.Node.{Node}
+use Rattle.lock_rules.specs.Node.{Node}
 use Rattle.node_work.specs.declared.fate.Fate.{Fate}
 use Rattle.node_work.specs.declared.fate.Fate.TheVariants as fate
 use Rattle.node_work.specs.Fates.{IsAnyway, IsFate}

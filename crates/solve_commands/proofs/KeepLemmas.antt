@@ -8,7 +8,8 @@ use Rattle.lock_model.specs.declared.verdict.Verdict.{Verdict}
 use Rattle.lock_model.specs.declared.verdict.Verdict.TheVariants.{Optimal, OpenNodes, OpenTurns}
 use Rattle.book_rules.specs.declared.book.SlotState.{SlotState}
 use Rattle.book_rules.specs.declared.book.SlotState.TheVariants as slot
-use Rattle.book_rules.specs.Book.{Book, Node, Slot, no_slot, slot_at, best_cost, is_fresh, is_back, is_held, is_parked, has_slot, first_slot}
+use Rattle.book_rules.specs.Book.{Book, Slot, no_slot, slot_at, best_cost, is_fresh, is_back, is_held, is_parked, has_slot, first_slot}
+use Rattle.lock_rules.specs.Node.{Node}
 use Rattle.book_rules.specs.Verdict.{low_of, parked_verdict, turns_verdict, verdict_of}
 use Rattle.book_rules.specs.Ends.{HasNothingOpen, HoldsNothing, EndsWell, IsOpenLow, IsSpentBelow, IsEnd}
 use Rattle.certificate_rules.specs.OpenCertificates.{OpenCertificate, Stands}

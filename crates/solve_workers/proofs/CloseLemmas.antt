@@ -8,7 +8,8 @@ use Rattle.mooring_rules.specs.declared.breaks.BrokenPlan.{BrokenPlan}
 use Rattle.closing_rules.specs.declared.grounds.Ground.{Ground}
 use Rattle.closing_rules.specs.declared.grounds.Ground.TheVariants as by
 use Rattle.book_rules.specs.declared.book.SlotState.TheVariants as slot
-use Rattle.book_rules.specs.Book.{Book, Node, slot_at, best_cost}
+use Rattle.book_rules.specs.Book.{Book, slot_at, best_cost}
+use Rattle.lock_rules.specs.Node.{Node}
 use Rattle.book_rules.specs.Ends.{HoldsNothing}
 use Rattle.book_rules.specs.Events as machine
 use Rattle.book_rules.specs.Events.{close}

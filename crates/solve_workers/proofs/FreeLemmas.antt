@@ -4,7 +4,8 @@ use Rattle.std.proofs.lemmas.Bool.Decides.{leb_tells}
 use Rattle.std.proofs.lemmas.List.{get_or_past}
 use Rattle.book_rules.specs.declared.book.SlotState.{SlotState}
 use Rattle.book_rules.specs.declared.book.SlotState.TheVariants as slot
-use Rattle.book_rules.specs.Book.{Book, Slot, Node, no_slot, slot_at, is_held, is_parked}
+use Rattle.book_rules.specs.Book.{Book, Slot, no_slot, slot_at, is_held, is_parked}
+use Rattle.lock_rules.specs.Node.{Node}
 use Rattle.book_rules.specs.Ends.{HasNone, HoldsNothing}
 use Rattle.book_rules.specs.Step
 use Rattle.book_rules.proofs.MoveLemmas.{state-known}

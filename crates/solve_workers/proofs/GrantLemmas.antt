@@ -11,7 +11,7 @@ use Rattle.book_core.specs.declared.reply.Reply.{Reply}
 use Rattle.book_core.specs.declared.reply.Reply.TheVariants as reply
 use Rattle.book_core.specs.Keeps.{IsSound}
 use Rattle.book_core.specs.Replies.{Answers, Grants, grant_told, told}
-use Rattle.master_branch.specs.Node.{Node}
+use Rattle.lock_rules.specs.Node.{Node}
 use Rattle.solve_workers.specs.Driving.{IsDriven}
 use Rattle.solve_workers.specs.Holding.{IsRunning, IsDone}
 use Rattle.solve_workers.specs.Holds.{HoldsSlot, node_at}

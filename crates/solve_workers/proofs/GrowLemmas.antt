@@ -9,12 +9,12 @@ use Rattle.lock_model.specs.Cargo.{HasNoClash}
 use Rattle.lock_model.specs.Fitting.{deck_of}
 use Rattle.lock_model.specs.declared.group.Group.{Group}
 use Rattle.lock_model.specs.declared.plan.Plan.{Plan}
-use Rattle.lock_rules.specs.Node.{line_at}
+use Rattle.lock_rules.specs.Node.{Node, line_at}
 use Rattle.lock_rules.specs.Plan.{IsLegal, cost_of}
 use Rattle.refute_rules.specs.Cuts.{Cut}
 use Rattle.mooring_rules.specs.declared.breaks.BrokenPlan.{BrokenPlan}
 use Rattle.book_rules.specs.declared.book.SlotState.TheVariants as slot
-use Rattle.book_rules.specs.Book.{Book, Slot, Node, no_slot, slot_at, best_cost, is_held, is_fresh, is_back, is_parked, group_at}
+use Rattle.book_rules.specs.Book.{Book, Slot, no_slot, slot_at, best_cost, is_held, is_fresh, is_back, is_parked, group_at}
 use Rattle.book_rules.specs.Cover.{IsOwnCut}
 use Rattle.book_rules.specs.Ends.{HoldsNothing}
 use Rattle.book_rules.specs.Events as machine

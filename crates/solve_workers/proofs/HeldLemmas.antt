@@ -6,18 +6,17 @@ use Rattle.lock_model.specs.declared.plan.Plan.{Plan}
 use Rattle.lock_rules.specs.Arrival.{next_ship}
 use Rattle.lock_rules.specs.Bound.{bound_of, probe_of}
 use Rattle.lock_rules.specs.Cut.{HitsNode}
-use Rattle.lock_rules.specs.Node.{IsNode}
+use Rattle.lock_rules.specs.Node.{Node, IsNode}
 use Rattle.lock_rules.specs.Plan.{IsLegal}
 use Rattle.refute_rules.specs.Cuts.{Cut}
 use Rattle.place_refute.specs.Tried.{Tried}
-use Rattle.master_branch.specs.Node.{Node, IsNodeOf}
-use Rattle.book_rules.specs.Book.{Book, Case, Node as TreeNode, best_cost, no_slot, slot_at, bound_at}
+use Rattle.master_branch.specs.Node.{IsNodeOf}
+use Rattle.book_rules.specs.Book.{Book, Case, best_cost, no_slot, slot_at, bound_at}
 use Rattle.book_rules.specs.Ends.{HoldsNothing}
 use Rattle.book_rules.specs.Events.{close, post, park, replace}
 use Rattle.book_rules.specs.Step.{probe_at}
 use Rattle.book_core.specs.declared.reply.Reply.{Reply}
 use Rattle.book_core.specs.Keeps.{IsSound}
-use Rattle.book_core.specs.Nodes.{tree_node}
 use Rattle.book_core.specs.Replies.{Answers, Does}
 use Rattle.lock_model.specs.declared.instance.Instance.{Instance}
 use Rattle.lock_rules.specs.Throughput.{throughput_of}
@@ -50,29 +49,25 @@ pub err_of : {A E P : Type 0} (r : Result A E) → P → OnErr r P
 err_of (Ok a) is = tt
 err_of (Err e) is = is
 
--- the slot with its own node
-abbrev pub as_node : TreeNode → Node
-as_node t = record { depth = t.depth; lines = t.lines }
-
-pub slot_holds : (b : Book) (id : ℕ) (n : Node) → HoldsOnly b id (tree_node n) → HoldsSlot b id
+pub slot_holds : (b : Book) (id : ℕ) (n : Node) → HoldsOnly b id n → HoldsSlot b id
 slot_holds b id n holds = record { held = holds.held; others = holds.others; node_is = refl }
 
-pub slot_node : (b : Book) (id : ℕ) (n : Node) → HoldsOnly b id (tree_node n) → node_at b id ≡ n
-slot_node b id n holds = ap as_node holds.node_is
+pub slot_node : (b : Book) (id : ℕ) (n : Node) → HoldsOnly b id n → node_at b id ≡ n
+slot_node b id n holds = holds.node_is
 
-pub slot_closable : (b : Book) (id : ℕ) (n : Node) (why : Ground) → HoldsOnly b id (tree_node n) → IsClosable b n why → IsClosable b (node_at b id) why
+pub slot_closable : (b : Book) (id : ℕ) (n : Node) (why : Ground) → HoldsOnly b id n → IsClosable b n why → IsClosable b (node_at b id) why
 slot_closable b id n why holds is = subst (λ (m : Node). IsClosable b m why) (sym (slot_node b id n holds)) is
 
-module _ (b : Book) (id : ℕ) (n : Node) (holds : HoldsOnly b id (tree_node n)) where
+module _ (b : Book) (id : ℕ) (n : Node) (holds : HoldsOnly b id n) where
   -- it is a node of the instance, and the slot has its bound
   pub held_node : IsSound b → IsNodeOf b.case.instance n
   held_node sound =
-      let good = sound.keeps.slots id no_slot (held-known b id (tree_node n) holds) in
-      subst (λ (t : TreeNode). IsNode b.case.instance t.depth t.lines) holds.node_is good.node
+      let good = sound.keeps.slots id no_slot (held-known b id n holds) in
+      subst (λ (t : Node). IsNode b.case.instance t.depth t.lines) holds.node_is good.node
 
   pub held_bound : IsSound b → (slot_at b id).bound ≡ bound_of b.case.instance n.depth n.lines
   held_bound sound =
-      let good = sound.keeps.slots id no_slot (held-known b id (tree_node n) holds) in
+      let good = sound.keeps.slots id no_slot (held-known b id n holds) in
       good.bound ∙ ap (bound_at b.case.instance) holds.node_is
 
   pub search_node : IsSound b → (search : Search) → IsOwnSearch b search → IsNodeOf search.instance.now n
@@ -83,25 +78,25 @@ module _ (b : Book) (id : ℕ) (n : Node) (holds : HoldsOnly b id (tree_node n))
   closable_shut why r new sound is answers =
       let slot_is : IsClosedBy b.case.instance (IsHitBy b.case.instance b.cuts) IsNeverPriced (best_cost b) (slot_at b id).bound (slot_at b id).node.depth (slot_at b id).node.lines why =
       subst (λ bound. IsClosedBy b.case.instance (IsHitBy b.case.instance b.cuts) IsNeverPriced (best_cost b) bound (slot_at b id).node.depth (slot_at b id).node.lines why) (sym (held_bound sound))
-      (subst (λ (t : TreeNode). IsClosedBy b.case.instance (IsHitBy b.case.instance b.cuts) IsNeverPriced (best_cost b) (bound_of b.case.instance n.depth n.lines) t.depth t.lines why) (sym holds.node_is) is.closed) in
-      sure_shut b id (tree_node n) holds r new why slot_is answers
+      (subst (λ (t : Node). IsClosedBy b.case.instance (IsHitBy b.case.instance b.cuts) IsNeverPriced (best_cost b) (bound_of b.case.instance n.depth n.lines) t.depth t.lines why) (sym holds.node_is) is.closed) in
+      sure_shut b id n holds r new why slot_is answers
 
   -- the plan of the node makes its bound too high
   pub complete_closable : (plan : Plan) (r : Reply) (mid : Book) → IsSound b → IsPlanAt b.case.instance n plan → is_want r ≡ false → Does b (replace plan) r mid → IsClosable mid (node_at mid id) by.Bound
   complete_closable plan r mid sound is told does =
-      let better = replaced_better b id (tree_node n) plan holds r mid is.legal told does in
+      let better = replaced_better b id n plan holds r mid is.legal told does in
       let best = better.best in
       let cost = is.cost in
       slot_closable mid id n by.Bound better.holds
       (record { closed = subst (λ (k : Case). best_cost mid ≤ bound_of k.instance n.depth n.lines) (sym better.case) (omega (arith, best, cost)) })
 
   pub complete_holds : (plan : Plan) (r : Reply) (mid : Book) → IsLegal b.case.instance plan → is_want r ≡ false → Does b (replace plan) r mid → HoldsSlot mid id
-  complete_holds plan r mid legal told does = slot_holds mid id n (replaced_better b id (tree_node n) plan holds r mid legal told does).holds
+  complete_holds plan r mid legal told does = slot_holds mid id n (replaced_better b id n plan holds r mid legal told does).holds
 
   -- the node is parked at a group that is spent
   pub spent_frees : (c p : ℕ) (told : Tried) (r : Reply) (new : Book) → IsSpentAt b.case.instance b.case.turns n.lines c p told → Answers b (park id c p told.deck told.turns) r new → HoldsNothing new
   spent_frees c p told r new spent answers =
-      parked_frees b id (tree_node n) c p told.deck told.turns spent.group r new holds spent.there spent.deck (let same = spent.turns_are in omega (arith, same)) spent.clear answers
+      parked_frees b id n c p told.deck told.turns spent.group r new holds spent.there spent.deck (let same = spent.turns_are in omega (arith, same)) spent.clear answers
 
 -- what prices leave of the slot where they don't close it
 pub on_false : {P Q : Type 0} (t : Bool) → OnFalse t P → (P → Q) → OnFalse t Q
@@ -112,16 +107,16 @@ pub of_false : {P : Type 0} (t : Bool) → OnFalse t P → t ≡ false → P
 of_false true h e = absurd (true≢false e)
 of_false false h e = h
 
-pub slot_still : (new : Book) (id k : ℕ) (n : Node) → k ≡ id → HoldsOnly new k (tree_node n) → HoldsSlot new id
+pub slot_still : (new : Book) (id k : ℕ) (n : Node) → k ≡ id → HoldsOnly new k n → HoldsSlot new id
 slot_still new id k n is holds = subst (HoldsSlot new) is (slot_holds new k n holds)
 
-pub node_still : (b new : Book) (id k : ℕ) (n : Node) → k ≡ id → HoldsOnly b k (tree_node n) → HoldsOnly new k (tree_node n) → (slot_at new id).node ≡ (slot_at b id).node
+pub node_still : (b new : Book) (id k : ℕ) (n : Node) → k ≡ id → HoldsOnly b k n → HoldsOnly new k n → (slot_at new id).node ≡ (slot_at b id).node
 node_still b new id k n is before after = subst (λ m. (slot_at new m).node ≡ (slot_at b m).node) is (after.node_is ∙ sym before.node_is)
 
 pub still_lacks : (b new : Book) (id : ℕ) → IsDriven b new → (slot_at new id).node ≡ (slot_at b id).node → (slot_at b id).node.depth < length b.case.instance.ships → (slot_at new id).node.depth < length new.case.instance.ships
 still_lacks b new id driven same lacks =
     subst (λ (k : Case). (slot_at new id).node.depth < length k.instance.ships) (sym driven.case)
-    (subst (λ (t : TreeNode). t.depth < length b.case.instance.ships) (sym same) lacks)
+    (subst (λ (t : Node). t.depth < length b.case.instance.ships) (sym same) lacks)
 
 -- what the search knows of the node in hand
 module _ (b : Book) (id : ℕ) (search : Search) (own : IsOwnSearch b search) where

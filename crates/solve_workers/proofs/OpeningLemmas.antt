@@ -13,7 +13,8 @@ use Rattle.first_plan.specs.Merging.{IsRefusal}
 use Rattle.first_plan.specs.declared.opening.FirstError.{FirstError}
 use Rattle.first_plan.specs.declared.opening.FirstError.TheVariants.{Unfit}
 use Rattle.book_rules.specs.declared.book.Entry.TheVariants as entry
-use Rattle.book_rules.specs.Book.{Book, Case, opening_book, slot_at, is_held, root, bound_at}
+use Rattle.book_rules.specs.Book.{Book, Case, opening_book, slot_at, is_held, bound_at}
+use Rattle.lock_rules.specs.Node.{root}
 use Rattle.book_rules.specs.Cover.{IsOwnCut}
 use Rattle.book_rules.specs.Ends.{HoldsNothing, EndsWell}
 use Rattle.book_rules.specs.Events as machine

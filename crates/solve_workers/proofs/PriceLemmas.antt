@@ -2,7 +2,8 @@
 use Rattle.std.proofs.Common.{◌≡◌, ℕ, ◌<◌, List, length, refl, sym, ap, ◌∙◌, subst, Bool, true, false, not, cond, nat_eq, slice_index_or}
 use Rattle.mooring_rules.specs.declared.breaks.BrokenPlan.{BrokenPlan}
 use Rattle.refute_rules.specs.Cuts.{Cut}
-use Rattle.book_rules.specs.Book.{Book, Node, no_slot, is_held}
+use Rattle.book_rules.specs.Book.{Book, no_slot, is_held}
+use Rattle.lock_rules.specs.Node.{Node}
 use Rattle.book_rules.specs.Ends.{HoldsNothing}
 use Rattle.book_rules.specs.Events as machine
 use Rattle.book_rules.specs.Events.{post, post_prices}

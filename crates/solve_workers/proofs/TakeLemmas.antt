@@ -3,11 +3,11 @@ use Rattle.std.proofs.Common.{◌≡◌, ℕ, suc, ◌<◌, ◌≤◌, length, i
 use Rattle.std.proofs.lemmas.Option.{same_Some, none-some}
 use Rattle.std.specs.declared.option.Option.{Option}
 use Rattle.std.proofs.lemmas.Bool.Decides.{eqb_tells}
-use Rattle.master_branch.specs.Node.{Node as CodeNode}
+use Rattle.lock_rules.specs.Node.{Node}
 use Rattle.mooring_rules.specs.declared.breaks.BrokenPlan.{BrokenPlan}
 use Rattle.book_rules.specs.declared.book.SlotState.{SlotState}
 use Rattle.book_rules.specs.declared.book.SlotState.TheVariants as slot
-use Rattle.book_rules.specs.Book.{Book, Slot, Node, slot_at, first_slot, has_slot, is_fresh, is_back, is_held, is_held_by}
+use Rattle.book_rules.specs.Book.{Book, Slot, slot_at, first_slot, has_slot, is_fresh, is_back, is_held, is_held_by}
 use Rattle.book_rules.specs.Ends.{HoldsNothing, HasNothingOpen, is_open}
 use Rattle.book_rules.specs.Events as machine
 use Rattle.book_rules.specs.Events.{take}
@@ -23,7 +23,7 @@ use Rattle.book_core.specs.Keeps.{IsSound}
 use Rattle.book_core.specs.Replies.{Answers}
 use Rattle.solve_workers.specs.Holding.{HoldsOnly, IsRunning, IsDone}
 use Rattle.solve_workers.specs.Told.{node_in}
-use Rattle.solve_workers.proofs.ToldLemmas.{Answer, tree, as_tree, given_in, told-node}
+use Rattle.solve_workers.proofs.ToldLemmas.{Answer, given_in, told-node}
 use Rattle.solve_workers.proofs.FreeLemmas.{none-at}
 
 abbrev Out : Type 0
@@ -95,19 +95,19 @@ module _ (b : Book) (sound : IsSound b) (free : HoldsNothing b) (running : IsRun
     ];
   }
 
-  record IsTaken (id : ℕ) (node : CodeNode) (new : Book) : Type 0 where
-    holds : HoldsOnly new id (tree node)
-    node_of : (slot_at b id).node ≡ tree node
+  record IsTaken (id : ℕ) (node : Node) (new : Book) : Type 0 where
+    holds : HoldsOnly new id node
+    node_of : (slot_at b id).node ≡ node
     here : id < length b.slots
 
-  taken-by : (id : ℕ) (node : CodeNode) (out : Out) → TakeOut b out → given_in out.1 ≡ Some (id, tree node) → IsTaken id node out.0
-  taken-by id node out (Ends none same done) e = absurd (none-some (id, tree node) (sym none ∙ e))
+  taken-by : (id : ℕ) (node : Node) (out : Out) → TakeOut b out → given_in out.1 ≡ Some (id, node) → IsTaken id node out.0
+  taken-by id node out (Ends none same done) e = absurd (none-some (id, node) (sym none ∙ e))
   taken-by id node out (Gives at used here same) e =
-      let both : (at, (slot_at b at).node) ≡ (id, tree node) = same_Some _ _ (sym (ap (λ (o : Out). given_in o.1) same) ∙ e) in
+      let both : (at, (slot_at b at).node) ≡ (id, node) = same_Some _ _ (sym (ap (λ (o : Out). given_in o.1) same) ∙ e) in
       let is : at ≡ id = ap (λ (p : ℕ × Node). p.0) both in
-      let own : (slot_at b at).node ≡ tree node = ap (λ (p : ℕ × Node). p.1) both in
+      let own : (slot_at b at).node ≡ node = ap (λ (p : ℕ × Node). p.1) both in
       record {
-        holds = subst (λ (u : Book). HoldsOnly u id (tree node)) (sym (ap (λ (o : Out). o.0) same)) (subst (λ n. HoldsOnly (Step.given {Break = BrokenPlan} b 8 at used).0 n (tree node)) is (subst (HoldsOnly (Step.given {Break = BrokenPlan} b 8 at used).0 at) own (given-holds at used here)));
+        holds = subst (λ (u : Book). HoldsOnly u id node) (sym (ap (λ (o : Out). o.0) same)) (subst (λ n. HoldsOnly (Step.given {Break = BrokenPlan} b 8 at used).0 n node) is (subst (HoldsOnly (Step.given {Break = BrokenPlan} b 8 at used).0 at) own (given-holds at used here)));
         node_of = ap (λ n. (slot_at b n).node) (sym is) ∙ own;
         here = subst (λ n. n < length b.slots) is here;
       }
@@ -116,33 +116,33 @@ module _ (b : Book) (sound : IsSound b) (free : HoldsNothing b) (running : IsRun
     out-is : TakeOut b (new, answers.answer)
     out-is = subst (TakeOut b) answers.same take-out
 
-    is-taken : (id : ℕ) (node : CodeNode) → node_in r ≡ Some (id, node) → IsTaken id node new
-    is-taken id node e = taken-by id node (new, answers.answer) out-is (told-node r answers.answer answers.said ∙ ap as_tree e)
+    is-taken : (id : ℕ) (node : Node) → node_in r ≡ Some (id, node) → IsTaken id node new
+    is-taken id node e = taken-by id node (new, answers.answer) out-is (told-node r answers.answer answers.said ∙ e)
 
-    pub taken_holds : (id : ℕ) (node : CodeNode) → node_in r ≡ Some (id, node) → HoldsOnly new id (tree node)
+    pub taken_holds : (id : ℕ) (node : Node) → node_in r ≡ Some (id, node) → HoldsOnly new id node
     taken_holds id node e = (is-taken id node e).holds
 
-    pub taken_falls : (id : ℕ) (node : CodeNode) → node_in r ≡ Some (id, node) → suc (room_of new) ≤ room_of b
+    pub taken_falls : (id : ℕ) (node : Node) → node_in r ≡ Some (id, node) → suc (room_of new) ≤ room_of b
     taken_falls id node e =
         subst (λ (o : Out). suc (room_of o.0) ≤ room_of b) answers.same
         (room-falls (λ _ _. answers.found) b sound.parts.budget sound.parts.workers.nine (take 8) (omega arith) refl accepted)
       where
-        by_answer : (a : Answer) → given_in a ≡ Some (id, tree node) → machine.is_acceptance a ≡ true
+        by_answer : (a : Answer) → given_in a ≡ Some (id, node) → machine.is_acceptance a ≡ true
         by_answer (machine.Node n t) h = refl
-        by_answer _ h = absurd (none-some (id, tree node) h)
+        by_answer _ h = absurd (none-some (id, node) h)
 
         accepted : machine.is_acceptance (Step.step (λ _ _. answers.found) b (take 8)).1 ≡ true
-        accepted = ap (λ (o : Out). machine.is_acceptance o.1) answers.same ∙ by_answer answers.answer (told-node r answers.answer answers.said ∙ ap as_tree e)
+        accepted = ap (λ (o : Out). machine.is_acceptance o.1) answers.same ∙ by_answer answers.answer (told-node r answers.answer answers.said ∙ e)
 
     pub refused_done : node_in r ≡ None → IsDone new
-    refused_done e = by_out (new, answers.answer) out-is (told-node r answers.answer answers.said ∙ ap as_tree e)
+    refused_done e = by_out (new, answers.answer) out-is (told-node r answers.answer answers.said ∙ e)
       where
         by_out : (out : Out) → TakeOut b out → given_in out.1 ≡ None → IsDone out.0
         by_out out (Ends none same done) h = subst IsDone (sym same) done
         by_out out (Gives id used here same) h = absurd (none-some (id, (slot_at b id).node) (sym h ∙ ap (λ (o : Out). given_in o.1) same))
 
     pub refused_same : node_in r ≡ None → new ≡ b
-    refused_same e = by_out (new, answers.answer) out-is (told-node r answers.answer answers.said ∙ ap as_tree e)
+    refused_same e = by_out (new, answers.answer) out-is (told-node r answers.answer answers.said ∙ e)
       where
         by_out : (out : Out) → TakeOut b out → given_in out.1 ≡ None → out.0 ≡ b
         by_out out (Ends none same done) h = same

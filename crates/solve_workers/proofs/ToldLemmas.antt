@@ -2,12 +2,11 @@
 use Rattle.std.proofs.Common.{◌≡◌, ℕ, refl, sym, ap, ◌∙◌, Bool, true, false, Some, None}
 use Rattle.std.specs.declared.option.Option.{Option}
 use Rattle.mooring_rules.specs.declared.breaks.BrokenPlan.{BrokenPlan}
-use Rattle.book_rules.specs.Book.{Node as TreeNode}
+use Rattle.lock_rules.specs.Node.{Node}
 use Rattle.book_rules.specs.Events as machine
 use Rattle.book_core.specs.declared.reply.Reply.{Reply}
 use Rattle.book_core.specs.declared.reply.Reply.TheVariants as reply
 use Rattle.book_core.specs.Replies.{told}
-use Rattle.master_branch.specs.Node.{Node}
 use Rattle.solve_workers.specs.Told.{node_in, number_in, is_closed, is_made}
 
 abbrev pub Answer : Type 0
@@ -26,20 +25,13 @@ abbrev among : (Answer → Bool) → Option Answer → Bool
 among test None = false
 among test (Some a) = test a
 
-abbrev pub given_in : Answer → Option (ℕ × TreeNode)
+abbrev pub given_in : Answer → Option (ℕ × Node)
 given_in (machine.Node id node) = Some (id, node)
 given_in _ = None
 
-abbrev given : Option Answer → Option (ℕ × TreeNode)
+abbrev given : Option Answer → Option (ℕ × Node)
 given None = None
 given (Some a) = given_in a
-
-abbrev pub tree : Node → TreeNode
-tree n = record { depth = n.depth; lines = n.lines }
-
-abbrev pub as_tree : Option (ℕ × Node) → Option (ℕ × TreeNode)
-as_tree None = None
-as_tree (Some at) = Some (at.0, tree at.1)
 
 abbrev pub number_of : Answer → Option ℕ
 number_of (machine.Posted number) = Some number
@@ -57,7 +49,7 @@ made-by : (r : Reply) → among makes (told r) ≡ is_made r
 made-by (reply.Made count) = refl
 made-by _ = refl
 
-node-by : (r : Reply) → given (told r) ≡ as_tree (node_in r)
+node-by : (r : Reply) → given (told r) ≡ node_in r
 node-by (reply.Node id node) = refl
 node-by _ = refl
 
@@ -72,7 +64,7 @@ module _ (r : Reply) (a : Answer) (said : told r ≡ Some a) where
   pub told-made : makes a ≡ is_made r
   told-made = sym (ap (among makes) said) ∙ made-by r
 
-  pub told-node : given_in a ≡ as_tree (node_in r)
+  pub told-node : given_in a ≡ node_in r
   told-node = sym (ap given said) ∙ node-by r
 
   pub told-number : number_of a ≡ number_in r

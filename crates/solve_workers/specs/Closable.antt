@@ -5,7 +5,7 @@ use Rattle.closing_rules.specs.declared.grounds.Ground.{Ground}
 use Rattle.closing_rules.specs.Grounds.{IsClosedBy}
 use Rattle.book_rules.specs.Book.{Book, best_cost}
 use Rattle.book_rules.specs.States.{IsHitBy}
-use Rattle.master_branch.specs.Node.{Node}
+use Rattle.lock_rules.specs.Node.{Node}
 use Rattle.node_work.specs.declared.fate.Fate.{Fate}
 use Rattle.node_work.specs.declared.search.Search.{Search}
 use Rattle.node_work.specs.Fates.{IsNeverPriced, IsFate}

@@ -1,6 +1,7 @@
 -- What the driver holds.
 use Rattle.std.specs.Prelude.{ℕ, ◌≡◌, ◌≢◌, ◌<◌, ◌⊎◌, false, slice_index_or}
-use Rattle.book_rules.specs.Book.{Book, Node, slot_at, best_cost, is_held}
+use Rattle.book_rules.specs.Book.{Book, slot_at, best_cost, is_held}
+use Rattle.lock_rules.specs.Node.{Node}
 use Rattle.book_rules.specs.declared.book.SlotState.TheVariants as slot
 use Rattle.book_rules.specs.Ends.{HoldsNothing, HasNothingOpen, HasSpentNodes}
 

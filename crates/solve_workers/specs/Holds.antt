@@ -1,19 +1,18 @@
 -- A slot in the driver's hand.
 use Rattle.std.specs.Prelude.{ℕ}
 use Rattle.book_rules.specs.Book.{Book, slot_at}
-use Rattle.book_core.specs.Nodes.{tree_node}
-use Rattle.master_branch.specs.Node.{Node}
+use Rattle.lock_rules.specs.Node.{Node}
 use Rattle.solve_workers.specs.Holding.{HoldsOnly}
 use Rattle.solve_workers.specs.declared.held.Held.{Held}
 
 -- the node of slot id
 abbrev pub node_at : Book → ℕ → Node
-node_at b id = record { depth = (slot_at b id).node.depth; lines = (slot_at b id).node.lines }
+node_at b id = (slot_at b id).node
 
 -- the driver holds this slot alone
 abbrev pub HoldsSlot : Book → ℕ → Type 0
-HoldsSlot b id = HoldsOnly b id (tree_node (node_at b id))
+HoldsSlot b id = HoldsOnly b id (node_at b id)
 
 -- the same with a copy of its node
 abbrev pub Holds : Book → Held → Type 0
-Holds b h = HoldsOnly b h.id (tree_node h.node)
+Holds b h = HoldsOnly b h.id h.node

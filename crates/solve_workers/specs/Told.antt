@@ -1,7 +1,7 @@
 -- What a reply tells.
 use Rattle.std.specs.Prelude.{ℕ, Bool, true, false, Some, None, ⊤}
 use Rattle.std.specs.declared.option.Option.{Option}
-use Rattle.master_branch.specs.Node.{Node}
+use Rattle.lock_rules.specs.Node.{Node}
 use Rattle.book_core.specs.declared.reply.Grant.{Grant}
 use Rattle.book_core.specs.declared.reply.Grant.TheVariants as grant
 use Rattle.book_core.specs.declared.reply.Reply.{Reply}

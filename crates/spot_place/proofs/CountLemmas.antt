@@ -7,7 +7,7 @@ use Rattle.lock_model.specs.Ships.{RisesFrom}
 use Rattle.lock_model.specs.declared.deck.Size.{Size}
 use Rattle.lock_rules.specs.Bound.{least_number}
 use Rattle.refute_rules.specs.Values.{is_kept, shifts_of, values_after, spot_values}
-use Rattle.lock_rules.specs.Among.{IsAmong}
+use Rattle.list_laws.specs.Among.{IsAmong}
 use Rattle.refute_rules.proofs.Among.{among-append}
 use Rattle.lock_rules.proofs.AmongLemmas.{among-filter}
 use Rattle.deck_laws.proofs.MemberLemmas.{among-rising, rising-rises}

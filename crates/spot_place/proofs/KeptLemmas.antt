@@ -7,14 +7,14 @@ use Rattle.std.proofs.Math.ListN.{get_or-append}
 use Rattle.std.proofs.lemmas.Option.{none-some}
 use Rattle.list_laws.proofs.Lists.{length-push}
 use Rattle.lock_model.specs.Deck.{Deck}
-use Rattle.refute_rules.specs.Choices.{Choice, Lies, Stands}
+use Rattle.refute_rules.specs.Choices.{Choice, Lies, Stands, IsKnownMoor}
 use Rattle.refute_rules.specs.Decided.{berth_in, x_in}
 use Rattle.refute_rules.specs.Known.{host_of, host_and_more, hosts_within, berth_y, y_within, y_in}
 use Rattle.refute_rules.specs.SpotFaults.{IsFaultless}
 use Rattle.refute_rules.specs.Spots.{IsListed}
 use Rattle.case_search.specs.declared.berths.Berth.{Berth as Mooring}
 use Rattle.case_search.specs.Berths.{berth_of}
-use Rattle.spot_place.specs.OnWay.{berth_at, case_of, lying, IsKnownMoor, AreKnown}
+use Rattle.spot_place.specs.OnWay.{berth_at, case_of, lying, AreKnown}
 use Rattle.spot_place.specs.Heights.{height_at, AreHeights}
 use Rattle.spot_place.specs.SpotCase.{OnWay, case_on, IsOnWay, AreLevels, KeepsSpotCase}
 use Rattle.spot_place.proofs.CaseLemmas.{berth-hit, berth-miss, place-hit, place-miss, host_hit, host_miss, ship-of}

@@ -9,9 +9,9 @@ use Rattle.lock_model.specs.declared.placement.Moor.TheVariants.{Quay, Ship}
 use Rattle.refute_rules.specs.Choices.{Choice, Berth}
 use Rattle.refute_rules.specs.Decided.{berth_in}
 use Rattle.refute_rules.specs.Known.{moor_host, host_of, host_and_more, hosts_within, quay_y, guest_y, moored_y, berth_y, y_within, y_in}
-use Rattle.lock_rules.specs.Among.{IsAmong}
 use Rattle.lock_rules.proofs.TreeLemmas.{contains-among}
-use Rattle.refute_rules.proofs.AnchorLemmas.{AreDistinct, few-distinct}
+use Rattle.list_laws.specs.Among.{IsAmong, AreDistinct}
+use Rattle.list_laws.proofs.Distinct.{few-distinct}
 use Rattle.spot_place.specs.OnWay.{HasKnownHosts}
 
 -- what a mapped option tells

@@ -5,12 +5,11 @@ use Rattle.std.proofs.lemmas.List.{get_or-map, length-map}
 use Rattle.lock_model.specs.Deck.{Deck}
 use Rattle.lock_rules.specs.Arrival.{numbers_from}
 use Rattle.refute_rules.specs.Values.{spot_values}
-use Rattle.refute_rules.specs.Choices.{Decision, BerthOf, PlaceOf, Before, Lies, Stands, Berth, berths_of, options_of, spot_decisions}
+use Rattle.refute_rules.specs.Choices.{Decision, BerthOf, PlaceOf, Before, Lies, Stands, Berth, berths_of, options_of, spot_decisions, IsKnownMoor}
 use Rattle.case_search.specs.Rules.{options_first}
 use Rattle.case_search.specs.declared.berths.Berth.{Berth as Mooring}
 use Rattle.case_search.specs.Berths.{berth_of, first_berth}
 use Rattle.case_search.proofs.BerthLemmas.{berths-length, quay-at, host-at}
-use Rattle.spot_place.specs.OnWay.{IsKnownMoor}
 
 -- ---- decisions
 

@@ -2,9 +2,8 @@
 use Rattle.std.specs.Prelude.{ℕ, suc, ◌≡◌, ◌<◌, List, [], ◌∷◌, length, slice_index_or, Some, Contains}
 use Rattle.lock_model.specs.Deck.{Deck}
 use Rattle.lock_model.specs.declared.placement.Rank.TheVariants.{Left}
-use Rattle.lock_model.specs.declared.placement.Moor.{Moor}
-use Rattle.lock_model.specs.declared.placement.Moor.TheVariants.{Quay, Ship}
-use Rattle.refute_rules.specs.Choices.{Choice, Lies, Stands}
+use Rattle.lock_model.specs.declared.placement.Moor.TheVariants.{Quay}
+use Rattle.refute_rules.specs.Choices.{Choice, Lies, Stands, IsKnownMoor}
 use Rattle.refute_rules.specs.Decided.{berth_in}
 use Rattle.refute_rules.specs.Known.{host_of, hosts_within}
 use Rattle.case_search.specs.Berths.{berth_of}
@@ -26,11 +25,6 @@ case_of berths places = case_from 0 berths places
 -- the berths alone
 abbrev pub lying : List Mooring → List Choice
 lying berths = case_of berths []
-
--- the host of the berth, if it has one, is a ship of the deck
-abbrev pub IsKnownMoor : Deck → Moor → Type 0
-IsKnownMoor d Quay = Unit {0}
-IsKnownMoor d (Ship k) = k < length d.ships
 
 -- each host is a ship of the deck
 pub record AreKnown (d : Deck) (berths : List Mooring) : Type 0 where

@@ -4,7 +4,7 @@ ghost use Rattle.refute_rules.specs.Values.{spot_values};
 ghost use Rattle.refute_rules.specs.SpotFaults.{IsFaultless};
 ghost use Rattle.refute_rules.specs.Decided.{berth_in, x_in};
 ghost use Rattle.refute_rules.specs.Known.{y_in, host_of};
-ghost use Rattle.spot_place.specs.OnWay.{IsKnownMoor};
+ghost use Rattle.refute_rules.specs.Choices.{IsKnownMoor};
 ghost use Rattle.spot_place.specs.SpotCase.{case_on, IsOnWay};
 
 use crate::berths::host_of;

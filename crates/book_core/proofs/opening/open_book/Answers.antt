@@ -1,7 +1,8 @@
 use Rattle.std.proofs.Common.{◌≡◌, [], ◌∷◌, ◌++◌, length, refl, sym, ap, ◌∙◌, subst, arith, nat_le, replicate, false, None}
 use Rattle.lock_rules.specs.Plan.{cost_of}
 use Rattle.lock_rules.specs.Throughput.{throughput_of}
-use Rattle.book_rules.specs.Book.{Case, root, bound_at, opening_book, new_slot}
+use Rattle.book_rules.specs.Book.{Case, bound_at, opening_book, new_slot}
+use Rattle.lock_rules.specs.Node.{root}
 use Rattle.flow_bounds.specs.Roster.{IsRosterOf}
 use Rattle.book_core.specs.Case.{IsCase}
 use Rattle.book_core.specs.Growing.{stored_root}

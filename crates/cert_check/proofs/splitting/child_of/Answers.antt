@@ -1,8 +1,8 @@
 use Rattle.std.proofs.Common.{◌≡◌, ◌<◌, length, sym, ap, ◌∙◌, arith, slice_index_or, Some}
 use Rattle.std.proofs.lemmas.Option.{slice_get-get_or}
-use Rattle.lock_rules.specs.Node.{root_lines}
+use Rattle.lock_rules.specs.Node.{Node, root_lines}
 use Rattle.master_branch.specs.declared.step.Step.TheVariants.{Join}
-use Rattle.master_branch.specs.Node.{Node, children}
+use Rattle.master_branch.specs.Node.{children}
 use Rattle.master_branch.specs.Steps.{steps_by, lines_after}
 use Rattle.master_branch.proofs.StepLemmas.{read_as}
 use Rattle.master_branch.proofs.ChildSteps.{step-child, length-steps}

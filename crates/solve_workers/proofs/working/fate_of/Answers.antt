@@ -1,5 +1,6 @@
 use Rattle.std.proofs.Common.{sym, subst}
-use Rattle.master_branch.specs.Node.{Node, IsNodeOf}
+use Rattle.master_branch.specs.Node.{IsNodeOf}
+use Rattle.lock_rules.specs.Node.{Node}
 use Rattle.node_work.specs.Fates.{IsFate}
 use Rattle.node_work.specs.Known.{HitsShips}
 use Rattle.solve_workers.specs.Holds.{node_at}

@@ -1,7 +1,7 @@
 use Rattle.std.proofs.Common.{sym, ap, ◌∙◌}
 use Rattle.std.specs.Bool.{one_answer}
 use Rattle.lock_model.specs.declared.instance.Instance.{Instance}
-use Rattle.book_rules.specs.Book.{Node as TreeNode}
+use Rattle.lock_rules.specs.Node.{Node as TreeNode}
 use Rattle.book_rules.specs.Step.{hits_in}
 use Rattle.book_rules.specs.Tests.{is_node_hit}
 use Rattle.book_rules.proofs.TestLemmas.{is_node_hit-decides}

@@ -4,7 +4,6 @@ use Rattle.lock_model.specs.declared.group.Group.{Group}
 use Rattle.lock_model.specs.declared.instance.Instance.{Instance}
 use Rattle.book_rules.specs.Tests.{same_deck}
 use Rattle.lock_rules.proofs.NodeLemmas.{line-known}
-use Rattle.book_core.specs.Nodes.{tree_node}
 use Rattle.book_core.proofs.PostLemmas.{lent-some}
 use Rattle.book_core.proofs.book.Book.names_lent.Goals as goal
 
@@ -21,7 +20,7 @@ deck_of-deck-requires-clause-ships_in c =
 pub returns-then-same_deck : goal.returns-then-same_deck
 returns-then-same_deck c =
     let b = c.args.self.now in
-    let n = tree_node c.held_node-node.result.now in
+    let n = c.held_node-node.result.now in
     let line = c.line-line.result.now in
     let g = c.index-line-place.result in
     let told = c.args.hard.now in
@@ -36,7 +35,7 @@ returns-then-same_deck c =
 pub returns-else-same_deck : goal.returns-else-same_deck
 returns-else-same_deck c =
     let b = c.args.self.now in
-    let n = tree_node c.held_node-node.result.now in
+    let n = c.held_node-node.result.now in
     let line = c.line-line.result.now in
     let g = c.index-line-place.result in
     let told = c.args.hard.now in

@@ -1,6 +1,7 @@
 use Rattle.std.proofs.Common.{◌≡◌, sym, ◌∙◌, subst}
 use Rattle.lock_model.specs.declared.instance.Instance.{Instance}
-use Rattle.master_branch.specs.Node.{Node, IsNodeOf}
+use Rattle.master_branch.specs.Node.{IsNodeOf}
+use Rattle.lock_rules.specs.Node.{Node}
 use Rattle.book_core.proofs.MissingLemmas.{is-missing, not-missing, probe-is}
 use Rattle.book_core.proofs.book.Book.probe_in.Goals as goal
 

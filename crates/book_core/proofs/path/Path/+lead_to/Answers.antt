@@ -2,7 +2,7 @@ use Rattle.std.proofs.Common.{sym, subst, arith}
 use Rattle.book_rules.specs.declared.book.SlotState.TheVariants as slot
 use Rattle.book_core.specs.declared.stored_slot.StoredSlot.{StoredSlot}
 use Rattle.book_core.specs.Stored.{slots_of}
-use Rattle.master_branch.specs.Node.{root}
+use Rattle.lock_rules.specs.Node.{root}
 use Rattle.book_core.specs.Path.{EndsAt}
 use Rattle.book_core.proofs.KeptLemmas.{length-slots}
 use Rattle.book_core.proofs.PathLemmas.{stored-as, up-before, root-in, path-cut, path-started}

@@ -1,8 +1,7 @@
 use Rattle.std.proofs.Common.{sym, subst, ◌∙◌}
-use Rattle.book_core.specs.Nodes.{tree_node}
-use Rattle.master_branch.specs.Node.{Node}
+use Rattle.lock_rules.specs.Node.{Node}
 use Rattle.solve_workers.specs.Holding.{HoldsOnly}
 use Rattle.solve_workers.proofs.held.Held.of.Goals as goal
 
 pub returns-clause-holds : goal.returns-clause-holds
-returns-clause-holds c = subst (λ (n : Node). HoldsOnly c.args.book.now c.args.id (tree_node n)) (sym (c.copy.ensures ∙ c.held_node.ensures)) c.requires
+returns-clause-holds c = subst (λ (n : Node). HoldsOnly c.args.book.now c.args.id n) (sym (c.copy.ensures ∙ c.held_node.ensures)) c.requires

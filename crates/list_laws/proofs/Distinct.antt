@@ -1,11 +1,11 @@
 -- Lists of distinct numbers.
-use Rattle.std.proofs.Common.{◌≡◌, ◌≢◌, ℕ, ◌<◌, ◌≤◌, List, [], ◌∷◌, length, ◌||◌, true, false, inl, inr, sym, subst, arith, eqb, true≢false}
+use Rattle.std.proofs.Common.{◌≡◌, ◌≢◌, ℕ, ◌<◌, ◌≤◌, List, [], ◌∷◌, length, ◌||◌, ◌⊎◌, true, false, inl, inr, sym, subst, arith, eqb, true≢false}
 use Rattle.std.proofs.lemmas.Bool.Decides.{eqb_tells}
 use Rattle.std.proofs.lemmas.List.Elements.{All-from_recursion}
 use Rattle.std.proofs.lemmas.List.Kept.{AllPairs-cons}
 use Rattle.std.proofs.lemmas.Map.Steps.{length-le_from_distinct_below}
 use Rattle.std.specs.List.{AllByRecursion, AllPairs, IsDistinct, list_any}
-use Rattle.diff_system.specs.Walks.{IsAmong, AreDistinct}
+use Rattle.list_laws.specs.Among.{IsAmong, AreDistinct}
 
 all-differ : (x : ℕ) (xs : List ℕ) → (IsAmong xs x → ⊥) → AllByRecursion (λ y. x ≢ y) xs
 all-differ x [] n = tt
@@ -14,6 +14,18 @@ all-differ x (y ∷ xs) n = ((λ e. n (inl (sym e))), all-differ x xs (λ g. n (
 pub pairs-differ : (xs : List ℕ) → AreDistinct xs → AllPairs (λ j k. j ≢ k) xs
 pairs-differ [] h = λ i j d lt within. absurd (omega arith)
 pairs-differ (x ∷ xs) h = AllPairs-cons (λ j k. j ≢ k) x xs (All-from_recursion (λ y. x ≢ y) xs (all-differ x xs h.0)) (pairs-differ xs h.1)
+
+pub among-or_not : (xs : List ℕ) (i : ℕ) → IsAmong xs i ⊎ (IsAmong xs i → ⊥)
+among-or_not [] i = inr (λ h. h)
+among-or_not (x ∷ xs) i =
+    elim (eqb_tells x i) [
+      | inl y ↦ inl (inl y.1)
+      | inr n ↦ elim (among-or_not xs i) [ inl h ↦ inl (inr h) | inr h ↦ inr (neither x xs i n.1 h) ]
+    ]
+  where
+    neither : (x : ℕ) (xs : List ℕ) (i : ℕ) → x ≢ i → (IsAmong xs i → ⊥) → IsAmong (x ∷ xs) i → ⊥
+    neither x xs i n h (inl e) = n e
+    neither x xs i n h (inr g) = h g
 
 -- distinct numbers below n are few
 any-among : (x : ℕ) (xs : List ℕ) → list_any (eqb x) xs ≡ true → IsAmong xs x
