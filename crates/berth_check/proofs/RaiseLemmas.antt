@@ -19,7 +19,7 @@ use Rattle.refute_rules.specs.Reasons.{length_at}
 use Rattle.refute_rules.specs.Choices.{Choice, Lies, Before, Below, Stands, Berth, IsKnownMoor}
 use Rattle.refute_rules.specs.BerthCases.{host_in}
 use Rattle.refute_rules.specs.BerthTrees.{AreUnordered}
-use Rattle.berth_check.specs.Raises.{x_at, IsForced, IsHostObeyed, IsOrderObeyed, AreOrdersObeyed, AreSettled, AreBelow, AreInside, HasPlaces, room_of, IsKnownChoice, AreKnown, IsOf}
+use Rattle.berth_check.specs.Raises.{x_at, IsForced, IsHostObeyed, IsOrderObeyed, AreOrdersObeyed, AreSettled, AreBelow, AreFirstInside, HasPlaces, rise_left, IsKnownChoice, AreKnown, IsOf}
 
 module _ (d : Deck) (case : List Choice) (xs : List ℕ) (i k : ℕ) where
   pub near_forced : i < length d.ships → k < length d.ships → Some k ≡ host_in case i → x_at xs i < x_at xs k → IsForced d case xs i (x_at xs k)
@@ -128,13 +128,13 @@ module _ (d : Deck) (ps : List Pick) (case : List Choice) (xs : List ℕ) (count
   orders_whole same long before = record { each = λ k below u. let e : length case ≡ length ps = ap length (sym same) ∙ length-map ps choice_of in before.each k (omega (arith, below, e, long)) u }
 
 -- settling
-room-less : (most : ℕ) (xs : List ℕ) (i value : ℕ) → i < length xs → x_at xs i < value → value ≤ most → room_of most (set xs i value) < room_of most xs
+room-less : (most : ℕ) (xs : List ℕ) (i value : ℕ) → i < length xs → x_at xs i < value → value ≤ most → rise_left most (set xs i value) < rise_left most xs
 room-less most [] i value here less up = absurd (omega (arith, here))
 room-less most (x ∷ xs) zero value here less up = omega (arith, less, up)
 room-less most (x ∷ xs) (suc i) value here less up = omega (arith, room-less most xs i value (omega (arith, here)) less up)
 
 module _ (d : Deck) (case : List Choice) (xs : List ℕ) where
-  pub settled_places : AreKnown d case → AreInside d xs (length d.ships) → AreSettled d case xs → HasPlaces d case
+  pub settled_places : AreKnown d case → AreFirstInside d xs (length d.ships) → AreSettled d case xs → HasPlaces d case
   settled_places known inside settled = record {
     x = x_at xs;
     obey = record {
@@ -144,7 +144,7 @@ module _ (d : Deck) (case : List Choice) (xs : List ℕ) where
     };
   }
 
-  pub no_places : (ship value : ℕ) → AreBelow d case xs → AreInside d xs (length d.ships) → IsForced d case xs ship value → (IsInsideAlong d ship value → ⊥) → HasPlaces d case → ⊥
+  pub no_places : (ship value : ℕ) → AreBelow d case xs → AreFirstInside d xs (length d.ships) → IsForced d case xs ship value → (IsInsideAlong d ship value → ⊥) → HasPlaces d case → ⊥
   no_places ship value below inside forced out h =
       let up = forced.forced h.x h.obey (below.below h.x h.obey) in
       let far = (h.obey.inside ship forced.known).1 in
@@ -170,7 +170,7 @@ module _ (d : Deck) (case : List Choice) (xs : List ℕ) where
     };
   }
 
-  pub raised_inside : (ship value : ℕ) → ship < length xs → AreInside d xs (length d.ships) → IsInsideAlong d ship value → AreInside d (set xs ship value) (length d.ships)
+  pub raised_inside : (ship value : ℕ) → ship < length xs → AreFirstInside d xs (length d.ships) → IsInsideAlong d ship value → AreFirstInside d (set xs ship value) (length d.ships)
   raised_inside ship value here inside at = record {
     inside = λ i known.
         elim (raised-at ship value i here) [
@@ -179,13 +179,13 @@ module _ (d : Deck) (case : List Choice) (xs : List ℕ) where
         ];
   }
 
-  pub raised_less : (ship value : ℕ) → ship < length xs → IsForced d case xs ship value → IsInsideAlong d ship value → room_of d.length (set xs ship value) < room_of d.length xs
+  pub raised_less : (ship value : ℕ) → ship < length xs → IsForced d case xs ship value → IsInsideAlong d ship value → rise_left d.length (set xs ship value) < rise_left d.length xs
   raised_less ship value here forced at = let far = at.1 in room-less d.length xs ship value here forced.higher (omega (arith, far))
 
 -- the first places
 pub start_below : (d : Deck) (case : List Choice) (xs : List ℕ) → ((i : ℕ) → i < length d.ships → x_at xs i ≡ d.end) → AreBelow d case xs
 start_below d case xs at = record { below = λ x o. record { most = λ i known. let e = at i known in let near = (o.inside i known).0 in omega (arith, e, near) } }
 
-pub start_no_places : (d : Deck) (case : List Choice) (xs : List ℕ) → ((i : ℕ) → i < length d.ships → x_at xs i ≡ d.end) → (AreInside d xs (length d.ships) → ⊥) → HasPlaces d case → ⊥
+pub start_no_places : (d : Deck) (case : List Choice) (xs : List ℕ) → ((i : ℕ) → i < length d.ships → x_at xs i ≡ d.end) → (AreFirstInside d xs (length d.ships) → ⊥) → HasPlaces d case → ⊥
 start_no_places d case xs at out h =
     out (record { inside = λ i known. let e = at i known in let near = (h.obey.inside i known).0 in let far = (h.obey.inside i known).1 in (omega (arith, e), omega (arith, e, near, far)) })

@@ -60,6 +60,6 @@ pub record IsRead (d : Deck) (old new : List (List Choice)) (marks : List ℕ) (
 pub record IsNoTree (d : Deck) (old : List (List Choice)) (marks : List ℕ) (at : ℕ) : Type 0 where
   pub none : AreTrees d old (drop at marks) → ⊥
 
-abbrev pub IsStep : Deck → List (List Choice) → List (List Choice) → List ℕ → ℕ → Option ℕ → Type 0
-IsStep d old new marks at None = IsNoTree d old marks at
-IsStep d old new marks at (Some end) = IsRead d old new marks at end
+abbrev pub IsReadingStep : Deck → List (List Choice) → List (List Choice) → List ℕ → ℕ → Option ℕ → Type 0
+IsReadingStep d old new marks at None = IsNoTree d old marks at
+IsReadingStep d old new marks at (Some end) = IsRead d old new marks at end

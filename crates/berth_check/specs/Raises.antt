@@ -60,7 +60,7 @@ pub record AreSettled (d : Deck) (case : List Choice) (xs : List ℕ) : Type 0 w
   pub orders : AreOrdersObeyed d case xs (length case)
 
 -- the first ships are inside along the chamber
-pub record AreInside (d : Deck) (xs : List ℕ) (count : ℕ) : Type 0 where
+pub record AreFirstInside (d : Deck) (xs : List ℕ) (count : ℕ) : Type 0 where
   pub inside : (i : ℕ) → i < count → IsInsideAlong d i (x_at xs i)
 
 -- some places obey the case
@@ -69,6 +69,6 @@ pub record HasPlaces (d : Deck) (case : List Choice) : Type 0 where
   pub obey : ObeyAlong d case x
 
 -- how far the places can still rise up to a length
-abbrev pub room_of : ℕ → List ℕ → ℕ
-room_of most [] = 0
-room_of most (x ∷ xs) = (most - x) + room_of most xs
+abbrev pub rise_left : ℕ → List ℕ → ℕ
+rise_left most [] = 0
+rise_left most (x ∷ xs) = (most - x) + rise_left most xs

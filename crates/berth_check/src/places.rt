@@ -3,7 +3,7 @@ ghost use Rattle.std.specs.Prelude.{◌≡◌, ◌+◌, ◌<◌, ◌≤◌, ◌�
 ghost use Rattle.refute_rules.specs.SpotFaults.{IsInsideAlong};
 ghost use Rattle.refute_rules.specs.BerthCases.{host_in};
 ghost use Rattle.berth_check.specs.Picks.{choice_of};
-ghost use Rattle.berth_check.specs.Raises.{AreKnown, IsKnownChoice, IsOf, IsForced, IsHostObeyed, IsOrderObeyed, AreHostsObeyed, AreOrdersObeyed, AreSettled, AreBelow, AreInside, HasPlaces};
+ghost use Rattle.berth_check.specs.Raises.{AreKnown, IsKnownChoice, IsOf, IsForced, IsHostObeyed, IsOrderObeyed, AreHostsObeyed, AreOrdersObeyed, AreSettled, AreBelow, AreFirstInside, HasPlaces};
 
 use crate::case::{BerthCase, Pick};
 use crate::decided::host_of;
@@ -151,7 +151,7 @@ fn is_inside_along(deck: &Deck, ship: u8, place: u64) -> bool
 // Whether all ships are inside along the chamber.
 fn are_inside(deck: &Deck, places: &[u32]) -> bool
     requires { length places.now ≡ 8 }
-    ensures { IsTrue result ↔ AreInside deck.now places.now (length deck.now.ships) }
+    ensures { IsTrue result ↔ AreFirstInside deck.now places.now (length deck.now.ships) }
 {
     prove!(deck.ships.as_slice().len() <= 8);
     let count = deck.ships.as_slice().len() as u8;
@@ -169,7 +169,7 @@ fn settle(deck: &Deck, case: &BerthCase, places: &mut [u32]) -> bool
     requires known { AreKnown deck.now case.now }
     requires count { length places.old ≡ 8 }
     requires below { AreBelow deck.now case.now places.old }
-    requires inside { AreInside deck.now places.old (length deck.now.ships) }
+    requires inside { AreFirstInside deck.now places.old (length deck.now.ships) }
     ensures { IsTrue result ↔ HasPlaces deck.now case.now }
 {
     prove!(deck.ships.as_slice().len() <= 8);

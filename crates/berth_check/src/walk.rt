@@ -4,7 +4,7 @@ ghost use Rattle.lock_model.specs.Fitting.{Fits};
 ghost use Rattle.refute_rules.specs.BerthTrees.{IsBerthTree};
 ghost use Rattle.berth_check.specs.Raises.{AreKnown};
 ghost use Rattle.berth_check.specs.Fronts.{AreAllKnown};
-ghost use Rattle.berth_check.specs.Pending.{IsStep};
+ghost use Rattle.berth_check.specs.Pending.{IsReadingStep};
 
 use crate::front::{Front, front_at};
 use crate::pending::{Pending, push_berths, push_orders};
@@ -22,7 +22,7 @@ fn step(
 ) -> Result<Option<usize>, NoMemory>
     requires known { AreKnown deck.now pending.old.case }
     requires others { AreAllKnown deck.now pending.old.others }
-    ensures { IfOk result (IsStep deck.now (pending.old.case ∷ pending.old.others) pending.new.others marks.now at) }
+    ensures { IfOk result (IsReadingStep deck.now (pending.old.case ∷ pending.old.others) pending.new.others marks.now at) }
 {
     match front_at(deck, pending.case(), marks, at) {
         Front::Nothing => Ok(None),

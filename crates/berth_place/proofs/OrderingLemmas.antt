@@ -13,9 +13,9 @@ use Rattle.berth_check.proofs.OptionLemmas.{extended-known}
 use Rattle.berth_place.specs.declared.pairs.Pair.{Pair}
 use Rattle.berth_place.specs.declared.search.Search.{Search}
 use Rattle.berth_place.specs.Along.{place_count, order_edges, first_edges, along_edges}
-use Rattle.berth_place.specs.Known.{AreBerths, AreDecided, AreSoundShips, IsWhole}
-use Rattle.berth_place.specs.Pairs.{IsPair, pair, ArePairs, AreAllPairs, AreAllApart, AreTouching, ArePairsBut}
-use Rattle.berth_place.specs.Spotting.{AreSpotsOf}
+use Rattle.berth_place.specs.Known.{AreBerths, AreDecided, AreSoundShips, HasAllBerths}
+use Rattle.berth_place.specs.Pairs.{IsPair, pair, ArePairs, AreAllPairs, AreFirstApart, AreNotApart, ArePairsBut}
+use Rattle.berth_place.specs.Spotting.{AreSpotsSoFar}
 use Rattle.berth_place.specs.Visits.{order_of, IsCounted, TakesOrder, IsOrdering, IsOrderedOn, IsTakenPair}
 use Rattle.berth_place.proofs.AlongLemmas.{along_system, along_more, along_berths, solution_obeys, cycle_refutes}
 use Rattle.berth_place.proofs.WholeLemmas.{whole_more, order_last, sound_whole}
@@ -51,12 +51,12 @@ module _ (d : Deck) (s : Search) (ordering : IsOrdering d s) where
     along-longest : AreLongest (along_edges d s.case) (place_count d) tree
     along-longest = subst (λ es. AreLongest es (place_count d) tree) ordering.edges longest
 
-    pub placed_legal : (spots : List Spot) (ps : List Pair) → AreSpotsOf d s.case tree.values (length d.ships) spots → AreAllPairs d s.case ps (length d.ships) → AreAllApart d tree.values ps (length ps) → IsLegalPlacement d spots
+    pub placed_legal : (spots : List Spot) (ps : List Pair) → AreSpotsSoFar d s.case tree.values (length d.ships) spots → AreAllPairs d s.case ps (length d.ships) → AreFirstApart d tree.values ps (length ps) → IsLegalPlacement d spots
     placed_legal spots ps are all apart =
         let obey = solution_obeys d s.case ordering.known tree.values _ (spots_values d s.case ordering.known ordering.whole tree.values spots are) along-longest.least.solution in
         spots_legal d s.case ordering.known ordering.whole tree.values spots are obey ps all apart
 
-    pub pair_open : (ps : List Pair) (number : ℕ) → ArePairs d s.case ps → AreTouching d tree.values ps number → AreUnordered d s.case (pair_at ps number).lower (pair_at ps number).upper
+    pub pair_open : (ps : List Pair) (number : ℕ) → ArePairs d s.case ps → AreNotApart d tree.values ps number → AreUnordered d s.case (pair_at ps number).lower (pair_at ps number).upper
     pair_open ps number pairs touching =
         let at = places_values d tree.values (small_values d (along_edges d s.case) tree along-longest) in
         let obey = solution_obeys d s.case ordering.known tree.values (places_of tree.values) at along-longest.least.solution in
@@ -80,7 +80,7 @@ module _ (d : Deck) (old inner : Search) (ordering : IsOrdering d old) (ps left 
       record {
         ordering = record {
           limits = ordering.limits;
-          whole = subst (IsWhole d) (sym whole) (whole_more d old.case told.first told.second ordering.whole);
+          whole = subst (HasAllBerths d) (sym whole) (whole_more d old.case told.first told.second ordering.whole);
           known = subst (AreKnown d) (sym whole) (extended-known d old.case (Before told.first told.second) ordering.known known);
           edges = drawn ∙ ap (λ es. es ++ order_edges d (Before told.first told.second ∷ [])) ordering.edges ∙ sym (along_more d old.case told.first told.second) ∙ ap (along_edges d) (sym whole);
           few = few;
@@ -115,7 +115,7 @@ module _ (d : Deck) (old inner : Search) (ordering : IsOrdering d old) (ps left 
 pub ordering_begun : (d : Deck) (case : List Choice) (s : Search) → IsDeck d → AreKnown d case → AreBerths case → AreDecided case (length d.ships) → AreSoundShips d case (length d.ships) → s.case ≡ case → s.edges ≡ first_edges d case (length d.ships) → s.tried ≤ s.turns → IsOrdering d s
 ordering_begun d case s limits known berths decided sound same edges few = record {
   limits = limits;
-  whole = subst (IsWhole d) (sym same) (sound_whole d case known decided sound);
+  whole = subst (HasAllBerths d) (sym same) (sound_whole d case known decided sound);
   known = subst (AreKnown d) (sym same) known;
   edges = edges ∙ sym (along_berths d case berths) ∙ ap (along_edges d) (sym same);
   few = few;

@@ -12,7 +12,7 @@ use Rattle.refute_rules.proofs.Among.{IsAmong-left, IsAmong-right}
 use Rattle.refute_rules.specs.BerthCases.{DoOverlap, HasOrder}
 use Rattle.berth_place.specs.declared.pairs.Pair.{Pair}
 use Rattle.berth_place.specs.Along.{place_var}
-use Rattle.berth_place.specs.Pairs.{IsPair, pair, ArePairs, AreAllPairs, AreApartAlong, AreAllApart, AreSmallValues, ArePairsBut, ArePartlyPairs}
+use Rattle.berth_place.specs.Pairs.{IsPair, pair, ArePairs, AreAllPairs, AreApartAlong, AreFirstApart, AreSmallValues, ArePairsBut, ArePartlyPairs}
 use Rattle.berth_place.proofs.WholeLemmas.{overlap_more, overlap_less, order_more}
 
 module _ (d : Deck) (case : List Choice) where
@@ -87,10 +87,10 @@ at-number P (p ∷ ps) (suc k) all h = at-number P ps k all.1 (omega (arith, h))
 pub pair_number : (d : Deck) (case : List Choice) (ps : List Pair) (k : ℕ) → ArePairs d case ps → k < length ps → IsPair d case (pair_at ps k)
 pair_number d case ps k pairs h = at-number (IsPair d case) ps k pairs.all h
 
-pub apart_begun : (d : Deck) (values : List ℤ) (ps : List Pair) → AreAllApart d values ps 0
+pub apart_begun : (d : Deck) (values : List ℤ) (ps : List Pair) → AreFirstApart d values ps 0
 apart_begun d values ps = record { each = λ k h. absurd (omega (arith, h)) }
 
-pub apart_more : (d : Deck) (values : List ℤ) (ps : List Pair) (k : ℕ) (z : Pair) → k < length ps → AreApartAlong d values (slice_index_or ps k z) → AreAllApart d values ps k → AreAllApart d values ps (k + 1)
+pub apart_more : (d : Deck) (values : List ℤ) (ps : List Pair) (k : ℕ) (z : Pair) → k < length ps → AreApartAlong d values (slice_index_or ps k z) → AreFirstApart d values ps k → AreFirstApart d values ps (k + 1)
 apart_more d values ps k z here apart before = record {
   each = λ j h.
       elim (eqb_tells j k) [
@@ -104,7 +104,7 @@ from-among P [] f = tt
 from-among P (p ∷ ps) f = (f p (inl refl), from-among P ps (λ q h. f q (inr h)))
 
 -- a pair that is in the list is apart where all are
-pub among_apart : (d : Deck) (values : List ℤ) (ps : List Pair) (p : Pair) → AreAllApart d values ps (length ps) → IsAmong ps p → AreApartAlong d values p
+pub among_apart : (d : Deck) (values : List ℤ) (ps : List Pair) (p : Pair) → AreFirstApart d values ps (length ps) → IsAmong ps p → AreApartAlong d values p
 among_apart d values ps p all h =
     let at = pair-among ps p h in
     subst (AreApartAlong d values) at.2 (all.each at.0 at.1)

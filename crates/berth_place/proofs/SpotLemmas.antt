@@ -19,9 +19,9 @@ use Rattle.berth_check.specs.Raises.{AreKnown}
 use Rattle.berth_check.proofs.RaiseLemmas.{host-known}
 use Rattle.berth_place.specs.declared.pairs.Pair.{Pair}
 use Rattle.berth_place.specs.Along.{place_var, place_count, AreValuesOf}
-use Rattle.berth_place.specs.Known.{IsWhole}
-use Rattle.berth_place.specs.Pairs.{pair, ArePairs, AreAllPairs, IsBeforeAt, AreAllApart, AreTouching, AreSmallValues}
-use Rattle.berth_place.specs.Spotting.{AreSpotsOf}
+use Rattle.berth_place.specs.Known.{HasAllBerths}
+use Rattle.berth_place.specs.Pairs.{pair, ArePairs, AreAllPairs, IsBeforeAt, AreFirstApart, AreNotApart, AreSmallValues}
+use Rattle.berth_place.specs.Spotting.{AreSpotsSoFar}
 use Rattle.berth_place.proofs.PairLemmas.{pair_at, pair_number, among_apart}
 
 pub small_values : (d : Deck) (edges : List Edge) (tree : PathTree) → AreLongest edges (place_count d) tree → AreSmallValues d tree.values
@@ -42,7 +42,7 @@ places_of values i = natural (value_at values (place_var i))
 pub places_values : (d : Deck) (values : List ℤ) → AreSmallValues d values → AreValuesOf d values (places_of values)
 places_values d values small = record { value = λ i h. natural-is (value_at values (place_var i)) (small.small (place_var i) (omega (arith, h))).low }
 
-module _ (d : Deck) (case : List Choice) (known : AreKnown d case) (whole : IsWhole d case) (values : List ℤ) (spots : List Spot) (are : AreSpotsOf d case values (length d.ships) spots) where
+module _ (d : Deck) (case : List Choice) (known : AreKnown d case) (whole : HasAllBerths d case) (values : List ℤ) (spots : List Spot) (are : AreSpotsSoFar d case values (length d.ships) spots) where
   pub spots_values : AreValuesOf d values (λ i. (spot_at spots i).x)
   spots_values = record { value = λ i h. (are.each i h).x }
 
@@ -58,7 +58,7 @@ module _ (d : Deck) (case : List Choice) (known : AreKnown d case) (whole : IsWh
       let far = b.before in
       omega (arith, ints, own, other, far)
 
-  pub spots_legal : (obey : ObeyAlong d case (λ i. (spot_at spots i).x)) (ps : List Pair) → AreAllPairs d case ps (length d.ships) → AreAllApart d values ps (length ps) → IsLegalPlacement d spots
+  pub spots_legal : (obey : ObeyAlong d case (λ i. (spot_at spots i).x)) (ps : List Pair) → AreAllPairs d case ps (length d.ships) → AreFirstApart d values ps (length ps) → IsLegalPlacement d spots
   spots_legal obey ps all apart =
       berths-legal d case spots
       (record {
@@ -86,7 +86,7 @@ module _ (d : Deck) (case : List Choice) (values : List ℤ) (x : ℕ → ℕ) (
       let far = obey.order i j h in
       record { before = omega (arith, ints, own, other, far) }
 
-  pub touching_open : (ps : List Pair) (number : ℕ) → ArePairs d case ps → AreTouching d values ps number → AreUnordered d case (pair_at ps number).lower (pair_at ps number).upper
+  pub touching_open : (ps : List Pair) (number : ℕ) → ArePairs d case ps → AreNotApart d values ps number → AreUnordered d case (pair_at ps number).lower (pair_at ps number).upper
   touching_open ps number pairs touching =
       let p = pair_at ps number in
       let is = pair_number d case ps number pairs touching.known in

@@ -12,7 +12,7 @@ use Rattle.berth_place.specs.declared.search.Search.{Search}
 use Rattle.berth_place.specs.declared.search.Visit.{Visit}
 use Rattle.berth_place.specs.declared.search.Visit.TheVariants.{Closed, Placed, Spent}
 use Rattle.berth_place.specs.Unfinished.{node_count, IsUnfinishedWithin, IsUnfinished}
-use Rattle.berth_place.specs.Visits.{GrewByTree, IsPassed, IsClosed, IsOptionClosed, IsUnder, IsVisit, IsVisitOf}
+use Rattle.berth_place.specs.Visits.{GrewByTree, IsPassed, IsClosed, IsOptionClosed, IsPartWay, IsVisit, IsVisitOf}
 
 pub fault-one : (fault : BerthFault) (rest : List ℕ) → node_count (berth_fault_numbers fault ++ rest) ≡ 1 + node_count rest
 fault-one (OtherRank i) rest = refl
@@ -112,14 +112,14 @@ fault_closed d fault old new stands marks case edges turns tried few = record {
 -- ---- the options of a split in turn
 
 module _ (d : Deck) (old : Search) (split : Split) where
-  pub under_begun : (new : Search) → new.case ≡ old.case → new.edges ≡ old.edges → new.turns ≡ old.turns → new.tried ≡ old.tried → old.tried ≤ old.turns → new.marks ≡ old.marks ++ split_numbers split → IsUnder d old new split 0
+  pub under_begun : (new : Search) → new.case ≡ old.case → new.edges ≡ old.edges → new.turns ≡ old.turns → new.tried ≡ old.tried → old.tried ≤ old.turns → new.marks ≡ old.marks ++ split_numbers split → IsPartWay d old new split 0
   under_begun new case edges turns tried few marks = record {
     on = record { case = case; edges = edges; turns = turns; more = omega (arith, tried); few = omega (arith, turns, tried, few) };
     passed = passed_begun d old.case split old.marks new.marks marks;
     tried = let own : node_count (split_numbers split ++ []) ≡ 1 = split-one split [] in omega (arith, own, tried);
   }
 
-  pub under_more : (k : ℕ) (middle last : Search) → k < length (split_options d split) → IsUnder d old middle split k → IsOptionClosed d (option_at d old.case split k) middle last → IsUnder d old last split (k + 1)
+  pub under_more : (k : ℕ) (middle last : Search) → k < length (split_options d split) → IsPartWay d old middle split k → IsOptionClosed d (option_at d old.case split k) middle last → IsPartWay d old last split (k + 1)
   under_more k middle last h under closed =
       let more = under.on.more in
       let then = closed.on.more in
@@ -135,7 +135,7 @@ module _ (d : Deck) (old : Search) (split : Split) where
         tried = let own = more-nodes d old.case split under.passed.inner closed.grew.added under.passed.nodes in let first = under.tried in let second = closed.tried in omega (arith, own, first, second);
       }
 
-  pub under_whole : (count : ℕ) (new : Search) → IsOpen d old.case split → length (split_options d split) ≤ count → IsUnder d old new split count → IsClosed d old new
+  pub under_whole : (count : ℕ) (new : Search) → IsOpen d old.case split → length (split_options d split) ≤ count → IsPartWay d old new split count → IsClosed d old new
   under_whole count new is_open long under = record { grew = passed_whole d old.case split count old.marks new.marks is_open long under.passed; on = under.on; tried = under.tried }
 
 -- ---- one option, which is taken back
@@ -165,7 +165,7 @@ option_closed d choice old inner after last case marks turns counted closed back
 -- ---- a visit that isn't closed
 
 -- of a split
-pub visit_over : (d : Deck) (split : Split) (k : ℕ) (old middle new : Search) (visit : Visit) → (visit ≡ Closed → ⊥) → IsOpen d old.case split → k < length (split_options d split) → IsUnder d old middle split k → IsVisitOf d (option_at d old.case split k) middle new visit → IsVisit d old new visit
+pub visit_over : (d : Deck) (split : Split) (k : ℕ) (old middle new : Search) (visit : Visit) → (visit ≡ Closed → ⊥) → IsOpen d old.case split → k < length (split_options d split) → IsPartWay d old middle split k → IsVisitOf d (option_at d old.case split k) middle new visit → IsVisit d old new visit
 visit_over d split k old middle new Closed n is_open less under h = absurd (n refl)
 visit_over d split k old middle new Placed n is_open less under h = h
 visit_over d split k old middle new Spent n is_open less under h = record {

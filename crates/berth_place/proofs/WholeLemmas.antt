@@ -17,7 +17,7 @@ use Rattle.spot_place.proofs.KnownLemmas as chain
 use Rattle.refute_rules.specs.BerthCases.{host_in, HasOrder, DoOverlap}
 use Rattle.berth_check.specs.Raises.{AreKnown}
 use Rattle.berth_check.proofs.RaiseLemmas.{host-known, y-known}
-use Rattle.berth_place.specs.Known.{AreDecided, AreSoundShips, IsWhole}
+use Rattle.berth_place.specs.Known.{AreDecided, AreSoundShips, HasAllBerths}
 
 berth-same : (a b : ℕ) (case : List Choice) (i : ℕ) → berth_in (case ++ Before a b ∷ []) i ≡ berth_in case i
 berth-same a b [] i = refl
@@ -48,7 +48,7 @@ module _ (d : Deck) (case more : List Choice) (same : (i : ℕ) → berth_in mor
   overlap-on : (i j : ℕ) → DoOverlap d case i j → DoOverlap d more i j
   overlap-on i j o = record { yi = o.yi; yj = o.yj; known_i = known-same i ∙ o.known_i; known_j = known-same j ∙ o.known_j; not_below = o.not_below; not_above = o.not_above }
 
-  whole-on : IsWhole d case → IsWhole d more
+  whole-on : HasAllBerths d case → HasAllBerths d more
   whole-on w = record {
     decided = record { each = λ i h. let own = w.decided.each i h in record { berth = own.berth; is = same i ∙ own.is } };
     ranks = λ i h. w.ranks i (record { host = h.host; own = h.own; berth = h.berth; lies = sym (same i) ∙ h.lies; decided = sym (same h.host) ∙ h.decided; differ = h.differ });
@@ -61,7 +61,7 @@ module _ (d : Deck) (case : List Choice) (a b : ℕ) where
   abbrev ordered : List Choice
   ordered = case ++ Before a b ∷ []
 
-  pub whole_more : IsWhole d case → IsWhole d ordered
+  pub whole_more : HasAllBerths d case → HasAllBerths d ordered
   whole_more w = whole-on d case ordered (berth-same a b case) w
 
   pub overlap_more : (i j : ℕ) → DoOverlap d case i j → DoOverlap d ordered i j
@@ -105,7 +105,7 @@ module _ (d : Deck) (case : List Choice) (known : AreKnown d case) (decided : Ar
   hosts : HasKnownHosts d case
   hosts = record { each = λ i k h e. (host-known d case known i k e).1 }
 
-  pub sound_whole : IsWhole d case
+  pub sound_whole : HasAllBerths d case
   sound_whole = record {
     decided = decided;
     ranks = λ i h. let host : host_in case i ≡ Some h.host = ap host_of h.lies in (sound.each i (host-known d case known i h.host host).0).rank h;
@@ -116,7 +116,7 @@ module _ (d : Deck) (case : List Choice) (known : AreKnown d case) (decided : Ar
 
 -- ---- what a whole case says of a ship
 
-module _ (d : Deck) (case : List Choice) (whole : IsWhole d case) (i : ℕ) (h : i < length d.ships) where
+module _ (d : Deck) (case : List Choice) (whole : HasAllBerths d case) (i : ℕ) (h : i < length d.ships) where
   pub berth_decided : None ≡ berth_in case i → ⊥
   berth_decided e = none-some _ (e ∙ (whole.decided.each i h).is)
 

@@ -39,7 +39,7 @@ pub record AreSoundShips (d : Deck) (case : List Choice) (count : ℕ) : Type 0 
   pub each : (i : ℕ) → i < count → IsSoundShip d case i
 
 -- the berths of all ships are decided, none is of another rank than its host or its own host, and each lies inside across the chamber
-pub record IsWhole (d : Deck) (case : List Choice) : Type 0 where
+pub record HasAllBerths (d : Deck) (case : List Choice) : Type 0 where
   pub decided : AreDecided case (length d.ships)
   pub ranks : (i : ℕ) → HasOtherRank case i → ⊥
   pub ys : (i : ℕ) → i < length d.ships → (y : ℤ) × (y_in d case i ≡ Some y)

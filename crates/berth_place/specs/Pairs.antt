@@ -42,11 +42,11 @@ abbrev pub AreApartAlong : Deck → List ℤ → Pair → Type 0
 AreApartAlong d values p = IsBeforeAt d values p.lower p.upper ⊎ IsBeforeAt d values p.upper p.lower
 
 -- so with each of the first pairs
-pub record AreAllApart (d : Deck) (values : List ℤ) (ps : List Pair) (count : ℕ) : Type 0 where
+pub record AreFirstApart (d : Deck) (values : List ℤ) (ps : List Pair) (count : ℕ) : Type 0 where
   pub each : (k : ℕ) → k < count → AreApartAlong d values (slice_index_or ps k (pair 0 0))
 
 -- the values don't put the ships of this pair apart
-pub record AreTouching (d : Deck) (values : List ℤ) (ps : List Pair) (number : ℕ) : Type 0 where
+pub record AreNotApart (d : Deck) (values : List ℤ) (ps : List Pair) (number : ℕ) : Type 0 where
   pub known : number < length ps
   pub touching : AreApartAlong d values (slice_index_or ps number (pair 0 0)) → ⊥
 

@@ -16,6 +16,6 @@ pub record IsSpotOf (d : Deck) (case : List Choice) (values : List ℤ) (i : ℕ
   pub x : value_at values (place_var i) ≡ pos s.x
 
 -- spots of the first ships
-pub record AreSpotsOf (d : Deck) (case : List Choice) (values : List ℤ) (first : ℕ) (spots : List Spot) : Type 0 where
+pub record AreSpotsSoFar (d : Deck) (case : List Choice) (values : List ℤ) (first : ℕ) (spots : List Spot) : Type 0 where
   pub count : length spots ≡ first
   pub each : (i : ℕ) → i < first → IsSpotOf d case values i (spot_at spots i)

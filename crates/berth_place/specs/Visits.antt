@@ -7,7 +7,7 @@ use Rattle.refute_rules.specs.Trees.{AreInOrder}
 use Rattle.refute_rules.specs.BerthTrees.{Split, split_options, split_numbers, BeginsWithTree}
 use Rattle.berth_place.specs.Along.{along_edges, order_edges}
 use Rattle.berth_check.specs.Raises.{AreKnown}
-use Rattle.berth_place.specs.Known.{AreBerths, IsWhole}
+use Rattle.berth_place.specs.Known.{AreBerths, HasAllBerths}
 use Rattle.berth_place.specs.Pairs.{pair, ArePairs, AreAllPairs, ArePairsBut}
 use Rattle.berth_place.specs.Unfinished.{node_count, IsUnfinished}
 use Rattle.berth_place.specs.declared.pairs.Pair.{Pair}
@@ -38,7 +38,7 @@ pub record GoesOn (old new : Search) : Type 0 where
   pub few : new.tried ≤ new.turns
 
 -- One option more than the turns was tried. The marks grew by an unfinished tree of the case with a node for the case and for each other option.
-pub record IsSpent (d : Deck) (old new : Search) : Type 0 where
+pub record IsSpentVisit (d : Deck) (old new : Search) : Type 0 where
   pub turns : new.turns ≡ old.turns
   pub more : new.tried ≡ new.turns + 1
   pub added : List ℕ
@@ -82,7 +82,7 @@ pub record TakesOrder (d : Deck) (p : Pair) (option : ℕ) (old new : Search) : 
   pub tried : new.tried ≡ old.tried
 
 -- some options of a split are passed
-pub record IsUnder (d : Deck) (old new : Search) (split : Split) (count : ℕ) : Type 0 where
+pub record IsPartWay (d : Deck) (old new : Search) (split : Split) (count : ℕ) : Type 0 where
   pub on : GoesOn old new
   pub passed : IsPassed d old.case split old.marks new.marks count
   pub tried : new.tried + 1 ≡ old.tried + node_count (split_numbers split ++ passed.inner)
@@ -96,7 +96,7 @@ pub record IsClosed (d : Deck) (old new : Search) : Type 0 where
 -- a case that decides all berths, with its edges along the chamber
 pub record IsOrdering (d : Deck) (s : Search) : Type 0 where
   pub limits : IsDeck d
-  pub whole : IsWhole d s.case
+  pub whole : HasAllBerths d s.case
   pub known : AreKnown d s.case
   pub edges : s.edges ≡ along_edges d s.case
   pub few : s.tried ≤ s.turns
@@ -139,4 +139,4 @@ IsVisitOf d choice old new Spent = IsOptionSpent d choice old new
 abbrev pub IsVisit : Deck → Search → Search → Visit → Type 0
 IsVisit d old new Closed = IsClosed d old new
 IsVisit d old new Placed = IsLegalPlacement d new.spots
-IsVisit d old new Spent = IsSpent d old new
+IsVisit d old new Spent = IsSpentVisit d old new

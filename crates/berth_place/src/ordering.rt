@@ -5,7 +5,7 @@ ghost use Rattle.diff_system.specs.PathTree.{AreLongest};
 ghost use Rattle.refute_rules.specs.BerthTrees.{OfOrder, split_numbers};
 ghost use Rattle.berth_place.specs.Along.{place_count};
 ghost use Rattle.berth_place.specs.Known.{AreDecided};
-ghost use Rattle.berth_place.specs.Pairs.{AreTouching};
+ghost use Rattle.berth_place.specs.Pairs.{AreNotApart};
 ghost use Rattle.berth_place.specs.Visits.{IsBerthing, IsOrdering, IsOrderedOn, IsTakenPair, IsVisit, IsVisitOf, TakesOrder, order_of};
 
 use crate::along::{add_berths, add_order, place_count};
@@ -89,7 +89,7 @@ fn split_pair(
 ) -> Result<Visit, NoMemory>
     requires ordered { IsOrderedOn deck.now search.old pairs.now.items }
     requires longest { AreLongest search.old.edges (place_count deck.now) paths.now }
-    requires touching { AreTouching deck.now paths.now.values pairs.now.items number }
+    requires touching { AreNotApart deck.now paths.now.values pairs.now.items number }
     ensures { IfOk result (IsVisit deck.now search.old search.new) }
 {
     let pair = pairs.as_slice()[number];

@@ -2,7 +2,7 @@
 ghost use Rattle.std.specs.Prelude.{◌≡◌, ◌+◌, ◌*◌, ◌<◌, ◌≤◌, ◌↔◌, pos, ◌+ℤ◌, ◌≤ℤ◌, IsTrue, IfSome, IfNone, length};
 ghost use Rattle.diff_rules.specs.Differences.{value_at};
 ghost use Rattle.berth_place.specs.Along.{place_var};
-ghost use Rattle.berth_place.specs.Pairs.{ArePairs, AreAllPairs, AreApartAlong, IsBeforeAt, AreAllApart, AreTouching, AreSmallValues, ArePairsBut, ArePartlyPairs};
+ghost use Rattle.berth_place.specs.Pairs.{ArePairs, AreAllPairs, AreApartAlong, IsBeforeAt, AreFirstApart, AreNotApart, AreSmallValues, ArePairsBut, ArePartlyPairs};
 
 use crate::along::{along, place_var};
 use arrayvec::ArrayVec;
@@ -114,8 +114,8 @@ fn are_apart(deck: &Deck, values: &[i64], pair: Pair) -> bool
 pub(crate) fn first_touching(deck: &Deck, values: &[i64], pairs: &[Pair]) -> Option<usize>
     requires pairs { (case : _) × ArePairs deck.now case pairs.now }
     requires small { AreSmallValues deck.now values.now }
-    ensures none { IfNone result (AreAllApart deck.now values.now pairs.now (length pairs.now)) }
-    ensures some { IfSome result (AreTouching deck.now values.now pairs.now) }
+    ensures none { IfNone result (AreFirstApart deck.now values.now pairs.now (length pairs.now)) }
+    ensures some { IfSome result (AreNotApart deck.now values.now pairs.now) }
 {
     prove!(deck.ships.as_slice().len() <= 8);
     for number in 0..pairs.len() {

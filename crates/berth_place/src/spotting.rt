@@ -7,9 +7,9 @@ ghost use Rattle.diff_rules.specs.Differences.{value_at};
 ghost use Rattle.refute_rules.specs.BerthFaults.{IsBerthFault};
 ghost use Rattle.berth_place.specs.Along.{place_var};
 ghost use Rattle.berth_place.specs.Faults.{fault_of};
-ghost use Rattle.berth_place.specs.Known.{IsSoundShip, AreSoundShips, IsWhole};
+ghost use Rattle.berth_place.specs.Known.{IsSoundShip, AreSoundShips, HasAllBerths};
 ghost use Rattle.berth_place.specs.Pairs.{AreSmallValues};
-ghost use Rattle.berth_place.specs.Spotting.{IsSpotOf, AreSpotsOf};
+ghost use Rattle.berth_place.specs.Spotting.{IsSpotOf, AreSpotsSoFar};
 
 use crate::along::place_var;
 use crate::faults::BerthFault;
@@ -71,7 +71,7 @@ fn small(number: i64) -> u32
 // A ship's y.
 fn y_at(deck: &Deck, case: &BerthCase, ship: u8) -> u32
     requires ship { ship < length deck.now.ships }
-    requires whole { IsWhole deck.now case.now }
+    requires whole { HasAllBerths deck.now case.now }
     ensures { y_in deck.now case.now ship ≡ Some (pos result) }
 {
     // a deck keeps its limits
@@ -86,7 +86,7 @@ fn y_at(deck: &Deck, case: &BerthCase, ship: u8) -> u32
 #[tactic(auto, using(crate::proofs::WholeLemmas::berth_decided))]
 fn berth_at(deck: &Deck, case: &BerthCase, ship: u8) -> Berth
     requires ship { ship < length deck.now.ships }
-    requires whole { IsWhole deck.now case.now }
+    requires whole { HasAllBerths deck.now case.now }
     ensures { told_berth (Some result) ≡ berth_in case.now ship }
 {
     match berth_of(case, ship as u32) {
@@ -99,7 +99,7 @@ fn berth_at(deck: &Deck, case: &BerthCase, ship: u8) -> Berth
 fn spot_of(deck: &Deck, case: &BerthCase, values: &[i64], ship: u8) -> Spot
     requires few { length deck.now.ships ≤ 8 }
     requires ship { ship < length deck.now.ships }
-    requires whole { IsWhole deck.now case.now }
+    requires whole { HasAllBerths deck.now case.now }
     requires small { AreSmallValues deck.now values.now }
     ensures { IsSpotOf deck.now case.now values.now ship result }
 {
@@ -114,9 +114,9 @@ fn spot_of(deck: &Deck, case: &BerthCase, values: &[i64], ship: u8) -> Spot
 
 /// The spots of all ships.
 pub(crate) fn spots_of(deck: &Deck, case: &BerthCase, values: &[i64]) -> Spots
-    requires whole { IsWhole deck.now case.now }
+    requires whole { HasAllBerths deck.now case.now }
     requires small { AreSmallValues deck.now values.now }
-    ensures { AreSpotsOf deck.now case.now values.now (length deck.now.ships) result }
+    ensures { AreSpotsSoFar deck.now case.now values.now (length deck.now.ships) result }
 {
     prove!(deck.ships.as_slice().len() <= 8);
     let mut spots = Spots::new();

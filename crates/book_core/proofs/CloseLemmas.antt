@@ -8,7 +8,7 @@ use Rattle.closing_rules.specs.declared.grounds.Ground.TheVariants as by
 use Rattle.book_rules.specs.Book.{Book, best_cost}
 use Rattle.book_rules.specs.Events as machine
 use Rattle.book_rules.specs.Events.{Event, IsOwed, close}
-use Rattle.book_rules.specs.Step.{step, may_close, refusal_of, cheaper_than, close_unless, closed, hits_in, probe_at, is_missing}
+use Rattle.book_rules.specs.Step.{step, may_close, refusal_of, cheaper_than, close_unless, closed, hits_in, probe_at, lacks_ship}
 use Rattle.book_core.specs.declared.reply.Reply.{Reply}
 use Rattle.book_core.specs.declared.reply.Reply.TheVariants as reply
 use Rattle.book_core.specs.Keeps.{IsSound}
@@ -93,10 +93,10 @@ module _ (b : Book) (id : ℕ) where
     abbrev probed : Bool → Option (machine.Reply BrokenPlan)
     probed t = cond (not t) (Some (machine.Absent s)) (cheaper_than (best_cost b) (probe_at b id s))
 
-    pub probe-absent : is_missing b id s ≡ false → refusal_of {Break = BrokenPlan} b id (by.Probe s) ≡ Some (machine.Absent s)
+    pub probe-absent : lacks_ship b id s ≡ false → refusal_of {Break = BrokenPlan} b id (by.Probe s) ≡ Some (machine.Absent s)
     probe-absent e = ap probed e
 
-    pub probe-asked : (least : ℕ) → is_missing b id s ≡ true → least ≡ probe_at b id s → refusal_of {Break = BrokenPlan} b id (by.Probe s) ≡ cheaper_than (best_cost b) least
+    pub probe-asked : (least : ℕ) → lacks_ship b id s ≡ true → least ≡ probe_at b id s → refusal_of {Break = BrokenPlan} b id (by.Probe s) ≡ cheaper_than (best_cost b) least
     probe-asked least e is = ap probed e ∙ ap (cheaper_than (best_cost b)) (sym is)
 
   -- a cut that misses the node, and one that hits it

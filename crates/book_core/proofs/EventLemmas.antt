@@ -11,7 +11,7 @@ use Rattle.book_core.specs.declared.reply.Grant.{Grant}
 use Rattle.book_core.specs.declared.reply.Grant.TheVariants as grant
 use Rattle.book_core.specs.declared.reply.Reply.{Reply}
 use Rattle.book_core.specs.declared.reply.Reply.TheVariants as reply
-use Rattle.book_core.specs.Changes.{IsFree, IsNew, handed, returned, finished}
+use Rattle.book_core.specs.Changes.{IsNextFree, IsNew, handed, returned, finished}
 use Rattle.book_core.specs.Keeps.{IsSound}
 use Rattle.book_core.specs.Replies.{Answers, Grants, HasNode, grant_told, told}
 use Rattle.book_core.proofs.CloseLemmas.{Out, none, pick-true, pick-false}
@@ -71,7 +71,7 @@ module _ (b : Book) (w : ℕ) where
       ∙ pick-false (nat_eq b.used b.case.nodes) (b, machine.NodesSpent b.used) (given b w id (suc b.used)) (ne_eqb b.used b.case.nodes (λ h. left (is ∙ h)))
       ∙ ap (given b w id) (ap suc (sym is) ∙ sym more)
 
-  pub is-new : (id : ℕ) → first_slot b is_back ≡ None → next_fresh b ≡ Some id → IsFree b id
+  pub is-new : (id : ℕ) → first_slot b is_back ≡ None → next_fresh b ≡ Some id → IsNextFree b id
   is-new id back next = IsNew back (next_fresh-at b id next).is
 
   module _ (sound : IsSound b) (known : w ≤ 8) (id used : ℕ) (same : step (λ _ _. none) b (take w) ≡ given b w id used) where

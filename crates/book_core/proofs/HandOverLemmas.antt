@@ -16,7 +16,7 @@ use Rattle.book_core.specs.declared.stored_slot.StoredSlot.{StoredSlot}
 use Rattle.book_core.specs.declared.waiting.Waiting.{Waiting}
 use Rattle.book_core.specs.Stored.{slots_of}
 use Rattle.book_core.specs.Tables.{state_in, AreHands, AreBack}
-use Rattle.book_core.specs.Changes.{Changes, set_state, let_go, leave_back, IsFree, IsReturned, IsNew, handed, returned}
+use Rattle.book_core.specs.Changes.{Changes, set_state, let_go, leave_back, IsNextFree, IsReturned, IsNew, handed, returned}
 use Rattle.book_core.specs.Keeps.{AreTables}
 use Rattle.book_core.specs.Seen.{seen}
 use Rattle.book_core.proofs.HandLemmas.{set-changes, state-known, hands-given, hands-let_go, first-held}
@@ -30,11 +30,11 @@ fresh-open : slot.Fresh ≢ slot.Closed by.Bound
 fresh-open e = cc
 
 -- a free slot is Back or Fresh
-free-state : (b : Book) (id : ℕ) (P : SlotState → Type 0) → IsFree b id → P slot.Back → P slot.Fresh → P (slot_at b id).state
+free-state : (b : Book) (id : ℕ) (P : SlotState → Type 0) → IsNextFree b id → P slot.Back → P slot.Fresh → P (slot_at b id).state
 free-state b id P (IsReturned first) back fresh = subst P (sym (back-is (slot_at b id).state (first_slot-at b is_back id first).1)) back
 free-state b id P (IsNew none is) back fresh = subst P (sym is) fresh
 
-pub free-known : (b : Book) (id : ℕ) → IsFree b id → id < length b.slots
+pub free-known : (b : Book) (id : ℕ) → IsNextFree b id → id < length b.slots
 free-known b id (IsReturned first) = (first_slot-at b is_back id first).0
 free-known b id (IsNew none is) = state-known b.slots id (λ e. fresh-open (sym is ∙ e))
 
@@ -53,7 +53,7 @@ not-empty b (x ∷ xs) good id is none = clash none
     clash h = cc
 
 module _ (b : Book) (ended : List Bool) (hands : List (Option ℕ)) (back : List ℕ) (waiting : List Waiting) (tables : AreTables b.slots ended hands back waiting) (new : List Slot) (id w : ℕ) where
-  back-left : Changes b.slots id (slot.Held w) new → IsFree b id → AreBack new (leave_back (state_in b.slots id) back)
+  back-left : Changes b.slots id (slot.Held w) new → IsNextFree b id → AreBack new (leave_back (state_in b.slots id) back)
   back-left change (IsReturned first) =
       subst (λ s. AreBack new (leave_back s back)) (sym (back-is (slot_at b id).state (first_slot-at b is_back id first).1))
       (first-taken b.slots new id (slot.Held w) change back tables.back_are (first-back b back tables.back_are ∙ first) refl)
@@ -70,7 +70,7 @@ module _ (b : Book) (ended : List Bool) (hands : List (Option ℕ)) (back : List
   fewer (slot.Closed why) = omega arith
 
   -- a free slot goes to a worker who holds none
-  pub tables-given : Changes b.slots id (slot.Held w) new → IsFree b id → w ≤ 8 → first_slot b (is_held_by w) ≡ None → AreTables new ended (slice_set hands w (Some id)) (leave_back (state_in b.slots id) back) waiting
+  pub tables-given : Changes b.slots id (slot.Held w) new → IsNextFree b id → w ≤ 8 → first_slot b (is_held_by w) ≡ None → AreTables new ended (slice_set hands w (Some id)) (leave_back (state_in b.slots id) back) waiting
   tables-given change free known empty =
       let less = fewer (state_in b.slots id) in
       let few = tables.few in
@@ -107,7 +107,7 @@ module _ (b : Book) (ended : List Bool) (hands : List (Option ℕ)) (back : List
 
 -- ---- the slot that was given
 
-module _ (b : Book) (id w used : ℕ) (free : IsFree b id) (new : Book) (is : new ≡ handed b id w used) where
+module _ (b : Book) (id w used : ℕ) (free : IsNextFree b id) (new : Book) (is : new ≡ handed b id w used) where
   change : Changes b.slots id (slot.Held w) (set_state b.slots id (slot.Held w))
   change = set-changes b.slots id (slot.Held w) (free-known b id free)
 

@@ -6,7 +6,7 @@ use Rattle.lock_rules.specs.Arrival.{order_of, missing_ships}
 use Rattle.lock_rules.specs.Node.{Node, IsNode}
 use Rattle.lock_rules.specs.Trace.{has_number}
 use Rattle.book_rules.specs.Book.{Book, slot_at}
-use Rattle.book_rules.specs.Step.{is_missing, probe_at}
+use Rattle.book_rules.specs.Step.{lacks_ship, probe_at}
 use Rattle.book_rules.proofs.TestLemmas.{has_number-decides}
 use Rattle.flow_bounds.specs.Missing.{IsMissing}
 use Rattle.flow_bounds.proofs.ProbeLemmas.{among-missing, other-held}
@@ -50,7 +50,7 @@ next-number [] k known = absurd (omega (arith, known))
 next-number (x ∷ xs) zero known = ap (λ t. t || list_any (λ y. nat_eq y x) xs) (eq-eqb x x refl)
 next-number (x ∷ xs) (suc k) known = next-number xs k (omega (arith, known))
 
-pub next-true : (b : Book) (id s : ℕ) → IsNextShip b id s → is_missing b id s ≡ true
+pub next-true : (b : Book) (id s : ℕ) → IsNextShip b id s → lacks_ship b id s ≡ true
 next-true b id s next =
     let I = b.case.instance in
     let k = (slot_at b id).node.depth in
@@ -58,13 +58,13 @@ next-true b id s next =
 
 -- of a slot's node
 module _ (b : Book) (id : ℕ) (I : Instance) (I_is : I ≡ b.case.instance) (node : Node) (same : node ≡ (slot_at b id).node) (good : IsNodeOf I node) (s : ℕ) where
-  by_node : (P : Bool → Type 0) → P (has_number (missing_ships I node.depth) s) → P (is_missing b id s)
+  by_node : (P : Bool → Type 0) → P (has_number (missing_ships I node.depth) s) → P (lacks_ship b id s)
   by_node P h = subst (λ (n : Node). P (has_number (missing_ships b.case.instance n.depth) s)) same (subst (λ J. P (has_number (missing_ships J node.depth) s)) I_is h)
 
-  pub is-missing : IsMissing I node.lines s → is_missing b id s ≡ true
+  pub is-missing : IsMissing I node.lines s → lacks_ship b id s ≡ true
   is-missing missing = by_node (λ t. t ≡ true) (missing-true I node.depth node.lines good s missing)
 
-  pub not-missing : (IsMissing I node.lines s → ⊥) → is_missing b id s ≡ false
+  pub not-missing : (IsMissing I node.lines s → ⊥) → lacks_ship b id s ≡ false
   not-missing other = by_node (λ t. t ≡ false) (missing-false I node.depth node.lines good s other)
 
   pub probe-is : probe_of I node.depth node.lines s ≡ probe_at b id s

@@ -13,7 +13,7 @@ use Rattle.book_core.specs.declared.stored_slot.StoredSlot.{StoredSlot}
 use Rattle.book_core.specs.Changes.{slot_in}
 use Rattle.book_core.specs.Hands.{IsNodeIn}
 use Rattle.book_core.specs.Keeps.{IsSound}
-use Rattle.book_core.specs.Path.{EndsAt, IsEntry, IsPath, IsChild, IsTree, entry_at, last_on, root_entry}
+use Rattle.book_core.specs.Path.{EndsAt, IsEntry, IsPath, IsChild, IsSlotTree, entry_at, last_on, root_entry}
 use Rattle.book_core.specs.Stored.{slots_of, IsStoredAs}
 use Rattle.book_core.proofs.HeldLemmas.{KeepsNodes, node-kept}
 use Rattle.book_core.proofs.KeptLemmas.{length-slots}
@@ -55,7 +55,7 @@ before-or (suc k) (suc n) less = elim (before-or k n (omega (arith, less))) [ in
 
 -- ---- the slots of a book are a tree
 
-pub tree-of : (b : Book) → IsSound b → IsTree b.case.instance b.slots
+pub tree-of : (b : Book) → IsSound b → IsSlotTree b.case.instance b.slots
 tree-of b sound = record {
   root = sound.parts.family.root_is;
   child = λ id some known. record {
@@ -68,7 +68,7 @@ tree-of b sound = record {
 
 -- ---- what is stored of a slot that isn't the root
 
-module _ (I : Instance) (ss : List StoredSlot) (tree : IsTree I (slots_of I ss)) (id : ℕ) (some : 0 < id) (known : id < length ss) where
+module _ (I : Instance) (ss : List StoredSlot) (tree : IsSlotTree I (slots_of I ss)) (id : ℕ) (some : 0 < id) (known : id < length ss) where
   pub child-here : IsChild I (slots_of I ss) id
   child-here = tree.child id some (omega (arith, known, length-slots I ss))
 
@@ -81,7 +81,7 @@ module _ (I : Instance) (ss : List StoredSlot) (tree : IsTree I (slots_of I ss))
 
 module _ (I : Instance) (slots : List Slot) where
   -- the root's node is that of the first slot
-  pub root-in : IsTree I slots → (id : ℕ) → id < length slots → id ≡ 0 → (node : Node) → node ≡ root → IsNodeOf I node → IsNodeIn I slots id node
+  pub root-in : IsSlotTree I slots → (id : ℕ) → id < length slots → id ≡ 0 → (node : Node) → node ≡ root → IsNodeOf I node → IsNodeIn I slots id node
   root-in tree id known first node is good = record {
     known = known;
     same = is ∙ sym tree.root ∙ ap (λ k. (slot_in slots k).node) (sym first);
@@ -169,8 +169,8 @@ module _ (I : Instance) (slots : List Slot) where
 
 -- the same of an equal instance and equal stored slots
 module _ (J I : Instance) (J_is : J ≡ I) (xs ss : List StoredSlot) (all : xs ≡ ss) where
-  pub tree-in : IsTree I (slots_of I ss) → IsTree J (slots_of J xs)
-  tree-in tree = subst (λ K. IsTree K (slots_of K xs)) (sym J_is) (subst (λ l. IsTree I (slots_of I l)) (sym all) tree)
+  pub tree-in : IsSlotTree I (slots_of I ss) → IsSlotTree J (slots_of J xs)
+  tree-in tree = subst (λ K. IsSlotTree K (slots_of K xs)) (sym J_is) (subst (λ l. IsSlotTree I (slots_of I l)) (sym all) tree)
 
   pub path-in : (path : Path) → IsPath I (slots_of I ss) path → IsPath J (slots_of J xs) path
   path-in path is = subst (λ K. IsPath K (slots_of K xs) path) (sym J_is) (subst (λ l. IsPath I (slots_of I l) path) (sym all) is)

@@ -45,9 +45,9 @@ leave_back slot.Back back = drop 1 back
 leave_back _ back = back
 
 -- the first Back slot, or a Fresh one where none is Back
-pub data IsFree (b : Book) (id : ℕ) : Type 0 where
-  IsReturned : first_slot b is_back ≡ Some id → IsFree b id
-  IsNew : first_slot b is_back ≡ None → (slot_at b id).state ≡ slot.Fresh → IsFree b id
+pub data IsNextFree (b : Book) (id : ℕ) : Type 0 where
+  IsReturned : first_slot b is_back ≡ Some id → IsNextFree b id
+  IsNew : first_slot b is_back ≡ None → (slot_at b id).state ≡ slot.Fresh → IsNextFree b id
 
 -- the book where slot id has gone to worker w, and so many nodes are used
 abbrev pub handed : Book → ℕ → ℕ → ℕ → Book

@@ -43,6 +43,6 @@ pub record IsChild (I : Instance) (slots : List Slot) (id : ℕ) : Type 0 where
   pub node : (slot_in slots id).node ≡ child_node I (slot_in slots (slot_in slots id).parent).node (slot_in slots id).number
 
 -- the first slot has the root's node, and each other one is a child
-pub record IsTree (I : Instance) (slots : List Slot) : Type 0 where
+pub record IsSlotTree (I : Instance) (slots : List Slot) : Type 0 where
   pub root : (slot_in slots 0).node ≡ tree_root
   pub child : (id : ℕ) → 0 < id → id < length slots → IsChild I slots id

@@ -4,7 +4,7 @@ ghost use Rattle.std.specs.Bool.{OnTrue};
 ghost use Rattle.lock_rules.specs.Arrival.{next_ship};
 ghost use Rattle.master_branch.specs.Node.{IsNodeOf};
 ghost use Rattle.book_rules.specs.Book.{slot_at, is_held};
-ghost use Rattle.book_rules.specs.Step.{is_missing, probe_at};
+ghost use Rattle.book_rules.specs.Step.{lacks_ship, probe_at};
 ghost use Rattle.book_core.specs.Hands.{IsNextShip};
 
 use crate::book::Book;
@@ -39,8 +39,8 @@ impl Book {
     fn probe_in(&self, id: u32, node: &Node, ship: u8) -> Option<u64>
         requires value { node.now ≡ (slot_at self.now id).node }
         requires node { IsNodeOf self.now.case.instance node.now }
-        ensures some { IfSome result (λ least. (is_missing self.now id ship ≡ true) × (least ≡ probe_at self.now id ship)) }
-        ensures none { IfNone result (is_missing self.now id ship ≡ false) }
+        ensures some { IfSome result (λ least. (lacks_ship self.now id ship ≡ true) × (least ≡ probe_at self.now id ship)) }
+        ensures none { IfNone result (lacks_ship self.now id ship ≡ false) }
     {
         let _ = id;
         if is_missing(self.instance(), node, ship) {
@@ -53,8 +53,8 @@ impl Book {
     // The same of a slot that no worker holds, whose node is made first.
     fn made_probe(&self, id: u32, ship: u8) -> Option<u64>
         requires { id < length self.now.slots }
-        ensures some { IfSome result (λ least. (is_missing self.now id ship ≡ true) × (least ≡ probe_at self.now id ship)) }
-        ensures none { IfNone result (is_missing self.now id ship ≡ false) }
+        ensures some { IfSome result (λ least. (lacks_ship self.now id ship ≡ true) × (least ≡ probe_at self.now id ship)) }
+        ensures none { IfNone result (lacks_ship self.now id ship ≡ false) }
     {
         self.probe_in(id, &self.node_of(id), ship)
     }
@@ -83,8 +83,8 @@ impl Book {
     pub(crate) fn probe_with(&mut self, id: u32, ship: u8) -> Option<u64>
         requires { id < length self.old.slots }
         ensures same { self.new ≡ self.old }
-        ensures some { IfSome result (λ least. (is_missing self.old id ship ≡ true) × (least ≡ probe_at self.old id ship)) }
-        ensures none { IfNone result (is_missing self.old id ship ≡ false) }
+        ensures some { IfSome result (λ least. (lacks_ship self.old id ship ≡ true) × (least ≡ probe_at self.old id ship)) }
+        ensures none { IfNone result (lacks_ship self.old id ship ≡ false) }
     {
         if !self.is_held(id) {
             return self.made_probe(id, ship);

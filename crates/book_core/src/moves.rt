@@ -2,7 +2,7 @@
 ghost use Rattle.std.specs.Prelude.{◌≡◌, ◌≤◌, true, false, slice_index_or, Some, None};
 ghost use Rattle.book_rules.specs.Book.{first_slot, is_held_by};
 ghost use Rattle.book_rules.specs.Step.{may_close, noted, with_state};
-ghost use Rattle.book_core.specs.Changes.{IsSettled, IsFree, handed, returned, finished};
+ghost use Rattle.book_core.specs.Changes.{IsSettled, IsNextFree, handed, returned, finished};
 ghost use Rattle.book_core.specs.Keeps.{IsSound};
 
 use crate::book::Book;
@@ -27,7 +27,7 @@ impl Book {
     pub(crate) fn give(&mut self, id: u32, worker: u8, used: u32)
         requires known { worker ≤ 8 }
         requires empty { first_slot self.old (is_held_by worker) ≡ None }
-        requires open { IsFree self.old id }
+        requires open { IsNextFree self.old id }
         requires sound { IsSound (handed self.old id worker used) }
         ensures { self.new ≡ handed self.old id worker used }
     {

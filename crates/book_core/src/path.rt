@@ -6,7 +6,7 @@ ghost use Rattle.lock_rules.specs.Node.{root as tree_root};
 ghost use Rattle.flow_bounds.specs.Roster.{IsRosterOf};
 ghost use Rattle.book_core.specs.Changes.{slot_in};
 ghost use Rattle.book_core.specs.Hands.{IsNodeIn};
-ghost use Rattle.book_core.specs.Path.{EndsAt, IsPath, IsTree, last_on, root_entry};
+ghost use Rattle.book_core.specs.Path.{EndsAt, IsPath, IsSlotTree, last_on, root_entry};
 ghost use Rattle.book_core.specs.Stored.{slots_of};
 
 use crate::stored_slot::StoredSlot;
@@ -45,7 +45,7 @@ fn count_up_to(nodes: &[PathNode], id: u32) -> usize
 
 // The node of a slot's parent becomes the slot's.
 fn step(node: &mut Node, instance: &Instance, roster: &Roster, slots: &[StoredSlot], id: u32)
-    requires tree { IsTree instance.now (slots_of instance.now slots.now) }
+    requires tree { IsSlotTree instance.now (slots_of instance.now slots.now) }
     requires roster { IsRosterOf instance.now roster.now }
     requires some { 0 < id }
     requires known { id < length slots.now }
@@ -64,7 +64,7 @@ pub(crate) fn node_from_root(
     slots: &[StoredSlot],
     id: u32,
 ) -> Node
-    requires tree { IsTree instance.now (slots_of instance.now slots.now) }
+    requires tree { IsSlotTree instance.now (slots_of instance.now slots.now) }
     requires roster { IsRosterOf instance.now roster.now }
     requires known { id < length slots.now }
     ensures { IsNodeIn instance.now (slots_of instance.now slots.now) id result }
@@ -120,7 +120,7 @@ impl Path {
 
     // It goes on from a slot to one of its children.
     fn go_on(&mut self, instance: &Instance, roster: &Roster, slots: &[StoredSlot], id: u32)
-        requires tree { IsTree instance.now (slots_of instance.now slots.now) }
+        requires tree { IsSlotTree instance.now (slots_of instance.now slots.now) }
         requires roster { IsRosterOf instance.now roster.now }
         requires some { 0 < id }
         requires known { id < length slots.now }
@@ -146,7 +146,7 @@ impl Path {
         slots: &[StoredSlot],
         id: u32,
     )
-        requires tree { IsTree instance.now (slots_of instance.now slots.now) }
+        requires tree { IsSlotTree instance.now (slots_of instance.now slots.now) }
         requires roster { IsRosterOf instance.now roster.now }
         requires known { id < length slots.now }
         requires path { IsPath instance.now (slots_of instance.now slots.now) self.old }

@@ -48,7 +48,7 @@ module _ (b : Book) (id : ℕ) where
     pub may-refuse : (why : Ground) → MayRefuse {Break = Break} (Step.refusal_of b id why)
     may-refuse by.Bound = cheaper-refuses (slot_at b id).bound
     may-refuse by.Throughput = cheaper-refuses (throughput_of I)
-    may-refuse (by.Probe s) = refuse_or (not (Step.is_missing b id s)) (Absent s) (Step.cheaper_than (best_cost b) (Step.probe_at b id s)) refl (cheaper-refuses (Step.probe_at b id s))
+    may-refuse (by.Probe s) = refuse_or (not (Step.lacks_ship b id s)) (Absent s) (Step.cheaper_than (best_cost b) (Step.probe_at b id s)) refl (cheaper-refuses (Step.probe_at b id s))
     may-refuse (by.Cut number) = refuse_or (not (Step.hits_in b id (slice_get b.cuts number))) (NoHit number) None refl tt
     may-refuse (by.Price number) = refl
 
@@ -69,8 +69,8 @@ module _ (b : Book) (id : ℕ) where
     unrefused-may by.Bound e = none-cheaper (slot_at b id).bound e
     unrefused-may by.Throughput e = none-cheaper (throughput_of I) e
     unrefused-may (by.Probe s) e =
-        let both = none-of (not (Step.is_missing b id s)) (Absent s) (Step.cheaper_than (best_cost b) (Step.probe_at b id s)) e in
-        ((has_number-decides (missing_ships I (slot_at b id).node.depth) s).0 (not-false (Step.is_missing b id s) both.0), none-cheaper (Step.probe_at b id s) both.1)
+        let both = none-of (not (Step.lacks_ship b id s)) (Absent s) (Step.cheaper_than (best_cost b) (Step.probe_at b id s)) e in
+        ((has_number-decides (missing_ships I (slot_at b id).node.depth) s).0 (not-false (Step.lacks_ship b id s) both.0), none-cheaper (Step.probe_at b id s) both.1)
     unrefused-may (by.Cut number) e =
         let hit = Step.hits_in b id (slice_get b.cuts number) in
         hit-by number (slice_get b.cuts number) refl (not-false hit (none-of (not hit) (NoHit number) None e).0)

@@ -91,8 +91,8 @@ abbrev pub probe_at : Book → ℕ → ℕ → ℕ
 probe_at b id s = probe_of b.case.instance (slot_at b id).node.depth (slot_at b id).node.lines s
 
 -- s is a ship of the instance that the slot's node lacks
-abbrev pub is_missing : Book → ℕ → ℕ → Bool
-is_missing b id s = has_number (missing_ships b.case.instance (slot_at b id).node.depth) s
+abbrev pub lacks_ship : Book → ℕ → ℕ → Bool
+lacks_ship b id s = has_number (missing_ships b.case.instance (slot_at b id).node.depth) s
 
 -- a bound that is below the best cost is refused
 abbrev pub cheaper_than : {Break : Type 0} → ℕ → ℕ → Option (Reply Break)
@@ -102,7 +102,7 @@ cheaper_than best bound = if nat_lt bound best then Some (Cheaper bound best) el
 abbrev pub refusal_of : {Break : Type 0} → Book → ℕ → Ground → Option (Reply Break)
 refusal_of b id by.Bound = cheaper_than (best_cost b) (slot_at b id).bound
 refusal_of b id by.Throughput = cheaper_than (best_cost b) (throughput_of b.case.instance)
-refusal_of b id (by.Probe s) = if not (is_missing b id s) then Some (Absent s) else cheaper_than (best_cost b) (probe_at b id s)
+refusal_of b id (by.Probe s) = if not (lacks_ship b id s) then Some (Absent s) else cheaper_than (best_cost b) (probe_at b id s)
 refusal_of b id (by.Cut number) = if not (hits_in b id (slice_get b.cuts number)) then Some (NoHit number) else None
 refusal_of b id (by.Price number) = Some NotShown
 

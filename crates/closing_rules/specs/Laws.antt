@@ -17,7 +17,7 @@ use Rattle.closing_rules.specs.ProvedCuts.{CertCut, IsProved}
 use Rattle.closing_rules.specs.ListedPrices.{cut_in}
 
 -- a child of the node under which the plan lies
-pub record IsUnderChild (I : Instance) (k : ℕ) (lines : List (List Group)) (P : Plan) : Type 0 where
+pub record IsUnderSomeChild (I : Instance) (k : ℕ) (lines : List (List Group)) (P : Plan) : Type 0 where
   pub child : List (List Group)
   pub among : Contains (children_of I k lines) child
   pub under : IsUnder I (suc k) child P
@@ -27,7 +27,7 @@ pub record TreeLaws (I : Instance) : Type 0 where
   pub root : IsNode I 0 root_lines
   pub all : (P : Plan) → IsLegal I P → IsUnder I 0 root_lines P
   pub child : (k : ℕ) (lines : List (List Group)) → IsNode I k lines → k < length I.ships → All (IsNode I (suc k)) (children_of I k lines)
-  pub split : (k : ℕ) (lines : List (List Group)) (P : Plan) → IsNode I k lines → k < length I.ships → IsLegal I P → IsUnder I k lines P → IsUnderChild I k lines P
+  pub split : (k : ℕ) (lines : List (List Group)) (P : Plan) → IsNode I k lines → k < length I.ships → IsLegal I P → IsUnder I k lines P → IsUnderSomeChild I k lines P
   pub bound : (k : ℕ) (lines : List (List Group)) → IsNode I k lines → IsLowerBound I k lines (bound_of I k lines)
   pub throughput : (P : Plan) → IsLegal I P → throughput_of I ≤ cost_of I P
   pub probe : (k : ℕ) (lines : List (List Group)) (s : ℕ) → IsNode I k lines → Contains (missing_ships I k) s → IsLowerBound I k lines (probe_of I k lines s)

@@ -32,7 +32,7 @@ pub record IsStill (s : ChamberState) : Type 0 where
   pub idle : s.going ≡ Idle
 
 -- The lockage names a chamber and ships of the instance, and has a spot for each ship.
-pub record IsWhole (I : Instance) (l : Lockage) : Type 0 where
+pub record IsWholeLockage (I : Instance) (l : Lockage) : Type 0 where
   pub chamber : l.chamber < length I.chambers
   pub ships : All (λ s. s < length I.ships) l.ships
   pub spots : length l.spots ≡ length l.ships
@@ -42,7 +42,7 @@ module _ (I : Instance) (P : Plan) where
   pub record IsOf (c p : ℕ) : Type 0 where
     pub known : p < length P.lockages
     pub chamber : (lockage_at P p).chamber ≡ c
-    pub whole : IsWhole I (lockage_at P p)
+    pub whole : IsWholeLockage I (lockage_at P p)
 
   -- An empty turn begins in a free chamber of the instance, clear of its closures.
   pub record MayTurn (t c : ℕ) (s : ChamberState) : Type 0 where

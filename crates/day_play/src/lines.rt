@@ -2,7 +2,7 @@
 ghost use Rattle.std.specs.Prelude.{◌≡◌, ◌+◌, ◌^◌, ◌<◌, ◌≤◌, length, All};
 ghost use Rattle.lock_rules.specs.Plan.{IsLegal};
 ghost use Rattle.day_play.specs.Order.{put_each, minute_of};
-ghost use Rattle.day_play.specs.Lawful.{IsWhole};
+ghost use Rattle.day_play.specs.Lawful.{IsWholeLockage};
 ghost use Rattle.day_play.specs.Playing.{turn_beats, moor_beats, lockage_beats, chamber_beats, day_of};
 
 use crate::beat::{Act, Beat};
@@ -14,7 +14,7 @@ use lock_model::{Instance, Lockage, Plan, Stand, Way};
 /// Puts the empty turn, where the lockage at place `p` needs one and its chamber stands so and is
 /// free at `from`. It begins at the least lawful minute.
 fn put_turn(day: &mut Day, instance: &Instance, p: u8, lockage: &Lockage, stand: Stand, from: u64)
-    requires whole { IsWhole instance.now lockage.now }
+    requires whole { IsWholeLockage instance.now lockage.now }
     requires from_small { from ≤ 2 ^ 61 }
     requires room { length day.old + length (turn_beats instance.now p lockage.now from stand lockage.now.way) ≤ 96 }
     ensures { day.new ≡ put_each minute_of day.old (turn_beats instance.now p lockage.now from stand lockage.now.way) }
@@ -58,7 +58,7 @@ fn put_lockage(
     stand: Stand,
     from: u64,
 )
-    requires whole { IsWhole instance.now lockage.now }
+    requires whole { IsWholeLockage instance.now lockage.now }
     requires from_small { from ≤ 2 ^ 61 }
     requires room { length day.old + length (lockage_beats instance.now p lockage.now stand from) ≤ 96 }
     ensures { day.new ≡ put_each minute_of day.old (lockage_beats instance.now p lockage.now stand from) }
@@ -84,7 +84,7 @@ fn put_lockage(
 /// Puts the beats of a chamber's lockages.
 fn put_line(day: &mut Day, instance: &Instance, plan: &Plan, chamber: u8)
     requires chamber_in { chamber < length instance.now.chambers }
-    requires whole { All (IsWhole instance.now) plan.now.lockages }
+    requires whole { All (IsWholeLockage instance.now) plan.now.lockages }
     requires room { length day.old + length (chamber_beats instance.now plan.now chamber) ≤ 96 }
     ensures { day.new ≡ put_each minute_of day.old (chamber_beats instance.now plan.now chamber) }
 {

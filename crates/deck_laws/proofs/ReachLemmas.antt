@@ -2,13 +2,13 @@
 use Rattle.std.proofs.Common.{◌≡◌, ℕ, ◌+◌, ◌<◌, List, length, Option, Some, None, IsSome, ◌⊎◌, inl, inr, refl, sym, ◌∙◌, subst, arith}
 use Rattle.std.proofs.lemmas.Bool.Decides.{eqb_tells}
 use Rattle.lock_model.specs.Deck.{Deck}
-use Rattle.deck_laws.specs.Reach.{round_at, IsStepAfter, IsNextOf, Reaches}
+use Rattle.deck_laws.specs.Reach.{round_at, IsStepAfter, IsNextOf, AreReached}
 
 pub some-by : (o : Option ℕ) (r : ℕ) → o ≡ Some r → IsSome o
 some-by o r e = subst IsSome (sym e) refl
 
 -- what is reached stays so
-pub still-some : (old new : List (Option ℕ)) (round : ℕ) (P : ℕ → Type 0) → Reaches old new round P → (t : ℕ) → IsSome (round_at old t) → IsSome (round_at new t)
+pub still-some : (old new : List (Option ℕ)) (round : ℕ) (P : ℕ → Type 0) → AreReached old new round P → (t : ℕ) → IsSome (round_at old t) → IsSome (round_at new t)
 still-some old new round P h t some = go (round_at old t) refl some
   where
     go : (o : Option ℕ) → round_at old t ≡ o → IsSome o → IsSome (round_at new t)
@@ -16,7 +16,7 @@ still-some old new round P h t some = go (round_at old t) refl some
     go (Some r) e good = some-by (round_at new t) r (h.stays t r e)
 
 -- the same by another name
-pub reaches_same : (old new : List (Option ℕ)) (round : ℕ) (P Q : ℕ → Type 0) → ((t : ℕ) → P t → Q t) → ((t : ℕ) → Q t → P t) → Reaches old new round P → Reaches old new round Q
+pub reaches_same : (old new : List (Option ℕ)) (round : ℕ) (P Q : ℕ → Type 0) → ((t : ℕ) → P t → Q t) → ((t : ℕ) → Q t → P t) → AreReached old new round P → AreReached old new round Q
 reaches_same old new round P Q to from h = record {
   size = h.size;
   stays = h.stays;
@@ -25,7 +25,7 @@ reaches_same old new round P Q to from h = record {
 }
 
 -- one after the other
-pub reaches_then : (a b c : List (Option ℕ)) (round : ℕ) (P Q : ℕ → Type 0) → Reaches a b round P → Reaches b c round Q → Reaches a c round (λ t. P t ⊎ Q t)
+pub reaches_then : (a b c : List (Option ℕ)) (round : ℕ) (P Q : ℕ → Type 0) → AreReached a b round P → AreReached b c round Q → AreReached a c round (λ t. P t ⊎ Q t)
 reaches_then a b c round P Q first second = record {
   size = second.size ∙ first.size;
   stays = λ t r e. second.stays t r (first.stays t r e);
@@ -42,7 +42,7 @@ reaches_then a b c round P Q first second = record {
     whole t known (inr q) = let size = first.size in second.all t q (omega (arith, known, size))
 
 -- one step more
-pub reaches_more : (a b c : List (Option ℕ)) (round n : ℕ) (P : ℕ → ℕ → Type 0) → Reaches a b round (λ t. (k : ℕ) × (k < n) × P k t) → Reaches b c round (P n) → Reaches a c round (λ t. (k : ℕ) × (k < n + 1) × P k t)
+pub reaches_more : (a b c : List (Option ℕ)) (round n : ℕ) (P : ℕ → ℕ → Type 0) → AreReached a b round (λ t. (k : ℕ) × (k < n) × P k t) → AreReached b c round (P n) → AreReached a c round (λ t. (k : ℕ) × (k < n + 1) × P k t)
 reaches_more a b c round n P first second =
     reaches_same a c round (λ t. ((k : ℕ) × (k < n) × P k t) ⊎ P n t) (λ t. (k : ℕ) × (k < n + 1) × P k t) to from (reaches_then a b c round (λ t. (k : ℕ) × (k < n) × P k t) (P n) first second)
   where
@@ -55,7 +55,7 @@ reaches_more a b c round n P first second =
 
 -- ---- a round
 -- a number that this round reaches isn't one that the round before it reached first
-pub reach_next_more : (d : Deck) (a b c : List (Option ℕ)) (k n : ℕ) → Reaches a b (k + 1) (IsNextOf d a k n) → Reaches b c (k + 1) (IsStepAfter d b k n) → Reaches a c (k + 1) (IsNextOf d a k (n + 1))
+pub reach_next_more : (d : Deck) (a b c : List (Option ℕ)) (k n : ℕ) → AreReached a b (k + 1) (IsNextOf d a k n) → AreReached b c (k + 1) (IsStepAfter d b k n) → AreReached a c (k + 1) (IsNextOf d a k (n + 1))
 reach_next_more d a b c k n first second =
     reaches_more a b c (k + 1) n (IsStepAfter d a k) first (reaches_same b c (k + 1) (IsStepAfter d b k n) (IsStepAfter d a k n) (λ t h. (was h.0, h.1)) (λ t h. (first.stays n k h.0, h.1)) second)
   where

@@ -16,7 +16,7 @@ use Rattle.lock_rules.proofs.AmongLemmas.{among-filter}
 use Rattle.refute_rules.proofs.CaseLemmas.{others-among}
 use Rattle.refute_rules.proofs.AnchorLemmas.{rising-among, values-later, anchored-spot_value}
 use Rattle.deck_laws.specs.Laws.{HoldNormalPlaces}
-use Rattle.deck_laws.specs.Reach.{round_at, least_length, IsStepBy, IsStepOf, IsNextOf, Reaches, HasReached, reached_of}
+use Rattle.deck_laws.specs.Reach.{round_at, least_length, IsStepBy, IsStepOf, IsNextOf, AreReached, HasReached, reached_of}
 use Rattle.deck_laws.proofs.MemberLemmas.{among-rising, rising-rises, filter-rises, same-rising}
 use Rattle.deck_laws.proofs.ReachLemmas.{some-by, still-some}
 
@@ -124,7 +124,7 @@ values-from d k t h =
     stepped both = let by = among-flat_map (shifts_of d) (values_after d k) t both.0 in record { from = by.0; value = by.1; step = by.2; kept = both.1 }
 
 -- ---- one round more
-pub next_reached : (d : Deck) (k : ℕ) (a b : List (Option ℕ)) → k + 1 < length d.ships → HasReached d k a → Reaches a b (k + 1) (IsNextOf d a k (length a)) → HasReached d (k + 1) b
+pub next_reached : (d : Deck) (k : ℕ) (a b : List (Option ℕ)) → k + 1 < length d.ships → HasReached d k a → AreReached a b (k + 1) (IsNextOf d a k (length a)) → HasReached d (k + 1) b
 next_reached d k a b more old next = record {
   table = record {
     near = (let near = old.table.near in let size = next.size in omega (arith, near, size));

@@ -49,7 +49,7 @@ abbrev pub IsNextOf : Deck → List (Option ℕ) → ℕ → ℕ → ℕ → Typ
 IsNextOf d rounds k n t = (v : ℕ) × (v < n) × IsStepAfter d rounds k v t
 
 -- the numbers of the table with P are reached now, by this round unless they were before; no others are
-pub record Reaches (old new : List (Option ℕ)) (round : ℕ) (P : ℕ → Type 0) : Type 0 where
+pub record AreReached (old new : List (Option ℕ)) (round : ℕ) (P : ℕ → Type 0) : Type 0 where
   pub size : length new ≡ length old
   pub stays : (t r : ℕ) → round_at old t ≡ Some r → round_at new t ≡ Some r
   pub adds : (t r : ℕ) → round_at new t ≡ Some r → (round_at old t ≡ Some r) ⊎ ((r ≡ round) × P t)

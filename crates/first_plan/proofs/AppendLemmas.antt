@@ -9,7 +9,7 @@ use Rattle.lock_model.specs.declared.chamber.Chamber.{Chamber}
 use Rattle.lock_model.specs.declared.instance.Instance.{Instance}
 use Rattle.lock_model.specs.declared.plan.Lockage.{Lockage}
 use Rattle.lock_rules.specs.Lawful.{stand_after}
-use Rattle.lock_rules.specs.Singles.{Standing, singles_from, first_standings, single_lockage, standing_at, choice_of, next_start, next_end}
+use Rattle.lock_rules.specs.Singles.{Standing, singles_from, first_standings, single_lockage, standing_at, chosen_chamber, next_start, next_end}
 
 -- what is appended and what is left make the whole list, and the chambers are free in time
 pub record Appends (I : Instance) (order : List ℕ) (done : ℕ) (standings : List Standing) (lockages : List Lockage) : Type 0 where
@@ -32,7 +32,7 @@ abbrev pub after : Instance → ℕ → ℕ → Standing → Standing
 after I s c st = record { stand = stand_after (ship_at I s).way; from = next_end I s c st }
 
 pub appends_more : (I : Instance) (order : List ℕ) (done s d c : ℕ) (st : Standing) (sts : List Standing) (ls : List Lockage)
-    → Appends I order done sts ls → done < length order → s ≡ slice_index_or order done d → c ≡ choice_of I s sts → st ≡ standing_at sts c
+    → Appends I order done sts ls → done < length order → s ≡ slice_index_or order done d → c ≡ chosen_chamber I s sts → st ≡ standing_at sts c
     → next_end I s c st ≤ max st.from 1000000 + 12000000 → st.from ≤ 1000000 + 12000000 * done
     → Appends I order (done + 1) (slice_set sts c (after I s c st)) (ls ++ single_lockage I s c (next_start I s c st) ∷ [])
 appends_more I order done s d c st sts ls so_far more is chosen stands soon before =

@@ -1,7 +1,7 @@
 //! Ships served alone, one after the other.
 ghost use Rattle.std.specs.Prelude.{◌≡◌, ◌^◌, ◌<◌, ◌≤◌, length, All};
 ghost use Rattle.lock_rules.specs.Unfit.{FitsSome, HasNoUnfit};
-ghost use Rattle.lock_rules.specs.Singles.{Standing as Stood, choice_of, single_lockage, singles_from, first_standings};
+ghost use Rattle.lock_rules.specs.Singles.{Standing as Stood, chosen_chamber, single_lockage, singles_from, first_standings};
 ghost use Rattle.lock_rules.specs.Lawful.{stand_after};
 ghost use Rattle.lock_model.specs.Fleet.{ship_at};
 
@@ -16,7 +16,7 @@ fn chamber_for(instance: &Instance, ship: u8, standings: &Standings) -> u8
     requires each { length standings.now ≡ length instance.now.chambers }
     requires from_small { All (λ (st : Stood). st.from ≤ 2 ^ 61) standings.now }
     requires fit { FitsSome instance.now ship }
-    ensures value { result ≡ choice_of instance.now ship standings.now }
+    ensures value { result ≡ chosen_chamber instance.now ship standings.now }
     ensures known { result < length instance.now.chambers }
 {
     let (chamber, _) = choose(instance, ship, standings).unwrap_or((0, 0));

@@ -11,7 +11,7 @@ use Rattle.lock_rules.specs.Timetable.{start_of}
 use Rattle.lock_rules.specs.Children.{insert_number, with_ship}
 use Rattle.lock_rules.proofs.TimetableLemmas.{closures_kept, start_of-lawful}
 use Rattle.lock_rules.proofs.TraceLemmas.{Dominates-itself, Dominates-later, Dominates-skipped, start_of-kept}
-use Rattle.master_branch.specs.Steps.{group_at}
+use Rattle.master_branch.specs.Steps.{group_in}
 use Rattle.flow_bounds.specs.declared.walk.Walk.{Walk}
 use Rattle.flow_bounds.specs.Walk.{walk_start, serve, serve_all, walk_at, AreWalks}
 use Rattle.flow_bounds.specs.Entering.{IsBehind}
@@ -28,7 +28,7 @@ All-without P s (x ∷ xs) all =
     ] all
 
 -- the walk after one more group of the line
-pub walk-step : (I : Instance) (c : ℕ) (line : List Group) (ws : List Walk) → AreWalks I c line ws → (p : ℕ) → p < length line → (g : Group) → g ≡ group_at line p
+pub walk-step : (I : Instance) (c : ℕ) (line : List Group) (ws : List Walk) → AreWalks I c line ws → (p : ℕ) → p < length line → (g : Group) → g ≡ group_in line p
     → walk_at ws (p + 1) ≡ serve I c (walk_at ws p) g
 walk-step I c line ws walks p less g is =
     let start = walk_start I c in

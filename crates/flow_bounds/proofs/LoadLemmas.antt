@@ -19,7 +19,7 @@ use Rattle.lock_rules.specs.Timetable.{first_free, ready_at, last_arrival}
 use Rattle.lock_rules.specs.Children.{insert_number, with_ship}
 use Rattle.lock_rules.proofs.TreeLemmas.{length-insert_number}
 use Rattle.lock_rules.proofs.TimetableLemmas.{last_arrival-max}
-use Rattle.master_branch.specs.Steps.{group_at}
+use Rattle.master_branch.specs.Steps.{group_in}
 use Rattle.flow_bounds.specs.declared.load.Load.{Load}
 use Rattle.flow_bounds.specs.declared.walk.Walk.{Walk}
 use Rattle.flow_bounds.specs.Load.{no_load, with_one, load_at, IsLoad, IsLoadOf, AreLoads}
@@ -102,10 +102,10 @@ pub loads-more : (I : Instance) (gs : List Group) (loads : List Load) (g : Group
 loads-more I gs loads g own are room is kept = record {
   room = omega (arith, length-append gs (g ∷ []), length-set loads (length gs) own);
   each = λ i within. elim (leb_tells (suc i) (length gs)) [
-    | inl old ↦ subst (λ g. IsLoadOf I g (load_at (slice_set loads (length gs) own) i)) (sym (group_old i old.1)) (subst (IsLoadOf I (group_at gs i)) (sym (at_old i old.1)) (are.each i old.1))
+    | inl old ↦ subst (λ g. IsLoadOf I g (load_at (slice_set loads (length gs) own) i)) (sym (group_old i old.1)) (subst (IsLoadOf I (group_in gs i)) (sym (at_old i old.1)) (are.each i old.1))
     | inr new ↦
         let last = at_new i within new.1 in
-        subst (λ k. IsLoadOf I (group_at (gs ++ g ∷ []) k) (load_at (slice_set loads (length gs) own) k)) (sym last) (subst (λ g. IsLoadOf I g (load_at (slice_set loads (length gs) own) (length gs))) (sym group_new) (subst (IsLoadOf I g) (sym own_is) is))
+        subst (λ k. IsLoadOf I (group_in (gs ++ g ∷ []) k) (load_at (slice_set loads (length gs) own) k)) (sym last) (subst (λ g. IsLoadOf I g (load_at (slice_set loads (length gs) own) (length gs))) (sym group_new) (subst (IsLoadOf I g) (sym own_is) is))
   ];
   kept = λ i within. elim (leb_tells (suc i) (length gs)) [
     | inl old ↦ subst IsLoad (sym (at_old i old.1)) (are.kept i old.1)
@@ -113,10 +113,10 @@ loads-more I gs loads g own are room is kept = record {
   ];
 }
   where
-    group_old : (i : ℕ) → i < length gs → group_at (gs ++ g ∷ []) i ≡ group_at gs i
+    group_old : (i : ℕ) → i < length gs → group_in (gs ++ g ∷ []) i ≡ group_in gs i
     group_old i old = get_or_append_left gs (g ∷ []) (record { way = Up; ships = [] }) i old
 
-    group_new : group_at (gs ++ g ∷ []) (length gs) ≡ g
+    group_new : group_in (gs ++ g ∷ []) (length gs) ≡ g
     group_new = get_or-append_seam gs g [] (record { way = Up; ships = [] })
 
     at_old : (i : ℕ) → i < length gs → load_at (slice_set loads (length gs) own) i ≡ load_at loads i

@@ -9,7 +9,7 @@ use Rattle.lock_model.specs.declared.group.Group.{Group}
 use Rattle.lock_model.specs.declared.way.Way.TheVariants.{Up}
 use Rattle.lock_rules.specs.Timetable.{timetable_from}
 use Rattle.lock_rules.specs.Bound.{flow_of, line_flow}
-use Rattle.master_branch.specs.Steps.{group_at}
+use Rattle.master_branch.specs.Steps.{group_in}
 use Rattle.flow_bounds.specs.declared.walk.Walk.{Walk}
 use Rattle.flow_bounds.specs.Walk.{walk_start, serve, serve_all, no_walk, walk_at, AreWalks}
 
@@ -26,7 +26,7 @@ serve_all-append I c w [] ys = refl
 serve_all-append I c w (x ∷ xs) ys = serve_all-append I c (serve I c w x) xs ys
 
 -- the walk goes on with the next group of a line
-pub serve_all-next : (I : Instance) (c : ℕ) (line : List Group) (i : ℕ) (g : Group) → i < length line → g ≡ group_at line i → (w v : Walk) → v ≡ serve I c w g
+pub serve_all-next : (I : Instance) (c : ℕ) (line : List Group) (i : ℕ) (g : Group) → i < length line → g ≡ group_in line i → (w v : Walk) → v ≡ serve I c w g
     → serve_all I c v (drop (i + 1) line) ≡ serve_all I c w (drop i line)
 serve_all-next I c line i g less own w v is =
     let up : suc i ≡ i + 1 = omega arith in

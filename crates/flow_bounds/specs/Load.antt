@@ -8,7 +8,7 @@ use Rattle.lock_model.specs.declared.way.Way.{Way}
 use Rattle.lock_model.specs.declared.way.Way.TheVariants.{Up}
 use Rattle.lock_rules.specs.Timetable.{last_arrival}
 use Rattle.flow_bounds.specs.declared.load.Load.{Load}
-use Rattle.master_branch.specs.Steps.{group_at}
+use Rattle.master_branch.specs.Steps.{group_in}
 
 -- no ship
 abbrev pub no_load : Way → Load
@@ -46,5 +46,5 @@ load_at loads i = slice_index_or loads i (no_load Up)
 -- number i of the loads is that of group i of a line
 pub record AreLoads (I : Instance) (line : List Group) (loads : List Load) : Type 0 where
   pub room : length line ≤ length loads
-  pub each : (i : ℕ) → i < length line → IsLoadOf I (group_at line i) (load_at loads i)
+  pub each : (i : ℕ) → i < length line → IsLoadOf I (group_in line i) (load_at loads i)
   pub kept : (i : ℕ) → i < length line → IsLoad (load_at loads i)

@@ -6,7 +6,7 @@ ghost use Rattle.lock_rules.specs.Node.{line_at};
 ghost use Rattle.lock_rules.specs.Children.{with_ship, single};
 ghost use Rattle.lock_rules.specs.Bound.{line_flow, node_flow};
 ghost use Rattle.master_branch.specs.Node.{IsNodeOf};
-ghost use Rattle.master_branch.specs.Steps.{group_at, lines_after, IsStep};
+ghost use Rattle.master_branch.specs.Steps.{group_in, lines_after, IsStep};
 ghost use Rattle.flow_bounds.specs.Walk.{chamber_of, serve_all};
 ghost use Rattle.flow_bounds.specs.Along.{IsAlong};
 ghost use Rattle.flow_bounds.specs.Entering.{IsEntered};
@@ -40,9 +40,9 @@ fn joined(
     requires few { length line.now ≤ 24 }
     requires along { IsAlong instance.now chamber line.now along.now }
     requires place { place < length line.now }
-    requires room { length (group_at line.now place).ships < 8 }
+    requires room { length (group_in line.now place).ships < 8 }
     ensures entered { IsEntered instance.now chamber line.now along.now.walks result }
-    ensures flow { (serve_all instance.now chamber result.walk (drop result.from line.now)).flow ≡ line_flow instance.now chamber (slice_set line.now place (with_ship ship (group_at line.now place))) }
+    ensures flow { (serve_all instance.now chamber result.walk (drop result.from line.now)).flow ≡ line_flow instance.now chamber (slice_set line.now place (with_ship ship (group_in line.now place))) }
 {
     let _ = line;
     let place = place as usize;

@@ -9,7 +9,7 @@ use Rattle.lock_model.specs.Fleet.{no_chamber}
 use Rattle.lock_model.specs.declared.chamber.Chamber.{Chamber}
 use Rattle.lock_model.specs.declared.closure.Closure.{Closure}
 use Rattle.lock_model.specs.declared.ship.Ship.{Ship}
-use Rattle.instance_text.specs.Draft.{IsDraft, IsWhole}
+use Rattle.instance_text.specs.Draft.{IsDraft, IsWholeDraft}
 use Rattle.instance_text.specs.Closing.{CanClose, with_closure, put_closure}
 use Rattle.instance_text.proofs.ClosureLemmas.{put_closure-kept}
 
@@ -67,7 +67,7 @@ one_more_closure cs ss place closure draft can =
       ship_names = draft.ship_names;
     }
 
-pub whole : (cs : List Chamber) (ss : List Ship) → IsDraft cs ss → IsWhole (record { chambers = cs; ships = ss }) → IsInstance cs ss
+pub whole : (cs : List Chamber) (ss : List Ship) → IsDraft cs ss → IsWholeDraft (record { chambers = cs; ships = ss }) → IsInstance cs ss
 whole cs ss draft enough = record {
   chamber_count = (enough.chamber, draft.few_chambers);
   ship_count = (enough.ship, draft.few_ships);

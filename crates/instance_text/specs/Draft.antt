@@ -27,6 +27,6 @@ pub record IsDraft (chambers : List Chamber) (ships : List Ship) : Type 0 where
   pub ship_names : AllPairs (λ a b. a.name ≢ b.name) ships
 
 -- what it has once it can be an instance
-pub record IsWhole (draft : Draft) : Type 0 where
+pub record IsWholeDraft (draft : Draft) : Type 0 where
   pub chamber : 1 ≤ length draft.chambers
   pub ship : 1 ≤ length draft.ships

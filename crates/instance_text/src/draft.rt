@@ -28,7 +28,7 @@ impl Model for Draft {
 }
 
 impl Draft {
-    ghost use Rattle.instance_text.specs.Draft.{no_draft, IsWhole};
+    ghost use Rattle.instance_text.specs.Draft.{no_draft, IsWholeDraft};
 
     /// Nothing yet.
     #[tactic(auto, using(crate::proofs::DraftLemmas::nothing))]
@@ -89,7 +89,7 @@ impl Draft {
     /// The instance, once there are a chamber and a ship.
     #[tactic(auto, using(crate::proofs::DraftLemmas::whole))]
     pub fn into_instance(self) -> Instance
-        requires { IsWhole self }
+        requires { IsWholeDraft self }
         ensures chambers { result.chambers ≡ self.chambers }
         ensures ships { result.ships ≡ self.ships }
     {

@@ -3,7 +3,7 @@ ghost use Rattle.std.specs.Prelude.{◌≡◌, ◌<◌, length, IfOk};
 ghost use Rattle.std.specs.Str.{bytes_eq};
 ghost use Rattle.line_text.specs.Lines.{word_at};
 ghost use Rattle.line_text.specs.Texts.{texts};
-ghost use Rattle.instance_text.specs.Draft.{IsWhole};
+ghost use Rattle.instance_text.specs.Draft.{IsWholeDraft};
 ghost use Rattle.instance_text.specs.Reading.{add_chamber, add_ship, add_closure, read_end, read_line, answered};
 
 use crate::bad::Kind;
@@ -54,7 +54,7 @@ fn add_closure(format: Format, draft: &mut Draft, words: &[&[u8]]) -> Result<Pro
 #[tactic(auto, unfolding(crate::specs::Reading::read_end))]
 fn read_end(draft: &Draft, words: &[&[u8]]) -> Result<Progress, Kind>
     ensures value { read_end draft.now (texts words.now) ≡ answered draft.now result }
-    ensures whole { IfOk result (λ p. IsWhole draft.now) }
+    ensures whole { IfOk result (λ p. IsWholeDraft draft.now) }
 {
     check(words.len() == 1, Kind::Count)?;
     check(!draft.chambers().is_empty(), Kind::NoChamber)?;
@@ -74,7 +74,7 @@ fn begins_with(words: &[&[u8]], first: &[u8]) -> bool
 #[tactic(auto, unfolding(crate::specs::Reading::read_line))]
 pub fn read_line(format: Format, draft: &mut Draft, words: &[&[u8]]) -> Result<Progress, Kind>
     ensures value { read_line format draft.old (texts words.now) ≡ answered draft.new result }
-    ensures whole { IfOk result (λ p. p ≡ Progress.Ended → IsWhole draft.new) }
+    ensures whole { IfOk result (λ p. p ≡ Progress.Ended → IsWholeDraft draft.new) }
 {
     if words.is_empty() {
         return Ok(Progress::More);

@@ -1,6 +1,6 @@
 //! Reading instance texts.
 ghost use Rattle.std.specs.Prelude.{◌≡◌, ℕ, min, length, map, Ok, Err, IfOk, IfErr, OnOk};
-ghost use Rattle.instance_text.specs.Draft.{Draft as AnyDraft, IsWhole, no_draft, draft_of};
+ghost use Rattle.instance_text.specs.Draft.{Draft as AnyDraft, IsWholeDraft, no_draft, draft_of};
 ghost use Rattle.line_text.specs.Left.{lines_left};
 ghost use Rattle.line_text.specs.Lines.{lines, words};
 ghost use Rattle.instance_text.specs.Reading.{read_lines, read_line, read_body, read_rest, reading, Means, Defect, bad, length_of_part, instance_part, after_instance};
@@ -41,7 +41,7 @@ fn read_header(lines: &mut Lines<'_>) -> Result<Format, Bad>
 /// Reads one line into the draft.
 fn read_words(format: Format, draft: &mut Draft, line: &[u8]) -> Result<Progress, Kind>
     ensures read { IfOk result (λ p. read_line format draft.old (words line.now) ≡ Ok (p, draft.new)) }
-    ensures whole { IfOk result (λ p. p ≡ Progress.Ended → IsWhole draft.new) }
+    ensures whole { IfOk result (λ p. p ≡ Progress.Ended → IsWholeDraft draft.new) }
     ensures bad { IfErr result (λ kind. read_line format draft.old (words line.now) ≡ Err kind) }
 {
     read_line(format, draft, words_of(line).as_slice())
@@ -50,7 +50,7 @@ fn read_words(format: Format, draft: &mut Draft, line: &[u8]) -> Result<Progress
 /// What stands in the lines from the header up to `end`.
 fn read_body(format: Format, lines: &mut Lines<'_>) -> Result<Draft, Bad>
     ensures read { IfOk result (λ draft. read_body format lines.old.number no_draft (map words (lines_left lines.old)) ≡ read_rest lines.new.number draft (map words (lines_left lines.new))) }
-    ensures whole { IfOk result IsWhole }
+    ensures whole { IfOk result IsWholeDraft }
     ensures bad { IfErr result (λ b. read_body format lines.old.number no_draft (map words (lines_left lines.old)) ≡ Err b) }
 {
     let mut draft = Draft::new();

@@ -8,7 +8,7 @@ use Rattle.lock_model.specs.declared.plan.Plan.{Plan}
 use Rattle.lock_rules.specs.Plan.{IsLegal}
 use Rattle.lock_rules.specs.Node.{Node, line_at, IsNode, root_lines}
 use Rattle.lock_rules.specs.Trace.{IsUnder}
-use Rattle.lock_rules.specs.Size.{width_at, node_limit}
+use Rattle.lock_rules.specs.Size.{tree_width, node_limit}
 use Rattle.list_laws.specs.Among.{IsAmong}
 use Rattle.lock_rules.proofs.SplitLemmas.{children-split, under-one}
 use Rattle.lock_rules.proofs.ChildLemmas.{children-distinct}
@@ -66,31 +66,31 @@ under-one-child I node P good less legal under =
     }
 
 -- more chambers make wider trees, and so do more ships
-width-chambers : (m k : ℕ) → m ≤ 4 → width_at m k ≤ width_at 4 k
+width-chambers : (m k : ℕ) → m ≤ 4 → tree_width m k ≤ tree_width 4 k
 width-chambers m zero few = omega arith
 width-chambers m (suc k) few = let factor : 2 * k + m ≤ 2 * k + 4 = omega arith in mul-le-mul (width-chambers m k few) factor
 
-width-ships : (k n : ℕ) → k ≤ n → width_at 4 k ≤ width_at 4 n
+width-ships : (k n : ℕ) → k ≤ n → tree_width 4 k ≤ tree_width 4 n
 width-ships k n le = elim (leb_tells n k) [
-  | inl same ↦ let equal : k ≡ n = omega (arith, same.1) in omega (arith, ap (width_at 4) equal)
+  | inl same ↦ let equal : k ≡ n = omega (arith, same.1) in omega (arith, ap (tree_width 4) equal)
   | inr more ↦ deeper k n (omega (arith, more.1))
 ]
   where
-    wider : (n : ℕ) → width_at 4 n ≤ width_at 4 (suc n)
-    wider n = let factor : 1 ≤ 2 * n + 4 = omega arith in omega (arith, mul-le-mul_left (width_at 4 n) factor)
+    wider : (n : ℕ) → tree_width 4 n ≤ tree_width 4 (suc n)
+    wider n = let factor : 1 ≤ 2 * n + 4 = omega arith in omega (arith, mul-le-mul_left (tree_width 4 n) factor)
 
-    deeper : (k n : ℕ) → k < n → width_at 4 k ≤ width_at 4 n
+    deeper : (k n : ℕ) → k < n → tree_width 4 k ≤ tree_width 4 n
     deeper k zero less = absurd (omega arith)
     deeper k (suc n) less = elim (leb_tells n k) [
-      | inl same ↦ let equal : k ≡ n = omega (arith, same.1) in omega (arith, ap (width_at 4) equal, wider n)
+      | inl same ↦ let equal : k ≡ n = omega (arith, same.1) in omega (arith, ap (tree_width 4) equal, wider n)
       | inr more ↦ omega (arith, deeper k n (omega (arith, more.1)), wider n)
     ]
 
 -- with at most 24 ships and 4 chambers a depth has at most so many nodes
-pub width-bound : (m k : ℕ) → m ≤ 4 → k ≤ 24 → width_at m k ≤ 260234921318333311346540544000000
+pub width-bound : (m k : ℕ) → m ≤ 4 → k ≤ 24 → tree_width m k ≤ 260234921318333311346540544000000
 width-bound m k few here = omega (arith, width-chambers m k few, width-ships k 24 here, widest)
   where
-    widest : width_at 4 24 ≡ 260234921318333311346540544000000
+    widest : tree_width 4 24 ≡ 260234921318333311346540544000000
     widest = refl
 
 pub limit-bound : (m k : ℕ) → m ≤ 4 → k ≤ 24 → node_limit k m ≤ (k + 1) * 260234921318333311346540544000000

@@ -1,10 +1,10 @@
 -- Rows of groups with the same lines.
 use Rattle.std.proofs.Common.{◌≡◌, ℕ, List, sym, ap, ◌∙◌}
 use Rattle.lock_model.specs.declared.group.Group.{Group}
-use Rattle.master_branch.specs.Row.{cut_from, IsRow, row_of, ends_from}
+use Rattle.master_branch.specs.Row.{cut_from, IsCutRow, row_of, ends_from}
 use Rattle.master_branch.specs.RowBack.{row-back, ends-back}
 
-module _ (row other : List Group) (ends others : List ℕ) (is : IsRow row ends) (is_other : IsRow other others) (lines more : List (List Group)) (lines_are : cut_from 0 row ends ≡ lines) (more_are : cut_from 0 other others ≡ more) where
+module _ (row other : List Group) (ends others : List ℕ) (is : IsCutRow row ends) (is_other : IsCutRow other others) (lines more : List (List Group)) (lines_are : cut_from 0 row ends ≡ lines) (more_are : cut_from 0 other others ≡ more) where
   pub lines-same : row ≡ other → ends ≡ others → lines ≡ more
   lines-same rows places = sym lines_are ∙ ap (λ r. cut_from 0 r ends) rows ∙ ap (cut_from 0 other) places ∙ more_are
 

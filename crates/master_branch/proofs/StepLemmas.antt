@@ -18,7 +18,7 @@ use Rattle.lock_rules.proofs.ChildLemmas.{All-flat_map}
 use Rattle.lock_rules.proofs.SizeLemmas.{children-few}
 use Rattle.master_branch.specs.declared.step.Step.{Step}
 use Rattle.master_branch.specs.declared.step.Step.TheVariants.{Join, Open}
-use Rattle.master_branch.specs.Steps.{group_at, may_join, places_to_join, joins_at, opens_at, steps_at, steps_by, lines_after, IsStep}
+use Rattle.master_branch.specs.Steps.{group_in, may_join, places_to_join, joins_at, opens_at, steps_at, steps_by, lines_after, IsStep}
 
 -- what stands at a place of a list stands there in an equal one
 pub read_as : {X : Type 0} (xs ys : List X) (i : ℕ) (d e : X) → xs ≡ ys → i < length ys → slice_index_or xs i d ≡ slice_index_or ys i e
@@ -38,28 +38,28 @@ grows f w more n (suc m) less =
     below n m less other = omega (arith, other)
 
 -- one place more
-pub places-more : (most : ℕ) (way : Way) (line : List Group) (n : ℕ) → places_to_join most way line (n + 1) ≡ places_to_join most way line n ++ cond (may_join most way (group_at line n)) (n ∷ []) []
+pub places-more : (most : ℕ) (way : Way) (line : List Group) (n : ℕ) → places_to_join most way line (n + 1) ≡ places_to_join most way line n ++ cond (may_join most way (group_in line n)) (n ∷ []) []
 places-more most way line n =
-    let q : ℕ → Bool = λ place. may_join most way (group_at line place) in
+    let q : ℕ → Bool = λ place. may_join most way (group_in line place) in
     let here : 0 + n ≡ n = omega arith in
     ap (filter q) (numbers_more 0 n) ∙ filter-append q (numbers_from 0 n) ((0 + n) ∷ []) ∙ ap (λ k. filter q (numbers_from 0 n) ++ filter q (k ∷ [])) here
 
-pub joins-hit : (most : ℕ) (way : Way) (c : ℕ) (line : List Group) (n : ℕ) → may_join most way (group_at line n) ≡ true
+pub joins-hit : (most : ℕ) (way : Way) (c : ℕ) (line : List Group) (n : ℕ) → may_join most way (group_in line n) ≡ true
     → map (λ place. Join c place) (places_to_join most way line (n + 1)) ≡ map (λ place. Join c place) (places_to_join most way line n) ++ Join c n ∷ []
 joins-hit most way c line n yes_join =
     ap (map (λ place. Join c place)) (places-more most way line n ∙ ap (λ b. places_to_join most way line n ++ cond b (n ∷ []) []) yes_join)
     ∙ map_push (λ place. Join c place) (places_to_join most way line n) n
 
-pub joins-miss : (most : ℕ) (way : Way) (c : ℕ) (line : List Group) (n : ℕ) → may_join most way (group_at line n) ≡ false
+pub joins-miss : (most : ℕ) (way : Way) (c : ℕ) (line : List Group) (n : ℕ) → may_join most way (group_in line n) ≡ false
     → map (λ place. Join c place) (places_to_join most way line (n + 1)) ≡ map (λ place. Join c place) (places_to_join most way line n)
 joins-miss most way c line n no_join =
     ap (map (λ place. Join c place)) (places-more most way line n ∙ ap (λ b. places_to_join most way line n ++ cond b (n ∷ []) []) no_join ∙ append-nil (places_to_join most way line n))
 
 -- one more of the groups that a ship may join has room among all of them
-pub joins-room : (most : ℕ) (way : Way) (c : ℕ) (line : List Group) (n : ℕ) → may_join most way (group_at line n) ≡ true → n < length line
+pub joins-room : (most : ℕ) (way : Way) (c : ℕ) (line : List Group) (n : ℕ) → may_join most way (group_in line n) ≡ true → n < length line
     → length (map (λ place. Join c place) (places_to_join most way line n)) + 1 ≤ length (joins_at most way c line)
 joins-room most way c line n yes_join less =
-    let w : ℕ → ℕ = λ k. length (cond (may_join most way (group_at line k)) (k ∷ []) []) in
+    let w : ℕ → ℕ = λ k. length (cond (may_join most way (group_in line k)) (k ∷ []) []) in
     let one : w n ≡ 1 = ap (λ b. length (cond b (n ∷ []) [])) yes_join in
     omega (
       arith,
@@ -67,7 +67,7 @@ joins-room most way c line n yes_join less =
       length-map (places_to_join most way line n) (λ place. Join c place),
       length-map (places_to_join most way line (length line)) (λ place. Join c place),
       grows (λ k. length (places_to_join most way line k)) w
-          (λ k. ap length (places-more most way line k) ∙ length-append (places_to_join most way line k) (cond (may_join most way (group_at line k)) (k ∷ []) []))
+          (λ k. ap length (places-more most way line k) ∙ length-append (places_to_join most way line k) (cond (may_join most way (group_in line k)) (k ∷ []) []))
           n (length line) less,
     )
 
@@ -107,12 +107,12 @@ filter-up q (x ∷ xs) =
     ]
 
 -- joining at each place gives the lines with a ship more in a group
-joined-places : (most : ℕ) (way : Way) (s : ℕ) (gs : List Group) → map (λ place. slice_set gs place (with_ship s (group_at gs place))) (places_to_join most way gs (length gs)) ≡ joined most way s gs
+joined-places : (most : ℕ) (way : Way) (s : ℕ) (gs : List Group) → map (λ place. slice_set gs place (with_ship s (group_in gs place))) (places_to_join most way gs (length gs)) ≡ joined most way s gs
 joined-places most way s [] = refl
 joined-places most way s (g ∷ gs) =
-    let q : ℕ → Bool = λ place. may_join most way (group_at (g ∷ gs) place) in
-    let make : ℕ → List Group = λ place. slice_set (g ∷ gs) place (with_ship s (group_at (g ∷ gs) place)) in
-    let later : ℕ → List Group = λ place. slice_set gs place (with_ship s (group_at gs place)) in
+    let q : ℕ → Bool = λ place. may_join most way (group_in (g ∷ gs) place) in
+    let make : ℕ → List Group = λ place. slice_set (g ∷ gs) place (with_ship s (group_in (g ∷ gs) place)) in
+    let later : ℕ → List Group = λ place. slice_set gs place (with_ship s (group_in gs place)) in
     let places = places_to_join most way gs (length gs) in
     let rest : map make (filter q (numbers_from 1 (length gs))) ≡ map (λ rest. g ∷ rest) (joined most way s gs) =
     ap (λ ks. map make (filter q ks)) (numbers-up 0 (length gs))
@@ -145,7 +145,7 @@ module _ (I : Instance) (s : ℕ) (lines : List (List Group)) where
       let most = (chamber_at I c).most in
       let way = (ship_at I s).way in
       let put : List Group → List (List Group) = λ line. slice_set lines c line in
-      let join : ℕ → List Group = λ place. slice_set gs place (with_ship s (group_at gs place)) in
+      let join : ℕ → List Group = λ place. slice_set gs place (with_ship s (group_in gs place)) in
       let open_at : ℕ → List Group = λ place. insert gs place (single way s) in
       let places = places_to_join most way gs (length gs) in
       let numbers = numbers_from 0 (suc (length gs)) in
@@ -170,7 +170,7 @@ module _ (I : Instance) (s : ℕ) (lines : List (List Group)) where
       let gs = line_at lines c in
       let most = (chamber_at I c).most in
       let way = (ship_at I s).way in
-      let q : ℕ → Bool = λ place. may_join most way (group_at gs place) in
+      let q : ℕ → Bool = λ place. may_join most way (group_in gs place) in
       let passes : All (λ place. q place ≡ true) (filter q (numbers_from 0 (length gs))) = filter_passes q (numbers_from 0 (length gs)) in
       let below : All (λ place. place < 0 + length gs) (filter q (numbers_from 0 (length gs))) = All-filter q (λ place. place < 0 + length gs) (numbers_from 0 (length gs)) (numbers-below 0 (length gs)) in
       All-append (IsStep I s lines) (joins_at most way c gs) (opens_at c (suc (length gs)))

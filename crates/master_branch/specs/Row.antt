@@ -17,7 +17,7 @@ IsCutFrom start [] n = start ≡ n
 IsCutFrom start (end ∷ ends) n = (start ≤ end) × IsCutFrom end ends n
 
 -- a row that is cut into four lines
-pub record IsRow (row : List Group) (ends : List ℕ) : Type 0 where
+pub record IsCutRow (row : List Group) (ends : List ℕ) : Type 0 where
   pub four : length ends ≡ 4
   pub cut : IsCutFrom 0 ends (length row)
 

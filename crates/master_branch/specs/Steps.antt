@@ -13,8 +13,8 @@ use Rattle.master_branch.specs.declared.step.Step.{Step}
 use Rattle.master_branch.specs.declared.step.Step.TheVariants.{Join, Open}
 
 -- the group at a place of a line
-abbrev pub group_at : List Group → ℕ → Group
-group_at line place = slice_index_or line place (record { way = Up; ships = [] })
+abbrev pub group_in : List Group → ℕ → Group
+group_in line place = slice_index_or line place (record { way = Up; ships = [] })
 
 -- a ship of this way may join the group: it has the ship's way and fewer than `most` ships
 abbrev pub may_join : ℕ → Way → Group → Bool
@@ -22,7 +22,7 @@ may_join most way g = same_way g.way way && nat_lt (length g.ships) most
 
 -- the places of the groups among the first n of a line that a ship may join
 abbrev pub places_to_join : ℕ → Way → List Group → ℕ → List ℕ
-places_to_join most way line n = filter (λ place. may_join most way (group_at line place)) (numbers_from 0 n)
+places_to_join most way line n = filter (λ place. may_join most way (group_in line place)) (numbers_from 0 n)
 
 abbrev pub joins_at : ℕ → Way → ℕ → List Group → List Step
 joins_at most way c line = map (λ place. Join c place) (places_to_join most way line (length line))
@@ -43,10 +43,10 @@ steps_by I s lines = flat_map (steps_at I s lines) (numbers_from 0 (length I.cha
 
 -- the lines after a step of ship s
 abbrev pub lines_after : Instance → ℕ → List (List Group) → Step → List (List Group)
-lines_after I s lines (Join c place) = slice_set lines c (slice_set (line_at lines c) place (with_ship s (group_at (line_at lines c) place)))
+lines_after I s lines (Join c place) = slice_set lines c (slice_set (line_at lines c) place (with_ship s (group_in (line_at lines c) place)))
 lines_after I s lines (Open c place) = slice_set lines c (insert (line_at lines c) place (single (ship_at I s).way s))
 
 -- ship s may take the step
 abbrev pub IsStep : Instance → ℕ → List (List Group) → Step → Type 0
-IsStep I s lines (Join c place) = (c < length I.chambers) × (place < length (line_at lines c)) × (may_join (chamber_at I c).most (ship_at I s).way (group_at (line_at lines c) place) ≡ true)
+IsStep I s lines (Join c place) = (c < length I.chambers) × (place < length (line_at lines c)) × (may_join (chamber_at I c).most (ship_at I s).way (group_in (line_at lines c) place) ≡ true)
 IsStep I s lines (Open c place) = (c < length I.chambers) × (place ≤ length (line_at lines c))

@@ -8,9 +8,9 @@
 //! root, `node_limit` bounds the number of nodes. `with_ship` is a group with one ship more. No call
 //! takes memory.
 //!
-//! Definitions: `specs/Node` (a node as contracts see it), `Steps` (what the children do, as a
-//! list), `Split` (a plan under exactly one child); what a node, its children, arrival order and a
-//! plan under a node are stands in `lock_rules`.
+//! Definitions: `specs/Node` (the nodes of an instance, and their children), `Steps` (what the
+//! children do, as a list), `Split` (a plan under exactly one child); what a node, its children,
+//! arrival order and a plan under a node are stands in `lock_rules`.
 #![tactic(auto)]
 
 mod arrival;

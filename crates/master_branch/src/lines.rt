@@ -19,14 +19,14 @@ pub(crate) struct Lines {
 impl Model for Lines {
     ghost use Rattle.std.specs.Prelude.{List};
     ghost use Rattle.lock_model.specs.declared.group.Group.{Group};
-    ghost use Rattle.master_branch.specs.Row.{cut_from, IsRow, row_of, ends_from};
+    ghost use Rattle.master_branch.specs.Row.{cut_from, IsCutRow, row_of, ends_from};
     ghost use Rattle.master_branch.specs.RowBack.{row-back, ends-back};
 
     ghost Value = { List (List Group) };
 
     ghost view = { λ a. cut_from 0 a.row.items a.ends };
 
-    ghost invariant = { λ a. IsRow a.row.items a.ends };
+    ghost invariant = { λ a. IsCutRow a.row.items a.ends };
 
     ghost inverse = { λ lines. record { row = record { items = row_of lines }; ends = ends_from 0 lines } };
 

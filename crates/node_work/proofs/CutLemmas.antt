@@ -12,7 +12,7 @@ use Rattle.refute_rules.specs.Refutes.{IsRefuted}
 use Rattle.refute_rules.specs.Cuts.{Cut, IsCut}
 use Rattle.chamber_place.specs.Parts.{IsShrunk}
 use Rattle.node_work.specs.declared.first_placer.FirstPlacer.{FirstPlacer}
-use Rattle.node_work.specs.Settling.{IsCutOf, IsPartOf, IsCutFrom, shrink_turns}
+use Rattle.node_work.specs.Settling.{IsCutOf, IsPartOf, IsCutOfPart, shrink_turns}
 
 module _ (I : Instance) (c : ℕ) (S : List ℕ) where
   abbrev d : Deck
@@ -87,7 +87,7 @@ pub part_is : (I : Instance) (c : ℕ) (S part : List ℕ) (d : Deck) (r : Refut
 part_is I c S part d r is among some refuted = record { among = among; some = some; refuted = subst (λ e. IsRefuted e r) is refuted }
 
 -- a cut that was shrunk from a part
-pub cut_from : (first : FirstPlacer) (I : Instance) (c : ℕ) (S part : List ℕ) (d : Deck) (r : Refutation) (turns few : ℕ) (cut : Cut) → IsPartOf I c S part r → d ≡ deck_of I c part → few ≡ shrink_turns first turns r → IsShrunk c part d r few cut → IsCut cut → IsCutFrom first I c S turns cut
+pub cut_from : (first : FirstPlacer) (I : Instance) (c : ℕ) (S part : List ℕ) (d : Deck) (r : Refutation) (turns few : ℕ) (cut : Cut) → IsPartOf I c S part r → d ≡ deck_of I c part → few ≡ shrink_turns first turns r → IsShrunk c part d r few cut → IsCut cut → IsCutOfPart first I c S turns cut
 cut_from first I c S part d r turns few cut is_part is same shrunk proved = record {
   proved = proved;
   part = part;
@@ -97,7 +97,7 @@ cut_from first I c S part d r turns few cut is_part is same shrunk proved = reco
 }
 
 -- it hits all of the ships
-pub cut_settles : (first : FirstPlacer) (I : Instance) (c : ℕ) (S : List ℕ) (turns : ℕ) (cut : Cut) → c < length I.chambers → All (λ s. s < length I.ships) S → IsCutFrom first I c S turns cut → IsCutOf I c S cut
+pub cut_settles : (first : FirstPlacer) (I : Instance) (c : ℕ) (S : List ℕ) (turns : ℕ) (cut : Cut) → c < length I.chambers → All (λ s. s < length I.ships) S → IsCutOfPart first I c S turns cut → IsCutOf I c S cut
 cut_settles first I c S turns cut inside ships from =
     let own = shrunk-hits I c from.part from.refutation (shrink_turns first turns from.refutation) cut inside (known_among I S from.part ships from.is_part.among) from.shrunk from.proved in
     record {

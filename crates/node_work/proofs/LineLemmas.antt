@@ -10,7 +10,7 @@ use Rattle.lock_model.specs.declared.placement.Spot.{Spot}
 use Rattle.lock_rules.specs.Node.{line_at, IsNode}
 use Rattle.book_rules.specs.Book.{no_group}
 use Rattle.node_work.specs.declared.moorings.Mooring.{Mooring}
-use Rattle.node_work.specs.Moorings.{IsMoored, HasMooring, AreMoored}
+use Rattle.node_work.specs.Moorings.{IsLegallyMoored, HasMooring, AreMoored}
 use Rattle.node_work.proofs.LeafLemmas.{sizes_step, room_for}
 use Rattle.node_work.specs.Settling.{AreMooredAt}
 use Rattle.node_work.specs.Lines.{IsMooredUpTo, AreMooredBelow}
@@ -36,13 +36,13 @@ has-last ms m = record {
   ships = refl;
 }
 
-legal-more : (I : Instance) (ms : List Mooring) (m : Mooring) → All (IsMoored I) ms → IsMoored I m → All (IsMoored I) (ms ++ m ∷ [])
+legal-more : (I : Instance) (ms : List Mooring) (m : Mooring) → All (IsLegallyMoored I) ms → IsLegallyMoored I m → All (IsLegallyMoored I) (ms ++ m ∷ [])
 legal-more I ms m all is k d here = elim (leb_tells (suc k) (length ms)) [
-  | inl y ↦ subst (IsMoored I) (sym (get_or-append ms (m ∷ []) d k y.1)) (all k d y.1)
+  | inl y ↦ subst (IsLegallyMoored I) (sym (get_or-append ms (m ∷ []) d k y.1)) (all k d y.1)
   | inr n ↦
       let long = length-append ms (m ∷ []) in
       let last : k ≡ length ms + 0 = let past = n.1 in omega (arith, past, here, long) in
-      subst (λ j. IsMoored I (slice_index_or (ms ++ m ∷ []) j d)) (sym last) (subst (IsMoored I) (sym (get_or-append-add ms (m ∷ []) 0 d)) is)
+      subst (λ j. IsLegallyMoored I (slice_index_or (ms ++ m ∷ []) j d)) (sym last) (subst (IsLegallyMoored I) (sym (get_or-append-add ms (m ∷ []) 0 d)) is)
 ]
 
 -- nothing of a line is moored yet

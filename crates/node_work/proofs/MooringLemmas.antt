@@ -11,7 +11,7 @@ use Rattle.lock_model.specs.declared.placement.Spot.{Spot}
 use Rattle.lock_rules.specs.Node.{line_at}
 use Rattle.lock_rules.specs.Leaf.{AllFit}
 use Rattle.node_work.specs.declared.moorings.Mooring.{Mooring}
-use Rattle.node_work.specs.Moorings.{same_ships, spots_in, spots_by, IsMoored, HasMooring, AreMoored}
+use Rattle.node_work.specs.Moorings.{same_ships, spots_in, spots_by, IsLegallyMoored, HasMooring, AreMoored}
 
 -- lists of other lengths differ
 pub same_length : (ss ts : List ℕ) → length ss ≢ length ts → false ≡ same_ships ss ts
@@ -85,16 +85,16 @@ record IsPlacedWell (I : Instance) (c : ℕ) (S : List ℕ) (spots : List Spot) 
   clear : HasNoClash (deck_of I c S)
 
 module _ (I : Instance) where
-  moored : (m : Mooring) (c : ℕ) (S : List ℕ) → IsMoored I m → m.chamber ≡ c → m.ships ≡ S → IsPlacedWell I c S m.spots
+  moored : (m : Mooring) (c : ℕ) (S : List ℕ) → IsLegallyMoored I m → m.chamber ≡ c → m.ships ≡ S → IsPlacedWell I c S m.spots
   moored m c S legal chamber ships =
       subst (λ c. IsPlacedWell I c S m.spots) chamber (subst (λ S. IsPlacedWell I m.chamber S m.spots) ships (record { placed = legal.placed; clear = legal.clear }))
 
-  found : (ms : List Mooring) (at c : ℕ) (S : List ℕ) (d : Mooring) → All (IsMoored I) ms → at < length ms → (slice_index_or ms at d).chamber ≡ c → (slice_index_or ms at d).ships ≡ S → IsPlacedWell I c S (spots_in ms c S)
+  found : (ms : List Mooring) (at c : ℕ) (S : List ℕ) (d : Mooring) → All (IsLegallyMoored I) ms → at < length ms → (slice_index_or ms at d).chamber ≡ c → (slice_index_or ms at d).ships ≡ S → IsPlacedWell I c S (spots_in ms c S)
   found [] at c S d legal here chamber ships = absurd (omega (arith, here))
-  found (m ∷ ms) at c S d legal here chamber ships = by (is_of c S m) refl (λ at here chamber ships. found ms at c S d (All-tail (IsMoored I) m ms legal) here chamber ships)
+  found (m ∷ ms) at c S d legal here chamber ships = by (is_of c S m) refl (λ at here chamber ships. found ms at c S d (All-tail (IsLegallyMoored I) m ms legal) here chamber ships)
     where
-      own : IsMoored I m
-      own = All-head (IsMoored I) m ms legal
+      own : IsLegallyMoored I m
+      own = All-head (IsLegallyMoored I) m ms legal
 
       Rest : Type 0
       Rest = (at : ℕ) → at < length ms → (slice_index_or ms at d).chamber ≡ c → (slice_index_or ms at d).ships ≡ S → IsPlacedWell I c S (spots_in ms c S)
@@ -122,7 +122,7 @@ module _ (I : Instance) where
       by true e rest = subst (IsPlacedWell I c S) (ap (λ b. cond b m.spots (spots_in ms c S)) (sym e)) (moored m c S own (same-chamber e) (same-ships e))
       by false e rest = subst (IsPlacedWell I c S) (ap (λ b. cond b m.spots (spots_in ms c S)) (sym e)) (passed at here chamber ships e rest)
 
-  placed-by : (ms : List Mooring) (c : ℕ) (g : Group) → All (IsMoored I) ms → HasMooring ms c g.ships → IsPlacedWell I c g.ships (spots_by ms c g)
+  placed-by : (ms : List Mooring) (c : ℕ) (g : Group) → All (IsLegallyMoored I) ms → HasMooring ms c g.ships → IsPlacedWell I c g.ships (spots_by ms c g)
   placed-by ms c g legal has =
       found ms has.at c g.ships has.mooring legal has.known (ap (λ (m : Mooring). m.chamber) has.is ∙ has.chamber) (ap (λ (m : Mooring). m.ships) has.is ∙ has.ships)
 

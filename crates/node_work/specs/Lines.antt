@@ -6,17 +6,17 @@ use Rattle.lock_rules.specs.Arrival.{numbers_from}
 use Rattle.lock_rules.specs.Node.{line_at}
 use Rattle.book_rules.specs.Book.{no_group}
 use Rattle.node_work.specs.declared.moorings.Mooring.{Mooring}
-use Rattle.node_work.specs.Moorings.{IsMoored, HasMooring}
+use Rattle.node_work.specs.Moorings.{IsLegallyMoored, HasMooring}
 
 -- the first n groups of a line of chamber c are moored beside what was moored before
 pub record IsMooredUpTo (I : Instance) (c : ℕ) (line : List Group) (n : ℕ) (old new : List Mooring) : Type 0 where
   pub count : length new ≡ length old + n
-  pub legal : All (IsMoored I) old → All (IsMoored I) new
+  pub legal : All (IsLegallyMoored I) old → All (IsLegallyMoored I) new
   pub kept : (d : ℕ) (S : List ℕ) → HasMooring old d S → HasMooring new d S
   pub each : (k : ℕ) → k < n → HasMooring new c (slice_index_or line k no_group).ships
 
 -- the groups of the lines of the first m chambers are moored
 pub record AreMooredBelow (I : Instance) (lines : List (List Group)) (m : ℕ) (moorings : List Mooring) : Type 0 where
   pub count : length moorings ≡ sum_by (λ c. length (line_at lines c)) (numbers_from 0 m)
-  pub legal : All (IsMoored I) moorings
+  pub legal : All (IsLegallyMoored I) moorings
   pub each : (c k : ℕ) → c < m → k < length (line_at lines c) → HasMooring moorings c (slice_index_or (line_at lines c) k no_group).ships

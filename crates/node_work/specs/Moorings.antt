@@ -26,7 +26,7 @@ abbrev pub spots_by : List Mooring → ℕ → Group → List Spot
 spots_by moorings c g = spots_in moorings c g.ships
 
 -- the ships lie legally in their chamber, and no two of them clash
-pub record IsMoored (I : Instance) (m : Mooring) : Type 0 where
+pub record IsLegallyMoored (I : Instance) (m : Mooring) : Type 0 where
   pub placed : IsLegalPlacement (deck_of I m.chamber m.ships) m.spots
   pub clear : HasNoClash (deck_of I m.chamber m.ships)
 
@@ -41,5 +41,5 @@ pub record HasMooring (moorings : List Mooring) (c : ℕ) (S : List ℕ) : Type 
 
 -- each group of the node has its mooring, and all moorings are legal
 pub record AreMoored (I : Instance) (moorings : List Mooring) (lines : List (List Group)) : Type 0 where
-  pub legal : All (IsMoored I) moorings
+  pub legal : All (IsLegallyMoored I) moorings
   pub each : (c : ℕ) → c < length I.chambers → All (λ g. HasMooring moorings c g.ships) (line_at lines c)

@@ -53,7 +53,7 @@ pub record IsPartOf (I : Instance) (c : ℕ) (S part : List ℕ) (r : Refutation
   pub refuted : IsRefuted (deck_of I c part) r
 
 -- the cut is proved, and was shrunk from a refutation of the deck of some of the ships S
-pub record IsCutFrom (first : FirstPlacer) (I : Instance) (c : ℕ) (S : List ℕ) (turns : ℕ) (cut : Cut) : Type 0 where
+pub record IsCutOfPart (first : FirstPlacer) (I : Instance) (c : ℕ) (S : List ℕ) (turns : ℕ) (cut : Cut) : Type 0 where
   pub proved : IsCut cut
   pub part : List ℕ
   pub refutation : Refutation

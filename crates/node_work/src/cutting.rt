@@ -2,7 +2,7 @@
 ghost use Rattle.std.specs.Prelude.{◌≡◌, ◌<◌, ◌≤◌, ◌+◌, length, All, Contains, IfOk, IfSome};
 ghost use Rattle.refute_rules.specs.Refutes.{IsRefuted};
 ghost use Rattle.lock_model.specs.Fitting.{deck_of};
-ghost use Rattle.node_work.specs.Settling.{turns_by_cases, shrink_turns, IsPartOf, IsCutFrom};
+ghost use Rattle.node_work.specs.Settling.{turns_by_cases, shrink_turns, IsPartOf, IsCutOfPart};
 
 use crate::first_placer::FirstPlacer;
 use crate::last::is_among;
@@ -205,7 +205,7 @@ pub(crate) fn cut_of(
     requires some { 1 ≤ length asked.now.ships.now }
     requires turns { 1 ≤ turns }
     requires refuted { IsRefuted (deck_of asked.now.instance.now asked.now.chamber asked.now.ships.now) refutation }
-    ensures { IfOk result (IsCutFrom first asked.now.instance.now asked.now.chamber asked.now.ships.now turns) }
+    ensures { IfOk result (IsCutOfPart first asked.now.instance.now asked.now.chamber asked.now.ships.now turns) }
 {
     let begun = begun_part(alloc, asked, first, refutation, turns)?;
     let Part {

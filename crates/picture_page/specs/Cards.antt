@@ -15,7 +15,7 @@ use Rattle.picture_page.specs.Shapes.{arrow, cargo_mark}
 use Rattle.picture_page.specs.Times.{time_text}
 use Rattle.picture_page.specs.Words.{metres, measures}
 use Rattle.picture_page.specs.declared.times.Clock.{Clock}
-use Rattle.picture_page.specs.Passages.{end_of}
+use Rattle.picture_page.specs.Passages.{passage_end}
 use Rattle.picture_page.specs.declared.passage.Passage.{Passage}
 use Rattle.picture_page.specs.Scales.{deck_scale}
 use Rattle.picture_page.specs.Berths.{ship_of, spot_of, berth_text}
@@ -34,7 +34,7 @@ head_words name p =
 -- its times
 unfoldable pub head_times : Clock → Passage → List ℕ
 head_times clock p =
-    filled (codes "</strong></span><span>") [] ++ time_text clock p.start ++ filled (codes " &#8211; ") [] ++ time_text clock (end_of p) ++ filled (codes "</span></h3>\n") []
+    filled (codes "</strong></span><span>") [] ++ time_text clock p.start ++ filled (codes " &#8211; ") [] ++ time_text clock (passage_end p) ++ filled (codes "</span></h3>\n") []
 
 unfoldable pub card_head : Clock → List ℕ → Passage → List ℕ
 card_head clock name p = head_words name p ++ head_times clock p

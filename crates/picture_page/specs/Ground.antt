@@ -12,7 +12,7 @@ use Rattle.picture_page.specs.Forms.{filled}
 use Rattle.picture_page.specs.Times.{time_text}
 use Rattle.picture_page.specs.declared.times.Clock.{Clock}
 use Rattle.picture_page.specs.Axis.{Drawn, x_of, first_minute, last_minute, shows}
-use Rattle.picture_page.specs.Passages.{end_of}
+use Rattle.picture_page.specs.Passages.{passage_end}
 use Rattle.picture_page.specs.declared.passage.Passage.{Passage}
 
 unfoldable pub span_text : Clock → ℕ → ℕ → List ℕ
@@ -53,7 +53,7 @@ slope axis long way (Some minute) = filled (codes "H%L% %") (x_of axis minute �
 
 -- the water line up to a lockage, and where it goes on after it
 unfoldable pub wave : Drawn → ℕ → Passage → List ℕ
-wave axis long p = slope axis long p.way p.turn ++ filled (codes "H%M% %") (x_of axis p.start ∷ x_of axis (end_of p) ∷ water_at (stand_after p.way) ∷ [])
+wave axis long p = slope axis long p.way p.turn ++ filled (codes "H%M% %") (x_of axis p.start ∷ x_of axis (passage_end p) ∷ water_at (stand_after p.way) ∷ [])
 
 -- the empty turns of a chamber with these passages, and its water line
 unfoldable pub open_water : Drawn → Chamber → List Passage → List ℕ

@@ -5,7 +5,7 @@ use Rattle.picture_page.specs.Forms.{filled}
 use Rattle.picture_page.specs.Shapes.{arrow_at}
 use Rattle.picture_page.specs.Times.{time_text}
 use Rattle.picture_page.specs.Axis.{Drawn, x_of, first_minute, clear_end}
-use Rattle.picture_page.specs.Passages.{end_of, digits_of}
+use Rattle.picture_page.specs.Passages.{passage_end, digits_of}
 use Rattle.picture_page.specs.declared.passage.Passage.{Passage}
 use Rattle.picture_page.specs.declared.stretch.Stretch.{Stretch}
 use Rattle.picture_page.specs.declared.labels.Stance.{Stance}
@@ -13,7 +13,7 @@ use Rattle.picture_page.specs.declared.labels.Stance.TheVariants.{Beside, Stacke
 
 -- the pixels of a passage that no break cuts
 unfoldable pub stretch_of : Drawn → Passage → Stretch
-stretch_of axis p = record { from = x_of axis p.start; to = clear_end axis.breaks axis.gap (x_of axis p.start) (x_of axis (end_of p)) }
+stretch_of axis p = record { from = x_of axis p.start; to = clear_end axis.breaks axis.gap (x_of axis p.start) (x_of axis (passage_end p)) }
 
 abbrev pub stretch_width : Stretch → ℕ
 stretch_width r = r.to - r.from

@@ -12,7 +12,7 @@ use Rattle.picture_page.specs.Times.{time_text}
 use Rattle.picture_page.specs.Words.{measures, plural, count_text}
 use Rattle.picture_page.specs.declared.times.Clock.{Clock}
 use Rattle.picture_page.specs.Axis.{Drawn, x_of}
-use Rattle.picture_page.specs.Passages.{end_of, line_of}
+use Rattle.picture_page.specs.Passages.{passage_end, line_of}
 use Rattle.picture_page.specs.declared.passage.Passage.{Passage}
 use Rattle.picture_page.specs.Ground.{span_text, ground, water, closure_of, opening}
 use Rattle.picture_page.specs.Labels.{are_wide, labels, opens_label}
@@ -51,14 +51,14 @@ box_width from to = max (to - (from + 2)) 1
 -- what a lockage is, in a sentence
 unfoldable pub box_title : Instance → Clock → Passage → List ℕ
 box_title I clock p =
-    filled (codes "<g><title>lockage % ") (p.number ∷ []) ++ way_word p.way ++ span_text clock p.start (end_of p)
+    filled (codes "<g><title>lockage % ") (p.number ∷ []) ++ way_word p.way ++ span_text clock p.start (passage_end p)
     ++ filled (codes ": ") [] ++ names I p.ships ++ filled (codes "</title>") []
 
 -- the box of a lockage
 unfoldable pub lockage_box : Instance → Drawn → Passage → List ℕ
 lockage_box I axis p =
     box_title I axis.clock p
-    ++ passage_box p.way (x_of axis p.start + 1) (box_width (x_of axis p.start) (x_of axis (end_of p))) 10 39 ++ filled (codes "</g>") []
+    ++ passage_box p.way (x_of axis p.start + 1) (box_width (x_of axis p.start) (x_of axis (passage_end p))) 10 39 ++ filled (codes "</g>") []
 
 -- the picture of a chamber with these passages, up to the breaks
 unfoldable pub lane_ground : Drawn → Chamber → List Passage → List ℕ

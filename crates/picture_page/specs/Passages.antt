@@ -59,8 +59,8 @@ pub record IsKnownGo (P : Plan) (b : Beat) : Type 0 where
   pub known : is_go b.act ≡ true → b.lockage < length P.lockages
 
 -- its end
-abbrev pub end_of : Passage → ℕ
-end_of p = p.start + p.long
+abbrev pub passage_end : Passage → ℕ
+passage_end p = p.start + p.long
 
 -- the digits of its number
 abbrev pub digits_of : ℕ → ℕ
@@ -81,7 +81,7 @@ turn_events long None = []
 turn_events long (Some minute) = minute ∷ (minute + long) ∷ []
 
 abbrev pub passage_events : Instance → Passage → List ℕ
-passage_events I p = p.start ∷ end_of p ∷ turn_events (chamber_at I p.chamber).turn p.turn
+passage_events I p = p.start ∷ passage_end p ∷ turn_events (chamber_at I p.chamber).turn p.turn
 
 -- ALL EVENTS: arrivals, and beginnings and ends of lockages and empty turns
 unfoldable pub events_of : Instance → List Passage → List ℕ

@@ -12,7 +12,7 @@ use Rattle.picture_page.specs.Times.{time_text}
 use Rattle.picture_page.specs.Words.{plural, count_text}
 use Rattle.picture_page.specs.declared.times.Clock.{Clock}
 use Rattle.picture_page.specs.Axis.{Drawn, x_of}
-use Rattle.picture_page.specs.Passages.{end_of, digits_of, has}
+use Rattle.picture_page.specs.Passages.{passage_end, digits_of, has}
 use Rattle.picture_page.specs.declared.passage.Passage.{Passage}
 use Rattle.picture_page.specs.Ground.{span_text}
 use Rattle.picture_page.specs.Labels.{stretch_of, stretch_middle}
@@ -32,7 +32,7 @@ row_wait clock s start =
 -- which passage it takes, in a chamber of this name
 unfoldable pub row_passage : Clock → List ℕ → Passage → List ℕ
 row_passage clock name p =
-    filled (codes ", passes in lockage % of chamber ") (p.number ∷ []) ++ name ++ span_text clock p.start (end_of p) ++ filled (codes "</title><use href=\"#g\"/>") []
+    filled (codes ", passes in lockage % of chamber ") (p.number ∷ []) ++ name ++ span_text clock p.start (passage_end p) ++ filled (codes "</title><use href=\"#g\"/>") []
 
 -- the line of a wait between two pixels, where it has some
 unfoldable pub wait_line : ℕ → ℕ → List ℕ
@@ -48,15 +48,15 @@ row_number number r end =
 unfoldable pub row_picture : Drawn → ℕ → Passage → List ℕ
 row_picture axis arrival p =
     wait_line (x_of axis arrival) (x_of axis p.start)
-    ++ passage_box p.way (x_of axis p.start + 1) (box_width (x_of axis p.start) (x_of axis (end_of p))) 2 14
+    ++ passage_box p.way (x_of axis p.start + 1) (box_width (x_of axis p.start) (x_of axis (passage_end p))) 2 14
     ++ filled (codes "<use href=\"#t\"/><circle class=\"m\" cx=\"%\" cy=\"8\" r=\"4\"/>") (x_of axis arrival ∷ [])
-    ++ row_number p.number (stretch_of axis p) (x_of axis (end_of p))
+    ++ row_number p.number (stretch_of axis p) (x_of axis (passage_end p))
 
 -- the row of a ship with its passage: its flow time is at the end
 unfoldable pub row : Instance → Drawn → Ship → Passage → List ℕ
 row I axis s p =
     row_name s ++ row_wait axis.clock s p.start ++ row_passage axis.clock (chamber_at I p.chamber).name p ++ row_picture axis s.arrival p
-    ++ filled (codes "</svg></td><td class=\"r\">") [] ++ decimal (end_of p - s.arrival) ++ filled (codes "</td></tr>\n") []
+    ++ filled (codes "</svg></td><td class=\"r\">") [] ++ decimal (passage_end p - s.arrival) ++ filled (codes "</td></tr>\n") []
 
 -- the row of ship s with the first passage that serves it
 abbrev pub row_among : Instance → Drawn → ℕ → List Passage → List ℕ

@@ -1,6 +1,6 @@
 //! A lockage of a day.
 ghost use Rattle.std.specs.Prelude.{◌≡◌, ◌<◌, ◌≤◌, ◌^◌};
-ghost use Rattle.picture_page.specs.Passages.{end_of, digits_of, has};
+ghost use Rattle.picture_page.specs.Passages.{passage_end, digits_of, has};
 
 use lock_model::{Ships, Way};
 
@@ -31,7 +31,7 @@ fn has(ship: u8, ships: &[u8]) -> bool
 impl Passage {
     /// The minute of its end.
     pub(crate) fn end(&self) -> u64
-        ensures value { result ≡ end_of self.now }
+        ensures value { result ≡ passage_end self.now }
         ensures small { result < 2 ^ 33 }
     {
         self.start as u64 + self.long as u64

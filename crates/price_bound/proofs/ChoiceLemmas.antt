@@ -31,7 +31,7 @@ use Rattle.price_bound.specs.Growing.{AreBelow, IsGrown}
 use Rattle.price_bound.specs.Stock.{IsGrownList}
 use Rattle.price_bound.specs.declared.grown_lists.GrownGroup.{GrownGroup}
 use Rattle.price_bound.specs.declared.grown_lists.GrownList.{GrownList}
-use Rattle.price_bound.specs.Choosing.{Keeps, rate_of, IsChoice, Serves, IsServed, IsOn, IsBaseOf, IsVain, IsCovered, HaveMore, HasOne, HavePut, HaveSome, AreSome, AreChoices}
+use Rattle.price_bound.specs.Choosing.{Keeps, rate_of, IsChoice, Serves, IsServed, IsOn, IsBaseOf, IsVain, IsServedOrVain, HaveMore, HasOne, HavePut, HaveSome, AreChoicesSoFar, AreChoices}
 use Rattle.price_bound.proofs.ServeLemmas.{serve-themselves, serve-from, serve-both, serve-later, serve-worth}
 use Rattle.price_bound.proofs.IdleLemmas.{fewer-serve, sum-insert}
 use Rattle.price_bound.proofs.GrowLemmas.{is_other, again, grown-fewer, missing-fresh}
@@ -58,7 +58,7 @@ module _ (I : Instance) (k : ℕ) (prices : List ℕ) where
   pub served-more : (c : ℕ) (old new : List Choice) (to : Option ℕ) (g : Group) → ((h : Choice) → Contains old h → Contains new h) → IsServed I c k prices old to g → IsServed I c k prices new to g
   served-more c old new to g more served = record { choice = served.choice; held = more served.choice served.held; joins = served.joins; way = served.way; as_good = served.as_good }
 
-  pub covered-more : (c : ℕ) (old new : List Choice) (to : Option ℕ) (g : Group) → ((h : Choice) → Contains old h → Contains new h) → IsCovered I c k prices old to g → IsCovered I c k prices new to g
+  pub covered-more : (c : ℕ) (old new : List Choice) (to : Option ℕ) (g : Group) → ((h : Choice) → Contains old h → Contains new h) → IsServedOrVain I c k prices old to g → IsServedOrVain I c k prices new to g
   covered-more c old new to g more covered = elim covered [ inl served ↦ inl (served-more c old new to g more served) | inr vain ↦ inr vain ]
 
   same-kept : (line : List Group) (to : Option ℕ) (g h : Group) → Keeps I k line to g → Keeps I k line to h → filter (has_number (first_ships I k)) g.ships ≡ filter (has_number (first_ships I k)) h.ships
@@ -207,7 +207,7 @@ module _ (I : Instance) (k : ℕ) (prices : List ℕ) where
       }
 
       -- a group that others serve for is covered where they are
-      covered-by : (known : c < length I.chambers) (choices : List Choice) (way : Way) (hs gs : List ℕ) → ServeFrom I c k prices 0 hs gs → IsCovered I c k prices choices to (record { way = way; ships = hs }) → IsCovered I c k prices choices to (record { way = way; ships = gs })
+      covered-by : (known : c < length I.chambers) (choices : List Choice) (way : Way) (hs gs : List ℕ) → ServeFrom I c k prices 0 hs gs → IsServedOrVain I c k prices choices to (record { way = way; ships = hs }) → IsServedOrVain I c k prices choices to (record { way = way; ships = gs })
       covered-by known choices way hs gs well (inl served) = inl (record {
         choice = served.choice;
         held = served.held;
@@ -224,7 +224,7 @@ module _ (I : Instance) (k : ℕ) (prices : List ℕ) where
           above u v h j = omega (arith, ints)
 
       -- ALL ARE COVERED: one with a ship that gains nothing as it is without the ship.
-      covered-all : (known : c < length I.chambers) (old new : List Choice) → HaveSome I c cuts k prices line to groups (length groups) old new → (n : ℕ) (g : Group) → length g.ships ≤ n → IsUncut I c cuts g → IsOn I k list.base g → IsCovered I c k prices new to g
+      covered-all : (known : c < length I.chambers) (old new : List Choice) → HaveSome I c cuts k prices line to groups (length groups) old new → (n : ℕ) (g : Group) → length g.ships ≤ n → IsUncut I c cuts g → IsOn I k list.base g → IsServedOrVain I c k prices new to g
       covered-all known old new have zero g small uncut on = absurd (omega (arith, small, uncut.good.count.0))
       covered-all known old new have (suc n) g small uncut on =
           let is = uncut-grown sets are list.base g uncut on in
@@ -232,7 +232,7 @@ module _ (I : Instance) (k : ℕ) (prices : List ℕ) where
             | inl has ↦
                 let at = has.held in
                 let same : (slice_index_or groups at.0 has.one).group ≡ g = ap (λ (one : GrownGroup). one.group) at.2 ∙ has.is in
-                subst (IsCovered I c k prices new to) same (have.done at.0 has.one at.1 at.1 (subst (λ (g : Group). 1 ≤ length g.ships) (sym same) uncut.good.count.0))
+                subst (IsServedOrVain I c k prices new to) same (have.done at.0 has.one at.1 at.1 (subst (λ (g : Group). 1 ≤ length g.ships) (sym same) uncut.good.count.0))
             | inr idler ↦
                 let s = idler.ship in
                 let less = filter (is_other s) g.ships in
@@ -276,23 +276,23 @@ module _ (I : Instance) (c k : ℕ) (line : List Group) where
   inside p xs ys y e = omega (arith, length-drop p xs, ap length e)
 
   module _ (cuts : List PlainCut) (prices : List ℕ) where
-    pub some-none : (first both : List Choice) → HaveMore I c cuts k prices line None (record { way = Up; ships = [] }) [] first → HaveMore I c cuts k prices line None (record { way = Down; ships = [] }) first both → AreSome I c cuts k prices line 0 both
+    pub some-none : (first both : List Choice) → HaveMore I c cuts k prices line None (record { way = Up; ships = [] }) [] first → HaveMore I c cuts k prices line None (record { way = Down; ships = [] }) first both → AreChoicesSoFar I c cuts k prices line 0 both
     some-none first both up down = record {
       each = down.each;
       free = λ g uncut keeps. by_way g.way g refl uncut keeps;
       own = λ p g less uncut keeps. absurd (omega (arith, less));
     }
       where
-        by_way : (way : Way) (g : Group) → g.way ≡ way → IsUncut I c cuts g → filter (has_number (first_ships I k)) g.ships ≡ [] → IsCovered I c k prices both None g
+        by_way : (way : Way) (g : Group) → g.way ≡ way → IsUncut I c cuts g → filter (has_number (first_ships I k)) g.ships ≡ [] → IsServedOrVain I c k prices both None g
         by_way Up g same uncut keeps = covered-more I k prices c first both None g down.kept (up.covered g uncut (record { way = same; keeps = keeps }))
         by_way Down g same uncut keeps = down.covered g uncut (record { way = same; keeps = keeps })
 
-    pub own-next : (i : ℕ) (d : Group) (old new : List Choice) → i < length line → AreSome I c cuts k prices line i old → HaveMore I c cuts k prices line (Some i) (slice_index_or line i d) old new → AreSome I c cuts k prices line (suc i) new
+    pub own-next : (i : ℕ) (d : Group) (old new : List Choice) → i < length line → AreChoicesSoFar I c cuts k prices line i old → HaveMore I c cuts k prices line (Some i) (slice_index_or line i d) old new → AreChoicesSoFar I c cuts k prices line (suc i) new
     own-next i d old new here some more = record {
       each = more.each;
       free = λ g uncut keeps. covered-more I k prices c old new None g more.kept (some.free g uncut keeps);
       own = λ p g less uncut keeps. elim (eqb_tells p i) [
-        | inl y ↦ subst (λ p. IsCovered I c k prices new (Some p) g) (sym y.1) (more.covered g uncut (on g (subst (λ p. Keeps I k line (Some p) g) y.1 keeps)))
+        | inl y ↦ subst (λ p. IsServedOrVain I c k prices new (Some p) g) (sym y.1) (more.covered g uncut (on g (subst (λ p. Keeps I k line (Some p) g) y.1 keeps)))
         | inr m ↦ covered-more I k prices c old new (Some p) g more.kept (some.own p g (below p i less m.1) uncut keeps)
       ];
     }
@@ -306,9 +306,9 @@ module _ (I : Instance) (c k : ℕ) (line : List Group) where
             record { way = ap (λ g. g.way) (sym same); keeps = ap (λ g. g.ships) (sym same) }
 
     -- those of all places
-    pub all-some : (choices : List Choice) → AreSome I c cuts k prices line (length line) choices → AreChoices I c cuts k prices line choices
+    pub all-some : (choices : List Choice) → AreChoicesSoFar I c cuts k prices line (length line) choices → AreChoices I c cuts k prices line choices
     all-some choices some = record { each = some.each; whole = whole }
       where
-        whole : (to : Option ℕ) (g : Group) → IsUncut I c cuts g → Keeps I k line to g → IsCovered I c k prices choices to g
+        whole : (to : Option ℕ) (g : Group) → IsUncut I c cuts g → Keeps I k line to g → IsServedOrVain I c k prices choices to g
         whole None g uncut keeps = some.free g uncut keeps
         whole (Some p) g uncut keeps = some.own p g (inside p line _ _ keeps) uncut keeps

@@ -12,7 +12,7 @@ use Rattle.lock_rules.specs.Cut.{Hits}
 use Rattle.price_rules.specs.Prices.{PlainCut, Spares}
 use Rattle.price_bound.specs.Cuts.{plain_cut, plain_cuts}
 use Rattle.price_bound.specs.declared.cut.ChamberCut.{ChamberCut}
-use Rattle.price_bound.specs.Sparing.{Bears, AreIn, Misses, AreForbidden}
+use Rattle.price_bound.specs.Sparing.{Bears, AreIn, LacksSome, AreForbidden}
 
 pub All-before : {X : Type 0} (P : X → Type 0) (xs : List X) (x : X) → All P (xs ++ x ∷ []) → All P xs
 All-before P [] x all = All-nil P
@@ -63,7 +63,7 @@ module _ (I : Instance) (c : ℕ) (known : c < length I.chambers) where
   }
 
   pub forbid-none : AreForbidden I c [] []
-  forbid-none = record { spared = λ ships known misses. All-nil (Spares I c ships); missed = λ ships known spares. All-nil (Misses ships) }
+  forbid-none = record { spared = λ ships known misses. All-nil (Spares I c ships); missed = λ ships known spares. All-nil (LacksSome ships) }
 
   pub forbid-same : (cuts : List PlainCut) (sets : List (List ℕ)) (cut : ChamberCut) → ¬ Bears I c cut → AreForbidden I c cuts sets → AreForbidden I c (cuts ++ plain_cut I cut ∷ []) sets
   forbid-same cuts sets cut idle are = record {
@@ -73,8 +73,8 @@ module _ (I : Instance) (c : ℕ) (known : c < length I.chambers) where
 
   pub forbid-more : (cuts : List PlainCut) (sets : List (List ℕ)) (cut : ChamberCut) → Bears I c cut → AreForbidden I c cuts sets → AreForbidden I c (cuts ++ plain_cut I cut ∷ []) (sets ++ cut.ships ∷ [])
   forbid-more cuts sets cut bears are = record {
-    spared = λ ships known misses. All-push (Spares I c ships) cuts (plain_cut I cut) (are.spared ships known (All-before (Misses ships) sets cut.ships misses))
-        (record { spared = λ hits. All-end (Misses ships) sets cut.ships misses (record { among = hits.among }) });
-    missed = λ ships known spares. All-push (Misses ships) sets cut.ships (are.missed ships known (All-before (Spares I c ships) cuts (plain_cut I cut) spares))
+    spared = λ ships known misses. All-push (Spares I c ships) cuts (plain_cut I cut) (are.spared ships known (All-before (LacksSome ships) sets cut.ships misses))
+        (record { spared = λ hits. All-end (LacksSome ships) sets cut.ships misses (record { among = hits.among }) });
+    missed = λ ships known spares. All-push (LacksSome ships) sets cut.ships (are.missed ships known (All-before (Spares I c ships) cuts (plain_cut I cut) spares))
         (λ within. (All-end (Spares I c ships) cuts (plain_cut I cut) spares).spared (bears-hits cut ships bears within));
   }

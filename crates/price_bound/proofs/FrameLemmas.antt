@@ -25,7 +25,7 @@ use Rattle.price_bound.specs.declared.menu.Menu.{Menu}
 use Rattle.price_bound.specs.declared.values.Values.{Values}
 use Rattle.price_bound.specs.Worth.{end_after, worth_of, worth_from, IsWorth, IsLeastWorth, IsKeptGroup, IsHorizon}
 use Rattle.price_bound.specs.Choosing.{Keeps, IsChoice, Leads, IsCounted, IsValue, AreMenus, list_of}
-use Rattle.price_bound.specs.Values.{key_of, side_of, AreEmpty, Holds, Remembers, AreValues, IsBest, IsFrame}
+use Rattle.price_bound.specs.Values.{key_of, side_of, AreEmpty, IsRemembered, Remembers, AreValues, IsBest, IsFrame}
 use Rattle.price_bound.specs.Sparing.{IsSpared, AreForbidden}
 use Rattle.price_bound.proofs.LineLemmas.{worth-next, end-later, uncut-trace}
 use Rattle.price_bound.proofs.MenuLemmas.{counted-menu}
@@ -237,7 +237,7 @@ module _ (I : Instance) (c : ℕ) (known : c < length I.chambers) (cuts : List P
           let parts = same-state old.places p q minute n (side_of stand) (side_of other) (in-places p small) (in-places q few) (side-small stand) (side-small other) (y.0 ∙ ap (λ w. key_of w q other n) more.wide) in
           subst (λ u. IsValue I c cuts k prices line horizon q other n u) y.1
           (subst (λ q. IsValue I c cuts k prices line horizon q other n v) parts.0 (subst (λ n. IsValue I c cuts k prices line horizon p other n v) parts.1 (subst (λ s. IsValue I c cuts k prices line horizon p s minute v) (same-side stand other parts.2) value)))
-      | inr held ↦ were.told q other n u few (subst (λ w. Holds old (key_of w q other n) u) more.wide held)
+      | inr held ↦ were.told q other n u few (subst (λ w. IsRemembered old (key_of w q other n) u) more.wide held)
     ];
   }
     where
@@ -245,7 +245,7 @@ module _ (I : Instance) (c : ℕ) (known : c < length I.chambers) (cuts : List P
       in-places q few = omega (arith, were.wide, few)
 
   -- what is found is the value
-  pub found-told : (values : Values) (p : ℕ) (stand : Stand) (minute : ℕ) (o : Option ℤ) → p ≤ length line → AreValues I c cuts k prices line horizon values → IfSome o (Holds values (key_of values.places p stand minute))
+  pub found-told : (values : Values) (p : ℕ) (stand : Stand) (minute : ℕ) (o : Option ℤ) → p ≤ length line → AreValues I c cuts k prices line horizon values → IfSome o (IsRemembered values (key_of values.places p stand minute))
       → IfSome o (IsValue I c cuts k prices line horizon p stand minute)
   found-told values p stand minute None small are e = tt
   found-told values p stand minute (Some v) small are e = are.told p stand minute v small e

@@ -20,7 +20,7 @@ use Rattle.lock_rules.proofs.TreeLemmas.{RisesFrom-filter, length-insert_number,
 use Rattle.lock_rules.proofs.SplitLemmas.{RisesFrom-increasing, All-times, times_in-at}
 use Rattle.lock_rules.proofs.NodeLemmas.{RisesFrom-insert, All-insert_number, increasing-RisesFrom}
 use Rattle.price_rules.specs.Prices.{is_missing}
-use Rattle.price_bound.specs.Sparing.{Misses}
+use Rattle.price_bound.specs.Sparing.{LacksSome}
 use Rattle.price_bound.specs.Growing.{IsAllowed, IsGrown, AreGrown, HasIdler, MayJoin, AreJoining, IsNew, IsBase, IsJoined}
 use Rattle.price_bound.proofs.IdleLemmas.{idler-more}
 
@@ -89,9 +89,9 @@ all-kept I k (x ∷ xs) all =
     kept-first (has_number (first_ships I k)) x xs (filter (has_number (first_ships I k)) xs) (All-head (IsAllowed I k 0) x xs all) (all-kept I k xs (All-tail (IsAllowed I k 0) x xs all))
 
 -- fewer ships hold no more sets
-misses-fewer : (xs ys : List ℕ) (sets : List (List ℕ)) → All (Contains ys) xs → All (Misses ys) sets → All (Misses xs) sets
+misses-fewer : (xs ys : List ℕ) (sets : List (List ℕ)) → All (Contains ys) xs → All (LacksSome ys) sets → All (LacksSome xs) sets
 misses-fewer xs ys sets among misses =
-    All-weaker (Misses ys) (Misses xs) (λ set miss within. miss (record { among = All-weaker (Contains xs) (Contains ys) (λ s h. All-contains (Contains ys) xs s among h) set within.among })) sets misses
+    All-weaker (LacksSome ys) (LacksSome xs) (λ set miss within. miss (record { among = All-weaker (Contains xs) (Contains ys) (λ s h. All-contains (Contains ys) xs s among h) set within.among })) sets misses
 
 before : (i j : ℕ) → j < suc i → j ≢ i → j < i
 before i j less m = elim (leb_tells (suc j) i) [ inl y ↦ y.1 | inr q ↦ absurd (m (omega (arith, less, q.1))) ]
@@ -114,7 +114,7 @@ module _ (I : Instance) (c k : ℕ) (prices : List ℕ) (sets : List (List ℕ))
       same g h = λ i. record { way = sym h.way i; ships = (sym h.keeps ∙ all-kept I k g.ships h.allowed) i }
 
   -- none where a forbidden set is in the base
-  pub grown-none : (n : ℕ) → ¬ All (Misses base.ships) sets → AreGrown I c k prices sets base n []
+  pub grown-none : (n : ℕ) → ¬ All (LacksSome base.ships) sets → AreGrown I c k prices sets base n []
   grown-none n hit = record {
     each = All-nil (IsGrown I c k sets base n);
     whole = λ g h. absurd (hit (misses-fewer base.ships g.ships sets (subst (All (Contains g.ships)) h.keeps (All-filter kept (Contains g.ships) g.ships (λ j d here. Contains-get_or g.ships j d here))) h.missed));
@@ -195,7 +195,7 @@ module _ (I : Instance) (c k : ℕ) (prices : List ℕ) (sets : List (List ℕ))
             keeps = keeps-without n kept fresh g.ships ∙ h.keeps;
             allowed = λ j d here. lower (slice_index_or less j d) (filter_passes (is_other n) g.ships j d here) (All-filter (is_other n) (IsAllowed I k (suc n)) g.ships h.allowed j d here);
           },
-          record { room = omega (arith, h.few, length-insert_number n less, ap length back); missed = subst (λ ships. All (Misses ships) sets) (sym back) h.missed },
+          record { room = omega (arith, h.few, length-insert_number n less, ap length back); missed = subst (λ ships. All (LacksSome ships) sets) (sym back) h.missed },
         )
       where
         lower : (s : ℕ) → is_other n s ≡ true → IsAllowed I k (suc n) s → IsAllowed I k n s
@@ -316,7 +316,7 @@ module _ (I : Instance) (c k : ℕ) (prices : List ℕ) (sets : List (List ℕ))
       lower s way (inr h) = elim (eqb_tells s n) [ inl y ↦ whether s way y.1 (kept s) refl | inr m ↦ inr (before n s h m.1) ]
 
   -- the base itself is grown by no ship
-  pub base-grown : IsBase I c k base → All (Misses base.ships) sets → IsGrown I c k sets base 0 base
+  pub base-grown : IsBase I c k base → All (LacksSome base.ships) sets → IsGrown I c k sets base 0 base
   base-grown is misses = record {
     rising = is.rising;
     known = is.known;

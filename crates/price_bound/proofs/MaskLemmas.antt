@@ -15,7 +15,7 @@ use Rattle.lock_rules.proofs.ChildLemmas.{times_in-insert_number}
 use Rattle.lock_rules.proofs.NodeLemmas.{All-insert_number}
 use Rattle.lock_rules.proofs.AmongLemmas.{contains-times, times-contains}
 use Rattle.price_rules.specs.Prices.{is_missing}
-use Rattle.price_bound.specs.Sparing.{AreIn, Misses}
+use Rattle.price_bound.specs.Sparing.{AreIn, LacksSome}
 use Rattle.price_bound.specs.Masks.{IsMask, IsSetMask, HasMask, AreMarks, AreAllowed, IsBetween, AreHaving, AreNear, AreNears, IsNoted, IsPutNear}
 use Rattle.price_bound.specs.Growing.{IsAllowed}
 use Rattle.price_bound.specs.declared.near.Near.{Near}
@@ -200,7 +200,7 @@ module _ (I : Instance) (k : ℕ) (sets : List (List ℕ)) (ship : ℕ) where
   module _ (masks : List ℕ) (near : AreNear I k sets (length sets) ship masks) (ships : List ℕ) (mask : ℕ) (is : IsMask mask (insert_number ship ships))
       (known : All (λ s. s < length I.ships) (insert_number ship ships)) (few : length I.ships ≤ 32) where
     -- NO OTHER SET can be among ships that held none before the ship.
-    pub near-missed : All (IsAllowed I k ship) ships → All (Misses ships) sets → All (λ m. ¬ (bit_and m mask ≡ m)) masks → All (Misses (insert_number ship ships)) sets
+    pub near-missed : All (IsAllowed I k ship) ships → All (LacksSome ships) sets → All (λ m. ¬ (bit_and m mask ≡ m)) masks → All (LacksSome (insert_number ship ships)) sets
     near-missed allowed before apart = λ j d here within.
         let set = slice_index_or sets j d in
         elim (leb_tells 1 (times_in set ship)) [
@@ -223,8 +223,8 @@ module _ (I : Instance) (k : ℕ) (sets : List (List ℕ)) (ship : ℕ) where
               | inr m ↦ omega (arith, times_in-insert_number ship s ships, ap {B = ℕ} (λ b. cond b 1 0) m.0, contains-times (insert_number ship ships) s held)
             ])
 
-    pub missed-near : All (Misses (insert_number ship ships)) sets → All (λ m. ¬ (bit_and m mask ≡ m)) masks
+    pub missed-near : All (LacksSome (insert_number ship ships)) sets → All (λ m. ¬ (bit_and m mask ≡ m)) masks
     missed-near missed = λ j d here same.
         let own = near.each j d here in
-        All-contains (Misses (insert_number ship ships)) sets own.set missed own.held
+        All-contains (LacksSome (insert_number ship ships)) sets own.set missed own.held
         (mask-in (slice_index_or masks j d) mask own.set (insert_number ship ships) (All-weaker (λ s. s < length I.ships) (λ s. s < 32) (λ s h. omega (arith, h, few)) own.set own.known) own.is is same)

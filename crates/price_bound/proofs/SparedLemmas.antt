@@ -12,7 +12,7 @@ use Rattle.price_bound.specs.declared.grown_lists.GrownGroup.{GrownGroup}
 use Rattle.price_bound.specs.declared.grown_lists.GrownList.{GrownList}
 use Rattle.price_bound.specs.Growing.{IsGrown}
 use Rattle.price_bound.specs.Masks.{IsMask, AreMarks}
-use Rattle.price_bound.specs.Sparing.{Misses, AreForbidden}
+use Rattle.price_bound.specs.Sparing.{LacksSome, AreForbidden}
 use Rattle.price_bound.specs.Stock.{IsGrownGroup, HasGroup, IsGrownList, IsApart, IsPutSpared, AreSpared, IsSparedList, AreSparedLists}
 use Rattle.price_bound.proofs.MaskLemmas.{earlier, mask-in, in-mask}
 
@@ -78,29 +78,29 @@ module _ (masks : List ℕ) (lists : List GrownList) where
 
 -- Ships miss sets just where they are apart from the masks of these.
 module _ (I : Instance) (added : List (List ℕ)) (masks : List ℕ) (marks : AreMarks I added (length added) masks) (mask : ℕ) (ships : List ℕ) (is : IsMask mask ships) where
-  apart-missed : All (λ s. s < length I.ships) ships → IsApart masks mask → All (Misses ships) added
+  apart-missed : All (λ s. s < length I.ships) ships → IsApart masks mask → All (LacksSome ships) added
   apart-missed known apart = λ j d here within.
       let set = slice_index_or added j d in
       let mine = All-weaker (Contains ships) (λ s. s < length I.ships) (λ s h. All-contains (λ s. s < length I.ships) ships s known h) set within.among in
       let own = marks.whole j d here here mine in
       All-contains (λ m. ¬ (bit_and m mask ≡ m)) masks own.mask apart own.held (in-mask own.mask mask set ships own.is is within)
 
-  missed-apart : length I.ships ≤ 32 → All (Misses ships) added → IsApart masks mask
+  missed-apart : length I.ships ≤ 32 → All (LacksSome ships) added → IsApart masks mask
   missed-apart few missed = λ j d here same.
       let own = marks.each j d here in
-      All-contains (Misses ships) added own.set missed own.held
+      All-contains (LacksSome ships) added own.set missed own.held
       (mask-in (slice_index_or masks j d) mask own.set ships (All-weaker (λ s. s < length I.ships) (λ s. s < 32) (λ s h. omega (arith, h, few)) own.set own.known) own.is is same)
 
 module _ (I : Instance) (c k : ℕ) (sets added : List (List ℕ)) (base : Group) (n : ℕ) (g : Group) where
   -- a group has grown under more sets where it misses these too
-  more-missed : All (Misses g.ships) added → IsGrown I c k sets base n g → IsGrown I c k (sets ++ added) base n g
+  more-missed : All (LacksSome g.ships) added → IsGrown I c k sets base n g → IsGrown I c k (sets ++ added) base n g
   more-missed missed is = record {
     rising = is.rising;
     known = is.known;
     few = is.few;
     way = is.way;
     ways = is.ways;
-    missed = All-append (Misses g.ships) sets added is.missed missed;
+    missed = All-append (LacksSome g.ships) sets added is.missed missed;
     keeps = is.keeps;
     allowed = is.allowed;
   }
@@ -112,7 +112,7 @@ module _ (I : Instance) (c k : ℕ) (sets added : List (List ℕ)) (base : Group
     few = is.few;
     way = is.way;
     ways = is.ways;
-    missed = all-left (Misses g.ships) sets added is.missed;
+    missed = all-left (LacksSome g.ships) sets added is.missed;
     keeps = is.keeps;
     allowed = is.allowed;
   }
@@ -132,15 +132,15 @@ spared-grown I c k prices sets added masks list spared few marks is grown = reco
   whole = λ g h.
       let all = subst (λ b. IsGrown I c k (sets ++ added) b (length I.ships) g) is.base h in
       elim (grown.whole g (fewer-missed I c k sets added list.base (length I.ships) g all)) [
-        | inl has ↦ inl (kept g has (all-right (Misses g.ships) sets added all.missed))
+        | inl has ↦ inl (kept g has (all-right (LacksSome g.ships) sets added all.missed))
         | inr idle ↦ inr idle
       ];
 }
   where
-    kept : (g : Group) → HasGroup list.groups.items g → All (Misses g.ships) added → HasGroup spared.groups.items g
+    kept : (g : Group) → HasGroup list.groups.items g → All (LacksSome g.ships) added → HasGroup spared.groups.items g
     kept g has missed =
         let was : IsGrownGroup I c k sets list.base has.one = All-contains (IsGrownGroup I c k sets list.base) list.groups.items has.one grown.each has.held in
-        let own = subst (λ (g : Group). All (Misses g.ships) added) (sym has.is) missed in
+        let own = subst (λ (g : Group). All (LacksSome g.ships) added) (sym has.is) missed in
         let apart = missed-apart I added masks marks has.one.sums.mask has.one.group.ships was.sums.mask few own in
         let at = has.held.2 in
         let held = is.groups.whole has.held.0 has.one has.held.1 has.held.1 (subst (λ (one : GrownGroup). IsApart masks one.sums.mask) (sym at) apart) in
@@ -156,6 +156,6 @@ spared-all I c k prices sets added masks lists spared few marks are grown = λ j
 -- WHAT CUTS FORBID and what more cuts forbid is what they forbid together.
 pub forbidden-both : (I : Instance) (c : ℕ) (some others : List PlainCut) (sets added : List (List ℕ)) → AreForbidden I c some sets → AreForbidden I c others added → AreForbidden I c (some ++ others) (sets ++ added)
 forbidden-both I c some others sets added first second = record {
-  spared = λ ships known missed. All-append (Spares I c ships) some others (first.spared ships known (all-left (Misses ships) sets added missed)) (second.spared ships known (all-right (Misses ships) sets added missed));
-  missed = λ ships known spared. All-append (Misses ships) sets added (first.missed ships known (all-left (Spares I c ships) some others spared)) (second.missed ships known (all-right (Spares I c ships) some others spared));
+  spared = λ ships known missed. All-append (Spares I c ships) some others (first.spared ships known (all-left (LacksSome ships) sets added missed)) (second.spared ships known (all-right (LacksSome ships) sets added missed));
+  missed = λ ships known spared. All-append (LacksSome ships) sets added (first.missed ships known (all-left (Spares I c ships) some others spared)) (second.missed ships known (all-right (Spares I c ships) some others spared));
 }

@@ -12,7 +12,7 @@ use Rattle.price_bound.specs.declared.route.Route.{Route}
 use Rattle.price_bound.specs.declared.values.Values.{Values}
 use Rattle.price_bound.specs.Worth.{end_after, worth_of, IsKeptGroup}
 use Rattle.price_bound.specs.Choosing.{IsChoice, IsCounted, IsValue, Leads}
-use Rattle.price_bound.specs.Values.{key_of, AreValues, Holds, IsBest, IsRoute}
+use Rattle.price_bound.specs.Values.{key_of, AreValues, IsRemembered, IsBest, IsRoute}
 use Rattle.price_bound.proofs.FrameLemmas.{IsFar, best-counted, counted-value, far-rounded, lesser-less, lesser-rounded, value-far, worth-far}
 
 -- what is far from the ends of its type is as far when it is rounded to it
@@ -24,7 +24,7 @@ high-rounded v far = subst (λ x. x ≤ℤ pos 1000000000000000) (sym (far-round
 
 module _ (I : Instance) (c : ℕ) (known : c < length I.chambers) (cuts : List PlainCut) (k : ℕ) (prices : List ℕ) (line : List Group) (horizon : ℕ) (small : horizon ≤ 1010000) where
   -- a remembered value is so
-  pub told-far : (values : Values) → AreValues I c cuts k prices line horizon values → (p : ℕ) (stand : Stand) (minute : ℕ) (v : ℤ) → p ≤ length line → Holds values (key_of values.places p stand minute) v → IsFar v
+  pub told-far : (values : Values) → AreValues I c cuts k prices line horizon values → (p : ℕ) (stand : Stand) (minute : ℕ) (v : ℤ) → p ≤ length line → IsRemembered values (key_of values.places p stand minute) v → IsFar v
   told-far values are p stand minute v within held =
       let value = are.told p stand minute v within held in
       value-far v horizon minute small value.low value.high
@@ -32,7 +32,7 @@ module _ (I : Instance) (c : ℕ) (known : c < length I.chambers) (cuts : List P
   -- The lesser of the best so far and of what the choice comes to is the best then, and by it the choice is counted.
   pub swept-next : All (IsKeptGroup I k) line → (values : Values) → AreValues I c cuts k prices line horizon values
       → (ready : Ready) (route : Route) (h : Choice) → ready.state.minute < horizon → IsRoute ready route → route.place ≤ length line → IsChoice I c cuts k prices line h → h.joins ≡ route.joins → h.group.way ≡ route.way
-      → (stand : Stand) (end : ℕ) (v w best lesser : ℤ) → stand ≡ stand_after route.way → end ≡ end_after I c ready.state.stand ready.state.minute h.group → Holds values (key_of values.places route.place stand end) v
+      → (stand : Stand) (end : ℕ) (v w best lesser : ℤ) → stand ≡ stand_after route.way → end ≡ end_after I c ready.state.stand ready.state.minute h.group → IsRemembered values (key_of values.places route.place stand end) v
       → w ≡ worth_of I c k prices ready.state.stand ready.state.minute h.group → neg_ℤ (pos 808000000) ≤ℤ w → w ≤ℤ pos 30000000000
       → IsBest I c cuts k prices line horizon ready.state.place ready.state.stand ready.state.minute best
       → lesser ≡ int_min (to_z w64 (of_z w64 best)) (to_z w64 (of_z w64 w) +ℤ to_z w64 (of_z w64 v))

@@ -135,14 +135,14 @@ pub record IsServed (I : Instance) (c k : ℕ) (prices : List ℕ) (choices : Li
   pub as_good : ServeFrom I c k prices 0 choice.group.ships g.ships
 
 -- one of the choices serves as well as the group, or it gains nothing in any state
-abbrev pub IsCovered : Instance → ℕ → ℕ → List ℕ → List Choice → Option ℕ → Group → Type 0
-IsCovered I c k prices choices to g = IsServed I c k prices choices to g ⊎ IsVain I c k prices 0 to g
+abbrev pub IsServedOrVain : Instance → ℕ → ℕ → List ℕ → List Choice → Option ℕ → Group → Type 0
+IsServedOrVain I c k prices choices to g = IsServed I c k prices choices to g ⊎ IsVain I c k prices 0 to g
 
 -- to the choices others were put, all of them right, and each uncut group on the base is covered
 pub record HaveMore (I : Instance) (c : ℕ) (cuts : List PlainCut) (k : ℕ) (prices : List ℕ) (line : List Group) (to : Option ℕ) (base : Group) (old new : List Choice) : Type 0 where
   pub each : All (IsChoice I c cuts k prices line) new
   pub kept : (h : Choice) → Contains old h → Contains new h
-  pub covered : (g : Group) → IsUncut I c cuts g → IsOn I k base g → IsCovered I c k prices new to g
+  pub covered : (g : Group) → IsUncut I c cuts g → IsOn I k base g → IsServedOrVain I c k prices new to g
 
 -- the choice was put to the others, or one that serves as well is among them
 pub record HasOne (I : Instance) (c : ℕ) (cuts : List PlainCut) (k : ℕ) (prices : List ℕ) (line : List Group) (choice : Choice) (old new : List Choice) : Type 0 where
@@ -164,12 +164,12 @@ pub record PutsGroup (I : Instance) (c : ℕ) (cuts : List PlainCut) (k : ℕ) (
 pub record HaveSome (I : Instance) (c : ℕ) (cuts : List PlainCut) (k : ℕ) (prices : List ℕ) (line : List Group) (to : Option ℕ) (groups : List GrownGroup) (i : ℕ) (old new : List Choice) : Type 0 where
   pub each : All (IsChoice I c cuts k prices line) new
   pub kept : (h : Choice) → Contains old h → Contains new h
-  pub done : (j : ℕ) (d : GrownGroup) → j < i → j < length groups → 1 ≤ length (slice_index_or groups j d).group.ships → IsCovered I c k prices new to (slice_index_or groups j d).group
+  pub done : (j : ℕ) (d : GrownGroup) → j < i → j < length groups → 1 ≤ length (slice_index_or groups j d).group.ships → IsServedOrVain I c k prices new to (slice_index_or groups j d).group
 
 -- These choices are enough for the line: they cover each uncut group.
 pub record AreChoices (I : Instance) (c : ℕ) (cuts : List PlainCut) (k : ℕ) (prices : List ℕ) (line : List Group) (choices : List Choice) : Type 0 where
   pub each : All (IsChoice I c cuts k prices line) choices
-  pub whole : (to : Option ℕ) (g : Group) → IsUncut I c cuts g → Keeps I k line to g → IsCovered I c k prices choices to g
+  pub whole : (to : Option ℕ) (g : Group) → IsUncut I c cuts g → Keeps I k line to g → IsServedOrVain I c k prices choices to g
 
 -- choices that cover those that are enough for the line, and at each level others that do from its minute on
 pub record AreListed (I : Instance) (c : ℕ) (cuts : List PlainCut) (k : ℕ) (prices : List ℕ) (line : List Group) (earlies : List Choice) (levels : List Level) : Type 0 where
@@ -224,10 +224,10 @@ pub record AreMenus (I : Instance) (c : ℕ) (cuts : List PlainCut) (k : ℕ) (p
   pub made : AreMade choices levels (length line + 1) menus
 
 -- After the first i places of the line: the choices are right, and they cover each uncut group that keeps none of the line's groups, or the one at one of these places.
-pub record AreSome (I : Instance) (c : ℕ) (cuts : List PlainCut) (k : ℕ) (prices : List ℕ) (line : List Group) (i : ℕ) (choices : List Choice) : Type 0 where
+pub record AreChoicesSoFar (I : Instance) (c : ℕ) (cuts : List PlainCut) (k : ℕ) (prices : List ℕ) (line : List Group) (i : ℕ) (choices : List Choice) : Type 0 where
   pub each : All (IsChoice I c cuts k prices line) choices
-  pub free : (g : Group) → IsUncut I c cuts g → Keeps I k line None g → IsCovered I c k prices choices None g
-  pub own : (p : ℕ) (g : Group) → p < i → IsUncut I c cuts g → Keeps I k line (Some p) g → IsCovered I c k prices choices (Some p) g
+  pub free : (g : Group) → IsUncut I c cuts g → Keeps I k line None g → IsServedOrVain I c k prices choices None g
+  pub own : (p : ℕ) (g : Group) → p < i → IsUncut I c cuts g → Keeps I k line (Some p) g → IsServedOrVain I c k prices choices (Some p) g
 
 -- These choices cover others from minute 0 on: `all`, and choices that cover each uncut group on the base.
 pub record HaveEarly (I : Instance) (c : ℕ) (cuts : List PlainCut) (k : ℕ) (prices : List ℕ) (line : List Group) (to : Option ℕ) (base : Group) (all earlies : List Choice) : Type 0 where
@@ -235,10 +235,10 @@ pub record HaveEarly (I : Instance) (c : ℕ) (cuts : List PlainCut) (k : ℕ) (
   pub have : HaveMore I c cuts k prices line to base all more
   pub early : AreLate I c cuts k prices line 0 more earlies
 
--- After the first i places of the line: some choices cover what `AreSome` says, and these ones cover those choices from minute 0 on.
+-- After the first i places of the line: some choices cover what `AreChoicesSoFar` says, and these ones cover those choices from minute 0 on.
 pub record AreSomeEarly (I : Instance) (c : ℕ) (cuts : List PlainCut) (k : ℕ) (prices : List ℕ) (line : List Group) (i : ℕ) (earlies : List Choice) : Type 0 where
   pub choices : List Choice
-  pub some : AreSome I c cuts k prices line i choices
+  pub some : AreChoicesSoFar I c cuts k prices line i choices
   pub early : AreLate I c cuts k prices line 0 choices earlies
 
 -- these cover choices that are enough for the line

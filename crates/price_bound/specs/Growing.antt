@@ -8,7 +8,7 @@ use Rattle.lock_rules.specs.Arrival.{first_ships}
 use Rattle.lock_rules.specs.Trace.{has_number}
 use Rattle.lock_rules.specs.Children.{insert_number, with_ship}
 use Rattle.price_rules.specs.Prices.{is_missing, price_at}
-use Rattle.price_bound.specs.Sparing.{Misses}
+use Rattle.price_bound.specs.Sparing.{LacksSome}
 use Rattle.price_bound.specs.Worth.{soonest_of}
 
 -- the ship is one of the first k, or its number is below n
@@ -26,7 +26,7 @@ pub record IsGrown (I : Instance) (c k : ℕ) (sets : List (List ℕ)) (base : G
   pub few : length g.ships ≤ (chamber_at I c).most
   pub way : g.way ≡ base.way
   pub ways : All (λ s. (ship_at I s).way ≡ base.way) g.ships
-  pub missed : All (Misses g.ships) sets
+  pub missed : All (LacksSome g.ships) sets
   pub keeps : filter (has_number (first_ships I k)) g.ships ≡ base.ships
   pub allowed : All (IsAllowed I k n) g.ships
 
@@ -46,7 +46,7 @@ pub record AreGrown (I : Instance) (c k : ℕ) (prices : List ℕ) (sets : List 
 -- the group has room for the ship, and no forbidden set is among them
 pub record MayJoin (I : Instance) (c : ℕ) (sets : List (List ℕ)) (s : ℕ) (g : Group) : Type 0 where
   pub room : length g.ships < (chamber_at I c).most
-  pub missed : All (Misses (insert_number s g.ships)) sets
+  pub missed : All (LacksSome (insert_number s g.ships)) sets
 
 -- The groups `old`, behind them those of the first i with ship n joined that may be, but for some with a ship that gains nothing.
 pub record AreJoining (I : Instance) (c k : ℕ) (prices : List ℕ) (sets : List (List ℕ)) (base : Group) (n : ℕ) (old : List Group) (i : ℕ) (groups : List Group) : Type 0 where

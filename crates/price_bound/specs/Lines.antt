@@ -12,7 +12,7 @@ use Rattle.price_bound.specs.declared.next_group.NextGroup.{NextGroup}
 use Rattle.price_bound.specs.declared.next_group.ValuedState.{ValuedState}
 use Rattle.price_bound.specs.Worth.{worth_from, IsLeastOn}
 use Rattle.price_bound.specs.Choosing.{IsValue}
-use Rattle.price_bound.specs.Total.{HasNone, IsPriceSum}
+use Rattle.price_bound.specs.Total.{HasNoLooseLine, IsPriceSum}
 
 -- the groups are a loose line of the chamber, and it is worth this
 pub record IsLineWorth (I : Instance) (c : ℕ) (cuts : List PlainCut) (k : ℕ) (prices : List ℕ) (line gs : List Group) (v : ℤ) : Type 0 where
@@ -41,7 +41,7 @@ pub record AreLooseLines (I : Instance) (cuts : List PlainCut) (k : ℕ) (lines 
 
 -- these, or that some chamber has no loose line
 abbrev pub AreLinesFound : Instance → List PlainCut → ℕ → List (List Group) → List ℕ → Option LooseLines → Type 0
-AreLinesFound I cuts k lines prices None = HasNone I cuts k lines
+AreLinesFound I cuts k lines prices None = HasNoLooseLine I cuts k lines
 AreLinesFound I cuts k lines prices (Some found) = AreLooseLines I cuts k lines prices found
 
 -- The first groups of a line: with whatever goes on from the state and is worth its value, they are a loose line that is worth `worth`.

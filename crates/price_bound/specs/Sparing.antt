@@ -25,14 +25,14 @@ pub record Bears (I : Instance) (c : ℕ) (cut : ChamberCut) : Type 0 where
 pub record AreIn (ships set : List ℕ) : Type 0 where
   pub among : All (Contains ships) set
 
-abbrev pub Misses : List ℕ → List ℕ → Type 0
-Misses ships set = ¬ AreIn ships set
+abbrev pub LacksSome : List ℕ → List ℕ → Type 0
+LacksSome ships set = ¬ AreIn ships set
 
 -- none of the sets is among the group's ships
 pub record IsSpared (sets : List (List ℕ)) (g : Group) : Type 0 where
-  pub missed : All (Misses g.ships) sets
+  pub missed : All (LacksSome g.ships) sets
 
 -- The sets are what the cuts forbid chamber c: the cuts spare known ships exactly where none of the sets is among them.
 pub record AreForbidden (I : Instance) (c : ℕ) (cuts : List PlainCut) (sets : List (List ℕ)) : Type 0 where
-  pub spared : (ships : List ℕ) → All (λ s. s < length I.ships) ships → All (Misses ships) sets → All (Spares I c ships) cuts
-  pub missed : (ships : List ℕ) → All (λ s. s < length I.ships) ships → All (Spares I c ships) cuts → All (Misses ships) sets
+  pub spared : (ships : List ℕ) → All (λ s. s < length I.ships) ships → All (LacksSome ships) sets → All (Spares I c ships) cuts
+  pub missed : (ships : List ℕ) → All (λ s. s < length I.ships) ships → All (Spares I c ships) cuts → All (LacksSome ships) sets

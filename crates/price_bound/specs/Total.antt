@@ -21,14 +21,14 @@ pub record IsLeastSum (I : Instance) (cuts : List PlainCut) (k : ℕ) (lines : L
   pub worth : worths_of I k prices chosen n ≡ v
 
 -- some chamber has no loose line
-pub record HasNone (I : Instance) (cuts : List PlainCut) (k : ℕ) (lines : List (List Group)) : Type 0 where
+pub record HasNoLooseLine (I : Instance) (cuts : List PlainCut) (k : ℕ) (lines : List (List Group)) : Type 0 where
   pub chamber : ℕ
   pub known : chamber < length I.chambers
   pub none : (loose : List Group) → ¬ IsLoose I chamber cuts k (line_at lines chamber) loose
 
 -- the least worth of loose lines of all chambers together, or that some chamber has none
 abbrev pub IsAdded : Instance → List PlainCut → ℕ → List (List Group) → List ℕ → Option ℤ → Type 0
-IsAdded I cuts k lines prices None = HasNone I cuts k lines
+IsAdded I cuts k lines prices None = HasNoLooseLine I cuts k lines
 IsAdded I cuts k lines prices (Some sum) = IsLeastSum I cuts k lines prices (length I.chambers) sum
 
 -- the least worth of a loose line for each chamber, and the prices of the missing ships
@@ -39,5 +39,5 @@ pub record IsPriceSum (I : Instance) (cuts : List PlainCut) (k : ℕ) (lines : L
 
 -- that sum, or that some chamber has no loose line
 abbrev pub IsNodeSum : Instance → List PlainCut → ℕ → List (List Group) → List ℕ → Option ℤ → Type 0
-IsNodeSum I cuts k lines prices None = HasNone I cuts k lines
+IsNodeSum I cuts k lines prices None = HasNoLooseLine I cuts k lines
 IsNodeSum I cuts k lines prices (Some sum) = IsPriceSum I cuts k lines prices sum

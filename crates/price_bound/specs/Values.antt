@@ -29,23 +29,23 @@ abbrev pub key_of : ℕ → ℕ → Stand → ℕ → ℕ
 key_of places place stand minute = (minute * places + place) * 2 + side_of stand
 
 -- the value is remembered under the key, in the row or among the others
-abbrev pub Holds : Values → ℕ → ℤ → Type 0
-Holds values key v = ((place : ℕ) × (key ≡ values.start + place) × (place < length values.row.items) × (slice_index_or values.row.items place None ≡ Some v)) ⊎ (get nat_eq values.others key ≡ Some v)
+abbrev pub IsRemembered : Values → ℕ → ℤ → Type 0
+IsRemembered values key v = ((place : ℕ) × (key ≡ values.start + place) × (place < length values.row.items) × (slice_index_or values.row.items place None ≡ Some v)) ⊎ (get nat_eq values.others key ≡ Some v)
 
 -- nothing is remembered, and there are so many places
 pub record AreEmpty (places : ℕ) (values : Values) : Type 0 where
   pub wide : values.places ≡ places
-  pub none : (key : ℕ) (v : ℤ) → ¬ Holds values key v
+  pub none : (key : ℕ) (v : ℤ) → ¬ IsRemembered values key v
 
 -- what is remembered is the new value under its key, and what was remembered before
 pub record Remembers (old new : Values) (key : ℕ) (v : ℤ) : Type 0 where
   pub wide : new.places ≡ old.places
-  pub told : (other : ℕ) (u : ℤ) → Holds new other u → ((key ≡ other) × (v ≡ u)) ⊎ Holds old other u
+  pub told : (other : ℕ) (u : ℤ) → IsRemembered new other u → ((key ≡ other) × (v ≡ u)) ⊎ IsRemembered old other u
 
 -- what is remembered for a state is its value, and each place of the line has room
 pub record AreValues (I : Instance) (c : ℕ) (cuts : List PlainCut) (k : ℕ) (prices : List ℕ) (line : List Group) (horizon : ℕ) (values : Values) : Type 0 where
   pub wide : values.places ≡ length line + 1
-  pub told : (p : ℕ) (stand : Stand) (minute : ℕ) (v : ℤ) → p ≤ length line → Holds values (key_of values.places p stand minute) v → IsValue I c cuts k prices line horizon p stand minute v
+  pub told : (p : ℕ) (stand : Stand) (minute : ℕ) (v : ℤ) → p ≤ length line → IsRemembered values (key_of values.places p stand minute) v → IsValue I c cuts k prices line horizon p stand minute v
 
 -- the first minute for a way
 abbrev pub minute_for : Ready → Way → ℕ

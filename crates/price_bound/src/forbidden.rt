@@ -3,7 +3,7 @@ ghost use Rattle.std.specs.Prelude.{◌<◌, ◌↔◌, List, [], ◌∷◌, ◌
 ghost use Rattle.lock_model.specs.Fleet.{chamber_at};
 ghost use Rattle.price_rules.specs.Prices.{PlainCut as Plain};
 ghost use Rattle.price_bound.specs.Cuts.{plain_cut, plain_cuts};
-ghost use Rattle.price_bound.specs.Sparing.{IsNoRoomierThan, AreIn, Bears, Misses, IsSpared, AreForbidden};
+ghost use Rattle.price_bound.specs.Sparing.{IsNoRoomierThan, AreIn, Bears, LacksSome, IsSpared, AreForbidden};
 
 use crate::cut::ChamberCut;
 use crate::error::{PriceError, append};
@@ -97,7 +97,7 @@ fn are_in(ships: &[u8], set: &[u8]) -> bool
 
 /// Whether none of the sets is among these ships.
 pub(crate) fn misses_all(sets: &[Ships], ships: &[u8]) -> bool
-    ensures { IsTrue result ↔ All (Misses ships.now) sets.now }
+    ensures { IsTrue result ↔ All (LacksSome ships.now) sets.now }
 {
     for set in sets {
         if are_in(ships, set.as_slice()) {

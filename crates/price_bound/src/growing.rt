@@ -2,7 +2,7 @@
 ghost use Rattle.std.specs.Prelude.{◌≡◌, ◌+◌, ◌<◌, ◌≤◌, ◌↔◌, length, All, IsTrue, IfSome, IfNone, OnOk, IfOk};
 ghost use Rattle.lock_rules.specs.Plan.{times_in};
 ghost use Rattle.lock_rules.specs.Children.{with_ship};
-ghost use Rattle.master_branch.specs.Steps.{group_at};
+ghost use Rattle.master_branch.specs.Steps.{group_in};
 ghost use Rattle.price_bound.specs.Sparing.{IsSpared};
 ghost use Rattle.price_bound.specs.Masks.{AreNear, AreNears, IsMask};
 ghost use Rattle.price_bound.specs.Choosing.{AreRates, AreSumsOf, AreWeighed};
@@ -142,15 +142,15 @@ fn join(
 ) -> Result<(), PriceError>
     requires near { AreNear growth.now.case.now.instance.now growth.now.case.now.depth growth.now.sets.now (length growth.now.sets.now) ship near.now }
     requires known { ship < length growth.now.case.now.instance.now.ships }
-    requires ships_in { All (λ s. s < length growth.now.case.now.instance.now.ships) (group_at groups.old.items place).ships }
-    requires allowed { All (IsAllowed growth.now.case.now.instance.now growth.now.case.now.depth ship) (group_at groups.old.items place).ships }
-    requires spared { IsSpared growth.now.sets.now (group_at groups.old.items place) }
+    requires ships_in { All (λ s. s < length growth.now.case.now.instance.now.ships) (group_in groups.old.items place).ships }
+    requires allowed { All (IsAllowed growth.now.case.now.instance.now growth.now.case.now.depth ship) (group_in groups.old.items place).ships }
+    requires spared { IsSpared growth.now.sets.now (group_in groups.old.items place) }
     requires place { place < length groups.old.items }
-    requires absent { times_in (group_at groups.old.items place).ships ship ≡ 0 }
-    requires few { length (group_at groups.old.items place).ships ≤ 8 }
+    requires absent { times_in (group_in groups.old.items place).ships ship ≡ 0 }
+    requires few { length (group_in groups.old.items place).ships ≤ 8 }
     requires weighed { AreWeighed growth.now.case.now.instance.now growth.now.case.now.chamber groups.old.items sums.old.items }
     ensures weighed { OnOk result (AreWeighed growth.now.case.now.instance.now growth.now.case.now.chamber groups.new.items sums.new.items) }
-    ensures joined { OnOk result (IsJoined growth.now.case.now.instance.now growth.now.case.now.chamber growth.now.case.now.depth growth.now.ceilings.now growth.now.sets.now ship (group_at groups.old.items place) groups.old.items groups.new.items) }
+    ensures joined { OnOk result (IsJoined growth.now.case.now.instance.now growth.now.case.now.chamber growth.now.case.now.depth growth.now.ceilings.now growth.now.sets.now ship (group_in groups.old.items place) groups.old.items groups.new.items) }
 {
     let own = &sums[place];
     match joined(growth, near, &groups[place], own.mask, ship) {

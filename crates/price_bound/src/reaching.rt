@@ -6,7 +6,7 @@ ghost use Rattle.master_branch.specs.Node.{IsNodeOf};
 ghost use Rattle.price_rules.specs.Prices.{Reaches, price_at};
 ghost use Rattle.price_bound.specs.Keeping.{IsFound};
 ghost use Rattle.price_bound.specs.Lines.{AreLeastLines, AreLinesFound};
-ghost use Rattle.price_bound.specs.Total.{HasNone, IsAdded, IsNodeSum};
+ghost use Rattle.price_bound.specs.Total.{HasNoLooseLine, IsAdded, IsNodeSum};
 ghost use Rattle.price_bound.specs.Cuts.{plain_cuts};
 
 use crate::cut::ChamberCut;
@@ -83,7 +83,7 @@ fn listed(
     limits: Limits,
 ) -> Result<Option<Vec<LooseLine>>, PriceError>
     requires { held.now ≡ first_ships asked.now.instance.now asked.now.node.now.depth }
-    ensures none { IfOk result (λ found. IfNone found (HasNone asked.now.instance.now (plain_cuts asked.now.instance.now asked.now.cuts.now) asked.now.node.now.depth asked.now.node.now.lines)) }
+    ensures none { IfOk result (λ found. IfNone found (HasNoLooseLine asked.now.instance.now (plain_cuts asked.now.instance.now asked.now.cuts.now) asked.now.node.now.depth asked.now.node.now.lines)) }
     ensures some { IfOk result (λ found. IfSome found (λ lines. AreLeastLines asked.now.instance.now (plain_cuts asked.now.instance.now asked.now.cuts.now) asked.now.node.now.depth asked.now.node.now.lines asked.now.prices.now (length asked.now.instance.now.chambers) lines.items)) }
 {
     let alloc = kept.alloc();

@@ -1,6 +1,6 @@
 //! Values that are remembered for states.
 ghost use Rattle.std.specs.Prelude.{◌≡◌, ◌+◌, ◌<◌, ◌≤◌, length, IfSome, IfOk, OnOk};
-ghost use Rattle.price_bound.specs.Values.{key_of, AreEmpty, Holds, Remembers};
+ghost use Rattle.price_bound.specs.Values.{key_of, AreEmpty, IsRemembered, Remembers};
 
 use crate::error::PriceError;
 use crate::state::State;
@@ -62,7 +62,7 @@ impl Values {
         requires few { self.now.places ≤ 25 }
         requires place { state.now.place < self.now.places }
         requires minute { state.now.minute ≤ 14000000 }
-        ensures { IfSome result (Holds self.now (key_of self.now.places state.now.place state.now.stand state.now.minute)) }
+        ensures { IfSome result (IsRemembered self.now (key_of self.now.places state.now.place state.now.stand state.now.minute)) }
     {
         let key = state.key(self.places);
         match self.place(key) {
@@ -77,7 +77,7 @@ impl Values {
         requires few { self.now.places ≤ 25 }
         requires place { state.now.place < self.now.places }
         requires minute { state.now.minute ≤ 14000000 }
-        ensures { IfSome result (Holds self.now (key_of self.now.places state.now.place state.now.stand state.now.minute)) }
+        ensures { IfSome result (IsRemembered self.now (key_of self.now.places state.now.place state.now.stand state.now.minute)) }
     {
         let place = self.place(state.key(self.places))?;
         self.row[place]

@@ -18,7 +18,7 @@ use Rattle.replan.specs.declared.refusal.ReplanError.TheVariants.{Kept, Late}
 use Rattle.replan.specs.Kept.{kept_of, kept_places, EndsInTime, CanBeKept}
 use Rattle.replan.specs.PartBreaks.{IsFirstLate, IsPartRefusal}
 use Rattle.mooring_rules.proofs.PlanLemmas.{IsFirstBrokenPart-illegal}
-use Rattle.run_answers.specs.Sources.{Drained, IsTooLong, AnswersBytes, AnswersSource, plan_limit}
+use Rattle.run_answers.specs.Sources.{Drained, IsTooLongText, AnswersBytes, AnswersSource, plan_limit}
 use Rattle.run_answers.specs.declared.status.Status.{Status}
 use Rattle.run_answers.specs.declared.status.Status.TheVariants.{Good, Open, Words, Refused, ReadFault, WriteFault, NoMemory, BadDossier, Unfit, PlanRefused}
 use Rattle.replan_command.specs.Keeping.{PrintsOpenKeeping}
@@ -91,7 +91,7 @@ module _ (options : ReplanOptions) (source : Drained) (I : Instance) (G : Plan) 
       first.unfit fits.chamber fits.known fits.fits
 
   -- there are few bytes, and their instance has no defect
-  not_refused : (text : List ℕ) → IsTooLong plan_limit source text ⊎ AnswersBytes plan_limit (AnswersReplan options) source Refused text → ⊥
+  not_refused : (text : List ℕ) → IsTooLongText plan_limit source text ⊎ AnswersBytes plan_limit (AnswersReplan options) source Refused text → ⊥
   not_refused text (inl long) =
       let many : plan_limit < length served.bytes = subst (λ left. IfSome left (λ bytes. plan_limit < length bytes)) served.told long.long in
       let few = served.few in

@@ -1,7 +1,7 @@
 -- What is answered to a source, by what is said to its bytes.
 use Rattle.std.proofs.Common.{ℕ, ◌≡◌, ◌≤◌, ◌<◌, ◌⊎◌, List, length, subst, inl, inr, refl, arith, Some}
 use Rattle.std.specs.Prelude.{IfSome}
-use Rattle.run_answers.specs.Sources.{Drained, Saying, IsFair, IsReadWhole, IsTooLong, IsUnreadable, AnswersBytes, AnswersSource, IsServed}
+use Rattle.run_answers.specs.Sources.{Drained, Saying, IsFair, IsReadWhole, IsTooLongText, IsUnreadable, AnswersBytes, AnswersSource, IsServed}
 use Rattle.run_answers.specs.declared.status.Status.{Status}
 use Rattle.run_answers.specs.declared.status.Status.TheVariants.{Good, Open, Words, Refused, ReadFault, WriteFault, NoMemory, BadDossier, Unfit, PlanRefused}
 
@@ -40,12 +40,12 @@ module _ (most : ℕ) (Says : Saying) (source : Drained) (bytes : List ℕ) (tol
       let same : read.bytes ≡ bytes = subst (λ left. IfSome left (λ all. read.bytes ≡ all)) told read.read.all in
       subst (λ b. Says b status text) same read.answer
 
-  few_bytes : length bytes ≤ most → (text : List ℕ) → IsTooLong most source text → ⊥
+  few_bytes : length bytes ≤ most → (text : List ℕ) → IsTooLongText most source text → ⊥
   few_bytes few text long =
       let many : most < length bytes = subst (λ left. IfSome left (λ all. most < length all)) told long.long in
       omega (arith, many, few)
 
-  pub told_refused : length bytes ≤ most → (text : List ℕ) → IsTooLong most source text ⊎ AnswersBytes most Says source Refused text → Says bytes Refused text
+  pub told_refused : length bytes ≤ most → (text : List ℕ) → IsTooLongText most source text ⊎ AnswersBytes most Says source Refused text → Says bytes Refused text
   told_refused few text (inl long) = absurd (few_bytes few text long)
   told_refused few text (inr read) = told_says Refused text read
 

@@ -32,7 +32,7 @@ pub record IsReadWhole (most : ℕ) (source : Drained) (bytes : List ℕ) : Type
   pub few : length bytes ≤ most
 
 -- more bytes than `most` were left
-pub record IsTooLong (most : ℕ) (source : Drained) (text : List ℕ) : Type 0 where
+pub record IsTooLongText (most : ℕ) (source : Drained) (text : List ℕ) : Type 0 where
   pub long : IfSome source.before (λ left. most < length left)
   pub shown : text ≡ too_long_text most
 
@@ -52,7 +52,7 @@ abbrev pub IsUnreadable : ℕ → Drained → Status → List ℕ → Type 0
 IsUnreadable most source Good text = ⊥
 IsUnreadable most source Open text = ⊥
 IsUnreadable most source Words text = ⊥
-IsUnreadable most source Refused text = IsTooLong most source text
+IsUnreadable most source Refused text = IsTooLongText most source text
 IsUnreadable most source ReadFault text = IsReadFault source text
 IsUnreadable most source WriteFault text = ⊥
 IsUnreadable most source NoMemory text = text ≡ no_memory_text
@@ -75,7 +75,7 @@ abbrev pub AnswersSource : ℕ → Saying → Drained → Status → List ℕ �
 AnswersSource most Says source Good text = AnswersBytes most Says source Good text
 AnswersSource most Says source Open text = AnswersBytes most Says source Open text
 AnswersSource most Says source Words text = ⊥
-AnswersSource most Says source Refused text = IsTooLong most source text ⊎ AnswersBytes most Says source Refused text
+AnswersSource most Says source Refused text = IsTooLongText most source text ⊎ AnswersBytes most Says source Refused text
 AnswersSource most Says source ReadFault text = IsReadFault source text
 AnswersSource most Says source WriteFault text = ⊥
 AnswersSource most Says source NoMemory text = text ≡ no_memory_text

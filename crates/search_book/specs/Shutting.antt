@@ -12,12 +12,12 @@ use Rattle.search_book.specs.Applied.{Takes}
 use Rattle.search_book.specs.Replies.{is_accepting}
 
 -- the machine's event
-abbrev pub closing_of : ByPrice → machine.Event
-closing_of closing = machine.close_price closing.id closing.number (told_shown closing.shown.now)
+abbrev pub closing_event : ByPrice → machine.Event
+closing_event closing = machine.close_price closing.id closing.number (told_shown closing.shown.now)
 
 -- the closing was refused, and that is all
 pub record IsShutRefused (old : Book) (closing : ByPrice) (r : Reply) (new : Book) : Type 0 where
-  pub step : Answers old (closing_of closing) r new
+  pub step : Answers old (closing_event closing) r new
   pub refused : is_accepting r ≡ false
   pub same : new ≡ old
 
@@ -25,7 +25,7 @@ pub record IsShutRefused (old : Book) (closing : ByPrice) (r : Reply) (new : Boo
 pub record IsShut (old : Book) (closing : ByPrice) (w : ℕ) (r : Reply) (new : Book) : Type 0 where
   pub ended : Reply
   pub between : Book
-  pub step : Answers old (closing_of closing) ended between
+  pub step : Answers old (closing_event closing) ended between
   pub accepted : is_accepting ended ≡ true
   pub taken : Takes between w r new
 

@@ -4,7 +4,7 @@ ghost use Rattle.std.specs.Bool.{OnFalse};
 ghost use Rattle.book_core.specs.Replies.{Answers};
 ghost use Rattle.search_book.specs.Following.{counted};
 ghost use Rattle.search_book.specs.Replies.{is_accepting, accepted};
-ghost use Rattle.search_book.specs.Shutting.{Shuts, closing_of};
+ghost use Rattle.search_book.specs.Shutting.{Shuts, closing_event};
 
 use crate::applying::apply;
 use crate::event::Event;
@@ -25,7 +25,7 @@ pub struct ByPrice<'a> {
 
 // Closes a slot by prices, and says how that changes the history.
 fn close_counted(book: &mut Book, closing: &ByPrice<'_>) -> Reply
-    ensures step { Answers book.old (closing_of closing.now) result book.new }
+    ensures step { Answers book.old (closing_event closing.now) result book.new }
     ensures count { length book.new.history ≡ length book.old.history + accepted result }
     ensures refused { OnFalse (is_accepting result) (book.new ≡ book.old) }
 {

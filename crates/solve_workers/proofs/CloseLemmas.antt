@@ -91,7 +91,7 @@ module _ (b : Book) (id : ℕ) (node : Node) (holds : HoldsOnly b id node) (r : 
   unrefused by.Bound high = high-unrefused b (Step.refusal_of b id by.Bound) (slot_at b id).bound (best_cost b) refl refl high
   unrefused by.Throughput high = high-unrefused b (Step.refusal_of b id by.Throughput) (throughput_of b.case.instance) (best_cost b) refl refl high
   unrefused (by.Probe s) is =
-      let missing : Step.is_missing b id s ≡ true = (has_number-decides (missing_ships b.case.instance (slot_at b id).node.depth) s).1 is.0 in
+      let missing : Step.lacks_ship b id s ≡ true = (has_number-decides (missing_ships b.case.instance (slot_at b id).node.depth) s).1 is.0 in
       high-unrefused b (Step.refusal_of b id (by.Probe s)) (Step.probe_at b id s) (best_cost b) refl (probe-asked b id s (Step.probe_at b id s) missing refl) is.1
   unrefused (by.Cut number) h =
       let hit : Step.hits_in b id (slice_get b.cuts number) ≡ true =

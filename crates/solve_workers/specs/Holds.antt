@@ -14,5 +14,5 @@ abbrev pub HoldsSlot : Book → ℕ → Type 0
 HoldsSlot b id = HoldsOnly b id (node_at b id)
 
 -- the same with a copy of its node
-abbrev pub Holds : Book → Held → Type 0
-Holds b h = HoldsOnly b h.id h.node
+abbrev pub HoldsInHand : Book → Held → Type 0
+HoldsInHand b h = HoldsOnly b h.id h.node

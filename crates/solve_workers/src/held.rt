@@ -5,7 +5,7 @@ ghost use Rattle.book_rules.specs.Ends.{HoldsNothing};
 ghost use Rattle.book_rules.specs.Room.{room_of};
 ghost use Rattle.solve_workers.specs.Driving.{IsDriven};
 ghost use Rattle.solve_workers.specs.Holding.{IsRunning, IsDone};
-ghost use Rattle.solve_workers.specs.Holds.{Holds, HoldsSlot, node_at};
+ghost use Rattle.solve_workers.specs.Holds.{HoldsInHand, HoldsSlot, node_at};
 
 use crate::told::slot_in;
 use book_core::Book;
@@ -24,7 +24,7 @@ impl Held {
     pub(crate) fn of(book: &Book, id: u32) -> Held
         requires { HoldsSlot book.now id }
         ensures id { result.id ≡ id }
-        ensures holds { Holds book.now result }
+        ensures holds { HoldsInHand book.now result }
     {
         Held {
             id,

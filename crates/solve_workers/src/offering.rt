@@ -4,7 +4,7 @@ ghost use Rattle.book_rules.specs.Ends.{HoldsNothing};
 ghost use Rattle.refute_rules.specs.Cuts.{IsCut};
 ghost use Rattle.closing_rules.specs.ListedPrices.{ArePrices};
 ghost use Rattle.solve_workers.specs.Driving.{IsDriven};
-ghost use Rattle.solve_workers.specs.Holds.{Holds};
+ghost use Rattle.solve_workers.specs.Holds.{HoldsInHand};
 
 use crate::held::Held;
 use crate::told::is_closed;
@@ -37,8 +37,8 @@ fn number_in(reply: &Reply) -> Option<u64> {
 
 /// Posts a cut, if the book takes it.
 pub(crate) fn post(book: &mut Book, held: &Held, cut: Cut)
-    requires holds { Holds book.old held.now }
-    ensures holds { Holds book.new held.now }
+    requires holds { HoldsInHand book.old held.now }
+    ensures holds { HoldsInHand book.new held.now }
     ensures driven { IsDriven book.old book.new }
 {
     let _ = held;
@@ -60,8 +60,8 @@ pub(crate) fn post_free(book: &mut Book, cut: Cut)
 
 /// Gives a plan to the book, which takes it if it is legal and cheaper.
 pub(crate) fn give(book: &mut Book, held: &Held, plan: Plan)
-    requires holds { Holds book.old held.now }
-    ensures holds { Holds book.new held.now }
+    requires holds { HoldsInHand book.old held.now }
+    ensures holds { HoldsInHand book.new held.now }
     ensures driven { IsDriven book.old book.new }
 {
     let _ = held;
@@ -71,8 +71,8 @@ pub(crate) fn give(book: &mut Book, held: &Held, plan: Plan)
 
 /// Posts prices: the number under which the book keeps them, if it takes them.
 pub(crate) fn post_prices(book: &mut Book, held: &Held, prices: Prices) -> Option<u64>
-    requires holds { Holds book.old held.now }
-    ensures holds { Holds book.new held.now }
+    requires holds { HoldsInHand book.old held.now }
+    ensures holds { HoldsInHand book.new held.now }
     ensures driven { IsDriven book.old book.new }
 {
     let _ = held;
@@ -85,9 +85,9 @@ pub(crate) fn post_prices(book: &mut Book, held: &Held, prices: Prices) -> Optio
 /// Closes the held node by what was shown of it and of the prices of this number; whether the book
 /// took that.
 pub(crate) fn close_shown(book: &mut Book, held: &Held, number: u64, shown: &Shown<'_>) -> bool
-    requires holds { Holds book.old held.now }
+    requires holds { HoldsInHand book.old held.now }
     ensures closed { OnTrue result (HoldsNothing book.new) }
-    ensures held { OnFalse result (Holds book.new held.now) }
+    ensures held { OnFalse result (HoldsInHand book.new held.now) }
     ensures driven { IsDriven book.old book.new }
 {
     book.keeps();

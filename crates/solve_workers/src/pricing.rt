@@ -5,7 +5,7 @@ ghost use Rattle.master_branch.specs.Node.{IsNodeOf};
 ghost use Rattle.book_rules.specs.Ends.{HoldsNothing};
 ghost use Rattle.solve_workers.specs.Closable.{IsOwnSearch};
 ghost use Rattle.solve_workers.specs.Driving.{IsDriven};
-ghost use Rattle.solve_workers.specs.Holds.{Holds};
+ghost use Rattle.solve_workers.specs.Holds.{HoldsInHand};
 
 use crate::driver::Driver;
 use crate::held::Held;
@@ -24,8 +24,8 @@ use std::alloc::Global;
 #[tactic(auto, using(crate::proofs::DrivenLemmas::driven_none))]
 // Posts a cut, if there is one.
 fn post_some(book: &mut Book, held: &Held, cut: Option<Cut>)
-    requires holds { Holds book.old held.now }
-    ensures holds { Holds book.new held.now }
+    requires holds { HoldsInHand book.old held.now }
+    ensures holds { HoldsInHand book.new held.now }
     ensures driven { IsDriven book.old book.new }
 {
     match cut {
@@ -37,8 +37,8 @@ fn post_some(book: &mut Book, held: &Held, cut: Option<Cut>)
 #[tactic(auto, using(crate::proofs::DrivenLemmas::driven_then, crate::proofs::DrivenLemmas::driven_none))]
 // Posts the cuts that were found.
 fn post_all(book: &mut Book, held: &Held, mut cuts: Vec<Cut>)
-    requires holds { Holds book.old held.now }
-    ensures holds { Holds book.new held.now }
+    requires holds { HoldsInHand book.old held.now }
+    ensures holds { HoldsInHand book.new held.now }
     ensures driven { IsDriven book.old book.new }
 {
     for _ in 0..cuts.len() {
@@ -56,9 +56,9 @@ fn close_with(
     prices: &Prices,
     shown: &Shown<'_>,
 ) -> Option<u64>
-    requires holds { Holds book.old held.now }
+    requires holds { HoldsInHand book.old held.now }
     ensures closed { IfSome result (λ _. HoldsNothing book.new) }
-    ensures held { IfNone result (Holds book.new held.now) }
+    ensures held { IfNone result (HoldsInHand book.new held.now) }
     ensures driven { IsDriven book.old book.new }
 {
     let number = match known {
@@ -80,10 +80,10 @@ fn close_by(
     held: &Held,
     prices: &Prices,
 ) -> bool
-    requires holds { Holds book.old held.now }
+    requires holds { HoldsInHand book.old held.now }
     requires node { IsNodeOf instance.now held.now.node }
     ensures closed { OnTrue result (HoldsNothing book.new) }
-    ensures held { OnFalse result (Holds book.new held.now) }
+    ensures held { OnFalse result (HoldsInHand book.new held.now) }
     ensures driven { IsDriven book.old book.new }
 {
     let known = pricing.number_of(prices);
@@ -109,9 +109,9 @@ fn make_round(
     book: &mut Book,
     held: &Held,
 ) -> Result<RoundEnd, NoMemory>
-    requires holds { Holds book.old held.now }
+    requires holds { HoldsInHand book.old held.now }
     requires own { IsOwnSearch book.old search.now }
-    ensures holds { Holds book.new held.now }
+    ensures holds { HoldsInHand book.new held.now }
     ensures driven { IsDriven book.old book.new }
 {
     book.keeps();
@@ -140,10 +140,10 @@ fn make_rounds(
     book: &mut Book,
     held: &Held,
 ) -> bool
-    requires holds { Holds book.old held.now }
+    requires holds { HoldsInHand book.old held.now }
     requires own { IsOwnSearch book.old search.now }
     ensures closed { OnTrue result (HoldsNothing book.new) }
-    ensures held { OnFalse result (Holds book.new held.now) }
+    ensures held { OnFalse result (HoldsInHand book.new held.now) }
     ensures driven { IsDriven book.old book.new }
 {
     book.keeps();
@@ -171,10 +171,10 @@ fn close_as_inherited(
     book: &mut Book,
     held: &Held,
 ) -> bool
-    requires holds { Holds book.old held.now }
+    requires holds { HoldsInHand book.old held.now }
     requires node { IsNodeOf instance.now held.now.node }
     ensures closed { OnTrue result (HoldsNothing book.new) }
-    ensures held { OnFalse result (Holds book.new held.now) }
+    ensures held { OnFalse result (HoldsInHand book.new held.now) }
     ensures driven { IsDriven book.old book.new }
 {
     match pricing.inherited() {
@@ -193,10 +193,10 @@ fn close_or_raise(
     book: &mut Book,
     held: &Held,
 ) -> bool
-    requires holds { Holds book.old held.now }
+    requires holds { HoldsInHand book.old held.now }
     requires own { IsOwnSearch book.old search.now }
     ensures closed { OnTrue result (HoldsNothing book.new) }
-    ensures held { OnFalse result (Holds book.new held.now) }
+    ensures held { OnFalse result (HoldsInHand book.new held.now) }
     ensures driven { IsDriven book.old book.new }
 {
     book.keeps();
@@ -209,10 +209,10 @@ fn close_or_raise(
 /// Asks prices about the held node, where there are any, and carries out what they find; whether the
 /// node was closed. Where memory is refused the node stays open.
 pub(crate) fn price(driver: &mut Driver<'_>, book: &mut Book, held: &Held) -> bool
-    requires holds { Holds book.old held.now }
+    requires holds { HoldsInHand book.old held.now }
     requires own { IsOwnSearch book.old driver.old.search }
     ensures closed { OnTrue result (HoldsNothing book.new) }
-    ensures held { OnFalse result (Holds book.new held.now) }
+    ensures held { OnFalse result (HoldsInHand book.new held.now) }
     ensures driven { IsDriven book.old book.new }
     ensures search { driver.new.search ≡ driver.old.search }
 {

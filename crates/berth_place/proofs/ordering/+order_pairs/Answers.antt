@@ -7,8 +7,8 @@ use Rattle.refute_rules.specs.BerthTrees.{OfOrder, AreUnordered}
 use Rattle.case_search.proofs.ListLemmas.{take-front}
 use Rattle.berth_place.specs.declared.pairs.Pair.{Pair}
 use Rattle.berth_place.specs.declared.search.Visit.TheVariants.{Closed}
-use Rattle.berth_place.specs.Pairs.{pair, AreAllApart}
-use Rattle.berth_place.specs.Spotting.{AreSpotsOf}
+use Rattle.berth_place.specs.Pairs.{pair, AreFirstApart}
+use Rattle.berth_place.specs.Spotting.{AreSpotsSoFar}
 use Rattle.berth_place.specs.Along.{order_edges}
 use Rattle.berth_place.specs.Visits.{IsClosed, IsOptionClosed, IsOrderedOn, IsVisit, IsVisitOf, order_of}
 use Rattle.berth_place.proofs.VisitLemmas.{option_closed, under_begun, under_more, under_whole, visit_over}
@@ -29,8 +29,8 @@ place_pairs-returns-in-None t c =
     let ps = c.args.pairs.now.items in
     let spots = c.spots_of-search.result in
     let read : c.as_slice-2.result.now ≡ ps = search rules in
-    let are = subst (λ vs. AreSpotsOf d s.case vs (length d.ships) spots) (c.as_slice-in-None.ensures.value ∙ c.values-in-None.ensures) c.spots_of-search.ensures in
-    let apart = subst (λ qs. AreAllApart d values qs (length qs)) read (subst (λ vs. AreAllApart d vs c.as_slice-2.result.now (length c.as_slice-2.result.now)) (c.as_slice.ensures.value ∙ c.values.ensures) c.in-None.ensures.none) in
+    let are = subst (λ vs. AreSpotsSoFar d s.case vs (length d.ships) spots) (c.as_slice-in-None.ensures.value ∙ c.values-in-None.ensures) c.spots_of-search.ensures in
+    let apart = subst (λ qs. AreFirstApart d values qs (length qs)) read (subst (λ vs. AreFirstApart d vs c.as_slice-2.result.now (length c.as_slice-2.result.now)) (c.as_slice.ensures.value ∙ c.values.ensures) c.in-None.ensures.none) in
     placed_legal d s c.requires.ordered.ordering c.args.paths.now c.requires.longest spots ps are c.requires.ordered.all apart
 
 pub split_pair-loop-option-preserved : goal.split_pair-loop-option-preserved

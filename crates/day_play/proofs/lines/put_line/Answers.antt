@@ -3,7 +3,7 @@ use Rattle.lock_rules.specs.Lawful.{duration_of, stand_after}
 use Rattle.chamber_times.specs.Walk.{line_places}
 use Rattle.chamber_times.proofs.WalkLemmas.{line_places-within, line_lockage, line_lockage-has}
 use Rattle.day_play.specs.Order.{put_each, minute_of}
-use Rattle.day_play.specs.Lawful.{IsWhole}
+use Rattle.day_play.specs.Lawful.{IsWholeLockage}
 use Rattle.day_play.specs.Playing.{lockage_beats, line_beats}
 use Rattle.day_play.proofs.BeatLemmas.{line-next, put-rest, room-rest, room-first}
 use Rattle.day_play.proofs.lines.put_line.Goals as goal
@@ -20,7 +20,7 @@ pub put_lockage-requires-clause-whole : goal.put_lockage-requires-clause-whole
 put_lockage-requires-clause-whole c =
     line_lockage-has c.args.plan.now c.args.chamber c.as_slice-p-items.result.now c.loop-p.p-index c.index-as_slice-p.result c.as_slice-in-loop-p.result.now
     (c.as_slice-p-items.ensures.value ∙ c.line_places-places.ensures) c.loop-p-test.true c.as_slice-in-loop-p.ensures.value c.index-as_slice-p.is
-    (IsWhole c.args.instance.now) c.requires.whole
+    (IsWholeLockage c.args.instance.now) c.requires.whole
 
 pub put_lockage-requires-clause-room : goal.put_lockage-requires-clause-room
 put_lockage-requires-clause-room c =
@@ -39,13 +39,13 @@ pub duration-requires-clause-chamber_in : goal.duration-requires-clause-chamber_
 duration-requires-clause-chamber_in c =
     (line_lockage-has c.args.plan.now c.args.chamber c.as_slice-p-items.result.now c.loop-p.p-index c.index-as_slice-p.result c.as_slice-in-loop-p.result.now
     (c.as_slice-p-items.ensures.value ∙ c.line_places-places.ensures) c.loop-p-test.true c.as_slice-in-loop-p.ensures.value c.index-as_slice-p.is
-    (IsWhole c.args.instance.now) c.requires.whole).chamber
+    (IsWholeLockage c.args.instance.now) c.requires.whole).chamber
 
 pub duration-requires-clause-ships_in : goal.duration-requires-clause-ships_in
 duration-requires-clause-ships_in c =
     (line_lockage-has c.args.plan.now c.args.chamber c.as_slice-p-items.result.now c.loop-p.p-index c.index-as_slice-p.result c.as_slice-in-loop-p.result.now
     (c.as_slice-p-items.ensures.value ∙ c.line_places-places.ensures) c.loop-p-test.true c.as_slice-in-loop-p.ensures.value c.index-as_slice-p.is
-    (IsWhole c.args.instance.now) c.requires.whole).ships
+    (IsWholeLockage c.args.instance.now) c.requires.whole).ships
 
 pub loop-p-preserved : goal.loop-p-preserved
 loop-p-preserved c =

@@ -1,6 +1,6 @@
 use Rattle.std.proofs.Common.{◌≡◌, ◌+◌, refl, arith, sym, subst}
 use Rattle.lock_rules.specs.Children.{with_ship}
-use Rattle.master_branch.specs.Steps.{group_at}
+use Rattle.master_branch.specs.Steps.{group_in}
 use Rattle.flow_bounds.specs.Walk.{serve, walk_at}
 use Rattle.flow_bounds.specs.Load.{load_at}
 use Rattle.flow_bounds.specs.Entering.{IsBehind}
@@ -11,11 +11,11 @@ use Rattle.flow_bounds.proofs.entering.joined.Goals as goal
 use Rattle.flow_bounds.proofs.entering.joined.Goals.{After-serve}
 
 -- the group with the ship is served
-served : (c : After-serve) → c.serve.result ≡ serve c.args.instance.now c.args.chamber (walk_at c.args.along.now.walks c.args.place) (with_ship c.args.ship (group_at c.args.line.now c.args.place))
+served : (c : After-serve) → c.serve.result ≡ serve c.args.instance.now c.args.chamber (walk_at c.args.along.now.walks c.args.place) (with_ship c.args.ship (group_in c.args.line.now c.args.place))
 served c =
     let I = c.args.instance.now in
     let p = c.args.place in
-    let g = group_at c.args.line.now p in
+    let g = group_in c.args.line.now p in
     c.serve.ensures.value (with_ship c.args.ship g) (load-joined I g (load_at c.args.along.now.loads p) c.with_one-load.result c.args.ship (c.requires.along.loads.each p c.requires.place) c.with_one-load.ensures.value)
 
 pub returns-clause-entered : goal.returns-clause-entered
@@ -26,7 +26,7 @@ returns-clause-entered c =
     let ws = c.args.along.now.walks in
     let p = c.args.place in
     let walks = c.requires.along.walks in
-    let g = group_at line p in
+    let g = group_in line p in
     let behind = behind-joined I ch c.requires.chamber_in (walk_at ws p) c.args.ship g in
     record {
       within = omega (arith, c.requires.place);
@@ -40,4 +40,4 @@ returns-clause-flow c =
     let I = c.args.instance.now in
     let line = c.args.line.now in
     let p = c.args.place in
-    join-flow I c.args.chamber line c.args.along.now.walks c.requires.along.walks p c.requires.place (with_ship c.args.ship (group_at line p)) c.serve.result _ (served c) refl
+    join-flow I c.args.chamber line c.args.along.now.walks c.requires.along.walks p c.requires.place (with_ship c.args.ship (group_in line p)) c.serve.result _ (served c) refl

@@ -1,5 +1,5 @@
 use Rattle.std.proofs.Common.{◌<◌, length, refl, arith, ap, ◌∙◌}
-use Rattle.master_branch.specs.Steps.{group_at}
+use Rattle.master_branch.specs.Steps.{group_in}
 use Rattle.flow_bounds.proofs.WalkLemmas.{serve_all-next, walk-grows, finish-in-step}
 use Rattle.flow_bounds.proofs.line_walks.finish.Goals as goal
 
@@ -24,9 +24,9 @@ loop-i-preserved c =
     let line = c.args.line.now in
     let i = c.loop-i.i in
     let less : i < length line = omega arith in
-    let served = c.serve-walk.ensures.value (group_at line i) (c.requires.along.loads.each i less) in
+    let served = c.serve-walk.ensures.value (group_in line i) (c.requires.along.loads.each i less) in
     record {
-      rest = ap (λ w. w.flow) (serve_all-next I c.args.chamber line i (group_at line i) less refl c.loop-i.walk c.serve-walk.result served) ∙ c.loop-i.invariant.rest;
+      rest = ap (λ w. w.flow) (serve_all-next I c.args.chamber line i (group_in line i) less refl c.loop-i.walk c.serve-walk.result served) ∙ c.loop-i.invariant.rest;
       done = omega (arith, c.serve-walk.ensures.done, c.loop-i.invariant.done);
       flow = omega (arith, c.serve-walk.ensures.done, c.serve-walk.ensures.flow, c.loop-i.invariant.done, c.loop-i.invariant.flow, c.requires.few);
     }

@@ -1,6 +1,6 @@
 use Rattle.std.proofs.Common.{◌<◌, ◌≤◌, ◌+◌, true, false, length, ap, refl, arith, ◌∙◌, sym, subst}
 use Rattle.std.proofs.lemmas.Bool.{false≢true}
-use Rattle.master_branch.specs.Steps.{group_at}
+use Rattle.master_branch.specs.Steps.{group_in}
 use Rattle.flow_bounds.specs.Walk.{serve, walk_at}
 use Rattle.flow_bounds.specs.Entering.{IsBehind}
 use Rattle.flow_bounds.proofs.WalkLemmas.{serve_all-next, walk-grows, finish-in-step}
@@ -52,7 +52,7 @@ loop-i-preserved c =
     let i = c.loop-i.i in
     let w = c.loop-i.walk in
     let less : i < length line = omega arith in
-    let g = group_at line i in
+    let g = group_in line i in
     let served = c.serve-walk.ensures.value g (c.requires.along.loads.each i less) in
     record {
       rest = ap (λ w. w.flow) (serve_all-next I ch line i g less refl w c.serve-walk.result served) ∙ c.loop-i.invariant.rest;

@@ -1,15 +1,15 @@
 use Rattle.std.proofs.Common.{◌≡◌, ◌++◌, ◌∷◌, [], length, map, true, arith, sym, ap, ◌∙◌, append_assoc}
 use Rattle.std.proofs.lemmas.List.{length-append, get_or_default}
 use Rattle.master_branch.specs.declared.step.Step.TheVariants.{Join}
-use Rattle.master_branch.specs.Steps.{group_at, may_join, places_to_join}
+use Rattle.master_branch.specs.Steps.{group_in, may_join, places_to_join}
 use Rattle.master_branch.proofs.StepLemmas.{joins-hit, joins-miss, joins-room}
 use Rattle.master_branch.proofs.step.push_joins.Goals as goal
 use Rattle.master_branch.proofs.step.push_joins.Goals.{then-may_join, else-may_join}
 
 pub push-requires : goal.push-requires
 push-requires c =
-    let at : group_at c.args.line.now c.loop-place.place ≡ c.index-line-place.result = get_or_default c.args.line.now c.loop-place.place _ _ c.loop-place-test.true ∙ sym c.index-line-place.is in
-    let hit : may_join c.args.most c.args.way (group_at c.args.line.now c.loop-place.place) ≡ true = ap (may_join c.args.most c.args.way) at ∙ sym c.may_join.ensures ∙ c.if-may_join.true in
+    let at : group_in c.args.line.now c.loop-place.place ≡ c.index-line-place.result = get_or_default c.args.line.now c.loop-place.place _ _ c.loop-place-test.true ∙ sym c.index-line-place.is in
+    let hit : may_join c.args.most c.args.way (group_in c.args.line.now c.loop-place.place) ≡ true = ap (may_join c.args.most c.args.way) at ∙ sym c.may_join.ensures ∙ c.if-may_join.true in
     let before = map (λ place. Join c.args.chamber place) (places_to_join c.args.most c.args.way c.args.line.now c.loop-place.place) in
     omega (
       arith,
@@ -20,8 +20,8 @@ push-requires c =
 
 pub loop-place-preserved : goal.loop-place-preserved
 loop-place-preserved c =
-    let at : group_at c.args.line.now c.loop-place.place ≡ c.index-line-place.result = get_or_default c.args.line.now c.loop-place.place _ _ c.loop-place-test.true ∙ sym c.index-line-place.is in
-    let test : may_join c.args.most c.args.way (group_at c.args.line.now c.loop-place.place) ≡ c.may_join.result = ap (may_join c.args.most c.args.way) at ∙ sym c.may_join.ensures in
+    let at : group_in c.args.line.now c.loop-place.place ≡ c.index-line-place.result = get_or_default c.args.line.now c.loop-place.place _ _ c.loop-place-test.true ∙ sym c.index-line-place.is in
+    let test : may_join c.args.most c.args.way (group_in c.args.line.now c.loop-place.place) ≡ c.may_join.result = ap (may_join c.args.most c.args.way) at ∙ sym c.may_join.ensures in
     let before = map (λ place. Join c.args.chamber place) (places_to_join c.args.most c.args.way c.args.line.now c.loop-place.place) in
     elim c.if-may_join.branch [
       | then-may_join w ↦

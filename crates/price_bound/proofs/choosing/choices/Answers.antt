@@ -1,7 +1,7 @@
 use Rattle.std.proofs.Common.{◌≡◌, ◌+◌, suc, length, Some, sym, ap, ◌∙◌, subst, arith}
 use Rattle.price_bound.specs.declared.grown_lists.GrownList.{GrownList}
 use Rattle.price_bound.specs.Cuts.{plain_cuts}
-use Rattle.price_bound.specs.Choosing.{IsBaseOf, HaveEarly, AreSome, AreSomeEarly}
+use Rattle.price_bound.specs.Choosing.{IsBaseOf, HaveEarly, AreChoicesSoFar, AreSomeEarly}
 use Rattle.price_bound.specs.Stock.{IsGrownList}
 use Rattle.price_bound.proofs.ChoiceLemmas.{base-own, own-next, all-some}
 use Rattle.price_bound.proofs.choosing.choices.Goals as goal
@@ -54,6 +54,6 @@ returns-clause-early c =
     let some = c.loop-place.invariant.some in
     record {
       choices = some.choices;
-      enough = all-some I case.chamber case.depth case.line.now cuts case.prices.now some.choices (subst (λ i. AreSome I case.chamber cuts case.depth case.prices.now case.line.now i some.choices) all some.some);
+      enough = all-some I case.chamber case.depth case.line.now cuts case.prices.now some.choices (subst (λ i. AreChoicesSoFar I case.chamber cuts case.depth case.prices.now case.line.now i some.choices) all some.some);
       early = some.early;
     }

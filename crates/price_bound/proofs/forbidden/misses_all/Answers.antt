@@ -1,7 +1,7 @@
 use Rattle.std.proofs.Common.{◌≡◌, ◌∙◌, [], sym, subst, below_more, rules, arith, slice_index_or}
 use Rattle.std.proofs.lemmas.List.{get_or_default}
 use Rattle.std.proofs.lemmas.List.Elements.{All-from_get_or}
-use Rattle.price_bound.specs.Sparing.{AreIn, Misses}
+use Rattle.price_bound.specs.Sparing.{AreIn, LacksSome}
 use Rattle.price_bound.proofs.forbidden.misses_all.Goals as goal
 
 pub returns-then-are_in : goal.returns-then-are_in
@@ -18,6 +18,6 @@ loop-set-preserved c =
 
 pub returns : goal.returns
 returns c = (
-  λ h. All-from_get_or (Misses c.args.ships.now) c.args.sets.now [] (λ i known. c.loop-set.invariant i (omega (arith, known, c.loop-set-test.false))),
+  λ h. All-from_get_or (LacksSome c.args.ships.now) c.args.sets.now [] (λ i known. c.loop-set.invariant i (omega (arith, known, c.loop-set-test.false))),
   λ h. search rules,
 )

@@ -1,7 +1,7 @@
 use Rattle.std.proofs.Common.{◌≡◌, ◌<◌, ◌≤◌, ◌∙◌, All, length, sym, ap, subst}
 use Rattle.std.proofs.lemmas.List.{get_or_default}
 use Rattle.lock_rules.proofs.NodeLemmas.{All-insert_number}
-use Rattle.master_branch.specs.Steps.{group_at}
+use Rattle.master_branch.specs.Steps.{group_in}
 use Rattle.price_bound.proofs.WeighLemmas.{weighed-at, sums-short}
 use Rattle.price_bound.proofs.growing.join.Goals as goal
 
@@ -16,13 +16,13 @@ more_sums-more-requires-clause-short c =
     let I = case.instance.now in
     let group = c.index.result.now in
     let own = c.index-own.result.now in
-    let same : group_at c.args.groups.now.items c.args.place ≡ group = get_or_default c.args.groups.now.items c.args.place _ group c.requires.place ∙ sym c.index.ensures in
+    let same : group_in c.args.groups.now.items c.args.place ≡ group = get_or_default c.args.groups.now.items c.args.place _ group c.requires.place ∙ sym c.index.ensures in
     sums-short I case.chamber case.chamber_in own group.ships (subst (λ g. All (λ s. s < length I.ships) g.ships) same c.requires.ships_in) (subst (λ g. length g.ships ≤ 8) same c.requires.few)
     (weighed-at I case.chamber c.args.groups.now.items c.args.sums.now.items c.requires.weighed c.args.place group own c.requires.place c.index.ensures c.index-own.ensures)
 
 pub put_joined-requires-clause-known : goal.put_joined-requires-clause-known
 put_joined-requires-clause-known c =
     let I = c.args.growth.now.case.now.instance.now in
-    let same : group_at c.args.groups.now.items c.args.place ≡ c.index.result.now = get_or_default c.args.groups.now.items c.args.place _ c.index.result.now c.requires.place ∙ sym c.index.ensures in
+    let same : group_in c.args.groups.now.items c.args.place ≡ c.index.result.now = get_or_default c.args.groups.now.items c.args.place _ c.index.result.now c.requires.place ∙ sym c.index.ensures in
     let known = subst (λ g. All (λ s. s < length I.ships) g.ships) same c.requires.ships_in in
     subst (All (λ s. s < length I.ships)) (sym (ap (λ g. g.ships) c.in-Some.ensures.some.1)) (All-insert_number (λ s. s < length I.ships) c.args.ship c.index.result.now.ships c.requires.known known)

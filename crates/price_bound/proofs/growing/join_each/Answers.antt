@@ -2,7 +2,7 @@ use Rattle.std.proofs.Common.{All, ◌≡◌, ◌+◌, ◌<◌, ◌≤◌, [], s
 use Rattle.lock_rules.specs.Plan.{times_in}
 use Rattle.lock_model.specs.Fleet.{no_chamber}
 use Rattle.lock_model.specs.declared.way.Way.TheVariants.{Up}
-use Rattle.master_branch.specs.Steps.{group_at}
+use Rattle.master_branch.specs.Steps.{group_in}
 use Rattle.price_bound.specs.Sparing.{IsSpared}
 use Rattle.price_bound.specs.Growing.{IsAllowed, AreGrown, AreJoining, IsJoined}
 use Rattle.price_bound.proofs.GrowLemmas.{joining-start, joining-next, joining-done, grown-absent, missing-fresh}
@@ -41,7 +41,7 @@ join-requires-clause-absent c =
     let place = c.loop-place.place in
     let here : place < length old = omega (arith, c.loop-place-test.true, c.len-place-end.ensures, c.args.groups.now.ok) in
     subst (λ g. times_in g.ships c.args.ship ≡ 0) (sym (c.loop-place.invariant.joining.first place _ here))
-    (grown-absent I n k prices sets c.args.base.now c.args.ship (missing-fresh I k c.args.ship c.requires.new.missing) (group_at old place) (c.requires.grown.each place _ here))
+    (grown-absent I n k prices sets c.args.base.now c.args.ship (missing-fresh I k c.args.ship c.requires.new.missing) (group_in old place) (c.requires.grown.each place _ here))
 
 pub join-requires-clause-allowed : goal.join-requires-clause-allowed
 join-requires-clause-allowed c =

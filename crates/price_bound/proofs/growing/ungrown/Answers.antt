@@ -1,5 +1,5 @@
 use Rattle.std.proofs.Common.{◌≡◌, refl, [], ◌∷◌, ◌++◌, All, sym, ◌∙◌, subst, rules}
-use Rattle.price_bound.specs.Sparing.{Misses}
+use Rattle.price_bound.specs.Sparing.{LacksSome}
 use Rattle.price_bound.specs.Growing.{AreGrown}
 use Rattle.price_bound.proofs.GrowLemmas.{grown-first, grown-none, base-grown}
 use Rattle.price_bound.proofs.growing.ungrown.Goals as goal
@@ -11,9 +11,9 @@ returns-then-not-misses_all c =
     let k = c.args.growth.now.case.now.depth in
     let prices = c.args.growth.now.ceilings.now in
     let sets = c.args.growth.now.sets.now in
-    let hit : ¬ All (Misses c.as_slice.result.now) sets = search rules in
+    let hit : ¬ All (LacksSome c.as_slice.result.now) sets = search rules in
     subst (AreGrown I n k prices sets c.args.base.now 0) (sym c.new-groups.ensures.items)
-    (grown-none I n k prices sets c.args.base.now 0 (λ misses. hit (subst (λ ships. All (Misses ships) sets) (sym c.as_slice.ensures.value) misses)))
+    (grown-none I n k prices sets c.args.base.now 0 (λ misses. hit (subst (λ ships. All (LacksSome ships) sets) (sym c.as_slice.ensures.value) misses)))
 
 pub returns : goal.returns
 returns c =
@@ -22,7 +22,7 @@ returns c =
     let k = c.args.growth.now.case.now.depth in
     let prices = c.args.growth.now.ceilings.now in
     let sets = c.args.growth.now.sets.now in
-    let misses : All (Misses c.as_slice.result.now) sets = c.if-not-misses_all.ensures.0 refl in
-    let own : All (Misses c.args.base.now.ships) sets = subst (λ ships. All (Misses ships) sets) c.as_slice.ensures.value misses in
+    let misses : All (LacksSome c.as_slice.result.now) sets = c.if-not-misses_all.ensures.0 refl in
+    let own : All (LacksSome c.args.base.now.ships) sets = subst (λ ships. All (LacksSome ships) sets) c.as_slice.ensures.value misses in
     let is : c.append.new.list.items ≡ c.args.base.now ∷ [] = c.in_ok-append.ensures ∙ (λ i. c.new-groups.ensures.items i ++ c.copy.ensures i ∷ []) in
     subst (AreGrown I n k prices sets c.args.base.now 0) (sym is) (grown-first I n k prices sets c.args.base.now (base-grown I n k prices sets c.args.base.now c.requires own))

@@ -2,7 +2,7 @@ use Rattle.std.proofs.Common.{length, sym, ap, ◌∙◌, subst, arith, slice_se
 use Rattle.book_rules.specs.Book.{Case, first_slot, is_held_by}
 use Rattle.book_rules.specs.declared.book.SlotState.TheVariants as slot
 use Rattle.book_core.specs.Stored.{slots_of}
-use Rattle.book_core.specs.Changes.{IsFree, leave_back}
+use Rattle.book_core.specs.Changes.{IsNextFree, leave_back}
 use Rattle.book_core.specs.Keeps.{IsSound, AreTables}
 use Rattle.book_core.specs.Seen.{seen}
 use Rattle.std.specs.declared.option.Option.{Option}
@@ -79,7 +79,7 @@ invariant_of-self c =
           (subst (λ h. AreTables new a.ended h (leave_back (state_in (seen a).slots c.args.id) a.back) a.waiting.items) (ids-set a.hands c.args.worker hand)
           (tables-given (seen a) a.ended (ids_of a.hands) a.back a.waiting.items old.tables new c.args.id c.args.worker
           (restated-changes a b c.self.view_is c.args.id r c.index_mut.ensures.value (slot.Held c.args.worker) known)
-          (subst (λ u. IsFree u c.args.id) (sym c.self.view_is) c.requires.open) c.requires.known
+          (subst (λ u. IsNextFree u c.args.id) (sym c.self.view_is) c.requires.open) c.requires.known
           (ap (λ u. first_slot u (is_held_by c.args.worker)) c.self.view_is ∙ c.requires.empty)));
       nodes = nodes-set I new a.hands (nodes-kept I (seen a).slots new keeps a.hands old.nodes) c.args.worker hand own;
       path = path-kept I (seen a).slots new keeps path leads;

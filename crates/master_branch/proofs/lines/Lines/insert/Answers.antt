@@ -1,6 +1,6 @@
 use Rattle.std.proofs.Common.{◌+◌, ◌<◌, ◌≤◌, length, arith, ap, ◌∙◌, sym, subst}
 use Rattle.std.specs.List.{insert}
-use Rattle.master_branch.specs.Row.{cut_from, IsRow}
+use Rattle.master_branch.specs.Row.{cut_from, IsCutRow}
 use Rattle.master_branch.proofs.RowLemmas.{line-fits, insert-in, row-insert, row-held, ends-within}
 use Rattle.master_branch.proofs.lines.Lines.insert.Goals as goal
 
@@ -25,8 +25,8 @@ invariant_of-self c =
     let i = c.start_of-start.result + c.args.place in
     let place : i ≤ length c.self.inside.row.items =
     omega (arith, c.requires.place, line-fits c.self.inside.row.items c.self.inside.ends c.args.self.now c.args.chamber c.start_of-start.result c.self.invariant c.self.view_is c.requires.chamber c.start_of-start.ensures) in
-    subst (λ row. IsRow row c.raised-self-inside.result) (sym c.insert.ensures.items)
-    (subst (IsRow (insert c.self.inside.row.items i c.args.group)) (sym c.raised-self-inside.ensures) (row-insert c.self.inside.row.items c.self.inside.ends c.args.chamber i c.args.group c.self.invariant c.requires.chamber place))
+    subst (λ row. IsCutRow row c.raised-self-inside.result) (sym c.insert.ensures.items)
+    (subst (IsCutRow (insert c.self.inside.row.items i c.args.group)) (sym c.raised-self-inside.ensures) (row-insert c.self.inside.row.items c.self.inside.ends c.args.chamber i c.args.group c.self.invariant c.requires.chamber place))
 
 pub returns : goal.returns
 returns c =

@@ -1,5 +1,5 @@
 use Rattle.std.proofs.Common.{◌+◌, arith, ap, ◌∙◌, sym, subst}
-use Rattle.master_branch.specs.Row.{cut_from, IsRow}
+use Rattle.master_branch.specs.Row.{cut_from, IsCutRow}
 use Rattle.master_branch.proofs.RowLemmas.{line-fits, set-in, row-set}
 use Rattle.master_branch.proofs.lines.Lines.set.Goals as goal
 
@@ -9,7 +9,7 @@ put-requires c =
 
 pub invariant_of-self : goal.invariant_of-self
 invariant_of-self c =
-    subst (λ row. IsRow row c.self.inside.ends) (sym c.put.ensures) (row-set c.self.inside.row.items c.self.inside.ends (c.start_of-start.result + c.args.place) c.args.group c.self.invariant)
+    subst (λ row. IsCutRow row c.self.inside.ends) (sym c.put.ensures) (row-set c.self.inside.row.items c.self.inside.ends (c.start_of-start.result + c.args.place) c.args.group c.self.invariant)
 
 pub returns : goal.returns
 returns c =
