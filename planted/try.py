@@ -27,9 +27,9 @@ def uses():
     found = {}
     with open(f"{TOP}/crates.txt", encoding="utf-8") as lines:
         for line in lines:
-            name, colon, words = line.split("#")[0].partition(":")
+            head, colon, words = line.split("#")[0].partition(":")
             if colon:
-                found[name] = words.split()
+                found[head.split()[0]] = words.split()
     return found
 
 
