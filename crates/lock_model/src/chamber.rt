@@ -4,6 +4,7 @@ ghost use Rattle.lock_model.specs.Measures.{measures_of};
 
 use crate::closure::Closures;
 use crate::deck::Measures;
+use crate::limits::CHAMBERS;
 use crate::name::Name;
 use crate::way::Stand;
 use arrayvec::ArrayVec;
@@ -67,7 +68,7 @@ impl Chamber {
 /// Up to four chambers, by their number in the instance.
 #[derive(Debug, PartialEq, Eq, Drop)]
 pub struct Chambers {
-    items: ArrayVec<Chamber, 4>,
+    items: ArrayVec<Chamber, CHAMBERS>,
 }
 
 impl Model for Chambers {
@@ -94,14 +95,14 @@ impl Chambers {
     /// The chambers in order.
     pub fn as_slice(&self) -> &[Chamber]
         ensures value { result.now ≡ self.now }
-        ensures fits { length result.now ≤ 4 }
+        ensures fits { length result.now ≤ CHAMBERS }
     {
         self.items.as_slice()
     }
 
     /// Appends a chamber.
     pub fn push(&mut self, chamber: Chamber)
-        requires { length self.old < 4 }
+        requires { length self.old < CHAMBERS }
         ensures { self.new ≡ self.old ++ chamber ∷ [] }
     {
         self.items.push(chamber);

@@ -2,6 +2,7 @@
 ghost use Rattle.std.specs.Prelude.{◌≡◌, ◌<◌, ◌≤◌, [], ◌∷◌, ◌++◌, length, All};
 ghost use Rattle.lock_model.specs.Closures.{IsClosure, AreClosures};
 
+use crate::limits::CLOSURES;
 use arrayvec::ArrayVec;
 use std::marker::Model;
 
@@ -15,7 +16,7 @@ pub struct Closure {
 /// Up to eight closures by rising minute, none of them empty, no two of which share a minute.
 #[derive(Debug, PartialEq, Eq, Drop)]
 pub struct Closures {
-    items: ArrayVec<Closure, 8>,
+    items: ArrayVec<Closure, CLOSURES>,
 }
 
 impl Model for Closures {
@@ -45,7 +46,7 @@ impl Closures {
     /// The closures by rising minute.
     pub fn as_slice(&self) -> &[Closure]
         ensures value { result.now ≡ self.now }
-        ensures fits { length result.now ≤ 8 }
+        ensures fits { length result.now ≤ CLOSURES }
         ensures kept { AreClosures result.now }
     {
         self.items.as_slice()
@@ -53,7 +54,7 @@ impl Closures {
 
     /// Appends a closure that begins no earlier than those before it end.
     pub fn push(&mut self, closure: Closure)
-        requires room { length self.old < 8 }
+        requires room { length self.old < CLOSURES }
         requires good { IsClosure closure }
         requires later { All (λ k. k.to ≤ closure.from) self.old }
         ensures { self.new ≡ self.old ++ closure ∷ [] }

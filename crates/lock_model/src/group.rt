@@ -4,6 +4,7 @@ ghost use Rattle.std.specs.Cmp.{partial_equiv_from_equiv};
 ghost use Rattle.std.specs.Cmp.Lexicographic.{pointwise, nat_list_eq_equiv};
 ghost use Rattle.std.specs.List.Sorted.{IsStrictlyIncreasing};
 
+use crate::limits::{MOST, SHIPS};
 use crate::way::Way;
 use arrayvec::ArrayVec;
 use std::marker::Model;
@@ -13,18 +14,19 @@ use std::marker::Model;
 pub struct Ships {
     count: u8,
     // the numbers, and then zeros, so that sets are compared as numbers of eight bytes
-    bytes: [u8; 8],
+    bytes: [u8; MOST],
 }
 
 impl Model for Ships {
     ghost use Rattle.std.specs.Prelude.{ℕ, List, ◌≡◌, ◌≤◌, ◌-◌, take, drop, replicate};
     ghost use Rattle.std.specs.List.Sorted.{IsStrictlyIncreasing};
+    ghost use Rattle.lock_model.specs.declared.limits.TheConstants.{MOST};
 
     ghost Value = { List ℕ };
 
     ghost view = { λ a. take a.count a.bytes };
 
-    ghost invariant = { λ a. (a.count ≤ 8) × IsStrictlyIncreasing (take a.count a.bytes) × (drop a.count a.bytes ≡ replicate (8 - a.count) 0) };
+    ghost invariant = { λ a. (a.count ≤ MOST) × IsStrictlyIncreasing (take a.count a.bytes) × (drop a.count a.bytes ≡ replicate (MOST - a.count) 0) };
 }
 
 impl Ships {
@@ -33,7 +35,7 @@ impl Ships {
         ensures { result ≡ [] }
     {
         Ships {
-            bytes: [0; 8],
+            bytes: [0; MOST],
             count: 0,
         }
     }
@@ -50,7 +52,7 @@ impl Ships {
     /// How many ships there are.
     pub fn len(&self) -> usize
         ensures value { result ≡ length self.now }
-        ensures fits { result ≤ 8 }
+        ensures fits { result ≤ MOST }
     {
         self.count as usize
     }
@@ -58,7 +60,7 @@ impl Ships {
     /// The ships in rising order.
     pub fn as_slice(&self) -> &[u8]
         ensures value { result.now ≡ self.now }
-        ensures fits { length result.now ≤ 8 }
+        ensures fits { length result.now ≤ MOST }
         ensures rising { IsStrictlyIncreasing result.now }
     {
         &self.bytes[..self.count as usize]
@@ -66,7 +68,7 @@ impl Ships {
 
     /// Appends a ship that is greater than those before.
     pub fn push(&mut self, ship: u8)
-        requires room { length self.old < 8 }
+        requires room { length self.old < MOST }
         requires rising { All (λ s. s < ship) self.old }
         ensures { self.new ≡ self.old ++ ship ∷ [] }
     {
@@ -94,7 +96,7 @@ impl Default for Ships {
 }
 
 // Whether eight bytes are others.
-fn same_bytes(one: [u8; 8], others: [u8; 8]) -> bool
+fn same_bytes(one: [u8; MOST], others: [u8; MOST]) -> bool
     ensures { result ≡ pointwise nat_eq one others }
 {
     u64::from_le_bytes(one) == u64::from_le_bytes(others)
@@ -150,7 +152,7 @@ impl Default for Group {
 /// Up to 24 groups of one chamber in order of service.
 #[derive(Debug, PartialEq, Eq, Drop)]
 pub struct Line {
-    items: ArrayVec<Group, 24>,
+    items: ArrayVec<Group, SHIPS>,
 }
 
 impl Model for Line {
@@ -177,14 +179,14 @@ impl Line {
     /// The groups in order of service.
     pub fn as_slice(&self) -> &[Group]
         ensures value { result.now ≡ self.now }
-        ensures fits { length result.now ≤ 24 }
+        ensures fits { length result.now ≤ SHIPS }
     {
         self.items.as_slice()
     }
 
     /// Appends a group.
     pub fn push(&mut self, group: Group)
-        requires { length self.old < 24 }
+        requires { length self.old < SHIPS }
         ensures { self.new ≡ self.old ++ group ∷ [] }
     {
         self.items.push(group);
@@ -193,7 +195,7 @@ impl Line {
     /// Puts a group before group `i`, or behind the last one where `i` is their number.
     pub fn insert(&mut self, i: usize, group: Group)
         requires place { i ≤ length self.old }
-        requires room { length self.old < 24 }
+        requires room { length self.old < SHIPS }
         ensures { self.new ≡ insert self.old i group }
     {
         self.items.insert(i, group);

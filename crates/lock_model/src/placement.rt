@@ -4,6 +4,7 @@ ghost use Rattle.lock_model.specs.Deck.{size_at};
 ghost use Rattle.lock_model.specs.Placement.{IsInside, AreApart};
 
 use crate::deck::Deck;
+use crate::limits::MOST;
 use arrayvec::ArrayVec;
 use std::marker::Model;
 
@@ -35,7 +36,7 @@ pub struct Spot {
 /// Up to eight spots, one for each ship of a deck.
 #[derive(Debug, PartialEq, Eq, Drop)]
 pub struct Spots {
-    items: ArrayVec<Spot, 8>,
+    items: ArrayVec<Spot, MOST>,
 }
 
 impl Model for Spots {
@@ -62,14 +63,14 @@ impl Spots {
     /// The spots in order.
     pub fn as_slice(&self) -> &[Spot]
         ensures value { result.now ≡ self.now }
-        ensures fits { length result.now ≤ 8 }
+        ensures fits { length result.now ≤ MOST }
     {
         self.items.as_slice()
     }
 
     /// Appends a spot.
     pub fn push(&mut self, spot: Spot)
-        requires { length self.old < 8 }
+        requires { length self.old < MOST }
         ensures { self.new ≡ self.old ++ spot ∷ [] }
     {
         self.items.push(spot);

@@ -1,6 +1,7 @@
 //! Ships, and the ships of an instance.
 ghost use Rattle.std.specs.Prelude.{◌≡◌, ◌<◌, ◌≤◌, [], ◌∷◌, ◌++◌, length};
 
+use crate::limits::SHIPS;
 use crate::name::Name;
 use crate::way::Way;
 use arrayvec::ArrayVec;
@@ -39,7 +40,7 @@ impl Ship {
 /// Up to 24 ships, by their number in the instance.
 #[derive(Debug, PartialEq, Eq, Drop)]
 pub struct ShipList {
-    items: ArrayVec<Ship, 24>,
+    items: ArrayVec<Ship, SHIPS>,
 }
 
 impl Model for ShipList {
@@ -66,14 +67,14 @@ impl ShipList {
     /// The ships in order.
     pub fn as_slice(&self) -> &[Ship]
         ensures value { result.now ≡ self.now }
-        ensures fits { length result.now ≤ 24 }
+        ensures fits { length result.now ≤ SHIPS }
     {
         self.items.as_slice()
     }
 
     /// Appends a ship.
     pub fn push(&mut self, ship: Ship)
-        requires { length self.old < 24 }
+        requires { length self.old < SHIPS }
         ensures { self.new ≡ self.old ++ ship ∷ [] }
     {
         self.items.push(ship);

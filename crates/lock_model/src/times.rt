@@ -1,13 +1,14 @@
 //! Starts and ends of the groups of a line.
 ghost use Rattle.std.specs.Prelude.{◌≡◌, ◌<◌, ◌≤◌, [], ◌∷◌, ◌++◌, length};
 
+use crate::limits::SHIPS;
 use arrayvec::ArrayVec;
 use std::marker::Model;
 
 /// Up to 24 pairs of a start and an end, in minutes.
 #[derive(Debug, PartialEq, Eq, Drop)]
 pub struct Times {
-    items: ArrayVec<(u64, u64), 24>,
+    items: ArrayVec<(u64, u64), SHIPS>,
 }
 
 impl Model for Times {
@@ -33,14 +34,14 @@ impl Times {
     /// The starts and ends in order.
     pub fn as_slice(&self) -> &[(u64, u64)]
         ensures value { result.now ≡ self.now }
-        ensures fits { length result.now ≤ 24 }
+        ensures fits { length result.now ≤ SHIPS }
     {
         self.items.as_slice()
     }
 
     /// Appends a start and an end.
     pub fn push(&mut self, start: u64, end: u64)
-        requires { length self.old < 24 }
+        requires { length self.old < SHIPS }
         ensures { self.new ≡ self.old ++ (start, end) ∷ [] }
     {
         self.items.push((start, end));

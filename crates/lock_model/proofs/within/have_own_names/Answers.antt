@@ -1,7 +1,7 @@
 use Rattle.std.proofs.Common.{rules, arith, refl}
 use borrow.Author.Count.{below_more}
 use Rattle.lock_model.specs.Limits.{HasNewName}
-use Rattle.lock_model.proofs.limits.have_own_names.Goals as goal
+use Rattle.lock_model.proofs.within.have_own_names.Goals as goal
 
 pub loop-i-preserved : goal.loop-i-preserved
 loop-i-preserved g c =
