@@ -65,7 +65,7 @@ impl Chamber {
     }
 }
 
-/// Up to four chambers, by their number in the instance.
+/// Up to `CHAMBERS` chambers, by their number in the instance.
 #[derive(Debug, PartialEq, Eq, Drop)]
 pub struct Chambers {
     items: ArrayVec<Chamber, CHAMBERS>,

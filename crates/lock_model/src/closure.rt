@@ -13,7 +13,7 @@ pub struct Closure {
     pub to: u32,
 }
 
-/// Up to eight closures by rising minute, none of them empty, no two of which share a minute.
+/// Up to `CLOSURES` closures by rising minute, none of them empty, no two of which share a minute.
 #[derive(Debug, PartialEq, Eq, Drop)]
 pub struct Closures {
     items: ArrayVec<Closure, CLOSURES>,

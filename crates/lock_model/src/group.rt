@@ -9,7 +9,7 @@ use crate::way::Way;
 use arrayvec::ArrayVec;
 use std::marker::Model;
 
-/// Up to eight ship numbers, rising.
+/// Up to `MOST` ship numbers, rising.
 #[derive(Debug, Drop)]
 pub struct Ships {
     count: u8,
@@ -149,7 +149,7 @@ impl Default for Group {
     }
 }
 
-/// Up to 24 groups of one chamber in order of service.
+/// Up to `SHIPS` groups of one chamber in order of service.
 #[derive(Debug, PartialEq, Eq, Drop)]
 pub struct Line {
     items: ArrayVec<Group, SHIPS>,

@@ -33,7 +33,7 @@ pub struct Spot {
     pub moor: Moor,
 }
 
-/// Up to eight spots, one for each ship of a deck.
+/// Up to `MOST` spots, one for each ship of a deck.
 #[derive(Debug, PartialEq, Eq, Drop)]
 pub struct Spots {
     items: ArrayVec<Spot, MOST>,

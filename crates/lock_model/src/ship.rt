@@ -37,7 +37,7 @@ impl Ship {
     }
 }
 
-/// Up to 24 ships, by their number in the instance.
+/// Up to `SHIPS` ships, by their number in the instance.
 #[derive(Debug, PartialEq, Eq, Drop)]
 pub struct ShipList {
     items: ArrayVec<Ship, SHIPS>,

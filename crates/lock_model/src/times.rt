@@ -5,7 +5,7 @@ use crate::limits::SHIPS;
 use arrayvec::ArrayVec;
 use std::marker::Model;
 
-/// Up to 24 pairs of a start and an end, in minutes.
+/// Up to `SHIPS` pairs of a start and an end, in minutes.
 #[derive(Debug, PartialEq, Eq, Drop)]
 pub struct Times {
     items: ArrayVec<(u64, u64), SHIPS>,
