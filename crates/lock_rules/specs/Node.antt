@@ -1,6 +1,7 @@
 -- Nodes of the search tree: lists of groups, one for each chamber.
-use Rattle.std.specs.Prelude.{ℕ, ◌≡◌, ◌+◌, ◌≤◌, ◌<◌, List, [], ◌∷◌, length, slice_index_or, All}
+use Rattle.std.specs.Prelude.{ℕ, ◌≡◌, ◌+◌, ◌≤◌, ◌<◌, List, [], ◌∷◌, length, replicate, slice_index_or, All}
 use Rattle.std.specs.List.Sorted.{IsStrictlyIncreasing}
+use Rattle.lock_model.specs.declared.limits.TheConstants.{CHAMBERS}
 use Rattle.lock_model.specs.Limits.{Within}
 use Rattle.lock_model.specs.Fleet.{ship_at, chamber_at}
 use Rattle.lock_model.specs.declared.instance.Instance.{Instance}
@@ -30,9 +31,9 @@ abbrev pub size_held : List (List Group) → ℕ
 size_held [] = 0
 size_held (line ∷ lines) = size_on line + size_held lines
 
--- what the type of nodes keeps: four lines, no empty group, no ship twice, k ships together
+-- what the type of nodes keeps: a line for each chamber there may be, no empty group, no ship twice, k ships together
 pub record KeepsNode (k : ℕ) (lines : List (List Group)) : Type 0 where
-  pub four : length lines ≡ 4
+  pub four : length lines ≡ CHAMBERS
   pub some : All (All (λ g. 1 ≤ length g.ships)) lines
   pub once : (s : ℕ) → times_held s lines ≤ 1
   pub depth : size_held lines ≡ k
@@ -45,7 +46,7 @@ pub record IsNodeGroup (I : Instance) (c : ℕ) (g : Group) : Type 0 where
 
 -- A node of the instance: the first k ships, each once, in groups that their chambers may serve; no group past the last chamber.
 pub record IsNode (I : Instance) (k : ℕ) (lines : List (List Group)) : Type 0 where
-  pub four : length lines ≡ 4
+  pub four : length lines ≡ CHAMBERS
   pub depth : k ≤ length I.ships
   pub held : (s : ℕ) → times_held s lines ≡ times_in (first_ships I k) s
   pub groups : (c : ℕ) → c < length I.chambers → All (IsNodeGroup I c) (line_at lines c)
@@ -58,7 +59,7 @@ pub record Node : Type 0 where
 
 -- the node of depth 0
 abbrev pub root_lines : List (List Group)
-root_lines = [] ∷ [] ∷ [] ∷ [] ∷ []
+root_lines = replicate CHAMBERS []
 
 abbrev pub root : Node
 root = record { depth = 0; lines = root_lines }
