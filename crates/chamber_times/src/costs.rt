@@ -5,7 +5,7 @@ ghost use Rattle.lock_rules.specs.Lines.{end_of};
 ghost use Rattle.lock_rules.specs.Plan.{flow_in, cost_of};
 
 use crate::service::duration;
-use lock_model::{Instance, Lockage, Plan, Ships};
+use lock_model::{Instance, Lockage, MOST, Plan, Ships};
 
 /// The minute at which a lockage ends.
 #[inline]
@@ -25,7 +25,7 @@ pub fn flow_until(instance: &Instance, ships: &Ships, end: u64) -> u64
     requires ships_in { All (λ s. s < length instance.now.ships) ships.now }
     requires end_small { end ≤ 2 ^ 60 }
     ensures value { result ≡ sum_by (λ s. end - (ship_at instance.now s).arrival) ships.now }
-    ensures small { result ≤ 8 * end }
+    ensures small { result ≤ MOST * end }
 {
     let mut sum = 0;
     for &ship in ships.as_slice() {

@@ -4,13 +4,13 @@ ghost use Rattle.lock_rules.specs.Lawful.{AreEarliest};
 ghost use Rattle.lock_rules.specs.Timetable.{timetable_of, starts_of};
 
 use crate::service::{group_times, stand_after};
-use lock_model::{Group, Instance, Times};
+use lock_model::{Group, Instance, SHIPS, Times};
 
 /// The start and the end of each group of a chamber's line, as early as they can be: the starts
 /// are lawful, and in every lawful list each start is at least as large.
 pub fn earliest(instance: &Instance, chamber: u8, line: &[Group]) -> Times
     requires chamber_in { chamber < length instance.now.chambers }
-    requires few { length line.now ≤ 24 }
+    requires few { length line.now ≤ SHIPS }
     requires ships_in { All (λ g. All (λ s. s < length instance.now.ships) g.ships) line.now }
     ensures table { result ≡ timetable_of instance.now chamber line.now }
     ensures starts { AreEarliest instance.now chamber line.now (starts_of result) }
