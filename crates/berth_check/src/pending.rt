@@ -7,7 +7,7 @@ ghost use Rattle.berth_check.specs.Pending.{extensions, host_cases, IsAdvanced};
 
 use crate::case::{BerthCase, Pick};
 use lock_model::{Deck, Moor, Rank};
-use plain_text::NoMemory;
+use no_memory::NoMemory;
 use std::alloc::Global;
 use std::marker::Model;
 

@@ -9,7 +9,7 @@ ghost use Rattle.berth_check.specs.Pending.{IsReadingStep};
 use crate::front::{Front, front_at};
 use crate::pending::{Pending, push_berths, push_orders};
 use lock_model::Deck;
-use plain_text::NoMemory;
+use no_memory::NoMemory;
 use std::alloc::Global;
 
 // Reads what stands at a place of the marks, and tells where it ends.

@@ -11,7 +11,7 @@ use crate::search::{Search, Visit, close, try_option};
 use berth_check::{BerthCase, Pick, berth_of, length_of};
 use case_search::berth_option;
 use lock_model::Deck;
-use plain_text::NoMemory;
+use no_memory::NoMemory;
 use refute_rules::Marks;
 use std::alloc::AllocError;
 

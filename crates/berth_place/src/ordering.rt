@@ -16,7 +16,7 @@ use crate::spotting::{spots_of, whole_fault};
 use berth_check::Pick;
 use diff_system::{LongestPaths, Numbers};
 use lock_model::Deck;
-use plain_text::NoMemory;
+use no_memory::NoMemory;
 use refute_rules::Marks;
 use std::alloc::AllocError;
 

@@ -5,7 +5,7 @@ ghost use Rattle.berth_place.specs.Placing.{IsBerthPlaced, RefutesSoundly};
 use crate::deciding::decide;
 use crate::search::{Visit, begin};
 use lock_model::{Deck, Spots};
-use plain_text::NoMemory;
+use no_memory::NoMemory;
 use refute_rules::Marks;
 use std::alloc::Global;
 

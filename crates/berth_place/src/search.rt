@@ -8,7 +8,7 @@ use crate::faults::{BerthFault, write_fault};
 use berth_check::BerthCase;
 use diff_system::Edges;
 use lock_model::{Deck, Spots};
-use plain_text::NoMemory;
+use no_memory::NoMemory;
 use refute_rules::Marks;
 use std::alloc::Global;
 

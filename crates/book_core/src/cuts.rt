@@ -3,8 +3,8 @@ ghost use Rattle.std.specs.Prelude.{◌≡◌, ◌++◌, ◌∷◌, [], length, 
 ghost use Rattle.book_rules.specs.Shown.{are_first_cuts};
 ghost use Rattle.book_core.specs.Telling.{told_cut};
 
+use no_memory::NoMemory;
 use place_refute::Cut;
-use plain_text::NoMemory;
 use price_bound::{ChamberCut, same_cuts};
 use std::alloc::Global;
 use std::marker::Model;

@@ -3,7 +3,7 @@ ghost use Rattle.std.specs.Prelude.{◌≡◌, ◌+◌, ◌*◌, ◌≤◌, ◌<
 
 use crate::book::Book;
 use book_rules::Entry;
-use plain_text::NoMemory;
+use no_memory::NoMemory;
 
 // Room for so many entries of the history.
 pub(crate) fn widen(history: &mut Vec<Entry>, needed: usize) -> Result<(), NoMemory>

@@ -15,7 +15,7 @@ use chamber_times::cost;
 use flow_bounds::{Roster, bound, throughput};
 use lock_model::{Instance, Plan};
 use master_branch::root;
-use plain_text::NoMemory;
+use no_memory::NoMemory;
 use std::alloc::Global;
 
 // The slot of the root: closed where its bound is at least this cost.

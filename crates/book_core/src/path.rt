@@ -13,7 +13,7 @@ use crate::stored_slot::StoredSlot;
 use flow_bounds::Roster;
 use lock_model::Instance;
 use master_branch::{Node, descend, root};
-use plain_text::NoMemory;
+use no_memory::NoMemory;
 use std::alloc::Global;
 
 // A slot and its node.

@@ -15,8 +15,8 @@ use crate::reply::Reply;
 use book_rules::Entry;
 use lock_model::{Instance, deck_of};
 use mooring_rules::has_ships;
+use no_memory::NoMemory;
 use place_refute::Cut;
-use plain_text::NoMemory;
 
 // Whether the instance has all ships of a cut.
 fn has_its_ships(instance: &Instance, cut: &Cut) -> bool

@@ -10,7 +10,7 @@ use crate::book::Book;
 use crate::growing::make_room;
 use crate::reply::Reply;
 use book_rules::Entry;
-use plain_text::NoMemory;
+use no_memory::NoMemory;
 use price_bound::Prices;
 
 // How many prices these are, and what their type keeps.

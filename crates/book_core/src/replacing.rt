@@ -18,7 +18,7 @@ use book_rules::{Entry, SlotState};
 use closing_rules::Ground;
 use lock_model::Plan;
 use mooring_rules::judge_plan;
-use plain_text::NoMemory;
+use no_memory::NoMemory;
 
 // Whether a slot in this state is fresh, returned or parked.
 fn may_be_outdone(state: SlotState) -> bool

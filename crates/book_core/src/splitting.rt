@@ -16,7 +16,7 @@ use crate::stored_slot::StoredSlot;
 use crate::waiting::Waiting;
 use book_rules::{Entry, SlotState};
 use closing_rules::Ground;
-use plain_text::NoMemory;
+use no_memory::NoMemory;
 
 // The slot of a child: closed where its bound is at least the best cost.
 pub(crate) fn stored_child(parent: u32, number: u8, bound: u64, cost: u64) -> StoredSlot

@@ -1,12 +1,12 @@
 //! Locks of two ships, their plans, their books and a cut.
 
 use book_core::{Book, Case, open_book};
-use first_plan::{first_unfit, singles_plan};
+use first_plan::singles_plan;
 use lock_model::{
     Chambers, Instance, Lockage, Lockages, Measures, Moor, Plan, Rank, ShipList, Ships, Spot,
     Spots, Way,
 };
-use mooring_rules::judge_plan;
+use mooring_rules::{first_unfit, judge_plan};
 use place_refute::{Cut, Quick, Refutation, make_cut};
 use std::alloc::Global;
 use std::test::Fail;

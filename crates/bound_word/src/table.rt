@@ -6,7 +6,7 @@ use crate::seat::BoundSeat;
 use crate::steps::{BoundRule, CountStep, JoinStep, LoadStep, LowerStep, SplitStep};
 use crate::view::{Opening, View};
 use atomic_table::Table;
-use plain_text::NoMemory;
+use no_memory::NoMemory;
 use std::alloc::Global;
 use std::marker::Model;
 

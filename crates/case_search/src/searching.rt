@@ -4,7 +4,7 @@ ghost use Rattle.case_search.specs.Found.{IsFound};
 
 use crate::tracks::Track;
 use crate::visits::{Visit, explore};
-use plain_text::NoMemory;
+use no_memory::NoMemory;
 use refute_rules::Marks;
 use std::alloc::Global;
 

@@ -4,7 +4,7 @@ ghost use Rattle.case_search.specs.Rules.{IsReached};
 ghost use Rattle.case_search.specs.Visits.{IsVisit};
 
 use crate::tracks::Track;
-use plain_text::NoMemory;
+use no_memory::NoMemory;
 use refute_rules::Marks;
 
 /// What a visit ends with.

@@ -22,7 +22,7 @@ use flow_bounds::{Roster, throughput};
 use lock_model::{Instance, Plan};
 use master_branch::root;
 use mooring_rules::judge_plan;
-use plain_text::NoMemory;
+use no_memory::NoMemory;
 use price_bound::Prices;
 use std::alloc::Global;
 

@@ -19,7 +19,7 @@ use closing_rules::Ground;
 use flow_bounds::{Roster, bound, children_reaching, is_missing, probe};
 use lock_model::Instance;
 use master_branch::{Node, steps_by};
-use plain_text::NoMemory;
+use no_memory::NoMemory;
 use price_bound::{ChamberCut, Limits, PricedNode, Prices, reaches};
 
 /// What the marks of a certificate are held against: the instance, its roster and its throughput, and

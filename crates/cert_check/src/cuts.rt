@@ -8,8 +8,8 @@ use crate::certificate::CertCut;
 use certificate_rules::Reason;
 use lock_model::{Instance, deck_of};
 use mooring_rules::has_ships;
+use no_memory::NoMemory;
 use place_refute::check_refutation;
-use plain_text::NoMemory;
 use std::alloc::Global;
 
 // Whether the cut names a chamber and one or more ships of the instance.

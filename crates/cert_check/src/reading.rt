@@ -11,7 +11,7 @@ use certificate_rules::{Mark, Reason};
 use closing_rules::Ground;
 use lock_model::Instance;
 use master_branch::Node;
-use plain_text::NoMemory;
+use no_memory::NoMemory;
 
 // Where reading ends before its time: the marks that are left there, and why.
 #[derive(Drop)]

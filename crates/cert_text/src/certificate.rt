@@ -24,7 +24,7 @@ use crate::value::has_members;
 use crate::version::{has_outside, is_third};
 use cert_check::{CertCuts, Certificate};
 use lock_model::Plan;
-use plain_text::NoMemory;
+use no_memory::NoMemory;
 use serde_json::Value;
 use std::alloc::Global;
 

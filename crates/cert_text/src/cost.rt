@@ -5,7 +5,7 @@ ghost use Rattle.cert_text.specs.Cost.{cost_data, cost_in};
 ghost use Rattle.cert_text.specs.declared.bad.BadDossier.TheVariants.{Shape};
 
 use crate::bad::BadDossier;
-use plain_text::NoMemory;
+use no_memory::NoMemory;
 use serde_json::Value;
 
 /// The cost, in minutes, as a value that `cost_of` reads back. `specs/Cost` says which value it

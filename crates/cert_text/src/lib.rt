@@ -42,7 +42,6 @@ pub use cost::{cost_of, put_cost};
 pub use cuts::{cuts_of, put_cuts};
 pub use heading::{Form, Heading, Version, headed};
 pub use parts::{Parts, put_parts};
-pub use plain_text::NoMemory;
 pub use plan::{plan_of, put_plan};
 pub use prices::prices_at;
 pub use print::{print_dossier, print_framed};

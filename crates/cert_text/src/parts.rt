@@ -15,7 +15,7 @@ use crate::plan::put_plan;
 use crate::prices::put_prices;
 use cert_check::CertCuts;
 use lock_model::Plan;
-use plain_text::NoMemory;
+use no_memory::NoMemory;
 use price_bound::Prices;
 use serde_json::{Map, Value};
 use std::alloc::Global;

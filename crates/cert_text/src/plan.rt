@@ -11,7 +11,7 @@ use crate::crew::{put_ships, ships_at};
 use crate::spots::{put_spots, spots_in};
 use crate::value::{chamber_at, has_members, put_byte, put_word, word_in};
 use lock_model::{Lockage, Lockages, Plan, Spots, Way};
-use plain_text::NoMemory;
+use no_memory::NoMemory;
 use serde_json::{Map, Value};
 use std::alloc::{AllocError, Global};
 

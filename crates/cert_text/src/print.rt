@@ -13,7 +13,8 @@ use crate::version::version_of;
 use cert_check::Certificate;
 use instance_text::print_instance;
 use lock_model::Instance;
-use plain_text::{NoMemory, put};
+use no_memory::NoMemory;
+use plain_text::put;
 use serde_json::Value;
 use std::alloc::Global;
 

@@ -12,8 +12,8 @@ use crate::names::ship_count;
 use crate::parts::{all_places, part_of, ships_at, without};
 use crate::placing::{Placed, place};
 use lock_model::{Deck, Ships};
+use no_memory::NoMemory;
 use place_refute::{Cut, known_cut};
-use plain_text::NoMemory;
 use refute_rules::{Quick, Refutation};
 use std::alloc::Global;
 

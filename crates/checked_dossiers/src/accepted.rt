@@ -10,9 +10,9 @@ ghost use Rattle.checked_dossiers.specs.Accepted.{IsAccepted, IsNotAccepted};
 use crate::refusals::{fault_answer, rejected_answer, unfit_answer};
 use cert_check::{Answer as Checked, Certificate, check};
 use cert_text::{DossierError, read_dossier};
-use first_plan::first_unfit;
 use lock_model::Instance;
-use plain_text::NoMemory;
+use mooring_rules::first_unfit;
+use no_memory::NoMemory;
 use run_answers::{Answer, Status, no_memory};
 use std::alloc::Global;
 

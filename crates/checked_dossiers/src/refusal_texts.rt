@@ -6,7 +6,8 @@ ghost use Rattle.cert_text.specs.declared.bad.BadDossier.TheVariants.{Instance a
 use cert_check::{FailurePlace, Reason};
 use cert_text::BadDossier;
 use instance_text::Bad;
-use plain_text::{NoMemory, put, put_number};
+use no_memory::NoMemory;
+use plain_text::{put, put_number};
 use run_answers::put_defect;
 use std::alloc::Global;
 

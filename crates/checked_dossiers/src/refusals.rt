@@ -8,7 +8,7 @@ use crate::refusal_texts::{fault_text, rejected_text};
 use cert_check::{FailurePlace, Reason};
 use cert_text::BadDossier;
 use lock_model::Instance;
-use plain_text::NoMemory;
+use no_memory::NoMemory;
 use run_answers::{Answer, Status, Text, no_memory, unfit_text};
 use std::alloc::Global;
 

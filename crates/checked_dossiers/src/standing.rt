@@ -8,9 +8,9 @@ ghost use Rattle.run_answers.specs.Written.{bytes_in};
 ghost use Rattle.checked_dossiers.specs.Standing.{IsStanding, HasLow, IsNoStanding};
 
 use crate::refusals::{fault_answer, rejected_answer, unfit_answer};
-use first_plan::first_unfit;
 use lock_model::Instance;
-use plain_text::NoMemory;
+use mooring_rules::first_unfit;
+use no_memory::NoMemory;
 use resume_book::{DossierError, OpenAnswer, OpenCertificate, check_open, read_open};
 use run_answers::{Answer, Status, no_memory};
 use std::alloc::Global;

@@ -7,7 +7,7 @@ ghost use Rattle.deck_laws.specs.Laws.{HoldNormalPlaces};
 use crate::reach::reach_next;
 use crate::spot_list::SpotList;
 use lock_model::Deck;
-use plain_text::NoMemory;
+use no_memory::NoMemory;
 use std::alloc::{AllocError, Global};
 
 // The length of the shortest ship.

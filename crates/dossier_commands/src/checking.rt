@@ -9,7 +9,7 @@ ghost use Rattle.dossier_commands.specs.Checking.{AnswersCheck};
 use crate::dossier_texts::accepted_text;
 use checked_dossiers::{AcceptedDossier, Certificate, DOSSIER_LIMIT, read_accepted};
 use lock_io::Source;
-use plain_text::NoMemory;
+use no_memory::NoMemory;
 use run_answers::{Answer, Status, Text, no_memory, read_source};
 use std::alloc::Global;
 

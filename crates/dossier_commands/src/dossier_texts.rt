@@ -2,7 +2,8 @@
 ghost use Rattle.std.specs.Prelude.{◌≡◌, IfOk};
 ghost use Rattle.dossier_commands.specs.DossierTexts.{accepted_text, lower_text};
 
-use plain_text::{NoMemory, put, put_number};
+use no_memory::NoMemory;
+use plain_text::{put, put_number};
 use std::alloc::Global;
 
 /// That a certificate of this cost is accepted.

@@ -9,7 +9,7 @@ ghost use Rattle.dossier_commands.specs.Lowering.{AnswersLower};
 use crate::dossier_texts::lower_text;
 use checked_dossiers::{DOSSIER_LIMIT, OpenCertificate, StandingDossier, read_standing};
 use lock_io::Source;
-use plain_text::NoMemory;
+use no_memory::NoMemory;
 use run_answers::{Answer, Status, Text, no_memory, read_source};
 use std::alloc::Global;
 

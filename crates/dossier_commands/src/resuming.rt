@@ -19,8 +19,8 @@ use checked_dossiers::{DOSSIER_LIMIT, OpenCertificate, StandingDossier, read_sta
 use command_words::SolveOptions;
 use lock_io::{Gate, Source};
 use lock_model::{Instance, deck_of};
+use no_memory::NoMemory;
 use place_refute::{Cut, known_cut};
-use plain_text::NoMemory;
 use resume_book::prior;
 use run_answers::{Answer, no_memory, read_source};
 use solve_commands::best_answer;

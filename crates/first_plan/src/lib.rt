@@ -2,8 +2,7 @@
 //! lockages merged as long as that lowers the cost.
 //!
 //! `first_plan` is legal, and costs at most what the singles plan costs. `singles_plan` is the plan
-//! before the merges, and `first_unfit` names the first ship that fits no chamber; these two take no
-//! memory.
+//! before the merges, which takes no memory.
 //!
 //! Definitions: `lock_rules` says which ship is the first unfit one (`specs/Unfit`) and what the
 //! singles plan and its cost are (`specs/Singles`); here `specs/Merging` (plans that cost less).
@@ -15,7 +14,5 @@ mod merging;
 mod opening;
 mod singles;
 mod standing;
-mod unfit;
 
 pub use opening::{FirstError, first_plan, singles_plan};
-pub use unfit::first_unfit;

@@ -9,7 +9,7 @@ use chamber_place::{Placed, place};
 use chamber_times::{cost, earliest, flow_time, flow_until};
 use lock_model::{Deck, Group, Instance, Plan, Ships, Spots, deck_of};
 use mooring_rules::{first_clash, judge_plan};
-use plain_text::NoMemory;
+use no_memory::NoMemory;
 use std::alloc::Global;
 
 // The flow times of a line's ships in its earliest timetable, added.

@@ -7,10 +7,10 @@ ghost use Rattle.first_plan.specs.Merging.{IsAtMost, IsRefusal};
 
 use crate::merging::merged;
 use crate::singles::singles_in;
-use crate::unfit::first_unfit;
 use lock_model::{Instance, Plan};
 use master_branch::arrival_order;
-use plain_text::NoMemory;
+use mooring_rules::first_unfit;
+use no_memory::NoMemory;
 use std::alloc::Global;
 
 /// Why there is no opening plan.

@@ -3,7 +3,8 @@ ghost use Rattle.std.specs.Prelude.{◌≡◌, ◌++◌, OnOk};
 ghost use Rattle.std.specs.List.{flat_map};
 ghost use Rattle.instance_text.specs.Canonical.{field};
 
-use plain_text::{NoMemory, put, put_number};
+use no_memory::NoMemory;
+use plain_text::{put, put_number};
 
 /// Appends a space and a number, or answers want of memory.
 #[tactic(auto, unfolding(crate::specs::Canonical::field))]

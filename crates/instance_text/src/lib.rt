@@ -30,7 +30,6 @@ mod side;
 
 pub use bad::{Bad, Kind};
 pub use lot::make_lot;
-pub use plain_text::NoMemory;
 pub use print::{print_instance, stand_word, way_word};
 pub use read::{after_instance, read_instance, read_instance_part, split_instance};
 pub use side::way_of;

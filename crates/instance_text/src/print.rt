@@ -9,7 +9,8 @@ ghost use Rattle.lock_model.specs.declared.ship.Ship.{Ship as AnyShip};
 
 use crate::append::{put_field, put_fields};
 use lock_model::{Chamber, Closure, Instance, Ship, Stand, Way};
-use plain_text::{NoMemory, put};
+use no_memory::NoMemory;
+use plain_text::put;
 use std::alloc::Global;
 
 /// The word for a way: `up` or `down`.

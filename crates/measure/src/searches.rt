@@ -1,8 +1,8 @@
 //! A search whose nodes and events are counted.
 use book_core::{Book, Case};
-use first_plan::first_unfit;
 use instance_text::make_lot;
 use lock_io::OpenGate;
+use mooring_rules::first_unfit;
 use solve_workers::solve;
 use std::alloc::Global;
 use std::sync::Wait;

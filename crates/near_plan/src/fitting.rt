@@ -4,7 +4,7 @@ ghost use Rattle.lock_model.specs.declared.instance.Instance.{Instance as AnyIns
 
 use crate::known::are_known;
 use lock_model::{Instance, Ships, Spots};
-use plain_text::NoMemory;
+use no_memory::NoMemory;
 
 /// Who says whether ships fit a chamber.
 pub trait Fitting {

@@ -6,7 +6,7 @@ use crate::fitting::{Fitting, fits};
 use crate::row::Row;
 use crate::sets::without;
 use lock_model::{Group, Instance, Ships};
-use plain_text::NoMemory;
+use no_memory::NoMemory;
 use price_bound::LooseLines;
 
 // The ships of a group that the draft lacks.

@@ -9,7 +9,7 @@ use crate::plan::plan_of;
 use crate::putting::{Trial, put};
 use lock_model::{Instance, Plan};
 use master_branch::arrival_order;
-use plain_text::NoMemory;
+use no_memory::NoMemory;
 use price_bound::LooseLines;
 use std::alloc::Global;
 

@@ -9,7 +9,7 @@ use crate::known::are_known;
 use chamber_times::{cost, earliest};
 use lock_model::{Group, Instance, Lockage, Lockages, Plan};
 use mooring_rules::judge_plan;
-use plain_text::NoMemory;
+use no_memory::NoMemory;
 
 // Whether all groups are of the instance.
 fn are_all_known(instance: &Instance, chamber: u8, groups: &[Group]) -> bool

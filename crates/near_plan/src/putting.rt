@@ -7,7 +7,7 @@ use crate::fitting::{Fitting, fits};
 use crate::lines::{Place, group_with, line_with};
 use crate::row::Row;
 use lock_model::Instance;
-use plain_text::NoMemory;
+use no_memory::NoMemory;
 
 /// A chamber and a place in its line for a ship, and the flow times of the draft with it, in minutes.
 #[derive(Clone, Copy, Debug, PartialEq, Eq)]

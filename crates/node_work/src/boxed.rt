@@ -1,7 +1,7 @@
 //! Boxes.
 ghost use Rattle.std.specs.Prelude.{◌≡◌, IfOk};
 
-use plain_text::NoMemory;
+use no_memory::NoMemory;
 use std::alloc::Global;
 
 /// A value in a box. Its only refusal is want of memory.

@@ -13,9 +13,9 @@ use crate::settling::Settled;
 use closing_rules::Ground;
 use lock_model::{Instance, Ships};
 use master_branch::Node;
+use no_memory::NoMemory;
 use place_refute::{Cut, Hard};
 use placed_groups::{Memory, Said};
-use plain_text::NoMemory;
 use std::alloc::Global;
 
 /// The fate of a node that a new cut hits.

@@ -14,8 +14,8 @@ use crate::search::Search;
 use book_core::Probed;
 use closing_rules::Ground;
 use master_branch::Node;
+use no_memory::NoMemory;
 use placed_groups::Memory;
-use plain_text::NoMemory;
 use std::alloc::Global;
 
 /// The ground on which a node of this bound is closed at once, if there is one: its bound or the

@@ -11,9 +11,9 @@ use crate::search::Search;
 use crate::settling::{Settled, settle};
 use lock_model::{Deck, Instance, Ships, Spots, deck_of};
 use mooring_rules::{first_clash, judge_spots};
+use no_memory::NoMemory;
 use place_refute::{Hard, HardSpots, hard, hard_spots};
 use placed_groups::{Memory, Said};
-use plain_text::NoMemory;
 use std::alloc::Global;
 
 // Whether two decks are the same.

@@ -17,8 +17,8 @@ use crate::search::Search;
 use crate::settling::Settled;
 use closing_rules::Ground;
 use master_branch::Node;
+use no_memory::NoMemory;
 use placed_groups::Memory;
-use plain_text::NoMemory;
 use std::alloc::Global;
 
 /// The line of a chamber of a node.

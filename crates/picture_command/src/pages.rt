@@ -8,7 +8,8 @@ ghost use Rattle.picture_command.specs.Pictures.{TellsPicture};
 
 use day_play::{Day, Played, play};
 use lock_model::{Instance, Plan};
-use picture_page::{Clock, Known, NoMemory, print_picture};
+use no_memory::NoMemory;
+use picture_page::{Clock, Known, print_picture};
 use run_answers::{Answer, Status, Text, no_memory};
 use std::alloc::Global;
 

@@ -3,7 +3,8 @@ ghost use Rattle.std.specs.Prelude.{◌≡◌, ◌<◌, ◌++◌, length, All, O
 ghost use Rattle.picture_page.specs.Berths.{ship_of, spot_of, moor_text, berth_text};
 
 use lock_model::{Instance, Lockage, Moor, Ship, Spot};
-use plain_text::{NoMemory, put};
+use no_memory::NoMemory;
+use plain_text::put;
 use plan_print::rank_word;
 
 /// The number of the ship at a place, or 0 where the lockage has none there.

@@ -17,7 +17,8 @@ use crate::words::{put_measures, put_metres};
 use crate::writing::put_writing;
 use instance_text::way_word;
 use lock_model::{Chamber, Instance, Lockage, Plan, Ship};
-use plain_text::{NoMemory, put};
+use no_memory::NoMemory;
+use plain_text::put;
 
 /// Appends the number, the way and the chamber's name of a passage.
 #[tactic(auto, unfolding(crate::specs::Cards::head_words))]

@@ -2,7 +2,8 @@
 ghost use Rattle.std.specs.Prelude.{[], ◌≡◌, ◌++◌, OnOk};
 ghost use Rattle.picture_page.specs.Forms.{filled};
 
-use plain_text::{NoMemory, put, put_number};
+use no_memory::NoMemory;
+use plain_text::{put, put_number};
 
 /// Appends a text with these numbers in decimal, one after the other, in the places of its `%`
 /// signs. Signs without a number stay, and numbers without a sign are left out.

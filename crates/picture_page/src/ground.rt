@@ -8,7 +8,8 @@ use crate::form::put_form;
 use crate::passage::Passage;
 use crate::times::{Clock, put_time};
 use lock_model::{Closure, Closures};
-use plain_text::{NoMemory, put};
+use no_memory::NoMemory;
+use plain_text::put;
 
 /// Appends from when to when it is.
 #[tactic(auto, unfolding(crate::specs::Ground::span_text))]

@@ -7,7 +7,8 @@ use crate::style::put_style;
 use crate::times::{Clock, put_time};
 use crate::words::put_count;
 use lock_model::Instance;
-use plain_text::{NoMemory, put};
+use no_memory::NoMemory;
+use plain_text::put;
 
 /// What is known of a plan.
 #[derive(Clone, Copy, Debug, PartialEq, Eq)]

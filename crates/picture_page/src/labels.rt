@@ -9,7 +9,8 @@ use crate::shapes::put_arrow_at;
 use crate::stretch::{Stretch, stretch_of};
 use crate::times::{put_time, time_width};
 use lock_model::Way;
-use plain_text::{NoMemory, put};
+use no_memory::NoMemory;
+use plain_text::put;
 
 /// How the label of a passage stands.
 #[derive(Clone, Copy)]

@@ -17,7 +17,8 @@ use crate::water::put_water;
 use crate::words::{put_count, put_measures, put_plural};
 use instance_text::{stand_word, way_word};
 use lock_model::{Chamber, Closures, Instance};
-use plain_text::{NoMemory, put, put_number};
+use no_memory::NoMemory;
+use plain_text::{put, put_number};
 use std::alloc::Global;
 
 /// Appends the axis in the head of a table.

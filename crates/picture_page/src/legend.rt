@@ -6,7 +6,8 @@ use crate::axis::Axis;
 use crate::form::put_form;
 use crate::shapes::put_passage_box;
 use lock_model::{Chamber, Closure, Instance, Ship, Way};
-use plain_text::{NoMemory, put};
+use no_memory::NoMemory;
+use plain_text::put;
 
 /// Appends the beginning of an entry with a picture so wide.
 #[tactic(auto, unfolding(crate::specs::Legend::entry))]

@@ -52,5 +52,4 @@ mod writing;
 
 pub use heads::Known;
 pub use page::print_picture;
-pub use plain_text::NoMemory;
 pub use times::Clock;

@@ -8,7 +8,7 @@ use crate::hulls::{Hull, hull_of};
 use crate::scales::DeckScale;
 use crate::words::put_measures;
 use lock_model::{Instance, Lockage, Way};
-use plain_text::NoMemory;
+use no_memory::NoMemory;
 
 /// Appends the outline of a hull, which is bound this way.
 #[tactic(auto, unfolding(crate::specs::Hulls::outline))]

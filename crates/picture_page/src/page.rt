@@ -22,7 +22,7 @@ use crate::words::put_plural;
 use chamber_times::cost;
 use day_play::Beat;
 use lock_model::{Instance, Plan};
-use plain_text::NoMemory;
+use no_memory::NoMemory;
 use std::alloc::Global;
 
 /// Appends the chambers and the ships along one axis.

@@ -4,7 +4,8 @@ ghost use Rattle.picture_page.specs.Shapes.{arrow, arrow_at, cargo_mark, passage
 
 use crate::form::put_form;
 use lock_model::Way;
-use plain_text::{NoMemory, put};
+use no_memory::NoMemory;
+use plain_text::put;
 
 /// Appends an arrow that says a way, as a picture of its own.
 #[tactic(auto, unfolding(crate::specs::Shapes::arrow))]

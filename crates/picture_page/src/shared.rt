@@ -7,7 +7,8 @@ use crate::axis::Axis;
 use crate::form::put_form;
 use crate::ticks::Tick;
 use crate::times::{Clock, put_time};
-use plain_text::{NoMemory, put};
+use no_memory::NoMemory;
+use plain_text::put;
 
 /// Appends the arrows and the mark of cargo.
 #[tactic(auto, unfolding(crate::specs::Shared::signs))]

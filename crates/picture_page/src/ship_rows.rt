@@ -15,7 +15,8 @@ use crate::words::{put_count, put_plural};
 use instance_text::way_word;
 use lock_model::{Instance, Ship};
 use master_branch::arrival_order;
-use plain_text::{NoMemory, put, put_number};
+use no_memory::NoMemory;
+use plain_text::{put, put_number};
 
 /// Appends a ship's way, name and cargo.
 #[tactic(auto, unfolding(crate::specs::ShipRows::row_name))]

@@ -3,7 +3,7 @@ ghost use Rattle.std.specs.Prelude.{◌≡◌, ◌++◌, OnOk};
 ghost use Rattle.picture_page.specs.Page.{style_sheet};
 
 use crate::form::put_form;
-use plain_text::NoMemory;
+use no_memory::NoMemory;
 
 /// The style sheet of a page.
 pub(crate) const STYLE: &[u8] = b"\n\

@@ -7,7 +7,7 @@ use crate::form::put_form;
 use crate::hulls::{Hull, hull_of};
 use crate::scales::DeckScale;
 use lock_model::{Instance, Lockage, Moor, Rank, Spot, Way};
-use plain_text::NoMemory;
+use no_memory::NoMemory;
 
 /// Appends a bollard on the quay of a rank, with its line to a hull.
 #[tactic(auto, unfolding(crate::specs::Ties::bollard))]

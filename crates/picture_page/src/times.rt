@@ -4,7 +4,8 @@ ghost use Rattle.picture_page.specs.Times.{offset_of, day_text, hours_text, day_
 
 use crate::form::put_form;
 use itoa::Buffer;
-use plain_text::{NoMemory, put_number};
+use no_memory::NoMemory;
+use plain_text::put_number;
 
 /// How a minute is told: in digits, or as a time of day where minute 0 is so many minutes after
 /// midnight.

@@ -10,7 +10,7 @@ use crate::ground::put_turns;
 use crate::passage::Passage;
 use chamber_times::stand_after;
 use lock_model::{Chamber, Stand, Way};
-use plain_text::NoMemory;
+use no_memory::NoMemory;
 
 /// How high the water of a side is drawn.
 fn water_at(stand: Stand) -> u64

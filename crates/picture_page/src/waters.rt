@@ -6,7 +6,7 @@ use crate::form::put_form;
 use crate::scales::{DeckScale, units_of};
 use crate::words::put_measures;
 use lock_model::Chamber;
-use plain_text::NoMemory;
+use no_memory::NoMemory;
 
 /// A length or a width of a chamber as it is drawn.
 pub(crate) fn drawn(scale: &DeckScale, decimetres: u32) -> u32

@@ -4,7 +4,8 @@ ghost use Rattle.picture_page.specs.Words.{metres, measures, plural, count_text}
 
 use crate::form::put_form;
 use crate::times::digits;
-use plain_text::{NoMemory, put, put_number};
+use no_memory::NoMemory;
+use plain_text::{put, put_number};
 
 /// Appends a length of so many decimetres in metres.
 #[tactic(auto, unfolding(crate::specs::Words::metres))]

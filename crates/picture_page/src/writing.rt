@@ -8,7 +8,8 @@ use crate::hulls::{Hull, hull_of};
 use crate::scales::DeckScale;
 use crate::words::{metres_width, put_metres};
 use lock_model::{Instance, Lockage, Ship, Way};
-use plain_text::{NoMemory, put};
+use no_memory::NoMemory;
+use plain_text::put;
 
 /// The room in a hull for what is written, in units along the chamber. The end may come first.
 #[derive(Clone, Copy)]

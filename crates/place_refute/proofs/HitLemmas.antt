@@ -13,7 +13,7 @@ use Rattle.lock_rules.specs.Cut.{Hits}
 use Rattle.lock_rules.proofs.CutLemmas.{IsPart, IsPart-among, fits-part}
 use Rattle.lock_rules.proofs.SplitLemmas.{times_in-at, All-times, RisesFrom-increasing}
 use Rattle.lock_rules.specs.Plan.{times_in}
-use Rattle.plain_text.specs.declared.no_memory.NoMemory.{NoMemory}
+use Rattle.no_memory.specs.declared.NoMemory.{NoMemory}
 use Rattle.refute_rules.specs.declared.refutation.Refutation.{Refutation}
 use Rattle.refute_rules.specs.Refutes.{IsRefuted}
 use Rattle.refute_rules.specs.Cuts.{Cut, IsCut}

@@ -16,7 +16,7 @@ use crate::tree::{Reading, tree_end};
 use berth_check::check_berth_tree;
 use deck_laws::spot_values;
 use lock_model::{Deck, Size};
-use plain_text::NoMemory;
+use no_memory::NoMemory;
 use refute_rules::Refutation;
 use ship_shapes::holds;
 use std::alloc::Global;

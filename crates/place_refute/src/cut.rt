@@ -3,7 +3,7 @@ ghost use Rattle.std.specs.Prelude.{◌≡◌, IfOk};
 ghost use Rattle.refute_rules.specs.Cuts.{Cut as Told, IsCut};
 
 use lock_model::{Deck, Ships};
-use plain_text::NoMemory;
+use no_memory::NoMemory;
 use refute_rules::Refutation;
 use std::alloc::AllocError;
 use std::marker::Model;

@@ -1,8 +1,8 @@
 //! What a text is made of.
 ghost use Rattle.std.specs.Prelude.{◌≡◌, ◌++◌, OnOk, decimal};
 
-use crate::no_memory::NoMemory;
 use itoa::Buffer;
+use no_memory::NoMemory;
 
 /// Appends bytes, or answers want of memory.
 pub fn put(out: &mut Vec<u8>, bytes: &[u8]) -> Result<(), NoMemory>

@@ -5,7 +5,5 @@
 #![tactic(auto)]
 
 mod append;
-mod no_memory;
 
 pub use append::{put, put_number};
-pub use no_memory::NoMemory;

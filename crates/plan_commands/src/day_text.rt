@@ -6,7 +6,8 @@ ghost use Rattle.plan_commands.specs.Playing.{IsKnownAct, IsKnownBeat, act_words
 use day_play::{Act, Beat, Day};
 use instance_text::way_word;
 use lock_model::{Instance, Plan};
-use plain_text::{NoMemory, put, put_number};
+use no_memory::NoMemory;
+use plain_text::{put, put_number};
 use std::alloc::Global;
 
 // Appends an act.

@@ -9,7 +9,7 @@ ghost use Rattle.plan_commands.specs.Planned.{IsPlanned, AnswersIllegal};
 use instance_text::{Bad, split_instance};
 use lock_model::{Instance, Plan};
 use mooring_rules::BrokenPlan;
-use plain_text::NoMemory;
+use no_memory::NoMemory;
 use plan_text::{BadPlan, break_text, fault_text, read_plan};
 use run_answers::{Answer, Status, defect_text, made, no_memory};
 use std::alloc::Global;

@@ -12,7 +12,7 @@ use crate::planned::{break_answer, read_planned};
 use day_play::{Day, Played, play};
 use lock_io::Source;
 use lock_model::{Instance, Plan};
-use plain_text::NoMemory;
+use no_memory::NoMemory;
 use run_answers::{Answer, PLAN_LIMIT, Status, made, no_memory, read_source};
 use std::alloc::Global;
 

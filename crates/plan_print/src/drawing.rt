@@ -6,7 +6,8 @@ ghost use Rattle.plan_print.specs.Drawing.{cell_length, cell_width, columns_of, 
 
 use crate::text::letter;
 use lock_model::{Deck, Size, Spot, Spots};
-use plain_text::{NoMemory, put};
+use no_memory::NoMemory;
+use plain_text::put;
 
 /// The most cells of a row.
 const MOST_COLUMNS: usize = 200;

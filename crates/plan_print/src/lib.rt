@@ -17,6 +17,5 @@ mod report;
 mod text;
 mod verdict;
 
-pub use plain_text::NoMemory;
 pub use report::{print_lockages, print_report, print_verdict_line};
 pub use text::rank_word;

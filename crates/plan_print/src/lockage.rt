@@ -12,7 +12,8 @@ use crate::text::{letter, rank_word};
 use chamber_times::lockage_end;
 use instance_text::way_word;
 use lock_model::{Instance, Lockage, Moor, Ship, Spot, deck_of};
-use plain_text::{NoMemory, put, put_number};
+use no_memory::NoMemory;
+use plain_text::{put, put_number};
 
 /// Appends what a ship is moored to.
 fn put_moor(out: &mut Vec<u8>, moor: Moor) -> Result<(), NoMemory>

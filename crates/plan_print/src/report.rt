@@ -9,7 +9,8 @@ use crate::lockage::put_lockage;
 use crate::order::order_of;
 use crate::verdict::put_verdict_line;
 use lock_model::{Instance, Plan, Verdict};
-use plain_text::{NoMemory, put};
+use no_memory::NoMemory;
+use plain_text::put;
 use std::alloc::Global;
 
 /// Appends what follows the first line of a report.

@@ -8,7 +8,8 @@ ghost use Rattle.plan_print.specs.Report.{IsOfInstance, verdict_text, verdict_li
 
 use chamber_times::cost;
 use lock_model::{Instance, Plan, Ships, Verdict};
-use plain_text::{NoMemory, put, put_number};
+use no_memory::NoMemory;
+use plain_text::{put, put_number};
 
 /// Appends the names of ships, each after a space.
 fn put_names(out: &mut Vec<u8>, instance: &Instance, ships: &Ships) -> Result<(), NoMemory>

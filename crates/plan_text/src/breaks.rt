@@ -8,7 +8,8 @@ ghost use Rattle.plan_text.specs.BreakTexts.{name_in, one_named, two_named, plac
 use chamber_times::BrokenTime;
 use lock_model::{Instance, Plan};
 use mooring_rules::{Broken, BrokenPlan};
-use plain_text::{NoMemory, put, put_number};
+use no_memory::NoMemory;
+use plain_text::{put, put_number};
 use std::alloc::Global;
 
 // The ships of the lockage at a place, none where the plan has no such lockage.

@@ -3,7 +3,8 @@ ghost use Rattle.std.specs.Prelude.{◌≡◌, ◌++◌, IfOk, OnOk};
 ghost use Rattle.plan_text.specs.FaultTexts.{number_of, name_of, fault_text};
 
 use crate::kinds::{BadPlan, PlanKind};
-use plain_text::{NoMemory, put, put_number};
+use no_memory::NoMemory;
+use plain_text::{put, put_number};
 use std::alloc::Global;
 
 // The number of a kind of fault.

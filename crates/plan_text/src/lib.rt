@@ -37,7 +37,6 @@ pub use breaks::{break_text, late_text};
 pub use faults::fault_text;
 pub use kinds::{BadPlan, PlanKind};
 pub use laws::plans_with_texts;
-pub use plain_text::NoMemory;
 pub use printing::print_plan;
 pub use pushing::neat;
 pub use reading::read_plan;

@@ -8,7 +8,8 @@ ghost use Rattle.plan_text.specs.Writable.{IsWritableMoor, IsWritableSpot, IsWri
 
 use instance_text::way_word;
 use lock_model::{Instance, Lockage, Moor, Plan, Spot};
-use plain_text::{NoMemory, put, put_number};
+use no_memory::NoMemory;
+use plain_text::{put, put_number};
 use plan_print::rank_word;
 use std::alloc::Global;
 

@@ -1,7 +1,7 @@
 //! Lists that grow.
 ghost use Rattle.std.specs.Prelude.{◌≡◌, ◌++◌, ◌∷◌, [], OnOk, OnErr};
 
-use plain_text::NoMemory;
+use no_memory::NoMemory;
 
 /// Appends an item. After want of memory, the one refusal, the list is as before, and the item is
 /// dropped.

@@ -2,7 +2,7 @@
 ghost use Rattle.std.specs.Prelude.{◌<◌, length, IfSome};
 
 use crate::appending::append;
-use plain_text::NoMemory;
+use no_memory::NoMemory;
 use price_bound::Prices;
 use std::alloc::Global;
 

@@ -5,10 +5,10 @@ use crate::appending::append;
 use crate::round::Asked;
 use lock_model::{Instance, Ships, Spots};
 use near_plan::Fitting;
+use no_memory::NoMemory;
 use node_work::{FirstPlacer, KnownCuts, Search, Settled, settle_known};
 use place_refute::{Cut, cut_hits};
 use placed_groups::Memory;
-use plain_text::NoMemory;
 use std::alloc::Global;
 
 /// The placers, as prices ask them. What was found before is remembered, and cuts are looked at first;

@@ -8,7 +8,7 @@ use crate::offers::Offer;
 use crate::round::LIMITS;
 use lock_model::Instance;
 use master_branch::Node;
-use plain_text::NoMemory;
+use no_memory::NoMemory;
 use price_bound::{ChamberCut, KeptLines, PricedNode, Prices, Shown, show};
 use price_raise::{Ascent, Pace};
 use std::alloc::Global;

@@ -15,7 +15,7 @@ use book_core::{Book, Case};
 use command_words::ReplanOptions;
 use lock_io::Gate;
 use lock_model::{Instance, Verdict};
-use plain_text::NoMemory;
+use no_memory::NoMemory;
 use plan_print::print_report;
 use replan::{Residual, cheapest_that_keeps, put_together};
 use run_answers::{Answer, Status, Text, no_memory};

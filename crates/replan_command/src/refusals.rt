@@ -11,7 +11,7 @@ ghost use Rattle.replan_command.specs.Replanning.{refusal_text, AnswersReplanPla
 use command_words::ReplanOptions;
 use instance_text::Bad;
 use lock_model::{Instance, Plan};
-use plain_text::NoMemory;
+use no_memory::NoMemory;
 use plan_text::{BadPlan, break_text, fault_text, late_text};
 use replan::ReplanError;
 use run_answers::{Answer, Status, Text, defect_text, no_memory, unfit_text};

@@ -11,7 +11,7 @@ use crate::certificate::OpenCertificate;
 use crate::marks::marks_of;
 use book_certificate::{cuts_of, prices_of};
 use book_core::Book;
-use plain_text::NoMemory;
+use no_memory::NoMemory;
 use std::alloc::Global;
 
 /// The open certificate of a book: its best plan, the plan's cost in minutes, its cuts and its prices

@@ -17,7 +17,7 @@ use deck_laws::{heredity, normal_form};
 use flow_bounds::{Roster, throughput};
 use lock_model::Instance;
 use master_branch::root;
-use plain_text::NoMemory;
+use no_memory::NoMemory;
 use std::alloc::Global;
 
 // The low of marks, or the number of the mark where they fail first, and why.

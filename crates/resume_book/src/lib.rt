@@ -33,6 +33,5 @@ pub use certificate_rules::{FailurePlace, OpenMark, Reason};
 pub use checking::check_open;
 pub use counting::prior;
 pub use laws::one_first_open_failure;
-pub use plain_text::NoMemory;
 pub use print::print_open;
 pub use read::read_open;

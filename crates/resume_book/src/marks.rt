@@ -12,7 +12,7 @@ use book_core::Book;
 use book_rules::SlotState;
 use cert_check::Mark;
 use certificate_rules::OpenMark;
-use plain_text::NoMemory;
+use no_memory::NoMemory;
 use std::alloc::Global;
 
 // The mark of a slot, by its state: an open leaf where it is open, held or parked.

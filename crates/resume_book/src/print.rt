@@ -7,7 +7,7 @@ use crate::certificate::OpenCertificate;
 use crate::value::{open_version, put_open};
 use cert_text::{Version, print_framed};
 use lock_model::Instance;
-use plain_text::NoMemory;
+use no_memory::NoMemory;
 use std::alloc::Global;
 
 // The line before an open certificate of a version.

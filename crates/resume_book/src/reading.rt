@@ -18,7 +18,7 @@ use certificate_rules::{OpenMark, Reason};
 use flow_bounds::bound;
 use lock_model::Instance;
 use master_branch::Node;
-use plain_text::NoMemory;
+use no_memory::NoMemory;
 
 // What was read: the marks behind it, and the least of the bounds of the open leaves so far and of
 // the number that reading began with.

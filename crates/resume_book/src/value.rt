@@ -12,7 +12,7 @@ use cert_text::{
     DossierError, Front, Parts, Version, front_in, has_price_mark, is_third, needs_third,
     prices_at, put_parts, put_tree, tree_at,
 };
-use plain_text::NoMemory;
+use no_memory::NoMemory;
 use serde_json::Value;
 use std::alloc::Global;
 

@@ -7,7 +7,7 @@ use crate::answer::{Answer, fixed, made, no_memory};
 use crate::status::Status;
 use crate::texts::too_long_text;
 use lock_io::{ReadError, Source, read_all};
-use plain_text::NoMemory;
+use no_memory::NoMemory;
 use std::alloc::Global;
 
 /// The most bytes of an instance and a plan together.

@@ -4,7 +4,8 @@ ghost use Rattle.run_answers.specs.Texts.{number_of, name_of, defect_text, too_l
 
 use instance_text::{Bad, Kind};
 use lock_model::Instance;
-use plain_text::{NoMemory, put, put_number};
+use no_memory::NoMemory;
+use plain_text::{put, put_number};
 use std::alloc::Global;
 
 // The number of a kind of defect.

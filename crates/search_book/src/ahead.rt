@@ -4,7 +4,7 @@ ghost use Rattle.std.specs.Prelude.{◌≡◌, ◌++◌, ◌∷◌, [], All, IfO
 use book_core::Foreseen;
 use closing_rules::Ground;
 use lock_model::Instance;
-use plain_text::NoMemory;
+use no_memory::NoMemory;
 use std::alloc::Global;
 
 /// How a slot ends by what was worked out of its node alone.

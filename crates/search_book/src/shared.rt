@@ -16,7 +16,7 @@ use crate::next::Next;
 use crate::replies::{is_accepting, is_idle};
 use crate::shutting::{ByPrice, close_price_and_take};
 use book_core::Reply;
-use plain_text::NoMemory;
+use no_memory::NoMemory;
 use price_bound::ChamberCut;
 use std::hint::spin_loop;
 use std::sync::ledger::{Ledger, Share};

@@ -1,8 +1,9 @@
 //! Cases, and their books.
 
 use book_core::{Book, Case, open_book};
-use first_plan::{first_unfit, singles_plan};
+use first_plan::singles_plan;
 use lock_model::Instance;
+use mooring_rules::first_unfit;
 use std::alloc::Global;
 use std::test::Fail;
 

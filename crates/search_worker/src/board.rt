@@ -1,6 +1,6 @@
 //! The prices that workers leave each other.
 
-use plain_text::NoMemory;
+use no_memory::NoMemory;
 use price_search::{Offer, Offers, Pricing};
 use std::alloc::Global;
 use std::sync::{Mutex, Wait};

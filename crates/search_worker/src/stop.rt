@@ -1,6 +1,6 @@
 //! Why a worker ends early.
 
-use plain_text::NoMemory;
+use no_memory::NoMemory;
 use std::alloc::AllocFailed;
 
 /// The worker is to release and to end: it has worked on its quota of nodes, memory was refused, or

@@ -4,8 +4,8 @@ ghost use Rattle.master_branch.specs.Node.{IsNodeOf};
 
 use book_core::Foreseen;
 use master_branch::{Node, descend};
+use no_memory::NoMemory;
 use node_work::Search;
-use plain_text::NoMemory;
 use search_book::Stretch;
 use std::alloc::Global;
 

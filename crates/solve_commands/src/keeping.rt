@@ -8,7 +8,7 @@ ghost use Rattle.solve_commands.specs.Keeping.{IsKeptCertificate, PrintsKept};
 ghost use Rattle.run_answers.specs.Written.{bytes_in};
 
 use book_core::Book;
-use plain_text::NoMemory;
+use no_memory::NoMemory;
 use resume_book::{OpenCertificate, open_certificate_of, print_open};
 use run_answers::{Answer, Status, Text, no_memory};
 use std::alloc::Global;

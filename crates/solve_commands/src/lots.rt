@@ -11,7 +11,7 @@ use command_words::{LotOptions, TrialOptions};
 use instance_text::{make_lot, print_instance};
 use lock_io::Gate;
 use lock_model::Instance;
-use plain_text::NoMemory;
+use no_memory::NoMemory;
 use run_answers::{Answer, Status, Text, no_memory};
 use std::alloc::Global;
 use std::sync::Wait;

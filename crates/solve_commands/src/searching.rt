@@ -20,7 +20,7 @@ use cert_text::print_dossier;
 use command_words::SolveOptions;
 use lock_io::Gate;
 use lock_model::Verdict;
-use plain_text::NoMemory;
+use no_memory::NoMemory;
 use plan_print::{print_report, print_verdict_line};
 use run_answers::{Answer, Status, Text, no_memory};
 use solve_workers::solve;

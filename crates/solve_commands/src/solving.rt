@@ -12,11 +12,11 @@ ghost use Rattle.solve_commands.specs.Solving.{solve_limit, search_of, AnswersIn
 use crate::searching::search_best;
 use book_core::Case;
 use command_words::SolveOptions;
-use first_plan::first_unfit;
 use instance_text::{Bad, read_instance};
 use lock_io::{Gate, Source};
 use lock_model::Instance;
-use plain_text::NoMemory;
+use mooring_rules::first_unfit;
+use no_memory::NoMemory;
 use run_answers::{Answer, Status, Text, defect_text, no_memory, read_source, unfit_text};
 use std::alloc::Global;
 use std::sync::Wait;

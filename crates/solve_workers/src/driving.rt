@@ -12,8 +12,8 @@ use crate::held::take;
 use crate::working::work;
 use book_core::Book;
 use book_rules::SlotState;
+use no_memory::NoMemory;
 use node_work::Search;
-use plain_text::NoMemory;
 use std::alloc::Global;
 
 #[tactic(auto, using(crate::proofs::DrivenLemmas::driven_then, crate::proofs::DrivenLemmas::driven_none, crate::proofs::DrivenLemmas::own_still))]

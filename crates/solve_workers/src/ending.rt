@@ -11,9 +11,9 @@ use crate::told::{is_want, made, posted};
 use book_core::Book;
 use closing_rules::Ground;
 use lock_model::Plan;
+use no_memory::NoMemory;
 use node_work::Fate;
 use place_refute::{Cut, Hard};
-use plain_text::NoMemory;
 
 /// Closes the held node on a ground that holds.
 pub(crate) fn close(book: &mut Book, id: u32, why: Ground)

@@ -8,8 +8,8 @@ use crate::cut_list::CutList;
 use crate::told::posted;
 use book_core::{Book, Case, open_book};
 use lock_model::Plan;
+use no_memory::NoMemory;
 use place_refute::{Cut, copy_cut};
-use plain_text::NoMemory;
 use std::alloc::Global;
 
 #[tactic(auto, using(crate::proofs::OpeningLemmas::posted_just, crate::proofs::GrowLemmas::post_granted))]

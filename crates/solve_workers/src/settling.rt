@@ -15,7 +15,7 @@ use crate::cut_list::CutList;
 use crate::opening::opened;
 use book_core::{Book, Case};
 use lock_model::Plan;
-use plain_text::NoMemory;
+use no_memory::NoMemory;
 use std::alloc::Global;
 
 // Whether the book is of this case and was opened at this cost, and worker 8 has neither ended nor

@@ -15,7 +15,7 @@ use book_core::{Book, Case};
 use first_plan::{FirstError, first_plan};
 use lock_io::Gate;
 use lock_model::Plan;
-use plain_text::NoMemory;
+use no_memory::NoMemory;
 use std::alloc::Global;
 use std::sync::Wait;
 use std::thread::Threads;

@@ -3,7 +3,7 @@ ghost use Rattle.std.specs.Prelude.{◌≡◌, true, Some, IfOk, OnOk, OnErr};
 ghost use Rattle.solve_workers.specs.Told.{slot_in, number_in, is_closed, is_made, is_want, IsMadeOrWant, IsPostedOrWant};
 
 use book_core::{Grant, Reply};
-use plain_text::NoMemory;
+use no_memory::NoMemory;
 
 /// The slot that was given.
 pub(crate) fn slot_in(grant: Grant) -> Option<u32>

@@ -14,8 +14,8 @@ use crate::ending::{close, end, split};
 use crate::held::{Held, held_bound, held_node};
 use crate::pricing::price;
 use book_core::{Book, Probed};
+use no_memory::NoMemory;
 use node_work::{Fate, closed_early, inner_fate, whole_fate};
-use plain_text::NoMemory;
 
 // Works on the held node, which holds all ships.
 fn work_whole(driver: &mut Driver<'_>, book: &mut Book, id: u32) -> Result<(), NoMemory>

@@ -1,7 +1,7 @@
 //! Plans near made-up lines.
 use lock_model::{Group, Instance, Ships, Spot, Spots, Way};
 use near_plan::{Fitting, near_plan};
-use plain_text::NoMemory;
+use no_memory::NoMemory;
 use price_bound::{LooseLine, LooseLines};
 use std::alloc::Global;
 use std::test::Fail;

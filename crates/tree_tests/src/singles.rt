@@ -1,8 +1,9 @@
 //! Worked singles plans.
 use crate::fixture::{chamber, ship};
 use chamber_times::cost;
-use first_plan::{first_plan, first_unfit, singles_plan};
+use first_plan::{first_plan, singles_plan};
 use lock_model::{Chamber, Chambers, Instance, Ship, ShipList, Stand, Way};
+use mooring_rules::first_unfit;
 use std::test::Fail;
 use worked_locks::two_ships;
 

@@ -2,8 +2,9 @@
 
 use crate::fixture::case_of;
 use book_core::{Book, Case, open_book};
-use first_plan::{first_unfit, singles_plan};
+use first_plan::singles_plan;
 use lock_model::Verdict;
+use mooring_rules::first_unfit;
 use solve_workers::drive;
 use std::alloc::Global;
 use std::test::Fail;
