@@ -8,10 +8,11 @@ ghost use Rattle.run_answers.specs.Written.{bytes_in};
 ghost use Rattle.checked_dossiers.specs.Standing.{IsStanding, HasLow, IsNoStanding};
 
 use crate::refusals::{fault_answer, rejected_answer, unfit_answer};
+use certificate_parts::OpenCertificate;
 use first_plan::first_unfit;
 use lock_model::Instance;
 use plain_text::NoMemory;
-use resume_book::{DossierError, OpenAnswer, OpenCertificate, check_open, read_open};
+use resume_book::{DossierError, OpenAnswer, check_open, read_open};
 use run_answers::{Answer, Status, no_memory};
 use std::alloc::Global;
 
