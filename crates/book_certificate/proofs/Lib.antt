@@ -4,3 +4,9 @@ pub mod CutLemmas
 pub mod ClosingLemmas
 pub mod FormedLemmas
 pub mod VerdictLemmas
+pub mod ListLemmas
+pub mod PreorderLemmas
+pub mod OpenWritingLemmas
+pub mod OpenTreeLemmas
+pub mod LowLemmas
+pub mod WholeLemmas

@@ -9,7 +9,7 @@ use Rattle.certificate_rules.specs.declared.certificate.Mark.TheVariants as mark
 use Rattle.book_rules.specs.Book.{Book, slot_at}
 use Rattle.lock_rules.specs.Node.{Node, root}
 use Rattle.book_rules.specs.Family.{child_count}
-use Rattle.cert_check.proofs.TreeLemmas.{in_order-append, lacks-one}
+use Rattle.certificate_rules.proofs.TreeLemmas.{in_order-append, lacks-one}
 use Rattle.book_certificate.specs.Preorder.{leaf_mark, AreMarksOf}
 use Rattle.book_certificate.specs.Writing.{lacking_at, AppendsMarks, AppendsChildMarks}
 

@@ -12,7 +12,7 @@ use crate::live::first_live;
 use crate::marks::marks_of;
 use crate::prices::prices_of;
 use book_core::Book;
-use cert_check::Certificate;
+use certificate_parts::Certificate;
 use std::alloc::Global;
 
 /// The certificate of a finished book: its best plan, the plan's cost in minutes, its cuts and its

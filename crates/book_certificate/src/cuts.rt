@@ -3,7 +3,7 @@ ghost use Rattle.std.specs.Prelude.{◌≡◌, ◌<◌, ◌^◌, length, map, If
 ghost use Rattle.book_certificate.specs.Certified.{cert_cut};
 
 use book_core::Book;
-use cert_check::{CertCut, CertCuts};
+use certificate_parts::{CertCut, CertCuts};
 use place_refute::Cut;
 use std::alloc::{AllocError, Global};
 
@@ -27,8 +27,8 @@ fn count(cuts: &CertCuts) -> u64
     cuts.as_slice().len() as u64
 }
 
-/// All cuts of a book in order. Refuses want of memory alone.
-pub fn cuts_of(alloc: Global, book: &Book) -> Result<CertCuts, AllocError>
+// All cuts of a book in order. Refuses want of memory alone.
+pub(crate) fn cuts_of(alloc: Global, book: &Book) -> Result<CertCuts, AllocError>
     ensures value { IfOk result (λ cuts. cuts ≡ map cert_cut book.now.cuts) }
     ensures few { IfOk result (λ _. length book.now.cuts < 2 ^ 63) }
 {

@@ -11,8 +11,7 @@ ghost use Rattle.book_certificate.specs.Writing.{AppendsMarks};
 use crate::error::CertError;
 use book_core::Book;
 use book_rules::SlotState;
-use cert_check::MarkList;
-use certificate_rules::Mark;
+use certificate_parts::{Mark, MarkList};
 use std::alloc::Global;
 
 // The mark of a closed slot, by its state. None of one that is split, open, held or parked.
@@ -25,8 +24,8 @@ fn leaf_mark(state: SlotState) -> Option<Mark>
     }
 }
 
-/// The first child of a slot. None where it isn't split.
-pub fn first_child(book: &Book, id: u32) -> Option<u32>
+// The first child of a slot. None where it isn't split.
+pub(crate) fn first_child(book: &Book, id: u32) -> Option<u32>
     requires { id < length book.now.slots }
     ensures some { IfSome result (λ first. (slot_at book.now id).state ≡ slot.Split first) }
     ensures none { IfNone result (is_split (slot_at book.now id).state ≡ false) }
@@ -37,8 +36,8 @@ pub fn first_child(book: &Book, id: u32) -> Option<u32>
     }
 }
 
-/// The slot behind the last child of a split.
-pub fn children_end(book: &Book, id: u32, first: u32) -> u32
+// The slot behind the last child of a split.
+pub(crate) fn children_end(book: &Book, id: u32, first: u32) -> u32
     requires { (slot_at book.now id).state ≡ slot.Split first }
     ensures { result ≡ first + child_count book.now.case.instance (slot_at book.now id).node }
 {

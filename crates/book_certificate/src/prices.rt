@@ -2,7 +2,7 @@
 ghost use Rattle.std.specs.Prelude.{◌≡◌, ◌<◌, ◌^◌, length, IfOk};
 
 use book_core::Book;
-use cert_check::PriceLists;
+use certificate_parts::PriceLists;
 use price_bound::Prices;
 use std::alloc::{AllocError, Global};
 
@@ -25,8 +25,8 @@ fn copied(alloc: Global, prices: &[Prices]) -> Result<PriceLists, AllocError>
     Ok(copy)
 }
 
-/// All prices of a book in order. Refuses want of memory alone.
-pub fn prices_of(alloc: Global, book: &Book) -> Result<PriceLists, AllocError>
+// All prices of a book in order. Refuses want of memory alone.
+pub(crate) fn prices_of(alloc: Global, book: &Book) -> Result<PriceLists, AllocError>
     ensures value { IfOk result (λ prices. prices ≡ book.now.prices) }
     ensures few { IfOk result (λ _. length book.now.prices < 2 ^ 63) }
 {

@@ -6,9 +6,8 @@ use crate::fixture::{
 use crate::priced_root::{PricedRoot, both_prices};
 use book_certificate::{CertError, certificate_of};
 use book_core::{Book, Reply};
-use cert_check::{
-    Answer, CertCut, CertCuts, FailurePlace, Ground, Mark, Reason, check, one_first_failure,
-};
+use cert_check::{Answer, FailurePlace, Reason, check, one_first_failure};
+use certificate_parts::{CertCut, CertCuts, Ground, Mark};
 use lock_model::{Instance, Plan, Ships};
 use place_refute::Refutation;
 use std::alloc::Global;

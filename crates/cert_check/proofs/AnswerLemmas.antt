@@ -12,7 +12,7 @@ use Rattle.certificate_rules.specs.Failures.{Fails}
 use Rattle.certificate_rules.proofs.FailLemmas.{fails-not_accepted}
 use Rattle.certificate_rules.proofs.AcceptLemmas.{accepted-cheapest}
 use Rattle.closing_rules.proofs.LawLemmas.{tree-laws}
-use Rattle.cert_check.specs.declared.certificate.Answer.TheVariants.{Accepted, Rejected}
+use Rattle.cert_check.specs.declared.answers.Answer.TheVariants.{Accepted, Rejected}
 use Rattle.cert_check.proofs.FirstFailure.{fails-same}
 
 module _ (I : Instance) (C : Certificate) where

@@ -1,6 +1,5 @@
 pub mod HitLemmas
 pub mod MissingLemmas
-pub mod TreeLemmas
 pub mod ReadLemmas
 pub mod FirstFailure
 pub mod AnswerLemmas

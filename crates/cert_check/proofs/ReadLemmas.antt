@@ -18,7 +18,7 @@ use Rattle.certificate_rules.specs.Failures.{FailInOrder, TreeFails}
 use Rattle.master_branch.specs.Node.{children, child_lines}
 use Rattle.cert_check.specs.Reading.{MarkKind, whole_kind, IsTreeOf, TreeSticks, IsRead, IsStuck, IsChildRead, IsChildStuck, AreRead, AreStuck}
 use Rattle.cert_check.specs.declared.closing.Claim.{Claim}
-use Rattle.cert_check.proofs.TreeLemmas.{in_order-append, in_order-fails, lacks-one, leaf-tree, wrong-tree, tree-shorter, stuck-shorter}
+use Rattle.certificate_rules.proofs.TreeLemmas.{in_order-append, in_order-fails, lacks-one, leaf-tree, wrong-tree, tree-shorter, stuck-shorter}
 use Rattle.closing_rules.specs.declared.grounds.Ground.TheVariants as by
 
 -- a test of a bound tells whether it reaches the cost

@@ -9,12 +9,13 @@ ghost use Rattle.certificate_rules.specs.declared.certificate.FailurePlace.{Fail
 ghost use Rattle.certificate_rules.specs.declared.certificate.Reason.{Reason as Why};
 ghost use Rattle.cert_check.specs.FirstFailure.{HoldBeforeMarks, FailBeforeMarks, FailAtMark};
 
-use crate::certificate::{Answer, CertCuts, Certificate};
+use crate::answers::Answer;
 use crate::closing::Claim;
 use crate::cuts::first_unproved;
 use crate::prices::{chamber_cuts, first_misshaped};
 use crate::reading::read_tree;
 use crate::workspace::Workspace;
+use certificate_parts::{CertCuts, Certificate};
 use certificate_rules::{FailurePlace, Mark, Reason};
 use chamber_times::cost;
 use deck_laws::{heredity, normal_form};

@@ -11,9 +11,9 @@ ghost use Rattle.closing_rules.specs.ProvedCuts.{IsShaped};
 ghost use Rattle.certificate_rules.specs.Certificates.{IsCutBy, cuts_in, Closes};
 ghost use Rattle.certificate_rules.specs.Failures.{ground_reason, reason_of};
 
-use crate::certificate::CertCut;
 use crate::hitting::hits_node;
 use crate::workspace::Workspace;
+use certificate_parts::CertCut;
 use certificate_rules::{Mark, Reason};
 use closing_rules::Ground;
 use flow_bounds::{Roster, bound, children_reaching, is_missing, probe};

@@ -4,7 +4,7 @@ ghost use Rattle.closing_rules.specs.ProvedCuts.{IsShaped, IsProved};
 ghost use Rattle.certificate_rules.specs.Failures.{CutFails};
 ghost use Rattle.cert_check.specs.Cuts.{IsUnproved};
 
-use crate::certificate::CertCut;
+use certificate_parts::CertCut;
 use certificate_rules::Reason;
 use lock_model::{Instance, deck_of};
 use mooring_rules::has_ships;

@@ -5,7 +5,7 @@ ghost use Rattle.lock_model.specs.Fleet.{chamber_at};
 ghost use Rattle.lock_rules.specs.Cut.{HitsNode};
 ghost use Rattle.cert_check.specs.Hitting.{AreTogether, HitsLine, HitsAt};
 
-use crate::certificate::CertCut;
+use certificate_parts::CertCut;
 use lock_model::{Group, Instance};
 use master_branch::Node;
 

@@ -1,7 +1,6 @@
 //! The checker of certificates: whether a plan is cheapest, told without any search.
 //!
-//! A `Certificate` is a cost, cuts with their refutations, a plan, prices, and one mark for each node of
-//! a search tree; its lists are `Numbered`. `check` answers `Accepted` exactly where the certificate is
+//! `check` answers `Accepted` exactly where the certificate is
 //! accepted; then its plan is legal, has this cost, and no legal plan costs less. Else it answers
 //! `Rejected` with the first place and reason at which the certificate fails, and only want of memory
 //! keeps it from an answer. `one_first_failure` is the law that a certificate that isn't accepted fails
@@ -19,25 +18,22 @@
 //! what is read of a node and of its children, and `FirstFailure` what the law is.
 #![tactic(auto)]
 
-mod certificate;
+mod answers;
 mod checking;
 mod closing;
 mod cuts;
 mod hitting;
 mod laws;
-mod numbered;
 mod prices;
 mod reading;
 mod splitting;
 mod workspace;
 
-pub use certificate::{Answer, CertCut, CertCuts, Certificate, MarkList, PriceLists};
-pub use certificate_rules::{FailurePlace, Mark, Reason};
+pub use answers::Answer;
+pub use certificate_rules::{FailurePlace, Reason};
 pub use checking::{check, first_failure_before_marks};
 pub use closing::{Claim, closes, reason_against};
-pub use closing_rules::Ground;
 pub use laws::one_first_failure;
-pub use numbered::Numbered;
 pub use prices::chamber_cuts;
 pub use splitting::{SplitNode, child_of, child_reaches, count_children, split};
 pub use workspace::Workspace;

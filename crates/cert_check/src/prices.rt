@@ -6,7 +6,7 @@ ghost use Rattle.certificate_rules.specs.Certificates.{cuts_in};
 ghost use Rattle.certificate_rules.specs.Failures.{PricesFail};
 ghost use Rattle.certificate_rules.specs.declared.certificate.Reason.{Reason as Why};
 
-use crate::certificate::CertCut;
+use certificate_parts::CertCut;
 use lock_model::Instance;
 use price_bound::{ChamberCut, Prices};
 use std::alloc::{AllocError, Global};

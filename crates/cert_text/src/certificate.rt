@@ -22,7 +22,7 @@ use crate::prices::prices_at;
 use crate::tree::{put_tree, tree_at};
 use crate::value::has_members;
 use crate::version::{has_outside, is_third};
-use cert_check::{CertCuts, Certificate};
+use certificate_parts::{CertCuts, Certificate};
 use lock_model::Plan;
 use no_memory::NoMemory;
 use serde_json::Value;

@@ -11,7 +11,7 @@ use crate::bad::{BadDossier, DossierError};
 use crate::crew::{put_ships, ships_at};
 use crate::value::{chamber_at, has_members, put_byte};
 use crate::why::{put_why, why_in};
-use cert_check::{CertCut, CertCuts};
+use certificate_parts::{CertCut, CertCuts};
 use no_memory::NoMemory;
 use refute_rules::Refutation;
 use serde_json::{Map, Value};

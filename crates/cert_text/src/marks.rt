@@ -7,7 +7,7 @@ ghost use Rattle.cert_text.specs.Marks.{ground_numbers, mark_numbers, mark_of, p
 
 use crate::tree_mark::TreeMark;
 use crate::value::{number_below, push_number};
-use cert_check::{Ground, Mark};
+use certificate_parts::{Ground, Mark};
 use serde_json::Value;
 use std::alloc::AllocError;
 

@@ -4,7 +4,7 @@ ghost use Rattle.cert_text.specs.OpenMarks.{open_numbers, open_mark_in, is_open_
 
 use crate::tree_mark::TreeMark;
 use crate::value::push_number;
-use cert_check::Mark;
+use certificate_parts::Mark;
 use certificate_rules::OpenMark;
 use serde_json::Value;
 use std::alloc::AllocError;

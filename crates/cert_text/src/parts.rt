@@ -13,7 +13,7 @@ use crate::cuts::put_cuts;
 use crate::heading::Version;
 use crate::plan::put_plan;
 use crate::prices::put_prices;
-use cert_check::CertCuts;
+use certificate_parts::CertCuts;
 use lock_model::Plan;
 use no_memory::NoMemory;
 use price_bound::Prices;

@@ -12,7 +12,7 @@ use crate::heading::Version;
 use crate::value::number_below;
 use crate::why::push_words;
 use arrayvec::ArrayVec;
-use cert_check::PriceLists;
+use certificate_parts::PriceLists;
 use price_bound::Prices;
 use serde_json::Value;
 use std::alloc::{AllocError, Global};

@@ -10,7 +10,7 @@ ghost use Rattle.cert_text.specs.Dossier.{heading_line, json_line, framed, dossi
 use crate::certificate::put_certificate;
 use crate::heading::Version;
 use crate::version::version_of;
-use cert_check::Certificate;
+use certificate_parts::Certificate;
 use instance_text::print_instance;
 use lock_model::Instance;
 use no_memory::NoMemory;

@@ -11,7 +11,7 @@ ghost use Rattle.cert_text.specs.declared.bad.BadDossier.TheVariants.{Json};
 use crate::bad::{BadDossier, DossierError};
 use crate::certificate::certificate_in;
 use crate::heading::{Form, Heading, Version, headed};
-use cert_check::Certificate;
+use certificate_parts::Certificate;
 use instance_text::split_instance;
 use lock_model::Instance;
 use serde_json::Value;

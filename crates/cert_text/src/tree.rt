@@ -9,7 +9,7 @@ ghost use Rattle.cert_text.specs.declared.bad.BadDossier.TheVariants.{Shape};
 
 use crate::bad::{BadDossier, DossierError};
 use crate::tree_mark::TreeMark;
-use cert_check::Numbered;
+use certificate_parts::Numbered;
 use serde_json::Value;
 use std::alloc::{AllocError, Global};
 

@@ -1,4 +1,6 @@
 pub mod AcceptLemmas
 pub mod CertRows
 pub mod FailLemmas
+pub mod LeastLemmas
 pub mod LowLemmas
+pub mod TreeLemmas

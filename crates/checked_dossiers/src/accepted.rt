@@ -8,8 +8,10 @@ ghost use Rattle.run_answers.specs.Written.{bytes_in};
 ghost use Rattle.checked_dossiers.specs.Accepted.{IsAccepted, IsNotAccepted};
 
 use crate::refusals::{fault_answer, rejected_answer, unfit_answer};
-use cert_check::{Answer as Checked, Certificate, check};
+use cert_check::{Answer as Checked, check};
 use cert_text::{DossierError, read_dossier};
+use certificate_parts::Certificate;
+use mooring_rules::first_unfit;
 use lock_model::Instance;
 use mooring_rules::first_unfit;
 use no_memory::NoMemory;

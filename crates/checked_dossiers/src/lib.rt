@@ -17,7 +17,5 @@ mod refusals;
 mod standing;
 
 pub use accepted::{AcceptedDossier, read_accepted};
-pub use cert_check::Certificate;
 pub use refusals::DOSSIER_LIMIT;
-pub use resume_book::OpenCertificate;
 pub use standing::{StandingDossier, read_standing};

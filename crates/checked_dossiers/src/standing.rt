@@ -8,10 +8,11 @@ ghost use Rattle.run_answers.specs.Written.{bytes_in};
 ghost use Rattle.checked_dossiers.specs.Standing.{IsStanding, HasLow, IsNoStanding};
 
 use crate::refusals::{fault_answer, rejected_answer, unfit_answer};
-use lock_model::Instance;
+use certificate_parts::OpenCertificate;
 use mooring_rules::first_unfit;
+use lock_model::Instance;
 use no_memory::NoMemory;
-use resume_book::{DossierError, OpenAnswer, OpenCertificate, check_open, read_open};
+use resume_book::{DossierError, OpenAnswer, check_open, read_open};
 use run_answers::{Answer, Status, no_memory};
 use std::alloc::Global;
 

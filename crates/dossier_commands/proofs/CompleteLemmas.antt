@@ -1,30 +1,26 @@
--- How `lower` and `resume` end on an open dossier whose instance has no unfit ship.
+-- How `lower` ends on an open dossier whose instance has no unfit ship.
 use Rattle.std.proofs.Common.{ℕ, ◌≡◌, ◌<◌, ◌⊎◌, List, sym, subst, inl, inr}
 use Rattle.lock_model.specs.declared.instance.Instance.{Instance}
 use Rattle.lock_rules.specs.Unfit.{HasNoUnfit}
 use Rattle.certificate_rules.specs.OpenCertificates.{OpenCertificate, Stands}
 use Rattle.certificate_rules.specs.Failures.{OpenFails}
-use Rattle.book_rules.specs.Ends.{AreEnough}
 use Rattle.resume_book.specs.OpenDossier.{ReadsOpen, OpenDossierFault}
-use Rattle.command_words.specs.declared.commands.SolveOptions.{SolveOptions}
 use Rattle.run_answers.specs.declared.status.Status.{Status}
 use Rattle.run_answers.specs.declared.status.Status.TheVariants.{Good, Open, Words, Refused, ReadFault, WriteFault, NoMemory, BadDossier, Unfit, PlanRefused}
-use Rattle.solve_commands.proofs.EnoughLemmas.{left_ends}
 use Rattle.checked_dossiers.specs.Refused.{PrintsFault, PrintsRejected}
 use Rattle.checked_dossiers.specs.Standing.{IsStanding, HasLow}
 use Rattle.checked_dossiers.proofs.OneLemmas.{own_open, no_open_fault}
 use Rattle.checked_dossiers.proofs.ExactLemmas.{no_open_unfit}
 use Rattle.dossier_commands.specs.Lowering.{PrintsLow, AnswersLower}
-use Rattle.dossier_commands.specs.Resuming.{budget_of, search_on, AnswersResume}
-use Rattle.dossier_commands.specs.Completing.{FailsSomewhere, MayLower, MayResume}
+use Rattle.dossier_commands.specs.Completing.{FailsSomewhere, MayLower}
 
 -- ---- what is answered to the bytes of an open dossier whose instance has no unfit ship
 
 module _ (bytes : List ℕ) (I : Instance) (C : OpenCertificate) (reads : ReadsOpen bytes I C) (fit : HasNoUnfit I) where
-  own_standing : (J : Instance) (D : OpenCertificate) → IsStanding bytes J D → Stands I C
+  pub own_standing : (J : Instance) (D : OpenCertificate) → IsStanding bytes J D → Stands I C
   own_standing J D standing = own_open bytes I C reads Stands J D standing.reads standing.stands
 
-  own_fails : (text : List ℕ) → PrintsFault OpenDossierFault bytes text ⊎ PrintsRejected ReadsOpen OpenFails bytes text → FailsSomewhere I C
+  pub own_fails : (text : List ℕ) → PrintsFault OpenDossierFault bytes text ⊎ PrintsRejected ReadsOpen OpenFails bytes text → FailsSomewhere I C
   own_fails text (inl fault) = absurd (no_open_fault bytes I C reads fault.fault fault.first)
   own_fails text (inr rejected) = (rejected.place, rejected.reason, own_open bytes I C reads (λ J D. OpenFails J D rejected.place rejected.reason) rejected.instance rejected.certificate rejected.reads rejected.fails)
 
@@ -48,17 +44,3 @@ module _ (bytes : List ℕ) (I : Instance) (C : OpenCertificate) (reads : ReadsO
   lower_ends BadDossier text answer = own_fails text answer
   lower_ends Unfit text answer = no_open_unfit bytes text I C reads fit answer
   lower_ends PlanRefused text answer = answer
-
-  pub resume_ends : (options : SolveOptions) (s : Status) (text : List ℕ) → AnswersResume options bytes s text → MayResume options I C s
-  resume_ends options Good text answer = own_standing answer.instance answer.certificate answer.standing
-  resume_ends options Open text answer =
-      let few = left_ends options.keep (search_on options answer.instance answer.certificate) text answer.left in
-      (own_standing answer.instance answer.certificate answer.standing, own_open bytes I C reads (λ J D. ¬ AreEnough J (budget_of D options.nodes) options.turns) answer.instance answer.certificate answer.standing.reads few)
-  resume_ends options Words text answer = answer
-  resume_ends options Refused text answer = answer
-  resume_ends options ReadFault text answer = answer
-  resume_ends options WriteFault text answer = tt
-  resume_ends options NoMemory text answer = tt
-  resume_ends options BadDossier text answer = own_fails text answer
-  resume_ends options Unfit text answer = no_open_unfit bytes text I C reads fit answer
-  resume_ends options PlanRefused text answer = answer

@@ -1,16 +1,13 @@
--- How `lower` and `resume` may end on an open dossier whose instance has no unfit ship: its certificate stands and they are done, or it fails and is refused, or memory was wanting or the sink failed.
+-- How `lower` may end on an open dossier whose instance has no unfit ship: its certificate stands and it is done, or it fails and is refused, or memory was wanting or the sink failed.
 use Rattle.std.specs.Prelude.{ℕ, ◌<◌, ⊤}
 use Rattle.lock_model.specs.declared.instance.Instance.{Instance}
 use Rattle.certificate_rules.specs.OpenCertificates.{OpenCertificate, Stands}
 use Rattle.certificate_rules.specs.Failures.{OpenFails}
-use Rattle.book_rules.specs.Ends.{AreEnough}
 use Rattle.certificate_rules.specs.declared.certificate.FailurePlace.{FailurePlace}
 use Rattle.certificate_rules.specs.declared.certificate.Reason.{Reason}
-use Rattle.command_words.specs.declared.commands.SolveOptions.{SolveOptions}
 use Rattle.run_answers.specs.declared.status.Status.{Status}
 use Rattle.run_answers.specs.declared.status.Status.TheVariants.{Good, Open, Words, Refused, ReadFault, WriteFault, NoMemory, BadDossier, Unfit, PlanRefused}
 use Rattle.checked_dossiers.specs.Standing.{HasLow}
-use Rattle.dossier_commands.specs.Resuming.{budget_of}
 
 -- the certificate fails first somewhere
 abbrev pub FailsSomewhere : Instance → OpenCertificate → Type 0
@@ -28,16 +25,3 @@ MayLower I C NoMemory = ⊤
 MayLower I C BadDossier = FailsSomewhere I C
 MayLower I C Unfit = ⊥
 MayLower I C PlanRefused = ⊥
-
--- how `resume` may end: open only where its nodes or turns aren't surely enough
-abbrev pub MayResume : SolveOptions → Instance → OpenCertificate → Status → Type 0
-MayResume options I C Good = Stands I C
-MayResume options I C Open = Stands I C × ¬ AreEnough I (budget_of C options.nodes) options.turns
-MayResume options I C Words = ⊥
-MayResume options I C Refused = ⊥
-MayResume options I C ReadFault = ⊥
-MayResume options I C WriteFault = ⊤
-MayResume options I C NoMemory = ⊤
-MayResume options I C BadDossier = FailsSomewhere I C
-MayResume options I C Unfit = ⊥
-MayResume options I C PlanRefused = ⊥

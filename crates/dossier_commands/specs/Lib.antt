@@ -1,5 +1,4 @@
 pub mod DossierTexts
 pub mod Checking
 pub mod Lowering
-pub mod Resuming
 pub mod Completing

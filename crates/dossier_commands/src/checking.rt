@@ -7,7 +7,8 @@ ghost use Rattle.checked_dossiers.specs.Accepted.{IsAccepted};
 ghost use Rattle.dossier_commands.specs.Checking.{AnswersCheck};
 
 use crate::dossier_texts::accepted_text;
-use checked_dossiers::{AcceptedDossier, Certificate, DOSSIER_LIMIT, read_accepted};
+use certificate_parts::Certificate;
+use checked_dossiers::{AcceptedDossier, DOSSIER_LIMIT, read_accepted};
 use lock_io::Source;
 use no_memory::NoMemory;
 use run_answers::{Answer, Status, Text, no_memory, read_source};

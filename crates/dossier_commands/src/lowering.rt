@@ -7,7 +7,8 @@ ghost use Rattle.checked_dossiers.specs.Standing.{IsStanding, HasLow};
 ghost use Rattle.dossier_commands.specs.Lowering.{AnswersLower};
 
 use crate::dossier_texts::lower_text;
-use checked_dossiers::{DOSSIER_LIMIT, OpenCertificate, StandingDossier, read_standing};
+use certificate_parts::OpenCertificate;
+use checked_dossiers::{DOSSIER_LIMIT, StandingDossier, read_standing};
 use lock_io::Source;
 use no_memory::NoMemory;
 use run_answers::{Answer, Status, Text, no_memory, read_source};

@@ -16,7 +16,7 @@ use Rattle.solve_commands.specs.Searching.{PrintsBest}
 use Rattle.solve_commands.specs.Solving.{AnswersSolve}
 use Rattle.dossier_commands.specs.Checking.{AnswersCheck}
 use Rattle.dossier_commands.specs.Lowering.{AnswersLower}
-use Rattle.dossier_commands.specs.Resuming.{AnswersResume}
+use Rattle.resume_command.specs.Resuming.{AnswersResume}
 use Rattle.plan_commands.specs.Judging.{AnswersJudge}
 use Rattle.plan_commands.specs.Playing.{AnswersPlay}
 use Rattle.replan_command.specs.Replanning.{AnswersReplan}

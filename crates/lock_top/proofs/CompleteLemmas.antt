@@ -23,9 +23,11 @@ use Rattle.solve_commands.proofs.EnoughLemmas.{open_ends, left_ends}
 use Rattle.checked_dossiers.specs.Refused.{dossier_limit}
 use Rattle.dossier_commands.specs.Checking.{AnswersCheck}
 use Rattle.dossier_commands.specs.Lowering.{AnswersLower}
-use Rattle.dossier_commands.specs.Resuming.{AnswersResume}
-use Rattle.dossier_commands.specs.Completing.{MayLower, MayResume}
-use Rattle.dossier_commands.proofs.CompleteLemmas.{lower_ends, resume_ends}
+use Rattle.resume_command.specs.Resuming.{AnswersResume}
+use Rattle.dossier_commands.specs.Completing.{MayLower}
+use Rattle.resume_command.specs.Completing.{MayResume}
+use Rattle.dossier_commands.proofs.CompleteLemmas.{lower_ends}
+use Rattle.resume_command.proofs.CompleteLemmas.{resume_ends}
 use Rattle.plan_commands.specs.Judging.{AnswersJudge}
 use Rattle.plan_commands.specs.Playing.{AnswersPlay}
 use Rattle.plan_commands.proofs.CompleteLemmas.{judged_good, played_good}

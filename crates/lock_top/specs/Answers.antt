@@ -13,7 +13,7 @@ use Rattle.solve_commands.specs.Lots.{AnswersLot, AnswersTrial}
 use Rattle.checked_dossiers.specs.Refused.{dossier_limit}
 use Rattle.dossier_commands.specs.Checking.{AnswersCheck}
 use Rattle.dossier_commands.specs.Lowering.{AnswersLower}
-use Rattle.dossier_commands.specs.Resuming.{AnswersResume}
+use Rattle.resume_command.specs.Resuming.{AnswersResume}
 use Rattle.plan_commands.specs.Judging.{AnswersJudge}
 use Rattle.plan_commands.specs.Playing.{AnswersPlay}
 use Rattle.replan_command.specs.Replanning.{AnswersReplan}

@@ -24,7 +24,7 @@ use Rattle.solve_commands.specs.Solving.{search_of}
 use Rattle.solve_commands.specs.Lots.{IsLot}
 use Rattle.dossier_commands.specs.Checking.{PrintsAccepted}
 use Rattle.dossier_commands.specs.Lowering.{PrintsEqual, PrintsGap}
-use Rattle.dossier_commands.specs.Resuming.{ResumesBest, ResumesOpen}
+use Rattle.resume_command.specs.Resuming.{ResumesBest, ResumesOpen}
 use Rattle.plan_commands.specs.Judging.{PrintsJudged}
 use Rattle.plan_commands.specs.Playing.{PrintsPlayed}
 use Rattle.replan_command.specs.Replanning.{AnswersReplan}

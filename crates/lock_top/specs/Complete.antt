@@ -24,7 +24,8 @@ use Rattle.run_answers.specs.declared.status.Status.TheVariants.{Good, Open, Wor
 use Rattle.solve_commands.specs.Solving.{solve_limit}
 use Rattle.solve_commands.specs.Lots.{IsLot}
 use Rattle.checked_dossiers.specs.Refused.{dossier_limit}
-use Rattle.dossier_commands.specs.Completing.{MayLower, MayResume}
+use Rattle.dossier_commands.specs.Completing.{MayLower}
+use Rattle.resume_command.specs.Completing.{MayResume}
 use Rattle.plan_commands.specs.Planned.{IsLegallyPlanned}
 use Rattle.replan_command.specs.Ends.{IsReplanServed, MayEndReplan}
 use Rattle.lock_top.specs.Asked.{Asks}

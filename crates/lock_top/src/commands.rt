@@ -7,10 +7,11 @@ ghost use Rattle.lock_top.specs.Answers.{RunAnswers, AnswersCommand};
 ghost use Rattle.lock_top.specs.Asked.{HasNumbers};
 
 use command_words::{Command, WordsError, read_words};
-use dossier_commands::{check_answer, lower_answer, resume_answer};
+use dossier_commands::{check_answer, lower_answer};
 use lock_io::{Gate, Source};
 use plan_commands::{judge_answer, play_answer};
 use replan_command::replan_answer;
+use resume_command::resume_answer;
 use run_answers::{Answer, Status, fixed, no_memory};
 use solve_commands::{lot_answer, solve_answer, trial_answer};
 use std::alloc::Global;

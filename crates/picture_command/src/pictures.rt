@@ -12,7 +12,7 @@ use crate::headings::heading_in;
 use crate::pages::{day_page, plan_page};
 use cert_text::Heading;
 use checked_dossiers::{
-    AcceptedDossier, DOSSIER_LIMIT, OpenCertificate, StandingDossier, read_accepted, read_standing,
+    AcceptedDossier, DOSSIER_LIMIT, StandingDossier, read_accepted, read_standing,
 };
 use day_play::{Played, play};
 use lock_io::Source;

@@ -24,7 +24,7 @@ use Rattle.cert_check.specs.FirstFailure.{AreSameFailure}
 use Rattle.cert_check.proofs.FirstFailure.{failing-same}
 use Rattle.cert_check.proofs.SomeFailure.{fails-first}
 use Rattle.resume_book.specs.Proven.{IsProvenLow}
-use Rattle.resume_book.specs.declared.certificate.OpenAnswer.TheVariants as answer
+use Rattle.resume_book.specs.declared.answers.OpenAnswer.TheVariants as answer
 
 -- ---- one low
 

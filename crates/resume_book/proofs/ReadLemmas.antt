@@ -13,10 +13,10 @@ use Rattle.certificate_rules.specs.Low.{OpenInOrder, HasOpen, leaf_bounds}
 use Rattle.master_branch.specs.Node.{children, child_lines}
 use Rattle.cert_check.specs.declared.closing.Claim.{Claim}
 use Rattle.cert_check.specs.Reading.{MarkKind, IsChildStuck}
-use Rattle.cert_check.proofs.TreeLemmas.{lacks-one}
+use Rattle.certificate_rules.proofs.TreeLemmas.{lacks-one}
 use Rattle.cert_check.proofs.ReadLemmas.{leaf-read, split-read, more-read, child-lines, child-read, end-read, end-stuck, deep-reached}
 use Rattle.resume_book.specs.Reading.{open_kind, LeavesOf, IsReadLow, IsChildReadLow, AreReadLow}
-use Rattle.resume_book.proofs.LeastLemmas.{least-append}
+use Rattle.certificate_rules.proofs.LeastLemmas.{least-append}
 use Rattle.closing_rules.specs.declared.grounds.Ground.TheVariants as by
 
 pub open_in_order-append : (Tree : List (List Group) → List OpenMark → List OpenMark → List ℕ → Type 0) (xs ys : List (List (List Group))) (a b c : List OpenMark) (bs cs : List ℕ) → OpenInOrder Tree xs a b bs → OpenInOrder Tree ys b c cs → OpenInOrder Tree (xs ++ ys) a c (bs ++ cs)

@@ -9,9 +9,10 @@ ghost use Rattle.certificate_rules.specs.Failures.{OpenFails};
 ghost use Rattle.resume_book.specs.Proven.{IsProvenLow};
 ghost use Rattle.resume_book.specs.OneFailure.{IsLowOfMarks, FailAtOpenMark};
 
-use crate::certificate::{OpenAnswer, OpenCertificate};
+use crate::answers::OpenAnswer;
 use crate::reading::read_tree;
 use cert_check::{Claim, Workspace, chamber_cuts, first_failure_before_marks};
+use certificate_parts::OpenCertificate;
 use certificate_rules::{FailurePlace, OpenMark, Reason};
 use deck_laws::{heredity, normal_form};
 use flow_bounds::{Roster, throughput};

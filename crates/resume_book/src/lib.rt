@@ -1,35 +1,30 @@
 //! Open certificates: a plan, and how much less any other plan may cost, though the search isn't
 //! done.
 //!
-//! An `OpenCertificate` is a certificate whose marks may leave nodes open. Where it stands, its plan
+//! An open certificate is one whose marks may leave nodes open. Where it stands, its plan
 //! is legal and has its cost, and every legal plan costs at least its low: the least of its cost and
 //! the bounds of its open leaves. `check_open` tells whether it stands, and its low, or else the first
 //! place and reason at which it fails; `one_first_open_failure` is the law that there is no other.
-//! `open_certificate_of` gives the open certificate of a book at any time: it stands, and its low is
-//! what the book's verdict says. `print_open` and `read_open` write and read open dossiers, both ways
+//! `print_open` and `read_open` write and read open dossiers, both ways
 //! exactly. `prior` counts the work that an open certificate holds.
 //!
 //! Definitions: `certificate_rules` has open certificates (`specs/OpenCertificates`), their low
-//! (`Low`) and where one fails first (`Failures`). Here `Proven` says what one proves, `Preorder` and
-//! `Certified` what that of a book is, `OneFailure` the law, `OpenDossier` the text both ways, `Prior`
+//! (`Low`) and where one fails first (`Failures`). Here `Proven` says what one proves, `OneFailure` the law, `OpenDossier` the text both ways, `Prior`
 //! the work. `Reading` says what is read of a node and of its children.
 #![tactic(auto)]
 
-mod book;
-mod certificate;
+mod answers;
 mod checking;
 mod counting;
 mod laws;
-mod marks;
 mod print;
 mod read;
 mod reading;
 mod value;
 
-pub use book::open_certificate_of;
+pub use answers::OpenAnswer;
 pub use cert_text::{BadDossier, DossierError};
-pub use certificate::{OpenAnswer, OpenCertificate, OpenMarks};
-pub use certificate_rules::{FailurePlace, OpenMark, Reason};
+pub use certificate_rules::{FailurePlace, Reason};
 pub use checking::check_open;
 pub use counting::prior;
 pub use laws::one_first_open_failure;

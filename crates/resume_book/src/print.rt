@@ -3,9 +3,9 @@ ghost use Rattle.std.specs.Prelude.{◌≡◌, IfOk};
 ghost use Rattle.certificate_rules.specs.WellFormed.{IsWellFormedOpen};
 ghost use Rattle.resume_book.specs.OpenDossier.{open_line, open_dossier, ReadsOpen};
 
-use crate::certificate::OpenCertificate;
 use crate::value::{open_version, put_open};
 use cert_text::{Version, print_framed};
+use certificate_parts::OpenCertificate;
 use lock_model::Instance;
 use no_memory::NoMemory;
 use std::alloc::Global;

@@ -6,9 +6,9 @@ ghost use Rattle.cert_text.specs.Answers.{IsFault, IsAnswer, IsFaultAnswer};
 ghost use Rattle.cert_text.specs.declared.bad.BadDossier.{BadDossier as AnyFault};
 ghost use Rattle.resume_book.specs.OpenDossier.{open_rest_in, ReadsOpen, OpenDossierFault, IsFirstOpenFault};
 
-use crate::certificate::OpenCertificate;
 use crate::value::open_certificate_in;
 use cert_text::{BadDossier, DossierError, Form, value_in};
+use certificate_parts::OpenCertificate;
 use instance_text::split_instance;
 use lock_model::Instance;
 use std::alloc::Global;

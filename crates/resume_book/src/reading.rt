@@ -11,10 +11,11 @@ ghost use Rattle.cert_check.specs.Reading.{IsStuck, IsChildStuck, AreStuck};
 ghost use Rattle.resume_book.specs.Reading.{open_kind, IsReadLow, IsChildReadLow, AreReadLow};
 
 use cert_check::{
-    Claim, Ground, Mark, SplitNode, Workspace, child_of, child_reaches, closes, count_children,
-    reason_against, split,
+    Claim, SplitNode, Workspace, child_of, child_reaches, closes, count_children, reason_against,
+    split,
 };
-use certificate_rules::{OpenMark, Reason};
+use certificate_parts::{Ground, Mark, OpenMark};
+use certificate_rules::Reason;
 use flow_bounds::bound;
 use lock_model::Instance;
 use master_branch::Node;

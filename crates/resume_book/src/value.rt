@@ -7,11 +7,11 @@ ghost use Rattle.cert_text.specs.Steps.{fault_under};
 ghost use Rattle.cert_text.specs.declared.bad.BadDossier.TheVariants.{Shape};
 ghost use Rattle.resume_book.specs.OpenDossier.{open_version, open_data, open_certificate_in};
 
-use crate::certificate::OpenCertificate;
 use cert_text::{
     DossierError, Front, Parts, Version, front_in, has_price_mark, is_third, needs_third,
     prices_at, put_parts, put_tree, tree_at,
 };
+use certificate_parts::OpenCertificate;
 use no_memory::NoMemory;
 use serde_json::Value;
 use std::alloc::Global;

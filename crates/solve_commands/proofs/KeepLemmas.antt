@@ -16,7 +16,7 @@ use Rattle.certificate_rules.specs.OpenCertificates.{OpenCertificate, Stands}
 use Rattle.certificate_rules.specs.Low.{IsLow}
 use Rattle.certificate_rules.specs.WellFormed.{IsWellFormedOpen}
 use Rattle.book_core.specs.Keeps.{IsSound}
-use Rattle.resume_book.specs.Certified.{IsOpenCertificateOf, certified_low, HasMoreMarks}
+use Rattle.book_certificate.specs.OpenCertified.{IsOpenCertificateOf, certified_low, HasMoreMarks}
 use Rattle.solve_commands.specs.Searching.{search_in}
 use Rattle.solve_commands.specs.Keeping.{SpendsNodes, SpendsTurns, IsKeptCertificate}
 use Rattle.solve_commands.proofs.EndLemmas.{book_ends}

@@ -7,9 +7,11 @@ ghost use Rattle.solve_commands.specs.Searching.{NoBest, AnswersSearch, search_i
 ghost use Rattle.solve_commands.specs.Keeping.{IsKeptCertificate, PrintsKept};
 ghost use Rattle.run_answers.specs.Written.{bytes_in};
 
+use book_certificate::open_certificate_of;
 use book_core::Book;
+use certificate_parts::OpenCertificate;
 use no_memory::NoMemory;
-use resume_book::{OpenCertificate, open_certificate_of, print_open};
+use resume_book::print_open;
 use run_answers::{Answer, Status, Text, no_memory};
 use std::alloc::Global;
 

@@ -15,7 +15,7 @@ ghost use Rattle.run_answers.specs.Written.{bytes_in};
 use crate::keeping::kept_answer;
 use book_certificate::{CertError, certificate_of};
 use book_core::{Book, Case};
-use cert_check::Certificate;
+use certificate_parts::Certificate;
 use cert_text::print_dossier;
 use command_words::SolveOptions;
 use lock_io::Gate;

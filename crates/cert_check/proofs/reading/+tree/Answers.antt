@@ -6,7 +6,7 @@ use Rattle.certificate_rules.specs.Certificates.{Closes}
 use Rattle.master_branch.specs.Node.{children}
 use Rattle.cert_check.specs.Reading.{whole_kind, IsStuck, IsChildRead, IsChildStuck}
 use Rattle.cert_check.proofs.ReadLemmas.{bound-read, bound-stuck, child-read, child-stuck, more-read, more-stuck, split-read, split-stuck, leaf-stuck}
-use Rattle.cert_check.proofs.TreeLemmas.{not-true}
+use Rattle.certificate_rules.proofs.TreeLemmas.{not-true}
 use Rattle.cert_check.proofs.reading.+tree.Goals as goal
 
 pub read_child-returns-then-child_reaches-clause-read : goal.read_child-returns-then-child_reaches-clause-read

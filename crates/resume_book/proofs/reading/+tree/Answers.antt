@@ -5,7 +5,7 @@ use Rattle.certificate_rules.specs.declared.certificate.Mark.TheVariants as mark
 use Rattle.certificate_rules.specs.declared.certificate.OpenMark.TheVariants.{Closed}
 use Rattle.certificate_rules.specs.OpenCertificates.{ClosesOrOpen}
 use Rattle.master_branch.specs.Node.{children}
-use Rattle.cert_check.proofs.TreeLemmas.{not-true}
+use Rattle.certificate_rules.proofs.TreeLemmas.{not-true}
 use Rattle.cert_check.specs.Reading.{IsStuck, IsChildStuck}
 use Rattle.cert_check.proofs.ReadLemmas.{child-stuck, more-stuck, split-stuck, leaf-stuck}
 use Rattle.resume_book.specs.Reading.{open_kind, IsChildReadLow}

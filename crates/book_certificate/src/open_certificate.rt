@@ -1,0 +1,42 @@
+//! The open certificate of a book.
+ghost use Rattle.std.specs.Prelude.{◌≤◌, length, IfOk};
+ghost use Rattle.book_rules.specs.Book.{best_cost};
+ghost use Rattle.book_rules.specs.Verdict.{verdict_of};
+ghost use Rattle.certificate_rules.specs.OpenCertificates.{Stands};
+ghost use Rattle.certificate_rules.specs.Low.{IsLow};
+ghost use Rattle.certificate_rules.specs.WellFormed.{IsWellFormedOpen};
+ghost use Rattle.book_certificate.specs.OpenCertified.{IsOpenCertificateOf, certified_low, HasMoreMarks};
+
+use crate::cuts::cuts_of;
+use crate::open_marks::marks_of;
+use crate::prices::prices_of;
+use book_core::Book;
+use certificate_parts::OpenCertificate;
+use no_memory::NoMemory;
+use std::alloc::Global;
+
+/// The open certificate of a book: its best plan, the plan's cost in minutes, its cuts and its prices
+/// in order, and the marks of its slots in preorder of their tree, where slots that are open, held or parked become
+/// open leaves. It is well formed, and it stands for the instance of the book, so the checker never
+/// rejects it.
+///
+/// Its low is the best cost where the book's verdict is `Optimal`, and else the less of the verdict's
+/// low and the best cost. It has at least as many marks as the book has slots, and where a slot is
+/// Fresh, more marks than the book has used nodes. Refuses want of memory alone.
+pub fn open_certificate_of(alloc: Global, book: &Book) -> Result<OpenCertificate, NoMemory>
+    ensures certified { IfOk result (IsOpenCertificateOf book.now) }
+    ensures stands { IfOk result (Stands book.now.case.instance) }
+    ensures formed { IfOk result IsWellFormedOpen }
+    ensures low { IfOk result (λ certificate. IsLow book.now.case.instance certificate (certified_low (best_cost book.now) (verdict_of book.now))) }
+    ensures marks { IfOk result (λ certificate. length book.now.slots ≤ length certificate.tree) }
+    ensures more { IfOk result (HasMoreMarks book.now) }
+{
+    book.keeps();
+    Ok(OpenCertificate {
+        cost: book.best_cost(),
+        cuts: cuts_of(alloc, book)?,
+        plan: book.best().copy(),
+        prices: prices_of(alloc, book)?,
+        tree: marks_of(alloc, book)?,
+    })
+}

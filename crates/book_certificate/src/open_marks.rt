@@ -1,0 +1,84 @@
+//! The open marks of a book's slots, written in preorder of their tree.
+ghost use Rattle.std.specs.Prelude.{◌≡◌, ◌<◌, false, length, map, IfOk, OnOk};
+ghost use Rattle.book_rules.specs.declared.book.SlotState.TheVariants as slot;
+ghost use Rattle.book_rules.specs.Book.{slot_at};
+ghost use Rattle.book_rules.specs.NextSlot.{is_split};
+ghost use Rattle.book_certificate.specs.OpenPreorder.{open_mark, mark_at, slots_in_order};
+ghost use Rattle.book_certificate.specs.OpenWriting.{AppendsOpenMarks};
+
+use crate::marks::{children_end, first_child};
+use book_core::Book;
+use book_rules::SlotState;
+use certificate_parts::{Mark, OpenMark, OpenMarks};
+use no_memory::NoMemory;
+use std::alloc::Global;
+
+// The mark of a slot, by its state: an open leaf where it is open, held or parked.
+fn open_mark(state: SlotState) -> OpenMark
+    ensures { result ≡ open_mark state }
+{
+    match state {
+        SlotState::Split(_) => OpenMark::Closed(Mark::Split),
+        SlotState::Closed(why) => OpenMark::Closed(Mark::Leaf(why)),
+        _ => OpenMark::Open,
+    }
+}
+
+// The mark of a slot.
+fn mark_at(book: &Book, id: u32) -> OpenMark
+    requires { id < length book.now.slots }
+    ensures { result ≡ mark_at book.now id }
+{
+    match book.slot_state(id) {
+        Some(state) => open_mark(state),
+        None => unreachable!(),
+    }
+}
+
+// Appends the mark of a slot that isn't split.
+fn write_leaf(book: &Book, id: u32, marks: &mut OpenMarks) -> Result<(), NoMemory>
+    requires known { id < length book.now.slots }
+    requires whole { is_split (slot_at book.now id).state ≡ false }
+    ensures { OnOk result (AppendsOpenMarks book.now id marks.old marks.new) }
+{
+    marks.push(mark_at(book, id))?;
+    Ok(())
+}
+
+// Appends the mark of a split, and the marks of its children and of all slots below them.
+#[cycle(tree)]
+fn write_split(book: &Book, id: u32, first: u32, marks: &mut OpenMarks) -> Result<(), NoMemory>
+    requires known { id < length book.now.slots }
+    requires split { (slot_at book.now id).state ≡ slot.Split first }
+    ensures { OnOk result (AppendsOpenMarks book.now id marks.old marks.new) }
+{
+    book.keeps();
+    marks.push(mark_at(book, id))?;
+    for child in first..children_end(book, id, first) {
+        write_slot(book, child, marks)?;
+    }
+    Ok(())
+}
+
+// Appends the marks of a slot and of all slots below it. It calls itself no deeper than the
+// instance has ships.
+#[cycle(tree)]
+fn write_slot(book: &Book, id: u32, marks: &mut OpenMarks) -> Result<(), NoMemory>
+    requires { id < length book.now.slots }
+    ensures { OnOk result (AppendsOpenMarks book.now id marks.old marks.new) }
+{
+    match first_child(book, id) {
+        Some(first) => write_split(book, id, first, marks),
+        None => write_leaf(book, id, marks),
+    }
+}
+
+// The marks of all slots.
+pub(crate) fn marks_of(alloc: Global, book: &Book) -> Result<OpenMarks, NoMemory>
+    ensures { IfOk result (λ marks. marks ≡ map (mark_at book.now) (slots_in_order book.now)) }
+{
+    book.keeps();
+    let mut marks = OpenMarks::new(alloc);
+    write_slot(book, 0, &mut marks)?;
+    Ok(marks)
+}

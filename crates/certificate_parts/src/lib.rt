@@ -1,0 +1,18 @@
+//! What certificates are made of, for those who write, print, read and check them.
+//!
+//! A `Certificate` is a cost, cuts with their refutations, a plan, prices, and one mark for each node of
+//! a search tree; its lists are `Numbered` from 0. An `OpenCertificate` may leave nodes open.
+//!
+//! Definitions: the contracts see a certificate as that of `certificate_rules` (`specs/Certificates`,
+//! `OpenCertificates`) and a list as its parts in order.
+#![tactic(auto)]
+
+mod certificate;
+mod numbered;
+
+pub use certificate::{
+    CertCut, CertCuts, Certificate, MarkList, OpenCertificate, OpenMarks, PriceLists,
+};
+pub use certificate_rules::{Mark, OpenMark};
+pub use closing_rules::Ground;
+pub use numbered::Numbered;

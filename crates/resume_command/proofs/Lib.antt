@@ -1,0 +1,3 @@
+mod PriorLemmas
+pub mod ResumeLemmas
+pub mod CompleteLemmas

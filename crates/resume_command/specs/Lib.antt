@@ -1,0 +1,3 @@
+pub mod Prior
+pub mod Resuming
+pub mod Completing
