@@ -11,7 +11,6 @@ use crate::refusals::{fault_answer, rejected_answer, unfit_answer};
 use cert_check::{Answer as Checked, check};
 use cert_text::{DossierError, read_dossier};
 use certificate_parts::Certificate;
-use mooring_rules::first_unfit;
 use lock_model::Instance;
 use mooring_rules::first_unfit;
 use no_memory::NoMemory;

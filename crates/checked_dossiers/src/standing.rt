@@ -9,8 +9,8 @@ ghost use Rattle.checked_dossiers.specs.Standing.{IsStanding, HasLow, IsNoStandi
 
 use crate::refusals::{fault_answer, rejected_answer, unfit_answer};
 use certificate_parts::OpenCertificate;
-use mooring_rules::first_unfit;
 use lock_model::Instance;
+use mooring_rules::first_unfit;
 use no_memory::NoMemory;
 use resume_book::{DossierError, OpenAnswer, check_open, read_open};
 use run_answers::{Answer, Status, no_memory};
