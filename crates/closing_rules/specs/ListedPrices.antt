@@ -1,13 +1,14 @@
 -- Lists of prices and of cuts, and what a node reaches by the prices of a number.
 use Rattle.std.specs.Prelude.{ℕ, ◌≡◌, ◌≤◌, List, length, All, slice_get, Some}
+use Rattle.lock_model.specs.declared.limits.TheConstants.{SHIPS}
 use Rattle.lock_model.specs.Fitting.{deck_of}
 use Rattle.lock_model.specs.declared.instance.Instance.{Instance}
 use Rattle.lock_model.specs.declared.group.Group.{Group}
 use Rattle.price_rules.specs.Prices.{PlainCut, Reaches}
 
--- what the type of prices keeps: at most 24 of them, none above 1,000,000 hundredths of a minute
+-- what the type of prices keeps: at most SHIPS of them, none above 1,000,000 hundredths of a minute
 pub record ArePrices (prices : List ℕ) : Type 0 where
-  pub few : length prices ≤ 24
+  pub few : length prices ≤ SHIPS
   pub small : All (λ u. u ≤ 1000000) prices
 
 -- one price for each ship

@@ -1,6 +1,7 @@
 -- A cut with its refutation, and when it is proved.
 use Rattle.std.specs.Prelude.{ℕ, ◌≤◌, ◌<◌, List, length, All}
 use Rattle.std.specs.List.Sorted.{IsStrictlyIncreasing}
+use Rattle.lock_model.specs.declared.limits.TheConstants.{MOST}
 use Rattle.lock_model.specs.Fitting.{deck_of}
 use Rattle.lock_model.specs.declared.instance.Instance.{Instance}
 use Rattle.refute_rules.specs.declared.refutation.Refutation.{Refutation}
@@ -15,7 +16,7 @@ pub record CertCut : Type 0 where
 -- what the type of a cut's ships keeps
 pub record AreShips (ships : List ℕ) : Type 0 where
   pub rising : IsStrictlyIncreasing ships
-  pub few : length ships ≤ 8
+  pub few : length ships ≤ MOST
 
 -- the cut is about a chamber and one or more ships of the instance
 pub record IsShaped (I : Instance) (c : CertCut) : Type 0 where

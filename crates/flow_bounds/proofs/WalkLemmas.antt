@@ -11,7 +11,8 @@ use Rattle.lock_rules.specs.Timetable.{timetable_from}
 use Rattle.lock_rules.specs.Bound.{flow_of, line_flow}
 use Rattle.master_branch.specs.Steps.{group_in}
 use Rattle.flow_bounds.specs.declared.walk.Walk.{Walk}
-use Rattle.flow_bounds.specs.Walk.{walk_start, serve, serve_all, no_walk, walk_at, AreWalks}
+use Rattle.flow_bounds.specs.Most.{group_flow}
+use Rattle.flow_bounds.specs.Walk.{AreWalks, no_walk, serve, serve_all, walk_at, walk_start}
 
 -- the groups to come add their flow times
 pub serve_all-flow : (I : Instance) (c : ℕ) (w : Walk) (gs : List Group) → (serve_all I c w gs).flow ≡ w.flow + flow_of I gs (timetable_from I c w.stand w.done gs)
@@ -86,7 +87,7 @@ walk-set I c line p g less =
 
 -- one group more, and the walk after it
 pub walks-more : (I : Instance) (c : ℕ) (gs : List Group) (ws : List Walk) (g : Group) (w : Walk) → AreWalks I c gs ws → length gs + 1 < length ws
-    → w ≡ serve I c (serve_all I c (walk_start I c) gs) g → w.done ≤ 1000000 + (length gs + 1) * 12000000 → w.flow ≤ (length gs + 1) * 3000000000
+    → w ≡ serve I c (serve_all I c (walk_start I c) gs) g → w.done ≤ 1000000 + (length gs + 1) * 12000000 → w.flow ≤ (length gs + 1) * group_flow
     → AreWalks I c (gs ++ g ∷ []) (slice_set ws (length gs + 1) w)
 walks-more I c gs ws g w walks room is done flow =
     let start = walk_start I c in

@@ -7,6 +7,7 @@ use Rattle.lock_model.specs.declared.way.Way.{Way}
 use Rattle.lock_rules.specs.Timetable.{ready_at}
 use Rattle.flow_bounds.specs.declared.walk.Walk.{Walk}
 use Rattle.flow_bounds.specs.declared.entering.Entered.{Entered}
+use Rattle.flow_bounds.specs.Most.{group_flow}
 use Rattle.flow_bounds.specs.Walk.{walk_at}
 
 -- the walk w is no further on than v in time: it is done no earlier, and ready for each way no earlier
@@ -19,4 +20,4 @@ pub record IsEntered (I : Instance) (c : ℕ) (line : List Group) (ws : List Wal
   pub within : e.from ≤ length line
   pub behind : IsBehind I c e.walk (walk_at ws e.from)
   pub done : e.walk.done ≤ 1000000 + (e.from + 1) * 12000000
-  pub flow : e.walk.flow ≤ (e.from + 1) * 3000000000
+  pub flow : e.walk.flow ≤ (e.from + 1) * group_flow

@@ -1,5 +1,6 @@
 pub mod Least
 pub mod Load
+pub mod Most
 pub mod Walk
 pub mod Along
 pub mod Entering

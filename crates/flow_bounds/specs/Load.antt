@@ -1,5 +1,6 @@
 -- What the service of a group depends on.
 use Rattle.std.specs.Prelude.{ℕ, ◌≡◌, ◌+◌, ◌*◌, ◌≤◌, ◌<◌, List, length, sum_by, max, slice_index_or}
+use Rattle.lock_model.specs.declared.limits.TheConstants.{MOST}
 use Rattle.lock_model.specs.Fleet.{ship_at}
 use Rattle.lock_model.specs.declared.ship.Ship.{Ship}
 use Rattle.lock_model.specs.declared.instance.Instance.{Instance}
@@ -34,7 +35,7 @@ pub record IsLoadOf (I : Instance) (g : Group) (load : Load) : Type 0 where
 
 -- a load of at most eight ships within the limits
 pub record IsLoad (load : Load) : Type 0 where
-  pub few : load.count ≤ 8
+  pub few : load.count ≤ MOST
   pub handling : load.handling ≤ load.count * 1000000
   pub latest : load.latest ≤ 1000000
   pub small : load.arrivals ≤ load.count * 1000000

@@ -1,6 +1,7 @@
 -- The minutes before which a chamber can't have ended its ships, as they come one by one.
 use Rattle.std.specs.Prelude.{ℕ, ◌++◌, ◌+◌, ◌*◌, ◌≤◌, ◌<◌, List, length, slice_index_or}
 use Rattle.std.specs.List.{flat_map}
+use Rattle.lock_model.specs.declared.limits.TheConstants.{SHIPS}
 use Rattle.lock_model.specs.declared.instance.Instance.{Instance}
 use Rattle.lock_rules.specs.Arrival.{numbers_from}
 use Rattle.lock_rules.specs.Throughput.{copies, places_from, places_on}
@@ -20,7 +21,7 @@ pub record IsEnough (n : ℕ) (p : Places) : Type 0 where
   pub left : 0 < n → 0 < p.left
   pub most : 0 < p.most
   pub pass : p.pass ≤ 1000000
-  pub minute : p.minute + p.later * 1000000 ≤ 30000000
+  pub minute : p.minute + p.later * 1000000 ≤ (SHIPS + 1) * 1000000
 
 abbrev pub no_places : Places
 no_places = record { minute = 0; left = 0; later = 0; most = 0; pass = 0 }

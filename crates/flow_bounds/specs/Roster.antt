@@ -1,5 +1,6 @@
 -- The ships of an instance in arrival order, and what those that are still missing take at the least.
-use Rattle.std.specs.Prelude.{ℕ, ◌≡◌, ◌+◌, ◌<◌, ◌≤◌, List, length, sum_by, slice_index_or}
+use Rattle.std.specs.Prelude.{ℕ, ◌≡◌, ◌+◌, ◌*◌, ◌<◌, ◌≤◌, List, length, sum_by, slice_index_or}
+use Rattle.lock_model.specs.declared.limits.TheConstants.{SHIPS}
 use Rattle.lock_model.specs.declared.instance.Instance.{Instance}
 use Rattle.lock_rules.specs.Arrival.{order_of, missing_ships}
 use Rattle.lock_rules.specs.Bound.{least_passage}
@@ -15,7 +16,7 @@ pub record Roster : Type 0 where
 -- number k of these numbers is the rest at depth k
 pub record AreRests (I : Instance) (rests : List ℕ) : Type 0 where
   pub each : (k : ℕ) → k < length rests → slice_index_or rests k 0 ≡ rest_of I k
-  pub small : (k : ℕ) → k < length rests → slice_index_or rests k 0 ≤ 312000000
+  pub small : (k : ℕ) → k < length rests → slice_index_or rests k 0 ≤ SHIPS * 13000000
 
 -- the roster of the instance
 pub record IsRosterOf (I : Instance) (roster : Roster) : Type 0 where

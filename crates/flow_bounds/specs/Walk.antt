@@ -14,6 +14,7 @@ use Rattle.master_branch.specs.declared.step.Step.{Step}
 use Rattle.master_branch.specs.declared.step.Step.TheVariants.{Join, Open}
 use Rattle.flow_bounds.specs.declared.load.Load.{Load}
 use Rattle.flow_bounds.specs.declared.walk.Walk.{Walk}
+use Rattle.flow_bounds.specs.Most.{group_flow}
 
 -- before the first group of chamber c
 abbrev pub walk_start : Instance → ℕ → Walk
@@ -56,7 +57,7 @@ pub record AreWalks (I : Instance) (c : ℕ) (line : List Group) (ws : List Walk
   pub room : length line < length ws
   pub each : (i : ℕ) → i ≤ length line → walk_at ws i ≡ serve_all I c (walk_start I c) (take i line)
   pub done : (i : ℕ) → i ≤ length line → (walk_at ws i).done ≤ 1000000 + i * 12000000
-  pub flow : (i : ℕ) → i ≤ length line → (walk_at ws i).flow ≤ i * 3000000000
+  pub flow : (i : ℕ) → i ≤ length line → (walk_at ws i).flow ≤ i * group_flow
 
 -- the chamber of a step
 abbrev pub chamber_of : Step → ℕ

@@ -1,5 +1,5 @@
 //! The throughput: what any plan costs, by how many ships the chambers can end by each minute.
-ghost use Rattle.std.specs.Prelude.{◌≡◌, ◌*◌, ◌≤◌, ◌<◌, ℕ, length, All, sum_by};
+ghost use Rattle.std.specs.Prelude.{◌≡◌, ◌*◌, ◌+◌, ◌≤◌, ◌<◌, ℕ, length, All, sum_by};
 ghost use Rattle.lock_model.specs.declared.plan.Plan.{Plan as AnyPlan};
 ghost use Rattle.lock_rules.specs.Plan.{IsLegal, cost_of};
 ghost use Rattle.lock_rules.specs.Throughput.{first_arrival, sum_of_least, places_on, throughput_of};
@@ -8,7 +8,7 @@ ghost use Rattle.flow_bounds.specs.Places.{all_minutes, all_places, minute_at, I
 use crate::least::less;
 use crate::places::{Places, places_on, without_first};
 use arrayvec::ArrayVec;
-use lock_model::Instance;
+use lock_model::{CHAMBERS, Instance, SHIPS};
 
 // The least arrival of all ships.
 fn first_arrival(instance: &Instance) -> u64
@@ -45,7 +45,7 @@ fn sum_of_least(all: &mut [Places], count: u8) -> u64
     requires some { 0 < length all.old }
     requires enough { All (IsEnough count) all.old }
     ensures value { result ≡ sum_of_least count (all_minutes all.old) }
-    ensures small { result ≤ 30000000 * count }
+    ensures small { result ≤ (SHIPS + 1) * 1000000 * count }
 {
     let mut sum = 0;
     for _ in 0..count {
@@ -58,7 +58,7 @@ fn sum_of_least(all: &mut [Places], count: u8) -> u64
 }
 
 // The minutes of all chambers.
-fn all_places(instance: &Instance) -> ArrayVec<Places, 4>
+fn all_places(instance: &Instance) -> ArrayVec<Places, CHAMBERS>
     ensures value { all_minutes result.items ≡ all_places instance.now }
     ensures each { length result.items ≡ length instance.now.chambers }
     ensures enough { All (IsEnough (length instance.now.ships)) result.items }
@@ -74,7 +74,7 @@ fn all_places(instance: &Instance) -> ArrayVec<Places, 4>
 // All handling times, added.
 fn handling(instance: &Instance) -> u64
     ensures value { result ≡ sum_by (λ s. s.handling) instance.now.ships }
-    ensures small { result ≤ 24000000 }
+    ensures small { result ≤ SHIPS * 1000000 }
 {
     let mut sum = 0;
     for ship in instance.ships.as_slice() {
@@ -86,7 +86,7 @@ fn handling(instance: &Instance) -> u64
 // All arrivals, added.
 fn arrivals(instance: &Instance) -> u64
     ensures value { result ≡ sum_by (λ s. s.arrival) instance.now.ships }
-    ensures small { result ≤ 24000000 }
+    ensures small { result ≤ SHIPS * 1000000 }
 {
     let mut sum = 0;
     for ship in instance.ships.as_slice() {
@@ -103,7 +103,7 @@ fn arrivals(instance: &Instance) -> u64
 pub fn throughput(instance: &Instance) -> u64
     ensures value { result ≡ throughput_of instance.now }
     ensures holds { (P : AnyPlan) → IsLegal instance.now P → result ≤ cost_of instance.now P }
-    ensures small { result ≤ 1000000000 }
+    ensures small { result ≤ SHIPS * (SHIPS + 2) * 1000000 }
 {
     let mut all = all_places(instance);
     let count = instance.ships.as_slice().len() as u8;

@@ -14,7 +14,7 @@ ghost use Rattle.flow_bounds.specs.Entering.{IsEntered};
 use crate::line_walks::LineWalks;
 use crate::load::{load_alone, with_one};
 use crate::walk::{Walk, serve};
-use lock_model::{Group, Instance};
+use lock_model::{Group, Instance, MOST, SHIPS};
 use master_branch::{Node, Step};
 
 // How far the walk along a line is once a ship has entered it: the walk after the ship's group, and
@@ -37,10 +37,10 @@ fn joined(
 ) -> Entered
     requires ship_in { ship < length instance.now.ships }
     requires chamber_in { chamber < length instance.now.chambers }
-    requires few { length line.now ≤ 24 }
+    requires few { length line.now ≤ SHIPS }
     requires along { IsAlong instance.now chamber line.now along.now }
     requires place { place < length line.now }
-    requires room { length (group_in line.now place).ships < 8 }
+    requires room { length (group_in line.now place).ships < MOST }
     ensures entered { IsEntered instance.now chamber line.now along.now.walks result }
     ensures flow { (serve_all instance.now chamber result.walk (drop result.from line.now)).flow ≡ line_flow instance.now chamber (slice_set line.now place (with_ship ship (group_in line.now place))) }
 {
@@ -65,7 +65,7 @@ fn opened(
 ) -> Entered
     requires ship_in { ship < length instance.now.ships }
     requires chamber_in { chamber < length instance.now.chambers }
-    requires few { length line.now ≤ 24 }
+    requires few { length line.now ≤ SHIPS }
     requires along { IsAlong instance.now chamber line.now along.now }
     requires place { place ≤ length line.now }
     ensures entered { IsEntered instance.now chamber line.now along.now.walks result }

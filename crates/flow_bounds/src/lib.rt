@@ -5,15 +5,17 @@
 //! holds all ships `bound` is the cost of its earliest plan. `child_bounds` gives the bounds of all
 //! children of a node at once, `children_reaching` tells only which of them are at least a cost; a
 //! `Roster` spares both what is the same at all nodes, and `NodeWalks` is room for what the second
-//! works out of a node. `least_passage` is the least that a ship can
-//! take, served first and alone, and `least_passages` adds it over all ships. `least_bound_is_cheapest` is the law that a search rests on: the least bound of the nodes
-//! that hold all ships and whose groups all fit is the cost of a cheapest plan. No call takes
-//! memory.
+//! works out of a node. `least_passage` is the least that a ship can take, served first and alone, and
+//! `least_passages` adds it over all ships. `least_bound_is_cheapest` is the law that a search rests
+//! on: the least bound of the nodes that hold all ships and whose groups all fit is the cost of a
+//! cheapest plan. No call takes memory.
 //!
 //! Definitions: `lock_rules` says what these numbers are and what a lower bound is (`specs/Bound`,
-//! `Throughput`), and what the search of the whole tree comes to (`Search`). Here `specs/Walk` walks
-//! along a line, by the loads of its groups (`Load`, `Along`), `Entering` says how a walk goes on once a ship has entered its line, `Places` has the minutes of the throughput, `Whole` the earliest plan of a node,
-//! `Missing` a ship that a node lacks, and `Roster` what a roster is.
+//! `Throughput`), and what the search of the whole tree comes to (`Search`). Here `specs/Most` says how
+//! great the numbers become, `Whole` what the earliest plan of a node is, `Missing` a ship that a node
+//! lacks, and `Roster` what a roster is. Private functions rest on `Walk`, which walks along a line by
+//! the loads of its groups (`Load`, `Along`), on `Entering`, where a ship has entered the line, and on
+//! `Places`, the minutes of the throughput.
 #![tactic(auto)]
 
 mod capacity;

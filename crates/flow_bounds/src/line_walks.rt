@@ -1,6 +1,7 @@
 //! The walks along a line, kept at each of its groups.
-ghost use Rattle.std.specs.Prelude.{◌≡◌, ◌↔◌, ◌<◌, ◌≤◌, length, All, IsTrue, drop};
+ghost use Rattle.std.specs.Prelude.{◌≡◌, ◌↔◌, ◌+◌, ◌*◌, ◌<◌, ◌≤◌, length, All, IsTrue, drop};
 ghost use Rattle.std.specs.Bool.{OnTrue};
+ghost use Rattle.flow_bounds.specs.Most.{group_flow};
 ghost use Rattle.flow_bounds.specs.Walk.{serve_all};
 ghost use Rattle.flow_bounds.specs.Along.{IsAlong};
 ghost use Rattle.flow_bounds.specs.Entering.{IsEntered};
@@ -8,14 +9,14 @@ ghost use Rattle.flow_bounds.specs.Entering.{IsEntered};
 use crate::entering::Entered;
 use crate::load::{Load, load_of};
 use crate::walk::{Walk, serve, walk_start};
-use lock_model::{Group, Instance};
+use lock_model::{Group, Instance, SHIPS, SHIPS_AND_ROOT};
 
-// Room for the walks along a line of up to 24 groups: number `i` is after the first `i` groups. Number
+// Room for the walks along a line of up to `SHIPS` groups: number `i` is after the first `i` groups. Number
 // `i` of the loads is that of group `i`, so that a later walk needn't look at its ships again.
 #[derive(Drop)]
 pub(crate) struct LineWalks {
-    pub(crate) walks: [Walk; 25],
-    pub(crate) loads: [Load; 24],
+    pub(crate) walks: [Walk; SHIPS_AND_ROOT],
+    pub(crate) loads: [Load; SHIPS],
 }
 
 impl LineWalks {
@@ -32,7 +33,7 @@ impl LineWalks {
 pub(crate) fn walk_along(instance: &Instance, chamber: u8, line: &[Group], along: &mut LineWalks)
     requires chamber_in { chamber < length instance.now.chambers }
     requires ships_in { All (λ g. All (λ s. s < length instance.now.ships) g.ships) line.now }
-    requires few { length line.now ≤ 24 }
+    requires few { length line.now ≤ SHIPS }
     ensures { IsAlong instance.now chamber line.now along.new }
 {
     let mut walk = walk_start(instance, chamber);
@@ -63,11 +64,11 @@ pub(crate) fn finish(
     entered: Entered,
 ) -> u64
     requires chamber_in { chamber < length instance.now.chambers }
-    requires few { length line.now ≤ 24 }
+    requires few { length line.now ≤ SHIPS }
     requires along { IsAlong instance.now chamber line.now along.now }
     requires entered { IsEntered instance.now chamber line.now along.now.walks entered }
     ensures value { result ≡ (serve_all instance.now chamber entered.walk (drop entered.from line.now)).flow }
-    ensures small { result ≤ 160000000000 }
+    ensures small { result ≤ 2 * (SHIPS + 1) * group_flow }
 {
     let mut walk = entered.walk;
     for i in entered.from..line.len() {
@@ -90,7 +91,7 @@ pub(crate) fn reaches(
     need: u64,
 ) -> bool
     requires chamber_in { chamber < length instance.now.chambers }
-    requires few { length line.now ≤ 24 }
+    requires few { length line.now ≤ SHIPS }
     requires along { IsAlong instance.now chamber line.now along.now }
     requires entered { IsEntered instance.now chamber line.now along.now.walks entered }
     ensures { IsTrue result ↔ (need ≤ (serve_all instance.now chamber entered.walk (drop entered.from line.now)).flow) }

@@ -4,7 +4,7 @@ ghost use Rattle.lock_model.specs.Fleet.{ship_at};
 ghost use Rattle.lock_rules.specs.Children.{single};
 ghost use Rattle.flow_bounds.specs.Load.{no_load, with_one, IsLoad, IsLoadOf};
 
-use lock_model::{Group, Instance, Way};
+use lock_model::{Group, Instance, MOST, Way};
 
 // The way of a group, how many ships it has, their handling times added, the last of their arrivals,
 // and their arrivals added.
@@ -44,7 +44,7 @@ fn no_load(way: Way) -> Load
 pub(crate) fn with_one(instance: &Instance, load: &Load, ship: u8) -> Load
     requires ship_in { ship < length instance.now.ships }
     requires load { IsLoad load.now }
-    requires room { load.now.count < 8 }
+    requires room { load.now.count < MOST }
     ensures value { result ≡ with_one load.now (ship_at instance.now ship) }
     ensures kept { IsLoad result }
 {

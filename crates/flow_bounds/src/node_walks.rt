@@ -1,19 +1,20 @@
 //! The walks along all lines of a node.
-ghost use Rattle.std.specs.Prelude.{◌≡◌, ◌≢◌, ◌<◌, ◌≤◌, ℕ, length};
+ghost use Rattle.std.specs.Prelude.{◌≡◌, ◌≢◌, ◌*◌, ◌<◌, ◌≤◌, ℕ, length};
 ghost use Rattle.lock_rules.specs.Node.{line_at};
 ghost use Rattle.lock_rules.specs.Bound.{line_flow, node_flow};
 ghost use Rattle.master_branch.specs.Node.{IsNodeOf};
 ghost use Rattle.flow_bounds.specs.Along.{IsAlong, along_at, AreAlong};
+ghost use Rattle.flow_bounds.specs.Most.{group_flow};
 
 use crate::line_walks::{LineWalks, walk_along};
-use lock_model::Instance;
+use lock_model::{CHAMBERS, Instance, SHIPS};
 use master_branch::Node;
 
 /// Room for the walks along the lines of a node. It is made once and filled for node after node,
 /// since clearing it takes about as long as filling it.
 #[derive(Drop)]
 pub struct NodeWalks {
-    pub(crate) lines: [LineWalks; 4],
+    pub(crate) lines: [LineWalks; CHAMBERS],
 }
 
 impl NodeWalks {
@@ -54,7 +55,7 @@ pub(crate) fn flow_along(instance: &Instance, node: &Node, along: &LineWalks, ch
     requires chamber_in { chamber < length instance.now.chambers }
     requires along { IsAlong instance.now chamber (line_at node.now.lines chamber) along.now }
     ensures flow { result ≡ line_flow instance.now chamber (line_at node.now.lines chamber) }
-    ensures small { result ≤ 72000000000 }
+    ensures small { result ≤ SHIPS * group_flow }
 {
     let _ = instance;
     let groups = node.line(chamber).len();

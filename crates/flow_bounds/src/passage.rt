@@ -1,5 +1,5 @@
 //! What each ship takes at the least.
-ghost use Rattle.std.specs.Prelude.{◌≡◌, ◌+◌, ◌<◌, ◌≤◌, length, sum_by, IfSome};
+ghost use Rattle.std.specs.Prelude.{◌≡◌, ◌+◌, ◌*◌, ◌<◌, ◌≤◌, length, sum_by, IfSome};
 ghost use Rattle.lock_rules.specs.Arrival.{order_of, missing_ships};
 ghost use Rattle.lock_rules.specs.Bound.{fits_alone, passage_on, least_passage};
 ghost use Rattle.lock_rules.specs.Plan.{IsLegal, cost_of};
@@ -10,7 +10,7 @@ ghost use Rattle.lock_model.specs.declared.plan.Plan.{Plan as AnyPlan};
 
 use crate::least::less;
 use chamber_times::group_times;
-use lock_model::{Group, Instance, Ships, fits_alone};
+use lock_model::{Group, Instance, SHIPS, Ships, fits_alone};
 use master_branch::arrival_order;
 
 // The ship as a group of its own.
@@ -99,7 +99,7 @@ pub fn least_passage(instance: &Instance, ship: u8) -> u64
 pub(crate) fn passages_from(instance: &Instance, depth: u8) -> u64
     requires { depth ≤ length instance.now.ships }
     ensures value { result ≡ sum_by (least_passage instance.now) (missing_ships instance.now depth) }
-    ensures small { result ≤ 312000000 }
+    ensures small { result ≤ SHIPS * 13000000 }
 {
     let order = arrival_order(instance);
     let missing = &order.as_slice()[depth as usize..];

@@ -1,5 +1,5 @@
 //! What a node's ships take once one more ship has entered it.
-ghost use Rattle.std.specs.Prelude.{◌≡◌, ◌+◌, ◌<◌, ◌≤◌, ◌∷◌, ◌++◌, [], ℕ, length, map, All};
+ghost use Rattle.std.specs.Prelude.{◌≡◌, ◌+◌, ◌*◌, ◌<◌, ◌≤◌, ◌∷◌, ◌++◌, [], ℕ, length, map, All};
 ghost use Rattle.std.specs.Bool.{OnTrue, OnFalse};
 ghost use Rattle.lock_rules.specs.Arrival.{next_ship};
 ghost use Rattle.lock_rules.specs.Node.{line_at, times_held};
@@ -9,6 +9,7 @@ ghost use Rattle.master_branch.specs.Node.{IsNodeOf, children};
 ghost use Rattle.master_branch.specs.Steps.{lines_after, IsStep};
 ghost use Rattle.flow_bounds.specs.Missing.{IsMissing};
 ghost use Rattle.flow_bounds.specs.Roster.{IsRosterOf};
+ghost use Rattle.flow_bounds.specs.Most.{group_flow, most_bound};
 ghost use Rattle.flow_bounds.specs.Walk.{chamber_of};
 ghost use Rattle.flow_bounds.specs.Along.{IsAlong};
 
@@ -20,14 +21,14 @@ use crate::node_walks::{flow_along, walk_on};
 use crate::passage::{least_passage, passages_from};
 use crate::roster::Roster;
 use arrayvec::ArrayVec;
-use lock_model::Instance;
+use lock_model::{CHAMBERS, CHILDREN, Instance, SHIPS};
 use master_branch::{Node, Step, arrival_order, steps_by};
 use std::marker::Model;
 
-/// Up to 50 bounds: as many as a node of an instance can have children.
+/// Up to `CHILDREN` bounds: as many as a node of an instance can have children.
 #[derive(Debug, PartialEq, Eq, Drop)]
 pub struct Bounds {
-    items: ArrayVec<u64, 50>,
+    items: ArrayVec<u64, CHILDREN>,
 }
 
 impl Model for Bounds {
@@ -53,7 +54,7 @@ impl Bounds {
     /// The bounds in the order of the children.
     pub fn as_slice(&self) -> &[u64]
         ensures value { result.now ≡ self.now }
-        ensures fits { length result.now ≤ 50 }
+        ensures fits { length result.now ≤ CHILDREN }
     {
         self.items.as_slice()
     }
@@ -79,7 +80,7 @@ impl Bounds {
 
     // Appends a bound.
     fn push(&mut self, bound: u64)
-        requires { length self.old < 50 }
+        requires { length self.old < CHILDREN }
         ensures { self.new ≡ self.old ++ bound ∷ [] }
     {
         self.items.push(bound);
@@ -118,9 +119,9 @@ fn flow_after(
     requires step { IsStep instance.now ship node.now.lines step }
     requires along { IsAlong instance.now (chamber_of step) (line_at node.now.lines (chamber_of step)) along.now }
     requires total { total ≡ node_flow instance.now node.now.lines }
-    requires total_small { total ≤ 240000000000 }
+    requires total_small { total ≤ CHAMBERS * SHIPS * group_flow }
     ensures value { result ≡ node_flow instance.now (lines_after instance.now ship node.now.lines step) }
-    ensures small { result ≤ 400000000000 }
+    ensures small { result ≤ (CHAMBERS + 2) * (SHIPS + 1) * group_flow }
 {
     let chamber = chamber_of(step);
     let line = node.line(chamber);
@@ -150,10 +151,10 @@ fn bounds_by(instance: &Instance, node: &Node, ship: u8, rest: u64, bounds: &mut
     requires node { IsNodeOf instance.now node.now }
     requires ship_in { ship < length instance.now.ships }
     requires absent { times_held ship node.now.lines ≡ 0 }
-    requires rest { rest ≤ 312000000 }
+    requires rest { rest ≤ SHIPS * 13000000 }
     requires none { bounds.old ≡ [] }
     ensures value { bounds.new ≡ map (λ lines. node_flow instance.now lines + rest) (children_by instance.now ship node.now.lines) }
-    ensures small { All (λ b. b ≤ 500000000000) bounds.new }
+    ensures small { All (λ b. b ≤ most_bound) bounds.new }
 {
     let total = node_flow(instance, node);
     let mut chamber = 0;
@@ -174,7 +175,7 @@ pub fn child_bounds(instance: &Instance, roster: &Roster, node: &Node) -> Bounds
     requires lacks { node.now.depth < length instance.now.ships }
     ensures value { result ≡ map (bound_of instance.now (node.now.depth + 1)) (children instance.now node.now) }
     ensures probe { least_number result ≡ probe_of instance.now node.now.depth node.now.lines (next_ship instance.now node.now.depth) }
-    ensures small { All (λ b. b ≤ 500000000000) result }
+    ensures small { All (λ b. b ≤ most_bound) result }
 {
     let ship = roster.ship(instance, node.depth());
     let rest = roster.rest(instance, node.depth() + 1);

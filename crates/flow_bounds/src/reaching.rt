@@ -16,14 +16,14 @@ use crate::node_walks::{NodeWalks, walk_all};
 use crate::probing::other_flows;
 use crate::roster::Roster;
 use arrayvec::ArrayVec;
-use lock_model::Instance;
+use lock_model::{CHILDREN, Instance};
 use master_branch::{Node, Step, Steps};
 use std::marker::Model;
 
-/// For up to 50 children of a node, in their order, whether each one's bound is at least a cost.
+/// For up to `CHILDREN` children of a node, in their order, whether each one's bound is at least a cost.
 #[derive(Debug, PartialEq, Eq, Drop)]
 pub struct Reached {
-    items: ArrayVec<bool, 50>,
+    items: ArrayVec<bool, CHILDREN>,
 }
 
 impl Model for Reached {
@@ -49,7 +49,7 @@ impl Reached {
     /// The answers in the order of the children.
     pub fn as_slice(&self) -> &[bool]
         ensures value { result.now ≡ self.now }
-        ensures fits { length result.now ≤ 50 }
+        ensures fits { length result.now ≤ CHILDREN }
     {
         self.items.as_slice()
     }
@@ -68,7 +68,7 @@ impl Reached {
 
     // Appends an answer.
     fn push(&mut self, reached: bool)
-        requires { length self.old < 50 }
+        requires { length self.old < CHILDREN }
         ensures { self.new ≡ self.old ++ reached ∷ [] }
     {
         self.items.push(reached);

@@ -1,11 +1,11 @@
 //! The order of an instance's ships, and what the missing ones take at the least.
-ghost use Rattle.std.specs.Prelude.{◌≡◌, ◌+◌, ◌<◌, ◌≤◌, length};
+ghost use Rattle.std.specs.Prelude.{◌≡◌, ◌+◌, ◌*◌, ◌<◌, ◌≤◌, length};
 ghost use Rattle.lock_rules.specs.Arrival.{next_ship};
 ghost use Rattle.flow_bounds.specs.Roster.{rest_of, AreRests, IsRosterOf};
 
 use crate::passage::passages_from;
 use arrayvec::ArrayVec;
-use lock_model::Instance;
+use lock_model::{Instance, SHIPS, SHIPS_AND_ROOT};
 use master_branch::{ShipOrder, arrival_order};
 use std::marker::Model;
 
@@ -15,7 +15,7 @@ use std::marker::Model;
 #[derive(Debug, Drop)]
 pub struct Roster {
     order: ShipOrder,
-    rests: ArrayVec<u64, 25>,
+    rests: ArrayVec<u64, SHIPS_AND_ROOT>,
 }
 
 impl Model for Roster {
@@ -27,7 +27,7 @@ impl Model for Roster {
 }
 
 // The least passages of the missing ships by depth, added.
-fn rests(instance: &Instance) -> ArrayVec<u64, 25>
+fn rests(instance: &Instance) -> ArrayVec<u64, SHIPS_AND_ROOT>
     ensures count { length result.items ≡ length instance.now.ships + 1 }
     ensures rests { AreRests instance.now result.items }
 {
@@ -65,7 +65,7 @@ impl Roster {
         requires roster { IsRosterOf instance.now self.now }
         requires depth { depth ≤ length instance.now.ships }
         ensures value { result ≡ rest_of instance.now depth }
-        ensures small { result ≤ 312000000 }
+        ensures small { result ≤ SHIPS * 13000000 }
     {
         let _ = instance;
         self.rests[depth as usize]

@@ -4,11 +4,12 @@ ghost use Rattle.lock_model.specs.declared.group.Group.{Group as AnyGroup};
 ghost use Rattle.lock_rules.specs.Bound.{line_flow};
 ghost use Rattle.lock_rules.specs.Timetable.{first_free, ready_at};
 ghost use Rattle.flow_bounds.specs.Load.{IsLoad, IsLoadOf};
+ghost use Rattle.flow_bounds.specs.Most.{last_end, group_flow};
 ghost use Rattle.flow_bounds.specs.Walk.{walk_start, serve, no_walk, turn_for, end_with};
 
 use crate::load::{Load, load_of};
 use chamber_times::{first_free, stand_after};
-use lock_model::{Chamber, Group, Instance, Stand, Way};
+use lock_model::{Chamber, Group, Instance, MOST, SHIPS, Stand, Way};
 
 // How far a walk is: how the chamber stands, the minute at which it is done with the groups so
 // far, and the flow times of their ships, added.
@@ -49,7 +50,7 @@ pub(crate) fn walk_start(instance: &Instance, chamber: u8) -> Walk
 // has none comes first, so that no branch hangs on `long`, which is 0 at one group and not at the next.
 #[inline]
 fn free_from(lock: &Chamber, long: u64, from: u64) -> u64
-    requires from_small { from ≤ 1000000000 }
+    requires from_small { from ≤ last_end + 1000000 }
     requires long_small { long ≤ 1000000000 }
     ensures value { result ≡ first_free lock.now.closures long from }
     ensures small { result ≤ max from 1000000 }
@@ -76,7 +77,7 @@ fn turn_for(lock: &Chamber, stand: Stand, way: Way) -> u64
 // minutes is free at once, so there is nothing to choose.
 #[inline]
 fn ready(lock: &Chamber, walk: Walk, way: Way) -> u64
-    requires done_small { walk.done ≤ 900000000 }
+    requires done_small { walk.done ≤ last_end }
     requires turn_small { lock.now.turn ≤ 1000000 }
     ensures value { result ≡ ready_at lock.now walk.stand walk.done way }
     ensures small { result ≤ max walk.done 1000000 + 1000000 }
@@ -88,7 +89,7 @@ fn ready(lock: &Chamber, walk: Walk, way: Way) -> u64
 // The end of a load that is served behind a walk.
 #[inline]
 fn end_with(lock: &Chamber, walk: Walk, load: &Load) -> u64
-    requires done_small { walk.done ≤ 900000000 }
+    requires done_small { walk.done ≤ last_end }
     requires turn_small { lock.now.turn ≤ 1000000 }
     requires pass_small { lock.now.pass ≤ 1000000 }
     requires load { IsLoad load.now }
@@ -106,9 +107,9 @@ fn end_with(lock: &Chamber, walk: Walk, load: &Load) -> u64
 fn flow_until(load: &Load, end: u64) -> u64
     requires load { IsLoad load.now }
     requires late { load.now.latest ≤ end }
-    requires end_small { end ≤ 1000000000 }
+    requires end_small { end ≤ last_end + 12000000 }
     ensures value { result ≡ load.now.count * end - load.now.arrivals }
-    ensures small { result ≤ 8 * end }
+    ensures small { result ≤ MOST * end }
 {
     load.count as u64 * end - load.arrivals as u64
 }
@@ -118,11 +119,11 @@ fn flow_until(load: &Load, end: u64) -> u64
 pub(crate) fn serve(instance: &Instance, chamber: u8, walk: Walk, load: &Load) -> Walk
     requires chamber_in { chamber < length instance.now.chambers }
     requires load { IsLoad load.now }
-    requires done_small { walk.done ≤ 900000000 }
-    requires flow_small { walk.flow ≤ 1000000000000 }
+    requires done_small { walk.done ≤ last_end }
+    requires flow_small { walk.flow ≤ (SHIPS + 1) * group_flow }
     ensures value { (g : AnyGroup) → IsLoadOf instance.now g load.now → result ≡ serve instance.now chamber walk g }
     ensures done { result.done ≤ max walk.done 1000000 + 12000000 }
-    ensures flow { result.flow ≤ walk.flow + 8 * result.done }
+    ensures flow { result.flow ≤ walk.flow + MOST * result.done }
 {
     let lock = &instance.chambers.as_slice()[chamber as usize];
     let end = end_with(lock, walk, load);
@@ -137,9 +138,9 @@ pub(crate) fn serve(instance: &Instance, chamber: u8, walk: Walk, load: &Load) -
 pub(crate) fn line_flow(instance: &Instance, chamber: u8, line: &[Group]) -> u64
     requires chamber_in { chamber < length instance.now.chambers }
     requires ships_in { All (λ g. All (λ s. s < length instance.now.ships) g.ships) line.now }
-    requires few { length line.now ≤ 24 }
+    requires few { length line.now ≤ SHIPS }
     ensures value { result ≡ line_flow instance.now chamber line.now }
-    ensures small { result ≤ 60000000000 }
+    ensures small { result ≤ SHIPS * group_flow }
 {
     let mut walk = walk_start(instance, chamber);
     for group in line {

@@ -2,6 +2,7 @@
 use Rattle.std.proofs.Common.{◌≡◌, ℕ, suc, ◌+◌, ◌<◌, List, length, map, sym, ap, ◌∙◌, subst, arith, slice_index_or, Contains}
 use Rattle.std.proofs.lemmas.List.{get_or-map, length-map}
 use Rattle.std.proofs.lemmas.List.Elements.{All-contains}
+use Rattle.lock_model.specs.declared.limits.TheConstants.{SHIPS}
 use Rattle.lock_model.specs.declared.instance.Instance.{Instance}
 use Rattle.lock_model.specs.declared.group.Group.{Group}
 use Rattle.lock_rules.specs.Arrival.{next_ship}
@@ -22,7 +23,7 @@ pub record MayStep (I : Instance) (k s : ℕ) (lines : List (List Group)) (step 
   pub known : s < length I.ships
   pub allowed : IsStep I s lines step
   pub absent : (c : ℕ) → times_on s (line_at lines c) ≡ 0
-  pub room : groups_held lines < 24
+  pub room : groups_held lines < SHIPS
   pub node : IsNode I (k + 1) (lines_after I s lines step)
 
 -- the lines after step i are child i's

@@ -1,7 +1,6 @@
--- A legal plan under a node lies under exactly one child; how large the limit of nodes may be.
+-- A legal plan under a node lies under exactly one child; the limit of nodes rises with the ships.
 use Rattle.std.proofs.Common.{◌≡◌, ◌≢◌, ℕ, zero, suc, ◌+◌, ◌*◌, ◌<◌, ◌≤◌, List, [], ◌∷◌, length, AllPairs, inl, inr, refl, sym, ap, ◌∙◌, subst, arith, slice_index_or}
 use Rattle.std.proofs.lemmas.Bool.Decides.{leb_tells}
-use Rattle.std.proofs.Math.Nat.{mul-le-mul, mul-le-mul_left}
 use Rattle.lock_model.specs.declared.instance.Instance.{Instance}
 use Rattle.lock_model.specs.declared.group.Group.{Group}
 use Rattle.lock_model.specs.declared.plan.Plan.{Plan}
@@ -65,34 +64,13 @@ under-one-child I node P good less legal under =
           (one-node I (suc k) (child_lines I node i) (child_lines I node place.0) P (nodes i root_lines inside) (nodes place.0 root_lines place.1) other over);
     }
 
--- more chambers make wider trees, and so do more ships
-width-chambers : (m k : ℕ) → m ≤ 4 → tree_width m k ≤ tree_width 4 k
-width-chambers m zero few = omega arith
-width-chambers m (suc k) few = let factor : 2 * k + m ≤ 2 * k + 4 = omega arith in mul-le-mul (width-chambers m k few) factor
-
-width-ships : (k n : ℕ) → k ≤ n → tree_width 4 k ≤ tree_width 4 n
-width-ships k n le = elim (leb_tells n k) [
-  | inl same ↦ let equal : k ≡ n = omega (arith, same.1) in omega (arith, ap (tree_width 4) equal)
-  | inr more ↦ deeper k n (omega (arith, more.1))
+-- more ships make a greater limit, and what it adds is within it
+limit-rises : (m k n : ℕ) → k ≤ n → node_limit k m ≤ node_limit n m
+limit-rises m k zero le = let none : k ≡ 0 = omega (arith, le) in omega (arith, ap (λ k. node_limit k m) none)
+limit-rises m k (suc n) le = elim (leb_tells k n) [
+  | inl less ↦ omega (arith, limit-rises m k n less.1)
+  | inr more ↦ let equal : k ≡ suc n = omega (arith, le, more.1) in omega (arith, ap (λ k. node_limit k m) equal)
 ]
-  where
-    wider : (n : ℕ) → tree_width 4 n ≤ tree_width 4 (suc n)
-    wider n = let factor : 1 ≤ 2 * n + 4 = omega arith in omega (arith, mul-le-mul_left (tree_width 4 n) factor)
 
-    deeper : (k n : ℕ) → k < n → tree_width 4 k ≤ tree_width 4 n
-    deeper k zero less = absurd (omega arith)
-    deeper k (suc n) less = elim (leb_tells n k) [
-      | inl same ↦ let equal : k ≡ n = omega (arith, same.1) in omega (arith, ap (tree_width 4) equal, wider n)
-      | inr more ↦ omega (arith, deeper k n (omega (arith, more.1)), wider n)
-    ]
-
--- with at most 24 ships and 4 chambers a depth has at most so many nodes
-pub width-bound : (m k : ℕ) → m ≤ 4 → k ≤ 24 → tree_width m k ≤ 260234921318333311346540544000000
-width-bound m k few here = omega (arith, width-chambers m k few, width-ships k 24 here, widest)
-  where
-    widest : tree_width 4 24 ≡ 260234921318333311346540544000000
-    widest = refl
-
-pub limit-bound : (m k : ℕ) → m ≤ 4 → k ≤ 24 → node_limit k m ≤ (k + 1) * 260234921318333311346540544000000
-limit-bound m zero few here = omega arith
-limit-bound m (suc k) few here = omega (arith, limit-bound m k few (omega (arith, here)), width-bound m (suc k) few here)
+pub limit-step : (m k n : ℕ) → k < n → node_limit k m + tree_width m k * (2 * k + m) ≤ node_limit n m
+limit-step m k n less = limit-rises m (suc k) n (omega (arith, less))

@@ -5,6 +5,7 @@ use Rattle.std.proofs.lemmas.List.{length-map, length-set, length-drop, drop-set
 use Rattle.std.proofs.lemmas.List.Edits.{length-insert}
 use Rattle.std.proofs.lemmas.List.Elements.{All-head, All-tail}
 use Rattle.std.proofs.Math.Seq.{take-set-lt}
+use Rattle.lock_model.specs.declared.limits.TheConstants.{CHAMBERS}
 use Rattle.lock_model.specs.declared.group.Group.{Group}
 use Rattle.lock_rules.specs.Node.{line_at, size_held}
 use Rattle.lock_rules.proofs.SizeLemmas.{groups-few}
@@ -158,7 +159,7 @@ groups-held-few (line ∷ lines) some =
     omega (arith, groups-few line (All-head P line lines some), groups-held-few lines (All-tail P line lines some))
 
 -- four lines in a row: where line c begins, how far it goes, and what it is
-module _ (row : List Group) (ends : List ℕ) (lines : List (List Group)) (c start : ℕ) (kept : IsCutRow row ends) (view : cut_from 0 row ends ≡ lines) (chamber : c < 4) (begins : start ≡ start_from 0 ends c) where
+module _ (row : List Group) (ends : List ℕ) (lines : List (List Group)) (c start : ℕ) (kept : IsCutRow row ends) (view : cut_from 0 row ends ≡ lines) (chamber : c < CHAMBERS) (begins : start ≡ start_from 0 ends c) where
   here : c < length ends
   here = omega (arith, kept.four, chamber)
 
@@ -193,7 +194,7 @@ module _ (row : List Group) (ends : List ℕ) (lines : List (List Group)) (c sta
 pub row-set : (row : List Group) (ends : List ℕ) (i : ℕ) (g : Group) → IsCutRow row ends → IsCutRow (slice_set row i g) ends
 row-set row ends i g kept = record { four = kept.four; cut = subst (IsCutFrom 0 ends) (sym (length-set row i g)) kept.cut }
 
-pub row-insert : (row : List Group) (ends : List ℕ) (c i : ℕ) (g : Group) → IsCutRow row ends → c < 4 → i ≤ length row → IsCutRow (insert row i g) (raised ends c)
+pub row-insert : (row : List Group) (ends : List ℕ) (c i : ℕ) (g : Group) → IsCutRow row ends → c < CHAMBERS → i ≤ length row → IsCutRow (insert row i g) (raised ends c)
 row-insert row ends c i g kept chamber within = record {
   four = length-raised ends c ∙ kept.four;
   cut = subst (IsCutFrom 0 (raised ends c)) (sym (length-insert row i g within)) (raised-cuts 0 ends c (length row) kept.cut (omega (arith, kept.four, chamber)));

@@ -1,5 +1,6 @@
 -- The lines of a node as one row of groups: what the code keeps, and no public contract names.
 use Rattle.std.specs.Prelude.{ℕ, zero, suc, ◌≡◌, ◌≤◌, ◌+◌, ◌-◌, List, [], ◌∷◌, ◌++◌, length, map, take, drop, slice_index_or}
+use Rattle.lock_model.specs.declared.limits.TheConstants.{CHAMBERS}
 use Rattle.lock_model.specs.declared.group.Group.{Group}
 
 -- the groups of a row from number `start` up to number `end`
@@ -16,9 +17,9 @@ abbrev pub IsCutFrom : ℕ → List ℕ → ℕ → Type 0
 IsCutFrom start [] n = start ≡ n
 IsCutFrom start (end ∷ ends) n = (start ≤ end) × IsCutFrom end ends n
 
--- a row that is cut into four lines
+-- a row that is cut into a line for each chamber
 pub record IsCutRow (row : List Group) (ends : List ℕ) : Type 0 where
-  pub four : length ends ≡ 4
+  pub four : length ends ≡ CHAMBERS
   pub cut : IsCutFrom 0 ends (length row)
 
 -- the row that is cut into these lines, and its ends

@@ -11,14 +11,14 @@ use crate::joining::join;
 use crate::lines::Lines;
 use crate::node::Node;
 use crate::step::{Step, steps_by};
-use lock_model::{Group, Instance, Ships};
+use lock_model::{Group, Instance, SHIPS, Ships};
 
 // Puts a ship that stands in no line into the lines by a step.
 fn enter(lines: &mut Lines, instance: &Instance, ship: u8, step: Step)
     requires known { ship < length instance.now.ships }
     requires step { IsStep instance.now ship lines.old step }
     requires absent { (c : ℕ) → times_on ship (line_at lines.old c) ≡ 0 }
-    requires room { groups_held lines.old < 24 }
+    requires room { groups_held lines.old < SHIPS }
     ensures { lines.new ≡ lines_after instance.now ship lines.old step }
 {
     match step {

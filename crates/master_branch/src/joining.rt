@@ -6,7 +6,7 @@ ghost use Rattle.lock_rules.specs.Children.{insert_number, with_ship};
 ghost use Rattle.master_branch.specs.Steps.{group_in};
 
 use crate::lines::Lines;
-use lock_model::{Group, Ships};
+use lock_model::{CHAMBERS, Group, MOST, Ships};
 
 // The place of a ship among rising numbers: before the first that is greater.
 fn place_among(ships: &[u8], ship: u8) -> usize
@@ -36,10 +36,10 @@ fn ship_after(ships: &[u8], place: usize, ship: u8, i: usize) -> u8
     }
 }
 
-/// The group with a ship more, its ships in rising number. It holds fewer than 8 ships, and not
+/// The group with a ship more, its ships in rising number. It holds fewer than `MOST` ships, and not
 /// this one.
 pub fn with_ship(group: &Group, ship: u8) -> Group
-    requires room { length group.now.ships < 8 }
+    requires room { length group.now.ships < MOST }
     requires absent { times_in group.now.ships ship ≡ 0 }
     ensures { result ≡ with_ship ship group.now }
 {
@@ -57,9 +57,9 @@ pub fn with_ship(group: &Group, ship: u8) -> Group
 
 // Puts a ship into the group at a place of a chamber's line.
 pub(crate) fn join(lines: &mut Lines, chamber: u8, place: u8, ship: u8)
-    requires chamber { chamber < 4 }
+    requires chamber { chamber < CHAMBERS }
     requires place { place < length (line_at lines.old chamber) }
-    requires room { length (group_in (line_at lines.old chamber) place).ships < 8 }
+    requires room { length (group_in (line_at lines.old chamber) place).ships < MOST }
     requires absent { times_in (group_in (line_at lines.old chamber) place).ships ship ≡ 0 }
     ensures { lines.new ≡ slice_set lines.old chamber (slice_set (line_at lines.old chamber) place (with_ship ship (group_in (line_at lines.old chamber) place))) }
 {

@@ -1,5 +1,6 @@
 //! Laws of the tree, as contracts.
-ghost use Rattle.std.specs.Prelude.{◌≡◌, ◌≢◌, ◌<◌, ◌≤◌, suc, length, All, AllPairs};
+ghost use Rattle.std.specs.Prelude.{◌≡◌, ◌≢◌, ◌<◌, ◌≤◌, ◌^◌, suc, length, All, AllPairs, IfSome};
+ghost use Rattle.std.specs.Option.{SomeIff};
 ghost use Rattle.lock_model.specs.declared.plan.Plan.{Plan as AnyPlan};
 ghost use Rattle.lock_rules.specs.Plan.{IsLegal};
 ghost use Rattle.lock_rules.specs.Node.{IsNode, root_lines};
@@ -26,18 +27,24 @@ pub fn children_split_plans(instance: &Instance, node: &Node)
 }
 
 /// N(n,m), for the n ships and m chambers of an instance: the sum over k = 0 to n of the product
-/// over i = 1 to k of 2 (i - 1) + m. The tree from the root has at most so many nodes. Takes no
-/// memory.
-pub fn node_limit(instance: &Instance) -> u128
-    ensures value { result ≡ node_limit (length instance.now.ships) (length instance.now.chambers) }
-    ensures law { nodes_from instance.now (length instance.now.ships) 0 root_lines ≤ result }
+/// over i = 1 to k of 2 (i - 1) + m; None exactly where that takes more than 128 bits. The tree from
+/// the root has at most so many nodes. Takes no memory.
+pub fn node_limit(instance: &Instance) -> Option<u128>
+    ensures value { SomeIff result (node_limit (length instance.now.ships) (length instance.now.chambers) < 2 ^ 128) (node_limit (length instance.now.ships) (length instance.now.chambers)) }
+    ensures law { IfSome result (λ limit. nodes_from instance.now (length instance.now.ships) 0 root_lines ≤ limit) }
 {
     let chambers = instance.chambers.as_slice().len() as u128;
     let mut width: u128 = 1;
     let mut limit: u128 = 1;
     for depth in 0..instance.ships.as_slice().len() {
-        width *= 2 * depth as u128 + chambers;
-        limit += width;
+        let Some(wider) = width.checked_mul(2 * depth as u128 + chambers) else {
+            return None;
+        };
+        let Some(more) = limit.checked_add(wider) else {
+            return None;
+        };
+        width = wider;
+        limit = more;
     }
-    limit
+    Some(limit)
 }

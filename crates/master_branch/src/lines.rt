@@ -1,19 +1,19 @@
-//! The lines of the four chambers as one row of groups.
+//! The lines of the chambers as one row of groups.
 ghost use Rattle.std.specs.Prelude.{◌≡◌, ◌↔◌, ◌<◌, ◌≤◌, length, All, IsTrue, insert, slice_set};
 ghost use Rattle.lock_rules.specs.Node.{line_at, root_lines};
 ghost use Rattle.master_branch.specs.Row.{part, start_from, raised, groups_held};
 
 use arrayvec::ArrayVec;
-use lock_model::Group;
+use lock_model::{CHAMBERS, Group, SHIPS};
 use std::marker::Model;
 
 // The lines of the chambers: the groups of the first chamber in order of service, then those of the
-// second, and so on, up to 24 in all.
+// second, and so on, up to `SHIPS` in all.
 #[derive(Debug, PartialEq, Eq, Drop)]
 pub(crate) struct Lines {
-    row: ArrayVec<Group, 24>,
+    row: ArrayVec<Group, SHIPS>,
     // where the line of each chamber ends in the row
-    ends: [u8; 4],
+    ends: [u8; CHAMBERS],
 }
 
 impl Model for Lines {
@@ -34,21 +34,21 @@ impl Model for Lines {
 }
 
 impl Lines {
-    // Four lines without a group.
+    // Lines without a group.
     pub(crate) fn new() -> Lines
         ensures { result ≡ root_lines }
     {
         Lines {
             row: ArrayVec::new(),
-            ends: [0; 4],
+            ends: [0; CHAMBERS],
         }
     }
 
     // The groups of a chamber in order of service.
     pub(crate) fn line(&self, chamber: u8) -> &[Group]
-        requires { chamber < 4 }
+        requires { chamber < CHAMBERS }
         ensures value { result.now ≡ line_at self.now chamber }
-        ensures fits { length result.now ≤ 24 }
+        ensures fits { length result.now ≤ SHIPS }
     {
         let start = start_of(&self.ends, chamber);
         let end = self.ends[chamber as usize];
@@ -57,7 +57,7 @@ impl Lines {
 
     // Puts a group in the place of another one of a chamber's line.
     pub(crate) fn set(&mut self, chamber: u8, place: u8, group: Group)
-        requires chamber { chamber < 4 }
+        requires chamber { chamber < CHAMBERS }
         requires place { place < length (line_at self.old chamber) }
         ensures { self.new ≡ slice_set self.old chamber (slice_set (line_at self.old chamber) place group) }
     {
@@ -67,9 +67,9 @@ impl Lines {
 
     // Puts a group into a chamber's line, before the one at this place or behind the last.
     pub(crate) fn insert(&mut self, chamber: u8, place: u8, group: Group)
-        requires chamber { chamber < 4 }
+        requires chamber { chamber < CHAMBERS }
         requires place { place ≤ length (line_at self.old chamber) }
-        requires room { groups_held self.old < 24 }
+        requires room { groups_held self.old < SHIPS }
         ensures { self.new ≡ slice_set self.old chamber (insert (line_at self.old chamber) place group) }
     {
         let start = start_of(&self.ends, chamber);
@@ -99,8 +99,8 @@ impl Lines {
     }
 }
 
-// Whether four lines end at the same places as four others.
-fn same_ends(some: &[u8; 4], others: &[u8; 4]) -> bool
+// Whether lines end at the same places as others.
+fn same_ends(some: &[u8; CHAMBERS], others: &[u8; CHAMBERS]) -> bool
     ensures { IsTrue result ↔ some.now ≡ others.now }
 {
     some == others
@@ -127,8 +127,8 @@ fn same_groups(some: &[Group], others: &[Group]) -> bool
 }
 
 // Where the line of a chamber begins in the row.
-fn start_of(ends: &[u8; 4], chamber: u8) -> u8
-    requires { chamber < 4 }
+fn start_of(ends: &[u8; CHAMBERS], chamber: u8) -> u8
+    requires { chamber < CHAMBERS }
     ensures { result ≡ start_from 0 ends.now chamber }
 {
     if chamber == 0 {
@@ -148,7 +148,7 @@ fn part_of(row: &[Group], start: usize, end: usize) -> &[Group]
 }
 
 // Puts a group in the place of group `i` of a row.
-fn put(row: &mut ArrayVec<Group, 24>, i: usize, group: Group)
+fn put(row: &mut ArrayVec<Group, SHIPS>, i: usize, group: Group)
     requires { i < length row.old.items }
     ensures { row.new.items ≡ slice_set row.old.items i group }
 {
@@ -156,9 +156,9 @@ fn put(row: &mut ArrayVec<Group, 24>, i: usize, group: Group)
 }
 
 // The ends once a line has a group more.
-fn raised(ends: [u8; 4], chamber: u8) -> [u8; 4]
-    requires chamber { chamber < 4 }
-    requires room { All (λ end. end < 24) ends }
+fn raised(ends: [u8; CHAMBERS], chamber: u8) -> [u8; CHAMBERS]
+    requires chamber { chamber < CHAMBERS }
+    requires room { All (λ end. end < SHIPS) ends }
     ensures { result ≡ raised ends chamber }
 {
     let [first, second, third, fourth] = ends;

@@ -6,7 +6,7 @@ ghost use Rattle.lock_rules.specs.Trace.{IsUnder};
 ghost use Rattle.master_branch.specs.Node.{IsNodeOf};
 
 use crate::lines::Lines;
-use lock_model::{Group, Instance};
+use lock_model::{CHAMBERS, Group, Instance, SHIPS};
 use std::marker::Model;
 
 /// The first ships in arrival order in groups, chamber by chamber in order of service. No group is
@@ -17,8 +17,8 @@ pub struct Node {
     pub(crate) lines: Lines,
 }
 
-// The bytes that a node takes: a search copies many.
-const _: () = prove!(size_of::<Node>() == 264);
+// The bytes that a node takes, those of its groups and 24 more: a search copies many.
+const _: () = prove!(size_of::<Node>() == (SHIPS * size_of::<Group>() + 7) / 8 * 8 + 24);
 
 impl Model for Node {
     ghost use Rattle.lock_rules.specs.Node.{Node as Held, KeepsNode};
@@ -43,9 +43,9 @@ impl Node {
 
     /// The groups of a chamber in order of service.
     pub fn line(&self, chamber: u8) -> &[Group]
-        requires { chamber < 4 }
+        requires { chamber < CHAMBERS }
         ensures value { result.now ≡ line_at self.now.lines chamber }
-        ensures fits { length result.now ≤ 24 }
+        ensures fits { length result.now ≤ SHIPS }
     {
         self.lines.line(chamber)
     }

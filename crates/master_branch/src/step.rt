@@ -6,7 +6,7 @@ ghost use Rattle.master_branch.specs.Steps.{may_join, joins_at, opens_at, steps_
 
 use crate::node::Node;
 use arrayvec::ArrayVec;
-use lock_model::{Group, Instance, Way};
+use lock_model::{CHILDREN, Group, Instance, SHIPS, Way};
 use std::marker::Model;
 
 /// What a child does with the ship that it places.
@@ -29,10 +29,10 @@ impl Default for Step {
     }
 }
 
-/// Up to 50 steps: as many as a node of an instance can have children.
+/// Up to `CHILDREN` steps: as many as a node of an instance can have children.
 #[derive(Debug, PartialEq, Eq, Drop)]
 pub struct Steps {
-    items: ArrayVec<Step, 50>,
+    items: ArrayVec<Step, CHILDREN>,
 }
 
 impl Model for Steps {
@@ -59,14 +59,14 @@ impl Steps {
     /// The steps in the order of the children.
     pub fn as_slice(&self) -> &[Step]
         ensures value { result.now ≡ self.now }
-        ensures fits { length result.now ≤ 50 }
+        ensures fits { length result.now ≤ CHILDREN }
     {
         self.items.as_slice()
     }
 
     // Appends a step.
     fn push(&mut self, step: Step)
-        requires { length self.old < 50 }
+        requires { length self.old < CHILDREN }
         ensures { self.new ≡ self.old ++ step ∷ [] }
     {
         self.items.push(step);
@@ -82,8 +82,8 @@ fn may_join(most: u8, way: Way, group: &Group) -> bool
 
 // Appends a step for each group of a line that the ship may join.
 fn push_joins(steps: &mut Steps, most: u8, way: Way, chamber: u8, line: &[Group])
-    requires few { length line.now ≤ 24 }
-    requires room { length steps.old + length (joins_at most way chamber line.now) ≤ 50 }
+    requires few { length line.now ≤ SHIPS }
+    requires room { length steps.old + length (joins_at most way chamber line.now) ≤ CHILDREN }
     ensures { steps.new ≡ steps.old ++ joins_at most way chamber line.now }
 {
     for (place, group) in line.iter().enumerate() {
@@ -98,7 +98,7 @@ fn push_joins(steps: &mut Steps, most: u8, way: Way, chamber: u8, line: &[Group]
 
 // Appends a step for each of the first `count` places of a new group.
 fn push_opens(steps: &mut Steps, chamber: u8, count: u8)
-    requires { length steps.old + count ≤ 50 }
+    requires { length steps.old + count ≤ CHILDREN }
     ensures { steps.new ≡ steps.old ++ opens_at chamber count }
 {
     for place in 0..count {
@@ -110,7 +110,7 @@ fn push_opens(steps: &mut Steps, chamber: u8, count: u8)
 fn push_steps(steps: &mut Steps, instance: &Instance, node: &Node, ship: u8, chamber: u8)
     requires ship_in { ship < length instance.now.ships }
     requires chamber_in { chamber < length instance.now.chambers }
-    requires room { length steps.old + length (steps_at instance.now ship node.now.lines chamber) ≤ 50 }
+    requires room { length steps.old + length (steps_at instance.now ship node.now.lines chamber) ≤ CHILDREN }
     ensures { steps.new ≡ steps.old ++ steps_at instance.now ship node.now.lines chamber }
 {
     let way = instance.ships.as_slice()[ship as usize].way;

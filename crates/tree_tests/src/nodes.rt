@@ -21,7 +21,7 @@ fn a_tree_has_no_more_nodes_than_its_law_allows(rt: HostRuntime) -> Result<(), F
     let two = two_ships(240).ok_or("no instance")?;
     assert!(rt; !two.ships.as_slice().is_empty());
     children_split_plans(&two, &root(&two));
-    assert!(rt; node_limit(&two) == 5);
-    assert!(rt; node_limit(&three_ships().ok_or("no instance")?) == 20);
+    assert!(rt; node_limit(&two) == Some(5));
+    assert!(rt; node_limit(&three_ships().ok_or("no instance")?) == Some(20));
     Ok(())
 }

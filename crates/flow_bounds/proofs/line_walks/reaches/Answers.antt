@@ -1,4 +1,4 @@
-use Rattle.std.proofs.Common.{◌<◌, ◌≤◌, ◌+◌, true, false, length, ap, refl, arith, ◌∙◌, sym, subst}
+use Rattle.std.proofs.Common.{◌<◌, ◌≤◌, ◌+◌, length, ap, refl, arith, ◌∙◌, sym, subst}
 use Rattle.std.proofs.lemmas.Bool.{false≢true}
 use Rattle.master_branch.specs.Steps.{group_in}
 use Rattle.flow_bounds.specs.Walk.{serve, walk_at}

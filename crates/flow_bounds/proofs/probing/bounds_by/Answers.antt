@@ -9,6 +9,7 @@ use Rattle.master_branch.specs.declared.step.Step.{Step}
 use Rattle.master_branch.specs.declared.step.Step.TheVariants.{Join}
 use Rattle.master_branch.specs.Steps.{lines_after}
 use Rattle.flow_bounds.proofs.ProbeLemmas.{missing-once, missing-lacks, map-more}
+use Rattle.flow_bounds.specs.Most.{most_bound}
 use Rattle.flow_bounds.proofs.probing.bounds_by.Goals as goal
 
 pub steps_by-steps-requires-clause-lacks : goal.steps_by-steps-requires-clause-lacks
@@ -24,7 +25,7 @@ loop-step-preserved c =
     record {
       along = subst (λ k. IsAlong I k (line_at c.args.node.now.lines k) c.turn_to.new.along) (sym c.turn_to.ensures.at) c.turn_to.ensures.along;
       value = c.push.ensures ∙ map-more f c.as_slice-step-items.result.now c.loop-step.step-index (Join 0 0) c.loop-step.bounds _ (omega arith) c.loop-step.invariant.value (omega (arith, c.flow_after.ensures.value));
-      small = subst (All (λ b. b ≤ 500000000000)) (sym c.push.ensures) (All-append (λ b. b ≤ 500000000000) c.loop-step.bounds _ c.loop-step.invariant.small (All-cons (λ b. b ≤ 500000000000) _ [] (omega (arith, c.flow_after.ensures.small, c.requires.rest)) (All-nil (λ b. b ≤ 500000000000))));
+      small = subst (All (λ b. b ≤ most_bound)) (sym c.push.ensures) (All-append (λ b. b ≤ most_bound) c.loop-step.bounds _ c.loop-step.invariant.small (All-cons (λ b. b ≤ most_bound) _ [] (omega (arith, c.flow_after.ensures.small, c.requires.rest)) (All-nil (λ b. b ≤ most_bound))));
     }
 
 pub returns-clause-value : goal.returns-clause-value

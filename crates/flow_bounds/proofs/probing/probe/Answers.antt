@@ -5,6 +5,7 @@ use Rattle.lock_rules.specs.Plan.{times_in}
 use Rattle.lock_rules.specs.Bound.{node_flow, least_passage, least_number, probe_of, IsLowerBound}
 use Rattle.lock_rules.proofs.SplitLemmas.{probe-holds}
 use Rattle.flow_bounds.proofs.ProbeLemmas.{missing-once, others-sum}
+use Rattle.flow_bounds.specs.Most.{most_bound}
 use Rattle.flow_bounds.proofs.probing.probe.Goals as goal
 
 pub overflow_sub-others : goal.overflow_sub-others
@@ -16,7 +17,7 @@ overflow_sub-others c =
     omega (arith, others-sum (least_passage I) c.args.ship (missing_ships I n.depth) once, missing, c.passages_from.ensures.value, c.least_passage.ensures.value)
 
 pub overflow_add-result : goal.overflow_add-result
-overflow_add-result c = omega (arith, c.least.ensures.among 500000000000 c.bounds_by.ensures.small, c.passages_from.ensures.small)
+overflow_add-result c = omega (arith, c.least.ensures.among most_bound c.bounds_by.ensures.small, c.passages_from.ensures.small)
 
 value : (c : goal.After-least) → c.least.result + (c.passages_from.result - c.least_passage.result) ≡ probe_of c.args.instance.now c.args.node.now.depth c.args.node.now.lines c.args.ship
 value c =

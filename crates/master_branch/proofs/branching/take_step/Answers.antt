@@ -1,4 +1,5 @@
 use Rattle.std.proofs.Common.{◌≡◌, ◌+◌, ◌<◌, sym, ap, ◌∙◌, subst}
+use Rattle.lock_model.specs.declared.limits.TheConstants.{SHIPS}
 use Rattle.lock_rules.specs.Node.{line_at, times_on, IsNode}
 use Rattle.lock_rules.proofs.SizeLemmas.{node-kept}
 use Rattle.master_branch.specs.Row.{groups_held}
@@ -23,7 +24,7 @@ enter-requires-clause-absent c =
 pub enter-requires-clause-room : goal.enter-requires-clause-room
 enter-requires-clause-room c =
     let may = may-step c.args.instance.now c.args.node.now.depth c.args.ship c.args.node.now.lines c.args.step c.requires.node c.requires.lacks c.requires.next c.requires.step in
-    subst (λ lines. groups_held lines < 24) (sym (ap (λ n. n.lines) c.node.view_is)) may.room
+    subst (λ lines. groups_held lines < SHIPS) (sym (ap (λ n. n.lines) c.node.view_is)) may.room
 
 pub returns-clause-node : goal.returns-clause-node
 returns-clause-node c =

@@ -1,24 +1,35 @@
-use Rattle.std.proofs.Common.{◌≡◌, ◌+◌, ◌*◌, ◌≤◌, suc, length, arith, ap, ◌∙◌}
+use Rattle.std.proofs.Common.{◌≡◌, ◌+◌, ◌*◌, ◌<◌, length, arith, ap, ◌∙◌}
 use Rattle.lock_rules.specs.Size.{tree_width, node_limit}
 use Rattle.lock_rules.proofs.SizeLemmas.{nodes-law}
-use Rattle.master_branch.proofs.LawLemmas.{width-bound, limit-bound}
+use Rattle.master_branch.proofs.LawLemmas.{limit-step}
 use Rattle.master_branch.proofs.laws.node_limit.Goals as goal
 
-pub overflow_mul-width-in-loop-depth : goal.overflow_mul-width-in-loop-depth
-overflow_mul-width-in-loop-depth c =
+pub returns-in_default-clause-value : goal.returns-in_default-clause-value
+returns-in_default-clause-value c = λ fits.
     let m = length c.as_slice.result.now in
     let k = c.loop-depth.depth in
+    let n = length c.args.instance.now.ships in
+    let less : k < n = omega (arith, c.loop-depth-test.true, ap length c.as_slice-depth-end.ensures.value) in
     let same : c.loop-depth.width * (2 * k + m) ≡ tree_width m k * (2 * k + m) = ap (λ w. w * (2 * k + m)) c.loop-depth.invariant.width in
-    let bound : tree_width m k * (2 * k + m) ≤ 260234921318333311346540544000000 = width-bound m (suc k) (omega arith) (omega arith) in
-    omega (arith, same, bound)
+    let chambers : node_limit n m ≡ node_limit n (length c.args.instance.now.chambers) = ap (λ xs. node_limit n (length xs)) c.as_slice.ensures.value in
+    c.in_default.ensures (omega (arith, fits, same, limit-step m k n less, chambers))
 
-pub overflow_add-limit : goal.overflow_add-limit
-overflow_add-limit c =
+pub returns-in_default-checked_add-clause-value : goal.returns-in_default-checked_add-clause-value
+returns-in_default-checked_add-clause-value c = λ fits.
     let m = length c.as_slice.result.now in
     let k = c.loop-depth.depth in
+    let n = length c.args.instance.now.ships in
+    let less : k < n = omega (arith, c.loop-depth-test.true, ap length c.as_slice-depth-end.ensures.value) in
     let same : c.loop-depth.width * (2 * k + m) ≡ tree_width m k * (2 * k + m) = ap (λ w. w * (2 * k + m)) c.loop-depth.invariant.width in
-    let bound : node_limit k m + tree_width m k * (2 * k + m) ≤ (suc k + 1) * 260234921318333311346540544000000 = limit-bound m (suc k) (omega arith) (omega arith) in
-    omega (arith, same, bound, c.loop-depth.invariant.limit)
+    let chambers : node_limit n m ≡ node_limit n (length c.args.instance.now.chambers) = ap (λ xs. node_limit n (length xs)) c.as_slice.ensures.value in
+    c.in_default-checked_add.ensures (omega (arith, fits, same, c.in-Some.ensures.1, c.loop-depth.invariant.limit, limit-step m k n less, chambers))
+
+pub returns-clause-value : goal.returns-clause-value
+returns-clause-value c =
+    let m : length c.as_slice.result.now ≡ length c.args.instance.now.chambers = ap length c.as_slice.ensures.value in
+    let n : c.loop-depth.depth ≡ length c.args.instance.now.ships = omega (arith, ap length c.as_slice-depth-end.ensures.value) in
+    let limit : c.loop-depth.limit ≡ node_limit (length c.args.instance.now.ships) (length c.args.instance.now.chambers) = c.loop-depth.invariant.limit ∙ (λ i. node_limit (n i) (m i)) in
+    (omega (arith, limit, c.loop-depth.invariant.fits), limit)
 
 pub returns-clause-law : goal.returns-clause-law
 returns-clause-law c =

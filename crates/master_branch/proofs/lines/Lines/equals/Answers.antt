@@ -1,4 +1,4 @@
-use Rattle.std.proofs.Common.{rules, true, false, sym, ◌∙◌, true≢false}
+use Rattle.std.proofs.Common.{sym, ◌∙◌, true≢false}
 use Rattle.master_branch.proofs.SameLemmas.{lines-same, rows-same, ends-same}
 use Rattle.master_branch.proofs.lines.Lines.equals.Goals as goal
 

@@ -1,5 +1,6 @@
 use Rattle.std.proofs.Common.{◌+◌, ◌<◌, ◌≤◌, length, arith, ap, ◌∙◌, sym, subst}
 use Rattle.std.specs.List.{insert}
+use Rattle.lock_model.specs.declared.limits.TheConstants.{SHIPS}
 use Rattle.master_branch.specs.Row.{cut_from, IsCutRow}
 use Rattle.master_branch.proofs.RowLemmas.{line-fits, insert-in, row-insert, row-held, ends-within}
 use Rattle.master_branch.proofs.lines.Lines.insert.Goals as goal
@@ -8,7 +9,7 @@ pub insert-requires : goal.insert-requires
 insert-requires c =
     let place : c.start_of-start.result + c.args.place ≤ length c.self.inside.row.items =
     omega (arith, c.requires.place, line-fits c.self.inside.row.items c.self.inside.ends c.args.self.now c.args.chamber c.start_of-start.result c.self.invariant c.self.view_is c.requires.chamber c.start_of-start.ensures) in
-    let room : length c.self.inside.row.items < 24 = omega (arith, c.requires.room, row-held c.self.inside.row.items c.self.inside.ends c.args.self.now c.self.invariant c.self.view_is) in
+    let room : length c.self.inside.row.items < SHIPS = omega (arith, c.requires.room, row-held c.self.inside.row.items c.self.inside.ends c.args.self.now c.self.invariant c.self.view_is) in
     (omega arith, (place, room))
 
 pub raised-self-inside-requires-clause-room : goal.raised-self-inside-requires-clause-room
