@@ -17,17 +17,18 @@ use crate::walk::{Walk, serve};
 use lock_model::{Group, Instance, MOST, SHIPS};
 use master_branch::{Node, Step};
 
-// How far the walk along a line is once a ship has entered it: the walk after the ship's group, and
-// the number of the first group behind it.
+/// How far the walk along a line is once a ship has entered it: the walk after the ship's group, and
+/// the number of the first group behind it.
 #[derive(Clone, Copy)]
-pub(crate) struct Entered {
-    pub(crate) walk: Walk,
-    pub(crate) from: usize,
+pub struct Entered {
+    pub walk: Walk,
+    pub from: usize,
 }
 
-// A ship joins the group at this place of a line.
+/// A ship joins the group at this place of a line: what the line takes is that of the group with the
+/// ship. Takes no memory.
 #[inline]
-fn joined(
+pub fn joined(
     instance: &Instance,
     chamber: u8,
     line: &[Group],
@@ -53,9 +54,10 @@ fn joined(
     }
 }
 
-// A ship stands alone in a new group at this place of a line.
+/// A ship stands alone in a new group at this place of a line, before the one that stands there, or
+/// behind the last one. Takes no memory.
 #[inline]
-fn opened(
+pub fn opened(
     instance: &Instance,
     chamber: u8,
     line: &[Group],

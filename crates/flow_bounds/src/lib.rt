@@ -10,12 +10,15 @@
 //! on: the least bound of the nodes that hold all ships and whose groups all fit is the cost of a
 //! cheapest plan. No call takes memory.
 //!
+//! `walk_along` walks along any line and keeps how far the walk is at each group (`LineWalks`);
+//! `joined` and `opened` let a ship enter it, and `flow_below` tells what the line comes to with it.
+//!
 //! Definitions: `lock_rules` says what these numbers are and what a lower bound is (`specs/Bound`,
-//! `Throughput`), and what the search of the whole tree comes to (`Search`). Here `specs/Most` says how
-//! great the numbers become, `Whole` what the earliest plan of a node is, `Missing` a ship that a node
-//! lacks, and `Roster` what a roster is. Private functions rest on `Walk`, which walks along a line by
-//! the loads of its groups (`Load`, `Along`), on `Entering`, where a ship has entered the line, and on
-//! `Places`, the minutes of the throughput.
+//! `Throughput`), and what the search of the whole tree comes to (`Search`). Here `specs/Walk` walks
+//! along a line by the loads of its groups (`Load`, `Along`), `Entering` says how a walk goes on once a
+//! ship has entered its line, `Most` how great the numbers become, `Whole` what the earliest plan of a
+//! node is, `Missing` a ship that a node lacks, and `Roster` what a roster is. Private functions rest
+//! on `Places`, the minutes of the throughput.
 #![tactic(auto)]
 
 mod capacity;
@@ -34,10 +37,14 @@ mod roster;
 mod walk;
 
 pub use capacity::throughput;
+pub use entering::{Entered, joined, opened};
 pub use laws::least_bound_is_cheapest;
+pub use line_walks::{LineWalks, flow_below, walk_along};
+pub use load::Load;
 pub use node_bound::bound;
 pub use node_walks::NodeWalks;
 pub use passage::{least_passage, least_passages};
 pub use probing::{Bounds, child_bounds, is_missing, probe};
 pub use reaching::{Reached, children_reaching};
 pub use roster::Roster;
+pub use walk::Walk;

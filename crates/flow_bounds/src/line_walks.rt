@@ -1,5 +1,5 @@
 //! The walks along a line, kept at each of its groups.
-ghost use Rattle.std.specs.Prelude.{◌≡◌, ◌↔◌, ◌+◌, ◌*◌, ◌<◌, ◌≤◌, length, All, IsTrue, drop};
+ghost use Rattle.std.specs.Prelude.{◌≡◌, ◌↔◌, ◌+◌, ◌*◌, ◌<◌, ◌≤◌, length, All, IsTrue, IfSome, IfNone, drop};
 ghost use Rattle.std.specs.Bool.{OnTrue};
 ghost use Rattle.flow_bounds.specs.Most.{group_flow};
 ghost use Rattle.flow_bounds.specs.Walk.{serve_all};
@@ -11,17 +11,17 @@ use crate::load::{Load, load_of};
 use crate::walk::{Walk, serve, walk_start};
 use lock_model::{Group, Instance, SHIPS, SHIPS_AND_ROOT};
 
-// Room for the walks along a line of up to `SHIPS` groups: number `i` is after the first `i` groups. Number
-// `i` of the loads is that of group `i`, so that a later walk needn't look at its ships again.
+/// Room for the walks along a line of up to `SHIPS` groups: number `i` is after the first `i` groups. Number
+/// `i` of the loads is that of group `i`, so that a later walk needn't look at its ships again.
 #[derive(Drop)]
-pub(crate) struct LineWalks {
-    pub(crate) walks: [Walk; SHIPS_AND_ROOT],
-    pub(crate) loads: [Load; SHIPS],
+pub struct LineWalks {
+    pub walks: [Walk; SHIPS_AND_ROOT],
+    pub loads: [Load; SHIPS],
 }
 
 impl LineWalks {
-    // Along no line yet.
-    pub(crate) fn new() -> LineWalks {
+    /// Along no line yet. Takes no memory.
+    pub fn new() -> LineWalks {
         LineWalks {
             walks: Default::default(),
             loads: Default::default(),
@@ -29,8 +29,8 @@ impl LineWalks {
     }
 }
 
-// Walks along a chamber's line.
-pub(crate) fn walk_along(instance: &Instance, chamber: u8, line: &[Group], along: &mut LineWalks)
+/// Walks along a chamber's line, each group as early as it can be. Takes no memory.
+pub fn walk_along(instance: &Instance, chamber: u8, line: &[Group], along: &mut LineWalks)
     requires chamber_in { chamber < length instance.now.chambers }
     requires ships_in { All (λ g. All (λ s. s < length instance.now.ships) g.ships) line.now }
     requires few { length line.now ≤ SHIPS }
@@ -80,8 +80,51 @@ pub(crate) fn finish(
     walk.flow
 }
 
-// Whether the flow times at the end of the line, where a ship has entered it, are at least `need`. No
-// group behind adds less than in the walks along the line, so that is often told at once.
+/// The flow times at the end of the line, where a ship has entered it, if they stay below so many
+/// minutes. No group behind adds less than in the walks along the line, so it is often told at once that
+/// they don't. Takes no memory.
+#[inline]
+pub fn flow_below(
+    instance: &Instance,
+    chamber: u8,
+    line: &[Group],
+    along: &LineWalks,
+    entered: Entered,
+    below: u64,
+) -> Option<u64>
+    requires chamber_in { chamber < length instance.now.chambers }
+    requires few { length line.now ≤ SHIPS }
+    requires along { IsAlong instance.now chamber line.now along.now }
+    requires entered { IsEntered instance.now chamber line.now along.now.walks entered }
+    ensures none { IfNone result (below ≤ (serve_all instance.now chamber entered.walk (drop entered.from line.now)).flow) }
+    ensures value { IfSome result (λ flow. flow ≡ (serve_all instance.now chamber entered.walk (drop entered.from line.now)).flow) }
+    ensures less { IfSome result (λ flow. flow < below) }
+{
+    let mut walk = entered.walk;
+    for i in entered.from..line.len() {
+        let least = walk.flow + (along.walks[line.len()].flow - along.walks[i].flow);
+        if least >= below {
+            return None;
+        }
+        if are_in_step(walk, along.walks[i]) {
+            return Some(least);
+        }
+        walk = serve(instance, chamber, walk, &along.loads[i]);
+    }
+    told_below(walk.flow, below)
+}
+
+// A number, if it is below another.
+#[inline]
+fn told_below(number: u64, below: u64) -> Option<u64>
+    ensures none { IfNone result (below ≤ number) }
+    ensures value { IfSome result (λ told. told ≡ number) }
+    ensures less { IfSome result (λ told. told < below) }
+{
+    if number < below { Some(number) } else { None }
+}
+
+// Whether the flow times at the end of the line, where a ship has entered it, are at least `need`.
 pub(crate) fn reaches(
     instance: &Instance,
     chamber: u8,
@@ -96,15 +139,5 @@ pub(crate) fn reaches(
     requires entered { IsEntered instance.now chamber line.now along.now.walks entered }
     ensures { IsTrue result ↔ (need ≤ (serve_all instance.now chamber entered.walk (drop entered.from line.now)).flow) }
 {
-    let mut walk = entered.walk;
-    for i in entered.from..line.len() {
-        if walk.flow + (along.walks[line.len()].flow - along.walks[i].flow) >= need {
-            return true;
-        }
-        if are_in_step(walk, along.walks[i]) {
-            return false;
-        }
-        walk = serve(instance, chamber, walk, &along.loads[i]);
-    }
-    walk.flow >= need
+    flow_below(instance, chamber, line, along, entered, need).is_none()
 }

@@ -6,15 +6,15 @@ ghost use Rattle.flow_bounds.specs.Load.{no_load, with_one, IsLoad, IsLoadOf};
 
 use lock_model::{Group, Instance, MOST, Way};
 
-// The way of a group, how many ships it has, their handling times added, the last of their arrivals,
-// and their arrivals added.
+/// The way of a group, how many ships it has, their handling times added, the last of their arrivals,
+/// and their arrivals added, in minutes.
 #[derive(Clone, Copy)]
-pub(crate) struct Load {
-    pub(crate) way: Way,
-    pub(crate) count: u8,
-    pub(crate) handling: u32,
-    pub(crate) latest: u32,
-    pub(crate) arrivals: u32,
+pub struct Load {
+    pub way: Way,
+    pub count: u8,
+    pub handling: u32,
+    pub latest: u32,
+    pub arrivals: u32,
 }
 
 impl Default for Load {

@@ -11,13 +11,13 @@ use crate::load::{Load, load_of};
 use chamber_times::{first_free, stand_after};
 use lock_model::{Chamber, Group, Instance, MOST, SHIPS, Stand, Way};
 
-// How far a walk is: how the chamber stands, the minute at which it is done with the groups so
-// far, and the flow times of their ships, added.
-#[derive(Clone, Copy, PartialEq, Eq)]
-pub(crate) struct Walk {
-    pub(crate) stand: Stand,
-    pub(crate) done: u64,
-    pub(crate) flow: u64,
+/// How far a walk is: how the chamber stands, the minute at which it is done with the groups so
+/// far, and the flow times of their ships, added, in minutes.
+#[derive(Clone, Copy)]
+pub struct Walk {
+    pub stand: Stand,
+    pub done: u64,
+    pub flow: u64,
 }
 
 impl Default for Walk {

@@ -1,83 +1,46 @@
 //! A ship that enters a row.
-ghost use Rattle.std.specs.Prelude.{◌<◌, ◌≤◌, length};
+ghost use Rattle.std.specs.Prelude.{◌<◌, ◌≤◌, length, IfSome};
+ghost use Rattle.flow_bounds.specs.Entering.{IsEntered};
+ghost use Rattle.near_plan.specs.Rows.{IsRow};
 
 use crate::lines::Place;
-use crate::load::Load;
 use crate::row::Row;
-use crate::walk::Walk;
+use flow_bounds::{Entered, flow_below, joined, opened};
 use lock_model::Instance;
-
-// How far the walk along a line is once a ship has entered it: the walk after the ship's group, and the
-// number of the first group behind it.
-#[derive(Clone, Copy)]
-struct Entered {
-    walk: Walk,
-    from: usize,
-}
 
 // A ship joins group `i`, where the chamber serves both.
 #[inline]
-fn joined(instance: &Instance, chamber: u8, row: &Row, ship: u8, i: usize) -> Option<Entered>
+fn join(instance: &Instance, chamber: u8, row: &Row, ship: u8, i: usize) -> Option<Entered>
     requires chamber_in { chamber < length instance.now.chambers }
     requires ship_in { ship < length instance.now.ships }
-    requires place { i < 24 }
+    requires row { IsRow instance.now chamber row.now }
+    requires place { i < length row.now.line }
+    ensures { IfSome result (IsEntered instance.now chamber row.now.line row.now.walks.walks) }
 {
     let most = instance.chambers.as_slice()[chamber as usize].most;
-    let ship = &instance.ships.as_slice()[ship as usize];
-    let load = row.load(i);
-    if load.way != ship.way || load.count >= most {
+    let way = instance.ships.as_slice()[ship as usize].way;
+    let line = row.line().as_slice();
+    let load = &row.walks().loads[i];
+    if load.way != way || load.count >= most {
         return None;
     }
-    Some(Entered {
-        walk: row.walk(i).serve(instance, chamber, load.with_one(ship)),
-        from: i + 1,
-    })
+    Some(joined(instance, chamber, line, row.walks(), ship, i as u8))
 }
 
-// A ship stands alone before group `i`, where the line has room.
+// A ship stands alone before group `i`, or behind the last one, where the line has room.
 #[inline]
-fn opened(instance: &Instance, chamber: u8, row: &Row, ship: u8, i: usize) -> Option<Entered>
+fn open(instance: &Instance, chamber: u8, row: &Row, ship: u8, i: usize) -> Option<Entered>
     requires chamber_in { chamber < length instance.now.chambers }
     requires ship_in { ship < length instance.now.ships }
-    requires place { i ≤ 24 }
+    requires row { IsRow instance.now chamber row.now }
+    requires place { i ≤ length row.now.line }
+    ensures { IfSome result (IsEntered instance.now chamber row.now.line row.now.walks.walks) }
 {
-    if row.line().as_slice().len() >= 24 {
+    let line = row.line().as_slice();
+    if line.len() >= 24 {
         return None;
     }
-    let ship = &instance.ships.as_slice()[ship as usize];
-    let load = Load::none(ship.way).with_one(ship);
-    Some(Entered {
-        walk: row.walk(i).serve(instance, chamber, load),
-        from: i,
-    })
-}
-
-// The flow times of a row that a ship has entered, where they stay below so many minutes. No group behind
-// adds less than it did without the ship, so it is often told at once that they don't; and where the walk
-// is in step with that without the ship, it gains what that gains.
-#[inline]
-fn finish(instance: &Instance, chamber: u8, row: &Row, entered: Entered, below: u64) -> Option<u64>
-    requires chamber_in { chamber < length instance.now.chambers }
-{
-    let mut walk = entered.walk;
-    for i in entered.from..row.line().as_slice().len() {
-        let old = row.walk(i);
-        let least = walk
-            .flow
-            .saturating_add(row.flow().saturating_sub(old.flow));
-        if least >= below {
-            return None;
-        }
-        if walk.is_in_step(old) {
-            return Some(least);
-        }
-        walk = walk.serve(instance, chamber, row.load(i));
-    }
-    if walk.flow < below {
-        Some(walk.flow)
-    } else {
-        None
-    }
+    Some(opened(instance, chamber, line, row.walks(), ship, i as u8))
 }
 
 /// The flow times of a row with a ship at a place, where the ship can be put there and they stay below so
@@ -92,14 +55,15 @@ pub(crate) fn flow_with(
 ) -> Option<u64>
     requires chamber_in { chamber < length instance.now.chambers }
     requires ship_in { ship < length instance.now.ships }
+    requires row { IsRow instance.now chamber row.now }
 {
-    let groups = row.line().as_slice().len();
+    let line = row.line().as_slice();
     let entered = match place {
-        Place::Into(i) if i < groups => joined(instance, chamber, row, ship, i)?,
-        Place::Before(i) if i <= groups => opened(instance, chamber, row, ship, i)?,
+        Place::Into(i) if i < line.len() => join(instance, chamber, row, ship, i)?,
+        Place::Before(i) if i <= line.len() => open(instance, chamber, row, ship, i)?,
         _ => return None,
     };
-    finish(instance, chamber, row, entered, below)
+    flow_below(instance, chamber, line, row.walks(), entered, below)
 }
 
 /// Whether a ship that enters a row at group `i` or behind takes so long itself that the row doesn't stay
@@ -118,7 +82,7 @@ pub(crate) fn is_too_late(
 {
     let pass = instance.chambers.as_slice()[chamber as usize].pass as u64;
     let ship = &instance.ships.as_slice()[ship as usize];
-    let waits = row.walk(i).done.saturating_sub(ship.arrival as u64);
+    let waits = row.done(i).saturating_sub(ship.arrival as u64);
     let own = waits.saturating_add(pass + ship.handling as u64);
     row.flow().saturating_add(own) >= below
 }

@@ -1,5 +1,6 @@
 //! What is kept of loose lines.
-ghost use Rattle.std.specs.Prelude.{◌≡◌, ◌<◌, length};
+ghost use Rattle.std.specs.Prelude.{◌≡◌, ◌<◌, length, IfOk};
+ghost use Rattle.near_plan.specs.Rows.{IsDraft};
 
 use crate::draft::Draft;
 use crate::fitting::{Fitting, fits};
@@ -52,7 +53,9 @@ fn keep_group<F: Fitting>(
     fitting: &mut F,
 ) -> Result<(), NoMemory>
     requires chamber { chamber < length instance.now.chambers }
+    requires draft { IsDraft instance.now draft.old }
     requires same { F.instance fitting.old ≡ instance.now }
+    ensures draft { IsDraft instance.now draft.new }
     ensures same { F.instance fitting.new ≡ instance.now }
 {
     let kept = lacking(instance, draft, &group.ships);
@@ -63,7 +66,9 @@ fn keep_group<F: Fitting>(
             way: group.way,
             ships,
         });
-        draft.set_row(chamber, Row::of(instance, chamber, line));
+        if let Some(row) = Row::of(instance, chamber, line) {
+            draft.set_row(instance, chamber, row);
+        }
     }
     Ok(())
 }
@@ -77,7 +82,9 @@ fn keep_line<F: Fitting>(
     fitting: &mut F,
 ) -> Result<(), NoMemory>
     requires chamber { chamber < length instance.now.chambers }
+    requires draft { IsDraft instance.now draft.old }
     requires same { F.instance fitting.old ≡ instance.now }
+    ensures draft { IsDraft instance.now draft.new }
     ensures same { F.instance fitting.new ≡ instance.now }
 {
     for group in groups {
@@ -94,6 +101,7 @@ pub(crate) fn kept<F: Fitting>(
     fitting: &mut F,
 ) -> Result<Draft, NoMemory>
     requires same { F.instance fitting.old ≡ instance.now }
+    ensures draft { IfOk result (IsDraft instance.now) }
     ensures same { F.instance fitting.new ≡ instance.now }
 {
     let mut draft = Draft::new(instance);

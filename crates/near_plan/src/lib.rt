@@ -5,16 +5,18 @@
 //! ship out and puts it in again, as long as that gains. Whether ships fit a chamber is asked of the
 //! caller (`Fitting`). By good prices the plan is often a cheapest one.
 //!
-//! A line is walked once (`Row`), and a trial of a place goes on from the walk there: to where it is in
-//! step with it again, or costs too much.
+//! A line is walked once (`Row`, by the walks of `flow_bounds`), and a trial of a place goes on from the
+//! walk there: to where it is in step with it again, or costs too much.
 //!
-//! - `lines`: lines with a ship more, or without it. `load`, `walk`, `row`: what serving the groups of a
-//!   line comes to. `entering`: the flow times of a row with a ship more. `draft`: rows as they are made.
-//!   `keeping`: what is kept of loose lines. `putting`: where a ship costs least. `near`: the whole.
-//!   `plan`: the plan of a draft.
+//! - `lines`: lines with a ship more, or without it. `row`: a line with its walk. `entering`: the flow
+//!   times of a row with a ship more. `draft`: rows as they are made. `keeping`: what is kept of loose
+//!   lines. `putting`: where a ship costs least. `near`: the whole. `plan`: the plan of a draft.
 //!
 //! The plan that comes out is legal and costs less than the caller asked; of how it is found nothing
 //! is claimed.
+//!
+//! Definitions of private functions: `specs/Groups` says which ships may be asked of, `Rows` what a row
+//! and a draft are.
 #![tactic(auto)]
 
 mod draft;
@@ -23,13 +25,11 @@ mod fitting;
 mod keeping;
 mod known;
 mod lines;
-mod load;
 mod near;
 mod plan;
 mod putting;
 mod row;
 mod sets;
-mod walk;
 
 pub use fitting::{Fitting, fits};
 pub use near::near_plan;

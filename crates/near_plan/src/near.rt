@@ -1,6 +1,7 @@
 //! A plan near loose lines.
 ghost use Rattle.std.specs.Prelude.{◌≡◌, ◌<◌, length, IfOk, IfSome};
 ghost use Rattle.lock_rules.specs.Plan.{IsLegal, cost_of};
+ghost use Rattle.near_plan.specs.Rows.{IsDraft};
 
 use crate::draft::Draft;
 use crate::fitting::Fitting;
@@ -23,7 +24,9 @@ fn complete<F: Fitting>(
     trials: &mut Vec<Trial>,
     fitting: &mut F,
 ) -> Result<bool, NoMemory>
+    requires draft { IsDraft instance.now draft.old }
     requires same { F.instance fitting.old ≡ instance.now }
+    ensures draft { IsDraft instance.now draft.new }
     ensures same { F.instance fitting.new ≡ instance.now }
 {
     let order = arrival_order(instance);
@@ -45,17 +48,21 @@ fn better_for<F: Fitting>(
     fitting: &mut F,
 ) -> Result<bool, NoMemory>
     requires ship_in { ship < length instance.now.ships }
+    requires draft { IsDraft instance.now draft.old }
     requires same { F.instance fitting.old ≡ instance.now }
+    ensures draft { IsDraft instance.now draft.new }
     ensures same { F.instance fitting.new ≡ instance.now }
 {
     let Some(at) = draft.find(instance, ship) else {
         return Ok(false);
     };
     let now = draft.flow();
-    let before = draft.take_out(instance, ship, at);
+    let Some(before) = draft.take_out(instance, ship, at) else {
+        return Ok(false);
+    };
     let gained = put(instance, draft, ship, now, trials, fitting)?;
     if !gained {
-        draft.set_row(at.chamber, before);
+        draft.set_row(instance, at.chamber, before);
     }
     Ok(gained)
 }
@@ -67,7 +74,9 @@ fn better<F: Fitting>(
     trials: &mut Vec<Trial>,
     fitting: &mut F,
 ) -> Result<bool, NoMemory>
+    requires draft { IsDraft instance.now draft.old }
     requires same { F.instance fitting.old ≡ instance.now }
+    ensures draft { IsDraft instance.now draft.new }
     ensures same { F.instance fitting.new ≡ instance.now }
 {
     let mut gained = false;

@@ -1,27 +1,14 @@
 //! The plan of a draft.
-ghost use Rattle.std.specs.Prelude.{◌≡◌, ◌<◌, ◌≤◌, ◌↔◌, length, All, IfOk, IfSome, IsTrue};
-ghost use Rattle.std.specs.Bool.{OnTrue};
+ghost use Rattle.std.specs.Prelude.{◌≡◌, ◌<◌, ◌≤◌, ◌↔◌, length, IfOk, IfSome, IsTrue};
 ghost use Rattle.lock_rules.specs.Plan.{IsLegal, cost_of};
 
 use crate::draft::Draft;
 use crate::fitting::{Fitting, fits};
-use crate::known::are_known;
+use crate::known::are_all_known;
 use chamber_times::{cost, earliest};
 use lock_model::{Group, Instance, Lockage, Lockages, Plan};
 use mooring_rules::judge_plan;
 use no_memory::NoMemory;
-
-// Whether all groups are of the instance.
-fn are_all_known(instance: &Instance, chamber: u8, groups: &[Group]) -> bool
-    ensures { OnTrue result (All (λ g. All (λ s. s < length instance.now.ships) g.ships) groups.now) }
-{
-    for group in groups {
-        if !are_known(instance, chamber, &group.ships) {
-            return false;
-        }
-    }
-    true
-}
 
 // Appends the lockages of a line at the earliest; false where a group has no spots.
 fn add_line<F: Fitting>(

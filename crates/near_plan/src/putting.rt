@@ -1,5 +1,6 @@
 //! Where a ship costs least.
 ghost use Rattle.std.specs.Prelude.{◌≡◌, ◌<◌, length};
+ghost use Rattle.near_plan.specs.Rows.{IsDraft};
 
 use crate::draft::Draft;
 use crate::entering::{flow_with, is_too_late};
@@ -10,7 +11,7 @@ use lock_model::Instance;
 use no_memory::NoMemory;
 
 /// A chamber and a place in its line for a ship, and the flow times of the draft with it, in minutes.
-#[derive(Clone, Copy, Debug, PartialEq, Eq)]
+#[derive(Clone, Copy)]
 pub(crate) struct Trial {
     chamber: u8,
     place: Place,
@@ -26,6 +27,7 @@ fn try_place(
     below: u64,
     trials: &mut Vec<Trial>,
 ) -> Result<(), NoMemory>
+    requires draft { IsDraft instance.now draft.now }
     requires chamber_in { trial.chamber < length instance.now.chambers }
     requires ship_in { ship < length instance.now.ships }
 {
@@ -53,6 +55,7 @@ fn try_line(
     below: u64,
     trials: &mut Vec<Trial>,
 ) -> Result<(), NoMemory>
+    requires draft { IsDraft instance.now draft.now }
     requires chamber_in { chamber < length instance.now.chambers }
     requires ship_in { ship < length instance.now.ships }
 {
@@ -84,7 +87,9 @@ fn put_so<F: Fitting>(
     fitting: &mut F,
 ) -> Result<bool, NoMemory>
     requires ship_in { ship < length instance.now.ships }
+    requires draft { IsDraft instance.now draft.old }
     requires same { F.instance fitting.old ≡ instance.now }
+    ensures draft { IsDraft instance.now draft.new }
     ensures same { F.instance fitting.new ≡ instance.now }
 {
     if trial.chamber as usize >= instance.chambers.as_slice().len() {
@@ -100,7 +105,10 @@ fn put_so<F: Fitting>(
     let Some(longer) = line_with(line, trial.place, group) else {
         return Ok(false);
     };
-    draft.set_row(trial.chamber, Row::of(instance, trial.chamber, longer));
+    let Some(row) = Row::of(instance, trial.chamber, longer) else {
+        return Ok(false);
+    };
+    draft.set_row(instance, trial.chamber, row);
     Ok(true)
 }
 
@@ -115,7 +123,9 @@ pub(crate) fn put<F: Fitting>(
     fitting: &mut F,
 ) -> Result<bool, NoMemory>
     requires ship_in { ship < length instance.now.ships }
+    requires draft { IsDraft instance.now draft.old }
     requires same { F.instance fitting.old ≡ instance.now }
+    ensures draft { IsDraft instance.now draft.new }
     ensures same { F.instance fitting.new ≡ instance.now }
 {
     trials.clear();

@@ -1,18 +1,16 @@
 //! A line of groups and the walk along it.
-ghost use Rattle.std.specs.Prelude.{◌≡◌, ◌<◌, ◌≤◌, length};
+ghost use Rattle.std.specs.Prelude.{◌≡◌, ◌<◌, ◌≤◌, length, All, IfSome};
+ghost use Rattle.near_plan.specs.Rows.{IsRow};
 
-use crate::load::{Load, load_of};
-use crate::walk::Walk;
-use lock_model::{Instance, Line, Way};
+use crate::known::are_all_known;
+use flow_bounds::{LineWalks, walk_along};
+use lock_model::{Instance, Line};
 
-/// A line of groups, and the walk along it, kept at each of its groups: number `i` of the walks is before
-/// group `i`, or after the last one where `i` is their number. Number `i` of the loads is that of group
-/// `i`, so that a later walk needn't look at its ships again.
-#[derive(Debug, Drop)]
+/// A line of groups, and the walk along it, kept at each of its groups.
+#[derive(Drop)]
 pub(crate) struct Row {
     line: Line,
-    walks: [Walk; 25],
-    loads: [Load; 24],
+    walks: LineWalks,
 }
 
 impl Row {
@@ -20,53 +18,69 @@ impl Row {
     pub(crate) fn new() -> Row {
         Row {
             line: Line::new(),
-            walks: [Walk::nowhere(); 25],
-            loads: [Load::none(Way::Up); 24],
+            walks: LineWalks::new(),
         }
     }
 
-    /// A line of a chamber.
-    pub(crate) fn of(instance: &Instance, chamber: u8, line: Line) -> Row
-        requires { chamber < length instance.now.chambers }
+    // A line of a chamber.
+    fn walked(instance: &Instance, chamber: u8, line: Line) -> Row
+        requires chamber_in { chamber < length instance.now.chambers }
+        requires ships_in { All (λ g. All (λ s. s < length instance.now.ships) g.ships) line }
+        ensures { IsRow instance.now chamber result }
     {
-        let mut walk = Walk::start(instance, chamber);
-        let mut walks = [walk; 25];
-        let mut loads = [Load::none(Way::Up); 24];
-        for (i, group) in line.as_slice().iter().enumerate() {
-            let load = load_of(instance, group);
-            walk = walk.serve(instance, chamber, load);
-            loads[i] = load;
-            walks[i + 1] = walk;
+        let mut walks = LineWalks::new();
+        walk_along(instance, chamber, line.as_slice(), &mut walks);
+        Row { line, walks }
+    }
+
+    /// A chamber's line without groups.
+    pub(crate) fn empty(instance: &Instance, chamber: u8) -> Row
+        requires { chamber < length instance.now.chambers }
+        ensures { IsRow instance.now chamber result }
+    {
+        Row::walked(instance, chamber, Line::new())
+    }
+
+    /// A line of a chamber; None where it has a group of no ship, or of one that the instance lacks.
+    pub(crate) fn of(instance: &Instance, chamber: u8, line: Line) -> Option<Row>
+        requires { chamber < length instance.now.chambers }
+        ensures { IfSome result (IsRow instance.now chamber) }
+    {
+        if are_all_known(instance, chamber, line.as_slice()) {
+            Some(Row::walked(instance, chamber, line))
+        } else {
+            None
         }
-        Row { line, walks, loads }
     }
 
     /// The groups in order of service.
+    #[inline]
     pub(crate) fn line(&self) -> &Line
         ensures { result.now ≡ self.now.line }
     {
         &self.line
     }
 
-    /// The walk before group `i`, or after the last one where `i` is their number.
+    /// The walk along them.
     #[inline]
-    pub(crate) fn walk(&self, i: usize) -> Walk
-        requires { i ≤ 24 }
+    pub(crate) fn walks(&self) -> &LineWalks
+        ensures { result.now ≡ self.now.walks }
     {
-        self.walks[i]
+        &self.walks
     }
 
-    /// The load of group `i`.
+    /// The minute at which the chamber is done with the groups before group `i`, or with all where `i` is
+    /// their number.
     #[inline]
-    pub(crate) fn load(&self, i: usize) -> Load
-        requires { i < 24 }
+    pub(crate) fn done(&self, i: usize) -> u64
+        requires { i ≤ 24 }
     {
-        self.loads[i]
+        self.walks.walks[i].done
     }
 
     /// The flow times of all ships at the earliest, added, in minutes.
     #[inline]
     pub(crate) fn flow(&self) -> u64 {
-        self.walks[self.line.as_slice().len()].flow
+        self.walks.walks[self.line.as_slice().len()].flow
     }
 }

@@ -2,7 +2,7 @@ use Rattle.std.proofs.Common.{◌≡◌, ◌≤◌, ◌*◌, ◌+◌, drop}
 use Rattle.flow_bounds.specs.Most.{group_flow}
 use Rattle.flow_bounds.specs.Walk.{serve_all, walk_at}
 use Rattle.flow_bounds.specs.Entering.{IsBehind}
-use Rattle.flow_bounds.proofs.line_walks.reaches.Given as goal
+use Rattle.flow_bounds.proofs.line_walks.flow_below.Given as goal
 
 abbrev pub invariant-loop-i : goal.invariant-loop-i
 invariant-loop-i l = record {

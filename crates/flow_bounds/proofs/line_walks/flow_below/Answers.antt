@@ -1,46 +1,39 @@
 use Rattle.std.proofs.Common.{◌<◌, ◌≤◌, ◌+◌, length, ap, refl, arith, ◌∙◌, sym, subst}
-use Rattle.std.proofs.lemmas.Bool.{false≢true}
 use Rattle.master_branch.specs.Steps.{group_in}
 use Rattle.flow_bounds.specs.Walk.{serve, walk_at}
 use Rattle.flow_bounds.specs.Entering.{IsBehind}
 use Rattle.flow_bounds.proofs.WalkLemmas.{serve_all-next, walk-grows, finish-in-step}
 use Rattle.flow_bounds.proofs.EnterLemmas.{walk-step, behind-served, behind-ends}
-use Rattle.flow_bounds.proofs.line_walks.reaches.Goals as goal
+use Rattle.flow_bounds.proofs.line_walks.flow_below.Goals as goal
 
-pub overflow_sub-along : goal.overflow_sub-along
-overflow_sub-along c =
+pub overflow_sub-least : goal.overflow_sub-least
+overflow_sub-least c =
     walk-grows c.args.instance.now c.args.chamber c.args.line.now c.args.along.now.walks c.requires.along.walks c.loop-i.i (omega arith)
 
-pub returns-then-walk-along : goal.returns-then-walk-along
-returns-then-walk-along c =
-    let I = c.args.instance.now in
-    let i = c.loop-i.i in
-    let within : i ≤ length c.args.line.now = omega arith in (
-      λ _. omega (
-        arith,
-        behind-ends I c.args.chamber c.requires.chamber_in c.args.line.now c.args.along.now.walks c.requires.along.walks i within c.loop-i.walk c.loop-i.invariant.behind,
-        walk-grows I c.args.chamber c.args.line.now c.args.along.now.walks c.requires.along.walks i within,
-        c.if-walk-along.true,
-        c.loop-i.invariant.rest,
-      ),
-      λ _. refl,
-    )
-
-pub returns-then-are_in_step : goal.returns-then-are_in_step
-returns-then-are_in_step c =
+pub returns-then-least-below-clause-none : goal.returns-then-least-below-clause-none
+returns-then-least-below-clause-none c =
     let I = c.args.instance.now in
     let i = c.loop-i.i in
     let within : i ≤ length c.args.line.now = omega arith in
-    let step = c.if-are_in_step.ensures in (
-      λ never. absurd (false≢true never),
-      λ need. absurd (omega (
-        arith,
-        need,
-        finish-in-step I c.args.chamber c.args.line.now c.args.along.now.walks c.requires.along.walks i within c.loop-i.walk step.0 step.1,
-        walk-grows I c.args.chamber c.args.line.now c.args.along.now.walks c.requires.along.walks i within,
-        c.if-walk-along.false,
-        c.loop-i.invariant.rest,
-      )),
+    omega (
+      arith,
+      behind-ends I c.args.chamber c.requires.chamber_in c.args.line.now c.args.along.now.walks c.requires.along.walks i within c.loop-i.walk c.loop-i.invariant.behind,
+      walk-grows I c.args.chamber c.args.line.now c.args.along.now.walks c.requires.along.walks i within,
+      c.if-least-below.true,
+      c.loop-i.invariant.rest,
+    )
+
+pub returns-then-are_in_step-clause-value : goal.returns-then-are_in_step-clause-value
+returns-then-are_in_step-clause-value c =
+    let I = c.args.instance.now in
+    let i = c.loop-i.i in
+    let within : i ≤ length c.args.line.now = omega arith in
+    let step = c.if-are_in_step.ensures in
+    omega (
+      arith,
+      finish-in-step I c.args.chamber c.args.line.now c.args.along.now.walks c.requires.along.walks i within c.loop-i.walk step.0 step.1,
+      walk-grows I c.args.chamber c.args.line.now c.args.along.now.walks c.requires.along.walks i within,
+      c.loop-i.invariant.rest,
     )
 
 pub loop-i-preserved : goal.loop-i-preserved
