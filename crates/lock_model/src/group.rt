@@ -10,7 +10,7 @@ use arrayvec::ArrayVec;
 use std::marker::Model;
 
 /// Up to `MOST` ship numbers, rising.
-#[derive(Debug, Drop)]
+#[derive(Drop)]
 pub struct Ships {
     count: u8,
     // the numbers, and then zeros, so that sets are compared as numbers of eight bytes
@@ -117,7 +117,7 @@ impl Eq for Ships {
 }
 
 /// Ships of one way that share a lockage, by their numbers in the instance.
-#[derive(Debug, PartialEq, Eq, Drop)]
+#[derive(PartialEq, Eq, Drop)]
 pub struct Group {
     pub way: Way,
     pub ships: Ships,
@@ -150,7 +150,7 @@ impl Default for Group {
 }
 
 /// Up to `SHIPS` groups of one chamber in order of service.
-#[derive(Debug, PartialEq, Eq, Drop)]
+#[derive(PartialEq, Eq, Drop)]
 pub struct Line {
     items: ArrayVec<Group, SHIPS>,
 }

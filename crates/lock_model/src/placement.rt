@@ -9,7 +9,7 @@ use arrayvec::ArrayVec;
 use std::marker::Model;
 
 /// The rank of a ship: its quay is that side of the chamber.
-#[derive(Clone, Copy, Debug, PartialEq, Eq, Default)]
+#[derive(Clone, Copy, PartialEq, Eq, Default)]
 pub enum Rank {
     #[default]
     Left,
@@ -17,7 +17,7 @@ pub enum Rank {
 }
 
 /// What a ship is moored to: the quay of its rank, or the ship at a place of the deck, its host.
-#[derive(Clone, Copy, Debug, PartialEq, Eq, Default)]
+#[derive(Clone, Copy, PartialEq, Eq, Default)]
 pub enum Moor {
     #[default]
     Quay,
@@ -25,7 +25,7 @@ pub enum Moor {
 }
 
 /// Where a ship lies, in decimetres, and how it is moored.
-#[derive(Clone, Copy, Debug, PartialEq, Eq, Default)]
+#[derive(Clone, Copy, PartialEq, Eq, Default)]
 pub struct Spot {
     pub x: u32,
     pub y: u32,
@@ -34,7 +34,7 @@ pub struct Spot {
 }
 
 /// Up to `MOST` spots, one for each ship of a deck.
-#[derive(Debug, PartialEq, Eq, Drop)]
+#[derive(PartialEq, Eq, Drop)]
 pub struct Spots {
     items: ArrayVec<Spot, MOST>,
 }

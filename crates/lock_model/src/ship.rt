@@ -9,7 +9,7 @@ use std::marker::Model;
 
 /// A ship: its length and width in decimetres, the minute of its arrival, the minutes that its
 /// handling adds to a lockage, and its cargo class, where 0 is harmless.
-#[derive(Debug, PartialEq, Eq, Default, Drop)]
+#[derive(PartialEq, Eq, Default, Drop)]
 pub struct Ship {
     pub name: Name,
     pub way: Way,
@@ -38,7 +38,7 @@ impl Ship {
 }
 
 /// Up to `SHIPS` ships, by their number in the instance.
-#[derive(Debug, PartialEq, Eq, Drop)]
+#[derive(PartialEq, Eq, Drop)]
 pub struct ShipList {
     items: ArrayVec<Ship, SHIPS>,
 }
