@@ -17,7 +17,8 @@ use Rattle.book_rules.specs.Shown.{ChamberCut, Shown, shown_cuts, IsShown, chamb
 use Rattle.book_rules.specs.States.{cuts_in}
 use Rattle.book_rules.specs.Step.{is_shown}
 use Rattle.book_rules.specs.Replay.{own_shown}
-use Rattle.book_rules.proofs.SameLemmas.{same_instance-decides, same_node-decides}
+use Rattle.lock_model.proofs.SameLemmas.{instance_decides}
+use Rattle.book_rules.proofs.SameLemmas.{same_node-decides}
 
 -- ---- cuts
 
@@ -65,7 +66,7 @@ module _ (b : Book) (id number : ℕ) (prices : List ℕ) (there : slice_get b.p
       let rest = and_parts (same_instance shown.instance I && same_node shown.node node) (pointwise nat_eq shown.prices prices) parts.0 in
       let both = and_parts (same_instance shown.instance I) (same_node shown.node node) rest.0 in
       let moved = same-reached shown.cuts shown.cost shown.instance I shown.node node shown.prices prices
-      ((same_instance-decides shown.instance I).0 both.0) ((same_node-decides shown.node node).0 both.1) ((bytes_decides shown.prices prices).0 rest.1) reached in
+      ((instance_decides shown.instance I).0 both.0) ((same_node-decides shown.node node).0 both.1) ((bytes_decides shown.prices prices).0 rest.1) reached in
       record {
         own = prices;
         there = there;
@@ -80,7 +81,7 @@ module _ (b : Book) (id number : ℕ) (prices : List ℕ) (there : slice_get b.p
       let own : slice_index_or b.prices number [] ≡ prices = got b.prices number there in
       and_from (same_instance I I && same_node node node && pointwise nat_eq (slice_index_or b.prices number []) prices) (are_first_cuts (map chamber_cut b.cuts) b.cuts)
       (and_from (same_instance I I && same_node node node) (pointwise nat_eq (slice_index_or b.prices number []) prices)
-      (and_from (same_instance I I) (same_node node node) ((same_instance-decides I I).1 refl) ((same_node-decides node node).1 refl))
+      (and_from (same_instance I I) (same_node node node) ((instance_decides I I).1 refl) ((same_node-decides node node).1 refl))
       ((bytes_decides (slice_index_or b.prices number []) prices).1 own))
       (own-first b.cuts)
     where

@@ -3,7 +3,7 @@
 use closing_rules::Ground;
 
 /// The state of a slot.
-#[derive(Clone, Copy, Debug, PartialEq, Eq)]
+#[derive(Clone, Copy, PartialEq, Eq)]
 pub enum SlotState {
     Fresh,
     Back,
@@ -14,7 +14,7 @@ pub enum SlotState {
 }
 
 /// An entry of the history: an event that was accepted, and its numbers.
-#[derive(Clone, Copy, Debug, PartialEq, Eq)]
+#[derive(Clone, Copy, PartialEq, Eq)]
 pub enum Entry {
     Take(u8),
     Split(u32),

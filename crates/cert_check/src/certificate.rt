@@ -8,7 +8,7 @@ use std::marker::Model;
 
 /// A cut of a certificate: a chamber and ships by their numbers in the instance, and why they don't
 /// fit together.
-#[derive(Debug, Drop)]
+#[derive(Drop)]
 pub struct CertCut {
     pub chamber: u8,
     pub ships: Ships,
@@ -34,7 +34,7 @@ pub type MarkList = Numbered<Mark>;
 
 /// That a plan is cheapest, and why: the plan and its cost in minutes, cuts with their refutations,
 /// prices, numbered from 0, and the marks of a search tree.
-#[derive(Debug, Drop)]
+#[derive(Drop)]
 pub struct Certificate {
     pub cost: u64,
     pub cuts: CertCuts,
@@ -52,7 +52,7 @@ impl Model for Certificate {
 }
 
 /// What the checker says of a certificate.
-#[derive(Clone, Copy, Debug, PartialEq, Eq)]
+#[derive(Clone, Copy, PartialEq, Eq)]
 pub enum Answer {
     /// It shows that its plan is cheapest; the plan costs this many minutes.
     Accepted(u64),

@@ -5,7 +5,7 @@ use std::alloc::{AllocError, Global};
 use std::marker::Model;
 
 /// Parts of a certificate of one kind, numbered from 0.
-#[derive(Debug, Drop)]
+#[derive(Drop)]
 pub struct Numbered<T> {
     items: Vec<T>,
 }

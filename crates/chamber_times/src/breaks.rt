@@ -1,7 +1,7 @@
 //! How the start of a lockage breaks the rules.
 
 /// The first break of a chamber's line. Each carries the lockage's place in the plan, from 0.
-#[derive(Clone, Copy, Debug, PartialEq, Eq)]
+#[derive(Clone, Copy, PartialEq, Eq)]
 pub enum BrokenTime {
     /// A ship of the lockage arrives after its start.
     Early(u8),

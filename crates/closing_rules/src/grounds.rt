@@ -1,7 +1,7 @@
 //! Why a node is closed.
 
 /// Why a node is closed, in a book and in a certificate.
-#[derive(Clone, Copy, Debug, PartialEq, Eq)]
+#[derive(Clone, Copy, PartialEq, Eq)]
 pub enum Ground {
     /// Its bound is at least the cost.
     Bound,

@@ -5,7 +5,7 @@ ghost use Rattle.std.specs.List.Sorted.{IsStrictlyIncreasing};
 use std::marker::Model;
 
 /// Places along a chamber in decimetres, rising, each once.
-#[derive(Debug, Drop)]
+#[derive(Drop)]
 pub struct SpotList {
     pub(crate) items: Vec<u32>,
 }

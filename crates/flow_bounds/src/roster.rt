@@ -12,7 +12,7 @@ use std::marker::Model;
 /// The ships of an instance in arrival order and, for each depth, the least passages of the ships
 /// that a node of it lacks, in minutes, added. It is made once for a search or a check, so that
 /// nothing of it is worked out again at a node.
-#[derive(Debug, Drop)]
+#[derive(Drop)]
 pub struct Roster {
     order: ShipOrder,
     rests: ArrayVec<u64, 25>,

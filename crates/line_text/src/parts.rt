@@ -4,7 +4,7 @@ ghost use Rattle.std.specs.List.{slice_split};
 ghost use Rattle.line_text.specs.Parts.{separates, parts_left, room_left, now_left, rest_left};
 
 /// Where bytes are cut.
-#[derive(Clone, Copy, Debug, PartialEq, Eq)]
+#[derive(Clone, Copy, PartialEq, Eq)]
 pub enum Separator {
     /// Into lines, at each line feed.
     LineFeed,

@@ -13,7 +13,7 @@ use std::marker::Model;
 /// ships along and across it (all in decimetres), the greatest number of ships of a lockage, the
 /// minutes of a passage and of an empty turn, the side where it stands at first, the minute at
 /// which it opens, and its closures.
-#[derive(Debug, PartialEq, Eq, Default, Drop)]
+#[derive(PartialEq, Eq, Default, Drop)]
 pub struct Chamber {
     pub name: Name,
     pub length: u32,
@@ -65,7 +65,7 @@ impl Chamber {
 }
 
 /// Up to four chambers, by their number in the instance.
-#[derive(Debug, PartialEq, Eq, Drop)]
+#[derive(PartialEq, Eq, Drop)]
 pub struct Chambers {
     items: ArrayVec<Chamber, 4>,
 }

@@ -6,14 +6,14 @@ use arrayvec::ArrayVec;
 use std::marker::Model;
 
 /// A span of minutes from `from` up to but without `to`, in which a chamber rests.
-#[derive(Clone, Copy, Debug, PartialEq, Eq, Default)]
+#[derive(Clone, Copy, PartialEq, Eq, Default)]
 pub struct Closure {
     pub from: u32,
     pub to: u32,
 }
 
 /// Up to eight closures by rising minute, none of them empty, no two of which share a minute.
-#[derive(Debug, PartialEq, Eq, Drop)]
+#[derive(PartialEq, Eq, Drop)]
 pub struct Closures {
     items: ArrayVec<Closure, 8>,
 }

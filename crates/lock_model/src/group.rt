@@ -9,7 +9,7 @@ use arrayvec::ArrayVec;
 use std::marker::Model;
 
 /// Up to eight ship numbers, rising.
-#[derive(Debug, Drop)]
+#[derive(Drop)]
 pub struct Ships {
     count: u8,
     // the numbers, and then zeros, so that sets are compared as numbers of eight bytes
@@ -115,7 +115,7 @@ impl Eq for Ships {
 }
 
 /// Ships of one way that share a lockage, by their numbers in the instance.
-#[derive(Debug, PartialEq, Eq, Drop)]
+#[derive(PartialEq, Eq, Drop)]
 pub struct Group {
     pub way: Way,
     pub ships: Ships,
@@ -148,7 +148,7 @@ impl Default for Group {
 }
 
 /// Up to 24 groups of one chamber in order of service.
-#[derive(Debug, PartialEq, Eq, Drop)]
+#[derive(PartialEq, Eq, Drop)]
 pub struct Line {
     items: ArrayVec<Group, 24>,
 }

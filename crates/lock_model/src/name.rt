@@ -6,7 +6,7 @@ use std::marker::Model;
 
 /// Up to twelve bytes. That a name has at least one and that each is a letter, a digit, `-` or
 /// `_` is a limit that the instance keeps.
-#[derive(Debug, PartialEq, Eq, Drop)]
+#[derive(PartialEq, Eq, Drop)]
 pub struct Name {
     bytes: ArrayVec<u8, 12>,
 }

@@ -8,7 +8,7 @@ use arrayvec::ArrayVec;
 use std::marker::Model;
 
 /// The rank of a ship: its quay is that side of the chamber.
-#[derive(Clone, Copy, Debug, PartialEq, Eq, Default)]
+#[derive(Clone, Copy, PartialEq, Eq, Default)]
 pub enum Rank {
     #[default]
     Left,
@@ -16,7 +16,7 @@ pub enum Rank {
 }
 
 /// What a ship is moored to: the quay of its rank, or the ship at a place of the deck, its host.
-#[derive(Clone, Copy, Debug, PartialEq, Eq, Default)]
+#[derive(Clone, Copy, PartialEq, Eq, Default)]
 pub enum Moor {
     #[default]
     Quay,
@@ -24,7 +24,7 @@ pub enum Moor {
 }
 
 /// Where a ship lies, in decimetres, and how it is moored.
-#[derive(Clone, Copy, Debug, PartialEq, Eq, Default)]
+#[derive(Clone, Copy, PartialEq, Eq, Default)]
 pub struct Spot {
     pub x: u32,
     pub y: u32,
@@ -33,7 +33,7 @@ pub struct Spot {
 }
 
 /// Up to eight spots, one for each ship of a deck.
-#[derive(Debug, PartialEq, Eq, Drop)]
+#[derive(PartialEq, Eq, Drop)]
 pub struct Spots {
     items: ArrayVec<Spot, 8>,
 }

@@ -8,7 +8,7 @@ use std::marker::Model;
 
 /// A ship: its length and width in decimetres, the minute of its arrival, the minutes that its
 /// handling adds to a lockage, and its cargo class, where 0 is harmless.
-#[derive(Debug, PartialEq, Eq, Default, Drop)]
+#[derive(PartialEq, Eq, Default, Drop)]
 pub struct Ship {
     pub name: Name,
     pub way: Way,
@@ -37,7 +37,7 @@ impl Ship {
 }
 
 /// Up to 24 ships, by their number in the instance.
-#[derive(Debug, PartialEq, Eq, Drop)]
+#[derive(PartialEq, Eq, Drop)]
 pub struct ShipList {
     items: ArrayVec<Ship, 24>,
 }

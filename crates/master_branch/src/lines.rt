@@ -9,7 +9,7 @@ use std::marker::Model;
 
 // The lines of the chambers: the groups of the first chamber in order of service, then those of the
 // second, and so on, up to 24 in all.
-#[derive(Debug, PartialEq, Eq, Drop)]
+#[derive(PartialEq, Eq, Drop)]
 pub(crate) struct Lines {
     row: ArrayVec<Group, 24>,
     // where the line of each chamber ends in the row

@@ -11,7 +11,7 @@ use std::marker::Model;
 
 /// The first ships in arrival order in groups, chamber by chamber in order of service. No group is
 /// empty, no ship stands twice, and the groups hold `depth` ships together.
-#[derive(Debug, PartialEq, Eq, Drop)]
+#[derive(PartialEq, Eq, Drop)]
 pub struct Node {
     pub(crate) depth: u8,
     pub(crate) lines: Lines,

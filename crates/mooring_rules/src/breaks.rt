@@ -3,7 +3,7 @@
 use chamber_times::BrokenTime;
 
 /// The first break of a placement. Ships are told by their places in the deck, from 0.
-#[derive(Clone, Copy, Debug, PartialEq, Eq)]
+#[derive(Clone, Copy, PartialEq, Eq)]
 pub enum Broken {
     /// The ship isn't inside the chamber with the clearance at both ends.
     Outside(u8),
@@ -18,7 +18,7 @@ pub enum Broken {
 
 /// The first break of a plan. Lockages are told by their places in the plan, ships and chambers
 /// by their numbers in the instance, all from 0.
-#[derive(Clone, Copy, Debug, PartialEq, Eq)]
+#[derive(Clone, Copy, PartialEq, Eq)]
 pub enum BrokenPlan {
     /// The lockage names a chamber or a ship that isn't in the instance, has no ship or more than
     /// the chamber's `most`, has spots of another count than ships, or has a ship of the other way.

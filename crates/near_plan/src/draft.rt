@@ -7,13 +7,13 @@ use lock_model::{Instance, Line};
 use std::mem;
 
 /// A row of groups for each of four chambers, of which an instance may have fewer.
-#[derive(Debug, Drop)]
+#[derive(Drop)]
 pub(crate) struct Draft {
     rows: [Row; 4],
 }
 
 /// Where a ship stands: the chamber, and the number of the group in its line.
-#[derive(Clone, Copy, Debug)]
+#[derive(Clone, Copy)]
 pub(crate) struct Standing {
     pub(crate) chamber: u8,
     group: usize,

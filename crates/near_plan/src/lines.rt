@@ -5,7 +5,7 @@ use crate::sets::{with, without};
 use lock_model::{Group, Instance, Line, Ships};
 
 /// Where a ship may be put into a line.
-#[derive(Clone, Copy, Debug, PartialEq, Eq)]
+#[derive(Clone, Copy, PartialEq, Eq)]
 pub(crate) enum Place {
     /// Into the group of this number.
     Into(usize),

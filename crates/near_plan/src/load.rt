@@ -4,7 +4,7 @@ use lock_model::{Group, Instance, Ship, Way};
 
 /// The way of a group, how many ships it has, their handling times added, the last of their arrivals,
 /// and their arrivals added.
-#[derive(Clone, Copy, Debug)]
+#[derive(Clone, Copy)]
 pub(crate) struct Load {
     pub(crate) way: Way,
     pub(crate) count: u8,

@@ -10,7 +10,7 @@ use lock_model::Instance;
 use no_memory::NoMemory;
 
 /// A chamber and a place in its line for a ship, and the flow times of the draft with it, in minutes.
-#[derive(Clone, Copy, Debug, PartialEq, Eq)]
+#[derive(Clone, Copy, PartialEq, Eq)]
 pub(crate) struct Trial {
     chamber: u8,
     place: Place,

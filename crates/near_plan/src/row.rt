@@ -8,7 +8,7 @@ use lock_model::{Instance, Line, Way};
 /// A line of groups, and the walk along it, kept at each of its groups: number `i` of the walks is before
 /// group `i`, or after the last one where `i` is their number. Number `i` of the loads is that of group
 /// `i`, so that a later walk needn't look at its ships again.
-#[derive(Debug, Drop)]
+#[derive(Drop)]
 pub(crate) struct Row {
     line: Line,
     walks: [Walk; 25],

@@ -10,7 +10,7 @@ const LATEST: u64 = 1 << 40;
 
 /// How far a walk is: how the chamber stands, the minute at which it is done with the groups so far, and
 /// the flow times of their ships, added.
-#[derive(Clone, Copy, Debug)]
+#[derive(Clone, Copy)]
 pub(crate) struct Walk {
     stand: Stand,
     pub(crate) done: u64,

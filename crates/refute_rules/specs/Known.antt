@@ -1,5 +1,5 @@
 -- The hosts of a ship as far as a case decides them, and its y where they lead down to a quay.
-use Rattle.std.specs.Prelude.{ℕ, zero, suc, ◌+◌, ℤ, pos, ◌+ℤ◌, ◌-ℤ◌, List, [], ◌∷◌, length, Some, None, option_map}
+use Rattle.std.specs.Prelude.{ℕ, zero, suc, ◌≡◌, ◌+◌, ◌<◌, ℤ, pos, ◌+ℤ◌, ◌-ℤ◌, List, [], ◌∷◌, length, Some, None, option_map}
 use Rattle.std.specs.declared.option.Option.{Option}
 use Rattle.lock_model.specs.Deck.{Deck}
 use Rattle.lock_model.specs.declared.placement.Rank.{Rank}
@@ -55,3 +55,7 @@ y_within d case (suc steps) i = berth_y d i (berth_in case i) (y_within d case s
 -- y of ship i, where it is known
 abbrev pub y_in : Deck → List Choice → ℕ → Option ℤ
 y_in d case i = y_within d case (length d.ships) i
+
+-- each decided host of a ship of the deck is a ship of the deck
+pub record HasKnownHosts (d : Deck) (case : List Choice) : Type 0 where
+  pub each : (i k : ℕ) → i < length d.ships → host_of (berth_in case i) ≡ Some k → k < length d.ships

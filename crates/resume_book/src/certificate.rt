@@ -9,7 +9,7 @@ pub type OpenMarks = Numbered<OpenMark>;
 
 /// A certificate that may leave nodes open: a plan and its cost in minutes, cuts with their
 /// refutations, prices, numbered from 0, and the marks of a search tree.
-#[derive(Debug, Drop)]
+#[derive(Drop)]
 pub struct OpenCertificate {
     pub cost: u64,
     pub cuts: CertCuts,
@@ -27,7 +27,7 @@ impl Model for OpenCertificate {
 }
 
 /// What the checker says of an open certificate.
-#[derive(Clone, Copy, Debug, PartialEq, Eq)]
+#[derive(Clone, Copy, PartialEq, Eq)]
 pub enum OpenAnswer {
     /// It stands: its plan costs `cost` minutes, and every legal plan at least `low`.
     Stands { low: u64, cost: u64 },

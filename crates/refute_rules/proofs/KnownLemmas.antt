@@ -8,11 +8,10 @@ use Rattle.lock_model.specs.declared.placement.Moor.{Moor}
 use Rattle.lock_model.specs.declared.placement.Moor.TheVariants.{Quay, Ship}
 use Rattle.refute_rules.specs.Choices.{Choice, Berth}
 use Rattle.refute_rules.specs.Decided.{berth_in}
-use Rattle.refute_rules.specs.Known.{moor_host, host_of, host_and_more, hosts_within, quay_y, guest_y, moored_y, berth_y, y_within, y_in}
+use Rattle.refute_rules.specs.Known.{moor_host, host_of, host_and_more, hosts_within, quay_y, guest_y, moored_y, berth_y, y_within, y_in, HasKnownHosts}
 use Rattle.lock_rules.proofs.TreeLemmas.{contains-among}
 use Rattle.list_laws.specs.Among.{IsAmong, AreDistinct}
 use Rattle.list_laws.proofs.Distinct.{few-distinct}
-use Rattle.spot_place.specs.OnWay.{HasKnownHosts}
 
 -- what a mapped option tells
 pub map-some : {X Y : Type 0} (f : X → Y) (o : Option X) (y : Y) → option_map f o ≡ Some y → (x : X) × (o ≡ Some x) × (f x ≡ y)
