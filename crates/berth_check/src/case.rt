@@ -8,7 +8,7 @@ use std::alloc::Global;
 use std::marker::Model;
 
 /// An option: a ship lies at a berth, or a ship is before another.
-#[derive(Clone, Copy, Debug, PartialEq, Eq)]
+#[derive(Clone, Copy, PartialEq, Eq)]
 pub enum Pick {
     Lies(u8, Rank, Moor),
     Before(u8, u8),

@@ -9,7 +9,7 @@ use crate::case::{BerthCase, Pick};
 use lock_model::{Moor, Rank};
 
 /// A rank, and its quay or a host.
-#[derive(Clone, Copy, Debug, PartialEq, Eq)]
+#[derive(Clone, Copy, PartialEq, Eq)]
 pub struct Berth {
     pub rank: Rank,
     pub moor: Moor,

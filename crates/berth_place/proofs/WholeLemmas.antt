@@ -11,9 +11,8 @@ use Rattle.lock_model.specs.declared.placement.Moor.TheVariants.{Quay, Ship}
 use Rattle.refute_rules.specs.Reasons.{width_at}
 use Rattle.refute_rules.specs.Choices.{Choice, Lies, Before, Below, Stands, Berth}
 use Rattle.refute_rules.specs.Decided.{berth_in}
-use Rattle.refute_rules.specs.Known.{host_of, host_and_more, hosts_within, guest_y, moored_y, berth_y, y_within, y_in}
-use Rattle.spot_place.specs.OnWay.{HasKnownHosts}
-use Rattle.spot_place.proofs.KnownLemmas as chain
+use Rattle.refute_rules.specs.Known.{host_of, host_and_more, hosts_within, guest_y, moored_y, berth_y, y_within, y_in, HasKnownHosts}
+use Rattle.refute_rules.proofs.KnownLemmas as chain
 use Rattle.refute_rules.specs.BerthCases.{host_in, HasOrder, DoOverlap}
 use Rattle.berth_check.specs.Raises.{AreKnown}
 use Rattle.berth_check.proofs.RaiseLemmas.{host-known, y-known}

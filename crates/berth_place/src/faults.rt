@@ -13,7 +13,7 @@ use std::alloc::AllocError;
 /// Why no placement obeys a case: a ship with a host of the other rank, a ship that its hosts lead
 /// back to, a ship longer than its host, a ship outside across the chamber, a ship with too many
 /// guests, a crowd of ships as a set of bits, or no places along the chamber.
-#[derive(Clone, Copy, PartialEq, Eq, Debug)]
+#[derive(Clone, Copy, PartialEq, Eq)]
 pub(crate) enum BerthFault {
     OtherRank(u8),
     LeadsBack(u8),

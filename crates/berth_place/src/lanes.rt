@@ -5,7 +5,7 @@ use lock_model::Deck;
 
 /// What a ship covers across the chamber: nothing that is known, more than the chamber has, or from
 /// its near side to its far side, in decimetres.
-#[derive(Clone, Copy, PartialEq, Eq, Debug)]
+#[derive(Clone, Copy, PartialEq, Eq)]
 pub(crate) enum Strip {
     Unknown,
     Outside,
@@ -13,7 +13,7 @@ pub(crate) enum Strip {
 }
 
 /// What a ship covers across the chamber, and its decided host.
-#[derive(Clone, Copy, PartialEq, Eq, Debug)]
+#[derive(Clone, Copy, PartialEq, Eq)]
 pub(crate) struct Lane {
     pub(crate) strip: Strip,
     pub(crate) host: Option<u8>,

@@ -10,7 +10,7 @@ use berth_check::{BerthCase, do_overlap};
 use lock_model::Deck;
 
 /// Two ships of a deck, the lower number first.
-#[derive(Clone, Copy, Debug, PartialEq, Eq, Default)]
+#[derive(Clone, Copy, PartialEq, Eq, Default)]
 pub(crate) struct Pair {
     pub(crate) lower: u8,
     pub(crate) upper: u8,

@@ -10,7 +10,7 @@ use refute_rules::Marks;
 use std::alloc::Global;
 
 /// What the placer by berths answers of a deck.
-#[derive(Debug, Drop)]
+#[derive(Drop)]
 pub enum BerthPlaced {
     /// The ships lie legally at these spots.
     Fits(Spots),

@@ -25,7 +25,7 @@ pub(crate) struct Search {
 }
 
 /// What the visit of a case ends with.
-#[derive(Clone, Copy, PartialEq, Eq, Debug)]
+#[derive(Clone, Copy, PartialEq, Eq)]
 pub(crate) enum Visit {
     /// The marks grew by a tree of the case.
     Closed,

@@ -3,7 +3,7 @@
 use std::alloc::AllocError;
 
 /// Why a book has no certificate.
-#[derive(Clone, Copy, Debug, PartialEq, Eq)]
+#[derive(Clone, Copy, PartialEq, Eq)]
 pub enum CertError {
     /// A slot is open, held or parked.
     StillOpen,

@@ -19,7 +19,8 @@ use Rattle.book_rules.specs.Events.{close_price}
 use Rattle.book_rules.specs.Same.{same_instance, same_node}
 use Rattle.book_rules.specs.Shown.{Shown, shown_cuts, IsShown, are_first_cuts}
 use Rattle.book_rules.specs.Step.{may_close, is_shown, price_refusal, cheaper_than, closed}
-use Rattle.book_rules.proofs.SameLemmas.{same_instance-decides, same_node-decides}
+use Rattle.lock_model.proofs.SameLemmas.{instance_decides}
+use Rattle.book_rules.proofs.SameLemmas.{same_node-decides}
 use Rattle.book_core.specs.declared.reply.Reply.TheVariants as reply
 use Rattle.book_core.specs.Keeps.{IsSound}
 use Rattle.book_core.specs.Replies.{Answers}
@@ -54,7 +55,7 @@ first-told (x ∷ xs) (d ∷ ds) within = ap (λ rest. nat_eq x.chamber d.chambe
 -- ---- instances and nodes
 
 pub told-instance : (r : Bool) (I J : Instance) → Decides r (I ≡ J) → r ≡ same_instance I J
-told-instance r I J decides = same_from_decides r (same_instance I J) decides (same_instance-decides I J)
+told-instance r I J decides = same_from_decides r (same_instance I J) decides (instance_decides I J)
 
 pub told-node : (r : Bool) (m n : Node) (t : Node) → Decides r (m ≡ n) → n ≡ t → r ≡ same_node m t
 told-node r m n t decides is =

@@ -24,7 +24,7 @@ use std::marker::Model;
 /// accepted events.
 /// It keeps all that `specs/Keeps` names. Slots are numbered from 0, the root; they store no nodes,
 /// and take 40 bytes each. Of each cut the chamber and the ships lie in a row of their own too.
-#[derive(Debug, Drop)]
+#[derive(Drop)]
 pub struct Book {
     pub(crate) case: Case,
     pub(crate) opening: Plan,

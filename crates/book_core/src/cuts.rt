@@ -11,7 +11,7 @@ use std::marker::Model;
 
 /// Cuts in the order in which they were kept. Beside them stand the chamber and the ships of each, a
 /// tenth as long: costs that were shown are compared with these under the lock.
-#[derive(Debug, Drop)]
+#[derive(Drop)]
 pub(crate) struct KeptCuts {
     cuts: Vec<Cut>,
     chamber_cuts: Vec<ChamberCut>,

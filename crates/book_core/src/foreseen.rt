@@ -14,11 +14,10 @@ use book_rules::SlotState;
 use flow_bounds::{Bounds, Roster, child_bounds};
 use lock_model::Instance;
 use master_branch::Node;
-use price_bound::same_instance;
 
 /// A node of an instance, which lacks a ship, and the bounds of all its children in order, in
 /// minutes, worked out without a book.
-#[derive(Debug, Drop)]
+#[derive(Drop)]
 pub struct Foreseen<'i> {
     pub instance: &'i Instance,
     pub node: Node,
@@ -73,7 +72,7 @@ impl Book {
     pub fn is_of(&self, instance: &Instance) -> bool
         ensures { IsTrue result ↔ instance.now ≡ self.now.case.instance }
     {
-        same_instance(instance, self.instance())
+        instance.equals(self.instance())
     }
 
     // Keeps the bounds of the children of a slot's node in the hand that holds the slot, if one

@@ -9,7 +9,7 @@ use lock_model::Instance;
 use master_branch::Node;
 
 // A held slot, its node, and the bounds of the node's children once they were computed.
-#[derive(Debug, Drop)]
+#[derive(Drop)]
 pub(crate) struct Hand {
     pub(crate) id: u32,
     pub(crate) node: Node,

@@ -17,7 +17,7 @@ use no_memory::NoMemory;
 use std::alloc::Global;
 
 // A slot and its node.
-#[derive(Debug, Drop)]
+#[derive(Drop)]
 pub(crate) struct PathNode {
     pub(crate) id: u32,
     pub(crate) node: Node,
@@ -27,7 +27,7 @@ pub(crate) struct PathNode {
 const MOST: usize = 25;
 
 // Slots and their nodes: the root's, and each time a child of the last one's, down to some slot.
-#[derive(Debug, Drop)]
+#[derive(Drop)]
 pub(crate) struct Path {
     pub(crate) nodes: Vec<PathNode>,
 }

@@ -9,7 +9,7 @@ use master_branch::Node;
 
 /// A node of an instance, which lacks a ship, and the least bound of its children in minutes: the
 /// probe of the ship that it lacks first.
-#[derive(Clone, Copy, Debug)]
+#[derive(Clone, Copy)]
 pub struct Probed<'n> {
     pub instance: &'n Instance,
     pub node: &'n Node,

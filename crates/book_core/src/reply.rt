@@ -5,7 +5,7 @@ use mooring_rules::BrokenPlan;
 
 /// The reply to an event. The first eight are accepted; the others are refusals, and leave the book
 /// as it was.
-#[derive(Debug, PartialEq, Eq, Drop)]
+#[derive(PartialEq, Eq, Drop)]
 pub enum Reply {
     /// The slot that was taken, and its node.
     Node(u32, Node),
@@ -65,7 +65,7 @@ pub enum Reply {
 
 /// The reply to a taking, but for the node of a slot that was given, which is in the worker's hand
 /// (`Book::node_in_hand`).
-#[derive(Clone, Copy, Debug, PartialEq, Eq)]
+#[derive(Clone, Copy, PartialEq, Eq)]
 pub enum Grant {
     /// The slot that was taken.
     Slot(u32),

@@ -4,7 +4,7 @@ use book_rules::SlotState;
 
 // A slot of a book: the child of this number of its parent's node, 0 and 0 for the root, with its
 // bound in minutes and its state. Its node isn't stored: it is found again from the parents.
-#[derive(Clone, Copy, Debug)]
+#[derive(Clone, Copy)]
 pub(crate) struct StoredSlot {
     pub(crate) bound: u64,
     pub(crate) state: SlotState,

@@ -12,7 +12,7 @@ use book_rules::SlotState;
 use lock_model::Instance;
 
 // A split and the slots of its children: from `first` up to `end`, which is left out.
-#[derive(Clone, Copy, Debug)]
+#[derive(Clone, Copy)]
 pub(crate) struct Waiting {
     pub(crate) split: u32,
     pub(crate) first: u32,

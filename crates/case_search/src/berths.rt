@@ -7,7 +7,7 @@ ghost use Rattle.case_search.specs.Berths.{berth_of, first_berth};
 use lock_model::{Moor, Rank};
 
 /// A rank, and its quay or a host.
-#[derive(Clone, Copy, Debug, PartialEq, Eq, Default)]
+#[derive(Clone, Copy, PartialEq, Eq, Default)]
 pub struct Berth {
     pub rank: Rank,
     pub moor: Moor,

@@ -8,7 +8,7 @@ use no_memory::NoMemory;
 use refute_rules::Marks;
 
 /// What a visit ends with.
-#[derive(Clone, Copy, PartialEq, Eq, Debug)]
+#[derive(Clone, Copy, PartialEq, Eq)]
 pub(crate) enum Visit {
     /// The case and all its extensions are refuted.
     Refuted,

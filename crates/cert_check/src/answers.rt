@@ -2,7 +2,7 @@
 use certificate_rules::{FailurePlace, Reason};
 
 /// What the checker says of a certificate.
-#[derive(Clone, Copy, Debug, PartialEq, Eq)]
+#[derive(Clone, Copy, PartialEq, Eq)]
 pub enum Answer {
     /// It shows that its plan is cheapest; the plan costs this many minutes.
     Accepted(u64),

@@ -13,7 +13,7 @@ use ship_shapes::find_reason;
 use std::alloc::Global;
 
 /// What the placer answers.
-#[derive(Debug, Drop)]
+#[derive(Drop)]
 pub enum Placed {
     /// Where each ship of the deck may lie: the least solution of the first whole case.
     Fits(Spots),

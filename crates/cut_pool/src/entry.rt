@@ -4,7 +4,7 @@ use boxcar::Pushed;
 use place_refute::Cut;
 
 /// A cut with its number in the book.
-#[derive(Debug, Drop)]
+#[derive(Drop)]
 pub struct Entry {
     pub cut: Cut,
     pub number: u64,
@@ -14,7 +14,7 @@ pub struct Entry {
 pub type Token = Pushed<Entry>;
 
 /// A cut that there was no memory to post.
-#[derive(Debug, Drop)]
+#[derive(Drop)]
 pub struct Back {
     pub cut: Cut,
 }

@@ -23,7 +23,7 @@ pub(crate) fn joined_ships(first: &Ships, second: &Ships, most: u8, count: u8) -
 
 /// Lockage number `into` of a plan with further ships, in the place of it and of lockage number
 /// `gone`; both are of one chamber and one way.
-#[derive(Debug, Drop)]
+#[derive(Drop)]
 pub(crate) struct Joined {
     pub(crate) into: usize,
     pub(crate) gone: usize,

@@ -1,7 +1,7 @@
 //! Gates, which workers call as they go.
 
 /// Where a worker calls the gate.
-#[derive(Clone, Copy, Debug, PartialEq, Eq)]
+#[derive(Clone, Copy, PartialEq, Eq)]
 pub enum Point {
     /// It took a node of this depth, and has done no work on it.
     Took(u8),
@@ -20,7 +20,7 @@ pub trait Gate {
 }
 
 /// A gate that lets all pass at once.
-#[derive(Clone, Copy, Debug, PartialEq, Eq)]
+#[derive(Clone, Copy, PartialEq, Eq)]
 pub struct OpenGate;
 
 impl Gate for OpenGate {

@@ -13,7 +13,7 @@ use std::marker::Model;
 pub const MEMORY_SINK_ROOM: usize = 1_048_576;
 
 /// There was no memory.
-#[derive(Clone, Copy, Debug, PartialEq, Eq)]
+#[derive(Clone, Copy, PartialEq, Eq)]
 pub struct NoMemory;
 
 impl From<AllocError> for NoMemory {

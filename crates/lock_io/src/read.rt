@@ -11,7 +11,7 @@ use std::alloc::{AllocError, Global};
 const ROOM: usize = 4096;
 
 /// Why a source wasn't read to its end.
-#[derive(Clone, Copy, Debug, PartialEq, Eq)]
+#[derive(Clone, Copy, PartialEq, Eq)]
 pub enum ReadError {
     /// The source failed.
     ReadFault,

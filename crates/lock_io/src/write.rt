@@ -7,7 +7,7 @@ ghost use Rattle.lock_io.specs.WholeWrites.{AppendsProperPrefix};
 use crate::sink::{Put, Sink};
 
 /// The sink failed before it had all bytes.
-#[derive(Clone, Copy, Debug, PartialEq, Eq)]
+#[derive(Clone, Copy, PartialEq, Eq)]
 pub struct WriteFault;
 
 /// Appends all bytes to the sink, or a proper prefix of them and a counted fault. It takes no memory.

@@ -12,7 +12,7 @@ use spot_place::{SpotPlaced, place_by_spots};
 use std::alloc::Global;
 
 /// The placer that is asked.
-#[derive(Clone, Copy, PartialEq, Eq, Debug)]
+#[derive(Clone, Copy, PartialEq, Eq)]
 pub(crate) enum Asked {
     Nobody,
     Berths,
@@ -22,7 +22,7 @@ pub(crate) enum Asked {
 
 /// What is counted of the decks: all, those that are left undecided, or the least turns that each
 /// takes, added.
-#[derive(Clone, Copy, PartialEq, Eq, Debug)]
+#[derive(Clone, Copy, PartialEq, Eq)]
 pub(crate) enum Counted {
     Decks,
     Undecided,

@@ -7,7 +7,7 @@
 use std::alloc::AllocError;
 
 /// There was no memory for what was asked.
-#[derive(Clone, Copy, PartialEq, Eq)]
+#[derive(Clone, Copy, Debug, PartialEq, Eq)]
 pub struct NoMemory;
 
 impl From<AllocError> for NoMemory {

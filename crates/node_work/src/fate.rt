@@ -5,7 +5,7 @@ use lock_model::Plan;
 use place_refute::{Cut, Hard};
 
 /// What becomes of a node. Large parts are boxed, since few nodes have them.
-#[derive(Debug, Drop)]
+#[derive(Drop)]
 pub enum Fate {
     /// It is closed on this ground.
     Closed(Ground),

@@ -8,7 +8,7 @@ use lock_model::Instance;
 
 /// An instance, the turns of each placer, and what is worked out of the instance once: the roster,
 /// and the throughput in minutes.
-#[derive(Debug, Drop)]
+#[derive(Drop)]
 pub struct Search<'i> {
     pub instance: &'i Instance,
     pub turns: u32,

@@ -19,7 +19,7 @@ use spot_place::{SpotPlaced, place_by_spots};
 use std::alloc::Global;
 
 /// What is found of the ships of a chamber.
-#[derive(Debug, Drop)]
+#[derive(Drop)]
 pub enum Settled {
     /// The ships fit; these are legal spots.
     Fits(Spots),

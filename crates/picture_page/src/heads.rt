@@ -11,7 +11,7 @@ use no_memory::NoMemory;
 use plain_text::put;
 
 /// What is known of a plan.
-#[derive(Clone, Copy, Debug, PartialEq, Eq)]
+#[derive(Clone, Copy, PartialEq, Eq)]
 pub enum Known {
     /// It is legal.
     Legal,

@@ -9,7 +9,7 @@ use plain_text::put_number;
 
 /// How a minute is told: in digits, or as a time of day where minute 0 is so many minutes after
 /// midnight.
-#[derive(Clone, Copy, Debug, PartialEq, Eq)]
+#[derive(Clone, Copy, PartialEq, Eq)]
 pub enum Clock {
     Minutes,
     Day(u16),

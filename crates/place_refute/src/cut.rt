@@ -10,7 +10,7 @@ use std::marker::Model;
 
 /// Ships of a chamber that don't fit it together: their numbers in the instance, rising, the deck
 /// that has one size for each of them, and a refutation that holds for this deck.
-#[derive(Debug, Drop)]
+#[derive(Drop)]
 pub struct Cut {
     pub chamber: u8,
     pub ships: Ships,
@@ -29,7 +29,7 @@ impl Model for Cut {
 }
 
 /// Why no cut was made.
-#[derive(Clone, Copy, Debug, PartialEq, Eq)]
+#[derive(Clone, Copy, PartialEq, Eq)]
 pub enum CutError {
     /// The refutation doesn't hold for the deck.
     NotRefuted,

@@ -4,7 +4,7 @@ use std::marker::Model;
 
 /// A deck that is hard for `turns` turns, at least 1: it has no quick reason, more than `turns`
 /// consistent cases, and none of the first `turns` of them is whole.
-#[derive(Debug, Drop)]
+#[derive(Drop)]
 pub struct Hard {
     pub deck: Deck,
     pub turns: u32,
@@ -23,7 +23,7 @@ impl Model for Hard {
 
 /// A deck that is spot-hard for `turns` turns: it has more than `turns` listed spot cases, and none
 /// of the first `turns` of them is whole.
-#[derive(Debug, Drop)]
+#[derive(Drop)]
 pub struct HardSpots {
     pub deck: Deck,
     pub turns: u32,

@@ -5,7 +5,7 @@ ghost use Rattle.placed_groups.specs.Said.{key_of};
 use lock_model::Ships;
 
 /// A chamber and its ships in eight places; 255, which is no ship, stands in those left over.
-#[derive(Clone, Copy, Debug, PartialEq, Eq, Hash)]
+#[derive(Clone, Copy, PartialEq, Eq, Hash)]
 pub(crate) struct GroupKey {
     chamber: u8,
     ships: [u8; 8],

@@ -13,7 +13,7 @@ use std::alloc::Global;
 use std::collections::HashMap;
 
 /// What the placers said of the ships of a chamber.
-#[derive(Debug, Drop)]
+#[derive(Drop)]
 pub enum Said {
     /// The ships fit; these are legal spots.
     Fits(Spots),
@@ -22,7 +22,7 @@ pub enum Said {
 }
 
 /// What was said, by chamber and ships.
-#[derive(Debug, Drop)]
+#[derive(Drop)]
 pub struct Memory {
     said: HashMap<GroupKey, Said>,
 }

@@ -4,7 +4,7 @@ ghost use Rattle.std.specs.Prelude.{◌≡◌};
 use lock_model::Group;
 
 /// A group that may come next, with the sums by which it is compared and served.
-#[derive(Debug, Drop)]
+#[derive(Drop)]
 pub struct Choice {
     pub group: Group,
     /// The place in the chamber's line of the group that it joins; None where all its ships are

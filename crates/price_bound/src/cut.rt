@@ -7,7 +7,7 @@ use lock_model::Ships;
 
 /// Ships that don't fit a chamber together. What a cut hits depends on these alone, whatever refutes
 /// it and whoever keeps it: the chamber itself, and those that are no roomier.
-#[derive(Debug, PartialEq, Eq, Drop)]
+#[derive(PartialEq, Eq, Drop)]
 pub struct ChamberCut {
     pub chamber: u8,
     pub ships: Ships,

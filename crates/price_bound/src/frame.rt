@@ -3,7 +3,7 @@ use crate::ready::Ready;
 
 /// A state of which the choices before `next` are counted; `best` is the least of what they come
 /// to, in hundredths of a minute.
-#[derive(Clone, Copy, Debug, PartialEq, Eq)]
+#[derive(Clone, Copy, PartialEq, Eq)]
 pub(crate) struct Frame {
     pub(crate) ready: Ready,
     pub(crate) best: i64,

@@ -13,7 +13,7 @@ use lock_model::Group;
 use std::alloc::Global;
 
 /// A group that has grown, and its sums.
-#[derive(Debug, Drop)]
+#[derive(Drop)]
 pub(crate) struct GrownGroup {
     pub(crate) group: Group,
     pub(crate) sums: Sums,
@@ -32,7 +32,7 @@ impl GrownGroup {
 }
 
 /// The groups that have grown from a base.
-#[derive(Debug, Drop)]
+#[derive(Drop)]
 pub(crate) struct GrownList {
     pub(crate) base: Group,
     pub(crate) groups: Vec<GrownGroup>,

@@ -23,7 +23,7 @@ use std::alloc::Global;
 
 /// What is kept of a chamber: how many of the cuts were looked at, the ship sets that these forbid, for
 /// each ship those that it may complete, and the groups that have grown from some bases.
-#[derive(Debug, Drop)]
+#[derive(Drop)]
 pub(crate) struct ChamberGroups {
     pub(crate) chamber: u8,
     pub(crate) seen: usize,
@@ -34,7 +34,7 @@ pub(crate) struct ChamberGroups {
 
 /// Groups of chambers that have grown at ceilings of the prices. By prices that are no higher, those that
 /// were left out gain nothing either.
-#[derive(Debug, Drop)]
+#[derive(Drop)]
 pub(crate) struct KeptGroups {
     pub(crate) ceilings: Prices,
     pub(crate) chambers: Vec<ChamberGroups>,

@@ -2,7 +2,7 @@
 use crate::choice::Choice;
 
 /// Choices that serve from a minute on as well as all that are enough for a line.
-#[derive(Debug, Drop)]
+#[derive(Drop)]
 pub struct Level {
     pub from: u64,
     pub choices: Vec<Choice>,

@@ -22,7 +22,6 @@
 mod bests;
 mod choice;
 mod choosing;
-mod comparing;
 mod counting;
 mod cut;
 mod error;
@@ -64,7 +63,6 @@ mod vanity;
 mod walking;
 mod weighing;
 
-pub use comparing::same_instance;
 pub use cut::{ChamberCut, same_cuts};
 pub use error::{Limits, PriceError};
 pub use keeping::KeptLines;

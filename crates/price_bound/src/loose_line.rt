@@ -7,7 +7,7 @@ use std::alloc::Global;
 
 /// A loose line of a chamber: its groups in order of service, and 100 times its flow time minus what
 /// it pays, in hundredths of a minute.
-#[derive(Debug, Drop)]
+#[derive(Drop)]
 pub struct LooseLine {
     pub groups: Vec<Group>,
     pub worth: i64,
@@ -39,7 +39,7 @@ impl LooseLine {
 
 /// A loose line for each chamber, and what they are worth together with the prices of the missing
 /// ships, in hundredths of a minute.
-#[derive(Debug, Drop)]
+#[derive(Drop)]
 pub struct LooseLines {
     pub lines: Vec<LooseLine>,
     pub sum: i64,

@@ -7,7 +7,7 @@ use crate::level::Level;
 
 /// The choices that may come next at a place of a line, and fewer that serve as well from minutes on,
 /// later and later ones.
-#[derive(Debug, Drop)]
+#[derive(Drop)]
 pub struct Menu {
     pub choices: Vec<Choice>,
     pub levels: Vec<Level>,

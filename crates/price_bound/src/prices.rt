@@ -7,7 +7,7 @@ use std::marker::Model;
 
 /// The prices of up to 24 ships in the order of the instance: whole numbers from 0 to 1,000,000, in
 /// hundredths of a minute of flow time.
-#[derive(Debug, PartialEq, Eq, Drop)]
+#[derive(PartialEq, Eq, Drop)]
 pub struct Prices {
     items: ArrayVec<u32, 24>,
 }

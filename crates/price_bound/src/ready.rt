@@ -10,7 +10,7 @@ use lock_model::Way;
 
 /// A state, the first minutes at which the chamber may be ready in it for each way, and whether it has
 /// no closures; they are worked out once for all choices.
-#[derive(Clone, Copy, Debug, PartialEq, Eq)]
+#[derive(Clone, Copy, PartialEq, Eq)]
 pub(crate) struct Ready {
     pub(crate) state: State,
     pub(crate) up: u64,

@@ -12,7 +12,7 @@ const MOST_WORTH: i64 = 40_000_000_000;
 
 /// The way of choices and the group that they join, the place that they lead to, and the first minute at
 /// which the chamber may be ready for them.
-#[derive(Clone, Copy, Debug, PartialEq, Eq)]
+#[derive(Clone, Copy, PartialEq, Eq)]
 pub(crate) struct Route {
     pub(crate) way: Way,
     pub(crate) joins: Option<u8>,
@@ -22,7 +22,7 @@ pub(crate) struct Route {
 
 /// What a choice of a route comes to no less than, by what is counted, where it ends no sooner and is
 /// worth no less, in hundredths of a minute.
-#[derive(Clone, Copy, Debug, PartialEq, Eq)]
+#[derive(Clone, Copy, PartialEq, Eq)]
 pub(crate) struct Bar {
     pub(crate) end: u64,
     pub(crate) worth: i64,

@@ -14,7 +14,7 @@ use lock_model::Group;
 
 /// The minute at which a choice ends that comes next, and what it is worth, in hundredths of a
 /// minute.
-#[derive(Clone, Copy, Debug, PartialEq, Eq)]
+#[derive(Clone, Copy, PartialEq, Eq)]
 pub(crate) struct Served {
     pub(crate) end: u64,
     pub(crate) worth: i64,

@@ -7,7 +7,7 @@ use crate::choice::Choice;
 const COLUMNS: usize = 64;
 
 /// By which of its sums a choice most likely serves as well as others.
-#[derive(Clone, Copy, Debug, PartialEq, Eq)]
+#[derive(Clone, Copy, PartialEq, Eq)]
 pub(crate) enum Merit {
     /// It pays much.
     Pays,

@@ -14,7 +14,7 @@ use std::marker::Model;
 /// A node of an instance, prices, cuts and a cost, in minutes, such that the node reaches the cost by
 /// these prices and cuts. `show` makes it, and works out whether that is so; it borrows what it is
 /// said of, so whoever keeps an instance, nodes, prices and cuts of its own compares each by value.
-#[derive(Debug, Drop)]
+#[derive(Drop)]
 pub struct Shown<'a> {
     instance: &'a Instance,
     node: &'a Node,

@@ -6,7 +6,7 @@ use lock_model::Stand;
 
 /// A chamber that has served the groups of its line before a place, stands so and is free at a
 /// minute.
-#[derive(Clone, Copy, Debug, PartialEq, Eq)]
+#[derive(Clone, Copy, PartialEq, Eq)]
 pub(crate) struct State {
     pub(crate) place: u8,
     pub(crate) stand: Stand,

@@ -3,7 +3,7 @@ ghost use Rattle.std.specs.Prelude.{◌≡◌, ◌+◌, ◌≤◌};
 
 /// Those sums of a group by which it is served that don't hang on prices; the least that one of the
 /// ships that joined it may count, which helps speed alone; and the number whose bits are its ships.
-#[derive(Clone, Copy, Debug, PartialEq, Eq)]
+#[derive(Clone, Copy, PartialEq, Eq)]
 pub(crate) struct Sums {
     pub(crate) duration: u32,
     pub(crate) last: u32,

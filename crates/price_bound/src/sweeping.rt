@@ -17,7 +17,7 @@ use crate::values::Values;
 use chamber_times::stand_after;
 
 /// The least that counted choices come to, and the bar for the next ones of their route.
-#[derive(Clone, Copy, Debug, PartialEq, Eq)]
+#[derive(Clone, Copy, PartialEq, Eq)]
 pub(crate) struct Counted {
     pub(crate) best: i64,
     pub(crate) bar: Bar,

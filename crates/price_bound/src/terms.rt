@@ -3,7 +3,6 @@ ghost use Rattle.std.specs.Prelude.{◌≡◌, ◌↔◌, IfOk, OnOk, IsTrue};
 ghost use Rattle.std.specs.Bool.{OnTrue};
 ghost use Rattle.price_bound.specs.Keeping.{AreFirst, AreTerms, LeadTo};
 
-use crate::comparing::same_instance;
 use crate::cut::{ChamberCut, same_cuts};
 use crate::error::{PriceError, append};
 use crate::line_case::LineCase;
@@ -12,7 +11,7 @@ use lock_model::Instance;
 use std::alloc::Global;
 
 /// An instance, a depth of its nodes, prices and cuts.
-#[derive(Debug, Drop)]
+#[derive(Drop)]
 pub(crate) struct Terms {
     pub(crate) instance: Instance,
     pub(crate) depth: u8,
@@ -59,7 +58,7 @@ impl Terms {
         self.depth == case.depth
             && self.prices == *case.prices
             && self.have_cuts(case.cuts)
-            && same_instance(&self.instance, case.instance)
+            && self.instance.equals(case.instance)
     }
 
     #[tactic(auto, using(crate::proofs::CutLemmas::same_row))]
@@ -76,7 +75,7 @@ impl Terms {
     {
         self.depth == case.depth
             && self.are_first(case.cuts)
-            && same_instance(&self.instance, case.instance)
+            && self.instance.equals(case.instance)
     }
 
     // Takes the prices of a case, and the cuts that came behind the others.

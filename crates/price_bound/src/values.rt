@@ -12,7 +12,7 @@ const ROW_MINUTES: u64 = 600;
 
 /// Values, in hundredths of a minute, by state, whose place is one of so many: those of the first
 /// minutes in a row, which is asked most, and the others in a map.
-#[derive(Debug, Drop)]
+#[derive(Drop)]
 pub(crate) struct Values {
     pub(crate) places: u64,
     pub(crate) start: u64,

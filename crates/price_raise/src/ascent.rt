@@ -9,7 +9,7 @@ use price_bound::Prices;
 /// How an ascent goes on: so many steps at the most; after so many without gain it goes back to the
 /// best prices, with steps a third shorter; and after each span of so many steps it ends, unless so
 /// many spans that gain as much as this one would reach the goal.
-#[derive(Clone, Copy, Debug, PartialEq, Eq)]
+#[derive(Clone, Copy, PartialEq, Eq)]
 pub struct Pace {
     pub steps: u32,
     pub patience: u32,
@@ -19,7 +19,7 @@ pub struct Pace {
 
 /// Prices that are tried, the best ones so far with what they reach, how the next step is made, what the
 /// best prices reached when the span began, and how many steps of it were made.
-#[derive(Debug, Drop)]
+#[derive(Drop)]
 pub struct Ascent {
     tried: Prices,
     best: Prices,

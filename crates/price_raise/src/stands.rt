@@ -3,7 +3,7 @@
 use lock_model::Ships;
 
 /// How often each of 24 ships stands in some groups, up to 64 times.
-#[derive(Clone, Copy, Debug, PartialEq, Eq)]
+#[derive(Clone, Copy, PartialEq, Eq)]
 pub struct Stands {
     counts: [i64; 24],
 }

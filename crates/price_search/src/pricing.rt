@@ -45,7 +45,7 @@ const PACE: Pace = Pace {
 };
 
 /// How soon a search leaves its first node, which one thread prices.
-#[derive(Clone, Copy, Debug, PartialEq, Eq)]
+#[derive(Clone, Copy, PartialEq, Eq)]
 pub enum FirstNode {
     /// Late: the better its prices, the fewer nodes are below it.
     Long,
@@ -75,7 +75,7 @@ fn copy_cuts(alloc: Global, cuts: &[ChamberCut]) -> Result<Vec<ChamberCut>, NoMe
 /// The prices of the nodes on the way from the root to the one in hand, those that are raised at the
 /// node in hand, how soon the first node is left, the first cuts of the book, how many rounds may be made
 /// still, and least lines that are kept from call to call.
-#[derive(Debug, Drop)]
+#[derive(Drop)]
 pub struct Pricing {
     pub(crate) path: Vec<Offer>,
     pub(crate) ascent: Ascent,

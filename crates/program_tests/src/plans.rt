@@ -39,7 +39,7 @@ fn plan_of(instance: &Instance, text: &[u8]) -> Option<Plan>
 fn printed(alloc: Global, text: &[u8]) -> Result<Vec<u8>, Fail> {
     let instance = read_instance(SIDE).map_err(|_| "no instance")?;
     let plan = plan_of(&instance, text).ok_or("no plan")?;
-    Ok(print_plan(alloc, &instance, &plan)?)
+    print_plan(alloc, &instance, &plan).map_err(|_| "no memory".into())
 }
 
 #[test]

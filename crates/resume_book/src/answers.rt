@@ -2,7 +2,7 @@
 use certificate_rules::{FailurePlace, Reason};
 
 /// What the checker says of an open certificate.
-#[derive(Clone, Copy, Debug, PartialEq, Eq)]
+#[derive(Clone, Copy, PartialEq, Eq)]
 pub enum OpenAnswer {
     /// It stands: its plan costs `cost` minutes, and every legal plan at least `low`.
     Stands { low: u64, cost: u64 },

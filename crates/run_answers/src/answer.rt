@@ -6,7 +6,7 @@ ghost use Rattle.run_answers.specs.Written.{bytes_in};
 use crate::status::Status;
 
 /// A text that is always the same, or one that was made.
-#[derive(Debug, Drop)]
+#[derive(Drop)]
 pub enum Text {
     Fixed(&'static [u8]),
     Made(Vec<u8>),
@@ -25,7 +25,7 @@ impl Text {
 }
 
 /// A status, and the text that goes with it.
-#[derive(Debug, Drop)]
+#[derive(Drop)]
 pub struct Answer {
     pub status: Status,
     pub text: Text,

@@ -8,7 +8,7 @@ use no_memory::NoMemory;
 use std::alloc::Global;
 
 /// How a slot ends by what was worked out of its node alone.
-#[derive(Clone, Copy, Debug, PartialEq, Eq)]
+#[derive(Clone, Copy, PartialEq, Eq)]
 pub enum Ending {
     /// It is split.
     Split,
@@ -17,7 +17,7 @@ pub enum Ending {
 }
 
 /// A node that was worked out ahead, and how its slot is to end.
-#[derive(Debug, Drop)]
+#[derive(Drop)]
 pub struct Ahead<'i> {
     pub foreseen: Foreseen<'i>,
     pub ending: Ending,
@@ -25,7 +25,7 @@ pub struct Ahead<'i> {
 
 /// Nodes of one instance that were worked out ahead of a book, in the order in which the book is to
 /// come to them.
-#[derive(Debug, Drop)]
+#[derive(Drop)]
 pub struct Stretch<'i> {
     pub instance: &'i Instance,
     pub nodes: Vec<Ahead<'i>>,

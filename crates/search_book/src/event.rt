@@ -9,7 +9,7 @@ use price_bound::Prices;
 /// `Take` and `Release` have a worker of 0 to 8; of `Park` the deck is spot-hard for the turns too.
 /// Large arguments are boxed, so that an event is a few words and its memory is taken before the
 /// lock is.
-#[derive(Debug, Drop)]
+#[derive(Drop)]
 pub enum Event {
     /// The worker wants a slot.
     Take(u8),

@@ -10,7 +10,7 @@ use search_book::Stretch;
 use std::alloc::Global;
 
 /// A child of a node that is split, by its bound in minutes and its number among the children.
-#[derive(Clone, Copy, Debug, PartialEq, Eq)]
+#[derive(Clone, Copy, PartialEq, Eq)]
 struct Child {
     bound: u64,
     number: u8,
@@ -18,14 +18,14 @@ struct Child {
 
 /// A node that is split on the way, by its place in the stretch, and the child of it that was walked
 /// into last.
-#[derive(Clone, Copy, Debug, PartialEq, Eq)]
+#[derive(Clone, Copy, PartialEq, Eq)]
 struct Fork {
     place: usize,
     last: Option<Child>,
 }
 
 /// The nodes that are split on the way to where the worker is, from above.
-#[derive(Debug, Drop)]
+#[derive(Drop)]
 pub(crate) struct Trail {
     forks: Vec<Fork>,
 }

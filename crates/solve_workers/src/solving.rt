@@ -21,7 +21,7 @@ use std::sync::Wait;
 use std::thread::Threads;
 
 /// What a search comes to.
-#[derive(Debug, Drop)]
+#[derive(Drop)]
 pub struct Solved {
     /// The book at the end of the search.
     pub book: Book,

@@ -16,7 +16,7 @@ use Rattle.refute_rules.specs.Decided.{berth_in}
 use Rattle.refute_rules.specs.Known.{quay_y, guest_y, moored_y, berth_y, y_within}
 use Rattle.case_search.specs.declared.berths.Berth.{Berth as Mooring}
 use Rattle.spot_place.specs.OnWay.{berth_at, lying}
-use Rattle.spot_place.proofs.KnownLemmas.{map-some}
+use Rattle.refute_rules.proofs.KnownLemmas.{map-some}
 use Rattle.spot_place.proofs.CaseLemmas.{berth-hit, berth-miss}
 
 -- ---- bounds

@@ -2,7 +2,6 @@ pub mod CaseLemmas
 pub mod StepLemmas
 pub mod OptionLemmas
 pub mod CountLemmas
-pub mod KnownLemmas
 pub mod HeightLemmas
 pub mod KeptLemmas
 pub mod FaultLemmas

@@ -3,15 +3,15 @@ use Rattle.std.proofs.Common.{◌≡◌, ℕ, ◌<◌, ◌≤◌, ℤ, pos, ◌�
 use Rattle.std.proofs.lemmas.Int.{ints, by_lt_z}
 use Rattle.lock_model.specs.Placement.{IsLegalPlacement, spot_at}
 use Rattle.lock_model.specs.declared.placement.Spot.{Spot}
-use Rattle.refute_rules.specs.Known.{y_in, host_of}
+use Rattle.refute_rules.specs.Known.{y_in, host_of, HasKnownHosts}
 use Rattle.refute_rules.specs.SpotFaults.{LeadsBack, Outside}
 use Rattle.refute_rules.specs.Spots.{IsWholeSpots, AreSpotsOfCase}
 use Rattle.case_search.specs.Berths.{berth_of}
-use Rattle.spot_place.specs.OnWay.{berth_at, HasKnownHosts}
+use Rattle.spot_place.specs.OnWay.{berth_at}
 use Rattle.spot_place.specs.SpotCase.{OnWay, case_on, IsOnWay}
 use Rattle.spot_place.specs.ShipSpots.{IsSpotOf}
 use Rattle.spot_place.proofs.CaseLemmas.{berth-hit}
-use Rattle.spot_place.proofs.KnownLemmas.{y-known}
+use Rattle.refute_rules.proofs.KnownLemmas.{y-known}
 use Rattle.spot_place.proofs.KeptLemmas.{berths-same, host-in_deck}
 use Rattle.spot_place.proofs.TakeLemmas.{length-whole}
 use Rattle.spot_place.proofs.WholeLemmas.{whole-legal}

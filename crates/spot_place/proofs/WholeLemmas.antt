@@ -13,11 +13,10 @@ use Rattle.lock_model.specs.declared.placement.Moor.TheVariants.{Quay, Ship}
 use Rattle.refute_rules.specs.Reasons.{length_at, width_at}
 use Rattle.refute_rules.specs.Choices.{Choice}
 use Rattle.refute_rules.specs.Decided.{berth_in}
-use Rattle.refute_rules.specs.Known.{moor_host, host_of, host_and_more, hosts_within, quay_y, guest_y, moored_y, berth_y, y_within}
+use Rattle.refute_rules.specs.Known.{moor_host, host_of, host_and_more, hosts_within, quay_y, guest_y, moored_y, berth_y, y_within, HasKnownHosts}
 use Rattle.refute_rules.specs.SpotFaults.{IsInsideAlong, IsInsideAcross, AreApartAt, OtherRank, LeadsBack, Outside, PastHost, Touching, IsFaultless}
 use Rattle.refute_rules.specs.Spots.{AreSpotsOfCase}
-use Rattle.spot_place.specs.OnWay.{HasKnownHosts}
-use Rattle.spot_place.proofs.KnownLemmas.{map-some, positive, y-more}
+use Rattle.refute_rules.proofs.KnownLemmas.{map-some, positive, y-more}
 
 le_or_not : (a b : ℕ) → (a ≤ b) ⊎ (a ≤ b → ⊥)
 le_or_not a b = elim (leb_tells a b) [ inl y ↦ inl y.1 | inr n ↦ inr (λ h. omega (arith, h, n.1)) ]

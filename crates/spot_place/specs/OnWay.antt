@@ -1,11 +1,10 @@
 -- Spot cases as they are kept on their way: the berths of the first ships, and the x of these, or of all of them but the last.
-use Rattle.std.specs.Prelude.{ℕ, suc, ◌≡◌, ◌<◌, List, [], ◌∷◌, length, slice_index_or, Some, Contains}
+use Rattle.std.specs.Prelude.{ℕ, suc, ◌<◌, List, [], ◌∷◌, length, slice_index_or, Contains}
 use Rattle.lock_model.specs.Deck.{Deck}
 use Rattle.lock_model.specs.declared.placement.Rank.TheVariants.{Left}
 use Rattle.lock_model.specs.declared.placement.Moor.TheVariants.{Quay}
 use Rattle.refute_rules.specs.Choices.{Choice, Lies, Stands, IsKnownMoor}
-use Rattle.refute_rules.specs.Decided.{berth_in}
-use Rattle.refute_rules.specs.Known.{host_of, hosts_within}
+use Rattle.refute_rules.specs.Known.{hosts_within}
 use Rattle.case_search.specs.Berths.{berth_of}
 use Rattle.case_search.specs.declared.berths.Berth.{Berth as Mooring}
 
@@ -29,10 +28,6 @@ lying berths = case_of berths []
 -- each host is a ship of the deck
 pub record AreKnown (d : Deck) (berths : List Mooring) : Type 0 where
   pub each : (i : ℕ) → i < length berths → IsKnownMoor d (berth_at berths i).moor
-
--- each decided host of a ship of the deck is a ship of the deck
-pub record HasKnownHosts (d : Deck) (case : List Choice) : Type 0 where
-  pub each : (i k : ℕ) → i < length d.ships → host_of (berth_in case i) ≡ Some k → k < length d.ships
 
 -- ship x is among the first hosts of ship i, counted towards the quay, at most so many
 pub record IsHostWithin (case : List Choice) (steps i x : ℕ) : Type 0 where

@@ -12,7 +12,7 @@ use refute_rules::Marks;
 use std::alloc::AllocError;
 
 /// A fault of a spot case. The numbers are places in the deck.
-#[derive(Clone, Copy, Debug, PartialEq, Eq, Drop)]
+#[derive(Clone, Copy, PartialEq, Eq, Drop)]
 pub(crate) enum SpotFault {
     /// The ship lies at a host of the other rank.
     OtherRank(u8),

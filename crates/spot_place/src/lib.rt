@@ -8,8 +8,7 @@
 //! - What is kept of a spot case on its way: `specs/OnWay`, `Heights` and `SpotCase`.
 //! - What the search of `case_search` goes by: `specs/Faults`, `Rules` and `Lawful`.
 //!
-//! Laws in `proofs/`: in a faultless case that decides every berth each y is known (`KnownLemmas`),
-//! and the spots of a whole spot case are legal (`WholeLemmas`).
+//! Laws in `proofs/`: the spots of a whole spot case are legal (`WholeLemmas`).
 #![tactic(auto)]
 
 mod berths;

@@ -12,7 +12,7 @@ use refute_rules::Marks;
 use std::alloc::Global;
 
 /// What the placer by spots answers of a deck.
-#[derive(Debug, Drop)]
+#[derive(Drop)]
 pub enum SpotPlaced {
     /// The ships lie legally at these spots.
     Fits(Spots),

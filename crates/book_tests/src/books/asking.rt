@@ -3,6 +3,7 @@
 use crate::fixture::{both, one_after_the_other, row_cut};
 use crate::spent_decks::spent_both;
 use book_core::{Book, Reply};
+use book_rules::SlotState;
 use closing_rules::Ground;
 use std::alloc::Global;
 use std::process::Abort;
@@ -42,12 +43,57 @@ pub(crate) fn reply_of(alloc: Global, book: &mut Book, ask: Ask) -> Result<Reply
     })
 }
 
-// The reply as text; of a node the depth alone.
-fn text_of(alloc: Global, reply: Reply) -> Result<String, Fail> {
+// An accepted event as text; of a node the depth alone.
+fn accepted_text(alloc: Global, reply: &Reply) -> Result<Option<String>, Fail> {
     Ok(match reply {
-        Reply::Node(id, node) => format!(in alloc; "Node({id}, {})", node.depth())?,
+        Reply::Node(id, node) => Some(format!(in alloc; "Node({id}, {})", node.depth())?),
+        Reply::Made(count) => Some(format!(in alloc; "Made({count})")?),
+        Reply::Closed => Some(format!(in alloc; "Closed")?),
+        Reply::Posted(number) => Some(format!(in alloc; "Posted({number})")?),
+        Reply::Parked => Some(format!(in alloc; "Parked")?),
+        Reply::Replaced(cost) => Some(format!(in alloc; "Replaced({cost})")?),
+        Reply::Released(count) => Some(format!(in alloc; "Released({count})")?),
+        _ => None,
+    })
+}
+
+// A refusal as text.
+fn refusal_text(alloc: Global, reply: &Reply) -> Result<String, Fail> {
+    Ok(match reply {
+        Reply::Ended(worker) => format!(in alloc; "Ended({worker})")?,
+        Reply::Holds(id) => format!(in alloc; "Holds({id})")?,
+        Reply::Idle => format!(in alloc; "Idle")?,
+        Reply::Done => format!(in alloc; "Done")?,
+        Reply::NotHeld(id) => format!(in alloc; "NotHeld({id})")?,
+        Reply::Whole(id) => format!(in alloc; "Whole({id})")?,
+        Reply::Cheaper(bound, best) => format!(in alloc; "Cheaper({bound}, {best})")?,
+        Reply::NoHit(number) => format!(in alloc; "NoHit({number})")?,
+        Reply::OtherDeck => format!(in alloc; "OtherDeck")?,
         Reply::NotLegal(_) => format!(in alloc; "NotLegal")?,
-        other => format!(in alloc; "{other:?}")?,
+        Reply::NotCheaper(cost, best) => format!(in alloc; "NotCheaper({cost}, {best})")?,
+        Reply::Absent(ship) => format!(in alloc; "Absent({ship})")?,
+        _ => format!(in alloc; "another")?,
+    })
+}
+
+// The reply as text.
+fn text_of(alloc: Global, reply: &Reply) -> Result<String, Fail> {
+    match accepted_text(alloc, reply)? {
+        Some(text) => Ok(text),
+        None => refusal_text(alloc, reply),
+    }
+}
+
+// The state of a slot as text.
+fn state_text(alloc: Global, state: SlotState) -> Result<String, Fail> {
+    Ok(match state {
+        SlotState::Fresh => format!(in alloc; "Fresh")?,
+        SlotState::Held(worker) => format!(in alloc; "Held({worker})")?,
+        SlotState::Split(count) => format!(in alloc; "Split({count})")?,
+        SlotState::Parked(chamber, place) => format!(in alloc; "Parked({chamber}, {place})")?,
+        SlotState::Closed(Ground::Bound) => format!(in alloc; "Closed(Bound)")?,
+        SlotState::Closed(Ground::Cut(number)) => format!(in alloc; "Closed(Cut({number}))")?,
+        _ => format!(in alloc; "another")?,
     })
 }
 
@@ -55,7 +101,7 @@ fn text_of(alloc: Global, reply: Reply) -> Result<String, Fail> {
 fn replies_to(alloc: Global, book: &mut Book, asks: &[Ask]) -> Result<String, Fail> {
     let mut text = String::new(alloc);
     for &ask in asks {
-        let reply = text_of(alloc, reply_of(alloc, book, ask)?)?;
+        let reply = text_of(alloc, &reply_of(alloc, book, ask)?)?;
         text = format!(in alloc; "{text}{reply} ")?;
     }
     Ok(text)
@@ -66,7 +112,8 @@ fn states_of(alloc: Global, book: &Book) -> Result<String, Fail> {
     let mut text = String::new(alloc);
     for id in 0..book.slots() {
         if let Some(state) = book.slot_state(id) {
-            text = format!(in alloc; "{text}{state:?} ")?;
+            let word = state_text(alloc, state)?;
+            text = format!(in alloc; "{text}{word} ")?;
         }
     }
     Ok(text)
