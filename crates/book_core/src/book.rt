@@ -15,7 +15,7 @@ use crate::waiting::Waiting;
 use book_rules::{Entry, SlotState};
 use flow_bounds::Roster;
 use lock_model::Plan;
-use place_refute::Cut;
+use deck_cuts::Cut;
 use price_bound::Prices;
 use std::marker::Model;
 

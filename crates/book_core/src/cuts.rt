@@ -3,7 +3,7 @@ ghost use Rattle.std.specs.Prelude.{◌≡◌, ◌++◌, ◌∷◌, [], length, 
 ghost use Rattle.book_rules.specs.Shown.{are_first_cuts};
 ghost use Rattle.book_core.specs.Telling.{told_cut};
 
-use place_refute::Cut;
+use deck_cuts::Cut;
 use plain_text::NoMemory;
 use price_bound::{ChamberCut, same_cuts};
 use std::alloc::Global;

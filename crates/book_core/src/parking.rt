@@ -11,7 +11,7 @@ use crate::decks::{deck_clashes, same_deck};
 use crate::reply::Reply;
 use book_rules::{Entry, SlotState};
 use lock_model::deck_of;
-use place_refute::Hard;
+use deck_cuts::Hard;
 
 impl Book {
     // Whether the deck of the named group of a held slot's node is the lent value's, and its turns are

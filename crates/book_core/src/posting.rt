@@ -15,7 +15,7 @@ use crate::reply::Reply;
 use book_rules::Entry;
 use lock_model::{Instance, deck_of};
 use mooring_rules::has_ships;
-use place_refute::Cut;
+use deck_cuts::Cut;
 use plain_text::NoMemory;
 
 // Whether the instance has all ships of a cut.

@@ -10,7 +10,7 @@ use cert_check::{
     Answer, CertCut, CertCuts, FailurePlace, Ground, Mark, Reason, check, one_first_failure,
 };
 use lock_model::{Instance, Plan, Ships};
-use place_refute::Refutation;
+use deck_cuts::Refutation;
 use std::alloc::Global;
 use std::process::Abort;
 use std::test::Fail;

@@ -7,7 +7,8 @@ use lock_model::{
     Spots, Way,
 };
 use mooring_rules::judge_plan;
-use place_refute::{Cut, Quick, Refutation, make_cut};
+use deck_cuts::{Cut, Quick, Refutation};
+use place_refute::make_cut;
 use std::alloc::Global;
 use std::test::Fail;
 use worked_locks::{BASE, chamber, deck_of, one_chamber, pair, ship, two_ships};

@@ -6,7 +6,7 @@ ghost use Rattle.chamber_place.specs.Placing.{IsPlaced, RefutesExactly, SpendsEx
 use crate::deck_case::DeckCase;
 use case_search::{Found, search};
 use lock_model::{Deck, Spots};
-use place_refute::{Hard, hard};
+use deck_cuts::{Hard, hard};
 use plain_text::NoMemory;
 use refute_rules::Refutation;
 use ship_shapes::find_reason;

@@ -8,11 +8,10 @@ ghost use Rattle.refute_rules.specs.Reasons.{AreSome};
 ghost use Rattle.chamber_place.specs.Placing.{PlaceRefutes};
 ghost use Rattle.chamber_place.specs.Parts.{part_of, IsLeast, IsShrunk, IsPart, IsRefutedPart, IsSmaller, IsSmallerPart, BeginsWithClash};
 
-use crate::names::ship_count;
-use crate::parts::{all_places, part_of, ships_at, without};
+use crate::parts::{all_places, part_of, ship_count, ships_at, without};
 use crate::placing::{Placed, place};
 use lock_model::{Deck, Ships};
-use place_refute::{Cut, known_cut};
+use deck_cuts::{Cut, known_cut};
 use plain_text::NoMemory;
 use refute_rules::{Quick, Refutation};
 use std::alloc::Global;

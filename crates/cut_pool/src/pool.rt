@@ -6,7 +6,7 @@ ghost use Rattle.cut_pool.specs.Hitting.{IsHit, HasHit};
 use crate::entry::{Back, Entry, Token};
 use crate::tokens::Tokens;
 use lock_model::{Instance, Ships};
-use place_refute::{Cut, cut_hits};
+use deck_cuts::{Cut, cut_hits};
 use plain_text::NoMemory;
 use std::alloc::Global;
 use std::marker::Model;

@@ -7,7 +7,7 @@ use crate::fixture::{
 };
 use chamber_place::{Placed, place, shrink};
 use lock_model::{Deck, Measures, Ships};
-use place_refute::Cut;
+use deck_cuts::Cut;
 use refute_rules::{Quick, Refutation};
 use ship_shapes::holds;
 use std::alloc::Global;

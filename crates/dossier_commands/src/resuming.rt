@@ -19,7 +19,7 @@ use checked_dossiers::{DOSSIER_LIMIT, OpenCertificate, StandingDossier, read_sta
 use command_words::SolveOptions;
 use lock_io::{Gate, Source};
 use lock_model::{Instance, deck_of};
-use place_refute::{Cut, known_cut};
+use deck_cuts::{Cut, known_cut};
 use plain_text::NoMemory;
 use resume_book::prior;
 use run_answers::{Answer, no_memory, read_source};

@@ -9,7 +9,7 @@ use crate::last::is_among;
 use berth_place::{BerthPlaced, place_by_berths};
 use chamber_place::shrink;
 use lock_model::{Instance, Ships, deck_of};
-use place_refute::Cut;
+use deck_cuts::Cut;
 use plain_text::NoMemory;
 use refute_rules::Refutation;
 use std::alloc::Global;

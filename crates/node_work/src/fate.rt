@@ -2,7 +2,7 @@
 
 use closing_rules::Ground;
 use lock_model::Plan;
-use place_refute::{Cut, Hard};
+use deck_cuts::{Cut, Hard};
 
 /// What becomes of a node. Large parts are boxed, since few nodes have them.
 #[derive(Debug, Drop)]

@@ -13,7 +13,7 @@ use crate::settling::Settled;
 use closing_rules::Ground;
 use lock_model::{Instance, Ships};
 use master_branch::Node;
-use place_refute::{Cut, Hard};
+use deck_cuts::{Cut, Hard};
 use placed_groups::{Memory, Said};
 use plain_text::NoMemory;
 use std::alloc::Global;

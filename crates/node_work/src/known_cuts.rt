@@ -6,7 +6,7 @@ ghost use Rattle.std.specs.Prelude.{◌≡◌};
 
 use book_core::Book;
 use lock_model::{Instance, Ships};
-use place_refute::cut_hits;
+use deck_cuts::cut_hits;
 
 /// Cuts under their numbers, in which a search looks before it asks a placer.
 pub trait KnownCuts {

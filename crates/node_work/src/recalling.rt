@@ -11,7 +11,7 @@ use crate::search::Search;
 use crate::settling::{Settled, settle};
 use lock_model::{Deck, Instance, Ships, Spots, deck_of};
 use mooring_rules::{first_clash, judge_spots};
-use place_refute::{Hard, HardSpots, hard, hard_spots};
+use deck_cuts::{Hard, HardSpots, hard, hard_spots};
 use placed_groups::{Memory, Said};
 use plain_text::NoMemory;
 use std::alloc::Global;

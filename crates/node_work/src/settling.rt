@@ -11,7 +11,7 @@ use berth_place::{BerthPlaced, place_by_berths};
 use chamber_place::{Placed, place};
 use lock_model::{Deck, Moor, Rank, Spot, Spots, deck_of};
 use mooring_rules::{first_clash, judge_spots};
-use place_refute::{Cut, Hard, HardSpots};
+use deck_cuts::{Cut, Hard, HardSpots};
 use plain_text::NoMemory;
 use refute_rules::Refutation;
 use ship_shapes::find_reason;

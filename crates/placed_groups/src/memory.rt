@@ -7,7 +7,7 @@ ghost use Rattle.placed_groups.specs.Said.{key_of, are_same};
 
 use crate::group_key::GroupKey;
 use lock_model::{Ships, Spots};
-use place_refute::{Hard, HardSpots};
+use deck_cuts::{Hard, HardSpots};
 use plain_text::NoMemory;
 use std::alloc::Global;
 use std::collections::HashMap;

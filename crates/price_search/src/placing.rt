@@ -6,7 +6,7 @@ use crate::round::Asked;
 use lock_model::{Instance, Ships, Spots};
 use near_plan::Fitting;
 use node_work::{FirstPlacer, KnownCuts, Search, Settled, settle_known};
-use place_refute::{Cut, cut_hits};
+use deck_cuts::{Cut, cut_hits};
 use placed_groups::Memory;
 use plain_text::NoMemory;
 use std::alloc::Global;

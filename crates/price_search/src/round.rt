@@ -8,7 +8,7 @@ use lock_model::{Group, Instance, Plan};
 use master_branch::{Node, arrival_order};
 use near_plan::{fits, near_plan};
 use node_work::{KnownCuts, Search};
-use place_refute::Cut;
+use deck_cuts::Cut;
 use placed_groups::Memory;
 use plain_text::NoMemory;
 use price_bound::{Limits, LooseLines, PriceError, PricedNode, Prices, least_lines};

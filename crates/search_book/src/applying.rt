@@ -14,7 +14,7 @@ use crate::next::Next;
 use crate::replies::is_accepting;
 use book_core::{Book, Reply};
 use lock_model::Plan;
-use place_refute::Cut;
+use deck_cuts::Cut;
 use price_bound::Prices;
 use std::sync::ledger::{Ledger, Share};
 

@@ -3,7 +3,7 @@ ghost use Rattle.std.specs.Prelude.{◌≡◌, ◌++◌, ◌∷◌, [], length, 
 ghost use Rattle.book_core.specs.Telling.{bare_cut};
 
 use book_core::Book;
-use place_refute::Cut;
+use deck_cuts::Cut;
 use plain_text::NoMemory;
 use price_bound::ChamberCut;
 

@@ -11,7 +11,7 @@ use closing_rules::Ground;
 use lock_io::Gate;
 use lock_model::Plan;
 use node_work::Fate;
-use place_refute::Cut;
+use deck_cuts::Cut;
 use search_book::Event;
 use std::sync::Wait;
 use std::sync::ledger::Ledger;

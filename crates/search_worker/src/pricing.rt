@@ -13,7 +13,7 @@ use lock_io::Gate;
 use lock_model::Plan;
 use master_branch::Node;
 use node_work::Fate;
-use place_refute::Cut;
+use deck_cuts::Cut;
 use plain_text::NoMemory;
 use price_bound::Prices;
 use price_search::{Asked, MOST_AT_A_NODE, Offer, Pricing, Round, RoundEnd};

@@ -8,7 +8,7 @@ use crate::worker::Worker;
 use book_core::Reply;
 use lock_io::Gate;
 use lock_model::Plan;
-use place_refute::{Cut, copy_cut};
+use deck_cuts::{Cut, copy_cut};
 use search_book::Event;
 use std::sync::Wait;
 use std::sync::ledger::Ledger;

@@ -1,7 +1,7 @@
 //! The cuts that a search is given.
 ghost use Rattle.std.specs.Prelude.{◌≡◌, ◌++◌, ◌∷◌, [], OnOk, OnErr};
 
-use place_refute::Cut;
+use deck_cuts::Cut;
 use plain_text::NoMemory;
 use std::alloc::Global;
 use std::marker::Model;

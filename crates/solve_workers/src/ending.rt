@@ -12,7 +12,7 @@ use book_core::Book;
 use closing_rules::Ground;
 use lock_model::Plan;
 use node_work::Fate;
-use place_refute::{Cut, Hard};
+use deck_cuts::{Cut, Hard};
 use plain_text::NoMemory;
 
 /// Closes the held node on a ground that holds.

@@ -17,7 +17,7 @@ use crate::settling::settled;
 use book_core::{Book, Case};
 use lock_io::Gate;
 use node_work::Search;
-use place_refute::copy_cut;
+use deck_cuts::copy_cut;
 use plain_text::NoMemory;
 use price_raise::first_prices;
 use price_search::{FirstNode, Pricing};

@@ -10,7 +10,7 @@ use crate::held::Held;
 use crate::told::is_closed;
 use book_core::{Book, Reply};
 use lock_model::Plan;
-use place_refute::Cut;
+use deck_cuts::Cut;
 use price_bound::{Prices, Shown};
 
 // That the refutation of a cut holds, as its type keeps.

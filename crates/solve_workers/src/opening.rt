@@ -8,7 +8,7 @@ use crate::cut_list::CutList;
 use crate::told::posted;
 use book_core::{Book, Case, open_book};
 use lock_model::Plan;
-use place_refute::{Cut, copy_cut};
+use deck_cuts::{Cut, copy_cut};
 use plain_text::NoMemory;
 use std::alloc::Global;
 

@@ -13,7 +13,7 @@ use crate::offering::{close_shown, give, post, post_prices};
 use book_core::Book;
 use lock_model::Instance;
 use node_work::Search;
-use place_refute::Cut;
+use deck_cuts::Cut;
 use placed_groups::Memory;
 use plain_text::NoMemory;
 use price_bound::{Prices, Shown};

@@ -11,7 +11,7 @@ use cut_pool::{Pool, Token};
 use lock_io::Gate;
 use master_branch::arrival_order;
 use node_work::Search;
-use place_refute::{Cut, copy_cut};
+use deck_cuts::{Cut, copy_cut};
 use plain_text::NoMemory;
 use search_book::share_book;
 use search_worker::{Board, Hands, Post};

@@ -6,7 +6,7 @@ use crate::spot_case::SpotCase;
 use case_search::{Found, search};
 use deck_laws::spot_values;
 use lock_model::{Deck, Spots};
-use place_refute::{HardSpots, hard_spots};
+use deck_cuts::{HardSpots, hard_spots};
 use plain_text::NoMemory;
 use refute_rules::Marks;
 use std::alloc::Global;

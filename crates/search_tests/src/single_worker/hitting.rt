@@ -3,7 +3,7 @@
 use book_core::Book;
 use lock_model::Instance;
 use mooring_rules::has_ships;
-use place_refute::{Cut, cut_hits};
+use deck_cuts::{Cut, cut_hits};
 
 // Whether a cut hits the chamber and the ships of another.
 fn hits(cut: &Cut, instance: &Instance, other: &Cut) -> bool {
