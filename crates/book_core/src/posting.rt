@@ -13,9 +13,9 @@ use crate::decks::same_deck;
 use crate::growing::widen;
 use crate::reply::Reply;
 use book_rules::Entry;
+use deck_cuts::Cut;
 use lock_model::{Instance, deck_of};
 use mooring_rules::has_ships;
-use deck_cuts::Cut;
 use plain_text::NoMemory;
 
 // Whether the instance has all ships of a cut.

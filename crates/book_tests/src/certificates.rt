@@ -9,8 +9,8 @@ use book_core::{Book, Reply};
 use cert_check::{
     Answer, CertCut, CertCuts, FailurePlace, Ground, Mark, Reason, check, one_first_failure,
 };
-use lock_model::{Instance, Plan, Ships};
 use deck_cuts::Refutation;
+use lock_model::{Instance, Plan, Ships};
 use std::alloc::Global;
 use std::process::Abort;
 use std::test::Fail;

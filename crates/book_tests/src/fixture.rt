@@ -1,13 +1,13 @@
 //! Locks of two ships, their plans, their books and a cut.
 
 use book_core::{Book, Case, open_book};
+use deck_cuts::{Cut, Quick, Refutation};
 use first_plan::{first_unfit, singles_plan};
 use lock_model::{
     Chambers, Instance, Lockage, Lockages, Measures, Moor, Plan, Rank, ShipList, Ships, Spot,
     Spots, Way,
 };
 use mooring_rules::judge_plan;
-use deck_cuts::{Cut, Quick, Refutation};
 use place_refute::make_cut;
 use std::alloc::Global;
 use std::test::Fail;

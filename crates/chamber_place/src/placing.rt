@@ -5,8 +5,8 @@ ghost use Rattle.chamber_place.specs.Placing.{IsPlaced, RefutesExactly, SpendsEx
 
 use crate::deck_case::DeckCase;
 use case_search::{Found, search};
-use lock_model::{Deck, Spots};
 use deck_cuts::{Hard, hard};
+use lock_model::{Deck, Spots};
 use plain_text::NoMemory;
 use refute_rules::Refutation;
 use ship_shapes::find_reason;

@@ -10,8 +10,8 @@ ghost use Rattle.chamber_place.specs.Parts.{part_of, IsLeast, IsShrunk, IsPart, 
 
 use crate::parts::{all_places, part_of, ship_count, ships_at, without};
 use crate::placing::{Placed, place};
-use lock_model::{Deck, Ships};
 use deck_cuts::{Cut, known_cut};
+use lock_model::{Deck, Ships};
 use plain_text::NoMemory;
 use refute_rules::{Quick, Refutation};
 use std::alloc::Global;

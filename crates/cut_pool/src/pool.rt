@@ -5,8 +5,8 @@ ghost use Rattle.cut_pool.specs.Hitting.{IsHit, HasHit};
 
 use crate::entry::{Back, Entry, Token};
 use crate::tokens::Tokens;
-use lock_model::{Instance, Ships};
 use deck_cuts::{Cut, cut_hits};
+use lock_model::{Instance, Ships};
 use plain_text::NoMemory;
 use std::alloc::Global;
 use std::marker::Model;

@@ -1,7 +1,7 @@
 //! Worked cuts. Refutations that hold or don't stand with the second checker.
 use crate::fixture::{NARROW, TWINS, worked_deck};
-use lock_model::{Chambers, Instance, ShipList, Ships, Way};
 use deck_cuts::{Cut, Quick, Refutation, copy_cut, cut_hits};
+use lock_model::{Chambers, Instance, ShipList, Ships, Way};
 use place_refute::{CutError, make_cut};
 use std::alloc::Global;
 use std::process::Abort;

@@ -1,11 +1,11 @@
 //! Events that close a slot by what was shown of its node, beside a book of many cuts.
 use crate::crowds::ships_of;
 use book_core::{Book, Case, Reply, open_book};
+use deck_cuts::Cut;
 use first_plan::{first_unfit, singles_plan};
 use instance_text::read_instance;
 use lock_model::{Instance, deck_of};
 use master_branch::root;
-use deck_cuts::Cut;
 use place_refute::make_cut;
 use price_bound::{KeptLines, Limits, PricedNode, Prices, Shown, show};
 use refute_rules::Refutation;

@@ -1,8 +1,8 @@
 //! What becomes of a node.
 
 use closing_rules::Ground;
-use lock_model::Plan;
 use deck_cuts::{Cut, Hard};
+use lock_model::Plan;
 
 /// What becomes of a node. Large parts are boxed, since few nodes have them.
 #[derive(Debug, Drop)]

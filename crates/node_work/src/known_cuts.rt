@@ -5,8 +5,8 @@ ghost use Rattle.node_work.specs.Known.{HitsShips};
 ghost use Rattle.std.specs.Prelude.{◌≡◌};
 
 use book_core::Book;
-use lock_model::{Instance, Ships};
 use deck_cuts::cut_hits;
+use lock_model::{Instance, Ships};
 
 /// Cuts under their numbers, in which a search looks before it asks a placer.
 pub trait KnownCuts {

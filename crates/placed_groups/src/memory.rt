@@ -6,8 +6,8 @@ ghost use Rattle.std.specs.Option.{option_copied};
 ghost use Rattle.placed_groups.specs.Said.{key_of, are_same};
 
 use crate::group_key::GroupKey;
-use lock_model::{Ships, Spots};
 use deck_cuts::{Hard, HardSpots};
+use lock_model::{Ships, Spots};
 use plain_text::NoMemory;
 use std::alloc::Global;
 use std::collections::HashMap;

@@ -3,10 +3,10 @@ ghost use Rattle.std.specs.Prelude.{◌≡◌, ◌<◌, length, All};
 
 use crate::appending::append;
 use crate::round::Asked;
+use deck_cuts::{Cut, cut_hits};
 use lock_model::{Instance, Ships, Spots};
 use near_plan::Fitting;
 use node_work::{FirstPlacer, KnownCuts, Search, Settled, settle_known};
-use deck_cuts::{Cut, cut_hits};
 use placed_groups::Memory;
 use plain_text::NoMemory;
 use std::alloc::Global;

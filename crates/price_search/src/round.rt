@@ -4,11 +4,11 @@ ghost use Rattle.master_branch.specs.Node.{IsNodeOf};
 
 use crate::placing::Placer;
 use crate::pricing::Pricing;
+use deck_cuts::Cut;
 use lock_model::{Group, Instance, Plan};
 use master_branch::{Node, arrival_order};
 use near_plan::{fits, near_plan};
 use node_work::{KnownCuts, Search};
-use deck_cuts::Cut;
 use placed_groups::Memory;
 use plain_text::NoMemory;
 use price_bound::{Limits, LooseLines, PriceError, PricedNode, Prices, least_lines};

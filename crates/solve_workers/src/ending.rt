@@ -10,9 +10,9 @@ ghost use Rattle.solve_workers.specs.Holds.{HoldsSlot, node_at};
 use crate::told::{is_want, made, posted};
 use book_core::Book;
 use closing_rules::Ground;
+use deck_cuts::{Cut, Hard};
 use lock_model::Plan;
 use node_work::Fate;
-use deck_cuts::{Cut, Hard};
 use plain_text::NoMemory;
 
 /// Closes the held node on a ground that holds.

@@ -7,8 +7,8 @@ ghost use Rattle.solve_workers.specs.Opening.{with_cuts, opened_with};
 use crate::cut_list::CutList;
 use crate::told::posted;
 use book_core::{Book, Case, open_book};
-use lock_model::Plan;
 use deck_cuts::{Cut, copy_cut};
+use lock_model::Plan;
 use plain_text::NoMemory;
 use std::alloc::Global;
 

@@ -4,8 +4,8 @@ ghost use Rattle.book_rules.specs.Cover.{IsOwnCut};
 
 use crate::fixture::case_of;
 use book_core::{Book, Case};
-use lock_io::OpenGate;
 use deck_cuts::{Cut, copy_cut};
+use lock_io::OpenGate;
 use plain_text::NoMemory;
 use solve_workers::{CutList, solve, solve_from};
 use std::alloc::Global;
