@@ -8,7 +8,7 @@ use Rattle.lock_model.specs.Deck.{Deck}
 use Rattle.lock_rules.specs.Arrival.{numbers_from}
 use Rattle.lock_rules.proofs.LineLemmas.{numbers_more}
 use Rattle.refute_rules.specs.Reasons.{length_at}
-use Rattle.refute_rules.specs.Choices.{Choice}
+use Rattle.refute_rules.specs.declared.choices.Choice.{Choice}
 use Rattle.refute_rules.proofs.Packing.{Each}
 use Rattle.refute_rules.proofs.ReasonLemmas.{each-from_pairs}
 use Rattle.refute_rules.specs.BerthFaults.{ships_in}

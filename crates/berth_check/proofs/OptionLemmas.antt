@@ -6,7 +6,10 @@ use Rattle.lock_model.specs.Deck.{Deck}
 use Rattle.lock_model.specs.declared.placement.Rank.TheVariants.{Left, Right}
 use Rattle.lock_model.specs.declared.placement.Moor.TheVariants.{Ship}
 use Rattle.lock_rules.specs.Arrival.{numbers_from}
-use Rattle.refute_rules.specs.Choices.{Choice, Lies, Berth, berths_of}
+use Rattle.refute_rules.specs.declared.choices.Berth.{Berth}
+use Rattle.refute_rules.specs.declared.choices.Choice.{Choice}
+use Rattle.refute_rules.specs.declared.choices.Choice.TheVariants.{Lies}
+use Rattle.refute_rules.specs.Choices.{berths_of}
 use Rattle.refute_rules.specs.Values.{others}
 use Rattle.refute_rules.proofs.Among.{all-map, all-flat_map, all-weaker, all-numbers}
 use Rattle.refute_rules.proofs.Packing.{all-filter}

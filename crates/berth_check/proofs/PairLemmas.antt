@@ -1,16 +1,14 @@
 -- Two ships of a berth case, from what is looked up.
-use Rattle.std.proofs.Common.{◌≡◌, ◌≢◌, ℕ, ◌+◌, ◌<◌, ◌≤◌, ℤ, inl, inr, List, [], length, map, get_or, Contains, sym, ap, ◌∙◌, subst, arith, Some, None}
-use Rattle.std.proofs.lemmas.List.{get_or-map, length-map}
+use Rattle.std.proofs.Common.{◌≡◌, ◌≢◌, ℕ, ◌+◌, ◌<◌, ◌≤◌, ℤ, inl, inr, List, [], length, drop, get_or, Contains, sym, ap, ◌∙◌, subst, arith, Some, None}
+use Rattle.std.proofs.lemmas.List.{drop_all, drop_more, get_or_default}
 use Rattle.std.proofs.lemmas.Map.Made.{Contains-tail}
 use Rattle.std.proofs.lemmas.Option.{none-some, same_Some}
 use Rattle.lock_model.specs.Deck.{Deck}
-use Rattle.refute_rules.specs.Choices.{Choice, Before}
+use Rattle.refute_rules.specs.declared.choices.Choice.{Choice}
+use Rattle.refute_rules.specs.declared.choices.Choice.TheVariants.{Before}
 use Rattle.refute_rules.specs.Known.{y_in}
 use Rattle.refute_rules.specs.BerthCases.{host_in, HasOrder, DoOverlap, ShareHost}
-use Rattle.berth_check.specs.declared.case.Pick.{Pick}
-use Rattle.berth_check.specs.Picks.{choice_of}
 use Rattle.berth_check.specs.PairReads.{ArePassing, IsOrderLater}
-use Rattle.berth_check.proofs.LookupLemmas.{left_from, left-more, left-none}
 
 module _ (d : Deck) (case : List Choice) (i j : ℕ) where
   pub overlap_yes : (p q : ℤ) → Some p ≡ y_in d case i → Some q ≡ y_in d case j → (ArePassing d i p j q → ⊥) → DoOverlap d case i j
@@ -41,21 +39,21 @@ module _ (case : List Choice) (i j : ℕ) where
   pub host_second : None ≡ host_in case j → ShareHost case i j → ⊥
   host_second a s = none-some s.host (a ∙ s.of_j)
 
--- options that are those of a case
-module _ (ps : List Pick) (case : List Choice) (i j : ℕ) where
-  pub order_begun : map choice_of ps ≡ case → IsOrderLater case (left_from ps 0) i j
-  order_begun same = record { later = λ h. subst (λ cs. Contains cs (Before i j)) (sym same) h }
+-- an order in the options that are left
+module _ (case : List Choice) (i j : ℕ) where
+  pub order_begun : IsOrderLater case (drop 0 case) i j
+  order_begun = record { later = λ h. h }
 
-  pub order_passed : (k : ℕ) (z : Pick) → k < length ps → (choice_of (get_or ps k z) ≡ Before i j → ⊥) → IsOrderLater case (left_from ps k) i j → IsOrderLater case (left_from ps (k + 1)) i j
+  pub order_passed : (k : ℕ) (z : Choice) → k < length case → (get_or case k z ≡ Before i j → ⊥) → IsOrderLater case (drop k case) i j → IsOrderLater case (drop (k + 1) case) i j
   order_passed k z here n l = record {
-    later = λ h. Contains-tail (choice_of (get_or ps k z)) (left_from ps (k + 1)) (Before i j) n (subst (λ cs. Contains cs (Before i j)) (left-more ps k z here) (l.later h));
+    later = λ h. Contains-tail (get_or case k z) (drop (k + 1) case) (Before i j) n (subst (λ cs. Contains cs (Before i j)) (drop_more case k z here) (l.later h));
   }
 
-  pub order_found : (k : ℕ) (z : Pick) → map choice_of ps ≡ case → k < length ps → choice_of (get_or ps k z) ≡ Before i j → HasOrder case i j
-  order_found k z all here same = subst (λ cs. Contains cs (Before i j)) all (k, omega (arith, length-map ps choice_of, here), get_or-map choice_of ps k z (Before i j) here ∙ same)
+  pub order_found : (k : ℕ) (z : Choice) → k < length case → get_or case k z ≡ Before i j → HasOrder case i j
+  order_found k z here same = (k, here, get_or_default case k (Before i j) z here ∙ same)
 
-  pub order_absent : (k : ℕ) → length ps ≤ k → IsOrderLater case (left_from ps k) i j → HasOrder case i j → ⊥
-  order_absent k long l h = nothing (subst (λ cs. Contains cs (Before i j)) (left-none ps k long) (l.later h))
+  pub order_absent : (k : ℕ) → length case ≤ k → IsOrderLater case (drop k case) i j → HasOrder case i j → ⊥
+  order_absent k long l h = nothing (subst (λ cs. Contains cs (Before i j)) (drop_all k case long) (l.later h))
     where
       nothing : Contains [] (Before i j) → ⊥
       nothing o = let short : o.0 < 0 = o.1 in omega (arith, short)

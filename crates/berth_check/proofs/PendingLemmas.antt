@@ -5,10 +5,11 @@ use Rattle.lock_model.specs.Deck.{Deck}
 use Rattle.lock_model.specs.declared.placement.Rank.TheVariants.{Left, Right}
 use Rattle.lock_model.specs.declared.placement.Moor.TheVariants.{Quay, Ship}
 use Rattle.lock_rules.specs.Arrival.{numbers_from}
-use Rattle.refute_rules.specs.Choices.{Choice, Lies, Berth}
+use Rattle.refute_rules.specs.declared.choices.Berth.{Berth}
+use Rattle.refute_rules.specs.declared.choices.Choice.{Choice}
+use Rattle.refute_rules.specs.declared.choices.Choice.TheVariants.{Lies}
 use Rattle.refute_rules.specs.BerthTrees.{OfBerth}
 use Rattle.berth_check.specs.declared.pending.Branch.{Branch}
-use Rattle.berth_check.specs.Picks.{choice_of}
 use Rattle.berth_check.specs.Pending.{AreKept, cases_after, extensions, with_berth, host_cases}
 
 pub reverse_push : {X : Type 0} (xs : List X) (x : X) → reverse (xs ++ x ∷ []) ≡ x ∷ reverse xs
@@ -19,7 +20,7 @@ pub kept_same : (most : ℕ) (case more : List Choice) (bs : List Branch) → Ar
 kept_same most case more [] kept same = refl
 kept_same most case more (b ∷ bs) kept same =
     let here : take b.kept case ≡ take b.kept more = sym (take-take b.kept most case kept.0) ∙ ap (take b.kept) same ∙ take-take b.kept most more kept.0 in
-    ap (λ cs. (cs ++ choice_of b.pick ∷ []) ∷ cases_after case bs) here ∙ ap (λ os. (take b.kept more ++ choice_of b.pick ∷ []) ∷ os) (kept_same b.kept case more bs kept.1 here)
+    ap (λ cs. (cs ++ b.choice ∷ []) ∷ cases_after case bs) here ∙ ap (λ os. (take b.kept more ++ b.choice ∷ []) ∷ os) (kept_same b.kept case more bs kept.1 here)
 
 kept_more : (few most : ℕ) (bs : List Branch) → few ≤ most → AreKept few bs → AreKept most bs
 kept_more few most [] less kept = tt
@@ -30,10 +31,10 @@ module _ (case : List Choice) (before after : List Branch) (b : Branch) (more : 
   last-first = ap reverse more ∙ reverse_push before b
 
   -- one more branch, behind the whole case
-  pub branch_put : b.kept ≡ length case → cases_after case (reverse after) ≡ (case ++ choice_of b.pick ∷ []) ∷ cases_after case (reverse before)
+  pub branch_put : b.kept ≡ length case → cases_after case (reverse after) ≡ (case ++ b.choice ∷ []) ∷ cases_after case (reverse before)
   branch_put whole =
       let all : take b.kept case ≡ case = take_all b.kept case (omega (arith, whole)) in
-      ap (cases_after case) last-first ∙ ap (λ cs. (cs ++ choice_of b.pick ∷ []) ∷ cases_after case (reverse before)) all
+      ap (cases_after case) last-first ∙ ap (λ cs. (cs ++ b.choice ∷ []) ∷ cases_after case (reverse before)) all
 
   -- the last branch goes
   told : AreKept (length case) (reverse after) → (b.kept ≤ length case) × AreKept b.kept (reverse before)
@@ -45,10 +46,10 @@ module _ (case : List Choice) (before after : List Branch) (b : Branch) (more : 
   pub branch_left : (most : ℕ) → AreKept (length case) (reverse after) → b.kept ≤ most → AreKept most (reverse before)
   branch_left most kept less = kept_more b.kept most (reverse before) less (told kept).1
 
-  pub branch_taken : (next : List Choice) → AreKept (length case) (reverse after) → next ≡ take b.kept case ++ choice_of b.pick ∷ [] → cases_after case (reverse after) ≡ next ∷ cases_after next (reverse before)
+  pub branch_taken : (next : List Choice) → AreKept (length case) (reverse after) → next ≡ take b.kept case ++ b.choice ∷ [] → cases_after case (reverse after) ≡ next ∷ cases_after next (reverse before)
   branch_taken next kept e =
       let size : length (take b.kept case) ≡ b.kept = length-take-le b.kept case (told kept).0 in
-      let same : take b.kept next ≡ take b.kept case = ap (take b.kept) e ∙ take-append-le b.kept (take b.kept case) (choice_of b.pick ∷ []) (omega (arith, size)) ∙ take_all b.kept (take b.kept case) (omega (arith, size)) in
+      let same : take b.kept next ≡ take b.kept case = ap (take b.kept) e ∙ take-append-le b.kept (take b.kept case) (b.choice ∷ []) (omega (arith, size)) ∙ take_all b.kept (take b.kept case) (omega (arith, size)) in
       ap (cases_after case) last-first ∙ ap (λ cs. cs ∷ cases_after case (reverse before)) (sym e) ∙ ap (λ os. next ∷ os) (kept_same b.kept case next (reverse before) (told kept).1 (sym same))
 
 module _ (case : List Choice) (ship : ℕ) where

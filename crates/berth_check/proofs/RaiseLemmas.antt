@@ -3,20 +3,21 @@ use Rattle.std.proofs.lemmas.Option.{none-some, same_Some}
 use Rattle.std.specs.List.{AllByRecursion}
 use Rattle.std.specs.declared.option.Option.{Option}
 use Rattle.std.proofs.lemmas.Bool.Decides.{eqb_tells}
-use Rattle.std.proofs.lemmas.List.{get_or-map, length-map, get_or-set_other}
+use Rattle.std.proofs.lemmas.List.{get_or-set_other, get_or_default}
 use Rattle.std.proofs.lemmas.Grind.{get_or-set_at}
 use Rattle.std.proofs.lemmas.List.Elements.{All-from_recursion}
 use Rattle.lock_model.specs.declared.placement.Moor.{Moor}
 use Rattle.lock_model.specs.declared.placement.Moor.TheVariants.{Quay, Ship}
 use Rattle.refute_rules.specs.Decided.{berth_in}
 use Rattle.refute_rules.specs.Known.{host_of, moor_host, berth_y, y_within}
-use Rattle.berth_check.specs.declared.case.Pick.{Pick}
-use Rattle.berth_check.specs.Picks.{choice_of}
 use Rattle.refute_rules.specs.SpotFaults.{IsInsideAlong}
 use Rattle.std.proofs.Common.{ℤ, ◌⊎◌, cond, map, get_or, set, ◌≡◌, ℕ, zero, suc, ◌+◌, ◌-◌, ◌<◌, ◌≤◌, List, [], ◌∷◌, length, inl, inr, refl, sym, ap, ◌∙◌, subst, arith, Some, None}
 use Rattle.lock_model.specs.Deck.{Deck}
 use Rattle.refute_rules.specs.Reasons.{length_at}
-use Rattle.refute_rules.specs.Choices.{Choice, Lies, Before, Below, Stands, Berth, IsKnownMoor}
+use Rattle.refute_rules.specs.declared.choices.Berth.{Berth}
+use Rattle.refute_rules.specs.declared.choices.Choice.{Choice}
+use Rattle.refute_rules.specs.declared.choices.Choice.TheVariants.{Lies, Before, Below, LiesAt}
+use Rattle.refute_rules.specs.Choices.{IsKnownMoor}
 use Rattle.refute_rules.specs.BerthCases.{host_in}
 use Rattle.refute_rules.specs.BerthTrees.{AreUnordered}
 use Rattle.berth_check.specs.Raises.{x_at, IsForced, IsHostObeyed, IsOrderObeyed, AreOrdersObeyed, AreSettled, AreBelow, AreFirstInside, HasPlaces, rise_left, IsKnownChoice, AreKnown, IsOf}
@@ -50,7 +51,7 @@ berth-known d (Lies j c ∷ cs) known i b e =
     ]
 berth-known d (Before j k ∷ cs) known i b e = berth-known d cs known.1 i b e
 berth-known d (Below j k ∷ cs) known i b e = absurd known.0
-berth-known d (Stands j v ∷ cs) known i b e = absurd known.0
+berth-known d (LiesAt j v ∷ cs) known i b e = absurd known.0
 
 moor-known : (d : Deck) (m : Moor) (k : ℕ) → IsKnownMoor d m → moor_host m ≡ Some k → k < length d.ships
 moor-known d Quay k known e = absurd (none-some k e)
@@ -97,35 +98,27 @@ berth_obeyed d xs i b = record { obeyed = λ k l e. absurd (differ k l e) }
     differ : (k l : ℕ) → Lies i b ≡ Before k l → ⊥
     differ k l e = cc
 
-module _ (d : Deck) (ps : List Pick) (case : List Choice) (k : ℕ) (z : Pick) where
-  here-of : map choice_of ps ≡ case → k < length ps → (u : Choice) → get_or case k u ≡ choice_of (get_or ps k z)
-  here-of same less u = ap (λ cs. get_or cs k u) (sym same) ∙ get_or-map choice_of ps k z u less
+pub choice_known : (d : Deck) (case : List Choice) (k : ℕ) (c : Choice) → AreKnown d case → k < length case → c ≡ get_or case k c → IsKnownChoice d c
+choice_known d case k c known less e = subst (IsKnownChoice d) (sym e) (All-from_recursion (IsKnownChoice d) case known.all k c less)
 
-  long-as : map choice_of ps ≡ case → length case ≡ length ps
-  long-as same = ap length (sym same) ∙ length-map ps choice_of
-
-  pub pick_known : AreKnown d case → map choice_of ps ≡ case → k < length ps → IsKnownChoice d (choice_of (get_or ps k z))
-  pick_known known same less =
-      subst (IsKnownChoice d) (here-of same less (choice_of z)) (All-from_recursion (IsKnownChoice d) case known.all k (choice_of z) (omega (arith, long-as same, less)))
-
-  pub pick_of : map choice_of ps ≡ case → k < length ps → IsOf case (choice_of (get_or ps k z))
-  pick_of same less = record { stands = (k, omega (arith, long-as same, less), here-of same less (choice_of (get_or ps k z))) }
+pub choice_of_case : (case : List Choice) (k : ℕ) (c : Choice) → k < length case → c ≡ get_or case k c → IsOf case c
+choice_of_case case k c less e = record { stands = (k, less, sym e) }
 
 pub orders_begun : (d : Deck) (case : List Choice) (xs : List ℕ) → AreOrdersObeyed d case xs 0
 orders_begun d case xs = record { each = λ k less z. absurd (omega (arith, less)) }
 
-module _ (d : Deck) (ps : List Pick) (case : List Choice) (xs : List ℕ) (count : ℕ) where
-  pub orders_more : (z : Pick) → map choice_of ps ≡ case → count < length ps → IsOrderObeyed d xs (choice_of (get_or ps count z)) → AreOrdersObeyed d case xs count → AreOrdersObeyed d case xs (count + 1)
-  orders_more z same less here before = record {
+module _ (d : Deck) (case : List Choice) (xs : List ℕ) (count : ℕ) where
+  pub orders_more : (c : Choice) → count < length case → c ≡ get_or case count c → IsOrderObeyed d xs c → AreOrdersObeyed d case xs count → AreOrdersObeyed d case xs (count + 1)
+  orders_more c less e here before = record {
     each = λ k below u.
         elim (eqb_tells count k) [
-          | inl y ↦ subst (λ c. IsOrderObeyed d xs (get_or case c u)) y.1 (subst (IsOrderObeyed d xs) (sym (here-of d ps case count z same less u)) here)
+          | inl y ↦ subst (λ n. IsOrderObeyed d xs (get_or case n u)) y.1 (subst (IsOrderObeyed d xs) (e ∙ get_or_default case count c u less) here)
           | inr n ↦ before.each k (omega (arith, below, n.1)) u
         ];
   }
 
-  pub orders_whole : map choice_of ps ≡ case → length ps ≤ count → AreOrdersObeyed d case xs count → AreOrdersObeyed d case xs (length case)
-  orders_whole same long before = record { each = λ k below u. let e : length case ≡ length ps = ap length (sym same) ∙ length-map ps choice_of in before.each k (omega (arith, below, e, long)) u }
+  pub orders_whole : length case ≤ count → AreOrdersObeyed d case xs count → AreOrdersObeyed d case xs (length case)
+  orders_whole long before = record { each = λ k below u. before.each k (omega (arith, below, long)) u }
 
 -- settling
 room-less : (most : ℕ) (xs : List ℕ) (i value : ℕ) → i < length xs → x_at xs i < value → value ≤ most → rise_left most (set xs i value) < rise_left most xs

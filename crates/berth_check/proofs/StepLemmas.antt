@@ -9,7 +9,7 @@ use Rattle.list_laws.proofs.ByRecursion.{all-append}
 use Rattle.lock_model.specs.Deck.{Deck, IsDeck}
 use Rattle.lock_model.specs.Fitting.{Fits}
 use Rattle.refute_rules.proofs.BerthLaw.{berth_tree-unfit}
-use Rattle.refute_rules.specs.Choices.{Choice}
+use Rattle.refute_rules.specs.declared.choices.Choice.{Choice}
 use Rattle.refute_rules.proofs.Among.{all-map, all-weaker}
 use Rattle.refute_rules.specs.BerthTrees.{Split, split_options, IsBerthTree, BeginsWithTree}
 use Rattle.berth_check.specs.Raises.{IsKnownChoice, AreKnown}

@@ -1,7 +1,7 @@
 -- What the front of the marks says of the cases that are still to be read.
 use Rattle.std.proofs.Common.{◌≡◌, ℕ, zero, suc, List, [], ◌∷◌, ◌++◌, drop, get_or, nat_eq, if◌then◌else◌, ◌⊎◌, inl, inr, refl, sym, ap, ◌∙◌, subst, arith, ◌↔◌}
 use Rattle.lock_model.specs.Deck.{Deck}
-use Rattle.refute_rules.specs.Choices.{Choice}
+use Rattle.refute_rules.specs.declared.choices.Choice.{Choice}
 use Rattle.refute_rules.specs.Trees.{AreInOrder, IsLeaf}
 use Rattle.refute_rules.proofs.LeafLemmas.{HasKind, leaf-same}
 use Rattle.refute_rules.specs.BerthFaults.{BerthFault, OtherRank, LeadsBack, TooLong, Outside, Guests, Crowd, NoPlaces, IsBerthFault, berth_fault_numbers}

@@ -1,6 +1,3 @@
-pub mod Picks
-pub mod Lookups
-pub mod Reach
 pub mod PairReads
 pub mod CrowdReads
 pub mod Raises

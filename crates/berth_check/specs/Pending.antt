@@ -6,10 +6,10 @@ use Rattle.lock_model.specs.declared.placement.Rank.{Rank}
 use Rattle.lock_model.specs.declared.placement.Rank.TheVariants.{Left, Right}
 use Rattle.lock_model.specs.declared.placement.Moor.{Moor}
 use Rattle.lock_model.specs.declared.placement.Moor.TheVariants.{Ship}
-use Rattle.refute_rules.specs.Choices.{Choice, Lies}
+use Rattle.refute_rules.specs.declared.choices.Choice.{Choice}
+use Rattle.refute_rules.specs.declared.choices.Choice.TheVariants.{Lies}
 use Rattle.refute_rules.specs.Trees.{AreInOrder}
 use Rattle.refute_rules.specs.BerthTrees.{Split, split_options, BeginsWithTree}
-use Rattle.berth_check.specs.Picks.{choice_of}
 use Rattle.berth_check.specs.Fronts.{AreAllKnown}
 use Rattle.berth_check.specs.declared.pending.Branch.{Branch}
 
@@ -21,7 +21,7 @@ pub record Ahead : Type 0 where
 -- the cases that are kept as branches of a case, the next one first
 abbrev pub cases_after : List Choice → List Branch → List (List Choice)
 cases_after case [] = []
-cases_after case (b ∷ bs) = (take b.kept case ++ choice_of b.pick ∷ []) ∷ cases_after case bs
+cases_after case (b ∷ bs) = (take b.kept case ++ b.choice ∷ []) ∷ cases_after case bs
 
 -- no branch keeps more options than those before it, nor than there are
 abbrev pub AreKept : ℕ → List Branch → Type 0

@@ -3,7 +3,9 @@ use Rattle.std.specs.Prelude.{ℕ, ◌≡◌, ◌+◌, ◌-◌, ◌≤◌, ◌<�
 use Rattle.std.specs.List.{AllByRecursion}
 use Rattle.lock_model.specs.Deck.{Deck}
 use Rattle.refute_rules.specs.Reasons.{length_at}
-use Rattle.refute_rules.specs.Choices.{Choice, Lies, Before, Below, Stands, IsKnownMoor}
+use Rattle.refute_rules.specs.declared.choices.Choice.{Choice}
+use Rattle.refute_rules.specs.declared.choices.Choice.TheVariants.{Lies, Before, Below, LiesAt}
+use Rattle.refute_rules.specs.Choices.{IsKnownMoor}
 use Rattle.refute_rules.specs.SpotFaults.{IsInsideAlong}
 use Rattle.refute_rules.specs.BerthCases.{host_in, ObeyAlong}
 
@@ -15,7 +17,7 @@ abbrev pub IsKnownChoice : Deck → Choice → Type 0
 IsKnownChoice d (Lies i b) = (i < length d.ships) × IsKnownMoor d b.moor
 IsKnownChoice d (Before i j) = (i < length d.ships) × (j < length d.ships)
 IsKnownChoice d (Below i j) = ⊥
-IsKnownChoice d (Stands i v) = ⊥
+IsKnownChoice d (LiesAt i v) = ⊥
 
 pub record AreKnown (d : Deck) (case : List Choice) : Type 0 where
   pub all : AllByRecursion (IsKnownChoice d) case

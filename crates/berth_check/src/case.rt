@@ -1,33 +1,24 @@
 //! Berth cases as lists of options.
-ghost use Rattle.std.specs.Prelude.{◌≡◌, ◌≤◌, [], ◌∷◌, ◌++◌, length, map, take, OnErr, OnOk};
-ghost use Rattle.berth_check.specs.Picks.{choice_of};
+ghost use Rattle.std.specs.Prelude.{◌≡◌, ◌≤◌, [], ◌∷◌, ◌++◌, length, take, OnErr, OnOk};
 
-use lock_model::{Moor, Rank};
 use no_memory::NoMemory;
+use deck_cases::Choice;
 use std::alloc::Global;
 use std::marker::Model;
-
-/// An option: a ship lies at a berth, or a ship is before another.
-#[derive(Clone, Copy, PartialEq, Eq)]
-pub enum Pick {
-    Lies(u8, Rank, Moor),
-    Before(u8, u8),
-}
 
 /// A berth case that grows by options and shrinks again.
 #[derive(Drop)]
 pub struct BerthCase {
-    picks: Vec<Pick>,
+    choices: Vec<Choice>,
 }
 
 impl Model for BerthCase {
-    ghost use Rattle.std.specs.Prelude.{List, map};
-    ghost use Rattle.refute_rules.specs.Choices.{Choice};
-    ghost use Rattle.berth_check.specs.Picks.{choice_of};
+    ghost use Rattle.std.specs.Prelude.{List};
+    ghost use Rattle.refute_rules.specs.declared.choices.Choice.{Choice};
 
     ghost Value = { List Choice };
 
-    ghost view = { λ a. map choice_of a.picks.items };
+    ghost view = { λ a. a.choices.items };
 }
 
 impl BerthCase {
@@ -36,7 +27,7 @@ impl BerthCase {
         ensures { result ≡ [] }
     {
         BerthCase {
-            picks: Vec::new(alloc),
+            choices: Vec::new(alloc),
         }
     }
 
@@ -44,33 +35,32 @@ impl BerthCase {
     pub fn len(&self) -> usize
         ensures { result ≡ length self.now }
     {
-        self.picks.len()
+        self.choices.len()
     }
 
     /// The options in order.
-    pub fn picks(&self) -> &[Pick]
-        ensures { map choice_of result.now ≡ self.now }
+    pub fn choices(&self) -> &[Choice]
+        ensures { result.now ≡ self.now }
     {
-        self.picks.as_slice()
+        self.choices.as_slice()
     }
 
     /// Takes an option. After want of memory the case is as before.
-    pub fn push(&mut self, pick: Pick) -> Result<(), NoMemory>
-        ensures ok { OnOk result (self.new ≡ self.old ++ choice_of pick ∷ []) }
+    pub fn push(&mut self, choice: Choice) -> Result<(), NoMemory>
+        ensures ok { OnOk result (self.new ≡ self.old ++ choice ∷ []) }
         ensures err { OnErr result (self.new ≡ self.old) }
     {
-        match self.picks.push(pick) {
+        match self.choices.push(choice) {
             Ok(()) => Ok(()),
             Err(_) => Err(NoMemory),
         }
     }
 
     /// Goes back to the first options.
-    #[tactic(auto, using(crate::proofs::CaseLemmas::back_choices))]
     pub fn truncate(&mut self, count: usize)
         requires { count ≤ length self.old }
         ensures { self.new ≡ take count self.old }
     {
-        self.picks.truncate(count);
+        self.choices.truncate(count);
     }
 }

@@ -1,11 +1,8 @@
 //! Berth cases of a deck, and berth trees checked without any search.
 //!
 //! A `BerthCase` keeps the berths of some ships, and which of two ships lies before the other. It
-//! grows by options and shrinks again. What it says is read exactly, whatever numbers of ships it is
-//! asked about:
-//! - `decided`: the berth of a ship, its host, and whether that has the other rank.
-//! - `across`: where ships lie across the chamber.
-//! - `known`: hosts that lead back to a ship, its y, and whether it is outside across the chamber.
+//! grows by options and shrinks again. What its options say is read exactly, whatever numbers of
+//! ships it is asked about; `deck_cases` looks up what they say of one ship, and here stand
 //! - `pairs`: two ships that overlap, or that have no order yet.
 //! - `spans`: a ship longer than its host, guests that are too many, ships too long one behind the
 //!   other.
@@ -19,28 +16,20 @@
 //!   walk.
 //!
 //! Definitions: `refute_rules` says what a case is, what faults it may have, and what a berth tree
-//! is. Here `specs/Picks` says how options are kept, and `Lookups` and `Reach` what is looked up. Of
-//! private functions alone speak `PairReads` and `CrowdReads`, what is looked up of more ships;
-//! `Pending` and `Fronts`, what is read and what is left; and `Raises`, how places are raised.
+//! is. Here of private functions alone speak `specs/PairReads` and `CrowdReads`, what is looked up of
+//! more ships; `Pending` and `Fronts`, what is read and what is left; and `Raises`, how places are
+//! raised.
 #![tactic(auto)]
 
-mod across;
 mod case;
-mod decided;
 mod front;
-mod known;
 mod pairs;
 mod pending;
 mod places;
-mod sizes;
 mod spans;
 mod walk;
 
-pub use across::{is_below, is_inside_across, quay_y, y_at_host};
-pub use case::{BerthCase, Pick};
-pub use decided::{Berth, berth_of, has_other_rank, host_of};
-pub use known::{is_outside_across, leads_back, y_of};
+pub use case::BerthCase;
 pub use pairs::{are_unordered, do_overlap};
-pub use sizes::{length_of, width_of};
 pub use spans::{are_too_many, is_crowd, is_too_long};
 pub use walk::check_berth_tree;

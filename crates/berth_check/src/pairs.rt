@@ -1,16 +1,12 @@
 //! What a berth case says of two ships. Numbers of ships may be any numbers.
 ghost use Rattle.std.specs.Prelude.{◌≡◌, ◌≢◌, ◌<◌, ◌↔◌, ◌⊎◌, IsTrue};
-ghost use Rattle.refute_rules.specs.Choices.{Before};
+ghost use Rattle.refute_rules.specs.declared.choices.Choice.TheVariants.{Before};
 ghost use Rattle.refute_rules.specs.BerthCases.{DoOverlap, ShareHost, HasOrder};
 ghost use Rattle.refute_rules.specs.BerthTrees.{AreUnordered};
-ghost use Rattle.berth_check.specs.Reach.{IsWithinReach};
-ghost use Rattle.berth_check.specs.Picks.{choice_of};
+ghost use Rattle.deck_cases.specs.Reach.{IsWithinReach};
 ghost use Rattle.berth_check.specs.PairReads.{ArePassing, AreClose};
 
-use crate::across::is_below;
-use crate::case::{BerthCase, Pick};
-use crate::decided::host_of;
-use crate::known::y_of;
+use deck_cases::{Choice, host_of, is_below, y_of};
 use lock_model::Deck;
 
 // Whether one of two ships at known y lies below the other.
@@ -24,10 +20,10 @@ fn are_passing(deck: &Deck, i: u32, p: i64, j: u32, q: i64) -> bool
 
 /// Whether two ships have a known y and neither lies below the other.
 #[tactic(auto, using(crate::proofs::PairLemmas::overlap_yes, crate::proofs::PairLemmas::overlap_no, crate::proofs::PairLemmas::overlap_first, crate::proofs::PairLemmas::overlap_second))]
-pub fn do_overlap(deck: &Deck, case: &BerthCase, i: u32, j: u32) -> bool
-    ensures { IsTrue result ↔ DoOverlap deck.now case.now i j }
+pub fn do_overlap(deck: &Deck, choices: &[Choice], i: u32, j: u32) -> bool
+    ensures { IsTrue result ↔ DoOverlap deck.now choices.now i j }
 {
-    match (y_of(deck, case, i), y_of(deck, case, j)) {
+    match (y_of(deck, choices, i), y_of(deck, choices, j)) {
         (Some(p), Some(q)) => !are_passing(deck, i, p, j, q),
         _ => false,
     }
@@ -35,41 +31,40 @@ pub fn do_overlap(deck: &Deck, case: &BerthCase, i: u32, j: u32) -> bool
 
 // Whether two ships have the same decided host.
 #[tactic(auto, using(crate::proofs::PairLemmas::host_yes, crate::proofs::PairLemmas::host_no, crate::proofs::PairLemmas::host_first, crate::proofs::PairLemmas::host_second))]
-fn share_host(case: &BerthCase, i: u32, j: u32) -> bool
-    ensures { IsTrue result ↔ ShareHost case.now i j }
+fn share_host(choices: &[Choice], i: u32, j: u32) -> bool
+    ensures { IsTrue result ↔ ShareHost choices.now i j }
 {
-    match (host_of(case, i), host_of(case, j)) {
+    match (host_of(choices, i), host_of(choices, j)) {
         (Some(first), Some(second)) => first == second,
         _ => false,
     }
 }
 
 /// Whether two ships overlap or have the same decided host.
-pub(crate) fn are_close(deck: &Deck, case: &BerthCase, i: u32, j: u32) -> bool
-    ensures { IsTrue result ↔ AreClose deck.now case.now i j }
+pub(crate) fn are_close(deck: &Deck, choices: &[Choice], i: u32, j: u32) -> bool
+    ensures { IsTrue result ↔ AreClose deck.now choices.now i j }
 {
-    do_overlap(deck, case, i, j) || share_host(case, i, j)
+    do_overlap(deck, choices, i, j) || share_host(choices, i, j)
 }
 
 // Whether an option is the order of the first before the second.
-fn is_order(pick: &Pick, i: u32, j: u32) -> bool
-    ensures yes { IsTrue result → choice_of pick.now ≡ Before i j }
-    ensures is { choice_of pick.now ≡ Before i j → IsTrue result }
+fn is_order(choice: &Choice, i: u32, j: u32) -> bool
+    ensures yes { IsTrue result → choice.now ≡ Before i j }
+    ensures is { choice.now ≡ Before i j → IsTrue result }
 {
-    match pick {
-        Pick::Before(first, second) => *first as u32 == i && *second as u32 == j,
-        Pick::Lies(_, _, _) => false,
+    match choice {
+        Choice::Before(first, second) => *first as u32 == i && *second as u32 == j,
+        _ => false,
     }
 }
 
 // Whether the order of the first before the second stands in the case.
 #[tactic(auto, using(crate::proofs::PairLemmas::order_begun, crate::proofs::PairLemmas::order_passed, crate::proofs::PairLemmas::order_found, crate::proofs::PairLemmas::order_absent))]
-fn has_order(case: &BerthCase, i: u32, j: u32) -> bool
-    ensures { IsTrue result ↔ HasOrder case.now i j }
+fn has_order(choices: &[Choice], i: u32, j: u32) -> bool
+    ensures { IsTrue result ↔ HasOrder choices.now i j }
 {
-    let picks = case.picks();
-    for pick in picks {
-        if is_order(pick, i, j) {
+    for choice in choices {
+        if is_order(choice, i, j) {
             return true;
         }
     }
@@ -77,8 +72,11 @@ fn has_order(case: &BerthCase, i: u32, j: u32) -> bool
 }
 
 /// Whether two different ships overlap and neither order of them stands in the case.
-pub fn are_unordered(deck: &Deck, case: &BerthCase, i: u32, j: u32) -> bool
-    ensures { IsTrue result ↔ AreUnordered deck.now case.now i j }
+pub fn are_unordered(deck: &Deck, choices: &[Choice], i: u32, j: u32) -> bool
+    ensures { IsTrue result ↔ AreUnordered deck.now choices.now i j }
 {
-    i != j && do_overlap(deck, case, i, j) && !has_order(case, i, j) && !has_order(case, j, i)
+    i != j
+        && do_overlap(deck, choices, i, j)
+        && !has_order(choices, i, j)
+        && !has_order(choices, j, i)
 }

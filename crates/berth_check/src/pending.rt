@@ -2,10 +2,10 @@
 ghost use Rattle.std.specs.Prelude.{◌≡◌, [], ◌∷◌, ◌++◌, length, flat_map, IfOk, OnOk};
 ghost use Rattle.lock_rules.specs.Arrival.{numbers_from};
 ghost use Rattle.refute_rules.specs.BerthTrees.{OfBerth, OfOrder};
-ghost use Rattle.berth_check.specs.Picks.{choice_of};
-ghost use Rattle.berth_check.specs.Pending.{extensions, host_cases, IsAdvanced};
+ghost use Rattle.berth_check.specs.Pending.{extensions, host_cases, with_berth, IsAdvanced};
 
-use crate::case::{BerthCase, Pick};
+use crate::case::BerthCase;
+use deck_cases::{Berth, Choice};
 use lock_model::{Deck, Moor, Rank};
 use no_memory::NoMemory;
 use std::alloc::Global;
@@ -15,7 +15,7 @@ use std::marker::Model;
 #[derive(Clone, Copy)]
 pub(crate) struct Branch {
     kept: usize,
-    pick: Pick,
+    choice: Choice,
 }
 
 /// The case at hand, and a stack of the cases after it, each kept as its last option alone.
@@ -47,24 +47,32 @@ impl Pending {
         }
     }
 
-    /// The case at hand.
-    pub(crate) fn case(&self) -> &BerthCase
+    /// The options of the case at hand.
+    pub(crate) fn choices(&self) -> &[Choice]
         ensures { result.now ≡ self.now.case }
     {
-        &self.case
+        self.case.choices()
     }
 
     /// Puts the case at hand with one option more before the others.
     #[tactic(auto, using(crate::proofs::PendingLemmas::branch_put))]
-    fn push(&mut self, pick: Pick) -> Result<(), NoMemory>
+    fn push(&mut self, choice: Choice) -> Result<(), NoMemory>
         ensures case { OnOk result (self.new.case ≡ self.old.case) }
-        ensures others { OnOk result (self.new.others ≡ (self.old.case ++ choice_of pick ∷ []) ∷ self.old.others) }
+        ensures others { OnOk result (self.new.others ≡ (self.old.case ++ choice ∷ []) ∷ self.old.others) }
     {
         let kept = self.case.len();
-        match self.branches.push(Branch { kept, pick }) {
+        match self.branches.push(Branch { kept, choice }) {
             Ok(()) => Ok(()),
             Err(_) => Err(NoMemory),
         }
+    }
+
+    /// Puts the case at hand with a ship at a berth before the others.
+    fn push_berth(&mut self, ship: u8, rank: Rank, moor: Moor) -> Result<(), NoMemory>
+        ensures case { OnOk result (self.new.case ≡ self.old.case) }
+        ensures others { OnOk result (self.new.others ≡ with_berth self.old.case ship rank moor ∷ self.old.others) }
+    {
+        self.push(Choice::Lies(ship, Berth { rank, moor }))
     }
 
     /// Goes on to the next case, and tells whether there is one.
@@ -75,7 +83,7 @@ impl Pending {
             None => Ok(false),
             Some(branch) => {
                 self.case.truncate(branch.kept);
-                self.case.push(branch.pick)?;
+                self.case.push(branch.choice)?;
                 Ok(true)
             }
         }
@@ -90,8 +98,9 @@ fn push_host(pending: &mut Pending, ship: u8, host: u8) -> Result<(), NoMemory>
     if host == ship {
         return Ok(());
     }
-    pending.push(Pick::Lies(ship, Rank::Right, Moor::Ship(host)))?;
-    pending.push(Pick::Lies(ship, Rank::Left, Moor::Ship(host)))
+    let moor = Moor::Ship(host);
+    pending.push_berth(ship, Rank::Right, moor)?;
+    pending.push_berth(ship, Rank::Left, moor)
 }
 
 // Puts the cases with a ship at each other ship before the others.
@@ -114,8 +123,8 @@ pub(crate) fn push_berths(pending: &mut Pending, deck: &Deck, ship: u8) -> Resul
     ensures { OnOk result (pending.new.others ≡ extensions deck.now pending.old.case (OfBerth ship) ++ pending.old.others) }
 {
     push_hosts(pending, deck, ship)?;
-    pending.push(Pick::Lies(ship, Rank::Right, Moor::Quay))?;
-    pending.push(Pick::Lies(ship, Rank::Left, Moor::Quay))?;
+    pending.push_berth(ship, Rank::Right, Moor::Quay)?;
+    pending.push_berth(ship, Rank::Left, Moor::Quay)?;
     Ok(())
 }
 
@@ -123,7 +132,7 @@ pub(crate) fn push_berths(pending: &mut Pending, deck: &Deck, ship: u8) -> Resul
 pub(crate) fn push_orders(pending: &mut Pending, deck: &Deck, i: u8, j: u8) -> Result<(), NoMemory>
     ensures { OnOk result (pending.new.others ≡ extensions deck.now pending.old.case (OfOrder i j) ++ pending.old.others) }
 {
-    pending.push(Pick::Before(j, i))?;
-    pending.push(Pick::Before(i, j))?;
+    pending.push(Choice::Before(j, i))?;
+    pending.push(Choice::Before(i, j))?;
     Ok(())
 }

@@ -2,12 +2,9 @@
 ghost use Rattle.std.specs.Prelude.{◌≡◌, ◌+◌, ◌<◌, ◌≤◌, ◌↔◌, Some, length, IsTrue, IfSome, IfNone};
 ghost use Rattle.refute_rules.specs.SpotFaults.{IsInsideAlong};
 ghost use Rattle.refute_rules.specs.BerthCases.{host_in};
-ghost use Rattle.berth_check.specs.Picks.{choice_of};
 ghost use Rattle.berth_check.specs.Raises.{AreKnown, IsKnownChoice, IsOf, IsForced, IsHostObeyed, IsOrderObeyed, AreHostsObeyed, AreOrdersObeyed, AreSettled, AreBelow, AreFirstInside, HasPlaces};
 
-use crate::case::{BerthCase, Pick};
-use crate::decided::host_of;
-use crate::sizes::length_of;
+use deck_cases::{Choice, host_of, length_of};
 use lock_model::Deck;
 
 // A place that a ship is raised to.
@@ -19,13 +16,19 @@ struct Raise {
 
 // What a ship and its host ask.
 #[tactic(auto, using(crate::proofs::RaiseLemmas::near_forced, crate::proofs::RaiseLemmas::far_forced, crate::proofs::RaiseLemmas::host_obeyed))]
-fn raise_at_host(deck: &Deck, case: &BerthCase, places: &[u32], ship: u8, host: u8) -> Option<Raise>
+fn raise_at_host(
+    deck: &Deck,
+    choices: &[Choice],
+    places: &[u32],
+    ship: u8,
+    host: u8,
+) -> Option<Raise>
     requires count { length places.now ≡ 8 }
     requires ship { ship < length deck.now.ships }
     requires host { host < length deck.now.ships }
-    requires lies { Some host ≡ host_in case.now ship }
-    ensures none { IfNone result (IsHostObeyed deck.now case.now places.now ship) }
-    ensures some { IfSome result (λ r. IsForced deck.now case.now places.now r.ship r.value) }
+    requires lies { Some host ≡ host_in choices.now ship }
+    ensures none { IfNone result (IsHostObeyed deck.now choices.now places.now ship) }
+    ensures some { IfSome result (λ r. IsForced deck.now choices.now places.now r.ship r.value) }
     ensures few { IfSome result (λ r. r.value ≤ 17179869184) }
 {
     prove!(deck.ships.as_slice().len() <= 8);
@@ -47,33 +50,33 @@ fn raise_at_host(deck: &Deck, case: &BerthCase, places: &[u32], ship: u8, host: 
 
 // The same of a ship whose host isn't told yet.
 #[tactic(auto, using(crate::proofs::RaiseLemmas::host_none, crate::proofs::RaiseLemmas::known_host))]
-fn host_raise(deck: &Deck, case: &BerthCase, places: &[u32], ship: u8) -> Option<Raise>
-    requires known { AreKnown deck.now case.now }
+fn host_raise(deck: &Deck, choices: &[Choice], places: &[u32], ship: u8) -> Option<Raise>
+    requires known { AreKnown deck.now choices.now }
     requires count { length places.now ≡ 8 }
     requires ship { ship < length deck.now.ships }
-    ensures none { IfNone result (IsHostObeyed deck.now case.now places.now ship) }
-    ensures some { IfSome result (λ r. IsForced deck.now case.now places.now r.ship r.value) }
+    ensures none { IfNone result (IsHostObeyed deck.now choices.now places.now ship) }
+    ensures some { IfSome result (λ r. IsForced deck.now choices.now places.now r.ship r.value) }
     ensures few { IfSome result (λ r. r.value ≤ 17179869184) }
 {
-    match host_of(case, ship as u32) {
+    match host_of(choices, ship as u32) {
         None => None,
-        Some(host) => raise_at_host(deck, case, places, ship, host),
+        Some(host) => raise_at_host(deck, choices, places, ship, host),
     }
 }
 
 // What an option asks, if it is an order.
 #[tactic(auto, using(crate::proofs::RaiseLemmas::order_forced, crate::proofs::RaiseLemmas::order_obeyed, crate::proofs::RaiseLemmas::berth_obeyed))]
-fn order_raise(deck: &Deck, case: &BerthCase, places: &[u32], pick: &Pick) -> Option<Raise>
-    requires known { IsKnownChoice deck.now (choice_of pick.now) }
-    requires stands { IsOf case.now (choice_of pick.now) }
+fn order_raise(deck: &Deck, choices: &[Choice], places: &[u32], choice: &Choice) -> Option<Raise>
+    requires known { IsKnownChoice deck.now choice.now }
+    requires stands { IsOf choices.now choice.now }
     requires count { length places.now ≡ 8 }
-    ensures none { IfNone result (IsOrderObeyed deck.now places.now (choice_of pick.now)) }
-    ensures some { IfSome result (λ r. IsForced deck.now case.now places.now r.ship r.value) }
+    ensures none { IfNone result (IsOrderObeyed deck.now places.now choice.now) }
+    ensures some { IfSome result (λ r. IsForced deck.now choices.now places.now r.ship r.value) }
     ensures few { IfSome result (λ r. r.value ≤ 17179869184) }
 {
     prove!(deck.ships.as_slice().len() <= 8);
-    match pick {
-        Pick::Before(first, second) => {
+    match choice {
+        Choice::Before(first, second) => {
             let after = places[*first as usize] as u64
                 + length_of(deck, *first as u32) as u64
                 + deck.gap as u64;
@@ -86,21 +89,21 @@ fn order_raise(deck: &Deck, case: &BerthCase, places: &[u32], pick: &Pick) -> Op
                 None
             }
         }
-        Pick::Lies(_, _, _) => None,
+        _ => None,
     }
 }
 
 // The first raise that a host asks.
-fn first_host_raise(deck: &Deck, case: &BerthCase, places: &[u32]) -> Option<Raise>
-    requires known { AreKnown deck.now case.now }
+fn first_host_raise(deck: &Deck, choices: &[Choice], places: &[u32]) -> Option<Raise>
+    requires known { AreKnown deck.now choices.now }
     requires count { length places.now ≡ 8 }
-    ensures none { IfNone result (AreHostsObeyed deck.now case.now places.now (length deck.now.ships)) }
-    ensures some { IfSome result (λ r. IsForced deck.now case.now places.now r.ship r.value) }
+    ensures none { IfNone result (AreHostsObeyed deck.now choices.now places.now (length deck.now.ships)) }
+    ensures some { IfSome result (λ r. IsForced deck.now choices.now places.now r.ship r.value) }
     ensures few { IfSome result (λ r. r.value ≤ 17179869184) }
 {
     let count = deck.ships.as_slice().len() as u8;
     for ship in 0..count {
-        if let Some(raise) = host_raise(deck, case, places, ship) {
+        if let Some(raise) = host_raise(deck, choices, places, ship) {
             return Some(raise);
         }
     }
@@ -108,17 +111,16 @@ fn first_host_raise(deck: &Deck, case: &BerthCase, places: &[u32]) -> Option<Rai
 }
 
 // The first raise that an order asks.
-#[tactic(auto, using(crate::proofs::RaiseLemmas::pick_known, crate::proofs::RaiseLemmas::pick_of, crate::proofs::RaiseLemmas::orders_begun, crate::proofs::RaiseLemmas::orders_more, crate::proofs::RaiseLemmas::orders_whole))]
-fn first_order_raise(deck: &Deck, case: &BerthCase, places: &[u32]) -> Option<Raise>
-    requires known { AreKnown deck.now case.now }
+#[tactic(auto, using(crate::proofs::RaiseLemmas::choice_known, crate::proofs::RaiseLemmas::choice_of_case, crate::proofs::RaiseLemmas::orders_begun, crate::proofs::RaiseLemmas::orders_more, crate::proofs::RaiseLemmas::orders_whole))]
+fn first_order_raise(deck: &Deck, choices: &[Choice], places: &[u32]) -> Option<Raise>
+    requires known { AreKnown deck.now choices.now }
     requires count { length places.now ≡ 8 }
-    ensures none { IfNone result (AreOrdersObeyed deck.now case.now places.now (length case.now)) }
-    ensures some { IfSome result (λ r. IsForced deck.now case.now places.now r.ship r.value) }
+    ensures none { IfNone result (AreOrdersObeyed deck.now choices.now places.now (length choices.now)) }
+    ensures some { IfSome result (λ r. IsForced deck.now choices.now places.now r.ship r.value) }
     ensures few { IfSome result (λ r. r.value ≤ 17179869184) }
 {
-    let picks = case.picks();
-    for pick in picks {
-        if let Some(raise) = order_raise(deck, case, places, pick) {
+    for choice in choices {
+        if let Some(raise) = order_raise(deck, choices, places, choice) {
             return Some(raise);
         }
     }
@@ -126,16 +128,16 @@ fn first_order_raise(deck: &Deck, case: &BerthCase, places: &[u32]) -> Option<Ra
 }
 
 // A raise that the case asks, if there is one.
-fn find_raise(deck: &Deck, case: &BerthCase, places: &[u32]) -> Option<Raise>
-    requires known { AreKnown deck.now case.now }
+fn find_raise(deck: &Deck, choices: &[Choice], places: &[u32]) -> Option<Raise>
+    requires known { AreKnown deck.now choices.now }
     requires count { length places.now ≡ 8 }
-    ensures none { IfNone result (AreSettled deck.now case.now places.now) }
-    ensures some { IfSome result (λ r. IsForced deck.now case.now places.now r.ship r.value) }
+    ensures none { IfNone result (AreSettled deck.now choices.now places.now) }
+    ensures some { IfSome result (λ r. IsForced deck.now choices.now places.now r.ship r.value) }
     ensures few { IfSome result (λ r. r.value ≤ 17179869184) }
 {
-    match first_host_raise(deck, case, places) {
+    match first_host_raise(deck, choices, places) {
         Some(raise) => Some(raise),
-        None => first_order_raise(deck, case, places),
+        None => first_order_raise(deck, choices, places),
     }
 }
 
@@ -165,15 +167,15 @@ fn are_inside(deck: &Deck, places: &[u32]) -> bool
 
 #[tactic(auto, using(crate::proofs::RaiseLemmas::settled_places, crate::proofs::RaiseLemmas::no_places, crate::proofs::RaiseLemmas::raised_below, crate::proofs::RaiseLemmas::raised_inside, crate::proofs::RaiseLemmas::raised_less))]
 // Raises places until they obey the case, or until a ship isn't inside.
-fn settle(deck: &Deck, case: &BerthCase, places: &mut [u32]) -> bool
-    requires known { AreKnown deck.now case.now }
+fn settle(deck: &Deck, choices: &[Choice], places: &mut [u32]) -> bool
+    requires known { AreKnown deck.now choices.now }
     requires count { length places.old ≡ 8 }
-    requires below { AreBelow deck.now case.now places.old }
+    requires below { AreBelow deck.now choices.now places.old }
     requires inside { AreFirstInside deck.now places.old (length deck.now.ships) }
-    ensures { IsTrue result ↔ HasPlaces deck.now case.now }
+    ensures { IsTrue result ↔ HasPlaces deck.now choices.now }
 {
     prove!(deck.ships.as_slice().len() <= 8);
-    while let Some(raise) = find_raise(deck, case, places) {
+    while let Some(raise) = find_raise(deck, choices, places) {
         if !is_inside_along(deck, raise.ship, raise.value) {
             return false;
         }
@@ -184,13 +186,13 @@ fn settle(deck: &Deck, case: &BerthCase, places: &mut [u32]) -> bool
 
 /// Whether some places along the chamber obey the case.
 #[tactic(auto, using(crate::proofs::RaiseLemmas::start_below, crate::proofs::RaiseLemmas::start_no_places))]
-pub(crate) fn has_places(deck: &Deck, case: &BerthCase) -> bool
-    requires { AreKnown deck.now case.now }
-    ensures { IsTrue result ↔ HasPlaces deck.now case.now }
+pub(crate) fn has_places(deck: &Deck, choices: &[Choice]) -> bool
+    requires { AreKnown deck.now choices.now }
+    ensures { IsTrue result ↔ HasPlaces deck.now choices.now }
 {
     let mut places = [deck.end; 8];
     if !are_inside(deck, &places) {
         return false;
     }
-    settle(deck, case, &mut places)
+    settle(deck, choices, &mut places)
 }

@@ -5,18 +5,16 @@ ghost use Rattle.refute_rules.specs.BerthCases.{host_in, is_ship, guests_of};
 ghost use Rattle.refute_rules.specs.BerthFaults.{IsTooLong, AreTooMany, IsCrowd, ships_in};
 ghost use Rattle.berth_check.specs.CrowdReads.{has, IsCloseIfHas, AreCloseTo, IsLastIfHas, AreAllClose};
 
-use crate::case::BerthCase;
-use crate::decided::host_of;
 use crate::pairs::are_close;
-use crate::sizes::length_of;
+use deck_cases::{Choice, host_of, length_of};
 use lock_model::Deck;
 
 /// Whether a ship is longer than its decided host.
 #[tactic(auto, using(crate::proofs::FaultLemmas::long_yes, crate::proofs::FaultLemmas::long_no, crate::proofs::FaultLemmas::long_none))]
-pub fn is_too_long(deck: &Deck, case: &BerthCase, ship: u32) -> bool
-    ensures { IsTrue result ↔ IsTooLong deck.now case.now ship }
+pub fn is_too_long(deck: &Deck, choices: &[Choice], ship: u32) -> bool
+    ensures { IsTrue result ↔ IsTooLong deck.now choices.now ship }
 {
-    match host_of(case, ship) {
+    match host_of(choices, ship) {
         None => false,
         Some(host) => length_of(deck, host as u32) < length_of(deck, ship),
     }
@@ -35,10 +33,10 @@ fn span_if(deck: &Deck, ship: u8, counts: bool) -> u64
 }
 
 // Whether a ship's decided host is this one.
-fn is_guest(case: &BerthCase, ship: u8, host: u32) -> bool
-    ensures { result ≡ is_ship host (host_in case.now ship) }
+fn is_guest(choices: &[Choice], ship: u8, host: u32) -> bool
+    ensures { result ≡ is_ship host (host_in choices.now ship) }
 {
-    match host_of(case, ship as u32) {
+    match host_of(choices, ship as u32) {
         None => false,
         Some(own) => own as u32 == host,
     }
@@ -46,24 +44,24 @@ fn is_guest(case: &BerthCase, ship: u8, host: u32) -> bool
 
 // The spans of the guests of a ship.
 #[tactic(auto, using(crate::proofs::CrowdLemmas::span_more))]
-fn guests_span(deck: &Deck, case: &BerthCase, host: u32) -> u64
-    ensures value { result ≡ sum_by (λ i. length_at deck.now i + deck.now.gap) (guests_of deck.now case.now host) }
+fn guests_span(deck: &Deck, choices: &[Choice], host: u32) -> u64
+    ensures value { result ≡ sum_by (λ i. length_at deck.now i + deck.now.gap) (guests_of deck.now choices.now host) }
     ensures few { result ≤ 8589934592 * 8 }
 {
     let count = deck.ships.as_slice().len() as u8;
     let mut total: u64 = 0;
     for ship in 0..count {
-        total = total + span_if(deck, ship, is_guest(case, ship, host));
+        total = total + span_if(deck, ship, is_guest(choices, ship, host));
     }
     total
 }
 
 /// Whether the guests of a ship are longer than it, one after the other.
-pub fn are_too_many(deck: &Deck, case: &BerthCase, host: u32) -> bool
-    ensures { IsTrue result ↔ AreTooMany deck.now case.now host }
+pub fn are_too_many(deck: &Deck, choices: &[Choice], host: u32) -> bool
+    ensures { IsTrue result ↔ AreTooMany deck.now choices.now host }
 {
     (host as usize) < deck.ships.as_slice().len()
-        && length_of(deck, host) as u64 + (deck.gap as u64) < guests_span(deck, case, host)
+        && length_of(deck, host) as u64 + (deck.gap as u64) < guests_span(deck, choices, host)
 }
 
 // Whether a set has a ship.
@@ -89,24 +87,24 @@ fn crowd_span(deck: &Deck, set: u32) -> u64
 }
 
 // Whether a ship is close to another, where the set has it.
-fn is_close_if_has(deck: &Deck, case: &BerthCase, set: u32, i: u8, j: u8) -> bool
+fn is_close_if_has(deck: &Deck, choices: &[Choice], set: u32, i: u8, j: u8) -> bool
     requires { i < 8 }
-    ensures { IsTrue result ↔ IsCloseIfHas deck.now case.now set i j }
+    ensures { IsTrue result ↔ IsCloseIfHas deck.now choices.now set i j }
 {
     if has(set, i) {
-        are_close(deck, case, i as u32, j as u32)
+        are_close(deck, choices, i as u32, j as u32)
     } else {
         true
     }
 }
 
 // Whether the lower ships of a set are close to a ship.
-fn is_close_to_lower(deck: &Deck, case: &BerthCase, set: u32, ship: u8) -> bool
+fn is_close_to_lower(deck: &Deck, choices: &[Choice], set: u32, ship: u8) -> bool
     requires { ship < 8 }
-    ensures { IsTrue result ↔ AreCloseTo deck.now case.now set ship ship }
+    ensures { IsTrue result ↔ AreCloseTo deck.now choices.now set ship ship }
 {
     for lower in 0..ship {
-        if !is_close_if_has(deck, case, set, lower, ship) {
+        if !is_close_if_has(deck, choices, set, lower, ship) {
             return false;
         }
     }
@@ -114,24 +112,24 @@ fn is_close_to_lower(deck: &Deck, case: &BerthCase, set: u32, ship: u8) -> bool
 }
 
 // Whether the lower ships of a set are close to a ship, where the set has it.
-fn is_last_if_has(deck: &Deck, case: &BerthCase, set: u32, ship: u8) -> bool
+fn is_last_if_has(deck: &Deck, choices: &[Choice], set: u32, ship: u8) -> bool
     requires { ship < 8 }
-    ensures { IsTrue result ↔ IsLastIfHas deck.now case.now set ship }
+    ensures { IsTrue result ↔ IsLastIfHas deck.now choices.now set ship }
 {
     if has(set, ship) {
-        is_close_to_lower(deck, case, set, ship)
+        is_close_to_lower(deck, choices, set, ship)
     } else {
         true
     }
 }
 
 // Whether each two ships of a set are close.
-fn are_all_close(deck: &Deck, case: &BerthCase, set: u32) -> bool
-    ensures { IsTrue result ↔ AreAllClose deck.now case.now set (length deck.now.ships) }
+fn are_all_close(deck: &Deck, choices: &[Choice], set: u32) -> bool
+    ensures { IsTrue result ↔ AreAllClose deck.now choices.now set (length deck.now.ships) }
 {
     let count = deck.ships.as_slice().len() as u8;
     for ship in 0..count {
-        if !is_last_if_has(deck, case, set, ship) {
+        if !is_last_if_has(deck, choices, set, ship) {
             return false;
         }
     }
@@ -140,13 +138,13 @@ fn are_all_close(deck: &Deck, case: &BerthCase, set: u32) -> bool
 
 /// Whether a set names ships that are close to each other and too long one after the other.
 #[tactic(auto, using(crate::proofs::CrowdLemmas::close_pairs, crate::proofs::CrowdLemmas::pairs_close))]
-pub fn is_crowd(deck: &Deck, case: &BerthCase, set: u32) -> bool
-    ensures { IsTrue result ↔ IsCrowd deck.now case.now set }
+pub fn is_crowd(deck: &Deck, choices: &[Choice], set: u32) -> bool
+    ensures { IsTrue result ↔ IsCrowd deck.now choices.now set }
 {
     let count = deck.ships.as_slice().len() as u8;
     let long = crowd_span(deck, set) + 2 * deck.end as u64;
     1 <= set
         && set < 2u32.pow(count as u32)
-        && are_all_close(deck, case, set)
+        && are_all_close(deck, choices, set)
         && deck.length as u64 + (deck.gap as u64) < long
 }

@@ -24,7 +24,7 @@ fn step(
     requires others { AreAllKnown deck.now pending.old.others }
     ensures { IfOk result (IsReadingStep deck.now (pending.old.case ∷ pending.old.others) pending.new.others marks.now at) }
 {
-    match front_at(deck, pending.case(), marks, at) {
+    match front_at(deck, pending.choices(), marks, at) {
         Front::Nothing => Ok(None),
         Front::Leaf(end) => Ok(Some(end)),
         Front::Berth(ship, end) => {

@@ -14,7 +14,8 @@ use Rattle.lock_rules.proofs.TreeLemmas.{contains-among}
 use Rattle.diff_rules.specs.declared.edges.Edge.{Edge}
 use Rattle.diff_rules.specs.Differences.{value_at, Obeys, AreSolution, IsPositiveCycle, IsSystem}
 use Rattle.diff_rules.proofs.CycleLemmas.{no_values}
-use Rattle.refute_rules.specs.Choices.{Choice, Lies, Before, Below, Stands}
+use Rattle.refute_rules.specs.declared.choices.Choice.{Choice}
+use Rattle.refute_rules.specs.declared.choices.Choice.TheVariants.{Lies, Before, Below, LiesAt}
 use Rattle.refute_rules.specs.Edges.{edge}
 use Rattle.refute_rules.proofs.Among.{IsAmong-left, IsAmong-right, IsAmong-flat_map, IsAmong-numbers, all-flat_map, all-weaker, all-numbers}
 use Rattle.case_search.proofs.ListLemmas.{flat_map-one}
@@ -79,7 +80,7 @@ module _ (d : Deck) (case : List Choice) (known : AreKnown d case) where
       let second = all.0.1 in
       (record { from = omega (arith, first); to = omega (arith, second); low = omega (arith, ints, long.1, gap); high = omega (arith, ints, long.1, gap) }, orders-good limits cs all.1)
   orders-good limits (Below i j ∷ cs) all = orders-good limits cs all.1
-  orders-good limits (Stands i v ∷ cs) all = orders-good limits cs all.1
+  orders-good limits (LiesAt i v ∷ cs) all = orders-good limits cs all.1
 
   along-good : IsDeck d → AllByRecursion Good (along_edges d case)
   along-good limits =
@@ -113,14 +114,14 @@ module _ (d : Deck) (case : List Choice) (known : AreKnown d case) where
     where
       differ : Below k l ≡ Before i j → ⊥
       differ e = cc
-  order-in (Stands k v ∷ cs) i j zero less e = absurd (differ e)
+  order-in (LiesAt k v ∷ cs) i j zero less e = absurd (differ e)
     where
-      differ : Stands k v ≡ Before i j → ⊥
+      differ : LiesAt k v ≡ Before i j → ⊥
       differ e = cc
   order-in (Lies k b ∷ cs) i j (suc n) less e = order-in cs i j n (omega (arith, less)) e
   order-in (Before k l ∷ cs) i j (suc n) less e = inr (order-in cs i j n (omega (arith, less)) e)
   order-in (Below k l ∷ cs) i j (suc n) less e = order-in cs i j n (omega (arith, less)) e
-  order-in (Stands k v ∷ cs) i j (suc n) less e = order-in cs i j n (omega (arith, less)) e
+  order-in (LiesAt k v ∷ cs) i j (suc n) less e = order-in cs i j n (omega (arith, less)) e
 
   order-among : (i j : ℕ) → HasOrder case i j → Contains (along_edges d case) (order_edge d i j)
   order-among i j h = contains-among (along_edges d case) (order_edge d i j) (IsAmong-right (first_edges d case (length d.ships)) (order_edges d case) (order_edge d i j) (order-in case i j h.0 h.1 h.2))
@@ -217,7 +218,7 @@ module _ (d : Deck) (case : List Choice) (known : AreKnown d case) where
         let far = obey.order i j (of i j (0, omega arith, refl)) in
         (record { far = omega (arith, ints, own, other, far) }, orders-obeyed before cs all.1 (λ k l h. of k l (suc h.0, omega (arith, h.1), h.2)))
     orders-obeyed before (Below i j ∷ cs) all of = absurd all.0
-    orders-obeyed before (Stands i v ∷ cs) all of = absurd all.0
+    orders-obeyed before (LiesAt i v ∷ cs) all of = absurd all.0
 
     all-obeyed : AllByRecursion (Obeys values) (along_edges d case)
     all-obeyed =
@@ -238,7 +239,7 @@ orders-append d [] ds = refl
 orders-append d (Lies i b ∷ cs) ds = orders-append d cs ds
 orders-append d (Before i j ∷ cs) ds = ap (λ es. order_edge d i j ∷ es) (orders-append d cs ds)
 orders-append d (Below i j ∷ cs) ds = orders-append d cs ds
-orders-append d (Stands i v ∷ cs) ds = orders-append d cs ds
+orders-append d (LiesAt i v ∷ cs) ds = orders-append d cs ds
 
 firsts-same : (d : Deck) (case more : List Choice) → ((i : ℕ) → host_in more i ≡ host_in case i) → (low n : ℕ) → flat_map (berth_edges d more) (numbers_from low n) ≡ flat_map (berth_edges d case) (numbers_from low n)
 firsts-same d case more same low zero = refl
@@ -261,4 +262,4 @@ along_berths d case berths = ap (λ es. first_edges d case (length d.ships) ++ e
     none (Lies i b ∷ cs) all = none cs all.1
     none (Before i j ∷ cs) all = absurd all.0
     none (Below i j ∷ cs) all = absurd all.0
-    none (Stands i v ∷ cs) all = absurd all.0
+    none (LiesAt i v ∷ cs) all = absurd all.0

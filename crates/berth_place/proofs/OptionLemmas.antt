@@ -4,9 +4,12 @@ use Rattle.std.specs.List.{AllByRecursion}
 use Rattle.std.proofs.lemmas.List.{get_or-map, length-map}
 use Rattle.list_laws.proofs.ByRecursion.{all-append}
 use Rattle.lock_model.specs.Deck.{Deck}
-use Rattle.refute_rules.specs.Choices.{Choice, Lies, Before, Berth, berths_of}
-use Rattle.case_search.specs.Berths.{first_berth}
-use Rattle.case_search.proofs.BerthLemmas.{berths-length}
+use Rattle.refute_rules.specs.declared.choices.Berth.{Berth}
+use Rattle.refute_rules.specs.declared.choices.Choice.{Choice}
+use Rattle.refute_rules.specs.declared.choices.Choice.TheVariants.{Lies, Before}
+use Rattle.refute_rules.specs.Choices.{berths_of}
+use Rattle.deck_cases.specs.Berths.{first_berth}
+use Rattle.deck_cases.proofs.BerthLemmas.{berths-length}
 use Rattle.refute_rules.specs.BerthTrees.{Split, OfBerth, IsOpen, split_options}
 use Rattle.berth_check.specs.Raises.{IsKnownChoice, AreKnown}
 use Rattle.berth_check.proofs.OptionLemmas.{options-known, extended-known}

@@ -5,7 +5,8 @@ use Rattle.lock_model.specs.Placement.{IsLegalPlacement}
 use Rattle.lock_model.specs.declared.placement.Spot.{Spot}
 use Rattle.diff_rules.specs.Differences.{IsSystem, IsSimpleCycle}
 use Rattle.diff_system.specs.PathTree.{PathTree, AreLongest}
-use Rattle.refute_rules.specs.Choices.{Choice, Before}
+use Rattle.refute_rules.specs.declared.choices.Choice.{Choice}
+use Rattle.refute_rules.specs.declared.choices.Choice.TheVariants.{Before}
 use Rattle.refute_rules.specs.BerthCases.{HasOrder, ObeyAlong}
 use Rattle.refute_rules.specs.BerthTrees.{OfOrder, AreUnordered, split_options}
 use Rattle.berth_check.specs.Raises.{AreKnown}

@@ -7,7 +7,8 @@ use Rattle.list_laws.proofs.ByRecursion.{all-append}
 use Rattle.lock_model.specs.Deck.{Deck}
 use Rattle.list_laws.specs.Among.{IsAmong}
 use Rattle.diff_system.specs.PathTree.{IsSmall}
-use Rattle.refute_rules.specs.Choices.{Choice, Before}
+use Rattle.refute_rules.specs.declared.choices.Choice.{Choice}
+use Rattle.refute_rules.specs.declared.choices.Choice.TheVariants.{Before}
 use Rattle.refute_rules.proofs.Among.{IsAmong-left, IsAmong-right}
 use Rattle.refute_rules.specs.BerthCases.{DoOverlap, HasOrder}
 use Rattle.berth_place.specs.declared.pairs.Pair.{Pair}

@@ -10,7 +10,7 @@ use Rattle.diff_rules.specs.declared.edges.Edge.{Edge}
 use Rattle.diff_rules.specs.Differences.{value_at}
 use Rattle.diff_system.specs.PathTree.{PathTree, AreLongest}
 use Rattle.refute_rules.specs.Reasons.{length_at}
-use Rattle.refute_rules.specs.Choices.{Choice}
+use Rattle.refute_rules.specs.declared.choices.Choice.{Choice}
 use Rattle.refute_rules.specs.Known.{host_of}
 use Rattle.refute_rules.specs.BerthCases.{host_in, HasOrder, ObeyAlong}
 use Rattle.refute_rules.specs.BerthTrees.{AreUnordered}

@@ -2,7 +2,8 @@
 use Rattle.std.proofs.Common.{◌≡◌, ℕ, suc, ◌+◌, ◌≤◌, ◌<◌, ◌⊎◌, inl, inr, List, [], ◌∷◌, ◌++◌, length, take, slice_index_or, refl, sym, ap, ◌∙◌, subst, arith, append-nil}
 use Rattle.lock_model.specs.Deck.{Deck}
 use Rattle.lock_model.specs.Placement.{IsLegalPlacement}
-use Rattle.refute_rules.specs.Choices.{Choice, Before}
+use Rattle.refute_rules.specs.declared.choices.Choice.{Choice}
+use Rattle.refute_rules.specs.declared.choices.Choice.TheVariants.{Before}
 use Rattle.refute_rules.specs.Trees.{AreInOrder}
 use Rattle.case_search.proofs.ListLemmas.{append-assoc, take-more, take-all, take-front, in_order-more}
 use Rattle.refute_rules.specs.BerthFaults.{BerthFault, OtherRank, LeadsBack, TooLong, Outside, Guests, Crowd, NoPlaces, IsBerthFault, berth_fault_numbers}

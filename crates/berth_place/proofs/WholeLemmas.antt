@@ -9,7 +9,9 @@ use Rattle.lock_model.specs.Deck.{Deck}
 use Rattle.lock_model.specs.declared.placement.Moor.{Moor}
 use Rattle.lock_model.specs.declared.placement.Moor.TheVariants.{Quay, Ship}
 use Rattle.refute_rules.specs.Reasons.{width_at}
-use Rattle.refute_rules.specs.Choices.{Choice, Lies, Before, Below, Stands, Berth}
+use Rattle.refute_rules.specs.declared.choices.Berth.{Berth}
+use Rattle.refute_rules.specs.declared.choices.Choice.{Choice}
+use Rattle.refute_rules.specs.declared.choices.Choice.TheVariants.{Lies, Before, Below, LiesAt}
 use Rattle.refute_rules.specs.Decided.{berth_in}
 use Rattle.refute_rules.specs.Known.{host_of, host_and_more, hosts_within, guest_y, moored_y, berth_y, y_within, y_in, HasKnownHosts}
 use Rattle.refute_rules.proofs.KnownLemmas as chain
@@ -23,7 +25,7 @@ berth-same a b [] i = refl
 berth-same a b (Lies j c ∷ cs) i = ap (λ o. cond (nat_eq j i) (Some c) o) (berth-same a b cs i)
 berth-same a b (Before j k ∷ cs) i = berth-same a b cs i
 berth-same a b (Below j k ∷ cs) i = berth-same a b cs i
-berth-same a b (Stands j v ∷ cs) i = berth-same a b cs i
+berth-same a b (LiesAt j v ∷ cs) i = berth-same a b cs i
 
 module _ (d : Deck) (case more : List Choice) (same : (i : ℕ) → berth_in more i ≡ berth_in case i) where
   y-same : (steps i : ℕ) → y_within d more steps i ≡ y_within d case steps i

@@ -6,7 +6,8 @@ use Rattle.lock_rules.specs.Arrival.{numbers_from}
 use Rattle.diff_rules.specs.declared.edges.Edge.{Edge}
 use Rattle.diff_rules.specs.Differences.{value_at}
 use Rattle.refute_rules.specs.Reasons.{length_at}
-use Rattle.refute_rules.specs.Choices.{Choice, Lies, Before, Below, Stands}
+use Rattle.refute_rules.specs.declared.choices.Choice.{Choice}
+use Rattle.refute_rules.specs.declared.choices.Choice.TheVariants.{Lies, Before, Below, LiesAt}
 use Rattle.refute_rules.specs.Edges.{edge}
 use Rattle.refute_rules.specs.BerthCases.{host_in}
 
@@ -44,7 +45,7 @@ order_edges d [] = []
 order_edges d (Lies i b ∷ cs) = order_edges d cs
 order_edges d (Before i j ∷ cs) = order_edge d i j ∷ order_edges d cs
 order_edges d (Below i j ∷ cs) = order_edges d cs
-order_edges d (Stands i v ∷ cs) = order_edges d cs
+order_edges d (LiesAt i v ∷ cs) = order_edges d cs
 
 -- the edges of the first ships' berths
 abbrev pub first_edges : Deck → List Choice → ℕ → List Edge

@@ -2,7 +2,9 @@
 use Rattle.std.specs.Prelude.{ℕ, ◌≡◌, ◌≢◌, ◌<◌, ℤ, List, Contains, length, Some}
 use Rattle.std.specs.List.{AllByRecursion}
 use Rattle.lock_model.specs.Deck.{Deck}
-use Rattle.refute_rules.specs.Choices.{Choice, Lies, Before, Below, Stands, Berth}
+use Rattle.refute_rules.specs.declared.choices.Berth.{Berth}
+use Rattle.refute_rules.specs.declared.choices.Choice.{Choice}
+use Rattle.refute_rules.specs.declared.choices.Choice.TheVariants.{Lies, Before, Below, LiesAt}
 use Rattle.refute_rules.specs.Decided.{berth_in, HasOtherRank}
 use Rattle.refute_rules.specs.Known.{hosts_within, y_in}
 use Rattle.refute_rules.specs.SpotFaults.{IsOutsideAcross}
@@ -13,7 +15,7 @@ abbrev pub IsBerth : Choice → Type 0
 IsBerth (Lies i b) = Unit {0}
 IsBerth (Before i j) = ⊥
 IsBerth (Below i j) = ⊥
-IsBerth (Stands i v) = ⊥
+IsBerth (LiesAt i v) = ⊥
 
 -- a case without orders
 pub record AreBerths (case : List Choice) : Type 0 where

@@ -5,7 +5,7 @@ use Rattle.lock_model.specs.Deck.{Deck}
 use Rattle.list_laws.specs.Among.{IsAmong}
 use Rattle.diff_rules.specs.Differences.{value_at}
 use Rattle.refute_rules.specs.Reasons.{length_at}
-use Rattle.refute_rules.specs.Choices.{Choice}
+use Rattle.refute_rules.specs.declared.choices.Choice.{Choice}
 use Rattle.refute_rules.specs.BerthCases.{DoOverlap, HasOrder}
 use Rattle.diff_system.specs.PathTree.{IsSmall}
 use Rattle.berth_place.specs.Along.{place_var, place_count}

@@ -4,7 +4,7 @@ use Rattle.lock_model.specs.Deck.{Deck}
 use Rattle.lock_model.specs.Placement.{spot_at}
 use Rattle.lock_model.specs.declared.placement.Spot.{Spot}
 use Rattle.diff_rules.specs.Differences.{value_at}
-use Rattle.refute_rules.specs.Choices.{Choice}
+use Rattle.refute_rules.specs.declared.choices.Choice.{Choice}
 use Rattle.refute_rules.specs.Decided.{berth_in}
 use Rattle.refute_rules.specs.Known.{y_in}
 use Rattle.berth_place.specs.Along.{place_var}

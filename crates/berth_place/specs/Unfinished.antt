@@ -1,7 +1,8 @@
 -- Berth trees that a search left unfinished, and how many nodes they have.
 use Rattle.std.specs.Prelude.{ℕ, zero, suc, ◌≡◌, ◌+◌, ◌<◌, ◌⊎◌, List, [], ◌∷◌, ◌++◌, length, take, slice_index_or, nat_eq, if◌then◌else◌}
 use Rattle.lock_model.specs.Deck.{Deck}
-use Rattle.refute_rules.specs.Choices.{Choice, Before}
+use Rattle.refute_rules.specs.declared.choices.Choice.{Choice}
+use Rattle.refute_rules.specs.declared.choices.Choice.TheVariants.{Before}
 use Rattle.refute_rules.specs.Trees.{AreInOrder}
 use Rattle.refute_rules.specs.BerthTrees.{Split, IsOpen, split_options, split_numbers, BeginsWithTree}
 

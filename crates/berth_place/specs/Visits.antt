@@ -2,7 +2,8 @@
 use Rattle.std.specs.Prelude.{ℕ, ◌≡◌, ◌≤◌, ◌<◌, ◌⊎◌, List, [], ◌∷◌, ◌++◌, ◌+◌, zero, Bool, true, false, length, slice_index_or, take}
 use Rattle.lock_model.specs.Deck.{Deck, IsDeck}
 use Rattle.lock_model.specs.Placement.{IsLegalPlacement}
-use Rattle.refute_rules.specs.Choices.{Choice, Before}
+use Rattle.refute_rules.specs.declared.choices.Choice.{Choice}
+use Rattle.refute_rules.specs.declared.choices.Choice.TheVariants.{Before}
 use Rattle.refute_rules.specs.Trees.{AreInOrder}
 use Rattle.refute_rules.specs.BerthTrees.{Split, split_options, split_numbers, BeginsWithTree}
 use Rattle.berth_place.specs.Along.{along_edges, order_edges}

@@ -5,7 +5,7 @@ ghost use Rattle.refute_rules.specs.BerthCases.{host_in};
 ghost use Rattle.berth_place.specs.Along.{place_var, place_count, inside_edges, host_edges, berth_edges, first_edges, order_edge};
 ghost use Rattle.berth_check.specs.Raises.{AreKnown};
 
-use berth_check::{BerthCase, host_of, length_of};
+use deck_cases::{Choice, host_of, length_of};
 use diff_system::{Edge, Edges};
 use lock_model::Deck;
 
@@ -67,14 +67,14 @@ fn add_inside(deck: &Deck, ship: u8, edges: &mut Edges)
 
 // Appends the edges that keep a ship within its host, where that is decided.
 #[tactic(auto, using(berth_check::proofs::RaiseLemmas::known_host))]
-fn add_host(deck: &Deck, case: &BerthCase, ship: u8, edges: &mut Edges)
+fn add_host(deck: &Deck, choices: &[Choice], ship: u8, edges: &mut Edges)
     requires few { ship < length deck.now.ships }
-    requires known { AreKnown deck.now case.now }
+    requires known { AreKnown deck.now choices.now }
     requires room { length edges.old + 2 ≤ 96 }
-    ensures { edges.new ≡ edges.old ++ host_edges deck.now ship (host_in case.now ship) }
+    ensures { edges.new ≡ edges.old ++ host_edges deck.now ship (host_in choices.now ship) }
 {
     prove!(deck.ships.as_slice().len() <= 8);
-    if let Some(host) = host_of(case, ship as u32) {
+    if let Some(host) = host_of(choices, ship as u32) {
         edges.push(Edge {
             from: place_var(host),
             to: place_var(ship),
@@ -89,29 +89,29 @@ fn add_host(deck: &Deck, case: &BerthCase, ship: u8, edges: &mut Edges)
 }
 
 // Appends the edges of a ship's berth.
-fn add_berth(deck: &Deck, case: &BerthCase, ship: u8, edges: &mut Edges)
+fn add_berth(deck: &Deck, choices: &[Choice], ship: u8, edges: &mut Edges)
     requires few { ship < length deck.now.ships }
-    requires known { AreKnown deck.now case.now }
+    requires known { AreKnown deck.now choices.now }
     requires room { length edges.old + 4 ≤ 96 }
-    ensures value { edges.new ≡ edges.old ++ berth_edges deck.now case.now ship }
+    ensures value { edges.new ≡ edges.old ++ berth_edges deck.now choices.now ship }
     ensures room { length edges.new ≤ length edges.old + 4 }
 {
     prove!(deck.ships.as_slice().len() <= 8);
     add_inside(deck, ship, edges);
-    add_host(deck, case, ship, edges);
+    add_host(deck, choices, ship, edges);
 }
 
 /// Appends the edges of all berths of a case.
 #[tactic(auto, using(crate::proofs::AlongLemmas::edges_begun, crate::proofs::AlongLemmas::edges_more))]
-pub(crate) fn add_berths(deck: &Deck, case: &BerthCase, edges: &mut Edges)
+pub(crate) fn add_berths(deck: &Deck, choices: &[Choice], edges: &mut Edges)
     requires none { edges.old ≡ [] }
-    requires known { AreKnown deck.now case.now }
-    ensures value { edges.new ≡ first_edges deck.now case.now (length deck.now.ships) }
+    requires known { AreKnown deck.now choices.now }
+    ensures value { edges.new ≡ first_edges deck.now choices.now (length deck.now.ships) }
     ensures room { length edges.new ≤ 32 }
 {
     prove!(deck.ships.as_slice().len() <= 8);
     for ship in 0..deck.ships.as_slice().len() as u8 {
-        add_berth(deck, case, ship, edges);
+        add_berth(deck, choices, ship, edges);
     }
 }
 

@@ -3,7 +3,7 @@ ghost use Rattle.std.specs.Prelude.{◌<◌, ◌≤◌, ◌+◌};
 
 use crate::faults::BerthFault;
 use crate::lanes::{Lane, are_in_line};
-use berth_check::length_of;
+use deck_cases::length_of;
 use lock_model::Deck;
 
 /// The length of a ship and the gap, in decimetres.

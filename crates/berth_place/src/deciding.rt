@@ -1,6 +1,6 @@
 //! The berths of a deck's ships, the longest first.
 ghost use Rattle.std.specs.Prelude.{◌≡◌, ◌<◌, ◌*◌, ◌≤◌, [], ◌∷◌, ◌++◌, None, length, slice_index_or, OnOk, IfOk, IfSome, IfNone};
-ghost use Rattle.refute_rules.specs.Choices.{Before};
+ghost use Rattle.refute_rules.specs.declared.choices.Choice.TheVariants.{Before};
 ghost use Rattle.refute_rules.specs.BerthTrees.{OfBerth, IsOpen, split_options, split_numbers};
 ghost use Rattle.berth_place.specs.Known.{IsDecided, AreDecided};
 ghost use Rattle.berth_place.specs.Visits.{IsBerthing, IsVisit, IsVisitOf};
@@ -8,21 +8,21 @@ ghost use Rattle.berth_place.specs.Visits.{IsBerthing, IsVisit, IsVisitOf};
 use crate::likely::found_fault;
 use crate::ordering::order_ships;
 use crate::search::{Search, Visit, close, try_option};
-use berth_check::{BerthCase, Pick, berth_of, length_of};
-use case_search::berth_option;
+use berth_check::BerthCase;
+use deck_cases::{Choice, berth_of, berth_option, length_of};
 use lock_model::Deck;
 use no_memory::NoMemory;
 use refute_rules::Marks;
 use std::alloc::AllocError;
 
 // The longer of a ship that was found and this one, where the berth of this one isn't decided.
-fn longer(deck: &Deck, case: &BerthCase, found: Option<u8>, ship: u8) -> Option<u8>
-    requires found { IfSome found (λ i. IsOpen deck.now case.now (OfBerth i)) }
+fn longer(deck: &Deck, choices: &[Choice], found: Option<u8>, ship: u8) -> Option<u8>
+    requires found { IfSome found (λ i. IsOpen deck.now choices.now (OfBerth i)) }
     requires ship { ship < length deck.now.ships }
-    ensures some { IfSome result (λ i. IsOpen deck.now case.now (OfBerth i)) }
-    ensures none { IfNone result ((found ≡ None) × IsDecided case.now ship) }
+    ensures some { IfSome result (λ i. IsOpen deck.now choices.now (OfBerth i)) }
+    ensures none { IfNone result ((found ≡ None) × IsDecided choices.now ship) }
 {
-    if berth_of(case, ship as u32).is_some() {
+    if berth_of(choices, ship as u32).is_some() {
         return found;
     }
     match found {
@@ -32,13 +32,13 @@ fn longer(deck: &Deck, case: &BerthCase, found: Option<u8>, ship: u8) -> Option<
 }
 
 // The longest ship whose berth isn't decided, the first of those that are equally long.
-fn next_ship(deck: &Deck, case: &BerthCase) -> Option<u8>
-    ensures some { IfSome result (λ i. IsOpen deck.now case.now (OfBerth i)) }
-    ensures none { IfNone result (AreDecided case.now (length deck.now.ships)) }
+fn next_ship(deck: &Deck, choices: &[Choice]) -> Option<u8>
+    ensures some { IfSome result (λ i. IsOpen deck.now choices.now (OfBerth i)) }
+    ensures none { IfNone result (AreDecided choices.now (length deck.now.ships)) }
 {
     let mut next = None;
     for ship in 0..deck.ships.as_slice().len() as u8 {
-        next = longer(deck, case, next, ship);
+        next = longer(deck, choices, next, ship);
     }
     next
 }
@@ -59,7 +59,7 @@ fn take_berth(case: &mut BerthCase, deck: &Deck, ship: u8, option: u32) -> Resul
 {
     prove!(deck.ships.as_slice().len() <= 8);
     let berth = berth_option(deck.ships.as_slice().len() as u8, ship, option);
-    case.push(Pick::Lies(ship, berth.rank, berth.moor))
+    case.push(Choice::Lies(ship, berth))
 }
 
 // Visits the case at hand with one berth more, which is then taken back.
@@ -106,10 +106,10 @@ pub(crate) fn decide(search: &mut Search, deck: &Deck) -> Result<Visit, NoMemory
     requires { IsBerthing deck.now search.old }
     ensures { IfOk result (IsVisit deck.now search.old search.new) }
 {
-    if let Some(fault) = found_fault(deck, &search.case) {
+    if let Some(fault) = found_fault(deck, search.case.choices()) {
         return close(search, deck, fault);
     }
-    match next_ship(deck, &search.case) {
+    match next_ship(deck, search.case.choices()) {
         None => order_ships(search, deck),
         Some(ship) => split_berth(search, deck, ship),
     }

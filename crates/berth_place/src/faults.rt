@@ -3,9 +3,8 @@ ghost use Rattle.std.specs.Prelude.{◌≡◌, [], ◌∷◌, ◌++◌, IsTrue, 
 ghost use Rattle.refute_rules.specs.BerthFaults.{IsBerthFault, berth_fault_numbers};
 ghost use Rattle.berth_place.specs.Faults.{fault_of};
 
-use berth_check::{
-    BerthCase, are_too_many, has_other_rank, is_crowd, is_outside_across, is_too_long, leads_back,
-};
+use berth_check::{are_too_many, is_crowd, is_too_long};
+use deck_cases::{Choice, has_other_rank, is_outside_across, leads_back};
 use lock_model::Deck;
 use refute_rules::Marks;
 use std::alloc::AllocError;
@@ -13,7 +12,7 @@ use std::alloc::AllocError;
 /// Why no placement obeys a case: a ship with a host of the other rank, a ship that its hosts lead
 /// back to, a ship longer than its host, a ship outside across the chamber, a ship with too many
 /// guests, a crowd of ships as a set of bits, or no places along the chamber.
-#[derive(Clone, Copy, PartialEq, Eq)]
+#[derive(Clone, Copy)]
 pub(crate) enum BerthFault {
     OtherRank(u8),
     LeadsBack(u8),
@@ -48,16 +47,16 @@ pub(crate) fn write_fault(fault: BerthFault, marks: &mut Marks) -> Result<(), Al
 }
 
 /// Whether a fault stands in a case, where it is one of berths; of places this tells nothing.
-pub(crate) fn stands(deck: &Deck, case: &BerthCase, fault: BerthFault) -> bool
-    ensures { IsTrue result → IsBerthFault deck.now case.now (fault_of fault) }
+pub(crate) fn stands(deck: &Deck, choices: &[Choice], fault: BerthFault) -> bool
+    ensures { IsTrue result → IsBerthFault deck.now choices.now (fault_of fault) }
 {
     match fault {
-        BerthFault::OtherRank(ship) => has_other_rank(case, ship as u32),
-        BerthFault::LeadsBack(ship) => leads_back(deck, case, ship as u32),
-        BerthFault::TooLong(ship) => is_too_long(deck, case, ship as u32),
-        BerthFault::Outside(ship) => is_outside_across(deck, case, ship as u32),
-        BerthFault::Guests(ship) => are_too_many(deck, case, ship as u32),
-        BerthFault::Crowd(set) => is_crowd(deck, case, set),
+        BerthFault::OtherRank(ship) => has_other_rank(choices, ship as u32),
+        BerthFault::LeadsBack(ship) => leads_back(deck, choices, ship as u32),
+        BerthFault::TooLong(ship) => is_too_long(deck, choices, ship as u32),
+        BerthFault::Outside(ship) => is_outside_across(deck, choices, ship as u32),
+        BerthFault::Guests(ship) => are_too_many(deck, choices, ship as u32),
+        BerthFault::Crowd(set) => is_crowd(deck, choices, set),
         BerthFault::NoPlaces => false,
     }
 }

@@ -1,6 +1,6 @@
 //! Where ships lie across the chamber, as far as a case decides it.
 
-use berth_check::{BerthCase, host_of, width_of, y_of};
+use deck_cases::{Choice, host_of, width_of, y_of};
 use lock_model::Deck;
 
 /// What a ship covers across the chamber: nothing that is known, more than the chamber has, or from
@@ -36,14 +36,14 @@ fn strip_at(deck: &Deck, ship: u8, y: i64) -> Strip {
 }
 
 /// The lane of a ship.
-pub(crate) fn lane_of(deck: &Deck, case: &BerthCase, ship: u8) -> Lane {
-    let strip = match y_of(deck, case, ship as u32) {
+pub(crate) fn lane_of(deck: &Deck, choices: &[Choice], ship: u8) -> Lane {
+    let strip = match y_of(deck, choices, ship as u32) {
         None => Strip::Unknown,
         Some(y) => strip_at(deck, ship, y),
     };
     Lane {
         strip,
-        host: host_of(case, ship as u32),
+        host: host_of(choices, ship as u32),
     }
 }
 

@@ -7,13 +7,13 @@ ghost use Rattle.berth_place.specs.Faults.{fault_of};
 use crate::crowds::{likely_crowd, span_of};
 use crate::faults::{BerthFault, stands};
 use crate::lanes::{Lane, OPEN, Strip, lane_of};
-use berth_check::{BerthCase, Pick, berth_of, leads_back, length_of};
+use deck_cases::{Berth, Choice, berth_of, leads_back, length_of};
 use lock_model::{Deck, Moor, Rank};
 
 // A fault of a ship that lies at a host.
 fn likely_at_host(
     deck: &Deck,
-    case: &BerthCase,
+    choices: &[Choice],
     ship: u8,
     rank: Rank,
     host: u8,
@@ -21,10 +21,10 @@ fn likely_at_host(
     if length_of(deck, host as u32) < length_of(deck, ship as u32) {
         return Some(BerthFault::TooLong(ship));
     }
-    if leads_back(deck, case, ship as u32) {
+    if leads_back(deck, choices, ship as u32) {
         return Some(BerthFault::LeadsBack(ship));
     }
-    match berth_of(case, host as u32) {
+    match berth_of(choices, host as u32) {
         Some(berth) if berth.rank != rank => Some(BerthFault::OtherRank(ship)),
         _ => None,
     }
@@ -33,29 +33,28 @@ fn likely_at_host(
 // A fault of the berth of a ship alone.
 fn likely_at(
     deck: &Deck,
-    case: &BerthCase,
+    choices: &[Choice],
     ship: u8,
-    rank: Rank,
-    moor: Moor,
+    berth: Berth,
 ) -> Option<BerthFault> {
-    match moor {
+    match berth.moor {
         Moor::Quay => None,
-        Moor::Ship(host) => likely_at_host(deck, case, ship, rank, host),
+        Moor::Ship(host) => likely_at_host(deck, choices, ship, berth.rank, host),
     }
 }
 
 // Whether a ship is a guest of another one, of another rank than this.
-fn is_unlike_guest(case: &BerthCase, guest: u8, host: u8, rank: Rank) -> bool {
-    match berth_of(case, guest as u32) {
+fn is_unlike_guest(choices: &[Choice], guest: u8, host: u8, rank: Rank) -> bool {
+    match berth_of(choices, guest as u32) {
         Some(berth) => berth.moor == Moor::Ship(host) && berth.rank != rank,
         None => false,
     }
 }
 
 // A guest of a ship, of another rank than this.
-fn likely_guest(deck: &Deck, case: &BerthCase, host: u8, rank: Rank) -> Option<BerthFault> {
+fn likely_guest(deck: &Deck, choices: &[Choice], host: u8, rank: Rank) -> Option<BerthFault> {
     for guest in 0..deck.ships.as_slice().len() as u8 {
-        if is_unlike_guest(case, guest, host, rank) {
+        if is_unlike_guest(choices, guest, host, rank) {
             return Some(BerthFault::OtherRank(guest));
         }
     }
@@ -63,11 +62,11 @@ fn likely_guest(deck: &Deck, case: &BerthCase, host: u8, rank: Rank) -> Option<B
 }
 
 // The lanes of all ships, or a ship that isn't inside across the chamber.
-fn lanes_of(deck: &Deck, case: &BerthCase) -> Result<[Lane; 8], BerthFault> {
+fn lanes_of(deck: &Deck, choices: &[Choice]) -> Result<[Lane; 8], BerthFault> {
     prove!(deck.ships.as_slice().len() <= 8);
     let mut lanes = [OPEN; 8];
     for ship in 0..deck.ships.as_slice().len() as u8 {
-        let lane = lane_of(deck, case, ship);
+        let lane = lane_of(deck, choices, ship);
         if lane.strip == Strip::Outside {
             return Err(BerthFault::Outside(ship));
         }
@@ -114,28 +113,27 @@ fn likely_in_line(deck: &Deck, lanes: &[Lane; 8], moor: Moor) -> Option<BerthFau
 // A fault that the berth of a ship is likely to have brought about.
 fn likely_by(
     deck: &Deck,
-    case: &BerthCase,
+    choices: &[Choice],
     ship: u8,
-    rank: Rank,
-    moor: Moor,
+    berth: Berth,
 ) -> Option<BerthFault> {
-    if let Some(fault) = likely_at(deck, case, ship, rank, moor) {
+    if let Some(fault) = likely_at(deck, choices, ship, berth) {
         return Some(fault);
     }
-    if let Some(fault) = likely_guest(deck, case, ship, rank) {
+    if let Some(fault) = likely_guest(deck, choices, ship, berth.rank) {
         return Some(fault);
     }
-    match lanes_of(deck, case) {
+    match lanes_of(deck, choices) {
         Err(fault) => Some(fault),
-        Ok(lanes) => likely_in_line(deck, &lanes, moor),
+        Ok(lanes) => likely_in_line(deck, &lanes, berth.moor),
     }
 }
 
 // The fault, where it stands.
-fn tested(deck: &Deck, case: &BerthCase, fault: BerthFault) -> Option<BerthFault>
-    ensures { IfSome result (λ f. IsBerthFault deck.now case.now (fault_of f)) }
+fn tested(deck: &Deck, choices: &[Choice], fault: BerthFault) -> Option<BerthFault>
+    ensures { IfSome result (λ f. IsBerthFault deck.now choices.now (fault_of f)) }
 {
-    if stands(deck, case, fault) {
+    if stands(deck, choices, fault) {
         Some(fault)
     } else {
         None
@@ -143,12 +141,12 @@ fn tested(deck: &Deck, case: &BerthCase, fault: BerthFault) -> Option<BerthFault
 }
 
 /// A fault of a case that its last option brought about, if one is found.
-pub(crate) fn found_fault(deck: &Deck, case: &BerthCase) -> Option<BerthFault>
-    ensures { IfSome result (λ f. IsBerthFault deck.now case.now (fault_of f)) }
+pub(crate) fn found_fault(deck: &Deck, choices: &[Choice]) -> Option<BerthFault>
+    ensures { IfSome result (λ f. IsBerthFault deck.now choices.now (fault_of f)) }
 {
-    let likely = match case.picks().last() {
-        Some(Pick::Lies(ship, rank, moor)) => likely_by(deck, case, *ship, *rank, *moor),
+    let likely = match choices.last() {
+        Some(Choice::Lies(ship, berth)) => likely_by(deck, choices, *ship, *berth),
         _ => None,
     };
-    tested(deck, case, likely?)
+    tested(deck, choices, likely?)
 }

@@ -13,7 +13,7 @@ use crate::faults::BerthFault;
 use crate::pairs::{Pair, Pairs, first_touching, overlapping, without};
 use crate::search::{Search, Visit, close, try_option};
 use crate::spotting::{spots_of, whole_fault};
-use berth_check::Pick;
+use deck_cases::Choice;
 use diff_system::{LongestPaths, Numbers};
 use lock_model::Deck;
 use no_memory::NoMemory;
@@ -43,7 +43,7 @@ fn take_order(search: &mut Search, deck: &Deck, pair: Pair, option: u8) -> Resul
         (pair.upper, pair.lower)
     };
     add_order(deck, first, second, &mut search.edges);
-    search.case.push(Pick::Before(first, second))
+    search.case.push(Choice::Before(first, second))
 }
 
 // Visits the case at hand with one order more, which is then taken back.
@@ -138,7 +138,7 @@ fn place_pairs(
 {
     match first_touching(deck, paths.values().as_slice(), pairs.as_slice()) {
         None => {
-            search.spots = spots_of(deck, &search.case, paths.values().as_slice());
+            search.spots = spots_of(deck, search.case.choices(), paths.values().as_slice());
             Ok(Visit::Placed)
         }
         Some(number) => split_pair(search, deck, paths, pairs, number),
@@ -153,12 +153,12 @@ pub(crate) fn order_ships(search: &mut Search, deck: &Deck) -> Result<Visit, NoM
 {
     // a deck keeps its limits
     prove!(!deck.ships.as_slice().is_empty());
-    if let Some(fault) = whole_fault(deck, &search.case) {
+    if let Some(fault) = whole_fault(deck, search.case.choices()) {
         return close(search, deck, fault);
     }
-    add_berths(deck, &search.case, &mut search.edges);
+    add_berths(deck, search.case.choices(), &mut search.edges);
     let solved = LongestPaths::of(&search.edges, place_count(deck));
-    let pairs = overlapping(deck, &search.case);
+    let pairs = overlapping(deck, search.case.choices());
     let visit = order_pairs(search, deck, solved, &pairs)?;
     search.edges.truncate(0);
     Ok(visit)

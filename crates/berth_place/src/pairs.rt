@@ -6,7 +6,8 @@ ghost use Rattle.berth_place.specs.Pairs.{ArePairs, AreAllPairs, AreApartAlong, 
 
 use crate::along::{along, place_var};
 use arrayvec::ArrayVec;
-use berth_check::{BerthCase, do_overlap};
+use berth_check::do_overlap;
+use deck_cases::Choice;
 use lock_model::Deck;
 
 /// Two ships of a deck, the lower number first.
@@ -21,49 +22,49 @@ pub(crate) type Pairs = ArrayVec<Pair, 64>;
 
 // Appends a pair, where it overlaps.
 #[tactic(auto, using(crate::proofs::PairLemmas::pair_is, crate::proofs::PairLemmas::pairs_more, crate::proofs::PairLemmas::partly_more, crate::proofs::PairLemmas::partly_passed))]
-fn add_pair(deck: &Deck, case: &BerthCase, lower: u8, upper: u8, pairs: &mut Pairs)
+fn add_pair(deck: &Deck, choices: &[Choice], lower: u8, upper: u8, pairs: &mut Pairs)
     requires lower { lower < upper }
     requires upper { upper < length deck.now.ships }
     requires room { length pairs.old.items < 64 }
-    requires pairs { ArePairs deck.now case.now pairs.old.items }
-    requires partly { ArePartlyPairs deck.now case.now pairs.old.items upper lower }
+    requires pairs { ArePairs deck.now choices.now pairs.old.items }
+    requires partly { ArePartlyPairs deck.now choices.now pairs.old.items upper lower }
     ensures room { length pairs.new.items ≤ length pairs.old.items + 1 }
-    ensures pairs { ArePairs deck.now case.now pairs.new.items }
-    ensures partly { ArePartlyPairs deck.now case.now pairs.new.items upper (lower + 1) }
+    ensures pairs { ArePairs deck.now choices.now pairs.new.items }
+    ensures partly { ArePartlyPairs deck.now choices.now pairs.new.items upper (lower + 1) }
 {
-    if do_overlap(deck, case, lower as u32, upper as u32) {
+    if do_overlap(deck, choices, lower as u32, upper as u32) {
         pairs.push(Pair { lower, upper });
     }
 }
 
 // Appends the pairs of a ship with the lower ones that overlap.
 #[tactic(auto, using(crate::proofs::PairLemmas::partly_begun, crate::proofs::PairLemmas::partly_whole))]
-fn add_pairs(deck: &Deck, case: &BerthCase, upper: u8, pairs: &mut Pairs)
+fn add_pairs(deck: &Deck, choices: &[Choice], upper: u8, pairs: &mut Pairs)
     requires upper { upper < length deck.now.ships }
     requires room { length pairs.old.items ≤ 8 * upper }
-    requires pairs { ArePairs deck.now case.now pairs.old.items }
-    requires all { AreAllPairs deck.now case.now pairs.old.items upper }
+    requires pairs { ArePairs deck.now choices.now pairs.old.items }
+    requires all { AreAllPairs deck.now choices.now pairs.old.items upper }
     ensures room { length pairs.new.items ≤ 8 * (upper + 1) }
-    ensures pairs { ArePairs deck.now case.now pairs.new.items }
-    ensures all { AreAllPairs deck.now case.now pairs.new.items (upper + 1) }
+    ensures pairs { ArePairs deck.now choices.now pairs.new.items }
+    ensures all { AreAllPairs deck.now choices.now pairs.new.items (upper + 1) }
 {
     prove!(deck.ships.as_slice().len() <= 8);
     for lower in 0..upper {
-        add_pair(deck, case, lower, upper, pairs);
+        add_pair(deck, choices, lower, upper, pairs);
     }
 }
 
 /// All pairs of ships that overlap.
 #[tactic(auto, using(crate::proofs::PairLemmas::pairs_begun, crate::proofs::PairLemmas::all_begun))]
-pub(crate) fn overlapping(deck: &Deck, case: &BerthCase) -> Pairs
+pub(crate) fn overlapping(deck: &Deck, choices: &[Choice]) -> Pairs
     ensures few { length result.items ≤ 64 }
-    ensures pairs { ArePairs deck.now case.now result.items }
-    ensures all { AreAllPairs deck.now case.now result.items (length deck.now.ships) }
+    ensures pairs { ArePairs deck.now choices.now result.items }
+    ensures all { AreAllPairs deck.now choices.now result.items (length deck.now.ships) }
 {
     prove!(deck.ships.as_slice().len() <= 8);
     let mut pairs = ArrayVec::new();
     for upper in 0..deck.ships.as_slice().len() as u8 {
-        add_pairs(deck, case, upper, &mut pairs);
+        add_pairs(deck, choices, upper, &mut pairs);
     }
     pairs
 }

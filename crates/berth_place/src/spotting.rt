@@ -2,7 +2,6 @@
 ghost use Rattle.std.specs.Prelude.{◌≡◌, ◌<◌, ◌≤◌, ◌≤ℤ◌, pos, Some, length, IfSome, IfNone};
 ghost use Rattle.refute_rules.specs.Decided.{berth_in};
 ghost use Rattle.refute_rules.specs.Known.{y_in};
-ghost use Rattle.berth_check.specs.Lookups.{told_berth};
 ghost use Rattle.diff_rules.specs.Differences.{value_at};
 ghost use Rattle.refute_rules.specs.BerthFaults.{IsBerthFault};
 ghost use Rattle.berth_place.specs.Along.{place_var};
@@ -13,23 +12,21 @@ ghost use Rattle.berth_place.specs.Spotting.{IsSpotOf, AreSpotsSoFar};
 
 use crate::along::place_var;
 use crate::faults::BerthFault;
-use berth_check::{
-    Berth, BerthCase, berth_of, has_other_rank, is_outside_across, leads_back, y_of,
-};
+use deck_cases::{Berth, Choice, berth_of, has_other_rank, is_outside_across, leads_back, y_of};
 use lock_model::{Deck, Spot, Spots};
 
 // A fault of a ship.
-fn ship_fault(deck: &Deck, case: &BerthCase, ship: u8) -> Option<BerthFault>
-    ensures some { IfSome result (λ f. IsBerthFault deck.now case.now (fault_of f)) }
-    ensures none { IfNone result (IsSoundShip deck.now case.now ship) }
+fn ship_fault(deck: &Deck, choices: &[Choice], ship: u8) -> Option<BerthFault>
+    ensures some { IfSome result (λ f. IsBerthFault deck.now choices.now (fault_of f)) }
+    ensures none { IfNone result (IsSoundShip deck.now choices.now ship) }
 {
-    if has_other_rank(case, ship as u32) {
+    if has_other_rank(choices, ship as u32) {
         return Some(BerthFault::OtherRank(ship));
     }
-    if leads_back(deck, case, ship as u32) {
+    if leads_back(deck, choices, ship as u32) {
         return Some(BerthFault::LeadsBack(ship));
     }
-    if is_outside_across(deck, case, ship as u32) {
+    if is_outside_across(deck, choices, ship as u32) {
         return Some(BerthFault::Outside(ship));
     }
     None
@@ -37,12 +34,12 @@ fn ship_fault(deck: &Deck, case: &BerthCase, ship: u8) -> Option<BerthFault>
 
 /// A fault of the first ship whose host has the other rank, that its hosts lead back to, or that
 /// isn't inside across the chamber.
-pub(crate) fn whole_fault(deck: &Deck, case: &BerthCase) -> Option<BerthFault>
-    ensures some { IfSome result (λ f. IsBerthFault deck.now case.now (fault_of f)) }
-    ensures none { IfNone result (AreSoundShips deck.now case.now (length deck.now.ships)) }
+pub(crate) fn whole_fault(deck: &Deck, choices: &[Choice]) -> Option<BerthFault>
+    ensures some { IfSome result (λ f. IsBerthFault deck.now choices.now (fault_of f)) }
+    ensures none { IfNone result (AreSoundShips deck.now choices.now (length deck.now.ships)) }
 {
     for ship in 0..deck.ships.as_slice().len() as u8 {
-        if let Some(fault) = ship_fault(deck, case, ship) {
+        if let Some(fault) = ship_fault(deck, choices, ship) {
             return Some(fault);
         }
     }
@@ -69,14 +66,14 @@ fn small(number: i64) -> u32
 }
 
 // A ship's y.
-fn y_at(deck: &Deck, case: &BerthCase, ship: u8) -> u32
+fn y_at(deck: &Deck, choices: &[Choice], ship: u8) -> u32
     requires ship { ship < length deck.now.ships }
-    requires whole { HasAllBerths deck.now case.now }
-    ensures { y_in deck.now case.now ship ≡ Some (pos result) }
+    requires whole { HasAllBerths deck.now choices.now }
+    ensures { y_in deck.now choices.now ship ≡ Some (pos result) }
 {
     // a deck keeps its limits
     prove!(!deck.ships.as_slice().is_empty());
-    match y_of(deck, case, ship as u32) {
+    match y_of(deck, choices, ship as u32) {
         Some(y) => small(y),
         None => unreachable!(),
     }
@@ -84,44 +81,44 @@ fn y_at(deck: &Deck, case: &BerthCase, ship: u8) -> u32
 
 // A ship's berth.
 #[tactic(auto, using(crate::proofs::WholeLemmas::berth_decided))]
-fn berth_at(deck: &Deck, case: &BerthCase, ship: u8) -> Berth
+fn berth_at(deck: &Deck, choices: &[Choice], ship: u8) -> Berth
     requires ship { ship < length deck.now.ships }
-    requires whole { HasAllBerths deck.now case.now }
-    ensures { told_berth (Some result) ≡ berth_in case.now ship }
+    requires whole { HasAllBerths deck.now choices.now }
+    ensures { Some result ≡ berth_in choices.now ship }
 {
-    match berth_of(case, ship as u32) {
+    match berth_of(choices, ship as u32) {
         Some(berth) => berth,
         None => unreachable!(),
     }
 }
 
 // The spot of a ship.
-fn spot_of(deck: &Deck, case: &BerthCase, values: &[i64], ship: u8) -> Spot
+fn spot_of(deck: &Deck, choices: &[Choice], values: &[i64], ship: u8) -> Spot
     requires few { length deck.now.ships ≤ 8 }
     requires ship { ship < length deck.now.ships }
-    requires whole { HasAllBerths deck.now case.now }
+    requires whole { HasAllBerths deck.now choices.now }
     requires small { AreSmallValues deck.now values.now }
-    ensures { IsSpotOf deck.now case.now values.now ship result }
+    ensures { IsSpotOf deck.now choices.now values.now ship result }
 {
-    let berth = berth_at(deck, case, ship);
+    let berth = berth_at(deck, choices, ship);
     Spot {
         x: x_at(deck, values, ship),
-        y: y_at(deck, case, ship),
+        y: y_at(deck, choices, ship),
         rank: berth.rank,
         moor: berth.moor,
     }
 }
 
 /// The spots of all ships.
-pub(crate) fn spots_of(deck: &Deck, case: &BerthCase, values: &[i64]) -> Spots
-    requires whole { HasAllBerths deck.now case.now }
+pub(crate) fn spots_of(deck: &Deck, choices: &[Choice], values: &[i64]) -> Spots
+    requires whole { HasAllBerths deck.now choices.now }
     requires small { AreSmallValues deck.now values.now }
-    ensures { AreSpotsSoFar deck.now case.now values.now (length deck.now.ships) result }
+    ensures { AreSpotsSoFar deck.now choices.now values.now (length deck.now.ships) result }
 {
     prove!(deck.ships.as_slice().len() <= 8);
     let mut spots = Spots::new();
     for ship in 0..deck.ships.as_slice().len() as u8 {
-        spots.push(spot_of(deck, case, values, ship));
+        spots.push(spot_of(deck, choices, values, ship));
     }
     spots
 }

@@ -4,7 +4,7 @@ ghost use Rattle.book_certificate.specs.Certified.{cert_cut};
 
 use book_core::Book;
 use certificate_parts::{CertCut, CertCuts};
-use place_refute::Cut;
+use deck_cuts::Cut;
 use std::alloc::{AllocError, Global};
 
 // A cut as one of a certificate.

@@ -13,9 +13,9 @@ use crate::path::Path;
 use crate::stored_slot::StoredSlot;
 use crate::waiting::Waiting;
 use book_rules::{Entry, SlotState};
+use deck_cuts::Cut;
 use flow_bounds::Roster;
 use lock_model::Plan;
-use place_refute::Cut;
 use price_bound::Prices;
 use std::marker::Model;
 

@@ -4,7 +4,7 @@ ghost use Rattle.book_rules.specs.Shown.{are_first_cuts};
 ghost use Rattle.book_core.specs.Telling.{told_cut};
 
 use no_memory::NoMemory;
-use place_refute::Cut;
+use deck_cuts::Cut;
 use price_bound::{ChamberCut, same_cuts};
 use std::alloc::Global;
 use std::marker::Model;

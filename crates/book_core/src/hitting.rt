@@ -7,9 +7,9 @@ ghost use Rattle.book_rules.specs.Step.{hits_in};
 ghost use Rattle.book_core.specs.Hitting.{HitsLine};
 
 use crate::book::Book;
+use deck_cuts::{Cut, cut_hits};
 use lock_model::{Group, Instance};
 use master_branch::Node;
-use place_refute::{Cut, cut_hits};
 
 // Whether a cut hits a group of a chamber's line.
 fn hits_line(instance: &Instance, cut: &Cut, chamber: u8, line: &[Group]) -> bool

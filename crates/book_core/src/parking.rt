@@ -10,8 +10,8 @@ use crate::book::Book;
 use crate::decks::{deck_clashes, same_deck};
 use crate::reply::Reply;
 use book_rules::{Entry, SlotState};
+use deck_cuts::Hard;
 use lock_model::deck_of;
-use place_refute::Hard;
 
 impl Book {
     // Whether the deck of the named group of a held slot's node is the lent value's, and its turns are

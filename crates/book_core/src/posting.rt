@@ -13,10 +13,10 @@ use crate::decks::same_deck;
 use crate::growing::widen;
 use crate::reply::Reply;
 use book_rules::Entry;
+use deck_cuts::Cut;
 use lock_model::{Instance, deck_of};
 use mooring_rules::has_ships;
 use no_memory::NoMemory;
-use place_refute::Cut;
 
 // Whether the instance has all ships of a cut.
 fn has_its_ships(instance: &Instance, cut: &Cut) -> bool

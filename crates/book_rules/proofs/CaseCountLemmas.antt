@@ -14,7 +14,12 @@ use Rattle.lock_rules.specs.Arrival.{numbers_from}
 use Rattle.lock_rules.specs.Size.{turn_limit}
 use Rattle.lock_rules.proofs.LineLemmas.{length-numbers}
 use Rattle.refute_rules.specs.Values.{others}
-use Rattle.refute_rules.specs.Choices.{Berth, Lies, Decision, Choice, BerthOf, PairOf, options_of, berths_of, decisions}
+use Rattle.refute_rules.specs.declared.choices.Berth.{Berth}
+use Rattle.refute_rules.specs.declared.choices.Decision.{Decision}
+use Rattle.refute_rules.specs.declared.choices.Decision.TheVariants.{BerthOf, PairOf}
+use Rattle.refute_rules.specs.declared.choices.Choice.{Choice}
+use Rattle.refute_rules.specs.declared.choices.Choice.TheVariants.{Lies}
+use Rattle.refute_rules.specs.Choices.{options_of, berths_of, decisions}
 use Rattle.refute_rules.specs.Listing.{cases_from, AreThose}
 use Rattle.refute_rules.specs.Cases.{IsConsistent, IsHard, cases_of}
 

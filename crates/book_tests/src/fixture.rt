@@ -2,12 +2,13 @@
 
 use book_core::{Book, Case, open_book};
 use first_plan::singles_plan;
+use deck_cuts::{Cut, Quick, Refutation};
 use lock_model::{
     Chambers, Instance, Lockage, Lockages, Measures, Moor, Plan, Rank, ShipList, Ships, Spot,
     Spots, Way,
 };
 use mooring_rules::{first_unfit, judge_plan};
-use place_refute::{Cut, Quick, Refutation, make_cut};
+use place_refute::make_cut;
 use std::alloc::Global;
 use std::test::Fail;
 use worked_locks::{BASE, chamber, deck_of, one_chamber, pair, ship, two_ships};

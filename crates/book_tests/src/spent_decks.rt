@@ -6,8 +6,8 @@ ghost use Rattle.refute_rules.specs.Spots.{IsSpotHard};
 
 use book_core::Book;
 use chamber_place::{Placed, place};
+use deck_cuts::{Hard, HardSpots};
 use lock_model::{Deck, deck_of};
-use place_refute::{Hard, HardSpots};
 use spot_place::{SpotPlaced, place_by_spots};
 use std::alloc::Global;
 use std::test::Fail;

@@ -2,7 +2,8 @@
 use Rattle.std.proofs.Common.{◌≡◌, ℕ, ◌+◌, ◌≤◌, List, [], ◌∷◌, ◌++◌, length, take, flat_map, All, inl, inr, refl, sym, ap, ◌∙◌, subst, arith, length-append, append-nil}
 use Rattle.std.proofs.lemmas.List.Elements.{All-from_recursion}
 use Rattle.list_laws.proofs.ByRecursion.{all-append}
-use Rattle.refute_rules.specs.Choices.{Decision, Choice}
+use Rattle.refute_rules.specs.declared.choices.Decision.{Decision}
+use Rattle.refute_rules.specs.declared.choices.Choice.{Choice}
 use Rattle.refute_rules.specs.Listing.{AreThose, cases_from, IsFirstWithin, HasMore, HasNoneOf}
 use Rattle.case_search.specs.Counts.{NoneIn, FirstIn, MoreIn}
 use Rattle.case_search.proofs.ListLemmas.{append-assoc, take-front}

@@ -1,6 +1,6 @@
 -- The visit of the empty case is the search of all cases.
 use Rattle.std.proofs.Common.{◌≡◌, ℕ, ◌≤◌, List, [], ◌++◌, sym, ap, ◌∙◌, subst, append-nil}
-use Rattle.refute_rules.specs.Choices.{Choice}
+use Rattle.refute_rules.specs.declared.choices.Choice.{Choice}
 use Rattle.refute_rules.specs.Listing.{cases_from, IsFirstWithin, HasMore}
 use Rattle.refute_rules.specs.Trees.{IsTree}
 use Rattle.case_search.specs.Rules.{Rules, IsTurn, cases_under, left_of}

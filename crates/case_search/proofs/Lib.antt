@@ -1,4 +1,3 @@
-pub mod BerthLemmas
 pub mod ListLemmas
 pub mod CountLemmas
 pub mod TurnLemmas

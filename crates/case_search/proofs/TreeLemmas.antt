@@ -1,6 +1,7 @@
 -- Trees whose faults have other names.
 use Rattle.std.proofs.Common.{◌≡◌, ℕ, List, [], ◌∷◌, ◌++◌, inl, inr, ap, ◌∙◌}
-use Rattle.refute_rules.specs.Choices.{Decision, Choice}
+use Rattle.refute_rules.specs.declared.choices.Decision.{Decision}
+use Rattle.refute_rules.specs.declared.choices.Choice.{Choice}
 use Rattle.refute_rules.specs.Trees.{AreInOrder, IsLeaf, IsTree}
 
 in_order-weaker : {X M : Type 0} (A B : X → List M → List M → Type 0) → ((x : X) (marks rest : List M) → A x marks rest → B x marks rest) → (xs : List X) (marks rest : List M) → AreInOrder A xs marks rest → AreInOrder B xs marks rest

@@ -1,6 +1,7 @@
 -- Which cases take a turn.
 use Rattle.std.proofs.Common.{◌≡◌, ℕ, ◌+◌, ◌<◌, Bool, true, false, List, [], ◌∷◌, ◌++◌, length, flat_map, cond, inl, refl, sym, subst, arith}
-use Rattle.refute_rules.specs.Choices.{Decision, Choice}
+use Rattle.refute_rules.specs.declared.choices.Decision.{Decision}
+use Rattle.refute_rules.specs.declared.choices.Choice.{Choice}
 use Rattle.refute_rules.specs.Listing.{AreThose, cases_from}
 use Rattle.case_search.specs.Rules.{Rules, AreSoundRules, IsReached, TakesTurn, left_of, options_first, options_at, cases_under}
 use Rattle.case_search.specs.Visits.{after_first, cases_below}

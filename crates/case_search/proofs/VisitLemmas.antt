@@ -3,7 +3,9 @@ use Rattle.std.proofs.Common.{◌≡◌, ℕ, suc, ◌+◌, ◌-◌, ◌≤◌, 
 use Rattle.std.proofs.lemmas.List.Concat.{flat_map-append}
 use Rattle.list_laws.proofs.Counts.{one-at_most}
 use Rattle.list_laws.proofs.Lists.{drop-next, length-push}
-use Rattle.refute_rules.specs.Choices.{Decision, Choice, Before}
+use Rattle.refute_rules.specs.declared.choices.Decision.{Decision}
+use Rattle.refute_rules.specs.declared.choices.Choice.{Choice}
+use Rattle.refute_rules.specs.declared.choices.Choice.TheVariants.{Before}
 use Rattle.refute_rules.specs.Listing.{cases_from}
 use Rattle.refute_rules.specs.Trees.{AreInOrder, IsLeaf, IsTree}
 use Rattle.case_search.specs.Rules.{Rules, AreSoundRules, IsReached, TakesTurn, IsTurn, left_of, options_first, options_at, with_option, cases_under}

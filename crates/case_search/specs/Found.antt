@@ -1,6 +1,6 @@
 -- What the search of all cases gives.
 use Rattle.std.specs.Prelude.{ℕ, List, []}
-use Rattle.refute_rules.specs.Choices.{Choice}
+use Rattle.refute_rules.specs.declared.choices.Choice.{Choice}
 use Rattle.refute_rules.specs.Listing.{cases_from, IsFirstWithin, HasNoneOf, HasMore}
 use Rattle.refute_rules.specs.Trees.{IsTree}
 use Rattle.case_search.specs.Rules.{Rules, IsTurn}

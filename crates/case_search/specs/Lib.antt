@@ -1,4 +1,3 @@
-pub mod Berths
 pub mod Rules
 pub mod Counts
 pub mod Visits

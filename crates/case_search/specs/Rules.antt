@@ -1,6 +1,8 @@
 -- What a search through cases goes by, and what it asks of it.
 use Rattle.std.specs.Prelude.{ℕ, ◌≡◌, ◌<◌, Bool, true, false, List, [], ◌∷◌, ◌++◌, length, take, drop, slice_index_or}
-use Rattle.refute_rules.specs.Choices.{Decision, Choice, Before}
+use Rattle.refute_rules.specs.declared.choices.Decision.{Decision}
+use Rattle.refute_rules.specs.declared.choices.Choice.{Choice}
+use Rattle.refute_rules.specs.declared.choices.Choice.TheVariants.{Before}
 use Rattle.refute_rules.specs.Listing.{cases_from}
 
 -- The decisions in order and their options; what a fault of a case is, and its numbers in a tree; which cases are good, that is without a fault,

@@ -1,6 +1,7 @@
 -- What the visit of a case does: `a` turns were used before it and `b` after it.
 use Rattle.std.specs.Prelude.{ℕ, ◌≡◌, ◌≤◌, List, [], ◌∷◌, ◌++◌, take, flat_map}
-use Rattle.refute_rules.specs.Choices.{Decision, Choice}
+use Rattle.refute_rules.specs.declared.choices.Decision.{Decision}
+use Rattle.refute_rules.specs.declared.choices.Choice.{Choice}
 use Rattle.refute_rules.specs.Listing.{cases_from}
 use Rattle.refute_rules.specs.Trees.{AreInOrder, IsTree}
 use Rattle.case_search.specs.Rules.{Rules, IsTurn, left_of, options_at, cases_under}

@@ -7,7 +7,7 @@ use std::alloc::AllocError;
 pub trait Track {
     ghost use Rattle.std.specs.Prelude.{◌≡◌, ◌+◌, ◌<◌, ◌↔◌, IsTrue, List, [], ◌∷◌, ◌++◌, length, OnOk, MatchOption};
     ghost use Rattle.lock_model.specs.Deck.{Deck};
-    ghost use Rattle.refute_rules.specs.Choices.{Choice};
+    ghost use Rattle.refute_rules.specs.declared.choices.Choice.{Choice};
     ghost use Rattle.case_search.specs.Rules.{Rules, AreSoundRules, options_at, with_option};
 
     /// A fault of a case.

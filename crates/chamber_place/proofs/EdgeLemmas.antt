@@ -13,16 +13,15 @@ use Rattle.lock_model.specs.declared.placement.Moor.TheVariants.{Quay, Ship}
 use Rattle.lock_rules.specs.Arrival.{numbers_from}
 use Rattle.diff_rules.specs.declared.edges.Edge.{Edge}
 use Rattle.diff_rules.specs.Differences.{IsSystem, IsPositiveCycle, no_edge}
-use Rattle.refute_rules.specs.Choices.{Decision as Told, decisions}
+use Rattle.refute_rules.specs.declared.choices.Decision.{Decision}
+use Rattle.refute_rules.specs.Choices.{decisions}
 use Rattle.refute_rules.specs.Edges.{x_var, y_var, edge, ship_edges, berth_edges, choice_edges, case_edges}
 use Rattle.refute_rules.specs.Cases.{vars_of}
 use Rattle.list_laws.specs.Among.{IsAmong}
 use Rattle.refute_rules.proofs.Among.{IsAmong-left, IsAmong-flat_map, IsAmong-numbers, all-flat_map, all-weaker, all-numbers}
 use Rattle.lock_rules.proofs.TreeLemmas.{contains-among}
-use Rattle.chamber_place.specs.Picks.{choice_of, choices_of, IsMoorOfOthers, IsKnownPick}
+use Rattle.deck_cases.specs.Asked.{IsMoorOfOthers, IsOfDeck}
 use Rattle.chamber_place.specs.OnItsWay.{most_edges, AreChosen}
-use Rattle.chamber_place.specs.declared.picks.Pick.{Pick}
-use Rattle.chamber_place.specs.declared.picks.Pick.TheVariants.{Lies, Before, Below}
 use Rattle.lock_rules.proofs.LineLemmas.{length-numbers}
 
 -- its ends are variables and differ, and its weight is within the limits
@@ -101,7 +100,7 @@ module _ (d : Deck) (limits : IsDeck d) where
         ),
       )
 
-  pick-good : (p : Pick) → IsKnownPick d p → AllByRecursion Good (choice_edges d (choice_of p))
+  pick-good : (p : Choice) → IsOfDeck d p → AllByRecursion Good (choice_edges d p)
   pick-good (Lies i b) k = berth-good i b.rank b.moor k.0 k.1
   pick-good (Before i j) k =
       let long = (limits.sizes i no_size k.0).long in
@@ -118,24 +117,24 @@ module _ (d : Deck) (limits : IsDeck d) where
       let n = k.2 in
       (record { from = omega (arith, i_in); to = omega (arith, j_in); low = omega (arith, ints, wide.1, side); high = omega (arith, ints, wide.1, side); differ = λ e. n (omega (arith, e)) }, tt)
 
-  picks-good : (ds : List Told) (ps : List Pick) → AreChosen d ds ps → AllByRecursion Good (flat_map (choice_edges d) (choices_of ps))
+  picks-good : (ds : List Decision) (ps : List Choice) → AreChosen d ds ps → AllByRecursion Good (flat_map (choice_edges d) ps)
   picks-good ds [] chosen = tt
   picks-good [] (p ∷ ps) chosen = absurd chosen
-  picks-good (x ∷ ds) (p ∷ ps) chosen = all-append Good (choice_edges d (choice_of p)) (flat_map (choice_edges d) (choices_of ps)) (pick-good p chosen.0) (picks-good ds ps chosen.2)
+  picks-good (x ∷ ds) (p ∷ ps) chosen = all-append Good (choice_edges d p) (flat_map (choice_edges d) ps) (pick-good p chosen.0) (picks-good ds ps chosen.2)
 
-  case-good : (ps : List Pick) → AreChosen d (decisions (length d.ships)) ps → AllByRecursion Good (case_edges d (choices_of ps))
+  case-good : (ps : List Choice) → AreChosen d (decisions (length d.ships)) ps → AllByRecursion Good (case_edges d ps)
   case-good ps chosen =
-      all-append Good (flat_map (ship_edges d) (numbers_from 0 (length d.ships))) (flat_map (choice_edges d) (choices_of ps))
+      all-append Good (flat_map (ship_edges d) (numbers_from 0 (length d.ships))) (flat_map (choice_edges d) ps)
       (all-flat_map Good (ship_edges d) (numbers_from 0 (length d.ships)) (all-weaker (λ k. (0 ≤ k) × (k < 0 + length d.ships)) (λ k. AllByRecursion Good (ship_edges d k)) (λ k b. ship-good k (omega (arith, b.1))) (numbers_from 0 (length d.ships)) (all-numbers 0 (length d.ships))))
       (picks-good (decisions (length d.ships)) ps chosen)
 
-  ship-among : (ps : List Pick) (i : ℕ) (e : Edge) → i < length d.ships → IsAmong (ship_edges d i) e → Contains (case_edges d (choices_of ps)) e
+  ship-among : (ps : List Choice) (i : ℕ) (e : Edge) → i < length d.ships → IsAmong (ship_edges d i) e → Contains (case_edges d ps) e
   ship-among ps i e h a =
-      contains-among (case_edges d (choices_of ps)) e
-      (IsAmong-left (flat_map (ship_edges d) (numbers_from 0 (length d.ships))) (flat_map (choice_edges d) (choices_of ps)) e
+      contains-among (case_edges d ps) e
+      (IsAmong-left (flat_map (ship_edges d) (numbers_from 0 (length d.ships))) (flat_map (choice_edges d) ps) e
       (IsAmong-flat_map (ship_edges d) (numbers_from 0 (length d.ships)) i e (IsAmong-numbers 0 (length d.ships) i (omega arith) (omega (arith, h))) a))
 
-  reached : (ps : List Pick) (v : ℕ) → 1 ≤ v → v < vars_of d → (e : Edge) × Contains (case_edges d (choices_of ps)) e × (e.from ≡ 0) × (e.to ≡ v) × (pos 0 ≤ℤ e.weight)
+  reached : (ps : List Choice) (v : ℕ) → 1 ≤ v → v < vars_of d → (e : Edge) × Contains (case_edges d ps) e × (e.from ≡ 0) × (e.to ≡ v) × (pos 0 ≤ℤ e.weight)
   reached ps v some h = elim (eqb_tells (v % 2) 1) [
     | inl y ↦
         let i : ℕ = v / 2 in
@@ -148,23 +147,23 @@ module _ (d : Deck) (limits : IsDeck d) where
   ]
 
   -- the edges of a case are a system
-  pub case-system : (ps : List Pick) → AreChosen d (decisions (length d.ships)) ps → IsSystem (case_edges d (choices_of ps)) (vars_of d)
+  pub case-system : (ps : List Choice) → AreChosen d (decisions (length d.ships)) ps → IsSystem (case_edges d ps) (vars_of d)
   case-system ps chosen =
       let few = limits.count.1 in
       let good = case-good ps chosen in
       record {
         some = omega arith;
         few = omega (arith, few);
-        ends = All-from_recursion (λ (e : Edge). (e.from < vars_of d) × (e.to < vars_of d)) (case_edges d (choices_of ps)) (all-weaker Good (λ (e : Edge). (e.from < vars_of d) × (e.to < vars_of d)) (λ e g. (g.from, g.to)) (case_edges d (choices_of ps)) good);
-        weights = All-from_recursion (λ (e : Edge). (negsuc 999999 ≤ℤ e.weight) × (e.weight ≤ℤ pos 1000000)) (case_edges d (choices_of ps)) (all-weaker Good (λ (e : Edge). (negsuc 999999 ≤ℤ e.weight) × (e.weight ≤ℤ pos 1000000)) (λ e g. (g.low, g.high)) (case_edges d (choices_of ps)) good);
+        ends = All-from_recursion (λ (e : Edge). (e.from < vars_of d) × (e.to < vars_of d)) (case_edges d ps) (all-weaker Good (λ (e : Edge). (e.from < vars_of d) × (e.to < vars_of d)) (λ e g. (g.from, g.to)) (case_edges d ps) good);
+        weights = All-from_recursion (λ (e : Edge). (negsuc 999999 ≤ℤ e.weight) × (e.weight ≤ℤ pos 1000000)) (case_edges d ps) (all-weaker Good (λ (e : Edge). (negsuc 999999 ≤ℤ e.weight) × (e.weight ≤ℤ pos 1000000)) (λ e g. (g.low, g.high)) (case_edges d ps) good);
         reached = reached ps;
       }
 
   -- no edge leads from a variable to itself, so a closed walk has two edges or more
-  pub case-walk : (ps : List Pick) → AreChosen d (decisions (length d.ships)) ps → (numbers : List ℕ) → IsPositiveCycle (case_edges d (choices_of ps)) numbers → 1 < length numbers
+  pub case-walk : (ps : List Choice) → AreChosen d (decisions (length d.ships)) ps → (numbers : List ℕ) → IsPositiveCycle (case_edges d ps) numbers → 1 < length numbers
   case-walk ps chosen [] cycle = absurd (let positive = cycle.positive in omega (arith, ints, positive))
   case-walk ps chosen (k ∷ []) cycle =
-      let differ = All-from_recursion (λ (e : Edge). e.from ≢ e.to) (case_edges d (choices_of ps)) (all-weaker Good (λ (e : Edge). e.from ≢ e.to) (λ e g. g.differ) (case_edges d (choices_of ps)) (case-good ps chosen)) in
+      let differ = All-from_recursion (λ (e : Edge). e.from ≢ e.to) (case_edges d ps) (all-weaker Good (λ (e : Edge). e.from ≢ e.to) (λ e g. g.differ) (case_edges d ps) (case-good ps chosen)) in
       absurd (differ k no_edge cycle.closed.0 (cycle.closed.1 ∙ sym cycle.closed.2))
   case-walk ps chosen (k ∷ j ∷ ks) cycle = omega arith
 
@@ -174,15 +173,15 @@ module _ (d : Deck) where
   ships-length [] = refl
   ships-length (k ∷ ks) = let rest = ships-length ks in omega (arith, rest)
 
-  abbrev most_sum : List Told → ℕ
+  abbrev most_sum : List Decision → ℕ
   most_sum [] = 0
   most_sum (x ∷ ds) = most_edges x + most_sum ds
 
-  chosen-length : (ds : List Told) (ps : List Pick) → AreChosen d ds ps → length (flat_map (choice_edges d) (choices_of ps)) ≤ most_sum ds
+  chosen-length : (ds : List Decision) (ps : List Choice) → AreChosen d ds ps → length (flat_map (choice_edges d) ps) ≤ most_sum ds
   chosen-length ds [] chosen = omega arith
   chosen-length [] (p ∷ ps) chosen = absurd chosen
   chosen-length (x ∷ ds) (p ∷ ps) chosen =
-      let l = length-append (choice_edges d (choice_of p)) (flat_map (choice_edges d) (choices_of ps)) in
+      let l = length-append (choice_edges d p) (flat_map (choice_edges d) ps) in
       let here = chosen.1 in
       let rest = chosen-length ds ps chosen.2 in
       omega (arith, l, here, rest)
@@ -199,9 +198,9 @@ module _ (d : Deck) where
   most-few (suc (suc (suc (suc (suc (suc (suc (suc zero)))))))) h = omega arith
   most-few (suc (suc (suc (suc (suc (suc (suc (suc (suc n))))))))) h = absurd (omega (arith, h))
 
-  pub case-edges-few : (ps : List Pick) → length d.ships ≤ 8 → AreChosen d (decisions (length d.ships)) ps → length (case_edges d (choices_of ps)) ≤ 92
+  pub case-edges-few : (ps : List Choice) → length d.ships ≤ 8 → AreChosen d (decisions (length d.ships)) ps → length (case_edges d ps) ≤ 92
   case-edges-few ps few chosen =
-      let a = length-append (flat_map (ship_edges d) (numbers_from 0 (length d.ships))) (flat_map (choice_edges d) (choices_of ps)) in
+      let a = length-append (flat_map (ship_edges d) (numbers_from 0 (length d.ships))) (flat_map (choice_edges d) ps) in
       let s = ships-length (numbers_from 0 (length d.ships)) in
       let n = length-numbers 0 (length d.ships) in
       let c = chosen-length (decisions (length d.ships)) ps chosen in

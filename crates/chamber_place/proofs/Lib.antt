@@ -1,4 +1,3 @@
-pub mod OptionLemmas
 pub mod EdgeLemmas
 pub mod WayLemmas
 pub mod EnterLemmas

@@ -6,7 +6,11 @@ use Rattle.lock_model.specs.declared.placement.Spot.{Spot}
 use Rattle.lock_rules.specs.Arrival.{numbers_from}
 use Rattle.diff_system.specs.PathTree.{PathTree}
 use Rattle.refute_rules.specs.Reasons.{HasNoReason}
-use Rattle.refute_rules.specs.Choices.{BerthOf, PairOf, Choice, Lies, Before, Below, Stands, Berth, berths_of, options_of, decisions}
+use Rattle.refute_rules.specs.declared.choices.Berth.{Berth}
+use Rattle.refute_rules.specs.declared.choices.Decision.TheVariants.{BerthOf, PairOf}
+use Rattle.refute_rules.specs.declared.choices.Choice.{Choice}
+use Rattle.refute_rules.specs.declared.choices.Choice.TheVariants.{Lies, Before, Below, LiesAt}
+use Rattle.refute_rules.specs.Choices.{berths_of, options_of, decisions}
 use Rattle.refute_rules.specs.Decided.{berth_in}
 use Rattle.refute_rules.specs.Listing.{IsFirstWithin, HasMore}
 use Rattle.refute_rules.specs.Cases.{IsConsistent, IsWhole, IsHard, IsCaseFault, case_fault_numbers, AreSpotsOf, cases_of}
@@ -47,7 +51,7 @@ among-decided (Lies j a ∷ cs) i b (inr h) = elim (eqb_tells j i) [
 ]
 among-decided (Before j k ∷ cs) i b (inr h) = among-decided cs i b h
 among-decided (Below j k ∷ cs) i b (inr h) = among-decided cs i b h
-among-decided (Stands j v ∷ cs) i b (inr h) = among-decided cs i b h
+among-decided (LiesAt j v ∷ cs) i b (inr h) = among-decided cs i b h
 
 module _ (d : Deck) (turns : ℕ) where
   pub first-among : (case : List Choice) → IsFirstWithin (IsConsistent d) (IsWhole d) turns (cases_of d) case → IsAmong (cases_of d) case

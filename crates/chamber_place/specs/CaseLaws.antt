@@ -10,7 +10,9 @@ use Rattle.lock_model.specs.Deck.{Deck}
 use Rattle.lock_rules.specs.Arrival.{numbers_from}
 use Rattle.diff_rules.specs.Differences.{Obeys}
 use Rattle.diff_rules.proofs.CycleLemmas.{no_solution}
-use Rattle.refute_rules.specs.Choices.{Choice, Lies, Before, Below, Stands, Berth}
+use Rattle.refute_rules.specs.declared.choices.Berth.{Berth}
+use Rattle.refute_rules.specs.declared.choices.Choice.{Choice}
+use Rattle.refute_rules.specs.declared.choices.Choice.TheVariants.{Lies, Before, Below, LiesAt}
 use Rattle.refute_rules.specs.Edges.{case_edges, choice_edges, ship_edges}
 use Rattle.refute_rules.specs.Decided.{berth_in}
 use Rattle.refute_rules.specs.Cases.{IsConsistent, CaseFault, OtherRank, Walk, IsCaseFault, vars_of}
@@ -27,7 +29,7 @@ berth-kept (Lies j c ∷ cs) more i b e = (elim (nat_eq j i) as (λ t. cond t (S
 ]) e
 berth-kept (Before j k ∷ cs) more i b e = berth-kept cs more i b e
 berth-kept (Below j k ∷ cs) more i b e = berth-kept cs more i b e
-berth-kept (Stands j v ∷ cs) more i b e = berth-kept cs more i b e
+berth-kept (LiesAt j v ∷ cs) more i b e = berth-kept cs more i b e
 
 module _ (d : Deck) where
   pub consistent-shorter : (case more : List Choice) → IsConsistent d (case ++ more) → IsConsistent d case

@@ -1,4 +1,3 @@
-pub mod Picks
 pub mod Faults
 pub mod OnItsWay
 pub mod CaseLaws

@@ -7,12 +7,12 @@ use Rattle.refute_rules.specs.declared.refutation.Quick.{Quick}
 use Rattle.refute_rules.specs.declared.refutation.Refutation.{Refutation}
 use Rattle.refute_rules.specs.declared.refutation.Refutation.TheVariants as refutation
 use Rattle.refute_rules.specs.Reasons.{Holds, HasNoReason, IsFirstReason}
-use Rattle.refute_rules.specs.Choices.{Choice}
+use Rattle.refute_rules.specs.declared.choices.Choice.{Choice}
 use Rattle.refute_rules.specs.Listing.{IsFirstWithin, HasNoneOf}
 use Rattle.refute_rules.specs.Cases.{IsConsistent, IsWhole, IsHard, AreSpotsOf, cases_of}
 use Rattle.refute_rules.specs.Trees.{IsCaseTree}
 use Rattle.refute_rules.specs.Refutes.{IsRefuted}
-use Rattle.place_refute.specs.Tried.{Tried}
+use Rattle.deck_cuts.specs.Tried.{Tried}
 use Rattle.chamber_place.specs.declared.placing.Placed.{Placed}
 use Rattle.chamber_place.specs.declared.placing.Placed.TheVariants.{Fits, Refuted, Spent}
 

@@ -3,7 +3,8 @@ use Rattle.std.specs.Prelude.{ℕ, ◌≡◌, ◌<◌, ℤ, pos, List, length, S
 use Rattle.lock_model.specs.Placement.{spot_at}
 use Rattle.lock_model.specs.declared.placement.Spot.{Spot}
 use Rattle.diff_rules.specs.Differences.{value_at}
-use Rattle.refute_rules.specs.Choices.{Berth, Choice}
+use Rattle.refute_rules.specs.declared.choices.Berth.{Berth}
+use Rattle.refute_rules.specs.declared.choices.Choice.{Choice}
 use Rattle.refute_rules.specs.Edges.{x_var, y_var}
 use Rattle.refute_rules.specs.Decided.{berth_in}
 

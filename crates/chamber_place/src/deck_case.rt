@@ -1,13 +1,13 @@
 //! The case of a deck that the search holds.
 
-use crate::decisions::{Decision, decisions_about, option_at, option_count};
+use crate::edges::{add_edges, edge_count};
 use crate::faults::{CaseFault, write_fault};
-use crate::names::ship_count;
-use crate::picks::{Pick, add_edges, edge_count};
+use crate::parts::ship_count;
 use crate::solving::{first_edges, solve, solve_first};
 use crate::spotting::spots_of;
 use arrayvec::ArrayVec;
 use case_search::Track;
+use deck_cases::{Choice, Decisions, case_decisions, option_at, option_count};
 use diff_system::{Edges, LongestPaths};
 use lock_model::{Deck, Spots};
 use refute_rules::Marks;
@@ -21,22 +21,21 @@ use std::marker::Model;
 #[derive(Drop)]
 pub(crate) struct DeckCase {
     deck: Deck,
-    decided: ArrayVec<Decision, 36>,
-    picks: ArrayVec<Pick, 36>,
+    decisions: Decisions,
+    choices: ArrayVec<Choice, 36>,
     edges: Edges,
     paths: ArrayVec<LongestPaths, 37>,
     fault: Option<CaseFault>,
 }
 
 impl Model for DeckCase {
-    ghost use Rattle.chamber_place.specs.Picks.{choices_of};
     ghost use Rattle.chamber_place.specs.OnItsWay.{Progress, IsOnItsWay};
 
     ghost Value = { Progress };
 
-    ghost view = { λ a. record { deck = a.deck; case = choices_of a.picks.items } };
+    ghost view = { λ a. record { deck = a.deck; case = a.choices.items } };
 
-    ghost invariant = { λ a. IsOnItsWay a.deck a.decided.items a.picks.items a.edges a.paths.items a.fault };
+    ghost invariant = { λ a. IsOnItsWay a.deck a.decisions a.choices.items a.edges a.paths.items a.fault };
 }
 
 impl DeckCase {
@@ -48,7 +47,7 @@ impl DeckCase {
         ensures { result ≡ record { deck = deck.now; case = [] } }
     {
         let deck = deck.copy();
-        let decided = decisions_about(deck.ships.as_slice().len() as u8);
+        let decisions = case_decisions(deck.ships.as_slice().len() as u8);
         let edges = first_edges(&deck);
         let mut paths = ArrayVec::new();
         match solve_first(&deck, &edges) {
@@ -56,8 +55,8 @@ impl DeckCase {
                 paths.push(first);
                 DeckCase {
                     deck,
-                    decided,
-                    picks: ArrayVec::new(),
+                    decisions,
+                    choices: ArrayVec::new(),
                     edges,
                     paths,
                     fault: None,
@@ -65,8 +64,8 @@ impl DeckCase {
             }
             Err(fault) => DeckCase {
                 deck,
-                decided,
-                picks: ArrayVec::new(),
+                decisions,
+                choices: ArrayVec::new(),
                 edges,
                 paths,
                 fault: Some(fault),
@@ -87,9 +86,9 @@ impl DeckCase {
         requires decided { (i : ℕ) → i < length self.now.deck.ships → IsBerthDecided self.now.case i }
         ensures { AreSpotsOf self.now.deck self.now.case result }
     {
-        let picks = self.picks.as_slice();
-        let paths = &self.paths.as_slice()[picks.len()];
-        spots_of(picks, paths.values().as_slice(), ship_count(&self.deck))
+        let choices = self.choices.as_slice();
+        let paths = &self.paths.as_slice()[choices.len()];
+        spots_of(choices, paths.values().as_slice(), ship_count(&self.deck))
     }
 }
 
@@ -121,27 +120,29 @@ impl Track for DeckCase {
     }
 
     fn is_whole(&self) -> bool {
-        self.picks.len() == self.decided.len()
+        self.choices.len() == self.decisions.len()
     }
 
     fn count(&self) -> u32 {
-        let taken = self.picks.len();
-        if taken < self.decided.len() {
-            option_count(&self.deck, self.decided.as_slice()[taken])
+        let taken = self.choices.len();
+        if taken < self.decisions.len() {
+            let decision = self.decisions.at(taken);
+            option_count(&self.deck, &[], decision) as u32
         } else {
             0
         }
     }
 
     fn enter(&mut self, option: u32) {
-        let taken = self.picks.len();
-        let last = option_at(&self.deck, self.decided.as_slice()[taken], option);
+        let taken = self.choices.len();
+        let decision = self.decisions.at(taken);
+        let last = option_at(&self.deck, &[], decision, option as usize);
         let known = self.edges.as_slice().len();
         add_edges(&self.deck, last, &mut self.edges);
-        self.picks.push(last);
+        self.choices.push(last);
         let solved = solve(
             &self.deck,
-            self.picks.as_slice(),
+            self.choices.as_slice(),
             last,
             &self.edges,
             known,
@@ -154,10 +155,10 @@ impl Track for DeckCase {
     }
 
     fn leave(&mut self) {
-        let left = self.picks.len() - 1;
-        let count = edge_count(&self.deck, &self.picks.as_slice()[left]);
+        let left = self.choices.len() - 1;
+        let count = edge_count(&self.deck, &self.choices.as_slice()[left]);
         self.edges.truncate(self.edges.as_slice().len() - count);
-        self.picks.truncate(left);
+        self.choices.truncate(left);
         self.paths.truncate(left + 1);
         self.fault = None;
     }

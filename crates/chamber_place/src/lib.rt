@@ -1,4 +1,4 @@
-//! The placer: where the ships of a deck lie, or why they don't fit.
+//! The placer by berths and relations: where the ships of a deck lie, or why they don't fit.
 //!
 //! - `place` is exact to its turns: the first quick reason; the least solution of the first whole
 //!   case, which is legal; a case tree that refutes all cases; or that the turns were too few.
@@ -13,12 +13,10 @@
 //! before. `specs/OnItsWay` says what it keeps.
 #![tactic(auto)]
 
-mod decisions;
 mod deck_case;
+mod edges;
 mod faults;
-mod names;
 mod parts;
-mod picks;
 mod placing;
 mod ranks;
 mod shrinking;

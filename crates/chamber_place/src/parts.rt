@@ -9,6 +9,15 @@ ghost use Rattle.chamber_place.specs.Parts.{part_of};
 
 use lock_model::{Deck, Ships, Size, Sizes};
 
+/// How many ships the deck has.
+pub(crate) fn ship_count(deck: &Deck) -> u8
+    ensures value { result ≡ length deck.now.ships }
+    ensures some { 1 ≤ result }
+    ensures few { result ≤ 8 }
+{
+    deck.ships.as_slice().len() as u8
+}
+
 // The sizes at these places.
 fn sizes_at(sizes: &[Size], places: &[u8]) -> Sizes
     requires few { length places.now ≤ 8 }

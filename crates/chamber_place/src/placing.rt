@@ -5,9 +5,9 @@ ghost use Rattle.chamber_place.specs.Placing.{IsPlaced, RefutesExactly, SpendsEx
 
 use crate::deck_case::DeckCase;
 use case_search::{Found, search};
+use deck_cuts::{Hard, hard};
 use lock_model::{Deck, Spots};
 use no_memory::NoMemory;
-use place_refute::{Hard, hard};
 use refute_rules::Refutation;
 use ship_shapes::find_reason;
 use std::alloc::Global;

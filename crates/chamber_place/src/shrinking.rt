@@ -8,12 +8,11 @@ ghost use Rattle.refute_rules.specs.Reasons.{AreSome};
 ghost use Rattle.chamber_place.specs.Placing.{PlaceRefutes};
 ghost use Rattle.chamber_place.specs.Parts.{part_of, IsLeast, IsShrunk, IsPart, IsRefutedPart, IsSmaller, IsSmallerPart, BeginsWithClash};
 
-use crate::names::ship_count;
-use crate::parts::{all_places, part_of, ships_at, without};
+use crate::parts::{all_places, part_of, ship_count, ships_at, without};
 use crate::placing::{Placed, place};
+use deck_cuts::{Cut, known_cut};
 use lock_model::{Deck, Ships};
 use no_memory::NoMemory;
-use place_refute::{Cut, known_cut};
 use refute_rules::{Quick, Refutation};
 use std::alloc::Global;
 

@@ -3,18 +3,17 @@ ghost use Rattle.std.specs.Prelude.{ℕ, ◌≡◌, ◌≤◌, ◌<◌, ◌+◌,
 ghost use Rattle.lock_model.specs.Deck.{IsDeck};
 ghost use Rattle.diff_system.specs.PathTree.{AreLongest};
 ghost use Rattle.refute_rules.specs.Choices.{decisions};
-ghost use Rattle.refute_rules.specs.Edges.{case_edges, ship_edges};
+ghost use Rattle.refute_rules.specs.Edges.{case_edges};
 ghost use Rattle.refute_rules.specs.Decided.{HasOtherRank};
 ghost use Rattle.refute_rules.specs.Cases.{IsCaseFault, vars_of};
-ghost use Rattle.chamber_place.specs.Picks.{choices_of};
 ghost use Rattle.chamber_place.specs.Faults.{fault_of};
 ghost use Rattle.chamber_place.specs.OnItsWay.{AreChosen, IsSettled};
 
+use crate::edges::add_ship;
 use crate::faults::CaseFault;
-use crate::names::{back_across, back_along, least_along, x_var, y_var};
-use crate::picks::{Pick, add_four};
 use crate::ranks::first_other_rank;
-use diff_system::{Edge, Edges, LongestPaths};
+use deck_cases::Choice;
+use diff_system::{Edges, LongestPaths};
 use lock_model::Deck;
 
 // How many variables a deck has: the origin, and x and y of each ship.
@@ -27,73 +26,44 @@ fn var_count(deck: &Deck) -> u8
 
 // The first ship whose host has the other rank, once the last option is taken. Only a berth can
 // bring this about.
-fn new_other_rank(deck: &Deck, picks: &[Pick], last: Pick) -> Option<u8>
-    requires chosen { AreChosen deck.now (decisions (length deck.now.ships)) picks.now }
-    requires last { (before : _) × (picks.now ≡ before ++ last ∷ []) × ((i : ℕ) → HasOtherRank (choices_of before) i → ⊥) }
-    ensures some { IfSome result (HasOtherRank (choices_of picks.now)) }
-    ensures none { IfNone result ((i : ℕ) → HasOtherRank (choices_of picks.now) i → ⊥) }
+fn new_other_rank(deck: &Deck, choices: &[Choice], last: Choice) -> Option<u8>
+    requires chosen { AreChosen deck.now (decisions (length deck.now.ships)) choices.now }
+    requires last { (before : _) × (choices.now ≡ before ++ last ∷ []) × ((i : ℕ) → HasOtherRank before i → ⊥) }
+    ensures some { IfSome result (HasOtherRank choices.now) }
+    ensures none { IfNone result ((i : ℕ) → HasOtherRank choices.now i → ⊥) }
 {
     match last {
-        Pick::Lies(_, _) => first_other_rank(picks, deck.ships.as_slice().len() as u8),
-        Pick::Before(_, _) => None,
-        Pick::Below(_, _) => None,
+        Choice::Lies(_, _) => first_other_rank(choices, deck.ships.as_slice().len() as u8),
+        Choice::Before(_, _) => None,
+        Choice::Below(_, _) => None,
+        Choice::LiesAt(_, _) => None,
     }
 }
 
 /// Goes on from the longest paths of a case without its last option, or finds a fault.
 pub(crate) fn solve(
     deck: &Deck,
-    picks: &[Pick],
-    last: Pick,
+    choices: &[Choice],
+    last: Choice,
     edges: &Edges,
     known: usize,
     before: &LongestPaths,
 ) -> Result<LongestPaths, CaseFault>
-    requires chosen { AreChosen deck.now (decisions (length deck.now.ships)) picks.now }
-    requires last { (before : _) × (picks.now ≡ before ++ last ∷ []) × ((i : ℕ) → HasOtherRank (choices_of before) i → ⊥) }
-    requires edges { edges.now ≡ case_edges deck.now (choices_of picks.now) }
+    requires chosen { AreChosen deck.now (decisions (length deck.now.ships)) choices.now }
+    requires last { (before : _) × (choices.now ≡ before ++ last ∷ []) × ((i : ℕ) → HasOtherRank before i → ⊥) }
+    requires edges { edges.now ≡ case_edges deck.now choices.now }
     requires known { known ≤ length edges.now }
     requires longest { AreLongest (take known edges.now) (vars_of deck.now) before.now }
-    ensures settled { IfOk result (IsSettled deck.now (choices_of picks.now)) }
-    ensures fault { IfErr result (λ fault. IsCaseFault deck.now (choices_of picks.now) (fault_of fault)) }
+    ensures settled { IfOk result (IsSettled deck.now choices.now) }
+    ensures fault { IfErr result (λ fault. IsCaseFault deck.now choices.now (fault_of fault)) }
 {
-    if let Some(ship) = new_other_rank(deck, picks, last) {
+    if let Some(ship) = new_other_rank(deck, choices, last) {
         return Err(CaseFault::OtherRank(ship));
     }
     match before.extended(edges, var_count(deck), known) {
         Ok(paths) => Ok(paths),
         Err(numbers) => Err(CaseFault::Walk(numbers)),
     }
-}
-
-// Appends the edges that keep a ship inside.
-fn add_ship(deck: &Deck, ship: u8, edges: &mut Edges)
-    requires ship { ship < length deck.now.ships }
-    requires few { ship < 8 }
-    requires room { length edges.old ≤ 92 }
-    ensures { edges.new ≡ edges.old ++ ship_edges deck.now ship }
-{
-    let near = Edge {
-        from: 0,
-        to: x_var(ship),
-        weight: least_along(deck),
-    };
-    let far = Edge {
-        from: x_var(ship),
-        to: 0,
-        weight: back_along(deck, ship),
-    };
-    let left = Edge {
-        from: 0,
-        to: y_var(ship),
-        weight: 0,
-    };
-    let right = Edge {
-        from: y_var(ship),
-        to: 0,
-        weight: back_across(deck, ship),
-    };
-    add_four(edges, near, far, left, right);
 }
 
 /// The edges of the empty case.

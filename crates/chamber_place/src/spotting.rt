@@ -2,12 +2,9 @@
 ghost use Rattle.std.specs.Prelude.{ℕ, ◌≡◌, ◌≤◌, ◌<◌, ◌+◌, ◌*◌, pos, length};
 ghost use Rattle.diff_rules.specs.Differences.{value_at};
 ghost use Rattle.diff_system.specs.PathTree.{IsSmall};
-ghost use Rattle.chamber_place.specs.Picks.{choices_of};
 ghost use Rattle.chamber_place.specs.Spotting.{IsBerthDecided, IsSpotOf, AreFirstSpots};
 
-use crate::names::{x_var, y_var};
-use crate::picks::Pick;
-use crate::ranks::decided_berth;
+use deck_cases::{Choice, berth_of, x_var, y_var};
 use lock_model::{Spot, Spots};
 
 // A value that is known to be small.
@@ -20,14 +17,14 @@ fn small(values: &[i64], variable: u8) -> u32
 }
 
 // The spot of a ship whose berth is decided.
-fn spot_of(picks: &[Pick], values: &[i64], ship: u8) -> Spot
+fn spot_of(choices: &[Choice], values: &[i64], ship: u8) -> Spot
     requires few { ship < 8 }
     requires known { 2 + 2 * ship < length values.now }
-    requires decided { IsBerthDecided (choices_of picks.now) ship }
+    requires decided { IsBerthDecided choices.now ship }
     requires small { (v : ℕ) → v < length values.now → IsSmall values.now v }
-    ensures { IsSpotOf (choices_of picks.now) values.now ship result }
+    ensures { IsSpotOf choices.now values.now ship result }
 {
-    match decided_berth(picks, ship) {
+    match berth_of(choices, ship as u32) {
         Some(berth) => Spot {
             x: small(values, x_var(ship)),
             y: small(values, y_var(ship)),
@@ -39,16 +36,16 @@ fn spot_of(picks: &[Pick], values: &[i64], ship: u8) -> Spot
 }
 
 /// The spots of so many ships whose berths are decided, where the values put them.
-pub(crate) fn spots_of(picks: &[Pick], values: &[i64], ships: u8) -> Spots
+pub(crate) fn spots_of(choices: &[Choice], values: &[i64], ships: u8) -> Spots
     requires few { ships ≤ 8 }
     requires known { length values.now ≡ 1 + 2 * ships }
-    requires decided { (i : ℕ) → i < ships → IsBerthDecided (choices_of picks.now) i }
+    requires decided { (i : ℕ) → i < ships → IsBerthDecided choices.now i }
     requires small { (v : ℕ) → v < length values.now → IsSmall values.now v }
-    ensures { AreFirstSpots (choices_of picks.now) values.now ships result }
+    ensures { AreFirstSpots choices.now values.now ships result }
 {
     let mut spots = Spots::new();
     for ship in 0..ships {
-        spots.push(spot_of(picks, values, ship));
+        spots.push(spot_of(choices, values, ship));
     }
     spots
 }

@@ -1,7 +1,7 @@
 //! What is posted, and what comes back.
 
 use boxcar::Pushed;
-use place_refute::Cut;
+use deck_cuts::Cut;
 
 /// A cut with its number in the book.
 #[derive(Drop)]

@@ -5,9 +5,9 @@ ghost use Rattle.cut_pool.specs.Hitting.{IsHit, HasHit};
 
 use crate::entry::{Back, Entry, Token};
 use crate::tokens::Tokens;
+use deck_cuts::{Cut, cut_hits};
 use lock_model::{Instance, Ships};
 use no_memory::NoMemory;
-use place_refute::{Cut, cut_hits};
 use std::alloc::Global;
 use std::marker::Model;
 use std::sync::Wait;

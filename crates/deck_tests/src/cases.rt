@@ -6,8 +6,8 @@ use crate::fixture::{
     LEFT, Laden, NARROW, Place, QUAY, RIGHT, TWINS, laden_deck, spots_of, worked_deck,
 };
 use chamber_place::{Placed, place, shrink};
+use deck_cuts::Cut;
 use lock_model::{Deck, Measures, Ships};
-use place_refute::Cut;
 use refute_rules::{Quick, Refutation};
 use ship_shapes::holds;
 use std::alloc::Global;

@@ -1,7 +1,8 @@
 //! Worked cuts. Refutations that hold or don't stand with the second checker.
 use crate::fixture::{NARROW, TWINS, worked_deck};
+use deck_cuts::{Cut, Quick, Refutation, copy_cut, cut_hits};
 use lock_model::{Chambers, Instance, ShipList, Ships, Way};
-use place_refute::{Cut, CutError, Quick, Refutation, copy_cut, cut_hits, make_cut};
+use place_refute::{CutError, make_cut};
 use std::alloc::Global;
 use std::process::Abort;
 use std::test::Fail;

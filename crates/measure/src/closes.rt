@@ -2,11 +2,12 @@
 use crate::crowds::ships_of;
 use book_core::{Book, Case, Reply, open_book};
 use first_plan::singles_plan;
+use deck_cuts::Cut;
 use instance_text::read_instance;
 use lock_model::{Instance, deck_of};
 use master_branch::root;
 use mooring_rules::first_unfit;
-use place_refute::{Cut, make_cut};
+use place_refute::make_cut;
 use price_bound::{KeptLines, Limits, PricedNode, Prices, Shown, show};
 use refute_rules::Refutation;
 use search_book::learn_cuts;

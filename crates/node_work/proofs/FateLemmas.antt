@@ -9,7 +9,7 @@ use Rattle.lock_rules.specs.Node.{Node, line_at, IsNode}
 use Rattle.lock_rules.proofs.NodeLemmas.{line-known}
 use Rattle.refute_rules.specs.Cuts.{Cut}
 use Rattle.refute_rules.specs.Spots.{IsSpent}
-use Rattle.place_refute.specs.Tried.{Tried}
+use Rattle.deck_cuts.specs.Tried.{Tried}
 use Rattle.closing_rules.specs.declared.grounds.Ground.TheVariants as by
 use Rattle.node_work.specs.declared.fate.Fate.{Fate}
 use Rattle.node_work.specs.declared.fate.Fate.TheVariants as fate

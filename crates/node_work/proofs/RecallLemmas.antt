@@ -5,7 +5,7 @@ use Rattle.lock_model.specs.Fitting.{deck_of}
 use Rattle.lock_model.specs.Cargo.{HasNoClash}
 use Rattle.refute_rules.specs.Cases.{IsHard}
 use Rattle.refute_rules.specs.Spots.{IsSpotHard}
-use Rattle.place_refute.specs.Tried.{Tried}
+use Rattle.deck_cuts.specs.Tried.{Tried}
 use Rattle.lock_model.specs.declared.placement.Spot.{Spot}
 use Rattle.lock_model.specs.declared.instance.Instance.{Instance}
 use Rattle.node_work.specs.declared.settling.Settled.{Settled}

@@ -8,7 +8,7 @@ use Rattle.lock_rules.specs.Node.{Node, line_at}
 use Rattle.lock_rules.specs.Cut.{HitsNode}
 use Rattle.refute_rules.specs.Spots.{IsSpent}
 use Rattle.refute_rules.specs.Cuts.{Cut, IsCut}
-use Rattle.place_refute.specs.Tried.{Tried}
+use Rattle.deck_cuts.specs.Tried.{Tried}
 use Rattle.book_rules.specs.Cover.{IsOwnCut}
 use Rattle.lock_model.specs.declared.plan.Plan.{Plan as AnyPlan}
 use Rattle.lock_rules.specs.Plan.{IsLegal, cost_of}

@@ -12,7 +12,7 @@ use Rattle.refute_rules.specs.declared.refutation.Refutation.{Refutation}
 use Rattle.refute_rules.specs.declared.refutation.Refutation.TheVariants as refutation
 use Rattle.refute_rules.specs.Refutes.{IsRefuted}
 use Rattle.refute_rules.specs.Cuts.{Cut, IsCut}
-use Rattle.place_refute.specs.Tried.{Tried}
+use Rattle.deck_cuts.specs.Tried.{Tried}
 use Rattle.chamber_place.specs.Parts.{IsShrunk}
 use Rattle.book_rules.specs.Cover.{IsOwnCut}
 use Rattle.node_work.specs.declared.first_placer.FirstPlacer.{FirstPlacer}

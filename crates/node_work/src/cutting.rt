@@ -8,9 +8,9 @@ use crate::first_placer::FirstPlacer;
 use crate::last::is_among;
 use berth_place::{BerthPlaced, place_by_berths};
 use chamber_place::shrink;
+use deck_cuts::Cut;
 use lock_model::{Instance, Ships, deck_of};
 use no_memory::NoMemory;
-use place_refute::Cut;
 use refute_rules::Refutation;
 use std::alloc::Global;
 

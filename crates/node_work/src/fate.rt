@@ -1,8 +1,8 @@
 //! What becomes of a node.
 
 use closing_rules::Ground;
+use deck_cuts::{Cut, Hard};
 use lock_model::Plan;
-use place_refute::{Cut, Hard};
 
 /// What becomes of a node. Large parts are boxed, since few nodes have them.
 #[derive(Drop)]

@@ -11,10 +11,10 @@ use crate::recalling::settle_known;
 use crate::search::Search;
 use crate::settling::Settled;
 use closing_rules::Ground;
+use deck_cuts::{Cut, Hard};
 use lock_model::{Instance, Ships};
 use master_branch::Node;
 use no_memory::NoMemory;
-use place_refute::{Cut, Hard};
 use placed_groups::{Memory, Said};
 use std::alloc::Global;
 

@@ -5,8 +5,8 @@ ghost use Rattle.node_work.specs.Known.{HitsShips};
 ghost use Rattle.std.specs.Prelude.{◌≡◌};
 
 use book_core::Book;
+use deck_cuts::cut_hits;
 use lock_model::{Instance, Ships};
-use place_refute::cut_hits;
 
 /// Cuts under their numbers, in which a search looks before it asks a placer.
 pub trait KnownCuts {

@@ -9,10 +9,10 @@ use crate::cutting::GroupAsked;
 use crate::first_placer::FirstPlacer;
 use crate::search::Search;
 use crate::settling::{Settled, settle};
+use deck_cuts::{Hard, HardSpots, hard, hard_spots};
 use lock_model::{Deck, Instance, Ships, Spots, deck_of};
 use mooring_rules::{first_clash, judge_spots};
 use no_memory::NoMemory;
-use place_refute::{Hard, HardSpots, hard, hard_spots};
 use placed_groups::{Memory, Said};
 use std::alloc::Global;
 

@@ -1,6 +1,6 @@
 -- The edges of a case as it grows and shrinks.
-use Rattle.std.proofs.Common.{◌≡◌, ℕ, zero, suc, ◌+◌, ◌*◌, ◌<◌, ◌≤◌, List, [], ◌∷◌, ◌++◌, length, flat_map, map, take, refl, sym, ap, ◌∙◌, arith}
-use Rattle.std.proofs.lemmas.List.{append-nil, length-append, take-map}
+use Rattle.std.proofs.Common.{◌≡◌, ℕ, zero, suc, ◌+◌, ◌*◌, ◌<◌, ◌≤◌, List, [], ◌∷◌, ◌++◌, length, flat_map, refl, sym, ap, ◌∙◌, arith}
+use Rattle.std.proofs.lemmas.List.{append-nil, length-append}
 use Rattle.std.proofs.lemmas.Grind.{flat_map-append}
 use Rattle.lock_model.specs.Deck.{Deck}
 use Rattle.lock_model.specs.declared.placement.Rank.{Rank}
@@ -10,10 +10,9 @@ use Rattle.lock_model.specs.declared.placement.Moor.TheVariants.{Quay, Ship}
 use Rattle.diff_rules.specs.declared.edges.Edge.{Edge}
 use Rattle.lock_rules.specs.Arrival.{numbers_from}
 use Rattle.lock_rules.proofs.LineLemmas.{numbers_more}
-use Rattle.refute_rules.specs.Choices.{Choice, Lies, Before, Below, Stands}
+use Rattle.refute_rules.specs.declared.choices.Choice.{Choice}
+use Rattle.refute_rules.specs.declared.choices.Choice.TheVariants.{Lies, Before, Below, LiesAt}
 use Rattle.refute_rules.specs.Edges.{ship_edges, berth_edges, choice_edges}
-use Rattle.place_refute.specs.declared.decision.Pick.{Pick}
-use Rattle.place_refute.specs.Picks.{choice_of}
 use Rattle.place_refute.specs.Drawn.{Drawn, IsDrawn, deck_edges}
 
 pub edges_more : (d : Deck) (es : List Edge) (n : ℕ) → es ≡ deck_edges d n → es ++ ship_edges d n ≡ deck_edges d (n + 1)
@@ -41,7 +40,7 @@ choice-few : (d : Deck) (c : Choice) → length (choice_edges d c) ≤ 4
 choice-few d (Lies i b) = berth-few d i b.rank b.moor
 choice-few d (Before i j) = omega arith
 choice-few d (Below i j) = omega arith
-choice-few d (Stands i v) = omega arith
+choice-few d (LiesAt i v) = omega arith
 
 choices-few : (d : Deck) (cs : List Choice) → length (flat_map (choice_edges d) cs) ≤ 4 * length cs
 choices-few d [] = omega arith
@@ -51,9 +50,6 @@ choices-few d (c ∷ cs) = omega (arith, length-append (choice_edges d c) (flat_
 pub drawn_room : (d : Deck) (case : Drawn) → IsDrawn d case → length d.ships ≤ 8 → length case.choices < 36 → length case.edges ≤ 172
 drawn_room d case is few less =
     omega (arith, ap length is.drawn, length-append (deck_edges d (length d.ships)) (flat_map (choice_edges d) case.choices), ships-length d 0 (length d.ships), choices-few d case.choices)
-
-pub back_choices : (ps qs : List Pick) (n : ℕ) → qs ≡ take n ps → map choice_of qs ≡ take n (map choice_of ps)
-back_choices ps qs n e = ap (map choice_of) e ∙ sym (take-map choice_of n ps)
 
 pub empty_drawn : (d : Deck) → IsDrawn d (record { choices = []; edges = deck_edges d (length d.ships) })
 empty_drawn d = record { drawn = sym (append-nil (deck_edges d (length d.ships))) }

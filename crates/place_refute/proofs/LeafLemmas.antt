@@ -4,7 +4,7 @@ use Rattle.std.proofs.lemmas.List.{drop_more, drop-drop, take_at, take-append-dr
 use Rattle.std.proofs.lemmas.Bool.Decides.{eqb_tells}
 use Rattle.lock_model.specs.Deck.{Deck}
 use Rattle.diff_rules.specs.Differences.{IsPositiveCycle}
-use Rattle.refute_rules.specs.Choices.{Choice}
+use Rattle.refute_rules.specs.declared.choices.Choice.{Choice}
 use Rattle.refute_rules.specs.Decided.{HasOtherRank}
 use Rattle.refute_rules.specs.Edges.{case_edges}
 use Rattle.refute_rules.specs.Known.{hosts_within}

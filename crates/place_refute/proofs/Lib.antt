@@ -1,8 +1,4 @@
-pub mod HitLemmas
-pub mod DecisionLemmas
-pub mod OptionLemmas
 pub mod DrawnLemmas
-pub mod LookupLemmas
 pub mod SpotLemmas
 pub mod WalkLemmas
 pub mod LeafLemmas

@@ -3,14 +3,20 @@ use Rattle.std.proofs.Common.{◌≡◌, ◌≢◌, ℕ, ◌+◌, ◌<◌, ◌�
 use Rattle.std.specs.declared.option.Option.{Option}
 use Rattle.std.proofs.lemmas.List.{drop_more, drop_all, take_more, take_all, take-append-drop, length-drop}
 use Rattle.lock_model.specs.Deck.{Deck}
-use Rattle.refute_rules.specs.Choices.{Decision, BerthOf, Choice, Before, options_of}
+use Rattle.refute_rules.specs.declared.choices.Decision.{Decision}
+use Rattle.refute_rules.specs.declared.choices.Decision.TheVariants.{BerthOf}
+use Rattle.refute_rules.specs.declared.choices.Choice.{Choice}
+use Rattle.refute_rules.specs.declared.choices.Choice.TheVariants.{Before}
+use Rattle.refute_rules.specs.Choices.{options_of, decisions, spot_decisions}
+use Rattle.refute_rules.specs.Values.{spot_values}
 use Rattle.refute_rules.specs.Cases.{IsCaseFault, case_fault_numbers}
 use Rattle.refute_rules.specs.SpotFaults.{IsSpotFault, spot_fault_numbers}
 use Rattle.refute_rules.specs.Trees.{AreInOrder, IsLeaf, IsTree}
 use Rattle.place_refute.specs.declared.leaf.Trees.{Trees}
 use Rattle.place_refute.specs.declared.leaf.Trees.TheVariants.{OfCases, OfSpots}
 use Rattle.place_refute.specs.Reading.{IsLeafOf, IsTreeOf, IsLeafAt, HasNoLeafAt, IsTreeAt, HasNoTreeAt}
-use Rattle.place_refute.specs.Walking.{next_of, later_of, AreTrees, AreChildrenAt, HasNoChildrenAt, IsChildAt, HasNoChildAt}
+use Rattle.place_refute.specs.Walking.{IsReading, next_of, later_of, AreTrees, AreChildrenAt, HasNoChildrenAt, IsChildAt, HasNoChildAt}
+use Rattle.deck_cases.proofs.DecisionLemmas.{case-asked, spot-asked, case-few, spot-few}
 use Rattle.place_refute.proofs.LeafLemmas.{same_leaf, kind_leaf}
 
 -- things in order, and one more
@@ -185,3 +191,21 @@ whole_tree d trees list case marks end b empty ends told at =
           let inside = first.inside in
           told (omega (arith, inside, ap length same, length-drop end marks)),
     )
+
+-- the decisions of a deck are read with the values of an x
+module _ (d : Deck) (values : List ℕ) where
+  pub reads_cases : (list : List Decision) → list ≡ decisions (length d.ships) → length d.ships ≤ 8 → IsReading d OfCases list values
+  reads_cases list e few = record {
+    all = e;
+    asked = case-asked d values list e;
+    few = omega (arith, ap length e, case-few (length d.ships) few);
+    ships = few;
+  }
+
+  pub reads_spots : (list : List Decision) → list ≡ spot_decisions (length d.ships) → values ≡ spot_values d → length d.ships ≤ 8 → IsReading d OfSpots list values
+  reads_spots list e is few = record {
+    all = e;
+    asked = spot-asked d values list e is;
+    few = omega (arith, ap length e, spot-few (length d.ships) few);
+    ships = few;
+  }

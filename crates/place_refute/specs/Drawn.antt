@@ -3,7 +3,7 @@ use Rattle.std.specs.Prelude.{ℕ, ◌≡◌, List, flat_map}
 use Rattle.lock_model.specs.Deck.{Deck}
 use Rattle.diff_rules.specs.declared.edges.Edge.{Edge}
 use Rattle.lock_rules.specs.Arrival.{numbers_from}
-use Rattle.refute_rules.specs.Choices.{Choice}
+use Rattle.refute_rules.specs.declared.choices.Choice.{Choice}
 use Rattle.refute_rules.specs.Edges.{ship_edges, case_edges}
 
 pub record Drawn : Type 0 where

@@ -1,7 +1,9 @@
 -- Reading trees: a leaf's numbers begin with its kind, and the kind tells how many follow.
 use Rattle.std.specs.Prelude.{ℕ, ◌≡◌, ◌≤◌, List, length, drop, nat_eq, if◌then◌else◌}
 use Rattle.lock_model.specs.Deck.{Deck}
-use Rattle.refute_rules.specs.Choices.{Decision, Choice, options_of, decisions, spot_decisions}
+use Rattle.refute_rules.specs.declared.choices.Decision.{Decision}
+use Rattle.refute_rules.specs.declared.choices.Choice.{Choice}
+use Rattle.refute_rules.specs.Choices.{options_of, decisions, spot_decisions}
 use Rattle.refute_rules.specs.Cases.{IsCaseFault, case_fault_numbers}
 use Rattle.refute_rules.specs.SpotFaults.{IsSpotFault, spot_fault_numbers}
 use Rattle.refute_rules.specs.Trees.{IsLeaf, IsTree}

@@ -2,7 +2,7 @@
 use Rattle.std.specs.Prelude.{ℕ, ◌≡◌, ◌+◌, ◌≤◌, ℤ, List, Some}
 use Rattle.lock_model.specs.Deck.{Deck}
 use Rattle.refute_rules.specs.Reasons.{length_at}
-use Rattle.refute_rules.specs.Choices.{Choice}
+use Rattle.refute_rules.specs.declared.choices.Choice.{Choice}
 use Rattle.refute_rules.specs.Decided.{x_in}
 use Rattle.refute_rules.specs.Known.{y_in}
 
@@ -19,10 +19,10 @@ pub record IsPast (d : Deck) (case : List Choice) (i host : ℕ) : Type 0 where
   pub past : IsWithinHost d i x host host_x → ⊥
 
 -- ship i lies at x and y
-pub record LiesAt (d : Deck) (case : List Choice) (i x : ℕ) (y : ℤ) : Type 0 where
+pub record IsAtPosition (d : Deck) (case : List Choice) (i x : ℕ) (y : ℤ) : Type 0 where
   pub decided : x_in case i ≡ Some x
   pub known : y_in d case i ≡ Some y
 
 -- it isn't known where
-pub record HasNoPlace (d : Deck) (case : List Choice) (i : ℕ) : Type 0 where
-  pub none : (x : ℕ) (y : ℤ) → LiesAt d case i x y → ⊥
+pub record HasNoPosition (d : Deck) (case : List Choice) (i : ℕ) : Type 0 where
+  pub none : (x : ℕ) (y : ℤ) → IsAtPosition d case i x y → ⊥

@@ -1,10 +1,13 @@
 -- Walking over the marks of a tree: children are trees of the extensions, in order.
 use Rattle.std.specs.Prelude.{ℕ, ◌≡◌, ◌+◌, ◌<◌, ◌≤◌, List, [], ◌∷◌, ◌++◌, length, take, drop, slice_index_or}
 use Rattle.lock_model.specs.Deck.{Deck}
-use Rattle.refute_rules.specs.Choices.{Decision, BerthOf, Choice, options_of}
+use Rattle.refute_rules.specs.declared.choices.Decision.{Decision}
+use Rattle.refute_rules.specs.declared.choices.Decision.TheVariants.{BerthOf}
+use Rattle.refute_rules.specs.declared.choices.Choice.{Choice}
+use Rattle.refute_rules.specs.Choices.{options_of}
 use Rattle.refute_rules.specs.Trees.{AreInOrder}
 use Rattle.place_refute.specs.declared.leaf.Trees.{Trees}
-use Rattle.place_refute.specs.Picks.{IsAsked}
+use Rattle.deck_cases.specs.Asked.{IsAsked}
 use Rattle.place_refute.specs.Reading.{IsTreeOf, IsTreeAt, HasNoTreeAt, decisions_of}
 
 -- these are the decisions of the deck, and the values are those of an x where one asks for it

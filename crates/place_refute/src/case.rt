@@ -1,12 +1,12 @@
 //! A case: the options so far, and their edges behind those of the deck.
-ghost use Rattle.std.specs.Prelude.{◌≡◌, ◌+◌, ◌<◌, ◌≤◌, [], ◌∷◌, ◌++◌, length, map, take};
+ghost use Rattle.std.specs.Prelude.{◌≡◌, ◌+◌, ◌<◌, ◌≤◌, [], ◌∷◌, ◌++◌, length, take};
 ghost use Rattle.refute_rules.specs.Edges.{choice_edges};
-ghost use Rattle.place_refute.specs.Picks.{choice_of, IsKnownPick};
+ghost use Rattle.deck_cases.specs.Asked.{IsOfDeck};
 ghost use Rattle.place_refute.specs.Drawn.{deck_edges};
 
-use crate::decision::Pick;
-use crate::edges::{EdgeList, push_option, push_ship};
+use crate::edge_list::{EdgeList, push_edges};
 use arrayvec::ArrayVec;
+use deck_cases::{Choice, choice_edges, ship_edges};
 use diff_rules::Edge;
 use lock_model::Deck;
 use std::marker::Model;
@@ -14,18 +14,16 @@ use std::marker::Model;
 /// A case that grows by options and shrinks again.
 #[derive(Drop)]
 pub(crate) struct Case {
-    picks: ArrayVec<Pick, 36>,
+    choices: ArrayVec<Choice, 36>,
     edges: EdgeList,
 }
 
 impl Model for Case {
-    ghost use Rattle.std.specs.Prelude.{map};
-    ghost use Rattle.place_refute.specs.Picks.{choice_of};
     ghost use Rattle.place_refute.specs.Drawn.{Drawn};
 
     ghost Value = { Drawn };
 
-    ghost view = { λ a. record { choices = map choice_of a.picks.items; edges = a.edges } };
+    ghost view = { λ a. record { choices = a.choices.items; edges = a.edges } };
 }
 
 // The edges that keep the ships of a deck inside.
@@ -36,7 +34,7 @@ fn deck_edges(deck: &Deck) -> EdgeList
     let mut edges = EdgeList::new();
     let count = deck.ships.as_slice().len() as u8;
     for ship in 0..count {
-        push_ship(deck, ship, &mut edges);
+        push_edges(&mut edges, ship_edges(deck, ship).as_slice());
     }
     edges
 }
@@ -47,7 +45,7 @@ impl Case {
         ensures { result ≡ record { choices = []; edges = deck_edges deck.now (length deck.now.ships) } }
     {
         Case {
-            picks: ArrayVec::new(),
+            choices: ArrayVec::new(),
             edges: deck_edges(deck),
         }
     }
@@ -56,14 +54,14 @@ impl Case {
     pub(crate) fn len(&self) -> usize
         ensures { result ≡ length self.now.choices }
     {
-        self.picks.len()
+        self.choices.len()
     }
 
     /// The options in order.
-    pub(crate) fn picks(&self) -> &[Pick]
-        ensures { map choice_of result.now ≡ self.now.choices }
+    pub(crate) fn choices(&self) -> &[Choice]
+        ensures { result.now ≡ self.now.choices }
     {
-        self.picks.as_slice()
+        self.choices.as_slice()
     }
 
     /// The edges in order.
@@ -74,25 +72,24 @@ impl Case {
     }
 
     /// Takes an option.
-    pub(crate) fn push(&mut self, deck: &Deck, pick: Pick)
+    pub(crate) fn push(&mut self, deck: &Deck, choice: Choice)
         requires room { length self.old.choices < 36 }
         requires edges { length self.old.edges ≤ 172 }
-        requires known { IsKnownPick deck.now pick }
-        ensures { self.new ≡ record { choices = self.old.choices ++ choice_of pick ∷ []; edges = self.old.edges ++ choice_edges deck.now (choice_of pick) } }
+        requires known { IsOfDeck deck.now choice }
+        ensures { self.new ≡ record { choices = self.old.choices ++ choice ∷ []; edges = self.old.edges ++ choice_edges deck.now choice } }
     {
-        self.picks.push(pick);
-        push_option(deck, pick, &mut self.edges);
+        self.choices.push(choice);
+        push_edges(&mut self.edges, choice_edges(deck, choice).as_slice());
     }
 
     /// Goes back to the first options and edges.
-    #[tactic(auto, using(crate::proofs::DrawnLemmas::back_choices))]
-    pub(crate) fn back(&mut self, picks: usize, edges: usize)
-        requires picks { picks ≤ length self.old.choices }
+    pub(crate) fn back(&mut self, choices: usize, edges: usize)
+        requires choices { choices ≤ length self.old.choices }
         requires edges { edges ≤ length self.old.edges }
-        ensures choices { self.new.choices ≡ take picks self.old.choices }
+        ensures choices { self.new.choices ≡ take choices self.old.choices }
         ensures edges { self.new.edges ≡ take edges self.old.edges }
     {
-        self.picks.truncate(picks);
+        self.choices.truncate(choices);
         self.edges.truncate(edges);
     }
 }

@@ -10,10 +10,10 @@ ghost use Rattle.place_refute.specs.Reading.{IsTreeOf};
 ghost use Rattle.place_refute.specs.Walking.{IsReading};
 
 use crate::case::Case;
-use crate::decision::{case_decisions, spot_decisions};
 use crate::leaf::Trees;
 use crate::tree::{Reading, tree_end};
 use berth_check::check_berth_tree;
+use deck_cases::{case_decisions, spot_decisions};
 use deck_laws::spot_values;
 use lock_model::{Deck, Size};
 use no_memory::NoMemory;

@@ -8,9 +8,9 @@ ghost use Rattle.place_refute.specs.Drawn.{IsDrawn};
 ghost use Rattle.place_refute.specs.Reading.{IsFaultBy, IsFaultOf, IsLeafAt, HasNoLeafAt, count_of};
 
 use crate::case::Case;
-use crate::decided::has_other_rank;
-use crate::spot_faults::{are_touching, is_outside, is_past_host, leads_back};
+use crate::spot_faults::{are_touching, is_outside, is_past_host};
 use crate::walk::is_positive_cycle;
+use deck_cases::{Choice, has_other_rank, leads_back};
 use lock_model::Deck;
 
 /// What trees are of.
@@ -39,23 +39,23 @@ fn is_case_fault(case: &Case, kind: u32, numbers: &[u32]) -> bool
     ensures walk { kind ≢ 1 → IsTrue result ↔ IsPositiveCycle case.now.edges numbers.now }
 {
     if kind == 1 {
-        has_other_rank(case, numbers[0])
+        has_other_rank(case.choices(), numbers[0])
     } else {
         is_positive_cycle(case.edges(), numbers)
     }
 }
 
 // Whether the numbers tell one of the five faults of a spot case.
-fn is_spot_fault(deck: &Deck, case: &Case, kind: u32, numbers: &[u32]) -> bool
+fn is_spot_fault(deck: &Deck, choices: &[Choice], kind: u32, numbers: &[u32]) -> bool
     requires { length numbers.now ≡ count_of OfSpots kind }
-    ensures { IsTrue result ↔ IsFaultBy (IsSpotFault deck.now) spot_fault_numbers case.now.choices (kind ∷ numbers.now) }
+    ensures { IsTrue result ↔ IsFaultBy (IsSpotFault deck.now) spot_fault_numbers choices.now (kind ∷ numbers.now) }
 {
     match kind {
-        1 => has_other_rank(case, numbers[0]),
-        2 => leads_back(deck, case, numbers[0]),
-        3 => is_outside(deck, case, numbers[0]),
-        4 => is_past_host(deck, case, numbers[0]),
-        5 => are_touching(deck, case, numbers[0], numbers[1]),
+        1 => has_other_rank(choices, numbers[0]),
+        2 => leads_back(deck, choices, numbers[0]),
+        3 => is_outside(deck, choices, numbers[0]),
+        4 => is_past_host(deck, choices, numbers[0]),
+        5 => are_touching(deck, choices, numbers[0], numbers[1]),
         _ => false,
     }
 }
@@ -69,7 +69,7 @@ fn is_fault(deck: &Deck, case: &Case, trees: Trees, kind: u32, numbers: &[u32]) 
 {
     match trees {
         Trees::OfCases => is_case_fault(case, kind, numbers),
-        Trees::OfSpots => is_spot_fault(deck, case, kind, numbers),
+        Trees::OfSpots => is_spot_fault(deck, case.choices(), kind, numbers),
     }
 }
 

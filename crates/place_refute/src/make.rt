@@ -3,10 +3,31 @@ ghost use Rattle.std.specs.Prelude.{◌≡◌, length, IfOk};
 ghost use Rattle.refute_rules.specs.Refutes.{IsRefuted};
 
 use crate::check::check_refutation;
-use crate::cut::{Cut, CutError, known_cut};
+use deck_cuts::{Cut, known_cut};
 use lock_model::{Deck, Ships};
+use no_memory::NoMemory;
 use refute_rules::Refutation;
 use std::alloc::Global;
+
+/// Why no cut was made.
+#[derive(Clone, Copy, PartialEq, Eq)]
+pub enum CutError {
+    /// The refutation doesn't hold for the deck.
+    NotRefuted,
+    /// There was no memory to find out.
+    NoMemory,
+}
+
+impl From<NoMemory> for CutError {
+    ghost use Rattle.std.specs.Prelude.{◌≡◌};
+    ghost use Rattle.place_refute.specs.declared.make.CutError.TheVariants.{NoMemory as WantsMemory};
+
+    ghost from_gives = { λ _ e. e ≡ WantsMemory };
+
+    fn from(_error: NoMemory) -> CutError {
+        CutError::NoMemory
+    }
+}
 
 /// The cut of these parts, of which the deck has one size for each ship. Refuses a refutation that
 /// doesn't hold for the deck, and want of memory.

@@ -1,16 +1,16 @@
 //! Walks over the marks of a case tree or of a spot tree. No call goes deeper than the decisions
 //! of the deck.
 ghost use Rattle.std.specs.Prelude.{◌≡◌, ◌<◌, ◌≤◌, length, drop, slice_index_or, IfSome, IfNone};
-ghost use Rattle.refute_rules.specs.Choices.{BerthOf, options_of};
-ghost use Rattle.place_refute.specs.Picks.{choice_of, IsKnownPick};
+ghost use Rattle.refute_rules.specs.declared.choices.Decision.TheVariants.{BerthOf};
+ghost use Rattle.refute_rules.specs.Choices.{options_of};
+ghost use Rattle.deck_cases.specs.Asked.{IsOfDeck};
 ghost use Rattle.place_refute.specs.Drawn.{IsDrawn};
 ghost use Rattle.place_refute.specs.Reading.{IsTreeAt, HasNoTreeAt};
 ghost use Rattle.place_refute.specs.Walking.{IsReading, AreChildrenAt, HasNoChildrenAt, IsChildAt, HasNoChildAt};
 
 use crate::case::Case;
-use crate::decision::{Decisions, Pick};
 use crate::leaf::{Trees, leaf_end};
-use crate::options::{option_at, option_count};
+use deck_cases::{Choice, Decisions, option_at, option_count};
 use lock_model::Deck;
 
 /// What a tree is read for: its deck and decisions, the values of an x, and the marks.
@@ -60,8 +60,8 @@ fn children_end(reading: &Reading, case: &mut Case, first: usize) -> Option<usiz
     let count = option_count(reading.deck, reading.values, decision);
     let mut end = first;
     for number in 0..count {
-        let pick = option_at(reading.deck, reading.values, decision, number);
-        match child_end(reading, case, pick, end) {
+        let choice = option_at(reading.deck, reading.values, decision, number);
+        match child_end(reading, case, choice, end) {
             None => return None,
             Some(next) => end = next,
         }
@@ -71,19 +71,19 @@ fn children_end(reading: &Reading, case: &mut Case, first: usize) -> Option<usiz
 
 // Where the tree of the extension by an option ends.
 #[cycle(tree)]
-fn child_end(reading: &Reading, case: &mut Case, pick: Pick, at: usize) -> Option<usize>
+fn child_end(reading: &Reading, case: &mut Case, choice: Choice, at: usize) -> Option<usize>
     requires reading { IsReading reading.now.deck.now reading.now.trees reading.now.decisions.now reading.now.values.now }
     requires drawn { IsDrawn reading.now.deck.now case.old }
     requires room { length case.old.choices < length reading.now.decisions.now }
-    requires known { IsKnownPick reading.now.deck.now pick }
+    requires known { IsOfDeck reading.now.deck.now choice }
     ensures kept { case.new ≡ case.old }
-    ensures some { IfSome result (IsChildAt reading.now.deck.now reading.now.trees reading.now.decisions.now case.old.choices reading.now.marks.now (choice_of pick) at) }
-    ensures none { IfNone result (HasNoChildAt reading.now.deck.now reading.now.trees reading.now.decisions.now case.old.choices reading.now.marks.now (choice_of pick) at) }
+    ensures some { IfSome result (IsChildAt reading.now.deck.now reading.now.trees reading.now.decisions.now case.old.choices reading.now.marks.now choice at) }
+    ensures none { IfNone result (HasNoChildAt reading.now.deck.now reading.now.trees reading.now.decisions.now case.old.choices reading.now.marks.now choice at) }
 {
-    let picks = case.len();
+    let choices = case.len();
     let edges = case.edges().len();
-    case.push(reading.deck, pick);
+    case.push(reading.deck, choice);
     let end = tree_end(reading, case, at);
-    case.back(picks, edges);
+    case.back(choices, edges);
     end
 }

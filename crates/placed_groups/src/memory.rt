@@ -6,9 +6,9 @@ ghost use Rattle.std.specs.Option.{option_copied};
 ghost use Rattle.placed_groups.specs.Said.{key_of, are_same};
 
 use crate::group_key::GroupKey;
+use deck_cuts::{Hard, HardSpots};
 use lock_model::{Ships, Spots};
 use no_memory::NoMemory;
-use place_refute::{Hard, HardSpots};
 use std::alloc::Global;
 use std::collections::HashMap;
 

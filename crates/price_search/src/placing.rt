@@ -3,11 +3,11 @@ ghost use Rattle.std.specs.Prelude.{◌≡◌, ◌<◌, length, All};
 
 use crate::appending::append;
 use crate::round::Asked;
+use deck_cuts::{Cut, cut_hits};
 use lock_model::{Instance, Ships, Spots};
 use near_plan::Fitting;
 use no_memory::NoMemory;
 use node_work::{FirstPlacer, KnownCuts, Search, Settled, settle_known};
-use place_refute::{Cut, cut_hits};
 use placed_groups::Memory;
 use std::alloc::Global;
 

@@ -4,12 +4,12 @@ ghost use Rattle.master_branch.specs.Node.{IsNodeOf};
 
 use crate::placing::Placer;
 use crate::pricing::Pricing;
+use deck_cuts::Cut;
 use lock_model::{Group, Instance, Plan};
 use master_branch::{Node, arrival_order};
 use near_plan::{fits, near_plan};
 use no_memory::NoMemory;
 use node_work::{KnownCuts, Search};
-use place_refute::Cut;
 use placed_groups::Memory;
 use price_bound::{Limits, LooseLines, PriceError, PricedNode, Prices, least_lines};
 use price_raise::Stands;

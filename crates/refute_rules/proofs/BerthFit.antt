@@ -12,7 +12,8 @@ use Rattle.lock_model.specs.declared.placement.Rank.TheVariants.{Left, Right}
 use Rattle.lock_model.specs.declared.placement.Moor.{Moor}
 use Rattle.lock_model.specs.declared.placement.Moor.TheVariants.{Quay, Ship}
 use Rattle.refute_rules.specs.Reasons.{length_at, width_at}
-use Rattle.refute_rules.specs.Choices.{Choice, Berth}
+use Rattle.refute_rules.specs.declared.choices.Berth.{Berth}
+use Rattle.refute_rules.specs.declared.choices.Choice.{Choice}
 use Rattle.refute_rules.specs.Decided.{berth_in, HasOtherRank}
 use Rattle.refute_rules.specs.Known.{host_of, quay_y, guest_y, moored_y, berth_y, y_within, y_in}
 use Rattle.refute_rules.specs.SpotFaults.{IsOutsideAcross}

@@ -18,7 +18,9 @@ use Rattle.lock_model.specs.declared.placement.Moor.{Moor}
 use Rattle.lock_model.specs.declared.placement.Moor.TheVariants.{Quay, Ship}
 use Rattle.lock_rules.specs.Arrival.{numbers_from}
 use Rattle.refute_rules.specs.Reasons.{length_at, width_at}
-use Rattle.refute_rules.specs.Choices.{Choice, Before, Berth}
+use Rattle.refute_rules.specs.declared.choices.Berth.{Berth}
+use Rattle.refute_rules.specs.declared.choices.Choice.{Choice}
+use Rattle.refute_rules.specs.declared.choices.Choice.TheVariants.{Before}
 use Rattle.refute_rules.specs.Decided.{berth_in}
 use Rattle.refute_rules.specs.Known.{host_of, moor_host}
 use Rattle.refute_rules.specs.SpotFaults as spot

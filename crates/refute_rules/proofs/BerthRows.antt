@@ -7,7 +7,8 @@ use Rattle.lock_model.specs.declared.placement.Spot.{Spot}
 use Rattle.lock_model.specs.declared.placement.Rank.TheVariants.{Left, Right}
 use Rattle.lock_model.specs.declared.placement.Moor.TheVariants.{Quay, Ship}
 use Rattle.refute_rules.specs.Reasons.{width_at}
-use Rattle.refute_rules.specs.Choices.{Choice, Lies, Before, Below, Stands}
+use Rattle.refute_rules.specs.declared.choices.Choice.{Choice}
+use Rattle.refute_rules.specs.declared.choices.Choice.TheVariants.{Lies, Before, Below, LiesAt}
 use Rattle.refute_rules.specs.Known.{y_in}
 use Rattle.refute_rules.specs.SpotFaults.{IsOutsideAcross}
 use Rattle.refute_rules.specs.BerthCases.{HasOrder, DoOverlap, ShareHost}
@@ -43,7 +44,7 @@ HasNoBefore [] = Unit {0}
 HasNoBefore (Lies i b ∷ cs) = HasNoBefore cs
 HasNoBefore (Before i j ∷ cs) = ⊥
 HasNoBefore (Below i j ∷ cs) = HasNoBefore cs
-HasNoBefore (Stands i v ∷ cs) = HasNoBefore cs
+HasNoBefore (LiesAt i v ∷ cs) = HasNoBefore cs
 
 behind-at : (c : Choice) (cs : List Choice) (i j : ℕ) → (c ≡ Before i j → ⊥) → (HasOrder cs i j → ⊥) → (k : ℕ) → k < length (c ∷ cs) → slice_index_or (c ∷ cs) k (Before i j) ≡ Before i j → ⊥
 behind-at c cs i j first rest zero less e = first e
@@ -57,7 +58,7 @@ no-order [] i j h o = let short : o.0 < 0 = o.1 in omega (arith, short)
 no-order (Lies a b ∷ cs) i j h o = behind (Lies a b) cs i j (λ e. cc) (no-order cs i j h) o
 no-order (Before a b ∷ cs) i j h o = absurd h
 no-order (Below a b ∷ cs) i j h o = behind (Below a b) cs i j (λ e. cc) (no-order cs i j h) o
-no-order (Stands a b ∷ cs) i j h o = behind (Stands a b) cs i j (λ e. cc) (no-order cs i j h) o
+no-order (LiesAt a b ∷ cs) i j h o = behind (LiesAt a b) cs i j (λ e. cc) (no-order cs i j h) o
 
 abbrev AreClose : Deck → List Choice → ℕ → ℕ → Type 0
 AreClose d case i j = DoOverlap d case i j ⊎ ShareHost case i j

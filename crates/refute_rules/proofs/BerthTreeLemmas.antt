@@ -2,7 +2,7 @@
 use Rattle.std.proofs.Common.{◌≡◌, ℕ, zero, suc, ◌+◌, ◌≤◌, List, [], ◌∷◌, ◌++◌, inl, inr, refl, subst, arith}
 use Rattle.std.proofs.lemmas.Bool.Decides.{leb_tells}
 use Rattle.lock_model.specs.Deck.{Deck}
-use Rattle.refute_rules.specs.Choices.{Choice}
+use Rattle.refute_rules.specs.declared.choices.Choice.{Choice}
 use Rattle.refute_rules.specs.Trees.{AreInOrder}
 use Rattle.refute_rules.specs.BerthFaults.{BerthFault, IsBerthFault, berth_fault_numbers}
 use Rattle.refute_rules.specs.BerthTrees.{Split, IsOpen, split_options, split_numbers, IsTreeWithin, BeginsWithTree}

@@ -3,7 +3,7 @@ use Rattle.std.specs.Prelude.{ℕ, ◌≡◌, ◌+◌, ◌*◌, ◌^◌, ◌/◌
 use Rattle.lock_model.specs.Deck.{Deck}
 use Rattle.lock_rules.specs.Arrival.{numbers_from}
 use Rattle.refute_rules.specs.Reasons.{length_at}
-use Rattle.refute_rules.specs.Choices.{Choice}
+use Rattle.refute_rules.specs.declared.choices.Choice.{Choice}
 use Rattle.refute_rules.specs.Decided.{HasOtherRank}
 use Rattle.refute_rules.specs.Known.{hosts_within}
 use Rattle.refute_rules.specs.SpotFaults.{IsOutsideAcross}

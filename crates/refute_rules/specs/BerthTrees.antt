@@ -1,7 +1,9 @@
 -- Berth trees as lists of numbers, one node after the other.
 use Rattle.std.specs.Prelude.{ℕ, zero, suc, ◌≡◌, ◌≢◌, ◌<◌, ◌⊎◌, List, [], ◌∷◌, ◌++◌, length, map, None}
 use Rattle.lock_model.specs.Deck.{Deck}
-use Rattle.refute_rules.specs.Choices.{Choice, Lies, Before, berths_of}
+use Rattle.refute_rules.specs.declared.choices.Choice.{Choice}
+use Rattle.refute_rules.specs.declared.choices.Choice.TheVariants.{Lies, Before}
+use Rattle.refute_rules.specs.Choices.{berths_of}
 use Rattle.refute_rules.specs.Decided.{berth_in}
 use Rattle.refute_rules.specs.Trees.{AreInOrder, IsLeaf}
 use Rattle.refute_rules.specs.BerthCases.{HasOrder, DoOverlap}

@@ -3,7 +3,9 @@ use Rattle.std.specs.Prelude.{ℕ, ◌≡◌, ◌≢◌, List, [], ◌∷◌, na
 use Rattle.std.specs.declared.option.Option.{Option}
 use Rattle.lock_model.specs.declared.placement.Rank.{Rank}
 use Rattle.lock_model.specs.declared.placement.Moor.TheVariants.{Ship}
-use Rattle.refute_rules.specs.Choices.{Berth, Choice, Lies, Before, Below, Stands}
+use Rattle.refute_rules.specs.declared.choices.Berth.{Berth}
+use Rattle.refute_rules.specs.declared.choices.Choice.{Choice}
+use Rattle.refute_rules.specs.declared.choices.Choice.TheVariants.{Lies, Before, Below, LiesAt}
 
 -- the berth of ship i, where it is decided
 abbrev pub berth_in : List Choice → ℕ → Option Berth
@@ -11,7 +13,7 @@ berth_in [] i = None
 berth_in (Lies j b ∷ cs) i = if nat_eq j i then Some b else berth_in cs i
 berth_in (Before j k ∷ cs) i = berth_in cs i
 berth_in (Below j k ∷ cs) i = berth_in cs i
-berth_in (Stands j v ∷ cs) i = berth_in cs i
+berth_in (LiesAt j v ∷ cs) i = berth_in cs i
 
 -- the x of ship i, where it is decided
 abbrev pub x_in : List Choice → ℕ → Option ℕ
@@ -19,7 +21,7 @@ x_in [] i = None
 x_in (Lies j b ∷ cs) i = x_in cs i
 x_in (Before j k ∷ cs) i = x_in cs i
 x_in (Below j k ∷ cs) i = x_in cs i
-x_in (Stands j v ∷ cs) i = if nat_eq j i then Some v else x_in cs i
+x_in (LiesAt j v ∷ cs) i = if nat_eq j i then Some v else x_in cs i
 
 -- ship i is decided to lie at a host, the host's berth is decided too, and it is of the other rank
 pub record HasOtherRank (case : List Choice) (i : ℕ) : Type 0 where

@@ -8,7 +8,8 @@ use Rattle.lock_model.specs.declared.placement.Moor.TheVariants.{Quay, Ship}
 use Rattle.lock_rules.specs.Arrival.{numbers_from}
 use Rattle.diff_rules.specs.declared.edges.Edge.{Edge}
 use Rattle.refute_rules.specs.Reasons.{length_at, width_at}
-use Rattle.refute_rules.specs.Choices.{Choice, Lies, Before, Below, Stands}
+use Rattle.refute_rules.specs.declared.choices.Choice.{Choice}
+use Rattle.refute_rules.specs.declared.choices.Choice.TheVariants.{Lies, Before, Below, LiesAt}
 
 -- the variables of ship i; variable 0 is the origin
 abbrev pub x_var : ℕ → ℕ
@@ -51,7 +52,7 @@ abbrev pub choice_edges : Deck → Choice → List Edge
 choice_edges d (Lies i b) = berth_edges d i b.rank b.moor
 choice_edges d (Before i j) = edge (x_var i) (x_var j) (pos (length_at d i + d.gap)) ∷ []
 choice_edges d (Below i j) = edge (y_var i) (y_var j) (pos (width_at d i + d.side)) ∷ []
-choice_edges d (Stands i v) = []
+choice_edges d (LiesAt i v) = []
 
 -- the edges of a case: four for each ship, then those of its options in order
 abbrev pub case_edges : Deck → List Choice → List Edge

@@ -13,8 +13,8 @@ use crate::kept::Kept;
 use crate::next::Next;
 use crate::replies::is_accepting;
 use book_core::{Book, Reply};
+use deck_cuts::Cut;
 use lock_model::Plan;
-use place_refute::Cut;
 use price_bound::Prices;
 use std::sync::ledger::{Ledger, Share};
 

@@ -1,8 +1,8 @@
 //! Events.
 
 use closing_rules::Ground;
+use deck_cuts::{Cut, Hard};
 use lock_model::Plan;
-use place_refute::{Cut, Hard};
 use price_bound::Prices;
 
 /// What is asked of a book: each event is the method of `Book` of its name, with its arguments.

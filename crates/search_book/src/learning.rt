@@ -4,7 +4,7 @@ ghost use Rattle.book_core.specs.Telling.{bare_cut};
 
 use book_core::Book;
 use no_memory::NoMemory;
-use place_refute::Cut;
+use deck_cuts::Cut;
 use price_bound::ChamberCut;
 
 // Appends the chamber and the ships of a cut. Where there was no memory, the list is as it was.

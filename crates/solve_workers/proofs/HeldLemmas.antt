@@ -9,7 +9,7 @@ use Rattle.lock_rules.specs.Cut.{HitsNode}
 use Rattle.lock_rules.specs.Node.{Node, IsNode}
 use Rattle.lock_rules.specs.Plan.{IsLegal}
 use Rattle.refute_rules.specs.Cuts.{Cut}
-use Rattle.place_refute.specs.Tried.{Tried}
+use Rattle.deck_cuts.specs.Tried.{Tried}
 use Rattle.master_branch.specs.Node.{IsNodeOf}
 use Rattle.book_rules.specs.Book.{Book, Case, best_cost, no_slot, slot_at, bound_at}
 use Rattle.book_rules.specs.Ends.{HoldsNothing}

@@ -2,7 +2,7 @@
 ghost use Rattle.std.specs.Prelude.{◌≡◌, ◌++◌, ◌∷◌, [], OnOk, OnErr};
 
 use no_memory::NoMemory;
-use place_refute::Cut;
+use deck_cuts::Cut;
 use std::alloc::Global;
 use std::marker::Model;
 

@@ -10,10 +10,10 @@ ghost use Rattle.solve_workers.specs.Holds.{HoldsSlot, node_at};
 use crate::told::{is_want, made, posted};
 use book_core::Book;
 use closing_rules::Ground;
+use deck_cuts::{Cut, Hard};
 use lock_model::Plan;
 use no_memory::NoMemory;
 use node_work::Fate;
-use place_refute::{Cut, Hard};
 
 /// Closes the held node on a ground that holds.
 pub(crate) fn close(book: &mut Book, id: u32, why: Ground)

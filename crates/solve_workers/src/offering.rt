@@ -9,8 +9,8 @@ ghost use Rattle.solve_workers.specs.Holds.{HoldsInHand};
 use crate::held::Held;
 use crate::told::is_closed;
 use book_core::{Book, Reply};
+use deck_cuts::Cut;
 use lock_model::Plan;
-use place_refute::Cut;
 use price_bound::{Prices, Shown};
 
 // That the refutation of a cut holds, as its type keeps.

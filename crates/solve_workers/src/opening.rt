@@ -7,9 +7,9 @@ ghost use Rattle.solve_workers.specs.Opening.{with_cuts, opened_with};
 use crate::cut_list::CutList;
 use crate::told::posted;
 use book_core::{Book, Case, open_book};
+use deck_cuts::{Cut, copy_cut};
 use lock_model::Plan;
 use no_memory::NoMemory;
-use place_refute::{Cut, copy_cut};
 use std::alloc::Global;
 
 #[tactic(auto, using(crate::proofs::OpeningLemmas::posted_just, crate::proofs::GrowLemmas::post_granted))]

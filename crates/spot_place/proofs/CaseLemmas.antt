@@ -5,11 +5,11 @@ use Rattle.std.proofs.lemmas.Bool.Decides.{eqb_tells}
 use Rattle.std.proofs.lemmas.Option.{same_Some, none-some}
 use Rattle.lock_model.specs.declared.placement.Moor.{Moor}
 use Rattle.lock_model.specs.declared.placement.Moor.TheVariants.{Quay, Ship}
-use Rattle.refute_rules.specs.Choices.{Berth, Choice, Lies, Stands}
+use Rattle.refute_rules.specs.declared.choices.Berth.{Berth}
+use Rattle.refute_rules.specs.declared.choices.Choice.{Choice}
+use Rattle.refute_rules.specs.declared.choices.Choice.TheVariants.{Lies, LiesAt}
 use Rattle.refute_rules.specs.Decided.{berth_in, x_in, HasOtherRank}
 use Rattle.refute_rules.specs.Known.{moor_host, host_of, host_and_more, hosts_within}
-use Rattle.case_search.specs.declared.berths.Berth.{Berth as Mooring}
-use Rattle.case_search.specs.Berths.{berth_of}
 use Rattle.spot_place.specs.OnWay.{berth_at, case_from, case_of, lying, IsHostWithin}
 
 lies-here : (k j : ℕ) (b : Berth) (cs : List Choice) → j ≡ k → berth_in (Lies k b ∷ cs) j ≡ Some b
@@ -18,58 +18,58 @@ lies-here k j b cs e = elim (eqb_tells k j) [ inl y ↦ ap (λ t. cond t (Some b
 lies-there : (k j : ℕ) (b : Berth) (cs : List Choice) → j ≢ k → berth_in (Lies k b ∷ cs) j ≡ berth_in cs j
 lies-there k j b cs d = elim (eqb_tells k j) [ inl y ↦ absurd (d (sym y.1)) | inr n ↦ ap (λ t. cond t (Some b) (berth_in cs j)) n.0 ]
 
-stands-here : (k j x : ℕ) (cs : List Choice) → j ≡ k → x_in (Stands k x ∷ cs) j ≡ Some x
+stands-here : (k j x : ℕ) (cs : List Choice) → j ≡ k → x_in (LiesAt k x ∷ cs) j ≡ Some x
 stands-here k j x cs e = elim (eqb_tells k j) [ inl y ↦ ap (λ t. cond t (Some x) (x_in cs j)) y.0 | inr n ↦ absurd (n.1 (sym e)) ]
 
-stands-there : (k j x : ℕ) (cs : List Choice) → j ≢ k → x_in (Stands k x ∷ cs) j ≡ x_in cs j
+stands-there : (k j x : ℕ) (cs : List Choice) → j ≢ k → x_in (LiesAt k x ∷ cs) j ≡ x_in cs j
 stands-there k j x cs d = elim (eqb_tells k j) [ inl y ↦ absurd (d (sym y.1)) | inr n ↦ ap (λ t. cond t (Some x) (x_in cs j)) n.0 ]
 
-berth-from : (k : ℕ) (ms : List Mooring) (xs : List ℕ) (i j : ℕ) → j ≡ k + i → i < length ms → berth_in (case_from k ms xs) j ≡ Some (berth_of (berth_at ms i))
+berth-from : (k : ℕ) (ms : List Berth) (xs : List ℕ) (i j : ℕ) → j ≡ k + i → i < length ms → berth_in (case_from k ms xs) j ≡ Some (berth_at ms i)
 berth-from k [] xs i j e h = absurd (omega (arith, h))
-berth-from k (m ∷ ms) [] zero j e h = lies-here k j (berth_of m) (case_from (suc k) ms []) (omega (arith, e))
-berth-from k (m ∷ ms) [] (suc i) j e h = lies-there k j (berth_of m) (case_from (suc k) ms []) (omega (arith, e)) ∙ berth-from (suc k) ms [] i j (omega (arith, e)) (omega (arith, h))
-berth-from k (m ∷ ms) (x ∷ xs) zero j e h = lies-here k j (berth_of m) (Stands k x ∷ case_from (suc k) ms xs) (omega (arith, e))
-berth-from k (m ∷ ms) (x ∷ xs) (suc i) j e h = lies-there k j (berth_of m) (Stands k x ∷ case_from (suc k) ms xs) (omega (arith, e)) ∙ berth-from (suc k) ms xs i j (omega (arith, e)) (omega (arith, h))
+berth-from k (m ∷ ms) [] zero j e h = lies-here k j m (case_from (suc k) ms []) (omega (arith, e))
+berth-from k (m ∷ ms) [] (suc i) j e h = lies-there k j m (case_from (suc k) ms []) (omega (arith, e)) ∙ berth-from (suc k) ms [] i j (omega (arith, e)) (omega (arith, h))
+berth-from k (m ∷ ms) (x ∷ xs) zero j e h = lies-here k j m (LiesAt k x ∷ case_from (suc k) ms xs) (omega (arith, e))
+berth-from k (m ∷ ms) (x ∷ xs) (suc i) j e h = lies-there k j m (LiesAt k x ∷ case_from (suc k) ms xs) (omega (arith, e)) ∙ berth-from (suc k) ms xs i j (omega (arith, e)) (omega (arith, h))
 
-no_berth-from : (k : ℕ) (ms : List Mooring) (xs : List ℕ) (j : ℕ) → k + length ms ≤ j → berth_in (case_from k ms xs) j ≡ None
+no_berth-from : (k : ℕ) (ms : List Berth) (xs : List ℕ) (j : ℕ) → k + length ms ≤ j → berth_in (case_from k ms xs) j ≡ None
 no_berth-from k [] xs j h = refl
-no_berth-from k (m ∷ ms) [] j h = lies-there k j (berth_of m) (case_from (suc k) ms []) (omega (arith, h)) ∙ no_berth-from (suc k) ms [] j (omega (arith, h))
-no_berth-from k (m ∷ ms) (x ∷ xs) j h = lies-there k j (berth_of m) (Stands k x ∷ case_from (suc k) ms xs) (omega (arith, h)) ∙ no_berth-from (suc k) ms xs j (omega (arith, h))
+no_berth-from k (m ∷ ms) [] j h = lies-there k j m (case_from (suc k) ms []) (omega (arith, h)) ∙ no_berth-from (suc k) ms [] j (omega (arith, h))
+no_berth-from k (m ∷ ms) (x ∷ xs) j h = lies-there k j m (LiesAt k x ∷ case_from (suc k) ms xs) (omega (arith, h)) ∙ no_berth-from (suc k) ms xs j (omega (arith, h))
 
-place-from : (k : ℕ) (ms : List Mooring) (xs : List ℕ) (i j : ℕ) → j ≡ k + i → length xs ≤ length ms → i < length xs → x_in (case_from k ms xs) j ≡ Some (slice_index_or xs i 0)
+place-from : (k : ℕ) (ms : List Berth) (xs : List ℕ) (i j : ℕ) → j ≡ k + i → length xs ≤ length ms → i < length xs → x_in (case_from k ms xs) j ≡ Some (slice_index_or xs i 0)
 place-from k [] [] i j e l h = absurd (omega (arith, h))
 place-from k [] (x ∷ xs) i j e l h = absurd (omega (arith, l))
 place-from k (m ∷ ms) [] i j e l h = absurd (omega (arith, h))
 place-from k (m ∷ ms) (x ∷ xs) zero j e l h = stands-here k j x (case_from (suc k) ms xs) (omega (arith, e))
 place-from k (m ∷ ms) (x ∷ xs) (suc i) j e l h = stands-there k j x (case_from (suc k) ms xs) (omega (arith, e)) ∙ place-from (suc k) ms xs i j (omega (arith, e)) (omega (arith, l)) (omega (arith, h))
 
-no_places : (k : ℕ) (ms : List Mooring) (j : ℕ) → x_in (case_from k ms []) j ≡ None
+no_places : (k : ℕ) (ms : List Berth) (j : ℕ) → x_in (case_from k ms []) j ≡ None
 no_places k [] j = refl
 no_places k (m ∷ ms) j = no_places (suc k) ms j
 
-no_place-from : (k : ℕ) (ms : List Mooring) (xs : List ℕ) (j : ℕ) → k + length xs ≤ j → x_in (case_from k ms xs) j ≡ None
+no_place-from : (k : ℕ) (ms : List Berth) (xs : List ℕ) (j : ℕ) → k + length xs ≤ j → x_in (case_from k ms xs) j ≡ None
 no_place-from k [] xs j h = refl
 no_place-from k (m ∷ ms) [] j h = no_places (suc k) ms j
 no_place-from k (m ∷ ms) (x ∷ xs) j h = stands-there k j x (case_from (suc k) ms xs) (omega (arith, h)) ∙ no_place-from (suc k) ms xs j (omega (arith, h))
 
 -- ---- the whole list
 
-pub berth-hit : (ms : List Mooring) (xs : List ℕ) (i : ℕ) → i < length ms → berth_in (case_of ms xs) i ≡ Some (berth_of (berth_at ms i))
+pub berth-hit : (ms : List Berth) (xs : List ℕ) (i : ℕ) → i < length ms → berth_in (case_of ms xs) i ≡ Some (berth_at ms i)
 berth-hit ms xs i h = berth-from 0 ms xs i i (omega arith) h
 
-pub berth-miss : (ms : List Mooring) (xs : List ℕ) (i : ℕ) → length ms ≤ i → berth_in (case_of ms xs) i ≡ None
+pub berth-miss : (ms : List Berth) (xs : List ℕ) (i : ℕ) → length ms ≤ i → berth_in (case_of ms xs) i ≡ None
 berth-miss ms xs i h = no_berth-from 0 ms xs i (omega (arith, h))
 
-pub place-hit : (ms : List Mooring) (xs : List ℕ) (i : ℕ) → length xs ≤ length ms → i < length xs → x_in (case_of ms xs) i ≡ Some (slice_index_or xs i 0)
+pub place-hit : (ms : List Berth) (xs : List ℕ) (i : ℕ) → length xs ≤ length ms → i < length xs → x_in (case_of ms xs) i ≡ Some (slice_index_or xs i 0)
 place-hit ms xs i l h = place-from 0 ms xs i i (omega arith) l h
 
-pub place-miss : (ms : List Mooring) (xs : List ℕ) (i : ℕ) → length xs ≤ i → x_in (case_of ms xs) i ≡ None
+pub place-miss : (ms : List Berth) (xs : List ℕ) (i : ℕ) → length xs ≤ i → x_in (case_of ms xs) i ≡ None
 place-miss ms xs i h = no_place-from 0 ms xs i (omega (arith, h))
 
-pub host_hit : (ms : List Mooring) (i : ℕ) → i < length ms → host_of (berth_in (lying ms) i) ≡ moor_host (berth_at ms i).moor
+pub host_hit : (ms : List Berth) (i : ℕ) → i < length ms → host_of (berth_in (lying ms) i) ≡ moor_host (berth_at ms i).moor
 host_hit ms i h = ap host_of (berth-hit ms [] i h)
 
-pub host_miss : (ms : List Mooring) (i : ℕ) → length ms ≤ i → host_of (berth_in (lying ms) i) ≡ None
+pub host_miss : (ms : List Berth) (i : ℕ) → length ms ≤ i → host_of (berth_in (lying ms) i) ≡ None
 host_miss ms i h = ap host_of (berth-miss ms [] i h)
 
 -- ---- tests
@@ -92,7 +92,7 @@ pub ship-of : (m : Moor) (k : ℕ) → moor_host m ≡ Some k → m ≡ Ship k
 ship-of Quay k e = absurd (none-some k e)
 ship-of (Ship j) k e = ap Ship (same_Some j k e)
 
-module _ (ms : List Mooring) (i : ℕ) where
+module _ (ms : List Berth) (i : ℕ) where
   pub rank-quay : host_of (berth_in (lying ms) i) ≡ None → HasOtherRank (lying ms) i → ⊥
   rank-quay e h = none-some h.host (sym e ∙ ap host_of h.lies)
 
@@ -107,7 +107,7 @@ module _ (ms : List Mooring) (i : ℕ) where
     ranks-differ d = record {
       host = k;
       own = (berth_at ms i).rank;
-      berth = berth_of (berth_at ms k);
+      berth = berth_at ms k;
       lies = berth-hit ms [] i known ∙ ap (λ m. Some (record { rank = (berth_at ms i).rank; moor = m })) (ship-of (berth_at ms i).moor k (sym (host_hit ms i known) ∙ host));
       decided = berth-hit ms [] k decided;
       differ = d;

@@ -11,10 +11,10 @@ use Rattle.lock_model.specs.declared.placement.Rank.TheVariants.{Left, Right}
 use Rattle.lock_model.specs.declared.placement.Moor.{Moor}
 use Rattle.lock_model.specs.declared.placement.Moor.TheVariants.{Quay, Ship}
 use Rattle.refute_rules.specs.Reasons.{width_at}
-use Rattle.refute_rules.specs.Choices.{Berth, Choice}
+use Rattle.refute_rules.specs.declared.choices.Berth.{Berth}
+use Rattle.refute_rules.specs.declared.choices.Choice.{Choice}
 use Rattle.refute_rules.specs.Decided.{berth_in}
 use Rattle.refute_rules.specs.Known.{quay_y, guest_y, moored_y, berth_y, y_within}
-use Rattle.case_search.specs.declared.berths.Berth.{Berth as Mooring}
 use Rattle.spot_place.specs.OnWay.{berth_at, lying}
 use Rattle.refute_rules.proofs.KnownLemmas.{map-some}
 use Rattle.spot_place.proofs.CaseLemmas.{berth-hit, berth-miss}
@@ -81,7 +81,7 @@ module _ (d : Deck) (good : IsDeck d) (case : List Choice) where
 
 -- ---- y by the berth
 
-module _ (d : Deck) (ms : List Mooring) (i : ℕ) where
+module _ (d : Deck) (ms : List Berth) (i : ℕ) where
   pub y-undecided : (steps : ℕ) → length ms ≤ i → None ≡ y_within d (lying ms) steps i
   y-undecided zero h = refl
   y-undecided (suc steps) h = sym (ap (λ o. berth_y d i o (y_within d (lying ms) steps)) (berth-miss ms [] i h))

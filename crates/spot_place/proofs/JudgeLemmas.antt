@@ -4,12 +4,11 @@ use Rattle.std.proofs.lemmas.Bool.Decides.{eqb_tells, leb_tells}
 use Rattle.std.proofs.lemmas.List.{length-take-le}
 use Rattle.std.proofs.lemmas.Option.{none-some}
 use Rattle.lock_model.specs.Deck.{Deck}
-use Rattle.refute_rules.specs.Choices.{Choice, Berth}
+use Rattle.refute_rules.specs.declared.choices.Berth.{Berth}
+use Rattle.refute_rules.specs.declared.choices.Choice.{Choice}
 use Rattle.refute_rules.specs.Decided.{berth_in, x_in, HasOtherRank}
 use Rattle.refute_rules.specs.Known.{host_of, hosts_within, berth_y, y_within, y_in}
 use Rattle.refute_rules.specs.SpotFaults.{AreApartAt, IsOutsideAlong, IsOutsideAcross, IsPastHost, AreTouching, OtherRank, LeadsBack, Outside, PastHost, Touching, IsFaultless}
-use Rattle.case_search.specs.declared.berths.Berth.{Berth as Mooring}
-use Rattle.case_search.specs.Berths.{berth_of}
 use Rattle.spot_place.specs.OnWay.{case_of, lying, IsBack, NoneBelow}
 use Rattle.spot_place.specs.SpotCase.{OnWay, case_on, IsOnWay}
 use Rattle.spot_place.specs.Faults.{AreApartBelow}
@@ -19,13 +18,13 @@ use Rattle.spot_place.proofs.KeptLemmas.{take-at, y-same, hosts-same, berths-sam
 
 -- ---- ships of which something is known
 
-pub berth-decided : (ms : List Mooring) (xs : List ℕ) (i : ℕ) (b : Berth) → berth_in (case_of ms xs) i ≡ Some b → i < length ms
+pub berth-decided : (ms : List Berth) (xs : List ℕ) (i : ℕ) (b : Berth) → berth_in (case_of ms xs) i ≡ Some b → i < length ms
 berth-decided ms xs i b e = elim (leb_tells (suc i) (length ms)) [
   | inl y ↦ omega (arith, y.1)
   | inr n ↦ absurd (none-some b (sym (berth-miss ms xs i (omega (arith, n.1))) ∙ e))
 ]
 
-pub x-decided : (ms : List Mooring) (xs : List ℕ) (i x : ℕ) → x_in (case_of ms xs) i ≡ Some x → i < length xs
+pub x-decided : (ms : List Berth) (xs : List ℕ) (i x : ℕ) → x_in (case_of ms xs) i ≡ Some x → i < length xs
 x-decided ms xs i x e = elim (leb_tells (suc i) (length xs)) [
   | inl y ↦ omega (arith, y.1)
   | inr n ↦ absurd (none-some x (sym (place-miss ms xs i (omega (arith, n.1))) ∙ e))
@@ -35,7 +34,7 @@ no_berth-no_y : (d : Deck) (case : List Choice) (steps i : ℕ) → berth_in cas
 no_berth-no_y d case zero i e = refl
 no_berth-no_y d case (suc steps) i e = ap (λ o. berth_y d i o (y_within d case steps)) e
 
-pub y-decided : (d : Deck) (ms : List Mooring) (xs : List ℕ) (i : ℕ) (y : ℤ) → y_in d (case_of ms xs) i ≡ Some y → i < length ms
+pub y-decided : (d : Deck) (ms : List Berth) (xs : List ℕ) (i : ℕ) (y : ℤ) → y_in d (case_of ms xs) i ≡ Some y → i < length ms
 y-decided d ms xs i y e = elim (leb_tells (suc i) (length ms)) [
   | inl l ↦ omega (arith, l.1)
   | inr n ↦ absurd (none-some y (sym (no_berth-no_y d (case_of ms xs) (length d.ships) i (berth-miss ms xs i (omega (arith, n.1)))) ∙ e))
@@ -99,7 +98,7 @@ by_order i j d = elim (leb_tells (suc i) j) [ inl y ↦ inl y.1 | inr n ↦ inr 
 
 -- ---- the empty case
 
-pub empty-faultless : (d : Deck) (ms : List Mooring) (xs : List ℕ) → length ms ≡ 0 → length xs ≡ 0 → IsFaultless d (case_of ms xs)
+pub empty-faultless : (d : Deck) (ms : List Berth) (xs : List ℕ) → length ms ≡ 0 → length xs ≡ 0 → IsFaultless d (case_of ms xs)
 empty-faultless d ms xs a b (OtherRank i) h = let less = berth-decided ms xs i _ h.lies in omega (arith, less, a)
 empty-faultless d ms xs a b (LeadsBack i) h = leads-quay (case_of ms xs) i i (length d.ships) (ap host_of (berth-miss ms xs i (omega (arith, a)))) (record { among = h })
 empty-faultless d ms xs a b (Outside i) (inl h) = let less = x-decided ms xs i h.x h.decided in omega (arith, less, b)
@@ -109,7 +108,7 @@ empty-faultless d ms xs a b (Touching i j) h = let less = x-decided ms xs i h.xi
 
 -- ---- the last option is a berth
 
-module _ (d : Deck) (ms : List Mooring) (xs : List ℕ) (way : IsOnWay d ms xs) where
+module _ (d : Deck) (ms : List Berth) (xs : List ℕ) (way : IsOnWay d ms xs) where
   module _ (step : length ms ≡ suc (length xs)) where
     abbrev without_berth : List Choice
     without_berth = case_of (take (length xs) ms) xs
@@ -131,7 +130,7 @@ module _ (d : Deck) (ms : List Mooring) (xs : List ℕ) (way : IsOnWay d ms xs) 
     berth-without : (i : ℕ) → i < length xs → berth_in (case_of ms xs) i ≡ berth_in without_berth i
     berth-without i less =
         let few = fewer in
-        berth-hit ms xs i (omega (arith, less, step)) ∙ ap (λ (m : Mooring). Some (berth_of m)) (sym (take-at ms (length xs) i _ less)) ∙ sym (berth-hit (take (length xs) ms) xs i (omega (arith, few, less)))
+        berth-hit ms xs i (omega (arith, less, step)) ∙ ap (λ (m : Berth). Some m) (sym (take-at ms (length xs) i _ less)) ∙ sym (berth-hit (take (length xs) ms) xs i (omega (arith, few, less)))
 
     pub berth-exact : (n : ℕ) → n ≡ length d.ships → NoneBelow (HasOtherRank (lying ms)) (length ms) → NoneBelow (IsBack (lying ms) n) (length ms) → NoneBelow (IsOutsideAcross d (case_of ms xs)) (length d.ships) → AreApartBelow d (case_of ms xs) (length xs) → IsFaultless d (case_of ms xs)
     berth-exact n e ranks backs across apart (OtherRank i) h = ranks.each i (berth-decided ms xs i _ h.lies) (rank-as d (case_of ms xs) (lying ms) (berths-same ms xs []) i h)
@@ -198,7 +197,7 @@ module _ (d : Deck) (ms : List Mooring) (xs : List ℕ) (way : IsOnWay d ms xs) 
 
 -- ---- through what the type shows
 
-module _ (d : Deck) (ms : List Mooring) (xs : List ℕ) (s : OnWay) (shows : record { deck = d; berths = ms; places = xs } ≡ s) where
+module _ (d : Deck) (ms : List Berth) (xs : List ℕ) (s : OnWay) (shows : record { deck = d; berths = ms; places = xs } ≡ s) where
   pub shown-rank : (i : ℕ) → HasOtherRank (lying ms) i → HasOtherRank (case_on s) i
   shown-rank i h = subst (λ (u : OnWay). HasOtherRank (case_on u) i) shows (rank-as d (lying ms) (case_of ms xs) (berths-same ms [] xs) i h)
 
@@ -212,8 +211,8 @@ module _ (d : Deck) (ms : List Mooring) (xs : List ℕ) (s : OnWay) (shows : rec
   shown-faultless n e step way ranks backs across apart =
       let berths : ms ≡ s.berths = ap (λ (u : OnWay). u.berths) shows in
       berth-exact s.deck s.berths s.places way step n e
-      (subst (λ (ms : List Mooring). NoneBelow (HasOtherRank (lying ms)) (length ms)) berths ranks)
-      (subst (λ (ms : List Mooring). NoneBelow (IsBack (lying ms) n) (length ms)) berths backs)
+      (subst (λ (ms : List Berth). NoneBelow (HasOtherRank (lying ms)) (length ms)) berths ranks)
+      (subst (λ (ms : List Berth). NoneBelow (IsBack (lying ms) n) (length ms)) berths backs)
       across apart
 
   pub shown-empty : length ms ≡ 0 → length xs ≡ 0 → IsFaultless s.deck (case_on s)

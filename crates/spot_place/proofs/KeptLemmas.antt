@@ -7,13 +7,14 @@ use Rattle.std.proofs.Math.ListN.{get_or-append}
 use Rattle.std.proofs.lemmas.Option.{none-some}
 use Rattle.list_laws.proofs.Lists.{length-push}
 use Rattle.lock_model.specs.Deck.{Deck}
-use Rattle.refute_rules.specs.Choices.{Choice, Lies, Stands, IsKnownMoor}
+use Rattle.refute_rules.specs.declared.choices.Choice.{Choice}
+use Rattle.refute_rules.specs.declared.choices.Choice.TheVariants.{Lies, LiesAt}
+use Rattle.refute_rules.specs.Choices.{IsKnownMoor}
 use Rattle.refute_rules.specs.Decided.{berth_in, x_in}
 use Rattle.refute_rules.specs.Known.{host_of, host_and_more, hosts_within, berth_y, y_within, y_in}
 use Rattle.refute_rules.specs.SpotFaults.{IsFaultless}
 use Rattle.refute_rules.specs.Spots.{IsListed}
-use Rattle.case_search.specs.declared.berths.Berth.{Berth as Mooring}
-use Rattle.case_search.specs.Berths.{berth_of}
+use Rattle.refute_rules.specs.declared.choices.Berth.{Berth}
 use Rattle.spot_place.specs.OnWay.{berth_at, case_of, lying, AreKnown}
 use Rattle.spot_place.specs.Heights.{height_at, AreHeights}
 use Rattle.spot_place.specs.SpotCase.{OnWay, case_on, IsOnWay, AreLevels, KeepsSpotCase}
@@ -38,7 +39,7 @@ pub hosts-same : (c e : List Choice) → ((i : ℕ) → berth_in c i ≡ berth_i
 hosts-same c e same zero i = refl
 hosts-same c e same (suc steps) i = λ t. host_and_more (host_of (same i t)) (λ k. hosts-same c e same steps k t)
 
-pub berths-same : (ms : List Mooring) (xs ys : List ℕ) (i : ℕ) → berth_in (case_of ms xs) i ≡ berth_in (case_of ms ys) i
+pub berths-same : (ms : List Berth) (xs ys : List ℕ) (i : ℕ) → berth_in (case_of ms xs) i ≡ berth_in (case_of ms ys) i
 berths-same ms xs ys i = elim (leb_tells (suc i) (length ms)) [
   | inl y ↦ berth-hit ms xs i y.1 ∙ sym (berth-hit ms ys i y.1)
   | inr n ↦ let late : length ms ≤ i = omega (arith, n.1) in berth-miss ms xs i late ∙ sym (berth-miss ms ys i late)
@@ -47,7 +48,7 @@ berths-same ms xs ys i = elim (leb_tells (suc i) (length ms)) [
 -- ---- hosts
 
 -- a decided host is a ship of the deck
-pub host-in_deck : (d : Deck) (ms : List Mooring) → AreKnown d ms → (i k : ℕ) → host_of (berth_in (lying ms) i) ≡ Some k → k < length d.ships
+pub host-in_deck : (d : Deck) (ms : List Berth) → AreKnown d ms → (i k : ℕ) → host_of (berth_in (lying ms) i) ≡ Some k → k < length d.ships
 host-in_deck d ms known i k e = elim (leb_tells (suc i) (length ms)) [
   | inl y ↦ subst (IsKnownMoor d) (ship-of (berth_at ms i).moor k (sym (host_hit ms i y.1) ∙ e)) (known.each i y.1)
   | inr n ↦ absurd (none-some k (sym (host_miss ms i (omega (arith, n.1))) ∙ e))
@@ -55,19 +56,19 @@ host-in_deck d ms known i k e = elim (leb_tells (suc i) (length ms)) [
 
 -- ---- what is kept
 
-module _ (d : Deck) (values : List ℕ) (ms : List Mooring) (xs : List ℕ) (levels : List (List (Option ℤ))) (kept : KeepsSpotCase d values ms xs levels) where
-  known-more : (m : Mooring) → IsKnownMoor d m.moor → AreKnown d (ms ++ m ∷ [])
+module _ (d : Deck) (values : List ℕ) (ms : List Berth) (xs : List ℕ) (levels : List (List (Option ℤ))) (kept : KeepsSpotCase d values ms xs levels) where
+  known-more : (m : Berth) → IsKnownMoor d m.moor → AreKnown d (ms ++ m ∷ [])
   known-more m known = record { each = each }
     where
       each : (i : ℕ) → i < length (ms ++ m ∷ []) → IsKnownMoor d (berth_at (ms ++ m ∷ []) i).moor
       each i h =
           let count = length-push ms m in
           elim (eqb_tells i (length ms)) [
-            | inl y ↦ subst (λ (n : Mooring). IsKnownMoor d n.moor) (sym (ap (berth_at (ms ++ m ∷ [])) y.1 ∙ get_or-append_seam ms m [] _)) known
-            | inr n ↦ let less : i < length ms = omega (arith, h, count, n.1) in subst (λ (n : Mooring). IsKnownMoor d n.moor) (sym (get_or-append ms (m ∷ []) _ i less)) (kept.way.known.each i less)
+            | inl y ↦ subst (λ (n : Berth). IsKnownMoor d n.moor) (sym (ap (berth_at (ms ++ m ∷ [])) y.1 ∙ get_or-append_seam ms m [] _)) known
+            | inr n ↦ let less : i < length ms = omega (arith, h, count, n.1) in subst (λ (n : Berth). IsKnownMoor d n.moor) (sym (get_or-append ms (m ∷ []) _ i less)) (kept.way.known.each i less)
           ]
 
-  levels-more : (m : Mooring) (heights : List (Option ℤ)) → AreHeights d (lying (ms ++ m ∷ [])) heights → AreLevels d (ms ++ m ∷ []) (levels ++ heights ∷ [])
+  levels-more : (m : Berth) (heights : List (Option ℤ)) → AreHeights d (lying (ms ++ m ∷ [])) heights → AreLevels d (ms ++ m ∷ []) (levels ++ heights ∷ [])
   levels-more m heights are = record {
     count = length-push levels heights ∙ ap suc (kept.known.count ∙ sym (length-push ms m));
     each = each;
@@ -95,7 +96,7 @@ module _ (d : Deck) (values : List ℕ) (ms : List Mooring) (xs : List ℕ) (lev
             | inr n ↦ old k (omega (arith, h, count, levelled, n.1))
           ]
 
-  moored : (m : Mooring) (heights : List (Option ℤ)) → length ms < length d.ships → length ms ≡ length xs → IsKnownMoor d m.moor → IsFaultless d (case_of ms xs) → AreHeights d (lying (ms ++ m ∷ [])) heights → KeepsSpotCase d values (ms ++ m ∷ []) xs (levels ++ heights ∷ [])
+  moored : (m : Berth) (heights : List (Option ℤ)) → length ms < length d.ships → length ms ≡ length xs → IsKnownMoor d m.moor → IsFaultless d (case_of ms xs) → AreHeights d (lying (ms ++ m ∷ [])) heights → KeepsSpotCase d values (ms ++ m ∷ []) xs (levels ++ heights ∷ [])
   moored m heights room step known good are =
       let count = length-push ms m in
       record {
@@ -106,7 +107,7 @@ module _ (d : Deck) (values : List ℕ) (ms : List Mooring) (xs : List ℕ) (lev
           behind = omega (arith, count, step);
           ahead = omega (arith, count, step);
           known = known-more m known;
-          listed = subst (IsListed d) (sym (push-berth ms xs m step)) (listed-more d (case_of ms xs) (Lies (length ms) (berth_of m)) kept.way.listed good);
+          listed = subst (IsListed d) (sym (push-berth ms xs m step)) (listed-more d (case_of ms xs) (Lies (length ms) m) kept.way.listed good);
         };
         known = levels-more m heights are;
       }
@@ -122,7 +123,7 @@ module _ (d : Deck) (values : List ℕ) (ms : List Mooring) (xs : List ℕ) (lev
           behind = omega (arith, count, step);
           ahead = omega (arith, count, step);
           known = kept.way.known;
-          listed = subst (IsListed d) (sym (push-place ms xs x step)) (listed-more d (case_of ms xs) (Stands (length xs) x) kept.way.listed good);
+          listed = subst (IsListed d) (sym (push-place ms xs x step)) (listed-more d (case_of ms xs) (LiesAt (length xs) x) kept.way.listed good);
         };
         known = kept.known;
       }
@@ -139,7 +140,7 @@ module _ (d : Deck) (values : List ℕ) (ms : List Mooring) (xs : List ℕ) (lev
           ships = omega (arith, count, berths, ships);
           behind = omega (arith, count, places);
           ahead = omega (arith, count, places);
-          known = record { each = λ i h. let less : i < n = omega (arith, h, count) in subst (λ (m : Mooring). IsKnownMoor d m.moor) (sym (take-at ms n i _ less)) (kept.way.known.each i (omega (arith, less, berths))) };
+          known = record { each = λ i h. let less : i < n = omega (arith, h, count) in subst (λ (m : Berth). IsKnownMoor d m.moor) (sym (take-at ms n i _ less)) (kept.way.known.each i (omega (arith, less, berths))) };
           listed = subst (IsListed d) (sym (pop-berth n ms xs berths places)) (listed-less d (case_of ms xs) (n + n) (omega (arith, long, berths, places)) kept.way.listed);
         };
         known = record { count = length-take-le (suc n) levels (let levelled = kept.known.count in omega (arith, levelled, berths)) ∙ ap suc (sym count); each = each };
@@ -182,8 +183,8 @@ module _ (d : Deck) (values : List ℕ) (ms : List Mooring) (xs : List ℕ) (lev
 
 -- ---- through what the type shows
 
-module _ (d : Deck) (values : List ℕ) (ms : List Mooring) (xs : List ℕ) (levels : List (List (Option ℤ))) (kept : KeepsSpotCase d values ms xs levels) (s : OnWay) (shows : record { deck = d; berths = ms; places = xs } ≡ s) where
-  pub kept-moored : (m : Mooring) (more : List Mooring) (heights : List (Option ℤ)) (further : List (List (Option ℤ))) → length s.berths < length s.deck.ships → length s.berths ≡ length s.places → IsKnownMoor s.deck m.moor → IsFaultless s.deck (case_on s) → more ≡ ms ++ m ∷ [] → AreHeights d (lying more) heights → further ≡ levels ++ heights ∷ [] → KeepsSpotCase d values more xs further
+module _ (d : Deck) (values : List ℕ) (ms : List Berth) (xs : List ℕ) (levels : List (List (Option ℤ))) (kept : KeepsSpotCase d values ms xs levels) (s : OnWay) (shows : record { deck = d; berths = ms; places = xs } ≡ s) where
+  pub kept-moored : (m : Berth) (more : List Berth) (heights : List (Option ℤ)) (further : List (List (Option ℤ))) → length s.berths < length s.deck.ships → length s.berths ≡ length s.places → IsKnownMoor s.deck m.moor → IsFaultless s.deck (case_on s) → more ≡ ms ++ m ∷ [] → AreHeights d (lying more) heights → further ≡ levels ++ heights ∷ [] → KeepsSpotCase d values more xs further
   kept-moored m more heights further room step known good e are f =
       subst (λ (u : OnWay). length u.berths < length u.deck.ships → length u.berths ≡ length u.places → IsKnownMoor u.deck m.moor → IsFaultless u.deck (case_on u) → KeepsSpotCase d values more xs further) shows
       (λ room step known good. subst (λ ns. KeepsSpotCase d values ns xs further) (sym e) (subst (KeepsSpotCase d values (ms ++ m ∷ []) xs) (sym f) (moored d values ms xs levels kept m heights room step known good (subst (λ ns. AreHeights d (lying ns) heights) e are))))
@@ -201,7 +202,7 @@ module _ (d : Deck) (values : List ℕ) (ms : List Mooring) (xs : List ℕ) (lev
       (λ known. level-now d values ms xs levels kept level n i e is known)
       known
 
-  pub kept-unmoored : (n : ℕ) (fewer : List Mooring) (lower : List (List (Option ℤ))) → n ≡ length xs → length s.berths ≡ suc (length s.places) → fewer ≡ take n ms → lower ≡ take (n + 1) levels → KeepsSpotCase d values fewer xs lower
+  pub kept-unmoored : (n : ℕ) (fewer : List Berth) (lower : List (List (Option ℤ))) → n ≡ length xs → length s.berths ≡ suc (length s.places) → fewer ≡ take n ms → lower ≡ take (n + 1) levels → KeepsSpotCase d values fewer xs lower
   kept-unmoored n fewer lower a b e f =
       let next : n + 1 ≡ suc n = omega arith in
       subst (λ (u : OnWay). length u.berths ≡ suc (length u.places) → KeepsSpotCase d values fewer xs lower) shows
@@ -242,5 +243,5 @@ module _ (d : Deck) (values : List ℕ) (ms : List Mooring) (xs : List ℕ) (lev
   pub shown-berths : length ms ≡ length s.berths
   shown-berths = ap (λ (u : OnWay). length u.berths) shows
 
-  pub shown-berth : (i : ℕ) → i < length s.berths → berth_in (case_on s) i ≡ Some (berth_of (berth_at ms i))
-  shown-berth i h = subst (λ (u : OnWay). i < length u.berths → berth_in (case_on u) i ≡ Some (berth_of (berth_at ms i))) shows (λ h. berth-hit ms xs i h) h
+  pub shown-berth : (i : ℕ) → i < length s.berths → berth_in (case_on s) i ≡ Some (berth_at ms i)
+  shown-berth i h = subst (λ (u : OnWay). i < length u.berths → berth_in (case_on u) i ≡ Some (berth_at ms i)) shows (λ h. berth-hit ms xs i h) h

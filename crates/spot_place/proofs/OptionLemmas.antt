@@ -3,18 +3,24 @@ use Rattle.std.proofs.Common.{◌≡◌, ℕ, zero, suc, ◌+◌, ◌*◌, ◌/�
 use Rattle.std.proofs.lemmas.Bool.Decides.{leb_tells}
 use Rattle.std.proofs.lemmas.List.{get_or-map, length-map}
 use Rattle.lock_model.specs.Deck.{Deck}
+use Rattle.lock_model.specs.declared.placement.Moor.{Moor}
+use Rattle.lock_model.specs.declared.placement.Moor.TheVariants.{Quay, Ship}
 use Rattle.lock_rules.specs.Arrival.{numbers_from}
 use Rattle.refute_rules.specs.Values.{spot_values}
-use Rattle.refute_rules.specs.Choices.{Decision, BerthOf, PlaceOf, Before, Lies, Stands, Berth, berths_of, options_of, spot_decisions, IsKnownMoor}
+use Rattle.refute_rules.specs.declared.choices.Berth.{Berth}
+use Rattle.refute_rules.specs.declared.choices.Decision.{Decision}
+use Rattle.refute_rules.specs.declared.choices.Decision.TheVariants.{BerthOf, XOf}
+use Rattle.refute_rules.specs.declared.choices.Choice.TheVariants.{Before, LiesAt}
+use Rattle.refute_rules.specs.Choices.{berths_of, options_of, spot_decisions, IsKnownMoor}
 use Rattle.case_search.specs.Rules.{options_first}
-use Rattle.case_search.specs.declared.berths.Berth.{Berth as Mooring}
-use Rattle.case_search.specs.Berths.{berth_of, first_berth}
-use Rattle.case_search.proofs.BerthLemmas.{berths-length, quay-at, host-at}
+use Rattle.deck_cases.specs.Berths.{first_berth}
+use Rattle.deck_cases.specs.Asked.{IsMoorOfOthers}
+use Rattle.deck_cases.proofs.OptionLemmas.{moor_known}
 
 -- ---- decisions
 
 abbrev spot_pair : ℕ → List Decision
-spot_pair i = BerthOf i ∷ PlaceOf i ∷ []
+spot_pair i = BerthOf i ∷ XOf i ∷ []
 
 module _ (d : Deck) where
   berth-from : (low n k t i : ℕ) → k < n → t ≡ k + k → i ≡ low + k → options_first (options_of d) (drop t (flat_map spot_pair (numbers_from low n))) ≡ options_of d (BerthOf i)
@@ -25,10 +31,10 @@ module _ (d : Deck) where
   berth-from low (suc n) (suc k) (suc zero) i h e g = absurd (omega (arith, e))
   berth-from low (suc n) (suc k) (suc (suc t)) i h e g = berth-from (suc low) n k t i (omega (arith, h)) (omega (arith, e)) (omega (arith, g))
 
-  place-from : (low n k t i : ℕ) → k < n → t ≡ suc (k + k) → i ≡ low + k → options_first (options_of d) (drop t (flat_map spot_pair (numbers_from low n))) ≡ options_of d (PlaceOf i)
+  place-from : (low n k t i : ℕ) → k < n → t ≡ suc (k + k) → i ≡ low + k → options_first (options_of d) (drop t (flat_map spot_pair (numbers_from low n))) ≡ options_of d (XOf i)
   place-from low zero k t i h e g = absurd (omega (arith, h))
   place-from low (suc n) zero zero i h e g = absurd (omega (arith, e))
-  place-from low (suc n) zero (suc zero) i h e g = let same : low ≡ i = omega (arith, g) in ap (λ j. options_of d (PlaceOf j)) same
+  place-from low (suc n) zero (suc zero) i h e g = let same : low ≡ i = omega (arith, g) in ap (λ j. options_of d (XOf j)) same
   place-from low (suc n) zero (suc (suc t)) i h e g = absurd (omega (arith, e))
   place-from low (suc n) (suc k) zero i h e g = absurd (omega (arith, e))
   place-from low (suc n) (suc k) (suc zero) i h e g = absurd (omega (arith, e))
@@ -44,7 +50,7 @@ module _ (d : Deck) where
   pub berth-next : (n k t : ℕ) → k < n → t ≡ k + k → options_first (options_of d) (drop t (spot_decisions n)) ≡ options_of d (BerthOf k)
   berth-next n k t h e = berth-from 0 n k t k h e (omega arith)
 
-  pub place-next : (n k t : ℕ) → k < n → t ≡ suc (k + k) → options_first (options_of d) (drop t (spot_decisions n)) ≡ options_of d (PlaceOf k)
+  pub place-next : (n k t : ℕ) → k < n → t ≡ suc (k + k) → options_first (options_of d) (drop t (spot_decisions n)) ≡ options_of d (XOf k)
   place-next n k t h e = place-from 0 n k t k h e (omega arith)
 
   pub none-next : (n t : ℕ) → n + n ≤ t → options_first (options_of d) (drop t (spot_decisions n)) ≡ []
@@ -60,26 +66,17 @@ decisions-length n = from 0 n
 -- ---- berths
 
 -- the host of an option is a ship of the deck
-pub known-option : (d : Deck) (i option : ℕ) (b : Mooring) → i < length d.ships → option < 2 * length d.ships → berth_of b ≡ slice_index_or (berths_of (length d.ships) i) option first_berth → IsKnownMoor d b.moor
-known-option d i option b known few e =
-    elim (leb_tells 2 option) [
-      | inl y ↦ subst (IsKnownMoor d) (sym (ap (λ (t : Berth). t.moor) (e ∙ host-at (length d.ships) i option known y.1 few))) (other (option / 2 - 1) (omega (arith, few, y.1)))
-      | inr n ↦ subst (IsKnownMoor d) (sym (ap (λ (t : Berth). t.moor) (e ∙ quay-at (length d.ships) i option (omega (arith, n.1))))) tt
-    ]
-  where
-    other : (q : ℕ) → q + 1 < length d.ships → cond (nat_lt q i) q (q + 1) < length d.ships
-    other q h = elim (nat_lt q i) as (λ t. cond t q (q + 1) < length d.ships) [ true ↦ omega (arith, h) | false ↦ h ]
+known-moor : (d : Deck) (i : ℕ) (m : Moor) → IsMoorOfOthers d i m → IsKnownMoor d m
+known-moor d i Quay h = tt
+known-moor d i (Ship k) h = h.0
+
+pub known-option : (d : Deck) (i option : ℕ) (b : Berth) → i < length d.ships → option < 2 * length d.ships → b ≡ slice_index_or (berths_of (length d.ships) i) option first_berth → IsKnownMoor d b.moor
+known-option d i option b known few e = known-moor d i b.moor (moor_known d i option b known few e)
 
 -- ---- options
 
-pub berth-choice : (d : Deck) (i option : ℕ) (b : Mooring) → option < length (berths_of (length d.ships) i) → slice_index_or (berths_of (length d.ships) i) option first_berth ≡ berth_of b → slice_index_or (options_of d (BerthOf i)) option (Before 0 0) ≡ Lies i (berth_of b)
-berth-choice d i option b h e = get_or-map (Lies i) (berths_of (length d.ships) i) option first_berth (Before 0 0) h ∙ ap (Lies i) e
+pub place-choice : (d : Deck) (i option : ℕ) → option < length (spot_values d) → slice_index_or (options_of d (XOf i)) option (Before 0 0) ≡ LiesAt i (slice_index_or (spot_values d) option 0)
+place-choice d i option h = get_or-map (LiesAt i) (spot_values d) option 0 (Before 0 0) h
 
-pub place-choice : (d : Deck) (i option : ℕ) → option < length (spot_values d) → slice_index_or (options_of d (PlaceOf i)) option (Before 0 0) ≡ Stands i (slice_index_or (spot_values d) option 0)
-place-choice d i option h = get_or-map (Stands i) (spot_values d) option 0 (Before 0 0) h
-
-pub berth-count : (d : Deck) (i : ℕ) → i < length d.ships → length (options_of d (BerthOf i)) ≡ 2 * length d.ships
-berth-count d i h = length-map (berths_of (length d.ships) i) (Lies i) ∙ berths-length (length d.ships) i h
-
-pub place-count : (d : Deck) (i : ℕ) → length (options_of d (PlaceOf i)) ≡ length (spot_values d)
-place-count d i = length-map (spot_values d) (Stands i)
+pub place-count : (d : Deck) (i : ℕ) → length (options_of d (XOf i)) ≡ length (spot_values d)
+place-count d i = length-map (spot_values d) (LiesAt i)

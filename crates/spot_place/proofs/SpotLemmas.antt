@@ -6,7 +6,6 @@ use Rattle.lock_model.specs.declared.placement.Spot.{Spot}
 use Rattle.refute_rules.specs.Known.{y_in, host_of, HasKnownHosts}
 use Rattle.refute_rules.specs.SpotFaults.{LeadsBack, Outside}
 use Rattle.refute_rules.specs.Spots.{IsWholeSpots, AreSpotsOfCase}
-use Rattle.case_search.specs.Berths.{berth_of}
 use Rattle.spot_place.specs.OnWay.{berth_at}
 use Rattle.spot_place.specs.SpotCase.{OnWay, case_on, IsOnWay}
 use Rattle.spot_place.specs.ShipSpots.{IsSpotOf}
@@ -34,7 +33,7 @@ module _ (s : OnWay) (way : IsOnWay s.deck s.berths s.places) (whole : IsWholeSp
   pub whole-y : (i : ℕ) → i < length s.deck.ships → (y : ℕ) × (y_in s.deck (case_on s) i ≡ Some (pos y))
   whole-y i known =
       let full = whole-berths in
-      let y = y-known s.deck (case_on s) whole-hosts (λ i h. whole.faultless (LeadsBack i) h) (λ i known. (berth_of (berth_at s.berths i), berth-hit s.berths s.places i (omega (arith, known, full)))) i known in
+      let y = y-known s.deck (case_on s) whole-hosts (λ i h. whole.faultless (LeadsBack i) h) (λ i known. (berth_at s.berths i, berth-hit s.berths s.places i (omega (arith, known, full)))) i known in
       let n = natural y.0 (by_lt_z y.0 (pos 0) (λ less. absurd (whole.faultless (Outside i) (inr (record { y = y.0; known = y.1; outside = λ inside. let low = inside.0 in omega (arith, ints, less, low) })))) (λ low. low)) in
       (n.0, y.1 ∙ ap (λ z. Some z) n.1)
 

@@ -1,7 +1,9 @@
 -- A tree of the code's faults is a spot tree.
 use Rattle.std.proofs.Common.{ℕ, List, [], ◌∷◌, ◌++◌, length, inl, inr}
 use Rattle.lock_model.specs.Deck.{Deck}
-use Rattle.refute_rules.specs.Choices.{Decision, Choice, options_of, spot_decisions}
+use Rattle.refute_rules.specs.declared.choices.Decision.{Decision}
+use Rattle.refute_rules.specs.declared.choices.Choice.{Choice}
+use Rattle.refute_rules.specs.Choices.{options_of, spot_decisions}
 use Rattle.refute_rules.specs.Trees.{AreInOrder, IsTree, IsSpotTree}
 use Rattle.refute_rules.specs.SpotFaults.{IsSpotFault, spot_fault_numbers}
 use Rattle.spot_place.specs.declared.faults.SpotFault.{SpotFault}

@@ -4,45 +4,45 @@ use Rattle.std.proofs.lemmas.Bool.Decides.{eqb_tells}
 use Rattle.std.proofs.lemmas.List.{take-append-le, take-take, length-take-le}
 use Rattle.std.proofs.Math.Seq.{take-append_seam}
 use Rattle.lock_model.specs.Deck.{Deck}
-use Rattle.refute_rules.specs.Choices.{Choice, Lies, Stands}
+use Rattle.refute_rules.specs.declared.choices.Choice.{Choice}
+use Rattle.refute_rules.specs.declared.choices.Choice.TheVariants.{Lies, LiesAt}
 use Rattle.refute_rules.specs.SpotFaults.{IsFaultless}
 use Rattle.refute_rules.specs.Spots.{IsListed}
-use Rattle.case_search.specs.declared.berths.Berth.{Berth as Mooring}
-use Rattle.case_search.specs.Berths.{berth_of}
+use Rattle.refute_rules.specs.declared.choices.Berth.{Berth}
 use Rattle.spot_place.specs.OnWay.{case_from, case_of}
 
-length-from : (k : ℕ) (ms : List Mooring) (xs : List ℕ) → length xs ≤ length ms → length (case_from k ms xs) ≡ length ms + length xs
+length-from : (k : ℕ) (ms : List Berth) (xs : List ℕ) → length xs ≤ length ms → length (case_from k ms xs) ≡ length ms + length xs
 length-from k [] [] h = refl
 length-from k [] (x ∷ xs) h = absurd (omega (arith, h))
 length-from k (m ∷ ms) [] h = let rest = length-from (suc k) ms [] (omega arith) in omega (arith, rest)
 length-from k (m ∷ ms) (x ∷ xs) h = let rest = length-from (suc k) ms xs (omega (arith, h)) in omega (arith, rest)
 
-pub case-length : (ms : List Mooring) (xs : List ℕ) → length xs ≤ length ms → length (case_of ms xs) ≡ length ms + length xs
+pub case-length : (ms : List Berth) (xs : List ℕ) → length xs ≤ length ms → length (case_of ms xs) ≡ length ms + length xs
 case-length ms xs h = length-from 0 ms xs h
 
 -- ---- one option more
 
-push-berth_from : (k i : ℕ) (ms : List Mooring) (xs : List ℕ) (m : Mooring) → length ms ≡ length xs → i ≡ k + length ms → case_from k (ms ++ m ∷ []) xs ≡ case_from k ms xs ++ Lies i (berth_of m) ∷ []
-push-berth_from k i [] [] m h e = let same : k ≡ i = omega (arith, e) in ap (λ j. Lies j (berth_of m) ∷ []) same
+push-berth_from : (k i : ℕ) (ms : List Berth) (xs : List ℕ) (m : Berth) → length ms ≡ length xs → i ≡ k + length ms → case_from k (ms ++ m ∷ []) xs ≡ case_from k ms xs ++ Lies i m ∷ []
+push-berth_from k i [] [] m h e = let same : k ≡ i = omega (arith, e) in ap (λ j. Lies j m ∷ []) same
 push-berth_from k i [] (x ∷ xs) m h e = absurd (omega (arith, h))
 push-berth_from k i (n ∷ ms) [] m h e = absurd (omega (arith, h))
-push-berth_from k i (n ∷ ms) (x ∷ xs) m h e = ap (λ cs. Lies k (berth_of n) ∷ Stands k x ∷ cs) (push-berth_from (suc k) i ms xs m (omega (arith, h)) (omega (arith, e)))
+push-berth_from k i (n ∷ ms) (x ∷ xs) m h e = ap (λ cs. Lies k n ∷ LiesAt k x ∷ cs) (push-berth_from (suc k) i ms xs m (omega (arith, h)) (omega (arith, e)))
 
-push-place_from : (k i : ℕ) (ms : List Mooring) (xs : List ℕ) (x : ℕ) → length ms ≡ suc (length xs) → i ≡ k + length xs → case_from k ms (xs ++ x ∷ []) ≡ case_from k ms xs ++ Stands i x ∷ []
+push-place_from : (k i : ℕ) (ms : List Berth) (xs : List ℕ) (x : ℕ) → length ms ≡ suc (length xs) → i ≡ k + length xs → case_from k ms (xs ++ x ∷ []) ≡ case_from k ms xs ++ LiesAt i x ∷ []
 push-place_from k i [] xs x h e = absurd (omega (arith, h))
-push-place_from k i (n ∷ []) [] x h e = let same : k ≡ i = omega (arith, e) in ap (λ j. Lies k (berth_of n) ∷ Stands j x ∷ []) same
+push-place_from k i (n ∷ []) [] x h e = let same : k ≡ i = omega (arith, e) in ap (λ j. Lies k n ∷ LiesAt j x ∷ []) same
 push-place_from k i (n ∷ m ∷ ms) [] x h e = absurd (omega (arith, h))
-push-place_from k i (n ∷ ms) (y ∷ xs) x h e = ap (λ cs. Lies k (berth_of n) ∷ Stands k y ∷ cs) (push-place_from (suc k) i ms xs x (omega (arith, h)) (omega (arith, e)))
+push-place_from k i (n ∷ ms) (y ∷ xs) x h e = ap (λ cs. Lies k n ∷ LiesAt k y ∷ cs) (push-place_from (suc k) i ms xs x (omega (arith, h)) (omega (arith, e)))
 
-pub push-berth : (ms : List Mooring) (xs : List ℕ) (m : Mooring) → length ms ≡ length xs → case_of (ms ++ m ∷ []) xs ≡ case_of ms xs ++ Lies (length ms) (berth_of m) ∷ []
+pub push-berth : (ms : List Berth) (xs : List ℕ) (m : Berth) → length ms ≡ length xs → case_of (ms ++ m ∷ []) xs ≡ case_of ms xs ++ Lies (length ms) m ∷ []
 push-berth ms xs m h = push-berth_from 0 (length ms) ms xs m h (omega arith)
 
-pub push-place : (ms : List Mooring) (xs : List ℕ) (x : ℕ) → length ms ≡ suc (length xs) → case_of ms (xs ++ x ∷ []) ≡ case_of ms xs ++ Stands (length xs) x ∷ []
+pub push-place : (ms : List Berth) (xs : List ℕ) (x : ℕ) → length ms ≡ suc (length xs) → case_of ms (xs ++ x ∷ []) ≡ case_of ms xs ++ LiesAt (length xs) x ∷ []
 push-place ms xs x h = push-place_from 0 (length xs) ms xs x h (omega arith)
 
 -- ---- one option less
 
-pop-berth_from : (k n t : ℕ) (ms : List Mooring) (xs : List ℕ) → length ms ≡ suc n → length xs ≡ n → t ≡ n + n → case_from k (take n ms) xs ≡ take t (case_from k ms xs)
+pop-berth_from : (k n t : ℕ) (ms : List Berth) (xs : List ℕ) → length ms ≡ suc n → length xs ≡ n → t ≡ n + n → case_from k (take n ms) xs ≡ take t (case_from k ms xs)
 pop-berth_from k zero zero ms [] h l e = refl
 pop-berth_from k zero zero ms (x ∷ xs) h l e = absurd (omega (arith, l))
 pop-berth_from k zero (suc t) ms xs h l e = absurd (omega (arith, e))
@@ -50,9 +50,9 @@ pop-berth_from k (suc n) t [] xs h l e = absurd (omega (arith, h))
 pop-berth_from k (suc n) t (m ∷ ms) [] h l e = absurd (omega (arith, l))
 pop-berth_from k (suc n) zero (m ∷ ms) (x ∷ xs) h l e = absurd (omega (arith, e))
 pop-berth_from k (suc n) (suc zero) (m ∷ ms) (x ∷ xs) h l e = absurd (omega (arith, e))
-pop-berth_from k (suc n) (suc (suc t)) (m ∷ ms) (x ∷ xs) h l e = ap (λ cs. Lies k (berth_of m) ∷ Stands k x ∷ cs) (pop-berth_from (suc k) n t ms xs (omega (arith, h)) (omega (arith, l)) (omega (arith, e)))
+pop-berth_from k (suc n) (suc (suc t)) (m ∷ ms) (x ∷ xs) h l e = ap (λ cs. Lies k m ∷ LiesAt k x ∷ cs) (pop-berth_from (suc k) n t ms xs (omega (arith, h)) (omega (arith, l)) (omega (arith, e)))
 
-pop-place_from : (k n t : ℕ) (ms : List Mooring) (xs : List ℕ) → length ms ≡ suc n → length xs ≡ suc n → t ≡ suc (n + n) → case_from k ms (take n xs) ≡ take t (case_from k ms xs)
+pop-place_from : (k n t : ℕ) (ms : List Berth) (xs : List ℕ) → length ms ≡ suc n → length xs ≡ suc n → t ≡ suc (n + n) → case_from k ms (take n xs) ≡ take t (case_from k ms xs)
 pop-place_from k n t [] xs h l e = absurd (omega (arith, h))
 pop-place_from k n t (m ∷ ms) [] h l e = absurd (omega (arith, l))
 pop-place_from k n zero (m ∷ ms) (x ∷ xs) h l e = absurd (omega (arith, e))
@@ -60,12 +60,12 @@ pop-place_from k zero (suc zero) (m ∷ []) (x ∷ xs) h l e = refl
 pop-place_from k zero (suc zero) (m ∷ n ∷ ms) (x ∷ xs) h l e = absurd (omega (arith, h))
 pop-place_from k zero (suc (suc t)) (m ∷ ms) (x ∷ xs) h l e = absurd (omega (arith, e))
 pop-place_from k (suc n) (suc zero) (m ∷ ms) (x ∷ xs) h l e = absurd (omega (arith, e))
-pop-place_from k (suc n) (suc (suc t)) (m ∷ ms) (x ∷ xs) h l e = ap (λ cs. Lies k (berth_of m) ∷ Stands k x ∷ cs) (pop-place_from (suc k) n t ms xs (omega (arith, h)) (omega (arith, l)) (omega (arith, e)))
+pop-place_from k (suc n) (suc (suc t)) (m ∷ ms) (x ∷ xs) h l e = ap (λ cs. Lies k m ∷ LiesAt k x ∷ cs) (pop-place_from (suc k) n t ms xs (omega (arith, h)) (omega (arith, l)) (omega (arith, e)))
 
-pub pop-berth : (n : ℕ) (ms : List Mooring) (xs : List ℕ) → length ms ≡ suc n → length xs ≡ n → case_of (take n ms) xs ≡ take (n + n) (case_of ms xs)
+pub pop-berth : (n : ℕ) (ms : List Berth) (xs : List ℕ) → length ms ≡ suc n → length xs ≡ n → case_of (take n ms) xs ≡ take (n + n) (case_of ms xs)
 pop-berth n ms xs h l = pop-berth_from 0 n (n + n) ms xs h l refl
 
-pub pop-place : (n : ℕ) (ms : List Mooring) (xs : List ℕ) → length ms ≡ suc n → length xs ≡ suc n → case_of ms (take n xs) ≡ take (suc (n + n)) (case_of ms xs)
+pub pop-place : (n : ℕ) (ms : List Berth) (xs : List ℕ) → length ms ≡ suc n → length xs ≡ suc n → case_of ms (take n xs) ≡ take (suc (n + n)) (case_of ms xs)
 pop-place n ms xs h l = pop-place_from 0 n (suc (n + n)) ms xs h l refl
 
 -- what is before the last option

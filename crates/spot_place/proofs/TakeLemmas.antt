@@ -2,27 +2,29 @@
 use Rattle.std.proofs.Common.{◌≡◌, ℕ, suc, ◌+◌, ◌*◌, ◌-◌, ◌<◌, ◌≤◌, List, [], ◌∷◌, ◌++◌, length, take, inl, inr, refl, sym, ap, ◌∙◌, arith, slice_index_or}
 use Rattle.std.proofs.lemmas.Bool.Decides.{leb_tells}
 use Rattle.refute_rules.specs.Values.{spot_values}
-use Rattle.refute_rules.specs.Choices.{Choice, Before, BerthOf, PlaceOf, options_of, berths_of, Stands, spot_decisions}
+use Rattle.refute_rules.specs.declared.choices.Decision.TheVariants.{BerthOf, XOf}
+use Rattle.refute_rules.specs.declared.choices.Choice.{Choice}
+use Rattle.refute_rules.specs.declared.choices.Choice.TheVariants.{Before, LiesAt}
+use Rattle.refute_rules.specs.Choices.{options_of, berths_of, spot_decisions}
 use Rattle.case_search.specs.Rules.{options_at, with_option}
-use Rattle.case_search.specs.declared.berths.Berth.{Berth as Mooring}
-use Rattle.case_search.specs.Berths.{berth_of, first_berth}
+use Rattle.refute_rules.specs.declared.choices.Berth.{Berth}
+use Rattle.deck_cases.specs.Berths.{first_berth}
 use Rattle.spot_place.specs.Rules.{spot_rules}
 use Rattle.spot_place.specs.SpotCase.{OnWay, case_on, IsOnWay}
 use Rattle.spot_place.proofs.StepLemmas.{case-length, push-berth, push-place, pop-berth, pop-place, before-last}
-use Rattle.case_search.proofs.BerthLemmas.{berths-length}
-use Rattle.spot_place.proofs.OptionLemmas.{berth-next, place-next, none-next, berth-choice, place-choice, berth-count, place-count, decisions-length}
+use Rattle.deck_cases.proofs.OptionLemmas.{berth_choice, berth_count}
+use Rattle.spot_place.proofs.OptionLemmas.{berth-next, place-next, none-next, place-choice, place-count, decisions-length}
 
 module _ (s new : OnWay) where
-  pub berth-taken : (m : Mooring) (ship option : ℕ) → ship ≡ length s.berths → berth_of m ≡ slice_index_or (berths_of (length s.deck.ships) ship) option first_berth → length s.berths < length s.deck.ships → length s.berths ≡ length s.places → option < 2 * length s.deck.ships → new ≡ record { deck = s.deck; berths = s.berths ++ m ∷ []; places = s.places } → case_on new ≡ case_on s ++ slice_index_or (options_of s.deck (BerthOf (length s.berths))) option (Before 0 0) ∷ []
+  pub berth-taken : (m : Berth) (ship option : ℕ) → ship ≡ length s.berths → m ≡ slice_index_or (berths_of (length s.deck.ships) ship) option first_berth → length s.berths < length s.deck.ships → length s.berths ≡ length s.places → option < 2 * length s.deck.ships → new ≡ record { deck = s.deck; berths = s.berths ++ m ∷ []; places = s.places } → case_on new ≡ case_on s ++ slice_index_or (options_of s.deck (BerthOf (length s.berths))) option (Before 0 0) ∷ []
   berth-taken m ship option e is room step few grown =
-      let many = berths-length (length s.deck.ships) (length s.berths) room in
-      let choice = berth-choice s.deck (length s.berths) option m (omega (arith, many, few)) (sym (is ∙ ap (λ i. slice_index_or (berths_of (length s.deck.ships) i) option first_berth) e)) in
-      ap case_on grown ∙ push-berth s.berths s.places m step ∙ ap (λ (c : Choice). case_on s ++ c ∷ []) (sym choice)
+      let choice = berth_choice s.deck (length s.berths) option m room few (is ∙ ap (λ i. slice_index_or (berths_of (length s.deck.ships) i) option first_berth) e) in
+      ap case_on grown ∙ push-berth s.berths s.places m step ∙ ap (λ (c : Choice). case_on s ++ c ∷ []) choice
 
-  pub place-taken : (x option : ℕ) → x ≡ slice_index_or (spot_values s.deck) option 0 → length s.berths ≡ suc (length s.places) → option < length (spot_values s.deck) → new ≡ record { deck = s.deck; berths = s.berths; places = s.places ++ x ∷ [] } → case_on new ≡ case_on s ++ slice_index_or (options_of s.deck (PlaceOf (length s.places))) option (Before 0 0) ∷ []
+  pub place-taken : (x option : ℕ) → x ≡ slice_index_or (spot_values s.deck) option 0 → length s.berths ≡ suc (length s.places) → option < length (spot_values s.deck) → new ≡ record { deck = s.deck; berths = s.berths; places = s.places ++ x ∷ [] } → case_on new ≡ case_on s ++ slice_index_or (options_of s.deck (XOf (length s.places))) option (Before 0 0) ∷ []
   place-taken x option e step few grown =
       let choice = place-choice s.deck (length s.places) option few in
-      ap case_on grown ∙ push-place s.berths s.places x step ∙ ap (λ (c : Choice). case_on s ++ c ∷ []) (ap (Stands (length s.places)) e ∙ sym choice)
+      ap case_on grown ∙ push-place s.berths s.places x step ∙ ap (λ (c : Choice). case_on s ++ c ∷ []) (ap (LiesAt (length s.places)) e ∙ sym choice)
 
 -- ---- the options of the next decision
 
@@ -33,7 +35,7 @@ module _ (s : OnWay) (way : IsOnWay s.deck s.berths s.places) where
   pub next-berth : length s.berths ≡ length s.places → length s.berths < length s.deck.ships → options_at (spot_rules s.deck) (case_on s) ≡ options_of s.deck (BerthOf (length s.berths))
   next-berth step room = let l = long in berth-next s.deck (length s.deck.ships) (length s.berths) (length (case_on s)) room (omega (arith, l, step))
 
-  pub next-place : length s.berths ≡ suc (length s.places) → options_at (spot_rules s.deck) (case_on s) ≡ options_of s.deck (PlaceOf (length s.places))
+  pub next-place : length s.berths ≡ suc (length s.places) → options_at (spot_rules s.deck) (case_on s) ≡ options_of s.deck (XOf (length s.places))
   next-place step = let l = long in place-next s.deck (length s.deck.ships) (length s.places) (length (case_on s)) (omega (arith, step, way.ships)) (omega (arith, l, step))
 
   pub next-none : length s.berths ≡ length s.places → length s.deck.ships ≤ length s.berths → options_at (spot_rules s.deck) (case_on s) ≡ []
@@ -50,7 +52,7 @@ module _ (s : OnWay) (way : IsOnWay s.deck s.berths s.places) where
   berth-option_few step option h =
       let room = has-room step option h in
       let all = ap (λ (cs : List Choice). length cs) (next-berth step room) in
-      let count = berth-count s.deck (length s.berths) room in
+      let count = berth_count s.deck (length s.berths) room in
       omega (arith, h, all, count)
 
   pub place-option_few : length s.berths ≡ suc (length s.places) → (option : ℕ) → option < length (options_at (spot_rules s.deck) (case_on s)) → option < length (spot_values s.deck)
@@ -62,7 +64,7 @@ module _ (s : OnWay) (way : IsOnWay s.deck s.berths s.places) where
   pub with_berth : (new : List Choice) (option : ℕ) → length s.berths ≡ length s.places → option < length (options_at (spot_rules s.deck) (case_on s)) → new ≡ case_on s ++ slice_index_or (options_of s.deck (BerthOf (length s.berths))) option (Before 0 0) ∷ [] → new ≡ with_option (spot_rules s.deck) (case_on s) option
   with_berth new option step h e = e ∙ ap (λ (cs : List Choice). case_on s ++ slice_index_or cs option (Before 0 0) ∷ []) (sym (next-berth step (has-room step option h)))
 
-  pub with_place : (new : List Choice) (option : ℕ) → length s.berths ≡ suc (length s.places) → new ≡ case_on s ++ slice_index_or (options_of s.deck (PlaceOf (length s.places))) option (Before 0 0) ∷ [] → new ≡ with_option (spot_rules s.deck) (case_on s) option
+  pub with_place : (new : List Choice) (option : ℕ) → length s.berths ≡ suc (length s.places) → new ≡ case_on s ++ slice_index_or (options_of s.deck (XOf (length s.places))) option (Before 0 0) ∷ [] → new ≡ with_option (spot_rules s.deck) (case_on s) option
   with_place new option step e = e ∙ ap (λ (cs : List Choice). case_on s ++ slice_index_or cs option (Before 0 0) ∷ []) (sym (next-place step))
 
   pub some-place : 0 < length (case_on s) → length s.berths ≡ length s.places → 0 < length s.places

@@ -1,7 +1,7 @@
 -- The faults of the code as those of the definitions.
 use Rattle.std.specs.Prelude.{ℕ, ◌≡◌, ◌<◌, List, length, Some}
 use Rattle.lock_model.specs.Deck.{Deck}
-use Rattle.refute_rules.specs.Choices.{Choice}
+use Rattle.refute_rules.specs.declared.choices.Choice.{Choice}
 use Rattle.refute_rules.specs.Decided.{x_in}
 use Rattle.refute_rules.specs.Known.{y_in}
 use Rattle.refute_rules.specs.SpotFaults.{AreTouching, SpotFault as Fault, OtherRank as AtOtherRank, LeadsBack as Back, Outside as NotInside, PastHost as Past, Touching as NotApart}

@@ -2,7 +2,7 @@
 use Rattle.std.specs.Prelude.{ℕ, ◌≡◌, ◌<◌, ℤ, List, length, slice_index_or, None}
 use Rattle.std.specs.declared.option.Option.{Option}
 use Rattle.lock_model.specs.Deck.{Deck}
-use Rattle.refute_rules.specs.Choices.{Choice}
+use Rattle.refute_rules.specs.declared.choices.Choice.{Choice}
 use Rattle.refute_rules.specs.Known.{y_in}
 
 -- y of ship i, where it is known

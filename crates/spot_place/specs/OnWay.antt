@@ -3,30 +3,31 @@ use Rattle.std.specs.Prelude.{ℕ, suc, ◌<◌, List, [], ◌∷◌, length, sl
 use Rattle.lock_model.specs.Deck.{Deck}
 use Rattle.lock_model.specs.declared.placement.Rank.TheVariants.{Left}
 use Rattle.lock_model.specs.declared.placement.Moor.TheVariants.{Quay}
-use Rattle.refute_rules.specs.Choices.{Choice, Lies, Stands, IsKnownMoor}
+use Rattle.refute_rules.specs.declared.choices.Choice.{Choice}
+use Rattle.refute_rules.specs.declared.choices.Choice.TheVariants.{Lies, LiesAt}
+use Rattle.refute_rules.specs.Choices.{IsKnownMoor}
 use Rattle.refute_rules.specs.Known.{hosts_within}
-use Rattle.case_search.specs.Berths.{berth_of}
-use Rattle.case_search.specs.declared.berths.Berth.{Berth as Mooring}
+use Rattle.refute_rules.specs.declared.choices.Berth.{Berth}
 
 -- the berth of ship i
-abbrev pub berth_at : List Mooring → ℕ → Mooring
+abbrev pub berth_at : List Berth → ℕ → Berth
 berth_at berths i = slice_index_or berths i (record { rank = Left; moor = Quay })
 
 -- the spot case of these berths and places, from ship i on
-abbrev pub case_from : ℕ → List Mooring → List ℕ → List Choice
+abbrev pub case_from : ℕ → List Berth → List ℕ → List Choice
 case_from i [] places = []
-case_from i (m ∷ ms) [] = Lies i (berth_of m) ∷ case_from (suc i) ms []
-case_from i (m ∷ ms) (x ∷ xs) = Lies i (berth_of m) ∷ Stands i x ∷ case_from (suc i) ms xs
+case_from i (m ∷ ms) [] = Lies i m ∷ case_from (suc i) ms []
+case_from i (m ∷ ms) (x ∷ xs) = Lies i m ∷ LiesAt i x ∷ case_from (suc i) ms xs
 
-abbrev pub case_of : List Mooring → List ℕ → List Choice
+abbrev pub case_of : List Berth → List ℕ → List Choice
 case_of berths places = case_from 0 berths places
 
 -- the berths alone
-abbrev pub lying : List Mooring → List Choice
+abbrev pub lying : List Berth → List Choice
 lying berths = case_of berths []
 
 -- each host is a ship of the deck
-pub record AreKnown (d : Deck) (berths : List Mooring) : Type 0 where
+pub record AreKnown (d : Deck) (berths : List Berth) : Type 0 where
   pub each : (i : ℕ) → i < length berths → IsKnownMoor d (berth_at berths i).moor
 
 -- ship x is among the first hosts of ship i, counted towards the quay, at most so many

@@ -4,11 +4,11 @@ use Rattle.lock_model.specs.Deck.{Deck}
 use Rattle.lock_model.specs.Fitting.{Fits as DoesFit}
 use Rattle.lock_model.specs.Placement.{IsLegalPlacement}
 use Rattle.lock_model.specs.declared.placement.Spot.{Spot}
-use Rattle.refute_rules.specs.Choices.{Choice}
+use Rattle.refute_rules.specs.declared.choices.Choice.{Choice}
 use Rattle.refute_rules.specs.Listing.{IsFirstWithin, HasNoneOf}
 use Rattle.refute_rules.specs.Spots.{IsListed, IsWholeSpots, IsSpotHard, AreSpotsOfCase, spot_cases_of}
 use Rattle.refute_rules.specs.Trees.{IsSpotTree}
-use Rattle.place_refute.specs.Tried.{Tried}
+use Rattle.deck_cuts.specs.Tried.{Tried}
 use Rattle.spot_place.specs.declared.placing.SpotPlaced.{SpotPlaced}
 use Rattle.spot_place.specs.declared.placing.SpotPlaced.TheVariants.{Fits, Refuted, Spent}
 

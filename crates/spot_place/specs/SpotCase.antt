@@ -2,24 +2,24 @@
 use Rattle.std.specs.Prelude.{ℕ, suc, ◌≡◌, ◌≤◌, ℤ, List, [], length, take, slice_index_or}
 use Rattle.std.specs.declared.option.Option.{Option}
 use Rattle.lock_model.specs.Deck.{Deck, IsDeck}
-use Rattle.refute_rules.specs.Choices.{Choice}
+use Rattle.refute_rules.specs.declared.choices.Choice.{Choice}
 use Rattle.refute_rules.specs.Values.{spot_values}
 use Rattle.refute_rules.specs.Spots.{IsListed}
-use Rattle.case_search.specs.declared.berths.Berth.{Berth as Mooring}
+use Rattle.refute_rules.specs.declared.choices.Berth.{Berth}
 use Rattle.spot_place.specs.OnWay.{AreKnown, case_of, lying}
 use Rattle.spot_place.specs.Heights.{AreHeights}
 
 -- a deck, the berths of its first ships, and the x of these, or of all of them but the last
 pub record OnWay : Type 0 where
   pub deck : Deck
-  pub berths : List Mooring
+  pub berths : List Berth
   pub places : List ℕ
 
 abbrev pub case_on : OnWay → List Choice
 case_on s = case_of s.berths s.places
 
 -- berths and places that go in step, of ships of the deck, in a listed spot case
-pub record IsOnWay (d : Deck) (berths : List Mooring) (places : List ℕ) : Type 0 where
+pub record IsOnWay (d : Deck) (berths : List Berth) (places : List ℕ) : Type 0 where
   pub ships : length berths ≤ length d.ships
   pub behind : length places ≤ length berths
   pub ahead : length berths ≤ suc (length places)
@@ -27,12 +27,12 @@ pub record IsOnWay (d : Deck) (berths : List Mooring) (places : List ℕ) : Type
   pub listed : IsListed d (case_of berths places)
 
 -- level k keeps the y that are known by the first k berths
-pub record AreLevels (d : Deck) (berths : List Mooring) (levels : List (List (Option ℤ))) : Type 0 where
+pub record AreLevels (d : Deck) (berths : List Berth) (levels : List (List (Option ℤ))) : Type 0 where
   pub count : length levels ≡ suc (length berths)
   pub each : (k : ℕ) → k ≤ length berths → AreHeights d (lying (take k berths)) (slice_index_or levels k [])
 
 -- what the type keeps
-pub record KeepsSpotCase (d : Deck) (values : List ℕ) (berths : List Mooring) (places : List ℕ) (levels : List (List (Option ℤ))) : Type 0 where
+pub record KeepsSpotCase (d : Deck) (values : List ℕ) (berths : List Berth) (places : List ℕ) (levels : List (List (Option ℤ))) : Type 0 where
   pub limits : IsDeck d
   pub valued : values ≡ spot_values d
   pub way : IsOnWay d berths places

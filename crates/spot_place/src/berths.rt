@@ -4,7 +4,7 @@ ghost use Rattle.refute_rules.specs.Decided.{berth_in, HasOtherRank};
 ghost use Rattle.refute_rules.specs.Known.{host_of};
 ghost use Rattle.spot_place.specs.OnWay.{lying, IsHostWithin, IsBack, NoneBelow};
 
-use case_search::Berth;
+use deck_cases::Berth;
 use lock_model::{Moor, Rank};
 
 /// The host of a ship, where its berth is decided and it has one.

@@ -7,7 +7,7 @@ ghost use Rattle.spot_place.specs.OnWay.{AreKnown, lying};
 ghost use Rattle.spot_place.specs.Heights.{AreHeights};
 
 use arrayvec::ArrayVec;
-use case_search::Berth;
+use deck_cases::Berth;
 use lock_model::{Deck, Moor, Rank};
 use std::marker::Model;
 

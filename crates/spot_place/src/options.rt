@@ -1,12 +1,14 @@
 //! The options of the next spot decision.
 ghost use Rattle.std.specs.Prelude.{◌≡◌, ◌*◌, ◌<◌, ◌++◌, ◌∷◌, [], length, suc, slice_index_or};
-ghost use Rattle.refute_rules.specs.Choices.{Before, BerthOf, PlaceOf, options_of};
+ghost use Rattle.refute_rules.specs.declared.choices.Decision.TheVariants.{BerthOf, XOf};
+ghost use Rattle.refute_rules.specs.declared.choices.Choice.TheVariants.{Before};
+ghost use Rattle.refute_rules.specs.Choices.{options_of};
 ghost use Rattle.refute_rules.specs.SpotFaults.{IsFaultless};
 ghost use Rattle.refute_rules.specs.Values.{spot_values};
 ghost use Rattle.spot_place.specs.SpotCase.{case_on};
 
 use crate::spot_case::SpotCase;
-use case_search::berth_option;
+use deck_cases::berth_option;
 
 impl SpotCase {
     /// How many spot values the deck has.
@@ -35,7 +37,7 @@ impl SpotCase {
         requires good { IsFaultless self.old.deck (case_on self.old) }
         requires option { option < length (spot_values self.old.deck) }
         ensures deck { self.new.deck ≡ self.old.deck }
-        ensures case { case_on self.new ≡ case_on self.old ++ slice_index_or (options_of self.old.deck (PlaceOf (length self.old.places))) option (Before 0 0) ∷ [] }
+        ensures case { case_on self.new ≡ case_on self.old ++ slice_index_or (options_of self.old.deck (XOf (length self.old.places))) option (Before 0 0) ∷ [] }
     {
         let x = self.values.as_slice()[option as usize];
         self.place(x);

@@ -7,7 +7,7 @@ use case_search::{Found, search};
 use deck_laws::spot_values;
 use lock_model::{Deck, Spots};
 use no_memory::NoMemory;
-use place_refute::{HardSpots, hard_spots};
+use deck_cuts::{HardSpots, hard_spots};
 use refute_rules::Marks;
 use std::alloc::Global;
 

@@ -11,7 +11,7 @@ use crate::berths::host_of;
 use crate::geometry::ship_count;
 use crate::heights::{Heights, heights_of};
 use arrayvec::ArrayVec;
-use case_search::Berth;
+use deck_cases::Berth;
 use deck_laws::SpotList;
 use lock_model::Deck;
 use std::marker::Model;

@@ -4,19 +4,18 @@ ghost use Rattle.lock_model.specs.Placement.{IsLegalPlacement};
 ghost use Rattle.refute_rules.specs.Decided.{berth_in};
 ghost use Rattle.refute_rules.specs.Known.{y_in};
 ghost use Rattle.refute_rules.specs.Spots.{IsWholeSpots, AreSpotsOfCase};
-ghost use Rattle.case_search.specs.Berths.{berth_of};
 ghost use Rattle.spot_place.specs.ShipSpots.{IsSpotOf};
 ghost use Rattle.spot_place.specs.SpotCase.{case_on, IsOnWay};
 
 use crate::spot_case::SpotCase;
-use case_search::Berth;
+use deck_cases::Berth;
 use lock_model::{Spot, Spots};
 
 impl SpotCase {
     /// The berth of a ship.
     fn berth(&self, ship: u8) -> Berth
         requires { ship < length self.now.berths }
-        ensures { berth_in (case_on self.now) ship ≡ Some (berth_of result) }
+        ensures { berth_in (case_on self.now) ship ≡ Some result }
     {
         self.berths[ship as usize]
     }

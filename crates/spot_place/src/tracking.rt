@@ -1,6 +1,6 @@
 //! Spot cases for the search: what it asks of a case.
 ghost use Rattle.std.specs.Prelude.{◌≡◌, ◌<◌, ◌↔◌, ◌++◌, ◌∷◌, [], List, length};
-ghost use Rattle.refute_rules.specs.Choices.{Choice};
+ghost use Rattle.refute_rules.specs.declared.choices.Choice.{Choice};
 ghost use Rattle.refute_rules.specs.SpotFaults.{IsFaultless};
 ghost use Rattle.case_search.specs.Rules.{options_at, with_option};
 ghost use Rattle.spot_place.specs.Rules.{spot_rules};

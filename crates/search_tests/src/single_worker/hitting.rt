@@ -1,9 +1,9 @@
 //! Cuts that hit others.
 
 use book_core::Book;
+use deck_cuts::{Cut, cut_hits};
 use lock_model::Instance;
 use mooring_rules::has_ships;
-use place_refute::{Cut, cut_hits};
 
 // Whether a cut hits the chamber and the ships of another.
 fn hits(cut: &Cut, instance: &Instance, other: &Cut) -> bool {

@@ -6,6 +6,6 @@ use Rattle.berth_check.proofs.spans.guests_span.Given as goal
 
 abbrev pub invariant-loop-ship : goal.invariant-loop-ship
 invariant-loop-ship l = record {
-  sum : l.total ≡ sum_by (span l.deck (λ i. is_ship l.host (host_in l.case i))) (filter (λ i. is_ship l.host (host_in l.case i)) (numbers_from 0 l.ship));
+  sum : l.total ≡ sum_by (span l.deck (λ i. is_ship l.host (host_in l.choices i))) (filter (λ i. is_ship l.host (host_in l.choices i)) (numbers_from 0 l.ship));
   few : l.total ≤ 8589934592 * l.ship;
 }

@@ -1,5 +1,5 @@
 use Rattle.std.proofs.Common.{◌≡◌, ◌<◌, ◌≤◌, ◌∷◌, [], ◌++◌, List, length, take, rules, refl, sym, ap, ◌∙◌, subst, arith}
-use Rattle.refute_rules.specs.Choices.{Choice}
+use Rattle.refute_rules.specs.declared.choices.Choice.{Choice}
 use Rattle.refute_rules.specs.BerthTrees.{OfBerth, split_options}
 use Rattle.berth_check.specs.Raises.{AreKnown}
 use Rattle.berth_place.specs.declared.search.Search.{Search}

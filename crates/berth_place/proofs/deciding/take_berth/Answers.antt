@@ -1,6 +1,7 @@
 use Rattle.std.proofs.Common.{rules, ◌≡◌, ◌∷◌, [], ◌++◌, length, ap, ◌∙◌, subst, slice_index_or, OnOk}
-use Rattle.refute_rules.specs.Choices.{Choice, berths_of}
-use Rattle.case_search.specs.Berths.{first_berth}
+use Rattle.refute_rules.specs.declared.choices.Choice.{Choice}
+use Rattle.refute_rules.specs.Choices.{berths_of}
+use Rattle.deck_cases.specs.Berths.{first_berth}
 use Rattle.berth_place.proofs.OptionLemmas.{berth_number}
 use Rattle.berth_place.proofs.deciding.take_berth.Goals as goal
 

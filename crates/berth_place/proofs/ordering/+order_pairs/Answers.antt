@@ -2,7 +2,7 @@ use Rattle.std.proofs.Common.{◌≡◌, ◌<◌, ◌≤◌, List, ◌∷◌, []
 use Rattle.std.specs.declared.result.Result.{Result}
 use Rattle.diff_rules.specs.Differences.{IsSystem, IsSimpleCycle}
 use Rattle.diff_system.specs.PathTree.{PathTree, AreLongest}
-use Rattle.refute_rules.specs.Choices.{Choice}
+use Rattle.refute_rules.specs.declared.choices.Choice.{Choice}
 use Rattle.refute_rules.specs.BerthTrees.{OfOrder, AreUnordered}
 use Rattle.case_search.proofs.ListLemmas.{take-front}
 use Rattle.berth_place.specs.declared.pairs.Pair.{Pair}

@@ -5,6 +5,6 @@ use Rattle.berth_place.proofs.pairs.add_pairs.Given as goal
 abbrev pub invariant-loop-lower : goal.invariant-loop-lower
 invariant-loop-lower l = record {
   room : length l.pairs.items ≤ 8 * l.upper + l.lower;
-  pairs : ArePairs l.deck l.case l.pairs.items;
-  partly : ArePartlyPairs l.deck l.case l.pairs.items l.upper l.lower;
+  pairs : ArePairs l.deck l.choices l.pairs.items;
+  partly : ArePartlyPairs l.deck l.choices l.pairs.items l.upper l.lower;
 }

@@ -5,6 +5,6 @@ use Rattle.berth_place.proofs.pairs.overlapping.Given as goal
 abbrev pub invariant-loop-upper : goal.invariant-loop-upper
 invariant-loop-upper l = record {
   room : length l.pairs.items ≤ 8 * l.upper;
-  pairs : ArePairs l.deck l.case l.pairs.items;
-  all : AreAllPairs l.deck l.case l.pairs.items l.upper;
+  pairs : ArePairs l.deck l.choices l.pairs.items;
+  all : AreAllPairs l.deck l.choices l.pairs.items l.upper;
 }

@@ -3,7 +3,7 @@ use Rattle.std.specs.Prelude.{IfSome}
 use Rattle.std.specs.declared.option.Option.{Option}
 use Rattle.lock_model.specs.Deck.{Deck}
 use Rattle.refute_rules.specs.Spots.{IsSpotHard}
-use Rattle.place_refute.specs.Tried.{Tried}
+use Rattle.deck_cuts.specs.Tried.{Tried}
 use Rattle.chamber_place.specs.Placing.{IsPlaced}
 use Rattle.chamber_place.specs.declared.placing.Placed.{Placed}
 use Rattle.chamber_place.specs.declared.placing.Placed.TheVariants as placed

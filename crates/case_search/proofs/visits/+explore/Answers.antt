@@ -2,7 +2,7 @@ use Rattle.std.proofs.Common.{rules, ◌≡◌, ◌<◌, ◌≤◌, length, slic
 use Rattle.case_search.specs.declared.visits.Visit.TheVariants.{Refuted}
 use Rattle.case_search.specs.Rules.{options_at, with_option}
 use Rattle.case_search.specs.Visits.{IsVisit, IsRefuted}
-use Rattle.refute_rules.specs.Choices.{Before}
+use Rattle.refute_rules.specs.declared.choices.Choice.TheVariants.{Before}
 use Rattle.case_search.proofs.VisitLemmas.{good-spent, whole-first, passed-begin, passed-more, passed-end, visit-below, entered-visit}
 use Rattle.case_search.proofs.visits.+explore.Goals as goal
 

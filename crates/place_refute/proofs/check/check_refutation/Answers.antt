@@ -1,6 +1,6 @@
 use Rattle.std.proofs.Common.{rules}
 use Rattle.lock_model.specs.Deck.{IsDeck}
-use Rattle.place_refute.proofs.HitLemmas.{refuted_told}
+use Rattle.deck_cuts.proofs.HitLemmas.{refuted_told}
 use Rattle.place_refute.proofs.check.check_refutation.Goals as goal
 
 pub returns-clause-unfit : goal.returns-clause-unfit

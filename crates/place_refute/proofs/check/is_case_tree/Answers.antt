@@ -1,6 +1,6 @@
 use Rattle.std.proofs.Common.{rules, ◌≡◌, ◌≤◌, length, []}
 use Rattle.refute_rules.specs.Choices.{decisions}
-use Rattle.place_refute.proofs.DecisionLemmas.{reads_cases}
+use Rattle.place_refute.proofs.ReadLemmas.{reads_cases}
 use Rattle.place_refute.proofs.check.is_case_tree.Goals as goal
 
 pub is_tree-requires : goal.is_tree-requires

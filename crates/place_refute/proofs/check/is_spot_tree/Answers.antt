@@ -1,6 +1,6 @@
 use Rattle.std.proofs.Common.{rules, ◌≡◌, ◌≤◌, length}
 use Rattle.refute_rules.specs.Choices.{spot_decisions}
-use Rattle.place_refute.proofs.DecisionLemmas.{reads_spots}
+use Rattle.place_refute.proofs.ReadLemmas.{reads_spots}
 use Rattle.place_refute.proofs.check.is_spot_tree.Goals as goal
 
 pub is_tree-requires : goal.is_tree-requires

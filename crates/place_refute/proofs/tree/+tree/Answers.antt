@@ -1,6 +1,8 @@
 use Rattle.std.proofs.Common.{◌≡◌, ◌<◌, length, get_or, ap, subst, ◌∙◌, arith}
-use Rattle.refute_rules.specs.Choices.{Decision, BerthOf, Before, options_of}
-use Rattle.place_refute.specs.Picks.{choice_of, decision_of}
+use Rattle.refute_rules.specs.declared.choices.Decision.{Decision}
+use Rattle.refute_rules.specs.declared.choices.Decision.TheVariants.{BerthOf}
+use Rattle.refute_rules.specs.declared.choices.Choice.TheVariants.{Before}
+use Rattle.refute_rules.specs.Choices.{options_of}
 use Rattle.place_refute.specs.Drawn.{Drawn}
 use Rattle.place_refute.specs.Walking.{next_of, IsChildAt, HasNoChildAt}
 use Rattle.place_refute.proofs.DrawnLemmas.{drawn_room}
@@ -21,11 +23,11 @@ children_end-returns-in-None-clause-none t c =
     let case = c.args.case.now.choices in
     let marks = c.args.reading.now.marks.now in
     let number = c.loop-number.number in
-    let choice = choice_of c.option_at-pick.result in
-    let asked : decision_of c.at-decision.result ≡ next_of list case = c.at-decision.ensures ∙ ap (λ k. get_or list k (BerthOf 0)) c.len.ensures in
-    let counted : number < length (options_of d (decision_of c.at-decision.result)) = let test = c.loop-number-test.true in let count = c.option_count-count.ensures in omega (arith, test, count) in
+    let choice = c.option_at-choice.result in
+    let asked : c.at-decision.result ≡ next_of list case = c.at-decision.ensures ∙ ap (λ k. get_or list k (BerthOf 0)) c.len.ensures in
+    let counted : number < length (options_of d c.at-decision.result) = let test = c.loop-number-test.true in let count = c.option_count-count.ensures.count in omega (arith, test, count) in
     let here : number < length (options_of d (next_of list case)) = subst (λ (u : Decision). number < length (options_of d u)) asked counted in
-    let same : choice ≡ get_or (options_of d (next_of list case)) number (Before 0 0) = c.option_at-pick.ensures.value ∙ ap (λ (u : Decision). get_or (options_of d u) number (Before 0 0)) asked in
+    let same : choice ≡ get_or (options_of d (next_of list case)) number (Before 0 0) = c.option_at-choice.ensures.value ∙ ap (λ (u : Decision). get_or (options_of d u) number (Before 0 0)) asked in
     let child : HasNoChildAt d trees list case marks choice c.loop-number.end = subst (λ (u : Drawn). HasNoChildAt d trees list u.choices marks choice c.loop-number.end) c.loop-number.invariant.kept c.in-None.ensures.none in
     children_stop d trees list case marks c.args.first number c.loop-number.end choice here same c.loop-number.invariant.children child
 
@@ -37,11 +39,11 @@ children_end-loop-number-preserved t c =
     let case = c.args.case.now.choices in
     let marks = c.args.reading.now.marks.now in
     let number = c.loop-number.number in
-    let choice = choice_of c.option_at-pick.result in
-    let asked : decision_of c.at-decision.result ≡ next_of list case = c.at-decision.ensures ∙ ap (λ k. get_or list k (BerthOf 0)) c.len.ensures in
-    let counted : number < length (options_of d (decision_of c.at-decision.result)) = let test = c.loop-number-test.true in let count = c.option_count-count.ensures in omega (arith, test, count) in
+    let choice = c.option_at-choice.result in
+    let asked : c.at-decision.result ≡ next_of list case = c.at-decision.ensures ∙ ap (λ k. get_or list k (BerthOf 0)) c.len.ensures in
+    let counted : number < length (options_of d c.at-decision.result) = let test = c.loop-number-test.true in let count = c.option_count-count.ensures.count in omega (arith, test, count) in
     let here : number < length (options_of d (next_of list case)) = subst (λ (u : Decision). number < length (options_of d u)) asked counted in
-    let same : choice ≡ get_or (options_of d (next_of list case)) number (Before 0 0) = c.option_at-pick.ensures.value ∙ ap (λ (u : Decision). get_or (options_of d u) number (Before 0 0)) asked in
+    let same : choice ≡ get_or (options_of d (next_of list case)) number (Before 0 0) = c.option_at-choice.ensures.value ∙ ap (λ (u : Decision). get_or (options_of d u) number (Before 0 0)) asked in
     let child : IsChildAt d trees list case marks choice c.loop-number.end c.in-Some.next = subst (λ (u : Drawn). IsChildAt d trees list u.choices marks choice c.loop-number.end c.in-Some.next) c.loop-number.invariant.kept c.in-Some.ensures.some in
     record {
       kept = c.in-Some.ensures.kept ∙ c.loop-number.invariant.kept;

@@ -1,7 +1,7 @@
 use Rattle.std.proofs.Common.{sym, ap, ◌∙◌, subst}
 use Rattle.book_rules.specs.Tests.{has_clash}
 use Rattle.refute_rules.specs.Cases.{IsHard}
-use Rattle.place_refute.specs.Tried.{Tried}
+use Rattle.deck_cuts.specs.Tried.{Tried}
 use Rattle.book_core.proofs.PostLemmas.{park-missed, park-other, park-clashes, park-sound, park-done}
 use Rattle.book_core.proofs.book.Book.park.Goals as goal
 

@@ -1,84 +1,79 @@
 use Rattle.std.proofs.Common.{rules, ◌≡◌, ◌<◌, List, length, subst, sym, ap, ◌∙◌, slice_index_or}
 use Rattle.diff_system.specs.PathTree.{PathTree}
 use Rattle.refute_rules.specs.Cases.{IsCaseFault}
-use Rattle.chamber_place.specs.Picks.{choices_of}
 use Rattle.chamber_place.specs.Faults.{fault_of}
 use Rattle.chamber_place.specs.OnItsWay.{IsSettled}
 use Rattle.chamber_place.proofs.EnterLemmas.{enter-bounds, enter-room, enter-known, enter-option, enter-chosen, enter-last, enter-case, enter-edges, enter-longest, enter-faulty, enter-good}
 use Rattle.chamber_place.proofs.deck_case.DeckCaseTrack.enter.Goals as goal
 
-pub option_at-last-requires-clause-known : goal.option_at-last-requires-clause-known
-option_at-last-requires-clause-known c =
+pub option_at-last-requires-clause-asked : goal.option_at-last-requires-clause-asked
+option_at-last-requires-clause-asked c =
     let i = c.self.inside in
-    let taken : c.len-taken.result ≡ length i.picks.items = search rules in
-    enter-known i.deck i.decided.items i.picks.items i.edges i.paths.items i.fault c.self.invariant c.args.self.now c.self.view_is c.args.option c.requires.good c.requires.option c.len-taken.result taken c.as_slice.result.now c.as_slice.ensures.value
+    let taken : c.len-taken.result ≡ length i.choices.items = search rules in
+    enter-known i.deck i.decisions i.choices.items i.edges i.paths.items i.fault c.self.invariant c.args.self.now c.self.view_is c.args.option c.requires.good c.requires.option c.len-taken.result taken c.at-decision.result c.at-decision.ensures
 
-pub option_at-last-requires-clause-option : goal.option_at-last-requires-clause-option
-option_at-last-requires-clause-option c =
+pub option_at-last-requires-clause-number : goal.option_at-last-requires-clause-number
+option_at-last-requires-clause-number c =
     let i = c.self.inside in
-    let taken : c.len-taken.result ≡ length i.picks.items = search rules in
-    enter-option i.deck i.decided.items i.picks.items i.edges i.paths.items i.fault c.self.invariant c.args.self.now c.self.view_is c.args.option c.requires.good c.requires.option c.len-taken.result taken c.as_slice.result.now c.as_slice.ensures.value
-
-pub add_edges-requires-clause-few : goal.add_edges-requires-clause-few
-add_edges-requires-clause-few c =
-    c.self.invariant.limits.count.1
+    let taken : c.len-taken.result ≡ length i.choices.items = search rules in
+    enter-option i.deck i.decisions i.choices.items i.edges i.paths.items i.fault c.self.invariant c.args.self.now c.self.view_is c.args.option c.requires.good c.requires.option c.len-taken.result taken c.at-decision.result c.at-decision.ensures
 
 pub add_edges-requires-clause-room : goal.add_edges-requires-clause-room
 add_edges-requires-clause-room c =
     let i = c.self.inside in
-    let taken : c.len-taken.result ≡ length i.picks.items = search rules in
-    enter-room i.deck i.decided.items i.picks.items i.edges i.paths.items i.fault c.self.invariant c.args.self.now c.self.view_is c.args.option c.requires.good c.requires.option c.len-taken.result taken
+    let taken : c.len-taken.result ≡ length i.choices.items = search rules in
+    enter-room i.deck i.decisions i.choices.items i.edges i.paths.items i.fault c.self.invariant c.args.self.now c.self.view_is c.args.option c.requires.good c.requires.option c.len-taken.result taken
 
 pub bounds-as_slice-taken-2 : goal.bounds-as_slice-taken-2
 bounds-as_slice-taken-2 c =
     let i = c.self.inside in
-    let taken : c.len-taken.result ≡ length i.picks.items = search rules in
-    subst (λ (ts : List PathTree). c.len-taken.result < length ts) (sym c.as_slice-3.ensures.value) (enter-bounds i.deck i.decided.items i.picks.items i.edges i.paths.items i.fault c.self.invariant c.args.self.now c.self.view_is c.args.option c.requires.good c.requires.option c.len-taken.result taken)
+    let taken : c.len-taken.result ≡ length i.choices.items = search rules in
+    subst (λ (ts : List PathTree). c.len-taken.result < length ts) (sym c.as_slice-2.ensures.value) (enter-bounds i.deck i.decisions i.choices.items i.edges i.paths.items i.fault c.self.invariant c.args.self.now c.self.view_is c.args.option c.requires.good c.requires.option c.len-taken.result taken)
 
 pub solve-solved-requires-clause-chosen : goal.solve-solved-requires-clause-chosen
 solve-solved-requires-clause-chosen c =
     let i = c.self.inside in
-    let taken : c.len-taken.result ≡ length i.picks.items = search rules in
-    enter-chosen i.deck i.decided.items i.picks.items i.edges i.paths.items i.fault c.self.invariant c.args.self.now c.self.view_is c.args.option c.requires.good c.requires.option c.len-taken.result taken c.as_slice.result.now c.as_slice.ensures.value c.option_at-last.result c.option_at-last.ensures.known c.option_at-last.ensures.value c.as_slice-2.result.now (c.as_slice-2.ensures.value ∙ c.push.ensures.items)
+    let taken : c.len-taken.result ≡ length i.choices.items = search rules in
+    enter-chosen i.deck i.decisions i.choices.items i.edges i.paths.items i.fault c.self.invariant c.args.self.now c.self.view_is c.args.option c.requires.good c.requires.option c.len-taken.result taken c.at-decision.result c.at-decision.ensures c.option_at-last.result c.option_at-last.ensures.known c.option_at-last.ensures.value c.as_slice.result.now (c.as_slice.ensures.value ∙ c.push.ensures.items)
 
 pub solve-solved-requires-clause-last : goal.solve-solved-requires-clause-last
 solve-solved-requires-clause-last c =
     let i = c.self.inside in
-    let taken : c.len-taken.result ≡ length i.picks.items = search rules in
-    enter-last i.deck i.decided.items i.picks.items i.edges i.paths.items i.fault c.self.invariant c.args.self.now c.self.view_is c.args.option c.requires.good c.requires.option c.len-taken.result taken c.as_slice.result.now c.as_slice.ensures.value c.option_at-last.result c.option_at-last.ensures.known c.option_at-last.ensures.value c.as_slice-2.result.now (c.as_slice-2.ensures.value ∙ c.push.ensures.items)
+    let taken : c.len-taken.result ≡ length i.choices.items = search rules in
+    enter-last i.deck i.decisions i.choices.items i.edges i.paths.items i.fault c.self.invariant c.args.self.now c.self.view_is c.args.option c.requires.good c.requires.option c.len-taken.result taken c.at-decision.result c.at-decision.ensures c.option_at-last.result c.option_at-last.ensures.known c.option_at-last.ensures.value c.as_slice.result.now (c.as_slice.ensures.value ∙ c.push.ensures.items)
 
 pub solve-solved-requires-clause-edges : goal.solve-solved-requires-clause-edges
 solve-solved-requires-clause-edges c =
     let i = c.self.inside in
-    let taken : c.len-taken.result ≡ length i.picks.items = search rules in
-    enter-edges i.deck i.decided.items i.picks.items i.edges i.paths.items i.fault c.self.invariant c.args.self.now c.self.view_is c.args.option c.requires.good c.requires.option c.len-taken.result taken c.as_slice.result.now c.as_slice.ensures.value c.option_at-last.result c.option_at-last.ensures.known c.option_at-last.ensures.value c.as_slice-2.result.now (c.as_slice-2.ensures.value ∙ c.push.ensures.items) c.add_edges.new.edges c.add_edges.ensures
+    let taken : c.len-taken.result ≡ length i.choices.items = search rules in
+    enter-edges i.deck i.decisions i.choices.items i.edges i.paths.items i.fault c.self.invariant c.args.self.now c.self.view_is c.args.option c.requires.good c.requires.option c.len-taken.result taken c.at-decision.result c.at-decision.ensures c.option_at-last.result c.option_at-last.ensures.known c.option_at-last.ensures.value c.as_slice.result.now (c.as_slice.ensures.value ∙ c.push.ensures.items) c.add_edges.new.edges c.add_edges.ensures
 
 pub solve-solved-requires-clause-longest : goal.solve-solved-requires-clause-longest
 solve-solved-requires-clause-longest c =
     let i = c.self.inside in
-    let taken : c.len-taken.result ≡ length i.picks.items = search rules in
-    enter-longest i.deck i.decided.items i.picks.items i.edges i.paths.items i.fault c.self.invariant c.args.self.now c.self.view_is c.args.option c.requires.good c.requires.option c.len-taken.result taken c.as_slice.result.now c.as_slice.ensures.value c.option_at-last.result c.option_at-last.ensures.known c.option_at-last.ensures.value c.as_slice-2.result.now (c.as_slice-2.ensures.value ∙ c.push.ensures.items) c.add_edges.new.edges c.add_edges.ensures (length c.as_slice-known.result.now) (ap length c.as_slice-known.ensures.value) c.index-as_slice-taken.result (sym (c.index-as_slice-taken.is ∙ ap (λ (ts : List PathTree). slice_index_or ts c.len-taken.result c.index-as_slice-taken.result) c.as_slice-3.ensures.value))
+    let taken : c.len-taken.result ≡ length i.choices.items = search rules in
+    enter-longest i.deck i.decisions i.choices.items i.edges i.paths.items i.fault c.self.invariant c.args.self.now c.self.view_is c.args.option c.requires.good c.requires.option c.len-taken.result taken c.at-decision.result c.at-decision.ensures c.option_at-last.result c.option_at-last.ensures.known c.option_at-last.ensures.value c.as_slice.result.now (c.as_slice.ensures.value ∙ c.push.ensures.items) c.add_edges.new.edges c.add_edges.ensures (length c.as_slice-known.result.now) (ap length c.as_slice-known.ensures.value) c.index-as_slice-taken.result (sym (c.index-as_slice-taken.is ∙ ap (λ (ts : List PathTree). slice_index_or ts c.len-taken.result c.index-as_slice-taken.result) c.as_slice-2.ensures.value))
 
 pub invariant_of-self : goal.invariant_of-self
 invariant_of-self c =
     let i = c.self.inside in
-    let taken : c.len-taken.result ≡ length i.picks.items = search rules in
-    enter-good i.deck i.decided.items i.picks.items i.edges i.paths.items i.fault c.self.invariant c.args.self.now c.self.view_is c.args.option c.requires.good c.requires.option c.len-taken.result taken c.as_slice.result.now c.as_slice.ensures.value c.option_at-last.result c.option_at-last.ensures.known c.option_at-last.ensures.value c.push.new.self.items c.push.ensures.items c.add_edges.new.edges c.add_edges.ensures c.in-Ok.paths c.push-in-Ok.new.self.items c.push-in-Ok.ensures.items (subst (λ ps. IsSettled i.deck (choices_of ps) c.in-Ok.paths) c.as_slice-2.ensures.value c.in-Ok.ensures.settled)
+    let taken : c.len-taken.result ≡ length i.choices.items = search rules in
+    enter-good i.deck i.decisions i.choices.items i.edges i.paths.items i.fault c.self.invariant c.args.self.now c.self.view_is c.args.option c.requires.good c.requires.option c.len-taken.result taken c.at-decision.result c.at-decision.ensures c.option_at-last.result c.option_at-last.ensures.known c.option_at-last.ensures.value c.push.new.self.items c.push.ensures.items c.add_edges.new.edges c.add_edges.ensures c.in-Ok.paths c.push-in-Ok.new.self.items c.push-in-Ok.ensures.items (subst (λ ps. IsSettled i.deck ps c.in-Ok.paths) c.as_slice.ensures.value c.in-Ok.ensures.settled)
 
 pub invariant_of-self-in-Err : goal.invariant_of-self-in-Err
 invariant_of-self-in-Err c =
     let i = c.self.inside in
-    let taken : c.len-taken.result ≡ length i.picks.items = search rules in
-    enter-faulty i.deck i.decided.items i.picks.items i.edges i.paths.items i.fault c.self.invariant c.args.self.now c.self.view_is c.args.option c.requires.good c.requires.option c.len-taken.result taken c.as_slice.result.now c.as_slice.ensures.value c.option_at-last.result c.option_at-last.ensures.known c.option_at-last.ensures.value c.push.new.self.items c.push.ensures.items c.add_edges.new.edges c.add_edges.ensures c.in-Err.fault (subst (λ ps. IsCaseFault i.deck (choices_of ps) (fault_of c.in-Err.fault)) c.as_slice-2.ensures.value c.in-Err.ensures.fault)
+    let taken : c.len-taken.result ≡ length i.choices.items = search rules in
+    enter-faulty i.deck i.decisions i.choices.items i.edges i.paths.items i.fault c.self.invariant c.args.self.now c.self.view_is c.args.option c.requires.good c.requires.option c.len-taken.result taken c.at-decision.result c.at-decision.ensures c.option_at-last.result c.option_at-last.ensures.known c.option_at-last.ensures.value c.push.new.self.items c.push.ensures.items c.add_edges.new.edges c.add_edges.ensures c.in-Err.fault (subst (λ ps. IsCaseFault i.deck ps (fault_of c.in-Err.fault)) c.as_slice.ensures.value c.in-Err.ensures.fault)
 
 pub returns-in-Ok-clause-case : goal.returns-in-Ok-clause-case
 returns-in-Ok-clause-case c =
     let i = c.self.inside in
-    let taken : c.len-taken.result ≡ length i.picks.items = search rules in
-    enter-case i.deck i.decided.items i.picks.items i.edges i.paths.items i.fault c.self.invariant c.args.self.now c.self.view_is c.args.option c.requires.good c.requires.option c.len-taken.result taken c.as_slice.result.now c.as_slice.ensures.value c.option_at-last.result c.option_at-last.ensures.known c.option_at-last.ensures.value c.push.new.self.items c.push.ensures.items
+    let taken : c.len-taken.result ≡ length i.choices.items = search rules in
+    enter-case i.deck i.decisions i.choices.items i.edges i.paths.items i.fault c.self.invariant c.args.self.now c.self.view_is c.args.option c.requires.good c.requires.option c.len-taken.result taken c.at-decision.result c.at-decision.ensures c.option_at-last.result c.option_at-last.ensures.known c.option_at-last.ensures.value c.push.new.self.items c.push.ensures.items
 
 pub returns-in-Err-clause-case : goal.returns-in-Err-clause-case
 returns-in-Err-clause-case c =
     let i = c.self.inside in
-    let taken : c.len-taken.result ≡ length i.picks.items = search rules in
-    enter-case i.deck i.decided.items i.picks.items i.edges i.paths.items i.fault c.self.invariant c.args.self.now c.self.view_is c.args.option c.requires.good c.requires.option c.len-taken.result taken c.as_slice.result.now c.as_slice.ensures.value c.option_at-last.result c.option_at-last.ensures.known c.option_at-last.ensures.value c.push.new.self.items c.push.ensures.items
+    let taken : c.len-taken.result ≡ length i.choices.items = search rules in
+    enter-case i.deck i.decisions i.choices.items i.edges i.paths.items i.fault c.self.invariant c.args.self.now c.self.view_is c.args.option c.requires.good c.requires.option c.len-taken.result taken c.at-decision.result c.at-decision.ensures c.option_at-last.result c.option_at-last.ensures.known c.option_at-last.ensures.value c.push.new.self.items c.push.ensures.items

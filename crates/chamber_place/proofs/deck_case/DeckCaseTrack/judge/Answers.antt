@@ -7,5 +7,5 @@ use Rattle.chamber_place.proofs.deck_case.DeckCaseTrack.judge.Goals as goal
 pub returns-in-None : goal.returns-in-None
 returns-in-None c =
     let i = c.self.inside in
-    let count = subst (IsState i.deck i.picks.items i.paths.items) c.in-None.is c.self.invariant.state in
-    subst (λ v. IsConsistent v.deck v.case) c.self.view_is (whole-consistent i.deck i.decided.items i.picks.items i.edges i.paths.items i.fault c.self.invariant count)
+    let count = subst (IsState i.deck i.choices.items i.paths.items) c.in-None.is c.self.invariant.state in
+    subst (λ v. IsConsistent v.deck v.case) c.self.view_is (whole-consistent i.deck i.decisions i.choices.items i.edges i.paths.items i.fault c.self.invariant count)

@@ -1,6 +1,5 @@
 use Rattle.std.proofs.Common.{ap, sym, ◌∙◌, List, Some}
-use Rattle.case_search.specs.declared.berths.Berth.{Berth as Mooring}
-use Rattle.case_search.specs.Berths.{berth_of}
+use Rattle.refute_rules.specs.declared.choices.Berth.{Berth}
 use Rattle.spot_place.specs.OnWay.{berth_at}
 use Rattle.spot_place.proofs.KeptLemmas.{shown-berth}
 use Rattle.spot_place.proofs.spot_case.SpotCase.berth.Goals as goal
@@ -9,4 +8,4 @@ pub returns : goal.returns
 returns c =
     let i = c.self.inside in
     shown-berth i.deck i.values i.berths.items i.places.items i.levels.items c.self.invariant c.args.self.now c.self.view_is c.args.ship c.requires
-    ∙ ap (λ (ms : List Mooring). Some (berth_of (berth_at ms c.args.ship))) (sym c.deref.ensures.0)
+    ∙ ap (λ (ms : List Berth). Some (berth_at ms c.args.ship)) (sym c.deref.ensures.0)

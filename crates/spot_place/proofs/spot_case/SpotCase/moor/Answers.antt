@@ -1,5 +1,5 @@
 use Rattle.std.proofs.Common.{subst, List}
-use Rattle.case_search.specs.declared.berths.Berth.{Berth as Mooring}
+use Rattle.refute_rules.specs.declared.choices.Berth.{Berth}
 use Rattle.spot_place.specs.OnWay.{lying}
 use Rattle.spot_place.specs.Heights.{AreHeights}
 use Rattle.spot_place.proofs.KeptLemmas.{kept-moored}
@@ -10,4 +10,4 @@ invariant_of-self c =
     let i = c.self.inside in
     let heights = c.heights_of-heights.result in
     kept-moored i.deck i.values i.berths.items i.places.items i.levels.items c.self.invariant c.args.self.now c.self.view_is c.args.berth c.push.new.self.items heights c.push-2.new.self.items
-    c.requires.room c.requires.step c.requires.known c.requires.good c.push.ensures.items (subst (λ (ms : List Mooring). AreHeights i.deck (lying ms) heights) c.as_slice.ensures.value c.heights_of-heights.ensures) c.push-2.ensures.items
+    c.requires.room c.requires.step c.requires.known c.requires.good c.push.ensures.items (subst (λ (ms : List Berth). AreHeights i.deck (lying ms) heights) c.as_slice.ensures.value c.heights_of-heights.ensures) c.push-2.ensures.items

@@ -1,6 +1,6 @@
 use Rattle.std.proofs.Common.{◌∙◌, ap, arith, ◌≡◌, length, slice_index_or, ℕ}
 use Rattle.refute_rules.specs.Choices.{berths_of}
-use Rattle.case_search.specs.Berths.{first_berth}
+use Rattle.deck_cases.specs.Berths.{first_berth}
 use Rattle.spot_place.proofs.KeptLemmas.{shown-berths}
 use Rattle.spot_place.proofs.OptionLemmas.{known-option}
 use Rattle.spot_place.proofs.TakeLemmas.{berth-taken}

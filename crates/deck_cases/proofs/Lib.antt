@@ -1,0 +1,5 @@
+pub mod LookupLemmas
+pub mod KnownLemmas
+pub mod BerthLemmas
+pub mod DecisionLemmas
+pub mod OptionLemmas

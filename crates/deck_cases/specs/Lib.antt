@@ -1,0 +1,4 @@
+pub mod Asked
+pub mod Berths
+pub mod Lookups
+pub mod Reach

@@ -1,6 +1,0 @@
-use Rattle.std.proofs.Common.{◌≡◌}
-use Rattle.refute_rules.specs.Choices.{decisions}
-use Rattle.place_refute.proofs.decision.case_decisions.Given as goal
-
-abbrev pub invariant-loop-ship : goal.invariant-loop-ship
-invariant-loop-ship l = l.list ≡ decisions l.ship

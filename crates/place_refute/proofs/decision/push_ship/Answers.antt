@@ -1,5 +1,0 @@
-use Rattle.place_refute.proofs.DecisionLemmas.{pairs_room}
-use Rattle.place_refute.proofs.decision.push_ship.Goals as goal
-
-pub push-requires-in-loop-other : goal.push-requires-in-loop-other
-push-requires-in-loop-other c = pairs_room c.loop-other.list c.args.ship c.loop-other.other c.loop-other.invariant c.requires.ship c.loop-other-test.true
