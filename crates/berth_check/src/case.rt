@@ -1,8 +1,8 @@
 //! Berth cases as lists of options.
 ghost use Rattle.std.specs.Prelude.{◌≡◌, ◌≤◌, [], ◌∷◌, ◌++◌, length, take, OnErr, OnOk};
 
-use no_memory::NoMemory;
 use deck_cases::Choice;
+use no_memory::NoMemory;
 use std::alloc::Global;
 use std::marker::Model;
 

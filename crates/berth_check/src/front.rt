@@ -8,7 +8,7 @@ use crate::pairs::are_unordered;
 use crate::places::has_places;
 use crate::spans::{are_too_many, is_crowd, is_too_long};
 use deck_cases::{Choice, berth_of, has_other_rank, is_outside_across, leads_back};
-use lock_model::Deck;
+use lock_model::{Deck, MOST};
 
 /// A leaf, a split by a ship's berth, or a split by the order of two ships, and where it ends.
 #[derive(Clone, Copy)]
@@ -63,7 +63,7 @@ fn berth_front(deck: &Deck, choices: &[Choice], marks: &[u32], at: usize) -> Fro
     requires kind { slice_index_or marks.now at 0 ≡ 0 }
     ensures { IsFront deck.now choices.now marks.now at result }
 {
-    prove!(deck.ships.as_slice().len() <= 8);
+    prove!(deck.ships.as_slice().len() <= MOST);
     let ship = marks[at + 1];
     if is_open_berth(deck, choices, ship) {
         Front::Berth(ship as u8, at + 2)
@@ -80,7 +80,7 @@ fn order_front(deck: &Deck, choices: &[Choice], marks: &[u32], at: usize) -> Fro
     requires kind { slice_index_or marks.now at 0 ≡ 7 }
     ensures { IsFront deck.now choices.now marks.now at result }
 {
-    prove!(deck.ships.as_slice().len() <= 8);
+    prove!(deck.ships.as_slice().len() <= MOST);
     if at + 2 >= marks.len() {
         return Front::Nothing;
     }

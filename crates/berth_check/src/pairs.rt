@@ -7,12 +7,12 @@ ghost use Rattle.deck_cases.specs.Reach.{IsWithinReach};
 ghost use Rattle.berth_check.specs.PairReads.{ArePassing, AreClose};
 
 use deck_cases::{Choice, host_of, is_below, y_of};
-use lock_model::Deck;
+use lock_model::{Deck, MOST};
 
 // Whether one of two ships at known y lies below the other.
 fn are_passing(deck: &Deck, i: u32, p: i64, j: u32, q: i64) -> bool
-    requires first { IsWithinReach 8 p }
-    requires second { IsWithinReach 8 q }
+    requires first { IsWithinReach MOST p }
+    requires second { IsWithinReach MOST q }
     ensures { IsTrue result ↔ ArePassing deck.now i p j q }
 {
     is_below(deck, i, p, q) || is_below(deck, j, q, p)

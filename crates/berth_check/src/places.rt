@@ -5,7 +5,7 @@ ghost use Rattle.refute_rules.specs.BerthCases.{host_in};
 ghost use Rattle.berth_check.specs.Raises.{AreKnown, IsKnownChoice, IsOf, IsForced, IsHostObeyed, IsOrderObeyed, AreHostsObeyed, AreOrdersObeyed, AreSettled, AreBelow, AreFirstInside, HasPlaces};
 
 use deck_cases::{Choice, host_of, length_of};
-use lock_model::Deck;
+use lock_model::{Deck, MOST};
 
 // A place that a ship is raised to.
 #[derive(Clone, Copy)]
@@ -23,7 +23,7 @@ fn raise_at_host(
     ship: u8,
     host: u8,
 ) -> Option<Raise>
-    requires count { length places.now ≡ 8 }
+    requires count { length places.now ≡ MOST }
     requires ship { ship < length deck.now.ships }
     requires host { host < length deck.now.ships }
     requires lies { Some host ≡ host_in choices.now ship }
@@ -31,7 +31,7 @@ fn raise_at_host(
     ensures some { IfSome result (λ r. IsForced deck.now choices.now places.now r.ship r.value) }
     ensures few { IfSome result (λ r. r.value ≤ 17179869184) }
 {
-    prove!(deck.ships.as_slice().len() <= 8);
+    prove!(deck.ships.as_slice().len() <= MOST);
     let own = places[ship as usize] as u64;
     let near = places[host as usize] as u64;
     if own < near {
@@ -52,7 +52,7 @@ fn raise_at_host(
 #[tactic(auto, using(crate::proofs::RaiseLemmas::host_none, crate::proofs::RaiseLemmas::known_host))]
 fn host_raise(deck: &Deck, choices: &[Choice], places: &[u32], ship: u8) -> Option<Raise>
     requires known { AreKnown deck.now choices.now }
-    requires count { length places.now ≡ 8 }
+    requires count { length places.now ≡ MOST }
     requires ship { ship < length deck.now.ships }
     ensures none { IfNone result (IsHostObeyed deck.now choices.now places.now ship) }
     ensures some { IfSome result (λ r. IsForced deck.now choices.now places.now r.ship r.value) }
@@ -69,12 +69,12 @@ fn host_raise(deck: &Deck, choices: &[Choice], places: &[u32], ship: u8) -> Opti
 fn order_raise(deck: &Deck, choices: &[Choice], places: &[u32], choice: &Choice) -> Option<Raise>
     requires known { IsKnownChoice deck.now choice.now }
     requires stands { IsOf choices.now choice.now }
-    requires count { length places.now ≡ 8 }
+    requires count { length places.now ≡ MOST }
     ensures none { IfNone result (IsOrderObeyed deck.now places.now choice.now) }
     ensures some { IfSome result (λ r. IsForced deck.now choices.now places.now r.ship r.value) }
     ensures few { IfSome result (λ r. r.value ≤ 17179869184) }
 {
-    prove!(deck.ships.as_slice().len() <= 8);
+    prove!(deck.ships.as_slice().len() <= MOST);
     match choice {
         Choice::Before(first, second) => {
             let after = places[*first as usize] as u64
@@ -96,7 +96,7 @@ fn order_raise(deck: &Deck, choices: &[Choice], places: &[u32], choice: &Choice)
 // The first raise that a host asks.
 fn first_host_raise(deck: &Deck, choices: &[Choice], places: &[u32]) -> Option<Raise>
     requires known { AreKnown deck.now choices.now }
-    requires count { length places.now ≡ 8 }
+    requires count { length places.now ≡ MOST }
     ensures none { IfNone result (AreHostsObeyed deck.now choices.now places.now (length deck.now.ships)) }
     ensures some { IfSome result (λ r. IsForced deck.now choices.now places.now r.ship r.value) }
     ensures few { IfSome result (λ r. r.value ≤ 17179869184) }
@@ -114,7 +114,7 @@ fn first_host_raise(deck: &Deck, choices: &[Choice], places: &[u32]) -> Option<R
 #[tactic(auto, using(crate::proofs::RaiseLemmas::choice_known, crate::proofs::RaiseLemmas::choice_of_case, crate::proofs::RaiseLemmas::orders_begun, crate::proofs::RaiseLemmas::orders_more, crate::proofs::RaiseLemmas::orders_whole))]
 fn first_order_raise(deck: &Deck, choices: &[Choice], places: &[u32]) -> Option<Raise>
     requires known { AreKnown deck.now choices.now }
-    requires count { length places.now ≡ 8 }
+    requires count { length places.now ≡ MOST }
     ensures none { IfNone result (AreOrdersObeyed deck.now choices.now places.now (length choices.now)) }
     ensures some { IfSome result (λ r. IsForced deck.now choices.now places.now r.ship r.value) }
     ensures few { IfSome result (λ r. r.value ≤ 17179869184) }
@@ -130,7 +130,7 @@ fn first_order_raise(deck: &Deck, choices: &[Choice], places: &[u32]) -> Option<
 // A raise that the case asks, if there is one.
 fn find_raise(deck: &Deck, choices: &[Choice], places: &[u32]) -> Option<Raise>
     requires known { AreKnown deck.now choices.now }
-    requires count { length places.now ≡ 8 }
+    requires count { length places.now ≡ MOST }
     ensures none { IfNone result (AreSettled deck.now choices.now places.now) }
     ensures some { IfSome result (λ r. IsForced deck.now choices.now places.now r.ship r.value) }
     ensures few { IfSome result (λ r. r.value ≤ 17179869184) }
@@ -152,10 +152,10 @@ fn is_inside_along(deck: &Deck, ship: u8, place: u64) -> bool
 
 // Whether all ships are inside along the chamber.
 fn are_inside(deck: &Deck, places: &[u32]) -> bool
-    requires { length places.now ≡ 8 }
+    requires { length places.now ≡ MOST }
     ensures { IsTrue result ↔ AreFirstInside deck.now places.now (length deck.now.ships) }
 {
-    prove!(deck.ships.as_slice().len() <= 8);
+    prove!(deck.ships.as_slice().len() <= MOST);
     let count = deck.ships.as_slice().len() as u8;
     for ship in 0..count {
         if !is_inside_along(deck, ship, places[ship as usize] as u64) {
@@ -169,12 +169,12 @@ fn are_inside(deck: &Deck, places: &[u32]) -> bool
 // Raises places until they obey the case, or until a ship isn't inside.
 fn settle(deck: &Deck, choices: &[Choice], places: &mut [u32]) -> bool
     requires known { AreKnown deck.now choices.now }
-    requires count { length places.old ≡ 8 }
+    requires count { length places.old ≡ MOST }
     requires below { AreBelow deck.now choices.now places.old }
     requires inside { AreFirstInside deck.now places.old (length deck.now.ships) }
     ensures { IsTrue result ↔ HasPlaces deck.now choices.now }
 {
-    prove!(deck.ships.as_slice().len() <= 8);
+    prove!(deck.ships.as_slice().len() <= MOST);
     while let Some(raise) = find_raise(deck, choices, places) {
         if !is_inside_along(deck, raise.ship, raise.value) {
             return false;
@@ -190,7 +190,7 @@ pub(crate) fn has_places(deck: &Deck, choices: &[Choice]) -> bool
     requires { AreKnown deck.now choices.now }
     ensures { IsTrue result ↔ HasPlaces deck.now choices.now }
 {
-    let mut places = [deck.end; 8];
+    let mut places = [deck.end; MOST];
     if !are_inside(deck, &places) {
         return false;
     }

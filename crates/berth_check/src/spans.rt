@@ -7,7 +7,7 @@ ghost use Rattle.berth_check.specs.CrowdReads.{has, IsCloseIfHas, AreCloseTo, Is
 
 use crate::pairs::are_close;
 use deck_cases::{Choice, host_of, length_of};
-use lock_model::Deck;
+use lock_model::{Deck, MOST};
 
 /// Whether a ship is longer than its decided host.
 #[tactic(auto, using(crate::proofs::FaultLemmas::long_yes, crate::proofs::FaultLemmas::long_no, crate::proofs::FaultLemmas::long_none))]
@@ -66,7 +66,7 @@ pub fn are_too_many(deck: &Deck, choices: &[Choice], host: u32) -> bool
 
 // Whether a set has a ship.
 fn has(set: u32, ship: u8) -> bool
-    requires { ship < 8 }
+    requires { ship < MOST }
     ensures { result ≡ has set ship }
 {
     set / 2u32.pow(ship as u32) % 2 == 1
@@ -88,7 +88,7 @@ fn crowd_span(deck: &Deck, set: u32) -> u64
 
 // Whether a ship is close to another, where the set has it.
 fn is_close_if_has(deck: &Deck, choices: &[Choice], set: u32, i: u8, j: u8) -> bool
-    requires { i < 8 }
+    requires { i < MOST }
     ensures { IsTrue result ↔ IsCloseIfHas deck.now choices.now set i j }
 {
     if has(set, i) {
@@ -100,7 +100,7 @@ fn is_close_if_has(deck: &Deck, choices: &[Choice], set: u32, i: u8, j: u8) -> b
 
 // Whether the lower ships of a set are close to a ship.
 fn is_close_to_lower(deck: &Deck, choices: &[Choice], set: u32, ship: u8) -> bool
-    requires { ship < 8 }
+    requires { ship < MOST }
     ensures { IsTrue result ↔ AreCloseTo deck.now choices.now set ship ship }
 {
     for lower in 0..ship {
@@ -113,7 +113,7 @@ fn is_close_to_lower(deck: &Deck, choices: &[Choice], set: u32, ship: u8) -> boo
 
 // Whether the lower ships of a set are close to a ship, where the set has it.
 fn is_last_if_has(deck: &Deck, choices: &[Choice], set: u32, ship: u8) -> bool
-    requires { ship < 8 }
+    requires { ship < MOST }
     ensures { IsTrue result ↔ IsLastIfHas deck.now choices.now set ship }
 {
     if has(set, ship) {

@@ -5,6 +5,7 @@ use Rattle.std.proofs.lemmas.Grind.{flat_map-append}
 use Rattle.std.proofs.lemmas.Nat.{mul-le}
 use Rattle.std.proofs.lemmas.List.Elements.{All-from_recursion}
 use Rattle.std.specs.List.{AllByRecursion}
+use Rattle.lock_model.specs.declared.limits.TheConstants.{DECISIONS, MOST}
 use Rattle.list_laws.proofs.ByRecursion.{all-append}
 use Rattle.lock_model.specs.Deck.{Deck}
 use Rattle.lock_rules.specs.Arrival.{numbers_from}
@@ -46,11 +47,11 @@ twice zero = refl
 twice (suc n) = omega (arith, twice n, upto-length n n)
 
 -- there is room for the decisions of eight ships
-pub pairs_room : (ds : List Decision) (ship other : ℕ) → ds ≡ pairs_upto ship other → ship < 8 → other < ship → length ds < 36
+pub pairs_room : (ds : List Decision) (ship other : ℕ) → ds ≡ pairs_upto ship other → ship < MOST → other < ship → length ds < DECISIONS
 pairs_room ds ship other e less in_range =
     omega (arith, ap length e, upto-length ship other, twice ship, mul-le ship (ship + 1) 7 8 (omega arith) (omega arith))
 
-pub berth_room : (ds : List Decision) (ship : ℕ) → ds ≡ decisions ship → ship < 8 → length ds < 36
+pub berth_room : (ds : List Decision) (ship : ℕ) → ds ≡ decisions ship → ship < MOST → length ds < DECISIONS
 berth_room ds ship e less = omega (arith, ap length e, twice ship, mul-le ship (ship + 1) 7 8 (omega arith) (omega arith))
 
 abbrev spot_pair : ℕ → List Decision
@@ -66,7 +67,7 @@ spots-length : (low n : ℕ) → length (flat_map spot_pair (numbers_from low n)
 spots-length low zero = refl
 spots-length low (suc n) = omega (arith, spots-length (suc low) n)
 
-pub spots_room : (ds : List Decision) (ship : ℕ) → ds ≡ spot_decisions ship → ship < 8 → length ds < 16
+pub spots_room : (ds : List Decision) (ship : ℕ) → ds ≡ spot_decisions ship → ship < MOST → length ds < 16
 spots_room ds ship e less = omega (arith, ap length e, spots-length 0 ship)
 
 -- the decisions are about ships of the deck, and there are few of them
@@ -99,8 +100,8 @@ module _ (d : Deck) (values : List ℕ) where
   pub spot-asked : (list : List Decision) → list ≡ spot_decisions (length d.ships) → values ≡ spot_values d → (k : ℕ) → k < length list → IsAsked d values (get_or list k (BerthOf 0))
   spot-asked list e is = each-asked list (subst AreAsked (sym e) (spots-asked is))
 
-pub case-few : (n : ℕ) → n ≤ 8 → length (decisions n) ≤ 36
+pub case-few : (n : ℕ) → n ≤ MOST → length (decisions n) ≤ DECISIONS
 case-few n few = omega (arith, twice n, mul-le n (n + 1) 8 9 few (omega (arith, few)))
 
-pub spot-few : (n : ℕ) → n ≤ 8 → length (spot_decisions n) ≤ 16
+pub spot-few : (n : ℕ) → n ≤ MOST → length (spot_decisions n) ≤ 16
 spot-few n few = omega (arith, spots-length 0 n, few)

@@ -6,7 +6,7 @@ ghost use Rattle.refute_rules.specs.SpotFaults.{IsInsideAcross};
 ghost use Rattle.deck_cases.specs.Reach.{IsWithinReach};
 
 use crate::sizes::width_of;
-use lock_model::{Deck, Rank};
+use lock_model::{Deck, MOST, Rank};
 
 /// y at the quay of a rank.
 pub(crate) fn quay_y(deck: &Deck, ship: u32, rank: Rank) -> i64
@@ -21,7 +21,7 @@ pub(crate) fn quay_y(deck: &Deck, ship: u32, rank: Rank) -> i64
 
 // y at a host that lies at a known y, so many ships down to a quay.
 fn guest_y(deck: &Deck, ship: u32, host: u8, rank: Rank, y: i64, steps: u8) -> i64
-    requires few { steps < 8 }
+    requires few { steps < MOST }
     requires bound { IsWithinReach steps y }
     ensures value { result ≡ guest_y deck.now ship host rank y }
     ensures bound { IsWithinReach (steps + 1) result }
@@ -46,7 +46,7 @@ pub(crate) fn y_at_host(
     host_y: Option<i64>,
     steps: u8,
 ) -> Option<i64>
-    requires few { steps < 8 }
+    requires few { steps < MOST }
     requires bound { IfSome host_y (IsWithinReach steps) }
     ensures value { result ≡ option_map (guest_y deck.now ship host rank) host_y }
     ensures bound { IfSome result (IsWithinReach (steps + 1)) }
@@ -59,7 +59,7 @@ pub(crate) fn y_at_host(
 
 /// Whether a ship is inside across the chamber.
 pub fn is_inside_across(deck: &Deck, ship: u32, y: i64) -> bool
-    requires { IsWithinReach 8 y }
+    requires { IsWithinReach MOST y }
     ensures { IsTrue result ↔ IsInsideAcross deck.now ship y }
 {
     let far = y + width_of(deck, ship) as i64;
@@ -68,7 +68,7 @@ pub fn is_inside_across(deck: &Deck, ship: u32, y: i64) -> bool
 
 /// Whether a ship at y is below another across the chamber.
 pub fn is_below(deck: &Deck, ship: u32, y: i64, other_y: i64) -> bool
-    requires { IsWithinReach 8 y }
+    requires { IsWithinReach MOST y }
     ensures { IsTrue result ↔ (y +ℤ pos (width_at deck.now ship + deck.now.side)) ≤ℤ other_y }
 {
     let wide = (width_of(deck, ship) as u64 + deck.side as u64) as i64;

@@ -4,7 +4,7 @@ ghost use Rattle.lock_model.specs.declared.placement.Rank.TheVariants.{Left, Rig
 ghost use Rattle.refute_rules.specs.Choices.{berths_of};
 ghost use Rattle.deck_cases.specs.Berths.{first_berth};
 
-use lock_model::{Moor, Rank};
+use lock_model::{MOST, Moor, Rank};
 use refute_rules::Berth;
 
 // Left and right take turns.
@@ -20,7 +20,7 @@ fn rank_of(option: u32) -> Rank
 
 // The other ships in order, from number 0 on.
 fn other_ship(ship: u8, number: u8) -> u8
-    requires { number < 8 }
+    requires { number < MOST }
     ensures { result ≡ (if nat_lt number ship then number else (number + 1)) }
 {
     if number < ship { number } else { number + 1 }
@@ -29,7 +29,7 @@ fn other_ship(ship: u8, number: u8) -> u8
 /// Berth number `option` of a ship in a deck of so many ships, at most 8: left quay, right quay,
 /// then left and right at each other ship. There are two for each ship of the deck.
 pub fn berth_option(ships: u8, ship: u8, option: u32) -> Berth
-    requires few { ships ≤ 8 }
+    requires few { ships ≤ MOST }
     requires ship { ship < ships }
     requires option { option < 2 * ships }
     ensures { result ≡ slice_index_or (berths_of ships ship) option first_berth }

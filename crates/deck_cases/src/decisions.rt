@@ -4,13 +4,14 @@ ghost use Rattle.refute_rules.specs.declared.choices.Decision.TheVariants.{Berth
 ghost use Rattle.refute_rules.specs.Choices.{decisions, spot_decisions};
 
 use arrayvec::ArrayVec;
+use lock_model::{DECISIONS, MOST};
 use refute_rules::Decision;
 use std::marker::Model;
 
 /// The decisions of a deck in order.
 #[derive(Drop)]
 pub struct Decisions {
-    items: ArrayVec<Decision, 36>,
+    items: ArrayVec<Decision, DECISIONS>,
 }
 
 impl Model for Decisions {
@@ -35,7 +36,7 @@ impl Decisions {
     /// How many decisions there are.
     pub fn len(&self) -> usize
         ensures value { result ≡ length self.now }
-        ensures few { result ≤ 36 }
+        ensures few { result ≤ DECISIONS }
     {
         self.items.len()
     }
@@ -50,7 +51,7 @@ impl Decisions {
 
     /// Appends a decision.
     fn push(&mut self, decision: Decision)
-        requires { length self.old < 36 }
+        requires { length self.old < DECISIONS }
         ensures { self.new ≡ self.old ++ decision ∷ [] }
     {
         self.items.push(decision);
@@ -60,7 +61,7 @@ impl Decisions {
 // Appends a ship's berth and its pairs with the lower ships.
 #[tactic(auto, using(crate::proofs::DecisionLemmas::pairs_begun, crate::proofs::DecisionLemmas::pairs_more, crate::proofs::DecisionLemmas::pairs_whole, crate::proofs::DecisionLemmas::pairs_room, crate::proofs::DecisionLemmas::berth_room))]
 fn push_ship(list: &mut Decisions, ship: u8)
-    requires ship { ship < 8 }
+    requires ship { ship < MOST }
     requires begun { list.old ≡ decisions ship }
     ensures { list.new ≡ decisions (ship + 1) }
 {
@@ -72,7 +73,7 @@ fn push_ship(list: &mut Decisions, ship: u8)
 
 /// The decisions about so many ships: each ship's berth, then its pairs with the lower ships.
 pub fn case_decisions(ships: u8) -> Decisions
-    requires { ships ≤ 8 }
+    requires { ships ≤ MOST }
     ensures { result ≡ decisions ships }
 {
     let mut list = Decisions::new();
@@ -85,7 +86,7 @@ pub fn case_decisions(ships: u8) -> Decisions
 /// The decisions about so many ships at spot values: each ship's berth, then its x.
 #[tactic(auto, using(crate::proofs::DecisionLemmas::spots_more, crate::proofs::DecisionLemmas::spots_room))]
 pub fn spot_decisions(ships: u8) -> Decisions
-    requires { ships ≤ 8 }
+    requires { ships ≤ MOST }
     ensures { result ≡ spot_decisions ships }
 {
     let mut list = Decisions::new();

@@ -8,12 +8,12 @@ ghost use Rattle.deck_cases.specs.Asked.{IsMoorOfOthers, IsOfDeck};
 
 use arrayvec::ArrayVec;
 use diff_rules::Edge;
-use lock_model::{Deck, Moor, Rank};
+use lock_model::{Deck, MOST, Moor, Rank};
 use refute_rules::{Berth, Choice};
 
 /// The variable of a ship's x.
 pub fn x_var(ship: u8) -> u8
-    requires { ship < 8 }
+    requires { ship < MOST }
     ensures { result ≡ 1 + 2 * ship }
 {
     1 + 2 * ship
@@ -21,7 +21,7 @@ pub fn x_var(ship: u8) -> u8
 
 /// The variable of a ship's y.
 pub fn y_var(ship: u8) -> u8
-    requires { ship < 8 }
+    requires { ship < MOST }
     ensures { result ≡ 2 + 2 * ship }
 {
     2 + 2 * ship
@@ -118,7 +118,7 @@ fn four(first: Edge, second: Edge, third: Edge, fourth: Edge) -> ArrayVec<Edge, 
 // The edge of a berth at a quay.
 fn quay_edge(deck: &Deck, ship: u8, rank: Rank) -> Edge
     requires ship { ship < length deck.now.ships }
-    requires few { ship < 8 }
+    requires few { ship < MOST }
     ensures { result ∷ [] ≡ berth_edges deck.now ship rank Quay }
 {
     match rank {
@@ -131,8 +131,8 @@ fn quay_edge(deck: &Deck, ship: u8, rank: Rank) -> Edge
 fn host_edges(deck: &Deck, ship: u8, rank: Rank, host: u8) -> ArrayVec<Edge, 4>
     requires ship { ship < length deck.now.ships }
     requires host { host < length deck.now.ships }
-    requires ship_few { ship < 8 }
-    requires host_few { host < 8 }
+    requires ship_few { ship < MOST }
+    requires host_few { host < MOST }
     ensures { result.items ≡ berth_edges deck.now ship rank (Ship host) }
 {
     let near = edge(x_var(host), x_var(ship), 0);
@@ -155,7 +155,7 @@ fn host_edges(deck: &Deck, ship: u8, rank: Rank, host: u8) -> ArrayVec<Edge, 4>
 
 // The edges of a berth.
 fn berth_edges(deck: &Deck, ship: u8, berth: Berth) -> ArrayVec<Edge, 4>
-    requires few { length deck.now.ships ≤ 8 }
+    requires few { length deck.now.ships ≤ MOST }
     requires ship { ship < length deck.now.ships }
     requires host { IsMoorOfOthers deck.now ship berth.moor }
     ensures { result.items ≡ berth_edges deck.now ship berth.rank berth.moor }
@@ -172,7 +172,7 @@ pub fn choice_edges(deck: &Deck, choice: Choice) -> ArrayVec<Edge, 4>
     ensures value { result.items ≡ choice_edges deck.now choice }
     ensures few { length result.items ≤ 4 }
 {
-    prove!(deck.ships.as_slice().len() <= 8);
+    prove!(deck.ships.as_slice().len() <= MOST);
     match choice {
         Choice::Before(i, j) => one(edge(x_var(i), x_var(j), along(deck, i))),
         Choice::Below(i, j) => one(edge(y_var(i), y_var(j), across(deck, i))),
@@ -187,7 +187,7 @@ pub fn ship_edges(deck: &Deck, ship: u8) -> ArrayVec<Edge, 4>
     ensures value { result.items ≡ ship_edges deck.now ship }
     ensures few { length result.items ≤ 4 }
 {
-    prove!(deck.ships.as_slice().len() <= 8);
+    prove!(deck.ships.as_slice().len() <= MOST);
     let near = edge(0, x_var(ship), deck.end as i64);
     let back = edge(x_var(ship), 0, back_along(deck, ship));
     let low = edge(0, y_var(ship), 0);

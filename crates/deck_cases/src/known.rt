@@ -6,7 +6,7 @@ ghost use Rattle.deck_cases.specs.Reach.{IsWithinReach};
 
 use crate::across::{is_inside_across, quay_y, y_at_host};
 use crate::decided::{berth_of, host_of};
-use lock_model::{Deck, Moor};
+use lock_model::{Deck, MOST, Moor};
 use refute_rules::Choice;
 
 // Whether a ship is among the first hosts from another on.
@@ -32,7 +32,7 @@ pub fn leads_back(deck: &Deck, choices: &[Choice], ship: u32) -> bool
 // A ship's y, where at most so many ships lead down to a quay.
 #[tactic(auto, using(crate::proofs::KnownLemmas::y_host))]
 fn y_within(deck: &Deck, choices: &[Choice], steps: u8, ship: u32) -> Option<i64>
-    requires { steps ≤ 8 }
+    requires { steps ≤ MOST }
     ensures value { result ≡ y_within deck.now choices.now steps ship }
     ensures bound { IfSome result (IsWithinReach steps) }
 {
@@ -52,7 +52,7 @@ fn y_within(deck: &Deck, choices: &[Choice], steps: u8, ship: u32) -> Option<i64
 /// A ship's y, where it is known.
 pub fn y_of(deck: &Deck, choices: &[Choice], ship: u32) -> Option<i64>
     ensures value { result ≡ y_in deck.now choices.now ship }
-    ensures bound { IfSome result (IsWithinReach 8) }
+    ensures bound { IfSome result (IsWithinReach MOST) }
 {
     y_within(deck, choices, deck.ships.as_slice().len() as u8, ship)
 }

@@ -4,6 +4,7 @@ use Rattle.std.specs.declared.result.Result.{Result}
 use Rattle.std.proofs.lemmas.List.{ext_get_or, length-map, get_or-map}
 use Rattle.std.proofs.lemmas.List.Elements.{All-from_get_or, All-weaker, All-contains, All-nil, All-map}
 use Rattle.std.specs.List.Sorted.{IsStrictlyIncreasing}
+use Rattle.lock_model.specs.declared.limits.TheConstants.{MOST}
 use Rattle.lock_model.specs.Deck.{Deck, IsDeck, IsSize, no_size}
 use Rattle.lock_model.specs.Fitting.{Fits, size_of, deck_of, IsNoRoomier}
 use Rattle.lock_model.specs.Fleet.{ship_at, chamber_at, no_ship, no_chamber}
@@ -57,7 +58,7 @@ hits_ships c I chamber S hits =
     }
 
 -- a few ships of an instance make a deck within the limits
-deck_within : (I : Instance) (chamber : ℕ) → chamber < length I.chambers → (ships : List ℕ) → All (λ s. s < length I.ships) ships → 1 ≤ length ships → length ships ≤ 8 → IsDeck (deck_of I chamber ships)
+deck_within : (I : Instance) (chamber : ℕ) → chamber < length I.chambers → (ships : List ℕ) → All (λ s. s < length I.ships) ships → 1 ≤ length ships → length ships ≤ MOST → IsDeck (deck_of I chamber ships)
 deck_within I chamber in_range ships known some few =
     let own = I.limits.chamber chamber no_chamber in_range in
     let size_ok : (s : ℕ) → s < length I.ships → IsSize (size_of (ship_at I s)) = λ s here. let ship = I.limits.ship s no_ship here in record { long = ship.length; wide = ship.width; cargo = ship.cargo } in
@@ -70,7 +71,7 @@ deck_within I chamber in_range ships known some few =
     }
 
 -- a cut that hits a chamber and ships tells that these don't fit together
-pub hit_unfit : (c : Cut) (I : Instance) (chamber : ℕ) (S : List ℕ) → IsCut c → chamber < length I.chambers → All (λ s. s < length I.ships) S → length S ≤ 8 → IsStrictlyIncreasing S → Hits c.ships c.deck I chamber S → Fits (deck_of I chamber S) → ⊥
+pub hit_unfit : (c : Cut) (I : Instance) (chamber : ℕ) (S : List ℕ) → IsCut c → chamber < length I.chambers → All (λ s. s < length I.ships) S → length S ≤ MOST → IsStrictlyIncreasing S → Hits c.ships c.deck I chamber S → Fits (deck_of I chamber S) → ⊥
 hit_unfit c I chamber S is in_range known few rising hits fits =
     let part : IsPart c.ships S = IsPart-among 0 c.ships S (RisesFrom-increasing c.ships is.rising) (RisesFrom-increasing S rising) (λ s held.
     let among = All-times (Contains S) s c.ships hits.among held in
@@ -79,6 +80,6 @@ hit_unfit c I chamber S is in_range known few rising hits fits =
     let long = length-map c.ships (λ s. size_of (ship_at I s)) in
     let thin = fits-part hereditary I chamber in_range [] c.ships S part (All-nil IsSize) known (omega (arith, few)) (omega (arith, some, long)) fits in
     let own : All (λ s. s < length I.ships) c.ships = All-weaker (Contains S) (λ s. s < length I.ships) (λ s h. All-contains (λ s. s < length I.ships) S s known h) c.ships hits.among in
-    let eight : length c.ships ≤ 8 = omega (arith, is.count, is.deck.count.1) in
+    let eight : length c.ships ≤ MOST = omega (arith, is.count, is.deck.count.1) in
     let limits = deck_within I chamber in_range c.ships own some eight in
     cut_unfit c is (hereditary.widen (deck_of I chamber c.ships) c.deck limits is.deck hits.tight.end hits.tight.gap hits.tight.side (sym hits.sizes) hits.tight.long hits.tight.wide thin)

@@ -2,6 +2,7 @@
 use Rattle.std.proofs.Common.{◌≡◌, ℕ, zero, suc, ◌+◌, ◌*◌, ◌<◌, ◌≤◌, List, [], ◌∷◌, ◌++◌, length, flat_map, refl, sym, ap, ◌∙◌, arith}
 use Rattle.std.proofs.lemmas.List.{append-nil, length-append}
 use Rattle.std.proofs.lemmas.Grind.{flat_map-append}
+use Rattle.lock_model.specs.declared.limits.TheConstants.{DECISIONS, MOST}
 use Rattle.lock_model.specs.Deck.{Deck}
 use Rattle.lock_model.specs.declared.placement.Rank.{Rank}
 use Rattle.lock_model.specs.declared.placement.Rank.TheVariants.{Left, Right}
@@ -27,7 +28,7 @@ ships-length : (d : Deck) (low n : ℕ) → length (flat_map (ship_edges d) (num
 ships-length d low zero = refl
 ships-length d low (suc n) = omega (arith, ships-length d (suc low) n)
 
-pub edges_room : (d : Deck) (es : List Edge) (n : ℕ) → es ≡ deck_edges d n → n < 8 → length es ≤ 172
+pub edges_room : (d : Deck) (es : List Edge) (n : ℕ) → es ≡ deck_edges d n → n < MOST → length es ≤ 172
 edges_room d es n e less = omega (arith, ap length e, ships-length d 0 n)
 
 berth-few : (d : Deck) (i : ℕ) (rank : Rank) (moor : Moor) → length (berth_edges d i rank moor) ≤ 4
@@ -47,7 +48,7 @@ choices-few d [] = omega arith
 choices-few d (c ∷ cs) = omega (arith, length-append (choice_edges d c) (flat_map (choice_edges d) cs), choice-few d c, choices-few d cs)
 
 -- a case of fewer than 36 options of a deck of at most eight ships has room for the edges of one more
-pub drawn_room : (d : Deck) (case : Drawn) → IsDrawn d case → length d.ships ≤ 8 → length case.choices < 36 → length case.edges ≤ 172
+pub drawn_room : (d : Deck) (case : Drawn) → IsDrawn d case → length d.ships ≤ MOST → length case.choices < DECISIONS → length case.edges ≤ 172
 drawn_room d case is few less =
     omega (arith, ap length is.drawn, length-append (deck_edges d (length d.ships)) (flat_map (choice_edges d) case.choices), ships-length d 0 (length d.ships), choices-few d case.choices)
 

@@ -2,6 +2,7 @@
 use Rattle.std.proofs.Common.{◌≡◌, ◌≢◌, ℕ, ◌+◌, ◌<◌, ◌≤◌, List, [], ◌∷◌, ◌++◌, length, take, drop, get_or, inl, inr, refl, sym, ap, ◌∙◌, subst, arith, Some, None, IfSome, IfNone, Bool, IsTrue, ◌↔◌}
 use Rattle.std.specs.declared.option.Option.{Option}
 use Rattle.std.proofs.lemmas.List.{drop_more, drop_all, take_more, take_all, take-append-drop, length-drop}
+use Rattle.lock_model.specs.declared.limits.TheConstants.{MOST}
 use Rattle.lock_model.specs.Deck.{Deck}
 use Rattle.refute_rules.specs.declared.choices.Decision.{Decision}
 use Rattle.refute_rules.specs.declared.choices.Decision.TheVariants.{BerthOf}
@@ -194,7 +195,7 @@ whole_tree d trees list case marks end b empty ends told at =
 
 -- the decisions of a deck are read with the values of an x
 module _ (d : Deck) (values : List ℕ) where
-  pub reads_cases : (list : List Decision) → list ≡ decisions (length d.ships) → length d.ships ≤ 8 → IsReading d OfCases list values
+  pub reads_cases : (list : List Decision) → list ≡ decisions (length d.ships) → length d.ships ≤ MOST → IsReading d OfCases list values
   reads_cases list e few = record {
     all = e;
     asked = case-asked d values list e;
@@ -202,7 +203,7 @@ module _ (d : Deck) (values : List ℕ) where
     ships = few;
   }
 
-  pub reads_spots : (list : List Decision) → list ≡ spot_decisions (length d.ships) → values ≡ spot_values d → length d.ships ≤ 8 → IsReading d OfSpots list values
+  pub reads_spots : (list : List Decision) → list ≡ spot_decisions (length d.ships) → values ≡ spot_values d → length d.ships ≤ MOST → IsReading d OfSpots list values
   reads_spots list e is few = record {
     all = e;
     asked = spot-asked d values list e is;

@@ -1,5 +1,6 @@
 -- Walking over the marks of a tree: children are trees of the extensions, in order.
 use Rattle.std.specs.Prelude.{ℕ, ◌≡◌, ◌+◌, ◌<◌, ◌≤◌, List, [], ◌∷◌, ◌++◌, length, take, drop, slice_index_or}
+use Rattle.lock_model.specs.declared.limits.TheConstants.{DECISIONS, MOST}
 use Rattle.lock_model.specs.Deck.{Deck}
 use Rattle.refute_rules.specs.declared.choices.Decision.{Decision}
 use Rattle.refute_rules.specs.declared.choices.Decision.TheVariants.{BerthOf}
@@ -14,8 +15,8 @@ use Rattle.place_refute.specs.Reading.{IsTreeOf, IsTreeAt, HasNoTreeAt, decision
 pub record IsReading (d : Deck) (trees : Trees) (list : List Decision) (values : List ℕ) : Type 0 where
   pub all : list ≡ decisions_of trees (length d.ships)
   pub asked : (k : ℕ) → k < length list → IsAsked d values (slice_index_or list k (BerthOf 0))
-  pub few : length list ≤ 36
-  pub ships : length d.ships ≤ 8
+  pub few : length list ≤ DECISIONS
+  pub ships : length d.ships ≤ MOST
 
 -- the next decision of a case, and those after it
 abbrev pub next_of : List Decision → List Choice → Decision

@@ -8,13 +8,13 @@ use crate::edge_list::{EdgeList, push_edges};
 use arrayvec::ArrayVec;
 use deck_cases::{Choice, choice_edges, ship_edges};
 use diff_rules::Edge;
-use lock_model::Deck;
+use lock_model::{DECISIONS, Deck};
 use std::marker::Model;
 
 /// A case that grows by options and shrinks again.
 #[derive(Drop)]
 pub(crate) struct Case {
-    choices: ArrayVec<Choice, 36>,
+    choices: ArrayVec<Choice, DECISIONS>,
     edges: EdgeList,
 }
 
@@ -73,7 +73,7 @@ impl Case {
 
     /// Takes an option.
     pub(crate) fn push(&mut self, deck: &Deck, choice: Choice)
-        requires room { length self.old.choices < 36 }
+        requires room { length self.old.choices < DECISIONS }
         requires edges { length self.old.edges ≤ 172 }
         requires known { IsOfDeck deck.now choice }
         ensures { self.new ≡ record { choices = self.old.choices ++ choice ∷ []; edges = self.old.edges ++ choice_edges deck.now choice } }

@@ -6,7 +6,7 @@ ghost use Rattle.deck_cases.specs.Reach.{IsWithinReach};
 ghost use Rattle.place_refute.specs.SpotReads.{IsWithinHost, IsPast, HasNoPosition, IsAtPosition};
 
 use deck_cases::{Choice, host_of, is_below, is_outside_across, length_of, x_of, y_of};
-use lock_model::Deck;
+use lock_model::{Deck, MOST};
 
 // Where a ship lies, in decimetres.
 #[derive(Clone, Copy)]
@@ -79,8 +79,8 @@ fn is_before(deck: &Deck, ship: u32, x: u32, other_x: u32) -> bool
 
 // Whether two ships at known positions are apart.
 fn are_apart_at(deck: &Deck, i: u32, p: Position, j: u32, q: Position) -> bool
-    requires first { IsWithinReach 8 p.y }
-    requires second { IsWithinReach 8 q.y }
+    requires first { IsWithinReach MOST p.y }
+    requires second { IsWithinReach MOST q.y }
     ensures { IsTrue result ↔ AreApartAt deck.now i p.x p.y j q.x q.y }
 {
     is_before(deck, i, p.x, q.x)
@@ -93,7 +93,7 @@ fn are_apart_at(deck: &Deck, i: u32, p: Position, j: u32, q: Position) -> bool
 fn position_of(deck: &Deck, choices: &[Choice], ship: u32) -> Option<Position>
     ensures none { IfNone result (HasNoPosition deck.now choices.now ship) }
     ensures some { IfSome result (λ p. IsAtPosition deck.now choices.now ship p.x p.y) }
-    ensures bound { IfSome result (λ p. IsWithinReach 8 p.y) }
+    ensures bound { IfSome result (λ p. IsWithinReach MOST p.y) }
 {
     match (x_of(choices, ship), y_of(deck, choices, ship)) {
         (Some(x), Some(y)) => Some(Position { x, y }),
