@@ -7,11 +7,11 @@ ghost use Rattle.berth_check.specs.Raises.{AreKnown};
 
 use deck_cases::{Choice, host_of, length_of};
 use diff_system::{Edge, Edges};
-use lock_model::Deck;
+use lock_model::{Deck, MOST};
 
 /// The variable of a ship's x.
 pub(crate) fn place_var(ship: u8) -> u8
-    requires { ship < 8 }
+    requires { ship < MOST }
     ensures { result ≡ place_var ship }
 {
     1 + ship
@@ -49,7 +49,7 @@ fn longer_by(deck: &Deck, ship: u8, other: u8) -> i64
 
 // Appends the edges that keep a ship inside.
 fn add_inside(deck: &Deck, ship: u8, edges: &mut Edges)
-    requires few { ship < 8 }
+    requires few { ship < MOST }
     requires room { length edges.old + 2 ≤ 96 }
     ensures { edges.new ≡ edges.old ++ inside_edges deck.now ship }
 {
@@ -73,7 +73,7 @@ fn add_host(deck: &Deck, choices: &[Choice], ship: u8, edges: &mut Edges)
     requires room { length edges.old + 2 ≤ 96 }
     ensures { edges.new ≡ edges.old ++ host_edges deck.now ship (host_in choices.now ship) }
 {
-    prove!(deck.ships.as_slice().len() <= 8);
+    prove!(deck.ships.as_slice().len() <= MOST);
     if let Some(host) = host_of(choices, ship as u32) {
         edges.push(Edge {
             from: place_var(host),
@@ -96,7 +96,7 @@ fn add_berth(deck: &Deck, choices: &[Choice], ship: u8, edges: &mut Edges)
     ensures value { edges.new ≡ edges.old ++ berth_edges deck.now choices.now ship }
     ensures room { length edges.new ≤ length edges.old + 4 }
 {
-    prove!(deck.ships.as_slice().len() <= 8);
+    prove!(deck.ships.as_slice().len() <= MOST);
     add_inside(deck, ship, edges);
     add_host(deck, choices, ship, edges);
 }
@@ -109,7 +109,7 @@ pub(crate) fn add_berths(deck: &Deck, choices: &[Choice], edges: &mut Edges)
     ensures value { edges.new ≡ first_edges deck.now choices.now (length deck.now.ships) }
     ensures room { length edges.new ≤ 32 }
 {
-    prove!(deck.ships.as_slice().len() <= 8);
+    prove!(deck.ships.as_slice().len() <= MOST);
     for ship in 0..deck.ships.as_slice().len() as u8 {
         add_berth(deck, choices, ship, edges);
     }
@@ -117,8 +117,8 @@ pub(crate) fn add_berths(deck: &Deck, choices: &[Choice], edges: &mut Edges)
 
 /// Appends the edge of an order.
 pub(crate) fn add_order(deck: &Deck, first: u8, second: u8, edges: &mut Edges)
-    requires first { first < 8 }
-    requires second { second < 8 }
+    requires first { first < MOST }
+    requires second { second < MOST }
     requires room { length edges.old < 96 }
     ensures { edges.new ≡ edges.old ++ order_edge deck.now first second ∷ [] }
 {

@@ -4,7 +4,7 @@ ghost use Rattle.std.specs.Prelude.{◌<◌, ◌≤◌, ◌+◌};
 use crate::faults::BerthFault;
 use crate::lanes::{Lane, are_in_line};
 use deck_cases::length_of;
-use lock_model::Deck;
+use lock_model::{Deck, MOST};
 
 /// The length of a ship and the gap, in decimetres.
 pub(crate) fn span_of(deck: &Deck, ship: u8) -> u32 {
@@ -14,15 +14,15 @@ pub(crate) fn span_of(deck: &Deck, ship: u8) -> u32 {
 // The first number of a set whose highest ship is this one.
 #[tactic(auto, using(crate::proofs::CrowdLemmas::few_sets))]
 fn bit_of(ship: u8) -> usize
-    requires { ship < 8 }
+    requires { ship < MOST }
     ensures { result ≤ 128 }
 {
     2usize.pow(ship as u32)
 }
 
 // The lower ships that lie in line with a ship, as a set of bits.
-fn in_line_with(deck: &Deck, lanes: &[Lane; 8], ship: u8) -> usize
-    requires { ship < 8 }
+fn in_line_with(deck: &Deck, lanes: &[Lane; MOST], ship: u8) -> usize
+    requires { ship < MOST }
 {
     let mut set: usize = 0;
     for lower in 0..ship {
@@ -48,7 +48,7 @@ fn sum_with(sums: &[u32; 256], lower: usize, in_line: usize, span: u32) -> u32
 
 // Adds the sums of the sets whose highest ship is this one, up to one that is above the room.
 fn crowd_of(sums: &mut [u32; 256], ship: u8, in_line: usize, span: u32, room: u32) -> Option<u32>
-    requires { ship < 8 }
+    requires { ship < MOST }
 {
     let own = bit_of(ship);
     for lower in 0..own {
@@ -62,8 +62,8 @@ fn crowd_of(sums: &mut [u32; 256], ship: u8, in_line: usize, span: u32, room: u3
 }
 
 /// A set of ships that lie in line and are likely to be too long one behind the other.
-pub(crate) fn likely_crowd(deck: &Deck, lanes: &[Lane; 8]) -> Option<BerthFault> {
-    prove!(deck.ships.as_slice().len() <= 8);
+pub(crate) fn likely_crowd(deck: &Deck, lanes: &[Lane; MOST]) -> Option<BerthFault> {
+    prove!(deck.ships.as_slice().len() <= MOST);
     let mut sums = [0; 256];
     let room = deck
         .length

@@ -10,7 +10,7 @@ use crate::ordering::order_ships;
 use crate::search::{Search, Visit, close, try_option};
 use berth_check::BerthCase;
 use deck_cases::{Choice, berth_of, berth_option, length_of};
-use lock_model::Deck;
+use lock_model::{Deck, MOST};
 use no_memory::NoMemory;
 use refute_rules::Marks;
 use std::alloc::AllocError;
@@ -57,7 +57,7 @@ fn take_berth(case: &mut BerthCase, deck: &Deck, ship: u8, option: u32) -> Resul
     requires option { option < 2 * length deck.now.ships }
     ensures { OnOk result (case.new ≡ case.old ++ slice_index_or (split_options deck.now (OfBerth ship)) option (Before 0 0) ∷ []) }
 {
-    prove!(deck.ships.as_slice().len() <= 8);
+    prove!(deck.ships.as_slice().len() <= MOST);
     let berth = berth_option(deck.ships.as_slice().len() as u8, ship, option);
     case.push(Choice::Lies(ship, berth))
 }

@@ -8,7 +8,7 @@ use crate::crowds::{likely_crowd, span_of};
 use crate::faults::{BerthFault, stands};
 use crate::lanes::{Lane, OPEN, Strip, lane_of};
 use deck_cases::{Berth, Choice, berth_of, leads_back, length_of};
-use lock_model::{Deck, Moor, Rank};
+use lock_model::{Deck, MOST, Moor, Rank};
 
 // A fault of a ship that lies at a host.
 fn likely_at_host(
@@ -31,12 +31,7 @@ fn likely_at_host(
 }
 
 // A fault of the berth of a ship alone.
-fn likely_at(
-    deck: &Deck,
-    choices: &[Choice],
-    ship: u8,
-    berth: Berth,
-) -> Option<BerthFault> {
+fn likely_at(deck: &Deck, choices: &[Choice], ship: u8, berth: Berth) -> Option<BerthFault> {
     match berth.moor {
         Moor::Quay => None,
         Moor::Ship(host) => likely_at_host(deck, choices, ship, berth.rank, host),
@@ -62,9 +57,9 @@ fn likely_guest(deck: &Deck, choices: &[Choice], host: u8, rank: Rank) -> Option
 }
 
 // The lanes of all ships, or a ship that isn't inside across the chamber.
-fn lanes_of(deck: &Deck, choices: &[Choice]) -> Result<[Lane; 8], BerthFault> {
-    prove!(deck.ships.as_slice().len() <= 8);
-    let mut lanes = [OPEN; 8];
+fn lanes_of(deck: &Deck, choices: &[Choice]) -> Result<[Lane; MOST], BerthFault> {
+    prove!(deck.ships.as_slice().len() <= MOST);
+    let mut lanes = [OPEN; MOST];
     for ship in 0..deck.ships.as_slice().len() as u8 {
         let lane = lane_of(deck, choices, ship);
         if lane.strip == Strip::Outside {
@@ -76,8 +71,8 @@ fn lanes_of(deck: &Deck, choices: &[Choice]) -> Result<[Lane; 8], BerthFault> {
 }
 
 // How long a ship is if it is a guest of this host.
-fn guest_span(deck: &Deck, lanes: &[Lane; 8], ship: u8, host: u8) -> u32
-    requires { ship < 8 }
+fn guest_span(deck: &Deck, lanes: &[Lane; MOST], ship: u8, host: u8) -> u32
+    requires { ship < MOST }
 {
     if lanes[ship as usize].host == Some(host) {
         span_of(deck, ship)
@@ -87,8 +82,8 @@ fn guest_span(deck: &Deck, lanes: &[Lane; 8], ship: u8, host: u8) -> u32
 }
 
 // The guests of a ship, where they are likely to be too many.
-fn likely_guests(deck: &Deck, lanes: &[Lane; 8], host: u8) -> Option<BerthFault> {
-    prove!(deck.ships.as_slice().len() <= 8);
+fn likely_guests(deck: &Deck, lanes: &[Lane; MOST], host: u8) -> Option<BerthFault> {
+    prove!(deck.ships.as_slice().len() <= MOST);
     let mut total: u32 = 0;
     for ship in 0..deck.ships.as_slice().len() as u8 {
         total = total.saturating_add(guest_span(deck, lanes, ship, host));
@@ -101,7 +96,7 @@ fn likely_guests(deck: &Deck, lanes: &[Lane; 8], host: u8) -> Option<BerthFault>
 }
 
 // A fault of ships that lie in line.
-fn likely_in_line(deck: &Deck, lanes: &[Lane; 8], moor: Moor) -> Option<BerthFault> {
+fn likely_in_line(deck: &Deck, lanes: &[Lane; MOST], moor: Moor) -> Option<BerthFault> {
     if let Moor::Ship(host) = moor
         && let Some(fault) = likely_guests(deck, lanes, host)
     {
@@ -111,12 +106,7 @@ fn likely_in_line(deck: &Deck, lanes: &[Lane; 8], moor: Moor) -> Option<BerthFau
 }
 
 // A fault that the berth of a ship is likely to have brought about.
-fn likely_by(
-    deck: &Deck,
-    choices: &[Choice],
-    ship: u8,
-    berth: Berth,
-) -> Option<BerthFault> {
+fn likely_by(deck: &Deck, choices: &[Choice], ship: u8, berth: Berth) -> Option<BerthFault> {
     if let Some(fault) = likely_at(deck, choices, ship, berth) {
         return Some(fault);
     }

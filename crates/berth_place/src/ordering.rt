@@ -15,7 +15,7 @@ use crate::search::{Search, Visit, close, try_option};
 use crate::spotting::{spots_of, whole_fault};
 use deck_cases::Choice;
 use diff_system::{LongestPaths, Numbers};
-use lock_model::Deck;
+use lock_model::{Deck, MOST};
 use no_memory::NoMemory;
 use refute_rules::Marks;
 use std::alloc::AllocError;
@@ -31,8 +31,8 @@ fn write_split(pair: Pair, marks: &mut Marks) -> Result<(), AllocError>
 
 // Takes an order of two ships: first as they stand, then turned round.
 fn take_order(search: &mut Search, deck: &Deck, pair: Pair, option: u8) -> Result<(), NoMemory>
-    requires lower { pair.lower < 8 }
-    requires upper { pair.upper < 8 }
+    requires lower { pair.lower < MOST }
+    requires upper { pair.upper < MOST }
     requires option { option < 2 }
     requires room { length search.old.edges < 96 }
     ensures { OnOk result (TakesOrder deck.now pair option search.old search.new) }

@@ -8,7 +8,7 @@ use crate::along::{along, place_var};
 use arrayvec::ArrayVec;
 use berth_check::do_overlap;
 use deck_cases::Choice;
-use lock_model::Deck;
+use lock_model::{Deck, MOST};
 
 /// Two ships of a deck, the lower number first.
 #[derive(Clone, Copy, PartialEq, Eq, Default)]
@@ -41,14 +41,14 @@ fn add_pair(deck: &Deck, choices: &[Choice], lower: u8, upper: u8, pairs: &mut P
 #[tactic(auto, using(crate::proofs::PairLemmas::partly_begun, crate::proofs::PairLemmas::partly_whole))]
 fn add_pairs(deck: &Deck, choices: &[Choice], upper: u8, pairs: &mut Pairs)
     requires upper { upper < length deck.now.ships }
-    requires room { length pairs.old.items ≤ 8 * upper }
+    requires room { length pairs.old.items ≤ MOST * upper }
     requires pairs { ArePairs deck.now choices.now pairs.old.items }
     requires all { AreAllPairs deck.now choices.now pairs.old.items upper }
-    ensures room { length pairs.new.items ≤ 8 * (upper + 1) }
+    ensures room { length pairs.new.items ≤ MOST * (upper + 1) }
     ensures pairs { ArePairs deck.now choices.now pairs.new.items }
     ensures all { AreAllPairs deck.now choices.now pairs.new.items (upper + 1) }
 {
-    prove!(deck.ships.as_slice().len() <= 8);
+    prove!(deck.ships.as_slice().len() <= MOST);
     for lower in 0..upper {
         add_pair(deck, choices, lower, upper, pairs);
     }
@@ -61,7 +61,7 @@ pub(crate) fn overlapping(deck: &Deck, choices: &[Choice]) -> Pairs
     ensures pairs { ArePairs deck.now choices.now result.items }
     ensures all { AreAllPairs deck.now choices.now result.items (length deck.now.ships) }
 {
-    prove!(deck.ships.as_slice().len() <= 8);
+    prove!(deck.ships.as_slice().len() <= MOST);
     let mut pairs = ArrayVec::new();
     for upper in 0..deck.ships.as_slice().len() as u8 {
         add_pairs(deck, choices, upper, &mut pairs);
@@ -72,7 +72,7 @@ pub(crate) fn overlapping(deck: &Deck, choices: &[Choice]) -> Pairs
 // A ship's x.
 #[tactic(auto, using(crate::proofs::PairLemmas::value_small))]
 fn place_of(deck: &Deck, values: &[i64], ship: u8) -> i64
-    requires few { length deck.now.ships ≤ 8 }
+    requires few { length deck.now.ships ≤ MOST }
     requires ship { ship < length deck.now.ships }
     requires small { AreSmallValues deck.now values.now }
     ensures value { result ≡ value_at values.now (place_var ship) }
@@ -84,7 +84,7 @@ fn place_of(deck: &Deck, values: &[i64], ship: u8) -> i64
 
 // Whether the values put a ship before another.
 fn is_before(deck: &Deck, values: &[i64], first: u8, second: u8) -> bool
-    requires few { length deck.now.ships ≤ 8 }
+    requires few { length deck.now.ships ≤ MOST }
     requires first { first < length deck.now.ships }
     requires second { second < length deck.now.ships }
     requires small { AreSmallValues deck.now values.now }
@@ -100,7 +100,7 @@ fn is_before(deck: &Deck, values: &[i64], first: u8, second: u8) -> bool
 
 // Whether the values put one ship of a pair before the other.
 fn are_apart(deck: &Deck, values: &[i64], pair: Pair) -> bool
-    requires few { length deck.now.ships ≤ 8 }
+    requires few { length deck.now.ships ≤ MOST }
     requires lower { pair.lower < length deck.now.ships }
     requires upper { pair.upper < length deck.now.ships }
     requires small { AreSmallValues deck.now values.now }
@@ -118,7 +118,7 @@ pub(crate) fn first_touching(deck: &Deck, values: &[i64], pairs: &[Pair]) -> Opt
     ensures none { IfNone result (AreFirstApart deck.now values.now pairs.now (length pairs.now)) }
     ensures some { IfSome result (AreNotApart deck.now values.now pairs.now) }
 {
-    prove!(deck.ships.as_slice().len() <= 8);
+    prove!(deck.ships.as_slice().len() <= MOST);
     for number in 0..pairs.len() {
         if !are_apart(deck, values, pairs[number]) {
             return Some(number);

@@ -13,7 +13,7 @@ ghost use Rattle.berth_place.specs.Spotting.{IsSpotOf, AreSpotsSoFar};
 use crate::along::place_var;
 use crate::faults::BerthFault;
 use deck_cases::{Berth, Choice, berth_of, has_other_rank, is_outside_across, leads_back, y_of};
-use lock_model::{Deck, Spot, Spots};
+use lock_model::{Deck, MOST, Spot, Spots};
 
 // A fault of a ship.
 fn ship_fault(deck: &Deck, choices: &[Choice], ship: u8) -> Option<BerthFault>
@@ -48,7 +48,7 @@ pub(crate) fn whole_fault(deck: &Deck, choices: &[Choice]) -> Option<BerthFault>
 
 // A ship's x.
 fn x_at(deck: &Deck, values: &[i64], ship: u8) -> u32
-    requires few { length deck.now.ships ≤ 8 }
+    requires few { length deck.now.ships ≤ MOST }
     requires ship { ship < length deck.now.ships }
     requires small { AreSmallValues deck.now values.now }
     ensures { value_at values.now (place_var ship) ≡ pos result }
@@ -94,7 +94,7 @@ fn berth_at(deck: &Deck, choices: &[Choice], ship: u8) -> Berth
 
 // The spot of a ship.
 fn spot_of(deck: &Deck, choices: &[Choice], values: &[i64], ship: u8) -> Spot
-    requires few { length deck.now.ships ≤ 8 }
+    requires few { length deck.now.ships ≤ MOST }
     requires ship { ship < length deck.now.ships }
     requires whole { HasAllBerths deck.now choices.now }
     requires small { AreSmallValues deck.now values.now }
@@ -115,7 +115,7 @@ pub(crate) fn spots_of(deck: &Deck, choices: &[Choice], values: &[i64]) -> Spots
     requires small { AreSmallValues deck.now values.now }
     ensures { AreSpotsSoFar deck.now choices.now values.now (length deck.now.ships) result }
 {
-    prove!(deck.ships.as_slice().len() <= 8);
+    prove!(deck.ships.as_slice().len() <= MOST);
     let mut spots = Spots::new();
     for ship in 0..deck.ships.as_slice().len() as u8 {
         spots.push(spot_of(deck, choices, values, ship));

@@ -4,6 +4,7 @@ use Rattle.std.proofs.lemmas.Int.{ints}
 use Rattle.std.proofs.lemmas.Bool.Decides.{eqb_tells}
 use Rattle.std.proofs.lemmas.List.Elements.{All-from_recursion}
 use Rattle.std.specs.List.{AllByRecursion}
+use Rattle.lock_model.specs.declared.limits.TheConstants.{MOST}
 use Rattle.list_laws.proofs.ByRecursion.{all-append}
 use Rattle.lock_model.specs.Deck.{Deck, IsDeck, no_size}
 use Rattle.lock_model.specs.declared.placement.Rank.{Rank}
@@ -186,7 +187,7 @@ module _ (d : Deck) where
       let rest = chosen-length ds ps chosen.2 in
       omega (arith, l, here, rest)
 
-  most-few : (n : ℕ) → n ≤ 8 → most_sum (decisions n) ≤ 60
+  most-few : (n : ℕ) → n ≤ MOST → most_sum (decisions n) ≤ 60
   most-few zero h = omega arith
   most-few (suc zero) h = omega arith
   most-few (suc (suc zero)) h = omega arith
@@ -198,7 +199,7 @@ module _ (d : Deck) where
   most-few (suc (suc (suc (suc (suc (suc (suc (suc zero)))))))) h = omega arith
   most-few (suc (suc (suc (suc (suc (suc (suc (suc (suc n))))))))) h = absurd (omega (arith, h))
 
-  pub case-edges-few : (ps : List Choice) → length d.ships ≤ 8 → AreChosen d (decisions (length d.ships)) ps → length (case_edges d ps) ≤ 92
+  pub case-edges-few : (ps : List Choice) → length d.ships ≤ MOST → AreChosen d (decisions (length d.ships)) ps → length (case_edges d ps) ≤ 92
   case-edges-few ps few chosen =
       let a = length-append (flat_map (ship_edges d) (numbers_from 0 (length d.ships))) (flat_map (choice_edges d) ps) in
       let s = ships-length (numbers_from 0 (length d.ships)) in
@@ -207,7 +208,7 @@ module _ (d : Deck) where
       let most = most-few (length d.ships) few in
       omega (arith, few, a, s, n, c, most)
 
-  pub first-edges-few : (n : ℕ) → n < 8 → length (flat_map (ship_edges d) (numbers_from 0 n)) ≤ 92
+  pub first-edges-few : (n : ℕ) → n < MOST → length (flat_map (ship_edges d) (numbers_from 0 n)) ≤ 92
   first-edges-few n h =
       let s = ships-length (numbers_from 0 n) in
       let l = length-numbers 0 n in

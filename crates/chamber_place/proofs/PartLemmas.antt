@@ -5,6 +5,7 @@ use Rattle.std.proofs.lemmas.List.{length-map, length-take-le, map-append, take-
 use Rattle.std.proofs.lemmas.List.Kept.{AllPairs-from_increasing}
 use Rattle.std.specs.List.{remove}
 use Rattle.std.specs.List.Sorted.{IsStrictlyIncreasing}
+use Rattle.lock_model.specs.declared.limits.TheConstants.{MOST}
 use Rattle.list_laws.proofs.Lists.{length-push}
 use Rattle.lock_model.specs.Deck.{Deck, IsDeck, IsSize, size_at, no_size}
 use Rattle.lock_rules.specs.Arrival.{numbers_from}
@@ -132,7 +133,7 @@ whole-is d n places r e some is refuted = subst (λ ps. IsPart d ps r) (sym is) 
 })
 
 -- ---- the deck of some places
-pub part-deck : (d : Deck) (places : List ℕ) → IsDeck d → AreSome d places → length places ≤ 8 → IsDeck (part_of d places)
+pub part-deck : (d : Deck) (places : List ℕ) → IsDeck d → AreSome d places → length places ≤ MOST → IsDeck (part_of d places)
 part-deck d places limits some few = record {
   long = limits.long;
   wide = limits.wide;

@@ -9,7 +9,7 @@ use arrayvec::ArrayVec;
 use case_search::Track;
 use deck_cases::{Choice, Decisions, case_decisions, option_at, option_count};
 use diff_system::{Edges, LongestPaths};
-use lock_model::{Deck, Spots};
+use lock_model::{DECISIONS, Deck, Spots};
 use refute_rules::Marks;
 use std::alloc::AllocError;
 use std::marker::Model;
@@ -22,7 +22,7 @@ use std::marker::Model;
 pub(crate) struct DeckCase {
     deck: Deck,
     decisions: Decisions,
-    choices: ArrayVec<Choice, 36>,
+    choices: ArrayVec<Choice, DECISIONS>,
     edges: Edges,
     paths: ArrayVec<LongestPaths, 37>,
     fault: Option<CaseFault>,

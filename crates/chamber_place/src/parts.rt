@@ -7,20 +7,20 @@ ghost use Rattle.lock_rules.specs.Arrival.{numbers_from};
 ghost use Rattle.refute_rules.specs.Reasons.{AreSome};
 ghost use Rattle.chamber_place.specs.Parts.{part_of};
 
-use lock_model::{Deck, Ships, Size, Sizes};
+use lock_model::{Deck, MOST, Ships, Size, Sizes};
 
 /// How many ships the deck has.
 pub(crate) fn ship_count(deck: &Deck) -> u8
     ensures value { result ≡ length deck.now.ships }
     ensures some { 1 ≤ result }
-    ensures few { result ≤ 8 }
+    ensures few { result ≤ MOST }
 {
     deck.ships.as_slice().len() as u8
 }
 
 // The sizes at these places.
 fn sizes_at(sizes: &[Size], places: &[u8]) -> Sizes
-    requires few { length places.now ≤ 8 }
+    requires few { length places.now ≤ MOST }
     requires known { All (λ k. k < length sizes.now) places.now }
     ensures { result ≡ map (λ k. slice_index_or sizes.now k no_size) places.now }
 {
@@ -49,7 +49,7 @@ pub(crate) fn part_of(deck: &Deck, places: &Ships) -> Deck
 
 // Appends rising ships.
 fn push_all(ships: &mut Ships, more: &[u8])
-    requires few { length ships.old + length more.now ≤ 8 }
+    requires few { length ships.old + length more.now ≤ MOST }
     requires rising { IsStrictlyIncreasing (ships.old ++ more.now) }
     ensures { ships.new ≡ ships.old ++ more.now }
 {
@@ -72,7 +72,7 @@ pub(crate) fn without(places: &Ships, number: usize) -> Ships
 
 /// All places of a deck of so many ships.
 pub(crate) fn all_places(ships: u8) -> Ships
-    requires { ships ≤ 8 }
+    requires { ships ≤ MOST }
     ensures { result ≡ numbers_from 0 ships }
 {
     let mut places = Ships::new();

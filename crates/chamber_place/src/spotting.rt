@@ -5,7 +5,7 @@ ghost use Rattle.diff_system.specs.PathTree.{IsSmall};
 ghost use Rattle.chamber_place.specs.Spotting.{IsBerthDecided, IsSpotOf, AreFirstSpots};
 
 use deck_cases::{Choice, berth_of, x_var, y_var};
-use lock_model::{Spot, Spots};
+use lock_model::{MOST, Spot, Spots};
 
 // A value that is known to be small.
 fn small(values: &[i64], variable: u8) -> u32
@@ -18,7 +18,7 @@ fn small(values: &[i64], variable: u8) -> u32
 
 // The spot of a ship whose berth is decided.
 fn spot_of(choices: &[Choice], values: &[i64], ship: u8) -> Spot
-    requires few { ship < 8 }
+    requires few { ship < MOST }
     requires known { 2 + 2 * ship < length values.now }
     requires decided { IsBerthDecided choices.now ship }
     requires small { (v : ℕ) → v < length values.now → IsSmall values.now v }
@@ -37,7 +37,7 @@ fn spot_of(choices: &[Choice], values: &[i64], ship: u8) -> Spot
 
 /// The spots of so many ships whose berths are decided, where the values put them.
 pub(crate) fn spots_of(choices: &[Choice], values: &[i64], ships: u8) -> Spots
-    requires few { ships ≤ 8 }
+    requires few { ships ≤ MOST }
     requires known { length values.now ≡ 1 + 2 * ships }
     requires decided { (i : ℕ) → i < ships → IsBerthDecided choices.now i }
     requires small { (v : ℕ) → v < length values.now → IsSmall values.now v }

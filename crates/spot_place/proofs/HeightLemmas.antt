@@ -4,6 +4,7 @@ use Rattle.std.proofs.lemmas.Option.{none-some, same_Some}
 use Rattle.std.specs.declared.option.Option.{Option}
 use Rattle.std.proofs.lemmas.Int.{ints}
 use Rattle.std.proofs.lemmas.Bool.Decides.{leb_tells}
+use Rattle.lock_model.specs.declared.limits.TheConstants.{MOST}
 use Rattle.lock_model.specs.Deck.{Deck, IsDeck, no_size}
 use Rattle.lock_model.specs.declared.deck.Size.{Size}
 use Rattle.lock_model.specs.declared.placement.Rank.{Rank}
@@ -73,10 +74,10 @@ module _ (d : Deck) (good : IsDeck d) (case : List Choice) where
       by_berth None e near = absurd (none-some y e)
       by_berth (Some b) e near = by_moor b.rank b.moor e near
 
-  pub y-low : (steps i : ℕ) (y : ℤ) → steps ≤ 8 → Some y ≡ y_within d case steps i → pos 0 ≤ℤ (y +ℤ pos 2000000)
+  pub y-low : (steps i : ℕ) (y : ℤ) → steps ≤ MOST → Some y ≡ y_within d case steps i → pos 0 ≤ℤ (y +ℤ pos 2000000)
   y-low steps i y few e = let low = (y-near steps i y (sym e)).low in omega (arith, ints, low, few)
 
-  pub y-high : (steps i : ℕ) (y : ℤ) → steps ≤ 8 → Some y ≡ y_within d case steps i → y ≤ℤ pos 2000000
+  pub y-high : (steps i : ℕ) (y : ℤ) → steps ≤ MOST → Some y ≡ y_within d case steps i → y ≤ℤ pos 2000000
   y-high steps i y few e = let high = (y-near steps i y (sym e)).high in omega (arith, ints, high, few)
 
 -- ---- y by the berth

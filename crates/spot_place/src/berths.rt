@@ -5,7 +5,7 @@ ghost use Rattle.refute_rules.specs.Known.{host_of};
 ghost use Rattle.spot_place.specs.OnWay.{lying, IsHostWithin, IsBack, NoneBelow};
 
 use deck_cases::Berth;
-use lock_model::{Moor, Rank};
+use lock_model::{MOST, Moor, Rank};
 
 /// The host of a ship, where its berth is decided and it has one.
 #[tactic(auto, using(crate::proofs::CaseLemmas::host_hit, crate::proofs::CaseLemmas::host_miss))]
@@ -65,7 +65,7 @@ fn has_other_rank(berths: &[Berth], ship: u8) -> bool
 
 /// The first ship that lies at a host of the other rank.
 pub(crate) fn first_of_other_rank(berths: &[Berth]) -> Option<u8>
-    requires { length berths.now ≤ 8 }
+    requires { length berths.now ≤ MOST }
     ensures some { IfSome result (HasOtherRank (lying berths.now)) }
     ensures none { IfNone result (NoneBelow (HasOtherRank (lying berths.now)) (length berths.now)) }
 {
@@ -80,7 +80,7 @@ pub(crate) fn first_of_other_rank(berths: &[Berth]) -> Option<u8>
 
 /// The first ship whose hosts, in a deck of so many ships, lead back to it.
 pub(crate) fn first_leading_back(berths: &[Berth], ships: u8) -> Option<u8>
-    requires { length berths.now ≤ 8 }
+    requires { length berths.now ≤ MOST }
     ensures some { IfSome result (IsBack (lying berths.now) ships) }
     ensures none { IfNone result (NoneBelow (IsBack (lying berths.now) ships) (length berths.now)) }
 {

@@ -4,7 +4,7 @@ ghost use Rattle.refute_rules.specs.Reasons.{length_at, width_at};
 ghost use Rattle.refute_rules.specs.SpotFaults.{IsInsideAlong, IsInsideAcross, AreApartAt};
 
 use crate::heights::across;
-use lock_model::Deck;
+use lock_model::{Deck, MOST};
 
 /// Where a ship of the deck lies, in decimetres.
 #[derive(Clone, Copy)]
@@ -17,7 +17,7 @@ pub(crate) struct Position {
 /// How many ships the deck has.
 pub(crate) fn ship_count(deck: &Deck) -> u8
     ensures value { result ≡ length deck.now.ships }
-    ensures few { result ≤ 8 }
+    ensures few { result ≤ MOST }
 {
     deck.ships.as_slice().len() as u8
 }

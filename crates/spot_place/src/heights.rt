@@ -8,13 +8,13 @@ ghost use Rattle.spot_place.specs.Heights.{AreHeights};
 
 use arrayvec::ArrayVec;
 use deck_cases::Berth;
-use lock_model::{Deck, Moor, Rank};
+use lock_model::{Deck, MOST, Moor, Rank};
 use std::marker::Model;
 
 /// The known y of each ship of a deck, in decimetres; below 0 where a ship of the right rank has no room.
 #[derive(Drop)]
 pub(crate) struct Heights {
-    items: ArrayVec<Option<i32>, 8>,
+    items: ArrayVec<Option<i32>, MOST>,
 }
 
 impl Model for Heights {
@@ -45,7 +45,7 @@ impl Heights {
 
     /// Appends the y of a ship.
     fn push(&mut self, height: Option<i32>)
-        requires { length self.old < 8 }
+        requires { length self.old < MOST }
         ensures { self.new ≡ self.old ++ height ∷ [] }
     {
         self.items.push(height);
@@ -100,7 +100,7 @@ fn height(deck: &Deck, berths: &[Berth], steps: u8, ship: u8) -> Option<i32>
     requires deck { IsDeck deck.now }
     requires few { length berths.now ≤ length deck.now.ships }
     requires known { AreKnown deck.now berths.now }
-    requires steps { steps ≤ 8 }
+    requires steps { steps ≤ MOST }
     ensures { result ≡ y_within deck.now (lying berths.now) steps ship }
 {
     if steps == 0 {

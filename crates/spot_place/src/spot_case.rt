@@ -13,8 +13,11 @@ use crate::heights::{Heights, heights_of};
 use arrayvec::ArrayVec;
 use deck_cases::Berth;
 use deck_laws::SpotList;
-use lock_model::Deck;
+use lock_model::{Deck, MOST};
 use std::marker::Model;
+
+// The heights of a deck's ships after each berth, and before the first.
+const LEVELS: usize = MOST + 1;
 
 /// The berths of the first ships of a deck, and the x of these or of all of them but the last. The
 /// case without its last option has no fault: it is one that takes a turn.
@@ -22,9 +25,9 @@ use std::marker::Model;
 pub(crate) struct SpotCase {
     pub(crate) deck: Deck,
     pub(crate) values: SpotList,
-    pub(crate) berths: ArrayVec<Berth, 8>,
-    pub(crate) places: ArrayVec<u32, 8>,
-    pub(crate) levels: ArrayVec<Heights, 9>,
+    pub(crate) berths: ArrayVec<Berth, MOST>,
+    pub(crate) places: ArrayVec<u32, MOST>,
+    pub(crate) levels: ArrayVec<Heights, LEVELS>,
 }
 
 impl Model for SpotCase {
@@ -58,7 +61,7 @@ impl SpotCase {
     /// How many ships the deck has.
     pub(crate) fn ships(&self) -> u8
         ensures value { result ≡ length self.now.deck.ships }
-        ensures few { result ≤ 8 }
+        ensures few { result ≤ MOST }
     {
         ship_count(&self.deck)
     }
