@@ -8,7 +8,7 @@ use crate::sharing::{give, post_cut};
 use crate::stop::Stop;
 use crate::worker::Worker;
 use closing_rules::Ground;
-use lock_io::Gate;
+use gates::Gate;
 use lock_model::Plan;
 use node_work::Fate;
 use place_refute::Cut;

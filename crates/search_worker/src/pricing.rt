@@ -9,7 +9,7 @@ use crate::sharing::{give, post_cut};
 use crate::stop::Stop;
 use crate::worker::Worker;
 use book_core::Reply;
-use lock_io::Gate;
+use gates::Gate;
 use lock_model::Plan;
 use master_branch::Node;
 use no_memory::NoMemory;

@@ -6,7 +6,7 @@ use crate::post::Post;
 use crate::stop::Stop;
 use crate::worker::Worker;
 use book_core::Reply;
-use lock_io::Gate;
+use gates::Gate;
 use lock_model::Plan;
 use place_refute::{Cut, copy_cut};
 use search_book::Event;

@@ -15,7 +15,7 @@ use crate::opening::opened;
 use crate::searching::{Lent, worked};
 use crate::settling::settled;
 use book_core::{Book, Case};
-use lock_io::Gate;
+use gates::Gate;
 use no_memory::NoMemory;
 use node_work::Search;
 use place_refute::copy_cut;

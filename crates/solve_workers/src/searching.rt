@@ -8,7 +8,7 @@ use crate::running::{Running, run_all};
 use book_core::{Book, Case};
 use bound_word::{BoundSeat, BoundTable};
 use cut_pool::{Pool, Token};
-use lock_io::Gate;
+use gates::Gate;
 use master_branch::arrival_order;
 use no_memory::NoMemory;
 use node_work::Search;

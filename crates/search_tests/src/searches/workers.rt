@@ -4,7 +4,7 @@ ghost use Rattle.book_rules.specs.Cover.{IsOwnCut};
 
 use crate::fixture::case_of;
 use book_core::{Book, Case};
-use lock_io::OpenGate;
+use gates::OpenGate;
 use no_memory::NoMemory;
 use place_refute::{Cut, copy_cut};
 use solve_workers::{CutList, solve, solve_from};
