@@ -1,11 +1,9 @@
 #!/usr/bin/env bash
 # decks.sh FILE ..: asks each placer about the decks of six ships of these instance texts, with 20,000 turns, and prints how
 # many decks there are, how many each leaves undecided, its processor time, and the least turns of the placer by berths, added.
-# Builds the program `measure` first.
+# The program is that of measure.sh.
 set -eu
-here=$(cd "$(dirname "$0")/.." && pwd)
-program=$here/crates/measure/out/measure
-[ -x "$program" ] || (cd "$here/crates/measure" && rt run -- none >/dev/null)
+program=$("$(dirname "$0")/measure.sh")
 
 # what a run counts, and the seconds of processor time that it takes
 run() {

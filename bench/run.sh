@@ -1,9 +1,8 @@
 #!/usr/bin/env bash
-# Times the calls that bench/README.md has figures for. Builds the program `measure` first.
+# Times the calls that bench/README.md has figures for. The program is that of measure.sh.
 set -eu
 cd "$(dirname "$0")/.."
-program=$PWD/crates/measure/out/measure
-[ -x "$program" ] || (cd crates/measure && rt run -- none >/dev/null)
+program=$(bench/measure.sh)
 
 text=$(mktemp)
 queue=$(mktemp)

@@ -1,6 +1,6 @@
 -- Bytes that are moved in pieces.
-use Rattle.std.proofs.Common.{◌≡◌, ℕ, ◌+◌, ◌<◌, ◌≤◌, List, ◌++◌, length, take, drop, ap, ◌∙◌, sym, refl, subst, take-append-drop, arith, length-append}
-use Rattle.std.proofs.lemmas.List.{drop-take, drop-drop, take_at}
+use Rattle.std.proofs.Common.{◌≡◌, ℕ, ◌+◌, ◌<◌, ◌≤◌, List, ◌++◌, length, take, drop, ap, ◌∙◌, refl, subst, take-append-drop, arith, length-append}
+use Rattle.std.proofs.lemmas.List.{drop-take}
 use Rattle.std.proofs.lemmas.Grind.{common_steps}
 use Rattle.std.proofs.KnownBytes.{Appends-trans, Consumes-trans}
 use Rattle.lock_io.specs.WholeReads.{LosesFront}
@@ -18,12 +18,6 @@ pub Appends-more : (a b c : Option (List ℕ)) (bytes piece : List ℕ) (n k : �
     → Appends a b (take n bytes) → Appends b c (take k piece) → Appends a c (take (n + k) bytes)
 Appends-more a b c bytes piece n k h is first second =
     subst (Appends a c) (ap (λ p. take n bytes ++ take k p) is ∙ take-add n k bytes h) (Appends-trans a b c _ _ first second)
-
--- a front that was copied out of what is left, and what is then left
-pub drop-front : (xs : List ℕ) (at n : ℕ) (front rest : List ℕ) → length front ≡ n → front ≡ take n (drop at xs)
-    → drop at xs ≡ take n (front ++ rest) ++ drop (at + n) xs
-drop-front xs at n front rest same moved =
-    rw (take_at front rest n same, moved, ← drop-drop n at xs) (sym (take-append-drop n (drop at xs)))
 
 -- a front and then a piece were handed out, which are more than the limit
 pub LosesFront-too_long : (a b c : Option (List ℕ)) (front piece : List ℕ) (limit : ℕ) → Consumes a b front → Consumes b c piece

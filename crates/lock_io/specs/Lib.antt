@@ -3,5 +3,4 @@ pub mod Sources
 pub mod Sinks
 pub mod WholeReads
 pub mod WholeWrites
-pub mod InMemory
 pub mod Standard

@@ -2,7 +2,8 @@
 //! status's number as its exit status. All that it does is done by `lock_top::run`.
 #![tactic(auto)]
 
-use lock_io::{OpenGate, StdSink, StdSource, write_all_of};
+use gates::OpenGate;
+use lock_io::{StdSink, StdSource, write_all_of};
 use lock_top::{Status, run};
 use run_answers::{NoWords, given_words, no_memory};
 use std::process::ExitCode;

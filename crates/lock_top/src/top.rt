@@ -5,7 +5,8 @@ ghost use Rattle.lock_top.specs.Runs.{filled, run_of};
 ghost use Rattle.lock_top.specs.Clauses.{KeepsItsWord};
 
 use crate::commands::words_answer;
-use lock_io::{Gate, Sink, Source, write_all_of};
+use gates::Gate;
+use lock_io::{Sink, Source, write_all_of};
 use run_answers::Status;
 use std::alloc::Global;
 use std::sync::Wait;

@@ -1,7 +1,7 @@
 //! Gates with one worker, and with a third. That two meet, and what the held one hears, stands in
 //! `runs`.
 
-use lock_io::{Gate, LastGate, MeetGate, OpenGate, Point};
+use gates::{Gate, LastGate, MeetGate, OpenGate, Point};
 use std::thread::join;
 
 #[test]

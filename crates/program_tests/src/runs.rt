@@ -1,9 +1,8 @@
 //! Whole runs over sources and sinks in memory.
 //!
 //! The worked rows of whole runs are tried on the built program. Here is what a program over standard
-//! input and output can't show: calls that move few bytes, and calls that fail.
+//! input and output can't show: what a sink holds that fails, and workers that meet.
 
 mod faults;
 mod fixture;
 mod gates;
-mod pieces;

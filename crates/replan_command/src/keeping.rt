@@ -13,7 +13,7 @@ use crate::whole::in_whole;
 use book_certificate::CertError;
 use book_core::{Book, Case};
 use command_words::ReplanOptions;
-use lock_io::Gate;
+use gates::Gate;
 use lock_model::{Instance, Verdict};
 use no_memory::NoMemory;
 use plan_print::print_report;

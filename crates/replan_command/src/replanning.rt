@@ -8,8 +8,9 @@ ghost use Rattle.replan_command.specs.Replanning.{AnswersReplanPlan, AnswersBehi
 use crate::keeping::kept_answer;
 use crate::refusals::{defect_answer, fault_answer, refusal_answer, unfit_answer};
 use command_words::ReplanOptions;
+use gates::Gate;
 use instance_text::split_instance;
-use lock_io::{Gate, Source};
+use lock_io::Source;
 use lock_model::{Instance, Plan};
 use mooring_rules::first_unfit;
 use plan_text::read_plan;

@@ -7,7 +7,7 @@ use crate::post::Post;
 use crate::stop::Stop;
 use crate::worker::Worker;
 use book_core::Reply;
-use lock_io::Gate;
+use gates::Gate;
 use price_bound::Shown;
 use search_book::{ByPrice, Event, Gone, Next, Stretch};
 use std::sync::Wait;

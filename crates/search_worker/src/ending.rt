@@ -9,7 +9,7 @@ use crate::stop::Stop;
 use crate::worker::Worker;
 use closing_rules::Ground;
 use deck_cuts::Cut;
-use lock_io::Gate;
+use gates::Gate;
 use lock_model::Plan;
 use node_work::Fate;
 use search_book::Event;

@@ -5,7 +5,7 @@ ghost use Rattle.std.specs.Prelude.{◌≡◌};
 use crate::board::Board;
 use bound_word::BoundTable;
 use cut_pool::Pool;
-use lock_io::Gate;
+use gates::Gate;
 use master_branch::ShipOrder;
 use node_work::Search;
 use search_book::SharedBook;

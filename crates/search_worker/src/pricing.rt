@@ -10,7 +10,7 @@ use crate::stop::Stop;
 use crate::worker::Worker;
 use book_core::Reply;
 use deck_cuts::Cut;
-use lock_io::Gate;
+use gates::Gate;
 use lock_model::Plan;
 use master_branch::Node;
 use no_memory::NoMemory;

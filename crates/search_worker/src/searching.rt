@@ -9,7 +9,7 @@ use crate::stop::Stop;
 use crate::taking::taken;
 use crate::worker::Worker;
 use crate::working::work;
-use lock_io::{Gate, Point};
+use gates::{Gate, Point};
 use price_search::Pricing;
 use search_book::{Event, Stretch};
 use std::sync::Wait;

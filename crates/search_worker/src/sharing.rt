@@ -7,7 +7,7 @@ use crate::stop::Stop;
 use crate::worker::Worker;
 use book_core::Reply;
 use deck_cuts::{Cut, copy_cut};
-use lock_io::Gate;
+use gates::Gate;
 use lock_model::Plan;
 use search_book::Event;
 use std::sync::Wait;

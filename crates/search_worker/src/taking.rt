@@ -6,7 +6,7 @@ use crate::post::Post;
 use crate::stop::Stop;
 use crate::worker::{Held, SHORT, Worker};
 use book_core::Reply;
-use lock_io::{Gate, Point};
+use gates::{Gate, Point};
 use std::mem;
 use std::sync::Wait;
 use std::sync::ledger::Ledger;

@@ -12,7 +12,7 @@ use crate::stop::Stop;
 use crate::worker::Worker;
 use book_core::Foreseen;
 use closing_rules::Ground;
-use lock_io::Gate;
+use gates::Gate;
 use node_work::{Fate, inner_fate};
 use search_book::{Ending, Stretch};
 use std::sync::Wait;

@@ -14,7 +14,7 @@ use crate::walking::{append, foreseen_fate, simple_ending, walk};
 use crate::worker::{Held, Worker};
 use book_core::Foreseen;
 use flow_bounds::bound;
-use lock_io::{Gate, Point};
+use gates::{Gate, Point};
 use node_work::{Fate, closed_early, whole_fate};
 use search_book::{Ending, Stretch};
 use std::sync::Wait;

@@ -18,7 +18,7 @@ use book_core::{Book, Case};
 use certificate_parts::Certificate;
 use cert_text::print_dossier;
 use command_words::SolveOptions;
-use lock_io::Gate;
+use gates::Gate;
 use lock_model::Verdict;
 use no_memory::NoMemory;
 use plan_print::{print_report, print_verdict_line};

@@ -12,8 +12,9 @@ ghost use Rattle.solve_commands.specs.Solving.{solve_limit, search_of, AnswersIn
 use crate::searching::search_best;
 use book_core::Case;
 use command_words::SolveOptions;
+use gates::Gate;
 use instance_text::{Bad, read_instance};
-use lock_io::{Gate, Source};
+use lock_io::Source;
 use lock_model::Instance;
 use mooring_rules::first_unfit;
 use no_memory::NoMemory;

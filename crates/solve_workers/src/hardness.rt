@@ -16,7 +16,7 @@ use crate::searching::{Lent, worked};
 use crate::settling::settled;
 use book_core::{Book, Case};
 use deck_cuts::copy_cut;
-use lock_io::Gate;
+use gates::Gate;
 use no_memory::NoMemory;
 use node_work::Search;
 use price_raise::first_prices;

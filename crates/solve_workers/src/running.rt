@@ -2,7 +2,7 @@
 ghost use Rattle.std.specs.Prelude.{◌≡◌, ◌+◌, ◌<◌, ◌≤◌, vec_len, vec_capacity, All};
 
 use bound_word::BoundTable;
-use lock_io::Gate;
+use gates::Gate;
 use search_worker::{Hands, Post, search};
 use std::snapshot::Snapshot;
 use std::sync::Wait;

@@ -9,7 +9,7 @@ use book_core::{Book, Case};
 use bound_word::{BoundSeat, BoundTable};
 use cut_pool::{Pool, Token};
 use deck_cuts::{Cut, copy_cut};
-use lock_io::Gate;
+use gates::Gate;
 use master_branch::arrival_order;
 use no_memory::NoMemory;
 use node_work::Search;

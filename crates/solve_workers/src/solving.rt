@@ -13,7 +13,7 @@ use crate::searching::{Lent, worked};
 use crate::settling::settled;
 use book_core::{Book, Case};
 use first_plan::{FirstError, first_plan};
-use lock_io::Gate;
+use gates::Gate;
 use lock_model::Plan;
 use no_memory::NoMemory;
 use std::alloc::Global;

@@ -1,11 +1,9 @@
 //! Worked singles plans.
 use crate::fixture::{chamber, ship};
-use chamber_times::cost;
-use first_plan::{first_plan, singles_plan};
+use first_plan::singles_plan;
 use lock_model::{Chamber, Chambers, Instance, Ship, ShipList, Stand, Way};
 use mooring_rules::first_unfit;
 use std::test::Fail;
-use worked_locks::two_ships;
 
 // Two chambers and two ships.
 fn two_by_two(first: Chamber, second: Chamber, ship: Ship, other: Ship) -> Option<Instance> {
@@ -39,19 +37,6 @@ fn ships_are_served_alone_by_the_chamber_that_ends_first(rt: HostRuntime) -> Res
         assert!(rt; lockages.len() == 2);
         assert!(rt; [lockages[0].chamber, lockages[1].chamber] == chambers);
         assert!(rt; [lockages[0].start, lockages[1].start] == starts);
-    }
-    Ok(())
-}
-
-// Two ships of 114 lie side by side in a width of 240, and in one of 232 they don't.
-#[tactic(auto, using(lock_rules::proofs::LegalLemmas::of_legal_plans))]
-#[test]
-fn lockages_are_merged_where_their_ships_fit_together(rt: HostRuntime) -> Result<(), Fail> {
-    for (width, lockages, minutes) in [(240, 1, 80), (232, 2, 120)] {
-        let instance = two_ships(width).ok_or("no instance")?;
-        let plan = first_plan(rt.alloc(), &instance, 128).map_err(|_| "no plan")?;
-        assert!(rt; plan.lockages.as_slice().len() == lockages);
-        assert!(rt; cost(&instance, &plan) == minutes);
     }
     Ok(())
 }

@@ -1,40 +1,12 @@
-//! Sources and sinks that fail.
+//! Sinks that fail: what they hold then.
 
-use super::fixture::{
-    Calls, NEVER, Ran, expect_cut_off, expect_ran, run_cut_off, run_into, run_over, run_with,
-};
+use super::fixture::{expect_cut_off, expect_ran, run_cut_off, run_into, run_over};
 use crate::worked::ONE_SHIP;
 use std::alloc::Global;
 use std::process::Abort;
 use std::sync::Wait;
 use std::test::Fail;
 use std::thread::Threads;
-
-// A run whose source, and whose sink, fail at these calls of 16 bytes.
-fn run_failing<R: Threads + Wait + Sync + Abort>(
-    rt: &R,
-    alloc: Global,
-    source_fault: u64,
-    sink_fault: u64,
-) -> Result<Ran, Fail> {
-    let calls = Calls {
-        bite: 16,
-        source_fault,
-        sink_fault,
-    };
-    run_with(rt, alloc, &["solve"], ONE_SHIP.as_bytes(), calls)
-}
-
-#[test]
-fn a_failing_source_is_told(rt: HostRuntime) -> Result<(), Fail> {
-    for fault in 0..6 {
-        let ran = run_failing(&rt, rt.alloc(), fault, NEVER)?;
-        expect_ran(&rt, &ran, 4, b"read fault\n");
-    }
-    let ran = run_failing(&rt, rt.alloc(), 0, 0)?;
-    expect_ran(&rt, &ran, 5, b"");
-    Ok(())
-}
 
 // The report is cut off where the sink fails at this call.
 fn expect_front<R: Threads + Wait + Sync + Abort>(

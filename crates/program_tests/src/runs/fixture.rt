@@ -1,8 +1,9 @@
 //! Runs over a source and a sink in memory.
 ghost use Rattle.std.specs.Prelude.{◌≤◌};
 
-use lock_io::{FixedSink, Gate, MemorySink, MemorySource, OpenGate};
+use gates::{Gate, OpenGate};
 use lock_top::{Status, run};
+use memory_streams::{FixedSink, MemorySink, MemorySource};
 use std::alloc::Global;
 use std::process::Abort;
 use std::sync::Wait;
@@ -18,8 +19,6 @@ pub(super) struct Ran {
     pub(super) status: Status,
     /// What the sink got.
     pub(super) text: Vec<u8>,
-    /// How many bytes the source had left.
-    pub(super) left: usize,
 }
 
 /// How a source and a sink in memory behave: how many bytes they move a call, and which call fails.
@@ -76,7 +75,6 @@ pub(super) fn run_past<R: Threads + Wait + Sync, G: Gate + Sync>(
     Ok(Ran {
         status,
         text: sink.into_bytes(),
-        left: source.as_slice().len(),
     })
 }
 
@@ -134,7 +132,6 @@ pub(super) fn run_into<R: Threads + Wait + Sync>(
     Ok(Ran {
         status,
         text: sink.into_bytes(),
-        left: source.as_slice().len(),
     })
 }
 

@@ -1,7 +1,7 @@
 //! Runs in which one worker waits for another.
 
 use super::fixture::{LARGE, run_past};
-use lock_io::{LastGate, MeetGate};
+use gates::{LastGate, MeetGate};
 use std::test::Fail;
 
 // Three ships of which no two fit a chamber together, and two equal chambers.

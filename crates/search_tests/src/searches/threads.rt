@@ -2,8 +2,8 @@
 
 use crate::fixture::case_of;
 use book_core::Case;
+use gates::LastGate;
 use instance_text::read_instance;
-use lock_io::LastGate;
 use solve_workers::solve;
 use std::test::Fail;
 

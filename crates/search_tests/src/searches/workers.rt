@@ -5,7 +5,7 @@ ghost use Rattle.book_rules.specs.Cover.{IsOwnCut};
 use crate::fixture::case_of;
 use book_core::{Book, Case};
 use deck_cuts::{Cut, copy_cut};
-use lock_io::OpenGate;
+use gates::OpenGate;
 use no_memory::NoMemory;
 use solve_workers::{CutList, solve, solve_from};
 use std::alloc::Global;

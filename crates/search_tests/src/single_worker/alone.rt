@@ -3,8 +3,8 @@
 use super::fixture::{Given, PointGate, one_at_a_time, searched, searched_as, two_up};
 use super::hitting::has_hit_cut;
 use crate::fixture::open;
+use gates::{OpenGate, Point};
 use instance_text::make_lot;
-use lock_io::{OpenGate, Point};
 use std::test::Fail;
 
 // The root and its child are split at once; the node of both ships in one group, which the worker is

@@ -4,7 +4,7 @@ ghost use Rattle.std.specs.Prelude.{◌≡◌, ◌+◌, length, sum_by, All, IfS
 use book_core::Book;
 use bound_word::{BoundSeat, BoundTable};
 use cut_pool::Pool;
-use lock_io::{Gate, Point};
+use gates::{Gate, Point};
 use lock_model::{Instance, Way};
 use master_branch::arrival_order;
 use node_work::Search;

@@ -1,26 +1,17 @@
 //! A sink in memory that can be made to fail.
 ghost use Rattle.std.specs.Prelude.{◌≡◌, ◌<◌, ◌≤◌, ◌-◌, ◌↔◌, ◌⊎◌, ℕ, [], min, length, Some, Contains, IfOk};
 ghost use Rattle.lock_io.specs.Faults.{Rose, next_count};
-ghost use Rattle.lock_io.specs.InMemory.{Writing};
+ghost use Rattle.memory_streams.specs.InMemory.{Writing};
 
 use crate::room::Room;
 use crate::schedule::Schedule;
-use crate::sink::{Put, Sink};
-use std::alloc::{AllocError, Global};
+use lock_io::{Put, Sink};
+use no_memory::NoMemory;
+use std::alloc::Global;
 use std::marker::Model;
 
 /// The most bytes that a `MemorySink` holds.
 pub const MEMORY_SINK_ROOM: usize = 1_048_576;
-
-/// There was no memory.
-#[derive(Clone, Copy, PartialEq, Eq)]
-pub struct NoMemory;
-
-impl From<AllocError> for NoMemory {
-    fn from(_error: AllocError) -> NoMemory {
-        NoMemory
-    }
-}
 
 /// A sink in memory, which takes few bytes a call, and fails at some of its calls and where its room is full.
 #[derive(Drop)]
@@ -33,8 +24,8 @@ pub struct MemorySink {
 
 impl Model for MemorySink {
     ghost use Rattle.std.specs.Prelude.{◌≤◌, ◌≡◌};
-    ghost use Rattle.lock_io.specs.InMemory.{Writing};
-    ghost use Rattle.lock_io.specs.declared.memory_sink.TheConstants.{MEMORY_SINK_ROOM};
+    ghost use Rattle.memory_streams.specs.InMemory.{Writing};
+    ghost use Rattle.memory_streams.specs.declared.memory_sink.TheConstants.{MEMORY_SINK_ROOM};
 
     ghost Value = { Writing };
 

@@ -1,7 +1,7 @@
 use Rattle.std.proofs.Common.{arith, ◌≡◌, length, take, drop}
 use Rattle.std.proofs.lemmas.Grind.{common_steps}
-use Rattle.lock_io.proofs.TransferLemmas.{drop-front}
-use Rattle.lock_io.proofs.unread.Unread.hand_out.Goals as goal
+use Rattle.memory_streams.proofs.TransferLemmas.{drop-front}
+use Rattle.memory_streams.proofs.unread.Unread.hand_out.Goals as goal
 
 pub returns-clause-bytes : goal.returns-clause-bytes
 returns-clause-bytes c =

@@ -1,10 +1,10 @@
 //! A sink over a given room.
 ghost use Rattle.std.specs.Prelude.{◌≡◌, ◌<◌, ◌≤◌, ◌-◌, ◌↔◌, ℕ, [], min, length, Some, vec_len};
 ghost use Rattle.lock_io.specs.Faults.{Rose};
-ghost use Rattle.lock_io.specs.InMemory.{Filling};
+ghost use Rattle.memory_streams.specs.InMemory.{Filling};
 
 use crate::room::Room;
-use crate::sink::{Put, Sink};
+use lock_io::{Put, Sink};
 use std::marker::Model;
 
 /// A sink that writes into a given room, and fails where the room is full.
@@ -15,7 +15,7 @@ pub struct FixedSink {
 }
 
 impl Model for FixedSink {
-    ghost use Rattle.lock_io.specs.InMemory.{Filling};
+    ghost use Rattle.memory_streams.specs.InMemory.{Filling};
 
     ghost Value = { Filling };
 

@@ -1,11 +1,11 @@
 //! A source in memory that can be made to fail.
 ghost use Rattle.std.specs.Prelude.{◌≡◌, ◌<◌, ◌≤◌, ◌↔◌, ℕ, min, length, Some, Contains};
 ghost use Rattle.lock_io.specs.Faults.{Rose, next_count};
-ghost use Rattle.lock_io.specs.InMemory.{Reading};
+ghost use Rattle.memory_streams.specs.InMemory.{Reading};
 
 use crate::schedule::Schedule;
-use crate::source::{Source, Taken};
 use crate::unread::Unread;
+use lock_io::{Source, Taken};
 use std::marker::Model;
 
 /// A source over bytes in memory, which hands out few bytes a call and fails at some of its calls.
@@ -19,7 +19,7 @@ pub struct MemorySource {
 
 impl Model for MemorySource {
     ghost use Rattle.std.specs.Prelude.{◌≤◌};
-    ghost use Rattle.lock_io.specs.InMemory.{Reading};
+    ghost use Rattle.memory_streams.specs.InMemory.{Reading};
 
     ghost Value = { Reading };
 
