@@ -1,6 +1,7 @@
 -- No more slots are Back than workers have ended.
 use Rattle.std.proofs.Common.{◌≡◌, ℕ, suc, ◌+◌, ◌≤◌, length, refl, sym, subst, arith, Bool, true, false, cond, slice_set, nat_le}
 use Rattle.std.specs.declared.option.Option.{Option}
+use Rattle.lock_model.specs.declared.limits.TheConstants.{WORKERS_AND_DRIVER}
 use Rattle.lock_model.specs.declared.instance.Instance.{Instance}
 use Rattle.lock_model.specs.declared.plan.Plan.{Plan}
 use Rattle.lock_rules.specs.Plan.{cost_of}
@@ -17,11 +18,11 @@ use Rattle.book_rules.proofs.TallyLemmas.{one, count-turned, count-append, count
 use Rattle.closing_rules.specs.declared.grounds.Ground.TheVariants as by
 
 module _ {Break : Type 0} (broken : Instance → Plan → Option Break) (b : Book) where
-  ends-count : (w : ℕ) → length b.ended ≡ 9 → IsRunning b w → count_false (slice_set b.ended w true) + 1 ≡ count_false b.ended
+  ends-count : (w : ℕ) → length b.ended ≡ WORKERS_AND_DRIVER → IsRunning b w → count_false (slice_set b.ended w true) + 1 ≡ count_false b.ended
   ends-count w nine runs = count_false-set b.ended w (omega (arith, nine, runs.known)) runs.running
 
   -- no more slots are Back than workers have ended
-  pub back-step : length b.ended ≡ 9 → KeepsBack b → (e : Event) → IsOwed e → KeepsBack (Step.step broken b e).0
+  pub back-step : length b.ended ≡ WORKERS_AND_DRIVER → KeepsBack b → (e : Event) → IsOwed e → KeepsBack (Step.step broken b e).0
   back-step nine keeps e owed =
       elim (each-move broken b e owed) [
         | Stays refused same ↦ subst KeepsBack (sym same) keeps
@@ -53,7 +54,7 @@ module _ {Break : Type 0} (broken : Instance → Plan → Option Break) (b : Boo
 pub opening-back : (case : Case) (plan : Plan) → KeepsBack (opening_book case plan)
 opening-back case plan = record { few = by_bound (nat_le (cost_of case.instance plan) (bound_at case.instance root)) }
   where
-    by_bound : (t : Bool) → one (is_back (cond t (slot.Closed by.Bound) slot.Fresh)) + 0 + 9 ≤ 9
+    by_bound : (t : Bool) → one (is_back (cond t (slot.Closed by.Bound) slot.Fresh)) + 0 + WORKERS_AND_DRIVER ≤ WORKERS_AND_DRIVER
     by_bound true = omega arith
     by_bound false = omega arith
 

@@ -2,6 +2,7 @@
 use Rattle.std.proofs.Common.{◌≡◌, ℕ, suc, ◌+◌, ◌*◌, ◌<◌, ◌≤◌, List, ◌++◌, length, refl, sym, ap, subst, arith, Bool, true, false, ◌||◌, slice_set, length-append}
 use Rattle.std.specs.declared.option.Option.{Option}
 use Rattle.std.proofs.lemmas.List.{length-map, length-set}
+use Rattle.lock_model.specs.declared.limits.TheConstants.{CHILDREN}
 use Rattle.lock_model.specs.declared.instance.Instance.{Instance}
 use Rattle.lock_model.specs.declared.plan.Plan.{Plan}
 use Rattle.lock_rules.specs.Plan.{cost_of}
@@ -95,8 +96,8 @@ module _ {Break : Type 0} (broken : Instance → Plan → Option Break) (b : Boo
         | GivesBack w id runs at same ↦ subst KeepsBudget (sym same) (turned-budget b id (slot.Held w) slot.Back b.used (slice_set b.ended w true) _ keeps at refl refl (omega arith) keeps.used)
       ]
 
--- a book has at most one slot and 50 more for each node used
-pub slots-few : (b : Book) → KeepsBudget b → length b.slots ≤ 1 + 50 * b.used
+-- a book has at most one slot and CHILDREN more for each node used
+pub slots-few : (b : Book) → KeepsBudget b → length b.slots ≤ 1 + CHILDREN * b.used
 slots-few b keeps =
     let split = count-weaker is_split is_taken (λ s e. ap (λ t. t || is_held s || is_back s || is_parked s) e) b.slots in
     omega (arith, keeps.few, keeps.taken, split)

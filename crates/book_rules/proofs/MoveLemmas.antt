@@ -4,6 +4,7 @@ use Rattle.std.proofs.lemmas.Bool.{and_parts, not-false}
 use Rattle.std.proofs.lemmas.Option.{same_Some, none-some}
 use Rattle.std.specs.declared.option.Option.{Option}
 use Rattle.std.proofs.lemmas.Bool.Decides.{Decides-eqb, eqb_tells}
+use Rattle.lock_model.specs.declared.limits.TheConstants.{WORKERS}
 use Rattle.lock_model.specs.Deck.{Deck}
 use Rattle.lock_model.specs.Fitting.{deck_of}
 use Rattle.lock_model.specs.Cargo.{HasNoClash}
@@ -42,7 +43,7 @@ turned b id state used ended e = Step.noted (record (Step.with_state b id state)
 
 -- worker w is one of nine and hasn't ended
 pub record IsRunning (b : Book) (w : ℕ) : Type 0 where
-  pub known : w ≤ 8
+  pub known : w ≤ WORKERS
   pub running : slice_index_or b.ended w false ≡ false
 
 -- worker w holds no slot

@@ -1,6 +1,7 @@
 -- Every event keeps the room of the history: each accepted event but a posting and a replace uses one entry of it.
 use Rattle.std.proofs.Common.{◌≡◌, ℕ, suc, ◌+◌, ◌-◌, ◌*◌, ◌≤◌, List, [], ◌∷◌, length, refl, sym, ap, ◌∙◌, subst, arith, Bool, true, false, cond, nat_le, slice_set, true≢false, length-append}
 use Rattle.std.specs.declared.option.Option.{Option}
+use Rattle.lock_model.specs.declared.limits.TheConstants.{WORKERS_AND_DRIVER}
 use Rattle.lock_model.specs.declared.instance.Instance.{Instance}
 use Rattle.lock_model.specs.declared.plan.Plan.{Plan}
 use Rattle.lock_rules.specs.Plan.{cost_of}
@@ -54,7 +55,7 @@ split-room b w id at e =
       count-children is_parked refl refl I (best_cost b) id (suc node.depth) 0 kids,
     )
 
-ends-count : (b : Book) (w : ℕ) → length b.ended ≡ 9 → IsRunning b w → count_false (slice_set b.ended w true) + 1 ≡ count_false b.ended
+ends-count : (b : Book) (w : ℕ) → length b.ended ≡ WORKERS_AND_DRIVER → IsRunning b w → count_false (slice_set b.ended w true) + 1 ≡ count_false b.ended
 ends-count b w nine runs = count_false-set b.ended w (omega (arith, nine, runs.known)) runs.running
 
 -- the room that an event leaves: one entry less, or the event takes its own or is refused
@@ -63,7 +64,7 @@ pub data RoomLeft {Break : Type 0} (b : Book) (e : Event) (out : Book × Reply B
   Own : is_growing e ≡ true → room_of out.0 ≤ room_of b → RoomLeft b e out
   Refusal : is_acceptance out.1 ≡ false → out.0 ≡ b → RoomLeft b e out
 
-module _ {Break : Type 0} (broken : Instance → Plan → Option Break) (b : Book) (budget : KeepsBudget b) (nine : length b.ended ≡ 9) where
+module _ {Break : Type 0} (broken : Instance → Plan → Option Break) (b : Book) (budget : KeepsBudget b) (nine : length b.ended ≡ WORKERS_AND_DRIVER) where
   room-left : (e : Event) → IsOwed e → RoomLeft {Break = Break} b e (Step.step broken b e)
   room-left e owed =
       elim (each-move broken b e owed) [
@@ -137,7 +138,7 @@ module _ {Break : Type 0} (broken : Instance → Plan → Option Break) (b : Boo
 pub opening-room : (case : Case) (plan : Plan) → KeepsRoom (opening_book case plan)
 opening-room case plan = record { room = by_bound (nat_le (cost_of case.instance plan) (bound_at case.instance root)) }
   where
-    by_bound : (t : Bool) → 0 + (3 * (case.nodes - 0) + 3 * (one (is_back (cond t (slot.Closed by.Bound) slot.Fresh)) + 0) + 2 * (one (is_held (cond t (slot.Closed by.Bound) slot.Fresh)) + 0) + (one (is_parked (cond t (slot.Closed by.Bound) slot.Fresh)) + 0) + 2 * 9) ≤ 3 * case.nodes + 32 + 0 + 0 + 0
+    by_bound : (t : Bool) → 0 + (3 * (case.nodes - 0) + 3 * (one (is_back (cond t (slot.Closed by.Bound) slot.Fresh)) + 0) + 2 * (one (is_held (cond t (slot.Closed by.Bound) slot.Fresh)) + 0) + (one (is_parked (cond t (slot.Closed by.Bound) slot.Fresh)) + 0) + 2 * WORKERS_AND_DRIVER) ≤ 3 * case.nodes + 32 + 0 + 0 + 0
     by_bound true = omega arith
     by_bound false = omega arith
 

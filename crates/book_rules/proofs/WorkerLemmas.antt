@@ -2,6 +2,7 @@
 use Rattle.std.proofs.Common.{◌≡◌, ◌≢◌, ℕ, zero, suc, ◌<◌, ◌≤◌, List, [], ◌∷◌, ◌++◌, length, map, refl, sym, ap, ◌∙◌, subst, Bool, true, false, cond, slice_index_or, slice_set, inl, inr, ◌⊎◌, nat_le, true≢false}
 use Rattle.std.specs.declared.option.Option.{Option}
 use Rattle.std.proofs.lemmas.List.{length-set, get_or-set_other}
+use Rattle.lock_model.specs.declared.limits.TheConstants.{WORKERS, WORKERS_AND_DRIVER}
 use Rattle.lock_model.specs.declared.instance.Instance.{Instance}
 use Rattle.lock_model.specs.declared.plan.Plan.{Plan}
 use Rattle.lock_rules.specs.Plan.{cost_of}
@@ -30,7 +31,7 @@ pub same-worker : (v w : ℕ) → slot.Held v ≡ slot.Held w → v ≡ w
 same-worker v w e = cc
 
 -- what is held was held before, by a worker that goes on
-kept-workers : (b new : Book) → KeepsWorkers b → length new.ended ≡ 9 → ((id w : ℕ) → Holds new.slots id w → Holds b.slots id w × (slice_index_or new.ended w false ≡ false)) → KeepsWorkers new
+kept-workers : (b new : Book) → KeepsWorkers b → length new.ended ≡ WORKERS_AND_DRIVER → ((id w : ℕ) → Holds new.slots id w → Holds b.slots id w × (slice_index_or new.ended w false ≡ false)) → KeepsWorkers new
 kept-workers b new keeps nine before = record {
   nine = nine;
   known = λ id w h. keeps.known id w (before id w h).0;
@@ -64,7 +65,7 @@ turned-holds b id new known free other w h =
 taken-workers : (b : Book) (w id used : ℕ) (e : Entry) → KeepsWorkers b → id < length b.slots → IsRunning b w → HoldsNone b w → KeepsWorkers (turned b id (slot.Held w) used b.ended e)
 taken-workers b w id used e keeps known runs none = record {
   nine = keeps.nine;
-  known = λ other v h. elim (held other v h) [ inl new ↦ subst (λ u. u ≤ 8) (sym new.1) runs.known | inr old ↦ keeps.known other v old ];
+  known = λ other v h. elim (held other v h) [ inl new ↦ subst (λ u. u ≤ WORKERS) (sym new.1) runs.known | inr old ↦ keeps.known other v old ];
   running = λ other v h. elim (held other v h) [ inl new ↦ subst (λ u. slice_index_or b.ended u false ≡ false) (sym new.1) runs.running | inr old ↦ keeps.running other v old ];
   one = λ first other v h g. both first other v (held first v h) (held other v g);
 }

@@ -2,6 +2,7 @@
 use Rattle.std.specs.Prelude.{ℕ, Bool, true, false, ◌||◌, List, [], ◌∷◌, replicate, slice_index_or, slice_get, position, nat_eq, nat_le, if◌then◌else◌}
 use Rattle.std.specs.List.{list_any}
 use Rattle.std.specs.declared.option.Option.{Option}
+use Rattle.lock_model.specs.declared.limits.TheConstants.{WORKERS_AND_DRIVER}
 use Rattle.lock_model.specs.declared.instance.Instance.{Instance}
 use Rattle.lock_model.specs.declared.group.Group.{Group}
 use Rattle.lock_model.specs.declared.way.Way.TheVariants.{Up}
@@ -77,7 +78,7 @@ opening_book case plan = record {
   plans = [];
   best = plan;
   used = 0;
-  ended = replicate 9 false;
+  ended = replicate WORKERS_AND_DRIVER false;
   history = [];
 }
 

@@ -1,5 +1,6 @@
 -- Events of a book, and its replies.
 use Rattle.std.specs.Prelude.{ℕ, ◌≤◌, List, Bool, true, false, ⊤}
+use Rattle.lock_model.specs.declared.limits.TheConstants.{WORKERS}
 use Rattle.lock_model.specs.Deck.{Deck}
 use Rattle.lock_model.specs.declared.plan.Plan.{Plan}
 use Rattle.refute_rules.specs.Spots.{IsSpent}
@@ -61,10 +62,10 @@ is_acceptance (Replaced cost) = true
 is_acceptance (Released count) = true
 is_acceptance _ = false
 
--- what the caller of an event owes: a worker's number is at most 8, a lent deck is hard and spot-hard, a cut's refutation holds, prices are within their limits, and what is shown is reached
+-- what the caller of an event owes: a worker's number is at most WORKERS, the driver's, a lent deck is hard and spot-hard, a cut's refutation holds, prices are within their limits, and what is shown is reached
 abbrev pub IsOwed : Event → Type 0
-IsOwed (take w) = w ≤ 8
-IsOwed (release w) = w ≤ 8
+IsOwed (take w) = w ≤ WORKERS
+IsOwed (release w) = w ≤ WORKERS
 IsOwed (park id c p deck turns) = IsSpent deck turns
 IsOwed (post cut) = IsCut cut
 IsOwed (post_prices prices) = ArePrices prices

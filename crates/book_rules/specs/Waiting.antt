@@ -1,5 +1,6 @@
 -- The slots that wait to be taken, in order.
 use Rattle.std.specs.Prelude.{ℕ, ◌≡◌, ◌≢◌, ◌+◌, ◌<◌, ◌≤◌, length}
+use Rattle.lock_model.specs.declared.limits.TheConstants.{WORKERS_AND_DRIVER}
 use Rattle.book_rules.specs.declared.book.SlotState.TheVariants as slot
 use Rattle.book_rules.specs.Book.{Book, slot_at, is_back}
 use Rattle.book_rules.specs.Room.{count_slots, count_false}
@@ -24,4 +25,4 @@ pub record IsLastSplit (b : Book) (parent first : ℕ) : Type 0 where
 
 -- No more slots are Back than workers have ended.
 pub record KeepsBack (b : Book) : Type 0 where
-  pub few : count_slots is_back b.slots + count_false b.ended ≤ 9
+  pub few : count_slots is_back b.slots + count_false b.ended ≤ WORKERS_AND_DRIVER

@@ -1,5 +1,6 @@
 -- Certificates that can be written down.
 use Rattle.std.specs.Prelude.{ℕ, ◌≡◌, ◌≤◌, ◌<◌, ◌^◌, List, length, All, ⊤}
+use Rattle.lock_model.specs.declared.limits.TheConstants.{MOST}
 use Rattle.lock_model.specs.Limits.{Within}
 use Rattle.lock_model.specs.declared.plan.Lockage.{Lockage}
 use Rattle.refute_rules.specs.declared.refutation.Quick.{Quick}
@@ -30,17 +31,17 @@ IsFormedRefutation (refutation.Clash i j) = i < j
 IsFormedRefutation (refutation.Berths marks) = ⊤
 
 abbrev pub IsFormedCut : CertCut → Type 0
-IsFormedCut c = Within 1 8 (length c.ships) × IsFormedRefutation c.refutation
+IsFormedCut c = Within 1 MOST (length c.ships) × IsFormedRefutation c.refutation
 
 abbrev pub IsFormedLockage : Lockage → Type 0
-IsFormedLockage l = Within 1 8 (length l.ships) × (length l.spots ≡ length l.ships)
+IsFormedLockage l = Within 1 MOST (length l.ships) × (length l.spots ≡ length l.ships)
 
--- 1 to 24 prices, none above 1,000,000
+-- 1 to SHIPS prices, none above 1,000,000
 abbrev pub AreFormedPrices : List ℕ → Type 0
 AreFormedPrices prices = (1 ≤ length prices) × ArePrices prices
 
 abbrev pub IsFormedGround : Ground → Type 0
-IsFormedGround (by.Probe s) = s ≤ 23
+IsFormedGround (by.Probe s) = s < SHIPS
 IsFormedGround (by.Cut number) = number < 2 ^ 63
 IsFormedGround (by.Price number) = number < 2 ^ 63
 IsFormedGround _ = ⊤

@@ -1,5 +1,6 @@
 -- The rounds of a push to the near end: after each, one ship more is done.
 use Rattle.std.specs.Prelude.{ℕ, zero, suc, ◌+◌, ◌≡◌, ◌≤◌, ◌<◌, Bool, true, ◌||◌, nat_eq, List, length, if◌then◌else◌}
+use Rattle.lock_model.specs.declared.limits.TheConstants.{MOST}
 use Rattle.lock_model.specs.Deck.{Deck}
 use Rattle.lock_model.specs.Placement.{spot_at, IsLegalPlacement}
 use Rattle.lock_model.specs.Normal.{IsHeldBy}
@@ -34,4 +35,4 @@ pub record IsRound (d : Deck) (before spots : List Spot) (done : List Bool) (k :
   pub rooted : AreRooted d spots (done_in done)
   pub back : AreNoFarther before spots
   pub few : free_count (done_in done) (length d.ships) + k ≤ length d.ships
-  pub flags : length done ≡ 8
+  pub flags : length done ≡ MOST

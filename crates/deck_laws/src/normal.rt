@@ -6,7 +6,7 @@ ghost use Rattle.lock_model.specs.declared.placement.Moor.TheVariants.{Ship as T
 ghost use Rattle.deck_laws.specs.Slack.{Keeps, HasRoom, IsTightBy, IsTight, IsLeastSlack, IsLeastTo, done_in};
 ghost use Rattle.deck_laws.specs.Shift.{shifted, shift_from, AreNoFarther};
 
-use lock_model::{Deck, Moor, Spot, Spots};
+use lock_model::{Deck, MOST, Moor, Spot, Spots};
 
 // Whether a ship is moored to ship j.
 fn is_moored_to(spot: &Spot, j: u8) -> bool
@@ -160,7 +160,7 @@ fn shifted(done: bool, s: u64, spot: &Spot) -> Spot
 // The spots of the ships that aren't done moved by s.
 #[tactic(auto, using(crate::proofs::SlackLemmas::shift_step, crate::proofs::SlackLemmas::shift_few))]
 fn shift(spots: &[Spot], done: &[bool], s: u64) -> Spots
-    requires few { length spots.now ≤ 8 }
+    requires few { length spots.now ≤ MOST }
     requires flags { length spots.now ≤ length done.now }
     requires room { (i : ℕ) → i < length spots.now → done_in done.now i ≡ false → s ≤ (spot_at spots.now i).x }
     ensures { result ≡ shift_from (done_in done.now) s 0 spots.now }
@@ -183,7 +183,7 @@ pub fn normalise(deck: &Deck, spots: &mut Spots)
     ensures kept { AreNoFarther spots.old spots.new }
 {
     let count = deck.ships.as_slice().len() as u8;
-    let mut done = [false; 8];
+    let mut done = [false; MOST];
     for _ in 0..count {
         match first_free(&done, count) {
             None => return,

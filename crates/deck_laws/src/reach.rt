@@ -3,7 +3,7 @@
 ghost use Rattle.std.specs.Prelude.{◌+◌, ◌<◌, ◌≤◌, length};
 ghost use Rattle.deck_laws.specs.Reach.{IsPlace, IsBehind, IsFlush, IsFlushOf, IsStepBy, IsStepOf, IsStepAfter, IsNextOf, AreReached};
 
-use lock_model::Deck;
+use lock_model::{Deck, MOST};
 
 // Notes the round at a place, unless that is before the near end, past the table, or reached already.
 fn reach(deck: &Deck, rounds: &mut [Option<u8>], place: u32, round: u8)
@@ -77,7 +77,7 @@ fn reach_from(deck: &Deck, rounds: &mut [Option<u8>], v: u32, round: u8)
 fn reach_after(deck: &Deck, rounds: &mut [Option<u8>], v: u32, before: u8)
     requires place { v ≤ 100000 }
     requires inside { v < length rounds.old }
-    requires few { before < 8 }
+    requires few { before < MOST }
     ensures { AreReached rounds.old rounds.new (before + 1) (IsStepAfter deck.now rounds.old before v) }
 {
     if rounds[v as usize] == Some(before) {
@@ -89,7 +89,7 @@ fn reach_after(deck: &Deck, rounds: &mut [Option<u8>], v: u32, before: u8)
 // that were reached earlier need no second look, since the rounds between have made their steps.
 pub(crate) fn reach_next(deck: &Deck, rounds: &mut [Option<u8>], before: u8)
     requires size { length rounds.old ≤ 100001 }
-    requires few { before < 8 }
+    requires few { before < MOST }
     ensures { AreReached rounds.old rounds.new (before + 1) (IsNextOf deck.now rounds.old before (length rounds.old)) }
 {
     let count = rounds.len() as u32;

@@ -4,7 +4,7 @@ ghost use Rattle.std.specs.List.{remove};
 ghost use Rattle.lock_model.specs.Placement.{IsLegalPlacement};
 ghost use Rattle.deck_laws.specs.Thin.{fallen, fallen_moor, moor_without, leads_to, nearer, thin_spot, thin_deck, thin_spots};
 
-use lock_model::{Deck, Moor, Rank, Size, Sizes, Spot, Spots};
+use lock_model::{Deck, MOST, Moor, Rank, Size, Sizes, Spot, Spots};
 
 // Numbers above b fall by one.
 fn fallen(b: u8, k: u8) -> u8
@@ -99,7 +99,7 @@ fn thin_spot(deck: &Deck, spots: &[Spot], b: u8, spot: &Spot) -> Spot
 // The sizes without the one at b.
 fn sizes_without(sizes: &[Size], b: u8) -> Sizes
     requires known { b < length sizes.now }
-    requires few { length sizes.now ≤ 8 }
+    requires few { length sizes.now ≤ MOST }
     ensures { result ≡ remove sizes.now b }
 {
     let mut rest = Sizes::new();
@@ -115,7 +115,7 @@ fn sizes_without(sizes: &[Size], b: u8) -> Sizes
 // The spots without that of b.
 fn spots_without(spots: &[Spot], b: u8) -> Spots
     requires known { b < length spots.now }
-    requires few { length spots.now ≤ 8 }
+    requires few { length spots.now ≤ MOST }
     ensures { result ≡ remove spots.now b }
 {
     let mut rest = Spots::new();

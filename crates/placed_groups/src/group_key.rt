@@ -2,13 +2,13 @@
 ghost use Rattle.std.specs.Prelude.{◌≡◌};
 ghost use Rattle.placed_groups.specs.Said.{key_of};
 
-use lock_model::Ships;
+use lock_model::{MOST, Ships};
 
 /// A chamber and its ships in eight places; 255, which is no ship, stands in those left over.
 #[derive(Clone, Copy, Debug, PartialEq, Eq, Hash)]
 pub(crate) struct GroupKey {
     chamber: u8,
-    ships: [u8; 8],
+    ships: [u8; MOST],
 }
 
 impl GroupKey {
@@ -18,7 +18,7 @@ impl GroupKey {
         ensures { result ≡ key_of chamber ships.now }
     {
         let ships = ships.as_slice();
-        let mut places = [255; 8];
+        let mut places = [255; MOST];
         for i in 0..ships.len() {
             places[i] = ships[i];
         }

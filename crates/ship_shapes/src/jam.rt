@@ -4,7 +4,7 @@ ghost use Rattle.ship_shapes.specs.Lanes.{AreCrowded, along_of, IsJam};
 ghost use Rattle.ship_shapes.specs.Jams.{IsCrowdedAfter, AreKnown};
 
 use crate::lane::Lane;
-use lock_model::Ships;
+use lock_model::{MOST, Ships};
 
 // Whether all are ships of the lane.
 fn are_known(lane: &Lane, ships: &[u8]) -> bool
@@ -51,7 +51,7 @@ fn are_all_crowded(lane: &Lane, ships: &[u8]) -> bool
 #[tactic(auto, using(crate::proofs::PairLemmas::along_more))]
 fn along_of(lane: &Lane, ships: &[u8]) -> u64
     requires known { AreKnown lane.now ships.now }
-    requires few { length ships.now ≤ 8 }
+    requires few { length ships.now ≤ MOST }
     ensures value { result ≡ along_of lane.now ships.now }
     ensures few { result ≤ 2 ^ 40 }
 {

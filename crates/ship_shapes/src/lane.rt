@@ -3,6 +3,7 @@ ghost use Rattle.std.specs.Prelude.{◌≡◌, ◌+◌, ◌<◌, ◌≤◌, ◌^
 ghost use Rattle.ship_shapes.specs.Lanes.{AreCrowded, along_at};
 
 use arrayvec::ArrayVec;
+use lock_model::MOST;
 use std::marker::Model;
 
 /// What a ship needs of a lane, in decimetres: across it, and along it with the gap behind.
@@ -17,7 +18,7 @@ pub(crate) struct Need {
 /// spare are above the reach.
 #[derive(Drop)]
 pub(crate) struct Lane {
-    pub(crate) needs: ArrayVec<Need, 8>,
+    pub(crate) needs: ArrayVec<Need, MOST>,
     pub(crate) width: u32,
     pub(crate) between: u32,
     pub(crate) reach: u32,
@@ -36,7 +37,7 @@ impl Lane {
     /// How many ships there are.
     pub(crate) fn count(&self) -> u8
         ensures value { result ≡ length self.now.needs }
-        ensures few { result ≤ 8 }
+        ensures few { result ≤ MOST }
     {
         self.needs.len() as u8
     }
@@ -46,7 +47,7 @@ impl Lane {
         requires { ship < length self.now.needs }
         ensures value { result ≡ along_at self.now ship }
         ensures few { result < 2 ^ 32 }
-        ensures room { length self.now.needs ≤ 8 }
+        ensures room { length self.now.needs ≤ MOST }
     {
         self.needs.as_slice()[ship as usize].along as u64
     }

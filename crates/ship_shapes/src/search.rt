@@ -4,7 +4,7 @@ ghost use Rattle.ship_shapes.specs.Lanes.{along_of};
 ghost use Rattle.ship_shapes.specs.Jams.{AreChosen, IsCrowdedBy, HasNoJam, IsFirstJam, along_before};
 
 use crate::lane::Lane;
-use lock_model::Ships;
+use lock_model::{MOST, Ships};
 
 // Whether a ship has no room beside each of the chosen ones.
 fn is_crowded_by(lane: &Lane, ship: u8, chosen: &[u8]) -> bool
@@ -23,7 +23,7 @@ fn is_crowded_by(lane: &Lane, ship: u8, chosen: &[u8]) -> bool
 // A ship before the chosen ones.
 #[tactic(auto, using(crate::proofs::SetLemmas::first_rising))]
 fn with_first(ship: u8, chosen: &Ships) -> Ships
-    requires room { length chosen.now < 8 }
+    requires room { length chosen.now < MOST }
     requires before { All (λ i. ship < i) chosen.now }
     ensures { result ≡ ship ∷ chosen.now }
 {
