@@ -3,13 +3,13 @@ ghost use Rattle.std.specs.Prelude.{◌<◌, length, IfSome};
 
 use crate::lines::{group_of, line_without};
 use crate::row::Row;
-use lock_model::{Instance, Line};
+use lock_model::{CHAMBERS, Instance, Line};
 use std::mem;
 
 /// A row of groups for each of four chambers, of which an instance may have fewer.
 #[derive(Debug, Drop)]
 pub(crate) struct Draft {
-    rows: [Row; 4],
+    rows: [Row; CHAMBERS],
 }
 
 /// Where a ship stands: the chamber, and the number of the group in its line.
@@ -31,14 +31,14 @@ impl Draft {
 
     /// The row of a chamber.
     pub(crate) fn row(&self, chamber: u8) -> &Row
-        requires { chamber < 4 }
+        requires { chamber < CHAMBERS }
     {
         &self.rows[chamber as usize]
     }
 
     /// Puts a row in the place of that of a chamber, which is given back.
     pub(crate) fn set_row(&mut self, chamber: u8, row: Row) -> Row
-        requires { chamber < 4 }
+        requires { chamber < CHAMBERS }
     {
         mem::replace(&mut self.rows[chamber as usize], row)
     }

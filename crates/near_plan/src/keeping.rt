@@ -5,7 +5,7 @@ use crate::draft::Draft;
 use crate::fitting::{Fitting, fits};
 use crate::row::Row;
 use crate::sets::without;
-use lock_model::{Group, Instance, Ships};
+use lock_model::{Group, Instance, SHIPS, Ships};
 use plain_text::NoMemory;
 use price_bound::LooseLines;
 
@@ -58,7 +58,7 @@ fn keep_group<F: Fitting>(
     let kept = lacking(instance, draft, &group.ships);
     let ships = fitting_ships(instance, chamber, kept, fitting)?;
     let mut line = draft.row(chamber).line().copy();
-    if ships.len() > 0 && line.as_slice().len() < 24 {
+    if ships.len() > 0 && line.as_slice().len() < SHIPS {
         line.push(Group {
             way: group.way,
             ships,
