@@ -3,6 +3,7 @@ use Rattle.std.proofs.Common.{◌≡◌, ℕ, ◌+◌, ◌<◌, List, slice_set,
 use Rattle.std.proofs.lemmas.Option.{none-some, same_Some}
 use Rattle.std.specs.Prelude.{IfSome}
 use Rattle.std.specs.declared.option.Option.{Option}
+use Rattle.lock_model.specs.declared.limits.TheConstants.{WORKERS_AND_DRIVER}
 use Rattle.lock_model.specs.declared.instance.Instance.{Instance}
 use Rattle.lock_rules.specs.Arrival.{next_ship}
 use Rattle.lock_rules.specs.Bound.{bound_of, least_number}
@@ -40,7 +41,7 @@ module _ (a : Inside) (kept : IsKept a) (b : Book) (same : seen a ≡ b) (w id :
   held-here = sym (ids-at a.hands w) ∙ kept.tables.hands_are.hand w id (ap (λ (u : Book). (slot_at u id).state) same ∙ held)
 
   -- a worker's number is one of nine
-  pub holder-few : w < 9
+  pub holder-few : w < WORKERS_AND_DRIVER
   holder-few =
       let known = hand-known (ids_of a.hands) w id (ids-at a.hands w ∙ held-here) in
       omega (arith, known, kept.tables.hands_are.nine)

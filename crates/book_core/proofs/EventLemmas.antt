@@ -1,5 +1,6 @@
 -- What take and release answer.
 use Rattle.std.proofs.Common.{◌≡◌, ◌≢◌, ℕ, suc, ◌≤◌, refl, sym, ap, ◌∙◌, subst, Bool, true, false, cond, nat_eq, slice_index_or, Some, None, ne_eqb, eq-eqb}
+use Rattle.lock_model.specs.declared.limits.TheConstants.{WORKERS}
 use Rattle.book_rules.specs.Book.{Book, Case, slot_at, first_slot, has_slot, is_back, is_held, is_held_by}
 use Rattle.book_rules.specs.Events as machine
 use Rattle.book_rules.specs.Events.{take, release}
@@ -74,7 +75,7 @@ module _ (b : Book) (w : ℕ) where
   pub is-new : (id : ℕ) → first_slot b is_back ≡ None → next_fresh b ≡ Some id → IsNextFree b id
   is-new id back next = IsNew back (next_fresh-at b id next).is
 
-  module _ (sound : IsSound b) (known : w ≤ 8) (id used : ℕ) (same : step (λ _ _. none) b (take w) ≡ given b w id used) where
+  module _ (sound : IsSound b) (known : w ≤ WORKERS) (id used : ℕ) (same : step (λ _ _. none) b (take w) ≡ given b w id used) where
     pub given-sound : IsSound (handed b id w used)
     given-sound = subst IsSound (ap (λ (o : Out). o.0) same) (step-sound b (take w) None sound known tt)
 
@@ -89,7 +90,7 @@ module _ (b : Book) (w : ℕ) where
   way-release : has_ended ≡ false → step (λ _ _. none) b (release w) ≡ release_slot b w (first_slot b (is_held_by w))
   way-release e = pick-false has_ended (b, machine.Ended w) (release_slot b w (first_slot b (is_held_by w))) e
 
-  module _ (sound : IsSound b) (known : w ≤ 8) (running : has_ended ≡ false) where
+  module _ (sound : IsSound b) (known : w ≤ WORKERS) (running : has_ended ≡ false) where
     pub returned-sound : (id : ℕ) → first_slot b (is_held_by w) ≡ Some id → IsSound (returned b id w)
     returned-sound id held = subst IsSound (ap (λ (o : Out). o.0) (way-release running ∙ ap (release_slot b w) held)) (step-sound b (release w) None sound known tt)
 

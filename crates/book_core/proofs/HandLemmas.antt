@@ -10,6 +10,7 @@ use Rattle.book_rules.specs.declared.book.SlotState.TheVariants as slot
 use Rattle.book_rules.specs.Book.{Slot, no_slot, is_held}
 use Rattle.book_rules.specs.Book.{Book, first_slot, has_slot, is_held_by, slot_at}
 use Rattle.std.proofs.lemmas.List.Folds.{Any-from_list_any, list_any_at}
+use Rattle.lock_model.specs.declared.limits.TheConstants.{WORKERS}
 use Rattle.book_rules.proofs.WorkerLemmas.{same-worker}
 use Rattle.book_rules.proofs.SlotLemmas.{held-is, held_by-is, held_by-itself, first_slot-at, first_slot-none}
 use Rattle.book_core.specs.Tables.{state_in, hand_at, AreHands}
@@ -96,7 +97,7 @@ module _ (old new : List Slot) (id : ℕ) (state : SlotState) (change : Changes 
 
 -- a worker whose hand is empty takes a slot that no worker holds
 pub hands-given : (old new : List Slot) (id w : ℕ) → Changes old id (slot.Held w) new → (hands : List (Option ℕ)) → AreHands old hands
-    → w ≤ 8 → hand_at hands w ≡ None → is_held (state_in old id) ≡ false → AreHands new (slice_set hands w (Some id))
+    → w ≤ WORKERS → hand_at hands w ≡ None → is_held (state_in old id) ≡ false → AreHands new (slice_set hands w (Some id))
 hands-given old new id w change hands good worker empty before =
     let known : w < length hands = omega (arith, good.nine, worker) in
     record {

@@ -1,6 +1,7 @@
 -- A slot goes to a worker, or comes back from one.
 use Rattle.std.proofs.Common.{◌≡◌, ◌≢◌, ℕ, ◌<◌, ◌≤◌, List, [], ◌∷◌, ◌++◌, length, refl, sym, ap, ◌∙◌, subst, arith, Bool, true, false, slice_index_or, slice_set, Some, None}
 use Rattle.std.specs.declared.option.Option.{Option}
+use Rattle.lock_model.specs.declared.limits.TheConstants.{WORKERS, WORKERS_AND_DRIVER}
 use Rattle.lock_rules.specs.Children.{insert_number}
 use Rattle.lock_rules.proofs.TreeLemmas.{length-insert_number}
 use Rattle.book_rules.specs.declared.book.Entry.{Entry}
@@ -70,7 +71,7 @@ module _ (b : Book) (ended : List Bool) (hands : List (Option ℕ)) (back : List
   fewer (slot.Closed why) = omega arith
 
   -- a free slot goes to a worker who holds none
-  pub tables-given : Changes b.slots id (slot.Held w) new → IsNextFree b id → w ≤ 8 → first_slot b (is_held_by w) ≡ None → AreTables new ended (slice_set hands w (Some id)) (leave_back (state_in b.slots id) back) waiting
+  pub tables-given : Changes b.slots id (slot.Held w) new → IsNextFree b id → w ≤ WORKERS → first_slot b (is_held_by w) ≡ None → AreTables new ended (slice_set hands w (Some id)) (leave_back (state_in b.slots id) back) waiting
   tables-given change free known empty =
       let less = fewer (state_in b.slots id) in
       let few = tables.few in
@@ -96,7 +97,7 @@ module _ (b : Book) (ended : List Bool) (hands : List (Option ℕ)) (back : List
         waiting_are = waiting-kept b.slots new (settles b.slots new id slot.Back change refl (ap is_split is)) waiting tables.waiting_are;
       }
 
-  pub room-back : w < length ended → slice_index_or ended w false ≡ false → length back < 9
+  pub room-back : w < length ended → slice_index_or ended w false ≡ false → length back < WORKERS_AND_DRIVER
   room-back known running = let count = count_false-set ended w known running in let few = tables.few in omega (arith, few, count)
 
   pub tables-ended : w < length ended → slice_index_or ended w false ≡ false → AreTables b.slots (slice_set ended w true) hands back waiting

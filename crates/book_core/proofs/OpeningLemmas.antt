@@ -7,6 +7,7 @@ use Rattle.book_core.specs.Tables.{state_in, hand_at}
 use Rattle.std.proofs.lemmas.Option.{none-some}
 use Rattle.std.specs.Prelude.{IfSome}
 use Rattle.std.proofs.Common.{List}
+use Rattle.lock_model.specs.declared.limits.TheConstants.{WORKERS_AND_DRIVER}
 use Rattle.lock_model.specs.declared.instance.Instance.{Instance}
 use Rattle.book_core.specs.Hands.{held_at, IsHand, AreNodes}
 use Rattle.book_core.specs.Keeps.{AreTables}
@@ -17,8 +18,8 @@ no-hand zero w = refl
 no-hand (suc n) zero = refl
 no-hand (suc n) (suc w) = no-hand n w
 
-pub opening-nodes : (I : Instance) (slots : List Slot) → AreNodes I slots (replicate 9 None)
-opening-nodes I slots = record { each = empty 9 }
+pub opening-nodes : (I : Instance) (slots : List Slot) → AreNodes I slots (replicate WORKERS_AND_DRIVER None)
+opening-nodes I slots = record { each = empty WORKERS_AND_DRIVER }
   where
     empty : (n w : ℕ) → IfSome (held_at (replicate n None) w) (IsHand I slots)
     empty zero w = tt
@@ -35,11 +36,11 @@ module _ (s : Slot) (t : Bool) (is : s.state ≡ cond t (slot.Closed by.Bound) s
       by_test false e = subst P (sym e) fresh
   at P closed fresh (suc id) = closed
 
-  pub opening-tables : AreTables (s ∷ []) (replicate 9 false) (replicate 9 None) [] []
+  pub opening-tables : AreTables (s ∷ []) (replicate WORKERS_AND_DRIVER false) (replicate WORKERS_AND_DRIVER None) [] []
   opening-tables = record {
     hands_are = record {
       nine = refl;
-      held = λ w id e. absurd (none-some id (sym (no-hand 9 w) ∙ e));
+      held = λ w id e. absurd (none-some id (sym (no-hand WORKERS_AND_DRIVER w) ∙ e));
       hand = λ w id e. absurd (at (λ state. state ≢ slot.Held w) (closed-held w) (fresh-held w) id e);
     };
     back_are = record { rising = tt; each = λ id among. absurd among; all = λ id e. absurd (at (λ state. state ≢ slot.Back) closed-back fresh-back id e) };

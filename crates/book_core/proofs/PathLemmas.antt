@@ -2,6 +2,7 @@
 use Rattle.std.proofs.Common.{◌≡◌, ℕ, zero, suc, ◌+◌, ◌-◌, ◌<◌, ◌≤◌, List, [], ◌∷◌, ◌++◌, length, take, refl, sym, ap, ◌∙◌, subst, arith, slice_index_or, slice_get, vec_capacity, inl, inr, Some}
 use Rattle.std.specs.Prelude.{◌⊎◌}
 use Rattle.list_laws.proofs.Lists.{length-push}
+use Rattle.lock_model.specs.declared.limits.TheConstants.{SHIPS_AND_ROOT}
 use Rattle.lock_model.specs.declared.instance.Instance.{Instance}
 use Rattle.book_rules.specs.Book.{Book, Slot}
 use Rattle.book_rules.specs.Family.{child_node, child_count}
@@ -104,13 +105,13 @@ module _ (I : Instance) (slots : List Slot) where
     room = let old = is.room in omega (arith, old, room);
   }
 
-  pub path-new : (path : Path) → path.nodes.items ≡ [] → 25 ≤ vec_capacity path.nodes → IsPath I slots path
+  pub path-new : (path : Path) → path.nodes.items ≡ [] → SHIPS_AND_ROOT ≤ vec_capacity path.nodes → IsPath I slots path
   path-new path items room = record { each = λ k known. absurd (none k (subst (λ l. k < length l) items known)); room = room }
     where
       none : (k : ℕ) → k < 0 → ⊥
       none k known = omega (arith, known)
 
-  pub path-started : (new : Path) → new.nodes.items ≡ root_entry ∷ [] → 25 ≤ vec_capacity new.nodes → IsEntry I slots 0 root_entry → IsPath I slots new
+  pub path-started : (new : Path) → new.nodes.items ≡ root_entry ∷ [] → SHIPS_AND_ROOT ≤ vec_capacity new.nodes → IsEntry I slots 0 root_entry → IsPath I slots new
   path-started new items room entry = record {
     each = λ k known. subst (λ l. IsEntry I slots k (entry_at l k)) (sym items) (first k (subst (λ l. k < length l) items known));
     room = room;

@@ -1,5 +1,6 @@
 -- A held or parked slot is parked or closed.
 use Rattle.std.proofs.Common.{◌≡◌, ℕ, ◌<◌, List, [], ◌∷◌, ◌++◌, length, sym, ap, ◌∙◌, subst, arith, true, ◌||◌, slice_index_or, slice_set}
+use Rattle.lock_model.specs.declared.limits.TheConstants.{WORKERS_AND_DRIVER}
 use Rattle.book_rules.specs.declared.book.Entry.{Entry}
 use Rattle.book_rules.specs.declared.book.SlotState.{SlotState}
 use Rattle.book_rules.specs.declared.book.SlotState.TheVariants as slot
@@ -57,7 +58,7 @@ module _ (a : Inside) (kept : IsKept a) (b : Book) (same : seen a ≡ b) (id : �
 
   module _ (r : StoredSlot) (is : r ≡ slice_index_or a.slots.items id r) where
     -- a worker's number is one of nine
-    pub holder-known : (w : ℕ) → r.state ≡ slot.Held w → w < 9
+    pub holder-known : (w : ℕ) → r.state ≡ slot.Held w → w < WORKERS_AND_DRIVER
     holder-known w e =
         let in_hand = kept.tables.hands_are.hand w id (state-is a b same id r is (slot.Closed by.Bound) settled-known ∙ e) in
         let known = hand-known (ids_of a.hands) w id in_hand in

@@ -1,6 +1,7 @@
 -- What every book keeps.
 use Rattle.std.specs.Prelude.{ℕ, Bool, ◌≡◌, ◌+◌, ◌*◌, ◌≤◌, List, length, None}
 use Rattle.std.specs.declared.option.Option.{Option}
+use Rattle.lock_model.specs.declared.limits.TheConstants.{WORKERS_AND_DRIVER}
 use Rattle.lock_model.specs.declared.instance.Instance.{Instance}
 use Rattle.lock_model.specs.declared.plan.Plan.{Plan}
 use Rattle.lock_rules.specs.Plan.{IsLegal}
@@ -35,7 +36,7 @@ pub record IsSound (b : Book) : Type 0 where
 pub record AreTables (slots : List Slot) (ended : List Bool) (hands : List (Option ℕ)) (back : List ℕ) (waiting : List Waiting) : Type 0 where
   pub hands_are : AreHands slots hands
   pub back_are : AreBack slots back
-  pub few : length back + count_false ended ≤ 9
+  pub few : length back + count_false ended ≤ WORKERS_AND_DRIVER
   pub waiting_are : AreWaiting slots waiting
 
 -- the costs of the best plan and of the opening one, and the throughput

@@ -1,5 +1,6 @@
 -- The way from the root to a slot, and how each slot's node comes from its parent's.
 use Rattle.std.specs.Prelude.{ℕ, ◌≡◌, ◌-◌, ◌≤◌, ◌<◌, List, length, slice_index_or, vec_capacity}
+use Rattle.lock_model.specs.declared.limits.TheConstants.{SHIPS_AND_ROOT}
 use Rattle.lock_model.specs.declared.instance.Instance.{Instance}
 use Rattle.lock_rules.specs.Node.{root as tree_root}
 use Rattle.book_rules.specs.Book.{Slot}
@@ -30,10 +31,10 @@ pub record IsEntry (I : Instance) (slots : List Slot) (k : ℕ) (entry : PathNod
   pub own : IsNodeIn I slots entry.id entry.node
   pub deep : entry.node.depth ≡ k
 
--- each entry is such, and there is room for nodes of 0 to 24 ships
+-- each entry is such, and there is room for nodes of 0 to SHIPS ships
 pub record IsPath (I : Instance) (slots : List Slot) (path : Path) : Type 0 where
   pub each : (k : ℕ) → k < length path.nodes.items → IsEntry I slots k (entry_at path.nodes.items k)
-  pub room : 25 ≤ vec_capacity path.nodes
+  pub room : SHIPS_AND_ROOT ≤ vec_capacity path.nodes
 
 -- slot id comes behind its parent, whose node lacks a ship, and its node is a child of its parent's
 pub record IsChild (I : Instance) (slots : List Slot) (id : ℕ) : Type 0 where

@@ -1,6 +1,7 @@
 -- The tables of a book, by which it finds slots without a walk.
 use Rattle.std.specs.Prelude.{ℕ, ◌≡◌, ◌<◌, ◌≤◌, List, length, slice_index_or, Some, None}
 use Rattle.std.specs.declared.option.Option.{Option}
+use Rattle.lock_model.specs.declared.limits.TheConstants.{WORKERS_AND_DRIVER}
 use Rattle.lock_model.specs.Ships.{RisesFrom}
 use Rattle.list_laws.specs.Among.{IsAmong}
 use Rattle.book_rules.specs.declared.book.SlotState.{SlotState}
@@ -16,7 +17,7 @@ hand_at hands w = slice_index_or hands w None
 
 -- hand w tells which slot worker w holds
 pub record AreHands (slots : List Slot) (hands : List (Option ℕ)) : Type 0 where
-  pub nine : length hands ≡ 9
+  pub nine : length hands ≡ WORKERS_AND_DRIVER
   pub held : (w id : ℕ) → hand_at hands w ≡ Some id → state_in slots id ≡ slot.Held w
   pub hand : (w id : ℕ) → state_in slots id ≡ slot.Held w → hand_at hands w ≡ Some id
 

@@ -15,7 +15,7 @@ use crate::waiting::Waiting;
 use book_rules::{Entry, SlotState};
 use deck_cuts::Cut;
 use flow_bounds::Roster;
-use lock_model::Plan;
+use lock_model::{Plan, WORKERS, WORKERS_AND_DRIVER};
 use price_bound::Prices;
 use std::marker::Model;
 
@@ -38,9 +38,9 @@ pub struct Book {
     pub(crate) best: Plan,
     pub(crate) best_cost: u64,
     pub(crate) used: u32,
-    pub(crate) ended: [bool; 9],
+    pub(crate) ended: [bool; WORKERS_AND_DRIVER],
     pub(crate) history: Vec<Entry>,
-    pub(crate) hands: [Option<Hand>; 9],
+    pub(crate) hands: [Option<Hand>; WORKERS_AND_DRIVER],
     pub(crate) path: Path,
     pub(crate) back: BackList,
     pub(crate) waiting: Vec<Waiting>,
@@ -157,7 +157,7 @@ impl Book {
     pub fn ended(&self, worker: u8) -> bool
         ensures { result ≡ slice_index_or self.now.ended worker false }
     {
-        worker <= 8 && self.ended[worker as usize]
+        worker as usize <= WORKERS && self.ended[worker as usize]
     }
 
     /// The cut of this number; None exactly where there is none.

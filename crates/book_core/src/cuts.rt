@@ -3,8 +3,8 @@ ghost use Rattle.std.specs.Prelude.{◌≡◌, ◌++◌, ◌∷◌, [], length, 
 ghost use Rattle.book_rules.specs.Shown.{are_first_cuts};
 ghost use Rattle.book_core.specs.Telling.{told_cut};
 
-use no_memory::NoMemory;
 use deck_cuts::Cut;
+use no_memory::NoMemory;
 use price_bound::{ChamberCut, same_cuts};
 use std::alloc::Global;
 use std::marker::Model;

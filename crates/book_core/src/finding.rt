@@ -13,7 +13,7 @@ use crate::hand::{Hand, id_of};
 use crate::stored_slot::StoredSlot;
 use book_rules::SlotState;
 use closing_rules::Ground;
-use lock_model::Instance;
+use lock_model::{Instance, WORKERS};
 
 impl Book {
     // The state of a slot; closed by its bound where there is no such slot.
@@ -96,7 +96,7 @@ impl Book {
     pub fn held_by(&self, worker: u8) -> Option<u32>
         ensures { result ≡ first_slot self.now (is_held_by worker) }
     {
-        if worker <= 8 {
+        if worker as usize <= WORKERS {
             id_of(&self.hands[worker as usize])
         } else {
             None

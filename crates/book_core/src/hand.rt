@@ -5,7 +5,7 @@ ghost use Rattle.lock_rules.specs.Bound.{least_number};
 ghost use Rattle.book_core.specs.Hands.{IsBounding, id_of, bounds_in, filled, laid, with_bounds};
 
 use flow_bounds::{Bounds, Roster, child_bounds};
-use lock_model::Instance;
+use lock_model::{CHILDREN, Instance};
 use master_branch::Node;
 
 // A held slot, its node, and the bounds of the node's children once they were computed.
@@ -64,7 +64,7 @@ pub(crate) fn lay(hand: &mut Option<Hand>, bounds: Bounds)
 // The bounds in a hand; none where they aren't there.
 pub(crate) fn bounds_in(hand: &Option<Hand>) -> &[u64]
     ensures bounds { result.now ≡ bounds_in hand.now }
-    ensures few { length result.now ≤ 50 }
+    ensures few { length result.now ≤ CHILDREN }
 {
     match hand {
         Some(hand) => match &hand.bounds {

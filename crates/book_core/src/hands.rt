@@ -9,11 +9,11 @@ use crate::back_list::BackList;
 use crate::hand::{Hand, fill, lay};
 use book_rules::SlotState;
 use flow_bounds::{Bounds, Roster};
-use lock_model::Instance;
+use lock_model::{Instance, WORKERS, WORKERS_AND_DRIVER};
 
 // A slot in this state leaves the hand of the worker who holds it, if one does.
-pub(crate) fn let_go(hands: &mut [Option<Hand>; 9], state: SlotState)
-    requires { (w : ℕ) → state ≡ slot.Held w → w < 9 }
+pub(crate) fn let_go(hands: &mut [Option<Hand>; WORKERS_AND_DRIVER], state: SlotState)
+    requires { (w : ℕ) → state ≡ slot.Held w → w < WORKERS_AND_DRIVER }
     ensures { hands.new ≡ let_go state hands.old }
 {
     match state {
@@ -24,12 +24,12 @@ pub(crate) fn let_go(hands: &mut [Option<Hand>; 9], state: SlotState)
 
 // Computes the bounds of the children of the node in a worker's hand, unless they are there.
 pub(crate) fn fill_hand(
-    hands: &mut [Option<Hand>; 9],
+    hands: &mut [Option<Hand>; WORKERS_AND_DRIVER],
     worker: u8,
     instance: &Instance,
     roster: &Roster,
 )
-    requires worker { worker ≤ 8 }
+    requires worker { worker ≤ WORKERS }
     requires roster { IsRosterOf instance.now roster.now }
     requires hand { IfSome (held_at hands.old worker) (IsBounding instance.now) }
     ensures { hands.new ≡ slice_set hands.old worker (filled instance.now (held_at hands.old worker)) }
@@ -38,8 +38,8 @@ pub(crate) fn fill_hand(
 }
 
 // Puts bounds into a worker's hand.
-pub(crate) fn lay_bounds(hands: &mut [Option<Hand>; 9], worker: u8, bounds: Bounds)
-    requires { worker ≤ 8 }
+pub(crate) fn lay_bounds(hands: &mut [Option<Hand>; WORKERS_AND_DRIVER], worker: u8, bounds: Bounds)
+    requires { worker ≤ WORKERS }
     ensures { hands.new ≡ slice_set hands.old worker (laid bounds (held_at hands.old worker)) }
 {
     lay(&mut hands[worker as usize], bounds);

@@ -17,7 +17,7 @@ impl Book {
 }
 
 /// The law over every list of events: after the opening of a case with a legal plan, and any events
-/// by workers 0 to 8, accepted or refused, the book is the replay of its history, every legal plan
+/// by workers 0 to `WORKERS`, accepted or refused, the book is the replay of its history, every legal plan
 /// cheaper than the best one lies under a slot that is open, held or parked, and the parts are kept
 /// that the type of books keeps. Every list of events whose plans can be judged leads to some book.
 pub fn every_list_keeps(case: &Case, plan: &Plan)

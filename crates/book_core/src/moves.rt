@@ -9,6 +9,7 @@ use crate::book::Book;
 use crate::hand::Hand;
 use crate::hands::{leave_back, let_go};
 use book_rules::{Entry, SlotState};
+use lock_model::WORKERS;
 
 impl Book {
     // A held or parked slot is parked or closed.
@@ -25,7 +26,7 @@ impl Book {
 
     // An open slot goes to a worker who holds none, with its node.
     pub(crate) fn give(&mut self, id: u32, worker: u8, used: u32)
-        requires known { worker ≤ 8 }
+        requires known { worker ≤ WORKERS }
         requires empty { first_slot self.old (is_held_by worker) ≡ None }
         requires open { IsNextFree self.old id }
         requires sound { IsSound (handed self.old id worker used) }
@@ -47,7 +48,7 @@ impl Book {
 
     // A worker gives back the slot that it holds, and ends.
     pub(crate) fn put_back(&mut self, id: u32, worker: u8)
-        requires known { worker ≤ 8 }
+        requires known { worker ≤ WORKERS }
         requires running { slice_index_or self.old.ended worker false ≡ false }
         requires held { first_slot self.old (is_held_by worker) ≡ Some id }
         requires sound { IsSound (returned self.old id worker) }
@@ -62,7 +63,7 @@ impl Book {
 
     // A worker who holds no slot ends.
     pub(crate) fn end(&mut self, worker: u8)
-        requires known { worker ≤ 8 }
+        requires known { worker ≤ WORKERS }
         requires running { slice_index_or self.old.ended worker false ≡ false }
         requires sound { IsSound (finished self.old worker) }
         ensures { self.new ≡ finished self.old worker }

@@ -13,7 +13,7 @@ use crate::splitting::stored_child;
 use crate::stored_slot::StoredSlot;
 use chamber_times::cost;
 use flow_bounds::{Roster, bound, throughput};
-use lock_model::{Instance, Plan};
+use lock_model::{Instance, Plan, WORKERS_AND_DRIVER};
 use master_branch::root;
 use no_memory::NoMemory;
 use std::alloc::Global;
@@ -59,7 +59,7 @@ pub fn open_book(alloc: Global, case: &Case, plan: Plan) -> Result<Book, NoMemor
         best: plan,
         best_cost,
         used: 0,
-        ended: [false; 9],
+        ended: [false; WORKERS_AND_DRIVER],
         history,
         hands: [None, None, None, None, None, None, None, None, None],
         path,

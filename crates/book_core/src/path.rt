@@ -11,7 +11,7 @@ ghost use Rattle.book_core.specs.Stored.{slots_of};
 
 use crate::stored_slot::StoredSlot;
 use flow_bounds::Roster;
-use lock_model::Instance;
+use lock_model::{Instance, SHIPS_AND_ROOT};
 use master_branch::{Node, descend, root};
 use no_memory::NoMemory;
 use std::alloc::Global;
@@ -22,9 +22,6 @@ pub(crate) struct PathNode {
     pub(crate) id: u32,
     pub(crate) node: Node,
 }
-
-// How many nodes there may be on a path: those that hold 0 to 24 ships.
-const MOST: usize = 25;
 
 // Slots and their nodes: the root's, and each time a child of the last one's, down to some slot.
 #[derive(Drop)]
@@ -81,10 +78,10 @@ impl Path {
     // No slot, and room for as many as there may be.
     pub(crate) fn with_room(alloc: Global) -> Result<Path, NoMemory>
         ensures nodes { IfOk result (λ path. path.nodes.items ≡ []) }
-        ensures room { IfOk result (λ path. 25 ≤ vec_capacity path.nodes) }
+        ensures room { IfOk result (λ path. SHIPS_AND_ROOT ≤ vec_capacity path.nodes) }
     {
         Ok(Path {
-            nodes: Vec::with_capacity(alloc, MOST)?,
+            nodes: Vec::with_capacity(alloc, SHIPS_AND_ROOT)?,
         })
     }
 
@@ -106,7 +103,7 @@ impl Path {
 
     // It leads to the root.
     fn start(&mut self, instance: &Instance)
-        requires { 25 ≤ vec_capacity self.old.nodes }
+        requires { SHIPS_AND_ROOT ≤ vec_capacity self.old.nodes }
         ensures nodes { self.new.nodes.items ≡ root_entry ∷ [] }
         ensures node { IsNodeOf instance.now tree_root }
         ensures room { vec_capacity self.new.nodes ≡ vec_capacity self.old.nodes }

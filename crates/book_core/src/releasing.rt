@@ -5,12 +5,13 @@ ghost use Rattle.book_core.specs.Replies.{Answers};
 
 use crate::book::Book;
 use crate::reply::Reply;
+use lock_model::WORKERS;
 
 impl Book {
-    /// Ends a worker of 0 to 8, who gives back the slot that it holds, if any. Refuses `Ended`.
+    /// Ends a worker of 0 to `WORKERS`, the driver, who gives back the slot that it holds, if any. Refuses `Ended`.
     /// Takes no memory.
     pub fn release(&mut self, worker: u8) -> Reply
-        requires { worker ≤ 8 }
+        requires { worker ≤ WORKERS }
         ensures { Answers self.old (release worker) result self.new }
     {
         self.keeps();

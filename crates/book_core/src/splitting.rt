@@ -16,6 +16,7 @@ use crate::stored_slot::StoredSlot;
 use crate::waiting::Waiting;
 use book_rules::{Entry, SlotState};
 use closing_rules::Ground;
+use lock_model::{CHILDREN, WORKERS, WORKERS_AND_DRIVER};
 use no_memory::NoMemory;
 
 // The slot of a child: closed where its bound is at least the best cost.
@@ -38,7 +39,7 @@ pub(crate) fn stored_child(parent: u32, number: u8, bound: u64, cost: u64) -> St
 // Appends the slots of children with these bounds.
 fn push_children(slots: &mut Vec<StoredSlot>, parent: u32, bounds: &[u64], cost: u64)
     requires room { vec_len slots.old + length bounds.now ≤ vec_capacity slots.old }
-    requires few { length bounds.now ≤ 50 }
+    requires few { length bounds.now ≤ CHILDREN }
     ensures { slots.new.items ≡ slots.old.items ++ stored_children cost parent 0 bounds.now }
 {
     for (number, &bound) in bounds.iter().enumerate() {
@@ -50,11 +51,11 @@ fn push_children(slots: &mut Vec<StoredSlot>, parent: u32, bounds: &[u64], cost:
 fn push_held(
     slots: &mut Vec<StoredSlot>,
     parent: u32,
-    hands: &[Option<Hand>; 9],
+    hands: &[Option<Hand>; WORKERS_AND_DRIVER],
     worker: u8,
     cost: u64,
 )
-    requires worker { worker ≤ 8 }
+    requires worker { worker ≤ WORKERS }
     requires room { vec_len slots.old + length (bounds_in (held_at hands.now worker)) ≤ vec_capacity slots.old }
     ensures { slots.new.items ≡ slots.old.items ++ stored_children cost parent 0 (bounds_in (held_at hands.now worker)) }
 {

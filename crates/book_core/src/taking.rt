@@ -10,11 +10,12 @@ ghost use Rattle.book_core.specs.Replies.{Answers, Grants, HasNode, IsInHand, gr
 
 use crate::book::Book;
 use crate::reply::{Grant, Reply};
+use lock_model::WORKERS;
 
 impl Book {
     // Gives a returned slot, the first, to a worker.
     fn take_back(&mut self, worker: u8, id: u32) -> Grant
-        requires known { worker ≤ 8 }
+        requires known { worker ≤ WORKERS }
         requires running { slice_index_or self.old.ended worker false ≡ false }
         requires empty { first_slot self.old (is_held_by worker) ≡ None }
         requires first { first_slot self.old is_back ≡ Some id }
@@ -29,7 +30,7 @@ impl Book {
 
     // Gives a fresh slot, the next, to a worker, unless the budget is spent.
     fn take_fresh(&mut self, worker: u8, id: u32) -> Grant
-        requires known { worker ≤ 8 }
+        requires known { worker ≤ WORKERS }
         requires running { slice_index_or self.old.ended worker false ≡ false }
         requires empty { first_slot self.old (is_held_by worker) ≡ None }
         requires back { first_slot self.old is_back ≡ None }
@@ -65,7 +66,7 @@ impl Book {
 
     // Gives a slot to a worker who holds none and hasn't ended.
     fn take_open(&mut self, worker: u8) -> Grant
-        requires known { worker ≤ 8 }
+        requires known { worker ≤ WORKERS }
         requires running { slice_index_or self.old.ended worker false ≡ false }
         requires empty { first_slot self.old (is_held_by worker) ≡ None }
         requires sound { IsSound self.old }
@@ -83,7 +84,7 @@ impl Book {
 
     /// The same as `take`, but that the node of a slot that is given stays in the worker's hand.
     pub fn take_slot(&mut self, worker: u8) -> Grant
-        requires { worker ≤ 8 }
+        requires { worker ≤ WORKERS }
         ensures step { Grants self.old worker result self.new }
         ensures held { IsInHand self.new result }
     {
@@ -114,12 +115,12 @@ impl Book {
         }
     }
 
-    /// Gives a worker of 0 to 8 a slot to work on, with its node: the returned one of the smallest
+    /// Gives a worker of 0 to `WORKERS`, the driver, a slot to work on, with its node: the returned one of the smallest
     /// number, else the root, else, of the fresh children of the split of the greatest first child,
     /// the one of the least bound. Refuses `Ended`, then `Holds`, `NodesSpent`, `Idle` and `Done`.
     /// Takes no memory.
     pub fn take(&mut self, worker: u8) -> Reply
-        requires { worker ≤ 8 }
+        requires { worker ≤ WORKERS }
         ensures step { Answers self.old (take worker) result self.new }
         ensures node { HasNode self.old.case.instance result }
     {

@@ -1,8 +1,8 @@
 //! Locks of two ships, their plans, their books and a cut.
 
 use book_core::{Book, Case, open_book};
-use first_plan::singles_plan;
 use deck_cuts::{Cut, Quick, Refutation};
+use first_plan::singles_plan;
 use lock_model::{
     Chambers, Instance, Lockage, Lockages, Measures, Moor, Plan, Rank, ShipList, Ships, Spot,
     Spots, Way,

@@ -4,6 +4,7 @@ use Rattle.std.proofs.Math.Bool.{and-false}
 use Rattle.std.specs.Prelude.{◌&&◌, nat_le}
 use Rattle.std.proofs.lemmas.Bool.Decides.{nat_tests}
 use Rattle.std.specs.List.Sorted.{IsStrictlyIncreasing}
+use Rattle.lock_model.specs.declared.limits.TheConstants.{MOST}
 use Rattle.lock_model.specs.Limits.{is_between}
 use Rattle.lock_model.specs.Ships.{RisesFrom}
 use Rattle.lock_rules.proofs.SplitLemmas.{RisesFrom-increasing}
@@ -22,18 +23,18 @@ abbrev if_crew : Option (List ℕ) → Option (List ℕ)
 if_crew o = o >>= λ ships. when (is_crew ships) >> Some ships
 
 -- items of another count
-wrong_count : (vs : List Value) → is_between 1 8 (length vs) ≡ false → crew_in (items_view vs) ≡ None
+wrong_count : (vs : List Value) → is_between 1 MOST (length vs) ≡ false → crew_in (items_view vs) ≡ None
 wrong_count vs out = go (all_in byte_in (items_view vs)) refl
   where
     go : (o : Option (List ℕ)) → all_in byte_in (items_view vs) ≡ o → crew_in (items_view vs) ≡ None
     go None is = ap if_crew is
     go (Some ships) is =
-        let wrong : is_between 1 8 (length ships) ≡ false = ap (is_between 1 8) (all_in-length byte_in vs ships is) ∙ out in
+        let wrong : is_between 1 MOST (length ships) ≡ false = ap (is_between 1 MOST) (all_in-length byte_in vs ships is) ∙ out in
         ap if_crew is ∙ ap (λ b. when (b && rises_from 0 ships) >> Some ships) wrong
 
-pub too_many : (vs : List Value) → 8 < length vs → None ≡ crew_in (items_view vs)
+pub too_many : (vs : List Value) → MOST < length vs → None ≡ crew_in (items_view vs)
 too_many vs many =
-    let high : nat_le (length vs) 8 ≡ false = grind (arith, nat_tests) in
+    let high : nat_le (length vs) MOST ≡ false = grind (arith, nat_tests) in
     sym (wrong_count vs (ap (λ b. nat_le 1 (length vs) && b) high ∙ and-false _))
 
 rises_from-true : (low : ℕ) (ships : List ℕ) → RisesFrom low ships → rises_from low ships ≡ true
@@ -44,8 +45,8 @@ rises_from-true low (s ∷ ships) rising =
     rw (test, rises_from-true (suc s) ships rising.1) refl
 
 -- ships that rise are read back
-pub crew_back : (ships : List ℕ) → all_in byte_in (items_of (map number_data ships)) ≡ Some ships → IsStrictlyIncreasing ships → 1 ≤ length ships → length ships ≤ 8 → crew_in (items_of (map number_data ships)) ≡ Some ships
+pub crew_back : (ships : List ℕ) → all_in byte_in (items_of (map number_data ships)) ≡ Some ships → IsStrictlyIncreasing ships → 1 ≤ length ships → length ships ≤ MOST → crew_in (items_of (map number_data ships)) ≡ Some ships
 crew_back ships bytes rising some few =
-    let between : is_between 1 8 (length ships) ≡ true = grind (arith, nat_tests) in
+    let between : is_between 1 MOST (length ships) ≡ true = grind (arith, nat_tests) in
     let crew : is_crew ships ≡ true = rw (between, rises_from-true 0 ships (RisesFrom-increasing ships rising)) refl in
     ap if_crew bytes ∙ ap (λ b. when b >> Some ships) crew

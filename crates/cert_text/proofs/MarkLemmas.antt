@@ -1,9 +1,10 @@
 -- Marks are read back.
-use Rattle.std.proofs.Common.{◌≡◌, ◌∙◌, ◌+◌, ◌-◌, ◌<◌, ◌≤◌, ◌^◌, ℕ, Bool, true, false, [], ◌∷◌, Some, None, refl, arith, option_map, ◌⊎◌, inl, inr}
+use Rattle.std.proofs.Common.{◌≡◌, ◌∙◌, ◌+◌, ◌-◌, ◌<◌, ◌^◌, ℕ, Bool, true, false, [], ◌∷◌, Some, None, refl, arith, option_map, ◌⊎◌, inl, inr}
 use Rattle.std.proofs.Math.Bool.{and-false}
 use Rattle.std.specs.Prelude.{◌==◌, if◌then◌else◌}
 use Rattle.std.proofs.lemmas.Bool.Decides.{nat_tests}
 use Rattle.std.proofs.lemmas.Bool.{lt-ltb}
+use Rattle.lock_model.specs.declared.limits.TheConstants.{SHIPS}
 use Rattle.lock_model.specs.Limits.{is_between}
 use Rattle.closing_rules.specs.declared.grounds.Ground.TheVariants.{Bound, Throughput, Probe, Cut, Price}
 use Rattle.certificate_rules.specs.declared.certificate.Mark.{Mark}
@@ -36,20 +37,20 @@ above n m less = grind (arith, nat_tests)
 
 -- a number above 9
 told_above : (third : Bool) (n : ℕ) → 9 < n → mark_in third false (number_data n)
-    ≡ option_map Some (if is_between 10 33 n then Some (Leaf (Probe (n - 10))) else (if is_between 100 9223372036854775907 n then Some (Leaf (Cut (n - 100))) else None))
+    ≡ option_map Some (if is_between 10 (9 + SHIPS) n then Some (Leaf (Probe (n - 10))) else (if is_between 100 9223372036854775907 n then Some (Leaf (Cut (n - 100))) else None))
 unfolding mark_of
 told_above third n high =
     rw (above n 4 (omega (arith, high)), and-false third, above n 0 (omega (arith, high)), above n 1 (omega (arith, high)), above n 2 (omega (arith, high))) refl
 
-probe_told : (third : Bool) (s : ℕ) → s ≤ 23 → mark_in third false (number_data (10 + s)) ≡ Some (Some (Leaf (Probe s)))
+probe_told : (third : Bool) (s : ℕ) → s < SHIPS → mark_in third false (number_data (10 + s)) ≡ Some (Some (Leaf (Probe s)))
 probe_told third s low =
-    let in_range : is_between 10 33 (10 + s) ≡ true = grind (arith, nat_tests) in
+    let in_range : is_between 10 (9 + SHIPS) (10 + s) ≡ true = grind (arith, nat_tests) in
     let back : (10 + s) - 10 ≡ s = omega arith in
     told_above third (10 + s) (omega arith) ∙ rw (in_range, back) refl
 
 cut_told : (third : Bool) (c : ℕ) → c < 2 ^ 63 → mark_in third false (number_data (100 + c)) ≡ Some (Some (Leaf (Cut c)))
 cut_told third c low =
-    let out : is_between 10 33 (100 + c) ≡ false = grind (arith, nat_tests) in
+    let out : is_between 10 (9 + SHIPS) (100 + c) ≡ false = grind (arith, nat_tests) in
     let in_range : is_between 100 9223372036854775907 (100 + c) ≡ true = grind (arith, nat_tests) in
     let back : (100 + c) - 100 ≡ c = omega arith in
     told_above third (100 + c) (omega arith) ∙ rw (out, in_range, back) refl

@@ -5,6 +5,7 @@ use Rattle.std.proofs.lemmas.Bool.Decides.{nat_tests}
 use Rattle.serde_json.proofs.OnLiterals.{serde_json_on_literals}
 use Rattle.serde_json.specs.View.{items_of, items_view}
 use Rattle.serde_json.specs.declared.value.Value.{Value}
+use Rattle.lock_model.specs.declared.limits.TheConstants.{SHIPS}
 use Rattle.lock_model.specs.declared.plan.Lockage.{Lockage}
 use Rattle.lock_model.specs.declared.plan.Plan.{Plan}
 use Rattle.cert_text.specs.Steps.{◌>>=◌, ◌>>◌, when}
@@ -18,15 +19,15 @@ unfolding lockage_in serde_json_on_literals
 lockage_back l chamber ships spots as_many start way = rw (chamber, ships, spots, eq-eqb (length l.spots) (length l.ships) as_many, start, way) refl
 
 abbrev few_of : Option (List Lockage) → Option Plan
-few_of o = o >>= λ lockages. when (nat_le (length lockages) 24) >> Some (record { lockages = lockages })
+few_of o = o >>= λ lockages. when (nat_le (length lockages) SHIPS) >> Some (record { lockages = lockages })
 
 -- more values than lockages of a plan
-pub too_long : (vs : List Value) → 24 < length vs → None ≡ plan_items (items_view vs)
+pub too_long : (vs : List Value) → SHIPS < length vs → None ≡ plan_items (items_view vs)
 too_long vs many = go (all_in lockage_in (items_view vs)) (all_in-length lockage_in vs)
   where
     go : (o : Option (List Lockage)) → ((ls : List Lockage) → o ≡ Some ls → length ls ≡ length vs) → None ≡ few_of o
     go None count = refl
     go (Some ls) count =
         let size = count ls refl in
-        let test : nat_le (length ls) 24 ≡ false = grind (arith, nat_tests) in
+        let test : nat_le (length ls) SHIPS ≡ false = grind (arith, nat_tests) in
         rw test refl

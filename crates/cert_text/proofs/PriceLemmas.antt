@@ -1,6 +1,7 @@
 -- Lists of prices are read back, and read one after the other.
 use Rattle.std.proofs.Common.{◌≡◌, ◌∙◌, ◌<◌, ℕ, true, false, List, Option, Some, None, refl, sym, ap, arith, length, All}
 use Rattle.std.proofs.lemmas.Bool.Decides.{nat_tests}
+use Rattle.lock_model.specs.declared.limits.TheConstants.{SHIPS}
 use Rattle.lock_model.specs.Limits.{is_between}
 use Rattle.serde_json.specs.View.{items_view}
 use Rattle.serde_json.specs.declared.value.Value.{Value}
@@ -12,13 +13,13 @@ use Rattle.cert_text.proofs.FieldLemmas.{ReadsBack, all_back, below_back}
 use Rattle.cert_text.proofs.ListLemmas.{all_in-length}
 
 abbrev if_few : Option (List ℕ) → Option (List ℕ)
-if_few o = o >>= λ prices. when (is_between 1 24 (length prices)) >> Some prices
+if_few o = o >>= λ prices. when (is_between 1 SHIPS (length prices)) >> Some prices
 
 one_back : (prices : List ℕ) → AreFormedPrices prices → prices_in (numbers_data prices) ≡ Some prices
 one_back prices formed =
     let some = formed.0 in
     let few = formed.1.few in
-    let between : is_between 1 24 (length prices) ≡ true = grind (arith, nat_tests) in
+    let between : is_between 1 SHIPS (length prices) ≡ true = grind (arith, nat_tests) in
     let each : All (ReadsBack number_data price_in) prices = λ k d low. record { same = below_back 1000001 _ (let small = formed.1.small k d low in omega (arith, small)) } in
     ap if_few (all_back number_data price_in prices each) ∙ ap (λ b. when b >> Some prices) between
 
@@ -26,16 +27,16 @@ pub lists_back : (prices : List (List ℕ)) → All AreFormedPrices prices → p
 lists_back prices formed = all_back numbers_data prices_in prices (λ k d low. record { same = one_back _ (formed k d low) })
 
 -- items of another count
-wrong_count : (vs : List Value) → is_between 1 24 (length vs) ≡ false → items_prices (items_view vs) ≡ None
+wrong_count : (vs : List Value) → is_between 1 SHIPS (length vs) ≡ false → items_prices (items_view vs) ≡ None
 wrong_count vs out = go (all_in price_in (items_view vs)) refl
   where
     go : (o : Option (List ℕ)) → all_in price_in (items_view vs) ≡ o → items_prices (items_view vs) ≡ None
     go None is = ap if_few is
     go (Some prices) is =
-        let wrong : is_between 1 24 (length prices) ≡ false = ap (is_between 1 24) (all_in-length price_in vs prices is) ∙ out in
+        let wrong : is_between 1 SHIPS (length prices) ≡ false = ap (is_between 1 SHIPS) (all_in-length price_in vs prices is) ∙ out in
         ap if_few is ∙ ap (λ b. when b >> Some prices) wrong
 
-pub too_many : (vs : List Value) → 24 < length vs → None ≡ items_prices (items_view vs)
+pub too_many : (vs : List Value) → SHIPS < length vs → None ≡ items_prices (items_view vs)
 too_many vs many =
-    let out : is_between 1 24 (length vs) ≡ false = grind (arith, nat_tests) in
+    let out : is_between 1 SHIPS (length vs) ≡ false = grind (arith, nat_tests) in
     sym (wrong_count vs out)

@@ -1,5 +1,6 @@
 -- Lists of ships.
 use Rattle.std.specs.Prelude.{ℕ, suc, ◌&&◌, Bool, true, List, [], ◌∷◌, length, nat_le, Option, Some}
+use Rattle.lock_model.specs.declared.limits.TheConstants.{MOST}
 use Rattle.lock_model.specs.Limits.{is_between}
 use Rattle.serde_json.specs.Data.{Data, Items}
 use Rattle.serde_json.specs.Find.{as_array}
@@ -13,7 +14,7 @@ rises_from low (s ∷ ships) = nat_le low s && rises_from (suc s) ships
 
 -- one to eight ships, rising
 abbrev pub is_crew : List ℕ → Bool
-is_crew ships = is_between 1 8 (length ships) && rises_from 0 ships
+is_crew ships = is_between 1 MOST (length ships) && rises_from 0 ships
 
 abbrev pub crew_in : Items → Option (List ℕ)
 crew_in items = do

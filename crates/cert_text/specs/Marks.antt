@@ -1,5 +1,6 @@
 -- Marks as numbers.
 use Rattle.std.specs.Prelude.{ℕ, ◌+◌, ◌-◌, ◌==◌, ◌&&◌, Bool, true, false, List, [], ◌∷◌, Option, None, Some, option_map, if◌then◌else◌}
+use Rattle.lock_model.specs.declared.limits.TheConstants.{SHIPS}
 use Rattle.lock_model.specs.Limits.{is_between}
 use Rattle.closing_rules.specs.declared.grounds.Ground.{Ground}
 use Rattle.closing_rules.specs.declared.grounds.Ground.TheVariants.{Bound, Throughput, Probe, Cut, Price}
@@ -21,13 +22,13 @@ abbrev pub mark_numbers : Mark → List ℕ
 mark_numbers Split = 0 ∷ []
 mark_numbers (Leaf why) = ground_numbers why
 
--- the mark that is one number: 3 to 9, 34 to 99 and those above 2^63 + 99 are none
+-- the mark that is one number: 3 to 9, those between the probe of the last ship and 100, and those above 2^63 + 99 are none
 unfoldable pub mark_of : ℕ → Option Mark
 mark_of n =
     if n == 0 then Some Split
     else (if n == 1 then Some (Leaf Bound)
     else (if n == 2 then Some (Leaf Throughput)
-    else (if is_between 10 33 n then Some (Leaf (Probe (n - 10)))
+    else (if is_between 10 (9 + SHIPS) n then Some (Leaf (Probe (n - 10)))
     else (if is_between 100 9223372036854775907 n then Some (Leaf (Cut (n - 100))) else None))))
 
 -- the mark of the second number of two

@@ -1,5 +1,6 @@
 -- Plans as JSON values.
 use Rattle.std.specs.Prelude.{ℕ, zero, suc, ◌==◌, List, [], ◌∷◌, length, nat_le, nat_lt, Option, None, Some, codes}
+use Rattle.lock_model.specs.declared.limits.TheConstants.{SHIPS}
 use Rattle.lock_model.specs.declared.way.Way.{Way}
 use Rattle.lock_model.specs.declared.way.Way.TheVariants.{Up, Down}
 use Rattle.lock_model.specs.declared.placement.Rank.{Rank}
@@ -105,11 +106,11 @@ lockage_in d = do
   way ← value_at (codes "way") way_in d
   Some (record { chamber = chamber; way = way; ships = ships; start = start; spots = spots })
 
--- at most 24 lockages
+-- at most SHIPS lockages
 abbrev pub plan_items : Items → Option Plan
 plan_items items = do
   lockages ← all_in lockage_in items
-  when (nat_le (length lockages) 24)
+  when (nat_le (length lockages) SHIPS)
   Some (record { lockages = lockages })
 
 abbrev pub plan_in : Data → Option Plan

@@ -1,5 +1,6 @@
 -- Lists of prices as JSON values.
 use Rattle.std.specs.Prelude.{ℕ, List, [], length, Option, Some, codes}
+use Rattle.lock_model.specs.declared.limits.TheConstants.{SHIPS}
 use Rattle.lock_model.specs.Limits.{is_between}
 use Rattle.serde_json.specs.Data.{Data, Items}
 use Rattle.serde_json.specs.Find.{as_array}
@@ -15,11 +16,11 @@ price_lists_data = list_data numbers_data
 abbrev pub price_in : Data → Option ℕ
 price_in = number_below 1000001
 
--- 1 to 24 prices
+-- 1 to SHIPS prices
 abbrev pub items_prices : Items → Option (List ℕ)
 items_prices items = do
   prices ← all_in price_in items
-  when (is_between 1 24 (length prices))
+  when (is_between 1 SHIPS (length prices))
   Some prices
 
 abbrev pub prices_in : Data → Option (List ℕ)

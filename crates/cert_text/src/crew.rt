@@ -5,7 +5,7 @@ ghost use Rattle.cert_text.specs.Fields.{number_data, numbers_data, byte_in, all
 ghost use Rattle.cert_text.specs.Crew.{crew_in, ships_in};
 
 use crate::value::byte_in;
-use lock_model::Ships;
+use lock_model::{MOST, Ships};
 use serde_json::Value;
 use std::alloc::{AllocError, Global};
 
@@ -49,7 +49,7 @@ pub fn crew_in(list: &[Value]) -> Option<Ships>
     if list.is_empty() {
         return None;
     }
-    if list.len() > 8 {
+    if list.len() > MOST {
         return None;
     }
     read_crew(list)
@@ -58,7 +58,7 @@ pub fn crew_in(list: &[Value]) -> Option<Ships>
 /// The ships that one to eight values write, if they rise.
 fn read_crew(list: &[Value]) -> Option<Ships>
     requires some { 1 ≤ length list.now }
-    requires few { length list.now ≤ 8 }
+    requires few { length list.now ≤ MOST }
     ensures { result ≡ crew_in (items_view list.now) }
 {
     let mut ships = Ships::new();

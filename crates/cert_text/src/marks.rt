@@ -8,8 +8,12 @@ ghost use Rattle.cert_text.specs.Marks.{ground_numbers, mark_numbers, mark_of, p
 use crate::tree_mark::TreeMark;
 use crate::value::{number_below, push_number};
 use certificate_parts::{Ground, Mark};
+use lock_model::SHIPS;
 use serde_json::Value;
 use std::alloc::AllocError;
+
+// The mark of a probe of the last ship that an instance may have.
+const LAST_PROBE: u64 = 9 + SHIPS as u64;
 
 /// Appends the number of a ground, or its two numbers.
 fn push_ground(list: &mut Vec<Value>, why: Ground) -> Result<(), AllocError>
@@ -37,7 +41,7 @@ fn mark_of(number: u64) -> Option<Mark>
         0 => Some(Mark::Split),
         1 => Some(Mark::Leaf(Ground::Bound)),
         2 => Some(Mark::Leaf(Ground::Throughput)),
-        10..=33 => Some(Mark::Leaf(Ground::Probe((number - 10) as u8))),
+        10..=LAST_PROBE => Some(Mark::Leaf(Ground::Probe((number - 10) as u8))),
         100..=9_223_372_036_854_775_907 => Some(Mark::Leaf(Ground::Cut(number - 100))),
         _ => None,
     }

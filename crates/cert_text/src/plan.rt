@@ -10,7 +10,7 @@ use crate::bad::BadDossier;
 use crate::crew::{put_ships, ships_at};
 use crate::spots::{put_spots, spots_in};
 use crate::value::{chamber_at, has_members, put_byte, put_word, word_in};
-use lock_model::{Lockage, Lockages, Plan, Spots, Way};
+use lock_model::{Lockage, Lockages, MOST, Plan, SHIPS, Spots, Way};
 use no_memory::NoMemory;
 use serde_json::{Map, Value};
 use std::alloc::{AllocError, Global};
@@ -73,7 +73,7 @@ pub fn put_plan(alloc: Global, plan: &Plan) -> Result<Value, NoMemory>
 
 /// The spots at the key `spots`, if they are so many.
 fn spots_at(value: &Value, count: usize) -> Option<Spots>
-    requires { count ≤ 8 }
+    requires { count ≤ MOST }
     ensures { result ≡ value_at (codes "spots") (spots_in count) (view value.now) }
 {
     spots_in(value.get("spots")?, count)
@@ -126,9 +126,9 @@ fn lockage_in(value: &Value) -> Option<Lockage>
     })
 }
 
-/// The lockages that up to 24 values write.
+/// The lockages that up to `SHIPS` values write.
 fn all_in(list: &[Value]) -> Option<Lockages>
-    requires { length list.now ≤ 24 }
+    requires { length list.now ≤ SHIPS }
     ensures { result ≡ all_in lockage_in (items_view list.now) }
 {
     let mut lockages = Lockages::new();
@@ -138,11 +138,11 @@ fn all_in(list: &[Value]) -> Option<Lockages>
     Some(lockages)
 }
 
-/// The plan of up to 24 lockages that values write.
+/// The plan of up to `SHIPS` lockages that values write.
 fn plan_items(list: &[Value]) -> Option<Plan>
     ensures { result ≡ plan_items (items_view list.now) }
 {
-    if list.len() > 24 {
+    if list.len() > SHIPS {
         return None;
     }
     let lockages = all_in(list)?;

@@ -13,6 +13,7 @@ use crate::value::number_below;
 use crate::why::push_words;
 use arrayvec::ArrayVec;
 use certificate_parts::PriceLists;
+use lock_model::SHIPS;
 use price_bound::Prices;
 use serde_json::Value;
 use std::alloc::{AllocError, Global};
@@ -39,7 +40,7 @@ fn put_all(alloc: Global, prices: &[Prices]) -> Result<Vec<Value>, AllocError>
     Ok(list)
 }
 
-/// Prices, each with its 1 to 24 numbers, as a value that `prices_at` reads back.
+/// Prices, each with its 1 to `SHIPS` numbers, as a value that `prices_at` reads back.
 pub(crate) fn put_prices(alloc: Global, prices: &[Prices]) -> Result<Value, AllocError>
     requires { All AreFormedPrices prices.now }
     ensures value { IfOk result (λ v. view v ≡ price_lists_data prices.now) }
@@ -49,13 +50,13 @@ pub(crate) fn put_prices(alloc: Global, prices: &[Prices]) -> Result<Value, Allo
     Ok(Value::Array(list))
 }
 
-/// The prices that 1 to 24 values write.
+/// The prices that 1 to `SHIPS` values write.
 fn read_prices(list: &[Value]) -> Option<Prices>
     requires some { 1 ≤ length list.now }
-    requires few { length list.now ≤ 24 }
+    requires few { length list.now ≤ SHIPS }
     ensures { result ≡ items_prices (items_view list.now) }
 {
-    let mut prices: ArrayVec<u32, 24> = ArrayVec::new();
+    let mut prices: ArrayVec<u32, SHIPS> = ArrayVec::new();
     for value in list {
         let price = number_below(value, 1_000_001)?;
         prices.push(price as u32);
@@ -63,14 +64,14 @@ fn read_prices(list: &[Value]) -> Option<Prices>
     Prices::new(prices.as_slice())
 }
 
-/// The prices that values write, if they are 1 to 24.
+/// The prices that values write, if they are 1 to `SHIPS`.
 fn items_prices(list: &[Value]) -> Option<Prices>
     ensures { result ≡ items_prices (items_view list.now) }
 {
     if list.is_empty() {
         return None;
     }
-    if list.len() > 24 {
+    if list.len() > SHIPS {
         return None;
     }
     read_prices(list)
@@ -131,7 +132,7 @@ fn prices_under(
     }
 }
 
-/// The lists of prices at the key `prices`, each of 1 to 24 numbers up to 1,000,000; before the third
+/// The lists of prices at the key `prices`, each of 1 to `SHIPS` numbers up to 1,000,000; before the third
 /// version none. Answers `Shape(6)` exactly where there are no such lists, or else want of memory.
 pub fn prices_at(alloc: Global, version: Version, value: &Value) -> Result<PriceLists, DossierError>
     ensures read { IfOk result (λ prices. prices_under version (view value.now) ≡ Some prices) }

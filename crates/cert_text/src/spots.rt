@@ -5,7 +5,7 @@ ghost use Rattle.cert_text.specs.Fields.{list_data, all_in};
 ghost use Rattle.cert_text.specs.Plans.{rank_number, moor_number, rank_of, moor_of, rank_in, moor_in, spot_data, spot_items, spot_in, spots_items, spots_in};
 
 use crate::value::{put_byte, put_word, word_in};
-use lock_model::{Moor, Rank, Spot, Spots};
+use lock_model::{MOST, Moor, Rank, Spot, Spots};
 use serde_json::Value;
 use std::alloc::{AllocError, Global};
 
@@ -112,7 +112,7 @@ fn spot_in(value: &Value) -> Option<Spot>
 
 /// The spots that up to eight values list.
 fn all_in(list: &[Value]) -> Option<Spots>
-    requires { length list.now ≤ 8 }
+    requires { length list.now ≤ MOST }
     ensures { result ≡ all_in spot_in (items_view list.now) }
 {
     let mut spots = Spots::new();
@@ -124,7 +124,7 @@ fn all_in(list: &[Value]) -> Option<Spots>
 
 /// So many spots, if values list them.
 fn spots_items(list: &[Value], count: usize) -> Option<Spots>
-    requires { count ≤ 8 }
+    requires { count ≤ MOST }
     ensures { result ≡ spots_items count (items_view list.now) }
 {
     if list.len() != count {
@@ -135,7 +135,7 @@ fn spots_items(list: &[Value], count: usize) -> Option<Spots>
 
 /// So many spots, if a value lists them.
 pub fn spots_in(value: &Value, count: usize) -> Option<Spots>
-    requires { count ≤ 8 }
+    requires { count ≤ MOST }
     ensures { result ≡ spots_in count (view value.now) }
 {
     spots_items(value.as_array()?.as_slice(), count)

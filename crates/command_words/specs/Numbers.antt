@@ -2,6 +2,7 @@
 use Rattle.std.specs.Prelude.{◌≡◌, ℕ, ◌≤◌, Bool, length, ◌&&◌, Option, Some, None, nat_lt, nat_le, if◌then◌else◌}
 use Rattle.std.specs.List.{list_all}
 use Rattle.std.specs.Str.Parse.{digits_value}
+use Rattle.lock_model.specs.declared.limits.TheConstants.{CHAMBERS, SHIPS, WORKERS}
 use Rattle.command_words.specs.Names.{Text}
 use Rattle.command_words.specs.Given.{Given, text_in}
 use Rattle.command_words.specs.declared.arguments.Argument.{Argument}
@@ -27,10 +28,10 @@ lowest _ = 0
 abbrev pub highest : Argument → ℕ
 highest Nodes = 1000000
 highest Turns = 200000
-highest Workers = 8
+highest Workers = WORKERS
 highest Number = 4294967295
-highest Ships = 24
-highest Chambers = 4
+highest Ships = SHIPS
+highest Chambers = CHAMBERS
 highest From = 1000000
 highest _ = 0
 

@@ -7,7 +7,7 @@ pub struct SolveOptions {
     pub nodes: u32,
     /// How many cases of one deck a placer may try, 1 to 200,000; else 20,000.
     pub turns: u32,
-    /// How many workers search, 1 to 8; else 2.
+    /// How many workers search, 1 to `WORKERS`; else 2.
     pub workers: u8,
     /// Print a dossier where the plan is optimal.
     pub dossier: bool,
@@ -20,9 +20,9 @@ pub struct SolveOptions {
 pub struct LotOptions {
     /// The number that the instance is made from, 0 to 4,294,967,295; 1 where it isn't given.
     pub number: u32,
-    /// How many ships it has, 1 to 24; else 12.
+    /// How many ships it has, 1 to `SHIPS`; else 12.
     pub ships: u8,
-    /// How many chambers it has, 1 to 4; else 2.
+    /// How many chambers it has, 1 to `CHAMBERS`; else 2.
     pub chambers: u8,
 }
 
@@ -46,7 +46,7 @@ pub struct ReplanOptions {
     pub nodes: u32,
     /// How many cases of one deck a placer may try, 1 to 200,000; else 20,000.
     pub turns: u32,
-    /// How many workers search, 1 to 8; else 2.
+    /// How many workers search, 1 to `WORKERS`; else 2.
     pub workers: u8,
     /// Print a dossier of the rest where it is optimal.
     pub dossier: bool,

@@ -10,6 +10,7 @@ use crate::arguments::Argument;
 use crate::parser::text_of;
 use crate::texts::is_number;
 use clap::ArgMatches;
+use lock_model::{CHAMBERS, SHIPS, WORKERS};
 
 // The numbers that an option takes, and the one that it has where it isn't given.
 #[derive(Clone, Copy)]
@@ -37,10 +38,10 @@ fn range_of(option: Argument) -> NumberRange
     match option {
         Argument::Nodes => range(1, 1_000_000, 100_000),
         Argument::Turns => range(1, 200_000, 20_000),
-        Argument::Workers => range(1, 8, 2),
+        Argument::Workers => range(1, WORKERS as u32, 2),
         Argument::Number => range(0, 4_294_967_295, 1),
-        Argument::Ships => range(1, 24, 12),
-        Argument::Chambers => range(1, 4, 2),
+        Argument::Ships => range(1, SHIPS as u32, 12),
+        Argument::Chambers => range(1, CHAMBERS as u32, 2),
         Argument::From => range(0, 1_000_000, 0),
         Argument::Command | Argument::Dossier | Argument::Keep => range(0, 0, 0),
     }

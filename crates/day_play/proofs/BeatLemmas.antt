@@ -26,6 +26,7 @@ use Rattle.day_play.specs.Order.{put_by, put_each, minute_of}
 use Rattle.day_play.specs.Playing.{moor_beat, moor_beats, moor_order, quay_distance, turn_beats, go_beat, done_beat, lockage_beats, line_beats, chamber_beats, beats_of}
 use Rattle.day_play.specs.declared.beat.Beat.{Beat}
 use Rattle.day_play.proofs.OrderLemmas.{length-put_each, put_each-append}
+use Rattle.day_play.specs.declared.day.TheConstants.{BEATS}
 
 pub drop_next : (xs : List ℕ) (i : ℕ) → i < length xs → drop i xs ≡ get_or xs i 0 ∷ drop (i + 1) xs
 drop_next xs i within = let next : suc i ≡ i + 1 = omega arith in drop-cons xs i 0 within ∙ ap (λ n. get_or xs i 0 ∷ drop n xs) next
@@ -35,19 +36,19 @@ module _ (D new first rest all : List Beat) (put : new ≡ put_each minute_of D 
   pub put-rest : (R : List Beat) → put_each minute_of D all ≡ R → put_each minute_of new rest ≡ R
   put-rest R before = ap (λ d. put_each minute_of d rest) put ∙ sym (put_each-append minute_of D first rest) ∙ ap (put_each minute_of D) (sym whole) ∙ before
 
-  pub room-rest : length D + length all ≤ 96 → length new + length rest ≤ 96
+  pub room-rest : length D + length all ≤ BEATS → length new + length rest ≤ BEATS
   room-rest room = omega (arith, room, ap length whole, length-append first rest, ap length put, length-put_each minute_of D first)
 
-  pub room-first : length D + length all ≤ 96 → length D + length first ≤ 96
+  pub room-first : length D + length all ≤ BEATS → length D + length first ≤ BEATS
   room-first room = omega (arith, room, ap length whole, length-append first rest)
 
 -- the beats of a lockage are put: its turn, its moorings, and its beginning and end
 module _ (D turned moored gone : List Beat) (ts ms : List Beat) (g d : Beat)
     (turns : turned ≡ put_each minute_of D ts) (moors : moored ≡ put_each minute_of turned ms) where
-  pub lockage-room_moors : length D + length (ts ++ (ms ++ g ∷ d ∷ [])) ≤ 96 → length turned + length ms ≤ 96
+  pub lockage-room_moors : length D + length (ts ++ (ms ++ g ∷ d ∷ [])) ≤ BEATS → length turned + length ms ≤ BEATS
   lockage-room_moors room = omega (arith, room, length-append ts (ms ++ g ∷ d ∷ []), length-append ms (g ∷ d ∷ []), ap length turns, length-put_each minute_of D ts)
 
-  pub lockage-room_go : length D + length (ts ++ (ms ++ g ∷ d ∷ [])) ≤ 96 → length moored + 1 < 96
+  pub lockage-room_go : length D + length (ts ++ (ms ++ g ∷ d ∷ [])) ≤ BEATS → length moored + 1 < BEATS
   lockage-room_go room =
       omega (arith, room, length-append ts (ms ++ g ∷ d ∷ []), length-append ms (g ∷ d ∷ []), ap length turns, length-put_each minute_of D ts, ap length moors, length-put_each minute_of turned ms)
 
@@ -140,8 +141,8 @@ module _ (I : Instance) where
           | inr here ↦ times_in-ships_in P.lockages s ∙ legal.once s here.1 ∙ sym (times_in-between 0 (length I.ships) s (omega arith) (omega (arith, here.1)))
         ]
 
-    -- A LEGAL PLAN HAS A DAY OF AT MOST 96 BEATS.
-    pub beats-few : length (beats_of I P (numbers_from 0 (length I.chambers))) ≤ 96
+    -- A LEGAL PLAN HAS NO MORE BEATS THAN A DAY HOLDS.
+    pub beats-few : length (beats_of I P (numbers_from 0 (length I.chambers))) ≤ BEATS
     beats-few =
         omega (
           arith,

@@ -17,6 +17,7 @@ use Rattle.day_play.specs.State.{Moored, Idle, Under, ChamberState, State, openi
 use Rattle.day_play.specs.declared.beat.Act.{Act}
 use Rattle.day_play.specs.declared.beat.Act.TheVariants.{Turn, Moor, Go, Done}
 use Rattle.day_play.specs.declared.beat.Beat.{Beat}
+use Rattle.day_play.specs.declared.day.TheConstants.{BEATS}
 
 -- the ship at place k of the lockage's deck
 abbrev pub ship_of : Lockage → ℕ → ℕ
@@ -128,7 +129,7 @@ pub record IsOver (I : Instance) (P : Plan) (s : State) : Type 0 where
 
 -- A LAWFUL DAY of a plan.
 pub record IsLawfulDay (I : Instance) (P : Plan) (bs : List Beat) : Type 0 where
-  pub few : length bs ≤ 96
+  pub few : length bs ≤ BEATS
   pub rising : IsOrdered minute_of 0 bs
   pub lawful : AreLawfulBeats I P bs (opening I)
   pub over : IsOver I P (after_all I P bs (opening I))

@@ -4,12 +4,16 @@ ghost use Rattle.day_play.specs.Order.{minute_of, put_by, beat_at};
 
 use crate::beat::Beat;
 use arrayvec::ArrayVec;
+use lock_model::SHIPS;
 use std::marker::Model;
 
-/// Up to 96 beats.
+/// The beats of a day, at most: four for each ship.
+pub const BEATS: usize = 4 * SHIPS;
+
+/// Up to `BEATS` beats.
 #[derive(PartialEq, Eq, Drop)]
 pub struct Day {
-    items: ArrayVec<Beat, 96>,
+    items: ArrayVec<Beat, BEATS>,
 }
 
 impl Model for Day {
@@ -50,14 +54,14 @@ impl Day {
     /// The beats in order.
     pub fn as_slice(&self) -> &[Beat]
         ensures value { result.now ≡ self.now }
-        ensures fits { length result.now ≤ 96 }
+        ensures fits { length result.now ≤ BEATS }
     {
         self.items.as_slice()
     }
 
     /// Puts a beat behind the last one that is no later.
     pub(crate) fn put(&mut self, beat: Beat)
-        requires { length self.old < 96 }
+        requires { length self.old < BEATS }
         ensures { self.new ≡ put_by minute_of beat self.old }
     {
         let at = first_after(self.items.as_slice(), beat.minute);

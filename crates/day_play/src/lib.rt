@@ -16,5 +16,5 @@ mod playing;
 mod rising;
 
 pub use beat::{Act, Beat};
-pub use day::Day;
+pub use day::{BEATS, Day};
 pub use playing::{Played, play};

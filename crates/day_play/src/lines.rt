@@ -16,7 +16,7 @@ use lock_model::{Instance, Lockage, Plan, Stand, Way};
 fn put_turn(day: &mut Day, instance: &Instance, p: u8, lockage: &Lockage, stand: Stand, from: u64)
     requires whole { IsWholeLockage instance.now lockage.now }
     requires from_small { from ≤ 2 ^ 61 }
-    requires room { length day.old + length (turn_beats instance.now p lockage.now from stand lockage.now.way) ≤ 96 }
+    requires room { length day.old + length (turn_beats instance.now p lockage.now from stand lockage.now.way) ≤ BEATS }
     ensures { day.new ≡ put_each minute_of day.old (turn_beats instance.now p lockage.now from stand lockage.now.way) }
 {
     match (stand, lockage.way) {
@@ -36,7 +36,7 @@ fn put_turn(day: &mut Day, instance: &Instance, p: u8, lockage: &Lockage, stand:
 /// Puts the moorings of the ships at these places of the lockage's deck, in this order.
 fn put_moors(day: &mut Day, p: u8, lockage: &Lockage, places: &[u8])
     requires known { All (λ k. k < length lockage.now.ships) places.now }
-    requires room { length day.old + length places.now ≤ 96 }
+    requires room { length day.old + length places.now ≤ BEATS }
     ensures { day.new ≡ put_each minute_of day.old (moor_beats p lockage.now places.now) }
 {
     for &place in places {
@@ -60,7 +60,7 @@ fn put_lockage(
 )
     requires whole { IsWholeLockage instance.now lockage.now }
     requires from_small { from ≤ 2 ^ 61 }
-    requires room { length day.old + length (lockage_beats instance.now p lockage.now stand from) ≤ 96 }
+    requires room { length day.old + length (lockage_beats instance.now p lockage.now stand from) ≤ BEATS }
     ensures { day.new ≡ put_each minute_of day.old (lockage_beats instance.now p lockage.now stand from) }
 {
     put_turn(day, instance, p, lockage, stand, from);
@@ -85,7 +85,7 @@ fn put_lockage(
 fn put_line(day: &mut Day, instance: &Instance, plan: &Plan, chamber: u8)
     requires chamber_in { chamber < length instance.now.chambers }
     requires whole { All (IsWholeLockage instance.now) plan.now.lockages }
-    requires room { length day.old + length (chamber_beats instance.now plan.now chamber) ≤ 96 }
+    requires room { length day.old + length (chamber_beats instance.now plan.now chamber) ≤ BEATS }
     ensures { day.new ≡ put_each minute_of day.old (chamber_beats instance.now plan.now chamber) }
 {
     let lock = &instance.chambers.as_slice()[chamber as usize];

@@ -1,12 +1,12 @@
 //! Two lockages of a chamber served as one.
 ghost use Rattle.std.specs.Prelude.{ℕ, ◌≡◌, ◌+◌, ◌^◌, ◌<◌, ◌≤◌, length, All, IfSome};
 
-use lock_model::{Group, Instance, Line, Lockage, Lockages, Plan, Ships, Spots};
+use lock_model::{Group, Instance, Line, Lockage, Lockages, MOST, Plan, SHIPS, Ships, Spots};
 
 // The ships of both lists in rising number, of `count` ships in all; none where they are more than
 // `most`.
 pub(crate) fn joined_ships(first: &Ships, second: &Ships, most: u8, count: u8) -> Option<Ships>
-    requires { most ≤ 8 }
+    requires { most ≤ MOST }
     ensures { IfSome result (All (λ s. s < count)) }
 {
     let mut ships = Ships::new();
@@ -63,7 +63,7 @@ impl Joined {
 
     // Appends the group of lockage number `i` after the joining, where it is of the chamber and stays.
     fn put_group(&self, i: usize, lockage: &Lockage, chamber: u8, line: &mut Line)
-        requires { length line.old < 24 }
+        requires { length line.old < SHIPS }
         ensures fits { length line.new ≤ length line.old + 1 }
         ensures known { (n : ℕ) → All (λ s. s < n) self.now.ships → All (λ s. s < n) lockage.now.ships → All (λ g. All (λ s. s < n) g.ships) line.old → All (λ g. All (λ s. s < n) g.ships) line.new }
     {

@@ -7,7 +7,7 @@ use crate::joined::{Joined, joined_ships};
 use berth_place::{BerthPlaced, place_by_berths};
 use chamber_place::{Placed, place};
 use chamber_times::{cost, earliest, flow_time, flow_until};
-use lock_model::{Deck, Group, Instance, Plan, Ships, Spots, deck_of};
+use lock_model::{Deck, Group, Instance, Plan, SHIPS, Ships, Spots, deck_of};
 use mooring_rules::{first_clash, judge_plan};
 use no_memory::NoMemory;
 use std::alloc::Global;
@@ -15,7 +15,7 @@ use std::alloc::Global;
 // The flow times of a line's ships in its earliest timetable, added.
 fn line_flow(instance: &Instance, chamber: u8, line: &[Group]) -> u64
     requires chamber_in { chamber < length instance.now.chambers }
-    requires few { length line.now ≤ 24 }
+    requires few { length line.now ≤ SHIPS }
     requires ships_in { All (λ g. All (λ s. s < length instance.now.ships) g.ships) line.now }
 {
     let times = earliest(instance, chamber, line);

@@ -8,7 +8,7 @@ ghost use Rattle.lock_model.specs.Fleet.{ship_at};
 use crate::choice::{choose, next_times};
 use crate::standing::{Standing, Standings};
 use chamber_times::stand_after;
-use lock_model::{Instance, Lockage, Lockages, Moor, Rank, Ships, Spot, Spots};
+use lock_model::{Instance, Lockage, Lockages, Moor, Rank, SHIPS, Ships, Spot, Spots};
 
 // The chamber that serves the ship first.
 fn chamber_for(instance: &Instance, ship: u8, standings: &Standings) -> u8
@@ -60,7 +60,7 @@ fn left_by(instance: &Instance, ship: u8, end: u64) -> Standing
 pub(crate) fn singles_in(instance: &Instance, order: &[u8]) -> Lockages
     requires fit { HasNoUnfit instance.now }
     requires known { All (λ s. s < length instance.now.ships) order.now }
-    requires few { length order.now ≤ 24 }
+    requires few { length order.now ≤ SHIPS }
     ensures { result ≡ singles_from instance.now (first_standings instance.now) order.now }
 {
     let mut standings = Standings::first(instance);

@@ -3,7 +3,7 @@ ghost use Rattle.std.specs.Prelude.{◌≡◌, ◌<◌, ◌≤◌, [], ◌∷◌
 ghost use Rattle.lock_rules.specs.Singles.{first_standings, standing_at};
 
 use arrayvec::ArrayVec;
-use lock_model::{Instance, Stand};
+use lock_model::{CHAMBERS, Instance, Stand};
 use std::marker::Model;
 
 /// The side where a chamber stands, and the minute at which it is done with all before.
@@ -26,7 +26,7 @@ impl Model for Standing {
 /// One standing for each chamber.
 #[derive(PartialEq, Eq, Drop)]
 pub struct Standings {
-    items: ArrayVec<Standing, 4>,
+    items: ArrayVec<Standing, CHAMBERS>,
 }
 
 impl Model for Standings {
@@ -58,7 +58,7 @@ impl Standings {
     /// The standings by chamber.
     pub fn as_slice(&self) -> &[Standing]
         ensures value { result.now ≡ self.now }
-        ensures fits { length result.now ≤ 4 }
+        ensures fits { length result.now ≤ CHAMBERS }
     {
         self.items.as_slice()
     }

@@ -1,5 +1,6 @@
 -- The line of a chamber, read in parts.
 use Rattle.std.proofs.Common.{◌≡◌, ℕ, ◌==◌, List, [], length, map, nat_le, nat_lt, Result, Ok, Err, refl}
+use Rattle.lock_model.specs.declared.limits.TheConstants.{CHAMBERS, MOST}
 use Rattle.lock_model.specs.declared.chamber.Chamber.{Chamber}
 use Rattle.instance_text.specs.declared.bad.Kind.{Kind}
 use Rattle.instance_text.specs.declared.bad.Kind.TheVariants.{Count, Range, TurnOverPass}
@@ -28,7 +29,7 @@ in_parts (Err e) b c m1 m2 m3 m4 m5 n1 n2 n3 n4 n5 sizes work whole = refl
 abbrev pub chamber_by_parts : List Chamber → List (List ℕ) → Result Chamber Kind
 chamber_by_parts earlier words = do
   check (length words == 12) Count
-  check (nat_lt (length earlier) 4) Range
+  check (nat_lt (length earlier) CHAMBERS) Range
   name ← new_name (map (λ c. c.name) earlier) (word_at words 1)
   sizes ← read_dimensions words
   work ← read_work words
@@ -39,14 +40,14 @@ pub parts_read : (earlier : List Chamber) (words : List (List ℕ)) → chamber_
 unfolding read_chamber read_dimensions read_work
 parts_read earlier words = in_parts
     (check (length words == 12) Count)
-    (check (nat_lt (length earlier) 4) Range)
+    (check (nat_lt (length earlier) CHAMBERS) Range)
     (new_name (map (λ c. c.name) earlier) (word_at words 1))
     (number 1 100000 (word_at words 2))
     (number 1 100000 (word_at words 3))
     (number 0 10000 (word_at words 4))
     (number 0 10000 (word_at words 5))
     (number 0 10000 (word_at words 6))
-    (number 1 8 (word_at words 7))
+    (number 1 MOST (word_at words 7))
     (number 1 1000000 (word_at words 8))
     (number 0 1000000 (word_at words 9))
     (stand (word_at words 10))

@@ -1,5 +1,6 @@
 -- The line of a closure, read in parts.
 use Rattle.std.proofs.Common.{◌≡◌, ℕ, ◌==◌, List, length, nat_lt, Result, Ok, Err, refl}
+use Rattle.lock_model.specs.declared.limits.TheConstants.{CLOSURES}
 use Rattle.lock_model.specs.declared.chamber.Chamber.{Chamber}
 use Rattle.lock_model.specs.declared.closure.Closure.{Closure}
 use Rattle.instance_text.specs.declared.bad.Kind.{Kind}
@@ -43,7 +44,7 @@ parts_read chambers words = in_parts
     (check (length words == 4) Count)
     (name (word_at words 1))
     (chamber_named chambers)
-    (λ place. check (nat_lt (length (closures_of chambers place)) 8) Range)
+    (λ place. check (nat_lt (length (closures_of chambers place)) CLOSURES) Range)
     (number 0 1000000 (word_at words 2))
     (number 0 1000000 (word_at words 3))
     (λ place from to. check (is_free (record { from = from; to = to }) (closures_of chambers place)) Overlap)

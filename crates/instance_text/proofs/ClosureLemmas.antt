@@ -8,12 +8,13 @@ use Rattle.std.proofs.lemmas.List.Edits.{length-insert, get_or-insert_below, get
 use Rattle.std.proofs.lemmas.List.Elements.{All-append, All-cons, All-take, All-drop}
 use Rattle.std.proofs.lemmas.List.Sums.{fails_before_first, passes_at_first, prefix_len-le-length}
 use Rattle.list_laws.proofs.Lists.{none-passes}
+use Rattle.lock_model.specs.declared.limits.TheConstants.{CLOSURES}
 use Rattle.lock_model.specs.Closures.{IsClosure, AreClosures}
 use Rattle.lock_model.specs.declared.closure.Closure.{Closure}
 use Rattle.instance_text.specs.Closing.{share_a_minute, put_closure}
 
 -- what stands before a closure, and the closure itself
-pub closures_at : (xs : List Closure) (y : Closure) (ys : List Closure) → AreClosures (xs ++ y ∷ ys) → (length xs < 8) × IsClosure y × All (λ k. k.to ≤ y.from) xs
+pub closures_at : (xs : List Closure) (y : Closure) (ys : List Closure) → AreClosures (xs ++ y ∷ ys) → (length xs < CLOSURES) × IsClosure y × All (λ k. k.to ≤ y.from) xs
 closures_at xs y ys h =
     let long : length (xs ++ y ∷ ys) ≡ length xs + suc (length ys) = length-append xs (y ∷ ys) in
     let few = h.few in
@@ -42,7 +43,7 @@ closures_front xs ys h =
     }
 
 -- the closure that comes after those that were appended so far
-pub closures_next : (old more all : List Closure) (i : ℕ) (d : Closure) → i < length more → AreClosures (old ++ more) → all ≡ old ++ take i more → (length all < 8) × IsClosure (get_or more i d) × All (λ k. k.to ≤ (get_or more i d).from) all
+pub closures_next : (old more all : List Closure) (i : ℕ) (d : Closure) → i < length more → AreClosures (old ++ more) → all ≡ old ++ take i more → (length all < CLOSURES) × IsClosure (get_or more i d) × All (λ k. k.to ≤ (get_or more i d).from) all
 closures_next old more all i d low h is =
     let whole : old ++ more ≡ all ++ get_or more i d ∷ drop (i + 1) more =
     ap (λ xs. old ++ xs) (sym (take-append-drop i more) ∙ ap (λ xs. take i more ++ xs) (drop_more more i d low))
@@ -86,7 +87,7 @@ pub apart_after : (k other : Closure) → share_a_minute k other ≡ false → k
 apart_after k other off first = grind (arith, nat_tests)
 
 -- a closure put among others that it is apart from
-pub put_closure-kept : (k : Closure) (ks : List Closure) → AreClosures ks → length ks < 8 → IsClosure k → list_any (share_a_minute k) ks ≡ false → AreClosures (put_closure k ks)
+pub put_closure-kept : (k : Closure) (ks : List Closure) → AreClosures ks → length ks < CLOSURES → IsClosure k → list_any (share_a_minute k) ks ≡ false → AreClosures (put_closure k ks)
 put_closure-kept k ks are room good off =
     let p = position_or_len (λ other. nat_lt k.from other.from) ks in
     let fits : p ≤ length ks = prefix_len-le-length (λ other. not (nat_lt k.from other.from)) ks in
@@ -114,7 +115,7 @@ put_closure-kept k ks are room good off =
 pub put_front : (k : Closure) (ks all : List Closure) (p : ℕ) → AreClosures (take p ks ++ k ∷ drop p ks) → all ≡ [] → AreClosures (all ++ take p ks)
 put_front k ks all p kept none = subst (λ xs. AreClosures (xs ++ take p ks)) (sym none) (closures_front (take p ks) (k ∷ drop p ks) kept)
 
-pub put_middle : (k : Closure) (ks all : List Closure) (p : ℕ) → AreClosures (take p ks ++ k ∷ drop p ks) → all ≡ take p ks → (length all < 8) × IsClosure k × All (λ other. other.to ≤ k.from) all
+pub put_middle : (k : Closure) (ks all : List Closure) (p : ℕ) → AreClosures (take p ks ++ k ∷ drop p ks) → all ≡ take p ks → (length all < CLOSURES) × IsClosure k × All (λ other. other.to ≤ k.from) all
 put_middle k ks all p kept is = closures_at all k (drop p ks) (subst (λ xs. AreClosures (xs ++ k ∷ drop p ks)) (sym is) kept)
 
 pub put_back : (k : Closure) (ks all rest : List Closure) (p : ℕ) → AreClosures (take p ks ++ k ∷ drop p ks) → all ≡ take p ks ++ k ∷ [] → rest ≡ drop p ks → AreClosures (all ++ rest)

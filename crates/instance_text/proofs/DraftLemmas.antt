@@ -4,6 +4,7 @@ use Rattle.std.proofs.lemmas.Bool.{cases_eq}
 use Rattle.std.proofs.lemmas.List.{length_push, length-set, get_or_default, get_or-set_same, get_or-set_other}
 use Rattle.std.proofs.lemmas.List.Elements.{All-nil, All-push, All-set}
 use Rattle.std.proofs.lemmas.List.Quantifiers.{all_pairs_push}
+use Rattle.lock_model.specs.declared.limits.TheConstants.{CHAMBERS, SHIPS}
 use Rattle.lock_model.specs.Instance.{IsChamber, IsShip, IsInstance}
 use Rattle.lock_model.specs.Fleet.{no_chamber}
 use Rattle.lock_model.specs.declared.chamber.Chamber.{Chamber}
@@ -23,7 +24,7 @@ nothing = record {
   ship_names = λ i j d lt low. absurd (omega arith);
 }
 
-pub one_more_chamber : (cs : List Chamber) (ss : List Ship) (c : Chamber) → IsDraft cs ss → length cs < 4 → IsChamber c → All (λ other. other.name ≢ c.name) cs → IsDraft (cs ++ c ∷ []) ss
+pub one_more_chamber : (cs : List Chamber) (ss : List Ship) (c : Chamber) → IsDraft cs ss → length cs < CHAMBERS → IsChamber c → All (λ other. other.name ≢ c.name) cs → IsDraft (cs ++ c ∷ []) ss
 one_more_chamber cs ss c draft room good new = record {
   few_chambers = omega (arith, length_push cs c);
   few_ships = draft.few_ships;
@@ -33,7 +34,7 @@ one_more_chamber cs ss c draft room good new = record {
   ship_names = draft.ship_names;
 }
 
-pub one_more_ship : (cs : List Chamber) (ss : List Ship) (s : Ship) → IsDraft cs ss → length ss < 24 → IsShip s → All (λ other. other.name ≢ s.name) ss → IsDraft cs (ss ++ s ∷ [])
+pub one_more_ship : (cs : List Chamber) (ss : List Ship) (s : Ship) → IsDraft cs ss → length ss < SHIPS → IsShip s → All (λ other. other.name ≢ s.name) ss → IsDraft cs (ss ++ s ∷ [])
 one_more_ship cs ss s draft room good new = record {
   few_chambers = draft.few_chambers;
   few_ships = omega (arith, length_push ss s);

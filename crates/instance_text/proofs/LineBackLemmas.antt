@@ -8,6 +8,7 @@ use Rattle.std.proofs.lemmas.List.Edits.{insert_end}
 use Rattle.std.proofs.lemmas.List.Folds.{list_any_none}
 use Rattle.std.proofs.lemmas.List.Sums.{position_or_len_is}
 use Rattle.std.proofs.lemmas.Slice.Eq.{bytes_eq-Decides}
+use Rattle.lock_model.specs.declared.limits.TheConstants.{CHAMBERS, CLOSURES, MOST, SHIPS}
 use Rattle.lock_model.specs.Limits.{IsName}
 use Rattle.lock_model.specs.Closures.{IsClosure, AreClosures}
 use Rattle.lock_model.specs.Fleet.{no_chamber}
@@ -36,10 +37,10 @@ use Rattle.instance_text.proofs.WordBackLemmas.{number_back, name_back, new_name
 abbrev pub bare : Chamber → Chamber
 bare c = record c { closures = [] }
 
-read_chamber_back : (earlier : List Chamber) (c : Chamber) → length earlier < 4 → IsChamber c → All (λ e. e ≢ c.name) (map (λ o. o.name) earlier) → read_chamber earlier (chamber_words c) ≡ Ok (bare c)
+read_chamber_back : (earlier : List Chamber) (c : Chamber) → length earlier < CHAMBERS → IsChamber c → All (λ e. e ≢ c.name) (map (λ o. o.name) earlier) → read_chamber earlier (chamber_words c) ≡ Ok (bare c)
 unfolding read_chamber chamber_words
 read_chamber_back earlier c room good new =
-    let free : nat_lt (length earlier) 4 ≡ true = grind (arith, nat_tests) in
+    let free : nat_lt (length earlier) CHAMBERS ≡ true = grind (arith, nat_tests) in
     let turns : nat_le c.turn c.pass ≡ true = let t = good.turn in grind (arith, nat_tests) in
     let most = good.most in
     let long = good.length in
@@ -54,7 +55,7 @@ read_chamber_back earlier c room good new =
       number_back 0 10000 c.end (omega arith) good.end (let h = good.end in omega arith),
       number_back 0 10000 c.gap (omega arith) good.gap (let h = good.gap in omega arith),
       number_back 0 10000 c.side (omega arith) good.side (let h = good.side in omega arith),
-      number_back 1 8 c.most most.0 most.1 (omega arith),
+      number_back 1 MOST c.most most.0 most.1 (omega arith),
       number_back 1 1000000 c.pass pass.0 pass.1 (omega arith),
       number_back 0 1000000 c.turn (omega arith) (omega arith) (omega arith),
       stand_back c.stands,
@@ -62,7 +63,7 @@ read_chamber_back earlier c room good new =
       turns,
     ) refl
 
-pub chamber_line_back : (format : Format) (d : Draft) (c : Chamber) → length d.chambers < 4 → IsChamber c → All (λ e. e ≢ c.name) (map (λ o. o.name) d.chambers) → read_line format d (chamber_words c) ≡ Ok (More, record d { chambers = d.chambers ++ bare c ∷ [] })
+pub chamber_line_back : (format : Format) (d : Draft) (c : Chamber) → length d.chambers < CHAMBERS → IsChamber c → All (λ e. e ≢ c.name) (map (λ o. o.name) d.chambers) → read_line format d (chamber_words c) ≡ Ok (More, record d { chambers = d.chambers ++ bare c ∷ [] })
 unfolding read_line add_chamber chamber_words
 chamber_line_back format d c room good new = rw (read_chamber_back d.chambers c room good new) refl
 
@@ -74,10 +75,10 @@ counted : (format : Format) → is_ship_count format 7 ≡ true
 counted First = refl
 counted Second = refl
 
-ship_back : (format : Format) (earlier : List Ship) (s : Ship) (harmless : Bool) → (s.cargo == 0) ≡ harmless → (harmless ≡ false → format ≡ Second) → length earlier < 24 → IsShip s → All (λ e. e ≢ s.name) (map (λ o. o.name) earlier) → read_ship format earlier (seven s ++ cond harmless [] (decimal s.cargo ∷ [])) ≡ Ok s
+ship_back : (format : Format) (earlier : List Ship) (s : Ship) (harmless : Bool) → (s.cargo == 0) ≡ harmless → (harmless ≡ false → format ≡ Second) → length earlier < SHIPS → IsShip s → All (λ e. e ≢ s.name) (map (λ o. o.name) earlier) → read_ship format earlier (seven s ++ cond harmless [] (decimal s.cargo ∷ [])) ≡ Ok s
 unfolding read_ship cargo seven
 ship_back format earlier s true is fits room good new =
-    let free : nat_lt (length earlier) 24 ≡ true = grind (arith, nat_tests) in
+    let free : nat_lt (length earlier) SHIPS ≡ true = grind (arith, nat_tests) in
     let none : s.cargo ≡ 0 = grind (arith, nat_tests) in
     let long = good.length in
     let wide = good.width in
@@ -97,7 +98,7 @@ ship_back format earlier s false is fits room good new =
   where
     second : read_ship Second earlier (seven s ++ decimal s.cargo ∷ []) ≡ Ok s
     second =
-        let free : nat_lt (length earlier) 24 ≡ true = grind (arith, nat_tests) in
+        let free : nat_lt (length earlier) SHIPS ≡ true = grind (arith, nat_tests) in
         let long = good.length in
         let wide = good.width in
         rw (
@@ -111,7 +112,7 @@ ship_back format earlier s false is fits room good new =
           number_back 0 9 s.cargo (omega arith) good.cargo (let h = good.cargo in omega arith),
         ) refl
 
-pub ship_line_back : (format : Format) (d : Draft) (s : Ship) → ((s.cargo == 0) ≡ false → format ≡ Second) → length d.ships < 24 → IsShip s → All (λ e. e ≢ s.name) (map (λ o. o.name) d.ships) → read_line format d (ship_words s) ≡ Ok (More, record d { ships = d.ships ++ s ∷ [] })
+pub ship_line_back : (format : Format) (d : Draft) (s : Ship) → ((s.cargo == 0) ≡ false → format ≡ Second) → length d.ships < SHIPS → IsShip s → All (λ e. e ≢ s.name) (map (λ o. o.name) d.ships) → read_line format d (ship_words s) ≡ Ok (More, record d { ships = d.ships ++ s ∷ [] })
 unfolding read_line add_ship ship_words seven
 ship_line_back format d s fits room good new = by_class (s.cargo == 0) refl
   where
@@ -161,7 +162,7 @@ put_last k before good earlier =
 -- a close line from the closures that the chamber has
 abbrev after_name : ℕ → List Closure → List ℕ → List ℕ → Result (ℕ × Closure) Kind
 after_name place others from_word to_word = do
-  check (nat_lt (length others) 8) Range
+  check (nat_lt (length others) CLOSURES) Range
   from ← number 0 1000000 from_word
   to ← number 0 1000000 to_word
   check (is_free (record { from = from; to = to }) others) Overlap
@@ -170,7 +171,7 @@ after_name place others from_word to_word = do
 closure_back : (place : ℕ) (others : List Closure) (k : Closure) → AreClosures (others ++ k ∷ []) → after_name place others (decimal k.from) (decimal k.to) ≡ Ok (place, k)
 closure_back place others k are =
     let step = closures_at others k [] are in
-    let room : nat_lt (length others) 8 ≡ true = let few = step.0 in grind (arith, nat_tests) in
+    let room : nat_lt (length others) CLOSURES ≡ true = let few = step.0 in grind (arith, nat_tests) in
     let span = step.1.span in
     let limit = step.1.limit in
     rw (room, number_back 0 1000000 k.from (omega arith) (omega arith) (omega arith), number_back 0 1000000 k.to (omega arith) limit (omega arith), free_after k others step.1 step.2) refl

@@ -5,6 +5,7 @@ use Rattle.std.proofs.lemmas.List.Elements.{All-nil, All-cons, All-take, All-pus
 use Rattle.std.proofs.lemmas.List.Sums.{AllPass-from_list_all}
 use Rattle.std.proofs.lemmas.Bool.Decides.{nat_tests}
 use Rattle.std.proofs.lemmas.Fmt.{decimal_injective, length-decimal-le, decimal_by_steps}
+use Rattle.lock_model.specs.declared.limits.TheConstants.{CHAMBERS, SHIPS, SHIPS_AND_ROOT}
 use Rattle.lock_model.specs.Limits.{IsName, is_name_byte, is_between}
 use Rattle.lock_model.specs.Fleet.{no_chamber}
 use Rattle.lock_model.specs.Instance.{IsChamber, IsShip, IsInstance}
@@ -22,7 +23,7 @@ length-lot_chambers : length lot_chambers ≡ 4
 unfolding lot_chambers
 length-lot_chambers = refl
 
-pub one_more_chamber : (so_far new : List Chamber) (chamber : Chamber) (i : ℕ) → i < 4 → so_far ≡ take i lot_chambers → chamber ≡ get_or lot_chambers i no_chamber → new ≡ so_far ++ chamber ∷ [] → new ≡ take (i + 1) lot_chambers
+pub one_more_chamber : (so_far new : List Chamber) (chamber : Chamber) (i : ℕ) → i < CHAMBERS → so_far ≡ take i lot_chambers → chamber ≡ get_or lot_chambers i no_chamber → new ≡ so_far ++ chamber ∷ [] → new ≡ take (i + 1) lot_chambers
 one_more_chamber so_far new chamber i low is here next =
     let inside : i < length lot_chambers = omega (arith, length-lot_chambers) in
     next ∙ ap (λ xs. xs ++ chamber ∷ []) is ∙ ap (λ c. take i lot_chambers ++ c ∷ []) here ∙ sym (take_more lot_chambers i no_chamber inside)
@@ -116,7 +117,7 @@ name_digits i small = decimal_by_steps (λ m ds. All (λ b. is_name_byte b ≡ t
     (λ m ds high all. All-push (λ b. is_name_byte b ≡ true) ds (48 + m % 10) all (digit_in_name (48 + m % 10) (omega arith) (omega arith)))
     i small
 
-lot_ship_good : (i state arrival : ℕ) → i ≤ 24 → arrival ≤ 1000 → IsShip (lot_ship i state arrival)
+lot_ship_good : (i state arrival : ℕ) → i ≤ SHIPS → arrival ≤ SHIPS * 40 → IsShip (lot_ship i state arrival)
 unfolding lot_ship
 lot_ship_good i state arrival few early = record {
   name = record {
@@ -142,7 +143,7 @@ length-lot_ships : (n i state arrival : ℕ) → length (lot_ships n i state arr
 length-lot_ships zero i state arrival = refl
 length-lot_ships (suc n) i state arrival = ap suc (length-lot_ships n (i + 1) (after_draws 5 state) (lot_ship i state arrival).arrival)
 
-lot_ships_good : (n i state arrival : ℕ) → i + n ≤ 25 → arrival + 39 * n ≤ 1000 → All IsShip (lot_ships n i state arrival)
+lot_ships_good : (n i state arrival : ℕ) → i + n ≤ SHIPS_AND_ROOT → arrival + 39 * n ≤ SHIPS * 40 → All IsShip (lot_ships n i state arrival)
 lot_ships_good zero i state arrival few early = All-nil IsShip
 lot_ships_good (suc n) i state arrival few early =
     let later = lot_ship_arrival i state arrival in
@@ -151,21 +152,21 @@ lot_ships_good (suc n) i state arrival few early =
 abbrev ShipsDiffer : Ship → Ship → Type 0
 ShipsDiffer a b = a.name ≢ b.name
 
-later_names : (n i j state arrival : ℕ) (name : List ℕ) → name ≡ codes "s" ++ decimal j → j < i → i + n ≤ 25 → All (λ s. name ≢ s.name) (lot_ships n i state arrival)
+later_names : (n i j state arrival : ℕ) (name : List ℕ) → name ≡ codes "s" ++ decimal j → j < i → i + n ≤ SHIPS_AND_ROOT → All (λ s. name ≢ s.name) (lot_ships n i state arrival)
 later_names zero i j state arrival name is low few = All-nil (λ s. name ≢ s.name)
 later_names (suc n) i j state arrival name is low few =
     All-cons (λ s. name ≢ s.name) (lot_ship i state arrival) (lot_ships n (i + 1) (after_draws 5 state) (lot_ship i state arrival).arrival)
     (λ same. let number : j ≡ i = decimal_injective j i (omega arith) (omega arith) (append_cancel_left (codes "s") (decimal j) (decimal i) (sym is ∙ same ∙ lot_ship_name i state arrival)) in omega arith)
     (later_names n (i + 1) j (after_draws 5 state) (lot_ship i state arrival).arrival name is (omega arith) (omega arith))
 
-lot_ship_names : (n i state arrival : ℕ) → i + n ≤ 25 → AllPairs ShipsDiffer (lot_ships n i state arrival)
+lot_ship_names : (n i state arrival : ℕ) → i + n ≤ SHIPS_AND_ROOT → AllPairs ShipsDiffer (lot_ships n i state arrival)
 lot_ship_names zero i state arrival few = λ a b d lt low. absurd (omega arith)
 lot_ship_names (suc n) i state arrival few =
     AllPairs-cons ShipsDiffer (lot_ship i state arrival) (lot_ships n (i + 1) (after_draws 5 state) (lot_ship i state arrival).arrival)
     (later_names n (i + 1) i (after_draws 5 state) (lot_ship i state arrival).arrival (lot_ship i state arrival).name (lot_ship_name i state arrival) (omega arith) (omega arith))
     (lot_ship_names n (i + 1) (after_draws 5 state) (lot_ship i state arrival).arrival (omega arith))
 
-pub lot_limits : (number ships chambers : ℕ) → 1 ≤ ships → ships ≤ 24 → 1 ≤ chambers → chambers ≤ 4 → IsInstance (take chambers lot_chambers) (lot_ships ships 1 number 0)
+pub lot_limits : (number ships chambers : ℕ) → 1 ≤ ships → ships ≤ SHIPS → 1 ≤ chambers → chambers ≤ CHAMBERS → IsInstance (take chambers lot_chambers) (lot_ships ships 1 number 0)
 lot_limits number ships chambers some_ships few_ships some_chambers few_chambers =
     let c = length-take chambers lot_chambers in
     let four = length-lot_chambers in

@@ -1,5 +1,6 @@
 -- The line of a ship, read in parts.
 use Rattle.std.proofs.Common.{◌≡◌, ℕ, List, length, map, nat_lt, Result, Ok, Err, refl}
+use Rattle.lock_model.specs.declared.limits.TheConstants.{SHIPS}
 use Rattle.lock_model.specs.declared.ship.Ship.{Ship}
 use Rattle.instance_text.specs.declared.bad.Kind.{Kind}
 use Rattle.instance_text.specs.declared.bad.Kind.TheVariants.{Count, Range}
@@ -25,7 +26,7 @@ in_parts (Err fault) b c d m1 m2 m3 m4 e measures whole = refl
 abbrev pub ship_by_parts : Format → List Ship → List (List ℕ) → Result Ship Kind
 ship_by_parts format earlier words = do
   check (is_ship_count format (length words)) Count
-  check (nat_lt (length earlier) 24) Range
+  check (nat_lt (length earlier) SHIPS) Range
   name ← new_name (map (λ s. s.name) earlier) (word_at words 1)
   way ← way (word_at words 2)
   measures ← read_figures words
@@ -36,7 +37,7 @@ pub parts_read : (format : Format) (earlier : List Ship) (words : List (List ℕ
 unfolding read_ship read_figures
 parts_read format earlier words = in_parts
     (check (is_ship_count format (length words)) Count)
-    (check (nat_lt (length earlier) 24) Range)
+    (check (nat_lt (length earlier) SHIPS) Range)
     (new_name (map (λ s. s.name) earlier) (word_at words 1))
     (way (word_at words 2))
     (number 1 100000 (word_at words 3))

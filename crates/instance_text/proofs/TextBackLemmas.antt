@@ -7,6 +7,7 @@ use Rattle.std.proofs.lemmas.List.{append_assoc, append-nil, length_push, map-ap
 use Rattle.std.proofs.lemmas.List.Elements.{All-nil, All-cons, All-head, All-tail, All-push}
 use Rattle.std.proofs.lemmas.List.Sums.{AllPass-from_list_all}
 use Rattle.list_laws.proofs.Lists.{AllPairs-tail, AllPairs-head}
+use Rattle.lock_model.specs.declared.limits.TheConstants.{CHAMBERS, SHIPS}
 use Rattle.lock_model.specs.Limits.{IsName}
 use Rattle.lock_model.specs.Closures.{AreClosures}
 use Rattle.lock_model.specs.Instance.{IsChamber, IsShip}
@@ -59,7 +60,7 @@ new_ships names (s ∷ ss) good new pairs = (
 goes_on : (format : Format) (n : ℕ) (d next : Draft) (ws : List (List ℕ)) (more : List (List (List ℕ))) (r : Result Draft Bad) → read_line format d ws ≡ Ok (More, next) → read_body format (n + 1) next more ≡ r → read_body format n d (ws ∷ more) ≡ r
 goes_on format n d next ws more r step rest = rw step rest
 
-chambers_back : (format : Format) (n : ℕ) (d : Draft) (cs : List Chamber) (more : List (List (List ℕ))) (r : Result Draft Bad) → length d.chambers + length cs ≤ 4 → NewChambers (map (λ c. c.name) d.chambers) cs → ((m : ℕ) → read_body format m (record d { chambers = d.chambers ++ map bare cs }) more ≡ r) → read_body format n d (map chamber_words cs ++ more) ≡ r
+chambers_back : (format : Format) (n : ℕ) (d : Draft) (cs : List Chamber) (more : List (List (List ℕ))) (r : Result Draft Bad) → length d.chambers + length cs ≤ CHAMBERS → NewChambers (map (λ c. c.name) d.chambers) cs → ((m : ℕ) → read_body format m (record d { chambers = d.chambers ++ map bare cs }) more ≡ r) → read_body format n d (map chamber_words cs ++ more) ≡ r
 chambers_back format n d [] more r few new rest = subst (λ xs. read_body format n (record d { chambers = xs }) more ≡ r) (append-nil d.chambers) (rest n)
 chambers_back format n d (c ∷ cs) more r few new rest =
     let next : Draft = record d { chambers = d.chambers ++ bare c ∷ [] } in
@@ -70,7 +71,7 @@ chambers_back format n d (c ∷ cs) more r few new rest =
     (λ m. subst (λ xs. read_body format m (record d { chambers = xs }) more ≡ r) (sym (append_assoc d.chambers (bare c ∷ []) (map bare cs))) (rest m)))
 
 -- ships in a format that has room for their cargo
-ships_back : (format : Format) (n : ℕ) (d : Draft) (ss : List Ship) (more : List (List (List ℕ))) (r : Result Draft Bad) → All (λ s. (s.cargo == 0) ≡ false → format ≡ Second) ss → length d.ships + length ss ≤ 24 → NewShips (map (λ s. s.name) d.ships) ss → ((m : ℕ) → read_body format m (record d { ships = d.ships ++ ss }) more ≡ r) → read_body format n d (map ship_words ss ++ more) ≡ r
+ships_back : (format : Format) (n : ℕ) (d : Draft) (ss : List Ship) (more : List (List (List ℕ))) (r : Result Draft Bad) → All (λ s. (s.cargo == 0) ≡ false → format ≡ Second) ss → length d.ships + length ss ≤ SHIPS → NewShips (map (λ s. s.name) d.ships) ss → ((m : ℕ) → read_body format m (record d { ships = d.ships ++ ss }) more ≡ r) → read_body format n d (map ship_words ss ++ more) ≡ r
 ships_back format n d [] more r fits few new rest = subst (λ xs. read_body format n (record d { ships = xs }) more ≡ r) (append-nil d.ships) (rest n)
 ships_back format n d (s ∷ ss) more r fits few new rest =
     let next : Draft = record d { ships = d.ships ++ s ∷ [] } in

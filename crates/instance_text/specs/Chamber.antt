@@ -1,5 +1,6 @@
 -- The words of a chamber line.
 use Rattle.std.specs.Prelude.{ℕ, ◌≤◌, ◌==◌, List, [], length, map, nat_le, nat_lt, Result, Ok}
+use Rattle.lock_model.specs.declared.limits.TheConstants.{CHAMBERS, MOST}
 use Rattle.lock_model.specs.declared.chamber.Chamber.{Chamber}
 use Rattle.lock_model.specs.Limits.{Within}
 use Rattle.instance_text.specs.declared.bad.Kind.{Kind}
@@ -14,14 +15,14 @@ use Rattle.instance_text.specs.Words.{number, new_name, stand}
 unfoldable pub read_chamber : List Chamber → List (List ℕ) → Result Chamber Kind
 read_chamber earlier words = do
   check (length words == 12) Count
-  check (nat_lt (length earlier) 4) Range
+  check (nat_lt (length earlier) CHAMBERS) Range
   name ← new_name (map (λ c. c.name) earlier) (word_at words 1)
   length ← number 1 100000 (word_at words 2)
   width ← number 1 100000 (word_at words 3)
   end ← number 0 10000 (word_at words 4)
   gap ← number 0 10000 (word_at words 5)
   side ← number 0 10000 (word_at words 6)
-  most ← number 1 8 (word_at words 7)
+  most ← number 1 MOST (word_at words 7)
   pass ← number 1 1000000 (word_at words 8)
   turn ← number 0 1000000 (word_at words 9)
   stands ← stand (word_at words 10)
@@ -49,7 +50,7 @@ pub record AreDimensions (s : Dimensions) : Type 0 where
 -- the part `<most> <pass> <turn> <low|high> <opens>` of such a line
 unfoldable pub read_work : List (List ℕ) → Result Work Kind
 read_work words = do
-  most ← number 1 8 (word_at words 7)
+  most ← number 1 MOST (word_at words 7)
   pass ← number 1 1000000 (word_at words 8)
   turn ← number 0 1000000 (word_at words 9)
   stands ← stand (word_at words 10)
@@ -57,6 +58,6 @@ read_work words = do
   Ok (record { most = most; pass = pass; turn = turn; stands = stands; opens = opens })
 
 pub record IsWork (w : Work) : Type 0 where
-  pub most : Within 1 8 w.most
+  pub most : Within 1 MOST w.most
   pub pass : Within 1 1000000 w.pass
   pub opens : w.opens ≤ 1000000

@@ -3,6 +3,7 @@ use Rattle.std.specs.Prelude.{ℕ, ◌≡◌, ◌<◌, ◌==◌, ◌&&◌, not, 
 use Rattle.std.specs.Option.{ok_or}
 use Rattle.std.specs.List.{list_any, position_or_len}
 use Rattle.std.specs.Str.{bytes_eq}
+use Rattle.lock_model.specs.declared.limits.TheConstants.{CLOSURES}
 use Rattle.lock_model.specs.Closures.{IsClosure}
 use Rattle.lock_model.specs.Fleet.{no_chamber}
 use Rattle.lock_model.specs.declared.chamber.Chamber.{Chamber}
@@ -34,7 +35,7 @@ read_closing chambers words = do
   check (length words == 4) Count
   word ← name (word_at words 1)
   place ← chamber_named chambers word
-  check (nat_lt (length (closures_of chambers place)) 8) Range
+  check (nat_lt (length (closures_of chambers place)) CLOSURES) Range
   from ← number 0 1000000 (word_at words 2)
   to ← number 0 1000000 (word_at words 3)
   check (is_free (record { from = from; to = to }) (closures_of chambers place)) Overlap
@@ -45,7 +46,7 @@ unfoldable pub chamber_to_close : List Chamber → List ℕ → Result ℕ Kind
 chamber_to_close chambers word = do
   word ← name word
   place ← chamber_named chambers word
-  check (nat_lt (length (closures_of chambers place)) 8) Range
+  check (nat_lt (length (closures_of chambers place)) CLOSURES) Range
   Ok place
 
 -- the part `<from> <to>`: a closure that is free of the others of its chamber
@@ -59,7 +60,7 @@ read_minutes others words = do
 -- what such a line shows of a closure
 pub record CanClose (chambers : List Chamber) (place : ℕ) (closure : Closure) : Type 0 where
   pub known : place < length chambers
-  pub room : length (closures_of chambers place) < 8
+  pub room : length (closures_of chambers place) < CLOSURES
   pub good : IsClosure closure
   pub apart : list_any (share_a_minute closure) (closures_of chambers place) ≡ false
 

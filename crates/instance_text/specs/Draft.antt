@@ -1,5 +1,6 @@
 -- What has been read of an instance so far.
 use Rattle.std.specs.Prelude.{◌≢◌, ◌≤◌, List, [], length, All, AllPairs}
+use Rattle.lock_model.specs.declared.limits.TheConstants.{CHAMBERS, SHIPS}
 use Rattle.lock_model.specs.Instance.{IsChamber, IsShip}
 use Rattle.lock_model.specs.declared.chamber.Chamber.{Chamber}
 use Rattle.lock_model.specs.declared.instance.Instance.{Instance}
@@ -19,8 +20,8 @@ draft_of I = record { chambers = I.chambers; ships = I.ships }
 
 -- what an instance keeps, but for at least one chamber and one ship
 pub record IsDraft (chambers : List Chamber) (ships : List Ship) : Type 0 where
-  pub few_chambers : length chambers ≤ 4
-  pub few_ships : length ships ≤ 24
+  pub few_chambers : length chambers ≤ CHAMBERS
+  pub few_ships : length ships ≤ SHIPS
   pub chamber : All IsChamber chambers
   pub ship : All IsShip ships
   pub chamber_names : AllPairs (λ a b. a.name ≢ b.name) chambers

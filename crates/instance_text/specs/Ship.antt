@@ -1,5 +1,6 @@
 -- The words of a ship line.
 use Rattle.std.specs.Prelude.{ℕ, ◌≤◌, ◌==◌, ◌||◌, Bool, List, length, map, nat_lt, Result, Ok, if◌then◌else◌}
+use Rattle.lock_model.specs.declared.limits.TheConstants.{SHIPS}
 use Rattle.lock_model.specs.Limits.{Within}
 use Rattle.lock_model.specs.declared.ship.Ship.{Ship}
 use Rattle.instance_text.specs.declared.bad.Kind.{Kind}
@@ -24,7 +25,7 @@ cargo words = if length words == 8 then number 0 9 (word_at words 7) else Ok 0
 unfoldable pub read_ship : Format → List Ship → List (List ℕ) → Result Ship Kind
 read_ship format earlier words = do
   check (is_ship_count format (length words)) Count
-  check (nat_lt (length earlier) 24) Range
+  check (nat_lt (length earlier) SHIPS) Range
   name ← new_name (map (λ s. s.name) earlier) (word_at words 1)
   way ← way (word_at words 2)
   length ← number 1 100000 (word_at words 3)

@@ -9,7 +9,7 @@ use crate::name::new_chamber_name;
 use crate::numbers::number;
 use crate::side::stand;
 use line_text::{check, word_at};
-use lock_model::{Chamber, Closures, Stand};
+use lock_model::{CHAMBERS, Chamber, Closures, MOST, Stand};
 
 /// How large a chamber is, and what ships in it keep free.
 struct Dimensions {
@@ -57,7 +57,7 @@ fn read_work(words: &[&[u8]]) -> Result<Work, Kind>
     ensures value { result ≡ read_work (texts words.now) }
     ensures good { IfOk result IsWork }
 {
-    let most = number(word_at(words, 7), 1, 8)?;
+    let most = number(word_at(words, 7), 1, MOST as u32)?;
     let pass = number(word_at(words, 8), 1, 1_000_000)?;
     let turn = number(word_at(words, 9), 0, 1_000_000)?;
     let stands = stand(word_at(words, 10))?;
@@ -75,12 +75,12 @@ fn read_work(words: &[&[u8]]) -> Result<Work, Kind>
 /// `Count`, `Range` for a fifth chamber, that of a word from left to right, `TurnOverPass`.
 pub fn read_chamber(earlier: &[Chamber], words: &[&[u8]]) -> Result<Chamber, Kind>
     ensures value { result ≡ read_chamber earlier.now (texts words.now) }
-    ensures room { IfOk result (λ c. length earlier.now < 4) }
+    ensures room { IfOk result (λ c. length earlier.now < CHAMBERS) }
     ensures good { IfOk result IsChamber }
     ensures new { IfOk result (λ n. All (λ c. c.name ≢ n.name) earlier.now) }
 {
     check(words.len() == 12, Kind::Count)?;
-    check(earlier.len() < 4, Kind::Range)?;
+    check(earlier.len() < CHAMBERS, Kind::Range)?;
     let name = new_chamber_name(earlier, word_at(words, 1))?;
     let Dimensions {
         length,

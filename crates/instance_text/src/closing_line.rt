@@ -10,7 +10,7 @@ use crate::bad::Kind;
 use crate::name::name;
 use crate::numbers::number;
 use line_text::{check, word_at};
-use lock_model::{Chamber, Chambers, Closure, Closures};
+use lock_model::{CLOSURES, Chamber, Chambers, Closure, Closures};
 
 /// The number of the chamber of a name. Refuses with `Unknown` a name that none has.
 #[tactic(auto, unfolding(crate::specs::Closing::chamber_named))]
@@ -53,11 +53,14 @@ fn is_free(closure: Closure, others: &[Closure]) -> bool
 fn chamber_to_close(chambers: &[Chamber], word: &[u8]) -> Result<usize, Kind>
     ensures value { result ≡ chamber_to_close chambers.now word.now }
     ensures known { IfOk result (λ place. place < length chambers.now) }
-    ensures room { IfOk result (λ place. length (closures_of chambers.now place) < 8) }
+    ensures room { IfOk result (λ place. length (closures_of chambers.now place) < CLOSURES) }
 {
     name(word)?;
     let place = chamber_named(chambers, word)?;
-    check(chambers[place].closures.as_slice().len() < 8, Kind::Range)?;
+    check(
+        chambers[place].closures.as_slice().len() < CLOSURES,
+        Kind::Range,
+    )?;
     Ok(place)
 }
 
@@ -115,7 +118,7 @@ fn append(closures: &mut Closures, more: &[Closure])
 
 /// These closures and one more.
 fn put_closure(closure: Closure, others: &Closures) -> Closures
-    requires room { length others.now < 8 }
+    requires room { length others.now < CLOSURES }
     requires good { IsClosure closure }
     requires apart { list_any (share_a_minute closure) others.now ≡ false }
     ensures { result ≡ put_closure closure others.now }

@@ -4,7 +4,7 @@ ghost use Rattle.lock_model.specs.Instance.{IsChamber, IsShip};
 ghost use Rattle.instance_text.specs.Closing.{CanClose, with_closure};
 
 use crate::closing_line;
-use lock_model::{Chamber, Chambers, Closure, Instance, Ship, ShipList};
+use lock_model::{CHAMBERS, Chamber, Chambers, Closure, Instance, SHIPS, Ship, ShipList};
 use std::marker::Model;
 
 /// The chambers and ships of the lines so far. They are within the limits of an instance, but
@@ -58,7 +58,7 @@ impl Draft {
     /// Appends a chamber with a name of its own.
     #[tactic(auto, using(crate::proofs::DraftLemmas::one_more_chamber))]
     pub fn push_chamber(&mut self, chamber: Chamber)
-        requires room { length self.old.chambers < 4 }
+        requires room { length self.old.chambers < CHAMBERS }
         requires good { IsChamber chamber }
         requires new { All (λ c. c.name ≢ chamber.name) self.old.chambers }
         ensures { self.new ≡ record self.old { chambers = self.old.chambers ++ chamber ∷ [] } }
@@ -69,7 +69,7 @@ impl Draft {
     /// Appends a ship with a name of its own.
     #[tactic(auto, using(crate::proofs::DraftLemmas::one_more_ship))]
     pub fn push_ship(&mut self, ship: Ship)
-        requires room { length self.old.ships < 24 }
+        requires room { length self.old.ships < SHIPS }
         requires good { IsShip ship }
         requires new { All (λ s. s.name ≢ ship.name) self.old.ships }
         ensures { self.new ≡ record self.old { ships = self.old.ships ++ ship ∷ [] } }

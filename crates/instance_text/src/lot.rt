@@ -1,11 +1,13 @@
 //! Instances made from a number.
-ghost use Rattle.std.specs.Prelude.{◌≡◌, ◌+◌, ◌<◌, ◌≤◌, ◌++◌, [], length, take, codes, decimal, slice_index_or};
+ghost use Rattle.std.specs.Prelude.{◌≡◌, ◌+◌, ◌*◌, ◌<◌, ◌≤◌, ◌++◌, [], length, take, codes, decimal, slice_index_or};
 ghost use Rattle.lock_model.specs.Fleet.{no_chamber};
 ghost use Rattle.instance_text.specs.Lot.{next_state, after_draws, draw, lot_way, lot_ship, lot_ships, lot_chamber, lot_chambers};
 
 use crate::name::copy_name;
 use itoa::Buffer;
-use lock_model::{Chamber, Chambers, Closures, Instance, Name, Ship, ShipList, Stand, Way};
+use lock_model::{
+    CHAMBERS, Chamber, Chambers, Closures, Instance, Name, SHIPS, Ship, ShipList, Stand, Way,
+};
 
 /// The state from which numbers are drawn.
 #[derive(Drop)]
@@ -30,7 +32,7 @@ impl Draws {
 
 /// The name of ship `i`, from 1.
 fn ship_name(i: u8) -> Name
-    requires { i ≤ 24 }
+    requires { i ≤ SHIPS }
     ensures { result ≡ codes "s" ++ decimal i }
 {
     let mut buffer = Buffer::new();
@@ -53,8 +55,8 @@ fn way_of(draw: u32) -> Way
 /// Ship `i`, from 1, which arrives after the ship before it.
 #[tactic(auto, unfolding(crate::specs::Lot::lot_ship, crate::specs::Lot::draw))]
 fn draw_ship(draws: &mut Draws, i: u8, arrival: u32) -> Ship
-    requires number { i ≤ 24 }
-    requires early { arrival ≤ 1000 }
+    requires number { i ≤ SHIPS }
+    requires early { arrival ≤ SHIPS * 40 }
     ensures ship { result ≡ lot_ship i draws.old.state arrival }
     ensures later { result.arrival ≤ arrival + 39 }
     ensures state { draws.new.state ≡ after_draws 5 draws.old.state }
@@ -77,7 +79,7 @@ fn draw_ship(draws: &mut Draws, i: u8, arrival: u32) -> Ship
 
 /// The ships of a lot.
 fn lot_ships(number: u32, count: u8) -> ShipList
-    requires { count ≤ 24 }
+    requires { count ≤ SHIPS }
     ensures { result ≡ lot_ships count 1 number 0 }
 {
     let mut draws = Draws { state: number };
@@ -122,7 +124,7 @@ fn chamber(
 /// Chamber `i` of a lot, from 0.
 #[tactic(auto, unfolding(crate::specs::Lot::lot_chambers))]
 fn chamber_at(i: u8) -> Chamber
-    requires { i < 4 }
+    requires { i < CHAMBERS }
     ensures { result ≡ slice_index_or lot_chambers i no_chamber }
 {
     match i {
@@ -135,7 +137,7 @@ fn chamber_at(i: u8) -> Chamber
 
 /// The chambers of a lot.
 fn first_chambers(count: u8) -> Chambers
-    requires { count ≤ 4 }
+    requires { count ≤ CHAMBERS }
     ensures { result ≡ take count lot_chambers }
 {
     let mut chambers = Chambers::new();
@@ -145,14 +147,14 @@ fn first_chambers(count: u8) -> Chambers
     chambers
 }
 
-/// The instance that a number makes, of 1 to 24 ships and 1 to 4 chambers, without closures and
+/// The instance that a number makes, of 1 to `SHIPS` ships and 1 to `CHAMBERS` chambers, without closures and
 /// cargo. Takes no memory.
 #[tactic(auto, using(crate::proofs::LotLemmas::lot_limits))]
 pub fn make_lot(number: u32, ships: u8, chambers: u8) -> Instance
     requires some_ships { 1 ≤ ships }
-    requires few_ships { ships ≤ 24 }
+    requires few_ships { ships ≤ SHIPS }
     requires some_chambers { 1 ≤ chambers }
-    requires few_chambers { chambers ≤ 4 }
+    requires few_chambers { chambers ≤ CHAMBERS }
     ensures chambers { result.chambers ≡ take chambers lot_chambers }
     ensures ships { result.ships ≡ lot_ships ships 1 number 0 }
 {

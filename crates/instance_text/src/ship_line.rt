@@ -10,7 +10,7 @@ use crate::name::new_ship_name;
 use crate::numbers::number;
 use crate::side::way;
 use line_text::{check, word_at};
-use lock_model::Ship;
+use lock_model::{SHIPS, Ship};
 
 /// Whether a ship line of this format may have `count` words.
 fn is_ship_count(format: Format, count: usize) -> bool
@@ -66,12 +66,12 @@ fn read_figures(words: &[&[u8]]) -> Result<Figures, Kind>
 /// `Range` for a 25th ship, that of a word from left to right.
 pub fn read_ship(format: Format, earlier: &[Ship], words: &[&[u8]]) -> Result<Ship, Kind>
     ensures value { result ≡ read_ship format earlier.now (texts words.now) }
-    ensures room { IfOk result (λ s. length earlier.now < 24) }
+    ensures room { IfOk result (λ s. length earlier.now < SHIPS) }
     ensures good { IfOk result IsShip }
     ensures new { IfOk result (λ n. All (λ s. s.name ≢ n.name) earlier.now) }
 {
     check(is_ship_count(format, words.len()), Kind::Count)?;
-    check(earlier.len() < 24, Kind::Range)?;
+    check(earlier.len() < SHIPS, Kind::Range)?;
     let name = new_ship_name(earlier, word_at(words, 1))?;
     let way = way(word_at(words, 2))?;
     let Figures {

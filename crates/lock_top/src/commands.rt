@@ -8,8 +8,8 @@ ghost use Rattle.lock_top.specs.Asked.{HasNumbers};
 
 use command_words::{Command, WordsError, read_words};
 use dossier_commands::{check_answer, lower_answer};
-use lock_io::Source;
 use gates::Gate;
+use lock_io::Source;
 use plan_commands::{judge_answer, play_answer};
 use replan_command::replan_answer;
 use resume_command::resume_answer;

@@ -4,13 +4,13 @@ ghost use Rattle.near_plan.specs.Rows.{IsRow, IsDraft, row_at};
 
 use crate::lines::{group_of, line_without};
 use crate::row::Row;
-use lock_model::{Instance, Line};
+use lock_model::{CHAMBERS, Instance, Line};
 use std::mem;
 
 /// A row of groups for each of four chambers, of which an instance may have fewer.
 #[derive(Drop)]
 pub(crate) struct Draft {
-    rows: [Row; 4],
+    rows: [Row; CHAMBERS],
 }
 
 /// Where a ship stands: the chamber, and the number of the group in its line.
@@ -34,7 +34,7 @@ impl Draft {
 
     /// The row of a chamber.
     pub(crate) fn row(&self, chamber: u8) -> &Row
-        requires { chamber < 4 }
+        requires { chamber < CHAMBERS }
         ensures { result.now ≡ row_at self.now chamber }
     {
         &self.rows[chamber as usize]

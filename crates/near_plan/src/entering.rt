@@ -6,7 +6,7 @@ ghost use Rattle.near_plan.specs.Rows.{IsRow};
 use crate::lines::Place;
 use crate::row::Row;
 use flow_bounds::{Entered, flow_below, joined, opened};
-use lock_model::Instance;
+use lock_model::{Instance, SHIPS};
 
 // A ship joins group `i`, where the chamber serves both.
 #[inline]
@@ -37,7 +37,7 @@ fn open(instance: &Instance, chamber: u8, row: &Row, ship: u8, i: usize) -> Opti
     ensures { IfSome result (IsEntered instance.now chamber row.now.line row.now.walks.walks) }
 {
     let line = row.line().as_slice();
-    if line.len() >= 24 {
+    if line.len() >= SHIPS {
         return None;
     }
     Some(opened(instance, chamber, line, row.walks(), ship, i as u8))
@@ -78,7 +78,7 @@ pub(crate) fn is_too_late(
 ) -> bool
     requires chamber_in { chamber < length instance.now.chambers }
     requires ship_in { ship < length instance.now.ships }
-    requires place { i ≤ 24 }
+    requires place { i ≤ SHIPS }
 {
     let pass = instance.chambers.as_slice()[chamber as usize].pass as u64;
     let ship = &instance.ships.as_slice()[ship as usize];

@@ -6,7 +6,7 @@ use crate::draft::Draft;
 use crate::fitting::{Fitting, fits};
 use crate::row::Row;
 use crate::sets::without;
-use lock_model::{Group, Instance, Ships};
+use lock_model::{Group, Instance, MOST, SHIPS, Ships};
 use no_memory::NoMemory;
 use price_bound::LooseLines;
 
@@ -32,7 +32,7 @@ fn fitting_ships<F: Fitting>(
     ensures same { F.instance fitting.new ≡ instance.now }
 {
     let mut kept = ships;
-    for _ in 0..8 {
+    for _ in 0..MOST {
         if fits(instance, chamber, &kept, fitting)?.is_some() {
             return Ok(kept);
         }
@@ -61,7 +61,7 @@ fn keep_group<F: Fitting>(
     let kept = lacking(instance, draft, &group.ships);
     let ships = fitting_ships(instance, chamber, kept, fitting)?;
     let mut line = draft.row(chamber).line().copy();
-    if ships.len() > 0 && line.as_slice().len() < 24 {
+    if ships.len() > 0 && line.as_slice().len() < SHIPS {
         line.push(Group {
             way: group.way,
             ships,

@@ -2,7 +2,7 @@
 ghost use Rattle.std.specs.Prelude.{◌<◌, length};
 
 use crate::sets::{with, without};
-use lock_model::{Group, Instance, Line, Ships};
+use lock_model::{Group, Instance, Line, SHIPS, Ships};
 
 /// Where a ship may be put into a line.
 #[derive(Clone, Copy)]
@@ -33,7 +33,7 @@ pub(crate) fn line_with(line: &Line, place: Place, group: Group) -> Option<Line>
     let mut longer = line.copy();
     match place {
         Place::Into(i) if i < groups => longer.set(i, group),
-        Place::Before(i) if i <= groups && groups < 24 => longer.insert(i, group),
+        Place::Before(i) if i <= groups && groups < SHIPS => longer.insert(i, group),
         _ => return None,
     }
     Some(longer)
@@ -58,7 +58,7 @@ pub(crate) fn line_without(line: &Line, number: usize, ship: u8) -> Line {
         } else {
             group.ships.copy()
         };
-        if ships.len() > 0 && rest.as_slice().len() < 24 {
+        if ships.len() > 0 && rest.as_slice().len() < SHIPS {
             rest.push(Group {
                 way: group.way,
                 ships,

@@ -6,7 +6,7 @@ use crate::draft::Draft;
 use crate::fitting::{Fitting, fits};
 use crate::known::are_all_known;
 use chamber_times::{cost, earliest};
-use lock_model::{Group, Instance, Lockage, Lockages, Plan};
+use lock_model::{Group, Instance, Lockage, Lockages, Plan, SHIPS};
 use mooring_rules::judge_plan;
 use no_memory::NoMemory;
 
@@ -20,7 +20,7 @@ fn add_line<F: Fitting>(
 ) -> Result<bool, NoMemory>
     requires same { F.instance fitting.old ≡ instance.now }
     requires chamber_in { chamber < length instance.now.chambers }
-    requires few { length groups.now ≤ 24 }
+    requires few { length groups.now ≤ SHIPS }
     ensures same { F.instance fitting.new ≡ instance.now }
 {
     if !are_all_known(instance, chamber, groups) {
@@ -31,7 +31,7 @@ fn add_line<F: Fitting>(
         let spots = fits(instance, chamber, &group.ships, fitting)?;
         let (start, _) = times.as_slice()[place];
         match spots {
-            Some(spots) if lockages.as_slice().len() < 24 => lockages.push(Lockage {
+            Some(spots) if lockages.as_slice().len() < SHIPS => lockages.push(Lockage {
                 chamber,
                 way: group.way,
                 ships: group.ships.copy(),

@@ -4,7 +4,7 @@ ghost use Rattle.near_plan.specs.Rows.{IsRow};
 
 use crate::known::are_all_known;
 use flow_bounds::{LineWalks, walk_along};
-use lock_model::{Instance, Line};
+use lock_model::{Instance, Line, SHIPS};
 
 /// A line of groups, and the walk along it, kept at each of its groups.
 #[derive(Drop)]
@@ -73,7 +73,7 @@ impl Row {
     /// their number.
     #[inline]
     pub(crate) fn done(&self, i: usize) -> u64
-        requires { i ≤ 24 }
+        requires { i ≤ SHIPS }
     {
         self.walks.walks[i].done
     }

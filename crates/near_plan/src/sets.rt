@@ -1,17 +1,12 @@
 //! Ships with one more or one fewer.
 ghost use Rattle.std.specs.Prelude.{◌<◌};
 
-use lock_model::Ships;
+use lock_model::{MOST, SHIPS, Ships};
 
-// The greatest number of ships of an instance, and of a group.
-const SHIPS: u8 = 24;
-
-const MOST: usize = 8;
-
-/// These ships and one more, of which eight at most are kept.
+/// These ships and one more, of which `MOST` at most are kept.
 pub(crate) fn with(ships: &Ships, more: u8) -> Ships {
     let mut joined = Ships::new();
-    for ship in 0..SHIPS {
+    for ship in 0..SHIPS as u8 {
         let is_in = ship == more || ships.as_slice().contains(&ship);
         if is_in && joined.len() < MOST {
             joined.push(ship);
@@ -23,7 +18,7 @@ pub(crate) fn with(ships: &Ships, more: u8) -> Ships {
 /// These ships but one.
 pub(crate) fn without(ships: &Ships, gone: u8) -> Ships {
     let mut fewer = Ships::new();
-    for ship in 0..SHIPS {
+    for ship in 0..SHIPS as u8 {
         let is_in = ship != gone && ships.as_slice().contains(&ship);
         if is_in && fewer.len() < MOST {
             fewer.push(ship);

@@ -3,6 +3,7 @@ use Rattle.std.proofs.Common.{◌≡◌, ℕ, suc, ◌+◌, ◌<◌, ◌≤◌, 
 use Rattle.std.proofs.Math.ListN.{get_or-append}
 use Rattle.std.proofs.lemmas.Bool.Decides.{leb_tells, eqb_tells}
 use Rattle.std.proofs.lemmas.List.{get_or-append-add, length-append, get_or_default}
+use Rattle.lock_model.specs.declared.limits.TheConstants.{SHIPS}
 use Rattle.lock_model.specs.Fitting.{deck_of}
 use Rattle.lock_model.specs.declared.instance.Instance.{Instance}
 use Rattle.lock_model.specs.declared.group.Group.{Group}
@@ -67,7 +68,7 @@ moored_more I c line gs n old ms new g S T spots same here ships copied placed b
       ];
     })
 
-pub moored_room : (I : Instance) (c : ℕ) (line : List Group) (n : ℕ) (old new : List Mooring) → IsMooredUpTo I c line n old new → n < length line → length old + length line ≤ 24 → length new < 24
+pub moored_room : (I : Instance) (c : ℕ) (line : List Group) (n : ℕ) (old new : List Mooring) → IsMooredUpTo I c line n old new → n < length line → length old + length line ≤ SHIPS → length new < SHIPS
 moored_room I c line n old new moored here room = let count = moored.count in omega (arith, count, here, room)
 
 -- the lines of one chamber more
@@ -84,7 +85,7 @@ below_more I lines m ms new below moored = record {
   ];
 }
 
-pub below_room : (I : Instance) (k : ℕ) (lines : List (List Group)) (m : ℕ) (ms : List Mooring) → IsNode I k lines → k ≡ length I.ships → m < length I.chambers → AreMooredBelow I lines m ms → length ms + length (line_at lines m) ≤ 24
+pub below_room : (I : Instance) (k : ℕ) (lines : List (List Group)) (m : ℕ) (ms : List Mooring) → IsNode I k lines → k ≡ length I.ships → m < length I.chambers → AreMooredBelow I lines m ms → length ms + length (line_at lines m) ≤ SHIPS
 below_room I k lines m ms node whole inside below =
     let few = room_for I k lines node m inside in
     let count = below.count in

@@ -9,7 +9,7 @@ use crate::last::is_among;
 use berth_place::{BerthPlaced, place_by_berths};
 use chamber_place::shrink;
 use deck_cuts::Cut;
-use lock_model::{Instance, Ships, deck_of};
+use lock_model::{Instance, MOST, SHIPS, Ships, deck_of};
 use no_memory::NoMemory;
 use refute_rules::Refutation;
 use std::alloc::Global;
@@ -29,11 +29,6 @@ struct Part {
     refutation: Refutation,
 }
 
-// The greatest number of ships of an instance, and of a group.
-const SHIPS: u8 = 24;
-
-const MOST: usize = 8;
-
 // Appends a ship of these, unless it is the one that is left out.
 fn add_kept(ships: &Ships, gone: u8, ship: u8, fewer: &mut Ships)
     requires below { All (λ s. s < ship) fewer.old }
@@ -51,7 +46,7 @@ fn without(ships: &Ships, gone: u8) -> Ships
     ensures { All (Contains ships.now) result }
 {
     let mut fewer = Ships::new();
-    for ship in 0..SHIPS {
+    for ship in 0..SHIPS as u8 {
         add_kept(ships, gone, ship, &mut fewer);
     }
     fewer

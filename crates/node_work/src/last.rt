@@ -5,7 +5,7 @@ ghost use Rattle.master_branch.specs.Node.{IsNodeOf};
 ghost use Rattle.node_work.specs.Fates.{IsGroupAt};
 ghost use Rattle.node_work.specs.Last.{IsInGroup, IsLacked, IsLackedBelow};
 
-use lock_model::{Group, Instance};
+use lock_model::{Group, Instance, SHIPS};
 use master_branch::Node;
 
 /// Whether a ship is among these.
@@ -17,7 +17,7 @@ pub(crate) fn is_among(ship: u8, ships: &[u8]) -> bool
 
 // The place of the group of a line that this ship is in.
 fn place_in(line: &[Group], ship: u8) -> Option<u8>
-    requires { length line.now ≤ 24 }
+    requires { length line.now ≤ SHIPS }
     ensures some { IfSome result (IsInGroup line.now ship) }
     ensures none { IfNone result (IsLacked line.now ship (length line.now)) }
 {

@@ -8,7 +8,7 @@ ghost use Rattle.node_work.specs.Moorings.{AreMoored, spots_by};
 
 use crate::moorings::Moorings;
 use chamber_times::earliest;
-use lock_model::{Group, Instance, Lockage, Lockages, Plan};
+use lock_model::{Group, Instance, Lockage, Lockages, Plan, SHIPS};
 use master_branch::Node;
 
 // Appends the lockages of a chamber's line at the earliest.
@@ -21,7 +21,7 @@ fn append_line(
 )
     requires chamber_in { chamber < length instance.now.chambers }
     requires ships_in { All (λ g. All (λ s. s < length instance.now.ships) g.ships) line.now }
-    requires room { length lockages.old + length line.now ≤ 24 }
+    requires room { length lockages.old + length line.now ≤ SHIPS }
     ensures value { lockages.new ≡ lockages.old ++ lockages_on instance.now chamber (spots_by moorings.now chamber) line.now }
 {
     let times = earliest(instance, chamber, line);

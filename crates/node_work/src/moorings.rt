@@ -3,7 +3,7 @@ ghost use Rattle.std.specs.Prelude.{◌≡◌, ◌<◌, ◌≤◌, ◌&&◌, [],
 ghost use Rattle.node_work.specs.Moorings.{same_ships, spots_in};
 
 use arrayvec::ArrayVec;
-use lock_model::{Ships, Spots};
+use lock_model::{SHIPS, Ships, Spots};
 use std::marker::Model;
 
 /// The spots of ships that are served together by a chamber, one spot for each ship in the ships'
@@ -15,10 +15,10 @@ pub struct Mooring {
     pub spots: Spots,
 }
 
-/// Up to 24 moorings.
+/// Up to `SHIPS` moorings.
 #[derive(Drop)]
 pub struct Moorings {
-    items: ArrayVec<Mooring, 24>,
+    items: ArrayVec<Mooring, SHIPS>,
 }
 
 impl Model for Moorings {
@@ -45,14 +45,14 @@ impl Moorings {
     /// The moorings in order.
     pub fn as_slice(&self) -> &[Mooring]
         ensures value { result.now ≡ self.now }
-        ensures fits { length result.now ≤ 24 }
+        ensures fits { length result.now ≤ SHIPS }
     {
         self.items.as_slice()
     }
 
     /// Appends a mooring.
     pub fn push(&mut self, mooring: Mooring)
-        requires { length self.old < 24 }
+        requires { length self.old < SHIPS }
         ensures { self.new ≡ self.old ++ mooring ∷ [] }
     {
         self.items.push(mooring);

@@ -16,6 +16,7 @@ use crate::recalling::settle_known;
 use crate::search::Search;
 use crate::settling::Settled;
 use closing_rules::Ground;
+use lock_model::SHIPS;
 use master_branch::Node;
 use no_memory::NoMemory;
 use placed_groups::Memory;
@@ -40,7 +41,7 @@ fn moor_line<K: KnownCuts>(
 ) -> Result<Option<Fate>, NoMemory>
     requires node { IsNodeOf search.now.instance.now line.node.now }
     requires chamber_in { line.chamber < length search.now.instance.now.chambers }
-    requires room { length moorings.old + length (line_at line.node.now.lines line.chamber) ≤ 24 }
+    requires room { length moorings.old + length (line_at line.node.now.lines line.chamber) ≤ SHIPS }
     ensures stuck { IfOk result (λ found. IfSome found (IsAnyway (K.tells known.now search.now.instance.now) search.now.instance.now search.now.turns line.entry.node.now)) }
     ensures moored { IfOk result (λ found. IfNone found (IsMooredUpTo search.now.instance.now line.entry.chamber (line_at line.entry.node.now.lines line.entry.chamber) (length (line_at line.entry.node.now.lines line.entry.chamber)) moorings.old moorings.new)) }
 {

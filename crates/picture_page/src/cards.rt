@@ -16,7 +16,7 @@ use crate::waters::{drawn, put_feet, put_waters};
 use crate::words::{put_measures, put_metres};
 use crate::writing::put_writing;
 use instance_text::way_word;
-use lock_model::{Chamber, Instance, Lockage, Plan, Ship};
+use lock_model::{Chamber, Instance, Lockage, MOST, Plan, Ship};
 use no_memory::NoMemory;
 use plain_text::put;
 
@@ -157,7 +157,7 @@ fn put_deck_picture(
 /// Appends the letter, the name and the size of the ship at a place.
 #[tactic(auto, unfolding(crate::specs::Cards::list_ship))]
 fn put_list_ship(out: &mut Vec<u8>, ship: &Ship, place: u8) -> Result<(), NoMemory>
-    requires { place < 8 }
+    requires { place < MOST }
     ensures { OnOk result (out.new.items ≡ out.old.items ++ list_ship ship.now place) }
 {
     put_between(out, b"<tr><td>", &[b'A' + place], b"</td><td>")?;
@@ -177,7 +177,7 @@ fn put_list_row(
     place: u8,
 ) -> Result<(), NoMemory>
     requires known { All (λ s. s < length instance.now.ships) lockage.now.ships }
-    requires place_small { place < 8 }
+    requires place_small { place < MOST }
     ensures { OnOk result (out.new.items ≡ out.old.items ++ list_row instance.now lockage.now place) }
 {
     put_list_ship(out, ship_of(instance, lockage, place), place)?;

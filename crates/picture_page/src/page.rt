@@ -20,7 +20,7 @@ use crate::ticks::ticks_of;
 use crate::times::Clock;
 use crate::words::put_plural;
 use chamber_times::cost;
-use day_play::Beat;
+use day_play::{BEATS, Beat};
 use lock_model::{Instance, Plan};
 use no_memory::NoMemory;
 use std::alloc::Global;
@@ -117,7 +117,7 @@ pub fn print_picture(
 ) -> Result<Vec<u8>, NoMemory>
     requires legal { IsLegal instance.now plan.now }
     requires known { All (IsKnownGo plan.now) day.now }
-    requires few { length day.now ≤ 96 }
+    requires few { length day.now ≤ BEATS }
     ensures { IfOk result (λ page. page.items ≡ picture known clock instance.now plan.now day.now) }
 {
     let passages = passages_of(alloc, instance, plan, day)?;

@@ -7,7 +7,7 @@ ghost use Rattle.picture_page.specs.KnownPassages.{AreKnown};
 
 use crate::passage::Passage;
 use chamber_times::duration;
-use day_play::{Act, Beat};
+use day_play::{Act, BEATS, Beat};
 use lock_model::{Instance, Lockage, Plan};
 use std::alloc::{AllocError, Global};
 
@@ -119,7 +119,7 @@ pub(crate) fn passages_of(
 ) -> Result<Vec<Passage>, AllocError>
     requires legal { IsLegal instance.now plan.now }
     requires known { All (IsKnownGo plan.now) day.now }
-    requires few { length day.now ≤ 96 }
+    requires few { length day.now ≤ BEATS }
     ensures value { IfOk result (λ passages. passages.items ≡ passages_of instance.now plan.now day.now) }
     ensures known { IfOk result (λ passages. AreKnown instance.now plan.now passages.items) }
 {

@@ -7,7 +7,7 @@ use crate::form::put_form;
 use crate::hulls::{Hull, hull_of};
 use crate::scales::DeckScale;
 use crate::words::{metres_width, put_metres};
-use lock_model::{Instance, Lockage, Ship, Way};
+use lock_model::{Instance, Lockage, MOST, Ship, Way};
 use no_memory::NoMemory;
 use plain_text::put;
 
@@ -112,7 +112,7 @@ fn base_of(hull: &Hull) -> u64
 /// Appends the letter of a place.
 #[tactic(auto, unfolding(crate::specs::Writing::letter_text))]
 fn put_letter(out: &mut Vec<u8>, hull: &Hull, x: u64, place: u8) -> Result<(), NoMemory>
-    requires { place < 8 }
+    requires { place < MOST }
     ensures { OnOk result (out.new.items ≡ out.old.items ++ letter_text hull.now x place) }
 {
     put(out, font_of(hull))?;
@@ -128,7 +128,7 @@ fn put_letter(out: &mut Vec<u8>, hull: &Hull, x: u64, place: u8) -> Result<(), N
 /// Appends the letter of a place alone, in the middle of the room.
 #[tactic(auto, unfolding(crate::specs::Writing::letter_alone))]
 fn put_letter_alone(out: &mut Vec<u8>, hull: &Hull, room: &Room, place: u8) -> Result<(), NoMemory>
-    requires place_small { place < 8 }
+    requires place_small { place < MOST }
     requires from_small { room.now.from < 2 ^ 35 }
     requires to_small { room.now.to < 2 ^ 35 }
     ensures { OnOk result (out.new.items ≡ out.old.items ++ letter_alone hull.now room.now place) }
@@ -182,7 +182,7 @@ fn put_letter_name(
     room: &Room,
     place: u8,
 ) -> Result<(), NoMemory>
-    requires place_small { place < 8 }
+    requires place_small { place < MOST }
     requires from_small { room.now.from < 2 ^ 35 }
     ensures { OnOk result (out.new.items ≡ out.old.items ++ letter_name ship.now hull.now room.now place) }
 {
@@ -218,7 +218,7 @@ fn put_words(
     room: &Room,
     place: u8,
 ) -> Result<(), NoMemory>
-    requires place_small { place < 8 }
+    requires place_small { place < MOST }
     requires from_small { room.now.from < 2 ^ 35 }
     requires to_small { room.now.to < 2 ^ 35 }
     ensures { OnOk result (out.new.items ≡ out.old.items ++ words ship.now hull.now room.now place) }
@@ -242,7 +242,7 @@ fn put_writing_in(
     hull: &Hull,
     place: u8,
 ) -> Result<(), NoMemory>
-    requires { place < 8 }
+    requires { place < MOST }
     ensures { OnOk result (out.new.items ≡ out.old.items ++ writing_in way ship.now hull.now place) }
 {
     let room = room_in(way, hull);
@@ -261,7 +261,7 @@ fn put_writing_at(
     place: u8,
 ) -> Result<(), NoMemory>
     requires known { All (λ s. s < length instance.now.ships) lockage.now.ships }
-    requires place_small { place < 8 }
+    requires place_small { place < MOST }
     ensures { OnOk result (out.new.items ≡ out.old.items ++ writing_at scale.now instance.now lockage.now place) }
 {
     let ship = ship_of(instance, lockage, place);

@@ -5,7 +5,7 @@ ghost use Rattle.plan_print.specs.Words.{letter};
 ghost use Rattle.plan_print.specs.Drawing.{cell_length, cell_width, columns_of, rows_of, covers, ship_over, mark_of, cell_at, row_line, drawing};
 
 use crate::text::letter;
-use lock_model::{Deck, Size, Spot, Spots};
+use lock_model::{Deck, MOST, Size, Spot, Spots};
 use no_memory::NoMemory;
 use plain_text::put;
 
@@ -90,7 +90,7 @@ fn paint_ship(cells: &mut [u8], size: &Size, spot: &Spot, cell_length: u32, y: u
 /// The cells of the row at `y`, as many as a row can have. Ships are painted from the last to the
 /// first, so that the first stays on top.
 fn row_cells(sizes: &[Size], spots: &[Spot], cell_length: u32, y: u64) -> [u8; MOST_COLUMNS]
-    requires few { length sizes.now ≤ 8 }
+    requires few { length sizes.now ≤ MOST }
     requires count { length spots.now ≡ length sizes.now }
     requires positive { 0 < cell_length }
     ensures { (k : ℕ) → k < 200 → slice_index result k ≡ mark_of (ship_over sizes.now spots.now (k * cell_length) y) }

@@ -11,13 +11,13 @@ use crate::drawing::put_drawing;
 use crate::text::{letter, rank_word};
 use chamber_times::lockage_end;
 use instance_text::way_word;
-use lock_model::{Instance, Lockage, Moor, Ship, Spot, deck_of};
+use lock_model::{Instance, Lockage, MOST, Moor, Ship, Spot, deck_of};
 use no_memory::NoMemory;
 use plain_text::{put, put_number};
 
 /// Appends what a ship is moored to.
 fn put_moor(out: &mut Vec<u8>, moor: Moor) -> Result<(), NoMemory>
-    requires { (k : ℕ) → moor ≡ AtShip k → k < 8 }
+    requires { (k : ℕ) → moor ≡ AtShip k → k < MOST }
     ensures { OnOk result (out.new.items ≡ out.old.items ++ moor_words moor) }
 {
     match moor {
@@ -38,8 +38,8 @@ fn put_ship_line(
     spot: &Spot,
     end: u64,
 ) -> Result<(), NoMemory>
-    requires place { place < 8 }
-    requires host { (k : ℕ) → spot.now.moor ≡ AtShip k → k < 8 }
+    requires place { place < MOST }
+    requires host { (k : ℕ) → spot.now.moor ≡ AtShip k → k < MOST }
     requires arrived { ship.now.arrival ≤ end }
     ensures { OnOk result (out.new.items ≡ out.old.items ++ ship_line place ship.now spot.now end) }
 {

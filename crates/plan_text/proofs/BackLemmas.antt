@@ -5,6 +5,7 @@ use Rattle.std.proofs.lemmas.Bool.{ne_eqb}
 use Rattle.std.proofs.lemmas.Bool.Decides.{nat_tests}
 use Rattle.std.proofs.lemmas.List.{length_push}
 use Rattle.std.proofs.lemmas.List.Elements.{All-head, All-tail}
+use Rattle.lock_model.specs.declared.limits.TheConstants.{MOST, SHIPS}
 use Rattle.lock_model.specs.Ships.{RisesFrom}
 use Rattle.lock_model.specs.Fleet.{ship_at, chamber_at}
 use Rattle.lock_model.specs.declared.instance.Instance.{Instance}
@@ -65,27 +66,27 @@ lines_plain I ls good =
 
 -- ---- single lines
 
-read_head_back : (I : Instance) (count : ℕ) (l : Lockage) → count < 24 → IsWritable I l → read_head I count (head_words I l) ≡ Ok (head_of l)
+read_head_back : (I : Instance) (count : ℕ) (l : Lockage) → count < SHIPS → IsWritable I l → read_head I count (head_words I l) ≡ Ok (head_of l)
 unfolding read_head head_words
 read_head_back I count l room good =
-    let free : nat_lt count 24 ≡ true = grind (arith, nat_tests) in
+    let free : nat_lt count SHIPS ≡ true = grind (arith, nat_tests) in
     let start = good.start in
     rw (free, chamber_back I l.chamber good.chamber, way_back l.way, number_back 1000000000 l.start start (omega (arith, start))) refl
 
-read_berth_back : (I : Instance) (n : ℕ) (bs : List Berth) (ships : List ℕ) (s : ℕ) (p : Spot) → length bs < 8 → has_berth s bs ≡ false → s < length I.ships → All (λ s. s < length I.ships) ships → IsWritableSpot (length ships) p → read_berth I n bs (berth_words I ships s p) ≡ Ok (made_berth ships n s p)
+read_berth_back : (I : Instance) (n : ℕ) (bs : List Berth) (ships : List ℕ) (s : ℕ) (p : Spot) → length bs < MOST → has_berth s bs ≡ false → s < length I.ships → All (λ s. s < length I.ships) ships → IsWritableSpot (length ships) p → read_berth I n bs (berth_words I ships s p) ≡ Ok (made_berth ships n s p)
 unfolding read_berth new_ship berth_words
 read_berth_back I n bs ships s p room new ship known good =
-    let free : nat_lt (length bs) 8 ≡ true = grind (arith, nat_tests) in
+    let free : nat_lt (length bs) MOST ≡ true = grind (arith, nat_tests) in
     let x = good.x in
     let y = good.y in
     rw (free, ship_back I s ship, new, number_back 100000 p.x x (omega (arith, x)), number_back 100000 p.y y (omega (arith, y)), rank_back p.rank, host_back I ships p.moor known good.moor) refl
 
-berth_line_back : (I : Instance) (n : ℕ) (ls : List Lockage) (h : Head) (bs : List Berth) (ships : List ℕ) (s : ℕ) (p : Spot) → length bs < 8 → has_berth s bs ≡ false → s < length I.ships → All (λ s. s < length I.ships) ships → IsWritableSpot (length ships) p
+berth_line_back : (I : Instance) (n : ℕ) (ls : List Lockage) (h : Head) (bs : List Berth) (ships : List ℕ) (s : ℕ) (p : Spot) → length bs < MOST → has_berth s bs ≡ false → s < length I.ships → All (λ s. s < length I.ships) ships → IsWritableSpot (length ships) p
     → read_line I n (record { lockages = ls; head = Some h; berths = bs }) (berth_words I ships s p) ≡ Ok (More, record { lockages = ls; head = Some h; berths = bs ++ made_berth ships n s p ∷ [] })
 unfolding read_line add_berth berth_words
 berth_line_back I n ls h bs ships s p room new ship known good = rw (read_berth_back I n bs ships s p room new ship known good) refl
 
-head_line_back : (I : Instance) (n : ℕ) (d : Draft) (done : List Lockage) (l : Lockage) → close I d ≡ Ok (record { lockages = done; head = None; berths = [] }) → length done < 24 → IsWritable I l
+head_line_back : (I : Instance) (n : ℕ) (d : Draft) (done : List Lockage) (l : Lockage) → close I d ≡ Ok (record { lockages = done; head = None; berths = [] }) → length done < SHIPS → IsWritable I l
     → read_line I n d (head_words I l) ≡ Ok (More, record { lockages = done; head = Some (head_of l); berths = [] })
 unfolding read_line read_other add_lockage head_words
 head_line_back I n d done l whole room good = rw (whole, read_head_back I (length done) l room good) refl
@@ -115,7 +116,7 @@ still_new low bs b new from t later = pushed bs (new t (omega (arith, from, late
         by_test false rest h = rest h
 
 berths_back : (I : Instance) (n : ℕ) (ls : List Lockage) (h : Head) (bs : List Berth) (ships : List ℕ) (low : ℕ) (ss : List ℕ) (ps : List Spot) (more : List (List (List ℕ))) (r : Result (List Lockage) BadPlan)
-    → length ps ≡ length ss → length bs + length ss ≤ 8 → RisesFrom low ss → ((t : ℕ) → low ≤ t → has_berth t bs ≡ false) → All (λ s. s < length I.ships) ss → All (λ s. s < length I.ships) ships → All (IsWritableSpot (length ships)) ps
+    → length ps ≡ length ss → length bs + length ss ≤ MOST → RisesFrom low ss → ((t : ℕ) → low ≤ t → has_berth t bs ≡ false) → All (λ s. s < length I.ships) ss → All (λ s. s < length I.ships) ships → All (IsWritableSpot (length ships)) ps
     → ((m : ℕ) → read_body I m (record { lockages = ls; head = Some h; berths = bs ++ made ships (n + 1) ss ps }) more ≡ r)
     → read_body I n (record { lockages = ls; head = Some h; berths = bs }) (berths_of I ships ss ps ++ more) ≡ r
 berths_back I n ls h bs ships low [] [] more r count few rises new these known good rest = subst (λ xs. read_body I n (record { lockages = ls; head = Some h; berths = xs }) more ≡ r) (append-nil bs) (rest n)
@@ -123,7 +124,7 @@ berths_back I n ls h bs ships low [] (p ∷ ps) more r count few rises new these
 berths_back I n ls h bs ships low (s ∷ ss) [] more r count few rises new these known good rest = absurd (omega (arith, count))
 berths_back I n ls h bs ships low (s ∷ ss) (p ∷ ps) more r count few rises new these known good rest =
     let b : Berth = made_berth ships (n + 1) s p in
-    let room : length bs < 8 = omega (arith, few) in
+    let room : length bs < MOST = omega (arith, few) in
     goes_on I n (record { lockages = ls; head = Some h; berths = bs }) (record { lockages = ls; head = Some h; berths = bs ++ b ∷ [] }) (berth_words I ships s p) (berths_of I ships ss ps ++ more) r
     (berth_line_back I (n + 1) ls h bs ships s p room (new s rises.0) (All-head (λ s. s < length I.ships) s ss these) known (All-head (IsWritableSpot (length ships)) p ps good))
     (berths_back I (n + 1) ls h (bs ++ b ∷ []) ships (suc s) ss ps more r (omega (arith, count)) (let longer = length_push bs b in omega (arith, few, longer)) rises.1 (still_new low bs b new rises.0)
@@ -139,14 +140,14 @@ next_lines : (I : Instance) (l : Lockage) (ls : List Lockage) → flat_map (lock
 unfolding lockage_lines
 next_lines I l ls = append_assoc (lockage_lines I l) (flat_map (lockage_lines I) ls) ((codes "end" ∷ []) ∷ [] ∷ [])
 
-lockages_back : (I : Instance) (n : ℕ) (d : Draft) (done ls : List Lockage) → close I d ≡ Ok (record { lockages = done; head = None; berths = [] }) → length done + length ls ≤ 24 → All (IsWritable I) ls
+lockages_back : (I : Instance) (n : ℕ) (d : Draft) (done ls : List Lockage) → close I d ≡ Ok (record { lockages = done; head = None; berths = [] }) → length done + length ls ≤ SHIPS → All (IsWritable I) ls
     → read_body I n d (flat_map (lockage_lines I) ls ++ (codes "end" ∷ []) ∷ [] ∷ []) ≡ Ok (done ++ ls)
 lockages_back I n d done [] whole few good = rw (end_line_back I (n + 1) d done whole) (ap Ok (sym (append-nil done)))
 lockages_back I n d done (l ∷ ls) whole few good =
     let own = All-head (IsWritable I) l ls good in
     let end : List (List (List ℕ)) = (codes "end" ∷ []) ∷ [] ∷ [] in
     let more : List (List (List ℕ)) = flat_map (lockage_lines I) ls ++ end in
-    let room : length done < 24 = omega (arith, few) in
+    let room : length done < SHIPS = omega (arith, few) in
     let small = own.few in
     subst (λ xs. read_body I n d xs ≡ Ok (done ++ l ∷ ls)) (sym (next_lines I l ls))
     (goes_on I n d (record { lockages = done; head = Some (head_of l); berths = [] }) (head_words I l) (berths_of I l.ships l.ships l.spots ++ more) (Ok (done ++ l ∷ ls))
@@ -155,7 +156,7 @@ lockages_back I n d done (l ∷ ls) whole few good =
     (λ m. subst (λ xs. read_body I m (record { lockages = done; head = Some (head_of l); berths = made l.ships (n + 1 + 1) l.ships l.spots }) more ≡ Ok xs) (append_assoc done (l ∷ []) ls)
     (lockages_back I m (record { lockages = done; head = Some (head_of l); berths = made l.ships (n + 1 + 1) l.ships l.spots }) (done ++ l ∷ []) ls (close_back I done l (n + 1 + 1) own) (let longer = length_push done l in omega (arith, few, longer)) (All-tail (IsWritable I) l ls good)))))
 
-lines_back : (I : Instance) (ls : List Lockage) → length ls ≤ 24 → All (IsWritable I) ls → read_lines I 0 (plan_lines I ls ++ [] ∷ []) ≡ Ok ls
+lines_back : (I : Instance) (ls : List Lockage) → length ls ≤ SHIPS → All (IsWritable I) ls → read_lines I 0 (plan_lines I ls ++ [] ∷ []) ≡ Ok ls
 unfolding plan_lines is_only close
 lines_back I ls few good =
     ap (λ xs. read_body I 1 no_draft xs) (append_assoc (flat_map (lockage_lines I) ls) ((codes "end" ∷ []) ∷ []) ([] ∷ []))

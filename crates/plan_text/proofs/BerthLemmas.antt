@@ -3,6 +3,7 @@ use Rattle.std.proofs.Common.{◌≡◌, ℕ, zero, suc, ◌+◌, ◌<◌, ◌�
 use Rattle.std.proofs.lemmas.Bool.{ne_eqb, eqb-true}
 use Rattle.std.proofs.lemmas.List.{length-append}
 use Rattle.std.proofs.lemmas.List.Elements.{All-filter, filter-append}
+use Rattle.lock_model.specs.declared.limits.TheConstants.{MOST}
 use Rattle.lock_rules.specs.Arrival.{numbers_from}
 use Rattle.lock_rules.proofs.LineLemmas.{numbers-below, numbers_more}
 use Rattle.plan_text.specs.declared.berth.Berth.{Berth}
@@ -55,7 +56,7 @@ next_ships bs ships new n is more =
     more ∙ ap (λ xs. xs ++ filter has (n ∷ [])) is ∙ sym (filter-append has (numbers_from 0 n) (n ∷ [])) ∙ ap (λ k. filter has (numbers_from 0 n ++ k ∷ [])) (sym here) ∙ ap (filter has) (sym (numbers_more 0 n))
 
 -- there is room for a ship that has a berth
-pub room_for_ship : (bs : List Berth) (ships : List ℕ) (n : ℕ) → length bs ≤ 8 → ships ≡ filter (λ s. has_berth s bs) (numbers_from 0 n) → has_berth n bs ≡ true → length ships < 8
+pub room_for_ship : (bs : List Berth) (ships : List ℕ) (n : ℕ) → length bs ≤ MOST → ships ≡ filter (λ s. has_berth s bs) (numbers_from 0 n) → has_berth n bs ≡ true → length ships < MOST
 room_for_ship bs ships n few is berthed =
     let one_more : filter (λ s. has_berth s bs) (numbers_from 0 (n + 1)) ≡ ships ++ n ∷ [] =
     sym (next_ships bs ships (ships ++ filter (λ s. has_berth s bs) (n ∷ [])) n is refl) ∙ ap (λ b. ships ++ cond b (n ∷ []) []) berthed in

@@ -7,6 +7,7 @@ use Rattle.std.proofs.lemmas.Bool.{eqb-true, false≢true}
 use Rattle.std.proofs.lemmas.Bool.Decides.{nat_tests}
 use Rattle.std.proofs.lemmas.List.{length_push, length-map}
 use Rattle.std.proofs.lemmas.List.Elements.{All-head, All-tail, All-nil, All-cons, All-push, filter_passes}
+use Rattle.lock_model.specs.declared.limits.TheConstants.{MOST, SHIPS}
 use Rattle.lock_model.specs.Limits.{is_between}
 use Rattle.lock_model.specs.declared.instance.Instance.{Instance}
 use Rattle.lock_model.specs.declared.placement.Rank.{Rank}
@@ -97,16 +98,16 @@ module _ (I : Instance) where
     x : b.x ≤ 100000
     y : b.y ≤ 100000
 
-  head_good : (count : ℕ) (ws : List (List ℕ)) → IfOk (read_head I count ws) (λ h. IsGoodHead h × (count < 24))
+  head_good : (count : ℕ) (ws : List (List ℕ)) → IfOk (read_head I count ws) (λ h. IsGoodHead h × (count < SHIPS))
   unfolding read_head
   head_good count ws =
-      steps (length ws == 4) (nat_lt count 24) (chamber_named I.chambers (word_at ws 1)) (way (word_at ws 2)) (number 1000000000 (word_at ws 3)) room (chamber_known (word_at ws 1)) (number_within 1000000000 (word_at ws 3))
+      steps (length ws == 4) (nat_lt count SHIPS) (chamber_named I.chambers (word_at ws 1)) (way (word_at ws 2)) (number 1000000000 (word_at ws 3)) room (chamber_known (word_at ws 1)) (number_within 1000000000 (word_at ws 3))
     where
-      room : nat_lt count 24 ≡ true → count < 24
+      room : nat_lt count SHIPS ≡ true → count < SHIPS
       room free = grind (arith, nat_tests)
 
-      steps : (counted free : Bool) (c : Result ℕ PlanKind) (w : Result Way PlanKind) (s : Result ℕ PlanKind) → (free ≡ true → count < 24) → IfOk c (λ c. c < length I.chambers) → IfOk s (λ n. n ≤ 1000000000)
-          → IfOk (check counted Count >> (check free Range >> (c >>= λ chamber. w >>= λ way. s >>= λ start. Ok (record { chamber = chamber; way = way; start = start })))) (λ h. IsGoodHead h × (count < 24))
+      steps : (counted free : Bool) (c : Result ℕ PlanKind) (w : Result Way PlanKind) (s : Result ℕ PlanKind) → (free ≡ true → count < SHIPS) → IfOk c (λ c. c < length I.chambers) → IfOk s (λ n. n ≤ 1000000000)
+          → IfOk (check counted Count >> (check free Range >> (c >>= λ chamber. w >>= λ way. s >>= λ start. Ok (record { chamber = chamber; way = way; start = start })))) (λ h. IsGoodHead h × (count < SHIPS))
       steps true true (Ok c) (Ok w) (Ok s) room known low = (record { chamber = known; start = low }, room refl)
       steps true true (Ok c) (Ok w) (Err e) room known low = tt
       steps true true (Ok c) (Err e) s room known low = tt
@@ -126,16 +127,16 @@ module _ (I : Instance) where
       steps (Ok s) known = no_second (not (has_berth s bs)) s known
       steps (Err e) known = tt
 
-  berth_good : (n : ℕ) (bs : List Berth) (ws : List (List ℕ)) → IfOk (read_berth I n bs ws) (λ b. IsGoodBerth b × (length bs < 8))
+  berth_good : (n : ℕ) (bs : List Berth) (ws : List (List ℕ)) → IfOk (read_berth I n bs ws) (λ b. IsGoodBerth b × (length bs < MOST))
   unfolding read_berth
   berth_good n bs ws =
-      steps (length ws == 6) (nat_lt (length bs) 8) (new_ship I bs (word_at ws 1)) (number 100000 (word_at ws 2)) (number 100000 (word_at ws 3)) (rank (word_at ws 4)) (host I.ships (word_at ws 5)) room (new_ship_good bs (word_at ws 1)) (number_within 100000 (word_at ws 2)) (number_within 100000 (word_at ws 3))
+      steps (length ws == 6) (nat_lt (length bs) MOST) (new_ship I bs (word_at ws 1)) (number 100000 (word_at ws 2)) (number 100000 (word_at ws 3)) (rank (word_at ws 4)) (host I.ships (word_at ws 5)) room (new_ship_good bs (word_at ws 1)) (number_within 100000 (word_at ws 2)) (number_within 100000 (word_at ws 3))
     where
-      room : nat_lt (length bs) 8 ≡ true → length bs < 8
+      room : nat_lt (length bs) MOST ≡ true → length bs < MOST
       room free = grind (arith, nat_tests)
 
-      steps : (counted free : Bool) (s x y : Result ℕ PlanKind) (r : Result Rank PlanKind) (h : Result Host PlanKind) → (free ≡ true → length bs < 8) → IfOk s (λ s. s < length I.ships) → IfOk x (λ n. n ≤ 100000) → IfOk y (λ n. n ≤ 100000)
-          → IfOk (check counted Count >> (check free Range >> (s >>= λ ship. x >>= λ x. y >>= λ y. r >>= λ rank. h >>= λ host. Ok (record { line = n; ship = ship; x = x; y = y; rank = rank; host = host })))) (λ b. IsGoodBerth b × (length bs < 8))
+      steps : (counted free : Bool) (s x y : Result ℕ PlanKind) (r : Result Rank PlanKind) (h : Result Host PlanKind) → (free ≡ true → length bs < MOST) → IfOk s (λ s. s < length I.ships) → IfOk x (λ n. n ≤ 100000) → IfOk y (λ n. n ≤ 100000)
+          → IfOk (check counted Count >> (check free Range >> (s >>= λ ship. x >>= λ x. y >>= λ y. r >>= λ rank. h >>= λ host. Ok (record { line = n; ship = ship; x = x; y = y; rank = rank; host = host })))) (λ b. IsGoodBerth b × (length bs < MOST))
       steps true true (Ok s) (Ok x) (Ok y) (Ok r) (Ok h) room known x_low y_low = (record { ship = known; x = x_low; y = y_low }, room refl)
       steps true true (Ok s) (Ok x) (Ok y) (Ok r) (Err e) room known x_low y_low = tt
       steps true true (Ok s) (Ok x) (Ok y) (Err e) h room known x_low y_low = tt
@@ -205,7 +206,7 @@ module _ (I : Instance) where
   map_all f P Q [] each all = All-nil Q
   map_all f P Q (x ∷ xs) each all = All-cons Q (f x) (map f xs) (each x (All-head P x xs all)) (map_all f P Q xs each (All-tail P x xs all))
 
-  lockage_good : (h : Head) (bs : List Berth) → IsGoodHead h → length bs ≤ 8 → All IsGoodBerth bs → All (λ b. is_hosted_by bs b.host ≡ true) bs → IsWritable I (lockage_of I h bs)
+  lockage_good : (h : Head) (bs : List Berth) → IsGoodHead h → length bs ≤ MOST → All IsGoodBerth bs → All (λ b. is_hosted_by bs b.host ≡ true) bs → IsWritable I (lockage_of I h bs)
   unfolding lockage_of
   lockage_good h bs head few good hosted = record {
     chamber = head.chamber;
@@ -222,17 +223,17 @@ module _ (I : Instance) where
   -- ---- drafts
 
   record IsGood (d : Draft) : Type 0 where
-    few : length d.lockages ≤ 24
+    few : length d.lockages ≤ SHIPS
     each : All (IsWritable I) d.lockages
-    head : IfSome d.head (λ h. IsGoodHead h × (length d.lockages < 24))
-    berths : length d.berths ≤ 8
+    head : IfSome d.head (λ h. IsGoodHead h × (length d.lockages < SHIPS))
+    berths : length d.berths ≤ MOST
     good : All IsGoodBerth d.berths
 
   close_good : (d : Draft) → IsGood d → IfOk (close I d) IsGood
   unfolding close
   close_good d is = by_head d.head is.head refl
     where
-      by_head : (head : Option Head) → IfSome head (λ h. IsGoodHead h × (length d.lockages < 24)) → head ≡ d.head → IfOk (close_by I d head) IsGood
+      by_head : (head : Option Head) → IfSome head (λ h. IsGoodHead h × (length d.lockages < SHIPS)) → head ≡ d.head → IfOk (close_by I d head) IsGood
       by_head None good same = is
       by_head (Some h) good same =
           after (check_hosts d.berths d.berths) (Ok (record { lockages = d.lockages ++ lockage_of I h d.berths ∷ []; head = None; berths = [] })) (λ _. All (λ b. is_hosted_by d.berths b.host ≡ true) d.berths) IsGood (hosts_good d.berths d.berths) (λ _ hosted. record {
@@ -248,7 +249,7 @@ module _ (I : Instance) where
   add_berth_good n d ws is =
       steps (is_some d.head) (read_berth I n d.berths ws) (berth_good n d.berths ws)
     where
-      more : (b : Berth) → IsGoodBerth b × (length d.berths < 8) → IsGood (record d { berths = d.berths ++ b ∷ [] })
+      more : (b : Berth) → IsGoodBerth b × (length d.berths < MOST) → IsGood (record d { berths = d.berths ++ b ∷ [] })
       more b own = record {
         few = is.few;
         each = is.each;
@@ -257,7 +258,7 @@ module _ (I : Instance) where
         good = All-push IsGoodBerth d.berths b is.good own.0;
       }
 
-      steps : (begun : Bool) (r : Result Berth PlanKind) → IfOk r (λ b. IsGoodBerth b × (length d.berths < 8)) → IfOk {T = Progress × Draft} (check begun Loose >> (r >>= λ berth. Ok (More, record d { berths = d.berths ++ berth ∷ [] }))) (λ r. IsGood r.1)
+      steps : (begun : Bool) (r : Result Berth PlanKind) → IfOk r (λ b. IsGoodBerth b × (length d.berths < MOST)) → IfOk {T = Progress × Draft} (check begun Loose >> (r >>= λ berth. Ok (More, record d { berths = d.berths ++ berth ∷ [] }))) (λ r. IsGood r.1)
       steps true (Ok b) own = more b own
       steps true (Err e) own = tt
       steps false r own = tt
@@ -267,7 +268,7 @@ module _ (I : Instance) where
   add_lockage_good d ws is =
       steps (read_head I (length d.lockages) ws) (head_good (length d.lockages) ws)
     where
-      steps : (r : Result Head PlanKind) → IfOk r (λ h. IsGoodHead h × (length d.lockages < 24)) → IfOk {T = Progress × Draft} (r >>= λ head. Ok (More, record { lockages = d.lockages; head = Some head; berths = [] })) (λ r. IsGood r.1)
+      steps : (r : Result Head PlanKind) → IfOk r (λ h. IsGoodHead h × (length d.lockages < SHIPS)) → IfOk {T = Progress × Draft} (r >>= λ head. Ok (More, record { lockages = d.lockages; head = Some head; berths = [] })) (λ r. IsGood r.1)
       steps (Ok h) own = record { few = is.few; each = is.each; head = own; berths = omega arith; good = All-nil IsGoodBerth }
       steps (Err e) own = tt
 
@@ -296,7 +297,7 @@ module _ (I : Instance) where
   -- ---- the whole text
 
   abbrev AreGood : List Lockage → Type 0
-  AreGood ls = (length ls ≤ 24) × All (IsWritable I) ls
+  AreGood ls = (length ls ≤ SHIPS) × All (IsWritable I) ls
 
   read_rest_good : (n : ℕ) (ls : List Lockage) (lines : List (List (List ℕ))) → AreGood ls → IfOk (read_rest n ls lines) AreGood
   read_rest_good n ls lines good = by_rest (first_words n lines)

@@ -1,5 +1,6 @@
 -- What has been read of a plan so far.
 use Rattle.std.specs.Prelude.{◌<◌, ◌++◌, List, [], ◌∷◌, length, Option, None, Some, IfSome, Result, Ok}
+use Rattle.lock_model.specs.declared.limits.TheConstants.{SHIPS}
 use Rattle.lock_model.specs.declared.instance.Instance.{Instance}
 use Rattle.lock_model.specs.declared.plan.Lockage.{Lockage}
 use Rattle.line_text.specs.Steps.{◌>>◌}
@@ -19,7 +20,7 @@ no_draft = record { lockages = []; head = None; berths = [] }
 
 -- there is room for the lockage that isn't whole
 pub record IsDraft (lockages : List Lockage) (head : Option Head) : Type 0 where
-  pub room : IfSome head (λ h. length lockages < 24)
+  pub room : IfSome head (λ h. length lockages < SHIPS)
 
 -- the lockage of this line, if any, has got its last berth
 abbrev pub close_by : Instance → Draft → Option Head → Result Draft BadPlan

@@ -2,6 +2,7 @@
 use Rattle.std.specs.Prelude.{ℕ, ◌==◌, not, List, [], ◌∷◌, ◌++◌, length, nat_lt, Some, Result, Ok, Err, codes, if◌then◌else◌}
 use Rattle.std.specs.Option.{is_some}
 use Rattle.std.specs.Str.{bytes_eq}
+use Rattle.lock_model.specs.declared.limits.TheConstants.{MOST, SHIPS}
 use Rattle.lock_model.specs.declared.instance.Instance.{Instance}
 use Rattle.line_text.specs.Steps.{◌>>=◌, ◌>>◌}
 use Rattle.line_text.specs.Lines.{word_at}
@@ -22,7 +23,7 @@ use Rattle.plan_text.specs.Draft.{Draft, close}
 unfoldable pub read_head : Instance → ℕ → List (List ℕ) → Result Head PlanKind
 read_head I count words = do
   check (length words == 4) Count
-  check (nat_lt count 24) Range
+  check (nat_lt count SHIPS) Range
   chamber ← chamber_named I.chambers (word_at words 1)
   way ← way (word_at words 2)
   start ← number 1000000000 (word_at words 3)
@@ -39,7 +40,7 @@ new_ship I berths word = do
 unfoldable pub read_berth : Instance → ℕ → List Berth → List (List ℕ) → Result Berth PlanKind
 read_berth I n berths words = do
   check (length words == 6) Count
-  check (nat_lt (length berths) 8) Range
+  check (nat_lt (length berths) MOST) Range
   ship ← new_ship I berths (word_at words 1)
   x ← number 100000 (word_at words 2)
   y ← number 100000 (word_at words 3)

@@ -1,6 +1,7 @@
 -- The plans that some plan text names.
 use Rattle.std.specs.Prelude.{ℕ, ◌≡◌, ◌≤◌, ◌<◌, ⊤, length, All}
 use Rattle.std.specs.List.Sorted.{IsStrictlyIncreasing}
+use Rattle.lock_model.specs.declared.limits.TheConstants.{MOST, SHIPS}
 use Rattle.lock_model.specs.declared.instance.Instance.{Instance}
 use Rattle.lock_model.specs.declared.placement.Moor.{Moor}
 use Rattle.lock_model.specs.declared.placement.Moor.TheVariants.{Quay, Ship}
@@ -23,13 +24,13 @@ pub record IsWritableSpot (count : ℕ) (p : Spot) : Type 0 where
 pub record IsWritable (I : Instance) (l : Lockage) : Type 0 where
   pub chamber : l.chamber < length I.chambers
   pub start : l.start ≤ 1000000000
-  pub few : length l.ships ≤ 8
+  pub few : length l.ships ≤ MOST
   pub known : All (λ s. s < length I.ships) l.ships
   pub rising : IsStrictlyIncreasing l.ships
   pub count : length l.spots ≡ length l.ships
   pub spots : All (IsWritableSpot (length l.ships)) l.spots
 
--- at most 24 of them
+-- at most SHIPS of them
 pub record AreWritable (I : Instance) (P : Plan) : Type 0 where
-  pub few : length P.lockages ≤ 24
+  pub few : length P.lockages ≤ SHIPS
   pub each : All (IsWritable I) P.lockages

@@ -2,7 +2,7 @@
 ghost use Rattle.std.specs.Prelude.{◌≡◌, ◌<◌, ◌≤◌, [], ◌∷◌, ◌++◌, length};
 
 use arrayvec::ArrayVec;
-use lock_model::{Rank, Way};
+use lock_model::{MOST, Rank, Way};
 use std::marker::Model;
 
 /// What a lockage line says: the chamber by its number, and the minute of the start.
@@ -36,7 +36,7 @@ pub struct Berth {
 /// Up to eight berths in the order of their lines.
 #[derive(Drop)]
 pub struct Berths {
-    items: ArrayVec<Berth, 8>,
+    items: ArrayVec<Berth, MOST>,
 }
 
 impl Model for Berths {
@@ -63,14 +63,14 @@ impl Berths {
     /// The berths in order.
     pub fn as_slice(&self) -> &[Berth]
         ensures value { result.now ≡ self.now }
-        ensures fits { length result.now ≤ 8 }
+        ensures fits { length result.now ≤ MOST }
     {
         self.items.as_slice()
     }
 
     /// Appends a berth.
     pub fn push(&mut self, berth: Berth)
-        requires { length self.old < 8 }
+        requires { length self.old < MOST }
         ensures { self.new ≡ self.old ++ berth ∷ [] }
     {
         self.items.push(berth);

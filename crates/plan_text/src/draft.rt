@@ -8,7 +8,7 @@ use crate::berth::{Berth, Berths, Head};
 use crate::kinds::BadPlan;
 use crate::lockages::lockage_of;
 use crate::moorings::check_hosts;
-use lock_model::{Instance, Lockages, Plan};
+use lock_model::{Instance, Lockages, MOST, Plan, SHIPS};
 use std::marker::Model;
 
 /// The lockages that are whole, and the line and the berths of the one that still gets berths, if
@@ -63,14 +63,14 @@ impl Draft {
     /// The berths of the lockage that still gets some.
     pub fn berths(&self) -> &[Berth]
         ensures value { result.now ≡ self.now.berths }
-        ensures fits { length result.now ≤ 8 }
+        ensures fits { length result.now ≤ MOST }
     {
         self.berths.as_slice()
     }
 
     /// Begins a lockage.
     pub fn begin(&mut self, head: Head)
-        requires { length self.old.lockages < 24 }
+        requires { length self.old.lockages < SHIPS }
         ensures { self.new ≡ record { lockages = self.old.lockages; head = Some head; berths = [] } }
     {
         self.head = Some(head);
@@ -79,7 +79,7 @@ impl Draft {
 
     /// Appends a berth.
     pub fn push_berth(&mut self, berth: Berth)
-        requires { length self.old.berths < 8 }
+        requires { length self.old.berths < MOST }
         ensures { self.new ≡ record self.old { berths = self.old.berths ++ berth ∷ [] } }
     {
         self.berths.push(berth);

@@ -10,17 +10,17 @@ use crate::moorings::has_berth;
 use crate::named::{chamber_named, host, ship_named};
 use crate::words::{number, rank, way};
 use line_text::{Progress, check, word_at};
-use lock_model::Instance;
+use lock_model::{Instance, MOST, SHIPS};
 
 /// What the line of a lockage says that comes after so many. The first fault is, in this order:
 /// `Count`, `Range` for a 25th lockage, that of a word from left to right.
 #[tactic(auto, unfolding(crate::specs::Lines::read_head))]
 fn read_head(instance: &Instance, count: usize, words: &[&[u8]]) -> Result<Head, PlanKind>
     ensures value { result ≡ read_head instance.now count (texts words.now) }
-    ensures room { IfOk result (λ h. count < 24) }
+    ensures room { IfOk result (λ h. count < SHIPS) }
 {
     check(words.len() == 4, PlanKind::Count)?;
-    check(count < 24, PlanKind::Range)?;
+    check(count < SHIPS, PlanKind::Range)?;
     let chamber = chamber_named(instance, word_at(words, 1))?;
     let way = way(word_at(words, 2))?;
     let start = number(word_at(words, 3), 1_000_000_000)?;
@@ -51,10 +51,10 @@ fn read_berth(
     words: &[&[u8]],
 ) -> Result<Berth, PlanKind>
     ensures value { result ≡ read_berth instance.now line berths.now (texts words.now) }
-    ensures room { IfOk result (λ b. length berths.now < 8) }
+    ensures room { IfOk result (λ b. length berths.now < MOST) }
 {
     check(words.len() == 6, PlanKind::Count)?;
-    check(berths.len() < 8, PlanKind::Range)?;
+    check(berths.len() < MOST, PlanKind::Range)?;
     let ship = new_ship(instance, berths, word_at(words, 1))?;
     let x = number(word_at(words, 2), 100_000)?;
     let y = number(word_at(words, 3), 100_000)?;

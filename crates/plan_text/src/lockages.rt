@@ -4,11 +4,11 @@ ghost use Rattle.plan_text.specs.Berths.{has_berth, ships_of, spot_of, spots_of,
 
 use crate::berth::{Berth, Head};
 use crate::moorings::{berth_of, has_berth, moor_of};
-use lock_model::{Instance, Lockage, Ships, Spot, Spots};
+use lock_model::{Instance, Lockage, MOST, Ships, Spot, Spots};
 
 /// Appends a ship if it has a berth.
 fn push_berthed(ships: &mut Ships, berths: &[Berth], ship: u8)
-    requires room { has_berth ship berths.now ≡ true → length ships.old < 8 }
+    requires room { has_berth ship berths.now ≡ true → length ships.old < MOST }
     requires rising { All (λ s. s < ship) ships.old }
     ensures { ships.new ≡ ships.old ++ filter (λ s. has_berth s berths.now) (ship ∷ []) }
 {
@@ -19,7 +19,7 @@ fn push_berthed(ships: &mut Ships, berths: &[Berth], ship: u8)
 
 /// The ships that have a berth, by rising number.
 fn ships_of(instance: &Instance, berths: &[Berth]) -> Ships
-    requires { length berths.now ≤ 8 }
+    requires { length berths.now ≤ MOST }
     ensures { result ≡ ships_of instance.now berths.now }
 {
     let mut ships = Ships::new();
@@ -31,7 +31,7 @@ fn ships_of(instance: &Instance, berths: &[Berth]) -> Ships
 
 /// Where a ship of a deck lies.
 fn spot_of(ships: &[u8], berth: Berth) -> Spot
-    requires { length ships.now ≤ 8 }
+    requires { length ships.now ≤ MOST }
     ensures { result ≡ spot_of ships.now berth }
 {
     Spot {
@@ -44,7 +44,7 @@ fn spot_of(ships: &[u8], berth: Berth) -> Spot
 
 /// The spots of these ships.
 fn spots_of(ships: &[u8], berths: &[Berth]) -> Spots
-    requires { length ships.now ≤ 8 }
+    requires { length ships.now ≤ MOST }
     ensures { result ≡ spots_of ships.now berths.now }
 {
     let mut spots = Spots::new();
@@ -57,7 +57,7 @@ fn spots_of(ships: &[u8], berths: &[Berth]) -> Spots
 /// The lockage of a lockage line and its berths.
 #[tactic(auto, unfolding(crate::specs::Berths::lockage_of))]
 pub fn lockage_of(instance: &Instance, head: Head, berths: &[Berth]) -> Lockage
-    requires { length berths.now ≤ 8 }
+    requires { length berths.now ≤ MOST }
     ensures { result ≡ lockage_of instance.now head berths.now }
 {
     let ships = ships_of(instance, berths);

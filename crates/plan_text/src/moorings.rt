@@ -4,7 +4,7 @@ ghost use Rattle.plan_text.specs.Berths.{has_berth, is_hosted_by, check_hosts, b
 
 use crate::berth::{Berth, Host};
 use crate::kinds::{BadPlan, PlanKind, bad};
-use lock_model::Moor;
+use lock_model::{MOST, Moor};
 
 /// Whether a ship has a berth among these.
 pub fn has_berth(berths: &[Berth], ship: u8) -> bool
@@ -49,7 +49,7 @@ pub fn berth_of(berths: &[Berth], ship: u8) -> Berth
 
 /// The place of a ship among ships, or their number where it is none of them.
 fn place_of(ships: &[u8], ship: u8) -> u8
-    requires { length ships.now ≤ 8 }
+    requires { length ships.now ≤ MOST }
     ensures { result ≡ place_of ship ships.now }
 {
     for place in 0..ships.len() as u8 {
@@ -62,7 +62,7 @@ fn place_of(ships: &[u8], ship: u8) -> u8
 
 /// The mooring at a host in the deck of these ships.
 pub fn moor_of(ships: &[u8], host: Host) -> Moor
-    requires { length ships.now ≤ 8 }
+    requires { length ships.now ≤ MOST }
     ensures { result ≡ moor_of ships.now host }
 {
     match host {

@@ -2,28 +2,34 @@
 ghost use Rattle.std.specs.Prelude.{◌<◌};
 
 use crate::choice::Choice;
+use lock_model::MOST;
+
+/// How many numbers of ships a group may have, with none.
+pub(crate) const COUNTS: usize = MOST + 1;
 
 /// By number of ships the place among some choices of the one that pays most. It helps speed alone:
 /// whoever finds a place asks the choice there.
 #[derive(Drop)]
 pub(crate) struct Bests {
-    places: [Option<u16>; 9],
+    places: [Option<u16>; COUNTS],
 }
 
 impl Bests {
     // No place yet.
     pub(crate) fn new() -> Bests {
-        Bests { places: [None; 9] }
+        Bests {
+            places: [None; COUNTS],
+        }
     }
 
     // Forgets all places.
     pub(crate) fn clear(&mut self) {
-        self.places = [None; 9];
+        self.places = [None; COUNTS];
     }
 
     // The place of the best choice of so many ships, if there is one.
     pub(crate) fn find(&self, ships: usize) -> Option<usize> {
-        let place = self.places[ships.min(8)]?;
+        let place = self.places[ships.min(MOST)]?;
         Some(place as usize)
     }
 
@@ -39,7 +45,7 @@ impl Bests {
 
     // Notes a choice that comes behind these, where it is the best one.
     pub(crate) fn note(&mut self, choices: &[Choice], choice: &Choice) {
-        let ships = choice.group.ships.len().min(8);
+        let ships = choice.group.ships.len().min(MOST);
         if self.beats(choices, self.places[ships], choice) {
             self.places[ships] = u16::try_from(choices.len()).ok();
         }

@@ -16,6 +16,7 @@ use crate::sweeping::sweep;
 use crate::table::Table;
 use crate::values::Values;
 use chamber_times::stand_after;
+use lock_model::SHIPS;
 
 /// A state of which no choice is counted.
 pub(crate) fn opened(table: &Table, state: State) -> Frame
@@ -33,7 +34,7 @@ pub(crate) fn opened(table: &Table, state: State) -> Frame
 #[inline(always)]
 /// The place that a choice leads to from a place, where it may come next there.
 pub(crate) fn led(choice: &Choice, place: u8) -> Option<u8>
-    requires { place ≤ 24 }
+    requires { place ≤ SHIPS }
     ensures some { IfSome result (λ q. Leads choice.now.joins place q) }
     ensures none { IfNone result ((q : ℕ) → ¬ Leads choice.now.joins place q) }
 {

@@ -17,7 +17,7 @@ use crate::near::Near;
 use crate::prices::Prices;
 use crate::sums::Sums;
 use crate::weighing::{more_sums, sums_of};
-use lock_model::{Group, Ships};
+use lock_model::{Group, MOST, Ships};
 use master_branch::with_ship;
 use std::alloc::Global;
 
@@ -61,7 +61,7 @@ fn may_grow(case: &LineCase, base: &Group, ship: u8) -> bool
 fn with_more(group: &Group, mask: u32, ship: u8) -> Group
     requires known { ship < 32 }
     requires mask { IsMask mask group.now.ships }
-    requires room { length group.now.ships < 8 }
+    requires room { length group.now.ships < MOST }
     requires absent { times_in group.now.ships ship ≡ 0 }
     ensures { result ≡ with_ship ship group.now }
 {
@@ -86,7 +86,7 @@ fn joined(growth: &Growth, near: &[u32], group: &Group, mask: u32, ship: u8) -> 
     requires allowed { All (IsAllowed growth.now.case.now.instance.now growth.now.case.now.depth ship) group.now.ships }
     requires spared { IsSpared growth.now.sets.now group.now }
     requires absent { times_in group.now.ships ship ≡ 0 }
-    requires few { length group.now.ships ≤ 8 }
+    requires few { length group.now.ships ≤ MOST }
     ensures some { IfSome result (λ g. MayJoin growth.now.case.now.instance.now growth.now.case.now.chamber growth.now.sets.now ship group.now × (g ≡ with_ship ship group.now)) }
     ensures none { IfNone result (¬ MayJoin growth.now.case.now.instance.now growth.now.case.now.chamber growth.now.sets.now ship group.now) }
 {
@@ -147,7 +147,7 @@ fn join(
     requires spared { IsSpared growth.now.sets.now (group_in groups.old.items place) }
     requires place { place < length groups.old.items }
     requires absent { times_in (group_in groups.old.items place).ships ship ≡ 0 }
-    requires few { length (group_in groups.old.items place).ships ≤ 8 }
+    requires few { length (group_in groups.old.items place).ships ≤ MOST }
     requires weighed { AreWeighed growth.now.case.now.instance.now growth.now.case.now.chamber groups.old.items sums.old.items }
     ensures weighed { OnOk result (AreWeighed growth.now.case.now.instance.now growth.now.case.now.chamber groups.new.items sums.new.items) }
     ensures joined { OnOk result (IsJoined growth.now.case.now.instance.now growth.now.case.now.chamber growth.now.case.now.depth growth.now.ceilings.now growth.now.sets.now ship (group_in groups.old.items place) groups.old.items groups.new.items) }

@@ -18,7 +18,7 @@ use crate::masks::{marks, misses_all_of, nears};
 use crate::near::Near;
 use crate::prices::Prices;
 use crate::weighing::rates;
-use lock_model::Ships;
+use lock_model::{SHIPS, Ships};
 use std::alloc::Global;
 
 /// What is kept of a chamber: how many of the cuts were looked at, the ship sets that these forbid, for
@@ -43,7 +43,7 @@ pub(crate) struct KeptGroups {
 // Prices that are higher by a sixteenth and a minute, so that prices which are raised step by step stay
 // below them for a while. The higher they are, the more groups grow where ships arrive far apart.
 fn ceilings_of(prices: &Prices) -> Prices {
-    let mut high = [0; 24];
+    let mut high = [0; SHIPS];
     for (ship, &price) in prices.as_slice().iter().enumerate() {
         high[ship] = price.saturating_add(price / 16 + 100);
     }

@@ -8,7 +8,7 @@ ghost use Rattle.price_bound.specs.Worth.{IsKeptGroup};
 
 use crate::cut::ChamberCut;
 use crate::prices::Prices;
-use lock_model::{Chamber, Group, Instance};
+use lock_model::{Chamber, Group, Instance, SHIPS};
 
 /// A chamber, by number and as it is, and its line at a node of a depth, the ships that the node holds,
 /// the prices and the cuts.
@@ -28,7 +28,7 @@ pub(crate) struct LineCase<'a> {
     pub(crate) ghost kept: { All (IsKeptGroup instance.now depth) line.now },
     pub(crate) ghost ships_in: { All (λ g. All (λ s. s < length instance.now.ships) g.ships) line.now },
     pub(crate) ghost good: { All (IsNodeGroup instance.now chamber) line.now },
-    pub(crate) ghost few: { length line.now ≤ 24 },
+    pub(crate) ghost few: { length line.now ≤ SHIPS },
 }
 
 impl LineCase<'_> {

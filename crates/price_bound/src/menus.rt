@@ -8,11 +8,12 @@ use crate::error::{PriceError, append};
 use crate::level::Level;
 use crate::line_case::LineCase;
 use crate::menu::Menu;
+use lock_model::SHIPS;
 use std::alloc::Global;
 
 // Appends a choice, where it may come next at a place.
 fn put_for(fors: &mut Vec<Choice>, choice: &Choice, place: u8) -> Result<(), PriceError>
-    requires { place ≤ 24 }
+    requires { place ≤ SHIPS }
     ensures { OnOk result (IsPutFor place choice.now fors.old.items fors.new.items) }
 {
     match led(choice, place) {
@@ -23,7 +24,7 @@ fn put_for(fors: &mut Vec<Choice>, choice: &Choice, place: u8) -> Result<(), Pri
 
 // Those of the choices that may come next at a place.
 fn choices_for(alloc: Global, choices: &[Choice], place: u8) -> Result<Vec<Choice>, PriceError>
-    requires { place ≤ 24 }
+    requires { place ≤ SHIPS }
     ensures { IfOk result (λ fors. AreFor place choices.now fors.items) }
 {
     let mut fors = Vec::new(alloc);
@@ -35,7 +36,7 @@ fn choices_for(alloc: Global, choices: &[Choice], place: u8) -> Result<Vec<Choic
 
 // The levels of the choices that may come next at a place.
 fn levels_for(alloc: Global, levels: &[Level], place: u8) -> Result<Vec<Level>, PriceError>
-    requires { place ≤ 24 }
+    requires { place ≤ SHIPS }
     ensures { IfOk result (λ fors. AreLevelsFor place levels.now (length levels.now) fors.items) }
 {
     let mut fors = Vec::new(alloc);
@@ -54,7 +55,7 @@ fn levels_for(alloc: Global, levels: &[Level], place: u8) -> Result<Vec<Level>, 
 
 // What may come next at a place.
 fn menu(alloc: Global, choices: &[Choice], levels: &[Level], place: u8) -> Result<Menu, PriceError>
-    requires { place ≤ 24 }
+    requires { place ≤ SHIPS }
     ensures { IfOk result (IsMenu choices.now levels.now place) }
 {
     Ok(Menu {

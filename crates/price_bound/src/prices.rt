@@ -3,13 +3,14 @@ ghost use Rattle.std.specs.Prelude.{◌≡◌, ◌≤◌, ◌↔◌, length, map
 ghost use Rattle.price_rules.specs.Prices.{price_at};
 
 use arrayvec::ArrayVec;
+use lock_model::SHIPS;
 use std::marker::Model;
 
-/// The prices of up to 24 ships in the order of the instance: whole numbers from 0 to 1,000,000, in
+/// The prices of up to `SHIPS` ships in the order of the instance: whole numbers from 0 to 1,000,000, in
 /// hundredths of a minute of flow time.
 #[derive(PartialEq, Eq, Drop)]
 pub struct Prices {
-    items: ArrayVec<u32, 24>,
+    items: ArrayVec<u32, SHIPS>,
 }
 
 impl Model for Prices {
@@ -37,8 +38,8 @@ fn are_prices(prices: &[u32]) -> bool
 }
 
 // A list of these numbers.
-fn listed(prices: &[u32]) -> ArrayVec<u32, 24>
-    requires { length prices.now ≤ 24 }
+fn listed(prices: &[u32]) -> ArrayVec<u32, SHIPS>
+    requires { length prices.now ≤ SHIPS }
     ensures { result.items ≡ prices.now }
 {
     let mut items = ArrayVec::new();
@@ -49,12 +50,12 @@ fn listed(prices: &[u32]) -> ArrayVec<u32, 24>
 }
 
 impl Prices {
-    /// These prices; None exactly where there are more than 24 or one is above 1,000,000.
+    /// These prices; None exactly where there are more than `SHIPS` or one is above 1,000,000.
     pub fn new(prices: &[u32]) -> Option<Prices>
-        ensures valid { IsSome result ↔ ((length prices.now ≤ 24) × All (λ p. p ≤ 1000000) prices.now) }
+        ensures valid { IsSome result ↔ ((length prices.now ≤ SHIPS) × All (λ p. p ≤ 1000000) prices.now) }
         ensures value { IfSome result (λ p. p ≡ prices.now) }
     {
-        if prices.len() <= 24 && are_prices(prices) {
+        if prices.len() <= SHIPS && are_prices(prices) {
             Some(Prices {
                 items: listed(prices),
             })
@@ -65,7 +66,7 @@ impl Prices {
 
     /// These prices, but 1,000,000 in the place of all that are above it.
     pub fn capped(prices: &[u32]) -> Prices
-        requires { length prices.now ≤ 24 }
+        requires { length prices.now ≤ SHIPS }
         ensures { result ≡ map (min 1000000) prices.now }
     {
         let mut items = ArrayVec::new();
@@ -78,7 +79,7 @@ impl Prices {
     /// The prices in the order of the ships.
     pub fn as_slice(&self) -> &[u32]
         ensures value { result.now ≡ self.now }
-        ensures fits { length result.now ≤ 24 }
+        ensures fits { length result.now ≤ SHIPS }
         ensures small { All (λ p. p ≤ 1000000) result.now }
     {
         self.items.as_slice()

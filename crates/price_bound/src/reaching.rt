@@ -15,7 +15,7 @@ use crate::keeping::KeptLines;
 use crate::line_case::LineCase;
 use crate::loose_line::{LooseLine, LooseLines};
 use crate::prices::Prices;
-use lock_model::Instance;
+use lock_model::{Instance, SHIPS};
 use master_branch::{Node, arrival_order};
 
 /// A node of an instance, prices and cuts.
@@ -99,9 +99,9 @@ fn listed(
 
 // The prices of some ships, added.
 fn prices_of(prices: &Prices, ships: &[u8]) -> u64
-    requires { length ships.now ≤ 24 }
+    requires { length ships.now ≤ SHIPS }
     ensures value { result ≡ sum_by (price_at prices.now) ships.now }
-    ensures small { result ≤ 24000000 }
+    ensures small { result ≤ SHIPS * 1000000 }
 {
     let mut sum = 0;
     for &ship in ships {

@@ -5,7 +5,7 @@ ghost use Rattle.price_bound.specs.Values.{IsRoute};
 use crate::choice::Choice;
 use crate::counting::led;
 use crate::ready::Ready;
-use lock_model::Way;
+use lock_model::{SHIPS, Way};
 
 // More than a choice is worth, in hundredths of a minute.
 const MOST_WORTH: i64 = 40_000_000_000;
@@ -31,7 +31,7 @@ pub(crate) struct Bar {
 impl Route {
     // The route of a choice from a state, where it may come next there.
     pub(crate) fn of(choice: &Choice, ready: &Ready) -> Option<Route>
-        requires { ready.now.state.place ≤ 24 }
+        requires { ready.now.state.place ≤ SHIPS }
         ensures is { IfSome result (IsRoute ready.now) }
         ensures joins { IfSome result (λ route. route.joins ≡ choice.now.joins) }
     {

@@ -10,7 +10,7 @@ use crate::line_case::LineCase;
 use crate::ready::Ready;
 use crate::state::State;
 use chamber_times::{flow_until, group_times, stand_after};
-use lock_model::Group;
+use lock_model::{Group, MOST, SHIPS};
 
 /// The minute at which a choice ends that comes next, and what it is worth, in hundredths of a
 /// minute.
@@ -23,7 +23,7 @@ pub(crate) struct Served {
 #[inline(always)]
 // The product of a number of ships and a minute.
 fn product(count: u64, end: u64) -> u64
-    requires count { count ≤ 8 }
+    requires count { count ≤ MOST }
     requires end { end ≤ 30000000 }
     ensures value { result ≡ count * end }
     ensures small { result ≤ 240000000 }
@@ -87,7 +87,7 @@ pub(crate) fn serve_open(case: &LineCase, ready: &Ready, minute: u64, choice: &C
 fn alone_on(case: &LineCase, state: &State, line: &[Group]) -> i64
     requires kept { All (IsKeptGroup case.now.instance.now case.now.depth) line.now }
     requires ships_in { All (λ g. All (λ s. s < length case.now.instance.now.ships) g.ships) line.now }
-    requires few { length line.now ≤ 24 }
+    requires few { length line.now ≤ SHIPS }
     requires minute { state.now.minute ≤ 14000000 }
     ensures value { result ≡ worth_from case.now.instance.now case.now.chamber case.now.depth case.now.prices.now state.now.stand state.now.minute line.now }
     ensures low { pos 0 ≤ℤ result }

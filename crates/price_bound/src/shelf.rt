@@ -1,7 +1,9 @@
 //! Where among some choices those stand that most likely serve as well as another.
 ghost use Rattle.std.specs.Prelude.{◌<◌};
 
+use crate::bests::COUNTS;
 use crate::choice::Choice;
+use lock_model::MOST;
 
 // How many minutes of handling have a column of their own.
 const COLUMNS: usize = 64;
@@ -23,8 +25,8 @@ pub(crate) enum Merit {
 pub(crate) struct Shelf {
     pass: u32,
     merit: Merit,
-    in_use: [bool; 9],
-    places: [[Option<u16>; COLUMNS]; 9],
+    in_use: [bool; COUNTS],
+    places: [[Option<u16>; COLUMNS]; COUNTS],
 }
 
 impl Shelf {
@@ -33,15 +35,15 @@ impl Shelf {
         Shelf {
             pass,
             merit: Merit::Pays,
-            in_use: [false; 9],
-            places: [[None; COLUMNS]; 9],
+            in_use: [false; COUNTS],
+            places: [[None; COLUMNS]; COUNTS],
         }
     }
 
     // Forgets all places; from now on choices are good by this merit.
     pub(crate) fn clear(&mut self, merit: Merit) {
         self.merit = merit;
-        self.in_use = [false; 9];
+        self.in_use = [false; COUNTS];
     }
 
     // The minutes of handling of a choice.
@@ -64,7 +66,7 @@ impl Shelf {
 
     // The place of the best choice of so many ships and at most as many minutes, if there is one.
     pub(crate) fn find(&self, ships: usize, choice: &Choice) -> Option<usize> {
-        let row = ships.min(8);
+        let row = ships.min(MOST);
         if !self.in_use[row] {
             return None;
         }
@@ -92,7 +94,7 @@ impl Shelf {
 
     // Puts a row into use.
     fn use_row(&mut self, row: usize)
-        requires { row < 9 }
+        requires { row < COUNTS }
     {
         if !self.in_use[row] {
             self.in_use[row] = true;
@@ -102,7 +104,7 @@ impl Shelf {
 
     // Notes a choice that comes behind these, in the columns where it is the best one.
     pub(crate) fn note(&mut self, choices: &[Choice], choice: &Choice) {
-        let row = choice.group.ships.len().min(8);
+        let row = choice.group.ships.len().min(MOST);
         self.use_row(row);
         for column in self.column(choice)..COLUMNS {
             if !self.beats(choices, self.places[row][column], choice) {

@@ -2,7 +2,7 @@
 ghost use Rattle.std.specs.Prelude.{◌≡◌, ◌+◌, ◌*◌, ◌<◌, ◌≤◌};
 ghost use Rattle.price_bound.specs.Values.{key_of, side_of};
 
-use lock_model::Stand;
+use lock_model::{SHIPS_AND_ROOT, Stand};
 
 /// A chamber that has served the groups of its line before a place, stands so and is free at a
 /// minute.
@@ -28,7 +28,7 @@ impl State {
     #[inline(always)]
     // A number that no other state has whose place is one of so many.
     pub(crate) fn key(&self, places: u64) -> u64
-        requires few { places ≤ 25 }
+        requires few { places ≤ SHIPS_AND_ROOT }
         requires place { self.now.place < places }
         requires minute { self.now.minute ≤ 14000000 }
         ensures { result ≡ key_of places self.now.place self.now.stand self.now.minute }

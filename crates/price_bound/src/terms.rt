@@ -73,9 +73,7 @@ impl Terms {
     pub(crate) fn lead_to(&self, case: &LineCase) -> bool
         ensures { OnTrue result (LeadTo case.now.instance.now case.now.depth case.now.cuts.now self.now) }
     {
-        self.depth == case.depth
-            && self.are_first(case.cuts)
-            && self.instance.equals(case.instance)
+        self.depth == case.depth && self.are_first(case.cuts) && self.instance.equals(case.instance)
     }
 
     // Takes the prices of a case, and the cuts that came behind the others.

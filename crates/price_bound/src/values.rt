@@ -4,6 +4,7 @@ ghost use Rattle.price_bound.specs.Values.{key_of, AreEmpty, IsRemembered, Remem
 
 use crate::error::PriceError;
 use crate::state::State;
+use lock_model::SHIPS_AND_ROOT;
 use std::alloc::Global;
 use std::collections::HashMap;
 
@@ -24,7 +25,7 @@ impl Values {
     // None yet, with room for the states of so many places from one minute up to another. A short row
     // stays in the nearest cache.
     pub(crate) fn new(alloc: Global, places: u64, from: u64, to: u64) -> Result<Values, PriceError>
-        requires few { places ≤ 25 }
+        requires few { places ≤ SHIPS_AND_ROOT }
         requires from { from ≤ 14000000 }
         ensures { IfOk result (AreEmpty places) }
     {
@@ -59,7 +60,7 @@ impl Values {
     #[inline(always)]
     // What is remembered for a state.
     pub(crate) fn find(&self, state: &State) -> Option<i64>
-        requires few { self.now.places ≤ 25 }
+        requires few { self.now.places ≤ SHIPS_AND_ROOT }
         requires place { state.now.place < self.now.places }
         requires minute { state.now.minute ≤ 14000000 }
         ensures { IfSome result (IsRemembered self.now (key_of self.now.places state.now.place state.now.stand state.now.minute)) }
@@ -74,7 +75,7 @@ impl Values {
     #[inline(always)]
     // What is remembered for a state in the row.
     pub(crate) fn in_row(&self, state: &State) -> Option<i64>
-        requires few { self.now.places ≤ 25 }
+        requires few { self.now.places ≤ SHIPS_AND_ROOT }
         requires place { state.now.place < self.now.places }
         requires minute { state.now.minute ≤ 14000000 }
         ensures { IfSome result (IsRemembered self.now (key_of self.now.places state.now.place state.now.stand state.now.minute)) }
@@ -85,7 +86,7 @@ impl Values {
 
     // Remembers a value for a state.
     pub(crate) fn keep(&mut self, state: &State, value: i64) -> Result<(), PriceError>
-        requires few { self.old.places ≤ 25 }
+        requires few { self.old.places ≤ SHIPS_AND_ROOT }
         requires place { state.now.place < self.old.places }
         requires minute { state.now.minute ≤ 14000000 }
         ensures { OnOk result (Remembers self.old self.new (key_of self.old.places state.now.place state.now.stand state.now.minute) value) }

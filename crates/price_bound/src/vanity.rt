@@ -5,10 +5,11 @@ ghost use Rattle.price_bound.specs.Cuts.{plain_cuts};
 
 use crate::choice::Choice;
 use crate::line_case::LineCase;
+use lock_model::MOST;
 
 /// What so many ships that are served by a minute are worth without what they pay.
 pub(crate) fn worth_by(count: u64, end: u64) -> u64
-    requires count { count ≤ 8 }
+    requires count { count ≤ MOST }
     requires end { end ≤ 10000000000 }
     ensures { result ≡ 100 * (count * end) }
 {

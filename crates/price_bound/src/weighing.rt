@@ -12,7 +12,7 @@ use crate::masks::{mask_of, with_bit};
 use crate::prices::Prices;
 use crate::sums::Sums;
 use chamber_times::{duration, last_arrival};
-use lock_model::Ships;
+use lock_model::{MOST, Ships};
 use std::alloc::Global;
 
 // What a ship counts by some prices: 100 times its arrival, and its price where the node lacks it.
@@ -52,7 +52,7 @@ fn known_rate(growth: &Growth, ship: u8) -> u32
 // What some ships count, added.
 fn paid(growth: &Growth, ships: &[u8]) -> u32
     requires known { All (λ s. s < length growth.now.case.now.instance.now.ships) ships.now }
-    requires few { length ships.now ≤ 8 }
+    requires few { length ships.now ≤ MOST }
     ensures value { result ≡ sum_by (rate_of growth.now.case.now.instance.now growth.now.case.now.depth growth.now.case.now.prices.now) ships.now }
     ensures small { result ≤ 808000000 }
 {
@@ -95,7 +95,7 @@ pub(crate) fn more_sums(growth: &Growth, sums: &Sums, ship: u8) -> Sums
 /// A group that has grown as a choice, with what it pays.
 pub(crate) fn weighed(growth: &Growth, grown: &GrownGroup, joins: Option<u8>) -> Choice
     requires known { All (λ s. s < length growth.now.case.now.instance.now.ships) grown.now.group.ships }
-    requires few { length grown.now.group.ships ≤ 8 }
+    requires few { length grown.now.group.ships ≤ MOST }
     requires sums { AreSumsOf growth.now.case.now.instance.now growth.now.case.now.chamber grown.now.group.ships grown.now.sums }
     ensures group { result.group ≡ grown.now.group }
     ensures joins { result.joins ≡ joins }

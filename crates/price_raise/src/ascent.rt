@@ -4,6 +4,7 @@ ghost use Rattle.std.specs.Bool.{OnTrue, OnFalse};
 ghost use Rattle.price_raise.specs.Raising.{IsWeighed};
 
 use crate::stands::Stands;
+use lock_model::SHIPS;
 use price_bound::Prices;
 
 /// How an ascent goes on: so many steps at the most; after so many without gain it goes back to the
@@ -24,8 +25,8 @@ pub struct Ascent {
     tried: Prices,
     best: Prices,
     best_sum: i64,
-    exact: [i64; 24],
-    direction: [i64; 24],
+    exact: [i64; SHIPS],
+    direction: [i64; SHIPS],
     stride: i64,
     idle: u32,
     mark: i64,
@@ -48,8 +49,8 @@ const MOST_GAP: i64 = 10_000_000;
 const MOST: i64 = 1_000_000 * FINE;
 
 // Prices in fractions of 256.
-fn exact_of(prices: &Prices) -> [i64; 24] {
-    let mut exact = [0; 24];
+fn exact_of(prices: &Prices) -> [i64; SHIPS] {
+    let mut exact = [0; SHIPS];
     for (ship, &price) in prices.as_slice().iter().enumerate() {
         exact[ship] = price as i64 * FINE;
     }
@@ -57,11 +58,11 @@ fn exact_of(prices: &Prices) -> [i64; 24] {
 }
 
 // The prices of so many ships, of fractions of 256.
-fn prices_of(exact: &[i64; 24], ships: usize) -> Prices
-    requires { ships ≤ 24 }
+fn prices_of(exact: &[i64; SHIPS], ships: usize) -> Prices
+    requires { ships ≤ SHIPS }
     ensures { length result ≡ ships }
 {
-    let mut whole = [0; 24];
+    let mut whole = [0; SHIPS];
     for ship in 0..24 {
         whole[ship] = (exact[ship].clamp(0, MOST) / FINE) as u32;
     }
@@ -69,7 +70,7 @@ fn prices_of(exact: &[i64; 24], ships: usize) -> Prices
 }
 
 // The squares of the directions, added.
-fn norm_of(direction: &[i64; 24]) -> i64 {
+fn norm_of(direction: &[i64; SHIPS]) -> i64 {
     let mut norm: i64 = 0;
     for &part in direction {
         norm = norm.saturating_add(part.saturating_mul(part));
@@ -85,9 +86,9 @@ fn gap_to(goal: u64, sum: i64) -> i64 {
 
 // Turns the direction: what it was counts three tenths, and a missing ship pulls by how often it is
 // lacking.
-fn turn(direction: &mut [i64; 24], missing: &[u8], stands: &Stands) {
+fn turn(direction: &mut [i64; SHIPS], missing: &[u8], stands: &Stands) {
     for &ship in missing {
-        if ship < 24 {
+        if (ship as usize) < SHIPS {
             let before = direction[ship as usize].saturating_mul(3) / 10;
             let lacking = 1i64.saturating_sub(stands.of(ship)).saturating_mul(ONCE);
             direction[ship as usize] = before.saturating_add(lacking);
@@ -96,11 +97,11 @@ fn turn(direction: &mut [i64; 24], missing: &[u8], stands: &Stands) {
 }
 
 // Goes so far along the direction, of which this is the norm.
-fn go(exact: &mut [i64; 24], direction: &[i64; 24], missing: &[u8], stride: i64, norm: i64)
+fn go(exact: &mut [i64; SHIPS], direction: &[i64; SHIPS], missing: &[u8], stride: i64, norm: i64)
     requires { pos 0 <ℤ norm }
 {
     for &ship in missing {
-        if ship < 24 {
+        if (ship as usize) < SHIPS {
             let step = stride.saturating_mul(direction[ship as usize]) / norm;
             let price = exact[ship as usize].saturating_add(step);
             exact[ship as usize] = price.clamp(0, MOST);
@@ -119,7 +120,7 @@ impl Ascent {
             best: start.copy(),
             best_sum: i64::MIN,
             exact: exact_of(&start),
-            direction: [0; 24],
+            direction: [0; SHIPS],
             stride: WHOLE_STRIDE,
             idle: 0,
             mark: i64::MIN,

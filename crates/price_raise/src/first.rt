@@ -2,14 +2,14 @@
 ghost use Rattle.std.specs.Prelude.{◌≡◌, ◌<◌, length, All};
 
 use chamber_times::lockage_end;
-use lock_model::{Instance, Lockage, Plan};
+use lock_model::{Instance, Lockage, Plan, SHIPS};
 use price_bound::Prices;
 
 // The greatest price, in hundredths of a minute.
 const MOST: u64 = 1_000_000;
 
 // Puts what each ship of a lockage costs into its place, in hundredths of a minute.
-fn put_costs(instance: &Instance, lockage: &Lockage, costs: &mut [u32; 24])
+fn put_costs(instance: &Instance, lockage: &Lockage, costs: &mut [u32; SHIPS])
     requires chamber_in { lockage.now.chamber < length instance.now.chambers }
     requires ships_in { All (λ s. s < length instance.now.ships) lockage.now.ships }
 {
@@ -27,7 +27,7 @@ pub fn first_prices(instance: &Instance, plan: &Plan) -> Prices
     requires ships_in { All (λ l. All (λ s. s < length instance.now.ships) l.ships) plan.now.lockages }
     ensures { length result ≡ length instance.now.ships }
 {
-    let mut costs = [0; 24];
+    let mut costs = [0; SHIPS];
     for lockage in plan.lockages.as_slice() {
         put_costs(instance, lockage, &mut costs);
     }

@@ -4,6 +4,7 @@ use Rattle.std.proofs.lemmas.List.{length-map, get_or-map}
 use Rattle.std.proofs.lemmas.List.Elements.{All-head, All-tail, All-weaker, All-filter}
 use Rattle.std.proofs.lemmas.List.Kept.{AllPairs-from_increasing}
 use Rattle.list_laws.proofs.Counts.{filter-shorter}
+use Rattle.lock_model.specs.declared.limits.TheConstants.{CHAMBERS, SHIPS}
 use Rattle.lock_model.specs.Instance.{IsInstance, IsChamber, IsShip}
 use Rattle.lock_model.specs.Fleet.{ship_at, chamber_at, no_ship, no_chamber}
 use Rattle.lock_model.specs.declared.chamber.Chamber.{Chamber}
@@ -78,7 +79,7 @@ module _ (I : Instance) (K : Plan) (M : ℕ) (can : CanBeKept I K) (early : M �
   left : List ℕ
   left = ships_left I K
 
-  left-count : length (ships_left I K) ≤ 24
+  left-count : length (ships_left I K) ≤ SHIPS
   left-count =
       let limits = I.limits in
       omega (arith, filter-shorter (λ s. nat_eq (served_in K.lockages s) 0) (numbers_from 0 (length I.ships)), length-numbers 0 (length I.ships), limits.ship_count.1)
@@ -86,8 +87,8 @@ module _ (I : Instance) (K : Plan) (M : ℕ) (can : CanBeKept I K) (early : M �
   -- the rest is an instance where ships are left
   pub rest-limits : 1 ≤ length (ships_left I K) → IsInstance (chambers_after I K) (ships_from I M (ships_left I K))
   rest-limits some = record {
-    chamber_count = subst (λ n. (1 ≤ n) × (n ≤ 4)) (sym (count-after I K)) I.limits.chamber_count;
-    ship_count = subst (λ n. (1 ≤ n) × (n ≤ 24)) (sym (count-from I M (ships_left I K))) (some, left-count);
+    chamber_count = subst (λ n. (1 ≤ n) × (n ≤ CHAMBERS)) (sym (count-after I K)) I.limits.chamber_count;
+    ship_count = subst (λ n. (1 ≤ n) × (n ≤ SHIPS)) (sym (count-from I M (ships_left I K))) (some, left-count);
     chamber = λ c d within.
         let known : c < length I.chambers = subst (λ n. c < n) (count-after I K) within in
         subst IsChamber (sym (after_at I K c d known)) (chamber-limits c known);

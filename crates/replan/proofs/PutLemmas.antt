@@ -2,6 +2,7 @@
 use Rattle.std.proofs.Common.{◌≡◌, ℕ, ◌+◌, ◌<◌, ◌≤◌, ◌++◌, length, map, All, Option, Some, None, IfSome, IsSomeAnd, refl, sym, ap, ◌∙◌, subst, arith}
 use Rattle.std.specs.List.Sorted.{IsStrictlyIncreasing}
 use Rattle.std.proofs.lemmas.List.{length-append, length-map}
+use Rattle.lock_model.specs.declared.limits.TheConstants.{SHIPS}
 use Rattle.lock_model.specs.declared.instance.Instance.{Instance}
 use Rattle.lock_model.specs.declared.plan.Lockage.{Lockage}
 use Rattle.lock_model.specs.declared.plan.Plan.{Plan}
@@ -44,7 +45,7 @@ module _ (I : Instance) (r : Residual) (Q P : Plan) (M : ℕ) (left : IsLeft I (
   pub put-legal : IsLegal I (joined r.kept r.numbers Q)
   put-legal = subst (IsLegal I) (sym same) (legal-joined I here.whole (kept_of P M) M here.rest left.can.legal (kept-early P M) Q here.legal)
 
-  pub put-few : length r.kept.lockages + length Q.lockages ≤ 24
+  pub put-few : length r.kept.lockages + length Q.lockages ≤ SHIPS
   put-few =
       omega (
         arith,

@@ -3,7 +3,7 @@ ghost use Rattle.std.specs.Prelude.{◌≡◌};
 ghost use Rattle.replan.specs.Kept.{kept_of, kept_places};
 
 use arrayvec::ArrayVec;
-use lock_model::{Lockages, Plan};
+use lock_model::{Lockages, Plan, SHIPS};
 
 /// The kept plan: the lockages that start before the minute, in the plan's order.
 pub(crate) fn kept_of(plan: &Plan, from: u32) -> Plan
@@ -19,7 +19,7 @@ pub(crate) fn kept_of(plan: &Plan, from: u32) -> Plan
 }
 
 /// The places of these lockages in the plan.
-pub(crate) fn kept_places(plan: &Plan, from: u32) -> ArrayVec<u8, 24>
+pub(crate) fn kept_places(plan: &Plan, from: u32) -> ArrayVec<u8, SHIPS>
     ensures { result.items ≡ kept_places plan.now from }
 {
     let lockages = plan.lockages.as_slice();

@@ -3,7 +3,7 @@ ghost use Rattle.std.specs.Prelude.{◌≡◌, ◌+◌, ◌*◌, ◌<◌, ◌≤
 ghost use Rattle.replan.specs.Rest.{ships_left, from_minute, ships_from, delay_of};
 
 use crate::numbers::Ships24;
-use lock_model::{Instance, Plan, Ship, ShipList};
+use lock_model::{Instance, Plan, SHIPS, Ship, ShipList};
 use mooring_rules::served_in;
 
 /// The ships that no lockage of the part serves, in instance order.
@@ -51,7 +51,7 @@ pub(crate) fn ships_from(instance: &Instance, from: u32, numbers: &Ships24) -> S
 pub(crate) fn delays(instance: &Instance, from: u32, numbers: &Ships24) -> u64
     requires { All (λ s. s < length instance.now.ships) numbers.now }
     ensures value { result ≡ sum_by (delay_of instance.now from) numbers.now }
-    ensures small { result ≤ 24 * 2 ^ 32 }
+    ensures small { result ≤ SHIPS * 2 ^ 32 }
 {
     let mut sum = 0;
     for &number in numbers.as_slice() {

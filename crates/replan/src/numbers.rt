@@ -2,12 +2,13 @@
 ghost use Rattle.std.specs.Prelude.{◌≡◌, ◌<◌, ◌≤◌, [], ◌∷◌, ◌++◌, length};
 
 use arrayvec::ArrayVec;
+use lock_model::SHIPS;
 use std::marker::Model;
 
-/// Up to 24 ship numbers.
+/// Up to `SHIPS` ship numbers.
 #[derive(PartialEq, Eq, Drop)]
 pub struct Ships24 {
-    items: ArrayVec<u8, 24>,
+    items: ArrayVec<u8, SHIPS>,
 }
 
 impl Model for Ships24 {
@@ -33,14 +34,14 @@ impl Ships24 {
     /// The ships in order.
     pub fn as_slice(&self) -> &[u8]
         ensures value { result.now ≡ self.now }
-        ensures fits { length result.now ≤ 24 }
+        ensures fits { length result.now ≤ SHIPS }
     {
         self.items.as_slice()
     }
 
     /// Appends a ship.
     pub fn push(&mut self, ship: u8)
-        requires { length self.old < 24 }
+        requires { length self.old < SHIPS }
         ensures { self.new ≡ self.old ++ ship ∷ [] }
     {
         self.items.push(ship);

@@ -9,7 +9,7 @@ ghost use Rattle.replan.specs.Rest.{IsLeft};
 ghost use Rattle.replan.specs.Together.{number_of, renumbered, joined, Keeps};
 
 use crate::remainder::Residual;
-use lock_model::{Instance, Lockage, Plan, Ships};
+use lock_model::{Instance, Lockage, Plan, SHIPS, Ships};
 
 /// Ships of the rest by their numbers in the instance.
 pub fn ships_of(numbers: &[u8], ships: &Ships) -> Ships
@@ -43,7 +43,7 @@ fn renumbered(numbers: &[u8], lockage: &Lockage) -> Lockage
 fn joined(kept: &Plan, numbers: &[u8], found: &Plan) -> Plan
     requires known { All (λ l. All (λ s. s < length numbers.now) l.ships) found.now.lockages }
     requires rising { IsStrictlyIncreasing numbers.now }
-    requires few { length kept.now.lockages + length found.now.lockages ≤ 24 }
+    requires few { length kept.now.lockages + length found.now.lockages ≤ SHIPS }
     ensures { result ≡ joined kept.now numbers.now found.now }
 {
     let mut lockages = kept.lockages.copy();

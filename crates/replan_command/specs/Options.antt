@@ -1,10 +1,11 @@
 -- The numbers of the options, in their ranges.
 use Rattle.std.specs.Prelude.{◌≤◌}
 use Rattle.command_words.specs.declared.commands.ReplanOptions.{ReplanOptions}
+use Rattle.lock_model.specs.declared.limits.TheConstants.{WORKERS}
 use Rattle.lock_model.specs.Limits.{Within}
 
 pub record AreReplanNumbers (options : ReplanOptions) : Type 0 where
   pub from : options.from ≤ 1000000
   pub nodes : Within 1 1000000 options.nodes
   pub turns : Within 1 200000 options.turns
-  pub workers : Within 1 8 options.workers
+  pub workers : Within 1 WORKERS options.workers

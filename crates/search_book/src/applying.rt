@@ -14,7 +14,7 @@ use crate::next::Next;
 use crate::replies::is_accepting;
 use book_core::{Book, Reply};
 use deck_cuts::Cut;
-use lock_model::Plan;
+use lock_model::{Plan, WORKERS};
 use price_bound::Prices;
 use std::sync::ledger::{Ledger, Share};
 
@@ -70,7 +70,7 @@ fn make_counted(book: &mut Book, event: Event) -> Reply
 /// Makes one event: the book after it and the reply are those of the method. The amount of the share
 /// and the total grow by one exactly where the event is accepted; a refused one leaves the book, the
 /// share and the total as they were, also where there was no memory. The share needs a part, and
-/// keeps its parts. `Take` and `Release` need a worker of 0 to 8, and `Park` a deck that is spot-hard
+/// keeps its parts. `Take` and `Release` need a worker of 0 to `WORKERS`, and `Park` a deck that is spot-hard
 /// for its turns.
 pub fn apply<L: Ledger>(kept: &mut Kept<L>, share: &mut Share<L>, event: Event) -> Reply
     requires part { 0 < share.old.parts }
@@ -97,7 +97,7 @@ pub fn apply_and_take<L: Ledger>(
     ending: Event,
 ) -> Next
     requires part { 0 < share.old.parts }
-    requires worker { worker ≤ 8 }
+    requires worker { worker ≤ WORKERS }
     requires allowed { IsAllowed ending }
     ensures steps { Follows kept.old.book ending worker result kept.new.book }
     ensures total { kept.new.tally.total ≡ kept.old.tally.total + counted result }

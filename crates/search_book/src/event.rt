@@ -6,7 +6,7 @@ use lock_model::Plan;
 use price_bound::Prices;
 
 /// What is asked of a book: each event is the method of `Book` of its name, with its arguments.
-/// `Take` and `Release` have a worker of 0 to 8; of `Park` the deck is spot-hard for the turns too.
+/// `Take` and `Release` have a worker of 0 to `WORKERS`; of `Park` the deck is spot-hard for the turns too.
 /// Large arguments are boxed, so that an event is a few words and its memory is taken before the
 /// lock is.
 #[derive(Drop)]

@@ -16,6 +16,7 @@ use crate::kept::Kept;
 use crate::next::Next;
 use crate::replies::is_accepting;
 use book_core::{Book, Grant};
+use lock_model::WORKERS;
 use master_branch::Node;
 use std::sync::ledger::{Ledger, Share};
 
@@ -33,7 +34,7 @@ fn ending_of(id: u32, ending: Ending) -> Event
 // Makes `Take` as `apply` does, but that the node of a slot that is given stays in the book.
 fn take_slot<L: Ledger>(kept: &mut Kept<L>, share: &mut Share<L>, worker: u8) -> Grant
     requires part { 0 < share.old.parts }
-    requires worker { worker ≤ 8 }
+    requires worker { worker ≤ WORKERS }
     ensures step { Grants kept.old.book worker result kept.new.book }
     ensures held { IsInHand kept.new.book result }
     ensures case { kept.new.book.case ≡ kept.old.book.case }
@@ -82,7 +83,7 @@ fn pass<L: Ledger>(
     rest: &[Ahead<'_>],
 ) -> Result<u32, Next>
     requires part { 0 < share.old.parts }
-    requires worker { worker ≤ 8 }
+    requires worker { worker ≤ WORKERS }
     requires allowed { IsAllowed ending }
     ensures on { IfOk result (λ taken. Passes kept.old.book ending worker rest.now taken kept.new.book) }
     ensures node { IfOk result (λ taken. IsFirstAt kept.new.book taken rest.now) }
@@ -138,7 +139,7 @@ pub fn go_ahead<L: Ledger>(
     stretch: &Stretch<'_>,
 ) -> Gone
     requires part { 0 < share.old.parts }
-    requires worker { worker ≤ 8 }
+    requires worker { worker ≤ WORKERS }
     requires some { 0 < length stretch.now.nodes.items }
     ensures steps { GoesAhead worker kept.old.book id stretch.now.nodes.items result.place result kept.new.book }
     ensures total { kept.new.tally.total ≡ kept.old.tally.total + gone_count result }

@@ -3,8 +3,8 @@ ghost use Rattle.std.specs.Prelude.{◌≡◌, ◌++◌, ◌∷◌, [], length, 
 ghost use Rattle.book_core.specs.Telling.{bare_cut};
 
 use book_core::Book;
-use no_memory::NoMemory;
 use deck_cuts::Cut;
+use no_memory::NoMemory;
 use price_bound::ChamberCut;
 
 // Appends the chamber and the ships of a cut. Where there was no memory, the list is as it was.

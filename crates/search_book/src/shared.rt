@@ -16,6 +16,7 @@ use crate::next::Next;
 use crate::replies::{is_accepting, is_idle};
 use crate::shutting::{ByPrice, close_price_and_take};
 use book_core::Reply;
+use lock_model::WORKERS;
 use no_memory::NoMemory;
 use price_bound::ChamberCut;
 use std::hint::spin_loop;
@@ -85,7 +86,7 @@ impl<L: Ledger> SharedBook<L> {
 
     /// Waits for the lock, and makes one event as `apply` does. The share grows by one exactly where
     /// the event is accepted, and then all who wait are told. The share needs a part, and keeps its
-    /// parts. `Take` and `Release` need a worker of 0 to 8, and `Park` a deck that is spot-hard for
+    /// parts. `Take` and `Release` need a worker of 0 to `WORKERS`, and `Park` a deck that is spot-hard for
     /// its turns.
     pub fn with_book<W: Wait>(&self, rt: &W, share: &mut Share<L>, event: Event) -> Reply
         requires part { 0 < share.old.parts }
@@ -112,7 +113,7 @@ impl<L: Ledger> SharedBook<L> {
         ending: Event,
     ) -> Next
         requires part { 0 < share.old.parts }
-        requires worker { worker ≤ 8 }
+        requires worker { worker ≤ WORKERS }
         requires allowed { IsAllowed ending }
         ensures amount { share.new.amount ≡ share.old.amount + counted result }
         ensures parts { share.new.parts ≡ share.old.parts }
@@ -137,7 +138,7 @@ impl<L: Ledger> SharedBook<L> {
         closing: &ByPrice<'_>,
     ) -> Next
         requires part { 0 < share.old.parts }
-        requires worker { worker ≤ 8 }
+        requires worker { worker ≤ WORKERS }
         ensures amount { share.new.amount ≡ share.old.amount + counted result }
         ensures parts { share.new.parts ≡ share.old.parts }
     {
@@ -173,7 +174,7 @@ impl<L: Ledger> SharedBook<L> {
         stretch: &Stretch<'_>,
     ) -> Gone
         requires part { 0 < share.old.parts }
-        requires worker { worker ≤ 8 }
+        requires worker { worker ≤ WORKERS }
         requires some { 0 < length stretch.now.nodes.items }
         ensures amount { share.new.amount ≡ share.old.amount + gone_count result }
         ensures parts { share.new.parts ≡ share.old.parts }
@@ -186,11 +187,11 @@ impl<L: Ledger> SharedBook<L> {
         gone
     }
 
-    /// The same as `with_book` for `Take` by a worker of 0 to 8, but that it waits, while nothing is
+    /// The same as `with_book` for `Take` by a worker of 0 to `WORKERS`, but that it waits, while nothing is
     /// open and a slot is held, until some event is accepted: it never answers `Idle`.
     pub fn take_or_wait<W: Wait>(&self, rt: &W, share: &mut Share<L>, worker: u8) -> Reply
         requires part { 0 < share.old.parts }
-        requires worker { worker ≤ 8 }
+        requires worker { worker ≤ WORKERS }
         ensures amount { share.new.amount ≡ share.old.amount + accepted result }
         ensures parts { share.new.parts ≡ share.old.parts }
         ensures waited { is_idle result ≡ false }

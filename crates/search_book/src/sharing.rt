@@ -5,12 +5,13 @@ use crate::kept::Kept;
 use crate::share_list::ShareList;
 use crate::shared::{Nobody, SharedBook};
 use book_core::Book;
+use lock_model::WORKERS;
 use std::sync::ledger::{Blank, Ledger, Share};
 use std::sync::{Condvar, Mutex};
 
 // Cuts a part for each worker from a share that has one more.
 fn cut_shares<L: Ledger>(all: &mut Share<L>, workers: u8) -> ShareList<L>
-    requires few { workers ≤ 8 }
+    requires few { workers ≤ WORKERS }
     requires parts { all.old.parts ≡ workers + 1 }
     ensures count { length result ≡ workers }
     ensures one_part { All (λ s. s.parts ≡ 1) result }
@@ -26,12 +27,12 @@ fn cut_shares<L: Ledger>(all: &mut Share<L>, workers: u8) -> ShareList<L>
     shares
 }
 
-/// Puts a book under its lock, with a share of one part for each of 1 to 8 workers and one for the
+/// Puts a book under its lock, with a share of one part for each of 1 to `WORKERS` workers and one for the
 /// caller. The sum of their amounts is the length of the history. The blank is that of `L`, with
 /// `workers + 1` parts. Takes no memory.
 pub fn share_book<L: Ledger>(blank: Blank, book: Book, workers: u8) -> (SharedBook<L>, ShareList<L>)
     requires some_workers { 1 ≤ workers }
-    requires few_workers { workers ≤ 8 }
+    requires few_workers { workers ≤ WORKERS }
     requires name { blank.name ≡ L.name }
     requires parts { blank.parts ≡ L.parts }
     requires one_each { blank.parts ≡ workers + 1 }

@@ -12,6 +12,7 @@ use crate::kept::Kept;
 use crate::next::Next;
 use crate::replies::is_accepting;
 use book_core::{Book, Reply};
+use lock_model::WORKERS;
 use price_bound::Shown;
 use std::sync::ledger::{Ledger, Share};
 
@@ -42,7 +43,7 @@ pub fn close_price_and_take<L: Ledger>(
     closing: &ByPrice<'_>,
 ) -> Next
     requires part { 0 < share.old.parts }
-    requires worker { worker ≤ 8 }
+    requires worker { worker ≤ WORKERS }
     ensures steps { Shuts kept.old.book closing.now worker result kept.new.book }
     ensures total { kept.new.tally.total ≡ kept.old.tally.total + counted result }
     ensures amount { share.new.amount ≡ share.old.amount + counted result }

@@ -4,6 +4,7 @@ use Rattle.std.proofs.lemmas.Bool.Decides.{eqb_tells, leb_tells}
 use Rattle.std.proofs.lemmas.List.{get_or_past, get_or_default, length-take}
 use Rattle.std.proofs.lemmas.List.Elements.{All-head, All-tail, All-weaker}
 use Rattle.std.specs.List.Sorted.{IsStrictlyIncreasing}
+use Rattle.lock_model.specs.declared.limits.TheConstants.{CHAMBERS}
 use Rattle.lock_model.specs.Fleet.{ship_at, chamber_at}
 use Rattle.lock_model.specs.declared.instance.Instance.{Instance}
 use Rattle.lock_model.specs.declared.group.Group.{Group}
@@ -70,15 +71,15 @@ module _ (I : Instance) (first : List ℕ) where
 
 -- what is tested of a node of depth k
 abbrev pub IsOwn : Instance → ℕ → List (List Group) → Type 0
-IsOwn I k lines = (c : ℕ) → c < 4 → IsOwnLine I (first_ships I k) c (line_at lines c)
+IsOwn I k lines = (c : ℕ) → c < CHAMBERS → IsOwnLine I (first_ships I k) c (line_at lines c)
 
 module _ (I : Instance) (k : ℕ) (lines : List (List Group)) (keeps : KeepsNode k lines) where
-  past-line : (c : ℕ) → 4 ≤ c → line_at lines c ≡ []
+  past-line : (c : ℕ) → CHAMBERS ≤ c → line_at lines c ≡ []
   past-line c past = get_or_past lines c [] (let four = keeps.four in omega (arith, four, past))
 
   module _ (deep : k ≤ length (order_of I)) (own : IsOwn I k lines) where
     no-chamber : (c : ℕ) → length I.chambers ≤ c → line_at lines c ≡ []
-    no-chamber c past = elim (leb_tells 4 c) [
+    no-chamber c past = elim (leb_tells CHAMBERS c) [
       | inl beyond ↦ past-line c beyond.1
       | inr within ↦ (own c (let less = within.1 in omega (arith, less))).past past
     ]
@@ -171,12 +172,12 @@ module _ (I : Instance) (k d : ℕ) (order : List ℕ) (lines : List (List Group
   firsts : take d order ≡ first_ships I k
   firsts = ap (λ n. take n order) depth ∙ ap (take k) by_arrival
 
-  pub node_from : KeepsNode k lines → d ≤ length order → ((c : ℕ) → c < 4 → IsOwnLine I (take d order) c (line_at lines c)) → IsNode I k lines
+  pub node_from : KeepsNode k lines → d ≤ length order → ((c : ℕ) → c < CHAMBERS → IsOwnLine I (take d order) c (line_at lines c)) → IsNode I k lines
   node_from keeps deep own =
       own_node I k lines keeps (let long = ap length by_arrival in omega (arith, deep, depth, long)) (λ c less. subst (λ first. IsOwnLine I first c (line_at lines c)) firsts (own c less))
 
   pub deep_from : IsNode I k lines → d ≤ length order
   deep_from node = let long = ap length by_arrival in omega (arith, node_deep I k lines node, depth, long)
 
-  pub own_from : IsNode I k lines → (c : ℕ) → c < 4 → IsOwnLine I (take d order) c (line_at lines c)
+  pub own_from : IsNode I k lines → (c : ℕ) → c < CHAMBERS → IsOwnLine I (take d order) c (line_at lines c)
   own_from node c less = subst (λ first. IsOwnLine I first c (line_at lines c)) (sym firsts) (node_own I k lines node c less)

@@ -10,6 +10,7 @@ use crate::taking::taken;
 use crate::worker::Worker;
 use crate::working::work;
 use gates::{Gate, Point};
+use lock_model::WORKERS;
 use price_search::Pricing;
 use search_book::{Event, Stretch};
 use std::sync::Wait;
@@ -47,7 +48,7 @@ fn pricing_of<L: Ledger, W: Wait, G: Gate>(post: &Post<'_, L, W, G>) -> Option<P
     post.board?.pricing(post.alloc)
 }
 
-/// Searches as worker `number`, 0 to 7, until nothing is open or held, the nodes are spent, or it has
+/// Searches as worker `number`, below `WORKERS`, until nothing is open or held, the nodes are spent, or it has
 /// worked on the post's quota of nodes. It has no refusal: where the quota is reached or memory is
 /// refused, or the book answers what it answers no worker of these rules, the worker releases and
 /// ends, so that no other waits for a node in its hand. That is done here alone, whatever stopped the
@@ -59,7 +60,7 @@ pub fn search<L: Ledger, W: Wait, G: Gate>(
     number: u8,
     hands: Hands<L>,
 ) -> Hands<L>
-    requires number { number < 8 }
+    requires number { number < WORKERS }
     requires seat { hands.seat.table ≡ post.now.word.now.table }
     ensures seat { result.seat.table ≡ hands.seat.table }
 {

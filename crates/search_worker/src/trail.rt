@@ -3,6 +3,7 @@ ghost use Rattle.std.specs.Prelude.{◌≡◌, ◌<◌, ◌≤◌, length, IfSom
 ghost use Rattle.master_branch.specs.Node.{IsNodeOf};
 
 use book_core::Foreseen;
+use lock_model::CHILDREN;
 use master_branch::{Node, descend};
 use no_memory::NoMemory;
 use node_work::Search;
@@ -43,7 +44,7 @@ fn is_after(child: Child, last: Option<Child>) -> bool {
 // The child with the least bound below the best cost that comes after this one, the one of the
 // smallest number on a tie.
 fn next_child(bounds: &[u64], last: Option<Child>, best: u64) -> Option<Child>
-    requires { length bounds.now ≤ 50 }
+    requires { length bounds.now ≤ CHILDREN }
     ensures { IfSome result (λ child. child.number < length bounds.now) }
 {
     let mut next: Option<Child> = None;

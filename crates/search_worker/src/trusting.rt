@@ -5,7 +5,7 @@ ghost use Rattle.lock_rules.specs.Node.{line_at};
 ghost use Rattle.master_branch.specs.Node.{IsNodeOf};
 ghost use Rattle.search_worker.specs.Owning.{IsOwnShip, IsOwnGroup, IsOwnLine};
 
-use lock_model::{Group, Instance, Way};
+use lock_model::{CHAMBERS, Group, Instance, Way};
 use master_branch::{Node, ShipOrder};
 
 // Whether a ship is among the first ones, and goes this way.
@@ -68,7 +68,7 @@ fn is_own_line(instance: &Instance, first: &[u8], chamber: u8, line: &[Group]) -
 // Whether that is so of all lines.
 fn are_own_lines(instance: &Instance, first: &[u8], node: &Node) -> bool
     requires { All (λ s. s < length instance.now.ships) first.now }
-    ensures { IsTrue result ↔ ((c : ℕ) → c < 4 → IsOwnLine instance.now first.now c (line_at node.now.lines c)) }
+    ensures { IsTrue result ↔ ((c : ℕ) → c < CHAMBERS → IsOwnLine instance.now first.now c (line_at node.now.lines c)) }
 {
     for chamber in 0..4 {
         if !is_own_line(instance, first, chamber, node.line(chamber)) {

@@ -5,6 +5,7 @@ use crate::hands::Hands;
 use crate::trail::Trail;
 use book_core::Reply;
 use cut_pool::Tokens;
+use lock_model::WORKERS;
 use master_branch::Node;
 use placed_groups::Memory;
 use price_search::Pricing;
@@ -36,7 +37,7 @@ pub(crate) struct Worker<L: Ledger> {
     pub(crate) reach: u32,
     pub(crate) worked: u32,
     pub(crate) pricing: Option<Pricing>,
-    pub(crate) ghost numbered: { number < 8 },
+    pub(crate) ghost numbered: { number < WORKERS },
     pub(crate) ghost within: { reach ≤ 256 },
 }
 
@@ -48,7 +49,7 @@ impl<L: Ledger> Worker<L> {
         hands: Hands<L>,
         pricing: Option<Pricing>,
     ) -> Worker<L>
-        requires { number < 8 }
+        requires { number < WORKERS }
         ensures hands { result.hands ≡ hands }
         ensures tokens { result.tokens ≡ [] }
     {

@@ -2,6 +2,7 @@
 use Rattle.std.proofs.Common.{◌≡◌, ℕ, suc, ◌<◌, length, inl, inr, ap, ◌∙◌, arith, Bool, true, false, ◌||◌, slice_index_or, true≢false}
 use Rattle.std.proofs.lemmas.Bool.Decides.{leb_tells}
 use Rattle.std.proofs.lemmas.List.{get_or_past}
+use Rattle.lock_model.specs.declared.limits.TheConstants.{WORKERS}
 use Rattle.book_rules.specs.declared.book.SlotState.{SlotState}
 use Rattle.book_rules.specs.declared.book.SlotState.TheVariants as slot
 use Rattle.book_rules.specs.Book.{Book, Slot, no_slot, slot_at, is_held, is_parked}
@@ -22,7 +23,7 @@ none-at b test plain has k = elim (leb_tells (suc k) (length b.slots)) [
 ]
 
 pub held-known : (b : Book) (id : ℕ) (node : Node) → HoldsOnly b id node → id < length b.slots
-held-known b id node holds = state-known b id (slot.Held 8) holds.held (λ e. true≢false (ap is_held e))
+held-known b id node holds = state-known b id (slot.Held WORKERS) holds.held (λ e. true≢false (ap is_held e))
 
 pub is-held : (b : Book) (id : ℕ) (node : Node) → HoldsOnly b id node → is_held (slot_at b id).state ≡ true
 is-held b id node holds = ap is_held holds.held

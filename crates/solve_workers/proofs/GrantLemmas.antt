@@ -1,6 +1,7 @@
 -- A grant is a reply to a taking, and what it gives is held.
 use Rattle.std.proofs.Common.{◌≡◌, ℕ, suc, ◌≤◌, refl, sym, ap, ◌∙◌, arith, Some, None, IfSome, IfNone}
 use Rattle.std.specs.declared.option.Option.{Option}
+use Rattle.lock_model.specs.declared.limits.TheConstants.{WORKERS}
 use Rattle.book_rules.specs.Book.{Book}
 use Rattle.book_rules.specs.Ends.{HoldsNothing}
 use Rattle.book_rules.specs.Events.{take}
@@ -56,8 +57,8 @@ if-none : (P : Type 0) (o : Option ℕ) → (o ≡ None → P) → IfNone o P
 if-none P None f = f refl
 if-none P (Some id) f = tt
 
-module _ (b : Book) (g : Grant) (new : Book) (sound : IsSound b) (grants : Grants b 8 g new) (o : Option ℕ) (is : o ≡ slot_in g) where
-  answers : Answers b (take 8) (reply_of new g) new
+module _ (b : Book) (g : Grant) (new : Book) (sound : IsSound b) (grants : Grants b WORKERS g new) (o : Option ℕ) (is : o ≡ slot_in g) where
+  answers : Answers b (take WORKERS) (reply_of new g) new
   answers = record { found = grants.found; judged = tt; answer = grant_told new g; said = told-reply new g; same = grants.same }
 
   given : (id : ℕ) → o ≡ Some id → node_in (reply_of new g) ≡ Some (id, node_at new id)
@@ -67,7 +68,7 @@ module _ (b : Book) (g : Grant) (new : Book) (sound : IsSound b) (grants : Grant
   refused e = node-in new g ∙ ap (with-node new) (sym is ∙ e)
 
   pub grant_driven : IsDriven b new
-  grant_driven = driven_by b (take 8) (reply_of new g) new sound (omega arith) refl answers
+  grant_driven = driven_by b (take WORKERS) (reply_of new g) new sound (omega arith) refl answers
 
   module _ (free : HoldsNothing b) (running : IsRunning b) where
     pub grant_holds : IfSome o (HoldsSlot new)

@@ -4,6 +4,7 @@ use Rattle.std.proofs.lemmas.Option.{same_Some, none-some}
 use Rattle.std.specs.declared.option.Option.{Option}
 use Rattle.std.proofs.lemmas.Bool.{le-leb, lt-leb, not_from_true}
 use Rattle.std.proofs.lemmas.Bool.Decides.{leb_tells}
+use Rattle.lock_model.specs.declared.limits.TheConstants.{WORKERS}
 use Rattle.lock_model.specs.Deck.{Deck}
 use Rattle.lock_model.specs.Cargo.{HasNoClash}
 use Rattle.lock_model.specs.Fitting.{deck_of}
@@ -234,7 +235,7 @@ module _ (b : Book) (id : ℕ) (node : Node) (plan : Plan) (holds : HoldsOnly b 
   replaced-is : IsBettered b id node cost (Step.replaced b plan)
   replaced-is = record {
     holds = record {
-      held = ap (λ (s : Slot). s.state) (outdone-at cost b.slots id) ∙ outdone-held cost 8 (slot_at b id) holds.held;
+      held = ap (λ (s : Slot). s.state) (outdone-at cost b.slots id) ∙ outdone-held cost WORKERS (slot_at b id) holds.held;
       others = λ k other. ap (λ (s : Slot). is_held s.state) (outdone-at cost b.slots k) ∙ outdone-off cost (slot_at b k) (holds.others k other);
       node_is = ap (λ (s : Slot). s.node) (outdone-at cost b.slots id) ∙ outdone-node cost (slot_at b id) ∙ holds.node_is;
     };

@@ -1,6 +1,7 @@
 -- The driver may take a book on still.
 use Rattle.std.proofs.Common.{◌≡◌, ℕ, ◌≤◌, List, sym, ap, ◌∙◌, subst, arith, IfOk, Ok, Err, false, slice_index_or}
 use Rattle.std.specs.declared.result.Result.{Result}
+use Rattle.lock_model.specs.declared.limits.TheConstants.{WORKERS}
 use Rattle.lock_model.specs.declared.plan.Plan.{Plan}
 use Rattle.lock_rules.specs.Plan.{IsLegal, cost_of}
 use Rattle.refute_rules.specs.Cuts.{Cut}
@@ -18,7 +19,7 @@ ready_driven case cost old new ready driven free = record {
   case_is = driven.case ∙ ready.case_is;
   opening = let same = driven_cost old new driven in let most = ready.opening in omega (arith, same, most);
   free = free;
-  running = record { running = subst (λ ended. slice_index_or ended 8 false ≡ false) (sym driven.ended) ready.running.running };
+  running = record { running = subst (λ ended. slice_index_or ended WORKERS false ≡ false) (sym driven.ended) ready.running.running };
 }
 
 pub ready_again : (case : Case) (cost : ℕ) (old new : Book) → IsReady case cost old → new.case ≡ old.case → opening_cost new ≤ opening_cost old → HoldsNothing new → IsRunning new → IsReady case cost new

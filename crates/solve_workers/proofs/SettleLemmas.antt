@@ -1,8 +1,9 @@
--- The workers below 8 are released, one after the other.
+-- The workers are released, one after the other.
 use Rattle.std.proofs.Common.{◌≡◌, ◌≢◌, ℕ, suc, ◌<◌, ◌≤◌, length, inl, inr, refl, sym, ap, ◌∙◌, subst, arith, Bool, true, false, cond, Some, None, slice_index_or, true≢false}
 use Rattle.std.proofs.lemmas.Bool.Decides.{leb_tells}
 use Rattle.std.specs.declared.option.Option.{Option}
 use Rattle.std.proofs.lemmas.List.{get_or-set_same, get_or-set_other}
+use Rattle.lock_model.specs.declared.limits.TheConstants.{WORKERS}
 use Rattle.book_rules.specs.declared.book.SlotState.{SlotState}
 use Rattle.book_rules.specs.declared.book.SlotState.TheVariants as slot
 use Rattle.book_rules.specs.Book.{Book, Case, slot_at, first_slot, is_held, is_held_by}
@@ -68,13 +69,13 @@ module _ (b : Book) (w : ℕ) (known : w < length b.ended) where
 
 -- ---- one after the other
 
-module _ (b : Book) (w : ℕ) (keeps : KeepsWorkers b) (below : w < 8) (r : Reply) (new : Book) (answers : Answers b (release w) r new) where
+module _ (b : Book) (w : ℕ) (keeps : KeepsWorkers b) (below : w < WORKERS) (r : Reply) (new : Book) (answers : Answers b (release w) r new) where
   lets : Lets b w new
   lets = released-lets b w (let nine = keeps.nine in omega (arith, nine, below)) r new answers
 
   keeps-new : KeepsWorkers new
   keeps-new =
-      let owed : w ≤ 8 = omega (arith, below) in
+      let owed : w ≤ WORKERS = omega (arith, below) in
       subst KeepsWorkers (ap (λ (o : Book × Answer). o.0) answers.same) (workers-step (λ _ _. answers.found) b keeps (release w) owed)
 
   differs : (id v : ℕ) → (slot_at new id).state ≡ slot.Held v → v ≢ w
@@ -83,7 +84,7 @@ module _ (b : Book) (w : ℕ) (keeps : KeepsWorkers b) (below : w < 8) (r : Repl
   past : (id v : ℕ) → (slot_at new id).state ≡ slot.Held v → w ≤ v → suc w ≤ v
   past id v h low = elim (leb_tells (suc w) v) [ inl y ↦ y.1 | inr n ↦ absurd (differs id v h (let lower = n.1 in omega (arith, low, lower))) ]
 
-  held : (id v : ℕ) → (slot_at new id).state ≡ slot.Held v → (w ≤ v) × (v < 8) → (suc w ≤ v) × (v < 8)
+  held : (id v : ℕ) → (slot_at new id).state ≡ slot.Held v → (w ≤ v) × (v < WORKERS) → (suc w ≤ v) × (v < WORKERS)
   held id v h at = (past id v h at.0, at.1)
 
   pub held_after : AreHeldFrom w b → AreHeldFrom (suc w) new
@@ -95,22 +96,22 @@ module _ (b : Book) (w : ℕ) (keeps : KeepsWorkers b) (below : w < 8) (r : Repl
     opening = lets.opening ∙ back.opening;
     best = lets.best ∙ back.best;
     cuts = lets.cuts ∙ back.cuts;
-    running = record { running = lets.others 8 (λ e. omega (arith, e, below)) ∙ back.running.running };
+    running = record { running = lets.others WORKERS (λ e. omega (arith, e, below)) ∙ back.running.running };
   }
 
 -- ---- before the first and after the last
 
-not-eight : (b : Book) → first_slot b (is_held_by 8) ≡ None → (id w : ℕ) → (slot_at b id).state ≡ slot.Held w → w ≢ 8
-not-eight b empty id w h e =
+not-driver : (b : Book) → first_slot b (is_held_by WORKERS) ≡ None → (id w : ℕ) → (slot_at b id).state ≡ slot.Held w → w ≢ WORKERS
+not-driver b empty id w h e =
     let here = state-known b id (slot.Held w) h (λ f. true≢false (ap is_held f)) in
-    let by : (slot_at b id).state ≡ slot.Held 8 = h ∙ ap slot.Held e in
-    true≢false (sym (held_by-itself 8) ∙ ap (is_held_by 8) (sym by) ∙ first_slot-none b (is_held_by 8) empty id here)
+    let by : (slot_at b id).state ≡ slot.Held WORKERS = h ∙ ap slot.Held e in
+    true≢false (sym (held_by-itself WORKERS) ∙ ap (is_held_by WORKERS) (sym by) ∙ first_slot-none b (is_held_by WORKERS) empty id here)
 
-below-eight : (w : ℕ) → w ≤ 8 → w ≢ 8 → w < 8
-below-eight w most other = elim (leb_tells (suc w) 8) [ inl y ↦ y.1 | inr n ↦ absurd (other (let lower = n.1 in omega (arith, most, lower))) ]
+below-driver : (w : ℕ) → w ≤ WORKERS → w ≢ WORKERS → w < WORKERS
+below-driver w most other = elim (leb_tells (suc w) WORKERS) [ inl y ↦ y.1 | inr n ↦ absurd (other (let lower = n.1 in omega (arith, most, lower))) ]
 
-pub held_at_first : (b : Book) → KeepsWorkers b → first_slot b (is_held_by 8) ≡ None → AreHeldFrom 0 b
-held_at_first b keeps empty = record { from = λ id w h. (omega arith, below-eight w (keeps.known id w h) (not-eight b empty id w h)) }
+pub held_at_first : (b : Book) → KeepsWorkers b → first_slot b (is_held_by WORKERS) ≡ None → AreHeldFrom 0 b
+held_at_first b keeps empty = record { from = λ id w h. (omega arith, below-driver w (keeps.known id w h) (not-driver b empty id w h)) }
 
 pub back_at_first : (b : Book) → IsRunning b → IsGivenBack b b
 back_at_first b running = record { case = refl; opening = refl; best = refl; cuts = refl; running = running }
@@ -119,7 +120,7 @@ free-state : (s : SlotState) → ((w : ℕ) → s ≡ slot.Held w → ⊥) → (
 free-state s never true e = let held = held-is s e in absurd (never held.0 held.1)
 free-state s never false e = e
 
-pub free_at_last : (b : Book) → AreHeldFrom 8 b → HoldsNothing b
+pub free_at_last : (b : Book) → AreHeldFrom WORKERS b → HoldsNothing b
 free_at_last b from = record { none = λ id here. free-state (slot_at b id).state (λ w h. let at = from.from id w h in omega (arith, at.0, at.1)) (is_held (slot_at b id).state) refl }
 
 -- ---- what the caller drives on

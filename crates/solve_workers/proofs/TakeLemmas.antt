@@ -3,6 +3,7 @@ use Rattle.std.proofs.Common.{◌≡◌, ℕ, suc, ◌<◌, ◌≤◌, length, i
 use Rattle.std.proofs.lemmas.Option.{same_Some, none-some}
 use Rattle.std.specs.declared.option.Option.{Option}
 use Rattle.std.proofs.lemmas.Bool.Decides.{eqb_tells}
+use Rattle.lock_model.specs.declared.limits.TheConstants.{WORKERS}
 use Rattle.lock_rules.specs.Node.{Node}
 use Rattle.mooring_rules.specs.declared.breaks.BrokenPlan.{BrokenPlan}
 use Rattle.book_rules.specs.declared.book.SlotState.{SlotState}
@@ -31,16 +32,16 @@ Out = Book × Answer
 
 -- a slot is given, or nothing is open, or the nodes are spent
 data TakeOut (b : Book) (out : Out) : Type 0 where
-  Gives : (id used : ℕ) → id < length b.slots → out ≡ Step.given b 8 id used → TakeOut b out
+  Gives : (id used : ℕ) → id < length b.slots → out ≡ Step.given b WORKERS id used → TakeOut b out
   Ends : given_in out.1 ≡ None → out.0 ≡ b → IsDone b → TakeOut b out
 
-not-held-by : (state : SlotState) → is_held state ≡ false → (t : Bool) → is_held_by 8 state ≡ t → t ≡ false
-not-held-by state off true e = absurd (true≢false (sym (ap is_held (held_by-is 8 state e)) ∙ off))
+not-held-by : (state : SlotState) → is_held state ≡ false → (t : Bool) → is_held_by WORKERS state ≡ t → t ≡ false
+not-held-by state off true e = absurd (true≢false (sym (ap is_held (held_by-is WORKERS state e)) ∙ off))
 not-held-by state off false e = refl
 
 module _ (b : Book) (sound : IsSound b) (free : HoldsNothing b) (running : IsRunning b) where
-  holds-none : first_slot b (is_held_by 8) ≡ None
-  holds-none = first_slot-empty b (is_held_by 8) (λ k here. not-held-by (slot_at b k).state (free.none k here) _ refl)
+  holds-none : first_slot b (is_held_by WORKERS) ≡ None
+  holds-none = first_slot-empty b (is_held_by WORKERS) (λ k here. not-held-by (slot_at b k).state (free.none k here) _ refl)
 
   nothing-open : first_slot b is_back ≡ None → next_fresh b ≡ None → HasNothingOpen b
   nothing-open no_back no_next = record { none = λ id here. by_fresh id here (is_fresh (slot_at b id).state) refl }
@@ -49,7 +50,7 @@ module _ (b : Book) (sound : IsSound b) (free : HoldsNothing b) (running : IsRun
       by_fresh id here true e = absurd (next_fresh-some b sound.parts.family id (record { known = here; is = fresh-is (slot_at b id).state e }) no_next)
       by_fresh id here false e = let back = first_slot-none b is_back no_back id here in (λ j. e j || back j)
 
-  fresh-out : first_slot b is_back ≡ None → (o : Option ℕ) → next_fresh b ≡ o → TakeOut b (Step.take_fresh b 8 o)
+  fresh-out : first_slot b is_back ≡ None → (o : Option ℕ) → next_fresh b ≡ o → TakeOut b (Step.take_fresh b WORKERS o)
   fresh-out no_back None next = by_held (has_slot b is_held)
     where
       done : IsDone b
@@ -62,34 +63,34 @@ module _ (b : Book) (sound : IsSound b) (free : HoldsNothing b) (running : IsRun
     | inl y ↦
         let at = next_fresh-at b id next in
         let spent : IsDone b = record { left = inr (record { used = y.1; back = record { none = first_slot-none b is_back no_back }; id = id; known = at.known; fresh = at.is }) } in
-        subst (TakeOut b) (ap (λ t. cond t (b, machine.NodesSpent b.used) (Step.given b 8 id (suc b.used))) (sym y.0)) (Ends refl refl spent)
+        subst (TakeOut b) (ap (λ t. cond t (b, machine.NodesSpent b.used) (Step.given b WORKERS id (suc b.used))) (sym y.0)) (Ends refl refl spent)
     | inr n ↦
         let at = next_fresh-at b id next in
-        subst (TakeOut b) (ap (λ t. cond t (b, machine.NodesSpent b.used) (Step.given b 8 id (suc b.used))) (sym n.0)) (Gives id (suc b.used) at.known refl)
+        subst (TakeOut b) (ap (λ t. cond t (b, machine.NodesSpent b.used) (Step.given b WORKERS id (suc b.used))) (sym n.0)) (Gives id (suc b.used) at.known refl)
   ]
 
-  slot-out : (o : Option ℕ) → first_slot b is_back ≡ o → TakeOut b (Step.take_slot b 8 o)
+  slot-out : (o : Option ℕ) → first_slot b is_back ≡ o → TakeOut b (Step.take_slot b WORKERS o)
   slot-out (Some id) e = Gives id b.used (first_slot-at b is_back id e).0 refl
   slot-out None e = fresh-out e (next_fresh b) refl
 
-  take-out : TakeOut b (Step.take_step b 8)
+  take-out : TakeOut b (Step.take_step b WORKERS)
   take-out =
       subst (TakeOut b)
-      (sym (ap (λ t. cond t (b, machine.Ended 8) (Step.take_free b 8 (first_slot b (is_held_by 8)))) running.running ∙ ap (Step.take_free b 8) holds-none))
+      (sym (ap (λ t. cond t (b, machine.Ended WORKERS) (Step.take_free b WORKERS (first_slot b (is_held_by WORKERS)))) running.running ∙ ap (Step.take_free b WORKERS) holds-none))
       (slot-out (first_slot b is_back) refl)
 
   -- what was taken is held alone
-  given-holds : (id used : ℕ) → id < length b.slots → HoldsOnly (Step.given {Break = BrokenPlan} b 8 id used).0 id (slot_at b id).node
+  given-holds : (id used : ℕ) → id < length b.slots → HoldsOnly (Step.given {Break = BrokenPlan} b WORKERS id used).0 id (slot_at b id).node
   given-holds id used here = record {
-    held = elim (turned-at b id (slot.Held 8) here id) [
+    held = elim (turned-at b id (slot.Held WORKERS) here id) [
       | Turned is e ↦ ap (λ (s : Slot). s.state) e
       | Untouched other e ↦ absurd (other refl)
     ];
-    others = λ k other. elim (turned-at b id (slot.Held 8) here k) [
+    others = λ k other. elim (turned-at b id (slot.Held WORKERS) here k) [
       | Turned is e ↦ absurd (other is)
       | Untouched apart e ↦ ap (λ (s : Slot). is_held s.state) e ∙ none-at b is_held refl free k
     ];
-    node_is = elim (turned-at b id (slot.Held 8) here id) [
+    node_is = elim (turned-at b id (slot.Held WORKERS) here id) [
       | Turned is e ↦ ap (λ (s : Slot). s.node) e
       | Untouched other e ↦ absurd (other refl)
     ];
@@ -107,12 +108,12 @@ module _ (b : Book) (sound : IsSound b) (free : HoldsNothing b) (running : IsRun
       let is : at ≡ id = ap (λ (p : ℕ × Node). p.0) both in
       let own : (slot_at b at).node ≡ node = ap (λ (p : ℕ × Node). p.1) both in
       record {
-        holds = subst (λ (u : Book). HoldsOnly u id node) (sym (ap (λ (o : Out). o.0) same)) (subst (λ n. HoldsOnly (Step.given {Break = BrokenPlan} b 8 at used).0 n node) is (subst (HoldsOnly (Step.given {Break = BrokenPlan} b 8 at used).0 at) own (given-holds at used here)));
+        holds = subst (λ (u : Book). HoldsOnly u id node) (sym (ap (λ (o : Out). o.0) same)) (subst (λ n. HoldsOnly (Step.given {Break = BrokenPlan} b WORKERS at used).0 n node) is (subst (HoldsOnly (Step.given {Break = BrokenPlan} b WORKERS at used).0 at) own (given-holds at used here)));
         node_of = ap (λ n. (slot_at b n).node) (sym is) ∙ own;
         here = subst (λ n. n < length b.slots) is here;
       }
 
-  module _ (r : Reply) (new : Book) (answers : Answers b (take 8) r new) where
+  module _ (r : Reply) (new : Book) (answers : Answers b (take WORKERS) r new) where
     out-is : TakeOut b (new, answers.answer)
     out-is = subst (TakeOut b) answers.same take-out
 
@@ -125,13 +126,13 @@ module _ (b : Book) (sound : IsSound b) (free : HoldsNothing b) (running : IsRun
     pub taken_falls : (id : ℕ) (node : Node) → node_in r ≡ Some (id, node) → suc (room_of new) ≤ room_of b
     taken_falls id node e =
         subst (λ (o : Out). suc (room_of o.0) ≤ room_of b) answers.same
-        (room-falls (λ _ _. answers.found) b sound.parts.budget sound.parts.workers.nine (take 8) (omega arith) refl accepted)
+        (room-falls (λ _ _. answers.found) b sound.parts.budget sound.parts.workers.nine (take WORKERS) (omega arith) refl accepted)
       where
         by_answer : (a : Answer) → given_in a ≡ Some (id, node) → machine.is_acceptance a ≡ true
         by_answer (machine.Node n t) h = refl
         by_answer _ h = absurd (none-some (id, node) h)
 
-        accepted : machine.is_acceptance (Step.step (λ _ _. answers.found) b (take 8)).1 ≡ true
+        accepted : machine.is_acceptance (Step.step (λ _ _. answers.found) b (take WORKERS)).1 ≡ true
         accepted = ap (λ (o : Out). machine.is_acceptance o.1) answers.same ∙ by_answer answers.answer (told-node r answers.answer answers.said ∙ e)
 
     pub refused_done : node_in r ≡ None → IsDone new

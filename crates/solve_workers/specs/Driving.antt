@@ -1,6 +1,7 @@
 -- What the driver makes of a book.
 use Rattle.std.specs.Prelude.{◌≡◌, ◌≤◌, List, [], ◌∷◌, ⊤}
 use Rattle.std.specs.declared.option.Option.{Option}
+use Rattle.lock_model.specs.declared.limits.TheConstants.{WORKERS}
 use Rattle.lock_model.specs.declared.instance.Instance.{Instance}
 use Rattle.mooring_rules.specs.declared.breaks.BrokenPlan.{BrokenPlan}
 use Rattle.book_rules.specs.Book.{Book}
@@ -14,9 +15,9 @@ pub record Deed : Type 0 where
   pub event : Event
   pub found : Option BrokenPlan
 
--- an event of worker 8, which doesn't end
+-- an event of the driver, who doesn't end
 abbrev pub IsDrivers : Event → Type 0
-IsDrivers (take w) = w ≡ 8
+IsDrivers (take w) = w ≡ WORKERS
 IsDrivers (release w) = ⊥
 IsDrivers _ = ⊤
 

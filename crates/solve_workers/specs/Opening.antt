@@ -16,7 +16,7 @@ with_cuts b cuts = record b { cuts = b.cuts ++ cuts; history = b.history ++ map 
 abbrev pub opened_with : Case → Plan → List Cut → Book
 opened_with case plan cuts = with_cuts (opening_book case plan) cuts
 
--- The book is of this case and its opening plan costs at most this much. Nothing is held, and worker 8 hasn't released.
+-- The book is of this case and its opening plan costs at most this much. Nothing is held, and the driver hasn't released.
 pub record IsReady (case : Case) (cost : ℕ) (b : Book) : Type 0 where
   pub case_is : b.case ≡ case
   pub opening : opening_cost b ≤ cost

@@ -7,7 +7,5 @@ use book_core::Case;
 pub(crate) fn same_case(one: &Case, other: &Case) -> bool
     ensures { IsTrue result ↔ one.now ≡ other.now }
 {
-    one.instance.equals(&other.instance)
-        && one.nodes == other.nodes
-        && one.turns == other.turns
+    one.instance.equals(&other.instance) && one.nodes == other.nodes && one.turns == other.turns
 }

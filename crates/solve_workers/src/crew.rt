@@ -2,6 +2,7 @@
 ghost use Rattle.std.specs.Prelude.{◌≡◌, ◌+◌, ◌≤◌, length, vec_len, vec_capacity, sum_by, All};
 
 use bound_word::{BoundSeat, BoundTable};
+use lock_model::WORKERS_AND_DRIVER;
 use search_book::ShareList;
 use search_worker::Hands;
 use std::sync::ledger::Ledger;
@@ -65,9 +66,9 @@ pub(crate) fn gather<L: Ledger>(
     word: &BoundTable,
     seat: &mut BoundSeat,
 )
-    requires few { length shares.old + vec_len crew ≤ 9 }
+    requires few { length shares.old + vec_len crew ≤ WORKERS_AND_DRIVER }
     requires table { seat.old.table ≡ word.now.table }
-    requires parts { seat.old.view.parts + vec_len crew ≤ 9 }
+    requires parts { seat.old.view.parts + vec_len crew ≤ WORKERS_AND_DRIVER }
     requires seats { All (λ hands. hands.seat.table ≡ word.now.table) crew.items }
     ensures shares { sum_by (λ share. share.parts) shares.new ≡ sum_by (λ share. share.parts) shares.old + vec_len crew }
     ensures table { seat.new.table ≡ word.now.table }

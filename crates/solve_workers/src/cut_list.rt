@@ -1,8 +1,8 @@
 //! The cuts that a search is given.
 ghost use Rattle.std.specs.Prelude.{◌≡◌, ◌++◌, ◌∷◌, [], OnOk, OnErr};
 
-use no_memory::NoMemory;
 use deck_cuts::Cut;
+use no_memory::NoMemory;
 use std::alloc::Global;
 use std::marker::Model;
 

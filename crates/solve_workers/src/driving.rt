@@ -113,10 +113,10 @@ pub(crate) fn finish(driver: &mut Driver<'_>, book: &mut Book) -> Result<(), NoM
     Ok(())
 }
 
-/// Drives the search of a book to its end on this thread, as worker 8, which hasn't released; no
+/// Drives the search of a book to its end on this thread, as the driver, who hasn't released; no
 /// slot is held. It takes slots until nothing is open or the budget is spent, and then closes the
 /// parked slots whose bound is at least the best cost. All that it does to the book is events of
-/// worker 8, also where it refuses, which is for want of memory alone.
+/// the driver, also where it refuses, which is for want of memory alone.
 pub fn drive(alloc: Global, book: &mut Book) -> Result<(), NoMemory>
     requires free { HoldsNothing book.old }
     requires running { IsRunning book.old }

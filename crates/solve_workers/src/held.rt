@@ -9,9 +9,13 @@ ghost use Rattle.solve_workers.specs.Holds.{HoldsInHand, HoldsSlot, node_at};
 
 use crate::told::slot_in;
 use book_core::Book;
+use lock_model::WORKERS;
 use master_branch::Node;
 
-/// A slot that worker 8 holds, with a copy of its node: for prices, by which the book changes while
+/// The number of the driver, behind those of the workers.
+pub(crate) const DRIVER: u8 = WORKERS as u8;
+
+/// A slot that the driver holds, with a copy of its node: for prices, by which the book changes while
 /// the node is worked on. All else looks at the node in the book.
 #[derive(Drop)]
 pub(crate) struct Held {
@@ -20,7 +24,7 @@ pub(crate) struct Held {
 }
 
 impl Held {
-    /// The slot that worker 8 holds, with a copy of its node.
+    /// The slot that the driver holds, with a copy of its node.
     pub(crate) fn of(book: &Book, id: u32) -> Held
         requires { HoldsSlot book.now id }
         ensures id { result.id ≡ id }
@@ -33,7 +37,7 @@ impl Held {
     }
 }
 
-/// The node of the slot that worker 8 holds.
+/// The node of the slot that the driver holds.
 pub(crate) fn held_node(book: &Book, id: u32) -> &Node
     requires { HoldsSlot book.now id }
     ensures { result.now ≡ node_at book.now id }
@@ -44,7 +48,7 @@ pub(crate) fn held_node(book: &Book, id: u32) -> &Node
     }
 }
 
-/// The bound of the node of the slot that worker 8 holds, in minutes.
+/// The bound of the node of the slot that the driver holds, in minutes.
 pub(crate) fn held_bound(book: &Book, id: u32) -> u64
     requires { HoldsSlot book.now id }
     ensures { result ≡ (slot_at book.now id).bound }
@@ -55,7 +59,7 @@ pub(crate) fn held_bound(book: &Book, id: u32) -> u64
     }
 }
 
-/// Takes a slot for worker 8, which holds none; no other is held either. None where nothing is open
+/// Takes a slot for the driver, who holds none; no other is held either. None where nothing is open
 /// or the nodes are spent.
 pub(crate) fn take(book: &mut Book) -> Option<u32>
     requires free { HoldsNothing book.old }
@@ -67,5 +71,5 @@ pub(crate) fn take(book: &mut Book) -> Option<u32>
     ensures driven { IsDriven book.old book.new }
 {
     book.keeps();
-    slot_in(book.take_slot(8))
+    slot_in(book.take_slot(DRIVER))
 }

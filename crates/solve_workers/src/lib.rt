@@ -1,6 +1,6 @@
 //! The search of a case by workers in threads, and its end.
 //!
-//! `solve_from` opens a book with a legal plan and given cuts (`opening`), lets 1 to 8 workers search
+//! `solve_from` opens a book with a legal plan and given cuts (`opening`), lets 1 to `WORKERS` workers search
 //! it (`searching`), and takes it back. Of the book that comes back only its type is known, so the
 //! caller tests that it is the one it opened, and opens a fresh one where a test fails (`settling`,
 //! `comparing`). Then it drives the search to its end on its own thread, so what the contract says
@@ -13,9 +13,9 @@
 //! - Workers: `crew` deals out what each owns and gathers it again, `running` starts them in threads,
 //!   or runs one on the caller's where none can be made, and waits for all. `search_worker` is the
 //!   work of one.
-//! - `drive` works on a book as worker 8 until nothing is open or the budget of nodes is spent, and
+//! - `drive` works on a book as the driver, whose number is that behind the workers', until nothing is open or the budget of nodes is spent, and
 //!   then closes the parked slots whose bound is at least the best cost: the book ends well. All that
-//!   it does to the book is a list of events of worker 8, also where memory runs out. For each node
+//!   it does to the book is a list of events of the driver, also where memory runs out. For each node
 //!   `held` takes it, `working` asks `node_work` what becomes of it, and `ending` makes it so.
 //!
 //! Definitions: `book_rules` says how a search ends well (`specs/Ends`) and what events change;

@@ -3,6 +3,7 @@ ghost use Rattle.std.specs.Prelude.{◌≡◌, ◌+◌, ◌<◌, ◌≤◌, vec_
 
 use bound_word::BoundTable;
 use gates::Gate;
+use lock_model::WORKERS;
 use search_worker::{Hands, Post, search};
 use std::snapshot::Snapshot;
 use std::sync::Wait;
@@ -30,7 +31,7 @@ fn start<'s, E, L: Ledger + Send + Sync, R: Threads + Wait + Sync, G: Gate + Syn
     running: &mut Vec<Running<L>>,
     ended: &mut Vec<Hands<L>>,
 )
-    requires worker { worker < 8 }
+    requires worker { worker < WORKERS }
     requires seat { hands.seat.table ≡ post.now.word.now.table }
     requires room_running { vec_len running.old < vec_capacity running.old }
     requires room_ended { vec_len ended.old < vec_capacity ended.old }
@@ -55,7 +56,7 @@ fn start_all<'s, E, L: Ledger + Send + Sync, R: Threads + Wait + Sync, G: Gate +
     running: &mut Vec<Running<L>>,
     ended: &mut Vec<Hands<L>>,
 )
-    requires few { vec_len crew ≤ 8 }
+    requires few { vec_len crew ≤ WORKERS }
     requires seats { All (λ h. h.seat.table ≡ post.now.word.now.table) crew.items }
     requires empty { (vec_len running.old ≡ 0) × (vec_len ended.old ≡ 0) }
     requires room { (vec_len crew ≤ vec_capacity running.old) × (vec_len crew ≤ vec_capacity ended.old) }
@@ -96,7 +97,7 @@ fn run_in<'s, E, L: Ledger + Send + Sync, R: Threads + Wait + Sync, G: Gate + Sy
     mut running: Vec<Running<L>>,
     mut ended: Vec<Hands<L>>,
 ) -> Vec<Hands<L>>
-    requires few { vec_len crew ≤ 8 }
+    requires few { vec_len crew ≤ WORKERS }
     requires seats { All (λ h. h.seat.table ≡ post.now.word.now.table) crew.items }
     requires empty { (vec_len running ≡ 0) × (vec_len ended ≡ 0) }
     requires room { (vec_len crew ≤ vec_capacity running) × (vec_len crew ≤ vec_capacity ended) }
@@ -115,7 +116,7 @@ pub(crate) fn run_all<'s, L: Ledger + Send + Sync, R: Threads + Wait + Sync, G: 
     running: Vec<Running<L>>,
     ended: Vec<Hands<L>>,
 ) -> Vec<Hands<L>>
-    requires few { vec_len crew ≤ 8 }
+    requires few { vec_len crew ≤ WORKERS }
     requires seats { All (λ h. h.seat.table ≡ post.now.word.now.table) crew.items }
     requires empty { (vec_len running ≡ 0) × (vec_len ended ≡ 0) }
     requires room { (vec_len crew ≤ vec_capacity running) × (vec_len crew ≤ vec_capacity ended) }
@@ -126,7 +127,7 @@ pub(crate) fn run_all<'s, L: Ledger + Send + Sync, R: Threads + Wait + Sync, G: 
         thread::scope_env(),
         post.rt,
         |scope| -> Vec<Hands<L>>
-            requires few { vec_len crew ≤ 8 }
+            requires few { vec_len crew ≤ WORKERS }
             requires seats { All (λ h. h.seat.table ≡ post.now.word.now.table) crew.items }
             requires empty { (vec_len running ≡ 0) × (vec_len ended ≡ 0) }
             requires room { (vec_len crew ≤ vec_capacity running) × (vec_len crew ≤ vec_capacity ended) }

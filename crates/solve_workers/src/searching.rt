@@ -10,6 +10,7 @@ use bound_word::{BoundSeat, BoundTable};
 use cut_pool::{Pool, Token};
 use deck_cuts::{Cut, copy_cut};
 use gates::Gate;
+use lock_model::WORKERS;
 use master_branch::arrival_order;
 use no_memory::NoMemory;
 use node_work::Search;
@@ -53,7 +54,7 @@ fn quota(case: &Case, workers: u8, board: Option<&Board>) -> u32
     }
 }
 
-/// What a search is lent: handles and the case, and how many workers it has, 1 to 8.
+/// What a search is lent: handles and the case, and how many workers it has, 1 to `WORKERS`.
 #[derive(Drop)]
 pub(crate) struct Lent<'s, R: Threads + Wait + Sync, G: Gate + Sync> {
     pub(crate) rt: &'s R,
@@ -62,7 +63,7 @@ pub(crate) struct Lent<'s, R: Threads + Wait + Sync, G: Gate + Sync> {
     pub(crate) case: &'s Case,
     pub(crate) workers: u8,
     pub(crate) ghost some_workers: { 1 ≤ workers },
-    pub(crate) ghost few_workers: { workers ≤ 8 },
+    pub(crate) ghost few_workers: { workers ≤ WORKERS },
 }
 
 // What workers have beside their book: the pool of its cuts, and the table of the best cost with the

@@ -12,32 +12,33 @@ ghost use Rattle.solve_workers.specs.Settling.{IsOurs, IsFreed};
 
 use crate::comparing::same_case;
 use crate::cut_list::CutList;
+use crate::held::DRIVER;
 use crate::opening::opened;
 use book_core::{Book, Case};
-use lock_model::Plan;
+use lock_model::{Plan, WORKERS};
 use no_memory::NoMemory;
 use std::alloc::Global;
 
-// Whether the book is of this case and was opened at this cost, and worker 8 has neither ended nor
+// Whether the book is of this case and was opened at this cost, and the driver has neither ended nor
 // holds a slot.
 fn is_ours(book: &Book, case: &Case, cost: u64) -> bool
     ensures { IsTrue result ↔ IsOurs case.now cost book.now }
 {
     same_case(book.case(), case)
         && book.opening_cost() == cost
-        && !book.ended(8)
-        && book.held_by(8).is_none()
+        && !book.ended(DRIVER)
+        && book.held_by(DRIVER).is_none()
 }
 
 #[tactic(auto, using(crate::proofs::SettleLemmas::free_at_last))]
-// Releases the workers below 8; the book refuses those that have ended.
+// Releases the workers; the book refuses those that have ended.
 fn release_others(book: &mut Book)
     requires running { IsRunning book.old }
-    requires empty { first_slot book.old (is_held_by 8) ≡ None }
+    requires empty { first_slot book.old (is_held_by WORKERS) ≡ None }
     ensures { IsFreed book.old book.new }
 {
     book.keeps();
-    for worker in 0..8 {
+    for worker in 0..DRIVER {
         book.keeps();
         book.release(worker);
     }
@@ -45,7 +46,7 @@ fn release_others(book: &mut Book)
 
 #[tactic(auto, using(crate::proofs::SettleLemmas::freed_ready, crate::proofs::OpeningLemmas::opened_ready_ok))]
 /// The book to drive on: the one that the workers leave, without what they hold, where it is of the
-/// case, was opened at this cost, which is at least the plan's, and worker 8 is free. Else it is a fresh book
+/// case, was opened at this cost, which is at least the plan's, and the driver is free. Else it is a fresh book
 /// of the plan with the given cuts. Refuses want of memory alone.
 pub(crate) fn settled(
     alloc: Global,

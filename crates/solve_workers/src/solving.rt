@@ -14,7 +14,7 @@ use crate::settling::settled;
 use book_core::{Book, Case};
 use first_plan::{FirstError, first_plan};
 use gates::Gate;
-use lock_model::Plan;
+use lock_model::{Plan, WORKERS};
 use no_memory::NoMemory;
 use std::alloc::Global;
 use std::sync::Wait;
@@ -48,7 +48,7 @@ pub fn solve<R: Threads + Wait + Sync, G: Gate + Sync>(
     gate: &G,
 ) -> Result<Solved, NoMemory>
     requires some_workers { 1 ≤ workers }
-    requires few_workers { workers ≤ 8 }
+    requires few_workers { workers ≤ WORKERS }
     ensures case { IfOk result (λ solved. solved.book.case ≡ case.now) }
     ensures well { IfOk result (λ solved. EndsWell (singles_of case.now.instance) solved.book) }
 {
@@ -58,7 +58,7 @@ pub fn solve<R: Threads + Wait + Sync, G: Gate + Sync>(
 
 #[tactic(auto, using(crate::proofs::ReadyLemmas::opened_within))]
 /// Searches a case from a legal plan and cuts of its chambers and ships, which are posted first, with
-/// 1 to 8 workers. Each of two or more workers has a thread of its own where one can be made. When
+/// 1 to `WORKERS` workers. Each of two or more workers has a thread of its own where one can be made. When
 /// all have ended, the caller drives the search to its end on its own thread; one worker alone is the
 /// caller. It may wait for the workers.
 ///
@@ -74,7 +74,7 @@ pub fn solve_from<R: Threads + Wait + Sync, G: Gate + Sync>(
     gate: &G,
 ) -> Result<Solved, NoMemory>
     requires some_workers { 1 ≤ workers }
-    requires few_workers { workers ≤ 8 }
+    requires few_workers { workers ≤ WORKERS }
     requires legal { IsLegal case.now.instance plan }
     requires own { All (IsOwnCut case.now.instance) cuts }
     ensures case { IfOk result (λ solved. solved.book.case ≡ case.now) }

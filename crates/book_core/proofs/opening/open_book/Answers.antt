@@ -1,4 +1,5 @@
 use Rattle.std.proofs.Common.{◌≡◌, [], ◌∷◌, ◌++◌, length, refl, sym, ap, ◌∙◌, subst, arith, nat_le, replicate, false, None}
+use Rattle.lock_model.specs.declared.limits.TheConstants.{WORKERS_AND_DRIVER}
 use Rattle.lock_rules.specs.Plan.{cost_of}
 use Rattle.lock_rules.specs.Throughput.{throughput_of}
 use Rattle.book_rules.specs.Book.{Case, bound_at, opening_book, new_slot}
@@ -34,7 +35,7 @@ invariant_of-result c =
       plans = c.new-3.result.items;
       best = plan;
       used = 0;
-      ended = replicate 9 false;
+      ended = replicate WORKERS_AND_DRIVER false;
       history = c.in_ok-history.history.items;
     } ≡ opening_book case plan =
     (λ i. record {
@@ -46,15 +47,15 @@ invariant_of-result c =
       plans = c.new-3.ensures.items i;
       best = plan;
       used = 0;
-      ended = replicate 9 false;
+      ended = replicate WORKERS_AND_DRIVER false;
       history = c.in_ok-history.ensures.items i;
     }) in
     let good : IsCase case = subst IsCase c.case.view_is c.case.invariant in
     record {
       sound = subst IsSound (sym same) (opening-sound case plan good c.requires);
-      tables = subst (λ b. AreTables (slots_of c.copy.result.instance c.push_reserved.new.self.items) (replicate 9 false) (replicate 9 None) b c.new-5.result.items) (sym c.new-4.ensures)
-          (subst (AreTables (slots_of c.copy.result.instance c.push_reserved.new.self.items) (replicate 9 false) (replicate 9 None) []) (sym c.new-5.ensures.items)
-          (subst (λ l. AreTables l (replicate 9 false) (replicate 9 None) [] []) (sym slots) (opening-tables first (nat_le (cost_of case.instance plan) (bound_at case.instance root)) refl)));
+      tables = subst (λ b. AreTables (slots_of c.copy.result.instance c.push_reserved.new.self.items) (replicate WORKERS_AND_DRIVER false) (replicate WORKERS_AND_DRIVER None) b c.new-5.result.items) (sym c.new-4.ensures)
+          (subst (AreTables (slots_of c.copy.result.instance c.push_reserved.new.self.items) (replicate WORKERS_AND_DRIVER false) (replicate WORKERS_AND_DRIVER None) []) (sym c.new-5.ensures.items)
+          (subst (λ l. AreTables l (replicate WORKERS_AND_DRIVER false) (replicate WORKERS_AND_DRIVER None) [] []) (sym slots) (opening-tables first (nat_le (cost_of case.instance plan) (bound_at case.instance root)) refl)));
       nodes = opening-nodes c.copy.result.instance (slots_of c.copy.result.instance c.push_reserved.new.self.items);
       path = path-new c.copy.result.instance (slots_of c.copy.result.instance c.push_reserved.new.self.items) c.in_ok-path.path c.in_ok-path.ensures.nodes c.in_ok-path.ensures.room;
       roster_is = subst (λ I. IsRosterOf I c.of.result) (ap (λ (k : Case). k.instance) (c.case.view_is ∙ sym c.copy.ensures)) c.of.ensures;

@@ -1,6 +1,7 @@
 use Rattle.std.proofs.Common.{◌∷◌, ◌++◌, ◌<◌, List, [], length, take, drop, sym, ap, subst, ◌∙◌}
 use Rattle.std.proofs.lemmas.List.{take_rest}
 use Rattle.std.specs.List.{list_any}
+use Rattle.lock_model.specs.declared.limits.TheConstants.{CLOSURES}
 use Rattle.lock_model.specs.Closures.{AreClosures}
 use Rattle.instance_text.specs.Closing.{share_a_minute}
 use Rattle.lock_model.specs.declared.closure.Closure.{Closure}
@@ -11,7 +12,7 @@ pub append-requires : goal.append-requires
 append-requires c =
     let others = c.as_slice-others.result.now in
     let kept = subst (λ n. AreClosures (take n others ++ c.args.closure ∷ drop n others)) (sym c.place_at-place.ensures.value)
-    (put_closure-kept c.args.closure others c.as_slice-others.ensures.kept (subst (λ (xs : List Closure). length xs < 8) (sym c.as_slice-others.ensures.value) c.requires.room) c.requires.good
+    (put_closure-kept c.args.closure others c.as_slice-others.ensures.kept (subst (λ (xs : List Closure). length xs < CLOSURES) (sym c.as_slice-others.ensures.value) c.requires.room) c.requires.good
     (ap (list_any (share_a_minute c.args.closure)) c.as_slice-others.ensures.value ∙ c.requires.apart)) in
     put_front c.args.closure others c.new-all.result c.place_at-place.result kept c.new-all.ensures
 
@@ -19,7 +20,7 @@ pub push-requires : goal.push-requires
 push-requires c =
     let others = c.as_slice-others.result.now in
     let kept = subst (λ n. AreClosures (take n others ++ c.args.closure ∷ drop n others)) (sym c.place_at-place.ensures.value)
-    (put_closure-kept c.args.closure others c.as_slice-others.ensures.kept (subst (λ (xs : List Closure). length xs < 8) (sym c.as_slice-others.ensures.value) c.requires.room) c.requires.good
+    (put_closure-kept c.args.closure others c.as_slice-others.ensures.kept (subst (λ (xs : List Closure). length xs < CLOSURES) (sym c.as_slice-others.ensures.value) c.requires.room) c.requires.good
     (ap (list_any (share_a_minute c.args.closure)) c.as_slice-others.ensures.value ∙ c.requires.apart)) in
     let step = put_middle c.args.closure others c.append.new.closures c.place_at-place.result kept (c.append.ensures ∙ ap (λ xs. xs ++ take c.place_at-place.result others) c.new-all.ensures) in
     record { room = step.0; good = step.1; later = step.2 }
@@ -28,7 +29,7 @@ pub append-requires-2 : goal.append-requires-2
 append-requires-2 c =
     let others = c.as_slice-others.result.now in
     let kept = subst (λ n. AreClosures (take n others ++ c.args.closure ∷ drop n others)) (sym c.place_at-place.ensures.value)
-    (put_closure-kept c.args.closure others c.as_slice-others.ensures.kept (subst (λ (xs : List Closure). length xs < 8) (sym c.as_slice-others.ensures.value) c.requires.room) c.requires.good
+    (put_closure-kept c.args.closure others c.as_slice-others.ensures.kept (subst (λ (xs : List Closure). length xs < CLOSURES) (sym c.as_slice-others.ensures.value) c.requires.room) c.requires.good
     (ap (list_any (share_a_minute c.args.closure)) c.as_slice-others.ensures.value ∙ c.requires.apart)) in
     put_back c.args.closure others c.push.new.self _ c.place_at-place.result kept
     (c.push.ensures ∙ ap (λ xs. xs ++ c.args.closure ∷ []) (c.append.ensures ∙ ap (λ xs. xs ++ take c.place_at-place.result others) c.new-all.ensures))
