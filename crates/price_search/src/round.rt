@@ -5,7 +5,7 @@ ghost use Rattle.master_branch.specs.Node.{IsNodeOf};
 use crate::placing::Placer;
 use crate::pricing::Pricing;
 use deck_cuts::Cut;
-use lock_model::{Group, Instance, Plan};
+use lock_model::{CHAMBERS, Group, Instance, Plan};
 use master_branch::{Node, arrival_order};
 use near_plan::{fits, near_plan};
 use no_memory::NoMemory;
@@ -111,7 +111,7 @@ fn place_groups<K: KnownCuts>(
     ensures { placer.new.search.now.instance.now ≡ instance.now }
 {
     for (chamber, line) in lines.lines.as_slice().iter().enumerate() {
-        if chamber < 4 {
+        if chamber < CHAMBERS {
             place_line(instance, chamber as u8, line.groups.as_slice(), placer)?;
         }
     }
