@@ -4,9 +4,9 @@ ghost use Rattle.spot_place.specs.Placing.{IsSpotPlaced, RefutesExactly, SpendsE
 
 use crate::spot_case::SpotCase;
 use case_search::{Found, search};
+use deck_cuts::{HardSpots, hard_spots};
 use deck_laws::spot_values;
 use lock_model::{Deck, Spots};
-use deck_cuts::{HardSpots, hard_spots};
 use plain_text::NoMemory;
 use refute_rules::Marks;
 use std::alloc::Global;
