@@ -156,9 +156,10 @@ pub(crate) fn order_ships(search: &mut Search, deck: &Deck) -> Result<Visit, NoM
     if let Some(fault) = whole_fault(deck, search.case.choices()) {
         return close(search, deck, fault);
     }
-    add_berths(deck, search.case.choices(), &mut search.edges);
+    let choices = search.case.choices();
+    add_berths(deck, choices, &mut search.edges);
     let solved = LongestPaths::of(&search.edges, place_count(deck));
-    let pairs = overlapping(deck, search.case.choices());
+    let pairs = overlapping(deck, choices);
     let visit = order_pairs(search, deck, solved, &pairs)?;
     search.edges.truncate(0);
     Ok(visit)

@@ -15,6 +15,8 @@ use Rattle.lock_rules.specs.Arrival.{numbers_from}
 use Rattle.diff_rules.specs.declared.edges.Edge.{Edge}
 use Rattle.diff_rules.specs.Differences.{IsSystem, IsPositiveCycle, no_edge}
 use Rattle.refute_rules.specs.declared.choices.Decision.{Decision}
+use Rattle.refute_rules.specs.declared.choices.Choice.{Choice}
+use Rattle.refute_rules.specs.declared.choices.Choice.TheVariants.{Lies, Before, Below, LiesAt}
 use Rattle.refute_rules.specs.Choices.{decisions}
 use Rattle.refute_rules.specs.Edges.{x_var, y_var, edge, ship_edges, berth_edges, choice_edges, case_edges}
 use Rattle.refute_rules.specs.Cases.{vars_of}
@@ -117,6 +119,7 @@ module _ (d : Deck) (limits : IsDeck d) where
       let j_in = k.1 in
       let n = k.2 in
       (record { from = omega (arith, i_in); to = omega (arith, j_in); low = omega (arith, ints, wide.1, side); high = omega (arith, ints, wide.1, side); differ = λ e. n (omega (arith, e)) }, tt)
+  pick-good (LiesAt i x) k = tt
 
   picks-good : (ds : List Decision) (ps : List Choice) → AreChosen d ds ps → AllByRecursion Good (flat_map (choice_edges d) ps)
   picks-good ds [] chosen = tt

@@ -9,6 +9,8 @@ use Rattle.diff_system.specs.PathTree.{PathTree, AreLongest}
 use Rattle.refute_rules.specs.Edges.{case_edges, choice_edges}
 use Rattle.refute_rules.specs.Decided.{HasOtherRank}
 use Rattle.refute_rules.specs.Cases.{IsConsistent, IsCaseFault, vars_of}
+use Rattle.refute_rules.specs.declared.choices.Decision.{Decision}
+use Rattle.refute_rules.specs.declared.choices.Decision.TheVariants.{BerthOf}
 use Rattle.refute_rules.specs.declared.choices.Choice.{Choice}
 use Rattle.refute_rules.specs.declared.choices.Choice.TheVariants.{Before}
 use Rattle.refute_rules.specs.Choices.{options_of, decisions}
@@ -17,6 +19,7 @@ use Rattle.deck_cases.specs.Asked.{IsAsked, IsOfDeck}
 use Rattle.chamber_place.specs.Faults.{fault_of}
 use Rattle.chamber_place.specs.declared.faults.CaseFault.{CaseFault}
 use Rattle.case_search.proofs.ListLemmas.{take-front}
+use Rattle.deck_cases.proofs.DecisionLemmas.{case-few}
 use Rattle.chamber_place.proofs.EdgeLemmas.{case-edges-few}
 use Rattle.chamber_place.specs.OnItsWay.{Progress, case_rules, AreChosen, no_paths, paths_at, IsSettled, IsOnItsWay}
 use Rattle.chamber_place.proofs.WayLemmas.{first-options, no-options, asked-next, good-paths, good-fault, last-settled, more-chosen, more-edges, more-faulty, more-good, last-edges, back-way, back-case}
@@ -59,6 +62,12 @@ module _ (d : Deck) (decided : List Decision) (picks : List Choice) (edges : Lis
 
   less : length picks < length decided
   less = next-less d decided picks way.in_order v view option h
+
+  pub enter-less : k < length decided
+  enter-less = let l = less in omega (arith, l, k_is)
+
+  pub enter-fits : length picks < 36
+  enter-fits = let l = less in let all = ap length way.in_order in let few = case-few (length d.ships) way.limits.count.1 in omega (arith, l, all, few)
 
   pub enter-bounds : k < length paths
   enter-bounds = let count = good-paths d decided picks edges paths fault way good in omega (arith, count, k_is)

@@ -81,6 +81,7 @@ berth-known d (x ∷ ds) (Lies j c ∷ ps) i b chosen e = elim (eqb_tells j i) [
 ]
 berth-known d (x ∷ ds) (Before j k ∷ ps) i b chosen e = berth-known d ds ps i b chosen.2 e
 berth-known d (x ∷ ds) (Below j k ∷ ps) i b chosen e = berth-known d ds ps i b chosen.2 e
+berth-known d (x ∷ ds) (LiesAt j v ∷ ps) i b chosen e = berth-known d ds ps i b chosen.2 e
 
 pub ranks-all : (d : Deck) (ps : List Choice) → AreChosen d (decisions (length d.ships)) ps → ((i : ℕ) → i < length d.ships → HasOtherRank ps i → ⊥) → (i : ℕ) → HasOtherRank ps i → ⊥
 ranks-all d ps chosen few i h = few i (berth-known d (decisions (length d.ships)) ps i _ chosen h.lies) h

@@ -1,10 +1,22 @@
-use Rattle.std.proofs.Common.{rules, ◌≡◌, ◌<◌, List, length, subst, sym, ap, ◌∙◌, slice_index_or}
+use Rattle.std.proofs.Common.{rules, lit<, ◌≡◌, ◌<◌, List, length, subst, sym, ap, ◌∙◌, slice_index_or}
 use Rattle.diff_system.specs.PathTree.{PathTree}
 use Rattle.refute_rules.specs.Cases.{IsCaseFault}
 use Rattle.chamber_place.specs.Faults.{fault_of}
 use Rattle.chamber_place.specs.OnItsWay.{IsSettled}
-use Rattle.chamber_place.proofs.EnterLemmas.{enter-bounds, enter-room, enter-known, enter-option, enter-chosen, enter-last, enter-case, enter-edges, enter-longest, enter-faulty, enter-good}
+use Rattle.chamber_place.proofs.EnterLemmas.{enter-less, enter-fits, enter-bounds, enter-room, enter-known, enter-option, enter-chosen, enter-last, enter-case, enter-edges, enter-longest, enter-faulty, enter-good}
 use Rattle.chamber_place.proofs.deck_case.DeckCaseTrack.enter.Goals as goal
+
+pub at-decision-requires : goal.at-decision-requires
+at-decision-requires c =
+    let i = c.self.inside in
+    let taken : c.len-taken.result ≡ length i.choices.items = search rules in
+    enter-less i.deck i.decisions i.choices.items i.edges i.paths.items i.fault c.self.invariant c.args.self.now c.self.view_is c.args.option c.requires.good c.requires.option c.len-taken.result taken
+
+pub push-requires : goal.push-requires
+push-requires c =
+    let i = c.self.inside in
+    let taken : c.len-taken.result ≡ length i.choices.items = search rules in
+    (lit< tt, enter-fits i.deck i.decisions i.choices.items i.edges i.paths.items i.fault c.self.invariant c.args.self.now c.self.view_is c.args.option c.requires.good c.requires.option c.len-taken.result taken)
 
 pub option_at-last-requires-clause-asked : goal.option_at-last-requires-clause-asked
 option_at-last-requires-clause-asked c =
@@ -24,8 +36,8 @@ add_edges-requires-clause-room c =
     let taken : c.len-taken.result ≡ length i.choices.items = search rules in
     enter-room i.deck i.decisions i.choices.items i.edges i.paths.items i.fault c.self.invariant c.args.self.now c.self.view_is c.args.option c.requires.good c.requires.option c.len-taken.result taken
 
-pub bounds-as_slice-taken-2 : goal.bounds-as_slice-taken-2
-bounds-as_slice-taken-2 c =
+pub bounds-as_slice-taken : goal.bounds-as_slice-taken
+bounds-as_slice-taken c =
     let i = c.self.inside in
     let taken : c.len-taken.result ≡ length i.choices.items = search rules in
     subst (λ (ts : List PathTree). c.len-taken.result < length ts) (sym c.as_slice-2.ensures.value) (enter-bounds i.deck i.decisions i.choices.items i.edges i.paths.items i.fault c.self.invariant c.args.self.now c.self.view_is c.args.option c.requires.good c.requires.option c.len-taken.result taken)
