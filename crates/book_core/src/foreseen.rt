@@ -14,7 +14,7 @@ use book_rules::SlotState;
 use flow_bounds::{Bounds, Roster, child_bounds};
 use lock_model::Instance;
 use master_branch::Node;
-use price_bound::same_instance;
+use price_terms::same_instance;
 
 /// A node of an instance, which lacks a ship, and the bounds of all its children in order, in
 /// minutes, worked out without a book.

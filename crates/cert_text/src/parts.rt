@@ -16,7 +16,7 @@ use crate::prices::put_prices;
 use cert_check::CertCuts;
 use lock_model::Plan;
 use plain_text::NoMemory;
-use price_bound::Prices;
+use price_terms::Prices;
 use serde_json::{Map, Value};
 use std::alloc::Global;
 

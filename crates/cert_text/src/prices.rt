@@ -13,7 +13,7 @@ use crate::value::number_below;
 use crate::why::push_words;
 use arrayvec::ArrayVec;
 use cert_check::PriceLists;
-use price_bound::Prices;
+use price_terms::Prices;
 use serde_json::Value;
 use std::alloc::{AllocError, Global};
 

@@ -7,7 +7,7 @@ use crate::row::Row;
 use crate::sets::without;
 use lock_model::{Group, Instance, Ships};
 use plain_text::NoMemory;
-use price_bound::LooseLines;
+use price_terms::LooseLines;
 
 // The ships of a group that the draft lacks.
 fn lacking(instance: &Instance, draft: &Draft, ships: &Ships) -> Ships {

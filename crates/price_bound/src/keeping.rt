@@ -5,12 +5,11 @@ ghost use Rattle.price_bound.specs.declared.keeping.KeptLine.{KeptLine};
 ghost use Rattle.price_bound.specs.Keeping.{AreUnder, IsFound, IsOf};
 ghost use Rattle.price_bound.specs.Stock.{AreStocks};
 
-use crate::error::{Limits, PriceError};
 use crate::kept_groups::KeptGroups;
-use crate::line_case::LineCase;
-use crate::loose_line::{LooseLine, copied};
 use crate::terms::Terms;
 use lock_model::Group;
+use price_groups::LineCase;
+use price_terms::{Limits, LooseLine, PriceError, copied};
 use std::alloc::Global;
 use std::marker::Model;
 
@@ -20,7 +19,7 @@ const MOST_LINES: usize = 100;
 const MOST_GROUPS: usize = 100;
 
 // A chamber's line at a node, and a loose line of it of the least worth, if there is a loose one.
-#[derive(Debug, Drop)]
+#[derive(Drop)]
 pub(crate) struct KeptLine {
     chamber: u8,
     line: Vec<Group>,
@@ -98,7 +97,7 @@ fn worked_out(
 /// on what is kept. At most 100 lines are kept, in less than 200 kilobytes besides a copy of the cuts and
 /// what the last line takes. Of each chamber, for each way and each group of a line, as many groups are
 /// kept as the limits allow, or as grow where there are none, 28 bytes each.
-#[derive(Debug, Drop)]
+#[derive(Drop)]
 pub struct KeptLines {
     alloc: Global,
     terms: Option<Terms>,

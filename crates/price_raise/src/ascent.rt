@@ -4,7 +4,7 @@ ghost use Rattle.std.specs.Bool.{OnTrue, OnFalse};
 ghost use Rattle.price_raise.specs.Raising.{IsWeighed};
 
 use crate::stands::Stands;
-use price_bound::Prices;
+use price_terms::Prices;
 
 /// How an ascent goes on: so many steps at the most; after so many without gain it goes back to the
 /// best prices, with steps a third shorter; and after each span of so many steps it ends, unless so

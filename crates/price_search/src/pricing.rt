@@ -9,7 +9,8 @@ use crate::round::LIMITS;
 use lock_model::Instance;
 use master_branch::Node;
 use plain_text::NoMemory;
-use price_bound::{ChamberCut, KeptLines, PricedNode, Prices, Shown, show};
+use price_bound::{KeptLines, PricedNode, show};
+use price_terms::{ChamberCut, Prices, Shown};
 use price_raise::{Ascent, Pace};
 use std::alloc::Global;
 
@@ -75,7 +76,7 @@ fn copy_cuts(alloc: Global, cuts: &[ChamberCut]) -> Result<Vec<ChamberCut>, NoMe
 /// The prices of the nodes on the way from the root to the one in hand, those that are raised at the
 /// node in hand, how soon the first node is left, the first cuts of the book, how many rounds may be made
 /// still, and least lines that are kept from call to call.
-#[derive(Debug, Drop)]
+#[derive(Drop)]
 pub struct Pricing {
     pub(crate) path: Vec<Offer>,
     pub(crate) ascent: Ascent,

@@ -11,7 +11,8 @@ use node_work::{KnownCuts, Search};
 use place_refute::Cut;
 use placed_groups::Memory;
 use plain_text::NoMemory;
-use price_bound::{Limits, LooseLines, PriceError, PricedNode, Prices, least_lines};
+use price_bound::{PricedNode, least_lines};
+use price_terms::{Limits, LooseLines, PriceError, Prices};
 use price_raise::Stands;
 use std::alloc::Global;
 
@@ -51,7 +52,7 @@ pub struct Round {
 }
 
 // What is found of the least lines of a node.
-#[derive(Debug, Drop)]
+#[derive(Drop)]
 enum Least {
     Lines(LooseLines),
     // A chamber has no loose line, so that no legal plan lies under the node.

@@ -17,7 +17,7 @@ use crate::replies::{is_accepting, is_idle};
 use crate::shutting::{ByPrice, close_price_and_take};
 use book_core::Reply;
 use plain_text::NoMemory;
-use price_bound::ChamberCut;
+use price_terms::ChamberCut;
 use std::hint::spin_loop;
 use std::sync::ledger::{Ledger, Share};
 use std::sync::{Condvar, Mutex, MutexGuard, Wait};

@@ -12,7 +12,7 @@ use crate::kept::Kept;
 use crate::next::Next;
 use crate::replies::is_accepting;
 use book_core::{Book, Reply};
-use price_bound::Shown;
+use price_terms::Shown;
 use std::sync::ledger::{Ledger, Share};
 
 /// How a slot is closed by prices: its number and theirs, and what was shown of its node and of them.

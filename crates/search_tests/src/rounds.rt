@@ -3,7 +3,7 @@ use lock_model::{Instance, Ships};
 use master_branch::root;
 use node_work::{KnownCuts, Search};
 use placed_groups::Memory;
-use price_bound::{ChamberCut, Prices};
+use price_terms::{ChamberCut, Prices};
 use price_search::{Asked, FirstNode, Pricing, Round, RoundEnd};
 use std::process::Abort;
 use std::test::Fail;

@@ -15,7 +15,7 @@ use master_branch::Node;
 use node_work::Fate;
 use place_refute::Cut;
 use plain_text::NoMemory;
-use price_bound::Prices;
+use price_terms::Prices;
 use price_search::{Asked, MOST_AT_A_NODE, Offer, Pricing, Round, RoundEnd};
 use search_book::Event;
 use std::mem;

@@ -2,7 +2,7 @@
 ghost use Rattle.std.specs.Prelude.{◌≡◌, ◌↔◌, IsTrue};
 
 use book_core::Case;
-use price_bound::same_instance;
+use price_terms::same_instance;
 
 /// Whether two cases are the same.
 pub(crate) fn same_case(one: &Case, other: &Case) -> bool

@@ -1,6 +1,6 @@
 //! Steps of ascents, worked out by hand.
 use lock_model::Ships;
-use price_bound::Prices;
+use price_terms::Prices;
 use price_raise::{Ascent, Pace, Stands};
 use std::test::Fail;
 

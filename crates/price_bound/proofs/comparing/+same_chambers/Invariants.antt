@@ -1,5 +1,0 @@
-use Rattle.std.proofs.Common.{length}
-use Rattle.price_bound.proofs.comparing.+same_chambers.Given as goal
-
-abbrev pub decreases-same_chambers : goal.decreases-same_chambers
-decreases-same_chambers l = length l.some.now

@@ -1,5 +1,0 @@
-use Rattle.std.proofs.Common.{length}
-use Rattle.price_bound.proofs.comparing.+same_ships.Given as goal
-
-abbrev pub decreases-same_ships : goal.decreases-same_ships
-decreases-same_ships l = length l.some.now
