@@ -3,7 +3,7 @@ ghost use Rattle.std.specs.Prelude.{◌≡◌, ◌<◌, ◌^◌, length, IfOk};
 
 use book_core::Book;
 use certificate_parts::PriceLists;
-use price_bound::Prices;
+use price_terms::Prices;
 use std::alloc::{AllocError, Global};
 
 // How many prices there are. All of them stand in memory, so that their number is below 2^63.

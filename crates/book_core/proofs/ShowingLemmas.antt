@@ -8,9 +8,9 @@ use Rattle.lock_model.specs.declared.instance.Instance.{Instance}
 use Rattle.lock_rules.specs.Node.{Node}
 use Rattle.mooring_rules.specs.declared.breaks.BrokenPlan.{BrokenPlan}
 use Rattle.price_rules.specs.Prices.{Reaches}
-use Rattle.price_bound.specs.Claim.{Claim, IsReached}
-use Rattle.price_bound.specs.Cuts.{plain_cut, plain_cuts, same_cut}
-use Rattle.price_bound.specs.declared.cut.ChamberCut.{ChamberCut}
+use Rattle.price_terms.specs.Claim.{Claim, IsReached}
+use Rattle.price_terms.specs.Cuts.{plain_cut, plain_cuts, same_cut}
+use Rattle.price_terms.specs.declared.cut.ChamberCut.{ChamberCut}
 use Rattle.refute_rules.specs.Cuts.{Cut}
 use Rattle.closing_rules.specs.declared.grounds.Ground.TheVariants as by
 use Rattle.book_rules.specs.Book.{Book, best_cost}

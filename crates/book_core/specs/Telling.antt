@@ -1,7 +1,7 @@
 -- What is shown beside a book, as the book machine sees it.
 use Rattle.std.specs.Prelude.{map}
-use Rattle.price_bound.specs.Claim.{Claim}
-use Rattle.price_bound.specs.declared.cut.ChamberCut.{ChamberCut}
+use Rattle.price_terms.specs.Claim.{Claim}
+use Rattle.price_terms.specs.declared.cut.ChamberCut.{ChamberCut}
 use Rattle.refute_rules.specs.Cuts.{Cut}
 use Rattle.book_rules.specs.Shown.{Shown, ChamberCut as ToldCut}
 

@@ -16,7 +16,7 @@ use book_rules::{Entry, SlotState};
 use deck_cuts::Cut;
 use flow_bounds::Roster;
 use lock_model::{Plan, WORKERS, WORKERS_AND_DRIVER};
-use price_bound::Prices;
+use price_terms::Prices;
 use std::marker::Model;
 
 /// The case, the opening plan, the slots, the cuts, the prices, the plans that replaced the opening

@@ -5,7 +5,7 @@ ghost use Rattle.book_core.specs.Telling.{told_cut};
 
 use deck_cuts::Cut;
 use no_memory::NoMemory;
-use price_bound::{ChamberCut, same_cuts};
+use price_terms::{ChamberCut, same_cuts};
 use std::alloc::Global;
 use std::marker::Model;
 

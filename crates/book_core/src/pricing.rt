@@ -11,7 +11,7 @@ use crate::growing::make_room;
 use crate::reply::Reply;
 use book_rules::Entry;
 use no_memory::NoMemory;
-use price_bound::Prices;
+use price_terms::Prices;
 
 // How many prices these are, and what their type keeps.
 fn count(prices: &Prices) -> usize

@@ -16,7 +16,7 @@ use crate::reply::Reply;
 use book_rules::{Entry, SlotState};
 use closing_rules::Ground;
 use master_branch::Node;
-use price_bound::{ChamberCut, Prices, Shown};
+use price_terms::{ChamberCut, Prices, Shown};
 
 // Whether two lists of prices are the same.
 fn same_prices(one: &Prices, other: &Prices) -> bool

@@ -24,7 +24,7 @@ use lock_model::{Instance, Plan};
 use master_branch::root;
 use mooring_rules::judge_plan;
 use no_memory::NoMemory;
-use price_bound::Prices;
+use price_terms::Prices;
 use std::alloc::Global;
 
 // Whether the plan is legal.

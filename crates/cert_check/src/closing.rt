@@ -6,7 +6,7 @@ ghost use Rattle.lock_rules.specs.Bound.{probe_of};
 ghost use Rattle.master_branch.specs.Node.{IsNodeOf};
 ghost use Rattle.lock_rules.specs.Arrival.{next_ship};
 ghost use Rattle.flow_bounds.specs.Roster.{IsRosterOf};
-ghost use Rattle.price_bound.specs.Cuts.{plain_cuts};
+ghost use Rattle.price_terms.specs.Cuts.{plain_cuts};
 ghost use Rattle.closing_rules.specs.ProvedCuts.{IsShaped};
 ghost use Rattle.certificate_rules.specs.Certificates.{IsCutBy, cuts_in, Closes};
 ghost use Rattle.certificate_rules.specs.Failures.{ground_reason, reason_of};
@@ -20,7 +20,8 @@ use flow_bounds::{Roster, bound, children_reaching, is_missing, probe};
 use lock_model::Instance;
 use master_branch::{Node, steps_by};
 use no_memory::NoMemory;
-use price_bound::{ChamberCut, Limits, PricedNode, Prices, reaches};
+use price_bound::{PricedNode, reaches};
+use price_terms::{ChamberCut, Limits, Prices};
 
 /// What the marks of a certificate are held against: the instance, its roster and its throughput, and
 /// the cost in minutes, the prices and the cuts of the certificate, each cut about a chamber and ships

@@ -1,6 +1,6 @@
 //! The prices of a certificate: their form, and the cuts as they see them.
 ghost use Rattle.std.specs.Prelude.{◌≡◌, All, IfOk, IfNone, IfSome};
-ghost use Rattle.price_bound.specs.Cuts.{plain_cuts};
+ghost use Rattle.price_terms.specs.Cuts.{plain_cuts};
 ghost use Rattle.closing_rules.specs.ListedPrices.{AreShapedPrices};
 ghost use Rattle.certificate_rules.specs.Certificates.{cuts_in};
 ghost use Rattle.certificate_rules.specs.Failures.{PricesFail};
@@ -8,7 +8,7 @@ ghost use Rattle.certificate_rules.specs.declared.certificate.Reason.{Reason as 
 
 use certificate_parts::CertCut;
 use lock_model::Instance;
-use price_bound::{ChamberCut, Prices};
+use price_terms::{ChamberCut, Prices};
 use std::alloc::{AllocError, Global};
 
 // The first prices that aren't one for each ship, by their number. None where all are.

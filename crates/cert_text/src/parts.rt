@@ -16,7 +16,7 @@ use crate::prices::put_prices;
 use certificate_parts::CertCuts;
 use lock_model::Plan;
 use no_memory::NoMemory;
-use price_bound::Prices;
+use price_terms::Prices;
 use serde_json::{Map, Value};
 use std::alloc::Global;
 

@@ -14,7 +14,7 @@ use crate::why::push_words;
 use arrayvec::ArrayVec;
 use certificate_parts::PriceLists;
 use lock_model::SHIPS;
-use price_bound::Prices;
+use price_terms::Prices;
 use serde_json::Value;
 use std::alloc::{AllocError, Global};
 

@@ -6,7 +6,7 @@ ghost use Rattle.cert_text.specs.Versions.{is_by_clash, is_by_berths, is_outside
 use crate::heading::Version;
 use crate::tree_mark::TreeMark;
 use certificate_parts::{CertCuts, Certificate, Numbered};
-use price_bound::Prices;
+use price_terms::Prices;
 use refute_rules::Refutation;
 
 /// Whether marks may name prices.

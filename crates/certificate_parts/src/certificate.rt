@@ -2,7 +2,7 @@
 use crate::numbered::Numbered;
 use certificate_rules::{Mark, OpenMark};
 use lock_model::{Plan, Ships};
-use price_bound::Prices;
+use price_terms::Prices;
 use refute_rules::Refutation;
 use std::marker::Model;
 

@@ -8,7 +8,7 @@ use crate::row::Row;
 use crate::sets::without;
 use lock_model::{Group, Instance, MOST, SHIPS, Ships};
 use no_memory::NoMemory;
-use price_bound::LooseLines;
+use price_terms::LooseLines;
 
 // The ships of a group that the draft lacks.
 fn lacking(instance: &Instance, draft: &Draft, ships: &Ships) -> Ships {

@@ -11,7 +11,7 @@ use crate::putting::{Trial, put};
 use lock_model::{Instance, Plan};
 use master_branch::arrival_order;
 use no_memory::NoMemory;
-use price_bound::LooseLines;
+use price_terms::LooseLines;
 use std::alloc::Global;
 
 // How often all ships are taken out and put in again.

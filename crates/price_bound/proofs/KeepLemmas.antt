@@ -6,18 +6,18 @@ use Rattle.std.specs.declared.option.Option.{Option}
 use Rattle.lock_model.specs.declared.instance.Instance.{Instance}
 use Rattle.lock_model.specs.declared.group.Group.{Group}
 use Rattle.price_rules.specs.Prices.{PlainCut}
-use Rattle.price_bound.specs.declared.loose_line.LooseLine.{LooseLine}
-use Rattle.price_bound.specs.declared.cut.ChamberCut.{ChamberCut}
+use Rattle.price_terms.specs.declared.loose_line.LooseLine.{LooseLine}
+use Rattle.price_terms.specs.declared.cut.ChamberCut.{ChamberCut}
 use Rattle.price_bound.specs.declared.terms.Terms.{Terms}
 use Rattle.price_bound.specs.declared.keeping.KeptLine.{KeptLine}
-use Rattle.price_bound.specs.Worth.{IsLeastOn}
+use Rattle.price_groups.specs.Worth.{IsLeastOn}
 use Rattle.price_bound.specs.declared.kept_groups.ChamberGroups.{ChamberGroups}
 use Rattle.price_bound.specs.declared.kept_groups.KeptGroups.{KeptGroups}
-use Rattle.price_bound.specs.Cuts.{plain_cuts}
-use Rattle.price_bound.specs.Sparing.{AreForbidden}
+use Rattle.price_terms.specs.Cuts.{plain_cuts}
+use Rattle.price_groups.specs.Sparing.{AreForbidden}
 use Rattle.price_bound.specs.Stock.{IsStock, AreStocks, AreStocked}
 use Rattle.price_bound.specs.Keeping.{AreFirst, AreTerms, LeadTo, AreUnder, AreKeptUnder, IsFound, IsKeptUnder, IsOf}
-use Rattle.price_bound.specs.Lines.{IsLineWorth, IsLeastLine}
+use Rattle.price_table.specs.Lines.{IsLineWorth, IsLeastLine}
 
 -- a line with the same groups and the same worth is as good
 pub copy-least : (I : Instance) (c : ℕ) (cuts : List PlainCut) (k : ℕ) (prices : List ℕ) (line : List Group) (one other : LooseLine) → other.groups.items ≡ one.groups.items → other.worth ≡ one.worth → IsLeastLine I c cuts k prices line one → IsLeastLine I c cuts k prices line other

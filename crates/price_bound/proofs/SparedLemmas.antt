@@ -8,13 +8,14 @@ use Rattle.list_laws.proofs.Lists.{Contains-before_push}
 use Rattle.lock_model.specs.declared.instance.Instance.{Instance}
 use Rattle.lock_model.specs.declared.group.Group.{Group}
 use Rattle.price_rules.specs.Prices.{PlainCut, Spares}
-use Rattle.price_bound.specs.declared.grown_lists.GrownGroup.{GrownGroup}
-use Rattle.price_bound.specs.declared.grown_lists.GrownList.{GrownList}
-use Rattle.price_bound.specs.Growing.{IsGrown}
-use Rattle.price_bound.specs.Masks.{IsMask, AreMarks}
-use Rattle.price_bound.specs.Sparing.{LacksSome, AreForbidden}
-use Rattle.price_bound.specs.Stock.{IsGrownGroup, HasGroup, IsGrownList, IsApart, IsPutSpared, AreSpared, IsSparedList, AreSparedLists}
-use Rattle.price_bound.proofs.MaskLemmas.{earlier, mask-in, in-mask}
+use Rattle.price_groups.specs.declared.grown_lists.GrownGroup.{GrownGroup}
+use Rattle.price_groups.specs.declared.grown_lists.GrownList.{GrownList}
+use Rattle.price_groups.specs.Growing.{IsGrown}
+use Rattle.price_groups.specs.Masks.{IsMask, AreMarks}
+use Rattle.price_groups.specs.Sparing.{LacksSome, AreForbidden}
+use Rattle.price_groups.specs.GrownLists.{IsGrownGroup, HasGroup, IsGrownList}
+use Rattle.price_bound.specs.Stock.{IsApart, IsPutSpared, AreSpared, IsSparedList, AreSparedLists}
+use Rattle.price_groups.proofs.MaskLemmas.{earlier, mask-in, in-mask}
 
 -- the first half of a list, and the second
 all-left : {X : Type 0} (P : X → Type 0) (xs ys : List X) → All P (xs ++ ys) → All P xs

@@ -16,8 +16,12 @@ use Rattle.lock_rules.proofs.SplitLemmas.{times_in-at}
 use Rattle.lock_rules.proofs.NodeLemmas.{group-line}
 use Rattle.lock_rules.proofs.LeafLemmas.{has_number-some}
 use Rattle.price_rules.specs.Prices.{PlainCut, IsLoose, Reaches, paid_in, missing_prices}
-use Rattle.price_bound.specs.Worth.{worth_from, IsKeptGroup, IsLeastOn}
-use Rattle.price_bound.specs.Total.{worths_of, IsLeastSum}
+use Rattle.price_groups.specs.Worth.{worth_from, IsKeptGroup, IsLeastOn}
+use Rattle.price_bound.specs.Total.{worths_of, IsLeastSum, AreLeastLines}
+use Rattle.std.proofs.Math.Seq.{get_or-append_seam}
+use Rattle.std.proofs.lemmas.List.{get_or_append_left, length-append}
+use Rattle.price_terms.specs.declared.loose_line.LooseLine.{LooseLine}
+use Rattle.price_table.specs.Lines.{IsLeastLine}
 
 sum_by-one : (f : ℕ → ℕ) (n : ℕ) → sum_by f (n ∷ []) ≡ f n
 sum_by-one f n = omega (arith, sum_by-cons f n [])
@@ -120,3 +124,17 @@ line-kept I k lines node c known = λ j d here.
           let own : 1 ≤ times_in g.ships s = times_in-at g.ships i e inside in
           has_number-some (first_ships I k) s (omega (arith, own, group-line s (line_at lines c) j d here, times_on-held s lines c, node.held s));
     }
+
+module _ (I : Instance) (cuts : List PlainCut) (k : ℕ) (prices : List ℕ) where
+  -- the line of one chamber more
+  pub lines-next : (lines : List (List Group)) (n : ℕ) (found : List LooseLine) (more : LooseLine) → AreLeastLines I cuts k lines prices n found → IsLeastLine I n cuts k prices (line_at lines n) more → AreLeastLines I cuts k lines prices (n + 1) (found ++ more ∷ [])
+  lines-next lines n found more are is = record {
+    count = omega (arith, are.count, length-append found (more ∷ []));
+    each = λ m d less. elim (leb_tells (suc m) n) [
+      | inl y ↦ subst (IsLeastLine I m cuts k prices (line_at lines m)) (sym (get_or_append_left found (more ∷ []) d m (omega (arith, y.1, are.count)))) (are.each m d y.1)
+      | inr q ↦
+          let same : m ≡ n = omega (arith, less, q.1) in
+          let last : slice_index_or (found ++ more ∷ []) n d ≡ more = (λ i. slice_index_or (found ++ more ∷ []) (sym are.count i) d) ∙ get_or-append_seam found more [] d in
+          subst (λ m. IsLeastLine I m cuts k prices (line_at lines m) (slice_index_or (found ++ more ∷ []) m d)) (sym same) (subst (IsLeastLine I n cuts k prices (line_at lines n)) (sym last) is)
+    ];
+  }

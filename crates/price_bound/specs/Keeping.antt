@@ -3,12 +3,12 @@ use Rattle.std.specs.Prelude.{ℕ, ◌≡◌, ◌≤◌, ◌≤ℤ◌, pos, neg_
 use Rattle.std.specs.declared.option.Option.{Option}
 use Rattle.lock_model.specs.declared.instance.Instance.{Instance}
 use Rattle.lock_model.specs.declared.group.Group.{Group}
-use Rattle.price_bound.specs.declared.cut.ChamberCut.{ChamberCut}
-use Rattle.price_bound.specs.declared.loose_line.LooseLine.{LooseLine}
+use Rattle.price_terms.specs.declared.cut.ChamberCut.{ChamberCut}
+use Rattle.price_terms.specs.declared.loose_line.LooseLine.{LooseLine}
 use Rattle.price_bound.specs.declared.terms.Terms.{Terms}
 use Rattle.price_bound.specs.declared.keeping.KeptLine.{KeptLine}
-use Rattle.price_bound.specs.Lines.{IsLineFound}
-use Rattle.price_bound.specs.Cuts.{plain_cuts}
+use Rattle.price_table.specs.Lines.{IsLineFound}
+use Rattle.price_terms.specs.Cuts.{plain_cuts}
 use Rattle.price_bound.specs.Stock.{AreStocked}
 use Rattle.price_bound.specs.declared.kept_groups.KeptGroups.{KeptGroups}
 

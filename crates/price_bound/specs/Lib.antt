@@ -1,12 +1,3 @@
-pub mod Cuts
-pub mod Worth
-pub mod Sparing
-pub mod Stock
-pub mod Growing
-pub mod Masks
-pub mod Choosing
-pub mod Values
-pub mod Total
-pub mod Lines
-pub mod Claim
 pub mod Keeping
+pub mod Stock
+pub mod Total

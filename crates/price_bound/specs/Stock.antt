@@ -2,40 +2,16 @@
 use Rattle.std.specs.Prelude.{ℕ, ◌≡◌, ◌<◌, ◌≤◌, ◌⊎◌, Some, None, List, [], ◌∷◌, ◌++◌, length, take, All, Contains, bit_and, slice_index_or}
 use Rattle.std.specs.declared.option.Option.{Option}
 use Rattle.lock_model.specs.declared.instance.Instance.{Instance}
-use Rattle.lock_model.specs.declared.group.Group.{Group}
-use Rattle.price_bound.specs.declared.cut.ChamberCut.{ChamberCut}
-use Rattle.price_bound.specs.declared.sums.Sums.{Sums}
+use Rattle.price_terms.specs.declared.cut.ChamberCut.{ChamberCut}
 use Rattle.price_bound.specs.declared.terms.Terms.{Terms}
-use Rattle.price_bound.specs.declared.grown_lists.GrownGroup.{GrownGroup}
-use Rattle.price_bound.specs.declared.grown_lists.GrownList.{GrownList}
+use Rattle.price_groups.specs.declared.grown_lists.GrownGroup.{GrownGroup}
+use Rattle.price_groups.specs.declared.grown_lists.GrownList.{GrownList}
 use Rattle.price_bound.specs.declared.kept_groups.ChamberGroups.{ChamberGroups}
 use Rattle.price_bound.specs.declared.kept_groups.KeptGroups.{KeptGroups}
-use Rattle.price_bound.specs.Cuts.{plain_cuts}
-use Rattle.price_bound.specs.Sparing.{AreForbidden}
-use Rattle.price_bound.specs.Masks.{AreNears}
-use Rattle.price_bound.specs.Growing.{IsGrown, HasIdler}
-use Rattle.price_bound.specs.Choosing.{AreSumsOf}
-
--- of the first n groups each with its sums
-pub record ArePaired (groups : List Group) (sums : List Sums) (n : ℕ) (pairs : List GrownGroup) : Type 0 where
-  pub count : length pairs ≡ n
-  pub each : (j : ℕ) (d : GrownGroup) → j < n → (slice_index_or pairs j d).group ≡ slice_index_or groups j d.group × (slice_index_or pairs j d).sums ≡ slice_index_or sums j d.sums
-
--- the group has grown from the base by any ships, and its sums are its own
-pub record IsGrownGroup (I : Instance) (c k : ℕ) (sets : List (List ℕ)) (base : Group) (one : GrownGroup) : Type 0 where
-  pub grown : IsGrown I c k sets base (length I.ships) one.group
-  pub sums : AreSumsOf I c one.group.ships one.sums
-
--- one of these is the group
-pub record HasGroup (groups : List GrownGroup) (g : Group) : Type 0 where
-  pub one : GrownGroup
-  pub held : Contains groups one
-  pub is : one.group ≡ g
-
--- The list holds all that grows from its base but some with a ship that gains nothing at these prices.
-pub record IsGrownList (I : Instance) (c k : ℕ) (prices : List ℕ) (sets : List (List ℕ)) (list : GrownList) : Type 0 where
-  pub each : All (IsGrownGroup I c k sets list.base) list.groups.items
-  pub whole : (g : Group) → IsGrown I c k sets list.base (length I.ships) g → HasGroup list.groups.items g ⊎ HasIdler I c k prices g
+use Rattle.price_terms.specs.Cuts.{plain_cuts}
+use Rattle.price_groups.specs.Sparing.{AreForbidden}
+use Rattle.price_groups.specs.Masks.{AreNears}
+use Rattle.price_groups.specs.GrownLists.{IsGrownList}
 
 -- none of the sets of these masks is among the ships of another mask
 abbrev pub IsApart : List ℕ → ℕ → Type 0

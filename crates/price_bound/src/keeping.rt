@@ -5,12 +5,11 @@ ghost use Rattle.price_bound.specs.declared.keeping.KeptLine.{KeptLine};
 ghost use Rattle.price_bound.specs.Keeping.{AreUnder, IsFound, IsOf};
 ghost use Rattle.price_bound.specs.Stock.{AreStocks};
 
-use crate::error::{Limits, PriceError};
 use crate::kept_groups::KeptGroups;
-use crate::line_case::LineCase;
-use crate::loose_line::{LooseLine, copied};
 use crate::terms::Terms;
 use lock_model::Group;
+use price_groups::LineCase;
+use price_terms::{Limits, LooseLine, PriceError, copied};
 use std::alloc::Global;
 use std::marker::Model;
 

@@ -1,24 +1,19 @@
 //! What is worked out of chambers whatever the prices are, kept for later calls.
-ghost use Rattle.std.specs.Prelude.{ℕ, ◌≡◌, ◌<◌, ◌≤◌, List, [], ◌++◌, length, slice_index_or, All, IsTrue, IfOk, IfSome, OnOk};
+ghost use Rattle.std.specs.Prelude.{ℕ, ◌≡◌, ◌<◌, ◌≤◌, List, [], ◌++◌, length, slice_index_or, IsTrue, IfOk, IfSome, OnOk};
 ghost use Rattle.lock_model.specs.declared.instance.Instance.{Instance as PlainInstance};
-ghost use Rattle.price_bound.specs.declared.cut.ChamberCut.{ChamberCut};
+ghost use Rattle.price_terms.specs.declared.cut.ChamberCut.{ChamberCut};
 ghost use Rattle.price_bound.specs.declared.kept_groups.ChamberGroups.{ChamberGroups as Plain};
-ghost use Rattle.price_bound.specs.Growing.{AreBelow};
+ghost use Rattle.price_groups.specs.Growing.{AreBelow};
 ghost use Rattle.price_bound.specs.Keeping.{IsFound};
 ghost use Rattle.price_bound.specs.Stock.{IsPutSpared, IsSparedList, AreSparedLists, IsStock, AreStocks};
 
-use crate::error::{Limits, PriceError, append};
-use crate::forbidden::forbidden;
-use crate::growing::Growth;
-use crate::grown_lists::{GrownGroup, GrownList};
-use crate::line_case::LineCase;
-use crate::line_least::line_least;
-use crate::loose_line::LooseLine;
-use crate::masks::{marks, misses_all_of, nears};
-use crate::near::Near;
-use crate::prices::Prices;
-use crate::weighing::rates;
 use lock_model::{SHIPS, Ships};
+use price_groups::{
+    GrownGroup, GrownList, Growth, LineCase, Near, forbidden_sets, marks, misses_all_of, nears,
+    rates,
+};
+use price_table::least_line;
+use price_terms::{Limits, LooseLine, PriceError, Prices, append};
 use std::alloc::Global;
 
 /// What is kept of a chamber: how many of the cuts were looked at, the ship sets that these forbid, for
@@ -144,7 +139,7 @@ fn up_to_date(
     if own.seen == case.cuts.len() {
         return Ok(own);
     }
-    let added = forbidden(alloc, &case.after(own.seen))?;
+    let added = forbidden_sets(alloc, &case.after(own.seen))?;
     let masks = marks(alloc, case.instance, &added)?;
     let lists = spared_lists(alloc, &own.lists, &masks)?;
     let mut sets = own.sets;
@@ -198,7 +193,7 @@ fn least_of(
         high_rates: &high_rates,
         most: limits.groups,
     };
-    line_least(alloc, &growth, &mut own.lists, limits.turns)
+    least_line(alloc, &growth, &mut own.lists, limits.turns)
 }
 
 impl KeptGroups {

@@ -5,18 +5,15 @@ ghost use Rattle.lock_rules.specs.Node.{line_at};
 ghost use Rattle.master_branch.specs.Node.{IsNodeOf};
 ghost use Rattle.price_rules.specs.Prices.{Reaches, price_at};
 ghost use Rattle.price_bound.specs.Keeping.{IsFound};
-ghost use Rattle.price_bound.specs.Lines.{AreLeastLines, AreLinesFound};
+ghost use Rattle.price_bound.specs.Total.{AreLeastLines, AreLinesFound};
 ghost use Rattle.price_bound.specs.Total.{HasNoLooseLine, IsAdded, IsNodeSum};
-ghost use Rattle.price_bound.specs.Cuts.{plain_cuts};
+ghost use Rattle.price_terms.specs.Cuts.{plain_cuts};
 
-use crate::cut::ChamberCut;
-use crate::error::{Limits, PriceError, append};
 use crate::keeping::KeptLines;
-use crate::line_case::LineCase;
-use crate::loose_line::{LooseLine, LooseLines};
-use crate::prices::Prices;
 use lock_model::{Instance, SHIPS};
 use master_branch::{Node, arrival_order};
+use price_groups::LineCase;
+use price_terms::{ChamberCut, Limits, LooseLine, LooseLines, PriceError, Prices, append};
 
 /// A node of an instance, prices and cuts.
 #[derive(Drop)]

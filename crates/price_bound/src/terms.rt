@@ -3,11 +3,9 @@ ghost use Rattle.std.specs.Prelude.{◌≡◌, ◌↔◌, IfOk, OnOk, IsTrue};
 ghost use Rattle.std.specs.Bool.{OnTrue};
 ghost use Rattle.price_bound.specs.Keeping.{AreFirst, AreTerms, LeadTo};
 
-use crate::cut::{ChamberCut, same_cuts};
-use crate::error::{PriceError, append};
-use crate::line_case::LineCase;
-use crate::prices::Prices;
 use lock_model::Instance;
+use price_groups::LineCase;
+use price_terms::{ChamberCut, PriceError, Prices, append, same_cuts};
 use std::alloc::Global;
 
 /// An instance, a depth of its nodes, prices and cuts.
@@ -43,7 +41,7 @@ impl Terms {
         })
     }
 
-    #[tactic(auto, using(crate::proofs::CutLemmas::same_row))]
+    #[tactic(auto, using(price_terms::proofs::CutLemmas::same_row))]
     // Whether their cuts are these.
     fn have_cuts(&self, cuts: &[ChamberCut]) -> bool
         ensures { IsTrue result ↔ self.now.cuts.items ≡ cuts.now }
@@ -61,7 +59,7 @@ impl Terms {
             && self.instance.equals(case.instance)
     }
 
-    #[tactic(auto, using(crate::proofs::CutLemmas::same_row))]
+    #[tactic(auto, using(price_terms::proofs::CutLemmas::same_row))]
     // Whether the cuts are the first of these.
     fn are_first(&self, cuts: &[ChamberCut]) -> bool
         ensures { OnTrue result (AreFirst self.now.cuts.items cuts.now) }

@@ -5,7 +5,7 @@ ghost use Rattle.price_raise.specs.Raising.{IsWeighed};
 
 use crate::stands::Stands;
 use lock_model::SHIPS;
-use price_bound::Prices;
+use price_terms::Prices;
 
 /// How an ascent goes on: so many steps at the most; after so many without gain it goes back to the
 /// best prices, with steps a third shorter; and after each span of so many steps it ends, unless so
@@ -63,7 +63,7 @@ fn prices_of(exact: &[i64; SHIPS], ships: usize) -> Prices
     ensures { length result ≡ ships }
 {
     let mut whole = [0; SHIPS];
-    for ship in 0..24 {
+    for ship in 0..SHIPS {
         whole[ship] = (exact[ship].clamp(0, MOST) / FINE) as u32;
     }
     Prices::capped(&whole[..ships])

@@ -3,7 +3,7 @@ ghost use Rattle.std.specs.Prelude.{◌≡◌, ◌<◌, length, All};
 
 use chamber_times::lockage_end;
 use lock_model::{Instance, Lockage, Plan, SHIPS};
-use price_bound::Prices;
+use price_terms::Prices;
 
 // The greatest price, in hundredths of a minute.
 const MOST: u64 = 1_000_000;

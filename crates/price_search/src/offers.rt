@@ -3,7 +3,7 @@ ghost use Rattle.std.specs.Prelude.{◌<◌, length, IfSome};
 
 use crate::appending::append;
 use no_memory::NoMemory;
-use price_bound::Prices;
+use price_terms::Prices;
 use std::alloc::Global;
 
 /// Prices, and the number under which the book keeps them, where it does.

@@ -9,8 +9,9 @@ use crate::round::LIMITS;
 use lock_model::Instance;
 use master_branch::Node;
 use no_memory::NoMemory;
-use price_bound::{ChamberCut, KeptLines, PricedNode, Prices, Shown, show};
+use price_bound::{KeptLines, PricedNode, show};
 use price_raise::{Ascent, Pace};
+use price_terms::{ChamberCut, Prices, Shown};
 use std::alloc::Global;
 
 // The most rounds in a search, and the most at the first node that prices can serve and at any other.

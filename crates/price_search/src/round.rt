@@ -11,8 +11,9 @@ use near_plan::{fits, near_plan};
 use no_memory::NoMemory;
 use node_work::{KnownCuts, Search};
 use placed_groups::Memory;
-use price_bound::{Limits, LooseLines, PriceError, PricedNode, Prices, least_lines};
+use price_bound::{PricedNode, least_lines};
 use price_raise::Stands;
+use price_terms::{Limits, LooseLines, PriceError, Prices};
 use std::alloc::Global;
 
 /// The limits of the tables that a search works out: some five milliseconds for a chamber.

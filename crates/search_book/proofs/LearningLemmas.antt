@@ -4,7 +4,7 @@ use Rattle.std.proofs.lemmas.List.{append-nil, append_assoc, length-append}
 use Rattle.std.proofs.lemmas.Option.{slice_get_within, same_Some, none-some}
 use Rattle.list_laws.proofs.Variants.{some-not_none}
 use Rattle.refute_rules.specs.Cuts.{Cut}
-use Rattle.price_bound.specs.declared.cut.ChamberCut.{ChamberCut}
+use Rattle.price_terms.specs.declared.cut.ChamberCut.{ChamberCut}
 use Rattle.book_core.specs.Telling.{bare_cut}
 
 -- what is known, with all that comes after it

@@ -15,7 +15,7 @@ use crate::replies::is_accepting;
 use book_core::{Book, Reply};
 use deck_cuts::Cut;
 use lock_model::{Plan, WORKERS};
-use price_bound::Prices;
+use price_terms::Prices;
 use std::sync::ledger::{Ledger, Share};
 
 // Keeps a boxed cut.

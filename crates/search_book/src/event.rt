@@ -3,7 +3,7 @@
 use closing_rules::Ground;
 use deck_cuts::{Cut, Hard};
 use lock_model::Plan;
-use price_bound::Prices;
+use price_terms::Prices;
 
 /// What is asked of a book: each event is the method of `Book` of its name, with its arguments.
 /// `Take` and `Release` have a worker of 0 to `WORKERS`; of `Park` the deck is spot-hard for the turns too.

@@ -5,7 +5,7 @@ ghost use Rattle.book_core.specs.Telling.{bare_cut};
 use book_core::Book;
 use deck_cuts::Cut;
 use no_memory::NoMemory;
-use price_bound::ChamberCut;
+use price_terms::ChamberCut;
 
 // Appends the chamber and the ships of a cut. Where there was no memory, the list is as it was.
 fn learn_cut(cut: &Cut, known: &mut Vec<ChamberCut>) -> Result<(), NoMemory>

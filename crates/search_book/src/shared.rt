@@ -18,7 +18,7 @@ use crate::shutting::{ByPrice, close_price_and_take};
 use book_core::Reply;
 use lock_model::WORKERS;
 use no_memory::NoMemory;
-use price_bound::ChamberCut;
+use price_terms::ChamberCut;
 use std::hint::spin_loop;
 use std::sync::ledger::{Ledger, Share};
 use std::sync::{Condvar, Mutex, MutexGuard, Wait};

@@ -13,7 +13,7 @@ use crate::next::Next;
 use crate::replies::is_accepting;
 use book_core::{Book, Reply};
 use lock_model::WORKERS;
-use price_bound::Shown;
+use price_terms::Shown;
 use std::sync::ledger::{Ledger, Share};
 
 /// How a slot is closed by prices: its number and theirs, and what was shown of its node and of them.

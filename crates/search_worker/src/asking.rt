@@ -8,7 +8,7 @@ use crate::stop::Stop;
 use crate::worker::Worker;
 use book_core::Reply;
 use gates::Gate;
-use price_bound::Shown;
+use price_terms::Shown;
 use search_book::{ByPrice, Event, Gone, Next, Stretch};
 use std::sync::Wait;
 use std::sync::ledger::Ledger;

@@ -11,7 +11,7 @@ use crate::told::is_closed;
 use book_core::{Book, Reply};
 use deck_cuts::Cut;
 use lock_model::Plan;
-use price_bound::{Prices, Shown};
+use price_terms::{Prices, Shown};
 
 // That the refutation of a cut holds, as its type keeps.
 fn is_cut(cut: &Cut)

@@ -16,8 +16,8 @@ use lock_model::Instance;
 use no_memory::NoMemory;
 use node_work::Search;
 use placed_groups::Memory;
-use price_bound::{Prices, Shown};
 use price_search::{Asked, MOST_AT_A_NODE, Pricing, Round, RoundEnd};
+use price_terms::{Prices, Shown};
 use search_book::learn_cuts;
 use std::alloc::Global;
 

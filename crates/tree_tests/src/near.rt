@@ -2,7 +2,7 @@
 use lock_model::{Group, Instance, Ships, Spot, Spots, Way};
 use near_plan::{Fitting, near_plan};
 use no_memory::NoMemory;
-use price_bound::{LooseLine, LooseLines};
+use price_terms::{LooseLine, LooseLines};
 use std::alloc::Global;
 use std::test::Fail;
 use worked_locks::two_ships;

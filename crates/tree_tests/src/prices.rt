@@ -4,9 +4,8 @@ mod locks;
 use crate::walk::node_at;
 use lock_model::Instance;
 use locks::{closed, one, two_chambers};
-use price_bound::{
-    ChamberCut, KeptLines, Limits, PriceError, PricedNode, Prices, price_sum, reaches, show,
-};
+use price_bound::{KeptLines, PricedNode, price_sum, reaches, show};
+use price_terms::{ChamberCut, Limits, PriceError, Prices};
 use std::alloc::Global;
 use std::process::Abort;
 use std::test::Fail;

@@ -1,5 +1,5 @@
 use Rattle.std.proofs.Common.{◌≡◌, take}
-use Rattle.price_bound.specs.Cuts.{plain_cuts}
+use Rattle.price_terms.specs.Cuts.{plain_cuts}
 use Rattle.certificate_rules.specs.Certificates.{cuts_in}
 use Rattle.cert_check.proofs.prices.chamber_cuts.Given as goal
 

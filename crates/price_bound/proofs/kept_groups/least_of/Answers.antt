@@ -1,9 +1,9 @@
 use Rattle.std.proofs.Common.{All, sym, subst}
-use Rattle.price_bound.specs.Stock.{IsGrownList}
+use Rattle.price_groups.specs.GrownLists.{IsGrownList}
 use Rattle.price_bound.proofs.kept_groups.least_of.Goals as goal
 
-pub line_least-requires-clause-lists : goal.line_least-requires-clause-lists
-line_least-requires-clause-lists c =
+pub least_line-requires-clause-lists : goal.least_line-requires-clause-lists
+least_line-requires-clause-lists c =
     let I = c.args.case.now.instance.now in
     let k = c.args.case.now.depth in
     let own = c.args.own.now in
@@ -23,6 +23,6 @@ returns-clause-stock c =
       forbidden = stock.forbidden;
       nears = stock.nears;
       lists =
-          subst (λ sets. All (IsGrownList I own.chamber k ceilings sets) c.line_least.new.lists.items) c.deref.ensures.value
-          (subst (λ d. All (IsGrownList I d k ceilings c.deref.result.now) c.line_least.new.lists.items) (sym c.requires.chamber) c.line_least.ensures.lists);
+          subst (λ sets. All (IsGrownList I own.chamber k ceilings sets) c.least_line.new.lists.items) c.deref.ensures.value
+          (subst (λ d. All (IsGrownList I d k ceilings c.deref.result.now) c.least_line.new.lists.items) (sym c.requires.chamber) c.least_line.ensures.lists);
     }

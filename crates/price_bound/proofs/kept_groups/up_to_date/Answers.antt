@@ -1,9 +1,10 @@
 use Rattle.std.proofs.Common.{◌≡◌, ◌++◌, length, take, drop, All, sym, ap, ◌∙◌, subst, arith, rules}
 use Rattle.std.proofs.lemmas.List.{map-append, take_all, take-append-drop}
-use Rattle.price_bound.specs.Cuts.{plain_cut, plain_cuts}
-use Rattle.price_bound.specs.Sparing.{AreForbidden}
-use Rattle.price_bound.specs.Masks.{AreMarks, AreNears}
-use Rattle.price_bound.specs.Stock.{AreSparedLists, IsGrownList}
+use Rattle.price_terms.specs.Cuts.{plain_cut, plain_cuts}
+use Rattle.price_groups.specs.Sparing.{AreForbidden}
+use Rattle.price_groups.specs.Masks.{AreMarks, AreNears}
+use Rattle.price_bound.specs.Stock.{AreSparedLists}
+use Rattle.price_groups.specs.GrownLists.{IsGrownList}
 use Rattle.price_bound.proofs.SparedLemmas.{forbidden-both, spared-all}
 use Rattle.price_bound.proofs.kept_groups.up_to_date.Goals as goal
 

@@ -1,8 +1,8 @@
 use Rattle.std.proofs.Common.{◌<◌, ◌≤ℤ◌, pos, neg_ℤ, IfSome, subst, arith}
 use Rattle.std.proofs.lemmas.Int.{ints}
 use Rattle.lock_rules.specs.Node.{line_at}
-use Rattle.price_bound.specs.Cuts.{plain_cuts}
-use Rattle.price_bound.specs.Lines.{IsLineFound}
+use Rattle.price_terms.specs.Cuts.{plain_cuts}
+use Rattle.price_table.specs.Lines.{IsLineFound}
 use Rattle.price_bound.proofs.TotalLemmas.{sum-start, sum-more, more-low, more-high}
 use Rattle.price_bound.proofs.reaching.added.Goals as goal
 

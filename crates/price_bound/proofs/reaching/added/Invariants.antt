@@ -1,5 +1,5 @@
 use Rattle.std.proofs.Common.{◌*◌, ◌≤ℤ◌, pos, neg_ℤ}
-use Rattle.price_bound.specs.Cuts.{plain_cuts}
+use Rattle.price_terms.specs.Cuts.{plain_cuts}
 use Rattle.price_bound.specs.Total.{IsLeastSum}
 use Rattle.price_bound.proofs.reaching.added.Given as goal
 

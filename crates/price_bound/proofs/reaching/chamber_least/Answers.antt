@@ -1,7 +1,7 @@
 use Rattle.std.proofs.Common.{◌<◌, All, length, sym, subst}
 use Rattle.lock_rules.specs.Node.{IsNodeGroup, line_at}
 use Rattle.lock_rules.proofs.NodeLemmas.{line-known}
-use Rattle.price_bound.specs.Worth.{IsKeptGroup}
+use Rattle.price_groups.specs.Worth.{IsKeptGroup}
 use Rattle.price_bound.proofs.TotalLemmas.{line-kept}
 use Rattle.price_bound.proofs.reaching.chamber_least.Goals as goal
 

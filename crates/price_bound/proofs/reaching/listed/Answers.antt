@@ -1,9 +1,10 @@
 use Rattle.std.proofs.Common.{◌+◌, sym, subst}
 use Rattle.lock_rules.specs.Node.{line_at}
-use Rattle.price_bound.specs.Cuts.{plain_cuts}
-use Rattle.price_bound.specs.Lines.{IsLineFound, AreLeastLines}
+use Rattle.price_terms.specs.Cuts.{plain_cuts}
+use Rattle.price_table.specs.Lines.{IsLineFound}
+use Rattle.price_bound.specs.Total.{AreLeastLines}
 use Rattle.price_bound.proofs.KeepLemmas.{copy-least}
-use Rattle.price_bound.proofs.WalkLemmas.{lines-next}
+use Rattle.price_bound.proofs.TotalLemmas.{lines-next}
 use Rattle.price_bound.proofs.reaching.listed.Goals as goal
 
 pub loop-chamber-preserved : goal.loop-chamber-preserved

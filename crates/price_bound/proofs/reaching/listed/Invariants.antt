@@ -1,5 +1,5 @@
-use Rattle.price_bound.specs.Cuts.{plain_cuts}
-use Rattle.price_bound.specs.Lines.{AreLeastLines}
+use Rattle.price_terms.specs.Cuts.{plain_cuts}
+use Rattle.price_bound.specs.Total.{AreLeastLines}
 use Rattle.price_bound.proofs.reaching.listed.Given as goal
 
 abbrev pub invariant-loop-chamber : goal.invariant-loop-chamber

@@ -1,6 +1,6 @@
 use Rattle.std.proofs.Common.{◌*◌, ◌+ℤ◌, ◌<ℤ◌, ◌≤ℤ◌, pos, neg_ℤ, IfSome, refl, sym, ◌∙◌, subst}
 use Rattle.price_rules.proofs.ReachLemmas.{reached-without}
-use Rattle.price_bound.specs.Cuts.{plain_cuts}
+use Rattle.price_terms.specs.Cuts.{plain_cuts}
 use Rattle.price_bound.specs.Total.{IsNodeSum}
 use Rattle.price_bound.proofs.TotalLemmas.{reaches-exact, sum-rounded}
 use Rattle.price_bound.proofs.reaching.reaches.Goals as goal

@@ -2,7 +2,7 @@ use Rattle.std.proofs.Common.{◌<◌, length, map, take, sym, ap, ◌∙◌, ar
 use Rattle.std.proofs.lemmas.Bool.{lt-leb}
 use Rattle.std.proofs.lemmas.List.{length-map}
 use Rattle.std.specs.Cmp.Lexicographic.{pointwise}
-use Rattle.price_bound.specs.Cuts.{same_cut}
+use Rattle.price_terms.specs.Cuts.{same_cut}
 use Rattle.book_rules.specs.Shown.{are_first_cuts}
 use Rattle.book_core.specs.Telling.{told_cut, bare_cut}
 use Rattle.book_core.proofs.ShowingLemmas.{first-more, first-told}

@@ -1,5 +1,0 @@
-use Rattle.price_bound.specs.Masks.{AreMarks}
-use Rattle.price_bound.proofs.masks.marks.Given as goal
-
-abbrev pub invariant-loop-set : goal.invariant-loop-set
-invariant-loop-set l = AreMarks l.instance l.sets l.set-index l.masks.items

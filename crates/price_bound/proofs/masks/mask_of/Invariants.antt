@@ -1,6 +1,0 @@
-use Rattle.std.proofs.Common.{take}
-use Rattle.price_bound.specs.Masks.{IsMask}
-use Rattle.price_bound.proofs.masks.mask_of.Given as goal
-
-abbrev pub invariant-loop-ship : goal.invariant-loop-ship
-invariant-loop-ship l = IsMask l.mask (take l.ship-index l.ships)

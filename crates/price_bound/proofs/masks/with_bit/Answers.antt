@@ -1,5 +1,0 @@
-use Rattle.price_bound.proofs.MaskLemmas.{mask-insert}
-use Rattle.price_bound.proofs.masks.with_bit.Goals as goal
-
-pub returns : goal.returns
-returns c = λ ships is. mask-insert c.args.mask c.args.ship ships c.requires is

@@ -1,9 +1,0 @@
-use Rattle.std.proofs.Common.{◌≡◌, ◌*◌, ◌≤◌, take, sum_by}
-use Rattle.price_bound.specs.Choosing.{rate_of}
-use Rattle.price_bound.proofs.weighing.paid.Given as goal
-
-abbrev pub invariant-loop-ship : goal.invariant-loop-ship
-invariant-loop-ship l = record {
-  sum : l.sum ≡ sum_by (rate_of l.growth.case.now.instance.now l.growth.case.now.depth l.growth.case.now.prices.now) (take l.ship-index l.ships);
-  small : l.sum ≤ l.ship-index * 101000000;
-}

@@ -1,5 +1,0 @@
-use Rattle.price_bound.specs.Choosing.{AreRates}
-use Rattle.price_bound.proofs.weighing.rates.Given as goal
-
-abbrev pub invariant-loop-ship : goal.invariant-loop-ship
-invariant-loop-ship l = AreRates l.case.instance.now l.case.depth l.prices l.ship l.rates.items

@@ -1,0 +1,25 @@
+//! Nodes that are shown to reach a cost.
+ghost use Rattle.std.specs.Prelude.{◌≡◌, ◌↔◌, IfOk, IfSome, IsSome};
+ghost use Rattle.price_terms.specs.Claim.{IsReached};
+
+use crate::keeping::KeptLines;
+use crate::reaching::{PricedNode, reaches};
+use price_terms::{Limits, PriceError, Shown};
+
+/// Shows that a node reaches a cost, in minutes, by prices and cuts: `None` exactly where it doesn't.
+/// Refuses as `reaches` does.
+pub fn show<'a>(
+    kept: &mut KeptLines,
+    asked: &PricedNode<'a>,
+    cost: u64,
+    limits: Limits,
+) -> Result<Option<Shown<'a>>, PriceError>
+    ensures exact { IfOk result (λ shown. IsSome shown ↔ IsReached (record { instance = asked.now.instance.now; node = asked.now.node.now; prices = asked.now.prices.now; cuts = asked.now.cuts.now; cost = cost })) }
+    ensures value { IfOk result (λ shown. IfSome shown (λ s. s ≡ record { instance = asked.now.instance.now; node = asked.now.node.now; prices = asked.now.prices.now; cuts = asked.now.cuts.now; cost = cost })) }
+{
+    if reaches(kept, asked, cost, limits)? {
+        Ok(Some(Shown::new(asked.instance, asked.node, asked.prices, asked.cuts, cost)))
+    } else {
+        Ok(None)
+    }
+}

@@ -1,0 +1,6 @@
+pub mod ServeLemmas
+pub mod SumLemmas
+pub mod ChoiceLemmas
+pub mod LateLemmas
+pub mod MenuLemmas
+pub mod VainLemmas

@@ -1,0 +1,15 @@
+use Rattle.std.proofs.Common.{◌++◌, [], ◌∷◌, sym, ap, ◌∙◌, subst}
+use Rattle.std.proofs.lemmas.Result.{on_ok_weaker}
+use Rattle.price_terms.specs.Cuts.{plain_cuts}
+use Rattle.price_choices.specs.Choosing.{HasLate}
+use Rattle.price_choices.proofs.LateLemmas.{late-itself}
+use Rattle.price_choices.proofs.lateness.put_late.Goals as goal
+
+pub returns : goal.returns
+returns c =
+    let case = c.args.case.now in
+    let I = case.instance.now in
+    let choice = c.args.choice.now in
+    let old = c.args.lates.now.items in
+    on_ok_weaker c.append.result (λ pushed. subst (HasLate I case.chamber case.depth case.prices.now c.args.late choice old) (sym (pushed ∙ ap (λ h. old ++ h ∷ []) c.copy.ensures))
+    (late-itself I case.chamber (plain_cuts I case.cuts.now) case.depth case.prices.now case.line.now c.args.late choice old)) c.append.ensures

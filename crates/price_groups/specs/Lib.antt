@@ -1,0 +1,6 @@
+pub mod Growing
+pub mod GrownLists
+pub mod Masks
+pub mod Sparing
+pub mod Sums
+pub mod Worth

@@ -1,0 +1,31 @@
+-- The sums of groups: what each ship counts in what a group pays, how long it takes, and when its last ship arrives.
+use Rattle.std.specs.Prelude.{ℕ, ◌≡◌, ◌+◌, ◌-◌, ◌*◌, ◌≤◌, ◌<◌, List, length, All, cond, slice_index_or}
+use Rattle.lock_model.specs.Fleet.{ship_at}
+use Rattle.lock_model.specs.declared.instance.Instance.{Instance}
+use Rattle.lock_model.specs.declared.group.Group.{Group}
+use Rattle.lock_rules.specs.Lawful.{duration_of}
+use Rattle.lock_rules.specs.Timetable.{last_arrival}
+use Rattle.price_rules.specs.Prices.{is_missing, price_at}
+use Rattle.price_groups.specs.declared.sums.Sums.{Sums}
+use Rattle.price_groups.specs.Masks.{IsMask}
+
+-- what ship s counts: 100 times its arrival, and its price where it is missing
+abbrev pub rate_of : Instance → ℕ → List ℕ → ℕ → ℕ
+rate_of I k prices s = 100 * (ship_at I s).arrival + cond (is_missing I k s) (price_at prices s) 0
+
+-- what the first n ships count
+pub record AreRates (I : Instance) (k : ℕ) (prices : List ℕ) (n : ℕ) (rates : List ℕ) : Type 0 where
+  pub count : length rates ≡ n
+  pub each : (s d : ℕ) → s < n → slice_index_or rates s d ≡ rate_of I k prices s
+  pub small : All (λ r. r ≤ 101000000) rates
+
+-- the sums of these ships
+pub record AreSumsOf (I : Instance) (c : ℕ) (ships : List ℕ) (sums : Sums) : Type 0 where
+  pub duration : sums.duration ≡ duration_of I c ships
+  pub last : sums.last ≡ last_arrival I 0 ships
+  pub mask : IsMask sums.mask ships
+
+-- for each of the groups its sums
+pub record AreWeighed (I : Instance) (c : ℕ) (groups : List Group) (sums : List Sums) : Type 0 where
+  pub count : length sums ≡ length groups
+  pub each : (j : ℕ) (d : Group) (e : Sums) → j < length groups → AreSumsOf I c (slice_index_or groups j d).ships (slice_index_or sums j e)

@@ -1,0 +1,124 @@
+//! Lists of groups that have grown, one for each base, which serve until prices rise above the ceilings.
+ghost use Rattle.std.specs.Prelude.{◌≡◌, ◌<◌, length, slice_index_or, All, IfSome, IfOk, OnOk};
+ghost use Rattle.std.specs.List.Sorted.{IsPermutation};
+ghost use Rattle.price_groups.specs.declared.grown_lists.GrownList.{GrownList as Plain};
+ghost use Rattle.price_groups.specs.Masks.{AreNears};
+ghost use Rattle.price_groups.specs.Growing.{IsBase};
+ghost use Rattle.price_groups.specs.GrownLists.{IsGrownList, ArePaired};
+
+use crate::growing::{WeighedGroups, grown};
+use crate::growth::Growth;
+use crate::sums::Sums;
+use lock_model::Group;
+use price_terms::{PriceError, append};
+use std::alloc::Global;
+
+/// A group that has grown, and its sums.
+#[derive(Drop)]
+pub struct GrownGroup {
+    pub group: Group,
+    pub sums: Sums,
+}
+
+impl GrownGroup {
+    /// The same group.
+    pub fn copy(&self) -> GrownGroup
+        ensures { result ≡ self.now }
+    {
+        GrownGroup {
+            group: self.group.copy(),
+            sums: self.sums,
+        }
+    }
+}
+
+/// The groups that have grown from a base.
+#[derive(Drop)]
+pub struct GrownList {
+    pub base: Group,
+    pub groups: Vec<GrownGroup>,
+}
+
+// Groups, each with its sums.
+fn paired(alloc: Global, listed: &WeighedGroups) -> Result<Vec<GrownGroup>, PriceError>
+    requires { length listed.now.sums.items ≡ length listed.now.groups.items }
+    ensures { IfOk result (λ pairs. ArePaired listed.now.groups.items listed.now.sums.items (length listed.now.groups.items) pairs.items) }
+{
+    let mut pairs = Vec::new(alloc);
+    for (place, group) in listed.groups.iter().enumerate() {
+        append(
+            &mut pairs,
+            GrownGroup {
+                group: group.copy(),
+                sums: listed.sums[place],
+            },
+        )?;
+    }
+    Ok(pairs)
+}
+
+// Puts the groups whose last ship arrives soonest first, and of these those of few ships and of short
+// handling: one serves as well as another mostly where it comes before it.
+fn soon_first(groups: &mut Vec<GrownGroup>) -> Result<(), PriceError>
+    ensures { OnOk result (IsPermutation groups.old.items groups.new.items) }
+{
+    match groups.sort_by_key(|one| (one.sums.last, one.group.ships.len(), one.sums.duration)) {
+        Ok(()) => Ok(()),
+        Err(_) => Err(PriceError::NoMemory),
+    }
+}
+
+// What grows from a base.
+fn grown_list(alloc: Global, growth: &Growth, base: &Group) -> Result<GrownList, PriceError>
+    requires nears { AreNears growth.now.case.now.instance.now growth.now.case.now.depth growth.now.sets.now (length growth.now.case.now.instance.now.ships) growth.now.nears.now }
+    requires base { IsBase growth.now.case.now.instance.now growth.now.case.now.chamber growth.now.case.now.depth base.now }
+    ensures base { IfOk result (λ list. list.base ≡ base.now) }
+    ensures grown { IfOk result (IsGrownList growth.now.case.now.instance.now growth.now.case.now.chamber growth.now.case.now.depth growth.now.ceilings.now growth.now.sets.now) }
+{
+    let listed = grown(alloc, growth, base)?;
+    let mut groups = paired(alloc, &listed)?;
+    soon_first(&mut groups)?;
+    Ok(GrownList {
+        base: base.copy(),
+        groups,
+    })
+}
+
+// The place of what has grown from a base, if it is among these.
+fn place_of(lists: &[GrownList], base: &Group) -> Option<usize>
+    ensures place { IfSome result (λ place. place < length lists.now) }
+    ensures is { IfSome result (λ place. (default : Plain) → (slice_index_or lists.now place default).base ≡ base.now) }
+{
+    for (place, list) in lists.iter().enumerate() {
+        if list.base == *base {
+            return Some(place);
+        }
+    }
+    None
+}
+
+/// The place of what has grown from a base, which is grown and put behind the others where it isn't
+/// there.
+pub fn list_for(
+    alloc: Global,
+    lists: &mut Vec<GrownList>,
+    growth: &Growth,
+    base: &Group,
+) -> Result<usize, PriceError>
+    requires nears { AreNears growth.now.case.now.instance.now growth.now.case.now.depth growth.now.sets.now (length growth.now.case.now.instance.now.ships) growth.now.nears.now }
+    requires base { IsBase growth.now.case.now.instance.now growth.now.case.now.chamber growth.now.case.now.depth base.now }
+    requires lists { All (IsGrownList growth.now.case.now.instance.now growth.now.case.now.chamber growth.now.case.now.depth growth.now.ceilings.now growth.now.sets.now) lists.old.items }
+    ensures lists { All (IsGrownList growth.now.case.now.instance.now growth.now.case.now.chamber growth.now.case.now.depth growth.now.ceilings.now growth.now.sets.now) lists.new.items }
+    ensures place { IfOk result (λ place. place < length lists.new.items) }
+    ensures base { IfOk result (λ place. (default : Plain) → (slice_index_or lists.new.items place default).base ≡ base.now) }
+{
+    if let Some(place) = place_of(lists, base) {
+        return Ok(place);
+    }
+    let list = grown_list(alloc, growth, base)?;
+    let place = lists.len();
+    match lists.push(list) {
+        Ok(()) => Ok(place),
+        Err(_) => Err(PriceError::NoMemory),
+    }
+}

@@ -1,0 +1,173 @@
+//! Ship sets as numbers, so that a group is held against many of them fast.
+ghost use Rattle.std.specs.Prelude.{ℕ, ◌≡◌, ◌+◌, ◌<◌, ◌↔◌, true, List, length, All, IsTrue, IfOk, OnOk, bit_and};
+ghost use Rattle.lock_rules.specs.Children.{insert_number};
+ghost use Rattle.price_rules.specs.Prices.{is_missing};
+ghost use Rattle.price_groups.specs.Masks.{IsMask, IsNoted, AreMarks, AreAllowed, IsBetween, IsPutNear, AreHaving, AreNear, AreNears};
+
+use crate::forbidden::are_known;
+use crate::line_case::LineCase;
+use crate::near::Near;
+use lock_model::{Instance, Ships};
+use price_terms::{PriceError, append};
+use std::alloc::Global;
+
+/// The number whose bits are these ships.
+pub(crate) fn mask_of(ships: &[u8]) -> u32
+    requires { All (λ s. s < 32) ships.now }
+    ensures { IsMask result ships.now }
+{
+    let mut mask = 0;
+    for &ship in ships {
+        mask = mask | 1 << ship;
+    }
+    mask
+}
+
+#[inline(always)]
+/// The number whose bits are those ships and one more.
+pub(crate) fn with_bit(mask: u32, ship: u8) -> u32
+    requires { ship < 32 }
+    ensures { (ships : List ℕ) → IsMask mask ships → IsMask result (insert_number ship ships) }
+{
+    mask | 1 << ship
+}
+
+#[inline(always)]
+/// Whether all ships of a number are before one.
+pub(crate) fn are_before(mask: u32, ship: u8) -> bool
+    requires { ship < 32 }
+    ensures { (ships : List ℕ) → IsMask mask ships → IsTrue result → All (λ s. s < ship) ships }
+{
+    mask >> ship == 0
+}
+
+// Whether all bits of a set are among those of a number.
+fn is_among(set: u32, mask: u32) -> bool
+    ensures { IsTrue result ↔ (bit_and set mask ≡ set) }
+{
+    set & mask == set
+}
+
+/// Whether none of the sets is among the ships of a mask.
+pub fn misses_all_of(sets: &[u32], mask: u32) -> bool
+    ensures { IsTrue result ↔ All (λ set. ¬ (bit_and set mask ≡ set)) sets.now }
+{
+    for &set in sets {
+        if is_among(set, mask) {
+            return false;
+        }
+    }
+    true
+}
+
+// Appends the mask of a set, where its ships are the instance's.
+fn note(masks: &mut Vec<u32>, instance: &Instance, set: &[u8]) -> Result<(), PriceError>
+    ensures { OnOk result (IsNoted instance.now set.now masks.old.items masks.new.items) }
+{
+    if are_known(instance, set) {
+        return append(masks, mask_of(set));
+    }
+    Ok(())
+}
+
+/// The masks of the sets whose ships are the instance's.
+pub fn marks(alloc: Global, instance: &Instance, sets: &[Ships]) -> Result<Vec<u32>, PriceError>
+    ensures { IfOk result (λ masks. AreMarks instance.now sets.now (length sets.now) masks.items) }
+{
+    let mut masks = Vec::new(alloc);
+    for set in sets {
+        note(&mut masks, instance, set.as_slice())?;
+    }
+    Ok(masks)
+}
+
+// Whether a number has all bits of one number, and none but those of another.
+fn is_between(own: u32, early: u32, mask: u32) -> bool
+    ensures { IsTrue result ↔ IsBetween own early mask }
+{
+    is_among(own, mask) && is_among(mask, early)
+}
+
+// Appends a mask, where it lies between two numbers.
+fn put_near(masks: &mut Vec<u32>, own: u32, early: u32, mask: u32) -> Result<(), PriceError>
+    ensures { OnOk result (IsPutNear own early mask masks.old.items masks.new.items) }
+{
+    if is_between(own, early, mask) {
+        return append(masks, mask);
+    }
+    Ok(())
+}
+
+// Those of the masks that lie between two numbers.
+fn having(alloc: Global, marks: &[u32], own: u32, early: u32) -> Result<Vec<u32>, PriceError>
+    ensures { IfOk result (λ masks. AreHaving own early marks.now (length marks.now) masks.items) }
+{
+    let mut masks = Vec::new(alloc);
+    for &mask in marks {
+        put_near(&mut masks, own, early, mask)?;
+    }
+    Ok(masks)
+}
+
+// Appends a ship, where the node holds it or it is no later than another one.
+fn put_allowed(ships: &mut Vec<u8>, case: &LineCase, last: u8, ship: u8) -> Result<(), PriceError>
+    requires few { ship < 32 }
+    requires before { AreAllowed case.now.instance.now case.now.depth last ship ships.old.items }
+    ensures { OnOk result (AreAllowed case.now.instance.now case.now.depth last (ship + 1) ships.new.items) }
+{
+    if ship <= last || !case.lacks(ship) {
+        return append(ships, ship);
+    }
+    Ok(())
+}
+
+// The ships that the node holds, and those up to a ship.
+fn allowed(alloc: Global, case: &LineCase, last: u8) -> Result<Vec<u8>, PriceError>
+    ensures { IfOk result (λ ships. AreAllowed case.now.instance.now case.now.depth last (length case.now.instance.now.ships) ships.items) }
+{
+    let mut ships = Vec::new(alloc);
+    for ship in 0..case.instance.ships.as_slice().len() as u8 {
+        put_allowed(&mut ships, case, last, ship)?;
+    }
+    Ok(ships)
+}
+
+// Those of the masks of sets that a ship may complete.
+fn near(alloc: Global, case: &LineCase, marks: &[u32], ship: u8) -> Result<Near, PriceError>
+    requires { ship < 32 }
+    ensures { IfOk result (λ near. (sets : List (List ℕ)) → AreMarks case.now.instance.now sets (length sets) marks.now → AreNear case.now.instance.now case.now.depth sets (length sets) ship near.masks.items) }
+{
+    let own = mask_of(&[ship]);
+    let early = mask_of(&allowed(alloc, case, ship)?);
+    Ok(Near {
+        masks: having(alloc, marks, own, early)?,
+    })
+}
+
+// The same, where the node lacks the ship; of one that it holds nothing is asked.
+fn near_missing(alloc: Global, case: &LineCase, marks: &[u32], ship: u8) -> Result<Near, PriceError>
+    requires { ship < 32 }
+    ensures { IfOk result (λ near. (sets : List (List ℕ)) → AreMarks case.now.instance.now sets (length sets) marks.now → is_missing case.now.instance.now case.now.depth ship ≡ true → AreNear case.now.instance.now case.now.depth sets (length sets) ship near.masks.items) }
+{
+    if case.lacks(ship) {
+        near(alloc, case, marks, ship)
+    } else {
+        Ok(Near {
+            masks: Vec::new(alloc),
+        })
+    }
+}
+
+/// For each missing ship the masks of the sets that it may complete where ships join one after another:
+/// those that have it, but no later one that the node lacks. Where a group that holds no set is joined
+/// by the ship, no other one can be in it then.
+pub fn nears(alloc: Global, case: &LineCase, sets: &[Ships]) -> Result<Vec<Near>, PriceError>
+    ensures { IfOk result (λ nears. AreNears case.now.instance.now case.now.depth sets.now (length case.now.instance.now.ships) nears.items) }
+{
+    let marks = marks(alloc, case.instance, sets)?;
+    let mut nears = Vec::new(alloc);
+    for ship in 0..case.instance.ships.as_slice().len() as u8 {
+        append(&mut nears, near_missing(alloc, case, &marks, ship)?)?;
+    }
+    Ok(nears)
+}

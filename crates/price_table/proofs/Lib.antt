@@ -1,0 +1,7 @@
+pub mod BarLemmas
+pub mod FrameLemmas
+pub mod LineLemmas
+pub mod ServingLemmas
+pub mod StepLemmas
+pub mod SweepLemmas
+pub mod WalkLemmas

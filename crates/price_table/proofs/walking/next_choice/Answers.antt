@@ -1,0 +1,67 @@
+use Rattle.std.proofs.Common.{◌≡◌, ◌≤ℤ◌, ◌<ℤ◌, pos, ◌+ℤ◌, IfNone, All, Contains, sym, ◌∙◌, subst, arith}
+use Rattle.std.proofs.lemmas.Int.{ints}
+use Rattle.price_terms.specs.Cuts.{plain_cuts}
+use Rattle.price_choices.specs.Choosing.{IsChoice, IsCounted}
+use Rattle.price_table.proofs.FrameLemmas.{value-far}
+use Rattle.price_choices.specs.declared.choice.Choice.{Choice}
+use Rattle.price_choices.proofs.MenuLemmas.{some-menu, menu-each, counted-menu}
+use Rattle.price_table.proofs.WalkLemmas.{value-below, none-more, counted-next}
+use Rattle.price_table.proofs.walking.next_choice.Goals as goal
+
+pub returns-then-alone-from-clause-none : goal.returns-then-alone-from-clause-none
+returns-then-alone-from-clause-none c =
+    let table = c.args.table.now in
+    let case = table.case.now in
+    let I = case.instance.now in
+    let from = c.args.from.now in
+    let told = c.alone.ensures in
+    let v = from.value in
+    let far = value-far v table.horizon from.state.minute table.small c.requires.value.low c.requires.value.high in
+    let below = value-below I case.chamber case.chamber_in (plain_cuts I case.cuts.now) case.depth case.prices.now case.line.now table.uncut case.kept table.horizon from.state.place from.state.stand from.state.minute v c.requires.value in
+    let here : v ≤ℤ c.alone.result = subst (λ x. v ≤ℤ x) (sym told.value) below in
+    let same : c.alone.result ≡ v = omega (arith, ints, here, c.if-alone-from.true, told.low, told.high, far.0, far.1) in
+    sym told.value ∙ same
+
+pub next_by-requires-clause-is : goal.next_by-requires-clause-is
+next_by-requires-clause-is c =
+    let table = c.args.table.now in
+    let case = table.case.now in
+    let I = case.instance.now in
+    let from = c.args.from.now in
+    let e = some-menu I case.chamber (plain_cuts I case.cuts.now) case.depth case.prices.now case.line.now table.menus.now c.requires.menus in
+    let each = menu-each I case.chamber case.chamber_in (plain_cuts I case.cuts.now) case.depth case.prices.now case.line.now table.menus.now c.requires.menus from.state.place from.state.minute c.requires.place e in
+    let own = subst (All (IsChoice I case.chamber (plain_cuts I case.cuts.now) case.depth case.prices.now case.line.now)) (sym (c.list-choice-items.ensures e)) each in
+    subst (IsChoice I case.chamber (plain_cuts I case.cuts.now) case.depth case.prices.now case.line.now) (sym c.choice-item.is) (own c.loop-choice.choice-index c.choice-item.result c.loop-choice-test.true)
+
+pub loop-choice-init : goal.loop-choice-init
+loop-choice-init c = record { values = c.requires.values; counted = λ j d none here. absurd (omega (arith, none)) }
+
+pub loop-choice-preserved : goal.loop-choice-preserved
+loop-choice-preserved c =
+    let table = c.args.table.now in
+    let case = table.case.now in
+    let I = case.instance.now in
+    let from = c.args.from.now in
+    let i = c.loop-choice.choice-index in
+    let counted = subst (λ o. IfNone o (IsCounted I case.chamber (plain_cuts I case.cuts.now) case.depth case.prices.now case.line.now from.state.stand from.state.minute from.state.place (from.value +ℤ pos 1) c.choice-item.result)) c.in-None.is c.in_ok-next.ensures.none in
+    record {
+      values = c.in_ok-next.ensures.values;
+      counted = counted-next I case.chamber case.chamber_in (plain_cuts I case.cuts.now) case.depth case.prices.now case.line.now from.state.stand from.state.minute from.state.place (from.value +ℤ pos 1) c.list-choice-items.result.now i c.choice-item.result c.loop-choice-test.true c.choice-item.is counted c.loop-choice.invariant.counted;
+    }
+
+pub returns-clause-none : goal.returns-clause-none
+returns-clause-none c =
+    let table = c.args.table.now in
+    let case = table.case.now in
+    let I = case.instance.now in
+    let from = c.args.from.now in
+    let told = c.alone.ensures in
+    let v = from.value in
+    let far = value-far v table.horizon from.state.minute table.small c.requires.value.low c.requires.value.high in
+    let over : v <ℤ c.alone.result = omega (arith, ints, c.if-alone-from.false, told.low, told.high, far.0, far.1) in
+    let e = some-menu I case.chamber (plain_cuts I case.cuts.now) case.depth case.prices.now case.line.now table.menus.now c.requires.menus in
+    absurd (none-more I case.chamber case.chamber_in (plain_cuts I case.cuts.now) case.depth case.prices.now case.line.now table.uncut case.kept table.horizon c.requires.menus.listed.choices c.requires.menus.listed.enough from.state.place from.state.stand from.state.minute v c.requires.value
+    (subst (λ x. v <ℤ x) told.value over)
+    (counted-menu I case.chamber case.chamber_in (plain_cuts I case.cuts.now) case.depth case.prices.now case.line.now table.menus.now c.requires.menus from.state.place from.state.minute c.requires.place e from.state.stand (v +ℤ pos 1)
+    (subst (λ hs. (h : Choice) → Contains hs h → IsCounted I case.chamber (plain_cuts I case.cuts.now) case.depth case.prices.now case.line.now from.state.stand from.state.minute from.state.place (v +ℤ pos 1) h) (c.list-choice-items.ensures e)
+    (λ h held. subst (IsCounted I case.chamber (plain_cuts I case.cuts.now) case.depth case.prices.now case.line.now from.state.stand from.state.minute from.state.place (v +ℤ pos 1)) held.2 (c.loop-choice.invariant.counted held.0 h (omega (arith, held.1, c.loop-choice-test.false, c.loop-choice.auto.choice-index-end)) held.1)))))

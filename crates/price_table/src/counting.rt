@@ -1,0 +1,188 @@
+//! The table of a chamber's line, one choice after another.
+ghost use Rattle.std.specs.Prelude.{◌≡◌, ◌+◌, ◌-◌, ◌*◌, ◌<◌, ◌≤◌, ◌≤ℤ◌, length, IfSome, IfNone, None};
+ghost use Rattle.price_choices.specs.Choosing.{AreMenus, IsChoice, IsCounted, Leads, list_of};
+ghost use Rattle.price_table.specs.Values.{IsValue};
+ghost use Rattle.price_choices.specs.declared.menu.Menu.{Menu};
+ghost use Rattle.price_table.specs.Values.{AreValues, IsBest, IsFrame, IsReady};
+ghost use Rattle.price_terms.specs.Cuts.{plain_cuts};
+
+use crate::frame::Frame;
+use crate::ready::Ready;
+use crate::route::Route;
+use crate::serving::{alone, is_idle, lesser, serve};
+use crate::state::State;
+use crate::sweeping::sweep;
+use crate::table::Table;
+use crate::values::Values;
+use chamber_times::stand_after;
+use lock_model::SHIPS;
+use price_choices::{Choice, led};
+
+/// A state of which no choice is counted.
+pub(crate) fn opened(table: &Table, state: State) -> Frame
+    requires place { state.place ≤ length table.now.case.now.line.now }
+    requires early { state.minute < table.now.horizon }
+    ensures { IsFrame table.now.case.now.instance.now table.now.case.now.chamber (plain_cuts table.now.case.now.instance.now table.now.case.now.cuts.now) table.now.case.now.depth table.now.case.now.prices.now table.now.case.now.line.now table.now.horizon table.now.menus.now result }
+{
+    Frame {
+        ready: Ready::new(table.case, state),
+        best: alone(table.case, state),
+        next: 0,
+    }
+}
+
+#[inline(always)]
+/// The value of a state, where it is known.
+pub(crate) fn known(table: &Table, values: &Values, state: State) -> Option<i64>
+    requires values { AreValues table.now.case.now.instance.now table.now.case.now.chamber (plain_cuts table.now.case.now.instance.now table.now.case.now.cuts.now) table.now.case.now.depth table.now.case.now.prices.now table.now.case.now.line.now table.now.horizon values.now }
+    requires place { state.place ≤ length table.now.case.now.line.now }
+    requires minute { state.minute ≤ 14000000 }
+    ensures some { IfSome result (IsValue table.now.case.now.instance.now table.now.case.now.chamber (plain_cuts table.now.case.now.instance.now table.now.case.now.cuts.now) table.now.case.now.depth table.now.case.now.prices.now table.now.case.now.line.now table.now.horizon state.place state.stand state.minute) }
+    ensures none { IfNone result (state.minute < table.now.horizon) }
+{
+    if state.minute >= table.horizon {
+        Some(alone(table.case, state))
+    } else {
+        values.find(&state)
+    }
+}
+
+#[inline(always)]
+// Counts a choice that leads to a place, or names the state behind it whose value isn't known yet.
+fn count_to(
+    table: &Table,
+    values: &Values,
+    ready: &Ready,
+    best: &mut i64,
+    choice: &Choice,
+    place: u8,
+) -> Option<State>
+    requires values { AreValues table.now.case.now.instance.now table.now.case.now.chamber (plain_cuts table.now.case.now.instance.now table.now.case.now.cuts.now) table.now.case.now.depth table.now.case.now.prices.now table.now.case.now.line.now table.now.horizon values.now }
+    requires ready { IsReady table.now.case.now.instance.now table.now.case.now.chamber ready.now }
+    requires early { ready.now.state.minute < table.now.horizon }
+    requires best { IsBest table.now.case.now.instance.now table.now.case.now.chamber (plain_cuts table.now.case.now.instance.now table.now.case.now.cuts.now) table.now.case.now.depth table.now.case.now.prices.now table.now.case.now.line.now table.now.horizon ready.now.state.place ready.now.state.stand ready.now.state.minute best.old }
+    requires is { IsChoice table.now.case.now.instance.now table.now.case.now.chamber (plain_cuts table.now.case.now.instance.now table.now.case.now.cuts.now) table.now.case.now.depth table.now.case.now.prices.now table.now.case.now.line.now choice.now }
+    requires leads { Leads choice.now.joins ready.now.state.place place }
+    requires place { place ≤ length table.now.case.now.line.now }
+    ensures best { IsBest table.now.case.now.instance.now table.now.case.now.chamber (plain_cuts table.now.case.now.instance.now table.now.case.now.cuts.now) table.now.case.now.depth table.now.case.now.prices.now table.now.case.now.line.now table.now.horizon ready.now.state.place ready.now.state.stand ready.now.state.minute best.new }
+    ensures less { best.new ≤ℤ best.old }
+    ensures none { IfNone result (IsCounted table.now.case.now.instance.now table.now.case.now.chamber (plain_cuts table.now.case.now.instance.now table.now.case.now.cuts.now) table.now.case.now.depth table.now.case.now.prices.now table.now.case.now.line.now ready.now.state.stand ready.now.state.minute ready.now.state.place best.new choice.now) }
+    ensures some { IfSome result (λ s. (s.place ≤ length table.now.case.now.line.now) × (s.minute < table.now.horizon)) }
+{
+    let served = serve(table.case, ready, choice);
+    if is_idle(choice, served.worth) {
+        return None;
+    }
+    let behind = State {
+        place,
+        stand: stand_after(choice.group.way),
+        minute: served.end,
+    };
+    match known(table, values, behind) {
+        None => Some(behind),
+        Some(value) => {
+            *best = lesser(*best, served.worth, value);
+            None
+        }
+    }
+}
+
+#[inline(always)]
+// Counts a choice, or names the state behind it whose value isn't known yet.
+fn count(
+    table: &Table,
+    values: &Values,
+    ready: &Ready,
+    best: &mut i64,
+    choice: &Choice,
+) -> Option<State>
+    requires values { AreValues table.now.case.now.instance.now table.now.case.now.chamber (plain_cuts table.now.case.now.instance.now table.now.case.now.cuts.now) table.now.case.now.depth table.now.case.now.prices.now table.now.case.now.line.now table.now.horizon values.now }
+    requires ready { IsReady table.now.case.now.instance.now table.now.case.now.chamber ready.now }
+    requires early { ready.now.state.minute < table.now.horizon }
+    requires place { ready.now.state.place ≤ length table.now.case.now.line.now }
+    requires best { IsBest table.now.case.now.instance.now table.now.case.now.chamber (plain_cuts table.now.case.now.instance.now table.now.case.now.cuts.now) table.now.case.now.depth table.now.case.now.prices.now table.now.case.now.line.now table.now.horizon ready.now.state.place ready.now.state.stand ready.now.state.minute best.old }
+    requires is { IsChoice table.now.case.now.instance.now table.now.case.now.chamber (plain_cuts table.now.case.now.instance.now table.now.case.now.cuts.now) table.now.case.now.depth table.now.case.now.prices.now table.now.case.now.line.now choice.now }
+    ensures best { IsBest table.now.case.now.instance.now table.now.case.now.chamber (plain_cuts table.now.case.now.instance.now table.now.case.now.cuts.now) table.now.case.now.depth table.now.case.now.prices.now table.now.case.now.line.now table.now.horizon ready.now.state.place ready.now.state.stand ready.now.state.minute best.new }
+    ensures less { best.new ≤ℤ best.old }
+    ensures none { IfNone result (IsCounted table.now.case.now.instance.now table.now.case.now.chamber (plain_cuts table.now.case.now.instance.now table.now.case.now.cuts.now) table.now.case.now.depth table.now.case.now.prices.now table.now.case.now.line.now ready.now.state.stand ready.now.state.minute ready.now.state.place best.new choice.now) }
+    ensures some { IfSome result (λ s. (s.place ≤ length table.now.case.now.line.now) × (s.minute < table.now.horizon)) }
+{
+    match led(choice, ready.state.place) {
+        None => None,
+        Some(place) => count_to(table, values, ready, best, choice, place),
+    }
+}
+
+// Counts the next choice, or names the state behind it whose value isn't known yet.
+fn count_next(
+    table: &Table,
+    values: &Values,
+    choices: &[Choice],
+    frame: &mut Frame,
+) -> Option<State>
+    requires values { AreValues table.now.case.now.instance.now table.now.case.now.chamber (plain_cuts table.now.case.now.instance.now table.now.case.now.cuts.now) table.now.case.now.depth table.now.case.now.prices.now table.now.case.now.line.now table.now.horizon values.now }
+    requires menus { AreMenus table.now.case.now.instance.now table.now.case.now.chamber (plain_cuts table.now.case.now.instance.now table.now.case.now.cuts.now) table.now.case.now.depth table.now.case.now.prices.now table.now.case.now.line.now table.now.menus.now }
+    requires frame { IsFrame table.now.case.now.instance.now table.now.case.now.chamber (plain_cuts table.now.case.now.instance.now table.now.case.now.cuts.now) table.now.case.now.depth table.now.case.now.prices.now table.now.case.now.line.now table.now.horizon table.now.menus.now frame.old }
+    requires listed { (e : Menu) → choices.now ≡ list_of table.now.menus.now e frame.old.ready.state.place frame.old.ready.state.minute }
+    requires here { frame.old.next < length choices.now }
+    ensures frame { IsFrame table.now.case.now.instance.now table.now.case.now.chamber (plain_cuts table.now.case.now.instance.now table.now.case.now.cuts.now) table.now.case.now.depth table.now.case.now.prices.now table.now.case.now.line.now table.now.horizon table.now.menus.now frame.new }
+    ensures same { frame.new.ready ≡ frame.old.ready }
+    ensures none { IfNone result (frame.new.next ≡ frame.old.next + 1) }
+    ensures some { IfSome result (λ s. (s.place ≤ length table.now.case.now.line.now) × (s.minute < table.now.horizon)) }
+{
+    match count(
+        table,
+        values,
+        &frame.ready,
+        &mut frame.best,
+        &choices[frame.next],
+    ) {
+        Some(state) => Some(state),
+        None => {
+            frame.next += 1;
+            None
+        }
+    }
+}
+
+// Counts more choices of a frame, where the next one may come next in a chamber without closures.
+fn sweep_from(table: &Table, values: &Values, choices: &[Choice], frame: &mut Frame)
+    requires values { AreValues table.now.case.now.instance.now table.now.case.now.chamber (plain_cuts table.now.case.now.instance.now table.now.case.now.cuts.now) table.now.case.now.depth table.now.case.now.prices.now table.now.case.now.line.now table.now.horizon values.now }
+    requires menus { AreMenus table.now.case.now.instance.now table.now.case.now.chamber (plain_cuts table.now.case.now.instance.now table.now.case.now.cuts.now) table.now.case.now.depth table.now.case.now.prices.now table.now.case.now.line.now table.now.menus.now }
+    requires frame { IsFrame table.now.case.now.instance.now table.now.case.now.chamber (plain_cuts table.now.case.now.instance.now table.now.case.now.cuts.now) table.now.case.now.depth table.now.case.now.prices.now table.now.case.now.line.now table.now.horizon table.now.menus.now frame.old }
+    requires listed { (e : Menu) → choices.now ≡ list_of table.now.menus.now e frame.old.ready.state.place frame.old.ready.state.minute }
+    requires here { frame.old.next < length choices.now }
+    ensures frame { IsFrame table.now.case.now.instance.now table.now.case.now.chamber (plain_cuts table.now.case.now.instance.now table.now.case.now.cuts.now) table.now.case.now.depth table.now.case.now.prices.now table.now.case.now.line.now table.now.horizon table.now.menus.now frame.new }
+    ensures same { frame.new.ready ≡ frame.old.ready }
+    ensures more { frame.old.next ≤ frame.new.next }
+{
+    if !frame.ready.always_open {
+        return;
+    }
+    if let Some(route) = Route::of(&choices[frame.next], &frame.ready) {
+        sweep(table, values, &route, choices, frame);
+    }
+}
+
+/// Counts choices one after another, until all are counted or the value of a state behind one isn't
+/// known yet; that state.
+pub(crate) fn advance(table: &Table, values: &Values, frame: &mut Frame) -> Option<State>
+    requires values { AreValues table.now.case.now.instance.now table.now.case.now.chamber (plain_cuts table.now.case.now.instance.now table.now.case.now.cuts.now) table.now.case.now.depth table.now.case.now.prices.now table.now.case.now.line.now table.now.horizon values.now }
+    requires menus { AreMenus table.now.case.now.instance.now table.now.case.now.chamber (plain_cuts table.now.case.now.instance.now table.now.case.now.cuts.now) table.now.case.now.depth table.now.case.now.prices.now table.now.case.now.line.now table.now.menus.now }
+    requires frame { IsFrame table.now.case.now.instance.now table.now.case.now.chamber (plain_cuts table.now.case.now.instance.now table.now.case.now.cuts.now) table.now.case.now.depth table.now.case.now.prices.now table.now.case.now.line.now table.now.horizon table.now.menus.now frame.old }
+    ensures frame { IsFrame table.now.case.now.instance.now table.now.case.now.chamber (plain_cuts table.now.case.now.instance.now table.now.case.now.cuts.now) table.now.case.now.depth table.now.case.now.prices.now table.now.case.now.line.now table.now.horizon table.now.menus.now frame.new }
+    ensures none { IfNone result ((e : Menu) → length (list_of table.now.menus.now e frame.new.ready.state.place frame.new.ready.state.minute) ≤ frame.new.next) }
+    ensures some { IfSome result (λ s. (s.place ≤ length table.now.case.now.line.now) × (s.minute < table.now.horizon)) }
+{
+    let choices = table.list(&frame.ready.state);
+    while frame.next < choices.len() {
+        let before = frame.next;
+        sweep_from(table, values, choices, frame);
+        if frame.next == before {
+            if let Some(state) = count_next(table, values, choices, frame) {
+                return Some(state);
+            }
+        }
+    }
+    None
+}

@@ -1,0 +1,12 @@
+//! States whose choices are being counted.
+
+use crate::ready::Ready;
+
+/// A state of which the choices before `next` are counted; `best` is the least of what they come
+/// to, in hundredths of a minute.
+#[derive(Clone, Copy)]
+pub(crate) struct Frame {
+    pub(crate) ready: Ready,
+    pub(crate) best: i64,
+    pub(crate) next: usize,
+}

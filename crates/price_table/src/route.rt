@@ -1,0 +1,100 @@
+//! What choices have in common that join the same group and have the same way.
+ghost use Rattle.std.specs.Prelude.{◌≡◌, ◌≤◌, ◌≤ℤ◌, ◌-ℤ◌, ◌⊎◌, pos, neg_ℤ, ℤ, None, IsTrue, IfSome};
+ghost use Rattle.price_table.specs.Values.{IsRoute};
+
+use crate::ready::Ready;
+use lock_model::{SHIPS, Way};
+use price_choices::{Choice, led};
+
+// More than a choice is worth, in hundredths of a minute.
+const MOST_WORTH: i64 = 40_000_000_000;
+
+/// The way of choices and the group that they join, the place that they lead to, and the first minute at
+/// which the chamber may be ready for them.
+#[derive(Clone, Copy)]
+pub(crate) struct Route {
+    pub(crate) way: Way,
+    pub(crate) joins: Option<u8>,
+    pub(crate) place: u8,
+    pub(crate) minute: u64,
+}
+
+/// What a choice of a route comes to no less than, by what is counted, where it ends no sooner and is
+/// worth no less, in hundredths of a minute.
+#[derive(Clone, Copy)]
+pub(crate) struct Bar {
+    pub(crate) end: u64,
+    pub(crate) worth: i64,
+}
+
+impl Route {
+    // The route of a choice from a state, where it may come next there.
+    pub(crate) fn of(choice: &Choice, ready: &Ready) -> Option<Route>
+        requires { ready.now.state.place ≤ SHIPS }
+        ensures is { IfSome result (IsRoute ready.now) }
+        ensures joins { IfSome result (λ route. route.joins ≡ choice.now.joins) }
+    {
+        let place = led(choice, ready.state.place)?;
+        let way = choice.group.way;
+        Some(Route {
+            way,
+            joins: choice.joins,
+            place,
+            minute: ready.minute(way),
+        })
+    }
+
+    #[inline(always)]
+    // Whether a choice is of this route.
+    pub(crate) fn has(&self, choice: &Choice) -> bool
+        ensures joins { IsTrue result → choice.now.joins ≡ self.now.joins }
+        ensures way { IsTrue result → choice.now.group.way ≡ self.now.way }
+    {
+        choice.group.way == self.way && choice.joins == self.joins
+    }
+
+    // The bar before any choice is counted: missing ships alone that gain nothing are left out.
+    pub(crate) fn first_bar(&self) -> Bar
+        ensures low { neg_ℤ (pos 2000000000000000) ≤ℤ result.worth }
+        ensures high { result.worth ≤ℤ pos 2000000000000000 }
+        ensures gainless { (w : ℤ) → result.worth ≤ℤ w → w ≤ℤ pos 30000000000 → (self.now.joins ≡ None) × (pos 0 ≤ℤ w) }
+    {
+        let worth = if self.joins.is_none() { 0 } else { MOST_WORTH };
+        Bar { end: 0, worth }
+    }
+
+    #[inline(always)]
+    // The bar once a choice that ends at this minute is counted, behind which the least is a value.
+    pub(crate) fn bar(&self, end: u64, best: i64, value: i64) -> Bar
+        requires best_low { neg_ℤ (pos 1000000000000000) ≤ℤ best }
+        requires best_high { best ≤ℤ pos 1000000000000000 }
+        requires value_low { neg_ℤ (pos 1000000000000000) ≤ℤ value }
+        requires value_high { value ≤ℤ pos 1000000000000000 }
+        ensures end { result.end ≡ end }
+        ensures low { neg_ℤ (pos 2000000000000000) ≤ℤ result.worth }
+        ensures high { result.worth ≤ℤ pos 2000000000000000 }
+        ensures worth { (w : ℤ) → result.worth ≤ℤ w → ((best -ℤ value) ≤ℤ w) ⊎ ((self.now.joins ≡ None) × (pos 0 ≤ℤ w)) }
+    {
+        let gap = best - value;
+        if self.joins.is_none() && gap > 0 {
+            Bar { end, worth: 0 }
+        } else {
+            Bar { end, worth: gap }
+        }
+    }
+}
+
+impl Bar {
+    #[inline(always)]
+    // Whether a choice that ends at this minute and is worth so much ends no sooner and is worth no less.
+    pub(crate) fn is_reached(&self, end: u64, worth: i64) -> bool
+        requires low { neg_ℤ (pos 2000000000000000) ≤ℤ self.now.worth }
+        requires high { self.now.worth ≤ℤ pos 2000000000000000 }
+        requires worth_low { neg_ℤ (pos 1000000000000000) ≤ℤ worth }
+        requires worth_high { worth ≤ℤ pos 1000000000000000 }
+        ensures end { IsTrue result → self.now.end ≤ end }
+        ensures worth { IsTrue result → self.now.worth ≤ℤ worth }
+    {
+        worth >= self.worth && end >= self.end
+    }
+}

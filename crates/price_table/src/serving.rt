@@ -1,0 +1,138 @@
+//! What a choice is worth that comes next, and what a line's own groups are worth alone.
+ghost use Rattle.std.specs.Prelude.{◌≡◌, ◌+◌, ◌*◌, ◌<◌, ◌≤◌, ◌≤ℤ◌, ◌-ℤ◌, neg_ℤ, pos, true, length, drop, All, max, ◌+ℤ◌, IsTrue, None};
+ghost use Rattle.std.specs.Int.{int_min};
+ghost use Rattle.price_groups.specs.Worth.{end_after, worth_of, worth_from, IsKeptGroup};
+ghost use Rattle.price_choices.specs.Choosing.{IsChoice};
+ghost use Rattle.price_table.specs.Values.{IsReady, minute_for};
+ghost use Rattle.price_terms.specs.Cuts.{plain_cuts};
+
+use crate::ready::Ready;
+use crate::state::State;
+use chamber_times::{flow_until, group_times, stand_after};
+use lock_model::{Group, MOST, SHIPS};
+use price_choices::Choice;
+use price_groups::LineCase;
+
+/// The minute at which a choice ends that comes next, and what it is worth, in hundredths of a
+/// minute.
+#[derive(Clone, Copy)]
+pub(crate) struct Served {
+    pub(crate) end: u64,
+    pub(crate) worth: i64,
+}
+
+#[inline(always)]
+// The product of a number of ships and a minute.
+fn product(count: u64, end: u64) -> u64
+    requires count { count ≤ MOST }
+    requires end { end ≤ 30000000 }
+    ensures value { result ≡ count * end }
+    ensures small { result ≤ 240000000 }
+{
+    count * end
+}
+
+#[inline(always)]
+// A choice that ends at a minute.
+fn ended(choice: &Choice, end: u64) -> Served
+    requires end { end ≤ 30000000 }
+    requires fair { choice.now.pays ≤ 808000000 }
+    ensures end { result.end ≡ end }
+    ensures worth { result.worth ≡ (pos (100 * (length choice.now.group.ships * end)) -ℤ pos choice.now.pays) }
+    ensures low { neg_ℤ (pos 808000000) ≤ℤ result.worth }
+    ensures high { result.worth ≤ℤ pos 30000000000 }
+{
+    let sum = product(choice.group.ships.len() as u64, end);
+    Served {
+        end,
+        worth: (100 * sum) as i64 - choice.pays as i64,
+    }
+}
+
+/// Serves a choice next.
+#[inline(always)]
+pub(crate) fn serve(case: &LineCase, ready: &Ready, choice: &Choice) -> Served
+    requires is { IsChoice case.now.instance.now case.now.chamber (plain_cuts case.now.instance.now case.now.cuts.now) case.now.depth case.now.prices.now case.now.line.now choice.now }
+    requires ready { IsReady case.now.instance.now case.now.chamber ready.now }
+    requires minute { ready.now.state.minute ≤ 14000000 }
+    ensures end { result.end ≡ end_after case.now.instance.now case.now.chamber ready.now.state.stand ready.now.state.minute choice.now.group }
+    ensures worth { result.worth ≡ worth_of case.now.instance.now case.now.chamber case.now.depth case.now.prices.now ready.now.state.stand ready.now.state.minute choice.now.group }
+    ensures small { result.end ≤ max ready.now.state.minute 1000000 + 12000000 }
+    ensures low { neg_ℤ (pos 808000000) ≤ℤ result.worth }
+    ensures high { result.worth ≤ℤ pos 30000000000 }
+{
+    let long = choice.duration as u64;
+    let from = ready.minute(choice.group.way).max(choice.last as u64);
+    ended(choice, ready.first_free(case, long, from) + long)
+}
+
+/// Serves a choice next in a chamber without closures that may be ready for it at a minute.
+#[inline(always)]
+pub(crate) fn serve_open(case: &LineCase, ready: &Ready, minute: u64, choice: &Choice) -> Served
+    requires is { IsChoice case.now.instance.now case.now.chamber (plain_cuts case.now.instance.now case.now.cuts.now) case.now.depth case.now.prices.now case.now.line.now choice.now }
+    requires ready { IsReady case.now.instance.now case.now.chamber ready.now }
+    requires minute { ready.now.state.minute ≤ 14000000 }
+    requires open { ready.now.always_open ≡ true }
+    requires first { minute ≡ minute_for ready.now choice.now.group.way }
+    ensures end { result.end ≡ end_after case.now.instance.now case.now.chamber ready.now.state.stand ready.now.state.minute choice.now.group }
+    ensures worth { result.worth ≡ worth_of case.now.instance.now case.now.chamber case.now.depth case.now.prices.now ready.now.state.stand ready.now.state.minute choice.now.group }
+    ensures small { result.end ≤ max ready.now.state.minute 1000000 + 12000000 }
+    ensures low { neg_ℤ (pos 808000000) ≤ℤ result.worth }
+    ensures high { result.worth ≤ℤ pos 30000000000 }
+{
+    let from = minute.max(choice.last as u64);
+    ended(choice, from + choice.duration as u64)
+}
+
+// What some of the line's own groups are worth alone, in hundredths of a minute.
+fn alone_on(case: &LineCase, state: &State, line: &[Group]) -> i64
+    requires kept { All (IsKeptGroup case.now.instance.now case.now.depth) line.now }
+    requires ships_in { All (λ g. All (λ s. s < length case.now.instance.now.ships) g.ships) line.now }
+    requires few { length line.now ≤ SHIPS }
+    requires minute { state.now.minute ≤ 14000000 }
+    ensures value { result ≡ worth_from case.now.instance.now case.now.chamber case.now.depth case.now.prices.now state.now.stand state.now.minute line.now }
+    ensures low { pos 0 ≤ℤ result }
+    ensures high { result ≤ℤ pos 6000000000000 }
+{
+    let mut stand = state.stand;
+    let mut minute = state.minute;
+    let mut flow = 0;
+    for group in line {
+        let (_, end) = group_times(case.instance, case.chamber, stand, minute, group);
+        flow += flow_until(case.instance, &group.ships, end);
+        stand = stand_after(group.way);
+        minute = end;
+    }
+    (100 * flow) as i64
+}
+
+/// What the line's own groups from the state's place on are worth alone, in hundredths of a minute.
+pub(crate) fn alone(case: &LineCase, state: State) -> i64
+    requires place { state.place ≤ length case.now.line.now }
+    requires minute { state.minute ≤ 14000000 }
+    ensures value { result ≡ worth_from case.now.instance.now case.now.chamber case.now.depth case.now.prices.now state.stand state.minute (drop state.place case.now.line.now) }
+    ensures low { pos 0 ≤ℤ result }
+    ensures high { result ≤ℤ pos 6000000000000 }
+{
+    alone_on(case, &state, &case.line[state.place as usize..])
+}
+
+#[inline(always)]
+/// Whether a choice may be left out: missing ships alone that gain nothing.
+pub(crate) fn is_idle(choice: &Choice, worth: i64) -> bool
+    ensures { IsTrue result → (choice.now.joins ≡ None) × (pos 0 ≤ℤ worth) }
+{
+    choice.joins.is_none() && worth >= 0
+}
+
+#[inline(always)]
+/// The lesser of a value and of what a choice comes to with the value behind it.
+pub(crate) fn lesser(best: i64, worth: i64, behind: i64) -> i64
+    requires worth_low { neg_ℤ (pos 1000000000000000) ≤ℤ worth }
+    requires worth_high { worth ≤ℤ pos 1000000000000000 }
+    requires behind_low { neg_ℤ (pos 1000000000000000) ≤ℤ behind }
+    requires behind_high { behind ≤ℤ pos 1000000000000000 }
+    ensures { result ≡ int_min best (worth +ℤ behind) }
+{
+    best.min(worth + behind)
+}

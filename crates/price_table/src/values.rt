@@ -1,0 +1,106 @@
+//! Values that are remembered for states.
+ghost use Rattle.std.specs.Prelude.{◌≡◌, ◌+◌, ◌<◌, ◌≤◌, length, IfSome, IfOk, OnOk};
+ghost use Rattle.price_table.specs.Values.{key_of, AreEmpty, IsRemembered, Remembers};
+
+use crate::state::State;
+use lock_model::SHIPS_AND_ROOT;
+use price_terms::PriceError;
+use std::alloc::Global;
+use std::collections::HashMap;
+
+// How many minutes have a place in the row; later ones are rare.
+const ROW_MINUTES: u64 = 600;
+
+/// Values, in hundredths of a minute, by state, whose place is one of so many: those of the first
+/// minutes in a row, which is asked most, and the others in a map.
+#[derive(Drop)]
+pub(crate) struct Values {
+    pub(crate) places: u64,
+    pub(crate) start: u64,
+    pub(crate) row: Vec<Option<i64>>,
+    pub(crate) others: HashMap<u64, i64>,
+}
+
+impl Values {
+    // None yet, with room for the states of so many places from one minute up to another. A short row
+    // stays in the nearest cache.
+    pub(crate) fn new(alloc: Global, places: u64, from: u64, to: u64) -> Result<Values, PriceError>
+        requires few { places ≤ SHIPS_AND_ROOT }
+        requires from { from ≤ 14000000 }
+        ensures { IfOk result (AreEmpty places) }
+    {
+        let minutes = to.saturating_sub(from).min(ROW_MINUTES);
+        match vec![in alloc; None; (minutes * places * 2) as usize] {
+            Ok(row) => Ok(Values {
+                places,
+                start: from * places * 2,
+                row,
+                others: HashMap::new(alloc),
+            }),
+            Err(_) => Err(PriceError::NoMemory),
+        }
+    }
+
+    #[inline(always)]
+    // The place in the row of the state that has the key, if it has one.
+    fn place(&self, key: u64) -> Option<usize>
+        ensures { IfSome result (λ place. (key ≡ self.now.start + place) × (place < length self.now.row.items)) }
+    {
+        if key < self.start {
+            return None;
+        }
+        let place = key - self.start;
+        if place < self.row.len() as u64 {
+            Some(place as usize)
+        } else {
+            None
+        }
+    }
+
+    #[inline(always)]
+    // What is remembered for a state.
+    pub(crate) fn find(&self, state: &State) -> Option<i64>
+        requires few { self.now.places ≤ SHIPS_AND_ROOT }
+        requires place { state.now.place < self.now.places }
+        requires minute { state.now.minute ≤ 14000000 }
+        ensures { IfSome result (IsRemembered self.now (key_of self.now.places state.now.place state.now.stand state.now.minute)) }
+    {
+        let key = state.key(self.places);
+        match self.place(key) {
+            Some(place) => self.row[place],
+            None => self.others.get(&key).copied(),
+        }
+    }
+
+    #[inline(always)]
+    // What is remembered for a state in the row.
+    pub(crate) fn in_row(&self, state: &State) -> Option<i64>
+        requires few { self.now.places ≤ SHIPS_AND_ROOT }
+        requires place { state.now.place < self.now.places }
+        requires minute { state.now.minute ≤ 14000000 }
+        ensures { IfSome result (IsRemembered self.now (key_of self.now.places state.now.place state.now.stand state.now.minute)) }
+    {
+        let place = self.place(state.key(self.places))?;
+        self.row[place]
+    }
+
+    // Remembers a value for a state.
+    pub(crate) fn keep(&mut self, state: &State, value: i64) -> Result<(), PriceError>
+        requires few { self.old.places ≤ SHIPS_AND_ROOT }
+        requires place { state.now.place < self.old.places }
+        requires minute { state.now.minute ≤ 14000000 }
+        ensures { OnOk result (Remembers self.old self.new (key_of self.old.places state.now.place state.now.stand state.now.minute) value) }
+    {
+        let key = state.key(self.places);
+        match self.place(key) {
+            Some(place) => {
+                self.row[place] = Some(value);
+                Ok(())
+            }
+            None => match self.others.insert(key, value) {
+                Ok(_) => Ok(()),
+                Err(_) => Err(PriceError::NoMemory),
+            },
+        }
+    }
+}
