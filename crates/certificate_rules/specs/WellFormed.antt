@@ -1,6 +1,6 @@
 -- Certificates that can be written down.
 use Rattle.std.specs.Prelude.{ℕ, ◌≡◌, ◌≤◌, ◌<◌, ◌^◌, List, length, All, ⊤}
-use Rattle.lock_model.specs.declared.limits.TheConstants.{MOST}
+use Rattle.lock_model.specs.declared.limits.TheConstants.{MOST, SHIPS}
 use Rattle.lock_model.specs.Limits.{Within}
 use Rattle.lock_model.specs.declared.plan.Lockage.{Lockage}
 use Rattle.refute_rules.specs.declared.refutation.Quick.{Quick}

@@ -6,7 +6,7 @@ ghost use Rattle.day_play.specs.Lawful.{IsWholeLockage};
 ghost use Rattle.day_play.specs.Playing.{turn_beats, moor_beats, lockage_beats, chamber_beats, day_of};
 
 use crate::beat::{Act, Beat};
-use crate::day::Day;
+use crate::day::{BEATS, Day};
 use crate::order::moor_order;
 use chamber_times::{duration, first_free, line_places, stand_after};
 use lock_model::{Instance, Lockage, Plan, Stand, Way};
