@@ -8,7 +8,7 @@ use crate::line_case::LineCase;
 use crate::masks::{mask_of, with_bit};
 use crate::sums::Sums;
 use chamber_times::{duration, last_arrival};
-use lock_model::{MOST, Ships};
+use lock_model::Ships;
 use price_terms::{PriceError, Prices, append};
 use std::alloc::Global;
 

@@ -15,7 +15,6 @@ use crate::sweeping::sweep;
 use crate::table::Table;
 use crate::values::Values;
 use chamber_times::stand_after;
-use lock_model::SHIPS;
 use price_choices::{Choice, led};
 
 /// A state of which no choice is counted.
