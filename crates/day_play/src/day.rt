@@ -7,7 +7,7 @@ use arrayvec::ArrayVec;
 use std::marker::Model;
 
 /// Up to 96 beats.
-#[derive(PartialEq, Eq, Drop)]
+#[derive(Drop)]
 pub struct Day {
     items: ArrayVec<Beat, 96>,
 }

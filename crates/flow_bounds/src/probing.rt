@@ -25,7 +25,7 @@ use master_branch::{Node, Step, arrival_order, steps_by};
 use std::marker::Model;
 
 /// Up to 50 bounds: as many as a node of an instance can have children.
-#[derive(PartialEq, Eq, Drop)]
+#[derive(Drop)]
 pub struct Bounds {
     items: ArrayVec<u64, 50>,
 }

@@ -12,7 +12,7 @@ use lock_model::{Chamber, Group, Instance, Stand, Way};
 
 // How far a walk is: how the chamber stands, the minute at which it is done with the groups so
 // far, and the flow times of their ships, added.
-#[derive(Clone, Copy, PartialEq, Eq)]
+#[derive(Clone, Copy)]
 pub(crate) struct Walk {
     pub(crate) stand: Stand,
     pub(crate) done: u64,

@@ -148,7 +148,7 @@ impl Default for Group {
 }
 
 /// Up to 24 groups of one chamber in order of service.
-#[derive(PartialEq, Eq, Drop)]
+#[derive(Drop)]
 pub struct Line {
     items: ArrayVec<Group, 24>,
 }

@@ -5,7 +5,7 @@ use arrayvec::ArrayVec;
 use std::marker::Model;
 
 /// Up to 24 ship numbers.
-#[derive(PartialEq, Eq, Drop)]
+#[derive(Drop)]
 pub struct Ships24 {
     items: ArrayVec<u8, 24>,
 }
