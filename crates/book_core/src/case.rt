@@ -8,7 +8,7 @@ use std::marker::Model;
 
 /// An instance of which each ship fits some chamber alone, a budget of 1 to 1,000,000 nodes, and 1
 /// to 200,000 turns for the placers of a deck.
-#[derive(PartialEq, Eq, Drop)]
+#[derive(Drop)]
 pub struct Case {
     pub instance: Instance,
     pub nodes: u32,

@@ -65,7 +65,7 @@ pub enum Reply {
 
 /// The reply to a taking, but for the node of a slot that was given, which is in the worker's hand
 /// (`Book::node_in_hand`).
-#[derive(Clone, Copy, PartialEq, Eq)]
+#[derive(Clone, Copy)]
 pub enum Grant {
     /// The slot that was taken.
     Slot(u32),

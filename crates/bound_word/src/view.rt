@@ -16,7 +16,7 @@ pub struct View {
 }
 
 /// What a table is opened with: its first number, and the number of all parts.
-#[derive(Clone, Copy, PartialEq, Eq)]
+#[derive(Clone, Copy)]
 pub struct Opening {
     pub number: u64,
     pub parts: u64,

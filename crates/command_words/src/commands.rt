@@ -1,7 +1,7 @@
 //! The commands, each with its options.
 
 /// Options of `solve` and `resume`.
-#[derive(Clone, Copy, PartialEq, Eq)]
+#[derive(Clone, Copy)]
 pub struct SolveOptions {
     /// How many nodes the search may use, 1 to 1,000,000; 100,000 where it isn't given.
     pub nodes: u32,
@@ -16,7 +16,7 @@ pub struct SolveOptions {
 }
 
 /// Options of `lot`, which makes an instance from a number.
-#[derive(Clone, Copy, PartialEq, Eq)]
+#[derive(Clone, Copy)]
 pub struct LotOptions {
     /// The number that the instance is made from, 0 to 4,294,967,295; 1 where it isn't given.
     pub number: u32,
@@ -27,7 +27,7 @@ pub struct LotOptions {
 }
 
 /// Options of `trial`, which solves a made instance.
-#[derive(Clone, Copy, PartialEq, Eq)]
+#[derive(Clone, Copy)]
 pub struct TrialOptions {
     /// The instance.
     pub lot: LotOptions,
@@ -38,7 +38,7 @@ pub struct TrialOptions {
 }
 
 /// Options of `replan`.
-#[derive(Clone, Copy, PartialEq, Eq)]
+#[derive(Clone, Copy)]
 pub struct ReplanOptions {
     /// The minute from which lockages are planned anew, 0 to 1,000,000; it is always given.
     pub from: u32,
@@ -53,7 +53,7 @@ pub struct ReplanOptions {
 }
 
 /// What the program is asked to do.
-#[derive(Clone, Copy, PartialEq, Eq)]
+#[derive(Clone, Copy)]
 pub enum Command {
     /// Plan an instance.
     Solve(SolveOptions),

@@ -1,7 +1,7 @@
 //! Why words give no command.
 
 /// The two ways in which reading the words ends without a command.
-#[derive(Clone, Copy, PartialEq, Eq)]
+#[derive(Clone, Copy)]
 pub enum WordsError {
     /// The words are bad: no command is written so, or a number is out of its range.
     Bad,

@@ -11,7 +11,7 @@ use std::marker::Model;
 pub const BEATS: usize = 4 * SHIPS;
 
 /// Up to `BEATS` beats.
-#[derive(PartialEq, Eq, Drop)]
+#[derive(Drop)]
 pub struct Day {
     items: ArrayVec<Beat, BEATS>,
 }

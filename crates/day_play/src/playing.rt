@@ -13,7 +13,7 @@ use lock_model::{Instance, Plan};
 use mooring_rules::{BrokenPlan, judge_plan};
 
 /// What comes of playing a plan.
-#[derive(PartialEq, Eq, Drop)]
+#[derive(Drop)]
 pub enum Played {
     /// The plan is legal, and this is a lawful day of it.
     Day(Day),

@@ -6,7 +6,7 @@ use diff_rules::Edge;
 use std::marker::Model;
 
 /// Up to 96 edges.
-#[derive(PartialEq, Eq, Drop)]
+#[derive(Drop)]
 pub struct Edges {
     items: ArrayVec<Edge, 96>,
 }
@@ -58,7 +58,7 @@ impl Edges {
 }
 
 /// Up to 96 edge numbers.
-#[derive(PartialEq, Eq, Drop)]
+#[derive(Drop)]
 pub struct Numbers {
     items: ArrayVec<u8, 96>,
 }
@@ -108,7 +108,7 @@ impl Numbers {
 }
 
 /// Up to 17 values.
-#[derive(PartialEq, Eq, Drop)]
+#[derive(Drop)]
 pub struct Values {
     items: ArrayVec<i64, 17>,
 }

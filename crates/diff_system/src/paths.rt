@@ -12,7 +12,7 @@ use std::marker::Model;
 /// The least solution of a system, and for each variable the edge that gave its value.
 ///
 /// The edges form a tree of longest paths from the origin.
-#[derive(PartialEq, Eq, Drop)]
+#[derive(Drop)]
 pub struct LongestPaths {
     values: Values,
     parents: ArrayVec<u8, 17>,

@@ -6,7 +6,7 @@ use crate::lists::{Edges, Numbers, Values};
 use crate::paths::LongestPaths;
 
 /// The least solution, or the edge numbers of a closed walk of positive total, each once.
-#[derive(PartialEq, Eq, Drop)]
+#[derive(Drop)]
 pub enum Solved {
     Least(Values),
     Cycle(Numbers),

@@ -14,7 +14,7 @@ use no_memory::NoMemory;
 use std::alloc::Global;
 
 /// Why there is no opening plan.
-#[derive(Clone, Copy, PartialEq, Eq)]
+#[derive(Clone, Copy)]
 pub enum FirstError {
     /// This ship is the first that fits no chamber.
     Unfit(u8),

@@ -7,7 +7,7 @@ use lock_model::{CHAMBERS, Instance, Stand};
 use std::marker::Model;
 
 /// The side where a chamber stands, and the minute at which it is done with all before.
-#[derive(Clone, Copy, PartialEq, Eq, Default)]
+#[derive(Clone, Copy, Default)]
 pub struct Standing {
     pub stand: Stand,
     pub from: u64,
@@ -24,7 +24,7 @@ impl Model for Standing {
 }
 
 /// One standing for each chamber.
-#[derive(PartialEq, Eq, Drop)]
+#[derive(Drop)]
 pub struct Standings {
     items: ArrayVec<Standing, CHAMBERS>,
 }

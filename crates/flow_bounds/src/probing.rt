@@ -26,7 +26,7 @@ use master_branch::{Node, Step, arrival_order, steps_by};
 use std::marker::Model;
 
 /// Up to `CHILDREN` bounds: as many as a node of an instance can have children.
-#[derive(PartialEq, Eq, Drop)]
+#[derive(Drop)]
 pub struct Bounds {
     items: ArrayVec<u64, CHILDREN>,
 }

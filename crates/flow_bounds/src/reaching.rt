@@ -21,7 +21,7 @@ use master_branch::{Node, Step, Steps};
 use std::marker::Model;
 
 /// For up to `CHILDREN` children of a node, in their order, whether each one's bound is at least a cost.
-#[derive(PartialEq, Eq, Drop)]
+#[derive(Drop)]
 pub struct Reached {
     items: ArrayVec<bool, CHILDREN>,
 }

@@ -20,7 +20,7 @@ pub trait Gate {
 }
 
 /// A gate that lets all pass at once.
-#[derive(Clone, Copy, PartialEq, Eq)]
+#[derive(Clone, Copy)]
 pub struct OpenGate;
 
 impl Gate for OpenGate {

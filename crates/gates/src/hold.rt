@@ -8,7 +8,7 @@ use std::thread::yield_now;
 const NOBODY: u64 = 256;
 
 // How a hold ended.
-#[derive(Clone, Copy, PartialEq, Eq)]
+#[derive(Clone, Copy)]
 enum End {
     Released,
     Expired,

@@ -7,7 +7,7 @@ use line_text::{word_at, words_of};
 
 /// The format that the first line with words names. Closures and cargo classes stand in texts of
 /// the second format alone.
-#[derive(Clone, Copy, PartialEq, Eq)]
+#[derive(Clone, Copy)]
 pub enum Format {
     /// `glock 1`
     First,

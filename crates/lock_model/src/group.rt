@@ -150,7 +150,7 @@ impl Default for Group {
 }
 
 /// Up to `SHIPS` groups of one chamber in order of service.
-#[derive(PartialEq, Eq, Drop)]
+#[derive(Drop)]
 pub struct Line {
     items: ArrayVec<Group, SHIPS>,
 }

@@ -6,7 +6,7 @@ use arrayvec::ArrayVec;
 use std::marker::Model;
 
 /// Up to `SHIPS` pairs of a start and an end, in minutes.
-#[derive(PartialEq, Eq, Drop)]
+#[derive(Drop)]
 pub struct Times {
     items: ArrayVec<(u64, u64), SHIPS>,
 }

@@ -10,7 +10,7 @@ use lock_model::{CHILDREN, Group, Instance, SHIPS, Way};
 use std::marker::Model;
 
 /// What a child does with the ship that it places.
-#[derive(Clone, Copy, PartialEq, Eq)]
+#[derive(Clone, Copy)]
 pub enum Step {
     /// The ship joins the group at this place of the chamber's line.
     Join { chamber: u8, place: u8 },
@@ -30,7 +30,7 @@ impl Default for Step {
 }
 
 /// Up to `CHILDREN` steps: as many as a node of an instance can have children.
-#[derive(PartialEq, Eq, Drop)]
+#[derive(Drop)]
 pub struct Steps {
     items: ArrayVec<Step, CHILDREN>,
 }

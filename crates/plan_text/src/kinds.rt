@@ -4,14 +4,14 @@ ghost use Rattle.plan_text.specs.Faults.{bad};
 
 /// The first fault of a plan text: its line, counted from 1 after the instance's line `end`, and
 /// its kind.
-#[derive(Clone, Copy, PartialEq, Eq)]
+#[derive(Clone, Copy)]
 pub struct BadPlan {
     pub line: u64,
     pub kind: PlanKind,
 }
 
 /// The kinds of fault, numbered from 1 in this order.
-#[derive(Clone, Copy, PartialEq, Eq)]
+#[derive(Clone, Copy)]
 pub enum PlanKind {
     /// The bytes are not UTF-8.
     NotUtf8 = 1,

@@ -6,7 +6,7 @@ use lock_model::SHIPS;
 use std::marker::Model;
 
 /// Up to `SHIPS` ship numbers.
-#[derive(PartialEq, Eq, Drop)]
+#[derive(Drop)]
 pub struct Ships24 {
     items: ArrayVec<u8, SHIPS>,
 }

@@ -4,7 +4,7 @@ use mooring_rules::BrokenPlan;
 
 /// Why the lockages that start before the minute can't be kept. Lockages are told by their places
 /// in the given plan, from 0.
-#[derive(Clone, Copy, PartialEq, Eq)]
+#[derive(Clone, Copy)]
 pub enum ReplanError {
     /// The kept lockages have this first break, in the order of a plan's breaks; that ships are
     /// missing is no break of a part.

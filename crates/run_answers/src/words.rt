@@ -2,7 +2,7 @@
 use std::{env, io};
 
 /// Why the system gave no words.
-#[derive(Clone, Copy, PartialEq, Eq)]
+#[derive(Clone, Copy)]
 pub enum NoWords {
     NoMemory,
     Other,

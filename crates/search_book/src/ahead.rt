@@ -8,7 +8,7 @@ use no_memory::NoMemory;
 use std::alloc::Global;
 
 /// How a slot ends by what was worked out of its node alone.
-#[derive(Clone, Copy, PartialEq, Eq)]
+#[derive(Clone, Copy)]
 pub enum Ending {
     /// It is split.
     Split,

@@ -4,7 +4,7 @@ use crate::next::Next;
 
 /// How far a worker came through a stretch of nodes. All nodes before the last one that was tried
 /// have ended, and each time the slot that was taken had the next node.
-#[derive(PartialEq, Eq, Drop)]
+#[derive(Drop)]
 pub struct Gone {
     /// The place in the stretch of the last node that was tried.
     pub place: usize,

@@ -3,7 +3,7 @@
 use book_core::Reply;
 
 /// What came of an event that ends a slot in a worker's hand, and of the taking after it.
-#[derive(PartialEq, Eq, Drop)]
+#[derive(Drop)]
 pub enum Next {
     /// The event was refused with this reply, and nothing was taken.
     Refused(Reply),

@@ -7,7 +7,7 @@ use lock_model::MOST;
 use std::marker::Model;
 
 /// What a ship needs of a lane, in decimetres: across it, and along it with the gap behind.
-#[derive(Clone, Copy, PartialEq, Eq, Default)]
+#[derive(Clone, Copy, Default)]
 pub(crate) struct Need {
     pub(crate) across: u32,
     pub(crate) along: u32,
