@@ -8,6 +8,7 @@ use Rattle.std.proofs.lemmas.List.{take-append-drop, drop-set-lt, drop-drop}
 use Rattle.std.proofs.lemmas.List.Elements.{All-tail}
 use Rattle.std.proofs.Math.Seq.{take-suc-set}
 use Rattle.std.proofs.lemmas.Nat.{le_bytes_8}
+use Rattle.lock_model.specs.declared.limits.TheConstants.{MOST}
 
 -- eight bytes are others where they write the same number
 pub bytes_same : (xs ys : List ℕ) (m n : ℕ) → length xs ≡ 8 → length ys ≡ 8 → ((i : ℕ) → get_or xs i 0 < 256) → ((i : ℕ) → get_or ys i 0 < 256) → m ≡ from_le_bytes w64 xs → n ≡ from_le_bytes w64 ys → nat_eq m n ≡ pointwise nat_eq xs ys
@@ -16,9 +17,9 @@ bytes_same xs ys m n long-x long-y small-x small-y x y =
     (Decides-like (nat_eq m n) (λ same. sym (le_bytes_8 xs m long-x small-x x) ∙ ap (to_le_bytes w64) same ∙ le_bytes_8 ys n long-y small-y y) (λ same. x ∙ ap (from_le_bytes w64) same ∙ sym y) (Decides-eqb m n))
     (bytes_decides xs ys)
 
-module _ (xs ys : List ℕ) (m n : ℕ) (count : m ≡ n) (zero-x : drop m xs ≡ replicate (8 - m) 0) (zero-y : drop n ys ≡ replicate (8 - n) 0) where
+module _ (xs ys : List ℕ) (m n : ℕ) (count : m ≡ n) (zero-x : drop m xs ≡ replicate (MOST - m) 0) (zero-y : drop n ys ≡ replicate (MOST - n) 0) where
   zeros : drop m xs ≡ drop n ys
-  zeros = zero-x ∙ ap (λ k. replicate (8 - k) 0) count ∙ sym zero-y
+  zeros = zero-x ∙ ap (λ k. replicate (MOST - k) 0) count ∙ sym zero-y
 
   whole : take m xs ≡ take n ys → xs ≡ ys
   whole h = sym (take-append-drop m xs) ∙ (λ i. h i ++ zeros i) ∙ take-append-drop n ys
@@ -31,9 +32,9 @@ module _ (xs ys : List ℕ) (m n : ℕ) (count : m ≡ n) (zero-x : drop m xs �
       (bytes_decides (take m xs) (take n ys))
 
 -- behind one ship more there are zeros still
-pub zeros_more : (xs : List ℕ) (m s : ℕ) → m < 8 → drop m xs ≡ replicate (8 - m) 0 → drop (m + 1) (set xs m s) ≡ replicate (8 - (m + 1)) 0
+pub zeros_more : (xs : List ℕ) (m s : ℕ) → m < MOST → drop m xs ≡ replicate (MOST - m) 0 → drop (m + 1) (set xs m s) ≡ replicate (MOST - (m + 1)) 0
 zeros_more xs m s few none =
-    let one : 8 - m ≡ suc (8 - (m + 1)) = omega (arith, few) in
+    let one : MOST - m ≡ suc (MOST - (m + 1)) = omega (arith, few) in
     drop-set-lt (m + 1) xs m s (omega arith) ∙ sym (drop-drop 1 m xs) ∙ ap (drop 1) none ∙ ap (λ k. drop 1 (replicate k 0)) one
 
 -- a greater ship behind rising ones rises
