@@ -5,6 +5,7 @@ Given a glock program, the rows are held against its `check` and `lower` too. It
 `N rows, M different`, and its status is 0 where none differs."""
 
 import pathlib
+import resource
 import subprocess
 import sys
 
@@ -89,6 +90,8 @@ OTHER = (SECOND.replace("\nship s1", "\nchamber c2 2000 232 10 20 5 4 30 15 low 
 
 # three ships whose cut 0 is a case tree and cut 1 a spot tree of all kinds of leaves
 TREES = pathlib.Path(__file__).with_name("trees.dossier").read_text()
+# arrivals that are a million minutes apart, and a price mark at the root
+FAR_APART = pathlib.Path(__file__).with_name("far_apart.dossier").read_text()
 
 WIDE = "s1 up 1100 114", "s1 up 1100 241"
 PART = "dossier fault 4 Shape part {}".format
@@ -272,6 +275,11 @@ OPENED = [
         ('{"cost"', ' \n { "cost"'), ('"cost":120', '"cost":1,"cost":120'), ("[0,0,3,1,1]}\n", "[0,0,3,1,1]}"))),
 ]
 
+PRICES, PRICE_LOW = "[[37,1466,980,193,426]]", "rejected tree 0 reason 13 PriceLow"
+# what must be told within a limit of time and memory
+LIMITED = [(FAR_APART, "", "", PRICE_LOW), (FAR_APART, PRICES, str([[1_000_000] * 5]), PRICE_LOW),
+           (FAR_APART, PRICES, "[[657,1477,1032,252,1151]]", "accepted cost 29")]
+
 
 def priced_rows():
     """The rows of dossiers with prices that both checkers are held against: data, line, status, and whether it is open."""
@@ -291,6 +299,16 @@ def as_process(data, *words):
     program = pathlib.Path(__file__).with_name("check_dossier.py")
     done = subprocess.run([sys.executable, program, *words], input=data, capture_output=True)
     return done.stdout.decode(), done.returncode
+
+
+def in_time(data, seconds=20, megabytes=500):
+    """The line and the status of the second checker's process, which may use no more of a processor and of memory."""
+    def limit():
+        resource.setrlimit(resource.RLIMIT_CPU, (seconds, seconds))
+        resource.setrlimit(resource.RLIMIT_AS, (megabytes * 2**20, megabytes * 2**20))
+    program = pathlib.Path(__file__).with_name("check_dossier.py")
+    done = subprocess.run([sys.executable, program], input=data, stdout=subprocess.PIPE, preexec_fn=limit)
+    return done.stdout.decode().removesuffix("\n"), done.returncode
 
 
 def by_program(data, is_open):
@@ -315,13 +333,19 @@ def main():
                 different += 1
                 print(f"row {number}: {old!r} by {new[:60]!r}: {found}, not {told}")
     assert as_process(OPEN.encode(), "--open") == ("lower 80 cost 120\n", 1)
+    for dossier, old, new, line in LIMITED:
+        data, told = dossier.replace(old, new, 1).encode(), (line, status_of(line))
+        for found in (in_time(data), by_program(data, False) or told):
+            if found != told:
+                different += 1
+                print(f"far apart: {old!r} by {new!r}: {found}, not {told}")
     priced = list(priced_rows())
     for data, told, is_open in priced:
         said = answer(data, is_open)
         if said != told:
             different += 1
             print(f"{data.decode()}{said}, not {told}")
-    print(f"{len(rows) + len(priced)} rows, {different} different")
+    print(f"{len(rows) + len(LIMITED) + len(priced)} rows, {different} different")
     return 1 if different else 0
 
 
