@@ -121,8 +121,8 @@ def mutated_dossier(data, dice):
     for _ in range(dice.pick([1, 1, 1, 2, 3])):
         try:
             data = damaged(data, dice)[1]
-        except (ValueError, AttributeError, IndexError, KeyError, TypeError):
-            break  # an earlier damage left no dossier that can be damaged further
+        except (ArithmeticError, AttributeError, LookupError, TypeError, ValueError):
+            break  # an earlier damage left nothing that this one damages
     return data
 
 
@@ -216,7 +216,10 @@ def main():
         number = dice.pick([0, 1, 1, 2, 2])
         what, kept, mutated, compare = kinds[number]
         data = mutated(dice.pick(more[number] if more[number] and dice.below(2) else kept), dice)
-        found, told = compare(program, data, dice)
+        try:
+            found, told = compare(program, data, dice)
+        except Exception as error:  # that another reader gives no answer is a difference too
+            found, told = (b"?", None), (repr(error), None)
         tried[number] += 1
         if found[1] in (0, 1):
             taken[number] += 1

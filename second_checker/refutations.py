@@ -247,9 +247,8 @@ class BerthCase(Berths):
         return taken[0].get(i)
 
     def overlap(self, taken, i, j):
-        a, b, (low, high) = self.y(taken, i), self.y(taken, j), (self.deck.sizes[i], self.deck.sizes[j])
-        return (a is not None and b is not None
-                and a + low.width + self.deck.side > b and b + high.width + self.deck.side > a)
+        a, b, sizes, side = self.y(taken, i), self.y(taken, j), self.deck.sizes, self.deck.side
+        return None not in (a, b) and a + sizes[i].width + side > b and b + sizes[j].width + side > a
 
     def row_length(self, ships):
         return sum(self.deck.sizes[i].length + self.deck.gap for i in ships)

@@ -4,6 +4,7 @@
 Given a glock program, the rows are held against its `check` and `lower` too. It prints each row that differs and
 `N rows, M different`, and its status is 0 where none differs."""
 
+import ast
 import pathlib
 import resource
 import subprocess
@@ -13,7 +14,9 @@ sys.dont_write_bytecode = True
 from check_dossier import answer
 from worked_refutations import REFUTED, asking
 
-ROWS = pathlib.Path(__file__).parent.with_name("rows")
+HERE, MOST_LINES = pathlib.Path(__file__).parent, 700
+JUDGING = "check_dossier dossier_text price_bound refutations times".split()
+ROWS = HERE.with_name("rows")
 sys.path.append(str(ROWS))
 from read_rows import rows_of
 
@@ -319,7 +322,16 @@ def by_program(data, is_open):
     return done.stdout.decode().removesuffix("\n"), done.returncode
 
 
+def lines_of_code(path):
+    """How many lines are no comment, no text that stands alone, and not empty."""
+    source = path.read_text()
+    texts = {line for node in ast.walk(ast.parse(source)) if isinstance(node, ast.Expr) and isinstance(node.value, ast.Constant)
+             for line in range(node.lineno, node.end_lineno + 1)}
+    return sum(number not in texts and line.strip()[:1] not in ("", "#") for number, line in enumerate(source.split("\n"), 1))
+
+
 def main():
+    assert sum(lines_of_code(HERE / f"{name}.py") for name in JUDGING) < MOST_LINES
     rows = [(*row, False) for row in CHECKED] + [(*row, True) for row in OPENED]
     different = 0
     for number, (dossier, old, new, line, is_open) in enumerate(rows):
