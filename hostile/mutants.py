@@ -12,6 +12,7 @@ folder. It ends with `N mutants, M different`; the status is 0 where none differ
 import argparse
 import os
 import pathlib
+import re
 import signal
 import sys
 import tempfile
@@ -21,14 +22,14 @@ sys.dont_write_bytecode = True
 HERE = pathlib.Path(__file__).resolve().parent
 sys.path += [str(HERE.parent / "second_checker"), str(HERE.parent / "rows")]
 import texts
+from certificates import grafted, priced
 from check_dossier import answer
 from damage import Dice, damaged
-from dossier_text import CLOSED_FORMS, OPEN_FORMS, first_line, read_dossier
-from price_seeds import priced
+from dossier_text import CLOSED_FORMS, OPEN_FORMS, Answer, first_line, read_dossier
 from read_rows import rows_of
 from runs import EXAMPLES, crowd
 
-SECONDS, SHOWN, LARGEST, MOST_KEPT = 60, 10, 3000, 300
+SECONDS, SHOWN, LARGEST, MOST_KEPT, TOLD = 60, 10, 3000, 300, 100_000
 ROW_CHECKS = ("status", "whole", "line", "first", "holds", "accepted", "same plan", "trial", "unread", "same")
 SEARCH = "solve --workers 1 --dossier --keep --nodes".split()
 NUMBERS = [b"0", b"1", b"2", b"7", b"8", b"9", b"10", b"24", b"25", b"255", b"256", b"9999", b"10000", b"10001", b"99999", b"100000",
@@ -117,11 +118,18 @@ def mutated_plan(text, dice):
     return text[:at] + mutated_text(text[at:], dice)
 
 
+def another_tree(data, dice):
+    """The dossier with another tree somewhere in its tree."""
+    line = re.search(rb"(?:^|\n)(certificate[a-z0-9 ]*)\n", data)[1]
+    is_open = line.startswith(b"certificate open")
+    return grafted(*read_dossier(data, OPEN_FORMS if is_open else CLOSED_FORMS), is_open, line, dice)
+
+
 def mutated_dossier(data, dice):
     for _ in range(dice.pick([1, 1, 1, 2, 3])):
         try:
-            data = damaged(data, dice)[1]
-        except (ArithmeticError, AttributeError, LookupError, TypeError, ValueError):
+            data = damaged(data, dice)[1] if dice.below(4) else another_tree(data, dice)
+        except (Answer, ArithmeticError, AttributeError, LookupError, TypeError, ValueError):
             break  # an earlier damage left nothing that this one damages
     return data
 
@@ -172,9 +180,16 @@ def small_instances(program):
             yield b"\n".join(classes).replace(b"glock 1", b"glock 2").replace(b"\nship", b"\nclose c1 40 90\nclose c1 100 130\nship", 1) + b"\n"
 
 
+def crowds(program):
+    """Dossiers of crowds whose searches go on by prices."""
+    for ships, chambers in ((8, 1), (10, 1), (10, 2), (12, 1)):
+        lot, _ = program.run(f"lot --number {ships} --ships {ships} --chambers {chambers}".split(), b"")
+        yield program.run(["solve", "--workers", "1", "--dossier"], crowd(lot, 20))[0]
+
+
 def seeds(program):
     """Instance texts, instances with plan texts, and dossiers, each a text that glock takes."""
-    instances, plans, dossiers = list(small_instances(program)), [], []
+    instances, plans, dossiers = list(small_instances(program)), [], list(crowds(program))
     kinds = {b"solve": instances, b"judge": plans, b"play": plans, b"check": dossiers, b"lower": dossiers}
     for text in instances:
         for nodes in ("1", "3", "3000"):
@@ -231,6 +246,8 @@ def main():
             different += 1
             if different <= SHOWN:
                 print(keep(what, data, found, told), flush=True)
+        if sum(tried) % TOLD == 0:
+            print(f"{sum(tried)} mutants, {different} different", flush=True)
     for (what, kept, *_), count, good in zip(kinds, tried, taken):
         print(f"{what} texts: {len(kept)} seeds, {count} mutants, {good} of them not refused")
     print(f"{sum(tried)} mutants, {different} different, seed {given.seed}")
