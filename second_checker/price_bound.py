@@ -115,7 +115,7 @@ class PriceBound:
         self.order = sorted(ships, key=lambda s: instance.ships[s].arrival)
         sets = [{frozenset(cut.ships) for cut in cuts if hits_in(instance, cut, c)} for c in range(len(instance.chambers))]
         self.cuts = [[[cut for cut in each if s in cut] for s in ships] for each in sets]
-        self.least = functools.lru_cache(maxsize=None)(self.least)
+        self.least = functools.lru_cache(maxsize=1 << 16)(self.least)
 
     def least(self, c, line, depth, number):
         return Table(self.instance, c, self.cuts[c], line, self.order[depth:], self.prices[number]).least()
