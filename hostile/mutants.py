@@ -14,6 +14,7 @@ import argparse
 import dataclasses
 import os
 import pathlib
+import re
 import signal
 import sys
 import tempfile
@@ -108,6 +109,17 @@ def small_instances(program):
             yield from (lot, crowd(lot, 20), with_classes(lot))
 
 
+def full_instances(program):
+    """Texts of instances with as many ships, chambers, closures, lockages, and ships of a lockage, as there may be."""
+    lot, _ = program.run("lot --number 1 --ships 24 --chambers 4".split())
+    closures = b"".join(b"close c2 %d %d\n" % (start, start + 9) for start in range(1000, 1080, 10))
+    lot = lot.replace(b"glock 1", b"glock 2").replace(b"ship", closures + b"ship", 1)
+    yield lot
+    yield re.sub(rb"(?m)^(chamber(?: \S+){6}) \d", rb"\1 1", lot)
+    ships = b"".join(b"ship s%d up 100 20 0 1\n" % number for number in range(9))
+    yield b"glock 1\nchamber c1 4000 400 10 20 5 8 30 15 low 0\n" + ships + b"end\n"
+
+
 def crowds(program):
     """Dossiers of crowds whose searches go on by prices."""
     for ships, chambers in ((8, 1), (10, 1), (10, 2), (12, 1)):
@@ -117,14 +129,16 @@ def crowds(program):
 
 def seeds(program):
     """Instance texts, instances with plan texts, and dossiers, each a text that glock takes."""
-    instances, plans, dossiers = list(small_instances(program)), [], list(crowds(program))
+    instances, plans = [*full_instances(program), *small_instances(program)], []
+    dossiers = [dossier for dossier in crowds(program) if len(dossier) <= LARGEST]
     for text in instances:
-        for nodes in ("1", "3", "3000"):
+        for nodes in ("1", "3", "3000")[:1 if text.count(b"ship ") > 8 else 3]:
             dossier, status = program.run([*SEARCH, nodes], text)
-            if status <= 1 and len(dossier) <= LARGEST:
-                instance, certificate = read_dossier(dossier, OPEN_FORMS if status else CLOSED_FORMS)
-                plans.append(texts.canonical(instance) + texts.text_of(certificate.plan, instance))
-                dossiers += [dossier, priced(instance, certificate, status == 1)]
+            if status > 1:
+                continue
+            instance, certificate = read_dossier(dossier, OPEN_FORMS if status else CLOSED_FORMS)
+            plans.append(texts.canonical(instance) + texts.text_of(certificate.plan, instance))
+            dossiers += [dossier, priced(instance, certificate, status == 1)] if len(dossier) <= LARGEST else []
     plans.append(b"".join((EXAMPLES / f"evening{end}").read_bytes() for end in (".lock", ".plan")))
     kinds = {b"solve": instances, b"judge": plans, b"play": plans, b"check": dossiers, b"lower": dossiers}
     for path in sorted((HERE.parent / "rows").glob("*.rows")):
@@ -182,6 +196,22 @@ def keep(what, data, found, told):
     return f"{what}: {folder}/input\n  glock {found[0][:300]}, {found[1]}\n  other {told[0][:300]}, {told[1]}"
 
 
+def try_many(program, kinds, dice, is_over):
+    """How many mutants were tried and how many are answered differently; an interrupt ends it too."""
+    tried = different = 0
+    try:
+        while not is_over(tried):
+            answered = try_one(program, kinds[dice.pick([0, 1, 1, 2, 2])], dice)
+            tried, different = tried + 1, different + (answered is not True)
+            if answered is not True and different <= SHOWN:
+                print(answered, flush=True)
+            if tried % TOLD == 0:
+                print(f"{tried} mutants, {different} different", flush=True)
+    except KeyboardInterrupt:
+        pass
+    return tried, different
+
+
 def main():
     words = argparse.ArgumentParser(description=__doc__.split(": ", 1)[1].split("\n")[0])
     words.add_argument("program")
@@ -189,16 +219,10 @@ def main():
     words.add_argument("--minutes", type=float, help="go on for so long")
     words.add_argument("--seed", type=int, default=1)
     given = words.parse_args()
-    program, dice, tried, different = Program(str(pathlib.Path(given.program).resolve())), Dice(given.seed * 1_000_003), 0, 0
-    kinds = kinds_of(program)
-    end = time.monotonic() + 60 * (given.minutes or 0)
-    while time.monotonic() < end if given.minutes else tried < given.count:
-        answered = try_one(program, kinds[dice.pick([0, 1, 1, 2, 2])], dice)
-        tried, different = tried + 1, different + (answered is not True)
-        if answered is not True and different <= SHOWN:
-            print(answered, flush=True)
-        if tried % TOLD == 0:
-            print(f"{tried} mutants, {different} different", flush=True)
+    program = Program(str(pathlib.Path(given.program).resolve()))
+    kinds, end = kinds_of(program), time.monotonic() + 60 * (given.minutes or 0)
+    tried, different = try_many(program, kinds, Dice(given.seed * 1_000_003),
+                                lambda tried: time.monotonic() >= end if given.minutes else tried >= given.count)
     for kind in kinds:
         print(f"{kind.name}: {len(kind.seeds)} seeds, {kind.tried} mutants, {kind.taken} of them not refused")
     print(f"{tried} mutants, {different} different, seed {given.seed}")
