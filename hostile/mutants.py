@@ -29,12 +29,11 @@ from check_dossier import answer
 from damage import Dice
 from dossier_text import CLOSED_FORMS, OPEN_FORMS, read_dossier
 from mutations import mutated_dossier, mutated_plan, mutated_text
-from read_rows import rows_of
+from read_rows import ASKED, rows_of
 from runs import EXAMPLES, crowd
 
 SECONDS, SHOWN, TOLD = 60, 10, 100_000
 LARGEST, MOST_FURTHER = 3000, 300
-ROW_CHECKS = ("status", "whole", "line", "first", "holds", "accepted", "same", "trial", "unread")
 SEARCH = "solve --workers 1 --dossier --keep --nodes".split()
 
 
@@ -142,7 +141,7 @@ def seeds(program):
     plans.append(b"".join((EXAMPLES / f"evening{end}").read_bytes() for end in (".lock", ".plan")))
     kinds = {b"solve": instances, b"judge": plans, b"play": plans, b"check": dossiers, b"lower": dossiers}
     for path in sorted((HERE.parent / "rows").glob("*.rows")):
-        for _, words, data, asked in rows_of(path, ROW_CHECKS):
+        for _, words, data, asked in rows_of(path, ASKED):
             kept = kinds.get(words[0]) if words else None
             if kept is not None and len(data) < LARGEST and (kept is not dossiers or asked.get("status") in (["0"], ["1"])):
                 kept.append(data)

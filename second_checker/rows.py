@@ -1,7 +1,8 @@
 #!/usr/bin/env python3
 """Worked rows for the second checker: a dossier, one edit, and the line that must be printed. rows.py [GLOCK]
 
-Given a glock program, the rows are held against its `check` and `lower` too. It prints each row that differs and
+The rows of whole runs (rows/) that follow from an instance text or a plan text alone are held against texts.py. Given a
+glock program, the rows of dossiers are held against its `check` and `lower` too. It prints each row that differs and
 `N rows, M different`, and its status is 0 where none differs."""
 
 import ast
@@ -12,13 +13,14 @@ import sys
 
 sys.dont_write_bytecode = True
 from check_dossier import answer
+from texts import judged, solved
 from worked_refutations import REFUTED, asking
 
 HERE, MOST_LINES = pathlib.Path(__file__).parent, 700
 JUDGING = "check_dossier dossier_text price_bound refutations times".split()
 ROWS = HERE.with_name("rows")
 sys.path.append(str(ROWS))
-from read_rows import rows_of
+from read_rows import ASKED, rows_of
 
 NARROW = """glock 1
 chamber c1 2000 232 10 20 5 4 30 15 low 0
@@ -291,6 +293,21 @@ def priced_rows():
             yield data, (asked["line"][0], int(asked["status"][0])), words[0] == b"lower"
 
 
+def text_rows():
+    """The rows of whole runs that follow from a text alone: where each stands, what must be told, and what texts.py says."""
+    for path in sorted(ROWS.glob("*.rows")):
+        for place, words, data, asked in rows_of(path, ASKED):
+            status = int(asked["status"][0]) if "status" in asked else None
+            if words in ([b"judge"], [b"play"]) and status in (0, 3, 10):
+                said = judged(data)
+            elif words[:1] == [b"solve"] and status in (3, 8):
+                said = solved(data)
+            else:
+                continue
+            lines = [*asked.get("line", []), *asked.get("first", [])] if words != [b"play"] or status else []
+            yield place, (lines[:1], status), ([said.line][:len(lines)], said.status)
+
+
 def status_of(line):
     words = line.split()
     if words[0] == "lower":
@@ -351,13 +368,18 @@ def main():
             if found != told:
                 different += 1
                 print(f"far apart: {old!r} by {new!r}: {found}, not {told}")
+    told_texts = list(text_rows())
+    for place, told, said in told_texts:
+        if said != told:
+            different += 1
+            print(f"{place}: {said}, not {told}")
     priced = list(priced_rows())
     for data, told, is_open in priced:
         said = answer(data, is_open)
         if said != told:
             different += 1
             print(f"{data.decode()}{said}, not {told}")
-    print(f"{len(rows) + len(LIMITED) + len(priced)} rows, {different} different")
+    print(f"{len(rows) + len(LIMITED) + len(told_texts) + len(priced)} rows, {different} different")
     return 1 if different else 0
 
 
