@@ -22,6 +22,14 @@ a_cheaper_claim_is_rejected() {
   [ "$status" = 7 ] && [ "$answer" = "rejected cost reason 2 CostWrong" ]
 }
 
+# the second checker judges the dossier of the longest queue within a minute of a processor
+second_checker_is_in_time() {
+  local dossier=out/queue-24.dossier answer
+  mkdir -p out && ./glock solve examples/queue-24.lock --dossier -o "$dossier" || return 1
+  answer=$(./glock check "$dossier") || return 1
+  [ "$answer" = "$(ulimit -t 60 && python3 second_checker/check_dossier.py "$dossier")" ] && rm "$dossier"
+}
+
 # each example is solved, by one worker and by two alike
 examples_are_solved() {
   local example one two

@@ -8,9 +8,9 @@ TOP = os.path.realpath(os.path.join(os.path.dirname(__file__), ".."))
 class Bug:
     """A bug of one file of a crate: the texts that it replaces, each of which stands there once."""
 
-    def __init__(self, path):
+    def __init__(self, path, crate=None):
         self.path = path
-        self.crate = path.split("/")[1]
+        self.crate = crate or path.split("/")[1]
         self.file = None
         self.changes = []
         old = None

@@ -27,6 +27,8 @@ and for the runs right above, where one of the entries of a kind must hold:
 
 import re
 
+ASKED = ("status", "whole", "line", "first", "holds", "accepted", "same", "trial", "unread")
+
 
 def unescaped(text):
     parts = re.split(r"\\(n|r|t|x[0-9a-f]{2})", text)

@@ -3,7 +3,8 @@
 
 A dossier holds an instance, a plan and a certificate that no plan costs less. This checker follows
 the pages in docs/ (rules.md, formats.md, dossier.md), whose headings its comments name, and shares no code with glock.
-It prints one line, the one that `glock check` prints, and ends with the same status:
+It prints one line, the one that `glock check` prints, and ends with the same status; while it is at work it tells on a
+terminal, on standard error, how far it is:
 
     accepted cost N                      0   the plan is legal, costs N, and no legal plan costs less
     rejected PLACE reason NUMBER NAME    7   the first thing in the certificate that doesn't hold
@@ -23,6 +24,7 @@ and bounds, and last the check itself, which is short.
 import argparse
 import functools
 import sys
+import time
 from collections import namedtuple
 
 from dossier_text import (BOUND, CLOSED_FORMS, FIRST_CUT, FIRST_PROBE, OPEN_FORMS, OPEN_LEAF, SPLIT, THROUGHPUT, Answer,
@@ -36,8 +38,7 @@ from times import first_free, ready
 
 
 def end_of(instance, lockage):
-    handling = sum(instance.ships[s].handling for s in lockage.ships)
-    return lockage.start + instance.chambers[lockage.chamber].passage + handling
+    return lockage.start + instance.chambers[lockage.chamber].passage + sum(instance.ships[s].handling for s in lockage.ships)
 
 
 def lawful_starts(instance, chamber, lockages):
@@ -150,8 +151,18 @@ def demand(holds, place, reason):
         raise Answer(f"rejected {place} reason {REASONS.index(reason) + 1} {reason}", 7)
 
 
+def told(things, what):
+    """The things one by one; on a terminal it is told, each second, how far that is."""
+    last = time.monotonic()
+    for number, thing in enumerate(things):
+        if sys.stderr.isatty() and time.monotonic() - last >= 1:
+            last = time.monotonic()
+            print(f"\r\033[K{what} {number} of {len(things)}", end="", file=sys.stderr, flush=True)
+        yield thing
+
+
 def check_cuts(instance, cuts):
-    for number, (chamber, ships, why) in enumerate(cuts):
+    for number, (chamber, ships, why) in enumerate(told(cuts, "cut")):
         named = chamber < len(instance.chambers) and all(s < len(instance.ships) for s in ships)
         demand(named, f"cut {number}", "CutShape")
         demand(refutation_holds(deck_of(instance, chamber, ships), *why), f"cut {number}", "CutUnproved")
@@ -163,17 +174,12 @@ def cut_hits(instance, cut, node):
                for c, line in enumerate(node.lines))
 
 
-def check_prices(instance, prices):
-    for number, each in enumerate(prices):
-        demand(len(each) == len(instance.ships), f"prices {number}", "PricesShape")
-
-
 def check_tree(instance, cost, cuts, prices, marks):
     """Walks the marks in preorder. It gives the least of the cost and the bounds of the open leaves."""
     bounds, low, priced = Bounds(instance), cost, PriceBound(instance, cuts, prices)
     throughput = bounds.throughput()
     due = [Node(0, ((),) * len(instance.chambers))]  # the nodes whose trees are still to come, the next one last
-    for p, mark in enumerate(marks):
+    for p, mark in enumerate(told(marks, "mark")):
         place = f"tree {p}"
         demand(due, place, "TreeLong")
         node = due.pop()
@@ -185,7 +191,7 @@ def check_tree(instance, cost, cuts, prices, marks):
         elif mark == BOUND:
             demand(bounds.bound(node) >= cost, place, "BoundLow")
         elif isinstance(mark, Priced):
-            demand(priced.reaches(node, mark.number, cost), place, "PriceLow")
+            demand(mark.number < len(prices) and priced.reaches(node, mark.number, cost), place, "PriceLow")
         elif mark == THROUGHPUT:
             demand(throughput >= cost, place, "ThroughputLow")
         elif mark < FIRST_CUT:
@@ -206,7 +212,8 @@ def check(instance, certificate):
     demand(legal_plan(instance, certificate.plan), "plan", "PlanIllegal")
     demand(plan_cost(instance, certificate.plan) == certificate.cost, "cost", "CostWrong")
     check_cuts(instance, certificate.cuts)
-    check_prices(instance, certificate.prices)
+    for number, prices in enumerate(certificate.prices):
+        demand(len(prices) == len(instance.ships), f"prices {number}", "PricesShape")
     return check_tree(instance, certificate.cost, certificate.cuts, certificate.prices, certificate.tree)
 
 
@@ -227,11 +234,12 @@ def main():
     words.add_argument("file", nargs="?", help="the dossier; standard input where it isn't given")
     given = words.parse_args()
     try:
-        with open(given.file, "rb") if given.file else sys.stdin.buffer as source:
-            data = source.read()
+        data = (open(given.file, "rb") if given.file else sys.stdin.buffer).read()
     except OSError as error:
         words.error(str(error))
     text, status = answer(data, given.open)
+    if sys.stderr.isatty():
+        print("\r\033[K", end="", file=sys.stderr, flush=True)
     print(text)
     return status
 

@@ -47,9 +47,8 @@ def written(glock):
     for ships in (2, 4, 6, 8, 10, 12):
         lot, _ = run(glock, ["lot", "--number", ships, "--ships", ships, "--chambers", 1 + ships // 2 % 3])
         for name, text in (("lot", lot), ("classes", edited(lot, with_classes)), ("queue", edited(lot, in_a_queue))):
-            if name == "queue" and ships > 8:
-                continue
-            for words, status in ((["--dossier", "--nodes", NODES], 0), (["--keep", "--nodes", 4], 1)):
+            nodes = [] if name == "queue" and ships > 8 else ["--nodes", NODES]  # a long queue takes a search by prices
+            for words, status in ((["--dossier", *nodes], 0), (["--keep", "--nodes", 4], 1)):
                 dossier, ended = run(glock, ["solve", "--workers", 1, *words], text.encode())
                 if ended == status and "\ncertificate" in dossier:
                     count += 1

@@ -44,7 +44,7 @@ def words_of(line):
 def number_in(least, greatest, word):
     require(re.fullmatch(rb"[0-9]+", word), "Number")
     digits = word.lstrip(b"0") or b"0"
-    require(len(digits) <= 7 and least <= int(digits) <= greatest, "Range")
+    require(len(digits) <= 10 and least <= int(digits) <= greatest, "Range")
     return int(digits)
 
 
@@ -204,10 +204,6 @@ def rising(value, least=1, most=8):
     return numbers
 
 
-def read_cost(value, form):
-    return whole(value, LONG)
-
-
 def read_why(value, form):
     kind, rest = items(value, 1)[0], value[1:]
     require(type(kind) is int and kind in form.reasons)
@@ -253,7 +249,8 @@ def read_prices(value, form):
     return [[whole(price, GREATEST_PRICE + 1) for price in items(prices, 1, 24)] for prices in items(value)]
 
 
-READERS = {"cost": read_cost, "cuts": read_cuts, "plan": read_plan, "tree": read_tree, "prices": read_prices}
+READERS = {"cost": lambda value, form: whole(value, LONG), "cuts": read_cuts, "plan": read_plan, "tree": read_tree,
+           "prices": read_prices}
 
 
 def read_object(value, form):

@@ -1,11 +1,20 @@
-"""What a node reaches by prices (rules.md, Lower bounds by prices).
+"""What a node reaches by prices (rules.md, Lower bounds by prices; dossier.md, What a node reaches, worked out).
 
 A loose line of a chamber is a list of groups that no cut hits, whose groups are those of the node's line joined by missing
 ships, and groups of missing ships alone between them; a missing ship may stand in several groups, or in none. The node
 reaches a cost where, for each choice of a loose line for each chamber, 100 times the flow time less what the missing ships
-pay, and the price of each missing ship once, come to more than 100 times the cost, less 100."""
+pay, and the price of each missing ship once, come to more than 100 times the cost, less 100.
 
+What gains nothing is left out. Without a missing ship, or without a lockage of missing ships alone, no other lockage ends
+later: its own is shorter and waits for fewer, and an empty turn in the place of a whole lockage lasts no longer than that.
+So a ship gains nothing in a lockage where 100 times its flow time is at least its price, and a lockage of missing ships
+alone where it adds 0 or more. And of two lines that have come as far, one that is free later and worth no less gains
+nothing. So only minutes are looked at from which a line goes on that does gain."""
+
+import functools
 import heapq
+from collections import namedtuple
+from math import inf
 
 from times import first_free, ready
 
@@ -17,116 +26,101 @@ def hits_in(instance, cut, c):
             and chamber.length <= room.length and chamber.width <= room.width)
 
 
-class Table:
-    """The least of 100 * flow - paid over the loose lines of one chamber, or None where it has none.
+# What counts of a group: its latest arrival, its handling, its ships' number, and what is paid with 100 times its arrivals.
+Choice = namedtuple("Choice", "latest handling count paid")
 
-    A state is a place in the line, the side at which the chamber stands, and the minute from which on it is free."""
+
+class Table:
+    """The least of 100 * flow - paid over the loose lines of one chamber, or None where it has none. `cuts` are of each ship
+    the sets of ships that it is in and that share no lockage of the chamber."""
 
     def __init__(self, instance, c, cuts, line, missing, prices):
-        self.ships, self.chamber, self.line, self.prices = instance.ships, instance.chambers[c], line, prices
-        self.cuts, self.missing = [set(cut.ships) for cut in cuts if hits_in(instance, cut, c)], missing
-        self.last = max([self.ships[s].arrival + -(-prices[s] // 100) for s in missing], default=0)
-        self.alone = [(way, choice) for way in (0, 1) for choice in self.choices(way, ())]
+        self.ships, self.chamber, self.cuts, self.line = instance.ships, instance.chambers[c], cuts, line
+        self.missing, self.prices = missing, prices
+        self.alone = [[choice for choice in self.kept(way, ()) if choice.count > 0] for way in (0, 1)]
+        self.joined = [self.kept(way, own) for way, own in line]
+        self.lockages = functools.lru_cache(maxsize=None)(self.lockages)
 
-    def is_cut(self, ships):
-        return any(cut <= ships for cut in self.cuts)
+    def is_cut(self, ships, last):
+        return any(cut <= ships for cut in self.cuts[last])
 
     def grown(self, way, own):
-        """Each uncut group of these ships and missing ones of the way, grown ship by ship."""
-        groups = [own] if own else []
-        due = [(own, 0)]
+        """The own ships, and each uncut group of them and missing ones of the way, grown ship by ship. Where a missing ship
+        gains nothing even in the earliest lockage, it gains nothing in a larger group either."""
+        ships, least = [self.ships[s] for s in own], self.chamber.opens
+        due = [(frozenset(own), 0, inf, Choice(max([ship.arrival for ship in ships], default=0),
+                sum(ship.handling for ship in ships), len(own), 100 * sum(ship.arrival for ship in ships)))]
+        missing = [s for s in self.missing if self.ships[s].way == way]
         while due:
-            ships, at = due.pop()
-            for place in range(at, len(self.missing) if len(ships) < self.chamber.most else 0):
-                more = ships + (self.missing[place],)
-                if self.ships[more[-1]].way == way and not self.is_cut(set(more)):
-                    groups.append(more)
-                    due.append((more, place + 1))
-        return groups
+            group, at, gains_before, choice = due.pop()
+            yield choice
+            for place in range(at, len(missing) if choice.count < self.chamber.most else 0):
+                s = missing[place]
+                pays, more = 100 * self.ships[s].arrival + self.prices[s], group | {s}
+                longer = Choice(max(choice.latest, self.ships[s].arrival), choice.handling + self.ships[s].handling,
+                                choice.count + 1, choice.paid + pays)
+                before, end = min(gains_before, pays), max(longer.latest, least) + self.chamber.passage + longer.handling
+                if 100 * end < before and not self.is_cut(more, s):
+                    due.append((more, place + 1, before, longer))
 
-    def choices(self, way, own):
-        """What counts of the groups: ships, handling, latest arrival, and 100 times the arrivals with what is paid. One that
-        has no fewer ships, no less handling, no earlier arrival and no more pay than another is left out."""
+    def kept(self, way, own):
+        """The grown groups, but each that has no fewer ships, no less handling, no earlier arrival and no more pay than
+        another."""
         kept = []
-        for count, handling, latest, less in sorted(
-                ((len(group), sum(self.ships[s].handling for s in group), max(self.ships[s].arrival for s in group),
-                  -sum(100 * self.ships[s].arrival + (self.prices[s] if s not in own else 0) for s in group))
-                 for group in self.grown(way, own)), key=lambda choice: (choice[3], *choice[:3])):
-            if not any(c <= count and h <= handling and a <= latest for c, h, a, _ in kept):
-                kept.append((count, handling, latest, less))
+        for choice in sorted(self.grown(way, own), key=lambda choice: (-choice.paid, *choice[:3])):
+            if not any(a <= choice.latest and h <= choice.handling and c <= choice.count for a, h, c, _ in kept):
+                kept.append(choice)
         return kept
 
-    def moves(self, place):
-        """The choices for the next lockage: how far they go on in the line, their way, and what counts of them."""
-        if place == len(self.line):
-            return [(0, way, choice) for way, choice in self.alone]
-        way, own = self.line[place]
-        return [(1, way, choice) for choice in self.choices(way, own)] + [(0, *alone) for alone in self.alone]
-
-    def served(self, minute, side, way, choice):
-        """The end of a lockage in the earliest timetable, and what it is worth."""
-        count, handling, latest, less = choice
-        length = self.chamber.passage + handling
-        end = first_free(self.chamber, max(latest, ready(self.chamber, side, way, minute)), length) + length
-        return end, 100 * count * end + less
-
-    def own_alone(self, place, side, minute):
-        """What the groups of the line from a place on are worth as they are."""
-        worth = 0
-        for way, own in self.line[place:]:
-            group = (len(own), sum(self.ships[s].handling for s in own), max(self.ships[s].arrival for s in own),
-                     -sum(100 * self.ships[s].arrival for s in own))
-            minute, more = self.served(minute, side, way, group)
-            worth, side = worth + more, 1 - way
-        return worth
+    def lockages(self, place, way, minute):
+        """Of the lockages of missing ships alone, or of the group at a place of the line, that gain from a minute on at which
+        the chamber is ready: the ends, and what they are worth. The later one ends, the less it is worth."""
+        ends, gaining, least = [], [], 0 if place is None else inf
+        for latest, handling, count, paid in self.alone[way] if place is None else self.joined[place]:
+            length = self.chamber.passage + handling
+            end = first_free(self.chamber, max(latest, minute), length) + length
+            ends.append((end, 100 * count * end - paid))
+        for end, worth in sorted(ends):
+            if worth < least:
+                gaining.append((end, worth))
+                least = worth
+        return gaining
 
     def least(self):
-        if any(self.is_cut(set(own)) for _, own in self.line):
+        """Lines are made lockage by lockage: by rising minute, from which the chamber is free, and then by worth. Each stands at
+        a place of the node's line, with the chamber at a side, where it serves or turns."""
+        if any(self.is_cut(frozenset(own), s) for _, own in self.line for s in own):
             return None
-        moves = [self.moves(place) for place in range(len(self.line) + 1)]
-        start = (self.chamber.opens, 0, self.chamber.stands)
-        steps, due = {}, [start]
-        while due:  # the states that are reached, by rising minute
-            state = heapq.heappop(due)
-            minute, place, side = state
-            if state in steps or minute >= self.last:
+        best, due = {}, [(self.chamber.opens, 0, 0, self.chamber.stands)]
+        while due:
+            minute, worth, place, side = heapq.heappop(due)
+            if worth >= best.get((place, side), inf):
                 continue
-            steps[state] = []
-            for forward, way, choice in moves[place]:
-                end, worth = self.served(minute, side, way, choice)
-                steps[state].append((worth, (end, place + forward, 1 - way)))
-                heapq.heappush(due, steps[state][-1][1])
-        values = {}
-
-        def value(state):
-            if state not in values:  # from the last minute on missing ships only cost
-                minute, place, side = state
-                values[state] = self.own_alone(place, side, minute)
-            return values[state]
-
-        for state in sorted(steps, reverse=True):
-            ends = [0] if state[1] == len(self.line) else []
-            values[state] = min(ends + [worth + value(after) for worth, after in steps[state]])
-        return value(start)
+            best[place, side] = worth
+            steps = [(ready(self.chamber, side, 1 - side, minute), worth, place, 1 - side)]
+            steps += [(end, worth + more, place, 1 - side) for end, more in self.lockages(None, side, minute)]
+            if place < len(self.line) and self.line[place][0] == side:
+                steps += [(end, worth + more, place + 1, 1 - side) for end, more in self.lockages(place, side, minute)]
+            for step in steps:
+                if step[1] < best.get(step[2:], inf):
+                    heapq.heappush(due, step)
+        return min(worth for (place, _), worth in best.items() if place == len(self.line))
 
 
 class PriceBound:
-    """What nodes reach by the prices and the cuts of a certificate; tables are remembered."""
+    """What nodes reach by the prices and the cuts of a certificate; what a line is worth is remembered."""
 
     def __init__(self, instance, cuts, prices):
-        self.instance, self.cuts, self.prices, self.tables = instance, cuts, prices, {}
-        self.order = sorted(range(len(instance.ships)), key=lambda s: instance.ships[s].arrival)
+        self.instance, self.prices, ships = instance, prices, range(len(instance.ships))
+        self.order = sorted(ships, key=lambda s: instance.ships[s].arrival)
+        sets = [{frozenset(cut.ships) for cut in cuts if hits_in(instance, cut, c)} for c in range(len(instance.chambers))]
+        self.cuts = [[[cut for cut in each if s in cut] for s in ships] for each in sets]
+        self.least = functools.lru_cache(maxsize=1 << 16)(self.least)
 
     def least(self, c, line, depth, number):
-        key = c, line, depth, number
-        if key not in self.tables:
-            table = Table(self.instance, c, self.cuts, line, self.order[depth:], self.prices[number])
-            self.tables[key] = table.least()
-        return self.tables[key]
+        return Table(self.instance, c, self.cuts[c], line, self.order[depth:], self.prices[number]).least()
 
     def reaches(self, node, number, cost):
-        if number >= len(self.prices):
-            return False
         least = [self.least(c, line, node.depth, number) for c, line in enumerate(node.lines)]
         missing = sum(self.prices[number][s] for s in self.order[node.depth:])
         return None in least or sum(least) + missing > 100 * cost - 100

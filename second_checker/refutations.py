@@ -247,12 +247,8 @@ class BerthCase(Berths):
         return taken[0].get(i)
 
     def overlap(self, taken, i, j):
-        a, b, (low, high) = self.y(taken, i), self.y(taken, j), (self.deck.sizes[i], self.deck.sizes[j])
-        return (a is not None and b is not None
-                and a + low.width + self.deck.side > b and b + high.width + self.deck.side > a)
-
-    def guests(self, taken, k):
-        return [i for i in self.ships if self.host(taken, i) == k]
+        a, b, sizes, side = self.y(taken, i), self.y(taken, j), self.deck.sizes, self.deck.side
+        return None not in (a, b) and a + sizes[i].width + side > b and b + sizes[j].width + side > a
 
     def row_length(self, ships):
         return sum(self.deck.sizes[i].length + self.deck.gap for i in ships)
@@ -293,16 +289,14 @@ class BerthCase(Berths):
             return host is not None and sizes[i].length > sizes[host].length
         if kind == 4:
             return y is not None and not inside_across(self.deck, y, sizes[i])
-        return self.row_length(self.guests(taken, i)) > sizes[i].length + self.deck.gap
+        return self.row_length(s for s in self.ships if self.host(taken, s) == i) > sizes[i].length + self.deck.gap
 
     def split(self, taken, kind, *named):
         """The cases that a split goes on with: each berth of a ship, or both orders of two. None where it is no split."""
         berths, orders = taken
-        if not all(ship in self.ships for ship in named):
-            return None
         if kind == 0:
             i, = named
-            return None if i in berths else [({**berths, i: berth}, orders) for berth in self.berths[i]]
+            return [({**berths, i: berth}, orders) for berth in self.berths[i]] if i in self.ships and i not in berths else None
         i, j = named
         if i == j or not self.overlap(taken, i, j) or (i, j) in orders or (j, i) in orders:
             return None
@@ -333,10 +327,8 @@ def refutation_holds(deck, kind, rest):
     if kind == AREA:
         covered = sum((size.length + deck.gap) * (size.width + deck.side) for size in deck.sizes)
         return covered > (room + deck.gap) * (deck.width + deck.side)
-    if kind == CASE_TREE:
-        return refutes(Case(deck), rest)
-    if kind == SPOT_TREE:
-        return refutes(SpotCase(deck), rest)
+    if kind in (CASE_TREE, SPOT_TREE):
+        return refutes(Case(deck) if kind == CASE_TREE else SpotCase(deck), rest)
     if kind == BERTH_TREE:
         return is_berth_tree(deck, rest)
     if any(i >= len(deck.sizes) for i in rest):

@@ -1,20 +1,26 @@
 #!/usr/bin/env python3
 """Worked rows for the second checker: a dossier, one edit, and the line that must be printed. rows.py [GLOCK]
 
-Given a glock program, the rows are held against its `check` and `lower` too. It prints each row that differs and
+The rows of whole runs (rows/) that follow from an instance text or a plan text alone are held against texts.py. Given a
+glock program, the rows of dossiers are held against its `check` and `lower` too. It prints each row that differs and
 `N rows, M different`, and its status is 0 where none differs."""
 
+import ast
 import pathlib
+import resource
 import subprocess
 import sys
 
 sys.dont_write_bytecode = True
 from check_dossier import answer
+from texts import judged, solved
 from worked_refutations import REFUTED, asking
 
-ROWS = pathlib.Path(__file__).parent.with_name("rows")
+HERE, MOST_LINES = pathlib.Path(__file__).parent, 700
+JUDGING = "check_dossier dossier_text price_bound refutations times".split()
+ROWS = HERE.with_name("rows")
 sys.path.append(str(ROWS))
-from read_rows import rows_of
+from read_rows import ASKED, rows_of
 
 NARROW = """glock 1
 chamber c1 2000 232 10 20 5 4 30 15 low 0
@@ -89,6 +95,8 @@ OTHER = (SECOND.replace("\nship s1", "\nchamber c2 2000 232 10 20 5 4 30 15 low 
 
 # three ships whose cut 0 is a case tree and cut 1 a spot tree of all kinds of leaves
 TREES = pathlib.Path(__file__).with_name("trees.dossier").read_text()
+# arrivals that are a million minutes apart, and a price mark at the root
+FAR_APART = pathlib.Path(__file__).with_name("far_apart.dossier").read_text()
 
 WIDE = "s1 up 1100 114", "s1 up 1100 241"
 PART = "dossier fault 4 Shape part {}".format
@@ -272,12 +280,32 @@ OPENED = [
         ('{"cost"', ' \n { "cost"'), ('"cost":120', '"cost":1,"cost":120'), ("[0,0,3,1,1]}\n", "[0,0,3,1,1]}"))),
 ]
 
+PRICES, PRICE_LOW = "[[37,1466,980,193,426]]", "rejected tree 0 reason 13 PriceLow"
+# what must be told within a limit of time and memory
+LIMITED = [(FAR_APART, "", "", PRICE_LOW), (FAR_APART, PRICES, str([[1_000_000] * 5]), PRICE_LOW),
+           (FAR_APART, PRICES, "[[657,1477,1032,252,1151]]", "accepted cost 29")]
+
 
 def priced_rows():
     """The rows of dossiers with prices that both checkers are held against: data, line, status, and whether it is open."""
     for _, words, data, asked in rows_of(ROWS / "priced_dossiers.rows", ("status", "line", "first")):
         if words[0] in (b"check", b"lower"):
             yield data, (asked["line"][0], int(asked["status"][0])), words[0] == b"lower"
+
+
+def text_rows():
+    """The rows of whole runs that follow from a text alone: where each stands, what must be told, and what texts.py says."""
+    for path in sorted(ROWS.glob("*.rows")):
+        for place, words, data, asked in rows_of(path, ASKED):
+            status = int(asked["status"][0]) if "status" in asked else None
+            if words in ([b"judge"], [b"play"]) and status in (0, 3, 10):
+                said = judged(data)
+            elif words[:1] == [b"solve"] and status in (3, 8):
+                said = solved(data)
+            else:
+                continue
+            lines = [*asked.get("line", []), *asked.get("first", [])] if words != [b"play"] or status else []
+            yield place, (lines[:1], status), ([said.line][:len(lines)], said.status)
 
 
 def status_of(line):
@@ -293,6 +321,16 @@ def as_process(data, *words):
     return done.stdout.decode(), done.returncode
 
 
+def in_time(data, seconds=20, megabytes=500):
+    """The line and the status of the second checker's process, which may use no more of a processor and of memory."""
+    def limit():
+        resource.setrlimit(resource.RLIMIT_CPU, (seconds, seconds))
+        resource.setrlimit(resource.RLIMIT_AS, (megabytes * 2**20, megabytes * 2**20))
+    program = pathlib.Path(__file__).with_name("check_dossier.py")
+    done = subprocess.run([sys.executable, program], input=data, stdout=subprocess.PIPE, preexec_fn=limit)
+    return done.stdout.decode().removesuffix("\n"), done.returncode
+
+
 def by_program(data, is_open):
     """The line and the status of the given program; None where none is given."""
     if len(sys.argv) < 2:
@@ -301,7 +339,16 @@ def by_program(data, is_open):
     return done.stdout.decode().removesuffix("\n"), done.returncode
 
 
+def lines_of_code(path):
+    """How many lines are no comment, no text that stands alone, and not empty."""
+    source = path.read_text()
+    texts = {line for node in ast.walk(ast.parse(source)) if isinstance(node, ast.Expr) and isinstance(node.value, ast.Constant)
+             for line in range(node.lineno, node.end_lineno + 1)}
+    return sum(number not in texts and line.strip()[:1] not in ("", "#") for number, line in enumerate(source.split("\n"), 1))
+
+
 def main():
+    assert sum(lines_of_code(HERE / f"{name}.py") for name in JUDGING) < MOST_LINES
     rows = [(*row, False) for row in CHECKED] + [(*row, True) for row in OPENED]
     different = 0
     for number, (dossier, old, new, line, is_open) in enumerate(rows):
@@ -315,13 +362,24 @@ def main():
                 different += 1
                 print(f"row {number}: {old!r} by {new[:60]!r}: {found}, not {told}")
     assert as_process(OPEN.encode(), "--open") == ("lower 80 cost 120\n", 1)
+    for dossier, old, new, line in LIMITED:
+        data, told = dossier.replace(old, new, 1).encode(), (line, status_of(line))
+        for found in (in_time(data), by_program(data, False) or told):
+            if found != told:
+                different += 1
+                print(f"far apart: {old!r} by {new!r}: {found}, not {told}")
+    told_texts = list(text_rows())
+    for place, told, said in told_texts:
+        if said != told:
+            different += 1
+            print(f"{place}: {said}, not {told}")
     priced = list(priced_rows())
     for data, told, is_open in priced:
         said = answer(data, is_open)
         if said != told:
             different += 1
             print(f"{data.decode()}{said}, not {told}")
-    print(f"{len(rows) + len(priced)} rows, {different} different")
+    print(f"{len(rows) + len(LIMITED) + len(told_texts) + len(priced)} rows, {different} different")
     return 1 if different else 0
 
 

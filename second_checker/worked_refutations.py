@@ -24,6 +24,9 @@ REFUTED = [
     (TOO_WIDE, [6, 0, 0, 4, 0, 4, 1], False),
     # the berth of ship 0 is decided already
     (TOO_WIDE, [6, 0, 0, 0, 0, 4, 0, 4, 0, 4, 0], False),
+    # a berth, and an order, of a ship that isn't in the deck
+    (TOO_WIDE, [6, 0, 1, 4, 0, 4, 0], False),
+    (TOO_WIDE, [6, 7, 0, 1, 8, 8], False),
     # no tree
     (TOO_WIDE, [6], False),
     # a ship that is too long: no x obeys

@@ -1,0 +1,75 @@
+"""Dossiers made of ones that a program wrote: with price marks, and with another tree somewhere in their tree."""
+
+import json
+
+import texts
+from check_dossier import Bounds, Node, end_of
+from dossier_text import BOUND, FIRST_CUT, FIRST_PROBE, OPEN_LEAF, PRICE, SPLIT, THROUGHPUT, Priced
+from price_bound import PriceBound
+
+
+def written(instance, certificate, is_open, line):
+    """The dossier of this certificate, under this line."""
+    plan = [{"chamber": each.chamber, "ships": list(each.ships), "spots": [list(spot) for spot in each.spots],
+             "start": each.start, "way": each.way} for each in certificate.plan]
+    cuts = [{"chamber": cut.chamber, "ships": list(cut.ships), "why": [cut.why[0], *cut.why[1]]} for cut in certificate.cuts]
+    tree = [number for mark in certificate.tree for number in ([PRICE, mark.number] if isinstance(mark, Priced) else [mark])]
+    value = {"cost": certificate.cost, "cuts": cuts, "plan": plan, "tree": tree}
+    if line.endswith(b" 3"):
+        value["prices"] = list(certificate.prices)
+    return texts.canonical(instance) + line + b"\n" + json.dumps(value, separators=(",", ":"), sort_keys=True).encode() + b"\n"
+
+
+def walked(instance, marks):
+    """The nodes of a whole tree in the order of its marks, each with its mark and with the place of the first mark behind
+    its own tree."""
+    bounds, nodes, due = Bounds(instance), [], [(Node(0, ((),) * len(instance.chambers)), ())]
+    for place, mark in enumerate(marks):
+        node, above = due.pop()
+        nodes.append([node, mark, place + 1])
+        if mark == SPLIT:
+            due += [(child, above + (place,)) for child in reversed(bounds.children(node))]
+        for p in above:
+            nodes[p][2] = place + 1
+    return nodes
+
+
+def prices_of(instance, plan):
+    """What each ship takes in the plan, in hundredths, and the same raised by half a turn of the first chamber."""
+    flow = [0] * len(instance.ships)
+    for lockage in plan:
+        for s in lockage.ships:
+            flow[s] = 100 * (end_of(instance, lockage) - instance.ships[s].arrival)
+    more = 50 * instance.chambers[0].turn
+    return [[min(price, 1_000_000) for price in flow], [min(price + more, 1_000_000) for price in flow]]
+
+
+def priced(instance, certificate, is_open):
+    """The dossier of the third version in which a price mark ends each node that reaches the cost by some prices."""
+    prices = list(certificate.prices) or prices_of(instance, certificate.plan)
+    bound, nodes, tree, place = PriceBound(instance, certificate.cuts, prices), walked(instance, certificate.tree), [], 0
+    while place < len(nodes):
+        node, mark, behind = nodes[place]
+        reached = [v for v in range(len(prices)) if bound.reaches(node, v, certificate.cost)]
+        tree.append(Priced(reached[0]) if reached else mark)
+        place = behind if reached else place + 1
+    line = b"certificate open 3" if is_open else b"certificate 3"
+    return written(instance, certificate._replace(prices=prices, tree=tree), is_open, line)
+
+
+def grafted(instance, certificate, is_open, line, dice):
+    """The dossier with a leaf, or a split and its leaves, in the place of the tree of some node."""
+    nodes, bounds = walked(instance, certificate.tree), Bounds(instance)
+    place = dice.below(len(nodes))
+    node, _, behind = nodes[place]
+
+    def leaf(node):
+        missing, marks = bounds.missing(node), [BOUND, BOUND, THROUGHPUT] + [OPEN_LEAF] * is_open
+        marks += [FIRST_PROBE + s for s in missing[:1]] + [FIRST_CUT + dice.below(len(certificate.cuts) + 1)]
+        marks += [Priced(dice.below(len(certificate.prices) + 1))] * 2 if line.endswith(b" 3") else []
+        return dice.pick(marks)
+
+    is_split = bool(bounds.missing(node)) and dice.below(3) > 0
+    tree = [SPLIT] + [leaf(child) for child in bounds.children(node)] if is_split else [leaf(node)]
+    marks = certificate.tree[:place] + tree + certificate.tree[behind:]
+    return written(instance, certificate._replace(tree=marks), is_open, line)
