@@ -2,22 +2,16 @@
 
 use closing_rules::Ground;
 
-/// What a certificate says of a node.
-#[derive(Clone, Copy, Debug, PartialEq, Eq)]
+/// What a certificate says of a node: it is split, closed on a ground, or left open.
+#[derive(Clone, Copy, PartialEq, Eq)]
 pub enum Mark {
     Split,
     Leaf(Ground),
-}
-
-/// A mark, or a node that is left open.
-#[derive(Clone, Copy, Debug, PartialEq, Eq)]
-pub enum OpenMark {
-    Closed(Mark),
     Open,
 }
 
 /// The place at which a certificate fails.
-#[derive(Clone, Copy, Debug, PartialEq, Eq)]
+#[derive(Clone, Copy, PartialEq, Eq)]
 pub enum FailurePlace {
     Plan,
     Cost,
@@ -27,7 +21,7 @@ pub enum FailurePlace {
 }
 
 /// Why it fails there.
-#[derive(Clone, Copy, Debug, PartialEq, Eq)]
+#[derive(Clone, Copy, PartialEq, Eq)]
 pub enum Reason {
     PlanIllegal,
     CostWrong,
