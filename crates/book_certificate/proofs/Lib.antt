@@ -1,12 +1,11 @@
-pub mod WritingLemmas
+pub mod ListLemmas
 pub mod ChildLemmas
 pub mod CutLemmas
+pub mod PreorderLemmas
+pub mod WritingLemmas
 pub mod ClosingLemmas
 pub mod FormedLemmas
+pub mod TreeLemmas
 pub mod VerdictLemmas
-pub mod ListLemmas
-pub mod PreorderLemmas
-pub mod OpenWritingLemmas
-pub mod OpenTreeLemmas
 pub mod LowLemmas
 pub mod WholeLemmas

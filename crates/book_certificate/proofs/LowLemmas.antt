@@ -9,7 +9,7 @@ use Rattle.lock_rules.proofs.TreeLemmas.{IsAmong-left, IsAmong-right}
 use Rattle.refute_rules.proofs.Among.{among-append}
 use Rattle.book_rules.specs.declared.book.SlotState.{SlotState}
 use Rattle.book_rules.specs.declared.book.SlotState.TheVariants as slot
-use Rattle.certificate_rules.specs.declared.certificate.OpenMark.TheVariants.{Open}
+use Rattle.certificate_rules.specs.declared.certificate.Mark.TheVariants.{Open}
 use Rattle.book_rules.specs.Book.{Slot, Book, no_slot, slot_at, is_fresh, is_back, is_held, is_parked, is_live, has_slot, first_slot}
 use Rattle.lock_rules.specs.Node.{Node}
 use Rattle.book_rules.specs.Verdict.{low_of, parked_verdict, turns_verdict, verdict_of}
@@ -17,10 +17,10 @@ use Rattle.certificate_rules.specs.Low.{leaf_bounds}
 use Rattle.book_rules.proofs.SlotLemmas.{first_slot-at}
 use Rattle.closing_rules.proofs.BelowLemmas.{least-below}
 use Rattle.book_certificate.proofs.VerdictLemmas.{live-verdict}
-use Rattle.book_certificate.specs.OpenPreorder.{open_mark, mark_at}
-use Rattle.book_certificate.specs.OpenCertified.{certified_low}
+use Rattle.book_certificate.specs.Preorder.{mark_of, mark_at}
+use Rattle.book_certificate.specs.Certified.{certified_low}
 use Rattle.certificate_rules.proofs.LeastLemmas.{least-among, among-below}
-use Rattle.book_certificate.proofs.OpenTreeLemmas.{open_bounds}
+use Rattle.book_certificate.proofs.TreeLemmas.{open_bounds}
 
 -- ---- live slots
 
@@ -30,14 +30,14 @@ pub record IsLiveOf (b : Book) (id bound : ℕ) : Type 0 where
   pub live : is_live (slot_at b id).state ≡ true
   pub is : (slot_at b id).bound ≡ bound
 
-live-open : (s : SlotState) → is_live s ≡ true → open_mark s ≡ Open
+live-open : (s : SlotState) → is_live s ≡ true → mark_of s ≡ Open
 live-open slot.Fresh e = refl
 live-open slot.Back e = refl
 live-open (slot.Held w) e = refl
 live-open (slot.Parked c p) e = refl
 live-open _ e = absurd (true≢false (sym e))
 
-leaf-live : (s : SlotState) (bound n : ℕ) → IsAmong (leaf_bounds bound (open_mark s)) n → (is_live s ≡ true) × (bound ≡ n)
+leaf-live : (s : SlotState) (bound n : ℕ) → IsAmong (leaf_bounds bound (mark_of s)) n → (is_live s ≡ true) × (bound ≡ n)
 leaf-live slot.Fresh bound n (inl e) = (refl, e)
 leaf-live slot.Fresh bound n (inr h) = absurd h
 leaf-live slot.Back bound n (inl e) = (refl, e)

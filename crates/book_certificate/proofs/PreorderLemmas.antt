@@ -7,7 +7,7 @@ use Rattle.book_rules.specs.declared.book.SlotState.TheVariants as slot
 use Rattle.book_rules.specs.Book.{Book, slot_at}
 use Rattle.lock_rules.specs.Node.{Node}
 use Rattle.book_rules.specs.Family.{child_count, KeepsFamily}
-use Rattle.book_certificate.specs.OpenPreorder.{children_slots, preorder, slots_in_order}
+use Rattle.book_certificate.specs.Preorder.{children_slots, preorder, slots_in_order}
 use Rattle.lock_rules.proofs.AmongLemmas.{among-flat_map}
 use Rattle.book_certificate.proofs.ListLemmas.{range-among, among-range, all-below}
 

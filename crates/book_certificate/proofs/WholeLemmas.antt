@@ -1,18 +1,18 @@
--- The open certificate of a book stands, is well formed, and has the low of the verdict.
-use Rattle.std.proofs.Common.{◌≡◌, ℕ, ◌^◌, ◌<◌, ◌≤◌, List, [], ◌∷◌, length, map, refl, sym, ap, ◌∙◌, subst, arith, All, slice_index_or, append-nil, nat_lt}
+-- The certificate of a book stands, is well formed, and has the low of the verdict; it is accepted where no slot is live.
+use Rattle.std.proofs.Common.{◌≡◌, ℕ, ◌^◌, ◌<◌, ◌≤◌, List, [], ◌∷◌, length, map, refl, sym, ap, ◌∙◌, subst, arith, All, slice_index_or, append-nil, nat_lt, inl, inr, false, true≢false}
 use Rattle.std.proofs.lemmas.List.{length-map}
 use Rattle.std.proofs.lemmas.List.Elements.{All-map, All-weaker}
 use Rattle.list_laws.proofs.Counts.{one-at_most}
+use Rattle.list_laws.specs.Among.{IsAmong}
 use Rattle.lock_model.specs.declared.instance.Instance.{Instance}
 use Rattle.lock_model.specs.declared.plan.Plan.{Plan}
 use Rattle.lock_rules.specs.Plan.{IsLegal, cost_of}
 use Rattle.lock_rules.specs.Bound.{least_number}
 use Rattle.book_rules.specs.declared.book.SlotState.{SlotState}
 use Rattle.book_rules.specs.declared.book.SlotState.TheVariants as slot
+use Rattle.certificate_rules.specs.declared.certificate.Mark.{Mark}
 use Rattle.certificate_rules.specs.declared.certificate.Mark.TheVariants as mark
-use Rattle.certificate_rules.specs.declared.certificate.OpenMark.{OpenMark}
-use Rattle.certificate_rules.specs.declared.certificate.OpenMark.TheVariants.{Closed}
-use Rattle.book_rules.specs.Book.{Slot, Book, slot_at, best_cost, is_fresh}
+use Rattle.book_rules.specs.Book.{Slot, Book, slot_at, best_cost, is_fresh, is_live}
 use Rattle.lock_rules.specs.Node.{Node, root}
 use Rattle.book_rules.specs.Verdict.{verdict_of}
 use Rattle.book_rules.specs.Cover.{KeepsBook}
@@ -20,19 +20,17 @@ use Rattle.book_rules.specs.Parts.{KeepsParts}
 use Rattle.book_rules.specs.Cheap.{count_cheap, opening_cost}
 use Rattle.closing_rules.specs.ProvedCuts.{IsProved}
 use Rattle.closing_rules.specs.ListedPrices.{ArePrices, AreShapedPrices}
-use Rattle.certificate_rules.specs.Certificates.{IsMarkTree}
-use Rattle.certificate_rules.specs.OpenCertificates.{OpenCertificate, ClosesOrOpen, Stands}
+use Rattle.certificate_rules.specs.Certificates.{Certificate, EndsNode, IsMarkTree, Stands, IsNoOpenLeaf, HasNoOpenLeaf, Accepts}
 use Rattle.certificate_rules.specs.Low.{HasOpen, IsLow}
-use Rattle.certificate_rules.specs.WellFormed.{IsFormedCut, AreFormedPrices, IsFormedOpenMark, IsWellFormedOpen}
+use Rattle.certificate_rules.specs.WellFormed.{IsFormedCut, AreFormedPrices, IsFormedMark, IsWellFormed}
 use Rattle.book_rules.proofs.CheapLemmas.{count-some}
-use Rattle.book_certificate.specs.Preorder.{leaf_mark}
 use Rattle.book_certificate.specs.Certified.{cert_cut}
-use Rattle.book_certificate.proofs.FormedLemmas.{own-formed, own-proved, legal-formed, leaf-formed}
-use Rattle.book_certificate.specs.OpenPreorder.{open_mark, mark_at, slots_in_order}
-use Rattle.book_certificate.specs.OpenCertified.{IsOpenCertificateOf, certified_low, HasMoreMarks}
+use Rattle.book_certificate.proofs.FormedLemmas.{own-formed, own-proved, legal-formed, ground-formed}
+use Rattle.book_certificate.specs.Preorder.{mark_of, mark_at, slots_in_order}
+use Rattle.book_certificate.specs.Certified.{IsCertificateOf, certified_low, HasMoreMarks, HasNoLive}
 use Rattle.book_certificate.proofs.ListLemmas.{all-among}
 use Rattle.book_certificate.proofs.PreorderLemmas.{visited-known, visited, as-many, root-depth}
-use Rattle.book_certificate.proofs.OpenTreeLemmas.{marks_with, open_bounds, slot-tree, slot-leaves}
+use Rattle.book_certificate.proofs.TreeLemmas.{marks_with, open_bounds, slot-tree, slot-leaves}
 use Rattle.book_certificate.proofs.LowLemmas.{least-bound}
 
 cheap-few : (c : ℕ) (xs : List Slot) → count_cheap c xs ≤ length xs
@@ -42,12 +40,9 @@ cheap-few c (x ∷ xs) =
     let rest = cheap-few c xs in
     omega (arith, own, rest)
 
-module _ (b : Book) (keeps : KeepsBook b) (parts : KeepsParts b) (C : OpenCertificate) (is : IsOpenCertificateOf b C) where
+module _ (b : Book) (keeps : KeepsBook b) (parts : KeepsParts b) (C : Certificate) (is : IsCertificateOf b C) where
   abbrev I : Instance
   I = b.case.instance
-
-  abbrev split : OpenMark
-  split = Closed mark.Split
 
   abbrev slots : List ℕ
   slots = slots_in_order b
@@ -58,10 +53,10 @@ module _ (b : Book) (keeps : KeepsBook b) (parts : KeepsParts b) (C : OpenCertif
   at-root : (P : Node → Type 0) → P (slot_at b 0).node → P root
   at-root P h = subst P parts.family.root_is h
 
-  tree : IsMarkTree I split (ClosesOrOpen I (best_cost b) (map cert_cut b.cuts) b.prices) (length I.ships) 0 root.lines C.tree []
+  tree : IsMarkTree I (EndsNode I (best_cost b) (map cert_cut b.cuts) b.prices) (length I.ships) 0 root.lines C.tree []
   tree =
-      subst (λ ms. IsMarkTree I split (ClosesOrOpen I (best_cost b) (map cert_cut b.cuts) b.prices) (length I.ships) 0 root.lines ms []) (sym whole)
-      (at-root (λ n. IsMarkTree I split (ClosesOrOpen I (best_cost b) (map cert_cut b.cuts) b.prices) (length I.ships) n.depth n.lines (marks_with b slots []) [])
+      subst (λ ms. IsMarkTree I (EndsNode I (best_cost b) (map cert_cut b.cuts) b.prices) (length I.ships) 0 root.lines ms []) (sym whole)
+      (at-root (λ n. IsMarkTree I (EndsNode I (best_cost b) (map cert_cut b.cuts) b.prices) (length I.ships) n.depth n.lines (marks_with b slots []) [])
       (slot-tree b keeps parts.family parts.states (length I.ships) 0 (root-depth b parts.family) parts.family.some []))
 
   leaves : HasOpen I (length I.ships) 0 root.lines C.tree [] (open_bounds b slots)
@@ -77,9 +72,9 @@ module _ (b : Book) (keeps : KeepsBook b) (parts : KeepsParts b) (C : OpenCertif
     cuts = subst (All (IsProved I)) (sym is.cuts) (All-map (IsProved I) cert_cut b.cuts (λ k d known. let own = keeps.cuts k d known in own-proved I (slice_index_or b.cuts k d) own.0 own.1));
     prices = subst (All (AreShapedPrices I)) (sym is.prices) (All-weaker (λ u. ArePrices u × AreShapedPrices I u) (AreShapedPrices I) (λ u own. own.1) b.prices keeps.prices);
     tree =
-        subst (λ prices. IsMarkTree I split (ClosesOrOpen I C.cost C.cuts prices) (length I.ships) 0 root.lines C.tree []) (sym is.prices)
-        (subst (λ cuts. IsMarkTree I split (ClosesOrOpen I C.cost cuts b.prices) (length I.ships) 0 root.lines C.tree []) (sym is.cuts)
-        (subst (λ cost. IsMarkTree I split (ClosesOrOpen I cost (map cert_cut b.cuts) b.prices) (length I.ships) 0 root.lines C.tree []) (sym is.cost) tree));
+        subst (λ prices. IsMarkTree I (EndsNode I C.cost C.cuts prices) (length I.ships) 0 root.lines C.tree []) (sym is.prices)
+        (subst (λ cuts. IsMarkTree I (EndsNode I C.cost cuts b.prices) (length I.ships) 0 root.lines C.tree []) (sym is.cuts)
+        (subst (λ cost. IsMarkTree I (EndsNode I cost (map cert_cut b.cuts) b.prices) (length I.ships) 0 root.lines C.tree []) (sym is.cost) tree));
   }
 
   pub has-low : IsLow I C (certified_low (best_cost b) (verdict_of b))
@@ -108,23 +103,43 @@ module _ (b : Book) (keeps : KeepsBook b) (parts : KeepsParts b) (C : OpenCertif
         omega (arith, some, used, few, many-marks);
   }
 
+  -- ---- where no slot is live
+
+  shut-mark : (s : SlotState) → is_live s ≡ false → IsNoOpenLeaf (mark_of s)
+  shut-mark (slot.Split first) e = tt
+  shut-mark (slot.Closed why) e = tt
+  shut-mark slot.Fresh e = absurd (true≢false e)
+  shut-mark slot.Back e = absurd (true≢false e)
+  shut-mark (slot.Held w) e = absurd (true≢false e)
+  shut-mark (slot.Parked c p) e = absurd (true≢false e)
+
+  shut-marks : HasNoLive b → (ids : List ℕ) → ((id : ℕ) → IsAmong ids id → id < length b.slots) → HasNoOpenLeaf (map (mark_at b) ids)
+  shut-marks shut [] known = tt
+  shut-marks shut (id ∷ ids) known = (shut-mark (slot_at b id).state (shut.none id (known id (inl refl))), shut-marks shut ids (λ k h. known k (inr h)))
+
+  pub is-accepted : HasNoLive b → Accepts I C
+  is-accepted shut = record {
+    stands = is-standing;
+    whole = subst HasNoOpenLeaf (sym is.marks) (shut-marks shut slots (λ id h. visited-known b parts.family (length I.ships) 0 parts.family.some id h));
+  }
+
   -- ---- its form
 
   module _ (few_prices : length b.prices < 2 ^ 63) (few : length b.cuts < 2 ^ 63) where
-    mark-formed : (id : ℕ) → id < length b.slots → IsFormedOpenMark (mark_at b id)
+    mark-formed : (id : ℕ) → id < length b.slots → IsFormedMark (mark_at b id)
     mark-formed id known = go (slot_at b id).state refl
       where
-        go : (s : SlotState) → (slot_at b id).state ≡ s → IsFormedOpenMark (mark_at b id)
-        go (slot.Split first) is = subst IsFormedOpenMark (sym (ap open_mark is)) tt
-        go (slot.Closed why) is = subst IsFormedOpenMark (sym (ap open_mark is)) (leaf-formed b parts.family parts.states few_prices few id known (mark.Leaf why) (ap leaf_mark is))
-        go _ is = subst IsFormedOpenMark (sym (ap open_mark is)) tt
+        go : (s : SlotState) → (slot_at b id).state ≡ s → IsFormedMark (mark_at b id)
+        go (slot.Split first) is = subst IsFormedMark (sym (ap mark_of is)) tt
+        go (slot.Closed why) is = subst IsFormedMark (sym (ap mark_of is)) (ground-formed b parts.states few_prices few id known why is)
+        go _ is = subst IsFormedMark (sym (ap mark_of is)) tt
 
-    pub is-formed : IsWellFormedOpen C
+    pub is-formed : IsWellFormed C
     is-formed = record {
       cuts = subst (All IsFormedCut) (sym is.cuts) (All-map IsFormedCut cert_cut b.cuts (λ k d known. own-formed (slice_index_or b.cuts k d) (keeps.cuts k d known).0));
       prices =
           subst (All AreFormedPrices) (sym is.prices)
           (All-weaker (λ u. ArePrices u × AreShapedPrices I u) AreFormedPrices (λ u own. (omega (arith, own.1.count, I.limits.ship_count.0), own.0)) b.prices keeps.prices);
       lockages = λ k d known. legal-formed I (slice_index_or C.plan.lockages k d) (is-standing.legal.lockage k d known);
-      marks = subst (All IsFormedOpenMark) (sym is.marks) (All-map IsFormedOpenMark (mark_at b) slots (all-among (λ id. IsFormedOpenMark (mark_at b id)) slots (λ id h. mark-formed id (visited-known b parts.family (length I.ships) 0 parts.family.some id h))));
+      marks = subst (All IsFormedMark) (sym is.marks) (All-map IsFormedMark (mark_at b) slots (all-among (λ id. IsFormedMark (mark_at b id)) slots (λ id h. mark-formed id (visited-known b parts.family (length I.ships) 0 parts.family.some id h))));
     }

@@ -1,10 +1,13 @@
--- What the certificate of a book is, and which books have one.
-use Rattle.std.specs.Prelude.{ℕ, ◌≡◌, ◌<◌, true, false, [], length, map}
+-- What the certificate of a book is, and its low; which books have one that leaves no node open.
+use Rattle.std.specs.Prelude.{ℕ, ◌≡◌, ◌<◌, true, false, length, map, min}
+use Rattle.lock_model.specs.declared.verdict.Verdict.{Verdict}
+use Rattle.lock_model.specs.declared.verdict.Verdict.TheVariants as verdict
+use Rattle.book_rules.specs.declared.book.SlotState.TheVariants as slot
 use Rattle.refute_rules.specs.Cuts.{Cut}
 use Rattle.book_rules.specs.Book.{Book, slot_at, best_cost, is_live}
 use Rattle.closing_rules.specs.ProvedCuts.{CertCut}
 use Rattle.certificate_rules.specs.Certificates.{Certificate}
-use Rattle.book_certificate.specs.Preorder.{AreMarksOf}
+use Rattle.book_certificate.specs.Preorder.{mark_at, slots_in_order}
 
 -- slot `id` is open, held or parked
 pub record IsLive (b : Book) (id : ℕ) : Type 0 where
@@ -30,4 +33,14 @@ pub record IsCertificateOf (b : Book) (C : Certificate) : Type 0 where
   pub cuts : C.cuts ≡ map cert_cut b.cuts
   pub plan : C.plan ≡ b.best
   pub prices : C.prices ≡ b.prices
-  pub marks : AreMarksOf b (length b.case.instance.ships) 0 C.tree []
+  pub marks : C.tree ≡ map (mark_at b) (slots_in_order b)
+
+-- the best cost, or a low of the verdict that is less
+abbrev pub certified_low : ℕ → Verdict → ℕ
+certified_low cost verdict.Optimal = cost
+certified_low cost (verdict.OpenNodes used low) = min low cost
+certified_low cost (verdict.OpenTurns chamber ships turns low) = min low cost
+
+-- Where a slot is Fresh, there are more marks than the book has used nodes.
+pub record HasMoreMarks (b : Book) (C : Certificate) : Type 0 where
+  pub more : (id : ℕ) → id < length b.slots → (slot_at b id).state ≡ slot.Fresh → b.used < length C.tree

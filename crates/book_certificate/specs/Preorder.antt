@@ -1,8 +1,6 @@
--- The marks of a book's slots, in preorder of the tree that the slots make.
-use Rattle.std.specs.Prelude.{ℕ, zero, suc, ◌≡◌, ◌⊎◌, List, ◌∷◌, Some, None}
-use Rattle.std.specs.declared.option.Option.{Option}
-use Rattle.std.specs.List.{range_with_len}
-use Rattle.refute_rules.specs.Trees.{AreInOrder}
+-- The slots of a book in preorder of the tree that they make, and their marks.
+use Rattle.std.specs.Prelude.{ℕ, zero, suc, List, [], ◌∷◌, length}
+use Rattle.std.specs.List.{range_with_len, flat_map}
 use Rattle.book_rules.specs.declared.book.SlotState.{SlotState}
 use Rattle.book_rules.specs.declared.book.SlotState.TheVariants as slot
 use Rattle.certificate_rules.specs.declared.certificate.Mark.{Mark}
@@ -10,22 +8,29 @@ use Rattle.certificate_rules.specs.declared.certificate.Mark.TheVariants as mark
 use Rattle.book_rules.specs.Book.{Book, slot_at}
 use Rattle.book_rules.specs.Family.{child_count}
 
--- the mark of a closed slot; a slot that is split, open, held or parked has none
-abbrev pub leaf_mark : SlotState → Option Mark
-leaf_mark (slot.Closed why) = Some (mark.Leaf why)
-leaf_mark _ = None
+-- the mark of a slot by its state; a slot that is open, held or parked is an open leaf
+abbrev pub mark_of : SlotState → Mark
+mark_of (slot.Split first) = mark.Split
+mark_of (slot.Closed why) = mark.Leaf why
+mark_of _ = mark.Open
+
+abbrev pub mark_at : Book → ℕ → Mark
+mark_at b id = mark_of (slot_at b id).state
 
 -- the children of a split slot in order, from slot `first` on
 abbrev pub children_from : Book → ℕ → ℕ → List ℕ
 children_from b id first = range_with_len first (child_count b.case.instance (slot_at b id).node)
 
--- the marks begin with that of a closed slot, and the rest follows
-abbrev pub IsLeafOf : Book → ℕ → List Mark → List Mark → Type 0
-IsLeafOf b id marks rest = (m : Mark) × (leaf_mark (slot_at b id).state ≡ Some m) × (marks ≡ m ∷ rest)
+-- the children of slot `id` in order, by its state; only a split slot has some
+abbrev pub children_slots : Book → ℕ → SlotState → List ℕ
+children_slots b id (slot.Split first) = children_from b id first
+children_slots b id _ = []
 
--- The marks begin with that of slot `id` and with those of all slots below it, each slot before its children and these in order; the rest follows. So many ships are lacking at most.
-abbrev pub AreMarksOf : Book → ℕ → ℕ → List Mark → List Mark → Type 0
-AreMarksOf b zero id marks rest = IsLeafOf b id marks rest
-AreMarksOf b (suc lacking) id marks rest =
-    IsLeafOf b id marks rest
-    ⊎ ((first : ℕ) × ((slot_at b id).state ≡ slot.Split first) × (inner : List Mark) × (marks ≡ mark.Split ∷ inner) × AreInOrder (AreMarksOf b lacking) (children_from b id first) inner rest)
+-- slot `id` and all slots below it, each slot before its children and these in order; so many ships are lacking at most
+abbrev pub preorder : Book → ℕ → ℕ → List ℕ
+preorder b zero id = id ∷ []
+preorder b (suc lacking) id = id ∷ flat_map (preorder b lacking) (children_slots b id (slot_at b id).state)
+
+-- all slots, from the root on
+abbrev pub slots_in_order : Book → List ℕ
+slots_in_order b = preorder b (length b.case.instance.ships) 0

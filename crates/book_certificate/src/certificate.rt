@@ -1,4 +1,4 @@
-//! The certificate of a book.
+//! The certificate of a finished book.
 ghost use Rattle.std.specs.Prelude.{◌≡◌, ◌↔◌, IfOk, IfErr, Err};
 ghost use Rattle.lock_model.specs.declared.verdict.Verdict.TheVariants.{Optimal};
 ghost use Rattle.book_rules.specs.Verdict.{verdict_of};
@@ -6,13 +6,12 @@ ghost use Rattle.certificate_rules.specs.Certificates.{Accepts};
 ghost use Rattle.certificate_rules.specs.WellFormed.{IsWellFormed};
 ghost use Rattle.book_certificate.specs.Certified.{HasLive, IsCertificateOf};
 
-use crate::cuts::cuts_of;
 use crate::error::CertError;
 use crate::live::first_live;
-use crate::marks::marks_of;
-use crate::prices::prices_of;
+use crate::open_certificate::open_certificate_of;
 use book_core::Book;
 use certificate_parts::Certificate;
+use no_memory::NoMemory;
 use std::alloc::Global;
 
 /// The certificate of a finished book: its best plan, the plan's cost in minutes, its cuts and its
@@ -33,11 +32,8 @@ pub fn certificate_of(alloc: Global, book: &Book) -> Result<Certificate, CertErr
         return Err(CertError::StillOpen);
     }
     book.keeps();
-    Ok(Certificate {
-        cost: book.best_cost(),
-        cuts: cuts_of(alloc, book)?,
-        plan: book.best().copy(),
-        prices: prices_of(alloc, book)?,
-        tree: marks_of(alloc, book)?,
-    })
+    match open_certificate_of(alloc, book) {
+        Ok(certificate) => Ok(certificate),
+        Err(NoMemory) => Err(CertError::NoMemory),
+    }
 }

@@ -1,17 +1,17 @@
-//! The open certificate of a book.
+//! The certificate of a book at any time.
 ghost use Rattle.std.specs.Prelude.{◌≤◌, length, IfOk};
 ghost use Rattle.book_rules.specs.Book.{best_cost};
 ghost use Rattle.book_rules.specs.Verdict.{verdict_of};
-ghost use Rattle.certificate_rules.specs.OpenCertificates.{Stands};
+ghost use Rattle.certificate_rules.specs.Certificates.{Stands};
 ghost use Rattle.certificate_rules.specs.Low.{IsLow};
-ghost use Rattle.certificate_rules.specs.WellFormed.{IsWellFormedOpen};
-ghost use Rattle.book_certificate.specs.OpenCertified.{IsOpenCertificateOf, certified_low, HasMoreMarks};
+ghost use Rattle.certificate_rules.specs.WellFormed.{IsWellFormed};
+ghost use Rattle.book_certificate.specs.Certified.{IsCertificateOf, certified_low, HasMoreMarks};
 
 use crate::cuts::cuts_of;
-use crate::open_marks::marks_of;
+use crate::marks::marks_of;
 use crate::prices::prices_of;
 use book_core::Book;
-use certificate_parts::OpenCertificate;
+use certificate_parts::Certificate;
 use no_memory::NoMemory;
 use std::alloc::Global;
 
@@ -23,16 +23,16 @@ use std::alloc::Global;
 /// Its low is the best cost where the book's verdict is `Optimal`, and else the less of the verdict's
 /// low and the best cost. It has at least as many marks as the book has slots, and where a slot is
 /// Fresh, more marks than the book has used nodes. Refuses want of memory alone.
-pub fn open_certificate_of(alloc: Global, book: &Book) -> Result<OpenCertificate, NoMemory>
-    ensures certified { IfOk result (IsOpenCertificateOf book.now) }
+pub fn open_certificate_of(alloc: Global, book: &Book) -> Result<Certificate, NoMemory>
+    ensures certified { IfOk result (IsCertificateOf book.now) }
     ensures stands { IfOk result (Stands book.now.case.instance) }
-    ensures formed { IfOk result IsWellFormedOpen }
+    ensures formed { IfOk result IsWellFormed }
     ensures low { IfOk result (λ certificate. IsLow book.now.case.instance certificate (certified_low (best_cost book.now) (verdict_of book.now))) }
     ensures marks { IfOk result (λ certificate. length book.now.slots ≤ length certificate.tree) }
     ensures more { IfOk result (HasMoreMarks book.now) }
 {
     book.keeps();
-    Ok(OpenCertificate {
+    Ok(Certificate {
         cost: book.best_cost(),
         cuts: cuts_of(alloc, book)?,
         plan: book.best().copy(),

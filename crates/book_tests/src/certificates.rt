@@ -99,7 +99,8 @@ fn expect_marks(rt: &impl Abort, alloc: Global, book: &Book, marks: &[Mark]) -> 
     let certificate = certificate_of(alloc, book).map_err(|_| "no certificate")?;
     assert!(rt; certificate.tree.as_slice() == marks);
     let answer = check(alloc, &book.case().instance, &certificate);
-    assert!(rt; answer == Ok(Answer::Accepted(book.best_cost())));
+    let cost = book.best_cost();
+    assert!(rt; answer == Ok(Answer::Stands { low: cost, cost }));
     Ok(())
 }
 

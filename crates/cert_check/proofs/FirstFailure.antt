@@ -8,6 +8,7 @@ use Rattle.lock_model.specs.declared.group.Group.{Group}
 use Rattle.lock_model.specs.declared.plan.Plan.{Plan}
 use Rattle.lock_rules.specs.Node.{root_lines}
 use Rattle.lock_rules.specs.Children.{children_of}
+use Rattle.certificate_rules.specs.declared.certificate.Mark.{Mark}
 use Rattle.certificate_rules.specs.declared.certificate.Mark.TheVariants as mark
 use Rattle.certificate_rules.specs.declared.certificate.FailurePlace.{FailurePlace}
 use Rattle.certificate_rules.specs.declared.certificate.FailurePlace.TheVariants as place
@@ -15,8 +16,8 @@ use Rattle.certificate_rules.specs.declared.certificate.Reason.{Reason}
 use Rattle.certificate_rules.specs.declared.certificate.Reason.TheVariants as reason
 use Rattle.closing_rules.specs.ProvedCuts.{CertCut, IsShaped, IsProved}
 use Rattle.closing_rules.specs.ListedPrices.{AreShapedPrices}
-use Rattle.certificate_rules.specs.Certificates.{Certificate, Closes, IsMarkTree}
-use Rattle.certificate_rules.specs.Failures.{FailInOrder, FailsHere, TreeFails, MarksFail, CutFails, PricesFail, FailsAt, reason_of, Fails}
+use Rattle.certificate_rules.specs.Certificates.{IsMarkTree}
+use Rattle.certificate_rules.specs.Failures.{FailInOrder, FailsHere, TreeFails, MarksFail, CutFails, PricesFail, FailsAt}
 use Rattle.certificate_rules.proofs.FailLemmas.{tree-unique, tree-not_fails}
 use Rattle.cert_check.specs.FirstFailure.{AreSameFailure}
 
@@ -37,38 +38,38 @@ in_order-same Tree Failing one never same (x ∷ xs) m s t p q (inr a) (inl b) =
 in_order-same Tree Failing one never same (x ∷ xs) m s t p q (inr a) (inr b) =
     in_order-same Tree Failing one never same xs b.0 s t p q (subst (λ u. FailInOrder Tree Failing xs u s p) (one x m a.0 b.0 a.1 b.1) a.2) b.2
 
-here-same : {M : Type 0} (Closing : M → Type 0) (reason_by : M → Reason) (marks s t : List M) (p q : Reason) → FailsHere Closing reason_by marks s p → FailsHere Closing reason_by marks t q → AreSame s t p q
-here-same Closing reason_by [] s t p q a b = record { left = a.0 ∙ sym b.0; why = a.1 ∙ sym b.1 }
-here-same Closing reason_by (m ∷ ms) s t p q a b = record { left = a.0 ∙ sym b.0; why = a.2 ∙ sym b.2 }
+here-same : (Ends : Mark → Type 0) (marks s t : List Mark) (p q : Reason) → FailsHere Ends marks s p → FailsHere Ends marks t q → AreSame s t p q
+here-same Ends [] s t p q a b = record { left = a.0 ∙ sym b.0; why = a.1 ∙ sym b.1 }
+here-same Ends (m ∷ ms) s t p q a b = record { left = a.0 ∙ sym b.0; why = a.2 ∙ sym b.2 }
 
-module _ {M : Type 0} (I : Instance) (split : M) (Closing : ℕ → List (List Group) → M → Type 0) (reason_by : M → Reason) (no_split : (k : ℕ) (lines : List (List Group)) → Closing k lines split → ⊥) where
-  abbrev Failing : ℕ → ℕ → List (List Group) → List M → List M → Reason → Type 0
-  Failing = TreeFails I split Closing reason_by
+module _ (I : Instance) (Ends : ℕ → List (List Group) → Mark → Type 0) (no_split : (k : ℕ) (lines : List (List Group)) → Ends k lines mark.Split → ⊥) where
+  abbrev Failing : ℕ → ℕ → List (List Group) → List Mark → List Mark → Reason → Type 0
+  Failing = TreeFails I Ends
 
-  here-not_split : (k : ℕ) (lines : List (List Group)) (marks s inner : List M) (p : Reason) → FailsHere (λ m. Closing k lines m ⊎ (m ≡ split)) reason_by marks s p → marks ≡ split ∷ inner → ⊥
+  here-not_split : (k : ℕ) (lines : List (List Group)) (marks s inner : List Mark) (p : Reason) → FailsHere (λ m. Ends k lines m ⊎ (m ≡ mark.Split)) marks s p → marks ≡ mark.Split ∷ inner → ⊥
   here-not_split k lines [] s inner p f e = absurd cc
-  here-not_split k lines (m ∷ ms) s inner p f e = f.1 (inr (same-heads m split ms inner e))
+  here-not_split k lines (m ∷ ms) s inner p f e = f.1 (inr (same-heads m mark.Split ms inner e))
 
-  tree-same : (lacking k : ℕ) (lines : List (List Group)) (marks s t : List M) (p q : Reason) → Failing lacking k lines marks s p → Failing lacking k lines marks t q → AreSame s t p q
-  tree-same zero k lines marks s t p q a b = here-same (Closing k lines) reason_by marks s t p q a b
-  tree-same (suc lacking) k lines marks s t p q (inl a) (inl b) = here-same (λ m. Closing k lines m ⊎ (m ≡ split)) reason_by marks s t p q a b
+  tree-same : (lacking k : ℕ) (lines : List (List Group)) (marks s t : List Mark) (p q : Reason) → Failing lacking k lines marks s p → Failing lacking k lines marks t q → AreSame s t p q
+  tree-same zero k lines marks s t p q a b = here-same (Ends k lines) marks s t p q a b
+  tree-same (suc lacking) k lines marks s t p q (inl a) (inl b) = here-same (λ m. Ends k lines m ⊎ (m ≡ mark.Split)) marks s t p q a b
   tree-same (suc lacking) k lines marks s t p q (inl a) (inr b) = absurd (here-not_split k lines marks s b.0 p a b.1)
   tree-same (suc lacking) k lines marks s t p q (inr a) (inl b) = absurd (here-not_split k lines marks t a.0 q b a.1)
   tree-same (suc lacking) k lines marks s t p q (inr a) (inr b) =
-      let same : a.0 ≡ b.0 = same-tails split split a.0 b.0 (sym a.1 ∙ b.1) in
-      let Tree = IsMarkTree I split Closing lacking (suc k) in
+      let same : a.0 ≡ b.0 = same-tails mark.Split mark.Split a.0 b.0 (sym a.1 ∙ b.1) in
+      let Tree = IsMarkTree I Ends lacking (suc k) in
       in_order-same Tree (Failing lacking (suc k))
-      (λ x m r u. tree-unique I split Closing reason_by no_split lacking (suc k) x m r u)
-      (λ x m r u why. tree-not_fails I split Closing reason_by no_split lacking (suc k) x m r u why)
+      (λ x m r u. tree-unique I Ends no_split lacking (suc k) x m r u)
+      (λ x m r u why. tree-not_fails I Ends no_split lacking (suc k) x m r u why)
       (λ x m u v p q. tree-same lacking (suc k) x m u v p q) (children_of I k lines) b.0 s t p q
       (subst (λ u. FailInOrder Tree (Failing lacking (suc k)) (children_of I k lines) u s p) same a.2) b.2
 
-  marks-same : (marks s t : List M) (p q : Reason) → MarksFail I split Closing reason_by marks s p → MarksFail I split Closing reason_by marks t q → AreSame s t p q
+  marks-same : (marks s t : List Mark) (p q : Reason) → MarksFail I Ends marks s p → MarksFail I Ends marks t q → AreSame s t p q
   marks-same marks s t p q (inl a) (inl b) = tree-same (length I.ships) 0 root_lines marks s t p q a b
-  marks-same marks s t p q (inl a) (inr b) = absurd (tree-not_fails I split Closing reason_by no_split (length I.ships) 0 root_lines marks t s p b.2 a)
-  marks-same marks s t p q (inr a) (inl b) = absurd (tree-not_fails I split Closing reason_by no_split (length I.ships) 0 root_lines marks s t q a.2 b)
+  marks-same marks s t p q (inl a) (inr b) = absurd (tree-not_fails I Ends no_split (length I.ships) 0 root_lines marks t s p b.2 a)
+  marks-same marks s t p q (inr a) (inl b) = absurd (tree-not_fails I Ends no_split (length I.ships) 0 root_lines marks s t q a.2 b)
   marks-same marks s t p q (inr a) (inr b) = record {
-    left = tree-unique I split Closing reason_by no_split (length I.ships) 0 root_lines marks s t a.2 b.2;
+    left = tree-unique I Ends no_split (length I.ships) 0 root_lines marks s t a.2 b.2;
     why = a.1 ∙ sym b.1;
   }
 
@@ -120,10 +121,10 @@ prices-same I prices u v p q a b =
       ]
     ]
 
--- two first failures are the same, of a certificate or an open one
-module _ {M : Type 0} (I : Instance) (split : M) (Closing : ℕ → List (List Group) → M → Type 0) (reason_by : M → Reason) (no_split : (k : ℕ) (lines : List (List Group)) → Closing k lines split → ⊥) (cost : ℕ) (cuts : List CertCut) (prices : List (List ℕ)) (plan : Plan) (tree : List M) where
+-- two first failures are the same
+module _ (I : Instance) (Ends : ℕ → List (List Group) → Mark → Type 0) (no_split : (k : ℕ) (lines : List (List Group)) → Ends k lines mark.Split → ⊥) (cost : ℕ) (cuts : List CertCut) (prices : List (List ℕ)) (plan : Plan) (tree : List Mark) where
   abbrev FailsFirst : FailurePlace → Reason → Type 0
-  FailsFirst = FailsAt I cost cuts prices plan tree (MarksFail I split Closing reason_by tree)
+  FailsFirst = FailsAt I cost cuts prices plan tree (MarksFail I Ends tree)
 
   pub failing-same : (p q : FailurePlace) (r s : Reason) → FailsFirst p r → FailsFirst q s → AreSameFailure p q r s
   failing-same place.Plan place.Plan r s a b = record { place = refl; reason = a.1 ∙ sym b.1 }
@@ -155,8 +156,5 @@ module _ {M : Type 0} (I : Instance) (split : M) (Closing : ℕ → List (List G
   failing-same (place.Tree m) (place.Cut d) r s a b = absurd (unproved-is I cuts d s b.2 (subst (IsProved I) b.2.is (a.2 d b.2.cut b.2.known)))
   failing-same (place.Tree m) (place.Prices v) r s a b = absurd (b.3.misshaped (subst (AreShapedPrices I) b.3.is (a.3 v b.3.own b.3.known)))
   failing-same (place.Tree m) (place.Tree n) r s a b =
-      let same = marks-same I split Closing reason_by no_split tree a.4 b.4 r s a.6 b.6 in
+      let same = marks-same I Ends no_split tree a.4 b.4 r s a.6 b.6 in
       record { place = ap place.Tree (a.5 ∙ ap (λ u. length tree - length u) same.left ∙ sym b.5); reason = same.why }
-
-pub fails-same : (I : Instance) (C : Certificate) (p q : FailurePlace) (r s : Reason) → Fails I C p r → Fails I C q s → AreSameFailure p q r s
-fails-same I C p q r s a b = failing-same I mark.Split (Closes I C.cost C.cuts C.prices) reason_of (λ k lines h. h) C.cost C.cuts C.prices C.plan C.tree p q r s a b

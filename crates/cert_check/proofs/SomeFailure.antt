@@ -1,4 +1,4 @@
--- A certificate that isn't accepted fails somewhere: it can't be that it neither is accepted nor fails.
+-- A certificate that doesn't stand fails somewhere: it can't be that it neither stands nor fails.
 use Rattle.std.proofs.Common.{◌≡◌, ℕ, zero, suc, ◌-◌, List, [], ◌∷◌, ◌++◌, refl, subst, length, take, append_assoc, length-append, ◌⊎◌, inl, inr, All, arith}
 use Rattle.std.proofs.Math.Seq.{take-append_seam, get_or-append_seam}
 use Rattle.std.proofs.lemmas.List.{append-nil}
@@ -10,6 +10,7 @@ use Rattle.lock_rules.specs.Node.{root_lines}
 use Rattle.lock_rules.specs.Children.{children_of}
 use Rattle.lock_rules.specs.Plan.{IsLegal, cost_of}
 use Rattle.refute_rules.specs.Trees.{AreInOrder}
+use Rattle.certificate_rules.specs.declared.certificate.Mark.{Mark}
 use Rattle.certificate_rules.specs.declared.certificate.Mark.TheVariants as mark
 use Rattle.certificate_rules.specs.declared.certificate.FailurePlace.{FailurePlace}
 use Rattle.certificate_rules.specs.declared.certificate.FailurePlace.TheVariants as place
@@ -17,8 +18,8 @@ use Rattle.certificate_rules.specs.declared.certificate.Reason.{Reason}
 use Rattle.certificate_rules.specs.declared.certificate.Reason.TheVariants as reason
 use Rattle.closing_rules.specs.ProvedCuts.{CertCut, IsShaped, IsProved}
 use Rattle.closing_rules.specs.ListedPrices.{AreShapedPrices}
-use Rattle.certificate_rules.specs.Certificates.{Certificate, Closes, IsMarkTree, Accepts}
-use Rattle.certificate_rules.specs.Failures.{FailInOrder, FailsHere, TreeFails, MarksFail, CutFails, PricesFail, FailsAt, reason_of, Fails}
+use Rattle.certificate_rules.specs.Certificates.{IsMarkTree}
+use Rattle.certificate_rules.specs.Failures.{FailInOrder, FailsHere, TreeFails, MarksFail, CutFails, PricesFail, FailsAt, reason_of}
 
 -- it can't be otherwise
 abbrev Must : Type 0 → Type 0
@@ -34,11 +35,11 @@ one-way : (A : Type 0) → Must (A ⊎ (A → ⊥))
 one-way A none = none (inr (λ a. none (inl a)))
 
 -- reading ends behind what is read, or sticks
-abbrev Ends : {M : Type 0} → (List M → Type 0) → (List M → Reason → Type 0) → Type 0
-Ends {M} Read Sticks = ((rest : List M) × Read rest) ⊎ ((stuck : List M) × (r : Reason) × Sticks stuck r)
+abbrev EndsOrSticks : {M : Type 0} → (List M → Type 0) → (List M → Reason → Type 0) → Type 0
+EndsOrSticks {M} Read Sticks = ((rest : List M) × Read rest) ⊎ ((stuck : List M) × (r : Reason) × Sticks stuck r)
 
 in_order-ends : {X M : Type 0} (Tree : X → List M → List M → Type 0) (Failing : X → List M → List M → Reason → Type 0)
-    → ((x : X) (m : List M) → Must (Ends (Tree x m) (Failing x m))) → (xs : List X) (m : List M) → Must (Ends (AreInOrder Tree xs m) (FailInOrder Tree Failing xs m))
+    → ((x : X) (m : List M) → Must (EndsOrSticks (Tree x m) (Failing x m))) → (xs : List X) (m : List M) → Must (EndsOrSticks (AreInOrder Tree xs m) (FailInOrder Tree Failing xs m))
 in_order-ends Tree Failing each [] m = must (inl (m, refl))
 in_order-ends Tree Failing each (x ∷ xs) m =
     next (each x m) (λ own. elim own [
@@ -50,34 +51,34 @@ in_order-ends Tree Failing each (x ∷ xs) m =
     ])
 
 -- the first mark closes, or reading ends there
-here-ends : {M : Type 0} (Closing : M → Type 0) (reason_by : M → Reason) (marks : List M)
-    → Must (((m : M) × (rest : List M) × Closing m × (marks ≡ m ∷ rest)) ⊎ ((stuck : List M) × (r : Reason) × FailsHere Closing reason_by marks stuck r))
-here-ends Closing reason_by [] = must (inr ([], reason.TreeShort, (refl, refl)))
-here-ends Closing reason_by (m ∷ ms) =
-    next (one-way (Closing m)) (λ own. elim own [
+here-ends : (Ends : Mark → Type 0) (marks : List Mark)
+    → Must (((m : Mark) × (rest : List Mark) × Ends m × (marks ≡ m ∷ rest)) ⊎ ((stuck : List Mark) × (r : Reason) × FailsHere Ends marks stuck r))
+here-ends Ends [] = must (inr ([], reason.TreeShort, (refl, refl)))
+here-ends Ends (m ∷ ms) =
+    next (one-way (Ends m)) (λ own. elim own [
       | inl closes ↦ must (inl (m, ms, closes, refl))
-      | inr open' ↦ must (inr (m ∷ ms, reason_by m, (refl, open', refl)))
+      | inr open' ↦ must (inr (m ∷ ms, reason_of m, (refl, open', refl)))
     ])
 
-module _ {M : Type 0} (I : Instance) (split : M) (Closing : ℕ → List (List Group) → M → Type 0) (reason_by : M → Reason) where
-  abbrev Tree : ℕ → ℕ → List (List Group) → List M → List M → Type 0
-  Tree = IsMarkTree I split Closing
+module _ (I : Instance) (Ends : ℕ → List (List Group) → Mark → Type 0) where
+  abbrev Tree : ℕ → ℕ → List (List Group) → List Mark → List Mark → Type 0
+  Tree = IsMarkTree I Ends
 
-  abbrev Failing : ℕ → ℕ → List (List Group) → List M → List M → Reason → Type 0
-  Failing = TreeFails I split Closing reason_by
+  abbrev Failing : ℕ → ℕ → List (List Group) → List Mark → List Mark → Reason → Type 0
+  Failing = TreeFails I Ends
 
-  tree-ends : (lacking k : ℕ) (lines : List (List Group)) (marks : List M) → Must (Ends (Tree lacking k lines marks) (Failing lacking k lines marks))
+  tree-ends : (lacking k : ℕ) (lines : List (List Group)) (marks : List Mark) → Must (EndsOrSticks (Tree lacking k lines marks) (Failing lacking k lines marks))
   tree-ends zero k lines marks =
-      next (here-ends (Closing k lines) reason_by marks) (λ first. elim first [
+      next (here-ends (Ends k lines) marks) (λ first. elim first [
         | inl a ↦ must (inl (a.1, (a.0, a.2, a.3)))
         | inr f ↦ must (inr (f.0, f.1, f.2))
       ])
   tree-ends (suc lacking) k lines marks =
-      next (here-ends (λ m. Closing k lines m ⊎ (m ≡ split)) reason_by marks) (λ first. elim first [
+      next (here-ends (λ m. Ends k lines m ⊎ (m ≡ mark.Split)) marks) (λ first. elim first [
         | inl a ↦ elim a.2 [
           | inl closes ↦ must (inl (a.1, inl (a.0, closes, a.3)))
           | inr same ↦
-              let front : marks ≡ split ∷ a.1 = subst (λ m. marks ≡ m ∷ a.1) same a.3 in
+              let front : marks ≡ mark.Split ∷ a.1 = subst (λ m. marks ≡ m ∷ a.1) same a.3 in
               next (in_order-ends (Tree lacking (suc k)) (Failing lacking (suc k)) (λ x m. tree-ends lacking (suc k) x m) (children_of I k lines) a.1) (λ inner. elim inner [
                 | inl b ↦ must (inl (b.0, inr (a.1, front, b.1)))
                 | inr b ↦ must (inr (b.0, b.1, inr (a.1, front, b.2)))
@@ -86,11 +87,11 @@ module _ {M : Type 0} (I : Instance) (split : M) (Closing : ℕ → List (List G
         | inr f ↦ must (inr (f.0, f.1, inl f.2))
       ])
 
-  left-over : (marks rest : List M) → Tree (length I.ships) 0 root_lines marks rest → Tree (length I.ships) 0 root_lines marks [] ⊎ ((stuck : List M) × (r : Reason) × MarksFail I split Closing reason_by marks stuck r)
+  left-over : (marks rest : List Mark) → Tree (length I.ships) 0 root_lines marks rest → Tree (length I.ships) 0 root_lines marks [] ⊎ ((stuck : List Mark) × (r : Reason) × MarksFail I Ends marks stuck r)
   left-over marks [] tree = inl tree
   left-over marks (m ∷ ms) tree = inr (m ∷ ms, reason.TreeLong, inr ((λ e. absurd cc), refl, tree))
 
-  marks-end : (marks : List M) → Must (Tree (length I.ships) 0 root_lines marks [] ⊎ ((stuck : List M) × (r : Reason) × MarksFail I split Closing reason_by marks stuck r))
+  marks-end : (marks : List Mark) → Must (Tree (length I.ships) 0 root_lines marks [] ⊎ ((stuck : List Mark) × (r : Reason) × MarksFail I Ends marks stuck r))
   marks-end marks =
       next (tree-ends (length I.ships) 0 root_lines marks) (λ read. elim read [
         | inl a ↦ must (left-over marks a.0 a.1)
@@ -144,13 +145,13 @@ prices-end I before (own ∷ us) shaped =
       | inr other ↦ must (inr (length before, reason.PricesShape, prices-fail I before us own shaped other))
     ])
 
--- what holds or fails is told whole, of a certificate or an open one
-module _ {M : Type 0} (I : Instance) (split : M) (Closing : ℕ → List (List Group) → M → Type 0) (reason_by : M → Reason) (cost : ℕ) (cuts : List CertCut) (prices : List (List ℕ)) (plan : Plan) (tree : List M) where
+-- what holds or fails is told whole
+module _ (I : Instance) (Ends : ℕ → List (List Group) → Mark → Type 0) (cost : ℕ) (cuts : List CertCut) (prices : List (List ℕ)) (plan : Plan) (tree : List Mark) where
   abbrev Holds : Type 0
-  Holds = IsLegal I plan × (cost_of I plan ≡ cost) × All (IsProved I) cuts × All (AreShapedPrices I) prices × IsMarkTree I split Closing (length I.ships) 0 root_lines tree []
+  Holds = IsLegal I plan × (cost_of I plan ≡ cost) × All (IsProved I) cuts × All (AreShapedPrices I) prices × IsMarkTree I Ends (length I.ships) 0 root_lines tree []
 
   abbrev FailsFirst : FailurePlace → Reason → Type 0
-  FailsFirst = FailsAt I cost cuts prices plan tree (MarksFail I split Closing reason_by tree)
+  FailsFirst = FailsAt I cost cuts prices plan tree (MarksFail I Ends tree)
 
   holds-or_fails : Must (Holds ⊎ ((p : FailurePlace) × (r : Reason) × FailsFirst p r))
   holds-or_fails =
@@ -162,7 +163,7 @@ module _ {M : Type 0} (I : Instance) (split : M) (Closing : ℕ → List (List G
             | inr f ↦ must (inr (place.Cut f.0, f.1, (legal, costs, f.2)))
             | inl proved ↦ next (prices-end I [] prices (All-nil (AreShapedPrices I))) (λ priced. elim priced [
               | inr f ↦ must (inr (place.Prices f.0, f.1, (legal, costs, proved, f.2)))
-              | inl shaped ↦ next (marks-end I split Closing reason_by tree) (λ marks. elim marks [
+              | inl shaped ↦ next (marks-end I Ends tree) (λ marks. elim marks [
                 | inl whole ↦ must (inl (legal, costs, proved, shaped, whole))
                 | inr f ↦ must (inr (place.Tree (length tree - length f.0), f.1, (legal, costs, proved, shaped, f.0, refl, f.2)))
               ])
@@ -178,9 +179,3 @@ module _ {M : Type 0} (I : Instance) (split : M) (Closing : ℕ → List (List G
         | inl good ↦ other good
         | inr f ↦ never f.0 f.1 f.2
       ])
-
--- a certificate that isn't accepted fails
-pub fails-somewhere : (I : Instance) (C : Certificate) → (Accepts I C → ⊥) → ((p : FailurePlace) (r : Reason) → Fails I C p r → ⊥) → ⊥
-fails-somewhere I C other never =
-    fails-first I mark.Split (Closes I C.cost C.cuts C.prices) reason_of C.cost C.cuts C.prices C.plan C.tree
-    (λ h. other (record { legal = h.0; cost = h.1; cuts = h.2; prices = h.3; tree = h.4 })) never

@@ -2,4 +2,5 @@ pub mod Splitting
 pub mod Reading
 pub mod Hitting
 pub mod Cuts
+pub mod Proven
 pub mod FirstFailure

@@ -4,8 +4,9 @@ use certificate_rules::{FailurePlace, Reason};
 /// What the checker says of a certificate.
 #[derive(Clone, Copy, PartialEq, Eq)]
 pub enum Answer {
-    /// It shows that its plan is cheapest; the plan costs this many minutes.
-    Accepted(u64),
+    /// It stands: its plan costs `cost` minutes, and every legal plan at least `low`. The two are equal
+    /// where it leaves no node open.
+    Stands { low: u64, cost: u64 },
     /// It doesn't, since it fails first at this place and for this reason.
     Rejected(FailurePlace, Reason),
 }

@@ -1,19 +1,22 @@
-//! The checker: the first failure of a certificate, if it has one.
-ghost use Rattle.std.specs.Prelude.{◌≡◌, ◌↔◌, ℕ, [], length, All, IsTrue, IfOk, IfNone, IfSome};
-ghost use Rattle.lock_rules.specs.Plan.{IsLegal, IsCheapest, cost_of};
-ghost use Rattle.lock_rules.specs.Node.{root_lines};
+//! The checker: whether a certificate stands, and its low, or its first failure.
+ghost use Rattle.std.specs.Prelude.{◌≡◌, ◌↔◌, ℕ, All, IsTrue, IfOk, IfErr, IfNone, IfSome};
+ghost use Rattle.lock_rules.specs.Plan.{IsLegal, cost_of};
+ghost use Rattle.lock_rules.specs.Node.{root};
 ghost use Rattle.closing_rules.specs.ProvedCuts.{IsProved};
-ghost use Rattle.certificate_rules.specs.Certificates.{Closes, IsMarkTree, Accepts};
+ghost use Rattle.certificate_rules.specs.Certificates.{Stands};
+ghost use Rattle.certificate_rules.specs.Low.{IsLow};
 ghost use Rattle.certificate_rules.specs.Failures.{Fails};
 ghost use Rattle.certificate_rules.specs.declared.certificate.FailurePlace.{FailurePlace as Place};
 ghost use Rattle.certificate_rules.specs.declared.certificate.Reason.{Reason as Why};
-ghost use Rattle.cert_check.specs.FirstFailure.{HoldBeforeMarks, FailBeforeMarks, FailAtMark};
+ghost use Rattle.cert_check.specs.FirstFailure.{HoldBeforeMarks, FailBeforeMarks, FailAtMark, IsLowOfMarks};
+ghost use Rattle.cert_check.specs.Proven.{IsProvenLow};
+ghost use Rattle.cert_check.specs.Reading.{IsStuck, IsReadLow};
 
 use crate::answers::Answer;
 use crate::closing::Claim;
 use crate::cuts::first_unproved;
 use crate::prices::{chamber_cuts, first_misshaped};
-use crate::reading::read_tree;
+use crate::reading::{Reading, read_tree};
 use crate::workspace::Workspace;
 use certificate_parts::{CertCuts, Certificate};
 use certificate_rules::{FailurePlace, Mark, Reason};
@@ -42,53 +45,10 @@ fn costs(instance: &Instance, plan: &Plan, wanted: u64) -> bool
     cost(instance, plan) == wanted
 }
 
-// The first failure of the marks, by the number of the mark where it comes. None where they are
-// one tree of the root.
-fn first_wrong_mark(
-    alloc: Global,
-    claim: &Claim,
-    marks: &[Mark],
-) -> Result<Option<(u64, Reason)>, NoMemory>
-    ensures none { IfOk result (λ first. IfNone first (IsMarkTree claim.now.instance.now Mark.Split (Closes claim.now.instance.now claim.now.cost claim.now.cuts.now claim.now.prices.now) (length claim.now.instance.now.ships) 0 root_lines marks.now [])) }
-    ensures some { IfOk result (λ first. IfSome first (λ f. FailAtMark claim.now.instance.now claim.now.cost claim.now.cuts.now claim.now.prices.now marks.now f.0 f.1)) }
-{
-    let mut space = Workspace::new(alloc);
-    match read_tree(claim, &root(claim.instance), marks, &mut space)? {
-        Ok([]) => Ok(None),
-        Ok(rest) => Ok(Some(((marks.len() - rest.len()) as u64, Reason::TreeLong))),
-        Err(stuck) => Ok(Some(((marks.len() - stuck.marks.len()) as u64, stuck.reason))),
-    }
-}
-
-// The first failure of the marks of a certificate whose cuts are proved.
-fn first_wrong_mark_of(
-    alloc: Global,
-    instance: &Instance,
-    certificate: &Certificate,
-) -> Result<Option<(u64, Reason)>, NoMemory>
-    requires { All (IsProved instance.now) certificate.now.cuts }
-    ensures none { IfOk result (λ first. IfNone first (IsMarkTree instance.now Mark.Split (Closes instance.now certificate.now.cost certificate.now.cuts certificate.now.prices) (length instance.now.ships) 0 root_lines certificate.now.tree [])) }
-    ensures some { IfOk result (λ first. IfSome first (λ f. FailAtMark instance.now certificate.now.cost certificate.now.cuts certificate.now.prices certificate.now.tree f.0 f.1)) }
-{
-    let roster = Roster::of(instance);
-    let cuts = certificate.cuts.as_slice();
-    let chamber_cuts = chamber_cuts(alloc, instance, cuts)?;
-    let claim = Claim {
-        instance,
-        roster: &roster,
-        throughput: throughput(instance),
-        cost: certificate.cost,
-        cuts,
-        prices: certificate.prices.as_slice(),
-        chamber_cuts: chamber_cuts.as_slice(),
-    };
-    first_wrong_mark(alloc, &claim, certificate.tree.as_slice())
-}
-
-/// The first failure of what comes before the marks of a certificate: its plan, then its cost in
-/// minutes, then its cuts in order, then its prices in order. None where the plan is legal and costs as
-/// much, each cut is proved, and each prices are one for each ship. Refuses want of memory alone.
-pub fn first_failure_before_marks(
+// The first failure of what comes before the marks of a certificate: its plan, then its cost in
+// minutes, then its cuts in order, then its prices in order. None where the plan is legal and costs as
+// much, each cut is proved, and each prices are one for each ship.
+fn first_failure_before_marks(
     alloc: Global,
     instance: &Instance,
     cost: u64,
@@ -114,14 +74,68 @@ pub fn first_failure_before_marks(
     Ok(None)
 }
 
-// The first failure of a certificate. None where it is accepted.
-fn first_failure(
+// The low of marks, or the number of the mark where they fail first, and why.
+type LowOrFailure = Result<u64, (u64, Reason)>;
+
+// Reads a tree of the root, with a workspace of its own.
+fn read_root<'m>(alloc: Global, claim: &Claim, marks: &'m [Mark]) -> Result<Reading<'m>, NoMemory>
+    ensures read { IfOk result (λ reading. IfOk reading (λ read. IsReadLow claim.now root claim.now.cost marks.now read.marks.now read.low)) }
+    ensures stuck { IfOk result (λ reading. IfErr reading (λ stuck. IsStuck claim.now root marks.now stuck.marks.now stuck.reason)) }
+{
+    let mut space = Workspace::new(alloc);
+    read_tree(claim, &root(claim.instance), claim.cost, marks, &mut space)
+}
+
+// The low of marks that are one tree of the root, or their first failure, by the number of the
+// mark where it comes.
+fn low_of_marks(alloc: Global, claim: &Claim, marks: &[Mark]) -> Result<LowOrFailure, NoMemory>
+    ensures low { IfOk result (λ told. IfOk told (IsLowOfMarks claim.now.instance.now claim.now.cost claim.now.cuts.now claim.now.prices.now marks.now)) }
+    ensures failure { IfOk result (λ told. IfErr told (λ f. FailAtMark claim.now.instance.now claim.now.cost claim.now.cuts.now claim.now.prices.now marks.now f.0 f.1)) }
+{
+    let read = match read_root(alloc, claim, marks)? {
+        Ok(read) => read,
+        Err(stuck) => return Ok(Err(((marks.len() - stuck.marks.len()) as u64, stuck.reason))),
+    };
+    if read.marks.is_empty() {
+        Ok(Ok(read.low))
+    } else {
+        Ok(Err(((marks.len() - read.marks.len()) as u64, Reason::TreeLong)))
+    }
+}
+
+// The same of the marks of a certificate whose cuts are proved.
+fn low_of(
     alloc: Global,
     instance: &Instance,
     certificate: &Certificate,
-) -> Result<Option<(FailurePlace, Reason)>, NoMemory>
-    ensures none { IfOk result (λ first. IfNone first (Accepts instance.now certificate.now)) }
-    ensures some { IfOk result (λ first. IfSome first (λ f. Fails instance.now certificate.now f.0 f.1)) }
+) -> Result<LowOrFailure, NoMemory>
+    requires { All (IsProved instance.now) certificate.now.cuts }
+    ensures low { IfOk result (λ told. IfOk told (IsLowOfMarks instance.now certificate.now.cost certificate.now.cuts certificate.now.prices certificate.now.tree)) }
+    ensures failure { IfOk result (λ told. IfErr told (λ f. FailAtMark instance.now certificate.now.cost certificate.now.cuts certificate.now.prices certificate.now.tree f.0 f.1)) }
+{
+    let roster = Roster::of(instance);
+    let cuts = certificate.cuts.as_slice();
+    let chamber_cuts = chamber_cuts(alloc, instance, cuts)?;
+    let claim = Claim {
+        instance,
+        roster: &roster,
+        throughput: throughput(instance),
+        cost: certificate.cost,
+        cuts,
+        prices: certificate.prices.as_slice(),
+        chamber_cuts: chamber_cuts.as_slice(),
+    };
+    low_of_marks(alloc, &claim, certificate.tree.as_slice())
+}
+
+// The low of a certificate that stands, or its first failure.
+fn low_or_failure(
+    alloc: Global,
+    instance: &Instance,
+    certificate: &Certificate,
+) -> Result<Result<u64, (FailurePlace, Reason)>, NoMemory>
+    ensures ok { IfOk result (λ told. IfOk told (λ low. Stands instance.now certificate.now × IsLow instance.now certificate.now low)) }
+    ensures err { IfOk result (λ told. IfErr told (λ f. Fails instance.now certificate.now f.0 f.1)) }
 {
     let Certificate {
         cost,
@@ -132,33 +146,38 @@ fn first_failure(
     } = certificate;
     let prices = prices.as_slice();
     if let Some(first) = first_failure_before_marks(alloc, instance, *cost, cuts, prices, plan)? {
-        return Ok(Some(first));
+        return Ok(Err(first));
     }
-    if let Some((number, reason)) = first_wrong_mark_of(alloc, instance, certificate)? {
-        return Ok(Some((FailurePlace::Tree(number), reason)));
+    match low_of(alloc, instance, certificate)? {
+        Ok(low) => Ok(Ok(low)),
+        Err((number, reason)) => Ok(Err((FailurePlace::Tree(number), reason))),
     }
-    Ok(None)
 }
 
 /// Checks a certificate of an instance without any search: its plan, then its cost, then its cuts
-/// in order, then its prices in order, then its marks in order, each mark once.
+/// in order, then its prices in order, then its marks in order, each mark once. An open leaf ends its
+/// node.
 ///
-/// `Accepted` exactly where the certificate is accepted; then its plan is legal, costs as much, and
-/// no legal plan costs less. `Rejected` exactly with the first place and reason at which it fails.
-/// Places are numbered from 0. Refuses want of memory alone.
+/// `Stands` exactly where the certificate stands, with its low and its cost in minutes; then its plan is
+/// legal and costs as much, and every legal plan costs at least the low. Where it leaves no node open as
+/// well, it is accepted: the low is the cost, and no legal plan costs less. `Rejected` exactly with the
+/// first place and reason at which it fails. Places are numbered from 0. Refuses want of memory alone.
 pub fn check(
     alloc: Global,
     instance: &Instance,
     certificate: &Certificate,
 ) -> Result<Answer, NoMemory>
-    ensures accepted { IfOk result (λ answer. (cost : ℕ) → (answer ≡ Answer.Accepted cost) ↔ (Accepts instance.now certificate.now × (cost ≡ certificate.now.cost))) }
+    ensures stands { IfOk result (λ answer. (low cost : ℕ) → (answer ≡ Answer.Stands low cost) ↔ (Stands instance.now certificate.now × IsLow instance.now certificate.now low × (cost ≡ certificate.now.cost))) }
     ensures rejected { IfOk result (λ answer. (place : Place) (why : Why) → (answer ≡ Answer.Rejected place why) ↔ Fails instance.now certificate.now place why) }
-    ensures cheapest { IfOk result (λ answer. (cost : ℕ) → answer ≡ Answer.Accepted cost → IsCheapest instance.now certificate.now.plan × (cost_of instance.now certificate.now.plan ≡ cost)) }
+    ensures proves { IfOk result (λ answer. (low cost : ℕ) → answer ≡ Answer.Stands low cost → IsProvenLow instance.now certificate.now.plan low cost) }
 {
     heredity();
     normal_form();
-    match first_failure(alloc, instance, certificate)? {
-        None => Ok(Answer::Accepted(certificate.cost)),
-        Some((place, reason)) => Ok(Answer::Rejected(place, reason)),
+    match low_or_failure(alloc, instance, certificate)? {
+        Ok(low) => Ok(Answer::Stands {
+            low,
+            cost: certificate.cost,
+        }),
+        Err((place, reason)) => Ok(Answer::Rejected(place, reason)),
     }
 }

@@ -1,4 +1,4 @@
-//! Which marks close a node.
+//! Which marks end a node: those that close it, and open leaves.
 ghost use Rattle.std.specs.Prelude.{◌≡◌, ◌<◌, ◌≤◌, ◌↔◌, length, All, IsTrue, IfOk};
 ghost use Rattle.std.specs.Bool.{OnTrue};
 ghost use Rattle.lock_rules.specs.Throughput.{throughput_of};
@@ -8,7 +8,7 @@ ghost use Rattle.lock_rules.specs.Arrival.{next_ship};
 ghost use Rattle.flow_bounds.specs.Roster.{IsRosterOf};
 ghost use Rattle.price_terms.specs.Cuts.{plain_cuts};
 ghost use Rattle.closing_rules.specs.ProvedCuts.{IsShaped};
-ghost use Rattle.certificate_rules.specs.Certificates.{IsCutBy, cuts_in, Closes};
+ghost use Rattle.certificate_rules.specs.Certificates.{IsCutBy, cuts_in, EndsNode};
 ghost use Rattle.certificate_rules.specs.Failures.{ground_reason, reason_of};
 
 use crate::hitting::hits_node;
@@ -23,22 +23,22 @@ use no_memory::NoMemory;
 use price_bound::{PricedNode, reaches};
 use price_terms::{ChamberCut, Limits, Prices};
 
-/// What the marks of a certificate are held against: the instance, its roster and its throughput, and
-/// the cost in minutes, the prices and the cuts of the certificate, each cut about a chamber and ships
-/// of the instance, and the cuts as prices see them.
+// What the marks of a certificate are held against: the instance, its roster and its throughput, and
+// the cost in minutes, the prices and the cuts of the certificate, each cut about a chamber and ships
+// of the instance, and the cuts as prices see them.
 #[derive(Drop)]
-pub struct Claim<'c> {
-    pub instance: &'c Instance,
-    pub roster: &'c Roster,
-    pub throughput: u64,
-    pub cost: u64,
-    pub cuts: &'c [CertCut],
-    pub prices: &'c [Prices],
-    pub chamber_cuts: &'c [ChamberCut],
-    pub ghost rostered: { IsRosterOf instance.now roster.now },
-    pub ghost told: { throughput ≡ throughput_of instance.now },
-    pub ghost shaped: { All (IsShaped instance.now) cuts.now },
-    pub ghost same_cuts: { plain_cuts instance.now chamber_cuts.now ≡ cuts_in instance.now cuts.now },
+pub(crate) struct Claim<'c> {
+    pub(crate) instance: &'c Instance,
+    pub(crate) roster: &'c Roster,
+    pub(crate) throughput: u64,
+    pub(crate) cost: u64,
+    pub(crate) cuts: &'c [CertCut],
+    pub(crate) prices: &'c [Prices],
+    pub(crate) chamber_cuts: &'c [ChamberCut],
+    pub(crate) ghost rostered: { IsRosterOf instance.now roster.now },
+    pub(crate) ghost told: { throughput ≡ throughput_of instance.now },
+    pub(crate) ghost shaped: { All (IsShaped instance.now) cuts.now },
+    pub(crate) ghost same_cuts: { plain_cuts instance.now chamber_cuts.now ≡ cuts_in instance.now cuts.now },
 }
 
 // Whether there is a cut of this number, and it hits a group of the node.
@@ -81,7 +81,7 @@ fn all_reach(claim: &Claim, node: &Node, ship: u8, space: &mut Workspace) -> boo
 // the roster spares work, and nearly all that are asked for are that one.
 fn is_probed(claim: &Claim, node: &Node, ship: u8, space: &mut Workspace) -> bool
     requires { IsNodeOf claim.now.instance.now node.now }
-    ensures { IsTrue result ↔ Closes claim.now.instance.now claim.now.cost claim.now.cuts.now claim.now.prices.now node.now.depth node.now.lines (Mark.Leaf (Ground.Probe ship)) }
+    ensures { IsTrue result ↔ EndsNode claim.now.instance.now claim.now.cost claim.now.cuts.now claim.now.prices.now node.now.depth node.now.lines (Mark.Leaf (Ground.Probe ship)) }
 {
     if is_next(claim, node, ship) {
         return all_reach(claim, node, ship, space);
@@ -103,7 +103,7 @@ fn is_priced_by(
     space: &mut Workspace,
 ) -> Result<bool, NoMemory>
     requires { IsNodeOf claim.now.instance.now node.now }
-    ensures { IfOk result (λ priced. IsTrue priced ↔ Closes claim.now.instance.now claim.now.cost claim.now.cuts.now claim.now.prices.now node.now.depth node.now.lines (Mark.Leaf (Ground.Price number))) }
+    ensures { IfOk result (λ priced. IsTrue priced ↔ EndsNode claim.now.instance.now claim.now.cost claim.now.cuts.now claim.now.prices.now node.now.depth node.now.lines (Mark.Leaf (Ground.Price number))) }
 {
     if number >= claim.prices.len() as u64 {
         return Ok(false);
@@ -128,7 +128,7 @@ fn is_closed_by(
     space: &mut Workspace,
 ) -> Result<bool, NoMemory>
     requires { IsNodeOf claim.now.instance.now node.now }
-    ensures { IfOk result (λ closed. IsTrue closed ↔ Closes claim.now.instance.now claim.now.cost claim.now.cuts.now claim.now.prices.now node.now.depth node.now.lines (Mark.Leaf why)) }
+    ensures { IfOk result (λ closed. IsTrue closed ↔ EndsNode claim.now.instance.now claim.now.cost claim.now.cuts.now claim.now.prices.now node.now.depth node.now.lines (Mark.Leaf why)) }
 {
     match why {
         Ground::Bound => Ok(bound(claim.instance, node) >= claim.cost),
@@ -139,19 +139,21 @@ fn is_closed_by(
     }
 }
 
-/// Whether a mark closes the node. Refuses want of memory alone, and only of a price mark.
-pub fn closes(
+// Whether a mark ends the node: it closes it, or leaves it open. Refuses want of memory alone, and
+// only of a price mark.
+pub(crate) fn ends(
     claim: &Claim,
     node: &Node,
     mark: Mark,
     space: &mut Workspace,
 ) -> Result<bool, NoMemory>
     requires { IsNodeOf claim.now.instance.now node.now }
-    ensures { IfOk result (λ closed. IsTrue closed ↔ Closes claim.now.instance.now claim.now.cost claim.now.cuts.now claim.now.prices.now node.now.depth node.now.lines mark) }
+    ensures { IfOk result (λ ended. IsTrue ended ↔ EndsNode claim.now.instance.now claim.now.cost claim.now.cuts.now claim.now.prices.now node.now.depth node.now.lines mark) }
 {
     match mark {
         Mark::Split => Ok(false),
         Mark::Leaf(why) => is_closed_by(claim, node, why, space),
+        Mark::Open => Ok(true),
     }
 }
 
@@ -168,12 +170,13 @@ fn reason_by(why: Ground) -> Reason
     }
 }
 
-/// Why a mark that should close a node doesn't; a split is wrong where no ship is lacking.
-pub fn reason_against(mark: Mark) -> Reason
+// Why a mark that should end a node doesn't; a split is wrong where no ship is lacking, and an open
+// leaf never.
+pub(crate) fn reason_against(mark: Mark) -> Reason
     ensures { result ≡ reason_of mark }
 {
     match mark {
-        Mark::Split => Reason::SplitFull,
+        Mark::Split | Mark::Open => Reason::SplitFull,
         Mark::Leaf(why) => reason_by(why),
     }
 }

@@ -1,21 +1,19 @@
-//! The checker of certificates: whether a plan is cheapest, told without any search.
+//! The checker of certificates, whole and open: how much less any plan may cost, told without any
+//! search.
 //!
-//! `check` answers `Accepted` exactly where the certificate is
-//! accepted; then its plan is legal, has this cost, and no legal plan costs less. Else it answers
-//! `Rejected` with the first place and reason at which the certificate fails, and only want of memory
-//! keeps it from an answer. `one_first_failure` is the law that a certificate that isn't accepted fails
-//! first at one place for one reason. The marks are read once along their tree, and the code shares
-//! nothing with the search but definitions.
+//! `check` answers `Stands` exactly where the certificate stands, with its low and its cost: its plan is
+//! legal and has this cost, and no legal plan costs less than the low, which is the least of the cost
+//! and the bounds of the open leaves. So where no node is left open, the plan is cheapest. Else it
+//! answers `Rejected` with the first place and reason at which the certificate fails, and only want of
+//! memory keeps it from an answer. `one_first_failure` is the law that a certificate that doesn't stand
+//! fails first at one place for one reason. The marks are read once along their tree, and the code
+//! shares nothing with the search but definitions.
 //!
-//! The parts of the check serve checkers of other certificates: `first_failure_before_marks` (the
-//! plan, the cost, the cuts and the prices), and against a `Claim`, with `chamber_cuts` for it,
-//! `closes` and `reason_against` (one mark at a node), `split`, `count_children`, `child_reaches` and
-//! `child_of` (the children of a node).
-//!
-//! Definitions: `certificate_rules` says which certificates are accepted (`specs/Certificates`)
-//! and where one fails first (`Failures`). Here `specs/Cuts` says what is wrong with a cut,
-//! `Hitting` what a cut hits line by line, `Splitting` what is told of a node that is split, `Reading`
-//! what is read of a node and of its children, and `FirstFailure` what the law is.
+//! Definitions: `certificate_rules` says which certificates stand and which of them are accepted
+//! (`specs/Certificates`), what the low is (`Low`) and where one fails first (`Failures`). Here `Proven`
+//! says what a certificate proves, and `FirstFailure` what the law is. Of private functions `Cuts` says
+//! what is wrong with a cut, `Hitting` what a cut hits line by line, `Splitting` what is told of a node
+//! that is split, and `Reading` what is read of a node and of its children.
 #![tactic(auto)]
 
 mod answers;
@@ -31,9 +29,5 @@ mod workspace;
 
 pub use answers::Answer;
 pub use certificate_rules::{FailurePlace, Reason};
-pub use checking::{check, first_failure_before_marks};
-pub use closing::{Claim, closes, reason_against};
+pub use checking::check;
 pub use laws::one_first_failure;
-pub use prices::chamber_cuts;
-pub use splitting::{SplitNode, child_of, child_reaches, count_children, split};
-pub use workspace::Workspace;

@@ -25,9 +25,9 @@ pub(crate) fn first_misshaped(instance: &Instance, prices: &[Prices]) -> Option<
     None
 }
 
-/// The chamber and the ships of each cut of an instance: what prices see of it. Refuses want of
-/// memory alone.
-pub fn chamber_cuts(
+// The chamber and the ships of each cut of an instance: what prices see of it. Refuses want of
+// memory alone.
+pub(crate) fn chamber_cuts(
     alloc: Global,
     instance: &Instance,
     cuts: &[CertCut],

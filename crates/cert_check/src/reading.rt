@@ -1,17 +1,28 @@
 //! The marks of a certificate, read once along its tree.
-ghost use Rattle.std.specs.Prelude.{◌≡◌, ◌+◌, ◌<◌, ◌≤◌, ◌↔◌, [], ◌∷◌, length, Some, IsTrue, IfOk, IfErr, IfNone, IfSome};
+ghost use Rattle.std.specs.Prelude.{◌≡◌, ◌<◌, ◌↔◌, [], ◌∷◌, length, IsTrue, IfOk, IfErr, IfNone, IfSome};
+ghost use Rattle.lock_rules.specs.Bound.{bound_of, least_number};
 ghost use Rattle.master_branch.specs.Node.{IsNodeOf, children};
-ghost use Rattle.cert_check.specs.Reading.{whole_kind, IsRead, IsStuck, IsChildRead, IsChildStuck, AreRead, AreStuck};
+ghost use Rattle.certificate_rules.specs.Low.{leaf_bounds};
 ghost use Rattle.cert_check.specs.Splitting.{IsSplit};
+ghost use Rattle.cert_check.specs.Reading.{IsStuck, IsChildStuck, AreStuck, IsReadLow, IsChildReadLow, AreReadLow};
 
-use crate::closing::{Claim, closes, reason_against};
+use crate::closing::{Claim, ends, reason_against};
 use crate::splitting::{SplitNode, child_of, child_reaches, count_children, split};
 use crate::workspace::Workspace;
-use certificate_rules::{Mark, Reason};
-use closing_rules::Ground;
+use certificate_parts::{Ground, Mark};
+use certificate_rules::Reason;
+use flow_bounds::bound;
 use lock_model::Instance;
 use master_branch::Node;
 use no_memory::NoMemory;
+
+// What was read: the marks behind it, and the least of the bounds of the open leaves so far and of
+// the number that reading began with.
+#[derive(Drop)]
+pub(crate) struct Read<'m> {
+    pub(crate) marks: &'m [Mark],
+    pub(crate) low: u64,
+}
 
 // Where reading ends before its time: the marks that are left there, and why.
 #[derive(Drop)]
@@ -20,8 +31,8 @@ pub(crate) struct Stuck<'m> {
     pub(crate) reason: Reason,
 }
 
-// The marks behind a tree, or where reading it ends before its time.
-pub(crate) type Reading<'m> = Result<&'m [Mark], Stuck<'m>>;
+// What was read, or where reading ended before its time.
+pub(crate) type Reading<'m> = Result<Read<'m>, Stuck<'m>>;
 
 // The first mark and those behind it.
 fn first_mark(marks: &[Mark]) -> Option<(Mark, &[Mark])>
@@ -51,86 +62,107 @@ fn splits(instance: &Instance, node: &Node, mark: Mark) -> bool
     mark == Mark::Split && (node.depth() as usize) < instance.ships.as_slice().len()
 }
 
+// The lesser of a number and the bound of the node, where the mark leaves it open.
+fn lowered(instance: &Instance, node: &Node, mark: Mark, low: u64) -> u64
+    requires { IsNodeOf instance.now node.now }
+    ensures { result ≡ least_number (low ∷ leaf_bounds (bound_of instance.now node.now.depth node.now.lines) mark) }
+{
+    match mark {
+        Mark::Open => low.min(bound(instance, node)),
+        _ => low,
+    }
+}
+
 // Reads a tree of child `i` of a split node, which is made for it.
 #[cycle(tree)]
 fn read_made_child<'m>(
     claim: &Claim,
     parent: &SplitNode<'_>,
     i: u32,
+    low: u64,
     marks: &'m [Mark],
     space: &mut Workspace,
 ) -> Result<Reading<'m>, NoMemory>
     requires split { IsSplit claim.now parent.now }
     requires within { i < length (children claim.now.instance.now parent.now.node.now) }
-    ensures read { IfOk result (λ reading. IfOk reading (λ rest. IsChildRead (whole_kind claim.now) parent.now.node.now i marks.now rest.now)) }
-    ensures stuck { IfOk result (λ reading. IfErr reading (λ stuck. IsChildStuck (whole_kind claim.now) parent.now.node.now i marks.now stuck.marks.now stuck.reason)) }
+    ensures read { IfOk result (λ reading. IfOk reading (λ read. IsChildReadLow claim.now parent.now.node.now i low marks.now read.marks.now read.low)) }
+    ensures stuck { IfOk result (λ reading. IfErr reading (λ stuck. IsChildStuck claim.now parent.now.node.now i marks.now stuck.marks.now stuck.reason)) }
 {
-    read_tree(claim, &child_of(claim, parent, i), marks, space)
+    read_tree(claim, &child_of(claim, parent, i), low, marks, space)
 }
 
-// Reads a tree of child `i` of a split node: the marks behind it. The child isn't made where its
-// bound closes it, and no room for it is taken then.
+// Reads a tree of child `i` of a split node. The child isn't made where its bound closes it, and no
+// room for it is taken then.
 #[cycle(tree)]
 fn read_child<'m>(
     claim: &Claim,
     parent: &SplitNode<'_>,
     i: u32,
+    low: u64,
     marks: &'m [Mark],
     space: &mut Workspace,
 ) -> Result<Reading<'m>, NoMemory>
     requires split { IsSplit claim.now parent.now }
     requires within { i < length (children claim.now.instance.now parent.now.node.now) }
-    ensures read { IfOk result (λ reading. IfOk reading (λ rest. IsChildRead (whole_kind claim.now) parent.now.node.now i marks.now rest.now)) }
-    ensures stuck { IfOk result (λ reading. IfErr reading (λ stuck. IsChildStuck (whole_kind claim.now) parent.now.node.now i marks.now stuck.marks.now stuck.reason)) }
+    ensures read { IfOk result (λ reading. IfOk reading (λ read. IsChildReadLow claim.now parent.now.node.now i low marks.now read.marks.now read.low)) }
+    ensures stuck { IfOk result (λ reading. IfErr reading (λ stuck. IsChildStuck claim.now parent.now.node.now i marks.now stuck.marks.now stuck.reason)) }
 {
     if let Some(rest) = behind_bound(marks) {
         if child_reaches(claim, parent, i) {
-            return Ok(Ok(rest));
+            return Ok(Ok(Read { marks: rest, low }));
         }
         return Ok(Err(Stuck {
             marks,
             reason: Reason::BoundLow,
         }));
     }
-    read_made_child(claim, parent, i, marks, space)
+    read_made_child(claim, parent, i, low, marks, space)
 }
 
-// Reads trees of all children of a node: the marks behind them.
+// Reads trees of all children of a node.
 #[cycle(tree)]
 fn read_children<'m>(
     claim: &Claim,
     node: &Node,
+    low: u64,
     marks: &'m [Mark],
     space: &mut Workspace,
 ) -> Result<Reading<'m>, NoMemory>
     requires node { IsNodeOf claim.now.instance.now node.now }
     requires lacks { node.now.depth < length claim.now.instance.now.ships }
-    ensures read { IfOk result (λ reading. IfOk reading (λ rest. AreRead (whole_kind claim.now) node.now (length (children claim.now.instance.now node.now)) marks.now rest.now)) }
-    ensures stuck { IfOk result (λ reading. IfErr reading (λ stuck. AreStuck (whole_kind claim.now) node.now marks.now stuck.marks.now stuck.reason)) }
+    ensures read { IfOk result (λ reading. IfOk reading (λ read. AreReadLow claim.now node.now (length (children claim.now.instance.now node.now)) low marks.now read.marks.now read.low)) }
+    ensures stuck { IfOk result (λ reading. IfErr reading (λ stuck. AreStuck claim.now node.now marks.now stuck.marks.now stuck.reason)) }
 {
     let parent = split(claim, node, &mut space.walks);
     let mut rest = marks;
+    let mut least = low;
     for i in 0..count_children(claim, &parent) {
-        match read_child(claim, &parent, i, rest, space)? {
-            Ok(behind) => rest = behind,
+        match read_child(claim, &parent, i, least, rest, space)? {
+            Ok(read) => {
+                rest = read.marks;
+                least = read.low;
+            }
             Err(stuck) => return Ok(Err(stuck)),
         }
     }
-    Ok(Ok(rest))
+    Ok(Ok(Read {
+        marks: rest,
+        low: least,
+    }))
 }
 
-// Reads a tree of a node: the marks behind it. It calls itself no deeper than the instance has
-// ships.
+// Reads a tree of a node. It calls itself no deeper than the instance has ships.
 #[cycle(tree)]
 pub(crate) fn read_tree<'m>(
     claim: &Claim,
     node: &Node,
+    low: u64,
     marks: &'m [Mark],
     space: &mut Workspace,
 ) -> Result<Reading<'m>, NoMemory>
     requires { IsNodeOf claim.now.instance.now node.now }
-    ensures read { IfOk result (λ reading. IfOk reading (λ rest. IsRead (whole_kind claim.now) node.now marks.now rest.now)) }
-    ensures stuck { IfOk result (λ reading. IfErr reading (λ stuck. IsStuck (whole_kind claim.now) node.now marks.now stuck.marks.now stuck.reason)) }
+    ensures read { IfOk result (λ reading. IfOk reading (λ read. IsReadLow claim.now node.now low marks.now read.marks.now read.low)) }
+    ensures stuck { IfOk result (λ reading. IfErr reading (λ stuck. IsStuck claim.now node.now marks.now stuck.marks.now stuck.reason)) }
 {
     let Some((mark, rest)) = first_mark(marks) else {
         return Ok(Err(Stuck {
@@ -139,10 +171,13 @@ pub(crate) fn read_tree<'m>(
         }));
     };
     if splits(claim.instance, node, mark) {
-        return read_children(claim, node, rest, space);
+        return read_children(claim, node, low, rest, space);
     }
-    if closes(claim, node, mark, space)? {
-        return Ok(Ok(rest));
+    if ends(claim, node, mark, space)? {
+        return Ok(Ok(Read {
+            marks: rest,
+            low: lowered(claim.instance, node, mark, low),
+        }));
     }
     Ok(Err(Stuck {
         marks,

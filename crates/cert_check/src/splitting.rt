@@ -8,18 +8,18 @@ use crate::closing::Claim;
 use flow_bounds::{NodeWalks, Reached, children_reaching};
 use master_branch::{Node, Steps, steps_by, take_step};
 
-/// A node whose children are read: the ship that it lacks first, the steps by which that ship enters
-/// it, listed once for all children, and which of their bounds reach the cost.
+// A node whose children are read: the ship that it lacks first, the steps by which that ship enters
+// it, listed once for all children, and which of their bounds reach the cost.
 #[derive(Drop)]
-pub struct SplitNode<'n> {
+pub(crate) struct SplitNode<'n> {
     node: &'n Node,
     ship: u8,
     steps: Steps,
     reached: Reached,
 }
 
-/// A node that is split, ready for its children.
-pub fn split<'n>(claim: &Claim, node: &'n Node, walks: &mut NodeWalks) -> SplitNode<'n>
+// A node that is split, ready for its children.
+pub(crate) fn split<'n>(claim: &Claim, node: &'n Node, walks: &mut NodeWalks) -> SplitNode<'n>
     requires node { IsNodeOf claim.now.instance.now node.now }
     requires lacks { node.now.depth < length claim.now.instance.now.ships }
     ensures split { IsSplit claim.now result }
@@ -37,8 +37,8 @@ pub fn split<'n>(claim: &Claim, node: &'n Node, walks: &mut NodeWalks) -> SplitN
     }
 }
 
-/// How many children a split node has.
-pub fn count_children(claim: &Claim, parent: &SplitNode<'_>) -> u32
+// How many children a split node has.
+pub(crate) fn count_children(claim: &Claim, parent: &SplitNode<'_>) -> u32
     requires { IsSplit claim.now parent.now }
     ensures { result ≡ length (children claim.now.instance.now parent.now.node.now) }
 {
@@ -46,8 +46,8 @@ pub fn count_children(claim: &Claim, parent: &SplitNode<'_>) -> u32
     parent.steps.as_slice().len() as u32
 }
 
-/// Whether the bound of child `i` of a split node reaches the cost.
-pub fn child_reaches(claim: &Claim, parent: &SplitNode<'_>, i: u32) -> bool
+// Whether the bound of child `i` of a split node reaches the cost.
+pub(crate) fn child_reaches(claim: &Claim, parent: &SplitNode<'_>, i: u32) -> bool
     requires split { IsSplit claim.now parent.now }
     requires within { i < length (children claim.now.instance.now parent.now.node.now) }
     ensures { IsTrue result ↔ (claim.now.cost ≤ bound_of claim.now.instance.now (parent.now.node.now.depth + 1) (child_lines claim.now.instance.now parent.now.node.now i)) }
@@ -56,8 +56,8 @@ pub fn child_reaches(claim: &Claim, parent: &SplitNode<'_>, i: u32) -> bool
     parent.reached.as_slice()[i as usize]
 }
 
-/// Child `i` of a split node, made for it.
-pub fn child_of(claim: &Claim, parent: &SplitNode<'_>, i: u32) -> Node
+// Child `i` of a split node, made for it.
+pub(crate) fn child_of(claim: &Claim, parent: &SplitNode<'_>, i: u32) -> Node
     requires split { IsSplit claim.now parent.now }
     requires within { i < length (children claim.now.instance.now parent.now.node.now) }
     ensures depth { result.depth ≡ parent.now.node.now.depth + 1 }

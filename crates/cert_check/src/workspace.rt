@@ -4,17 +4,17 @@ use flow_bounds::NodeWalks;
 use price_bound::KeptLines;
 use std::alloc::Global;
 
-/// Room for walks along the lines of a node, and least lines that are kept for the next price marks.
-/// Both help speed alone.
+// Room for walks along the lines of a node, and least lines that are kept for the next price marks.
+// Both help speed alone.
 #[derive(Drop)]
-pub struct Workspace {
-    pub walks: NodeWalks,
-    pub kept: KeptLines,
+pub(crate) struct Workspace {
+    pub(crate) walks: NodeWalks,
+    pub(crate) kept: KeptLines,
 }
 
 impl Workspace {
-    /// Nothing is kept yet.
-    pub fn new(alloc: Global) -> Workspace {
+    // Nothing is kept yet.
+    pub(crate) fn new(alloc: Global) -> Workspace {
         Workspace {
             walks: NodeWalks::new(),
             kept: KeptLines::new(alloc),

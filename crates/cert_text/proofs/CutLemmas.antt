@@ -5,7 +5,7 @@ use Rattle.refute_rules.specs.Why.{why_of}
 use Rattle.refute_rules.specs.declared.refutation.Refutation.{Refutation}
 use Rattle.closing_rules.specs.ProvedCuts.{CertCut}
 use Rattle.cert_text.specs.Fields.{number_data, numbers_data, byte_in}
-use Rattle.cert_text.specs.Crew.{ships_in}
+use Rattle.cert_text.specs.Ships.{ships_in}
 use Rattle.cert_text.specs.Cuts.{cut_data, cut_in, why_in}
 
 record_back : (c : CertCut) → byte_in (number_data c.chamber) ≡ Some c.chamber → ships_in (numbers_data c.ships) ≡ Some c.ships → why_in (numbers_data (why_of c.refutation)) ≡ Some c.refutation → cut_in (cut_data c) ≡ Some c

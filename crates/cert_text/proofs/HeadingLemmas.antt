@@ -8,11 +8,13 @@ use Rattle.line_text.proofs.LeftLemmas.{joined}
 use Rattle.line_text.proofs.AppendLemmas.{lines-append, join-lines}
 use Rattle.line_text.specs.Filled.{first_line}
 use Rattle.cert_text.specs.Heading.{with_rest, heading_of, headed}
-use Rattle.cert_text.specs.Dossier.{heading_line}
+use Rattle.cert_text.specs.Dossier.{heading_line, version_under}
+use Rattle.cert_text.specs.declared.heading.Form.{Form}
+use Rattle.cert_text.specs.declared.heading.Form.TheVariants as form
 use Rattle.cert_text.specs.declared.heading.Version.{Version}
 use Rattle.cert_text.specs.declared.heading.Version.TheVariants.{First, Second, Third}
 use Rattle.cert_text.specs.declared.heading.Heading.{Heading}
-use Rattle.cert_text.specs.declared.heading.Heading.TheVariants.{Whole}
+use Rattle.cert_text.specs.declared.heading.Heading.TheVariants.{Whole, Open}
 
 -- the first line has words
 on_line : (line : List ℕ) (more : List (List ℕ)) → (length (words line) == 0) ≡ false → first_line 0 (line ∷ more) ≡ Ok (record { number = 1; line = line; more = more })
@@ -63,7 +65,7 @@ unfolding lines
 lines_of_third = refl
 
 -- a text that begins with a heading
-pub begins : (text line rest : List ℕ) (ws : List (List ℕ)) (h : Heading) → lines line ≡ line ∷ [] → words line ≡ ws → (length ws == 0) ≡ false → heading_of ws ≡ Some h → text ≡ line ++ 10 ∷ rest → headed text ≡ Some (h, rest)
+begins : (text line rest : List ℕ) (ws : List (List ℕ)) (h : Heading) → lines line ≡ line ∷ [] → words line ≡ ws → (length ws == 0) ≡ false → heading_of ws ≡ Some h → text ≡ line ++ 10 ∷ rest → headed text ≡ Some (h, rest)
 unfolding headed
 begins text line rest ws h one is some heading whole =
     ap (λ t. with_rest (first_line 0 (lines t))) whole
@@ -72,8 +74,61 @@ begins text line rest ws h one is some heading whole =
     ∙ ap (option_map (λ g. (g, join_with_byte 10 (lines rest)))) (ap heading_of is ∙ heading)
     ∙ ap (λ r. Some (h, r)) (join-lines rest)
 
--- the heading that is printed is found
-pub heading_back : (version : Version) (rest : List ℕ) → headed (heading_line version ++ rest) ≡ Some (Whole version, rest)
-heading_back First rest = begins (heading_line First ++ rest) (codes "certificate") rest (codes "certificate" ∷ []) (Whole First) lines_of_first certificate_words refl first_is refl
-heading_back Second rest = begins (heading_line Second ++ rest) (codes "certificate 2") rest (codes "certificate" ∷ codes "2" ∷ []) (Whole Second) lines_of_second second_words refl second_is refl
-heading_back Third rest = begins (heading_line Third ++ rest) (codes "certificate 3") rest (codes "certificate" ∷ codes "3" ∷ []) (Whole Third) lines_of_third third_words refl third_is refl
+open_words : words (codes "certificate open") ≡ codes "certificate" ∷ codes "open" ∷ []
+unfolding words content
+open_words = refl
+
+open_third_words : words (codes "certificate open 3") ≡ codes "certificate" ∷ codes "open" ∷ codes "3" ∷ []
+unfolding words content
+open_third_words = refl
+
+open_is : heading_of (codes "certificate" ∷ codes "open" ∷ []) ≡ Some (Open Second)
+unfolding heading_of
+open_is = refl
+
+open_third_is : heading_of (codes "certificate" ∷ codes "open" ∷ codes "3" ∷ []) ≡ Some (Open Third)
+unfolding heading_of
+open_third_is = refl
+
+lines_of_open : lines (codes "certificate open") ≡ codes "certificate open" ∷ []
+unfolding lines
+lines_of_open = refl
+
+lines_of_open_third : lines (codes "certificate open 3") ≡ codes "certificate open 3" ∷ []
+unfolding lines
+lines_of_open_third = refl
+
+-- a heading that says the form and the version, before these bytes
+pub record IsHeaded (own : Form) (version : Version) (text rest : List ℕ) : Type 0 where
+  pub heading : Heading
+  pub found : headed text ≡ Some (heading, rest)
+  pub is : version_under own heading ≡ Some version
+
+-- the heading that is printed is found, but that no open one is of the first version
+pub heading_back : (own : Form) (version : Version) (rest : List ℕ) → (own ≡ form.Open → version ≡ First → ⊥) → IsHeaded own version (heading_line own version ++ rest) rest
+heading_back form.Whole First rest later = record {
+  heading = Whole First;
+  found = begins (heading_line form.Whole First ++ rest) (codes "certificate") rest (codes "certificate" ∷ []) (Whole First) lines_of_first certificate_words refl first_is refl;
+  is = refl;
+}
+heading_back form.Whole Second rest later = record {
+  heading = Whole Second;
+  found = begins (heading_line form.Whole Second ++ rest) (codes "certificate 2") rest (codes "certificate" ∷ codes "2" ∷ []) (Whole Second) lines_of_second second_words refl second_is refl;
+  is = refl;
+}
+heading_back form.Whole Third rest later = record {
+  heading = Whole Third;
+  found = begins (heading_line form.Whole Third ++ rest) (codes "certificate 3") rest (codes "certificate" ∷ codes "3" ∷ []) (Whole Third) lines_of_third third_words refl third_is refl;
+  is = refl;
+}
+heading_back form.Open First rest later = absurd (later refl refl)
+heading_back form.Open Second rest later = record {
+  heading = Open Second;
+  found = begins (heading_line form.Open Second ++ rest) (codes "certificate open") rest (codes "certificate" ∷ codes "open" ∷ []) (Open Second) lines_of_open open_words refl open_is refl;
+  is = refl;
+}
+heading_back form.Open Third rest later = record {
+  heading = Open Third;
+  found = begins (heading_line form.Open Third ++ rest) (codes "certificate open 3") rest (codes "certificate" ∷ codes "open" ∷ codes "3" ∷ []) (Open Third) lines_of_open_third open_third_words refl open_third_is refl;
+  is = refl;
+}

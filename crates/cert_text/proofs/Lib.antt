@@ -1,6 +1,6 @@
 pub mod ListLemmas
 pub mod FieldLemmas
-pub mod CrewLemmas
+pub mod ShipLemmas
 pub mod WhyLemmas
 pub mod CutLemmas
 pub mod SpotLemmas
@@ -8,7 +8,6 @@ pub mod PlanLemmas
 pub mod PriceLemmas
 pub mod TreeLemmas
 pub mod MarkLemmas
-pub mod OpenMarkLemmas
 pub mod VersionLemmas
 pub mod CertificateLemmas
 pub mod HeadingLemmas
@@ -17,3 +16,4 @@ pub mod ShapeLemmas
 pub mod WrittenLemmas
 pub mod PairLemmas
 pub mod DossierLemmas
+pub mod FormLemmas

@@ -10,7 +10,7 @@ use Rattle.lock_model.specs.declared.plan.Lockage.{Lockage}
 use Rattle.lock_model.specs.declared.plan.Plan.{Plan}
 use Rattle.cert_text.specs.Steps.{◌>>=◌, ◌>>◌, when}
 use Rattle.cert_text.specs.Fields.{number_data, numbers_data, byte_in, word_in, all_in}
-use Rattle.cert_text.specs.Crew.{ships_in}
+use Rattle.cert_text.specs.Ships.{ships_in}
 use Rattle.cert_text.specs.Plans.{spot_data, spot_in, way_number, way_of, lockage_data, lockage_in, plan_items}
 use Rattle.cert_text.proofs.ListLemmas.{all_in-length}
 

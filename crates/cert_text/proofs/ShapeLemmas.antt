@@ -5,6 +5,7 @@ use Rattle.lock_model.specs.declared.plan.Lockage.{Lockage}
 use Rattle.lock_model.specs.declared.plan.Plan.{Plan}
 use Rattle.refute_rules.specs.Why.{why_of}
 use Rattle.closing_rules.specs.ProvedCuts.{CertCut}
+use Rattle.certificate_rules.specs.declared.certificate.Mark.{Mark}
 use Rattle.certificate_rules.specs.Certificates.{Certificate}
 use Rattle.serde_json.specs.Data.{Data, depth}
 use Rattle.serde_json.specs.Read.{max_depth}
@@ -13,6 +14,7 @@ use Rattle.serde_json.specs.Written.{has_float, items_have_float}
 use Rattle.cert_text.specs.Fields.{number_data, numbers_data, list_data}
 use Rattle.cert_text.specs.Cuts.{cut_data}
 use Rattle.cert_text.specs.Plans.{spot_data, lockage_data}
+use Rattle.cert_text.specs.declared.heading.Form.{Form}
 use Rattle.cert_text.specs.declared.heading.Version.{Version}
 use Rattle.cert_text.specs.declared.heading.Version.TheVariants.{First, Second, Third}
 use Rattle.cert_text.specs.Versions.{version_of}
@@ -55,20 +57,20 @@ lockage_depth l =
     let spots = list_depth spot_data 1 (λ s. omega arith) l.spots in
     omega arith
 
--- the parts of a certificate, whatever its marks
-pub parts_no_float : {M : Type 0} (numbers : M → List ℕ) (version : Version) (cost : ℕ) (cuts : List CertCut) (plan : Plan) (prices : List (List ℕ)) (tree : List M) → has_float (parts_data version cost cuts plan prices (tree_data numbers tree)) ≡ false
-parts_no_float numbers First cost cuts plan prices tree = rw (list_no_float cut_data cut_no_float cuts, list_no_float lockage_data lockage_no_float plan.lockages, numbers_no_float (flat_map numbers tree)) refl
-parts_no_float numbers Second cost cuts plan prices tree = rw (list_no_float cut_data cut_no_float cuts, list_no_float lockage_data lockage_no_float plan.lockages, numbers_no_float (flat_map numbers tree)) refl
-parts_no_float numbers Third cost cuts plan prices tree =
-    rw (list_no_float cut_data cut_no_float cuts, list_no_float lockage_data lockage_no_float plan.lockages, list_no_float numbers_data numbers_no_float prices, numbers_no_float (flat_map numbers tree)) refl
+-- the parts of a certificate
+parts_no_float : (version : Version) (cost : ℕ) (cuts : List CertCut) (plan : Plan) (prices : List (List ℕ)) (tree : List Mark) → has_float (parts_data version cost cuts plan prices (tree_data mark_numbers tree)) ≡ false
+parts_no_float First cost cuts plan prices tree = rw (list_no_float cut_data cut_no_float cuts, list_no_float lockage_data lockage_no_float plan.lockages, numbers_no_float (flat_map mark_numbers tree)) refl
+parts_no_float Second cost cuts plan prices tree = rw (list_no_float cut_data cut_no_float cuts, list_no_float lockage_data lockage_no_float plan.lockages, numbers_no_float (flat_map mark_numbers tree)) refl
+parts_no_float Third cost cuts plan prices tree =
+    rw (list_no_float cut_data cut_no_float cuts, list_no_float lockage_data lockage_no_float plan.lockages, list_no_float numbers_data numbers_no_float prices, numbers_no_float (flat_map mark_numbers tree)) refl
 
-pub parts_shallow : {M : Type 0} (numbers : M → List ℕ) (version : Version) (cost : ℕ) (cuts : List CertCut) (plan : Plan) (prices : List (List ℕ)) (tree : List M) → depth (parts_data version cost cuts plan prices (tree_data numbers tree)) ≤ max_depth
-parts_shallow numbers version cost cuts plan prices tree = go version
+parts_shallow : (version : Version) (cost : ℕ) (cuts : List CertCut) (plan : Plan) (prices : List (List ℕ)) (tree : List Mark) → depth (parts_data version cost cuts plan prices (tree_data mark_numbers tree)) ≤ max_depth
+parts_shallow version cost cuts plan prices tree = go version
   where
-    flat : depth (tree_data numbers tree) ≤ 1
-    flat = numbers_depth (flat_map numbers tree)
+    flat : depth (tree_data mark_numbers tree) ≤ 1
+    flat = numbers_depth (flat_map mark_numbers tree)
 
-    go : (v : Version) → depth (parts_data v cost cuts plan prices (tree_data numbers tree)) ≤ max_depth
+    go : (v : Version) → depth (parts_data v cost cuts plan prices (tree_data mark_numbers tree)) ≤ max_depth
     go First =
         let cuts_depth = list_depth cut_data 2 cut_depth cuts in
         let plan_depth = list_depth lockage_data 3 lockage_depth plan.lockages in
@@ -83,8 +85,8 @@ parts_shallow numbers version cost cuts plan prices tree = go version
         let prices_depth = list_depth numbers_data 1 numbers_depth prices in
         omega (arith, cuts_depth, plan_depth, prices_depth, flat)
 
-pub no_float : (C : Certificate) → has_float (certificate_data C) ≡ false
-no_float C = parts_no_float mark_numbers (version_of C) C.cost C.cuts C.plan C.prices C.tree
+pub no_float : (form : Form) (C : Certificate) → has_float (certificate_data form C) ≡ false
+no_float form C = parts_no_float (version_of form C) C.cost C.cuts C.plan C.prices C.tree
 
-pub shallow : (C : Certificate) → depth (certificate_data C) ≤ max_depth
-shallow C = parts_shallow mark_numbers (version_of C) C.cost C.cuts C.plan C.prices C.tree
+pub shallow : (form : Form) (C : Certificate) → depth (certificate_data form C) ≤ max_depth
+shallow form C = parts_shallow (version_of form C) C.cost C.cuts C.plan C.prices C.tree

@@ -9,7 +9,7 @@ use Rattle.refute_rules.specs.declared.refutation.Refutation.TheVariants as refu
 use Rattle.cert_text.specs.Steps.{◌>>=◌}
 use Rattle.cert_text.specs.Fields.{number_data, numbers_data, all_in, byte_in}
 use Rattle.cert_text.specs.Cuts.{clash_of, refutation_in, why_in}
-use Rattle.cert_text.specs.Crew.{crew_in}
+use Rattle.cert_text.specs.Ships.{ships_of}
 use Rattle.cert_text.proofs.ListLemmas.{all_in-length}
 
 -- numbers after the kind of the area
@@ -31,8 +31,8 @@ no_pair vs other = go (all_in byte_in (items_view vs)) (all_in-length byte_in vs
     go None count = refl
     go (Some ns) count = let same = count ns refl in sym (clash_none ns (omega arith))
 
-pub row_back : (ships : List ℕ) → crew_in (items_of (map number_data ships)) ≡ Some ships → why_in (numbers_data (why_of (refutation.Quick (Row ships)))) ≡ Some (refutation.Quick (Row ships))
+pub row_back : (ships : List ℕ) → ships_of (items_of (map number_data ships)) ≡ Some ships → why_in (numbers_data (why_of (refutation.Quick (Row ships)))) ≡ Some (refutation.Quick (Row ships))
 row_back ships back = rw back refl
 
-pub column_back : (ships : List ℕ) → crew_in (items_of (map number_data ships)) ≡ Some ships → why_in (numbers_data (why_of (refutation.Quick (Column ships)))) ≡ Some (refutation.Quick (Column ships))
+pub column_back : (ships : List ℕ) → ships_of (items_of (map number_data ships)) ≡ Some ships → why_in (numbers_data (why_of (refutation.Quick (Column ships)))) ≡ Some (refutation.Quick (Column ships))
 column_back ships back = rw back refl

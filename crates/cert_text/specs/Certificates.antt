@@ -1,11 +1,12 @@
 -- A certificate as a JSON value, and the certificate that a value is, or the first part at fault.
-use Rattle.std.specs.Prelude.{ℕ, ◌&&◌, Bool, Option, List, [], ◌∷◌, Result, Ok, codes}
+use Rattle.std.specs.Prelude.{ℕ, ◌&&◌, Bool, List, [], ◌∷◌, Result, Ok, codes}
 use Rattle.serde_json.specs.Data.{Data}
 use Rattle.lock_model.specs.declared.plan.Plan.{Plan}
 use Rattle.closing_rules.specs.ProvedCuts.{CertCut}
 use Rattle.certificate_rules.specs.Certificates.{Certificate}
 use Rattle.line_text.specs.Steps.{◌>>=◌, ◌>>◌}
 use Rattle.cert_text.specs.declared.certificate.Front.{Front}
+use Rattle.cert_text.specs.declared.heading.Form.{Form}
 use Rattle.cert_text.specs.declared.heading.Version.{Version}
 use Rattle.cert_text.specs.declared.heading.Version.TheVariants.{First, Second, Third}
 use Rattle.cert_text.specs.Versions.{is_third, version_of}
@@ -29,8 +30,9 @@ abbrev pub parts_data : Version → ℕ → List CertCut → Plan → List (List
 parts_data version cost cuts plan prices tree =
     object_data ((codes "cost", cost_data cost) ∷ (codes "cuts", cuts_data cuts) ∷ (codes "plan", plan_data plan) ∷ end_members version prices tree)
 
-abbrev pub certificate_data : Certificate → Data
-certificate_data C = parts_data (version_of C) C.cost C.cuts C.plan C.prices (tree_data mark_numbers C.tree)
+-- a certificate, written in the first version of its form that has all its parts
+abbrev pub certificate_data : Form → Certificate → Data
+certificate_data form C = parts_data (version_of form C) C.cost C.cuts C.plan C.prices (tree_data mark_numbers C.tree)
 
 -- an object of the four keys, or of the five of the third version
 abbrev pub has_keys : Data → Bool
@@ -50,14 +52,10 @@ front_in version d = do
   plan ← or_fault 4 (value_at (codes "plan") plan_in d)
   Ok (record { cost = cost; cuts = cuts; plan = plan })
 
--- What is made of all parts, where `told` says what a number of the tree says, or the number of the first part at fault, which is 5 for the tree and 6 for the prices.
-abbrev pub made_in : {M C : Type 0} → (Bool → Bool → Data → Option (Option M)) → (Front → List M → List (List ℕ) → C) → Version → Data → Result C ℕ
-made_in told make version d = do
+-- The certificate of this form and version that a value is, or the number of the first part at fault, which is 5 for the tree and 6 for the prices.
+unfoldable pub certificate_in : Form → Version → Data → Result Certificate ℕ
+certificate_in form version d = do
   front ← front_in version d
-  tree ← or_fault 5 (value_at (codes "tree") (tree_in told (is_third version)) d)
+  tree ← or_fault 5 (value_at (codes "tree") (tree_in (mark_in form) (is_third version)) d)
   prices ← or_fault 6 (prices_under version d)
-  Ok (make front tree prices)
-
--- the certificate, made so
-unfoldable pub certificate_in : Version → Data → Result Certificate ℕ
-certificate_in version d = made_in mark_in (λ front tree prices. record { cost = front.cost; cuts = front.cuts; plan = front.plan; prices = prices; tree = tree }) version d
+  Ok (record { cost = front.cost; cuts = front.cuts; plan = front.plan; prices = prices; tree = tree })

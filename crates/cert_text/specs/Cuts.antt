@@ -11,7 +11,7 @@ use Rattle.cert_text.specs.declared.heading.Version.{Version}
 use Rattle.cert_text.specs.Versions.{has_outside}
 use Rattle.cert_text.specs.Steps.{◌>>=◌, ◌>>◌, when}
 use Rattle.cert_text.specs.Fields.{number_data, list_data, numbers_data, object_data, number_in, byte_in, word_in, all_in, list_in, value_at, has_members}
-use Rattle.cert_text.specs.Crew.{crew_in, ships_in}
+use Rattle.cert_text.specs.Ships.{ships_of, ships_in}
 
 abbrev pub cut_data : CertCut → Data
 cut_data c = object_data ((codes "chamber", number_data c.chamber) ∷ (codes "ships", numbers_data c.ships) ∷ (codes "why", numbers_data (why_of c.refutation)) ∷ [])
@@ -31,10 +31,10 @@ abbrev pub refutation_in : ℕ → Items → Option Refutation
 refutation_in zero no_items = Some (refutation.Quick Area)
 refutation_in zero (item d more) = None
 refutation_in (suc zero) rest = do
-  ships ← crew_in rest
+  ships ← ships_of rest
   Some (refutation.Quick (Row ships))
 refutation_in (suc (suc zero)) rest = do
-  ships ← crew_in rest
+  ships ← ships_of rest
   Some (refutation.Quick (Column ships))
 refutation_in (suc (suc (suc zero))) rest = do
   marks ← all_in word_in rest

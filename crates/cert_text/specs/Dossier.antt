@@ -25,11 +25,14 @@ use Rattle.cert_text.specs.Versions.{version_of}
 use Rattle.cert_text.specs.Certificates.{certificate_data, certificate_in}
 use Rattle.cert_text.specs.Heading.{headed}
 
--- the heading of a version
-abbrev pub heading_line : Version → List ℕ
-heading_line First = codes "certificate\n"
-heading_line Second = codes "certificate 2\n"
-heading_line Third = codes "certificate 3\n"
+-- the heading of a version of this form
+abbrev pub heading_line : Form → Version → List ℕ
+heading_line form.Whole First = codes "certificate\n"
+heading_line form.Whole Second = codes "certificate 2\n"
+heading_line form.Whole Third = codes "certificate 3\n"
+heading_line form.Open First = codes "certificate open\n"
+heading_line form.Open Second = codes "certificate open\n"
+heading_line form.Open Third = codes "certificate open 3\n"
 
 -- a JSON value as text without white space, and a line feed
 unfoldable pub json_line : Data → List ℕ
@@ -39,9 +42,9 @@ json_line d = compact_text d ++ 10 ∷ []
 abbrev pub framed : Instance → List ℕ → Data → List ℕ
 framed I heading d = canonical I ++ (heading ++ json_line d)
 
--- the canonical dossier of an instance and a certificate
-unfoldable pub dossier : Instance → Certificate → List ℕ
-dossier I C = framed I (heading_line (version_of C)) (certificate_data C)
+-- the canonical dossier of an instance and a certificate, whole or open
+unfoldable pub dossier : Form → Instance → Certificate → List ℕ
+dossier own I C = framed I (heading_line own (version_of own C)) (certificate_data own C)
 
 -- the version of a heading of this form
 abbrev pub version_under : Form → Heading → Option Version
@@ -62,10 +65,10 @@ value_in asked bytes = do
   Ok (version, value)
 
 -- what the bytes after the instance part mean, or their first fault
-unfoldable pub rest_in : List ℕ → Result Certificate BadDossier
-rest_in bytes = do
-  found ← value_in form.Whole bytes
-  fault_under fault.Shape (certificate_in found.0 found.1)
+unfoldable pub rest_in : Form → List ℕ → Result Certificate BadDossier
+rest_in own bytes = do
+  found ← value_in own bytes
+  fault_under fault.Shape (certificate_in own found.0 found.1)
 
 -- an instance and what the bytes after its part mean, or the first fault
 abbrev pub pair_in : {C : Type 0} → (List ℕ → Result C BadDossier) → List ℕ → Result (Draft × C) BadDossier
@@ -74,19 +77,19 @@ pair_in rest text = do
   certificate ← rest (after_instance text)
   Ok (instance, certificate)
 
--- the instance and the certificate of a dossier, or its first fault
-unfoldable pub dossier_in : List ℕ → Result (Draft × Certificate) BadDossier
-dossier_in text = pair_in rest_in text
+-- the instance and the certificate of a dossier of this form, or its first fault
+unfoldable pub dossier_in : Form → List ℕ → Result (Draft × Certificate) BadDossier
+dossier_in own text = pair_in (rest_in own) text
 
--- the text is a dossier of this instance and this certificate
-unfoldable pub Reads : List ℕ → Instance → Certificate → Type 0
-Reads text I C = dossier_in text ≡ Ok (draft_of I, C)
+-- the text is a dossier of this form, of this instance and this certificate
+unfoldable pub Reads : Form → List ℕ → Instance → Certificate → Type 0
+Reads own text I C = dossier_in own text ≡ Ok (draft_of I, C)
 
 -- the text's first fault
-unfoldable pub DossierFault : List ℕ → BadDossier → Type 0
-DossierFault text f = dossier_in text ≡ Err f
+unfoldable pub DossierFault : Form → List ℕ → BadDossier → Type 0
+DossierFault own text f = dossier_in own text ≡ Err f
 
 -- want of memory, or the text's first fault
-abbrev pub IsFirstFault : List ℕ → DossierError → Type 0
-IsFirstFault text NoMemory = ⊤
-IsFirstFault text (Fault f) = DossierFault text f
+abbrev pub IsFirstFault : Form → List ℕ → DossierError → Type 0
+IsFirstFault own text NoMemory = ⊤
+IsFirstFault own text (Fault f) = DossierFault own text f

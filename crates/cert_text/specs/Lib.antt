@@ -1,10 +1,9 @@
 pub mod Steps
 pub mod Fields
 pub mod Answers
-pub mod Crew
+pub mod Ships
 pub mod Cost
 pub mod Marks
-pub mod OpenMarks
 pub mod Trees
 pub mod Versions
 pub mod Cuts

@@ -14,7 +14,7 @@ use Rattle.serde_json.specs.Data.{Data, Items, no_items, item}
 use Rattle.serde_json.specs.Find.{as_array}
 use Rattle.cert_text.specs.Steps.{◌>>=◌, ◌>>◌, when}
 use Rattle.cert_text.specs.Fields.{number_data, list_data, numbers_data, object_data, number_in, byte_in, word_in, all_in, value_at, has_members}
-use Rattle.cert_text.specs.Crew.{ships_in}
+use Rattle.cert_text.specs.Ships.{ships_in}
 
 abbrev pub way_number : Way → ℕ
 way_number Up = 0

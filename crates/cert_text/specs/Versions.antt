@@ -5,6 +5,8 @@ use Rattle.refute_rules.specs.declared.refutation.Refutation.{Refutation}
 use Rattle.refute_rules.specs.declared.refutation.Refutation.TheVariants as refutation
 use Rattle.closing_rules.specs.ProvedCuts.{CertCut}
 use Rattle.certificate_rules.specs.Certificates.{Certificate}
+use Rattle.cert_text.specs.declared.heading.Form.{Form}
+use Rattle.cert_text.specs.declared.heading.Form.TheVariants as form
 use Rattle.cert_text.specs.declared.heading.Version.{Version}
 use Rattle.cert_text.specs.declared.heading.Version.TheVariants.{First, Second, Third}
 use Rattle.cert_text.specs.Marks.{is_price_mark}
@@ -43,7 +45,12 @@ has_outside version = list_any (λ c. is_outside version c.refutation)
 abbrev pub needs_third : List CertCut → List (List ℕ) → Bool → Bool
 needs_third cuts prices marked = not (length prices == 0) || (marked || has_outside Second cuts)
 
-unfoldable pub version_of : Certificate → Version
-version_of C =
+-- an open certificate is of the second version at least
+abbrev pub needs_second : Form → List CertCut → Bool
+needs_second form.Whole cuts = has_outside First cuts
+needs_second form.Open cuts = true
+
+unfoldable pub version_of : Form → Certificate → Version
+version_of own C =
     if needs_third C.cuts C.prices (list_any is_price_mark C.tree) then Third
-    else (if has_outside First C.cuts then Second else First)
+    else (if needs_second own C.cuts then Second else First)

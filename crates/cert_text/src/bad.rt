@@ -5,7 +5,7 @@ use instance_text::Bad;
 use std::alloc::AllocError;
 
 /// The first fault of a dossier, numbered from 1 in this order.
-#[derive(Clone, Copy, PartialEq, Eq)]
+#[derive(Clone, Copy)]
 pub enum BadDossier {
     /// The instance part has this first defect.
     Instance(Bad),
@@ -19,7 +19,7 @@ pub enum BadDossier {
 }
 
 /// Why a dossier, or a part of one, was not read.
-#[derive(Clone, Copy, PartialEq, Eq)]
+#[derive(Clone, Copy)]
 pub enum DossierError {
     /// It has this first fault.
     Fault(BadDossier),

@@ -8,6 +8,7 @@ ghost use Rattle.cert_text.specs.Fields.{value_at};
 ghost use Rattle.cert_text.specs.Cost.{cost_in};
 ghost use Rattle.cert_text.specs.Cuts.{cuts_under};
 ghost use Rattle.cert_text.specs.Plans.{plan_in};
+ghost use Rattle.cert_text.specs.Marks.{AreOf};
 ghost use Rattle.cert_text.specs.Versions.{version_of};
 ghost use Rattle.cert_text.specs.Certificates.{certificate_data, has_keys, is_frame, front_in, certificate_in};
 ghost use Rattle.cert_text.specs.declared.bad.BadDossier.TheVariants.{Shape};
@@ -15,7 +16,7 @@ ghost use Rattle.cert_text.specs.declared.bad.BadDossier.TheVariants.{Shape};
 use crate::bad::{BadDossier, DossierError};
 use crate::cost::cost_of;
 use crate::cuts::cuts_of;
-use crate::heading::Version;
+use crate::heading::{Form, Version};
 use crate::parts::{Parts, put_parts};
 use crate::plan::plan_of;
 use crate::prices::prices_at;
@@ -31,13 +32,15 @@ use std::alloc::Global;
 /// A certificate as a value, in its version.
 pub fn put_certificate(
     alloc: Global,
+    form: Form,
     version: Version,
     certificate: &Certificate,
 ) -> Result<Value, NoMemory>
     requires formed { IsWellFormed certificate.now }
-    requires version { version ≡ version_of certificate.now }
-    ensures value { IfOk result (λ v. view v ≡ certificate_data certificate.now) }
-    ensures reads_back { IfOk result (λ _. certificate_in version (certificate_data certificate.now) ≡ Ok certificate.now) }
+    requires own { AreOf form certificate.now.tree }
+    requires version { version ≡ version_of form certificate.now }
+    ensures value { IfOk result (λ v. view v ≡ certificate_data form certificate.now) }
+    ensures reads_back { IfOk result (λ _. certificate_in form version (certificate_data form certificate.now) ≡ Ok certificate.now) }
 {
     let tree = put_tree(alloc, &certificate.tree)?;
     let parts = Parts {
@@ -131,7 +134,7 @@ pub struct Front {
 
 /// The parts that come before the tree in a value of a version, or the first one at fault.
 #[tactic(auto, unfolding(crate::specs::Certificates::front_in))]
-pub fn front_in(alloc: Global, version: Version, value: &Value) -> Result<Front, DossierError>
+fn front_in(alloc: Global, version: Version, value: &Value) -> Result<Front, DossierError>
     ensures read { IfOk result (λ f. front_in version (view value.now) ≡ Ok f) }
     ensures shape { IfErr result (IsFault (fault_under Shape (front_in version (view value.now)))) }
 {
@@ -144,18 +147,19 @@ pub fn front_in(alloc: Global, version: Version, value: &Value) -> Result<Front,
     Ok(Front { cost, cuts, plan })
 }
 
-/// The certificate that a value writes, or the first part at fault.
+/// The certificate of this form that a value writes, or the first part at fault.
 #[tactic(auto, unfolding(crate::specs::Certificates::certificate_in), using(crate::proofs::CertificateLemmas::front_fault))]
 pub fn certificate_in(
     alloc: Global,
+    form: Form,
     version: Version,
     value: &Value,
 ) -> Result<Certificate, DossierError>
-    ensures read { IfOk result (λ c. certificate_in version (view value.now) ≡ Ok c) }
-    ensures shape { IfErr result (IsFault (fault_under Shape (certificate_in version (view value.now)))) }
+    ensures read { IfOk result (λ c. certificate_in form version (view value.now) ≡ Ok c) }
+    ensures shape { IfErr result (IsFault (fault_under Shape (certificate_in form version (view value.now)))) }
 {
     let Front { cost, cuts, plan } = front_in(alloc, version, value)?;
-    let tree = tree_at(alloc, is_third(version), value)?;
+    let tree = tree_at(alloc, form, is_third(version), value)?;
     let prices = prices_at(alloc, version, value)?;
     Ok(Certificate {
         cost,

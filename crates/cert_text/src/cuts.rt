@@ -8,7 +8,7 @@ ghost use Rattle.cert_text.specs.Cuts.{cut_data, cuts_data, cut_in, cuts_in, why
 ghost use Rattle.cert_text.specs.declared.bad.BadDossier.TheVariants.{Shape};
 
 use crate::bad::{BadDossier, DossierError};
-use crate::crew::{put_ships, ships_at};
+use crate::ships::{put_ships, ships_at};
 use crate::value::{chamber_at, has_members, put_byte};
 use crate::why::{put_why, why_in};
 use certificate_parts::{CertCut, CertCuts};

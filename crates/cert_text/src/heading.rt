@@ -6,7 +6,7 @@ ghost use Rattle.cert_text.specs.Heading.{second_word, third_word, heading_of, h
 use line_text::{Lines, word_at, words_of};
 
 /// Which parts the text of a certificate may have.
-#[derive(Clone, Copy, PartialEq, Eq)]
+#[derive(Clone, Copy)]
 pub enum Version {
     /// Cuts that are refuted by a quick reason, a case tree or a spot tree.
     First,
@@ -17,7 +17,7 @@ pub enum Version {
 }
 
 /// What a certificate does with the nodes of the tree.
-#[derive(Clone, Copy, PartialEq, Eq)]
+#[derive(Clone, Copy)]
 pub enum Form {
     /// It closes each of them.
     Whole,
@@ -26,7 +26,7 @@ pub enum Form {
 }
 
 /// What the line between an instance and its certificate says: the version, and the form.
-#[derive(Clone, Copy, PartialEq, Eq)]
+#[derive(Clone, Copy)]
 pub enum Heading {
     /// `certificate`, `certificate 2` or `certificate 3`.
     Whole(Version),

@@ -29,6 +29,21 @@ pub struct Parts<'a> {
     pub prices: &'a [Prices],
 }
 
+/// The cost and the cuts, by their keys.
+#[tactic(auto, unfolding(serde_json::proofs::OnLiterals::serde_json_on_literals))]
+fn put_claims(alloc: Global, parts: &Parts) -> Result<Map<String, Value>, NoMemory>
+    requires { All IsFormedCut parts.now.cuts.now }
+    ensures members { IfOk result (λ map. members_view map.entries ≡ members ((codes "cost", cost_data parts.now.cost) ∷ (codes "cuts", cuts_data parts.now.cuts.now) ∷ [])) }
+    ensures cuts_back { IfOk result (λ _. cuts_in (cuts_data parts.now.cuts.now) ≡ Some parts.now.cuts.now) }
+{
+    let mut map = Map::new(alloc);
+    let cost = put_cost(parts.cost)?;
+    serde_json::put(&mut map, alloc, "cost", cost)?;
+    let cuts = put_cuts(alloc, parts.cuts)?;
+    serde_json::put(&mut map, alloc, "cuts", cuts)?;
+    Ok(map)
+}
+
 /// The members that each certificate has, by their keys.
 #[tactic(auto, unfolding(serde_json::proofs::OnLiterals::serde_json_on_literals))]
 fn put_members(alloc: Global, parts: &Parts, tree: Value) -> Result<Map<String, Value>, NoMemory>
@@ -38,11 +53,7 @@ fn put_members(alloc: Global, parts: &Parts, tree: Value) -> Result<Map<String, 
     ensures cuts_back { IfOk result (λ _. cuts_in (cuts_data parts.now.cuts.now) ≡ Some parts.now.cuts.now) }
     ensures plan_back { IfOk result (λ _. plan_in (plan_data parts.now.plan.now) ≡ Some parts.now.plan.now) }
 {
-    let mut map = Map::new(alloc);
-    let cost = put_cost(parts.cost)?;
-    serde_json::put(&mut map, alloc, "cost", cost)?;
-    let cuts = put_cuts(alloc, parts.cuts)?;
-    serde_json::put(&mut map, alloc, "cuts", cuts)?;
+    let mut map = put_claims(alloc, parts)?;
     let plan = put_plan(alloc, parts.plan)?;
     serde_json::put(&mut map, alloc, "plan", plan)?;
     serde_json::put(&mut map, alloc, "tree", tree)?;

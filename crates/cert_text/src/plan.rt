@@ -1,13 +1,14 @@
 //! Plans as JSON values.
-ghost use Rattle.std.specs.Prelude.{◌≡◌, ◌≤◌, All, length, IfOk, IfErr, Some, None, map, codes};
+ghost use Rattle.std.specs.Prelude.{◌≡◌, ◌≤◌, [], ◌∷◌, All, length, IfOk, IfErr, Some, None, map, codes};
 ghost use Rattle.certificate_rules.specs.WellFormed.{IsFormedLockage};
-ghost use Rattle.serde_json.specs.View.{view, items_of, items_view};
-ghost use Rattle.cert_text.specs.Fields.{word_in, all_in, value_at};
+ghost use Rattle.serde_json.specs.View.{view, items_of, items_view, members_view};
+ghost use Rattle.cert_text.specs.Fields.{number_data, numbers_data, members, byte_in, word_in, all_in, value_at};
+ghost use Rattle.cert_text.specs.Ships.{ships_in};
 ghost use Rattle.cert_text.specs.Plans.{way_number, way_of, way_in, spots_in, lockage_data, plan_data, lockage_in, plan_items, plan_in};
 ghost use Rattle.cert_text.specs.declared.bad.BadDossier.TheVariants.{Shape};
 
 use crate::bad::BadDossier;
-use crate::crew::{put_ships, ships_at};
+use crate::ships::{put_ships, ships_at};
 use crate::spots::{put_spots, spots_in};
 use crate::value::{chamber_at, has_members, put_byte, put_word, word_in};
 use lock_model::{Lockage, Lockages, MOST, Plan, SHIPS, Spots, Way};
@@ -26,6 +27,22 @@ fn way_number(way: Way) -> u8
     }
 }
 
+/// The chamber and the ships of a lockage, by their keys.
+#[tactic(auto, unfolding(serde_json::proofs::OnLiterals::serde_json_on_literals))]
+fn put_group(alloc: Global, lockage: &Lockage) -> Result<Map<String, Value>, AllocError>
+    requires { IsFormedLockage lockage.now }
+    ensures members { IfOk result (λ map. members_view map.entries ≡ members ((codes "chamber", number_data lockage.now.chamber) ∷ (codes "ships", numbers_data lockage.now.ships) ∷ [])) }
+    ensures chamber_back { IfOk result (λ _. byte_in (number_data lockage.now.chamber) ≡ Some lockage.now.chamber) }
+    ensures ships_back { IfOk result (λ _. ships_in (numbers_data lockage.now.ships) ≡ Some lockage.now.ships) }
+{
+    let mut map = Map::new(alloc);
+    let chamber = put_byte(lockage.chamber);
+    serde_json::put(&mut map, alloc, "chamber", chamber)?;
+    let ships = put_ships(alloc, &lockage.ships)?;
+    serde_json::put(&mut map, alloc, "ships", ships)?;
+    Ok(map)
+}
+
 /// A lockage as a value.
 #[tactic(auto, unfolding(serde_json::proofs::OnLiterals::serde_json_on_literals))]
 fn put_lockage(alloc: Global, lockage: &Lockage) -> Result<Value, AllocError>
@@ -33,11 +50,7 @@ fn put_lockage(alloc: Global, lockage: &Lockage) -> Result<Value, AllocError>
     ensures value { IfOk result (λ v. view v ≡ lockage_data lockage.now) }
     ensures reads_back { IfOk result (λ _. lockage_in (lockage_data lockage.now) ≡ Some lockage.now) }
 {
-    let mut map = Map::new(alloc);
-    let chamber = put_byte(lockage.chamber);
-    serde_json::put(&mut map, alloc, "chamber", chamber)?;
-    let ships = put_ships(alloc, &lockage.ships)?;
-    serde_json::put(&mut map, alloc, "ships", ships)?;
+    let mut map = put_group(alloc, lockage)?;
     let spots = put_spots(alloc, &lockage.spots)?;
     serde_json::put(&mut map, alloc, "spots", spots)?;
     let start = put_word(lockage.start);

@@ -5,10 +5,11 @@ ghost use Rattle.serde_json.specs.Data.{depth};
 ghost use Rattle.serde_json.specs.Read.{max_depth};
 ghost use Rattle.serde_json.specs.View.{view};
 ghost use Rattle.serde_json.specs.Written.{has_float};
+ghost use Rattle.cert_text.specs.Marks.{AreOf};
 ghost use Rattle.cert_text.specs.Dossier.{heading_line, json_line, framed, dossier, json_of, Reads};
 
 use crate::certificate::put_certificate;
-use crate::heading::Version;
+use crate::heading::{Form, Version};
 use crate::version::version_of;
 use certificate_parts::Certificate;
 use instance_text::print_instance;
@@ -18,14 +19,16 @@ use plain_text::put;
 use serde_json::Value;
 use std::alloc::Global;
 
-/// The line before a certificate of a version.
-fn heading_line(version: Version) -> &'static [u8]
-    ensures { result.now ≡ heading_line version }
+/// The line before a certificate of a version of this form.
+fn heading_line(form: Form, version: Version) -> &'static [u8]
+    ensures { result.now ≡ heading_line form version }
 {
-    match version {
-        Version::First => b"certificate\n",
-        Version::Second => b"certificate 2\n",
-        Version::Third => b"certificate 3\n",
+    match (form, version) {
+        (Form::Whole, Version::First) => b"certificate\n",
+        (Form::Whole, Version::Second) => b"certificate 2\n",
+        (Form::Whole, Version::Third) => b"certificate 3\n",
+        (Form::Open, Version::First | Version::Second) => b"certificate open\n",
+        (Form::Open, Version::Third) => b"certificate open 3\n",
     }
 }
 
@@ -52,7 +55,7 @@ fn json_text(alloc: Global, value: Value) -> Result<Vec<u8>, NoMemory>
 /// The canonical text of an instance, a heading, and the line of a JSON value, which is read back as
 /// the same value: it has no floating-point number, and nests no deeper than is read. Its only refusal
 /// is want of memory.
-pub fn print_framed(
+fn print_framed(
     alloc: Global,
     instance: &Instance,
     heading: &[u8],
@@ -70,20 +73,22 @@ pub fn print_framed(
     Ok(out)
 }
 
-/// The canonical dossier of an instance and a certificate, which is read back as the same two. The
-/// heading is that of the first version that has all parts of the certificate. Its only refusal is want
-/// of memory.
+/// The canonical dossier of an instance and a certificate in this form, which is read back as the same
+/// two; a certificate that leaves nodes open has the open form alone. The heading is that of the first
+/// version of the form that has all parts of the certificate. Its only refusal is want of memory.
 pub fn print_dossier(
     alloc: Global,
+    form: Form,
     instance: &Instance,
     certificate: &Certificate,
 ) -> Result<Vec<u8>, NoMemory>
-    requires { IsWellFormed certificate.now }
-    ensures text { IfOk result (λ text. text.items ≡ dossier instance.now certificate.now) }
-    ensures reads_back { IfOk result (λ text. Reads text.items instance.now certificate.now) }
+    requires formed { IsWellFormed certificate.now }
+    requires own { AreOf form certificate.now.tree }
+    ensures text { IfOk result (λ text. text.items ≡ dossier form instance.now certificate.now) }
+    ensures reads_back { IfOk result (λ text. Reads form text.items instance.now certificate.now) }
 {
-    let version = version_of(certificate);
-    let value = put_certificate(alloc, version, certificate)?;
-    let text = print_framed(alloc, instance, heading_line(version), value)?;
+    let version = version_of(form, certificate);
+    let value = put_certificate(alloc, form, version, certificate)?;
+    let text = print_framed(alloc, instance, heading_line(form, version), value)?;
     Ok(text)
 }

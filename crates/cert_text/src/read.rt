@@ -50,7 +50,7 @@ fn json_of(alloc: Global, bytes: &[u8]) -> Result<Value, DossierError>
 /// The version and the JSON value of the bytes after an instance part. Answers `NoMark` where they
 /// begin with no heading of this form, then `Json`, or else want of memory.
 #[tactic(auto, unfolding(crate::specs::Dossier::value_in))]
-pub fn value_in(alloc: Global, form: Form, bytes: &[u8]) -> Result<(Version, Value), DossierError>
+fn value_in(alloc: Global, form: Form, bytes: &[u8]) -> Result<(Version, Value), DossierError>
     ensures read { IfOk result (λ r. value_in form bytes.now ≡ Ok (r.0, view r.1)) }
     ensures fault { IfErr result (IsFault (value_in form bytes.now)) }
 {
@@ -66,36 +66,46 @@ pub fn value_in(alloc: Global, form: Form, bytes: &[u8]) -> Result<(Version, Val
 
 /// The certificate of the bytes after the instance part.
 #[tactic(auto, unfolding(crate::specs::Dossier::rest_in), using(crate::proofs::DossierLemmas::value_fault))]
-fn rest_in(alloc: Global, bytes: &[u8]) -> Result<Certificate, DossierError>
-    ensures read { IfOk result (λ c. rest_in bytes.now ≡ Ok c) }
-    ensures fault { IfErr result (IsFault (rest_in bytes.now)) }
+fn rest_in(alloc: Global, form: Form, bytes: &[u8]) -> Result<Certificate, DossierError>
+    ensures read { IfOk result (λ c. rest_in form bytes.now ≡ Ok c) }
+    ensures fault { IfErr result (IsFault (rest_in form bytes.now)) }
 {
-    let (version, value) = value_in(alloc, Form::Whole, bytes)?;
-    certificate_in(alloc, version, &value)
+    let (version, value) = value_in(alloc, form, bytes)?;
+    certificate_in(alloc, form, version, &value)
 }
 
 /// The instance and the certificate of a text.
 #[tactic(auto, using(crate::proofs::DossierLemmas::instance_fault, crate::proofs::DossierLemmas::rest_fault, crate::proofs::DossierLemmas::rest_read))]
-fn read_text(alloc: Global, bytes: &[u8]) -> Result<(Instance, Certificate), DossierError>
-    ensures read { IfOk result (λ r. Reads bytes.now r.0 r.1) }
-    ensures fault { IfErr result (IsFirstFault bytes.now) }
+fn read_text(
+    alloc: Global,
+    form: Form,
+    bytes: &[u8],
+) -> Result<(Instance, Certificate), DossierError>
+    ensures read { IfOk result (λ r. Reads form bytes.now r.0 r.1) }
+    ensures fault { IfErr result (IsFirstFault form bytes.now) }
 {
     let (instance, rest) = match split_instance(bytes) {
         Ok(parts) => parts,
         Err(bad) => return Err(DossierError::Fault(BadDossier::Instance(bad))),
     };
-    let certificate = rest_in(alloc, rest)?;
+    let certificate = rest_in(alloc, form, rest)?;
     Ok((instance, certificate))
 }
 
-/// The instance and the certificate of a dossier of any heading, `certificate`, `certificate 2` or
-/// `certificate 3`. Answers the first fault exactly where the bytes are no dossier, or else want of
-/// memory. JSON may nest 127 deep, so no input needs a deeper stack.
-pub fn read_dossier(alloc: Global, bytes: &[u8]) -> Result<(Instance, Certificate), DossierError>
-    ensures read { IfOk result (λ r. Reads bytes.now r.0 r.1) }
-    ensures fault { IfErr result (IsFirstFault bytes.now) }
-    ensures each { (i : AnyInstance) (c : AnyCertificate) → Reads bytes.now i c → IsAnswer (i, c) result }
-    ensures each_fault { (f : AnyFault) → DossierFault bytes.now f → IsFaultAnswer f result }
+/// The instance and the certificate of a dossier of this form and any heading of it: `certificate`,
+/// `certificate 2` or `certificate 3` where it is whole, so that no mark is an open leaf, and
+/// `certificate open` or `certificate open 3` where it may leave nodes open. `NoMark` comes for the
+/// lines of the other form too. Answers the first fault exactly where the bytes are no dossier of the
+/// form, or else want of memory. JSON may nest 127 deep, so no input needs a deeper stack.
+pub fn read_dossier(
+    alloc: Global,
+    form: Form,
+    bytes: &[u8],
+) -> Result<(Instance, Certificate), DossierError>
+    ensures read { IfOk result (λ r. Reads form bytes.now r.0 r.1) }
+    ensures fault { IfErr result (IsFirstFault form bytes.now) }
+    ensures each { (i : AnyInstance) (c : AnyCertificate) → Reads form bytes.now i c → IsAnswer (i, c) result }
+    ensures each_fault { (f : AnyFault) → DossierFault form bytes.now f → IsFaultAnswer f result }
 {
-    read_text(alloc, bytes)
+    read_text(alloc, form, bytes)
 }

@@ -4,38 +4,41 @@ ghost use Rattle.std.specs.List.{flat_map};
 ghost use Rattle.serde_json.specs.View.{view, items_view};
 ghost use Rattle.cert_text.specs.Answers.{IsCausedFault};
 ghost use Rattle.cert_text.specs.Fields.{number_data, value_at};
+ghost use Rattle.certificate_rules.specs.WellFormed.{IsFormedMark};
+ghost use Rattle.cert_text.specs.Marks.{mark_numbers, mark_in};
 ghost use Rattle.cert_text.specs.Trees.{listed, marks_in, tree_data, tree_in};
 ghost use Rattle.cert_text.specs.declared.bad.BadDossier.TheVariants.{Shape};
 
 use crate::bad::{BadDossier, DossierError};
-use crate::tree_mark::TreeMark;
-use certificate_parts::Numbered;
+use crate::heading::Form;
+use crate::marks::{mark_in, push_mark};
+use certificate_parts::{Mark, MarkList};
 use serde_json::Value;
 use std::alloc::{AllocError, Global};
 
 /// The numbers of marks in order.
-fn put_all<M: TreeMark>(alloc: Global, marks: &[M]) -> Result<Vec<Value>, AllocError>
-    requires { All M.IsFormed marks.now }
-    ensures { IfOk result (λ list. map view list.items ≡ map number_data (flat_map M.numbers marks.now)) }
+fn put_all(alloc: Global, marks: &[Mark]) -> Result<Vec<Value>, AllocError>
+    requires { All IsFormedMark marks.now }
+    ensures { IfOk result (λ list. map view list.items ≡ map number_data (flat_map mark_numbers marks.now)) }
 {
     let mut list = Vec::with_capacity(alloc, marks.len())?;
     for mark in marks {
-        mark.push_numbers(&mut list)?;
+        push_mark(&mut list, *mark)?;
     }
     Ok(list)
 }
 
 /// The marks of a tree as a value.
-pub fn put_tree<M: TreeMark>(alloc: Global, tree: &Numbered<M>) -> Result<Value, AllocError>
-    requires { All M.IsFormed tree.now }
-    ensures { IfOk result (λ v. view v ≡ tree_data M.numbers tree.now) }
+pub fn put_tree(alloc: Global, tree: &MarkList) -> Result<Value, AllocError>
+    requires { All IsFormedMark tree.now }
+    ensures { IfOk result (λ v. view v ≡ tree_data mark_numbers tree.now) }
 {
     let list = put_all(alloc, tree.as_slice())?;
     Ok(Value::Array(list))
 }
 
 /// Appends a mark, if there is one.
-fn push_told<M: TreeMark>(tree: &mut Numbered<M>, told: Option<M>) -> Result<(), AllocError>
+fn push_told(tree: &mut MarkList, told: Option<Mark>) -> Result<(), AllocError>
     ensures { OnOk result (tree.new ≡ tree.old ++ listed told) }
 {
     match told {
@@ -45,17 +48,18 @@ fn push_told<M: TreeMark>(tree: &mut Numbered<M>, told: Option<M>) -> Result<(),
 }
 
 /// The marks that values say.
-fn marks_in<M: TreeMark>(
+fn marks_in(
     alloc: Global,
+    form: Form,
     third: bool,
     list: &[Value],
-) -> Result<Option<Numbered<M>>, AllocError>
-    ensures { IfOk result (λ o. o ≡ marks_in (M.told third) false (items_view list.now)) }
+) -> Result<Option<MarkList>, AllocError>
+    ensures { IfOk result (λ o. o ≡ marks_in (mark_in form third) false (items_view list.now)) }
 {
-    let mut tree = Numbered::with_capacity(alloc, list.len())?;
+    let mut tree = MarkList::with_capacity(alloc, list.len())?;
     let mut begun = false;
     for value in list {
-        let Some(told) = M::told(third, begun, value) else {
+        let Some(told) = mark_in(form, third, begun, value) else {
             return Ok(None);
         };
         begun = told.is_none();
@@ -68,29 +72,26 @@ fn marks_in<M: TreeMark>(
 }
 
 /// The marks that a value lists.
-fn tree_in<M: TreeMark>(
+fn tree_in(
     alloc: Global,
+    form: Form,
     third: bool,
     value: &Value,
-) -> Result<Option<Numbered<M>>, AllocError>
-    ensures { IfOk result (λ o. o ≡ tree_in M.told third (view value.now)) }
+) -> Result<Option<MarkList>, AllocError>
+    ensures { IfOk result (λ o. o ≡ tree_in (mark_in form) third (view value.now)) }
 {
     match value.as_array() {
-        Some(list) => marks_in(alloc, third, list.as_slice()),
+        Some(list) => marks_in(alloc, form, third, list.as_slice()),
         None => Ok(None),
     }
 }
 
 /// The marks that a value lists, or the fault of the fifth part.
-fn tree_of<M: TreeMark>(
-    alloc: Global,
-    third: bool,
-    value: &Value,
-) -> Result<Numbered<M>, DossierError>
-    ensures read { IfOk result (λ tree. tree_in M.told third (view value.now) ≡ Some tree) }
-    ensures shape { IfErr result (IsCausedFault (Shape 5) (tree_in M.told third (view value.now) ≡ None)) }
+fn tree_of(alloc: Global, form: Form, third: bool, value: &Value) -> Result<MarkList, DossierError>
+    ensures read { IfOk result (λ tree. tree_in (mark_in form) third (view value.now) ≡ Some tree) }
+    ensures shape { IfErr result (IsCausedFault (Shape 5) (tree_in (mark_in form) third (view value.now) ≡ None)) }
 {
-    match tree_in(alloc, third, value)? {
+    match tree_in(alloc, form, third, value)? {
         Some(tree) => Ok(tree),
         None => Err(DossierError::Fault(BadDossier::Shape(5))),
     }
@@ -98,16 +99,17 @@ fn tree_of<M: TreeMark>(
 
 /// The marks at the key `tree`, in the third version or in one before it. Answers `Shape(5)` exactly
 /// where there are none, or else want of memory.
-pub fn tree_at<M: TreeMark>(
+pub fn tree_at(
     alloc: Global,
+    form: Form,
     third: bool,
     value: &Value,
-) -> Result<Numbered<M>, DossierError>
-    ensures read { IfOk result (λ tree. value_at (codes "tree") (tree_in M.told third) (view value.now) ≡ Some tree) }
-    ensures shape { IfErr result (IsCausedFault (Shape 5) (value_at (codes "tree") (tree_in M.told third) (view value.now) ≡ None)) }
+) -> Result<MarkList, DossierError>
+    ensures read { IfOk result (λ tree. value_at (codes "tree") (tree_in (mark_in form) third) (view value.now) ≡ Some tree) }
+    ensures shape { IfErr result (IsCausedFault (Shape 5) (value_at (codes "tree") (tree_in (mark_in form) third) (view value.now) ≡ None)) }
 {
     match value.get("tree") {
-        Some(tree) => tree_of(alloc, third, tree),
+        Some(tree) => tree_of(alloc, form, third, tree),
         None => Err(DossierError::Fault(BadDossier::Shape(5))),
     }
 }

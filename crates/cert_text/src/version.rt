@@ -1,11 +1,12 @@
 //! The version that a certificate is written in.
 ghost use Rattle.std.specs.Prelude.{◌≡◌};
 ghost use Rattle.std.specs.List.{list_any};
-ghost use Rattle.cert_text.specs.Versions.{is_by_clash, is_by_berths, is_outside, has_outside, needs_third, version_of, is_third};
+ghost use Rattle.cert_text.specs.Marks.{is_price_mark};
+ghost use Rattle.cert_text.specs.Versions.{is_by_clash, is_by_berths, is_outside, has_outside, needs_third, needs_second, version_of, is_third};
 
-use crate::heading::Version;
-use crate::tree_mark::TreeMark;
-use certificate_parts::{CertCuts, Certificate, Numbered};
+use crate::heading::{Form, Version};
+use crate::marks::is_price_mark;
+use certificate_parts::{CertCuts, Certificate, MarkList};
 use price_terms::Prices;
 use refute_rules::Refutation;
 
@@ -57,11 +58,11 @@ pub fn has_outside(version: Version, cuts: &CertCuts) -> bool
 }
 
 /// Whether some mark names prices.
-pub fn has_price_mark<M: TreeMark>(tree: &Numbered<M>) -> bool
-    ensures { result ≡ list_any M.names_prices tree.now }
+fn has_price_mark(tree: &MarkList) -> bool
+    ensures { result ≡ list_any is_price_mark tree.now }
 {
     for mark in tree.as_slice() {
-        if mark.names_prices() {
+        if is_price_mark(*mark) {
             return true;
         }
     }
@@ -70,16 +71,26 @@ pub fn has_price_mark<M: TreeMark>(tree: &Numbered<M>) -> bool
 
 /// Whether a certificate with these cuts and prices, and with marks for prices or without, has a part
 /// that no version before the third has.
-pub fn needs_third(cuts: &CertCuts, prices: &[Prices], marked: bool) -> bool
+fn needs_third(cuts: &CertCuts, prices: &[Prices], marked: bool) -> bool
     ensures { result ≡ needs_third cuts.now prices.now marked }
 {
     !prices.is_empty() || marked || has_outside(Version::Second, cuts)
 }
 
-/// The first version that has all parts of the certificate.
+/// Whether a certificate of this form with these cuts is of the second version at least.
+fn needs_second(form: Form, cuts: &CertCuts) -> bool
+    ensures { result ≡ needs_second form cuts.now }
+{
+    match form {
+        Form::Whole => has_outside(Version::First, cuts),
+        Form::Open => true,
+    }
+}
+
+/// The first version of this form that has all parts of the certificate.
 #[tactic(auto, unfolding(crate::specs::Versions::version_of))]
-pub(crate) fn version_of(certificate: &Certificate) -> Version
-    ensures { result ≡ version_of certificate.now }
+pub(crate) fn version_of(form: Form, certificate: &Certificate) -> Version
+    ensures { result ≡ version_of form certificate.now }
 {
     let Certificate {
         cuts,
@@ -89,7 +100,7 @@ pub(crate) fn version_of(certificate: &Certificate) -> Version
     } = certificate;
     if needs_third(cuts, prices.as_slice(), has_price_mark(tree)) {
         Version::Third
-    } else if has_outside(Version::First, cuts) {
+    } else if needs_second(form, cuts) {
         Version::Second
     } else {
         Version::First

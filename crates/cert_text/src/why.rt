@@ -6,7 +6,7 @@ ghost use Rattle.serde_json.specs.View.{view, items_of, items_view};
 ghost use Rattle.cert_text.specs.Fields.{number_data, numbers_data, word_in, all_in};
 ghost use Rattle.cert_text.specs.Cuts.{refutation_in, why_items, why_in};
 
-use crate::crew::{crew_in, push_bytes, push_ships};
+use crate::ships::{push_bytes, push_ships, ships_of};
 use crate::value::{byte_in, word_in};
 use refute_rules::{Marks, Quick, Refutation};
 use serde_json::Value;
@@ -123,7 +123,7 @@ fn clash_in(list: &[Value]) -> Option<Refutation>
 fn row_in(list: &[Value]) -> Option<Refutation>
     ensures { result ≡ refutation_in 1 (items_view list.now) }
 {
-    let ships = crew_in(list)?;
+    let ships = ships_of(list)?;
     Some(Refutation::Quick(Quick::Row(ships)))
 }
 
@@ -131,7 +131,7 @@ fn row_in(list: &[Value]) -> Option<Refutation>
 fn column_in(list: &[Value]) -> Option<Refutation>
     ensures { result ≡ refutation_in 2 (items_view list.now) }
 {
-    let ships = crew_in(list)?;
+    let ships = ships_of(list)?;
     Some(Refutation::Quick(Quick::Column(ships)))
 }
 

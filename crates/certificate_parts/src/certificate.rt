@@ -1,6 +1,6 @@
-//! Certificates, whole and open, and their cuts.
+//! Certificates, whole and open.
 use crate::numbered::Numbered;
-use certificate_rules::{Mark, OpenMark};
+use certificate_rules::Mark;
 use lock_model::{Plan, Ships};
 use price_terms::Prices;
 use refute_rules::Refutation;
@@ -32,8 +32,9 @@ pub type PriceLists = Numbered<Prices>;
 /// The marks of a certificate: one for each node of its tree, each node before its children.
 pub type MarkList = Numbered<Mark>;
 
-/// That a plan is cheapest, and why: the plan and its cost in minutes, cuts with their refutations,
-/// prices, numbered from 0, and the marks of a search tree.
+/// How much less another plan may cost than this one, and why: the plan and its cost in minutes, cuts
+/// with their refutations, prices, numbered from 0, and the marks of a search tree. Where no mark leaves
+/// a node open, that the plan is cheapest.
 #[derive(Drop)]
 pub struct Certificate {
     pub cost: u64,
@@ -45,27 +46,6 @@ pub struct Certificate {
 
 impl Model for Certificate {
     ghost use Rattle.certificate_rules.specs.Certificates.{Certificate as Held};
-
-    ghost Value = { Held };
-
-    ghost view = { λ a. record { cost = a.cost; cuts = a.cuts; plan = a.plan; prices = a.prices; tree = a.tree } };
-}
-
-/// The marks of an open certificate: one for each node of its tree, each node before its children.
-pub type OpenMarks = Numbered<OpenMark>;
-
-/// A certificate that may leave nodes open.
-#[derive(Drop)]
-pub struct OpenCertificate {
-    pub cost: u64,
-    pub cuts: CertCuts,
-    pub plan: Plan,
-    pub prices: PriceLists,
-    pub tree: OpenMarks,
-}
-
-impl Model for OpenCertificate {
-    ghost use Rattle.certificate_rules.specs.OpenCertificates.{OpenCertificate as Held};
 
     ghost Value = { Held };
 

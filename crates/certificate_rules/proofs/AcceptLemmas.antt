@@ -1,59 +1,93 @@
 -- An accepted certificate shows a cheapest plan.
-use Rattle.std.proofs.Common.{◌≡◌, ℕ, zero, suc, ◌+◌, ◌≤◌, List, [], ◌∷◌, length, inl, inr, subst, arith, All, Contains}
-use Rattle.std.proofs.lemmas.List.Elements.{All-contains, All-map, All-weaker}
+use Rattle.std.proofs.Common.{◌≡◌, ℕ, zero, suc, List, [], ◌∷◌, ◌++◌, refl, sym, ap, ap₂, ◌∙◌, subst, length, inl, inr, arith}
 use Rattle.lock_model.specs.declared.instance.Instance.{Instance}
 use Rattle.lock_model.specs.declared.group.Group.{Group}
-use Rattle.lock_model.specs.declared.plan.Plan.{Plan}
-use Rattle.lock_rules.specs.Plan.{IsLegal, IsCheapest, cost_of}
-use Rattle.lock_rules.specs.Node.{IsNode, root_lines}
-use Rattle.lock_rules.specs.Trace.{IsUnder}
+use Rattle.lock_rules.specs.Plan.{IsCheapest, cost_of}
+use Rattle.lock_rules.specs.Node.{root_lines}
 use Rattle.lock_rules.specs.Children.{children_of}
-use Rattle.price_rules.specs.Prices.{CutHolds}
-use Rattle.closing_rules.specs.ListedPrices.{cut_in}
+use Rattle.lock_rules.specs.Bound.{bound_of, least_number}
 use Rattle.refute_rules.specs.Trees.{AreInOrder}
-use Rattle.closing_rules.specs.declared.grounds.Ground.TheVariants as by
 use Rattle.certificate_rules.specs.declared.certificate.Mark.{Mark}
 use Rattle.certificate_rules.specs.declared.certificate.Mark.TheVariants as mark
-use Rattle.closing_rules.specs.ProvedCuts.{CertCut, IsProved}
-use Rattle.certificate_rules.specs.Certificates.{Certificate, cuts_in, Closes, IsMarkTree, Accepts}
+use Rattle.closing_rules.specs.ProvedCuts.{CertCut}
 use Rattle.closing_rules.specs.Laws.{TreeLaws}
+use Rattle.certificate_rules.specs.Certificates.{Certificate, EndsNode, IsMarkTree, Stands, IsNoOpenLeaf, HasNoOpenLeaf, Accepts}
+use Rattle.certificate_rules.specs.Low.{OpenInOrder, HasOpen, leaf_bounds, IsLow}
+use Rattle.certificate_rules.proofs.LowLemmas.{stands-low}
 
--- one of the things in order
-pub in_order-at : {X M : Type 0} (Tree : X → List M → List M → Type 0) (xs : List X) (marks rest : List M) (x : X) → AreInOrder Tree xs marks rest → Contains xs x → (before : List M) × (behind : List M) × Tree x before behind
-in_order-at Tree [] marks rest x h among = absurd (omega (arith, among.1))
-in_order-at Tree (z ∷ xs) marks rest x h (zero, known, is) = (marks, h.0, subst (λ u. Tree u marks h.0) is h.1)
-in_order-at Tree (z ∷ xs) marks rest x h (suc k, known, is) = in_order-at Tree xs h.0 rest x h.2 (k, omega (arith, known), is)
+-- ---- a tree has the bounds of its open leaves
 
-module _ (I : Instance) (laws : TreeLaws I) (cost : ℕ) (cuts : List CertCut) (prices : List (List ℕ)) (proved : All (IsProved I) cuts) (P : Plan) (legal : IsLegal I P) where
-  -- proved cuts hold
-  cuts-hold : All CutHolds (cuts_in I cuts)
-  cuts-hold = All-map CutHolds (λ (c : CertCut). cut_in I c.chamber c.ships) cuts (All-weaker (IsProved I) (λ (c : CertCut). CutHolds (cut_in I c.chamber c.ships)) laws.holds cuts proved)
+module _ (I : Instance) (cost : ℕ) (cuts : List CertCut) (prices : List (List ℕ)) where
+  abbrev Tree : ℕ → ℕ → List (List Group) → List Mark → List Mark → Type 0
+  Tree = IsMarkTree I (EndsNode I cost cuts prices)
 
-  -- a mark that closes a node with the plan under it
-  pub closes-holds : (k : ℕ) (lines : List (List Group)) (m : Mark) → IsNode I k lines → IsUnder I k lines P → Closes I cost cuts prices k lines m → cost ≤ cost_of I P
-  closes-holds k lines mark.Split node under h = absurd h
-  closes-holds k lines (mark.Leaf by.Bound) node under h = let b = laws.bound k lines node P legal under in omega (arith, h, b)
-  closes-holds k lines (mark.Leaf (by.Cut number)) node under h =
-      let sound : IsProved I h.cut = subst (IsProved I) h.is (proved number h.cut h.known) in
-      absurd (laws.cut h.cut k lines P sound node h.hits legal under)
-  closes-holds k lines (mark.Leaf by.Throughput) node under h = let b = laws.throughput P legal in omega (arith, h, b)
-  closes-holds k lines (mark.Leaf (by.Probe s)) node under h = let b = laws.probe k lines s node h.0 P legal under in omega (arith, h.1, b)
-  closes-holds k lines (mark.Leaf (by.Price number)) node under h = laws.price (cuts_in I cuts) k lines h.own cost cuts-hold h.reached P legal under
+  order-open : (lacking k : ℕ) → ((x : List (List Group)) (m r : List Mark) → Tree lacking (suc k) x m r → (bs : List ℕ) × HasOpen I lacking (suc k) x m r bs)
+      → (xs : List (List (List Group))) (m r : List Mark) → AreInOrder (Tree lacking (suc k)) xs m r → (bs : List ℕ) × OpenInOrder (HasOpen I lacking (suc k)) xs m r bs
+  order-open lacking k one [] m r a = ([], (a, refl))
+  order-open lacking k one (x ∷ xs) m r a =
+      let first = one x m a.0 a.1 in
+      let more = order-open lacking k one xs a.0 r a.2 in
+      (first.0 ++ more.0, (a.0, first.0, more.0, first.1, more.1, refl))
 
-  pub tree-holds : (lacking k : ℕ) (lines : List (List Group)) (marks rest : List Mark) → lacking + k ≡ length I.ships → IsNode I k lines → IsUnder I k lines P → IsMarkTree I mark.Split (Closes I cost cuts prices) lacking k lines marks rest → cost ≤ cost_of I P
-  tree-holds zero k lines marks rest count node under leaf = closes-holds k lines leaf.0 node under leaf.1
-  tree-holds (suc lacking) k lines marks rest count node under (inl leaf) = closes-holds k lines leaf.0 node under leaf.1
-  tree-holds (suc lacking) k lines marks rest count node under (inr split) =
-      let way = laws.split k lines P node (omega (arith, count)) legal under in
-      let one = in_order-at (IsMarkTree I mark.Split (Closes I cost cuts prices) lacking (suc k)) (children_of I k lines) split.0 rest way.child split.2 way.among in
-      tree-holds lacking (suc k) way.child one.0 one.1 (omega (arith, count)) (All-contains (IsNode I (suc k)) (children_of I k lines) way.child (laws.child k lines node (omega (arith, count))) way.among) way.under one.2
+  tree-open : (lacking k : ℕ) (lines : List (List Group)) (m r : List Mark) → Tree lacking k lines m r → (bs : List ℕ) × HasOpen I lacking k lines m r bs
+  tree-open zero k lines m r a = (leaf_bounds (bound_of I k lines) a.0, (a.0, a.2, refl))
+  tree-open (suc lacking) k lines m r (inl a) = (leaf_bounds (bound_of I k lines) a.0, inl (a.0, (λ e. subst (EndsNode I cost cuts prices k lines) e a.1), a.2, refl))
+  tree-open (suc lacking) k lines m r (inr a) =
+      let inner = order-open lacking k (λ x m r t. tree-open lacking (suc k) x m r t) (children_of I k lines) a.0 r a.2 in
+      (inner.0, inr (a.0, a.1, inner.1))
+
+-- ---- which are none where no mark is an open leaf
+
+-- no bounds, and no open leaf among the marks that are left
+record IsClosed (bounds : List ℕ) (rest : List Mark) : Type 0 where
+  none : bounds ≡ []
+  whole : HasNoOpenLeaf rest
+
+leaf-none : (bound : ℕ) (m : Mark) → IsNoOpenLeaf m → leaf_bounds bound m ≡ []
+leaf-none bound mark.Split h = refl
+leaf-none bound (mark.Leaf why) h = refl
+leaf-none bound mark.Open h = absurd h
+
+leaf-closed : (bound : ℕ) (m : Mark) (marks rest : List Mark) (bounds : List ℕ) → marks ≡ m ∷ rest → bounds ≡ leaf_bounds bound m → HasNoOpenLeaf marks → IsClosed bounds rest
+leaf-closed bound m marks rest bounds is told whole =
+    let own = subst HasNoOpenLeaf is whole in
+    record { none = told ∙ leaf-none bound m own.0; whole = own.1 }
+
+order-closed : (Leaves : List (List Group) → List Mark → List Mark → List ℕ → Type 0) → ((x : List (List Group)) (m r : List Mark) (bs : List ℕ) → Leaves x m r bs → HasNoOpenLeaf m → IsClosed bs r)
+    → (xs : List (List (List Group))) (m r : List Mark) (bs : List ℕ) → OpenInOrder Leaves xs m r bs → HasNoOpenLeaf m → IsClosed bs r
+order-closed Leaves one [] m r bs h whole = record { none = h.1; whole = subst HasNoOpenLeaf h.0 whole }
+order-closed Leaves one (x ∷ xs) m r bs h whole =
+    let first = one x m h.0 h.1 h.3 whole in
+    let more = order-closed Leaves one xs h.0 r h.2 h.4 first.whole in
+    record { none = h.5 ∙ ap₂ (λ u v. u ++ v) first.none more.none; whole = more.whole }
+
+tree-closed : (I : Instance) (lacking k : ℕ) (lines : List (List Group)) (m r : List Mark) (bs : List ℕ) → HasOpen I lacking k lines m r bs → HasNoOpenLeaf m → IsClosed bs r
+tree-closed I zero k lines m r bs h whole = leaf-closed (bound_of I k lines) h.0 m r bs h.1 h.2 whole
+tree-closed I (suc lacking) k lines m r bs (inl h) whole = leaf-closed (bound_of I k lines) h.0 m r bs h.2 h.3 whole
+tree-closed I (suc lacking) k lines m r bs (inr h) whole =
+    order-closed (HasOpen I lacking (suc k)) (λ x m r bs t w. tree-closed I lacking (suc k) x m r bs t w) (children_of I k lines) h.0 r bs h.2 (subst HasNoOpenLeaf h.1 whole).1
+
+-- ---- acceptance
+
+-- a certificate that stands has a low
+pub stands-some : (I : Instance) (C : Certificate) → Stands I C → (low : ℕ) × IsLow I C low
+stands-some I C stands =
+    let open' = tree-open I C.cost C.cuts C.prices (length I.ships) 0 root_lines C.tree [] stands.tree in
+    (least_number (C.cost ∷ open'.0), record { bounds = open'.0; leaves = open'.1; least = refl })
+
+-- which is its cost where it leaves no node open
+pub whole-low : (I : Instance) (C : Certificate) (low : ℕ) → HasNoOpenLeaf C.tree → IsLow I C low → low ≡ C.cost
+whole-low I C low whole is = is.least ∙ ap (λ bs. least_number (C.cost ∷ bs)) (tree-closed I (length I.ships) 0 root_lines C.tree [] is.bounds is.leaves whole).none
 
 -- acceptance means cheapest
 pub accepted-cheapest : (I : Instance) (C : Certificate) → TreeLaws I → Accepts I C → IsCheapest I C.plan
-accepted-cheapest I C laws good = record {
-  legal = good.legal;
-  least = λ Q legal.
-      let holds = tree-holds I laws C.cost C.cuts C.prices good.cuts Q legal (length I.ships) 0 root_lines C.tree [] (omega arith) laws.root (laws.all Q legal) good.tree in
-      let same = good.cost in
-      omega (arith, holds, same);
-}
+accepted-cheapest I C laws good =
+    let low = stands-some I C good.stands in
+    record {
+      legal = good.stands.legal;
+      least = λ Q legal.
+          let holds = stands-low I C low.0 laws good.stands low.1 Q legal in
+          let whole = whole-low I C low.0 good.whole low.1 in
+          let same = good.stands.cost in
+          omega (arith, holds, whole, same);
+    }

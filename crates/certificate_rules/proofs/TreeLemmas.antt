@@ -4,9 +4,11 @@ use Rattle.lock_model.specs.declared.instance.Instance.{Instance}
 use Rattle.lock_model.specs.declared.group.Group.{Group}
 use Rattle.lock_rules.specs.Children.{children_of}
 use Rattle.refute_rules.specs.Trees.{AreInOrder}
+use Rattle.certificate_rules.specs.declared.certificate.Mark.{Mark}
+use Rattle.certificate_rules.specs.declared.certificate.Mark.TheVariants as mark
 use Rattle.certificate_rules.specs.declared.certificate.Reason.{Reason}
 use Rattle.certificate_rules.specs.Certificates.{IsMarkTree}
-use Rattle.certificate_rules.specs.Failures.{FailInOrder, FailsHere, TreeFails}
+use Rattle.certificate_rules.specs.Failures.{FailInOrder, FailsHere, TreeFails, reason_of}
 
 pub in_order-append : {X M : Type 0} (Tree : X → List M → List M → Type 0) (xs ys : List X) (a b c : List M) → AreInOrder Tree xs a b → AreInOrder Tree ys b c → AreInOrder Tree (xs ++ ys) a c
 in_order-append Tree [] ys a b c h k = subst (λ u. AreInOrder Tree ys u c) (sym h) k
@@ -23,12 +25,12 @@ not-true b is h = absurd cc
 pub lacks-one : (n k : ℕ) → k < n → n - k ≡ suc (n - suc k)
 lacks-one n k less = omega (arith, less)
 
-module _ {M : Type 0} (I : Instance) (split : M) (Closing : ℕ → List (List Group) → M → Type 0) (reason_by : M → Reason) where
-  pub leaf-tree : (lacking k : ℕ) (lines : List (List Group)) (m : M) (rest : List M) → Closing k lines m → IsMarkTree I split Closing lacking k lines (m ∷ rest) rest
+module _ (I : Instance) (Ends : ℕ → List (List Group) → Mark → Type 0) where
+  pub leaf-tree : (lacking k : ℕ) (lines : List (List Group)) (m : Mark) (rest : List Mark) → Ends k lines m → IsMarkTree I Ends lacking k lines (m ∷ rest) rest
   leaf-tree zero k lines m rest closes = (m, closes, refl)
   leaf-tree (suc lacking) k lines m rest closes = inl (m, closes, refl)
 
-  pub wrong-tree : (lacking k : ℕ) (lines : List (List Group)) (m : M) (rest : List M) → (Closing k lines m → ⊥) → (m ≡ split → lacking ≡ 0) → TreeFails I split Closing reason_by lacking k lines (m ∷ rest) (m ∷ rest) (reason_by m)
+  pub wrong-tree : (lacking k : ℕ) (lines : List (List Group)) (m : Mark) (rest : List Mark) → (Ends k lines m → ⊥) → (m ≡ mark.Split → lacking ≡ 0) → TreeFails I Ends lacking k lines (m ∷ rest) (m ∷ rest) (reason_of m)
   wrong-tree zero k lines m rest open' whole = (refl, open', refl)
   wrong-tree (suc lacking) k lines m rest open' whole =
       inl (
@@ -57,27 +59,27 @@ fail_in_order-shorter Tree Failing each stuck (x ∷ xs) m s why (inr f) =
     let later = fail_in_order-shorter Tree Failing each stuck xs f.0 s why f.2 in
     omega (arith, own, later)
 
-here-shorter : {M : Type 0} (Closing : M → Type 0) (reason_by : M → Reason) (marks s : List M) (why : Reason) → FailsHere Closing reason_by marks s why → length s ≤ length marks
-here-shorter Closing reason_by [] s why f = let same = ap length f.0 in omega (arith, same)
-here-shorter Closing reason_by (m ∷ ms) s why f = let same = ap length f.0 in omega (arith, same)
+here-shorter : (Ends : Mark → Type 0) (marks s : List Mark) (why : Reason) → FailsHere Ends marks s why → length s ≤ length marks
+here-shorter Ends [] s why f = let same = ap length f.0 in omega (arith, same)
+here-shorter Ends (m ∷ ms) s why f = let same = ap length f.0 in omega (arith, same)
 
-module _ {M : Type 0} (I : Instance) (split : M) (Closing : ℕ → List (List Group) → M → Type 0) (reason_by : M → Reason) where
+module _ (I : Instance) (Ends : ℕ → List (List Group) → Mark → Type 0) where
   -- no more marks are left behind a tree than there were
-  pub tree-shorter : (lacking k : ℕ) (lines : List (List Group)) (marks rest : List M) → IsMarkTree I split Closing lacking k lines marks rest → length rest ≤ length marks
+  pub tree-shorter : (lacking k : ℕ) (lines : List (List Group)) (marks rest : List Mark) → IsMarkTree I Ends lacking k lines marks rest → length rest ≤ length marks
   tree-shorter zero k lines marks rest h = let same = ap length h.2 in omega (arith, same)
   tree-shorter (suc lacking) k lines marks rest (inl h) = let same = ap length h.2 in omega (arith, same)
   tree-shorter (suc lacking) k lines marks rest (inr h) =
       let same = ap length h.1 in
-      let inner = in_order-shorter (IsMarkTree I split Closing lacking (suc k)) (λ x m r t. tree-shorter lacking (suc k) x m r t) (children_of I k lines) h.0 rest h.2 in
+      let inner = in_order-shorter (IsMarkTree I Ends lacking (suc k)) (λ x m r t. tree-shorter lacking (suc k) x m r t) (children_of I k lines) h.0 rest h.2 in
       omega (arith, same, inner)
 
   -- nor where reading ends before its time
-  pub stuck-shorter : (lacking k : ℕ) (lines : List (List Group)) (marks s : List M) (why : Reason) → TreeFails I split Closing reason_by lacking k lines marks s why → length s ≤ length marks
-  stuck-shorter zero k lines marks s why f = here-shorter (Closing k lines) reason_by marks s why f
-  stuck-shorter (suc lacking) k lines marks s why (inl f) = here-shorter (λ m. Closing k lines m ⊎ (m ≡ split)) reason_by marks s why f
+  pub stuck-shorter : (lacking k : ℕ) (lines : List (List Group)) (marks s : List Mark) (why : Reason) → TreeFails I Ends lacking k lines marks s why → length s ≤ length marks
+  stuck-shorter zero k lines marks s why f = here-shorter (Ends k lines) marks s why f
+  stuck-shorter (suc lacking) k lines marks s why (inl f) = here-shorter (λ m. Ends k lines m ⊎ (m ≡ mark.Split)) marks s why f
   stuck-shorter (suc lacking) k lines marks s why (inr f) =
       let same = ap length f.1 in
       let inner =
-      fail_in_order-shorter (IsMarkTree I split Closing lacking (suc k)) (TreeFails I split Closing reason_by lacking (suc k))
+      fail_in_order-shorter (IsMarkTree I Ends lacking (suc k)) (TreeFails I Ends lacking (suc k))
       (λ x m r t. tree-shorter lacking (suc k) x m r t) (λ x m u r t. stuck-shorter lacking (suc k) x m u r t) (children_of I k lines) f.0 s why f.2 in
       omega (arith, same, inner)

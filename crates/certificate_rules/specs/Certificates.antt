@@ -1,5 +1,5 @@
--- Certificates, and when one is accepted.
-use Rattle.std.specs.Prelude.{ℕ, zero, suc, ◌≡◌, ◌<◌, ◌⊎◌, List, [], ◌∷◌, length, map, All, slice_index_or}
+-- Certificates, whole and open, and when one stands and is accepted.
+use Rattle.std.specs.Prelude.{ℕ, zero, suc, ◌≡◌, ◌<◌, ◌⊎◌, List, [], ◌∷◌, length, map, All, slice_index_or, ⊤}
 use Rattle.lock_model.specs.Fitting.{deck_of}
 use Rattle.lock_model.specs.declared.instance.Instance.{Instance}
 use Rattle.lock_model.specs.declared.group.Group.{Group}
@@ -35,30 +35,45 @@ pub record IsCutBy (I : Instance) (cuts : List CertCut) (number : ℕ) (lines : 
 abbrev pub cuts_in : Instance → List CertCut → List PlainCut
 cuts_in I cuts = map (λ (c : CertCut). cut_in I c.chamber c.ships) cuts
 
--- the mark closes a node of depth k against this cost
-abbrev pub Closes : Instance → ℕ → List CertCut → List (List ℕ) → ℕ → List (List Group) → Mark → Type 0
-Closes I cost cuts prices k lines mark.Split = ⊥
-Closes I cost cuts prices k lines (mark.Leaf why) = IsClosedBy I (IsCutBy I cuts) (IsPricedBy I (cuts_in I cuts) prices) cost (bound_of I k lines) k lines why
+-- the mark ends a node of depth k against this cost: it closes it, or leaves it open
+abbrev pub EndsNode : Instance → ℕ → List CertCut → List (List ℕ) → ℕ → List (List Group) → Mark → Type 0
+EndsNode I cost cuts prices k lines mark.Split = ⊥
+EndsNode I cost cuts prices k lines (mark.Leaf why) = IsClosedBy I (IsCutBy I cuts) (IsPricedBy I (cuts_in I cuts) prices) cost (bound_of I k lines) k lines why
+EndsNode I cost cuts prices k lines mark.Open = ⊤
 
--- the marks begin with one that closes the node, and the rest follows
-abbrev pub IsClosedLeaf : {M : Type 0} → (ℕ → List (List Group) → M → Type 0) → ℕ → List (List Group) → List M → List M → Type 0
-IsClosedLeaf {M} Closing k lines marks rest = (m : M) × Closing k lines m × (marks ≡ m ∷ rest)
+-- the marks begin with one that ends the node, and the rest follows
+abbrev pub IsEndLeaf : (ℕ → List (List Group) → Mark → Type 0) → ℕ → List (List Group) → List Mark → List Mark → Type 0
+IsEndLeaf Ends k lines marks rest = (m : Mark) × Ends k lines m × (marks ≡ m ∷ rest)
 
--- The marks begin with one tree of a node of depth k that lacks so many ships, and the rest follows: a mark that closes it, or, where it lacks a ship, a split mark and trees of all children in order.
-abbrev pub IsMarkTree : {M : Type 0} → Instance → M → (ℕ → List (List Group) → M → Type 0) → ℕ → ℕ → List (List Group) → List M → List M → Type 0
-IsMarkTree I split Closing zero k lines marks rest = IsClosedLeaf Closing k lines marks rest
-IsMarkTree {M} I split Closing (suc lacking) k lines marks rest =
-    IsClosedLeaf Closing k lines marks rest
-    ⊎ ((inner : List M) × (marks ≡ split ∷ inner) × AreInOrder (IsMarkTree I split Closing lacking (suc k)) (children_of I k lines) inner rest)
+-- The marks begin with one tree of a node of depth k that lacks so many ships, and the rest follows: a mark that ends it, or, where it lacks a ship, a split mark and trees of all children in order.
+abbrev pub IsMarkTree : Instance → (ℕ → List (List Group) → Mark → Type 0) → ℕ → ℕ → List (List Group) → List Mark → List Mark → Type 0
+IsMarkTree I Ends zero k lines marks rest = IsEndLeaf Ends k lines marks rest
+IsMarkTree I Ends (suc lacking) k lines marks rest =
+    IsEndLeaf Ends k lines marks rest
+    ⊎ ((inner : List Mark) × (marks ≡ mark.Split ∷ inner) × AreInOrder (IsMarkTree I Ends lacking (suc k)) (children_of I k lines) inner rest)
 
 -- exactly one certificate tree of the root
 abbrev pub IsCertTree : Instance → Certificate → Type 0
-IsCertTree I C = IsMarkTree I mark.Split (Closes I C.cost C.cuts C.prices) (length I.ships) 0 root_lines C.tree []
+IsCertTree I C = IsMarkTree I (EndsNode I C.cost C.cuts C.prices) (length I.ships) 0 root_lines C.tree []
 
 -- The plan is legal and has the cost, each cut is proved, each prices are one for each ship, and the marks are one certificate tree.
-pub record Accepts (I : Instance) (C : Certificate) : Type 0 where
+pub record Stands (I : Instance) (C : Certificate) : Type 0 where
   pub legal : IsLegal I C.plan
   pub cost : cost_of I C.plan ≡ C.cost
   pub cuts : All (IsProved I) C.cuts
   pub prices : All (AreShapedPrices I) C.prices
   pub tree : IsCertTree I C
+
+abbrev pub IsNoOpenLeaf : Mark → Type 0
+IsNoOpenLeaf mark.Split = ⊤
+IsNoOpenLeaf (mark.Leaf why) = ⊤
+IsNoOpenLeaf mark.Open = ⊥
+
+abbrev pub HasNoOpenLeaf : List Mark → Type 0
+HasNoOpenLeaf [] = ⊤
+HasNoOpenLeaf (m ∷ marks) = IsNoOpenLeaf m × HasNoOpenLeaf marks
+
+-- It stands, and none of its marks leaves a node open.
+pub record Accepts (I : Instance) (C : Certificate) : Type 0 where
+  pub stands : Stands I C
+  pub whole : HasNoOpenLeaf C.tree

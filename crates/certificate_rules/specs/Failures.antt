@@ -10,16 +10,13 @@ use Rattle.closing_rules.specs.declared.grounds.Ground.{Ground}
 use Rattle.closing_rules.specs.declared.grounds.Ground.TheVariants as by
 use Rattle.certificate_rules.specs.declared.certificate.Mark.{Mark}
 use Rattle.certificate_rules.specs.declared.certificate.Mark.TheVariants as mark
-use Rattle.certificate_rules.specs.declared.certificate.OpenMark.{OpenMark}
-use Rattle.certificate_rules.specs.declared.certificate.OpenMark.TheVariants.{Closed, Open}
 use Rattle.certificate_rules.specs.declared.certificate.FailurePlace.{FailurePlace}
 use Rattle.certificate_rules.specs.declared.certificate.FailurePlace.TheVariants as place
 use Rattle.certificate_rules.specs.declared.certificate.Reason.{Reason}
 use Rattle.certificate_rules.specs.declared.certificate.Reason.TheVariants as reason
 use Rattle.closing_rules.specs.ProvedCuts.{CertCut, IsShaped, IsProved}
 use Rattle.closing_rules.specs.ListedPrices.{AreShapedPrices}
-use Rattle.certificate_rules.specs.Certificates.{Certificate, Closes, IsMarkTree}
-use Rattle.certificate_rules.specs.OpenCertificates.{OpenCertificate, ClosesOrOpen}
+use Rattle.certificate_rules.specs.Certificates.{Certificate, EndsNode, IsMarkTree}
 
 -- why a node isn't closed so
 abbrev pub ground_reason : Ground → Reason
@@ -29,15 +26,11 @@ ground_reason (by.Probe s) = reason.ProbeWrong
 ground_reason (by.Cut number) = reason.CutMisses
 ground_reason (by.Price number) = reason.PriceLow
 
--- why a mark that should close a node doesn't; a split mark doesn't where no ship is lacking
+-- why a mark that should end a node doesn't; a split mark doesn't where no ship is lacking, and an open leaf always does
 abbrev pub reason_of : Mark → Reason
 reason_of mark.Split = reason.SplitFull
 reason_of (mark.Leaf why) = ground_reason why
-
--- an open leaf never fails
-abbrev pub open_reason_of : OpenMark → Reason
-open_reason_of (Closed m) = reason_of m
-open_reason_of Open = reason.SplitFull
+reason_of mark.Open = reason.SplitFull
 
 -- reading one tree after the other from the marks on, it ends at `stuck` for a reason
 abbrev pub FailInOrder : {X M : Type 0} → (X → List M → List M → Type 0) → (X → List M → List M → Reason → Type 0) → List X → List M → List M → Reason → Type 0
@@ -45,24 +38,24 @@ FailInOrder Tree Fails [] marks stuck r = ⊥
 FailInOrder {X} {M} Tree Fails (x ∷ xs) marks stuck r =
     Fails x marks stuck r ⊎ ((middle : List M) × Tree x marks middle × FailInOrder Tree Fails xs middle stuck r)
 
--- no mark is left, or the first one doesn't close the node
-abbrev pub FailsHere : {M : Type 0} → (M → Type 0) → (M → Reason) → List M → List M → Reason → Type 0
-FailsHere Closing reason_by [] stuck r = (stuck ≡ []) × (r ≡ reason.TreeShort)
-FailsHere Closing reason_by (m ∷ ms) stuck r = (stuck ≡ m ∷ ms) × (Closing m → ⊥) × (r ≡ reason_by m)
+-- no mark is left, or the first one doesn't end the node
+abbrev pub FailsHere : (Mark → Type 0) → List Mark → List Mark → Reason → Type 0
+FailsHere Ends [] stuck r = (stuck ≡ []) × (r ≡ reason.TreeShort)
+FailsHere Ends (m ∷ ms) stuck r = (stuck ≡ m ∷ ms) × (Ends m → ⊥) × (r ≡ reason_of m)
 
 -- Reading a tree of a node of depth k from the marks on, it ends at `stuck` for a reason.
-abbrev pub TreeFails : {M : Type 0} → Instance → M → (ℕ → List (List Group) → M → Type 0) → (M → Reason) → ℕ → ℕ → List (List Group) → List M → List M → Reason → Type 0
-TreeFails I split Closing reason_by zero k lines marks stuck r = FailsHere (Closing k lines) reason_by marks stuck r
-TreeFails {M} I split Closing reason_by (suc lacking) k lines marks stuck r =
-    FailsHere (λ m. Closing k lines m ⊎ (m ≡ split)) reason_by marks stuck r
-    ⊎ ((inner : List M) × (marks ≡ split ∷ inner)
-    × FailInOrder (IsMarkTree I split Closing lacking (suc k)) (TreeFails I split Closing reason_by lacking (suc k)) (children_of I k lines) inner stuck r)
+abbrev pub TreeFails : Instance → (ℕ → List (List Group) → Mark → Type 0) → ℕ → ℕ → List (List Group) → List Mark → List Mark → Reason → Type 0
+TreeFails I Ends zero k lines marks stuck r = FailsHere (Ends k lines) marks stuck r
+TreeFails I Ends (suc lacking) k lines marks stuck r =
+    FailsHere (λ m. Ends k lines m ⊎ (m ≡ mark.Split)) marks stuck r
+    ⊎ ((inner : List Mark) × (marks ≡ mark.Split ∷ inner)
+    × FailInOrder (IsMarkTree I Ends lacking (suc k)) (TreeFails I Ends lacking (suc k)) (children_of I k lines) inner stuck r)
 
 -- The marks aren't one tree of the root: reading ends at `stuck`, or a tree is read and marks are left over.
-abbrev pub MarksFail : {M : Type 0} → Instance → M → (ℕ → List (List Group) → M → Type 0) → (M → Reason) → List M → List M → Reason → Type 0
-MarksFail I split Closing reason_by marks stuck r =
-    TreeFails I split Closing reason_by (length I.ships) 0 root_lines marks stuck r
-    ⊎ ((stuck ≢ []) × (r ≡ reason.TreeLong) × IsMarkTree I split Closing (length I.ships) 0 root_lines marks stuck)
+abbrev pub MarksFail : Instance → (ℕ → List (List Group) → Mark → Type 0) → List Mark → List Mark → Reason → Type 0
+MarksFail I Ends marks stuck r =
+    TreeFails I Ends (length I.ships) 0 root_lines marks stuck r
+    ⊎ ((stuck ≢ []) × (r ≡ reason.TreeLong) × IsMarkTree I Ends (length I.ships) 0 root_lines marks stuck)
 
 -- cut number c is the first that isn't proved: it is misshaped, or its refutation fails
 pub record CutFails (I : Instance) (cuts : List CertCut) (c : ℕ) (r : Reason) : Type 0 where
@@ -81,19 +74,15 @@ pub record PricesFail (I : Instance) (prices : List (List ℕ)) (v : ℕ) (r : R
   pub misshaped : AreShapedPrices I own → ⊥
   pub reason : r ≡ reason.PricesShape
 
--- The first place and reason, where `Fail` says it of the marks that are left at the place.
-abbrev pub FailsAt : {M : Type 0} → Instance → ℕ → List CertCut → List (List ℕ) → Plan → List M → (List M → Reason → Type 0) → FailurePlace → Reason → Type 0
+-- The first place and reason at which a certificate fails; `Fail` says it of the marks that are left at the place.
+abbrev pub FailsAt : Instance → ℕ → List CertCut → List (List ℕ) → Plan → List Mark → (List Mark → Reason → Type 0) → FailurePlace → Reason → Type 0
 FailsAt I cost cuts prices plan tree Fail place.Plan r = (IsLegal I plan → ⊥) × (r ≡ reason.PlanIllegal)
 FailsAt I cost cuts prices plan tree Fail place.Cost r = IsLegal I plan × (cost_of I plan ≢ cost) × (r ≡ reason.CostWrong)
 FailsAt I cost cuts prices plan tree Fail (place.Cut c) r = IsLegal I plan × (cost_of I plan ≡ cost) × CutFails I cuts c r
 FailsAt I cost cuts prices plan tree Fail (place.Prices v) r = IsLegal I plan × (cost_of I plan ≡ cost) × All (IsProved I) cuts × PricesFail I prices v r
-FailsAt {M} I cost cuts prices plan tree Fail (place.Tree p) r =
+FailsAt I cost cuts prices plan tree Fail (place.Tree p) r =
     IsLegal I plan × (cost_of I plan ≡ cost) × All (IsProved I) cuts × All (AreShapedPrices I) prices
-    × (stuck : List M) × (p ≡ length tree - length stuck) × Fail stuck r
+    × (stuck : List Mark) × (p ≡ length tree - length stuck) × Fail stuck r
 
--- the first failure of a certificate, and of an open one
 abbrev pub Fails : Instance → Certificate → FailurePlace → Reason → Type 0
-Fails I C = FailsAt I C.cost C.cuts C.prices C.plan C.tree (MarksFail I mark.Split (Closes I C.cost C.cuts C.prices) reason_of C.tree)
-
-abbrev pub OpenFails : Instance → OpenCertificate → FailurePlace → Reason → Type 0
-OpenFails I C = FailsAt I C.cost C.cuts C.prices C.plan C.tree (MarksFail I (Closed mark.Split) (ClosesOrOpen I C.cost C.cuts C.prices) open_reason_of C.tree)
+Fails I C = FailsAt I C.cost C.cuts C.prices C.plan C.tree (MarksFail I (EndsNode I C.cost C.cuts C.prices) C.tree)

@@ -9,12 +9,9 @@ use Rattle.refute_rules.specs.declared.refutation.Refutation.{Refutation}
 use Rattle.closing_rules.specs.declared.grounds.Ground.{Ground}
 use Rattle.closing_rules.specs.declared.grounds.Ground.TheVariants as by
 use Rattle.certificate_rules.specs.declared.certificate.Mark.{Mark}
-use Rattle.certificate_rules.specs.declared.certificate.OpenMark.{OpenMark}
-use Rattle.certificate_rules.specs.declared.certificate.OpenMark.TheVariants.{Closed, Open}
 use Rattle.closing_rules.specs.ProvedCuts.{CertCut}
 use Rattle.closing_rules.specs.ListedPrices.{ArePrices}
 use Rattle.certificate_rules.specs.Certificates.{Certificate}
-use Rattle.certificate_rules.specs.OpenCertificates.{OpenCertificate}
 use Rattle.refute_rules.specs.declared.refutation.Refutation.TheVariants as refutation
 use Rattle.certificate_rules.specs.declared.certificate.Mark.TheVariants as mark
 
@@ -49,10 +46,7 @@ IsFormedGround _ = ⊤
 abbrev pub IsFormedMark : Mark → Type 0
 IsFormedMark mark.Split = ⊤
 IsFormedMark (mark.Leaf why) = IsFormedGround why
-
-abbrev pub IsFormedOpenMark : OpenMark → Type 0
-IsFormedOpenMark (Closed m) = IsFormedMark m
-IsFormedOpenMark Open = ⊤
+IsFormedMark mark.Open = ⊤
 
 -- what a certificate keeps that may be written down
 pub record IsWellFormed (C : Certificate) : Type 0 where
@@ -60,10 +54,3 @@ pub record IsWellFormed (C : Certificate) : Type 0 where
   pub lockages : All IsFormedLockage C.plan.lockages
   pub prices : All AreFormedPrices C.prices
   pub marks : All IsFormedMark C.tree
-
--- the same of an open certificate, its open leaves aside
-pub record IsWellFormedOpen (C : OpenCertificate) : Type 0 where
-  pub cuts : All IsFormedCut C.cuts
-  pub lockages : All IsFormedLockage C.plan.lockages
-  pub prices : All AreFormedPrices C.prices
-  pub marks : All IsFormedOpenMark C.tree

@@ -2,17 +2,11 @@
 
 use closing_rules::Ground;
 
-/// What a certificate says of a node.
+/// What a certificate says of a node: it is split, closed on a ground, or left open.
 #[derive(Clone, Copy, PartialEq, Eq)]
 pub enum Mark {
     Split,
     Leaf(Ground),
-}
-
-/// A mark, or a node that is left open.
-#[derive(Clone, Copy, PartialEq, Eq)]
-pub enum OpenMark {
-    Closed(Mark),
     Open,
 }
 

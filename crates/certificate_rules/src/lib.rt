@@ -1,17 +1,18 @@
 //! Certificates of a search, whole and open: plain types, definitions and laws.
 //!
-//! - `specs/Certificates`: which certificates are accepted. `Failures`: the first place and reason
-//!   at which one fails.
-//! - `specs/OpenCertificates`: those that leave nodes open; `Low`: what such a one proves.
+//! - `specs/Certificates`: which certificates stand, and which are accepted: those that stand and leave
+//!   no node open. `Failures`: the first place and reason at which one fails.
+//! - `specs/Low`: what a certificate proves that stands.
 //! - `specs/WellFormed`: those that can be written as a text.
 //!
 //! A certificate may have prices, and marks that close a node by the prices of a number.
 //!
-//! The laws stand in `proofs/`: acceptance means cheapest (`AcceptLemmas`), an open certificate
-//! proves its low (`LowLemmas`), no certificate that is accepted fails (`FailLemmas`). They take the
-//! laws of the tree, `TreeLaws` of `closing_rules`. `CertRows` holds worked rows.
+//! The laws stand in `proofs/`: a certificate that stands proves its low (`LowLemmas`), acceptance means
+//! cheapest (`AcceptLemmas`), no certificate that stands fails (`FailLemmas`). They take the laws of the
+//! tree, `TreeLaws` of `closing_rules`. `CertRows` holds worked rows; of lemmas for others,
+//! `TreeLemmas` tells of trees of marks and `LeastLemmas` of the least of some numbers.
 #![tactic(auto)]
 
 mod certificate;
 
-pub use certificate::{FailurePlace, Mark, OpenMark, Reason};
+pub use certificate::{FailurePlace, Mark, Reason};

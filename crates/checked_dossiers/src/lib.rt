@@ -14,8 +14,10 @@
 mod accepted;
 mod refusal_texts;
 mod refusals;
+mod sound;
 mod standing;
 
-pub use accepted::{AcceptedDossier, read_accepted};
+pub use accepted::read_accepted;
 pub use refusals::DOSSIER_LIMIT;
-pub use standing::{StandingDossier, read_standing};
+pub use sound::CheckedDossier;
+pub use standing::read_standing;

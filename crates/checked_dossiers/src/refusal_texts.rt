@@ -1,5 +1,5 @@
 //! What is written where a dossier is refused.
-ghost use Rattle.std.specs.Prelude.{◌≡◌, ◌++◌, IfOk, OnOk};
+ghost use Rattle.std.specs.Prelude.{◌≡◌, ◌++◌, IfOk, OnOk, codes, decimal};
 ghost use Rattle.checked_dossiers.specs.RefusalTexts.{place_text, number_of_reason, name_of_reason, rejected_text, shape_text, fault_text};
 ghost use Rattle.cert_text.specs.declared.bad.BadDossier.TheVariants.{Instance as InstancePart};
 
@@ -75,6 +75,15 @@ fn name_of(reason: Reason) -> &'static [u8]
     }
 }
 
+// Appends the number and the name of a reason.
+fn put_reason(out: &mut Vec<u8>, reason: Reason) -> Result<(), NoMemory>
+    ensures { OnOk result (out.new.items ≡ out.old.items ++ (decimal (number_of_reason reason) ++ (codes " " ++ name_of_reason reason))) }
+{
+    put_number(out, number_of(reason))?;
+    put(out, b" ")?;
+    put(out, name_of(reason))
+}
+
 /// That a certificate fails first at this place and for this reason.
 #[tactic(auto, unfolding(crate::specs::RefusalTexts::rejected_text))]
 pub(crate) fn rejected_text(
@@ -88,9 +97,7 @@ pub(crate) fn rejected_text(
     put(&mut out, b"rejected ")?;
     put_place(&mut out, place)?;
     put(&mut out, b" reason ")?;
-    put_number(&mut out, number_of(reason))?;
-    put(&mut out, b" ")?;
-    put(&mut out, name_of(reason))?;
+    put_reason(&mut out, reason)?;
     put(&mut out, b"\n")?;
     Ok(out)
 }

@@ -2,7 +2,7 @@
 use Rattle.std.proofs.Common.{ℕ, ◌≡◌, ◌≢◌, ◌≤◌, List, ◌∷◌, sym, subst, inl, inr, arith}
 use Rattle.std.proofs.lemmas.Bool.Decides.{leb_tells}
 use Rattle.lock_model.specs.declared.instance.Instance.{Instance}
-use Rattle.certificate_rules.specs.OpenCertificates.{OpenCertificate}
+use Rattle.certificate_rules.specs.Certificates.{Certificate}
 use Rattle.closing_rules.proofs.BelowLemmas.{least-below}
 use Rattle.run_answers.specs.Sources.{IsFair}
 use Rattle.run_answers.proofs.EndedLemmas.{refused_ended}
@@ -19,21 +19,21 @@ lowers_none bytes s text none = refused_ended (PrintsEqual bytes text) (PrintsGa
 -- ---- `lower`
 
 -- its low is at most its cost
-low_at_most : (I : Instance) (C : OpenCertificate) (low : ℕ) → HasLow I C low → low ≤ C.cost
+low_at_most : (I : Instance) (C : Certificate) (low : ℕ) → HasLow I C low → low ≤ C.cost
 low_at_most I C low has =
     let lowest = has.lowest in
     let is = lowest.least in
     let below = least-below C.cost (C.cost ∷ lowest.bounds) (inl (omega arith)) in
     omega (arith, is, below)
 
-pub equal_answers : (bytes : List ℕ) (I : Instance) (C : OpenCertificate) (low cost : ℕ) (text : List ℕ) → IsStanding bytes I C → HasLow I C low → cost ≡ C.cost → low ≡ cost → text ≡ lower_text low cost → PrintsEqual bytes text
+pub equal_answers : (bytes : List ℕ) (I : Instance) (C : Certificate) (low cost : ℕ) (text : List ℕ) → IsStanding bytes I C → HasLow I C low → cost ≡ C.cost → low ≡ cost → text ≡ lower_text low cost → PrintsEqual bytes text
 equal_answers bytes I C low cost text standing has is same shown =
     record {
       cost = cost;
       printed = record { instance = I; certificate = C; standing = standing; lowest = subst (HasLow I C) same has; cost_is = sym is; shown = subst (λ n. text ≡ lower_text n cost) same shown };
     }
 
-pub gap_answers : (bytes : List ℕ) (I : Instance) (C : OpenCertificate) (low cost : ℕ) (text : List ℕ) → IsStanding bytes I C → HasLow I C low → cost ≡ C.cost → low ≢ cost → text ≡ lower_text low cost → PrintsGap bytes text
+pub gap_answers : (bytes : List ℕ) (I : Instance) (C : Certificate) (low cost : ℕ) (text : List ℕ) → IsStanding bytes I C → HasLow I C low → cost ≡ C.cost → low ≢ cost → text ≡ lower_text low cost → PrintsGap bytes text
 gap_answers bytes I C low cost text standing has is other shown =
     let most = low_at_most I C low has in
     elim (leb_tells cost low) [

@@ -1,7 +1,7 @@
 -- What `lower` answers to the bytes of an open dossier: a status and what is written.
 use Rattle.std.specs.Prelude.{ℕ, ◌≡◌, ◌<◌, List}
 use Rattle.lock_model.specs.declared.instance.Instance.{Instance}
-use Rattle.certificate_rules.specs.OpenCertificates.{OpenCertificate}
+use Rattle.certificate_rules.specs.Certificates.{Certificate}
 use Rattle.run_answers.specs.Ended.{IsEndedOr}
 use Rattle.run_answers.specs.declared.status.Status.{Status}
 use Rattle.checked_dossiers.specs.Standing.{IsStanding, HasLow, IsNoStanding}
@@ -10,7 +10,7 @@ use Rattle.dossier_commands.specs.DossierTexts.{lower_text}
 -- The certificate stands with this low and this cost, no legal plan costs less than the low, and both numbers are printed.
 pub record PrintsLow (bytes : List ℕ) (low cost : ℕ) (text : List ℕ) : Type 0 where
   pub instance : Instance
-  pub certificate : OpenCertificate
+  pub certificate : Certificate
   pub standing : IsStanding bytes instance certificate
   pub lowest : HasLow instance certificate low
   pub cost_is : certificate.cost ≡ cost

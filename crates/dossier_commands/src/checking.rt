@@ -8,7 +8,7 @@ ghost use Rattle.dossier_commands.specs.Checking.{AnswersCheck};
 
 use crate::dossier_texts::accepted_text;
 use certificate_parts::Certificate;
-use checked_dossiers::{AcceptedDossier, DOSSIER_LIMIT, read_accepted};
+use checked_dossiers::{CheckedDossier, DOSSIER_LIMIT, read_accepted};
 use lock_io::Source;
 use no_memory::NoMemory;
 use run_answers::{Answer, Status, Text, no_memory, read_source};
@@ -22,7 +22,7 @@ fn cost_in(certificate: &Certificate) -> u64
 }
 
 // That the certificate of a dossier is accepted.
-fn accepted_answer(alloc: Global, bytes: &[u8], dossier: &AcceptedDossier) -> Answer
+fn accepted_answer(alloc: Global, bytes: &[u8], dossier: &CheckedDossier) -> Answer
     requires { IsAccepted bytes.now dossier.now.instance dossier.now.certificate }
     ensures { AnswersCheck bytes.now result.status (bytes_in result.text) }
 {

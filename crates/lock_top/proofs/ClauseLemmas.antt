@@ -26,6 +26,7 @@ use Rattle.lock_top.specs.Runs.{Filled, Run, Got}
 use Rattle.lock_top.specs.Clauses.{Did, IsSolvedAs, IsLeftOpen, IsDrawn, IsTried, IsTriedOpen, KeepsItsWord}
 use Rattle.lock_top.proofs.AnswerLemmas.{meant_answer}
 use Rattle.lock_top.proofs.CompleteLemmas.{complete}
+use Rattle.cert_text.specs.declared.heading.Form.TheVariants as form
 
 -- ---- what is said to the bytes, in the words of the clauses
 
@@ -37,8 +38,8 @@ solved_as true bytes text I means best = record {
   formed = best.formed;
   accepts = best.accepts;
   cheapest = best.cheapest;
-  cost = best.accepts.cost;
-  reads = subst (λ b. Reads b I best.certificate) best.shown best.reads;
+  cost = best.accepts.stands.cost;
+  reads = subst (λ b. Reads form.Whole b I best.certificate) best.shown best.reads;
   shown = best.shown;
 }
 solved_as false bytes text I means best = record { instance = I; plan = best.plan; means = means; cheapest = best.cheapest; shown = best.shown }

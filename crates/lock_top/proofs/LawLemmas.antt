@@ -3,7 +3,7 @@ use Rattle.std.proofs.Common.{ℕ, ◌≡◌, ◌≢◌, ◌++◌, Bool, true, f
 use Rattle.std.specs.declared.option.Option.{Option}
 use Rattle.std.specs.Io.KnownBytes.{Appends}
 use Rattle.std.proofs.lemmas.List.{append_cancel_left}
-use Rattle.certificate_rules.proofs.FailLemmas.{fails-not_accepted}
+use Rattle.certificate_rules.proofs.FailLemmas.{fails-not_stands}
 use Rattle.cert_text.specs.Dossier.{dossier, Reads}
 use Rattle.command_words.specs.declared.commands.Command.TheVariants.{Check}
 use Rattle.lock_rules.specs.Unfit.{HasNoUnfit}
@@ -21,6 +21,7 @@ use Rattle.lock_top.proofs.AnswerLemmas.{meant_answer}
 use Rattle.lock_top.proofs.CheckLemmas.{own_shown, own_fails}
 use Rattle.checked_dossiers.proofs.FitLemmas.{legal_fits}
 use Rattle.checked_dossiers.proofs.ExactLemmas.{no_unfit}
+use Rattle.cert_text.specs.declared.heading.Form.TheVariants as form
 
 -- ---- the bytes that were handed on are the dossier
 
@@ -39,15 +40,15 @@ not_cut : (status : Status) → is_cut status ≡ false → status ≢ WriteFaul
 not_cut status whole is = true≢false (sym (ap is_cut is) ∙ whole)
 
 module _ (first : Run) (certified : Did IsCertified first) (words : List (List ℕ)) (source : Drained) (sink : Filled) (handed : IsHandedOn first.sink source) (ask : Asks words Check) where
-  reads_handed : Reads handed.bytes certified.says.instance certified.says.certificate
+  reads_handed : Reads form.Whole handed.bytes certified.says.instance certified.says.certificate
   reads_handed =
       let own = certified.says in
-      let certified_got : Got first (dossier own.instance own.certificate) = subst (Got first) own.shown certified.got in
-      let same = appended_some handed.old handed.bytes (dossier own.instance own.certificate) first.sink.held first.sink.held_after handed.before handed.after (certified_got) in
-      subst (λ bytes. Reads bytes own.instance own.certificate) (sym same) own.reads
+      let certified_got : Got first (dossier form.Whole own.instance own.certificate) = subst (Got first) own.shown certified.got in
+      let same = appended_some handed.old handed.bytes (dossier form.Whole own.instance own.certificate) first.sink.held first.sink.held_after handed.before handed.after (certified_got) in
+      subst (λ bytes. Reads form.Whole bytes own.instance own.certificate) (sym same) own.reads
 
   fit : HasNoUnfit certified.says.instance
-  fit = legal_fits certified.says.instance certified.says.certificate.plan certified.says.accepts.legal
+  fit = legal_fits certified.says.instance certified.says.certificate.plan certified.says.accepts.stands.legal
 
   told : (status : Status) (text : List ℕ) → AnswersBytes dossier_limit AnswersCheck source status text → AnswersCheck handed.bytes status text
   told status text read = told_says dossier_limit AnswersCheck source handed.bytes handed.told status text read
@@ -76,10 +77,10 @@ module _ (first : Run) (certified : Did IsCertified first) (words : List (List �
   accepted_ends BadDossier run =
       let written = run.written (not_cut BadDossier refl) in
       let fails = own_fails handed.bytes certified.says.instance certified.says.certificate reads_handed fit written.text (told BadDossier written.text (meant_answer words source BadDossier written.text Check written.answer ask.means)) in
-      fails-not_accepted certified.says.instance certified.says.certificate fails.0 fails.1 fails.2 certified.says.accepts
+      fails-not_stands certified.says.instance certified.says.certificate fails.0 fails.1 fails.2 certified.says.accepts.stands
   accepted_ends Unfit run =
       let written = run.written (not_cut Unfit refl) in
-      no_unfit handed.bytes written.text certified.says.instance certified.says.certificate reads_handed fit (told Unfit written.text (meant_answer words source Unfit written.text Check written.answer ask.means))
+      no_unfit form.Whole handed.bytes written.text certified.says.instance certified.says.certificate reads_handed fit (told Unfit written.text (meant_answer words source Unfit written.text Check written.answer ask.means))
   accepted_ends PlanRefused run =
       let written = run.written (not_cut PlanRefused refl) in
       told PlanRefused written.text (meant_answer words source PlanRefused written.text Check written.answer ask.means)

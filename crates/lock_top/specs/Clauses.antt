@@ -32,6 +32,7 @@ use Rattle.lock_top.specs.Asked.{Asks}
 use Rattle.lock_top.specs.Runs.{Run, Got}
 use Rattle.lock_top.specs.Answers.{IsWrittenWhole, IsCutOff}
 use Rattle.lock_top.specs.Complete.{IsComplete}
+use Rattle.cert_text.specs.declared.heading.Form.TheVariants as form
 
 -- These are all bytes that the source had left, read to its end, and the sink got a text of which, with these bytes, this is so.
 pub record Did (Says : List ℕ → List ℕ → Type 0) (run : Run) : Type 0 where
@@ -59,8 +60,8 @@ pub record IsCertified (bytes text : List ℕ) : Type 0 where
   pub accepts : Accepts instance certificate
   pub cheapest : IsCheapest instance certificate.plan
   pub cost : cost_of instance certificate.plan ≡ certificate.cost
-  pub reads : Reads (dossier instance certificate) instance certificate
-  pub shown : text ≡ dossier instance certificate
+  pub reads : Reads form.Whole (dossier form.Whole instance certificate) instance certificate
+  pub shown : text ≡ dossier form.Whole instance certificate
 
 abbrev pub IsSolvedAs : Bool → List ℕ → List ℕ → Type 0
 IsSolvedAs true bytes text = IsCertified bytes text

@@ -8,10 +8,8 @@ use Rattle.certificate_rules.specs.Failures.{Fails}
 use Rattle.certificate_rules.specs.declared.certificate.FailurePlace.{FailurePlace}
 use Rattle.certificate_rules.specs.declared.certificate.Reason.{Reason}
 use Rattle.certificate_rules.specs.Certificates.{Certificate, Accepts}
-use Rattle.certificate_rules.specs.OpenCertificates.{OpenCertificate}
 use Rattle.instance_text.specs.Reading.{Means}
 use Rattle.cert_text.specs.Dossier.{Reads}
-use Rattle.resume_book.specs.OpenDossier.{ReadsOpen}
 use Rattle.replan.specs.Kept.{kept_of}
 use Rattle.command_words.specs.declared.commands.SolveOptions.{SolveOptions}
 use Rattle.command_words.specs.declared.commands.LotOptions.{LotOptions}
@@ -30,6 +28,7 @@ use Rattle.plan_commands.specs.Planned.{IsLegallyPlanned}
 use Rattle.replan_command.specs.Ends.{IsReplanServed, MayEndReplan}
 use Rattle.lock_top.specs.Asked.{Asks}
 use Rattle.lock_top.specs.Runs.{Run}
+use Rattle.cert_text.specs.declared.heading.Form.TheVariants as form
 
 -- how a search may end: open only where the nodes or turns aren't surely enough
 abbrev pub MayEnd : Instance → ℕ → ℕ → Status → Type 0
@@ -73,11 +72,11 @@ MayPrint PlanRefused = ⊥
 -- COMPLETENESS. Over a source that is served, and bytes in which nothing is refused.
 pub record IsComplete (run : Run) : Type 0 where
   pub solve : (options : SolveOptions) (bytes : List ℕ) (I : Instance) → Asks run.words (Solve options) → IsServed solve_limit run.source bytes → Means bytes I → HasNoUnfit I → MayEnd I options.nodes options.turns run.status
-  pub check : (bytes : List ℕ) (I : Instance) (C : Certificate) → Asks run.words Check → IsServed dossier_limit run.source bytes → Reads bytes I C → HasNoUnfit I → MayCheck I C run.status
+  pub check : (bytes : List ℕ) (I : Instance) (C : Certificate) → Asks run.words Check → IsServed dossier_limit run.source bytes → Reads form.Whole bytes I C → HasNoUnfit I → MayCheck I C run.status
   pub lot : (options : LotOptions) → Asks run.words (Lot options) → MayPrint run.status
   pub trial : (options : TrialOptions) (I : Instance) → Asks run.words (Trial options) → IsLot options.lot.number options.lot.ships options.lot.chambers I → MayEnd I options.nodes options.turns run.status
   pub judge : (bytes : List ℕ) (I : Instance) (P : Plan) → Asks run.words Judge → IsServed plan_limit run.source bytes → IsLegallyPlanned bytes I P → MayPrint run.status
   pub play : (bytes : List ℕ) (I : Instance) (P : Plan) → Asks run.words Play → IsServed plan_limit run.source bytes → IsLegallyPlanned bytes I P → MayPrint run.status
   pub replan : (options : ReplanOptions) (I : Instance) (G : Plan) → Asks run.words (Replan options) → IsReplanServed run.source options.from I G → run.status ≢ WriteFault → MayEndReplan options I (kept_of G options.from) run.status
-  pub lower : (bytes : List ℕ) (I : Instance) (C : OpenCertificate) → Asks run.words Lower → IsServed dossier_limit run.source bytes → ReadsOpen bytes I C → HasNoUnfit I → MayLower I C run.status
-  pub resume : (options : SolveOptions) (bytes : List ℕ) (I : Instance) (C : OpenCertificate) → Asks run.words (Resume options) → IsServed dossier_limit run.source bytes → ReadsOpen bytes I C → HasNoUnfit I → MayResume options I C run.status
+  pub lower : (bytes : List ℕ) (I : Instance) (C : Certificate) → Asks run.words Lower → IsServed dossier_limit run.source bytes → Reads form.Open bytes I C → HasNoUnfit I → MayLower I C run.status
+  pub resume : (options : SolveOptions) (bytes : List ℕ) (I : Instance) (C : Certificate) → Asks run.words (Resume options) → IsServed dossier_limit run.source bytes → Reads form.Open bytes I C → HasNoUnfit I → MayResume options I C run.status

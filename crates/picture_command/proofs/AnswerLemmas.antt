@@ -5,7 +5,6 @@ use Rattle.lock_model.specs.declared.instance.Instance.{Instance}
 use Rattle.lock_model.specs.declared.plan.Plan.{Plan}
 use Rattle.lock_rules.specs.Plan.{IsLegal}
 use Rattle.certificate_rules.specs.Certificates.{Certificate}
-use Rattle.certificate_rules.specs.OpenCertificates.{OpenCertificate}
 use Rattle.cert_text.specs.declared.heading.Heading.{Heading}
 use Rattle.cert_text.specs.declared.heading.Version.{Version}
 use Rattle.cert_text.specs.declared.heading.Heading.TheVariants as heading
@@ -62,7 +61,7 @@ dossier_pictured clock bytes I C s text accepted told =
     page_told clock known.Optimal I C.plan (PrintsCheapest clock bytes text) (λ t. IsNotAccepted bytes t text) s text
     (λ page. record { instance = I; certificate = C; accepted = accepted; page = page }) (λ shown. shown) told
 
-pub open_pictured : (clock : Clock) (bytes : List ℕ) (I : Instance) (C : OpenCertificate) (low : ℕ) (kind : Known) (s : Status) (text : List ℕ) → IsStanding bytes I C → HasLow I C low
+pub open_pictured : (clock : Clock) (bytes : List ℕ) (I : Instance) (C : Certificate) (low : ℕ) (kind : Known) (s : Status) (text : List ℕ) → IsStanding bytes I C → HasLow I C low
     → kind ≡ known_of low C.cost → TellsPicture clock kind I C.plan s text → AnswersOpenDossier clock bytes s text
 open_pictured clock bytes I C low kind s text stands lowest is told =
     page_told clock kind I C.plan (PrintsBounded clock bytes text) (λ t. IsNoStanding bytes t text) s text

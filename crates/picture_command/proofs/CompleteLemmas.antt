@@ -4,7 +4,6 @@ use Rattle.std.specs.Prelude.{option_map}
 use Rattle.list_laws.proofs.Variants.{one-ok}
 use Rattle.lock_model.specs.declared.instance.Instance.{Instance}
 use Rattle.certificate_rules.specs.Certificates.{Certificate}
-use Rattle.certificate_rules.specs.OpenCertificates.{OpenCertificate}
 use Rattle.line_text.specs.Steps.{◌>>=◌}
 use Rattle.instance_text.specs.Draft.{draft_of}
 use Rattle.instance_text.specs.Reading.{reading, instance_part, after_instance}
@@ -20,7 +19,6 @@ use Rattle.cert_text.specs.declared.heading.Heading.TheVariants as kind
 use Rattle.cert_text.specs.declared.heading.Version.{Version}
 use Rattle.cert_text.specs.declared.bad.BadDossier.{BadDossier as AnyFault}
 use Rattle.cert_text.specs.declared.bad.BadDossier.TheVariants as fault
-use Rattle.resume_book.specs.OpenDossier.{open_certificate_in, open_rest_in, open_dossier_in, ReadsOpen}
 use Rattle.picture_page.specs.declared.times.Clock.{Clock}
 use Rattle.checked_dossiers.specs.Accepted.{IsAccepted, IsNotAccepted}
 use Rattle.checked_dossiers.specs.Standing.{IsStanding, IsNoStanding}
@@ -64,23 +62,14 @@ valued_version : {C : Type 0} (asked : Form) (bytes : List ℕ) (told : Result (
 valued_version asked bytes (Ok told) next certificate is e = value_version asked bytes told is
 valued_version asked bytes (Err f) next certificate is e = absurd cc
 
-rest_version : (bytes : List ℕ) (C : Certificate) → rest_in bytes ≡ Ok C → HasVersion (version_under form.Whole) (option_map (λ f. f.0) (headed bytes))
+rest_version : (own : Form) (bytes : List ℕ) (C : Certificate) → rest_in own bytes ≡ Ok C → HasVersion (version_under own) (option_map (λ f. f.0) (headed bytes))
 unfolding rest_in
-rest_version bytes C e = valued_version form.Whole bytes (value_in form.Whole bytes) (λ found. fault_under fault.Shape (certificate_in found.0 found.1)) C refl e
+rest_version own bytes C e = valued_version own bytes (value_in own bytes) (λ found. fault_under fault.Shape (certificate_in own found.0 found.1)) C refl e
 
-open_rest_version : (bytes : List ℕ) (C : OpenCertificate) → open_rest_in bytes ≡ Ok C → HasVersion (version_under form.Open) (option_map (λ f. f.0) (headed bytes))
-unfolding open_rest_in
-open_rest_version bytes C e = valued_version form.Open bytes (value_in form.Open bytes) (λ found. fault_under fault.Shape (open_certificate_in found.0 found.1)) C refl e
-
-reads_version : (bytes : List ℕ) (I : Instance) (C : Certificate) → Reads bytes I C → HasVersion (version_under form.Whole) (heading_in bytes)
+reads_version : (own : Form) (bytes : List ℕ) (I : Instance) (C : Certificate) → Reads own bytes I C → HasVersion (version_under own) (heading_in bytes)
 unfolding Reads dossier_in
-reads_version bytes I C reads =
-    rest_version (after_instance bytes) C (second (fault_under fault.Instance (reading (instance_part bytes))) (rest_in (after_instance bytes)) (draft_of I, C) reads)
-
-open_reads_version : (bytes : List ℕ) (I : Instance) (C : OpenCertificate) → ReadsOpen bytes I C → HasVersion (version_under form.Open) (heading_in bytes)
-unfolding ReadsOpen open_dossier_in
-open_reads_version bytes I C reads =
-    open_rest_version (after_instance bytes) C (second (fault_under fault.Instance (reading (instance_part bytes))) (open_rest_in (after_instance bytes)) (draft_of I, C) reads)
+reads_version own bytes I C reads =
+    rest_version own (after_instance bytes) C (second (fault_under fault.Instance (reading (instance_part bytes))) (rest_in own (after_instance bytes)) (draft_of I, C) reads)
 
 -- ---- how a picture may end
 
@@ -89,7 +78,7 @@ whole_drawn clock bytes I C s text (kind.Whole v) version accepted is answer =
     good_or (PrintsCheapest clock bytes text) (λ t. IsNotAccepted bytes t text) s (λ refusal. accepted_wants bytes s text refusal I C accepted) answer
 whole_drawn clock bytes I C s text (kind.Open v) version accepted is answer = absurd cc
 
-open_drawn : (clock : Clock) (bytes : List ℕ) (I : Instance) (C : OpenCertificate) (s : Status) (text : List ℕ) (h : Heading) (version : Version) → IsStanding bytes I C → version_under form.Open h ≡ Some version → AnswersHeaded clock (Some h) bytes s text → (s ≡ Good) ⊎ (s ≡ NoMemory)
+open_drawn : (clock : Clock) (bytes : List ℕ) (I : Instance) (C : Certificate) (s : Status) (text : List ℕ) (h : Heading) (version : Version) → IsStanding bytes I C → version_under form.Open h ≡ Some version → AnswersHeaded clock (Some h) bytes s text → (s ≡ Good) ⊎ (s ≡ NoMemory)
 open_drawn clock bytes I C s text (kind.Whole v) version stands is answer = absurd cc
 open_drawn clock bytes I C s text (kind.Open v) version stands is answer =
     good_or (PrintsBounded clock bytes text) (λ t. IsNoStanding bytes t text) s (λ refusal. standing_wants bytes s text refusal I C stands) answer
@@ -97,11 +86,11 @@ open_drawn clock bytes I C s text (kind.Open v) version stands is answer =
 -- what `check` accepts is drawn
 pub accepted_drawn : (clock : Clock) (bytes : List ℕ) (I : Instance) (C : Certificate) (s : Status) (text : List ℕ) → IsAccepted bytes I C → AnswersPicture clock bytes s text → (s ≡ Good) ⊎ (s ≡ NoMemory)
 accepted_drawn clock bytes I C s text accepted answer =
-    let found = reads_version bytes I C accepted.reads in
+    let found = reads_version form.Whole bytes I C accepted.reads in
     whole_drawn clock bytes I C s text found.heading found.version accepted found.gives (subst (λ h. AnswersHeaded clock h bytes s text) found.is answer)
 
 -- and so is an open dossier that stands
-pub standing_drawn : (clock : Clock) (bytes : List ℕ) (I : Instance) (C : OpenCertificate) (s : Status) (text : List ℕ) → IsStanding bytes I C → AnswersPicture clock bytes s text → (s ≡ Good) ⊎ (s ≡ NoMemory)
+pub standing_drawn : (clock : Clock) (bytes : List ℕ) (I : Instance) (C : Certificate) (s : Status) (text : List ℕ) → IsStanding bytes I C → AnswersPicture clock bytes s text → (s ≡ Good) ⊎ (s ≡ NoMemory)
 standing_drawn clock bytes I C s text stands answer =
-    let found = open_reads_version bytes I C stands.reads in
+    let found = reads_version form.Open bytes I C stands.reads in
     open_drawn clock bytes I C s text found.heading found.version stands found.gives (subst (λ h. AnswersHeaded clock h bytes s text) found.is answer)

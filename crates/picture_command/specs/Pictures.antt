@@ -4,7 +4,6 @@ use Rattle.std.specs.declared.option.Option.{Option}
 use Rattle.lock_model.specs.declared.instance.Instance.{Instance}
 use Rattle.lock_model.specs.declared.plan.Plan.{Plan}
 use Rattle.certificate_rules.specs.Certificates.{Certificate}
-use Rattle.certificate_rules.specs.OpenCertificates.{OpenCertificate}
 use Rattle.cert_text.specs.declared.heading.Heading.{Heading}
 use Rattle.cert_text.specs.declared.heading.Heading.TheVariants as heading
 use Rattle.day_play.specs.Lawful.{IsLawfulDay}
@@ -48,7 +47,7 @@ known_of low cost = if nat_eq low cost then known.Optimal else known.Open low
 -- The bytes are an open dossier that stands, and the picture of its plan says its low, below which no legal plan costs.
 pub record PrintsBounded (clock : Clock) (bytes text : List ℕ) : Type 0 where
   pub instance : Instance
-  pub certificate : OpenCertificate
+  pub certificate : Certificate
   pub low : ℕ
   pub standing : IsStanding bytes instance certificate
   pub lowest : HasLow instance certificate low

@@ -11,9 +11,8 @@ ghost use Rattle.picture_command.specs.Pictures.{known_of, AnswersPlan, AnswersD
 use crate::headings::heading_in;
 use crate::pages::{day_page, plan_page};
 use cert_text::Heading;
-use checked_dossiers::{
-    AcceptedDossier, DOSSIER_LIMIT, StandingDossier, read_accepted, read_standing,
-};
+use certificate_parts::Certificate;
+use checked_dossiers::{CheckedDossier, DOSSIER_LIMIT, read_accepted, read_standing};
 use day_play::{Played, play};
 use lock_io::Source;
 use lock_model::{Instance, Plan};
@@ -53,13 +52,14 @@ fn plan_answer(alloc: Global, clock: Clock, bytes: &[u8]) -> Answer
 
 // The page of a dossier whose certificate is accepted.
 #[tactic(auto, using(crate::proofs::AnswerLemmas::dossier_pictured))]
-fn accepted_answer(alloc: Global, clock: Clock, bytes: &[u8], dossier: &AcceptedDossier) -> Answer
+fn accepted_answer(alloc: Global, clock: Clock, bytes: &[u8], dossier: &CheckedDossier) -> Answer
     requires { IsAccepted bytes.now dossier.now.instance dossier.now.certificate }
     ensures { AnswersDossier clock bytes.now result.status (bytes_in result.text) }
 {
-    let AcceptedDossier {
+    let CheckedDossier {
         instance,
         certificate,
+        ..
     } = dossier;
     plan_page(alloc, clock, Known::Optimal, instance, &certificate.plan)
 }
@@ -76,7 +76,7 @@ fn dossier_answer(alloc: Global, clock: Clock, bytes: &[u8]) -> Answer
 }
 
 // What a low says of the plan of a certificate.
-fn known_of(low: u64, certificate: &OpenCertificate) -> Known
+fn known_of(low: u64, certificate: &Certificate) -> Known
     ensures { result ≡ known_of low certificate.now.cost }
 {
     if low == certificate.cost {
@@ -87,12 +87,12 @@ fn known_of(low: u64, certificate: &OpenCertificate) -> Known
 }
 
 // The page of an open dossier that stands.
-fn standing_answer(alloc: Global, clock: Clock, bytes: &[u8], dossier: &StandingDossier) -> Answer
+fn standing_answer(alloc: Global, clock: Clock, bytes: &[u8], dossier: &CheckedDossier) -> Answer
     requires standing { IsStanding bytes.now dossier.now.instance dossier.now.certificate }
     requires low { HasLow dossier.now.instance dossier.now.certificate dossier.now.low }
     ensures { AnswersOpenDossier clock bytes.now result.status (bytes_in result.text) }
 {
-    let StandingDossier {
+    let CheckedDossier {
         instance,
         certificate,
         low,

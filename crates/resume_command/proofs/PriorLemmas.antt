@@ -1,10 +1,10 @@
 -- Counting marks one by one.
 use Rattle.std.proofs.Common.{◌≡◌, ◌∙◌, ℕ, ◌+◌, ◌<◌, List, [], ◌∷◌, ◌++◌, length, take, filter, Bool, true, false, cond, sym, ap, ap₂, arith, slice_index_or}
 use Rattle.std.proofs.lemmas.List.{take_more}
-use Rattle.certificate_rules.specs.declared.certificate.OpenMark.{OpenMark}
+use Rattle.certificate_rules.specs.declared.certificate.Mark.{Mark}
 use Rattle.resume_command.specs.Prior.{is_prior, prior_of}
 
-prior-append : (xs ys : List OpenMark) → prior_of (xs ++ ys) ≡ prior_of xs + prior_of ys
+prior-append : (xs ys : List Mark) → prior_of (xs ++ ys) ≡ prior_of xs + prior_of ys
 prior-append [] ys = omega arith
 prior-append (x ∷ xs) ys = go (is_prior x) (prior-append xs ys)
   where
@@ -13,6 +13,6 @@ prior-append (x ∷ xs) ys = go (is_prior x) (prior-append xs ys)
     go false e = e
 
 -- one mark more
-pub prior-more : (marks : List OpenMark) (i count more : ℕ) (d : OpenMark) → i < length marks → count ≡ prior_of (take i marks) → more ≡ prior_of (slice_index_or marks i d ∷ []) → count + more ≡ prior_of (take (i + 1) marks)
+pub prior-more : (marks : List Mark) (i count more : ℕ) (d : Mark) → i < length marks → count ≡ prior_of (take i marks) → more ≡ prior_of (slice_index_or marks i d ∷ []) → count + more ≡ prior_of (take (i + 1) marks)
 prior-more marks i count more d known before own =
     ap₂ (λ m n. m + n) before own ∙ sym (prior-append (take i marks) (slice_index_or marks i d ∷ [])) ∙ ap prior_of (sym (take_more marks i d known))

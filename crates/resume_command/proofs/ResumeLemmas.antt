@@ -3,7 +3,7 @@ use Rattle.std.proofs.Common.{ℕ, ◌≤◌, List, subst}
 use Rattle.lock_model.specs.declared.instance.Instance.{Instance}
 use Rattle.lock_model.specs.declared.plan.Plan.{Plan}
 use Rattle.lock_rules.specs.Plan.{IsCheapest, cost_of}
-use Rattle.certificate_rules.specs.OpenCertificates.{OpenCertificate, Stands}
+use Rattle.certificate_rules.specs.Certificates.{Certificate, Stands}
 use Rattle.command_words.specs.declared.commands.SolveOptions.{SolveOptions}
 use Rattle.run_answers.specs.Sources.{IsFair}
 use Rattle.run_answers.proofs.EndedLemmas.{refused_ended}
@@ -19,10 +19,10 @@ pub resumes_none : (options : SolveOptions) (bytes : List ℕ) (s : Status) (tex
 resumes_none options bytes s text none = refused_ended (ResumesBest options bytes text) (ResumesOpen options bytes text) (λ t. IsNoStanding bytes t text) s (λ never. never) (λ never. never) none
 
 -- a cheapest plan costs at most what the certificate's plan costs
-cheapest_within : (I : Instance) (C : OpenCertificate) → Stands I C → (P : Plan) → IsCheapest I P → cost_of I P ≤ C.cost
+cheapest_within : (I : Instance) (C : Certificate) → Stands I C → (P : Plan) → IsCheapest I P → cost_of I P ≤ C.cost
 cheapest_within I C stands P cheapest = subst (λ cost. cost_of I P ≤ cost) stands.cost (cheapest.least C.plan stands.legal)
 
-pub search_resumes : (options : SolveOptions) (bytes : List ℕ) (I : Instance) (C : OpenCertificate) (s : Status) (text : List ℕ) → IsStanding bytes I C → AnswersSearch (PrintsBest options.dossier) (PrintsLeft options.keep) (search_on options I C) s text → AnswersResume options bytes s text
+pub search_resumes : (options : SolveOptions) (bytes : List ℕ) (I : Instance) (C : Certificate) (s : Status) (text : List ℕ) → IsStanding bytes I C → AnswersSearch (PrintsBest options.dossier) (PrintsLeft options.keep) (search_on options I C) s text → AnswersResume options bytes s text
 search_resumes options bytes I C Good text standing answer = record { instance = I; certificate = C; standing = standing; within = cheapest_within I C standing.stands; best = answer }
 search_resumes options bytes I C Open text standing answer = record { instance = I; certificate = C; standing = standing; left = answer }
 search_resumes options bytes I C Words text standing answer = answer

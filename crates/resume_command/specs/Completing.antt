@@ -1,7 +1,7 @@
 -- How `resume` may end on an open dossier whose instance has no unfit ship: its certificate stands and the search is done, or it fails and is refused, or memory was wanting or the sink failed.
 use Rattle.std.specs.Prelude.{⊤}
 use Rattle.lock_model.specs.declared.instance.Instance.{Instance}
-use Rattle.certificate_rules.specs.OpenCertificates.{OpenCertificate, Stands}
+use Rattle.certificate_rules.specs.Certificates.{Certificate, Stands}
 use Rattle.book_rules.specs.Ends.{AreEnough}
 use Rattle.command_words.specs.declared.commands.SolveOptions.{SolveOptions}
 use Rattle.run_answers.specs.declared.status.Status.{Status}
@@ -10,7 +10,7 @@ use Rattle.dossier_commands.specs.Completing.{FailsSomewhere}
 use Rattle.resume_command.specs.Resuming.{budget_of}
 
 -- open only where its nodes or turns aren't surely enough
-abbrev pub MayResume : SolveOptions → Instance → OpenCertificate → Status → Type 0
+abbrev pub MayResume : SolveOptions → Instance → Certificate → Status → Type 0
 MayResume options I C Good = Stands I C
 MayResume options I C Open = Stands I C × ¬ AreEnough I (budget_of C options.nodes) options.turns
 MayResume options I C Words = ⊥

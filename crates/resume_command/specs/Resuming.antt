@@ -4,7 +4,7 @@ use Rattle.lock_model.specs.declared.instance.Instance.{Instance}
 use Rattle.lock_model.specs.declared.plan.Plan.{Plan}
 use Rattle.lock_rules.specs.Plan.{IsCheapest, cost_of}
 use Rattle.book_rules.specs.Book.{Case}
-use Rattle.certificate_rules.specs.OpenCertificates.{OpenCertificate}
+use Rattle.certificate_rules.specs.Certificates.{Certificate}
 use Rattle.command_words.specs.declared.commands.SolveOptions.{SolveOptions}
 use Rattle.resume_command.specs.Prior.{prior_of}
 use Rattle.run_answers.specs.Ended.{IsEndedOr}
@@ -14,11 +14,11 @@ use Rattle.solve_commands.specs.Keeping.{PrintsLeft}
 use Rattle.checked_dossiers.specs.Standing.{IsStanding, IsNoStanding}
 
 -- how many nodes a search may use that goes on from a certificate: those of its marks that are neither bounds nor open leaves, and the given ones, but at most 1,000,000
-abbrev pub budget_of : OpenCertificate → ℕ → ℕ
+abbrev pub budget_of : Certificate → ℕ → ℕ
 budget_of C given = min (prior_of C.tree + given) 1000000
 
 -- the search that goes on from a certificate, and begins with its plan
-abbrev pub search_on : SolveOptions → Instance → OpenCertificate → Search
+abbrev pub search_on : SolveOptions → Instance → Certificate → Search
 search_on options I C = record { instance = I; nodes = budget_of C options.nodes; turns = options.turns; limit = C.cost }
 
 -- the search of a case, from a plan that costs at most so much
@@ -28,7 +28,7 @@ search_for case limit = record { instance = case.instance; nodes = case.nodes; t
 -- The certificate stands, and what is printed of a cheapest plan is printed, which costs at most the certificate's cost.
 pub record ResumesBest (options : SolveOptions) (bytes text : List ℕ) : Type 0 where
   pub instance : Instance
-  pub certificate : OpenCertificate
+  pub certificate : Certificate
   pub standing : IsStanding bytes instance certificate
   pub within : (P : Plan) → IsCheapest instance P → cost_of instance P ≤ certificate.cost
   pub best : PrintsBest options.dossier instance text
@@ -36,7 +36,7 @@ pub record ResumesBest (options : SolveOptions) (bytes text : List ℕ) : Type 0
 -- The certificate stands, and what is printed of an open plan is printed, which costs at most the certificate's cost.
 pub record ResumesOpen (options : SolveOptions) (bytes text : List ℕ) : Type 0 where
   pub instance : Instance
-  pub certificate : OpenCertificate
+  pub certificate : Certificate
   pub standing : IsStanding bytes instance certificate
   pub left : PrintsLeft options.keep (search_on options instance certificate) text
 

@@ -2,21 +2,21 @@
 ghost use Rattle.std.specs.Prelude.{◌≡◌, ◌≤◌, [], ◌∷◌};
 ghost use Rattle.resume_command.specs.Prior.{prior_of};
 
-use certificate_parts::{Ground, Mark, OpenCertificate, OpenMark};
+use certificate_parts::{Certificate, Ground, Mark};
 
 // 1 for a mark that is neither a bound mark nor an open leaf, and else 0.
-fn weight(mark: &OpenMark) -> u64
+fn weight(mark: &Mark) -> u64
     ensures value { result ≡ prior_of (mark.now ∷ []) }
     ensures most { result ≤ 1 }
 {
     match mark {
-        OpenMark::Open | OpenMark::Closed(Mark::Leaf(Ground::Bound)) => 0,
-        OpenMark::Closed(_) => 1,
+        Mark::Open | Mark::Leaf(Ground::Bound) => 0,
+        _ => 1,
     }
 }
 
 // How many of these marks are neither bound marks nor open leaves.
-fn count(marks: &[OpenMark]) -> u64
+fn count(marks: &[Mark]) -> u64
     ensures { result ≡ prior_of marks.now }
 {
     let mut count = 0;
@@ -28,7 +28,7 @@ fn count(marks: &[OpenMark]) -> u64
 
 // How many marks of an open certificate are neither bound marks nor open leaves. The nodes that a
 // search has taken and not left open have such marks, or bound marks.
-pub(crate) fn prior(certificate: &OpenCertificate) -> u64
+pub(crate) fn prior(certificate: &Certificate) -> u64
     ensures { result ≡ prior_of certificate.now.tree }
 {
     count(certificate.tree.as_slice())

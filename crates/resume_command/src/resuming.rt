@@ -3,7 +3,7 @@ ghost use Rattle.std.specs.Prelude.{◌≡◌, All, IfOk};
 ghost use Rattle.lock_model.specs.Limits.{Within};
 ghost use Rattle.closing_rules.specs.ProvedCuts.{IsProved};
 ghost use Rattle.book_rules.specs.Cover.{IsOwnCut};
-ghost use Rattle.certificate_rules.specs.OpenCertificates.{Stands};
+ghost use Rattle.certificate_rules.specs.Certificates.{Stands};
 ghost use Rattle.run_answers.specs.Sources.{AnswersSource, drained};
 ghost use Rattle.run_answers.specs.Written.{bytes_in};
 ghost use Rattle.solve_commands.specs.Options.{AreSolveNumbers};
@@ -15,8 +15,8 @@ ghost use Rattle.resume_command.specs.Resuming.{budget_of, search_for, AnswersRe
 
 use crate::counting::prior;
 use book_core::Case;
-use certificate_parts::{CertCut, OpenCertificate};
-use checked_dossiers::{DOSSIER_LIMIT, StandingDossier, read_standing};
+use certificate_parts::{CertCut, Certificate};
+use checked_dossiers::{CheckedDossier, DOSSIER_LIMIT, read_standing};
 use command_words::SolveOptions;
 use deck_cuts::{Cut, known_cut};
 use gates::Gate;
@@ -65,7 +65,7 @@ fn own_cuts(alloc: Global, instance: &Instance, cuts: &[CertCut]) -> Result<CutL
 }
 
 // How many nodes a search may use that goes on from a certificate.
-fn budget(certificate: &OpenCertificate, given: u32) -> u32
+fn budget(certificate: &Certificate, given: u32) -> u32
     requires { Within 1 1000000 given }
     ensures budget { result ≡ budget_of certificate.now given }
     ensures within { Within 1 1000000 result }
@@ -88,7 +88,7 @@ fn search_answer<R: Threads + Wait + Sync, G: Gate + Sync>(
     rt: &R,
     alloc: Global,
     case: &Case,
-    certificate: &OpenCertificate,
+    certificate: &Certificate,
     options: &SolveOptions,
     gate: &G,
 ) -> Answer
@@ -113,7 +113,7 @@ fn standing_answer<R: Threads + Wait + Sync, G: Gate + Sync>(
     rt: &R,
     alloc: Global,
     bytes: &[u8],
-    dossier: StandingDossier,
+    dossier: CheckedDossier,
     options: &SolveOptions,
     gate: &G,
 ) -> Answer

@@ -23,6 +23,7 @@ use Rattle.run_answers.specs.declared.status.Status.{Status}
 use Rattle.run_answers.specs.declared.status.Status.TheVariants.{Good, Open, Words, Refused, ReadFault, WriteFault, NoMemory, BadDossier, Unfit, PlanRefused}
 use Rattle.solve_commands.specs.Searching.{Search, Print, PrintsOptimal, PrintsDossier, PrintsBest, PrintsOpen, NoBest, NoLeft, AnswersSearch, status_of}
 use Rattle.solve_commands.specs.Keeping.{PrintsKept, PrintsLeft}
+use Rattle.cert_text.specs.declared.heading.Form.TheVariants as form
 
 -- what the book of a search that ended well shows
 pub book_ends : (b : Book) (limit : ℕ) (V : Verdict) → V ≡ verdict_of b → IsSound b → EndsWell limit b → IsEnd b.case.instance b.case.nodes b.case.turns limit b.best V
@@ -49,7 +50,7 @@ end_answers print k P (OpenTurns chamber ships given low) status text end is sho
     subst (λ s. AnswersSearch (PrintsOptimal print) (PrintsOpen print) k s text) (sym is) (inr (record { plan = P; chamber = chamber; ships = ships; spent = given; low = low; left = end; shown = shown }))
 
 -- the dossier of an accepted certificate
-pub dossier_printed : (I : Instance) (C : Certificate) (text : List ℕ) → Accepts I C → IsWellFormed C → text ≡ dossier I C → Reads text I C → PrintsDossier I text
+pub dossier_printed : (I : Instance) (C : Certificate) (text : List ℕ) → Accepts I C → IsWellFormed C → text ≡ dossier form.Whole I C → Reads form.Whole text I C → PrintsDossier I text
 dossier_printed I C text accepts formed shown reads =
     record { certificate = C; formed = formed; accepts = accepts; cheapest = accepted-cheapest I C (laws I) accepts; shown = shown; reads = reads }
 

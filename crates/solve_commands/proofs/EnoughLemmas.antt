@@ -3,7 +3,7 @@ use Rattle.std.proofs.Common.{ℕ, Bool, true, false, ◌≡◌, ◌<◌, ◌≤
 use Rattle.lock_model.specs.declared.verdict.Verdict.TheVariants.{Optimal, OpenNodes, OpenTurns}
 use Rattle.lock_rules.specs.Plan.{cost_of}
 use Rattle.book_rules.specs.Ends.{AreEnough, IsSpentBelow, IsOpenTurns}
-use Rattle.certificate_rules.specs.OpenCertificates.{OpenCertificate}
+use Rattle.certificate_rules.specs.Certificates.{Certificate}
 use Rattle.book_rules.proofs.GrowLemmas.{law-cheap}
 use Rattle.book_rules.proofs.CompleteLemmas.{enough-optimal}
 use Rattle.plan_print.specs.Report.{report}
@@ -22,7 +22,7 @@ open_ends print k text (inl n) = λ enough. nodes_open n.used n.low (enough-opti
 open_ends print k text (inr t) = λ enough. turns_open t.chamber t.ships t.spent t.low (enough-optimal k.instance k.nodes k.turns k.limit t.plan (OpenTurns t.chamber t.ships t.spent t.low) enough t.left)
 
 -- the end of a search whose turns are spent, by its open certificate
-spent_turns : (k : Search) (C : OpenCertificate) (kept : IsKeptCertificate k C) (spent : SpendsTurns k C) → IsOpenTurns k.instance k.turns k.limit C.plan spent.chamber spent.ships k.turns kept.low
+spent_turns : (k : Search) (C : Certificate) (kept : IsKeptCertificate k C) (spent : SpendsTurns k C) → IsOpenTurns k.instance k.turns k.limit C.plan spent.chamber spent.ships k.turns kept.low
 spent_turns k C kept spent =
     let costs = kept.stands.cost in
     record {
@@ -35,7 +35,7 @@ spent_turns k C kept spent =
     }
 
 -- where an open dossier is printed
-pub kept_ends : (k : Search) (C : OpenCertificate) → IsKeptCertificate k C → ¬ AreEnough k.instance k.nodes k.turns
+pub kept_ends : (k : Search) (C : Certificate) → IsKeptCertificate k C → ¬ AreEnough k.instance k.nodes k.turns
 kept_ends k C kept = λ enough. elim kept.cause [
   | inl spent ↦ law-cheap k.instance k.nodes k.limit enough.nodes_are spent.more
   | inr spent ↦ turns_open spent.chamber spent.ships k.turns kept.low (enough-optimal k.instance k.nodes k.turns k.limit C.plan (OpenTurns spent.chamber spent.ships k.turns kept.low) enough (spent_turns k C kept spent))

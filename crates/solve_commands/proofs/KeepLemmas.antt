@@ -12,11 +12,11 @@ use Rattle.book_rules.specs.Book.{Book, Slot, no_slot, slot_at, best_cost, is_fr
 use Rattle.lock_rules.specs.Node.{Node}
 use Rattle.book_rules.specs.Verdict.{low_of, parked_verdict, turns_verdict, verdict_of}
 use Rattle.book_rules.specs.Ends.{HasNothingOpen, HoldsNothing, EndsWell, IsOpenLow, IsSpentBelow, IsEnd}
-use Rattle.certificate_rules.specs.OpenCertificates.{OpenCertificate, Stands}
+use Rattle.certificate_rules.specs.Certificates.{Certificate, Stands}
 use Rattle.certificate_rules.specs.Low.{IsLow}
-use Rattle.certificate_rules.specs.WellFormed.{IsWellFormedOpen}
+use Rattle.certificate_rules.specs.WellFormed.{IsWellFormed}
 use Rattle.book_core.specs.Keeps.{IsSound}
-use Rattle.book_certificate.specs.OpenCertified.{IsOpenCertificateOf, certified_low, HasMoreMarks}
+use Rattle.book_certificate.specs.Certified.{IsCertificateOf, certified_low, HasMoreMarks}
 use Rattle.solve_commands.specs.Searching.{search_in}
 use Rattle.solve_commands.specs.Keeping.{SpendsNodes, SpendsTurns, IsKeptCertificate}
 use Rattle.solve_commands.proofs.EndLemmas.{book_ends}
@@ -54,7 +54,7 @@ shut_other b used low shut free is = by_test (has_slot b (λ state. is_fresh sta
 
 -- ---- the certificate of a book
 
-module _ (b : Book) (limit : ℕ) (C : OpenCertificate) (own : IsOpenCertificateOf b C) (stands : Stands b.case.instance C) (formed : IsWellFormedOpen C) where
+module _ (b : Book) (limit : ℕ) (C : Certificate) (own : IsCertificateOf b C) (stands : Stands b.case.instance C) (formed : IsWellFormed C) where
   abbrev I : Instance
   I = b.case.instance
 

@@ -5,28 +5,29 @@ use Rattle.lock_rules.specs.Plan.{IsLegal, cost_of}
 use Rattle.lock_rules.specs.Node.{root_lines}
 use Rattle.lock_rules.specs.Cheap.{cheap_nodes}
 use Rattle.book_rules.specs.Ends.{IsOpenLow, IsSpentBelow, IsUnderSpent}
-use Rattle.certificate_rules.specs.OpenCertificates.{OpenCertificate, Stands}
+use Rattle.certificate_rules.specs.Certificates.{Certificate, Stands}
 use Rattle.certificate_rules.specs.Low.{IsLow}
-use Rattle.certificate_rules.specs.WellFormed.{IsWellFormedOpen}
-use Rattle.resume_book.specs.OpenDossier.{open_dossier, ReadsOpen}
+use Rattle.certificate_rules.specs.WellFormed.{IsWellFormed}
+use Rattle.cert_text.specs.Dossier.{dossier, Reads}
 use Rattle.plan_print.specs.Report.{report}
 use Rattle.solve_commands.specs.Searching.{Search, PrintsOpen}
+use Rattle.cert_text.specs.declared.heading.Form.TheVariants as form
 
 -- More nodes than the search may use have a bound below its limit, and the certificate has more marks than these.
-pub record SpendsNodes (k : Search) (C : OpenCertificate) : Type 0 where
+pub record SpendsNodes (k : Search) (C : Certificate) : Type 0 where
   pub more : k.nodes < cheap_nodes k.instance k.limit 0 root_lines
   pub marks : k.nodes < length C.tree
 
 -- The turns of the search were spent on the named ships, a group of a node whose bound is below the certificate's cost, and every cheaper plan lies under a node with a spent group.
-pub record SpendsTurns (k : Search) (C : OpenCertificate) : Type 0 where
+pub record SpendsTurns (k : Search) (C : Certificate) : Type 0 where
   pub chamber : ℕ
   pub ships : List ℕ
   pub named : IsSpentBelow k.instance k.turns C.cost chamber ships
   pub cheaper : (Q : Plan) → IsLegal k.instance Q → cost_of k.instance Q < C.cost → IsUnderSpent k.instance k.turns Q
 
 -- The certificate stands and costs at most the search's limit, its low is below its cost and no legal plan costs less than the low, and the nodes or the turns of the search were spent.
-pub record IsKeptCertificate (k : Search) (C : OpenCertificate) : Type 0 where
-  pub formed : IsWellFormedOpen C
+pub record IsKeptCertificate (k : Search) (C : Certificate) : Type 0 where
+  pub formed : IsWellFormed C
   pub stands : Stands k.instance C
   pub cost : C.cost ≤ k.limit
   pub low : ℕ
@@ -36,10 +37,10 @@ pub record IsKeptCertificate (k : Search) (C : OpenCertificate) : Type 0 where
 
 -- The open dossier of such a certificate is printed. It is read back as the same two.
 pub record PrintsKept (k : Search) (text : List ℕ) : Type 0 where
-  pub certificate : OpenCertificate
+  pub certificate : Certificate
   pub kept : IsKeptCertificate k certificate
-  pub shown : text ≡ open_dossier k.instance certificate
-  pub reads : ReadsOpen text k.instance certificate
+  pub shown : text ≡ dossier form.Open k.instance certificate
+  pub reads : Reads form.Open text k.instance certificate
 
 -- what is printed of an open search: the open dossier where it is to be kept, else the report
 abbrev pub PrintsLeft : Bool → Search → List ℕ → Type 0

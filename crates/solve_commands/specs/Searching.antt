@@ -14,6 +14,7 @@ use Rattle.plan_print.specs.Report.{report}
 use Rattle.run_answers.specs.Texts.{no_memory_text}
 use Rattle.run_answers.specs.declared.status.Status.{Status}
 use Rattle.run_answers.specs.declared.status.Status.TheVariants.{Good, Open, Words, Refused, ReadFault, WriteFault, NoMemory, BadDossier, Unfit, PlanRefused}
+use Rattle.cert_text.specs.declared.heading.Form.TheVariants as form
 
 -- a search: its instance, how many nodes and turns it may use, and what its opening plan costs at most
 pub record Search : Type 0 where
@@ -48,8 +49,8 @@ pub record PrintsDossier (I : Instance) (text : List ℕ) : Type 0 where
   pub formed : IsWellFormed certificate
   pub accepts : Accepts I certificate
   pub cheapest : IsCheapest I certificate.plan
-  pub shown : text ≡ dossier I certificate
-  pub reads : Reads text I certificate
+  pub shown : text ≡ dossier form.Whole I certificate
+  pub reads : Reads form.Whole text I certificate
 
 -- what is printed of a cheapest plan: a dossier where one is asked for, else the report
 abbrev pub PrintsBest : Bool → Instance → List ℕ → Type 0

@@ -9,19 +9,19 @@ ghost use Rattle.run_answers.specs.Written.{bytes_in};
 
 use book_certificate::open_certificate_of;
 use book_core::Book;
-use certificate_parts::OpenCertificate;
+use cert_text::{Form, print_dossier};
+use certificate_parts::Certificate;
 use no_memory::NoMemory;
-use resume_book::print_open;
 use run_answers::{Answer, Status, Text, no_memory};
 use std::alloc::Global;
 
 // The open dossier of the open certificate of a search.
-fn open_dossier_answer(alloc: Global, book: &Book, certificate: &OpenCertificate) -> Answer
+fn open_dossier_answer(alloc: Global, book: &Book, certificate: &Certificate) -> Answer
     ghost limit: { ℕ }
     requires { IsKeptCertificate (search_in book.now limit) certificate.now }
     ensures { AnswersSearch NoBest PrintsKept (search_in book.now limit) result.status (bytes_in result.text) }
 {
-    match print_open(alloc, &book.case().instance, certificate) {
+    match print_dossier(alloc, Form::Open, &book.case().instance, certificate) {
         Ok(text) => Answer {
             status: Status::Open,
             text: Text::Made(text),

@@ -15,7 +15,7 @@ ghost use Rattle.run_answers.specs.Written.{bytes_in};
 use crate::keeping::kept_answer;
 use book_certificate::{CertError, certificate_of};
 use book_core::{Book, Case};
-use cert_text::print_dossier;
+use cert_text::{Form, print_dossier};
 use certificate_parts::Certificate;
 use command_words::SolveOptions;
 use gates::Gate;
@@ -93,7 +93,7 @@ fn printed(alloc: Global, book: &Book, certificate: &Certificate) -> Result<Vec<
     requires formed { IsWellFormed certificate.now }
     ensures { IfOk result (λ text. PrintsDossier book.now.case.instance text.items) }
 {
-    print_dossier(alloc, &book.case().instance, certificate)
+    print_dossier(alloc, Form::Whole, &book.case().instance, certificate)
 }
 
 /// The dossier of the certificate of a finished search. `StillOpen` only where the search left its

@@ -1,4 +1,4 @@
-use Rattle.std.proofs.Common.{◌+◌, ◌-◌, ◌<◌, arith}
+use Rattle.std.proofs.Common.{◌+◌, ◌-◌, ◌<◌, ◌++◌, [], ◌∷◌, ◌∙◌, ap, arith}
 use Rattle.book_rules.specs.Book.{slot_at}
 use Rattle.book_rules.specs.Family.{child_count}
 use Rattle.book_certificate.proofs.ChildLemmas.{split-lacks, child-known, child-deeper}
@@ -13,7 +13,7 @@ write_split-write_slot-requires t c =
     let deep = child-deeper b family c.args.id c.args.first c.requires.split c.loop-child.child c.loop-child.invariant.low below in
     let lacks = split-lacks b family c.args.id c.args.first c.requires.split in (
       omega (arith, c.decreases, deep, lacks),
-      (c.requires.closed, child-known b family c.args.id c.args.first c.requires.split c.loop-child.child c.loop-child.invariant.low below),
+      child-known b family c.args.id c.args.first c.requires.split c.loop-child.child c.loop-child.invariant.low below,
     )
 
 pub write_split-loop-child-preserved : goal.write_split-loop-child-preserved
@@ -27,13 +27,14 @@ write_split-loop-child-preserved t c =
       high = omega (arith, below);
       written =
           more-written b c.args.id c.args.first (c.loop-child.child - c.args.first) (c.loop-child.child + 1 - c.args.first) c.loop-child.child c.push.new.self c.loop-child.marks c.write_slot.new.marks (omega (arith, low)) (omega (arith, low))
-          (child-deeper b family c.args.id c.args.first c.requires.split c.loop-child.child low below) c.loop-child.invariant.written c.in_ok-write_slot.ensures.ok;
+          (child-deeper b family c.args.id c.args.first c.requires.split c.loop-child.child low below) c.loop-child.invariant.written c.in_ok-write_slot.ensures;
     }
 
-pub write_split-returns-clause-ok : goal.write_split-returns-clause-ok
-write_split-returns-clause-ok t c =
+pub write_split-returns : goal.write_split-returns
+write_split-returns t c =
     let b = c.args.book.now in
     let low = c.loop-child.invariant.low in
     let high = c.loop-child.invariant.high in
-    split-written b c.args.id c.args.first (c.loop-child.child - c.args.first) c.args.marks.now c.push.new.self c.loop-child.marks c.requires.split (split-lacks b c.keeps.ensures.parts.family c.args.id c.args.first c.requires.split) c.in_ok-push.ensures.ok
+    split-written b c.args.id c.args.first (c.loop-child.child - c.args.first) c.args.marks.now c.push.new.self c.loop-child.marks c.requires.split (split-lacks b c.keeps.ensures.parts.family c.args.id c.args.first c.requires.split)
+    (c.in_ok-push.ensures.ok ∙ ap (λ m. c.args.marks.now ++ m ∷ []) c.mark_at.ensures)
     (omega (arith, low, high, c.loop-child-test.false, c.children_end-child-end.ensures)) c.loop-child.invariant.written

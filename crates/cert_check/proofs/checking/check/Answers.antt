@@ -1,25 +1,31 @@
-use Rattle.std.proofs.Common.{rules}
-use Rattle.certificate_rules.specs.Certificates.{Accepts}
+use Rattle.std.proofs.Common.{ap, rules}
+use Rattle.certificate_rules.specs.Certificates.{Certificate, Stands}
+use Rattle.certificate_rules.specs.Low.{IsLow}
 use Rattle.certificate_rules.specs.Failures.{Fails}
-use Rattle.cert_check.proofs.AnswerLemmas.{accepted-rejected, rejected-accepted, rejected-rejected, accepted-best}
+use Rattle.cert_check.proofs.AnswerLemmas.{stands-stands, stands-rejected, stands-proven, rejected-stands, rejected-rejected}
 use Rattle.cert_check.proofs.checking.check.Goals as goal
 
-pub returns-in-None-clause-rejected : goal.returns-in-None-clause-rejected
-returns-in-None-clause-rejected c =
-    let good : Accepts c.args.instance.now c.args.certificate.now = search rules in
-    λ place why. accepted-rejected c.args.instance.now c.args.certificate.now good _ place why
+pub returns-in-Ok-clause-stands : goal.returns-in-Ok-clause-stands
+returns-in-Ok-clause-stands c =
+    let good : Stands c.args.instance.now c.args.certificate.now × IsLow c.args.instance.now c.args.certificate.now c.in-Ok.low = search rules in
+    λ low cost. stands-stands c.args.instance.now c.args.certificate.now c.in-Ok.low _ (ap (λ (k : Certificate). k.cost) c.certificate.view_is) good.0 good.1 low cost
 
-pub returns-in-None-clause-cheapest : goal.returns-in-None-clause-cheapest
-returns-in-None-clause-cheapest c =
-    let good : Accepts c.args.instance.now c.args.certificate.now = search rules in
-    λ cost e. accepted-best c.args.instance.now c.args.certificate.now c.heredity.ensures c.normal_form.ensures.normal good _ cost (search rules) e
+pub returns-in-Ok-clause-rejected : goal.returns-in-Ok-clause-rejected
+returns-in-Ok-clause-rejected c =
+    let good : Stands c.args.instance.now c.args.certificate.now × IsLow c.args.instance.now c.args.certificate.now c.in-Ok.low = search rules in
+    λ place why. stands-rejected c.args.instance.now c.args.certificate.now c.in-Ok.low _ good.0 place why
 
-pub returns-in-Some-clause-accepted : goal.returns-in-Some-clause-accepted
-returns-in-Some-clause-accepted c =
-    let f : Fails c.args.instance.now c.args.certificate.now c.in-Some.place c.in-Some.reason = search rules in
-    λ cost. rejected-accepted c.args.instance.now c.args.certificate.now c.in-Some.place c.in-Some.reason f cost
+pub returns-in-Ok-clause-proves : goal.returns-in-Ok-clause-proves
+returns-in-Ok-clause-proves c =
+    let good : Stands c.args.instance.now c.args.certificate.now × IsLow c.args.instance.now c.args.certificate.now c.in-Ok.low = search rules in
+    λ low cost e. stands-proven c.args.instance.now c.args.certificate.now c.heredity.ensures c.normal_form.ensures.normal c.in-Ok.low _ (ap (λ (k : Certificate). k.cost) c.certificate.view_is) good.0 good.1 low cost e
 
-pub returns-in-Some-clause-rejected : goal.returns-in-Some-clause-rejected
-returns-in-Some-clause-rejected c =
-    let f : Fails c.args.instance.now c.args.certificate.now c.in-Some.place c.in-Some.reason = search rules in
-    λ place why. rejected-rejected c.args.instance.now c.args.certificate.now c.in-Some.place c.in-Some.reason f place why
+pub returns-in-Err-clause-stands : goal.returns-in-Err-clause-stands
+returns-in-Err-clause-stands c =
+    let f : Fails c.args.instance.now c.args.certificate.now c.in-Err.place c.in-Err.reason = search rules in
+    λ low cost. rejected-stands c.args.instance.now c.args.certificate.now c.in-Err.place c.in-Err.reason f low cost
+
+pub returns-in-Err-clause-rejected : goal.returns-in-Err-clause-rejected
+returns-in-Err-clause-rejected c =
+    let f : Fails c.args.instance.now c.args.certificate.now c.in-Err.place c.in-Err.reason = search rules in
+    λ place why. rejected-rejected c.args.instance.now c.args.certificate.now c.in-Err.place c.in-Err.reason f place why

@@ -1,5 +1,5 @@
 use Rattle.std.proofs.Common.{◌-◌, ◌*◌, length}
-use Rattle.cert_check.specs.Reading.{whole_kind, AreRead}
+use Rattle.cert_check.specs.Reading.{AreReadLow}
 use Rattle.cert_check.proofs.reading.+tree.Given as goal
 
 abbrev pub decreases-read_made_child : goal.decreases-read_made_child
@@ -15,4 +15,4 @@ abbrev pub decreases-read_tree : goal.decreases-read_tree
 decreases-read_tree l = 4 * (length l.claim.now.instance.now.ships - l.node.now.depth)
 
 abbrev pub invariant-read_children-loop-i : goal.invariant-read_children-loop-i
-invariant-read_children-loop-i l = AreRead (whole_kind l.claim) l.node l.i l.marks l.rest
+invariant-read_children-loop-i l = AreReadLow l.claim l.node l.i l.low l.marks l.rest l.least

@@ -1,5 +1,5 @@
 use Rattle.std.proofs.Common.{◌∙◌, ap, sym}
-use Rattle.cert_text.specs.Crew.{ships_in}
+use Rattle.cert_text.specs.Ships.{ships_in}
 use Rattle.cert_text.specs.Cuts.{why_in}
 use Rattle.cert_text.proofs.CutLemmas.{cut_back}
 use Rattle.cert_text.proofs.cuts.put_cut.Goals as goal

@@ -1,11 +1,7 @@
-use Rattle.std.proofs.Common.{◌∙◌, ap, sym}
-use Rattle.cert_text.specs.Crew.{ships_in}
 use Rattle.cert_text.proofs.PlanLemmas.{lockage_back}
 use Rattle.cert_text.proofs.plan.put_lockage.Goals as goal
 
 pub returns-clause-reads_back : goal.returns-clause-reads_back
 returns-clause-reads_back c =
-    lockage_back c.args.lockage.now c.put_byte-chamber.ensures.reads_back
-    (ap ships_in (sym c.in_ok-ships.ensures.value) ∙ c.in_ok-ships.ensures.reads_back)
-    c.in_ok-spots.ensures.reads_back
+    lockage_back c.args.lockage.now c.in_ok-map.ensures.chamber_back c.in_ok-map.ensures.ships_back c.in_ok-spots.ensures.reads_back
     c.requires.1 c.put_word-start.ensures.reads_back c.way_number.ensures.reads_back

@@ -1,5 +1,0 @@
-use Rattle.cert_text.proofs.CrewLemmas.{too_many}
-use Rattle.cert_text.proofs.crew.crew_in.Goals as goal
-
-pub returns-then-list-gt-MOST : goal.returns-then-list-gt-MOST
-returns-then-list-gt-MOST c = too_many c.args.list.now c.if-list-gt-MOST.true

@@ -1,3 +1,0 @@
-mod ReadLemmas
-mod AnswerLemmas
-pub mod TextLemmas

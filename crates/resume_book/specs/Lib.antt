@@ -1,4 +1,0 @@
-pub mod Proven
-pub mod Reading
-pub mod OneFailure
-pub mod OpenDossier
