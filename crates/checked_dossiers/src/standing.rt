@@ -7,8 +7,6 @@ ghost use Rattle.checked_dossiers.specs.Standing.{IsStanding, HasLow, IsNoStandi
 
 use crate::sound::{CheckedDossier, read_sound};
 use cert_text::Form;
-use mooring_rules::first_unfit;
-use no_memory::NoMemory;
 use run_answers::{Answer, Status};
 use std::alloc::Global;
 
