@@ -63,3 +63,15 @@ IsPutNear own early mask old new = (IsBetween own early mask × (new ≡ old ++ 
 pub record AreNears (I : Instance) (k : ℕ) (sets : List (List ℕ)) (n : ℕ) (nears : List Near) : Type 0 where
   pub count : length nears ≡ n
   pub each : (s : ℕ) (d : Near) → s < n → is_missing I k s ≡ true → AreNear I k sets (length sets) s (slice_index_or nears s d).masks.items
+
+-- whatever sets the masks are of, those that the ship may complete
+abbrev pub AreNearOf : Instance → ℕ → List ℕ → ℕ → List ℕ → Type 0
+AreNearOf I k marks ship masks = (sets : List (List ℕ)) → AreMarks I sets (length sets) marks → AreNear I k sets (length sets) ship masks
+
+-- the same, where the ship is missing
+abbrev pub AreNearMissing : Instance → ℕ → List ℕ → ℕ → List ℕ → Type 0
+AreNearMissing I k marks ship masks = (sets : List (List ℕ)) → AreMarks I sets (length sets) marks → is_missing I k ship ≡ true → AreNear I k sets (length sets) ship masks
+
+-- for each missing ship of the instance the masks of the sets that it may complete
+abbrev pub AreAllNears : Instance → ℕ → List (List ℕ) → List Near → Type 0
+AreAllNears I k sets nears = AreNears I k sets (length I.ships) nears

@@ -1,11 +1,13 @@
 -- The sums of groups: what each ship counts in what a group pays, how long it takes, and when its last ship arrives.
-use Rattle.std.specs.Prelude.{ℕ, ◌≡◌, ◌+◌, ◌-◌, ◌*◌, ◌≤◌, ◌<◌, List, length, All, cond, slice_index_or}
+use Rattle.std.specs.Prelude.{ℕ, ◌≡◌, ◌+◌, ◌*◌, ◌≤◌, ◌<◌, List, length, All, cond, slice_index_or}
 use Rattle.lock_model.specs.Fleet.{ship_at}
 use Rattle.lock_model.specs.declared.instance.Instance.{Instance}
 use Rattle.lock_model.specs.declared.group.Group.{Group}
 use Rattle.lock_rules.specs.Lawful.{duration_of}
 use Rattle.lock_rules.specs.Timetable.{last_arrival}
+use Rattle.lock_rules.specs.Children.{insert_number}
 use Rattle.price_rules.specs.Prices.{is_missing, price_at}
+use Rattle.price_groups.specs.declared.growing.WeighedGroups.{WeighedGroups}
 use Rattle.price_groups.specs.declared.sums.Sums.{Sums}
 use Rattle.price_groups.specs.Masks.{IsMask}
 
@@ -29,3 +31,11 @@ pub record AreSumsOf (I : Instance) (c : ℕ) (ships : List ℕ) (sums : Sums) :
 pub record AreWeighed (I : Instance) (c : ℕ) (groups : List Group) (sums : List Sums) : Type 0 where
   pub count : length sums ≡ length groups
   pub each : (j : ℕ) (d : Group) (e : Sums) → j < length groups → AreSumsOf I c (slice_index_or groups j d).ships (slice_index_or sums j e)
+
+-- whatever ships have the old sums, with the ship they have the new ones
+abbrev pub AreSumsMore : Instance → ℕ → ℕ → Sums → Sums → Type 0
+AreSumsMore I c s old new = (ships : List ℕ) → AreSumsOf I c ships old → AreSumsOf I c (insert_number s ships) new
+
+-- the same of groups that are kept with their sums
+abbrev pub AreWeighedGroups : Instance → ℕ → WeighedGroups → Type 0
+AreWeighedGroups I c listed = AreWeighed I c listed.groups.items listed.sums.items
