@@ -3,8 +3,8 @@ ghost use Rattle.std.specs.Prelude.{◌≡◌, ◌+◌, ◌<◌, ◌≤◌, [], 
 ghost use Rattle.price_groups.specs.Asked.{line_asked, group_asked};
 ghost use Rattle.price_groups.specs.Asks.{IsUncutIn};
 ghost use Rattle.price_groups.specs.GrownLists.{IsGrownList};
-ghost use Rattle.price_groups.specs.Masks.{AreAllNears};
-ghost use Rattle.price_groups.specs.Sums.{AreSumsOf};
+ghost use Rattle.price_groups.specs.Masks.{AreNearsIn};
+ghost use Rattle.price_groups.specs.Sums.{AreSumsIn};
 ghost use Rattle.price_choices.specs.Choices.{Keeps, IsChoice, IsBaseOf};
 ghost use Rattle.price_choices.specs.Enough.{HaveMore, PutsGroup, AreEarlyMore, AreSomeEarly, AreEarly};
 
@@ -30,7 +30,7 @@ fn add_group(
 ) -> Result<(), PriceError>
     requires each { All (IsChoice (line_asked extension.now.case.now)) choices.old.items }
     requires known { All (λ s. s < length extension.now.case.now.instance.now.ships) grown.now.group.ships }
-    requires sums { AreSumsOf extension.now.case.now.instance.now extension.now.case.now.index grown.now.group.ships grown.now.sums }
+    requires sums { AreSumsIn (group_asked extension.now) grown.now.group.ships grown.now.sums }
     requires uncut { 1 ≤ length grown.now.group.ships → IsUncutIn (line_asked extension.now.case.now) grown.now.group }
     requires keeps { Keeps (line_asked extension.now.case.now) joins grown.now.group }
     ensures { OnOk result (PutsGroup (line_asked extension.now.case.now) joins grown.now.group choices.old.items choices.new.items) }
@@ -147,7 +147,7 @@ fn free_choices(
     lists: &mut Vec<GrownList>,
     buckets: &mut Buckets,
 ) -> Result<Vec<Choice>, PriceError>
-    requires nears { AreAllNears extension.now.case.now.instance.now extension.now.case.now.depth extension.now.sets.now extension.now.nears.now }
+    requires nears { AreNearsIn (group_asked extension.now) extension.now.nears.now }
     requires lists { All (IsGrownList (group_asked extension.now)) lists.old.items }
     ensures lists { All (IsGrownList (group_asked extension.now)) lists.new.items }
     ensures some { IfOk result (λ choices. AreSomeEarly (line_asked extension.now.case.now) 0 choices.items) }
@@ -168,7 +168,7 @@ pub fn choices(
     lists: &mut Vec<GrownList>,
     buckets: &mut Buckets,
 ) -> Result<Vec<Choice>, PriceError>
-    requires nears { AreAllNears extension.now.case.now.instance.now extension.now.case.now.depth extension.now.sets.now extension.now.nears.now }
+    requires nears { AreNearsIn (group_asked extension.now) extension.now.nears.now }
     requires lists { All (IsGrownList (group_asked extension.now)) lists.old.items }
     ensures lists { All (IsGrownList (group_asked extension.now)) lists.new.items }
     ensures early { IfOk result (λ choices. AreEarly (line_asked extension.now.case.now) choices.items) }

@@ -1,7 +1,7 @@
 //! What a group that has grown pays.
 ghost use Rattle.std.specs.Prelude.{◌≡◌, ◌+◌, ◌<◌, ◌≤◌, length, All, sum_by};
-ghost use Rattle.price_groups.specs.Asked.{line_asked};
-ghost use Rattle.price_groups.specs.Sums.{rate_of, AreSumsOf};
+ghost use Rattle.price_groups.specs.Asked.{line_asked, group_asked};
+ghost use Rattle.price_groups.specs.Sums.{rate_of, AreSumsIn};
 ghost use Rattle.price_choices.specs.Choices.{AreSums};
 
 use crate::choice::Choice;
@@ -35,7 +35,7 @@ fn paid(extension: &Extension, ships: &[u8]) -> u32
 pub(crate) fn weighed(extension: &Extension, grown: &GrownGroup, joins: Option<u8>) -> Choice
     requires known { All (λ s. s < length extension.now.case.now.instance.now.ships) grown.now.group.ships }
     requires few { length grown.now.group.ships ≤ 8 }
-    requires sums { AreSumsOf extension.now.case.now.instance.now extension.now.case.now.index grown.now.group.ships grown.now.sums }
+    requires sums { AreSumsIn (group_asked extension.now) grown.now.group.ships grown.now.sums }
     ensures group { result.group ≡ grown.now.group }
     ensures joins { result.joins ≡ joins }
     ensures sums { AreSums (line_asked extension.now.case.now) result }

@@ -52,6 +52,10 @@ pub record AreGrown (A : GroupAsk) (base : Group) (n : ℕ) (groups : List Group
   pub each : All (IsGrown A.instance A.chamber A.depth A.sets base n) groups
   pub whole : (g : Group) → IsGrown A.instance A.chamber A.depth A.sets base n g → (Contains groups g) ⊎ HasIdlerBy A g
 
+-- the same by all ships of the instance
+abbrev pub AreWhollyGrown : GroupAsk → Group → List Group → Type 0
+AreWhollyGrown A base = AreGrown A base (length A.instance.ships)
+
 -- the group has room for the ship, and no forbidden set is among them
 pub record MayJoin (I : Instance) (c : ℕ) (sets : List (List ℕ)) (s : ℕ) (g : Group) : Type 0 where
   pub room : length g.ships < (chamber_at I c).most
@@ -91,3 +95,13 @@ abbrev pub IsJoined : GroupAsk → ℕ → Group → List Group → List Group �
 IsJoined A s g old new =
     (MayJoin A.instance A.chamber A.sets s g × (new ≡ old ++ with_ship s g ∷ []))
     ⊎ (((¬ MayJoin A.instance A.chamber A.sets s g) ⊎ HasIdlerBy A (with_ship s g)) × (new ≡ old))
+
+-- the same of what groups are asked by
+abbrev pub IsBaseIn : GroupAsk → Group → Type 0
+IsBaseIn A = IsBase A.instance A.chamber A.depth
+
+abbrev pub IsNewIn : GroupAsk → Group → ℕ → Type 0
+IsNewIn A = IsNew A.instance A.depth
+
+abbrev pub IsAllowedIn : GroupAsk → ℕ → ℕ → Type 0
+IsAllowedIn A = IsAllowed A.instance A.depth

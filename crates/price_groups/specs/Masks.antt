@@ -4,6 +4,7 @@ use Rattle.std.specs.Int.{bit_at}
 use Rattle.lock_model.specs.declared.instance.Instance.{Instance}
 use Rattle.price_groups.specs.declared.near.Near.{Near}
 use Rattle.price_rules.specs.Prices.{is_missing}
+use Rattle.price_groups.specs.Asks.{GroupAsk}
 use Rattle.price_groups.specs.Growing.{IsAllowed}
 
 -- the bits of the number are these ships
@@ -72,6 +73,9 @@ AreNearOf I k marks ship masks = (sets : List (List ℕ)) → AreMarks I sets (l
 abbrev pub AreNearMissing : Instance → ℕ → List ℕ → ℕ → List ℕ → Type 0
 AreNearMissing I k marks ship masks = (sets : List (List ℕ)) → AreMarks I sets (length sets) marks → is_missing I k ship ≡ true → AreNear I k sets (length sets) ship masks
 
--- for each missing ship of the instance the masks of the sets that it may complete
-abbrev pub AreAllNears : Instance → ℕ → List (List ℕ) → List Near → Type 0
-AreAllNears I k sets nears = AreNears I k sets (length I.ships) nears
+-- the same of what groups are asked by
+abbrev pub AreNearIn : GroupAsk → ℕ → List ℕ → Type 0
+AreNearIn A = AreNear A.instance A.depth A.sets (length A.sets)
+
+abbrev pub AreNearsIn : GroupAsk → List Near → Type 0
+AreNearsIn A = AreNears A.instance A.depth A.sets (length A.instance.ships)

@@ -9,6 +9,7 @@ use Rattle.lock_rules.specs.Children.{insert_number}
 use Rattle.price_rules.specs.Prices.{is_missing, price_at}
 use Rattle.price_groups.specs.declared.growing.WeighedGroups.{WeighedGroups}
 use Rattle.price_groups.specs.declared.sums.Sums.{Sums}
+use Rattle.price_groups.specs.Asks.{GroupAsk}
 use Rattle.price_groups.specs.Masks.{IsMask}
 
 -- what ship s counts: 100 times its arrival, and its price where it is missing
@@ -32,10 +33,17 @@ pub record AreWeighed (I : Instance) (c : ℕ) (groups : List Group) (sums : Lis
   pub count : length sums ≡ length groups
   pub each : (j : ℕ) (d : Group) (e : Sums) → j < length groups → AreSumsOf I c (slice_index_or groups j d).ships (slice_index_or sums j e)
 
--- whatever ships have the old sums, with the ship they have the new ones
-abbrev pub AreSumsMore : Instance → ℕ → ℕ → Sums → Sums → Type 0
-AreSumsMore I c s old new = (ships : List ℕ) → AreSumsOf I c ships old → AreSumsOf I c (insert_number s ships) new
+-- the same of what groups are asked by
+abbrev pub AreSumsIn : GroupAsk → List ℕ → Sums → Type 0
+AreSumsIn A = AreSumsOf A.instance A.chamber
 
--- the same of groups that are kept with their sums
-abbrev pub AreWeighedGroups : Instance → ℕ → WeighedGroups → Type 0
-AreWeighedGroups I c listed = AreWeighed I c listed.groups.items listed.sums.items
+abbrev pub AreWeighedIn : GroupAsk → List Group → List Sums → Type 0
+AreWeighedIn A = AreWeighed A.instance A.chamber
+
+-- whatever ships have the old sums, with the ship they have the new ones
+abbrev pub AreSumsMore : GroupAsk → ℕ → Sums → Sums → Type 0
+AreSumsMore A s old new = (ships : List ℕ) → AreSumsIn A ships old → AreSumsIn A (insert_number s ships) new
+
+-- these are groups with their sums
+abbrev pub AreWeighedGroups : GroupAsk → WeighedGroups → Type 0
+AreWeighedGroups A listed = AreWeighedIn A listed.groups.items listed.sums.items

@@ -4,10 +4,10 @@ ghost use Rattle.lock_rules.specs.Plan.{times_in};
 ghost use Rattle.lock_rules.specs.Children.{with_ship};
 ghost use Rattle.master_branch.specs.Steps.{group_in};
 ghost use Rattle.price_groups.specs.Asked.{group_asked};
-ghost use Rattle.price_groups.specs.Growing.{IsAllowed, AreGrown, MayJoin, IsBase, IsNew, IsPutJoined, IsJoinedBy, IsJoined};
-ghost use Rattle.price_groups.specs.Masks.{IsMask, AreNear, AreAllNears};
+ghost use Rattle.price_groups.specs.Growing.{AreGrown, AreWhollyGrown, MayJoin, IsNew, IsPutJoined, IsJoinedBy, IsJoined, IsBaseIn, IsNewIn, IsAllowedIn};
+ghost use Rattle.price_groups.specs.Masks.{IsMask, AreNearIn, AreNearsIn};
 ghost use Rattle.price_groups.specs.Sparing.{IsSpared};
-ghost use Rattle.price_groups.specs.Sums.{AreSumsOf, AreWeighed, AreWeighedGroups};
+ghost use Rattle.price_groups.specs.Sums.{AreSumsIn, AreWeighedIn, AreWeighedGroups};
 
 use crate::extension::Extension;
 use crate::forbidden::misses_all;
@@ -59,10 +59,10 @@ fn with_more(group: &Group, mask: u32, ship: u8) -> Group
 // among them.
 fn joined(extension: &Extension, near: &[u32], group: &Group, mask: u32, ship: u8) -> Option<Group>
     requires mask { IsMask mask group.now.ships }
-    requires near { AreNear extension.now.case.now.instance.now extension.now.case.now.depth extension.now.sets.now (length extension.now.sets.now) ship near.now }
+    requires near { AreNearIn (group_asked extension.now) ship near.now }
     requires known { ship < length extension.now.case.now.instance.now.ships }
     requires ships_in { All (λ s. s < length extension.now.case.now.instance.now.ships) group.now.ships }
-    requires allowed { All (IsAllowed extension.now.case.now.instance.now extension.now.case.now.depth ship) group.now.ships }
+    requires allowed { All (IsAllowedIn (group_asked extension.now) ship) group.now.ships }
     requires spared { IsSpared extension.now.sets.now group.now }
     requires absent { times_in group.now.ships ship ≡ 0 }
     requires few { length group.now.ships ≤ 8 }
@@ -95,9 +95,9 @@ fn put_joined(
     own: Sums,
 ) -> Result<(), PriceError>
     requires known { All (λ s. s < length extension.now.case.now.instance.now.ships) group.ships }
-    requires weighed { AreWeighed extension.now.case.now.instance.now extension.now.case.now.index groups.old.items sums.old.items }
-    requires own { AreSumsOf extension.now.case.now.instance.now extension.now.case.now.index group.ships own }
-    ensures weighed { OnOk result (AreWeighed extension.now.case.now.instance.now extension.now.case.now.index groups.new.items sums.new.items) }
+    requires weighed { AreWeighedIn (group_asked extension.now) groups.old.items sums.old.items }
+    requires own { AreSumsIn (group_asked extension.now) group.ships own }
+    ensures weighed { OnOk result (AreWeighedIn (group_asked extension.now) groups.new.items sums.new.items) }
     ensures put { OnOk result (IsPutJoined (group_asked extension.now) group groups.old.items groups.new.items) }
 {
     if may_idle(&own) && has_idler(extension, &group, own.end()) {
@@ -119,16 +119,16 @@ fn join(
     place: usize,
     ship: u8,
 ) -> Result<(), PriceError>
-    requires near { AreNear extension.now.case.now.instance.now extension.now.case.now.depth extension.now.sets.now (length extension.now.sets.now) ship near.now }
+    requires near { AreNearIn (group_asked extension.now) ship near.now }
     requires known { ship < length extension.now.case.now.instance.now.ships }
     requires ships_in { All (λ s. s < length extension.now.case.now.instance.now.ships) (group_in groups.old.items place).ships }
-    requires allowed { All (IsAllowed extension.now.case.now.instance.now extension.now.case.now.depth ship) (group_in groups.old.items place).ships }
+    requires allowed { All (IsAllowedIn (group_asked extension.now) ship) (group_in groups.old.items place).ships }
     requires spared { IsSpared extension.now.sets.now (group_in groups.old.items place) }
     requires place { place < length groups.old.items }
     requires absent { times_in (group_in groups.old.items place).ships ship ≡ 0 }
     requires few { length (group_in groups.old.items place).ships ≤ 8 }
-    requires weighed { AreWeighed extension.now.case.now.instance.now extension.now.case.now.index groups.old.items sums.old.items }
-    ensures weighed { OnOk result (AreWeighed extension.now.case.now.instance.now extension.now.case.now.index groups.new.items sums.new.items) }
+    requires weighed { AreWeighedIn (group_asked extension.now) groups.old.items sums.old.items }
+    ensures weighed { OnOk result (AreWeighedIn (group_asked extension.now) groups.new.items sums.new.items) }
     ensures joined { OnOk result (IsJoined (group_asked extension.now) ship (group_in groups.old.items place) groups.old.items groups.new.items) }
 {
     let own = &sums[place];
@@ -150,12 +150,12 @@ fn join_each(
     sums: &mut Vec<Sums>,
     ship: u8,
 ) -> Result<(), PriceError>
-    requires near { AreNear extension.now.case.now.instance.now extension.now.case.now.depth extension.now.sets.now (length extension.now.sets.now) ship near.now }
+    requires near { AreNearIn (group_asked extension.now) ship near.now }
     requires known { ship < length extension.now.case.now.instance.now.ships }
-    requires new { IsNew extension.now.case.now.instance.now extension.now.case.now.depth base.now ship }
+    requires new { IsNewIn (group_asked extension.now) base.now ship }
     requires grown { AreGrown (group_asked extension.now) base.now ship groups.old.items }
-    requires weighed { AreWeighed extension.now.case.now.instance.now extension.now.case.now.index groups.old.items sums.old.items }
-    ensures weighed { OnOk result (AreWeighed extension.now.case.now.instance.now extension.now.case.now.index groups.new.items sums.new.items) }
+    requires weighed { AreWeighedIn (group_asked extension.now) groups.old.items sums.old.items }
+    ensures weighed { OnOk result (AreWeighedIn (group_asked extension.now) groups.new.items sums.new.items) }
     ensures grown { OnOk result (AreGrown (group_asked extension.now) base.now (ship + 1) groups.new.items) }
 {
     for place in 0..groups.len() {
@@ -172,11 +172,11 @@ fn grow(
     sums: &mut Vec<Sums>,
     ship: u8,
 ) -> Result<(), PriceError>
-    requires nears { AreAllNears extension.now.case.now.instance.now extension.now.case.now.depth extension.now.sets.now extension.now.nears.now }
+    requires nears { AreNearsIn (group_asked extension.now) extension.now.nears.now }
     requires known { ship < length extension.now.case.now.instance.now.ships }
     requires grown { AreGrown (group_asked extension.now) base.now ship groups.old.items }
-    requires weighed { AreWeighed extension.now.case.now.instance.now extension.now.case.now.index groups.old.items sums.old.items }
-    ensures weighed { OnOk result (AreWeighed extension.now.case.now.instance.now extension.now.case.now.index groups.new.items sums.new.items) }
+    requires weighed { AreWeighedIn (group_asked extension.now) groups.old.items sums.old.items }
+    ensures weighed { OnOk result (AreWeighedIn (group_asked extension.now) groups.new.items sums.new.items) }
     ensures grown { OnOk result (AreGrown (group_asked extension.now) base.now (ship + 1) groups.new.items) }
 {
     if !may_grow(extension.case, base, ship) {
@@ -194,7 +194,7 @@ fn grow(
 
 // The base alone, where no forbidden set is in it.
 fn ungrown(alloc: Global, extension: &Extension, base: &Group) -> Result<Vec<Group>, PriceError>
-    requires { IsBase extension.now.case.now.instance.now extension.now.case.now.index extension.now.case.now.depth base.now }
+    requires { IsBaseIn (group_asked extension.now) base.now }
     ensures { IfOk result (λ groups. AreGrown (group_asked extension.now) base.now 0 groups.items) }
 {
     let mut groups = Vec::new(alloc);
@@ -212,7 +212,7 @@ fn sums_of_all(
     groups: &[Group],
 ) -> Result<Vec<Sums>, PriceError>
     requires { All (λ g. All (λ s. s < length extension.now.case.now.instance.now.ships) g.ships) groups.now }
-    ensures { IfOk result (λ sums. AreWeighed extension.now.case.now.instance.now extension.now.case.now.index groups.now sums.items) }
+    ensures { IfOk result (λ sums. AreWeighedIn (group_asked extension.now) groups.now sums.items) }
 {
     let mut sums = Vec::new(alloc);
     for group in groups {
@@ -229,10 +229,10 @@ pub(crate) fn grown(
     extension: &Extension,
     base: &Group,
 ) -> Result<WeighedGroups, PriceError>
-    requires nears { AreAllNears extension.now.case.now.instance.now extension.now.case.now.depth extension.now.sets.now extension.now.nears.now }
-    requires base { IsBase extension.now.case.now.instance.now extension.now.case.now.index extension.now.case.now.depth base.now }
-    ensures grown { IfOk result (λ listed. AreGrown (group_asked extension.now) base.now (length extension.now.case.now.instance.now.ships) listed.groups.items) }
-    ensures weighed { IfOk result (AreWeighedGroups extension.now.case.now.instance.now extension.now.case.now.index) }
+    requires nears { AreNearsIn (group_asked extension.now) extension.now.nears.now }
+    requires base { IsBaseIn (group_asked extension.now) base.now }
+    ensures grown { IfOk result (λ listed. AreWhollyGrown (group_asked extension.now) base.now listed.groups.items) }
+    ensures weighed { IfOk result (AreWeighedGroups (group_asked extension.now)) }
 {
     let count = extension.case.instance.ships.as_slice().len() as u8;
     let mut groups = ungrown(alloc, extension, base)?;

@@ -3,9 +3,9 @@ ghost use Rattle.std.specs.Prelude.{◌≡◌, ◌<◌, length, slice_index_or, 
 ghost use Rattle.std.specs.List.Sorted.{IsPermutation};
 ghost use Rattle.price_groups.specs.declared.grown_lists.GrownList.{GrownList as Plain};
 ghost use Rattle.price_groups.specs.Asked.{group_asked};
-ghost use Rattle.price_groups.specs.Growing.{IsBase};
+ghost use Rattle.price_groups.specs.Growing.{IsBaseIn};
 ghost use Rattle.price_groups.specs.GrownLists.{ArePaired, IsGrownList};
-ghost use Rattle.price_groups.specs.Masks.{AreAllNears};
+ghost use Rattle.price_groups.specs.Masks.{AreNearsIn};
 
 use crate::extension::Extension;
 use crate::growing::{WeighedGroups, grown};
@@ -71,8 +71,8 @@ fn soon_first(groups: &mut Vec<GrownGroup>) -> Result<(), PriceError>
 
 // What grows from a base.
 fn grown_list(alloc: Global, extension: &Extension, base: &Group) -> Result<GrownList, PriceError>
-    requires nears { AreAllNears extension.now.case.now.instance.now extension.now.case.now.depth extension.now.sets.now extension.now.nears.now }
-    requires base { IsBase extension.now.case.now.instance.now extension.now.case.now.index extension.now.case.now.depth base.now }
+    requires nears { AreNearsIn (group_asked extension.now) extension.now.nears.now }
+    requires base { IsBaseIn (group_asked extension.now) base.now }
     ensures base { IfOk result (λ list. list.base ≡ base.now) }
     ensures grown { IfOk result (IsGrownList (group_asked extension.now)) }
 {
@@ -106,8 +106,8 @@ pub fn list_for(
     extension: &Extension,
     base: &Group,
 ) -> Result<usize, PriceError>
-    requires nears { AreAllNears extension.now.case.now.instance.now extension.now.case.now.depth extension.now.sets.now extension.now.nears.now }
-    requires base { IsBase extension.now.case.now.instance.now extension.now.case.now.index extension.now.case.now.depth base.now }
+    requires nears { AreNearsIn (group_asked extension.now) extension.now.nears.now }
+    requires base { IsBaseIn (group_asked extension.now) base.now }
     requires lists { All (IsGrownList (group_asked extension.now)) lists.old.items }
     ensures lists { All (IsGrownList (group_asked extension.now)) lists.new.items }
     ensures place { IfOk result (λ place. place < length lists.new.items) }

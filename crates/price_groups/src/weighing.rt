@@ -1,6 +1,7 @@
 //! The sums of groups that may come next.
 ghost use Rattle.std.specs.Prelude.{◌≡◌, ◌+◌, ◌*◌, ◌<◌, ◌≤◌, length, All, IfOk};
-ghost use Rattle.price_groups.specs.Sums.{rate_of, AreRates, AreSumsOf, AreSumsMore};
+ghost use Rattle.price_groups.specs.Asked.{group_asked};
+ghost use Rattle.price_groups.specs.Sums.{rate_of, AreRates, AreSumsIn, AreSumsMore};
 
 use crate::extension::Extension;
 use crate::line_case::LineCase;
@@ -39,7 +40,7 @@ pub fn rates(alloc: Global, case: &LineCase, prices: &Prices) -> Result<Vec<u32>
 /// The sums of ships that none has joined.
 pub(crate) fn sums_of(extension: &Extension, ships: &Ships) -> Sums
     requires { All (λ s. s < length extension.now.case.now.instance.now.ships) ships.now }
-    ensures { AreSumsOf extension.now.case.now.instance.now extension.now.case.now.index ships.now result }
+    ensures { AreSumsIn (group_asked extension.now) ships.now result }
 {
     let case = extension.case;
     Sums {
@@ -54,7 +55,7 @@ pub(crate) fn sums_of(extension: &Extension, ships: &Ships) -> Sums
 pub(crate) fn more_sums(extension: &Extension, sums: &Sums, ship: u8) -> Sums
     requires known { ship < length extension.now.case.now.instance.now.ships }
     requires short { sums.now.duration ≤ 9000000 }
-    ensures { AreSumsMore extension.now.case.now.instance.now extension.now.case.now.index ship sums.now result }
+    ensures { AreSumsMore (group_asked extension.now) ship sums.now result }
 {
     let own = &extension.case.instance.ships.as_slice()[ship as usize];
     Sums {

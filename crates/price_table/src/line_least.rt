@@ -2,7 +2,7 @@
 ghost use Rattle.std.specs.Prelude.{◌≤◌, ◌≤ℤ◌, pos, neg_ℤ, All, IfOk, IfSome};
 ghost use Rattle.price_groups.specs.Asked.{line_asked, group_asked};
 ghost use Rattle.price_groups.specs.GrownLists.{IsGrownList};
-ghost use Rattle.price_groups.specs.Masks.{AreAllNears};
+ghost use Rattle.price_groups.specs.Masks.{AreNearsIn};
 ghost use Rattle.price_choices.specs.Successors.{AreSuccessorLists};
 ghost use Rattle.price_table.specs.Lines.{IsLeastLine, IsLineFound};
 
@@ -47,7 +47,7 @@ fn successor_lists_for(
     extension: &Extension,
     lists: &mut Vec<GrownList>,
 ) -> Result<Vec<Successors>, PriceError>
-    requires nears { AreAllNears extension.now.case.now.instance.now extension.now.case.now.depth extension.now.sets.now extension.now.nears.now }
+    requires nears { AreNearsIn (group_asked extension.now) extension.now.nears.now }
     requires lists { All (IsGrownList (group_asked extension.now)) lists.old.items }
     ensures lists { All (IsGrownList (group_asked extension.now)) lists.new.items }
     ensures successor_lists { IfOk result (λ successor_lists. AreSuccessorLists (line_asked extension.now.case.now) successor_lists.items) }
@@ -67,7 +67,7 @@ pub fn least_line(
     lists: &mut Vec<GrownList>,
     turns: u64,
 ) -> Result<Option<LooseLine>, PriceError>
-    requires nears { AreAllNears extension.now.case.now.instance.now extension.now.case.now.depth extension.now.sets.now extension.now.nears.now }
+    requires nears { AreNearsIn (group_asked extension.now) extension.now.nears.now }
     requires lists { All (IsGrownList (group_asked extension.now)) lists.old.items }
     ensures lists { All (IsGrownList (group_asked extension.now)) lists.new.items }
     ensures least { IfOk result (IsLineFound (line_asked extension.now.case.now)) }
