@@ -10,11 +10,12 @@ use Rattle.lock_model.specs.declared.group.Group.{Group}
 use Rattle.price_rules.specs.Prices.{PlainCut, Spares}
 use Rattle.price_groups.specs.declared.grown_lists.GrownGroup.{GrownGroup}
 use Rattle.price_groups.specs.declared.grown_lists.GrownList.{GrownList}
+use Rattle.price_groups.specs.Asks.{group_ask}
 use Rattle.price_groups.specs.Growing.{IsGrown}
+use Rattle.price_groups.specs.GrownLists.{IsGrownGroup, HasGroup, IsGrownList}
 use Rattle.price_groups.specs.Masks.{IsMask, AreMarks}
 use Rattle.price_groups.specs.Sparing.{LacksSome, AreForbidden}
-use Rattle.price_groups.specs.GrownLists.{IsGrownGroup, HasGroup, IsGrownList}
-use Rattle.price_bound.specs.Stock.{IsApart, IsPutSpared, AreSpared, IsSparedList, AreSparedLists}
+use Rattle.price_bound.specs.KeptGroups.{IsApart, IsPutSpared, AreSpared, IsSparedList, AreSparedLists}
 use Rattle.price_groups.proofs.MaskLemmas.{earlier, mask-in, in-mask}
 
 -- the first half of a list, and the second
@@ -120,7 +121,7 @@ module _ (I : Instance) (c k : ℕ) (sets added : List (List ℕ)) (base : Group
 
 -- WHAT IS LEFT of a list is what grows under all the sets.
 pub spared-grown : (I : Instance) (c k : ℕ) (prices : List ℕ) (sets added : List (List ℕ)) (masks : List ℕ) (list spared : GrownList) → length I.ships ≤ 32 → AreMarks I added (length added) masks → IsSparedList masks list spared
-    → IsGrownList I c k prices sets list → IsGrownList I c k prices (sets ++ added) spared
+    → IsGrownList (group_ask I c k prices sets) list → IsGrownList (group_ask I c k prices (sets ++ added)) spared
 spared-grown I c k prices sets added masks list spared few marks is grown = record {
   each = λ j d here.
       let one = slice_index_or spared.groups.items j d in
@@ -149,7 +150,7 @@ spared-grown I c k prices sets added masks list spared few marks is grown = reco
 
 -- the same of all lists
 pub spared-all : (I : Instance) (c k : ℕ) (prices : List ℕ) (sets added : List (List ℕ)) (masks : List ℕ) (lists spared : List GrownList) → length I.ships ≤ 32 → AreMarks I added (length added) masks → AreSparedLists masks lists (length lists) spared
-    → All (IsGrownList I c k prices sets) lists → All (IsGrownList I c k prices (sets ++ added)) spared
+    → All (IsGrownList (group_ask I c k prices sets)) lists → All (IsGrownList (group_ask I c k prices (sets ++ added))) spared
 spared-all I c k prices sets added masks lists spared few marks are grown = λ j d here.
     let less : j < length lists = omega (arith, here, are.count) in
     spared-grown I c k prices sets added masks (slice_index_or lists j d) (slice_index_or spared j d) few marks (are.each j d d less) (grown j d less)

@@ -16,12 +16,14 @@ use Rattle.lock_rules.proofs.SplitLemmas.{times_in-at}
 use Rattle.lock_rules.proofs.NodeLemmas.{group-line}
 use Rattle.lock_rules.proofs.LeafLemmas.{has_number-some}
 use Rattle.price_rules.specs.Prices.{PlainCut, IsLoose, Reaches, paid_in, missing_prices}
-use Rattle.price_groups.specs.Worth.{worth_from, IsKeptGroup, IsLeastOn}
+use Rattle.price_groups.specs.Asks.{line_ask}
+use Rattle.price_groups.specs.Worth.{worth_from, IsKeptGroup}
+use Rattle.price_table.specs.Lines.{IsLeastOn, IsLeastLine}
+use Rattle.price_bound.specs.Asks.{node_ask}
 use Rattle.price_bound.specs.Total.{worths_of, IsLeastSum, AreLeastLines}
 use Rattle.std.proofs.Math.Seq.{get_or-append_seam}
 use Rattle.std.proofs.lemmas.List.{get_or_append_left, length-append}
 use Rattle.price_terms.specs.declared.loose_line.LooseLine.{LooseLine}
-use Rattle.price_table.specs.Lines.{IsLeastLine}
 
 sum_by-one : (f : ℕ → ℕ) (n : ℕ) → sum_by f (n ∷ []) ≡ f n
 sum_by-one f n = omega (arith, sum_by-cons f n [])
@@ -32,14 +34,14 @@ module _ (I : Instance) (cuts : List PlainCut) (k : ℕ) (lines : List (List Gro
   worths-same first second (suc n) same =
       λ i. worths-same first second n (λ c less. same c (omega (arith, less))) i +ℤ worth_from I n k prices (chamber_at I n).stands (chamber_at I n).opens (same n (omega arith) i)
 
-  pub sum-start : IsLeastSum I cuts k lines prices 0 (pos 0)
+  pub sum-start : IsLeastSum (node_ask I cuts k lines prices) 0 (pos 0)
   sum-start = record { below = λ chosen loose. nothing tt; chosen = λ c. []; loose = λ c less. absurd (omega (arith, less)); worth = refl }
     where
       nothing : Unit {0} → pos 0 ≤ℤ pos 0
       nothing _ = omega (arith, ints)
 
   -- ONE CHAMBER MORE: the least of all is the least of each.
-  pub sum-next : (n : ℕ) (v w : ℤ) → IsLeastSum I cuts k lines prices n v → IsLeastOn I n cuts k prices (line_at lines n) (Some w) → IsLeastSum I cuts k lines prices (suc n) (v +ℤ w)
+  pub sum-next : (n : ℕ) (v w : ℤ) → IsLeastSum (node_ask I cuts k lines prices) n v → IsLeastOn (line_ask I n cuts k prices (line_at lines n)) (Some w) → IsLeastSum (node_ask I cuts k lines prices) (suc n) (v +ℤ w)
   sum-next n v w sum least =
       let own = least.reached in
       let chosen : ℕ → List Group = λ c. cond (nat_eq c n) own.loose (sum.chosen c) in
@@ -77,7 +79,7 @@ module _ (I : Instance) (cuts : List PlainCut) (k : ℕ) (lines : List (List Gro
       step u f g p q x y e a b = omega (arith, ints)
 
   -- THE NODE REACHES THE COST EXACTLY where the least sum, with the prices of the missing ships, is high enough.
-  pub reaches-exact : (v : ℤ) (cost : ℕ) → IsLeastSum I cuts k lines prices (length I.chambers) v → Reaches I cuts k lines prices cost ↔ (pos (100 * cost) <ℤ ((v +ℤ pos (missing_prices I k prices)) +ℤ pos 100))
+  pub reaches-exact : (v : ℤ) (cost : ℕ) → IsLeastSum (node_ask I cuts k lines prices) (length I.chambers) v → Reaches I cuts k lines prices cost ↔ (pos (100 * cost) <ℤ ((v +ℤ pos (missing_prices I k prices)) +ℤ pos 100))
   reaches-exact v cost sum = (
     λ reached. up cost _ _ _ v (reached.high sum.chosen (record { each = λ c known. sum.loose c known })) (sym (worths-flow sum.chosen (length I.chambers)) ∙ sum.worth),
     λ high. record {
@@ -107,11 +109,11 @@ module _ (n : ℕ) (v w : ℤ) (few : n < 4) (v-low : neg_ℤ (pos (816080000000
 
 -- one chamber more, in the type of sums
 pub sum-more : (I : Instance) (cuts : List PlainCut) (k : ℕ) (lines : List (List Group)) (prices : List ℕ) (n : ℕ) (v w : ℤ) → n < 4 → neg_ℤ (pos (816080000000000 * n)) ≤ℤ v → v ≤ℤ pos (6000000000000 * n) → neg_ℤ (pos 816080000000000) ≤ℤ w → w ≤ℤ pos 6000000000000
-    → IsLeastSum I cuts k lines prices n v → IsLeastOn I n cuts k prices (line_at lines n) (Some w) → IsLeastSum I cuts k lines prices (n + 1) (to_z w64 (of_z w64 (v +ℤ to_z w64 (of_z w64 w))))
+    → IsLeastSum (node_ask I cuts k lines prices) n v → IsLeastOn (line_ask I n cuts k prices (line_at lines n)) (Some w) → IsLeastSum (node_ask I cuts k lines prices) (n + 1) (to_z w64 (of_z w64 (v +ℤ to_z w64 (of_z w64 w))))
 sum-more I cuts k lines prices n v w few v-low v-high w-low w-high sum least =
     let up : suc n ≡ n + 1 = omega arith in
-    subst (λ n. IsLeastSum I cuts k lines prices n (to_z w64 (of_z w64 (v +ℤ to_z w64 (of_z w64 w))))) up
-    (subst (IsLeastSum I cuts k lines prices (suc n)) (more-rounded n v w few v-low v-high w-low w-high) (sum-next I cuts k lines prices n v w sum least))
+    subst (λ n. IsLeastSum (node_ask I cuts k lines prices) n (to_z w64 (of_z w64 (v +ℤ to_z w64 (of_z w64 w))))) up
+    (subst (IsLeastSum (node_ask I cuts k lines prices) (suc n)) (more-rounded n v w few v-low v-high w-low w-high) (sum-next I cuts k lines prices n v w sum least))
 
 -- a node's line keeps its ships
 pub line-kept : (I : Instance) (k : ℕ) (lines : List (List Group)) → IsNode I k lines → (c : ℕ) → c < length I.chambers → All (IsKeptGroup I k) (line_at lines c)
@@ -127,14 +129,14 @@ line-kept I k lines node c known = λ j d here.
 
 module _ (I : Instance) (cuts : List PlainCut) (k : ℕ) (prices : List ℕ) where
   -- the line of one chamber more
-  pub lines-next : (lines : List (List Group)) (n : ℕ) (found : List LooseLine) (more : LooseLine) → AreLeastLines I cuts k lines prices n found → IsLeastLine I n cuts k prices (line_at lines n) more → AreLeastLines I cuts k lines prices (n + 1) (found ++ more ∷ [])
+  pub lines-next : (lines : List (List Group)) (n : ℕ) (found : List LooseLine) (more : LooseLine) → AreLeastLines (node_ask I cuts k lines prices) n found → IsLeastLine (line_ask I n cuts k prices (line_at lines n)) more → AreLeastLines (node_ask I cuts k lines prices) (n + 1) (found ++ more ∷ [])
   lines-next lines n found more are is = record {
     count = omega (arith, are.count, length-append found (more ∷ []));
     each = λ m d less. elim (leb_tells (suc m) n) [
-      | inl y ↦ subst (IsLeastLine I m cuts k prices (line_at lines m)) (sym (get_or_append_left found (more ∷ []) d m (omega (arith, y.1, are.count)))) (are.each m d y.1)
+      | inl y ↦ subst (IsLeastLine (line_ask I m cuts k prices (line_at lines m))) (sym (get_or_append_left found (more ∷ []) d m (omega (arith, y.1, are.count)))) (are.each m d y.1)
       | inr q ↦
           let same : m ≡ n = omega (arith, less, q.1) in
           let last : slice_index_or (found ++ more ∷ []) n d ≡ more = (λ i. slice_index_or (found ++ more ∷ []) (sym are.count i) d) ∙ get_or-append_seam found more [] d in
-          subst (λ m. IsLeastLine I m cuts k prices (line_at lines m) (slice_index_or (found ++ more ∷ []) m d)) (sym same) (subst (IsLeastLine I n cuts k prices (line_at lines n)) (sym last) is)
+          subst (λ m. IsLeastLine (line_ask I m cuts k prices (line_at lines m)) (slice_index_or (found ++ more ∷ []) m d)) (sym same) (subst (IsLeastLine (line_ask I n cuts k prices (line_at lines n))) (sym last) is)
     ];
   }

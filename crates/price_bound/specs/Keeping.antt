@@ -7,9 +7,10 @@ use Rattle.price_terms.specs.declared.cut.ChamberCut.{ChamberCut}
 use Rattle.price_terms.specs.declared.loose_line.LooseLine.{LooseLine}
 use Rattle.price_bound.specs.declared.terms.Terms.{Terms}
 use Rattle.price_bound.specs.declared.keeping.KeptLine.{KeptLine}
+use Rattle.price_groups.specs.Asks.{LineAsk}
 use Rattle.price_table.specs.Lines.{IsLineFound}
-use Rattle.price_terms.specs.Cuts.{plain_cuts}
-use Rattle.price_bound.specs.Stock.{AreStocked}
+use Rattle.price_bound.specs.Asks.{kept_ask}
+use Rattle.price_bound.specs.KeptGroups.{AreGroupsUnder}
 use Rattle.price_bound.specs.declared.kept_groups.KeptGroups.{KeptGroups}
 
 -- the terms name this instance, depth, prices and cuts
@@ -37,14 +38,14 @@ pub record HaveGone (I : Instance) (k : ℕ) (prices : List ℕ) (cuts : List Ch
   pub to : i ≤ length cuts
 
 -- what was found of a chamber's line, and how far its worth is from the ends of its type
-pub record IsFound (I : Instance) (c k : ℕ) (prices : List ℕ) (cuts : List ChamberCut) (line : List Group) (found : Option LooseLine) : Type 0 where
-  pub least : IsLineFound I c (plain_cuts I cuts) k prices line found
+pub record IsFound (L : LineAsk) (found : Option LooseLine) : Type 0 where
+  pub least : IsLineFound L found
   pub low : IfSome found (λ line. neg_ℤ (pos 816080000000000) ≤ℤ line.worth)
   pub high : IfSome found (λ line. line.worth ≤ℤ pos 6000000000000)
 
 -- what is kept was found under the terms
 pub record IsKeptUnder (terms : Terms) (kept : KeptLine) : Type 0 where
-  pub found : IsFound terms.instance kept.chamber terms.depth terms.prices terms.cuts.items kept.line.items kept.least
+  pub found : IsFound (kept_ask terms.instance kept.chamber terms.depth terms.prices terms.cuts.items kept.line.items) kept.least
 
 -- all of these were found under the terms; without terms there are none
 abbrev pub AreKeptUnder : Option Terms → List KeptLine → Type 0
@@ -64,4 +65,4 @@ pub record IsOf (c : ℕ) (line : List Group) (kept : KeptLine) : Type 0 where
 -- the same of lines and of groups
 pub record AreAllKept (terms : Option Terms) (lines : List KeptLine) (groups : KeptGroups) : Type 0 where
   pub lines_kept : AreKeptUnder terms lines
-  pub groups_kept : AreStocked terms groups
+  pub groups_kept : AreGroupsUnder terms groups

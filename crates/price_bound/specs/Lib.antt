@@ -1,3 +1,5 @@
 pub mod Keeping
-pub mod Stock
+pub mod KeptGroups
 pub mod Total
+pub mod Asks
+pub mod Asked

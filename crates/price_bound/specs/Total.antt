@@ -5,11 +5,13 @@ use Rattle.lock_model.specs.Fleet.{chamber_at}
 use Rattle.lock_model.specs.declared.instance.Instance.{Instance}
 use Rattle.lock_model.specs.declared.group.Group.{Group}
 use Rattle.lock_rules.specs.Node.{line_at}
-use Rattle.price_rules.specs.Prices.{PlainCut, IsLoose, missing_prices}
+use Rattle.price_rules.specs.Prices.{missing_prices}
 use Rattle.price_terms.specs.declared.loose_line.LooseLine.{LooseLine}
 use Rattle.price_terms.specs.declared.loose_line.LooseLines.{LooseLines}
+use Rattle.price_groups.specs.Asks.{IsLooseIn}
 use Rattle.price_groups.specs.Worth.{worth_from}
 use Rattle.price_table.specs.Lines.{IsLeastLine}
+use Rattle.price_bound.specs.Asks.{NodeAsk, chamber_ask}
 
 -- what the chosen lines of the first n chambers are worth
 abbrev pub worths_of : Instance → ℕ → List ℕ → (ℕ → List Group) → ℕ → ℤ
@@ -17,45 +19,45 @@ worths_of I k prices chosen zero = pos 0
 worths_of I k prices chosen (suc n) = worths_of I k prices chosen n +ℤ worth_from I n k prices (chamber_at I n).stands (chamber_at I n).opens (chosen n)
 
 -- the least worth of loose lines of the first n chambers together
-pub record IsLeastSum (I : Instance) (cuts : List PlainCut) (k : ℕ) (lines : List (List Group)) (prices : List ℕ) (n : ℕ) (v : ℤ) : Type 0 where
-  pub below : (chosen : ℕ → List Group) → ((c : ℕ) → c < n → IsLoose I c cuts k (line_at lines c) (chosen c)) → v ≤ℤ worths_of I k prices chosen n
+pub record IsLeastSum (N : NodeAsk) (n : ℕ) (v : ℤ) : Type 0 where
+  pub below : (chosen : ℕ → List Group) → ((c : ℕ) → c < n → IsLooseIn (chamber_ask N c) (line_at N.lines c) (chosen c)) → v ≤ℤ worths_of N.instance N.depth N.prices chosen n
   pub chosen : ℕ → List Group
-  pub loose : (c : ℕ) → c < n → IsLoose I c cuts k (line_at lines c) (chosen c)
-  pub worth : worths_of I k prices chosen n ≡ v
+  pub loose : (c : ℕ) → c < n → IsLooseIn (chamber_ask N c) (line_at N.lines c) (chosen c)
+  pub worth : worths_of N.instance N.depth N.prices chosen n ≡ v
 
 -- some chamber has no loose line
-pub record HasNoLooseLine (I : Instance) (cuts : List PlainCut) (k : ℕ) (lines : List (List Group)) : Type 0 where
+pub record HasNoLooseLine (N : NodeAsk) : Type 0 where
   pub chamber : ℕ
-  pub known : chamber < length I.chambers
-  pub none : (loose : List Group) → ¬ IsLoose I chamber cuts k (line_at lines chamber) loose
+  pub known : chamber < length N.instance.chambers
+  pub none : (loose : List Group) → ¬ IsLooseIn (chamber_ask N chamber) (line_at N.lines chamber) loose
 
 -- the least worth of loose lines of all chambers together, or that some chamber has none
-abbrev pub IsAdded : Instance → List PlainCut → ℕ → List (List Group) → List ℕ → Option ℤ → Type 0
-IsAdded I cuts k lines prices None = HasNoLooseLine I cuts k lines
-IsAdded I cuts k lines prices (Some sum) = IsLeastSum I cuts k lines prices (length I.chambers) sum
+abbrev pub IsAdded : NodeAsk → Option ℤ → Type 0
+IsAdded N None = HasNoLooseLine N
+IsAdded N (Some sum) = IsLeastSum N (length N.instance.chambers) sum
 
 -- the least worth of a loose line for each chamber, and the prices of the missing ships
-pub record IsPriceSum (I : Instance) (cuts : List PlainCut) (k : ℕ) (lines : List (List Group)) (prices : List ℕ) (sum : ℤ) : Type 0 where
+pub record IsPriceSum (N : NodeAsk) (sum : ℤ) : Type 0 where
   pub least : ℤ
-  pub is_least : IsLeastSum I cuts k lines prices (length I.chambers) least
-  pub value : sum ≡ (least +ℤ pos (missing_prices I k prices))
+  pub is_least : IsLeastSum N (length N.instance.chambers) least
+  pub value : sum ≡ (least +ℤ pos (missing_prices N.instance N.depth N.prices))
 
 -- that sum, or that some chamber has no loose line
-abbrev pub IsNodeSum : Instance → List PlainCut → ℕ → List (List Group) → List ℕ → Option ℤ → Type 0
-IsNodeSum I cuts k lines prices None = HasNoLooseLine I cuts k lines
-IsNodeSum I cuts k lines prices (Some sum) = IsPriceSum I cuts k lines prices sum
+abbrev pub IsNodeSum : NodeAsk → Option ℤ → Type 0
+IsNodeSum N None = HasNoLooseLine N
+IsNodeSum N (Some sum) = IsPriceSum N sum
 
 -- the least lines of the first n chambers
-pub record AreLeastLines (I : Instance) (cuts : List PlainCut) (k : ℕ) (lines : List (List Group)) (prices : List ℕ) (n : ℕ) (found : List LooseLine) : Type 0 where
+pub record AreLeastLines (N : NodeAsk) (n : ℕ) (found : List LooseLine) : Type 0 where
   pub count : length found ≡ n
-  pub each : (c : ℕ) (d : LooseLine) → c < n → IsLeastLine I c cuts k prices (line_at lines c) (slice_index_or found c d)
+  pub each : (c : ℕ) (d : LooseLine) → c < n → IsLeastLine (chamber_ask N c) (slice_index_or found c d)
 
 -- a least line for each chamber, and what they are worth together with the prices of the missing ships
-pub record AreLooseLines (I : Instance) (cuts : List PlainCut) (k : ℕ) (lines : List (List Group)) (prices : List ℕ) (found : LooseLines) : Type 0 where
-  pub each_least : AreLeastLines I cuts k lines prices (length I.chambers) found.lines.items
-  pub sum : IsPriceSum I cuts k lines prices found.sum
+pub record AreLooseLines (N : NodeAsk) (found : LooseLines) : Type 0 where
+  pub each_least : AreLeastLines N (length N.instance.chambers) found.lines.items
+  pub sum : IsPriceSum N found.sum
 
 -- these, or that some chamber has no loose line
-abbrev pub AreLinesFound : Instance → List PlainCut → ℕ → List (List Group) → List ℕ → Option LooseLines → Type 0
-AreLinesFound I cuts k lines prices None = HasNoLooseLine I cuts k lines
-AreLinesFound I cuts k lines prices (Some found) = AreLooseLines I cuts k lines prices found
+abbrev pub AreLinesFound : NodeAsk → Option LooseLines → Type 0
+AreLinesFound N None = HasNoLooseLine N
+AreLinesFound N (Some found) = AreLooseLines N found

@@ -2,8 +2,9 @@
 ghost use Rattle.std.specs.Prelude.{◌≡◌, ◌<◌, ◌↔◌, length, slice_index_or, IfOk, IfSome, IsTrue};
 ghost use Rattle.std.specs.Bool.{OnTrue};
 ghost use Rattle.price_bound.specs.declared.keeping.KeptLine.{KeptLine};
-ghost use Rattle.price_bound.specs.Keeping.{AreUnder, IsFound, IsOf};
-ghost use Rattle.price_bound.specs.Stock.{AreStocks};
+ghost use Rattle.price_groups.specs.Asked.{line_asked};
+ghost use Rattle.price_bound.specs.Keeping.{IsFound, AreUnder, IsOf, AreAllKept};
+ghost use Rattle.price_bound.specs.KeptGroups.{AreAllGroupsFor};
 
 use crate::kept_groups::KeptGroups;
 use crate::terms::Terms;
@@ -36,9 +37,9 @@ fn same_line(one: &[Group], other: &[Group]) -> bool
 impl KeptLine {
     // Whether it is of the chamber and the line of a case.
     fn is_of(&self, case: &LineCase) -> bool
-        ensures { OnTrue result (IsOf case.now.chamber case.now.line.now self.now) }
+        ensures { OnTrue result (IsOf case.now.index case.now.line.now self.now) }
     {
-        self.chamber == case.chamber && same_line(&self.line, case.line)
+        self.chamber == case.index && same_line(&self.line, case.line)
     }
 
     // How many groups its least line has.
@@ -53,7 +54,7 @@ impl KeptLine {
 // The place of the line of a case among these, if it is there.
 fn place_of(kept: &[KeptLine], case: &LineCase) -> Option<usize>
     ensures place { IfSome result (λ place. place < length kept.now) }
-    ensures is { IfSome result (λ place. (default : KeptLine) → IsOf case.now.chamber case.now.line.now (slice_index_or kept.now place default)) }
+    ensures is { IfSome result (λ place. (default : KeptLine) → IsOf case.now.index case.now.line.now (slice_index_or kept.now place default)) }
 {
     for (place, line) in kept.iter().enumerate() {
         if line.is_of(case) {
@@ -78,13 +79,13 @@ fn worked_out(
     case: &LineCase,
     limits: Limits,
 ) -> Result<KeptLine, PriceError>
-    requires { AreStocks case.now.instance.now case.now.depth case.now.cuts.now groups.old }
-    ensures keeps { AreStocks case.now.instance.now case.now.depth case.now.cuts.now groups.new }
-    ensures is { IfOk result (IsOf case.now.chamber case.now.line.now) }
-    ensures found { IfOk result (λ kept. IsFound case.now.instance.now case.now.chamber case.now.depth case.now.prices.now case.now.cuts.now case.now.line.now kept.least) }
+    requires { AreAllGroupsFor case.now.instance.now case.now.depth case.now.cuts.now groups.old }
+    ensures keeps { AreAllGroupsFor case.now.instance.now case.now.depth case.now.cuts.now groups.new }
+    ensures is { IfOk result (IsOf case.now.index case.now.line.now) }
+    ensures found { IfOk result (λ kept. IsFound (line_asked case.now) kept.least) }
 {
     Ok(KeptLine {
-        chamber: case.chamber,
+        chamber: case.index,
         line: copied(alloc, case.line)?,
         least: groups.least(alloc, case, limits)?,
     })
@@ -179,7 +180,7 @@ impl KeptLines {
         case: &LineCase,
         limits: Limits,
     ) -> Result<&Option<LooseLine>, PriceError>
-        ensures { IfOk result (λ found. IsFound case.now.instance.now case.now.chamber case.now.depth case.now.prices.now case.now.cuts.now case.now.line.now found.now) }
+        ensures { IfOk result (λ found. IsFound (line_asked case.now) found.now) }
     {
         self.go_under(case)?;
         self.make_room(case);

@@ -3,13 +3,14 @@ ghost use Rattle.std.specs.Prelude.{ℕ, ◌≡◌, ◌<◌, ◌≤◌, List, []
 ghost use Rattle.lock_model.specs.declared.instance.Instance.{Instance as PlainInstance};
 ghost use Rattle.price_terms.specs.declared.cut.ChamberCut.{ChamberCut};
 ghost use Rattle.price_bound.specs.declared.kept_groups.ChamberGroups.{ChamberGroups as Plain};
+ghost use Rattle.price_groups.specs.Asked.{line_asked};
 ghost use Rattle.price_groups.specs.Growing.{AreBelow};
 ghost use Rattle.price_bound.specs.Keeping.{IsFound};
-ghost use Rattle.price_bound.specs.Stock.{IsPutSpared, IsSparedList, AreSparedLists, IsStock, AreStocks};
+ghost use Rattle.price_bound.specs.KeptGroups.{IsPutSpared, IsSparedList, AreSparedLists, AreGroupsFor, StayGroupsFor, AreAllGroupsFor, AreGroupsWith};
 
 use lock_model::{SHIPS, Ships};
 use price_groups::{
-    GrownGroup, GrownList, Growth, LineCase, Near, forbidden_sets, marks, misses_all_of, nears,
+    Extension, GrownGroup, GrownList, LineCase, Near, forbidden_sets, marks, misses_all_of, nears,
     rates,
 };
 use price_table::least_line;
@@ -112,11 +113,11 @@ fn append_sets(sets: &mut Vec<Ships>, more: &[Ships]) -> Result<(), PriceError>
 
 // Nothing yet of the chamber of a case.
 fn fresh(alloc: Global, case: &LineCase) -> Result<ChamberGroups, PriceError>
-    ensures chamber { IfOk result (λ own. own.chamber ≡ case.now.chamber) }
-    ensures stock { (ceilings : List ℕ) → IfOk result (IsStock case.now.instance.now case.now.depth case.now.cuts.now ceilings) }
+    ensures chamber { IfOk result (λ own. own.chamber ≡ case.now.index) }
+    ensures right { (ceilings : List ℕ) → IfOk result (AreGroupsFor case.now.instance.now case.now.depth case.now.cuts.now ceilings) }
 {
     Ok(ChamberGroups {
-        chamber: case.chamber,
+        chamber: case.index,
         seen: 0,
         sets: Vec::new(alloc),
         nears: nears(alloc, case, &[])?,
@@ -124,42 +125,33 @@ fn fresh(alloc: Global, case: &LineCase) -> Result<ChamberGroups, PriceError>
     })
 }
 
-// What is kept of the chamber of a case, once all its cuts were looked at.
-fn up_to_date(
-    alloc: Global,
-    own: ChamberGroups,
-    case: &LineCase,
-) -> Result<ChamberGroups, PriceError>
-    requires chamber { own.chamber ≡ case.now.chamber }
-    requires seen { own.seen ≤ length case.now.cuts.now }
-    ensures chamber { IfOk result (λ whole. whole.chamber ≡ case.now.chamber) }
-    ensures seen { IfOk result (λ whole. whole.seen ≡ length case.now.cuts.now) }
-    ensures stock { (ceilings : List ℕ) → IsStock case.now.instance.now case.now.depth case.now.cuts.now ceilings own → IfOk result (IsStock case.now.instance.now case.now.depth case.now.cuts.now ceilings) }
+// Looks at the cuts of a case that weren't looked at yet.
+fn update(alloc: Global, own: &mut ChamberGroups, case: &LineCase) -> Result<(), PriceError>
+    requires chamber { own.old.chamber ≡ case.now.index }
+    requires seen { own.old.seen ≤ length case.now.cuts.now }
+    ensures chamber { own.new.chamber ≡ own.old.chamber }
+    ensures seen { OnOk result (own.new.seen ≡ length case.now.cuts.now) }
+    ensures right { OnOk result (StayGroupsFor case.now.instance.now case.now.depth case.now.cuts.now own.old own.new) }
 {
     if own.seen == case.cuts.len() {
-        return Ok(own);
+        return Ok(());
     }
     let added = forbidden_sets(alloc, &case.after(own.seen))?;
     let masks = marks(alloc, case.instance, &added)?;
-    let lists = spared_lists(alloc, &own.lists, &masks)?;
-    let mut sets = own.sets;
-    append_sets(&mut sets, &added)?;
-    Ok(ChamberGroups {
-        chamber: own.chamber,
-        seen: case.cuts.len(),
-        nears: nears(alloc, case, &sets)?,
-        sets,
-        lists,
-    })
+    own.lists = spared_lists(alloc, &own.lists, &masks)?;
+    append_sets(&mut own.sets, &added)?;
+    own.nears = nears(alloc, case, &own.sets)?;
+    own.seen = case.cuts.len();
+    Ok(())
 }
 
 // The place of what is kept of the chamber of a case, if it is there.
 fn place_of(chambers: &[ChamberGroups], case: &LineCase) -> Option<usize>
     ensures place { IfSome result (λ place. place < length chambers.now) }
-    ensures is { IfSome result (λ place. (default : Plain) → (slice_index_or chambers.now place default).chamber ≡ case.now.chamber) }
+    ensures is { IfSome result (λ place. (default : Plain) → (slice_index_or chambers.now place default).chamber ≡ case.now.index) }
 {
     for (place, own) in chambers.iter().enumerate() {
-        if own.chamber == case.chamber {
+        if own.chamber == case.index {
             return Some(place);
         }
     }
@@ -176,15 +168,15 @@ fn least_of(
     limits: Limits,
 ) -> Result<Option<LooseLine>, PriceError>
     requires below { AreBelow case.now.prices.now ceilings.now }
-    requires chamber { own.old.chamber ≡ case.now.chamber }
+    requires chamber { own.old.chamber ≡ case.now.index }
     requires seen { own.old.seen ≡ length case.now.cuts.now }
-    requires stock { IsStock case.now.instance.now case.now.depth case.now.cuts.now ceilings.now own.old }
-    ensures stock { IsStock case.now.instance.now case.now.depth case.now.cuts.now ceilings.now own.new }
-    ensures found { IfOk result (IsFound case.now.instance.now case.now.chamber case.now.depth case.now.prices.now case.now.cuts.now case.now.line.now) }
+    requires right { AreGroupsFor case.now.instance.now case.now.depth case.now.cuts.now ceilings.now own.old }
+    ensures right { AreGroupsFor case.now.instance.now case.now.depth case.now.cuts.now ceilings.now own.new }
+    ensures found { IfOk result (IsFound (line_asked case.now)) }
 {
     let own_rates = rates(alloc, case, case.prices)?;
     let high_rates = rates(alloc, case, ceilings)?;
-    let growth = Growth {
+    let extension = Extension {
         case,
         sets: &own.sets,
         nears: &own.nears,
@@ -193,7 +185,7 @@ fn least_of(
         high_rates: &high_rates,
         most: limits.groups,
     };
-    least_line(alloc, &growth, &mut own.lists, limits.turns)
+    least_line(alloc, &extension, &mut own.lists, limits.turns)
 }
 
 impl KeptGroups {
@@ -226,7 +218,7 @@ impl KeptGroups {
     // Sees to it that no price is above its ceiling.
     fn rise_to(&mut self, prices: &Prices)
         ensures below { AreBelow prices.now self.new.ceilings }
-        ensures keeps { (I : PlainInstance) (k : ℕ) (cuts : List ChamberCut) → AreStocks I k cuts self.old → AreStocks I k cuts self.new }
+        ensures keeps { (I : PlainInstance) (k : ℕ) (cuts : List ChamberCut) → AreAllGroupsFor I k cuts self.old → AreAllGroupsFor I k cuts self.new }
     {
         if are_below(prices, &self.ceilings) {
             return;
@@ -239,11 +231,11 @@ impl KeptGroups {
 
     // Takes out what is kept of the chamber of a case; where nothing is, it begins.
     fn removed(&mut self, alloc: Global, case: &LineCase) -> Result<ChamberGroups, PriceError>
-        requires { AreStocks case.now.instance.now case.now.depth case.now.cuts.now self.old }
+        requires { AreAllGroupsFor case.now.instance.now case.now.depth case.now.cuts.now self.old }
         ensures ceilings { self.new.ceilings ≡ self.old.ceilings }
-        ensures keeps { AreStocks case.now.instance.now case.now.depth case.now.cuts.now self.new }
-        ensures chamber { IfOk result (λ own. own.chamber ≡ case.now.chamber) }
-        ensures stock { IfOk result (IsStock case.now.instance.now case.now.depth case.now.cuts.now self.old.ceilings) }
+        ensures keeps { AreAllGroupsFor case.now.instance.now case.now.depth case.now.cuts.now self.new }
+        ensures chamber { IfOk result (λ own. own.chamber ≡ case.now.index) }
+        ensures right { IfOk result (AreGroupsFor case.now.instance.now case.now.depth case.now.cuts.now self.old.ceilings) }
     {
         if let Some(place) = place_of(&self.chambers, case) {
             return Ok(self.chambers.swap_remove(place));
@@ -253,21 +245,22 @@ impl KeptGroups {
 
     // The same, once all cuts were looked at.
     fn taken(&mut self, alloc: Global, case: &LineCase) -> Result<ChamberGroups, PriceError>
-        requires { AreStocks case.now.instance.now case.now.depth case.now.cuts.now self.old }
+        requires { AreAllGroupsFor case.now.instance.now case.now.depth case.now.cuts.now self.old }
         ensures ceilings { self.new.ceilings ≡ self.old.ceilings }
-        ensures keeps { AreStocks case.now.instance.now case.now.depth case.now.cuts.now self.new }
-        ensures chamber { IfOk result (λ own. own.chamber ≡ case.now.chamber) }
+        ensures keeps { AreAllGroupsFor case.now.instance.now case.now.depth case.now.cuts.now self.new }
+        ensures chamber { IfOk result (λ own. own.chamber ≡ case.now.index) }
         ensures seen { IfOk result (λ own. own.seen ≡ length case.now.cuts.now) }
-        ensures stock { IfOk result (IsStock case.now.instance.now case.now.depth case.now.cuts.now self.old.ceilings) }
+        ensures right { IfOk result (AreGroupsFor case.now.instance.now case.now.depth case.now.cuts.now self.old.ceilings) }
     {
-        let own = self.removed(alloc, case)?;
-        up_to_date(alloc, own, case)
+        let mut own = self.removed(alloc, case)?;
+        update(alloc, &mut own, case)?;
+        Ok(own)
     }
 
     // Keeps what was taken out. Where memory is wanting it is forgotten, which costs time alone.
     fn put_back(&mut self, own: ChamberGroups)
         ensures ceilings { self.new.ceilings ≡ self.old.ceilings }
-        ensures keeps { (I : PlainInstance) (k : ℕ) (cuts : List ChamberCut) → AreStocks I k cuts self.old → IsStock I k cuts self.old.ceilings own → AreStocks I k cuts self.new }
+        ensures keeps { AreGroupsWith self.old own self.new }
     {
         let _ = self.chambers.push(own);
     }
@@ -281,10 +274,10 @@ impl KeptGroups {
         limits: Limits,
     ) -> Result<Option<LooseLine>, PriceError>
         requires below { AreBelow case.now.prices.now self.old.ceilings }
-        requires keeps { AreStocks case.now.instance.now case.now.depth case.now.cuts.now self.old }
+        requires keeps { AreAllGroupsFor case.now.instance.now case.now.depth case.now.cuts.now self.old }
         ensures ceilings { self.new.ceilings ≡ self.old.ceilings }
-        ensures keeps { AreStocks case.now.instance.now case.now.depth case.now.cuts.now self.new }
-        ensures found { IfOk result (IsFound case.now.instance.now case.now.chamber case.now.depth case.now.prices.now case.now.cuts.now case.now.line.now) }
+        ensures keeps { AreAllGroupsFor case.now.instance.now case.now.depth case.now.cuts.now self.new }
+        ensures found { IfOk result (IsFound (line_asked case.now)) }
     {
         let mut own = self.taken(alloc, case)?;
         let found = least_of(alloc, &mut own, &self.ceilings, case, limits);
@@ -300,9 +293,9 @@ impl KeptGroups {
         case: &LineCase,
         limits: Limits,
     ) -> Result<Option<LooseLine>, PriceError>
-        requires { AreStocks case.now.instance.now case.now.depth case.now.cuts.now self.old }
-        ensures keeps { AreStocks case.now.instance.now case.now.depth case.now.cuts.now self.new }
-        ensures found { IfOk result (IsFound case.now.instance.now case.now.chamber case.now.depth case.now.prices.now case.now.cuts.now case.now.line.now) }
+        requires { AreAllGroupsFor case.now.instance.now case.now.depth case.now.cuts.now self.old }
+        ensures keeps { AreAllGroupsFor case.now.instance.now case.now.depth case.now.cuts.now self.new }
+        ensures found { IfOk result (IsFound (line_asked case.now)) }
     {
         self.rise_to(case.prices);
         match self.least_by(alloc, case, limits) {

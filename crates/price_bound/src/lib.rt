@@ -9,17 +9,20 @@
 //! is above its own, and under the cuts so far, so that those which a later cut forbids are taken out.
 //! Refused are want of memory, and more groups or turns than the caller's `Limits` allow.
 //!
-//! Definitions: `price_rules` says what loose lines are, what they pay and what a node reaches. `Worth` of
-//! `price_groups` says what lines are worth and their least, `Lines` of `price_table` which lines are
-//! least, and here `specs/Total` the sum over the chambers; `Keeping` and `Stock` are of what is kept.
+//! Definitions: `price_rules` says what loose lines are, what they pay and what a node reaches, and `Claim`
+//! of `price_terms` what a `Shown` carries. Here `specs/Asks` says once what is asked of a node and `Asked`
+//! that a `PricedNode` asks it, and `Total` says the sum over the chambers, by `Lines` of `price_table` and
+//! `Worth` of `price_groups`. `Keeping` and `KeptGroups` are of what is kept.
 #![tactic(auto)]
 
 mod keeping;
 mod kept_groups;
+mod priced_node;
 mod reaching;
 mod showing;
 mod terms;
 
 pub use keeping::KeptLines;
-pub use reaching::{PricedNode, least_lines, price_sum, reaches};
+pub use priced_node::PricedNode;
+pub use reaching::{least_lines, price_sum, reaches};
 pub use showing::show;

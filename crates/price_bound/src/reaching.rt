@@ -1,29 +1,19 @@
 //! The costs that a node reaches by prices.
 ghost use Rattle.std.specs.Prelude.{◌≡◌, ◌+◌, ◌*◌, ◌<◌, ◌≤◌, ◌↔◌, ◌≤ℤ◌, ◌<ℤ◌, ◌+ℤ◌, pos, neg_ℤ, length, IsTrue, IfOk, IfSome, IfNone, sum_by};
 ghost use Rattle.lock_rules.specs.Arrival.{first_ships};
-ghost use Rattle.lock_rules.specs.Node.{line_at};
-ghost use Rattle.master_branch.specs.Node.{IsNodeOf};
-ghost use Rattle.price_rules.specs.Prices.{Reaches, price_at};
+ghost use Rattle.price_rules.specs.Prices.{price_at};
+ghost use Rattle.price_terms.specs.Claim.{IsReached};
+ghost use Rattle.price_bound.specs.Asked.{node_asked, claimed};
+ghost use Rattle.price_bound.specs.Asks.{chamber_ask};
 ghost use Rattle.price_bound.specs.Keeping.{IsFound};
-ghost use Rattle.price_bound.specs.Total.{AreLeastLines, AreLinesFound};
-ghost use Rattle.price_bound.specs.Total.{HasNoLooseLine, IsAdded, IsNodeSum};
-ghost use Rattle.price_terms.specs.Cuts.{plain_cuts};
+ghost use Rattle.price_bound.specs.Total.{HasNoLooseLine, IsAdded, IsNodeSum, AreLeastLines, AreLinesFound};
 
 use crate::keeping::KeptLines;
-use lock_model::{Instance, SHIPS};
-use master_branch::{Node, arrival_order};
+use lock_model::SHIPS;
+use master_branch::arrival_order;
+use crate::priced_node::PricedNode;
 use price_groups::LineCase;
 use price_terms::{ChamberCut, Limits, LooseLine, LooseLines, PriceError, Prices, append};
-
-/// A node of an instance, prices and cuts.
-#[derive(Drop)]
-pub struct PricedNode<'a> {
-    pub instance: &'a Instance,
-    pub node: &'a Node,
-    pub prices: &'a Prices,
-    pub cuts: &'a [ChamberCut],
-    pub ghost is: { IsNodeOf instance.now node.now },
-}
 
 // A least line of one chamber, if it has a loose one.
 fn chamber_least<'k>(
@@ -35,7 +25,7 @@ fn chamber_least<'k>(
 ) -> Result<&'k Option<LooseLine>, PriceError>
     requires chamber_in { chamber < length asked.now.instance.now.chambers }
     requires held { held.now ≡ first_ships asked.now.instance.now asked.now.node.now.depth }
-    ensures { IfOk result (λ found. IsFound asked.now.instance.now chamber asked.now.node.now.depth asked.now.prices.now asked.now.cuts.now (line_at asked.now.node.now.lines chamber) found.now) }
+    ensures { IfOk result (λ found. IsFound (chamber_ask (node_asked asked.now) chamber) found.now) }
 {
     let case = LineCase {
         instance: asked.instance,
@@ -43,8 +33,8 @@ fn chamber_least<'k>(
         prices: asked.prices,
         depth: asked.node.depth(),
         held,
-        chamber,
-        lock: &asked.instance.chambers.as_slice()[chamber as usize],
+        index: chamber,
+        chamber: &asked.instance.chambers.as_slice()[chamber as usize],
         line: asked.node.line(chamber),
     };
     kept.least(&case, limits)
@@ -58,7 +48,7 @@ fn added(
     limits: Limits,
 ) -> Result<Option<i64>, PriceError>
     requires { held.now ≡ first_ships asked.now.instance.now asked.now.node.now.depth }
-    ensures value { IfOk result (IsAdded asked.now.instance.now (plain_cuts asked.now.instance.now asked.now.cuts.now) asked.now.node.now.depth asked.now.node.now.lines asked.now.prices.now) }
+    ensures value { IfOk result (IsAdded (node_asked asked.now)) }
     ensures low { IfOk result (λ sum. IfSome sum (λ v. neg_ℤ (pos 3264320000000000) ≤ℤ v)) }
     ensures high { IfOk result (λ sum. IfSome sum (λ v. v ≤ℤ pos 24000000000000)) }
 {
@@ -80,8 +70,8 @@ fn listed(
     limits: Limits,
 ) -> Result<Option<Vec<LooseLine>>, PriceError>
     requires { held.now ≡ first_ships asked.now.instance.now asked.now.node.now.depth }
-    ensures none { IfOk result (λ found. IfNone found (HasNoLooseLine asked.now.instance.now (plain_cuts asked.now.instance.now asked.now.cuts.now) asked.now.node.now.depth asked.now.node.now.lines)) }
-    ensures some { IfOk result (λ found. IfSome found (λ lines. AreLeastLines asked.now.instance.now (plain_cuts asked.now.instance.now asked.now.cuts.now) asked.now.node.now.depth asked.now.node.now.lines asked.now.prices.now (length asked.now.instance.now.chambers) lines.items)) }
+    ensures none { IfOk result (λ found. IfNone found (HasNoLooseLine (node_asked asked.now))) }
+    ensures some { IfOk result (λ found. IfSome found (λ lines. AreLeastLines (node_asked asked.now) (length asked.now.instance.now.chambers) lines.items)) }
 {
     let alloc = kept.alloc();
     let mut lines = Vec::new(alloc);
@@ -115,7 +105,7 @@ pub fn price_sum(
     asked: &PricedNode,
     limits: Limits,
 ) -> Result<Option<i64>, PriceError>
-    ensures value { IfOk result (IsNodeSum asked.now.instance.now (plain_cuts asked.now.instance.now asked.now.cuts.now) asked.now.node.now.depth asked.now.node.now.lines asked.now.prices.now) }
+    ensures value { IfOk result (IsNodeSum (node_asked asked.now)) }
     ensures low { IfOk result (λ sum. IfSome sum (λ v. neg_ℤ (pos 4000000000000000) ≤ℤ v)) }
     ensures high { IfOk result (λ sum. IfSome sum (λ v. v ≤ℤ pos 40000000000000)) }
 {
@@ -136,7 +126,7 @@ pub fn least_lines(
     asked: &PricedNode,
     limits: Limits,
 ) -> Result<Option<LooseLines>, PriceError>
-    ensures value { IfOk result (AreLinesFound asked.now.instance.now (plain_cuts asked.now.instance.now asked.now.cuts.now) asked.now.node.now.depth asked.now.node.now.lines asked.now.prices.now) }
+    ensures value { IfOk result (AreLinesFound (node_asked asked.now)) }
     ensures low { IfOk result (λ found. IfSome found (λ lines. neg_ℤ (pos 4000000000000000) ≤ℤ lines.sum)) }
     ensures high { IfOk result (λ found. IfSome found (λ lines. lines.sum ≤ℤ pos 40000000000000)) }
 {
@@ -169,7 +159,7 @@ pub fn reaches(
     cost: u64,
     limits: Limits,
 ) -> Result<bool, PriceError>
-    ensures { IfOk result (λ reached. IsTrue reached ↔ Reaches asked.now.instance.now (plain_cuts asked.now.instance.now asked.now.cuts.now) asked.now.node.now.depth asked.now.node.now.lines asked.now.prices.now cost) }
+    ensures { IfOk result (λ reached. IsTrue reached ↔ IsReached (claimed asked.now cost)) }
 {
     match price_sum(kept, asked, limits)? {
         None => Ok(true),

@@ -1,9 +1,11 @@
 //! Nodes that are shown to reach a cost.
 ghost use Rattle.std.specs.Prelude.{◌≡◌, ◌↔◌, IfOk, IfSome, IsSome};
 ghost use Rattle.price_terms.specs.Claim.{IsReached};
+ghost use Rattle.price_bound.specs.Asked.{claimed};
 
 use crate::keeping::KeptLines;
-use crate::reaching::{PricedNode, reaches};
+use crate::priced_node::PricedNode;
+use crate::reaching::reaches;
 use price_terms::{Limits, PriceError, Shown};
 
 /// Shows that a node reaches a cost, in minutes, by prices and cuts: `None` exactly where it doesn't.
@@ -14,8 +16,8 @@ pub fn show<'a>(
     cost: u64,
     limits: Limits,
 ) -> Result<Option<Shown<'a>>, PriceError>
-    ensures exact { IfOk result (λ shown. IsSome shown ↔ IsReached (record { instance = asked.now.instance.now; node = asked.now.node.now; prices = asked.now.prices.now; cuts = asked.now.cuts.now; cost = cost })) }
-    ensures value { IfOk result (λ shown. IfSome shown (λ s. s ≡ record { instance = asked.now.instance.now; node = asked.now.node.now; prices = asked.now.prices.now; cuts = asked.now.cuts.now; cost = cost })) }
+    ensures exact { IfOk result (λ shown. IsSome shown ↔ IsReached (claimed asked.now cost)) }
+    ensures value { IfOk result (λ shown. IfSome shown (λ s. s ≡ claimed asked.now cost)) }
 {
     if reaches(kept, asked, cost, limits)? {
         Ok(Some(Shown::new(asked.instance, asked.node, asked.prices, asked.cuts, cost)))

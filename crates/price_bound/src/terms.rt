@@ -1,7 +1,7 @@
 //! What a least line depends on besides its chamber and the chamber's line.
 ghost use Rattle.std.specs.Prelude.{◌≡◌, ◌↔◌, IfOk, OnOk, IsTrue};
 ghost use Rattle.std.specs.Bool.{OnTrue};
-ghost use Rattle.price_bound.specs.Keeping.{AreFirst, AreTerms, LeadTo};
+ghost use Rattle.price_bound.specs.Keeping.{AreTerms, AreFirst, LeadTo};
 
 use lock_model::Instance;
 use price_groups::LineCase;

@@ -10,17 +10,33 @@ use Rattle.list_laws.proofs.Lists.{Contains-before_push}
 use Rattle.lock_model.specs.declared.instance.Instance.{Instance}
 use Rattle.lock_model.specs.declared.group.Group.{Group}
 use Rattle.lock_model.specs.declared.way.Stand.{Stand}
-use Rattle.price_rules.specs.Prices.{PlainCut}
 use Rattle.price_choices.specs.declared.choice.Choice.{Choice}
 use Rattle.price_choices.specs.declared.level.Level.{Level}
-use Rattle.price_groups.specs.Worth.{worth_of, arrivals_of, paid_on, soonest_of, ServeFrom}
-use Rattle.price_choices.specs.Choosing.{IsChoice, IsBelow, IsCounted, Leads, soonest, ServesLate, IsServedLate, IsCoveredLate, HasLate, AreLate, IsLevel, HaveMore, HaveEarly, AreChoices, AreListed, list_at}
+use Rattle.price_groups.specs.Asks.{LineAsk}
+use Rattle.price_groups.specs.Worth.{paid_on, arrivals_of, worth_of, soonest_of, ServeFrom}
+use Rattle.price_choices.specs.Choices.{IsChoice, Leads}
+use Rattle.price_choices.specs.Counted.{IsBelow, IsCounted}
+use Rattle.price_choices.specs.Dominance.{soonest, DominatesLate, IsDominatedLate, IsCoveredLate, AreLate, HasLate}
+use Rattle.price_choices.specs.Enough.{HaveMore, AreChoices, HaveEarly}
+use Rattle.price_choices.specs.Levels.{IsLevel, list_at, AreListed}
 use Rattle.price_choices.proofs.ServeLemmas.{later-more, serve-line, serve-worth}
 use Rattle.price_choices.proofs.ChoiceLemmas.{rates-sum, more-together}
 
-module _ (I : Instance) (c : ℕ) (known : c < length I.chambers) (cuts : List PlainCut) (k : ℕ) (prices : List ℕ) (line : List Group) where
+module _ (L : LineAsk) (known : L.chamber < length L.instance.chambers) where
+  abbrev I : Instance
+  I = L.instance
+
+  abbrev c : ℕ
+  c = L.chamber
+
+  abbrev k : ℕ
+  k = L.depth
+
+  abbrev prices : List ℕ
+  prices = L.prices
+
   -- what serves late serves from each later minute on
-  late-from : (late from : ℕ) (other h : Choice) → late ≤ from → ServesLate late other h → IsChoice I c cuts k prices line other → IsChoice I c cuts k prices line h → ServeFrom I c k prices from other.group.ships h.group.ships
+  late-from : (late from : ℕ) (other h : Choice) → late ≤ from → DominatesLate late other h → IsChoice L other → IsChoice L h → ServeFrom I c k prices from other.group.ships h.group.ships
   late-from late from other h past serves first second = record {
     count = serves.count;
     early = omega (arith, past, serves.last, first.sums.last, second.sums.last);
@@ -31,21 +47,21 @@ module _ (I : Instance) (c : ℕ) (known : c < length I.chambers) (cuts : List P
         let soon : soonest late h ≤ soonest_of I c from h.group.ships = omega (arith, past, second.sums.last, second.sums.duration) in
         later (n * soonest late h) (m * soonest late h) (n * soonest_of I c from h.group.ships) (m * soonest_of I c from h.group.ships) other.pays h.pays
         (paid_on I k prices other.group.ships + 100 * arrivals_of I other.group.ships) (paid_on I k prices h.group.ships + 100 * arrivals_of I h.group.ships)
-        (first.sums.pays ∙ rates-sum I k prices other.group.ships) (second.sums.pays ∙ rates-sum I k prices h.group.ships) serves.pays (later-more n m (soonest late h) (soonest_of I c from h.group.ships) serves.count soon);
+        (first.sums.pays ∙ rates-sum L other.group.ships) (second.sums.pays ∙ rates-sum L h.group.ships) serves.pays (later-more n m (soonest late h) (soonest_of I c from h.group.ships) serves.count soon);
   }
     where
       later : (u v m n p q x y : ℕ) → p ≡ x → q ≡ y → q + 100 * u ≤ p + 100 * v → m + v ≤ n + u → y + 100 * m ≤ x + 100 * n
       later u v m n p q x y e f h j = omega (arith, e, f, h, j)
 
   -- with the choice that serves for it a choice is counted
-  pub counted-late : (stand : Stand) (from p : ℕ) (best : ℤ) (late : ℕ) (other h : Choice) → late ≤ from → ServesLate late other h → IsChoice I c cuts k prices line other → IsChoice I c cuts k prices line h
-      → IsCounted I c cuts k prices line stand from p best other → IsCounted I c cuts k prices line stand from p best h
+  pub counted-late : (stand : Stand) (from p : ℕ) (best : ℤ) (late : ℕ) (other h : Choice) → late ≤ from → DominatesLate late other h → IsChoice L other → IsChoice L h
+      → IsCounted L stand from p best other → IsCounted L stand from p best h
   counted-late stand from p best late other h past serves first second counted = λ q leads.
       let g : Group = record { way = h.group.way; ships = other.group.ships } in
       let same : other.group ≡ g = λ i. record { way = serves.way i; ships = other.group.ships } in
       let well = late-from late from other h past serves first second in
       elim (counted q (subst (λ to. Leads to p q) (sym serves.joins) leads)) [
-        | inl below ↦ inl (λ gs loose. under best _ _ (subst (IsBelow I c cuts k prices line stand from q best) same below gs loose) (serve-line I c known k prices h.group.way other.group.ships h.group.ships stand from well gs))
+        | inl below ↦ inl (λ gs loose. under best _ _ (subst (IsBelow L stand from q best) same below gs loose) (serve-line I c known k prices h.group.way other.group.ships h.group.ships stand from well gs))
         | inr idle ↦ inr (sym serves.joins ∙ idle.0, above _ _ (subst (λ g. pos 0 ≤ℤ worth_of I c k prices stand from g) same idle.1) (serve-worth I c known k prices h.group.way other.group.ships h.group.ships stand from well))
       ]
     where
@@ -56,51 +72,51 @@ module _ (I : Instance) (c : ℕ) (known : c < length I.chambers) (cuts : List P
       above u v h j = omega (arith, ints)
 
   -- Choices are counted where those are that cover them.
-  pub counted-covered : (stand : Stand) (from p : ℕ) (best : ℤ) (late : ℕ) (choices lates : List Choice) → late ≤ from → All (IsChoice I c cuts k prices line) choices → AreLate I c cuts k prices line late choices lates
-      → ((h : Choice) → Contains lates h → IsCounted I c cuts k prices line stand from p best h) → (h : Choice) → Contains choices h → IsCounted I c cuts k prices line stand from p best h
-  counted-covered stand from p best late choices lates past each are counted h held = elim (All-contains (IsCoveredLate I c k prices late lates) choices h are.covered held) [
+  pub counted-covered : (stand : Stand) (from p : ℕ) (best : ℤ) (late : ℕ) (choices lates : List Choice) → late ≤ from → All (IsChoice L) choices → AreLate L late choices lates
+      → ((h : Choice) → Contains lates h → IsCounted L stand from p best h) → (h : Choice) → Contains choices h → IsCounted L stand from p best h
+  counted-covered stand from p best late choices lates past each are counted h held = elim (All-contains (IsCoveredLate L late lates) choices h are.covered held) [
     | inl served ↦
-        counted-late stand from p best late served.other h past served.serves (All-contains (IsChoice I c cuts k prices line) lates served.other are.each served.held) (All-contains (IsChoice I c cuts k prices line) choices h each held)
+        counted-late stand from p best late served.other h past served.serves (All-contains (IsChoice L) lates served.other are.each served.held) (All-contains (IsChoice L) choices h each held)
         (counted served.other served.held)
     | inr vain ↦ λ q leads. inr (vain.alone, vain.gainless stand from past)
   ]
 
   -- some level's choices, or the first ones, are looked at
   abbrev Covers : List Choice → ℕ → List Choice → Type 0
-  Covers choices from now = (late : ℕ) × (late ≤ from) × AreLate I c cuts k prices line late choices now
+  Covers choices from now = (late : ℕ) × (late ≤ from) × AreLate L late choices now
 
-  covers-at : (choices : List Choice) (from : ℕ) (now : List Choice) (levels : List Level) → Covers choices from now → All (IsLevel I c cuts k prices line choices) levels → Covers choices from (list_at now levels from)
+  covers-at : (choices : List Choice) (from : ℕ) (now : List Choice) (levels : List Level) → Covers choices from now → All (IsLevel L choices) levels → Covers choices from (list_at now levels from)
   covers-at choices from now [] covers all = covers
   covers-at choices from now (level ∷ levels) covers all =
-      let rest = All-tail (IsLevel I c cuts k prices line choices) level levels all in
+      let rest = All-tail (IsLevel L choices) level levels all in
       elim (leb_tells (suc from) level.from) [
         | inl early ↦ subst (λ b. Covers choices from (list_at (cond b now level.choices.items) levels from)) (sym early.0) (covers-at choices from now levels covers rest)
         | inr past ↦
             subst (λ b. Covers choices from (list_at (cond b now level.choices.items) levels from)) (sym past.0)
-            (covers-at choices from level.choices.items levels (level.from, omega (arith, past.1), All-head (IsLevel I c cuts k prices line choices) level levels all) rest)
+            (covers-at choices from level.choices.items levels (level.from, omega (arith, past.1), All-head (IsLevel L choices) level levels all) rest)
       ]
 
-  module _ (earlies : List Choice) (levels : List Level) (are : AreListed I c cuts k prices line earlies levels) where
+  module _ (earlies : List Choice) (levels : List Level) (are : AreListed L earlies levels) where
     listed-covers : (from : ℕ) → Covers are.choices from (list_at earlies levels from)
     listed-covers from = covers-at are.choices from earlies levels (0, omega arith, are.early_enough) are.late_enough
 
     -- ALL CHOICES ARE COUNTED where those are that are looked at.
-    pub counted-listed : (stand : Stand) (from p : ℕ) (best : ℤ) → ((h : Choice) → Contains (list_at earlies levels from) h → IsCounted I c cuts k prices line stand from p best h) → (h : Choice) → Contains are.choices h → IsCounted I c cuts k prices line stand from p best h
+    pub counted-listed : (stand : Stand) (from p : ℕ) (best : ℤ) → ((h : Choice) → Contains (list_at earlies levels from) h → IsCounted L stand from p best h) → (h : Choice) → Contains are.choices h → IsCounted L stand from p best h
     counted-listed stand from p best counted =
         let covers = listed-covers from in
         counted-covered stand from p best covers.0 are.choices (list_at earlies levels from) covers.1 are.enough.each covers.2 counted
 
-    pub listed-each : (minute : ℕ) → All (IsChoice I c cuts k prices line) (list_at earlies levels minute)
+    pub listed-each : (minute : ℕ) → All (IsChoice L) (list_at earlies levels minute)
     listed-each minute = (listed-covers minute).2.each
 
   -- WHAT COVERS CHOICES that cover others from an earlier minute on covers these.
-  pub late-through : (early late : ℕ) (choices earlies lates : List Choice) → early ≤ late → All (IsChoice I c cuts k prices line) choices → AreLate I c cuts k prices line early choices earlies → AreLate I c cuts k prices line late earlies lates → AreLate I c cuts k prices line late choices lates
+  pub late-through : (early late : ℕ) (choices earlies lates : List Choice) → early ≤ late → All (IsChoice L) choices → AreLate L early choices earlies → AreLate L late earlies lates → AreLate L late choices lates
   late-through early late choices earlies lates before each first second = record {
     each = second.each;
     covered = λ j d here. through (slice_index_or choices j d) (each j d here) (first.covered j d here);
   }
     where
-      chain : (other mid h : Choice) → ServesLate late other mid → ServesLate early mid h → ServesLate late other h
+      chain : (other mid h : Choice) → DominatesLate late other mid → DominatesLate early mid h → DominatesLate late other h
       chain other mid h far near = record {
         joins = far.joins ∙ near.joins;
         way = far.way ∙ near.way;
@@ -117,12 +133,12 @@ module _ (I : Instance) (c : ℕ) (known : c < length I.chambers) (cuts : List P
             omega (arith, near.pays, far.pays, first, second);
       }
 
-      through : (h : Choice) → IsChoice I c cuts k prices line h → IsCoveredLate I c k prices early earlies h → IsCoveredLate I c k prices late lates h
+      through : (h : Choice) → IsChoice L h → IsCoveredLate L early earlies h → IsCoveredLate L late lates h
       through h is (inr vain) = inr (record { alone = vain.alone; gainless = λ stand from past. vain.gainless stand from (omega (arith, before, past)) })
       through h is (inl near) =
           let mid = near.other in
-          let own : IsChoice I c cuts k prices line mid = All-contains (IsChoice I c cuts k prices line) earlies mid first.each near.held in
-          elim (All-contains (IsCoveredLate I c k prices late lates) earlies mid second.covered near.held) [
+          let own : IsChoice L mid = All-contains (IsChoice L) earlies mid first.each near.held in
+          elim (All-contains (IsCoveredLate L late lates) earlies mid second.covered near.held) [
             | inl far ↦ inl (record { other = far.other; held = far.held; serves = chain far.other mid h far.serves near.serves })
             | inr vain ↦ inr (record {
               alone = sym near.serves.joins ∙ vain.alone;
@@ -137,36 +153,36 @@ module _ (I : Instance) (c : ℕ) (known : c < length I.chambers) (cuts : List P
           above : (u v : ℤ) → pos 0 ≤ℤ u → u ≤ℤ v → pos 0 ≤ℤ v
           above u v h j = omega (arith, ints)
 
-  pub listed-by : (choices earlies : List Choice) (levels : List Level) → AreChoices I c cuts k prices line choices → AreLate I c cuts k prices line 0 choices earlies → All (IsLevel I c cuts k prices line earlies) levels → AreListed I c cuts k prices line earlies levels
+  pub listed-by : (choices earlies : List Choice) (levels : List Level) → AreChoices L choices → AreLate L 0 choices earlies → All (IsLevel L earlies) levels → AreListed L earlies levels
   listed-by choices earlies levels enough early all = record {
     choices = choices;
     enough = enough;
     early_enough = early;
-    late_enough = All-weaker (IsLevel I c cuts k prices line earlies) (IsLevel I c cuts k prices line choices) (λ level is. late-through 0 level.from choices earlies level.choices.items (omega arith) enough.each early is) levels all;
+    late_enough = All-weaker (IsLevel L earlies) (IsLevel L choices) (λ level is. late-through 0 level.from choices earlies level.choices.items (omega arith) enough.each early is) levels all;
   }
 
 -- more choices serve what fewer do
-later-served : (late : ℕ) (h : Choice) (old new : List Choice) → (new ≡ old) ⊎ (new ≡ old ++ h ∷ []) → (g : Choice) → IsServedLate late old g → IsServedLate late new g
+later-served : (late : ℕ) (h : Choice) (old new : List Choice) → (new ≡ old) ⊎ (new ≡ old ++ h ∷ []) → (g : Choice) → IsDominatedLate late old g → IsDominatedLate late new g
 later-served late h old new more g served = elim more [
-  | inl same ↦ subst (λ hs. IsServedLate late hs g) (sym same) served
-  | inr more ↦ subst (λ hs. IsServedLate late hs g) (sym more) (record { other = served.other; held = Contains-before_push old h served.other served.held; serves = served.serves })
+  | inl same ↦ subst (λ hs. IsDominatedLate late hs g) (sym same) served
+  | inr more ↦ subst (λ hs. IsDominatedLate late hs g) (sym more) (record { other = served.other; held = Contains-before_push old h served.other served.held; serves = served.serves })
 ]
 
-module _ (I : Instance) (c : ℕ) (cuts : List PlainCut) (k : ℕ) (prices : List ℕ) (line : List Group) (late : ℕ) where
-  pub late-next : (choices : List Choice) (h : Choice) (old new : List Choice) → IsChoice I c cuts k prices line h → HasLate I c k prices late h old new → AreLate I c cuts k prices line late choices old → AreLate I c cuts k prices line late (choices ++ h ∷ []) new
+module _ (L : LineAsk) (late : ℕ) where
+  pub late-next : (choices : List Choice) (h : Choice) (old new : List Choice) → IsChoice L h → HasLate L late h old new → AreLate L late choices old → AreLate L late (choices ++ h ∷ []) new
   late-next choices h old new is has are = record {
     each = elim has.more [
-      | inl same ↦ subst (All (IsChoice I c cuts k prices line)) (sym same) are.each
-      | inr more ↦ subst (All (IsChoice I c cuts k prices line)) (sym more) (All-push (IsChoice I c cuts k prices line) old h are.each is)
+      | inl same ↦ subst (All (IsChoice L)) (sym same) are.each
+      | inr more ↦ subst (All (IsChoice L)) (sym more) (All-push (IsChoice L) old h are.each is)
     ];
-    covered = All-push (IsCoveredLate I c k prices late new) choices h (All-weaker (IsCoveredLate I c k prices late old) (IsCoveredLate I c k prices late new) later choices are.covered) has.covered;
+    covered = All-push (IsCoveredLate L late new) choices h (All-weaker (IsCoveredLate L late old) (IsCoveredLate L late new) later choices are.covered) has.covered;
   }
     where
-      later : (g : Choice) → IsCoveredLate I c k prices late old g → IsCoveredLate I c k prices late new g
+      later : (g : Choice) → IsCoveredLate L late old g → IsCoveredLate L late new g
       later g covered = elim covered [ inl served ↦ inl (later-served late h old new has.more g served) | inr vain ↦ inr vain ]
 
   -- a choice serves for itself
-  pub late-itself : (h : Choice) (old : List Choice) → HasLate I c k prices late h old (old ++ h ∷ [])
+  pub late-itself : (h : Choice) (old : List Choice) → HasLate L late h old (old ++ h ∷ [])
   late-itself h old = record {
     covered = inl (record {
       other = h;
@@ -176,28 +192,28 @@ module _ (I : Instance) (c : ℕ) (cuts : List PlainCut) (k : ℕ) (prices : Lis
     more = inr refl;
   }
 
-module _ (I : Instance) (c : ℕ) (cuts : List PlainCut) (k : ℕ) (prices : List ℕ) (line : List Group) where
-  pub late-none : (late : ℕ) → AreLate I c cuts k prices line late [] []
-  late-none late = record { each = All-nil (IsChoice I c cuts k prices line); covered = All-nil (IsCoveredLate I c k prices late []) }
+module _ (L : LineAsk) where
+  pub late-none : (late : ℕ) → AreLate L late [] []
+  late-none late = record { each = All-nil (IsChoice L); covered = All-nil (IsCoveredLate L late []) }
 
-  covered-among : (late : ℕ) (old new : List Choice) → ((h : Choice) → Contains old h → Contains new h) → (g : Choice) → IsCoveredLate I c k prices late old g → IsCoveredLate I c k prices late new g
+  covered-among : (late : ℕ) (old new : List Choice) → ((h : Choice) → Contains old h → Contains new h) → (g : Choice) → IsCoveredLate L late old g → IsCoveredLate L late new g
   covered-among late old new more g (inl served) = inl (record { other = served.other; held = more served.other served.held; serves = served.serves })
   covered-among late old new more g (inr vain) = inr vain
 
   -- what covers two lists of choices
-  pub late-together : (late : ℕ) (choices more lates others : List Choice) → AreLate I c cuts k prices line late choices lates → AreLate I c cuts k prices line late more others → AreLate I c cuts k prices line late (choices ++ more) (lates ++ others)
+  pub late-together : (late : ℕ) (choices more lates others : List Choice) → AreLate L late choices lates → AreLate L late more others → AreLate L late (choices ++ more) (lates ++ others)
   late-together late choices more lates others first second = record {
-    each = All-append (IsChoice I c cuts k prices line) lates others first.each second.each;
-    covered = All-append (IsCoveredLate I c k prices late (lates ++ others)) choices more
-        (All-weaker (IsCoveredLate I c k prices late lates) (IsCoveredLate I c k prices late (lates ++ others)) (covered-among late lates (lates ++ others) (λ h at. Contains-append_left lates others h at)) choices first.covered)
-        (All-weaker (IsCoveredLate I c k prices late others) (IsCoveredLate I c k prices late (lates ++ others)) (covered-among late others (lates ++ others) (λ h at. Contains-append_right lates others h at)) more second.covered);
+    each = All-append (IsChoice L) lates others first.each second.each;
+    covered = All-append (IsCoveredLate L late (lates ++ others)) choices more
+        (All-weaker (IsCoveredLate L late lates) (IsCoveredLate L late (lates ++ others)) (covered-among late lates (lates ++ others) (λ h at. Contains-append_left lates others h at)) choices first.covered)
+        (All-weaker (IsCoveredLate L late others) (IsCoveredLate L late (lates ++ others)) (covered-among late others (lates ++ others) (λ h at. Contains-append_right lates others h at)) more second.covered);
   }
 
   -- choices put to others, and what covers both
-  pub early-together : (to : Option ℕ) (base : Group) (all more earlies others : List Choice) → All (IsChoice I c cuts k prices line) all → HaveMore I c cuts k prices line to base [] more
-      → AreLate I c cuts k prices line 0 all earlies → AreLate I c cuts k prices line 0 more others → HaveEarly I c cuts k prices line to base all (earlies ++ others)
+  pub early-together : (to : Option ℕ) (base : Group) (all more earlies others : List Choice) → All (IsChoice L) all → HaveMore L to base [] more
+      → AreLate L 0 all earlies → AreLate L 0 more others → HaveEarly L to base all (earlies ++ others)
   early-together to base all more earlies others each have first second = record {
     more = all ++ more;
-    have = more-together I k prices c cuts line to base all more each have;
+    have = more-together L to base all more each have;
     early = late-together 0 all more earlies others first second;
   }

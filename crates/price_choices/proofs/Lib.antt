@@ -2,5 +2,5 @@ pub mod ServeLemmas
 pub mod SumLemmas
 pub mod ChoiceLemmas
 pub mod LateLemmas
-pub mod MenuLemmas
-pub mod VainLemmas
+pub mod SuccessorLemmas
+pub mod GainlessLemmas

@@ -1,6 +1,6 @@
 //! Groups that may come next in a loose line.
 ghost use Rattle.std.specs.Prelude.{ℕ, ◌≡◌, ◌≤◌, IfSome, IfNone};
-ghost use Rattle.price_choices.specs.Choosing.{Leads};
+ghost use Rattle.price_choices.specs.Choices.{Leads};
 
 use lock_model::{Group, SHIPS};
 

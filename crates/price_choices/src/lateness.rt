@@ -1,12 +1,13 @@
-//! Choices that are left out from a minute on, since others serve as well from then on or they gain
+//! Choices that are left out from a minute on, since others dominate them from then on or they gain
 //! nothing.
-ghost use Rattle.std.specs.Prelude.{◌+◌, ◌*◌, ◌≤◌, length, max, All, IsTrue, IfOk, OnOk};
-ghost use Rattle.price_choices.specs.Choosing.{IsChoice, IsServedLate, IsCoveredLate, ServesLate, AreLate, HasLate, soonest};
-ghost use Rattle.price_terms.specs.Cuts.{plain_cuts};
+ghost use Rattle.std.specs.Prelude.{◌+◌, ◌≤◌, All, IsTrue, IfOk, OnOk};
+ghost use Rattle.price_groups.specs.Asked.{line_asked};
+ghost use Rattle.price_choices.specs.Choices.{IsChoice};
+ghost use Rattle.price_choices.specs.Dominance.{PaysEnough, DominatesLate, IsDominatedLate, IsCoveredLate, AreLate, HasLate};
 
 use crate::bests::Bests;
 use crate::choice::Choice;
-use crate::vanity::{is_vain, worth_by};
+use crate::gainless::{is_gainless, worth_by};
 use price_groups::LineCase;
 use price_terms::{PriceError, append};
 use std::alloc::Global;
@@ -28,7 +29,7 @@ fn pays_enough(other: &Choice, choice: &Choice, late: u64) -> bool
     requires late { late ≤ 4294967296 }
     requires short { choice.now.duration ≤ 9000000 }
     requires soon { choice.now.last ≤ 1000000 }
-    ensures { IsTrue result → choice.now.pays + 100 * (length other.now.group.ships * soonest late choice.now) ≤ other.now.pays + 100 * (length choice.now.group.ships * soonest late choice.now) }
+    ensures { IsTrue result → PaysEnough late other.now choice.now }
 {
     let end = late.max(choice.last as u64) + choice.duration as u64;
     choice.pays as u64 + worth_by(other.group.ships.len() as u64, end)
@@ -36,11 +37,11 @@ fn pays_enough(other: &Choice, choice: &Choice, late: u64) -> bool
 }
 
 // Whether a choice joins the same group as another, has its way and is no worse by its other sums.
-fn serves_late(other: &Choice, choice: &Choice, late: u64) -> bool
+fn dominates_late(other: &Choice, choice: &Choice, late: u64) -> bool
     requires late { late ≤ 4294967296 }
     requires short { choice.now.duration ≤ 9000000 }
     requires soon { choice.now.last ≤ 1000000 }
-    ensures { IsTrue result → ServesLate late other.now choice.now }
+    ensures { IsTrue result → DominatesLate late other.now choice.now }
 {
     other.duration <= choice.duration
         && other.joins == choice.joins
@@ -50,35 +51,35 @@ fn serves_late(other: &Choice, choice: &Choice, late: u64) -> bool
         && pays_enough(other, choice, late)
 }
 
-// Whether the choice at a place, if there is one, serves as well as a choice from the minute on.
-fn is_served_late_at(lates: &[Choice], place: Option<usize>, choice: &Choice, late: u64) -> bool
+// Whether the choice at a place, if there is one, dominates a choice from the minute on.
+fn is_dominated_late_at(lates: &[Choice], place: Option<usize>, choice: &Choice, late: u64) -> bool
     requires late { late ≤ 4294967296 }
     requires short { choice.now.duration ≤ 9000000 }
     requires soon { choice.now.last ≤ 1000000 }
-    ensures { IsTrue result → IsServedLate late lates.now choice.now }
+    ensures { IsTrue result → IsDominatedLate late lates.now choice.now }
 {
     match place {
-        Some(place) if place < lates.len() => serves_late(&lates[place], choice, late),
+        Some(place) if place < lates.len() => dominates_late(&lates[place], choice, late),
         _ => false,
     }
 }
 
-// Whether one of the best choices of no more ships serves as well as a choice from the minute on.
-fn is_served_late_on(lates: &[Choice], bests: &Bests, choice: &Choice, late: u64) -> bool
+// Whether one of the best choices of no more ships dominates a choice from the minute on.
+fn is_dominated_late_in(lates: &[Choice], bests: &Bests, choice: &Choice, late: u64) -> bool
     requires late { late ≤ 4294967296 }
     requires short { choice.now.duration ≤ 9000000 }
     requires soon { choice.now.last ≤ 1000000 }
-    ensures { IsTrue result → IsServedLate late lates.now choice.now }
+    ensures { IsTrue result → IsDominatedLate late lates.now choice.now }
 {
     for ships in 1..choice.group.ships.len() + 1 {
-        if is_served_late_at(lates, bests.find(ships), choice, late) {
+        if is_dominated_late_at(lates, bests.find(ships), choice, late) {
             return true;
         }
     }
     false
 }
 
-// Whether a choice gains nothing or one of the choices serves as well from the minute on.
+// Whether a choice gains nothing or one of the choices dominates it from the minute on.
 fn is_covered_late(
     case: &LineCase,
     lates: &[Choice],
@@ -87,14 +88,14 @@ fn is_covered_late(
     late: u64,
 ) -> bool
     requires late { late ≤ 4294967296 }
-    requires is { IsChoice case.now.instance.now case.now.chamber (plain_cuts case.now.instance.now case.now.cuts.now) case.now.depth case.now.prices.now case.now.line.now choice.now }
-    ensures { IsTrue result → IsCoveredLate case.now.instance.now case.now.chamber case.now.depth case.now.prices.now late lates.now choice.now }
+    requires is { IsChoice (line_asked case.now) choice.now }
+    ensures { IsTrue result → IsCoveredLate (line_asked case.now) late lates.now choice.now }
 {
-    is_vain(case, choice, late) || is_served_late_on(lates, bests, choice, late)
+    is_gainless(case, choice, late) || is_dominated_late_in(lates, bests, choice, late)
 }
 
 // Forgets the best choices where a choice doesn't join the same group as the last one, or has another
-// way: the choices of a line come in such stretches, and no other one serves.
+// way: the choices of a line come in such stretches, and no other one dominates.
 fn begin_stretch(lates: &[Choice], bests: &mut Bests, choice: &Choice) {
     match lates {
         [.., last] if last.joins == choice.joins && last.group.way == choice.group.way => {}
@@ -111,8 +112,8 @@ fn put_late(
     late: u64,
 ) -> Result<(), PriceError>
     requires late { late ≤ 4294967296 }
-    requires is { IsChoice case.now.instance.now case.now.chamber (plain_cuts case.now.instance.now case.now.cuts.now) case.now.depth case.now.prices.now case.now.line.now choice.now }
-    ensures { OnOk result (HasLate case.now.instance.now case.now.chamber case.now.depth case.now.prices.now late choice.now lates.old.items lates.new.items) }
+    requires is { IsChoice (line_asked case.now) choice.now }
+    ensures { OnOk result (HasLate (line_asked case.now) late choice.now lates.old.items lates.new.items) }
 {
     if is_covered_late(case, lates, bests, choice, late) {
         return Ok(());
@@ -122,7 +123,7 @@ fn put_late(
 }
 
 /// Of some choices those that are enough from a minute on. Fewest are kept where those of short handling
-/// come first, and of these those of few ships: so what may serve stands before.
+/// come first, and of these those of few ships: so what may dominate stands before.
 pub(crate) fn late_choices(
     alloc: Global,
     case: &LineCase,
@@ -130,8 +131,8 @@ pub(crate) fn late_choices(
     late: u64,
 ) -> Result<Vec<Choice>, PriceError>
     requires late { late ≤ 4294967296 }
-    requires each { All (IsChoice case.now.instance.now case.now.chamber (plain_cuts case.now.instance.now case.now.cuts.now) case.now.depth case.now.prices.now case.now.line.now) choices.now }
-    ensures { IfOk result (λ lates. AreLate case.now.instance.now case.now.chamber (plain_cuts case.now.instance.now case.now.cuts.now) case.now.depth case.now.prices.now case.now.line.now late choices.now lates.items) }
+    requires each { All (IsChoice (line_asked case.now)) choices.now }
+    ensures { IfOk result (λ lates. AreLate (line_asked case.now) late choices.now lates.items) }
 {
     let mut lates = Vec::new(alloc);
     let mut bests = Bests::new();

@@ -1,7 +1,9 @@
 //! The levels of a table: the later it is, the fewer choices are enough.
 ghost use Rattle.std.specs.Prelude.{◌≤◌, All, IfOk, OnOk};
-ghost use Rattle.price_choices.specs.Choosing.{IsChoice, IsLevel, AreLate};
-ghost use Rattle.price_terms.specs.Cuts.{plain_cuts};
+ghost use Rattle.price_groups.specs.Asked.{line_asked};
+ghost use Rattle.price_choices.specs.Choices.{IsChoice};
+ghost use Rattle.price_choices.specs.Dominance.{AreLate};
+ghost use Rattle.price_choices.specs.Levels.{IsLevel};
 
 use crate::choice::Choice;
 use crate::lateness::late_choices;
@@ -16,7 +18,7 @@ const COUNT: u32 = 8;
 // How many minutes lie between two levels.
 const STEP: u32 = 30;
 
-// As many choices have no levels: to make these would take longer than all states do.
+// So many choices, or fewer, have no levels: to make these would take longer than all states do.
 const FEW: usize = 8;
 
 // How many levels some choices have.
@@ -34,9 +36,9 @@ fn thinned(
     choices: &[Choice],
     from: u32,
 ) -> Result<Vec<Choice>, PriceError>
-    requires each { All (IsChoice case.now.instance.now case.now.chamber (plain_cuts case.now.instance.now case.now.cuts.now) case.now.depth case.now.prices.now case.now.line.now) choices.now }
-    requires levels { All (IsLevel case.now.instance.now case.now.chamber (plain_cuts case.now.instance.now case.now.cuts.now) case.now.depth case.now.prices.now case.now.line.now choices.now) levels.now }
-    ensures { IfOk result (λ lates. AreLate case.now.instance.now case.now.chamber (plain_cuts case.now.instance.now case.now.cuts.now) case.now.depth case.now.prices.now case.now.line.now from choices.now lates.items) }
+    requires each { All (IsChoice (line_asked case.now)) choices.now }
+    requires levels { All (IsLevel (line_asked case.now) choices.now) levels.now }
+    ensures { IfOk result (λ lates. AreLate (line_asked case.now) from choices.now lates.items) }
 {
     match levels.last() {
         Some(level) if level.from <= from as u64 => {
@@ -54,9 +56,9 @@ fn add_level(
     choices: &[Choice],
     from: u32,
 ) -> Result<(), PriceError>
-    requires each { All (IsChoice case.now.instance.now case.now.chamber (plain_cuts case.now.instance.now case.now.cuts.now) case.now.depth case.now.prices.now case.now.line.now) choices.now }
-    requires levels { All (IsLevel case.now.instance.now case.now.chamber (plain_cuts case.now.instance.now case.now.cuts.now) case.now.depth case.now.prices.now case.now.line.now choices.now) levels.old.items }
-    ensures { OnOk result (All (IsLevel case.now.instance.now case.now.chamber (plain_cuts case.now.instance.now case.now.cuts.now) case.now.depth case.now.prices.now case.now.line.now choices.now) levels.new.items) }
+    requires each { All (IsChoice (line_asked case.now)) choices.now }
+    requires levels { All (IsLevel (line_asked case.now) choices.now) levels.old.items }
+    ensures { OnOk result (All (IsLevel (line_asked case.now) choices.now) levels.new.items) }
 {
     let lates = thinned(alloc, case, levels, choices, from)?;
     append(
@@ -76,8 +78,8 @@ pub fn levels_of(
     choices: &[Choice],
     first: u32,
 ) -> Result<Vec<Level>, PriceError>
-    requires each { All (IsChoice case.now.instance.now case.now.chamber (plain_cuts case.now.instance.now case.now.cuts.now) case.now.depth case.now.prices.now case.now.line.now) choices.now }
-    ensures { IfOk result (λ levels. All (IsLevel case.now.instance.now case.now.chamber (plain_cuts case.now.instance.now case.now.cuts.now) case.now.depth case.now.prices.now case.now.line.now choices.now) levels.items) }
+    requires each { All (IsChoice (line_asked case.now)) choices.now }
+    ensures { IfOk result (λ levels. All (IsLevel (line_asked case.now) choices.now) levels.items) }
 {
     let mut levels = Vec::new(alloc);
     for step in 0..count_for(choices) {

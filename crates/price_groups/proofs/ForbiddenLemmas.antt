@@ -11,8 +11,8 @@ use Rattle.lock_model.specs.declared.instance.Instance.{Instance}
 use Rattle.lock_rules.specs.Cut.{Hits}
 use Rattle.price_rules.specs.Prices.{PlainCut, Spares}
 use Rattle.price_terms.specs.Cuts.{plain_cut, plain_cuts}
-use Rattle.price_terms.specs.declared.cut.ChamberCut.{ChamberCut}
 use Rattle.price_groups.specs.Sparing.{Bears, AreIn, LacksSome, AreForbidden}
+use Rattle.price_terms.specs.declared.cut.ChamberCut.{ChamberCut}
 
 pub All-before : {X : Type 0} (P : X → Type 0) (xs : List X) (x : X) → All P (xs ++ x ∷ []) → All P xs
 All-before P [] x all = All-nil P

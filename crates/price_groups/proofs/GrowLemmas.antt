@@ -20,8 +20,9 @@ use Rattle.lock_rules.proofs.TreeLemmas.{RisesFrom-filter, length-insert_number,
 use Rattle.lock_rules.proofs.SplitLemmas.{RisesFrom-increasing, All-times, times_in-at}
 use Rattle.lock_rules.proofs.NodeLemmas.{RisesFrom-insert, All-insert_number, increasing-RisesFrom}
 use Rattle.price_rules.specs.Prices.{is_missing}
+use Rattle.price_groups.specs.Asks.{GroupAsk, group_ask}
+use Rattle.price_groups.specs.Growing.{IsAllowed, IsGrown, HasIdler, AreGrown, MayJoin, AreJoining, IsBase, IsNew, IsJoined}
 use Rattle.price_groups.specs.Sparing.{LacksSome}
-use Rattle.price_groups.specs.Growing.{IsAllowed, IsGrown, AreGrown, HasIdler, MayJoin, AreJoining, IsNew, IsBase, IsJoined}
 use Rattle.price_groups.proofs.IdleLemmas.{idler-more}
 
 -- a number stands once at most among rising numbers
@@ -100,11 +101,14 @@ same-place : (gs : List Group) (i j : ℕ) (e d : Group) → i < length gs → j
 same-place gs i j e d here same = ap (λ j. slice_index_or gs j e) same ∙ get_or_default gs i e d here
 
 module _ (I : Instance) (c k : ℕ) (prices : List ℕ) (sets : List (List ℕ)) (base : Group) where
+  abbrev A : GroupAsk
+  A = group_ask I c k prices sets
+
   abbrev kept : ℕ → Bool
   kept = has_number (first_ships I k)
 
   -- at first the base alone
-  pub grown-first : IsGrown I c k sets base 0 base → AreGrown I c k prices sets base 0 (base ∷ [])
+  pub grown-first : IsGrown I c k sets base 0 base → AreGrown A base 0 (base ∷ [])
   grown-first is = record {
     each = All-cons (IsGrown I c k sets base 0) base [] is (All-nil (IsGrown I c k sets base 0));
     whole = λ g h. inl (0, omega arith, same g h);
@@ -114,7 +118,7 @@ module _ (I : Instance) (c k : ℕ) (prices : List ℕ) (sets : List (List ℕ))
       same g h = λ i. record { way = sym h.way i; ships = (sym h.keeps ∙ all-kept I k g.ships h.allowed) i }
 
   -- none where a forbidden set is in the base
-  pub grown-none : (n : ℕ) → ¬ All (LacksSome base.ships) sets → AreGrown I c k prices sets base n []
+  pub grown-none : (n : ℕ) → ¬ All (LacksSome base.ships) sets → AreGrown A base n []
   grown-none n hit = record {
     each = All-nil (IsGrown I c k sets base n);
     whole = λ g h. absurd (hit (misses-fewer base.ships g.ships sets (subst (All (Contains g.ships)) h.keeps (All-filter kept (Contains g.ships) g.ships (λ j d here. Contains-get_or g.ships j d here))) h.missed));
@@ -225,8 +229,8 @@ module _ (I : Instance) (c k : ℕ) (prices : List ℕ) (sets : List (List ℕ))
         lower s other (inl h) = inl h
         lower s other (inr h) = elim (leb_tells (suc s) n) [ inl y ↦ inr y.1 | inr q ↦ absurd (other (omega (arith, h, q.1))) ]
 
-    module _ (old : List Group) (were : AreGrown I c k prices sets base n old) where
-      pub joining-start : AreJoining I c k prices sets base n old 0 old
+    module _ (old : List Group) (were : AreGrown A base n old) where
+      pub joining-start : AreJoining A base n old 0 old
       joining-start = record {
         each = All-weaker (IsGrown I c k sets base n) (IsGrown I c k sets base (suc n)) (grown-more n) old were.each;
         long = omega arith;
@@ -235,7 +239,7 @@ module _ (I : Instance) (c k : ℕ) (prices : List ℕ) (sets : List (List ℕ))
       }
 
       -- WHAT WAS GROWN and all that may join: the groups with one ship more.
-      pub joining-done : (groups : List Group) → AreJoining I c k prices sets base n old (length old) groups → AreGrown I c k prices sets base (suc n) groups
+      pub joining-done : (groups : List Group) → AreJoining A base n old (length old) groups → AreGrown A base (suc n) groups
       joining-done groups are = record {
         each = are.each;
         whole = λ g h. elim (leb_tells 1 (times_in g.ships n)) [
@@ -265,13 +269,13 @@ module _ (I : Instance) (c k : ℕ) (prices : List ℕ) (sets : List (List ℕ))
       left g joined groups (inl never) may same = absurd (never may)
       left g joined groups (inr idler) may same = inr (subst (HasIdler I c k prices) same idler)
 
-      pub joining-next : (i : ℕ) (d : Group) (groups new : List Group) → i < length old → n < length I.ships → (ship_at I n).way ≡ base.way → AreJoining I c k prices sets base n old i groups
-          → IsJoined I c k prices sets n (slice_index_or old i d) groups new → AreJoining I c k prices sets base n old (suc i) new
+      pub joining-next : (i : ℕ) (d : Group) (groups new : List Group) → i < length old → n < length I.ships → (ship_at I n).way ≡ base.way → AreJoining A base n old i groups
+          → IsJoined A n (slice_index_or old i d) groups new → AreJoining A base n old (suc i) new
       joining-next i d groups new here known way are (inl joined) =
           let g = slice_index_or old i d in
           let grown = grown-with g known way (were.each i d here) joined.0 in
           let longer = length-append groups (with_ship n g ∷ []) in
-          subst (AreJoining I c k prices sets base n old (suc i)) (sym joined.1) (record {
+          subst (AreJoining A base n old (suc i)) (sym joined.1) (record {
             each = All-push (IsGrown I c k sets base (suc n)) groups (with_ship n g) are.each grown;
             long = omega (arith, are.long, longer);
             first = λ j e inside. get_or_append_left groups (with_ship n g ∷ []) e j (omega (arith, inside, are.long)) ∙ are.first j e inside;
@@ -281,7 +285,7 @@ module _ (I : Instance) (c k : ℕ) (prices : List ℕ) (sets : List (List ℕ))
             ];
           })
       joining-next i d groups new here known way are (inr not) =
-          subst (AreJoining I c k prices sets base n old (suc i)) (sym not.1) (record {
+          subst (AreJoining A base n old (suc i)) (sym not.1) (record {
             each = are.each;
             long = are.long;
             first = are.first;
@@ -292,7 +296,7 @@ module _ (I : Instance) (c k : ℕ) (prices : List ℕ) (sets : List (List ℕ))
           })
 
   -- a ship that may not join any group changes nothing
-  pub grown-skip : (n : ℕ) (groups : List Group) → ¬ IsNew I k base n → AreGrown I c k prices sets base n groups → AreGrown I c k prices sets base (suc n) groups
+  pub grown-skip : (n : ℕ) (groups : List Group) → ¬ IsNew I k base n → AreGrown A base n groups → AreGrown A base (suc n) groups
   grown-skip n groups old are = record {
     each = All-weaker (IsGrown I c k sets base n) (IsGrown I c k sets base (suc n)) (grown-more n) groups are.each;
     whole = λ g h. are.whole g (record {

@@ -11,8 +11,8 @@ use Rattle.lock_rules.specs.Timetable.{last_arrival}
 use Rattle.lock_rules.proofs.TimetableLemmas.{last_arrival-least, last_arrival-each}
 use Rattle.lock_rules.proofs.TraceLemmas.{sum_by-filter}
 use Rattle.lock_rules.proofs.TreeLemmas.{length-insert_number}
-use Rattle.price_groups.specs.Worth.{soonest_of, arrivals_of, paid_on, ServeFrom}
 use Rattle.price_groups.specs.Growing.{HasIdler}
+use Rattle.price_groups.specs.Worth.{paid_on, arrivals_of, soonest_of, ServeFrom}
 
 module _ (I : Instance) where
   -- fewer ships arrive no later

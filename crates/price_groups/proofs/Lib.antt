@@ -3,5 +3,5 @@ pub mod GrowLemmas
 pub mod IdleLemmas
 pub mod MaskLemmas
 pub mod RateLemmas
-pub mod StockLemmas
+pub mod GrownListLemmas
 pub mod WeighLemmas

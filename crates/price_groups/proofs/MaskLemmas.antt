@@ -15,9 +15,9 @@ use Rattle.lock_rules.proofs.ChildLemmas.{times_in-insert_number}
 use Rattle.lock_rules.proofs.NodeLemmas.{All-insert_number}
 use Rattle.lock_rules.proofs.AmongLemmas.{contains-times, times-contains}
 use Rattle.price_rules.specs.Prices.{is_missing}
-use Rattle.price_groups.specs.Sparing.{AreIn, LacksSome}
-use Rattle.price_groups.specs.Masks.{IsMask, IsSetMask, HasMask, AreMarks, AreAllowed, IsBetween, AreHaving, AreNear, AreNears, IsNoted, IsPutNear}
 use Rattle.price_groups.specs.Growing.{IsAllowed}
+use Rattle.price_groups.specs.Masks.{IsMask, IsSetMask, HasMask, AreNear, AreAllowed, AreMarks, IsNoted, IsBetween, AreHaving, IsPutNear, AreNears}
+use Rattle.price_groups.specs.Sparing.{AreIn, LacksSome}
 use Rattle.price_groups.specs.declared.near.Near.{Near}
 
 one-of : (xs : List ℕ) (x y : ℕ) → Contains (xs ++ x ∷ []) y → y ≢ x → Contains xs y

@@ -5,7 +5,8 @@ use Rattle.lock_model.specs.declared.group.Group.{Group}
 use Rattle.price_groups.specs.declared.sums.Sums.{Sums}
 use Rattle.price_groups.specs.declared.grown_lists.GrownGroup.{GrownGroup}
 use Rattle.price_groups.specs.declared.grown_lists.GrownList.{GrownList}
-use Rattle.price_groups.specs.Growing.{IsGrown, HasIdler}
+use Rattle.price_groups.specs.Asks.{GroupAsk}
+use Rattle.price_groups.specs.Growing.{IsGrown, HasIdlerBy}
 use Rattle.price_groups.specs.Sums.{AreSumsOf}
 
 -- of the first n groups each with its sums
@@ -25,6 +26,7 @@ pub record HasGroup (groups : List GrownGroup) (g : Group) : Type 0 where
   pub is : one.group ≡ g
 
 -- The list holds all that grows from its base but some with a ship that gains nothing at these prices.
-pub record IsGrownList (I : Instance) (c k : ℕ) (prices : List ℕ) (sets : List (List ℕ)) (list : GrownList) : Type 0 where
-  pub each : All (IsGrownGroup I c k sets list.base) list.groups.items
-  pub whole : (g : Group) → IsGrown I c k sets list.base (length I.ships) g → HasGroup list.groups.items g ⊎ HasIdler I c k prices g
+pub record IsGrownList (A : GroupAsk) (list : GrownList) : Type 0 where
+  pub each : All (IsGrownGroup A.instance A.chamber A.depth A.sets list.base) list.groups.items
+  pub whole : (g : Group) → IsGrown A.instance A.chamber A.depth A.sets list.base (length A.instance.ships) g
+      → HasGroup list.groups.items g ⊎ HasIdlerBy A g

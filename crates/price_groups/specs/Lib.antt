@@ -4,3 +4,5 @@ pub mod Masks
 pub mod Sparing
 pub mod Sums
 pub mod Worth
+pub mod Asks
+pub mod Asked

@@ -4,6 +4,7 @@ use Rattle.std.specs.Int.{bit_at}
 use Rattle.lock_model.specs.declared.instance.Instance.{Instance}
 use Rattle.price_groups.specs.declared.near.Near.{Near}
 use Rattle.price_rules.specs.Prices.{is_missing}
+use Rattle.price_groups.specs.Asks.{GroupAsk}
 use Rattle.price_groups.specs.Growing.{IsAllowed}
 
 -- the bits of the number are these ships
@@ -63,3 +64,18 @@ IsPutNear own early mask old new = (IsBetween own early mask × (new ≡ old ++ 
 pub record AreNears (I : Instance) (k : ℕ) (sets : List (List ℕ)) (n : ℕ) (nears : List Near) : Type 0 where
   pub count : length nears ≡ n
   pub each : (s : ℕ) (d : Near) → s < n → is_missing I k s ≡ true → AreNear I k sets (length sets) s (slice_index_or nears s d).masks.items
+
+-- whatever sets the masks are of, those that the ship may complete
+abbrev pub AreNearOf : Instance → ℕ → List ℕ → ℕ → List ℕ → Type 0
+AreNearOf I k marks ship masks = (sets : List (List ℕ)) → AreMarks I sets (length sets) marks → AreNear I k sets (length sets) ship masks
+
+-- the same, where the ship is missing
+abbrev pub AreNearMissing : Instance → ℕ → List ℕ → ℕ → List ℕ → Type 0
+AreNearMissing I k marks ship masks = (sets : List (List ℕ)) → AreMarks I sets (length sets) marks → is_missing I k ship ≡ true → AreNear I k sets (length sets) ship masks
+
+-- the same of what groups are asked by
+abbrev pub AreNearIn : GroupAsk → ℕ → List ℕ → Type 0
+AreNearIn A = AreNear A.instance A.depth A.sets (length A.sets)
+
+abbrev pub AreNearsIn : GroupAsk → List Near → Type 0
+AreNearsIn A = AreNears A.instance A.depth A.sets (length A.instance.ships)

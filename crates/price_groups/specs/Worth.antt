@@ -2,7 +2,7 @@
 use Rattle.std.specs.Prelude.{ℕ, ◌≡◌, ◌+◌, ◌-◌, ◌*◌, ◌≤◌, ◌<◌, max, true, ℤ, pos, ◌-ℤ◌, ◌≤ℤ◌, Some, None, List, length, All, sum_by, filter, ⊤}
 use Rattle.std.specs.declared.option.Option.{Option}
 use Rattle.std.specs.Option.{MatchOption}
-use Rattle.lock_model.specs.Fleet.{ship_at, chamber_at}
+use Rattle.lock_model.specs.Fleet.{ship_at}
 use Rattle.lock_model.specs.declared.instance.Instance.{Instance}
 use Rattle.lock_model.specs.declared.group.Group.{Group}
 use Rattle.lock_model.specs.declared.way.Stand.{Stand}
@@ -50,18 +50,18 @@ pub record IsLeastWorth (I : Instance) (c : ℕ) (cuts : List PlainCut) (k : ℕ
   pub below : (loose : List Group) → IsLoose I c cuts k line loose → AtMost least (worth_from I c k prices stand from loose)
   pub reached : MatchOption least ⊤ (IsWorth I c cuts k prices stand from line)
 
--- the least worth from the chamber's first state
-abbrev pub IsLeastOn : Instance → ℕ → List PlainCut → ℕ → List ℕ → List Group → Option ℤ → Type 0
-IsLeastOn I c cuts k prices line least = IsLeastWorth I c cuts k prices (chamber_at I c).stands (chamber_at I c).opens line least
-
 -- a group of a node's line: some of the first k ships
 pub record IsKeptGroup (I : Instance) (k : ℕ) (g : Group) : Type 0 where
   pub some : 1 ≤ length g.ships
   pub kept : All (λ s. has_number (first_ships I k) s ≡ true) g.ships
 
--- from this minute on each missing ship is served for at least its price
+-- where the ship is missing, it is served for at least its price from this minute on
+abbrev pub IsLateBy : Instance → ℕ → List ℕ → ℕ → ℕ → Type 0
+IsLateBy I k prices s minute = is_missing I k s ≡ true → price_at prices s + 100 * (ship_at I s).arrival ≤ 100 * minute
+
+-- the same of each ship
 pub record IsHorizon (I : Instance) (k : ℕ) (prices : List ℕ) (horizon : ℕ) : Type 0 where
-  pub late : (s : ℕ) → s < length I.ships → is_missing I k s ≡ true → price_at prices s + 100 * (ship_at I s).arrival ≤ 100 * horizon
+  pub late : (s : ℕ) → s < length I.ships → IsLateBy I k prices s horizon
 
 -- The ships hs serve as well as the ships gs: they are no more and keep the same ships, arrive no later, take no longer, and pay no less, with 100 for each minute of their arrivals.
 pub record ServeAsWell (I : Instance) (k : ℕ) (prices : List ℕ) (hs gs : List ℕ) : Type 0 where

@@ -1,9 +1,8 @@
 //! The ship sets that the cuts forbid a chamber.
-ghost use Rattle.std.specs.Prelude.{◌<◌, ◌↔◌, List, [], ◌∷◌, ◌++◌, length, All, Contains, IsTrue, OnOk, IfOk};
+ghost use Rattle.std.specs.Prelude.{◌<◌, ◌↔◌, length, All, Contains, IsTrue, OnOk, IfOk};
 ghost use Rattle.lock_model.specs.Fleet.{chamber_at};
-ghost use Rattle.price_rules.specs.Prices.{PlainCut as Plain};
 ghost use Rattle.price_terms.specs.Cuts.{plain_cut, plain_cuts};
-ghost use Rattle.price_groups.specs.Sparing.{IsNoRoomierThan, AreIn, Bears, LacksSome, IsSpared, AreForbidden};
+ghost use Rattle.price_groups.specs.Sparing.{IsNoRoomierThan, Bears, AreIn, LacksSome, IsSpared, AreForbidden, ForbidMore};
 
 use crate::line_case::LineCase;
 use lock_model::{Chamber, Group, Instance, Ships};
@@ -24,30 +23,30 @@ pub(crate) fn are_known(instance: &Instance, ships: &[u8]) -> bool
 }
 
 // Whether a chamber has equal clearance and gaps, and at most the length and width of another.
-fn is_no_roomier(lock: &Chamber, other: &Chamber) -> bool
-    ensures { IsTrue result ↔ IsNoRoomierThan lock.now other.now }
+fn is_no_roomier(chamber: &Chamber, other: &Chamber) -> bool
+    ensures { IsTrue result ↔ IsNoRoomierThan chamber.now other.now }
 {
-    lock.end == other.end
-        && lock.gap == other.gap
-        && lock.side == other.side
-        && lock.length <= other.length
-        && lock.width <= other.width
+    chamber.end == other.end
+        && chamber.gap == other.gap
+        && chamber.side == other.side
+        && chamber.length <= other.length
+        && chamber.width <= other.width
 }
 
 // Whether the case's chamber is no roomier than that of the cut.
 fn is_tight(case: &LineCase, cut: &ChamberCut) -> bool
     requires { cut.now.chamber < length case.now.instance.now.chambers }
-    ensures { IsTrue result ↔ IsNoRoomierThan (chamber_at case.now.instance.now case.now.chamber) (chamber_at case.now.instance.now cut.now.chamber) }
+    ensures { IsTrue result ↔ IsNoRoomierThan (chamber_at case.now.instance.now case.now.index) (chamber_at case.now.instance.now cut.now.chamber) }
 {
     is_no_roomier(
-        case.lock,
+        case.chamber,
         &case.instance.chambers.as_slice()[cut.chamber as usize],
     )
 }
 
 // Whether whatever group has the cut's ships is hit in the chamber.
 fn bears(case: &LineCase, cut: &ChamberCut) -> bool
-    ensures { IsTrue result ↔ Bears case.now.instance.now case.now.chamber cut.now }
+    ensures { IsTrue result ↔ Bears case.now.instance.now case.now.index cut.now }
 {
     (cut.chamber as usize) < case.instance.chambers.as_slice().len()
         && is_tight(case, cut)
@@ -56,7 +55,7 @@ fn bears(case: &LineCase, cut: &ChamberCut) -> bool
 
 // Puts the ships of one more cut to the sets, where it bears on the chamber.
 fn forbid(sets: &mut Vec<Ships>, case: &LineCase, cut: &ChamberCut) -> Result<(), PriceError>
-    ensures { OnOk result ((cuts : List Plain) → AreForbidden case.now.instance.now case.now.chamber cuts sets.old.items → AreForbidden case.now.instance.now case.now.chamber (cuts ++ plain_cut case.now.instance.now cut.now ∷ []) sets.new.items) }
+    ensures { OnOk result (ForbidMore case.now.instance.now case.now.index (plain_cut case.now.instance.now cut.now) sets.old.items sets.new.items) }
 {
     if bears(case, cut) {
         return append(sets, cut.ships.copy());
@@ -66,7 +65,7 @@ fn forbid(sets: &mut Vec<Ships>, case: &LineCase, cut: &ChamberCut) -> Result<()
 
 /// The ship sets that the cuts forbid the chamber.
 pub fn forbidden_sets(alloc: Global, case: &LineCase) -> Result<Vec<Ships>, PriceError>
-    ensures { IfOk result (λ sets. AreForbidden case.now.instance.now case.now.chamber (plain_cuts case.now.instance.now case.now.cuts.now) sets.items) }
+    ensures { IfOk result (λ sets. AreForbidden case.now.instance.now case.now.index (plain_cuts case.now.instance.now case.now.cuts.now) sets.items) }
 {
     let mut sets = Vec::new(alloc);
     for cut in case.cuts {

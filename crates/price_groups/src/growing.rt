@@ -3,13 +3,14 @@ ghost use Rattle.std.specs.Prelude.{◌≡◌, ◌+◌, ◌<◌, ◌≤◌, ◌�
 ghost use Rattle.lock_rules.specs.Plan.{times_in};
 ghost use Rattle.lock_rules.specs.Children.{with_ship};
 ghost use Rattle.master_branch.specs.Steps.{group_in};
+ghost use Rattle.price_groups.specs.Asked.{group_asked};
+ghost use Rattle.price_groups.specs.Growing.{AreGrown, AreWhollyGrown, MayJoin, IsNew, IsPutJoined, IsJoinedBy, IsJoined, IsBaseIn, IsNewIn, IsAllowedIn};
+ghost use Rattle.price_groups.specs.Masks.{IsMask, AreNearIn, AreNearsIn};
 ghost use Rattle.price_groups.specs.Sparing.{IsSpared};
-ghost use Rattle.price_groups.specs.Masks.{AreNear, AreNears, IsMask};
-ghost use Rattle.price_groups.specs.Sums.{AreSumsOf, AreWeighed};
-ghost use Rattle.price_groups.specs.Growing.{AreGrown, IsAllowed, MayJoin, IsJoined, IsNew, IsBase, IsPutJoined};
+ghost use Rattle.price_groups.specs.Sums.{AreSumsIn, AreWeighedIn, AreWeighedGroups};
 
+use crate::extension::Extension;
 use crate::forbidden::misses_all;
-use crate::growth::Growth;
 use crate::idling::has_idler;
 use crate::line_case::LineCase;
 use crate::masks::{are_before, misses_all_of, with_bit};
@@ -56,19 +57,19 @@ fn with_more(group: &Group, mask: u32, ship: u8) -> Group
 
 // The group with a ship more, where the chamber may serve them together and no forbidden set is
 // among them.
-fn joined(growth: &Growth, near: &[u32], group: &Group, mask: u32, ship: u8) -> Option<Group>
+fn joined(extension: &Extension, near: &[u32], group: &Group, mask: u32, ship: u8) -> Option<Group>
     requires mask { IsMask mask group.now.ships }
-    requires near { AreNear growth.now.case.now.instance.now growth.now.case.now.depth growth.now.sets.now (length growth.now.sets.now) ship near.now }
-    requires known { ship < length growth.now.case.now.instance.now.ships }
-    requires ships_in { All (λ s. s < length growth.now.case.now.instance.now.ships) group.now.ships }
-    requires allowed { All (IsAllowed growth.now.case.now.instance.now growth.now.case.now.depth ship) group.now.ships }
-    requires spared { IsSpared growth.now.sets.now group.now }
+    requires near { AreNearIn (group_asked extension.now) ship near.now }
+    requires known { ship < length extension.now.case.now.instance.now.ships }
+    requires ships_in { All (λ s. s < length extension.now.case.now.instance.now.ships) group.now.ships }
+    requires allowed { All (IsAllowedIn (group_asked extension.now) ship) group.now.ships }
+    requires spared { IsSpared extension.now.sets.now group.now }
     requires absent { times_in group.now.ships ship ≡ 0 }
     requires few { length group.now.ships ≤ MOST }
-    ensures some { IfSome result (λ g. MayJoin growth.now.case.now.instance.now growth.now.case.now.chamber growth.now.sets.now ship group.now × (g ≡ with_ship ship group.now)) }
-    ensures none { IfNone result (¬ MayJoin growth.now.case.now.instance.now growth.now.case.now.chamber growth.now.sets.now ship group.now) }
+    ensures some { IfSome result (IsJoinedBy (group_asked extension.now) ship group.now) }
+    ensures none { IfNone result (¬ MayJoin extension.now.case.now.instance.now extension.now.case.now.index extension.now.sets.now ship group.now) }
 {
-    if group.ships.len() >= growth.case.lock.most as usize {
+    if group.ships.len() >= extension.case.chamber.most as usize {
         return None;
     }
     if misses_all_of(near, with_bit(mask, ship)) {
@@ -87,22 +88,22 @@ fn may_idle(sums: &Sums) -> bool {
 // Appends a group that has grown, unless one of its ships gains nothing: nor does it in any group that
 // grows from this one.
 fn put_joined(
-    growth: &Growth,
+    extension: &Extension,
     groups: &mut Vec<Group>,
     sums: &mut Vec<Sums>,
     group: Group,
     own: Sums,
 ) -> Result<(), PriceError>
-    requires known { All (λ s. s < length growth.now.case.now.instance.now.ships) group.ships }
-    requires weighed { AreWeighed growth.now.case.now.instance.now growth.now.case.now.chamber groups.old.items sums.old.items }
-    requires own { AreSumsOf growth.now.case.now.instance.now growth.now.case.now.chamber group.ships own }
-    ensures weighed { OnOk result (AreWeighed growth.now.case.now.instance.now growth.now.case.now.chamber groups.new.items sums.new.items) }
-    ensures put { OnOk result (IsPutJoined growth.now.case.now.instance.now growth.now.case.now.chamber growth.now.case.now.depth growth.now.ceilings.now group groups.old.items groups.new.items) }
+    requires known { All (λ s. s < length extension.now.case.now.instance.now.ships) group.ships }
+    requires weighed { AreWeighedIn (group_asked extension.now) groups.old.items sums.old.items }
+    requires own { AreSumsIn (group_asked extension.now) group.ships own }
+    ensures weighed { OnOk result (AreWeighedIn (group_asked extension.now) groups.new.items sums.new.items) }
+    ensures put { OnOk result (IsPutJoined (group_asked extension.now) group groups.old.items groups.new.items) }
 {
-    if may_idle(&own) && has_idler(growth, &group, own.end()) {
+    if may_idle(&own) && has_idler(extension, &group, own.end()) {
         return Ok(());
     }
-    if groups.len() >= growth.most {
+    if groups.len() >= extension.most {
         return Err(PriceError::TooMany);
     }
     append(groups, group)?;
@@ -111,79 +112,79 @@ fn put_joined(
 
 // Joins a ship to the group at a place, where that may be.
 fn join(
-    growth: &Growth,
+    extension: &Extension,
     near: &[u32],
     groups: &mut Vec<Group>,
     sums: &mut Vec<Sums>,
     place: usize,
     ship: u8,
 ) -> Result<(), PriceError>
-    requires near { AreNear growth.now.case.now.instance.now growth.now.case.now.depth growth.now.sets.now (length growth.now.sets.now) ship near.now }
-    requires known { ship < length growth.now.case.now.instance.now.ships }
-    requires ships_in { All (λ s. s < length growth.now.case.now.instance.now.ships) (group_in groups.old.items place).ships }
-    requires allowed { All (IsAllowed growth.now.case.now.instance.now growth.now.case.now.depth ship) (group_in groups.old.items place).ships }
-    requires spared { IsSpared growth.now.sets.now (group_in groups.old.items place) }
+    requires near { AreNearIn (group_asked extension.now) ship near.now }
+    requires known { ship < length extension.now.case.now.instance.now.ships }
+    requires ships_in { All (λ s. s < length extension.now.case.now.instance.now.ships) (group_in groups.old.items place).ships }
+    requires allowed { All (IsAllowedIn (group_asked extension.now) ship) (group_in groups.old.items place).ships }
+    requires spared { IsSpared extension.now.sets.now (group_in groups.old.items place) }
     requires place { place < length groups.old.items }
     requires absent { times_in (group_in groups.old.items place).ships ship ≡ 0 }
     requires few { length (group_in groups.old.items place).ships ≤ MOST }
-    requires weighed { AreWeighed growth.now.case.now.instance.now growth.now.case.now.chamber groups.old.items sums.old.items }
-    ensures weighed { OnOk result (AreWeighed growth.now.case.now.instance.now growth.now.case.now.chamber groups.new.items sums.new.items) }
-    ensures joined { OnOk result (IsJoined growth.now.case.now.instance.now growth.now.case.now.chamber growth.now.case.now.depth growth.now.ceilings.now growth.now.sets.now ship (group_in groups.old.items place) groups.old.items groups.new.items) }
+    requires weighed { AreWeighedIn (group_asked extension.now) groups.old.items sums.old.items }
+    ensures weighed { OnOk result (AreWeighedIn (group_asked extension.now) groups.new.items sums.new.items) }
+    ensures joined { OnOk result (IsJoined (group_asked extension.now) ship (group_in groups.old.items place) groups.old.items groups.new.items) }
 {
     let own = &sums[place];
-    match joined(growth, near, &groups[place], own.mask, ship) {
+    match joined(extension, near, &groups[place], own.mask, ship) {
         None => Ok(()),
         Some(group) => {
-            let more = more_sums(growth, own, ship);
-            put_joined(growth, groups, sums, group, more)
+            let more = more_sums(extension, own, ship);
+            put_joined(extension, groups, sums, group, more)
         }
     }
 }
 
 // Joins a ship to each of the groups that have not met it.
 fn join_each(
-    growth: &Growth,
+    extension: &Extension,
     near: &[u32],
     base: &Group,
     groups: &mut Vec<Group>,
     sums: &mut Vec<Sums>,
     ship: u8,
 ) -> Result<(), PriceError>
-    requires near { AreNear growth.now.case.now.instance.now growth.now.case.now.depth growth.now.sets.now (length growth.now.sets.now) ship near.now }
-    requires known { ship < length growth.now.case.now.instance.now.ships }
-    requires new { IsNew growth.now.case.now.instance.now growth.now.case.now.depth base.now ship }
-    requires grown { AreGrown growth.now.case.now.instance.now growth.now.case.now.chamber growth.now.case.now.depth growth.now.ceilings.now growth.now.sets.now base.now ship groups.old.items }
-    requires weighed { AreWeighed growth.now.case.now.instance.now growth.now.case.now.chamber groups.old.items sums.old.items }
-    ensures weighed { OnOk result (AreWeighed growth.now.case.now.instance.now growth.now.case.now.chamber groups.new.items sums.new.items) }
-    ensures grown { OnOk result (AreGrown growth.now.case.now.instance.now growth.now.case.now.chamber growth.now.case.now.depth growth.now.ceilings.now growth.now.sets.now base.now (ship + 1) groups.new.items) }
+    requires near { AreNearIn (group_asked extension.now) ship near.now }
+    requires known { ship < length extension.now.case.now.instance.now.ships }
+    requires new { IsNewIn (group_asked extension.now) base.now ship }
+    requires grown { AreGrown (group_asked extension.now) base.now ship groups.old.items }
+    requires weighed { AreWeighedIn (group_asked extension.now) groups.old.items sums.old.items }
+    ensures weighed { OnOk result (AreWeighedIn (group_asked extension.now) groups.new.items sums.new.items) }
+    ensures grown { OnOk result (AreGrown (group_asked extension.now) base.now (ship + 1) groups.new.items) }
 {
     for place in 0..groups.len() {
-        join(growth, near, groups, sums, place, ship)?;
+        join(extension, near, groups, sums, place, ship)?;
     }
     Ok(())
 }
 
 // Joins a ship to each of the groups, where the node lacks it and it has their way.
 fn grow(
-    growth: &Growth,
+    extension: &Extension,
     base: &Group,
     groups: &mut Vec<Group>,
     sums: &mut Vec<Sums>,
     ship: u8,
 ) -> Result<(), PriceError>
-    requires nears { AreNears growth.now.case.now.instance.now growth.now.case.now.depth growth.now.sets.now (length growth.now.case.now.instance.now.ships) growth.now.nears.now }
-    requires known { ship < length growth.now.case.now.instance.now.ships }
-    requires grown { AreGrown growth.now.case.now.instance.now growth.now.case.now.chamber growth.now.case.now.depth growth.now.ceilings.now growth.now.sets.now base.now ship groups.old.items }
-    requires weighed { AreWeighed growth.now.case.now.instance.now growth.now.case.now.chamber groups.old.items sums.old.items }
-    ensures weighed { OnOk result (AreWeighed growth.now.case.now.instance.now growth.now.case.now.chamber groups.new.items sums.new.items) }
-    ensures grown { OnOk result (AreGrown growth.now.case.now.instance.now growth.now.case.now.chamber growth.now.case.now.depth growth.now.ceilings.now growth.now.sets.now base.now (ship + 1) groups.new.items) }
+    requires nears { AreNearsIn (group_asked extension.now) extension.now.nears.now }
+    requires known { ship < length extension.now.case.now.instance.now.ships }
+    requires grown { AreGrown (group_asked extension.now) base.now ship groups.old.items }
+    requires weighed { AreWeighedIn (group_asked extension.now) groups.old.items sums.old.items }
+    ensures weighed { OnOk result (AreWeighedIn (group_asked extension.now) groups.new.items sums.new.items) }
+    ensures grown { OnOk result (AreGrown (group_asked extension.now) base.now (ship + 1) groups.new.items) }
 {
-    if !may_grow(growth.case, base, ship) {
+    if !may_grow(extension.case, base, ship) {
         return Ok(());
     }
     join_each(
-        growth,
-        &growth.nears[ship as usize].masks,
+        extension,
+        &extension.nears[ship as usize].masks,
         base,
         groups,
         sums,
@@ -192,12 +193,12 @@ fn grow(
 }
 
 // The base alone, where no forbidden set is in it.
-fn ungrown(alloc: Global, growth: &Growth, base: &Group) -> Result<Vec<Group>, PriceError>
-    requires { IsBase growth.now.case.now.instance.now growth.now.case.now.chamber growth.now.case.now.depth base.now }
-    ensures { IfOk result (λ groups. AreGrown growth.now.case.now.instance.now growth.now.case.now.chamber growth.now.case.now.depth growth.now.ceilings.now growth.now.sets.now base.now 0 groups.items) }
+fn ungrown(alloc: Global, extension: &Extension, base: &Group) -> Result<Vec<Group>, PriceError>
+    requires { IsBaseIn (group_asked extension.now) base.now }
+    ensures { IfOk result (λ groups. AreGrown (group_asked extension.now) base.now 0 groups.items) }
 {
     let mut groups = Vec::new(alloc);
-    if !misses_all(growth.sets, base.ships.as_slice()) {
+    if !misses_all(extension.sets, base.ships.as_slice()) {
         return Ok(groups);
     }
     append(&mut groups, base.copy())?;
@@ -205,13 +206,17 @@ fn ungrown(alloc: Global, growth: &Growth, base: &Group) -> Result<Vec<Group>, P
 }
 
 // The sums of groups.
-fn sums_of_all(alloc: Global, growth: &Growth, groups: &[Group]) -> Result<Vec<Sums>, PriceError>
-    requires { All (λ g. All (λ s. s < length growth.now.case.now.instance.now.ships) g.ships) groups.now }
-    ensures { IfOk result (λ sums. AreWeighed growth.now.case.now.instance.now growth.now.case.now.chamber groups.now sums.items) }
+fn sums_of_all(
+    alloc: Global,
+    extension: &Extension,
+    groups: &[Group],
+) -> Result<Vec<Sums>, PriceError>
+    requires { All (λ g. All (λ s. s < length extension.now.case.now.instance.now.ships) g.ships) groups.now }
+    ensures { IfOk result (λ sums. AreWeighedIn (group_asked extension.now) groups.now sums.items) }
 {
     let mut sums = Vec::new(alloc);
     for group in groups {
-        append(&mut sums, sums_of(growth, &group.ships))?;
+        append(&mut sums, sums_of(extension, &group.ships))?;
     }
     Ok(sums)
 }
@@ -221,19 +226,19 @@ fn sums_of_all(alloc: Global, growth: &Growth, groups: &[Group]) -> Result<Vec<S
 /// empty.
 pub(crate) fn grown(
     alloc: Global,
-    growth: &Growth,
+    extension: &Extension,
     base: &Group,
 ) -> Result<WeighedGroups, PriceError>
-    requires nears { AreNears growth.now.case.now.instance.now growth.now.case.now.depth growth.now.sets.now (length growth.now.case.now.instance.now.ships) growth.now.nears.now }
-    requires base { IsBase growth.now.case.now.instance.now growth.now.case.now.chamber growth.now.case.now.depth base.now }
-    ensures grown { IfOk result (λ listed. AreGrown growth.now.case.now.instance.now growth.now.case.now.chamber growth.now.case.now.depth growth.now.ceilings.now growth.now.sets.now base.now (length growth.now.case.now.instance.now.ships) listed.groups.items) }
-    ensures weighed { IfOk result (λ listed. AreWeighed growth.now.case.now.instance.now growth.now.case.now.chamber listed.groups.items listed.sums.items) }
+    requires nears { AreNearsIn (group_asked extension.now) extension.now.nears.now }
+    requires base { IsBaseIn (group_asked extension.now) base.now }
+    ensures grown { IfOk result (λ listed. AreWhollyGrown (group_asked extension.now) base.now listed.groups.items) }
+    ensures weighed { IfOk result (AreWeighedGroups (group_asked extension.now)) }
 {
-    let count = growth.case.instance.ships.as_slice().len() as u8;
-    let mut groups = ungrown(alloc, growth, base)?;
-    let mut sums = sums_of_all(alloc, growth, &groups)?;
+    let count = extension.case.instance.ships.as_slice().len() as u8;
+    let mut groups = ungrown(alloc, extension, base)?;
+    let mut sums = sums_of_all(alloc, extension, &groups)?;
     for ship in 0..count {
-        grow(growth, base, &mut groups, &mut sums, ship)?;
+        grow(extension, base, &mut groups, &mut sums, ship)?;
     }
     Ok(WeighedGroups { groups, sums })
 }

@@ -2,12 +2,13 @@
 ghost use Rattle.std.specs.Prelude.{◌≡◌, ◌<◌, length, slice_index_or, All, IfSome, IfOk, OnOk};
 ghost use Rattle.std.specs.List.Sorted.{IsPermutation};
 ghost use Rattle.price_groups.specs.declared.grown_lists.GrownList.{GrownList as Plain};
-ghost use Rattle.price_groups.specs.Masks.{AreNears};
-ghost use Rattle.price_groups.specs.Growing.{IsBase};
-ghost use Rattle.price_groups.specs.GrownLists.{IsGrownList, ArePaired};
+ghost use Rattle.price_groups.specs.Asked.{group_asked};
+ghost use Rattle.price_groups.specs.Growing.{IsBaseIn};
+ghost use Rattle.price_groups.specs.GrownLists.{ArePaired, IsGrownList};
+ghost use Rattle.price_groups.specs.Masks.{AreNearsIn};
 
+use crate::extension::Extension;
 use crate::growing::{WeighedGroups, grown};
-use crate::growth::Growth;
 use crate::sums::Sums;
 use lock_model::Group;
 use price_terms::{PriceError, append};
@@ -69,13 +70,13 @@ fn soon_first(groups: &mut Vec<GrownGroup>) -> Result<(), PriceError>
 }
 
 // What grows from a base.
-fn grown_list(alloc: Global, growth: &Growth, base: &Group) -> Result<GrownList, PriceError>
-    requires nears { AreNears growth.now.case.now.instance.now growth.now.case.now.depth growth.now.sets.now (length growth.now.case.now.instance.now.ships) growth.now.nears.now }
-    requires base { IsBase growth.now.case.now.instance.now growth.now.case.now.chamber growth.now.case.now.depth base.now }
+fn grown_list(alloc: Global, extension: &Extension, base: &Group) -> Result<GrownList, PriceError>
+    requires nears { AreNearsIn (group_asked extension.now) extension.now.nears.now }
+    requires base { IsBaseIn (group_asked extension.now) base.now }
     ensures base { IfOk result (λ list. list.base ≡ base.now) }
-    ensures grown { IfOk result (IsGrownList growth.now.case.now.instance.now growth.now.case.now.chamber growth.now.case.now.depth growth.now.ceilings.now growth.now.sets.now) }
+    ensures grown { IfOk result (IsGrownList (group_asked extension.now)) }
 {
-    let listed = grown(alloc, growth, base)?;
+    let listed = grown(alloc, extension, base)?;
     let mut groups = paired(alloc, &listed)?;
     soon_first(&mut groups)?;
     Ok(GrownList {
@@ -102,20 +103,20 @@ fn place_of(lists: &[GrownList], base: &Group) -> Option<usize>
 pub fn list_for(
     alloc: Global,
     lists: &mut Vec<GrownList>,
-    growth: &Growth,
+    extension: &Extension,
     base: &Group,
 ) -> Result<usize, PriceError>
-    requires nears { AreNears growth.now.case.now.instance.now growth.now.case.now.depth growth.now.sets.now (length growth.now.case.now.instance.now.ships) growth.now.nears.now }
-    requires base { IsBase growth.now.case.now.instance.now growth.now.case.now.chamber growth.now.case.now.depth base.now }
-    requires lists { All (IsGrownList growth.now.case.now.instance.now growth.now.case.now.chamber growth.now.case.now.depth growth.now.ceilings.now growth.now.sets.now) lists.old.items }
-    ensures lists { All (IsGrownList growth.now.case.now.instance.now growth.now.case.now.chamber growth.now.case.now.depth growth.now.ceilings.now growth.now.sets.now) lists.new.items }
+    requires nears { AreNearsIn (group_asked extension.now) extension.now.nears.now }
+    requires base { IsBaseIn (group_asked extension.now) base.now }
+    requires lists { All (IsGrownList (group_asked extension.now)) lists.old.items }
+    ensures lists { All (IsGrownList (group_asked extension.now)) lists.new.items }
     ensures place { IfOk result (λ place. place < length lists.new.items) }
     ensures base { IfOk result (λ place. (default : Plain) → (slice_index_or lists.new.items place default).base ≡ base.now) }
 {
     if let Some(place) = place_of(lists, base) {
         return Ok(place);
     }
-    let list = grown_list(alloc, growth, base)?;
+    let list = grown_list(alloc, extension, base)?;
     let place = lists.len();
     match lists.push(list) {
         Ok(()) => Ok(place),

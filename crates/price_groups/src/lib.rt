@@ -1,20 +1,22 @@
 //! Uncut groups of missing ships, grown ship by ship, for lower bounds by prices.
 //!
-//! A `LineCase` is one chamber's part of a bound. `forbidden` gives the ship sets that the cuts forbid its
-//! chamber, and `nears` for each ship those that it may complete, as numbers. `list_for` grows a group of
-//! the chamber's line, or none, by missing ships in all ways that hold no forbidden set; groups of which a
-//! ship gains nothing at prices that are no lower are left out. So lists serve until prices rise above
-//! these.
+//! A `LineCase` is one chamber's part of a bound. `forbidden_sets` gives the ship sets that the cuts forbid
+//! its chamber, and `nears` for each ship those that it may complete, as numbers. `list_for` grows a group
+//! of the chamber's line, or none, by missing ships in all ways that hold no forbidden set, by what an
+//! `Extension` says; groups of which a ship gains nothing at prices that are no lower are left out. So
+//! lists serve until prices rise above these.
 //!
-//! Definitions: `price_rules` says what uncut groups are. Here `specs/Worth` says what lines and groups are
-//! worth, `Sparing` what cuts forbid, `Masks` ship sets as numbers, `Sums` what groups count, `Growing`
-//! which groups grow, and `GrownLists` what a list of them holds.
+//! Definitions: `price_rules` says what uncut groups are. Here `specs/Asks` says once what is asked of a
+//! chamber's line (`LineAsk`) and of its groups (`GroupAsk`), and `Asked` what a `LineCase` and an
+//! `Extension` ask; `Worth` says what lines and groups are worth and when some serve as well as others,
+//! `Sparing` what cuts forbid, `Masks` ship sets as numbers, `Sums` what groups count, and `GrownLists`
+//! what a list of them holds. `Growing` is of the steps.
 #![tactic(auto)]
 
+mod extension;
 mod forbidden;
 mod growing;
 mod grown_lists;
-mod growth;
 mod idling;
 mod line_case;
 mod masks;
@@ -22,9 +24,9 @@ mod near;
 mod sums;
 mod weighing;
 
+pub use extension::Extension;
 pub use forbidden::{are_spared, forbidden_sets};
 pub use grown_lists::{GrownGroup, GrownList, list_for};
-pub use growth::Growth;
 pub use line_case::LineCase;
 pub use masks::{marks, misses_all_of, nears};
 pub use near::Near;

@@ -1,8 +1,7 @@
 //! Ship sets as numbers, so that a group is held against many of them fast.
 ghost use Rattle.std.specs.Prelude.{ℕ, ◌≡◌, ◌+◌, ◌<◌, ◌↔◌, true, List, length, All, IsTrue, IfOk, OnOk, bit_and};
 ghost use Rattle.lock_rules.specs.Children.{insert_number};
-ghost use Rattle.price_rules.specs.Prices.{is_missing};
-ghost use Rattle.price_groups.specs.Masks.{IsMask, IsNoted, AreMarks, AreAllowed, IsBetween, IsPutNear, AreHaving, AreNear, AreNears};
+ghost use Rattle.price_groups.specs.Masks.{IsMask, AreAllowed, AreMarks, IsNoted, IsBetween, AreHaving, IsPutNear, AreNears, AreNearOf, AreNearMissing};
 
 use crate::forbidden::are_known;
 use crate::line_case::LineCase;
@@ -135,7 +134,7 @@ fn allowed(alloc: Global, case: &LineCase, last: u8) -> Result<Vec<u8>, PriceErr
 // Those of the masks of sets that a ship may complete.
 fn near(alloc: Global, case: &LineCase, marks: &[u32], ship: u8) -> Result<Near, PriceError>
     requires { ship < 32 }
-    ensures { IfOk result (λ near. (sets : List (List ℕ)) → AreMarks case.now.instance.now sets (length sets) marks.now → AreNear case.now.instance.now case.now.depth sets (length sets) ship near.masks.items) }
+    ensures { IfOk result (λ near. AreNearOf case.now.instance.now case.now.depth marks.now ship near.masks.items) }
 {
     let own = mask_of(&[ship]);
     let early = mask_of(&allowed(alloc, case, ship)?);
@@ -147,7 +146,7 @@ fn near(alloc: Global, case: &LineCase, marks: &[u32], ship: u8) -> Result<Near,
 // The same, where the node lacks the ship; of one that it holds nothing is asked.
 fn near_missing(alloc: Global, case: &LineCase, marks: &[u32], ship: u8) -> Result<Near, PriceError>
     requires { ship < 32 }
-    ensures { IfOk result (λ near. (sets : List (List ℕ)) → AreMarks case.now.instance.now sets (length sets) marks.now → is_missing case.now.instance.now case.now.depth ship ≡ true → AreNear case.now.instance.now case.now.depth sets (length sets) ship near.masks.items) }
+    ensures { IfOk result (λ near. AreNearMissing case.now.instance.now case.now.depth marks.now ship near.masks.items) }
 {
     if case.lacks(ship) {
         near(alloc, case, marks, ship)

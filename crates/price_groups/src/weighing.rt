@@ -1,9 +1,9 @@
 //! The sums of groups that may come next.
-ghost use Rattle.std.specs.Prelude.{ℕ, ◌≡◌, ◌+◌, ◌*◌, ◌<◌, ◌≤◌, List, length, All, IfOk};
-ghost use Rattle.lock_rules.specs.Children.{insert_number};
-ghost use Rattle.price_groups.specs.Sums.{rate_of, AreRates, AreSumsOf};
+ghost use Rattle.std.specs.Prelude.{◌≡◌, ◌+◌, ◌*◌, ◌<◌, ◌≤◌, length, All, IfOk};
+ghost use Rattle.price_groups.specs.Asked.{group_asked};
+ghost use Rattle.price_groups.specs.Sums.{rate_of, AreRates, AreSumsIn, AreSumsMore};
 
-use crate::growth::Growth;
+use crate::extension::Extension;
 use crate::line_case::LineCase;
 use crate::masks::{mask_of, with_bit};
 use crate::sums::Sums;
@@ -38,13 +38,13 @@ pub fn rates(alloc: Global, case: &LineCase, prices: &Prices) -> Result<Vec<u32>
 }
 
 /// The sums of ships that none has joined.
-pub(crate) fn sums_of(growth: &Growth, ships: &Ships) -> Sums
-    requires { All (λ s. s < length growth.now.case.now.instance.now.ships) ships.now }
-    ensures { AreSumsOf growth.now.case.now.instance.now growth.now.case.now.chamber ships.now result }
+pub(crate) fn sums_of(extension: &Extension, ships: &Ships) -> Sums
+    requires { All (λ s. s < length extension.now.case.now.instance.now.ships) ships.now }
+    ensures { AreSumsIn (group_asked extension.now) ships.now result }
 {
-    let case = growth.case;
+    let case = extension.case;
     Sums {
-        duration: duration(case.instance, case.chamber, ships) as u32,
+        duration: duration(case.instance, case.index, ships) as u32,
         last: last_arrival(case.instance, 0, ships) as u32,
         least: u32::MAX,
         mask: mask_of(ships.as_slice()),
@@ -52,16 +52,16 @@ pub(crate) fn sums_of(growth: &Growth, ships: &Ships) -> Sums
 }
 
 /// The sums of ships that have those sums, once another one has joined them.
-pub(crate) fn more_sums(growth: &Growth, sums: &Sums, ship: u8) -> Sums
-    requires known { ship < length growth.now.case.now.instance.now.ships }
+pub(crate) fn more_sums(extension: &Extension, sums: &Sums, ship: u8) -> Sums
+    requires known { ship < length extension.now.case.now.instance.now.ships }
     requires short { sums.now.duration ≤ 9000000 }
-    ensures { (ships : List ℕ) → AreSumsOf growth.now.case.now.instance.now growth.now.case.now.chamber ships sums.now → AreSumsOf growth.now.case.now.instance.now growth.now.case.now.chamber (insert_number ship ships) result }
+    ensures { AreSumsMore (group_asked extension.now) ship sums.now result }
 {
-    let own = &growth.case.instance.ships.as_slice()[ship as usize];
+    let own = &extension.case.instance.ships.as_slice()[ship as usize];
     Sums {
         duration: sums.duration + own.handling,
         last: sums.last.max(own.arrival),
-        least: sums.least.min(growth.high_rates[ship as usize]),
+        least: sums.least.min(extension.high_rates[ship as usize]),
         mask: with_bit(sums.mask, ship),
     }
 }

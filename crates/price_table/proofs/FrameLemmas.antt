@@ -21,15 +21,17 @@ use Rattle.lock_model.specs.Fleet.{ship_at}
 use Rattle.price_rules.specs.Prices.{PlainCut, IsUncut, IsLoose, is_missing, price_at}
 use Rattle.price_table.specs.declared.frame.Frame.{Frame}
 use Rattle.price_choices.specs.declared.choice.Choice.{Choice}
-use Rattle.price_choices.specs.declared.menu.Menu.{Menu}
+use Rattle.price_choices.specs.declared.successors.Successors.{Successors}
 use Rattle.price_table.specs.declared.values.Values.{Values}
-use Rattle.price_groups.specs.Worth.{end_after, worth_of, worth_from, IsWorth, IsLeastWorth, IsKeptGroup, IsHorizon}
-use Rattle.price_choices.specs.Choosing.{Keeps, IsChoice, Leads, IsCounted, AreMenus, list_of}
-use Rattle.price_table.specs.Values.{IsValue}
-use Rattle.price_table.specs.Values.{key_of, side_of, AreEmpty, IsRemembered, Remembers, AreValues, IsBest, IsFrame}
+use Rattle.price_groups.specs.Asks.{LineAsk}
 use Rattle.price_groups.specs.Sparing.{IsSpared, AreForbidden}
+use Rattle.price_groups.specs.Worth.{end_after, worth_of, worth_from, IsWorth, IsLeastWorth, IsKeptGroup, IsHorizon}
+use Rattle.price_choices.specs.Choices.{Keeps, IsChoice, Leads}
+use Rattle.price_choices.specs.Counted.{IsCounted}
+use Rattle.price_choices.specs.Successors.{list_of, AreSuccessorLists}
+use Rattle.price_table.specs.Values.{IsValue, side_of, key_of, IsRemembered, AreEmpty, Remembers, AreValues, IsBest, IsFrame}
 use Rattle.price_table.proofs.LineLemmas.{worth-next, end-later, uncut-trace}
-use Rattle.price_choices.proofs.MenuLemmas.{counted-menu}
+use Rattle.price_choices.proofs.SuccessorLemmas.{counted-successors}
 use Rattle.price_table.proofs.StepLemmas.{own-worth, alone-least, choices-least}
 
 with-some : (way : Way) (ks : List ℕ) (rest : List Group) → 1 ≤ length ks → with_group way ks rest ≡ record { way = way; ships = ks } ∷ rest
@@ -63,8 +65,26 @@ pub one-way : (to : Option ℕ) (p q r : ℕ) → Leads to p q → Leads to p r 
 one-way None p q r first second = sym first ∙ second
 one-way (Some j) p q r first second = sym first.1 ∙ second.1
 
-module _ (I : Instance) (c : ℕ) (known : c < length I.chambers) (cuts : List PlainCut) (k : ℕ) (prices : List ℕ) (line : List Group) (horizon : ℕ) where
-  pub counted-less : (stand : Stand) (from p : ℕ) (best less : ℤ) (h : Choice) → less ≤ℤ best → IsCounted I c cuts k prices line stand from p best h → IsCounted I c cuts k prices line stand from p less h
+module _ (L : LineAsk) (known : L.chamber < length L.instance.chambers) (horizon : ℕ) where
+  abbrev I : Instance
+  I = L.instance
+
+  abbrev c : ℕ
+  c = L.chamber
+
+  abbrev cuts : List PlainCut
+  cuts = L.cuts
+
+  abbrev k : ℕ
+  k = L.depth
+
+  abbrev prices : List ℕ
+  prices = L.prices
+
+  abbrev line : List Group
+  line = L.line
+
+  pub counted-less : (stand : Stand) (from p : ℕ) (best less : ℤ) (h : Choice) → less ≤ℤ best → IsCounted L stand from p best h → IsCounted L stand from p less h
   counted-less stand from p best less h low counted = λ q leads. elim (counted q leads) [
     | inl below ↦ inl (λ gs loose. through less best _ low (below gs loose))
     | inr idle ↦ inr idle
@@ -75,10 +95,10 @@ module _ (I : Instance) (c : ℕ) (known : c < length I.chambers) (cuts : List P
 
   module _ (uncut : All (IsUncut I c cuts) line) (own : All (IsKeptGroup I k) line) where
     -- at first the line's own groups alone
-    pub best-alone : (p : ℕ) (stand : Stand) (from : ℕ) (v : ℤ) → v ≡ worth_from I c k prices stand from (drop p line) → pos 0 ≤ℤ v → v ≤ℤ pos 6000000000000 → IsBest I c cuts k prices line horizon p stand from v
+    pub best-alone : (p : ℕ) (stand : Stand) (from : ℕ) (v : ℤ) → v ≡ worth_from I c k prices stand from (drop p line) → pos 0 ≤ℤ v → v ≤ℤ pos 6000000000000 → IsBest L horizon p stand from v
     best-alone p stand from v is low high = record {
       stop = reflexive v _ is;
-      reached = subst (IsWorth I c cuts k prices stand from (drop p line)) (sym is) (own-worth I c known cuts k prices stand from (drop p line) (All-drop (IsUncut I c cuts) p line uncut) (All-drop (IsKeptGroup I k) p line own));
+      reached = subst (IsWorth I c cuts k prices stand from (drop p line)) (sym is) (own-worth L known stand from (drop p line) (All-drop (IsUncut I c cuts) p line uncut) (All-drop (IsKeptGroup I k) p line own));
       low = above v (808000000 * (horizon - from)) low;
       high = high;
     }
@@ -90,26 +110,26 @@ module _ (I : Instance) (c : ℕ) (known : c < length I.chambers) (cuts : List P
         above v n h = omega (arith, ints)
 
     -- from the horizon on that is the value
-    pub value-alone : IsHorizon I k prices horizon → (p : ℕ) (stand : Stand) (from : ℕ) (v : ℤ) → horizon ≤ from → v ≡ worth_from I c k prices stand from (drop p line) → pos 0 ≤ℤ v → v ≤ℤ pos 6000000000000 → IsValue I c cuts k prices line horizon p stand from v
+    pub value-alone : IsHorizon I k prices horizon → (p : ℕ) (stand : Stand) (from : ℕ) (v : ℤ) → horizon ≤ from → v ≡ worth_from I c k prices stand from (drop p line) → pos 0 ≤ℤ v → v ≤ℤ pos 6000000000000 → IsValue L horizon p stand from v
     value-alone late p stand from v past is low high = record {
-      least = subst (λ v. IsLeastWorth I c cuts k prices stand from (drop p line) (Some v)) (sym is) (alone-least I c known cuts k prices horizon late stand from (drop p line) past (All-drop (IsUncut I c cuts) p line uncut) (All-drop (IsKeptGroup I k) p line own));
+      least = subst (λ v. IsLeastWorth I c cuts k prices stand from (drop p line) (Some v)) (sym is) (alone-least L known horizon late stand from (drop p line) past (All-drop (IsUncut I c cuts) p line uncut) (All-drop (IsKeptGroup I k) p line own));
       low = (best-alone p stand from v is low high).low;
       high = high;
     }
 
-  module _ (own : All (IsKeptGroup I k) line) (p : ℕ) (stand : Stand) (from : ℕ) (h : Choice) (is : IsChoice I c cuts k prices line h) (q : ℕ) (leads : Leads h.joins p q) where
+  module _ (own : All (IsKeptGroup I k) line) (p : ℕ) (stand : Stand) (from : ℕ) (h : Choice) (is : IsChoice L h) (q : ℕ) (leads : Leads h.joins p q) where
     -- what is left behind the choice joins it to the line
-    joins-line : (to : Option ℕ) (p q : ℕ) (g : Group) → Keeps I k line to g → Leads to p q → with_group g.way (filter (has_number (first_ships I k)) g.ships) (drop q line) ≡ drop p line
+    joins-line : (to : Option ℕ) (p q : ℕ) (g : Group) → Keeps L to g → Leads to p q → with_group g.way (filter (has_number (first_ships I k)) g.ships) (drop q line) ≡ drop p line
     joins-line None p q g keeps leads = (λ i. with_group g.way (keeps i) (drop q line)) ∙ ap (λ q. drop q line) (sym leads)
     joins-line (Some j) p q g keeps leads =
         let ks = filter (has_number (first_ships I k)) g.ships in
         let head : IsKeptGroup I k (record { way = g.way; ships = ks }) = All-head (IsKeptGroup I k) (record { way = g.way; ships = ks }) (drop (suc j) line) (subst (All (IsKeptGroup I k)) keeps (All-drop (IsKeptGroup I k) j line own)) in
         with-some g.way ks (drop q line) head.some ∙ (λ i. record { way = g.way; ships = ks } ∷ drop (sym (ap suc leads.0 ∙ leads.1) i) line) ∙ sym keeps ∙ ap (λ p. drop p line) leads.0
 
-    pub counted-idle : (best : ℤ) → h.joins ≡ None → pos 0 ≤ℤ worth_of I c k prices stand from h.group → IsCounted I c cuts k prices line stand from p best h
+    pub counted-idle : (best : ℤ) → h.joins ≡ None → pos 0 ≤ℤ worth_of I c k prices stand from h.group → IsCounted L stand from p best h
     counted-idle best none gains = λ q leads. inr (none, gains)
 
-    module _ (best w v : ℤ) (early : from < horizon) (worth : w ≡ worth_of I c k prices stand from h.group) (low : neg_ℤ (pos 808000000) ≤ℤ w) (value : IsValue I c cuts k prices line horizon q (stand_after h.group.way) (end_after I c stand from h.group) v) where
+    module _ (best w v : ℤ) (early : from < horizon) (worth : w ≡ worth_of I c k prices stand from h.group) (low : neg_ℤ (pos 808000000) ≤ℤ w) (value : IsValue L horizon q (stand_after h.group.way) (end_after I c stand from h.group) v) where
       -- whatever goes on behind the choice goes on with it before
       pub choice-goes : (gs : List Group) → IsLoose I c cuts k (drop q line) gs → worth_from I c k prices (stand_after h.group.way) (end_after I c stand from h.group) gs ≡ v
           → IsLoose I c cuts k (drop p line) (h.group ∷ gs) × (worth_from I c k prices stand from (h.group ∷ gs) ≡ (w +ℤ v))
@@ -127,7 +147,7 @@ module _ (I : Instance) (c : ℕ) (known : c < length I.chambers) (cuts : List P
           let goes = choice-goes behind.loose behind.is_loose behind.worth in
           record { loose = h.group ∷ behind.loose; is_loose = goes.0; worth = goes.1 }
 
-      pub best-counted : IsBest I c cuts k prices line horizon p stand from best → IsBest I c cuts k prices line horizon p stand from (int_min best (w +ℤ v))
+      pub best-counted : IsBest L horizon p stand from best → IsBest L horizon p stand from (int_min best (w +ℤ v))
       best-counted was = record {
         stop = under best (w +ℤ v) _ was.stop;
         reached = elim (int_lt (w +ℤ v) best) as (λ t. IsWorth I c cuts k prices stand from (drop p line) (cond t (w +ℤ v) best)) [ true ↦ sum-reached | false ↦ was.reached ];
@@ -141,7 +161,7 @@ module _ (I : Instance) (c : ℕ) (known : c < length I.chambers) (cuts : List P
           lowest : (a w v : ℤ) (n from end : ℕ) → from < n → suc from ≤ end → neg_ℤ (pos 808000000) ≤ℤ w → pos 0 ≤ℤ (v +ℤ pos (808000000 * (n - end))) → pos 0 ≤ℤ (a +ℤ pos (808000000 * (n - from))) → pos 0 ≤ℤ (int_min a (w +ℤ v) +ℤ pos (808000000 * (n - from)))
           lowest a w v n from end early later h j l = omega (arith, ints, clamps)
 
-      pub counted-value : IsCounted I c cuts k prices line stand from p (int_min best (w +ℤ v)) h
+      pub counted-value : IsCounted L stand from p (int_min best (w +ℤ v)) h
       counted-value = λ r other. inl (λ gs loose.
           let same : r ≡ q = one-way h.joins p r q other leads in
           below best w v _ _ worth (value.least.below gs (subst (λ r. IsLoose I c cuts k (drop r line) gs) same loose)))
@@ -150,43 +170,43 @@ module _ (I : Instance) (c : ℕ) (known : c < length I.chambers) (cuts : List P
           below a w v x y e h = omega (arith, ints, clamps)
 
       -- the choice comes to the value or to more
-      pub choice-least : (u : ℤ) → IsValue I c cuts k prices line horizon p stand from u → u ≤ℤ (w +ℤ v)
+      pub choice-least : (u : ℤ) → IsValue L horizon p stand from u → u ≤ℤ (w +ℤ v)
       choice-least u least =
           let reached = sum-reached in
           subst (λ x. u ≤ℤ x) reached.worth (least.least.below reached.loose reached.is_loose)
 
       -- a choice that comes to no less than a number is counted with it
-      pub counted-more : best ≤ℤ (w +ℤ v) → IsCounted I c cuts k prices line stand from p best h
-      counted-more more = subst (λ x. IsCounted I c cuts k prices line stand from p x h) (smaller best (w +ℤ v) more) counted-value
+      pub counted-more : best ≤ℤ (w +ℤ v) → IsCounted L stand from p best h
+      counted-more more = subst (λ x. IsCounted L stand from p x h) (smaller best (w +ℤ v) more) counted-value
         where
           smaller : (a b : ℤ) → a ≤ℤ b → int_min a b ≡ a
           smaller a b h = omega (arith, ints, clamps)
 
-  module _ (menus : List Menu) where
+  module _ (successor_lists : List Successors) where
     -- a frame whose best is less
-    pub frame-less : (frame : Frame) (best : ℤ) → best ≤ℤ frame.best → IsBest I c cuts k prices line horizon frame.ready.state.place frame.ready.state.stand frame.ready.state.minute best
-        → IsFrame I c cuts k prices line horizon menus frame → IsFrame I c cuts k prices line horizon menus (record { ready = frame.ready; best = best; next = frame.next })
+    pub frame-less : (frame : Frame) (best : ℤ) → best ≤ℤ frame.best → IsBest L horizon frame.ready.state.place frame.ready.state.stand frame.ready.state.minute best
+        → IsFrame L horizon successor_lists frame → IsFrame L horizon successor_lists (record { ready = frame.ready; best = best; next = frame.next })
     frame-less frame best less is was = record {
       ready = was.ready;
       place = was.place;
       early = was.early;
       best = is;
-      counted = λ j d e before here. counted-less frame.ready.state.stand frame.ready.state.minute frame.ready.state.place frame.best best (slice_index_or (list_of menus e frame.ready.state.place frame.ready.state.minute) j d) less (was.counted j d e before here);
+      counted = λ j d e before here. counted-less frame.ready.state.stand frame.ready.state.minute frame.ready.state.place frame.best best (slice_index_or (list_of successor_lists e frame.ready.state.place frame.ready.state.minute) j d) less (was.counted j d e before here);
     }
 
     -- one choice more is counted
-    pub frame-next : (frame : Frame) (best : ℤ) (h : Choice) (i : ℕ) (listed : List Choice) → ((e : Menu) → listed ≡ list_of menus e frame.ready.state.place frame.ready.state.minute) → i < length listed → frame.next ≡ i → h ≡ slice_index_or listed i h → best ≤ℤ frame.best
-        → IsBest I c cuts k prices line horizon frame.ready.state.place frame.ready.state.stand frame.ready.state.minute best → IsCounted I c cuts k prices line frame.ready.state.stand frame.ready.state.minute frame.ready.state.place best h
-        → IsFrame I c cuts k prices line horizon menus frame → IsFrame I c cuts k prices line horizon menus (record { ready = frame.ready; best = best; next = i + 1 })
+    pub frame-next : (frame : Frame) (best : ℤ) (h : Choice) (i : ℕ) (listed : List Choice) → ((e : Successors) → listed ≡ list_of successor_lists e frame.ready.state.place frame.ready.state.minute) → i < length listed → frame.next ≡ i → h ≡ slice_index_or listed i h → best ≤ℤ frame.best
+        → IsBest L horizon frame.ready.state.place frame.ready.state.stand frame.ready.state.minute best → IsCounted L frame.ready.state.stand frame.ready.state.minute frame.ready.state.place best h
+        → IsFrame L horizon successor_lists frame → IsFrame L horizon successor_lists (record { ready = frame.ready; best = best; next = i + 1 })
     frame-next frame best h i listed same here at held less is counted was = record {
       ready = was.ready;
       place = was.place;
       early = was.early;
       best = is;
-      counted = λ j d e. subst (λ listed. j < i + 1 → j < length listed → IsCounted I c cuts k prices line frame.ready.state.stand frame.ready.state.minute frame.ready.state.place best (slice_index_or listed j d)) (same e) (λ before inside. elim (eqb_tells j i) [
-        | inl y ↦ subst (IsCounted I c cuts k prices line frame.ready.state.stand frame.ready.state.minute frame.ready.state.place best) (held ∙ get_or_default listed i h d here ∙ ap (λ i. slice_index_or listed i d) (sym y.1)) counted
+      counted = λ j d e. subst (λ listed. j < i + 1 → j < length listed → IsCounted L frame.ready.state.stand frame.ready.state.minute frame.ready.state.place best (slice_index_or listed j d)) (same e) (λ before inside. elim (eqb_tells j i) [
+        | inl y ↦ subst (IsCounted L frame.ready.state.stand frame.ready.state.minute frame.ready.state.place best) (held ∙ get_or_default listed i h d here ∙ ap (λ i. slice_index_or listed i d) (sym y.1)) counted
         | inr m ↦ counted-less frame.ready.state.stand frame.ready.state.minute frame.ready.state.place frame.best best (slice_index_or listed j d) less
-            (subst (λ listed. j < length listed → IsCounted I c cuts k prices line frame.ready.state.stand frame.ready.state.minute frame.ready.state.place frame.best (slice_index_or listed j d)) (sym (same e)) (was.counted j d e (earlier j m.1 before)) inside)
+            (subst (λ listed. j < length listed → IsCounted L frame.ready.state.stand frame.ready.state.minute frame.ready.state.place frame.best (slice_index_or listed j d)) (sym (same e)) (was.counted j d e (earlier j m.1 before)) inside)
       ]);
     }
       where
@@ -194,20 +214,20 @@ module _ (I : Instance) (c : ℕ) (known : c < length I.chambers) (cuts : List P
         earlier j apart before = elim (leb_tells (suc j) i) [ inl y ↦ omega (arith, at, y.1) | inr q ↦ absurd (apart (omega (arith, before, q.1))) ]
 
     -- THE LAST CHOICE COUNTED, the best is the value.
-    pub frame-value : (frame : Frame) (e : Menu) → AreMenus I c cuts k prices line menus → length (list_of menus e frame.ready.state.place frame.ready.state.minute) ≤ frame.next
-        → IsFrame I c cuts k prices line horizon menus frame → IsValue I c cuts k prices line horizon frame.ready.state.place frame.ready.state.stand frame.ready.state.minute frame.best
+    pub frame-value : (frame : Frame) (e : Successors) → AreSuccessorLists L successor_lists → length (list_of successor_lists e frame.ready.state.place frame.ready.state.minute) ≤ frame.next
+        → IsFrame L horizon successor_lists frame → IsValue L horizon frame.ready.state.place frame.ready.state.stand frame.ready.state.minute frame.best
     frame-value frame e are all is = record {
-      least = choices-least I c known cuts k prices line are.listed.choices are.listed.enough frame.ready.state.stand frame.ready.state.minute frame.ready.state.place frame.best is.best.stop
-          (counted-menu I c known cuts k prices line menus are frame.ready.state.place frame.ready.state.minute is.place e frame.ready.state.stand frame.best
-          (λ h held. subst (IsCounted I c cuts k prices line frame.ready.state.stand frame.ready.state.minute frame.ready.state.place frame.best) held.2 (is.counted held.0 h e (omega (arith, held.1, all)) held.1)))
+      least = choices-least L known are.listed.choices are.listed.enough frame.ready.state.stand frame.ready.state.minute frame.ready.state.place frame.best is.best.stop
+          (counted-successors L known successor_lists are frame.ready.state.place frame.ready.state.minute is.place e frame.ready.state.stand frame.best
+          (λ h held. subst (IsCounted L frame.ready.state.stand frame.ready.state.minute frame.ready.state.place frame.best) held.2 (is.counted held.0 h e (omega (arith, held.1, all)) held.1)))
           is.best.reached;
       low = is.best.low;
       high = is.best.high;
     }
 
   -- a value in its type
-  pub value-rounded : (p : ℕ) (stand : Stand) (from : ℕ) (v : ℤ) → horizon ≤ 1010000 → IsValue I c cuts k prices line horizon p stand from v → IsValue I c cuts k prices line horizon p stand from (to_z w64 (of_z w64 v))
-  value-rounded p stand from v small value = subst (IsValue I c cuts k prices line horizon p stand from) (sym (far-rounded v (value-far v horizon from small value.low value.high))) value
+  pub value-rounded : (p : ℕ) (stand : Stand) (from : ℕ) (v : ℤ) → horizon ≤ 1010000 → IsValue L horizon p stand from v → IsValue L horizon p stand from (to_z w64 (of_z w64 v))
+  value-rounded p stand from v small value = subst (IsValue L horizon p stand from) (sym (far-rounded v (value-far v horizon from small value.low value.high))) value
 
   -- the key tells the state
   same-parts : (a b s t : ℕ) → s ≤ 1 → t ≤ 1 → a * 2 + s ≡ b * 2 + t → (a ≡ b) × (s ≡ t)
@@ -229,15 +249,15 @@ module _ (I : Instance) (c : ℕ) (known : c < length I.chambers) (cuts : List P
   same-side High Low e = absurd (omega (arith, e))
 
   -- one value more is remembered
-  pub values-kept : (old new : Values) (p : ℕ) (stand : Stand) (minute : ℕ) (v : ℤ) → p ≤ length line → AreValues I c cuts k prices line horizon old → IsValue I c cuts k prices line horizon p stand minute v
-      → Remembers old new (key_of old.places p stand minute) v → AreValues I c cuts k prices line horizon new
+  pub values-kept : (old new : Values) (p : ℕ) (stand : Stand) (minute : ℕ) (v : ℤ) → p ≤ length line → AreValues L horizon old → IsValue L horizon p stand minute v
+      → Remembers old new (key_of old.places p stand minute) v → AreValues L horizon new
   values-kept old new p stand minute v small were value more = record {
     wide = more.wide ∙ were.wide;
     told = λ q other n u few e. elim (more.told (key_of new.places q other n) u e) [
       | inl y ↦
           let parts = same-state old.places p q minute n (side_of stand) (side_of other) (in-places p small) (in-places q few) (side-small stand) (side-small other) (y.0 ∙ ap (λ w. key_of w q other n) more.wide) in
-          subst (λ u. IsValue I c cuts k prices line horizon q other n u) y.1
-          (subst (λ q. IsValue I c cuts k prices line horizon q other n v) parts.0 (subst (λ n. IsValue I c cuts k prices line horizon p other n v) parts.1 (subst (λ s. IsValue I c cuts k prices line horizon p s minute v) (same-side stand other parts.2) value)))
+          subst (λ u. IsValue L horizon q other n u) y.1
+          (subst (λ q. IsValue L horizon q other n v) parts.0 (subst (λ n. IsValue L horizon p other n v) parts.1 (subst (λ s. IsValue L horizon p s minute v) (same-side stand other parts.2) value)))
       | inr held ↦ were.told q other n u few (subst (λ w. IsRemembered old (key_of w q other n) u) more.wide held)
     ];
   }
@@ -246,13 +266,13 @@ module _ (I : Instance) (c : ℕ) (known : c < length I.chambers) (cuts : List P
       in-places q few = omega (arith, were.wide, few)
 
   -- what is found is the value
-  pub found-told : (values : Values) (p : ℕ) (stand : Stand) (minute : ℕ) (o : Option ℤ) → p ≤ length line → AreValues I c cuts k prices line horizon values → IfSome o (IsRemembered values (key_of values.places p stand minute))
-      → IfSome o (IsValue I c cuts k prices line horizon p stand minute)
+  pub found-told : (values : Values) (p : ℕ) (stand : Stand) (minute : ℕ) (o : Option ℤ) → p ≤ length line → AreValues L horizon values → IfSome o (IsRemembered values (key_of values.places p stand minute))
+      → IfSome o (IsValue L horizon p stand minute)
   found-told values p stand minute None small are e = tt
   found-told values p stand minute (Some v) small are e = are.told p stand minute v small e
 
   -- nothing is remembered at first
-  pub values-none : (values : Values) → AreEmpty (length line + 1) values → AreValues I c cuts k prices line horizon values
+  pub values-none : (values : Values) → AreEmpty (length line + 1) values → AreValues L horizon values
   values-none values none = record { wide = none.wide; told = λ p stand minute v small held. absurd (none.none (key_of values.places p stand minute) v held) }
 
 -- the horizon of the ships before one more

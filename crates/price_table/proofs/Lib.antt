@@ -1,4 +1,4 @@
-pub mod BarLemmas
+pub mod ThresholdLemmas
 pub mod FrameLemmas
 pub mod LineLemmas
 pub mod ServingLemmas

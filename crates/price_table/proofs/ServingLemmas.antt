@@ -52,8 +52,8 @@ module _ (I : Instance) (c k : ℕ) (prices : List ℕ) where
 
   module _ (stand : Stand) (from : ℕ) (g : Group) where
     -- the end of a choice from its sums
-    pub sums-end : (lock : Chamber) (r l m f d : ℕ) → lock ≡ chamber_at I c → r ≡ ready_at lock stand from g.way → l ≡ last_arrival I 0 g.ships → m ≡ max r l → f ≡ first_free lock.closures d m → d ≡ duration_of I c g.ships → f + d ≡ end_after I c stand from g
-    sums-end lock r l m f d at ready last most free long =
+    pub sums-end : (chamber : Chamber) (r l m f d : ℕ) → chamber ≡ chamber_at I c → r ≡ ready_at chamber stand from g.way → l ≡ last_arrival I 0 g.ships → m ≡ max r l → f ≡ first_free chamber.closures d m → d ≡ duration_of I c g.ships → f + d ≡ end_after I c stand from g
+    sums-end chamber r l m f d at ready last most free long =
         let when : m ≡ max (ready_at (chamber_at I c) stand from g.way) (last_arrival I 0 g.ships) = most ∙ (λ i. max ((ready ∙ (λ j. ready_at (at j) stand from g.way)) i) (last i)) in
         let start : f ≡ start_of I c stand from g = free ∙ (λ i. first_free (at i).closures (long i) (when i)) ∙ sym (start-sums I c stand from g) in
         (λ i. start i + long i)

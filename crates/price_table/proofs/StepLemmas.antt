@@ -14,12 +14,34 @@ use Rattle.lock_rules.specs.Trace.{has_number, with_group, trace_by}
 use Rattle.lock_rules.proofs.LeafLemmas.{trace-whole}
 use Rattle.price_rules.specs.Prices.{PlainCut, IsUncut, IsLoose}
 use Rattle.price_choices.specs.declared.choice.Choice.{Choice}
+use Rattle.price_groups.specs.Asks.{LineAsk}
 use Rattle.price_groups.specs.Worth.{end_after, worth_of, worth_from, IsWorth, IsLeastWorth, IsKeptGroup, IsHorizon}
-use Rattle.price_choices.specs.Choosing.{Keeps, Leads, IsServed, IsVain, AreChoices, IsBelow, IsCounted}
+use Rattle.price_choices.specs.Choices.{Keeps, Leads}
+use Rattle.price_choices.specs.Counted.{IsBelow, IsCounted}
+use Rattle.price_choices.specs.Dominance.{IsGainless, IsDominated}
+use Rattle.price_choices.specs.Enough.{AreChoices}
 use Rattle.price_choices.proofs.ServeLemmas.{serve-later, serve-line, worth-skipped}
 use Rattle.price_table.proofs.LineLemmas.{worth-next, late-least}
 
-module _ (I : Instance) (c : ℕ) (known : c < length I.chambers) (cuts : List PlainCut) (k : ℕ) (prices : List ℕ) where
+module _ (L : LineAsk) (known : L.chamber < length L.instance.chambers) where
+  abbrev I : Instance
+  I = L.instance
+
+  abbrev c : ℕ
+  c = L.chamber
+
+  abbrev cuts : List PlainCut
+  cuts = L.cuts
+
+  abbrev k : ℕ
+  k = L.depth
+
+  abbrev prices : List ℕ
+  prices = L.prices
+
+  abbrev line : List Group
+  line = L.line
+
   abbrev kept_test : ℕ → Bool
   kept_test = has_number (first_ships I k)
 
@@ -43,12 +65,10 @@ module _ (I : Instance) (c : ℕ) (known : c < length I.chambers) (cuts : List P
     reached = own-worth stand from line uncut own;
   }
 
-  module _ (line : List Group) (choices : List Choice) (are : AreChoices I c cuts k prices line choices) (stand : Stand) (from p : ℕ) (best : ℤ)
-      (stop : best ≤ℤ worth_from I c k prices stand from (drop p line))
-      (counted : (h : Choice) → Contains choices h → IsCounted I c cuts k prices line stand from p best h) where
+  module _ (choices : List Choice) (are : AreChoices L choices) (stand : Stand) (from p : ℕ) (best : ℤ) (stop : best ≤ℤ worth_from I c k prices stand from (drop p line)) (counted : (h : Choice) → Contains choices h → IsCounted L stand from p best h) where
     -- a choice that serves as well as the first group of a loose line
     served-below : (g : Group) (gs : List Group) (to : Option ℕ) (q : ℕ) → Leads to p q → IsLoose I c cuts k (drop q line) gs → (to ≡ None → best ≤ℤ worth_from I c k prices stand from gs)
-        → IsServed I c k prices choices to g → best ≤ℤ worth_from I c k prices stand from (g ∷ gs)
+        → IsDominated L choices to g → best ≤ℤ worth_from I c k prices stand from (g ∷ gs)
     served-below g gs to q leads loose skip served =
         let h : Group = record { way = g.way; ships = served.choice.group.ships } in
         let same : served.choice.group ≡ h = λ i. record { way = served.way i; ships = served.choice.group.ships } in
@@ -56,7 +76,7 @@ module _ (I : Instance) (c : ℕ) (known : c < length I.chambers) (cuts : List P
         let next = worth-next I c k prices stand from g gs in
         elim (counted served.choice served.held q (subst (λ to. Leads to p q) (sym served.joins) leads)) [
           | inl below ↦ under best (worth_from I c k prices stand from (g ∷ gs)) (worth_of I c k prices stand from g +ℤ worth_from I c k prices (stand_after g.way) (end_after I c stand from g) gs)
-              (worth_of I c k prices stand from h +ℤ worth_from I c k prices (stand_after g.way) (end_after I c stand from h) gs) next here (subst (IsBelow I c cuts k prices line stand from q best) same below gs loose)
+              (worth_of I c k prices stand from h +ℤ worth_from I c k prices (stand_after g.way) (end_after I c stand from h) gs) next here (subst (IsBelow L stand from q best) same below gs loose)
           | inr idle ↦ over best (worth_from I c k prices stand from (g ∷ gs)) (worth_of I c k prices stand from g +ℤ worth_from I c k prices (stand_after g.way) (end_after I c stand from g) gs)
               (worth_of I c k prices stand from h) (worth_from I c k prices (stand_after g.way) (end_after I c stand from h) gs) (worth_from I c k prices stand from gs) next here
               (subst (λ h. pos 0 ≤ℤ worth_of I c k prices stand from h) same idle.1) (worth-skipped I c known k prices stand from h gs) (skip (sym served.joins ∙ idle.0))
@@ -69,7 +89,7 @@ module _ (I : Instance) (c : ℕ) (known : c < length I.chambers) (cuts : List P
         over b w v x y z e h j l m = omega (arith, ints)
 
     -- a group that gains nothing
-    vain-below : (g : Group) (gs : List Group) → IsVain I c k prices 0 None g → best ≤ℤ worth_from I c k prices stand from gs → best ≤ℤ worth_from I c k prices stand from (g ∷ gs)
+    vain-below : (g : Group) (gs : List Group) → IsGainless L 0 None g → best ≤ℤ worth_from I c k prices stand from gs → best ≤ℤ worth_from I c k prices stand from (g ∷ gs)
     vain-below g gs vain skip = over best _ _ _ _ (worth-next I c k prices stand from g gs) (vain.gainless stand from (omega arith)) (worth-skipped I c known k prices stand from g gs) skip
       where
         over : (b w x y z : ℤ) → w ≡ (x +ℤ y) → pos 0 ≤ℤ x → z ≤ℤ y → b ≤ℤ z → b ≤ℤ w
@@ -93,7 +113,7 @@ module _ (I : Instance) (c : ℕ) (known : c < length I.chambers) (cuts : List P
             ]
         next (s ∷ ss) e t skip =
             let rest : drop (suc p) line ≡ trace_by kept_test gs = drop-next p line (record { way = g.way; ships = s ∷ ss }) (trace_by kept_test gs) (sym t) in
-            let keeps : Keeps I k line (Some p) g = sym t ∙ (λ i. record { way = g.way; ships = sym e i } ∷ sym rest i) in
+            let keeps : Keeps L (Some p) g = sym t ∙ (λ i. record { way = g.way; ships = sym e i } ∷ sym rest i) in
             elim (are.whole (Some p) g (All-head (IsUncut I c cuts) g gs is.uncut) keeps) [
               | inl served ↦ served-below g gs (Some p) (suc p) (refl, refl) (record { uncut = uncut; trace = sym rest }) (λ none. absurd (some-not_none p none)) served
               | inr vain ↦ absurd (some-not_none p vain.alone)

@@ -10,10 +10,11 @@ use Rattle.price_choices.specs.declared.choice.Choice.{Choice}
 use Rattle.price_table.specs.declared.ready.Ready.{Ready}
 use Rattle.price_table.specs.declared.route.Route.{Route}
 use Rattle.price_table.specs.declared.values.Values.{Values}
+use Rattle.price_groups.specs.Asks.{LineAsk}
 use Rattle.price_groups.specs.Worth.{end_after, worth_of, IsKeptGroup}
-use Rattle.price_choices.specs.Choosing.{IsChoice, IsCounted, Leads}
-use Rattle.price_table.specs.Values.{IsValue}
-use Rattle.price_table.specs.Values.{key_of, AreValues, IsRemembered, IsBest, IsRoute}
+use Rattle.price_choices.specs.Choices.{IsChoice, Leads}
+use Rattle.price_choices.specs.Counted.{IsCounted}
+use Rattle.price_table.specs.Values.{IsValue, key_of, IsRemembered, AreValues, IsBest, IsRoute}
 use Rattle.price_table.proofs.FrameLemmas.{IsFar, best-counted, counted-value, far-rounded, lesser-less, lesser-rounded, value-far, worth-far}
 
 -- what is far from the ends of its type is as far when it is rounded to it
@@ -23,35 +24,53 @@ low-rounded v far = subst (λ x. neg_ℤ (pos 1000000000000000) ≤ℤ x) (sym (
 pub high-rounded : (v : ℤ) → IsFar v → to_z w64 (of_z w64 v) ≤ℤ pos 1000000000000000
 high-rounded v far = subst (λ x. x ≤ℤ pos 1000000000000000) (sym (far-rounded v far)) far.1
 
-module _ (I : Instance) (c : ℕ) (known : c < length I.chambers) (cuts : List PlainCut) (k : ℕ) (prices : List ℕ) (line : List Group) (horizon : ℕ) (small : horizon ≤ 1010000) where
+module _ (L : LineAsk) (known : L.chamber < length L.instance.chambers) (horizon : ℕ) (small : horizon ≤ 1010000) where
+  abbrev I : Instance
+  I = L.instance
+
+  abbrev c : ℕ
+  c = L.chamber
+
+  abbrev cuts : List PlainCut
+  cuts = L.cuts
+
+  abbrev k : ℕ
+  k = L.depth
+
+  abbrev prices : List ℕ
+  prices = L.prices
+
+  abbrev line : List Group
+  line = L.line
+
   -- a remembered value is so
-  pub told-far : (values : Values) → AreValues I c cuts k prices line horizon values → (p : ℕ) (stand : Stand) (minute : ℕ) (v : ℤ) → p ≤ length line → IsRemembered values (key_of values.places p stand minute) v → IsFar v
+  pub told-far : (values : Values) → AreValues L horizon values → (p : ℕ) (stand : Stand) (minute : ℕ) (v : ℤ) → p ≤ length line → IsRemembered values (key_of values.places p stand minute) v → IsFar v
   told-far values are p stand minute v within held =
       let value = are.told p stand minute v within held in
       value-far v horizon minute small value.low value.high
 
   -- The lesser of the best so far and of what the choice comes to is the best then, and by it the choice is counted.
-  pub swept-next : All (IsKeptGroup I k) line → (values : Values) → AreValues I c cuts k prices line horizon values
-      → (ready : Ready) (route : Route) (h : Choice) → ready.state.minute < horizon → IsRoute ready route → route.place ≤ length line → IsChoice I c cuts k prices line h → h.joins ≡ route.joins → h.group.way ≡ route.way
+  pub swept-next : All (IsKeptGroup I k) line → (values : Values) → AreValues L horizon values
+      → (ready : Ready) (route : Route) (h : Choice) → ready.state.minute < horizon → IsRoute ready route → route.place ≤ length line → IsChoice L h → h.joins ≡ route.joins → h.group.way ≡ route.way
       → (stand : Stand) (end : ℕ) (v w best lesser : ℤ) → stand ≡ stand_after route.way → end ≡ end_after I c ready.state.stand ready.state.minute h.group → IsRemembered values (key_of values.places route.place stand end) v
       → w ≡ worth_of I c k prices ready.state.stand ready.state.minute h.group → neg_ℤ (pos 808000000) ≤ℤ w → w ≤ℤ pos 30000000000
-      → IsBest I c cuts k prices line horizon ready.state.place ready.state.stand ready.state.minute best
+      → IsBest L horizon ready.state.place ready.state.stand ready.state.minute best
       → lesser ≡ int_min (to_z w64 (of_z w64 best)) (to_z w64 (of_z w64 w) +ℤ to_z w64 (of_z w64 v))
-      → IsBest I c cuts k prices line horizon ready.state.place ready.state.stand ready.state.minute (to_z w64 (of_z w64 lesser))
-      × IsCounted I c cuts k prices line ready.state.stand ready.state.minute ready.state.place (to_z w64 (of_z w64 lesser)) h
+      → IsBest L horizon ready.state.place ready.state.stand ready.state.minute (to_z w64 (of_z w64 lesser))
+      × IsCounted L ready.state.stand ready.state.minute ready.state.place (to_z w64 (of_z w64 lesser)) h
       × (to_z w64 (of_z w64 lesser) ≤ℤ best)
   swept-next own values are ready route h early is within choice joins way stand end v w best lesser stands ends held worth low high was least = (
-    subst (IsBest I c cuts k prices line horizon ready.state.place ready.state.stand ready.state.minute) same (best-counted I c known cuts k prices line horizon own ready.state.place ready.state.stand ready.state.minute h choice route.place leads best w v early worth low behind was),
-    subst (λ best. IsCounted I c cuts k prices line ready.state.stand ready.state.minute ready.state.place best h) same (counted-value I c known cuts k prices line horizon own ready.state.place ready.state.stand ready.state.minute h choice route.place leads best w v early worth low behind),
+    subst (IsBest L horizon ready.state.place ready.state.stand ready.state.minute) same (best-counted L known horizon own ready.state.place ready.state.stand ready.state.minute h choice route.place leads best w v early worth low behind was),
+    subst (λ best. IsCounted L ready.state.stand ready.state.minute ready.state.place best h) same (counted-value L known horizon own ready.state.place ready.state.stand ready.state.minute h choice route.place leads best w v early worth low behind),
     subst (λ x. x ≤ℤ best) same (lesser-less best w v),
   )
     where
       leads : Leads h.joins ready.state.place route.place
       leads = subst (λ to. Leads to ready.state.place route.place) (sym joins) is.leads
 
-      behind : IsValue I c cuts k prices line horizon route.place (stand_after h.group.way) (end_after I c ready.state.stand ready.state.minute h.group) v
-      behind = subst (λ stand. IsValue I c cuts k prices line horizon route.place stand (end_after I c ready.state.stand ready.state.minute h.group) v) (stands ∙ ap stand_after (sym way))
-          (subst (λ end. IsValue I c cuts k prices line horizon route.place stand end v) ends (are.told route.place stand end v within held))
+      behind : IsValue L horizon route.place (stand_after h.group.way) (end_after I c ready.state.stand ready.state.minute h.group) v
+      behind = subst (λ stand. IsValue L horizon route.place stand (end_after I c ready.state.stand ready.state.minute h.group) v) (stands ∙ ap stand_after (sym way))
+          (subst (λ end. IsValue L horizon route.place stand end v) ends (are.told route.place stand end v within held))
 
       same : int_min best (w +ℤ v) ≡ to_z w64 (of_z w64 lesser)
       same = lesser-rounded lesser best w v (value-far best horizon ready.state.minute small was.low was.high) (worth-far w low high) (told-far values are route.place stand end v within held) least

@@ -12,38 +12,58 @@ use Rattle.price_rules.specs.Prices.{PlainCut, IsUncut}
 use Rattle.price_choices.specs.declared.choice.Choice.{Choice}
 use Rattle.price_table.specs.declared.next_group.NextGroup.{NextGroup}
 use Rattle.price_table.specs.declared.next_group.ValuedState.{ValuedState}
+use Rattle.price_groups.specs.Asks.{LineAsk}
 use Rattle.price_groups.specs.Worth.{worth_from, IsLeastWorth, IsKeptGroup}
-use Rattle.price_choices.specs.Choosing.{AreChoices, IsCounted}
-use Rattle.price_table.specs.Values.{IsValue}
+use Rattle.price_choices.specs.Counted.{IsCounted}
+use Rattle.price_choices.specs.Enough.{AreChoices}
 use Rattle.price_table.specs.Lines.{IsLineWorth, IsBegun, IsNext}
+use Rattle.price_table.specs.Values.{IsValue}
 use Rattle.price_table.proofs.StepLemmas.{own-loose, all-below}
 
-module _ (I : Instance) (c : ℕ) (known : c < length I.chambers) (cuts : List PlainCut) (k : ℕ) (prices : List ℕ) (line : List Group) where
+module _ (L : LineAsk) (known : L.chamber < length L.instance.chambers) where
+  abbrev I : Instance
+  I = L.instance
+
+  abbrev c : ℕ
+  c = L.chamber
+
+  abbrev cuts : List PlainCut
+  cuts = L.cuts
+
+  abbrev k : ℕ
+  k = L.depth
+
+  abbrev prices : List ℕ
+  prices = L.prices
+
+  abbrev line : List Group
+  line = L.line
+
   -- one group more
-  pub begun-next : (horizon : ℕ) (taken : List Group) (at : ValuedState) (next : NextGroup) (total : ℤ) → IsNext I c cuts k prices line horizon at next → IsBegun I c cuts k prices line taken at total → IsBegun I c cuts k prices line (taken ++ next.group ∷ []) next.behind total
+  pub begun-next : (horizon : ℕ) (taken : List Group) (at : ValuedState) (next : NextGroup) (total : ℤ) → IsNext L horizon at next → IsBegun L taken at total → IsBegun L (taken ++ next.group ∷ []) next.behind total
   begun-next horizon taken at next total is begun = record {
     goes_on = λ gs loose worth.
         let step = is.goes_on gs loose worth in
-        subst (λ xs. IsLineWorth I c cuts k prices line xs total) (sym (append_assoc taken (next.group ∷ []) gs)) (begun.goes_on (next.group ∷ gs) step.0 step.1);
+        subst (λ xs. IsLineWorth L xs total) (sym (append_assoc taken (next.group ∷ []) gs)) (begun.goes_on (next.group ∷ gs) step.0 step.1);
   }
 
   module _ (uncut : All (IsUncut I c cuts) line) (own : All (IsKeptGroup I k) line) where
     -- the rest of the line's own groups at the end
-    pub begun-last : (taken : List Group) (at : ValuedState) (total : ℤ) → worth_from I c k prices at.state.stand at.state.minute (drop at.state.place line) ≡ at.value → IsBegun I c cuts k prices line taken at total → IsLineWorth I c cuts k prices line (taken ++ drop at.state.place line) total
+    pub begun-last : (taken : List Group) (at : ValuedState) (total : ℤ) → worth_from I c k prices at.state.stand at.state.minute (drop at.state.place line) ≡ at.value → IsBegun L taken at total → IsLineWorth L (taken ++ drop at.state.place line) total
     begun-last taken at total worth begun =
-        begun.goes_on (drop at.state.place line) (own-loose I c known cuts k prices (drop at.state.place line) (All-drop (IsUncut I c cuts) at.state.place line uncut) (All-drop (IsKeptGroup I k) at.state.place line own)) worth
+        begun.goes_on (drop at.state.place line) (own-loose L known (drop at.state.place line) (All-drop (IsUncut I c cuts) at.state.place line uncut) (All-drop (IsKeptGroup I k) at.state.place line own)) worth
 
     -- the value is at most what the line's own groups are worth
-    pub value-below : (horizon p : ℕ) (stand : Stand) (from : ℕ) (v : ℤ) → IsValue I c cuts k prices line horizon p stand from v → v ≤ℤ worth_from I c k prices stand from (drop p line)
+    pub value-below : (horizon p : ℕ) (stand : Stand) (from : ℕ) (v : ℤ) → IsValue L horizon p stand from v → v ≤ℤ worth_from I c k prices stand from (drop p line)
     value-below horizon p stand from v value =
-        value.least.below (drop p line) (own-loose I c known cuts k prices (drop p line) (All-drop (IsUncut I c cuts) p line uncut) (All-drop (IsKeptGroup I k) p line own))
+        value.least.below (drop p line) (own-loose L known (drop p line) (All-drop (IsUncut I c cuts) p line uncut) (All-drop (IsKeptGroup I k) p line own))
 
     -- ONE OF THE CHOICES, OR THE LINE'S OWN GROUPS, COME TO THE VALUE: they can't all come to more.
-    pub none-more : (horizon : ℕ) (choices : List Choice) → AreChoices I c cuts k prices line choices → (p : ℕ) (stand : Stand) (from : ℕ) (v : ℤ) → IsValue I c cuts k prices line horizon p stand from v
-        → v <ℤ worth_from I c k prices stand from (drop p line) → ((h : Choice) → Contains choices h → IsCounted I c cuts k prices line stand from p (v +ℤ pos 1) h) → ⊥
+    pub none-more : (horizon : ℕ) (choices : List Choice) → AreChoices L choices → (p : ℕ) (stand : Stand) (from : ℕ) (v : ℤ) → IsValue L horizon p stand from v
+        → v <ℤ worth_from I c k prices stand from (drop p line) → ((h : Choice) → Contains choices h → IsCounted L stand from p (v +ℤ pos 1) h) → ⊥
     none-more horizon choices are p stand from v value more counted =
         let reached = value.least.reached in
-        let above = all-below I c known cuts k prices line choices are stand from p (v +ℤ pos 1) (up v _ more) counted reached.loose reached.is_loose in
+        let above = all-below L known choices are stand from p (v +ℤ pos 1) (up v _ more) counted reached.loose reached.is_loose in
         apart v _ above reached.worth
       where
         up : (a b : ℤ) → a <ℤ b → (a +ℤ pos 1) ≤ℤ b
@@ -53,11 +73,11 @@ module _ (I : Instance) (c : ℕ) (known : c < length I.chambers) (cuts : List P
         apart a b h e = absurd (omega (arith, ints, h, e))
 
   -- one choice more is counted
-  pub counted-next : (stand : Stand) (from p : ℕ) (best : ℤ) (choices : List Choice) (i : ℕ) (h : Choice) → i < length choices → h ≡ slice_index_or choices i h → IsCounted I c cuts k prices line stand from p best h
-      → ((j : ℕ) (d : Choice) → j < i → j < length choices → IsCounted I c cuts k prices line stand from p best (slice_index_or choices j d))
-      → (j : ℕ) (d : Choice) → j < i + 1 → j < length choices → IsCounted I c cuts k prices line stand from p best (slice_index_or choices j d)
+  pub counted-next : (stand : Stand) (from p : ℕ) (best : ℤ) (choices : List Choice) (i : ℕ) (h : Choice) → i < length choices → h ≡ slice_index_or choices i h → IsCounted L stand from p best h
+      → ((j : ℕ) (d : Choice) → j < i → j < length choices → IsCounted L stand from p best (slice_index_or choices j d))
+      → (j : ℕ) (d : Choice) → j < i + 1 → j < length choices → IsCounted L stand from p best (slice_index_or choices j d)
   counted-next stand from p best choices i h here held counted before j d less inside = elim (eqb_tells j i) [
-    | inl y ↦ subst (IsCounted I c cuts k prices line stand from p best) (held ∙ get_or_default choices i h d here ∙ ap (λ i. slice_index_or choices i d) (sym y.1)) counted
+    | inl y ↦ subst (IsCounted L stand from p best) (held ∙ get_or_default choices i h d here ∙ ap (λ i. slice_index_or choices i d) (sym y.1)) counted
     | inr m ↦ before j d (earlier j m.1 less) inside
   ]
     where

@@ -2,27 +2,30 @@
 use Rattle.std.specs.Prelude.{ℕ, ◌≡◌, ◌+◌, ◌-◌, ◌*◌, ◌≤◌, ◌<◌, ◌⊎◌, max, ℤ, pos, ◌+ℤ◌, ◌≤ℤ◌, Some, None, List, [], length, drop, slice_index_or, nat_eq, neg_ℤ, true}
 use Rattle.lock_model.specs.declared.instance.Instance.{Instance}
 use Rattle.lock_model.specs.declared.group.Group.{Group}
+use Rattle.price_groups.specs.Asks.{LineAsk, group_end, group_worth, line_worth}
+use Rattle.price_groups.specs.Worth.{IsWorth, IsLeastWorth}
+use Rattle.price_choices.specs.Choices.{IsChoice, Leads}
+use Rattle.price_choices.specs.Counted.{IsCounted}
+use Rattle.price_choices.specs.Successors.{list_of}
 use Rattle.lock_model.specs.declared.way.Stand.{Stand}
-use Rattle.price_rules.specs.Prices.{PlainCut}
 use Rattle.price_choices.specs.declared.choice.Choice.{Choice}
-use Rattle.price_choices.specs.declared.menu.Menu.{Menu}
-use Rattle.price_groups.specs.Worth.{end_after, worth_of, worth_from, IsLeastWorth, IsWorth}
+use Rattle.price_choices.specs.declared.successors.Successors.{Successors}
 use Rattle.std.specs.HashMap.{get}
 use Rattle.lock_model.specs.Fleet.{chamber_at}
 use Rattle.lock_model.specs.declared.way.Way.{Way}
 use Rattle.lock_model.specs.declared.way.Way.TheVariants.{Up, Down}
 use Rattle.lock_model.specs.declared.way.Stand.TheVariants.{Low, High}
 use Rattle.lock_rules.specs.Timetable.{ready_at}
+use Rattle.price_table.specs.declared.state.State.{State}
 use Rattle.price_table.specs.declared.ready.Ready.{Ready}
 use Rattle.price_table.specs.declared.route.Route.{Route}
-use Rattle.price_table.specs.declared.route.Bar.{Bar}
+use Rattle.price_table.specs.declared.route.Threshold.{Threshold}
 use Rattle.price_table.specs.declared.frame.Frame.{Frame}
 use Rattle.price_table.specs.declared.values.Values.{Values}
-use Rattle.price_choices.specs.Choosing.{IsChoice, IsCounted, Leads, list_of}
 
 -- The value of a state: the least worth of what is left of the line from place p on.
-pub record IsValue (I : Instance) (c : ℕ) (cuts : List PlainCut) (k : ℕ) (prices : List ℕ) (line : List Group) (horizon : ℕ) (p : ℕ) (stand : Stand) (from : ℕ) (v : ℤ) : Type 0 where
-  pub least : IsLeastWorth I c cuts k prices stand from (drop p line) (Some v)
+pub record IsValue (L : LineAsk) (horizon : ℕ) (p : ℕ) (stand : Stand) (from : ℕ) (v : ℤ) : Type 0 where
+  pub least : IsLeastWorth L.instance L.chamber L.cuts L.depth L.prices stand from (drop p L.line) (Some v)
   pub low : pos 0 ≤ℤ (v +ℤ pos (808000000 * (horizon - from)))
   pub high : v ≤ℤ pos 6000000000000
 
@@ -49,9 +52,9 @@ pub record Remembers (old new : Values) (key : ℕ) (v : ℤ) : Type 0 where
   pub told : (other : ℕ) (u : ℤ) → IsRemembered new other u → ((key ≡ other) × (v ≡ u)) ⊎ IsRemembered old other u
 
 -- what is remembered for a state is its value, and each place of the line has room
-pub record AreValues (I : Instance) (c : ℕ) (cuts : List PlainCut) (k : ℕ) (prices : List ℕ) (line : List Group) (horizon : ℕ) (values : Values) : Type 0 where
-  pub wide : values.places ≡ length line + 1
-  pub told : (p : ℕ) (stand : Stand) (minute : ℕ) (v : ℤ) → p ≤ length line → IsRemembered values (key_of values.places p stand minute) v → IsValue I c cuts k prices line horizon p stand minute v
+pub record AreValues (L : LineAsk) (horizon : ℕ) (values : Values) : Type 0 where
+  pub wide : values.places ≡ length L.line + 1
+  pub told : (p : ℕ) (stand : Stand) (minute : ℕ) (v : ℤ) → p ≤ length L.line → IsRemembered values (key_of values.places p stand minute) v → IsValue L horizon p stand minute v
 
 -- the first minute for a way
 abbrev pub minute_for : Ready → Way → ℕ
@@ -65,29 +68,66 @@ pub record IsReady (I : Instance) (c : ℕ) (ready : Ready) : Type 0 where
   pub open_always : ready.always_open ≡ true → (chamber_at I c).closures ≡ []
 
 -- What a state is worth at most so far: some loose line is worth it, and the line's own groups alone are worth no less.
-pub record IsBest (I : Instance) (c : ℕ) (cuts : List PlainCut) (k : ℕ) (prices : List ℕ) (line : List Group) (horizon : ℕ) (p : ℕ) (stand : Stand) (minute : ℕ) (best : ℤ) : Type 0 where
-  pub stop : best ≤ℤ worth_from I c k prices stand minute (drop p line)
-  pub reached : IsWorth I c cuts k prices stand minute (drop p line) best
+pub record IsBest (L : LineAsk) (horizon : ℕ) (p : ℕ) (stand : Stand) (minute : ℕ) (best : ℤ) : Type 0 where
+  pub stop : best ≤ℤ line_worth L stand minute (drop p L.line)
+  pub reached : IsWorth L.instance L.chamber L.cuts L.depth L.prices stand minute (drop p L.line) best
   pub low : pos 0 ≤ℤ (best +ℤ pos (808000000 * (horizon - minute)))
   pub high : best ≤ℤ pos 6000000000000
 
 -- a state before the horizon, of which the first choices that are looked at are counted
-pub record IsFrame (I : Instance) (c : ℕ) (cuts : List PlainCut) (k : ℕ) (prices : List ℕ) (line : List Group) (horizon : ℕ) (menus : List Menu) (frame : Frame) : Type 0 where
-  pub ready : IsReady I c frame.ready
-  pub place : frame.ready.state.place ≤ length line
+pub record IsFrame (L : LineAsk) (horizon : ℕ) (successor_lists : List Successors) (frame : Frame) : Type 0 where
+  pub ready : IsReady L.instance L.chamber frame.ready
+  pub place : frame.ready.state.place ≤ length L.line
   pub early : frame.ready.state.minute < horizon
-  pub best : IsBest I c cuts k prices line horizon frame.ready.state.place frame.ready.state.stand frame.ready.state.minute frame.best
-  pub counted : (j : ℕ) (d : Choice) (e : Menu) → j < frame.next → j < length (list_of menus e frame.ready.state.place frame.ready.state.minute) → IsCounted I c cuts k prices line frame.ready.state.stand frame.ready.state.minute frame.ready.state.place frame.best (slice_index_or (list_of menus e frame.ready.state.place frame.ready.state.minute) j d)
+  pub best : IsBest L horizon frame.ready.state.place frame.ready.state.stand frame.ready.state.minute frame.best
+  pub counted : (j : ℕ) (d : Choice) (e : Successors) → j < frame.next → j < length (list_of successor_lists e frame.ready.state.place frame.ready.state.minute) → IsCounted L frame.ready.state.stand frame.ready.state.minute frame.ready.state.place frame.best (slice_index_or (list_of successor_lists e frame.ready.state.place frame.ready.state.minute) j d)
 
 -- a route from the state: where its choices lead, and the first minute for their way
 pub record IsRoute (ready : Ready) (route : Route) : Type 0 where
   pub leads : Leads route.joins ready.state.place route.place
   pub minute : route.minute ≡ minute_for ready route.way
 
--- A choice of the route that ends no sooner than the bar and is worth no less is counted.
-pub record IsBar (I : Instance) (c : ℕ) (cuts : List PlainCut) (k : ℕ) (prices : List ℕ) (line : List Group) (ready : Ready) (route : Route) (best : ℤ) (bar : Bar) : Type 0 where
-  pub low : neg_ℤ (pos 2000000000000000) ≤ℤ bar.worth
-  pub high : bar.worth ≤ℤ pos 2000000000000000
-  pub over : (h : Choice) → IsChoice I c cuts k prices line h → h.joins ≡ route.joins → h.group.way ≡ route.way
-      → bar.end ≤ end_after I c ready.state.stand ready.state.minute h.group → bar.worth ≤ℤ worth_of I c k prices ready.state.stand ready.state.minute h.group → worth_of I c k prices ready.state.stand ready.state.minute h.group ≤ℤ pos 30000000000
-      → IsCounted I c cuts k prices line ready.state.stand ready.state.minute ready.state.place best h
+-- A choice of the route that ends no sooner than the threshold and is worth no less is counted.
+pub record IsThreshold (L : LineAsk) (ready : Ready) (route : Route) (best : ℤ) (threshold : Threshold) : Type 0 where
+  pub low : neg_ℤ (pos 2000000000000000) ≤ℤ threshold.worth
+  pub high : threshold.worth ≤ℤ pos 2000000000000000
+  pub over : (h : Choice) → IsChoice L h → h.joins ≡ route.joins → h.group.way ≡ route.way
+      → threshold.end ≤ group_end L ready.state.stand ready.state.minute h.group → threshold.worth ≤ℤ group_worth L ready.state.stand ready.state.minute h.group → group_worth L ready.state.stand ready.state.minute h.group ≤ℤ pos 30000000000
+      → IsCounted L ready.state.stand ready.state.minute ready.state.place best h
+
+-- the same said of a state
+abbrev pub IsValueOf : LineAsk → ℕ → State → ℤ → Type 0
+IsValueOf L horizon state = IsValue L horizon state.place state.stand state.minute
+
+abbrev pub IsBestOf : LineAsk → ℕ → State → ℤ → Type 0
+IsBestOf L horizon state = IsBest L horizon state.place state.stand state.minute
+
+abbrev pub IsCountedIn : LineAsk → State → ℤ → Choice → Type 0
+IsCountedIn L state = IsCounted L state.stand state.minute state.place
+
+-- the state's key among so many places
+abbrev pub state_key : ℕ → State → ℕ
+state_key places state = key_of places state.place state.stand state.minute
+
+-- when a group ends that comes next in the state, and what it is worth
+abbrev pub end_next : LineAsk → State → Group → ℕ
+end_next L state = group_end L state.stand state.minute
+
+abbrev pub worth_next : LineAsk → State → Group → ℤ
+worth_next L state = group_worth L state.stand state.minute
+
+-- what the line's own groups from the state's place on are worth alone
+abbrev pub worth_alone : LineAsk → State → ℤ
+worth_alone L state = line_worth L state.stand state.minute (drop state.place L.line)
+
+-- a state before the horizon, at a place of the line or at its end
+abbrev pub IsEarlyState : LineAsk → ℕ → State → Type 0
+IsEarlyState L horizon state = (state.place ≤ length L.line) × (state.minute < horizon)
+
+-- the choices that are looked at in the state are these, whatever stands in place of a list of successors that isn't there
+abbrev pub AreLookedAt : List Successors → State → List Choice → Type 0
+AreLookedAt successor_lists state choices = (e : Successors) → choices ≡ list_of successor_lists e state.place state.minute
+
+-- all choices that are looked at in the frame's state are counted
+abbrev pub AreAllCounted : List Successors → Frame → Type 0
+AreAllCounted successor_lists frame = (e : Successors) → length (list_of successor_lists e frame.ready.state.place frame.ready.state.minute) ≤ frame.next

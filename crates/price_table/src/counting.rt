@@ -1,10 +1,9 @@
 //! The table of a chamber's line, one choice after another.
 ghost use Rattle.std.specs.Prelude.{◌≡◌, ◌+◌, ◌-◌, ◌*◌, ◌<◌, ◌≤◌, ◌≤ℤ◌, length, IfSome, IfNone, None};
-ghost use Rattle.price_choices.specs.Choosing.{AreMenus, IsChoice, IsCounted, Leads, list_of};
-ghost use Rattle.price_table.specs.Values.{IsValue};
-ghost use Rattle.price_choices.specs.declared.menu.Menu.{Menu};
-ghost use Rattle.price_table.specs.Values.{AreValues, IsBest, IsFrame, IsReady};
-ghost use Rattle.price_terms.specs.Cuts.{plain_cuts};
+ghost use Rattle.price_groups.specs.Asked.{line_asked};
+ghost use Rattle.price_choices.specs.Choices.{IsChoice, Leads};
+ghost use Rattle.price_choices.specs.Successors.{AreSuccessorLists};
+ghost use Rattle.price_table.specs.Values.{AreValues, IsReady, IsFrame, IsValueOf, IsBestOf, IsCountedIn, IsEarlyState, AreLookedAt, AreAllCounted};
 
 use crate::frame::Frame;
 use crate::ready::Ready;
@@ -21,7 +20,7 @@ use price_choices::{Choice, led};
 pub(crate) fn opened(table: &Table, state: State) -> Frame
     requires place { state.place ≤ length table.now.case.now.line.now }
     requires early { state.minute < table.now.horizon }
-    ensures { IsFrame table.now.case.now.instance.now table.now.case.now.chamber (plain_cuts table.now.case.now.instance.now table.now.case.now.cuts.now) table.now.case.now.depth table.now.case.now.prices.now table.now.case.now.line.now table.now.horizon table.now.menus.now result }
+    ensures { IsFrame (line_asked table.now.case.now) table.now.horizon table.now.successor_lists.now result }
 {
     Frame {
         ready: Ready::new(table.case, state),
@@ -33,10 +32,10 @@ pub(crate) fn opened(table: &Table, state: State) -> Frame
 #[inline(always)]
 /// The value of a state, where it is known.
 pub(crate) fn known(table: &Table, values: &Values, state: State) -> Option<i64>
-    requires values { AreValues table.now.case.now.instance.now table.now.case.now.chamber (plain_cuts table.now.case.now.instance.now table.now.case.now.cuts.now) table.now.case.now.depth table.now.case.now.prices.now table.now.case.now.line.now table.now.horizon values.now }
+    requires values { AreValues (line_asked table.now.case.now) table.now.horizon values.now }
     requires place { state.place ≤ length table.now.case.now.line.now }
     requires minute { state.minute ≤ 14000000 }
-    ensures some { IfSome result (IsValue table.now.case.now.instance.now table.now.case.now.chamber (plain_cuts table.now.case.now.instance.now table.now.case.now.cuts.now) table.now.case.now.depth table.now.case.now.prices.now table.now.case.now.line.now table.now.horizon state.place state.stand state.minute) }
+    ensures some { IfSome result (IsValueOf (line_asked table.now.case.now) table.now.horizon state) }
     ensures none { IfNone result (state.minute < table.now.horizon) }
 {
     if state.minute >= table.horizon {
@@ -56,17 +55,17 @@ fn count_to(
     choice: &Choice,
     place: u8,
 ) -> Option<State>
-    requires values { AreValues table.now.case.now.instance.now table.now.case.now.chamber (plain_cuts table.now.case.now.instance.now table.now.case.now.cuts.now) table.now.case.now.depth table.now.case.now.prices.now table.now.case.now.line.now table.now.horizon values.now }
-    requires ready { IsReady table.now.case.now.instance.now table.now.case.now.chamber ready.now }
+    requires values { AreValues (line_asked table.now.case.now) table.now.horizon values.now }
+    requires ready { IsReady table.now.case.now.instance.now table.now.case.now.index ready.now }
     requires early { ready.now.state.minute < table.now.horizon }
-    requires best { IsBest table.now.case.now.instance.now table.now.case.now.chamber (plain_cuts table.now.case.now.instance.now table.now.case.now.cuts.now) table.now.case.now.depth table.now.case.now.prices.now table.now.case.now.line.now table.now.horizon ready.now.state.place ready.now.state.stand ready.now.state.minute best.old }
-    requires is { IsChoice table.now.case.now.instance.now table.now.case.now.chamber (plain_cuts table.now.case.now.instance.now table.now.case.now.cuts.now) table.now.case.now.depth table.now.case.now.prices.now table.now.case.now.line.now choice.now }
+    requires best { IsBestOf (line_asked table.now.case.now) table.now.horizon ready.now.state best.old }
+    requires is { IsChoice (line_asked table.now.case.now) choice.now }
     requires leads { Leads choice.now.joins ready.now.state.place place }
     requires place { place ≤ length table.now.case.now.line.now }
-    ensures best { IsBest table.now.case.now.instance.now table.now.case.now.chamber (plain_cuts table.now.case.now.instance.now table.now.case.now.cuts.now) table.now.case.now.depth table.now.case.now.prices.now table.now.case.now.line.now table.now.horizon ready.now.state.place ready.now.state.stand ready.now.state.minute best.new }
+    ensures best { IsBestOf (line_asked table.now.case.now) table.now.horizon ready.now.state best.new }
     ensures less { best.new ≤ℤ best.old }
-    ensures none { IfNone result (IsCounted table.now.case.now.instance.now table.now.case.now.chamber (plain_cuts table.now.case.now.instance.now table.now.case.now.cuts.now) table.now.case.now.depth table.now.case.now.prices.now table.now.case.now.line.now ready.now.state.stand ready.now.state.minute ready.now.state.place best.new choice.now) }
-    ensures some { IfSome result (λ s. (s.place ≤ length table.now.case.now.line.now) × (s.minute < table.now.horizon)) }
+    ensures none { IfNone result (IsCountedIn (line_asked table.now.case.now) ready.now.state best.new choice.now) }
+    ensures some { IfSome result (IsEarlyState (line_asked table.now.case.now) table.now.horizon) }
 {
     let served = serve(table.case, ready, choice);
     if is_idle(choice, served.worth) {
@@ -95,16 +94,16 @@ fn count(
     best: &mut i64,
     choice: &Choice,
 ) -> Option<State>
-    requires values { AreValues table.now.case.now.instance.now table.now.case.now.chamber (plain_cuts table.now.case.now.instance.now table.now.case.now.cuts.now) table.now.case.now.depth table.now.case.now.prices.now table.now.case.now.line.now table.now.horizon values.now }
-    requires ready { IsReady table.now.case.now.instance.now table.now.case.now.chamber ready.now }
+    requires values { AreValues (line_asked table.now.case.now) table.now.horizon values.now }
+    requires ready { IsReady table.now.case.now.instance.now table.now.case.now.index ready.now }
     requires early { ready.now.state.minute < table.now.horizon }
     requires place { ready.now.state.place ≤ length table.now.case.now.line.now }
-    requires best { IsBest table.now.case.now.instance.now table.now.case.now.chamber (plain_cuts table.now.case.now.instance.now table.now.case.now.cuts.now) table.now.case.now.depth table.now.case.now.prices.now table.now.case.now.line.now table.now.horizon ready.now.state.place ready.now.state.stand ready.now.state.minute best.old }
-    requires is { IsChoice table.now.case.now.instance.now table.now.case.now.chamber (plain_cuts table.now.case.now.instance.now table.now.case.now.cuts.now) table.now.case.now.depth table.now.case.now.prices.now table.now.case.now.line.now choice.now }
-    ensures best { IsBest table.now.case.now.instance.now table.now.case.now.chamber (plain_cuts table.now.case.now.instance.now table.now.case.now.cuts.now) table.now.case.now.depth table.now.case.now.prices.now table.now.case.now.line.now table.now.horizon ready.now.state.place ready.now.state.stand ready.now.state.minute best.new }
+    requires best { IsBestOf (line_asked table.now.case.now) table.now.horizon ready.now.state best.old }
+    requires is { IsChoice (line_asked table.now.case.now) choice.now }
+    ensures best { IsBestOf (line_asked table.now.case.now) table.now.horizon ready.now.state best.new }
     ensures less { best.new ≤ℤ best.old }
-    ensures none { IfNone result (IsCounted table.now.case.now.instance.now table.now.case.now.chamber (plain_cuts table.now.case.now.instance.now table.now.case.now.cuts.now) table.now.case.now.depth table.now.case.now.prices.now table.now.case.now.line.now ready.now.state.stand ready.now.state.minute ready.now.state.place best.new choice.now) }
-    ensures some { IfSome result (λ s. (s.place ≤ length table.now.case.now.line.now) × (s.minute < table.now.horizon)) }
+    ensures none { IfNone result (IsCountedIn (line_asked table.now.case.now) ready.now.state best.new choice.now) }
+    ensures some { IfSome result (IsEarlyState (line_asked table.now.case.now) table.now.horizon) }
 {
     match led(choice, ready.state.place) {
         None => None,
@@ -119,15 +118,15 @@ fn count_next(
     choices: &[Choice],
     frame: &mut Frame,
 ) -> Option<State>
-    requires values { AreValues table.now.case.now.instance.now table.now.case.now.chamber (plain_cuts table.now.case.now.instance.now table.now.case.now.cuts.now) table.now.case.now.depth table.now.case.now.prices.now table.now.case.now.line.now table.now.horizon values.now }
-    requires menus { AreMenus table.now.case.now.instance.now table.now.case.now.chamber (plain_cuts table.now.case.now.instance.now table.now.case.now.cuts.now) table.now.case.now.depth table.now.case.now.prices.now table.now.case.now.line.now table.now.menus.now }
-    requires frame { IsFrame table.now.case.now.instance.now table.now.case.now.chamber (plain_cuts table.now.case.now.instance.now table.now.case.now.cuts.now) table.now.case.now.depth table.now.case.now.prices.now table.now.case.now.line.now table.now.horizon table.now.menus.now frame.old }
-    requires listed { (e : Menu) → choices.now ≡ list_of table.now.menus.now e frame.old.ready.state.place frame.old.ready.state.minute }
+    requires values { AreValues (line_asked table.now.case.now) table.now.horizon values.now }
+    requires successor_lists { AreSuccessorLists (line_asked table.now.case.now) table.now.successor_lists.now }
+    requires frame { IsFrame (line_asked table.now.case.now) table.now.horizon table.now.successor_lists.now frame.old }
+    requires listed { AreLookedAt table.now.successor_lists.now frame.old.ready.state choices.now }
     requires here { frame.old.next < length choices.now }
-    ensures frame { IsFrame table.now.case.now.instance.now table.now.case.now.chamber (plain_cuts table.now.case.now.instance.now table.now.case.now.cuts.now) table.now.case.now.depth table.now.case.now.prices.now table.now.case.now.line.now table.now.horizon table.now.menus.now frame.new }
+    ensures frame { IsFrame (line_asked table.now.case.now) table.now.horizon table.now.successor_lists.now frame.new }
     ensures same { frame.new.ready ≡ frame.old.ready }
     ensures none { IfNone result (frame.new.next ≡ frame.old.next + 1) }
-    ensures some { IfSome result (λ s. (s.place ≤ length table.now.case.now.line.now) × (s.minute < table.now.horizon)) }
+    ensures some { IfSome result (IsEarlyState (line_asked table.now.case.now) table.now.horizon) }
 {
     match count(
         table,
@@ -146,12 +145,12 @@ fn count_next(
 
 // Counts more choices of a frame, where the next one may come next in a chamber without closures.
 fn sweep_from(table: &Table, values: &Values, choices: &[Choice], frame: &mut Frame)
-    requires values { AreValues table.now.case.now.instance.now table.now.case.now.chamber (plain_cuts table.now.case.now.instance.now table.now.case.now.cuts.now) table.now.case.now.depth table.now.case.now.prices.now table.now.case.now.line.now table.now.horizon values.now }
-    requires menus { AreMenus table.now.case.now.instance.now table.now.case.now.chamber (plain_cuts table.now.case.now.instance.now table.now.case.now.cuts.now) table.now.case.now.depth table.now.case.now.prices.now table.now.case.now.line.now table.now.menus.now }
-    requires frame { IsFrame table.now.case.now.instance.now table.now.case.now.chamber (plain_cuts table.now.case.now.instance.now table.now.case.now.cuts.now) table.now.case.now.depth table.now.case.now.prices.now table.now.case.now.line.now table.now.horizon table.now.menus.now frame.old }
-    requires listed { (e : Menu) → choices.now ≡ list_of table.now.menus.now e frame.old.ready.state.place frame.old.ready.state.minute }
+    requires values { AreValues (line_asked table.now.case.now) table.now.horizon values.now }
+    requires successor_lists { AreSuccessorLists (line_asked table.now.case.now) table.now.successor_lists.now }
+    requires frame { IsFrame (line_asked table.now.case.now) table.now.horizon table.now.successor_lists.now frame.old }
+    requires listed { AreLookedAt table.now.successor_lists.now frame.old.ready.state choices.now }
     requires here { frame.old.next < length choices.now }
-    ensures frame { IsFrame table.now.case.now.instance.now table.now.case.now.chamber (plain_cuts table.now.case.now.instance.now table.now.case.now.cuts.now) table.now.case.now.depth table.now.case.now.prices.now table.now.case.now.line.now table.now.horizon table.now.menus.now frame.new }
+    ensures frame { IsFrame (line_asked table.now.case.now) table.now.horizon table.now.successor_lists.now frame.new }
     ensures same { frame.new.ready ≡ frame.old.ready }
     ensures more { frame.old.next ≤ frame.new.next }
 {
@@ -166,12 +165,12 @@ fn sweep_from(table: &Table, values: &Values, choices: &[Choice], frame: &mut Fr
 /// Counts choices one after another, until all are counted or the value of a state behind one isn't
 /// known yet; that state.
 pub(crate) fn advance(table: &Table, values: &Values, frame: &mut Frame) -> Option<State>
-    requires values { AreValues table.now.case.now.instance.now table.now.case.now.chamber (plain_cuts table.now.case.now.instance.now table.now.case.now.cuts.now) table.now.case.now.depth table.now.case.now.prices.now table.now.case.now.line.now table.now.horizon values.now }
-    requires menus { AreMenus table.now.case.now.instance.now table.now.case.now.chamber (plain_cuts table.now.case.now.instance.now table.now.case.now.cuts.now) table.now.case.now.depth table.now.case.now.prices.now table.now.case.now.line.now table.now.menus.now }
-    requires frame { IsFrame table.now.case.now.instance.now table.now.case.now.chamber (plain_cuts table.now.case.now.instance.now table.now.case.now.cuts.now) table.now.case.now.depth table.now.case.now.prices.now table.now.case.now.line.now table.now.horizon table.now.menus.now frame.old }
-    ensures frame { IsFrame table.now.case.now.instance.now table.now.case.now.chamber (plain_cuts table.now.case.now.instance.now table.now.case.now.cuts.now) table.now.case.now.depth table.now.case.now.prices.now table.now.case.now.line.now table.now.horizon table.now.menus.now frame.new }
-    ensures none { IfNone result ((e : Menu) → length (list_of table.now.menus.now e frame.new.ready.state.place frame.new.ready.state.minute) ≤ frame.new.next) }
-    ensures some { IfSome result (λ s. (s.place ≤ length table.now.case.now.line.now) × (s.minute < table.now.horizon)) }
+    requires values { AreValues (line_asked table.now.case.now) table.now.horizon values.now }
+    requires successor_lists { AreSuccessorLists (line_asked table.now.case.now) table.now.successor_lists.now }
+    requires frame { IsFrame (line_asked table.now.case.now) table.now.horizon table.now.successor_lists.now frame.old }
+    ensures frame { IsFrame (line_asked table.now.case.now) table.now.horizon table.now.successor_lists.now frame.new }
+    ensures none { IfNone result (AreAllCounted table.now.successor_lists.now frame.new) }
+    ensures some { IfSome result (IsEarlyState (line_asked table.now.case.now) table.now.horizon) }
 {
     let choices = table.list(&frame.ready.state);
     while frame.next < choices.len() {

@@ -1,8 +1,8 @@
 //! From when on missing ships may be left out of a loose line.
-ghost use Rattle.std.specs.Prelude.{◌≡◌, ◌+◌, ◌*◌, ◌<◌, ◌≤◌, length, true};
+ghost use Rattle.std.specs.Prelude.{◌+◌, ◌*◌, ◌<◌, ◌≤◌, length};
 ghost use Rattle.lock_model.specs.Fleet.{ship_at};
-ghost use Rattle.price_rules.specs.Prices.{is_missing, price_at};
-ghost use Rattle.price_groups.specs.Worth.{IsHorizon};
+ghost use Rattle.price_rules.specs.Prices.{price_at};
+ghost use Rattle.price_groups.specs.Worth.{IsLateBy, IsHorizon};
 
 use price_groups::LineCase;
 
@@ -21,7 +21,7 @@ fn late(case: &LineCase, ship: u8) -> u64
 fn later(case: &LineCase, latest: u64, ship: u8) -> u64
     requires known { ship < length case.now.instance.now.ships }
     requires old_small { latest ≤ 1010000 }
-    ensures served { is_missing case.now.instance.now case.now.depth ship ≡ true → price_at case.now.prices.now ship + 100 * (ship_at case.now.instance.now ship).arrival ≤ 100 * result }
+    ensures served { IsLateBy case.now.instance.now case.now.depth case.now.prices.now ship result }
     ensures later { latest ≤ result }
     ensures small { result ≤ 1010000 }
 {

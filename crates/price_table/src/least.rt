@@ -1,9 +1,8 @@
 //! The values of states.
 ghost use Rattle.std.specs.Prelude.{◌<◌, ◌≤◌, length, All, IfOk, OnOk};
-ghost use Rattle.price_choices.specs.Choosing.{AreMenus};
-ghost use Rattle.price_table.specs.Values.{IsValue};
-ghost use Rattle.price_table.specs.Values.{AreValues, IsFrame};
-ghost use Rattle.price_terms.specs.Cuts.{plain_cuts};
+ghost use Rattle.price_groups.specs.Asked.{line_asked};
+ghost use Rattle.price_choices.specs.Successors.{AreSuccessorLists};
+ghost use Rattle.price_table.specs.Values.{AreValues, IsFrame, IsValueOf};
 
 use crate::counting::{advance, known, opened};
 use crate::frame::Frame;
@@ -21,12 +20,12 @@ fn turn(
     frames: &mut Vec<Frame>,
     frame: Frame,
 ) -> Result<(), PriceError>
-    requires menus { AreMenus table.now.case.now.instance.now table.now.case.now.chamber (plain_cuts table.now.case.now.instance.now table.now.case.now.cuts.now) table.now.case.now.depth table.now.case.now.prices.now table.now.case.now.line.now table.now.menus.now }
-    requires values { AreValues table.now.case.now.instance.now table.now.case.now.chamber (plain_cuts table.now.case.now.instance.now table.now.case.now.cuts.now) table.now.case.now.depth table.now.case.now.prices.now table.now.case.now.line.now table.now.horizon values.old }
-    requires frames { All (IsFrame table.now.case.now.instance.now table.now.case.now.chamber (plain_cuts table.now.case.now.instance.now table.now.case.now.cuts.now) table.now.case.now.depth table.now.case.now.prices.now table.now.case.now.line.now table.now.horizon table.now.menus.now) frames.old.items }
-    requires frame { IsFrame table.now.case.now.instance.now table.now.case.now.chamber (plain_cuts table.now.case.now.instance.now table.now.case.now.cuts.now) table.now.case.now.depth table.now.case.now.prices.now table.now.case.now.line.now table.now.horizon table.now.menus.now frame }
-    ensures values { OnOk result (AreValues table.now.case.now.instance.now table.now.case.now.chamber (plain_cuts table.now.case.now.instance.now table.now.case.now.cuts.now) table.now.case.now.depth table.now.case.now.prices.now table.now.case.now.line.now table.now.horizon values.new) }
-    ensures frames { OnOk result (All (IsFrame table.now.case.now.instance.now table.now.case.now.chamber (plain_cuts table.now.case.now.instance.now table.now.case.now.cuts.now) table.now.case.now.depth table.now.case.now.prices.now table.now.case.now.line.now table.now.horizon table.now.menus.now) frames.new.items) }
+    requires successor_lists { AreSuccessorLists (line_asked table.now.case.now) table.now.successor_lists.now }
+    requires values { AreValues (line_asked table.now.case.now) table.now.horizon values.old }
+    requires frames { All (IsFrame (line_asked table.now.case.now) table.now.horizon table.now.successor_lists.now) frames.old.items }
+    requires frame { IsFrame (line_asked table.now.case.now) table.now.horizon table.now.successor_lists.now frame }
+    ensures values { OnOk result (AreValues (line_asked table.now.case.now) table.now.horizon values.new) }
+    ensures frames { OnOk result (All (IsFrame (line_asked table.now.case.now) table.now.horizon table.now.successor_lists.now) frames.new.items) }
 {
     let mut frame = frame;
     match advance(table, values, &mut frame) {
@@ -40,10 +39,10 @@ fn turn(
 
 // What is remembered for the first state, once no state is open.
 fn found(table: &Table, values: &Values, first: &State) -> Result<i64, PriceError>
-    requires values { AreValues table.now.case.now.instance.now table.now.case.now.chamber (plain_cuts table.now.case.now.instance.now table.now.case.now.cuts.now) table.now.case.now.depth table.now.case.now.prices.now table.now.case.now.line.now table.now.horizon values.now }
+    requires values { AreValues (line_asked table.now.case.now) table.now.horizon values.now }
     requires place { first.now.place ≤ length table.now.case.now.line.now }
     requires minute { first.now.minute ≤ 14000000 }
-    ensures { IfOk result (IsValue table.now.case.now.instance.now table.now.case.now.chamber (plain_cuts table.now.case.now.instance.now table.now.case.now.cuts.now) table.now.case.now.depth table.now.case.now.prices.now table.now.case.now.line.now table.now.horizon first.now.place first.now.stand first.now.minute) }
+    ensures { IfOk result (IsValueOf (line_asked table.now.case.now) table.now.horizon first.now) }
 {
     match values.find(first) {
         None => Err(PriceError::TooMany),
@@ -58,12 +57,12 @@ fn worked(
     values: &mut Values,
     first: State,
 ) -> Result<i64, PriceError>
-    requires menus { AreMenus table.now.case.now.instance.now table.now.case.now.chamber (plain_cuts table.now.case.now.instance.now table.now.case.now.cuts.now) table.now.case.now.depth table.now.case.now.prices.now table.now.case.now.line.now table.now.menus.now }
-    requires values { AreValues table.now.case.now.instance.now table.now.case.now.chamber (plain_cuts table.now.case.now.instance.now table.now.case.now.cuts.now) table.now.case.now.depth table.now.case.now.prices.now table.now.case.now.line.now table.now.horizon values.old }
+    requires successor_lists { AreSuccessorLists (line_asked table.now.case.now) table.now.successor_lists.now }
+    requires values { AreValues (line_asked table.now.case.now) table.now.horizon values.old }
     requires place { first.place ≤ length table.now.case.now.line.now }
     requires early { first.minute < table.now.horizon }
-    ensures values { IfOk result (λ _. AreValues table.now.case.now.instance.now table.now.case.now.chamber (plain_cuts table.now.case.now.instance.now table.now.case.now.cuts.now) table.now.case.now.depth table.now.case.now.prices.now table.now.case.now.line.now table.now.horizon values.new) }
-    ensures value { IfOk result (IsValue table.now.case.now.instance.now table.now.case.now.chamber (plain_cuts table.now.case.now.instance.now table.now.case.now.cuts.now) table.now.case.now.depth table.now.case.now.prices.now table.now.case.now.line.now table.now.horizon first.place first.stand first.minute) }
+    ensures values { IfOk result (λ _. AreValues (line_asked table.now.case.now) table.now.horizon values.new) }
+    ensures value { IfOk result (IsValueOf (line_asked table.now.case.now) table.now.horizon first) }
 {
     let mut frames = Vec::new(alloc);
     append(&mut frames, opened(table, first))?;
@@ -83,12 +82,12 @@ pub(crate) fn value_of(
     values: &mut Values,
     state: &State,
 ) -> Result<i64, PriceError>
-    requires menus { AreMenus table.now.case.now.instance.now table.now.case.now.chamber (plain_cuts table.now.case.now.instance.now table.now.case.now.cuts.now) table.now.case.now.depth table.now.case.now.prices.now table.now.case.now.line.now table.now.menus.now }
-    requires values { AreValues table.now.case.now.instance.now table.now.case.now.chamber (plain_cuts table.now.case.now.instance.now table.now.case.now.cuts.now) table.now.case.now.depth table.now.case.now.prices.now table.now.case.now.line.now table.now.horizon values.old }
+    requires successor_lists { AreSuccessorLists (line_asked table.now.case.now) table.now.successor_lists.now }
+    requires values { AreValues (line_asked table.now.case.now) table.now.horizon values.old }
     requires place { state.now.place ≤ length table.now.case.now.line.now }
     requires minute { state.now.minute ≤ 14000000 }
-    ensures values { IfOk result (λ _. AreValues table.now.case.now.instance.now table.now.case.now.chamber (plain_cuts table.now.case.now.instance.now table.now.case.now.cuts.now) table.now.case.now.depth table.now.case.now.prices.now table.now.case.now.line.now table.now.horizon values.new) }
-    ensures value { IfOk result (IsValue table.now.case.now.instance.now table.now.case.now.chamber (plain_cuts table.now.case.now.instance.now table.now.case.now.cuts.now) table.now.case.now.depth table.now.case.now.prices.now table.now.case.now.line.now table.now.horizon state.now.place state.now.stand state.now.minute) }
+    ensures values { IfOk result (λ _. AreValues (line_asked table.now.case.now) table.now.horizon values.new) }
+    ensures value { IfOk result (IsValueOf (line_asked table.now.case.now) table.now.horizon state.now) }
 {
     match known(table, values, *state) {
         Some(value) => Ok(value),

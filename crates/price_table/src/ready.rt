@@ -1,7 +1,7 @@
 //! When a chamber may be ready for a group of each way.
 ghost use Rattle.std.specs.Prelude.{◌≡◌, ◌≤◌, max};
 ghost use Rattle.lock_rules.specs.Timetable.{first_free};
-ghost use Rattle.price_table.specs.Values.{IsReady, minute_for};
+ghost use Rattle.price_table.specs.Values.{minute_for, IsReady};
 
 use crate::state::State;
 use chamber_times::{first_free, ready};
@@ -23,14 +23,14 @@ impl Ready {
     pub(crate) fn new(case: &LineCase, state: State) -> Ready
         requires { state.minute ≤ 14000000 }
         ensures same { result.state ≡ state }
-        ensures is { IsReady case.now.instance.now case.now.chamber result }
+        ensures is { IsReady case.now.instance.now case.now.index result }
     {
-        let lock = case.lock;
+        let chamber = case.chamber;
         Ready {
             state,
-            up: ready(lock, state.stand, state.minute, Way::Up),
-            down: ready(lock, state.stand, state.minute, Way::Down),
-            always_open: lock.closures.as_slice().is_empty(),
+            up: ready(chamber, state.stand, state.minute, Way::Up),
+            down: ready(chamber, state.stand, state.minute, Way::Down),
+            always_open: chamber.closures.as_slice().is_empty(),
         }
     }
 
@@ -48,16 +48,16 @@ impl Ready {
     #[inline(always)]
     // The first minute from another one on from which the chamber is open for so long.
     pub(crate) fn first_free(&self, case: &LineCase, long: u64, from: u64) -> u64
-        requires is { IsReady case.now.instance.now case.now.chamber self.now }
+        requires is { IsReady case.now.instance.now case.now.index self.now }
         requires long { long ≤ 9000000 }
         requires from { from ≤ 20000000 }
-        ensures value { result ≡ first_free case.now.lock.now.closures long from }
+        ensures value { result ≡ first_free case.now.chamber.now.closures long from }
         ensures small { result ≤ max from 1000000 }
     {
         if self.always_open {
             from
         } else {
-            first_free(&case.lock.closures, long, from)
+            first_free(&case.chamber.closures, long, from)
         }
     }
 }

@@ -22,7 +22,7 @@ pub(crate) struct Route {
 /// What a choice of a route comes to no less than, by what is counted, where it ends no sooner and is
 /// worth no less, in hundredths of a minute.
 #[derive(Clone, Copy)]
-pub(crate) struct Bar {
+pub(crate) struct Threshold {
     pub(crate) end: u64,
     pub(crate) worth: i64,
 }
@@ -53,19 +53,19 @@ impl Route {
         choice.group.way == self.way && choice.joins == self.joins
     }
 
-    // The bar before any choice is counted: missing ships alone that gain nothing are left out.
-    pub(crate) fn first_bar(&self) -> Bar
+    // The threshold before any choice is counted: missing ships alone that gain nothing are left out.
+    pub(crate) fn first_threshold(&self) -> Threshold
         ensures low { neg_ℤ (pos 2000000000000000) ≤ℤ result.worth }
         ensures high { result.worth ≤ℤ pos 2000000000000000 }
         ensures gainless { (w : ℤ) → result.worth ≤ℤ w → w ≤ℤ pos 30000000000 → (self.now.joins ≡ None) × (pos 0 ≤ℤ w) }
     {
         let worth = if self.joins.is_none() { 0 } else { MOST_WORTH };
-        Bar { end: 0, worth }
+        Threshold { end: 0, worth }
     }
 
     #[inline(always)]
-    // The bar once a choice that ends at this minute is counted, behind which the least is a value.
-    pub(crate) fn bar(&self, end: u64, best: i64, value: i64) -> Bar
+    // The threshold once a choice that ends at this minute is counted, behind which the least is a value.
+    pub(crate) fn threshold(&self, end: u64, best: i64, value: i64) -> Threshold
         requires best_low { neg_ℤ (pos 1000000000000000) ≤ℤ best }
         requires best_high { best ≤ℤ pos 1000000000000000 }
         requires value_low { neg_ℤ (pos 1000000000000000) ≤ℤ value }
@@ -77,14 +77,14 @@ impl Route {
     {
         let gap = best - value;
         if self.joins.is_none() && gap > 0 {
-            Bar { end, worth: 0 }
+            Threshold { end, worth: 0 }
         } else {
-            Bar { end, worth: gap }
+            Threshold { end, worth: gap }
         }
     }
 }
 
-impl Bar {
+impl Threshold {
     #[inline(always)]
     // Whether a choice that ends at this minute and is worth so much ends no sooner and is worth no less.
     pub(crate) fn is_reached(&self, end: u64, worth: i64) -> bool

@@ -1,10 +1,11 @@
 //! What a choice is worth that comes next, and what a line's own groups are worth alone.
-ghost use Rattle.std.specs.Prelude.{◌≡◌, ◌+◌, ◌*◌, ◌<◌, ◌≤◌, ◌≤ℤ◌, ◌-ℤ◌, neg_ℤ, pos, true, length, drop, All, max, ◌+ℤ◌, IsTrue, None};
+ghost use Rattle.std.specs.Prelude.{◌≡◌, ◌+◌, ◌*◌, ◌<◌, ◌≤◌, ◌≤ℤ◌, ◌-ℤ◌, neg_ℤ, pos, true, length, All, max, ◌+ℤ◌, IsTrue, None};
 ghost use Rattle.std.specs.Int.{int_min};
-ghost use Rattle.price_groups.specs.Worth.{end_after, worth_of, worth_from, IsKeptGroup};
-ghost use Rattle.price_choices.specs.Choosing.{IsChoice};
-ghost use Rattle.price_table.specs.Values.{IsReady, minute_for};
-ghost use Rattle.price_terms.specs.Cuts.{plain_cuts};
+ghost use Rattle.price_groups.specs.Asked.{line_asked};
+ghost use Rattle.price_groups.specs.Asks.{line_worth};
+ghost use Rattle.price_groups.specs.Worth.{IsKeptGroup};
+ghost use Rattle.price_choices.specs.Choices.{IsChoice};
+ghost use Rattle.price_table.specs.Values.{minute_for, IsReady, end_next, worth_next, worth_alone};
 
 use crate::ready::Ready;
 use crate::state::State;
@@ -52,11 +53,11 @@ fn ended(choice: &Choice, end: u64) -> Served
 /// Serves a choice next.
 #[inline(always)]
 pub(crate) fn serve(case: &LineCase, ready: &Ready, choice: &Choice) -> Served
-    requires is { IsChoice case.now.instance.now case.now.chamber (plain_cuts case.now.instance.now case.now.cuts.now) case.now.depth case.now.prices.now case.now.line.now choice.now }
-    requires ready { IsReady case.now.instance.now case.now.chamber ready.now }
+    requires is { IsChoice (line_asked case.now) choice.now }
+    requires ready { IsReady case.now.instance.now case.now.index ready.now }
     requires minute { ready.now.state.minute ≤ 14000000 }
-    ensures end { result.end ≡ end_after case.now.instance.now case.now.chamber ready.now.state.stand ready.now.state.minute choice.now.group }
-    ensures worth { result.worth ≡ worth_of case.now.instance.now case.now.chamber case.now.depth case.now.prices.now ready.now.state.stand ready.now.state.minute choice.now.group }
+    ensures end { result.end ≡ end_next (line_asked case.now) ready.now.state choice.now.group }
+    ensures worth { result.worth ≡ worth_next (line_asked case.now) ready.now.state choice.now.group }
     ensures small { result.end ≤ max ready.now.state.minute 1000000 + 12000000 }
     ensures low { neg_ℤ (pos 808000000) ≤ℤ result.worth }
     ensures high { result.worth ≤ℤ pos 30000000000 }
@@ -69,13 +70,13 @@ pub(crate) fn serve(case: &LineCase, ready: &Ready, choice: &Choice) -> Served
 /// Serves a choice next in a chamber without closures that may be ready for it at a minute.
 #[inline(always)]
 pub(crate) fn serve_open(case: &LineCase, ready: &Ready, minute: u64, choice: &Choice) -> Served
-    requires is { IsChoice case.now.instance.now case.now.chamber (plain_cuts case.now.instance.now case.now.cuts.now) case.now.depth case.now.prices.now case.now.line.now choice.now }
-    requires ready { IsReady case.now.instance.now case.now.chamber ready.now }
+    requires is { IsChoice (line_asked case.now) choice.now }
+    requires ready { IsReady case.now.instance.now case.now.index ready.now }
     requires minute { ready.now.state.minute ≤ 14000000 }
     requires open { ready.now.always_open ≡ true }
     requires first { minute ≡ minute_for ready.now choice.now.group.way }
-    ensures end { result.end ≡ end_after case.now.instance.now case.now.chamber ready.now.state.stand ready.now.state.minute choice.now.group }
-    ensures worth { result.worth ≡ worth_of case.now.instance.now case.now.chamber case.now.depth case.now.prices.now ready.now.state.stand ready.now.state.minute choice.now.group }
+    ensures end { result.end ≡ end_next (line_asked case.now) ready.now.state choice.now.group }
+    ensures worth { result.worth ≡ worth_next (line_asked case.now) ready.now.state choice.now.group }
     ensures small { result.end ≤ max ready.now.state.minute 1000000 + 12000000 }
     ensures low { neg_ℤ (pos 808000000) ≤ℤ result.worth }
     ensures high { result.worth ≤ℤ pos 30000000000 }
@@ -90,7 +91,7 @@ fn alone_on(case: &LineCase, state: &State, line: &[Group]) -> i64
     requires ships_in { All (λ g. All (λ s. s < length case.now.instance.now.ships) g.ships) line.now }
     requires few { length line.now ≤ SHIPS }
     requires minute { state.now.minute ≤ 14000000 }
-    ensures value { result ≡ worth_from case.now.instance.now case.now.chamber case.now.depth case.now.prices.now state.now.stand state.now.minute line.now }
+    ensures value { result ≡ line_worth (line_asked case.now) state.now.stand state.now.minute line.now }
     ensures low { pos 0 ≤ℤ result }
     ensures high { result ≤ℤ pos 6000000000000 }
 {
@@ -98,7 +99,7 @@ fn alone_on(case: &LineCase, state: &State, line: &[Group]) -> i64
     let mut minute = state.minute;
     let mut flow = 0;
     for group in line {
-        let (_, end) = group_times(case.instance, case.chamber, stand, minute, group);
+        let (_, end) = group_times(case.instance, case.index, stand, minute, group);
         flow += flow_until(case.instance, &group.ships, end);
         stand = stand_after(group.way);
         minute = end;
@@ -110,7 +111,7 @@ fn alone_on(case: &LineCase, state: &State, line: &[Group]) -> i64
 pub(crate) fn alone(case: &LineCase, state: State) -> i64
     requires place { state.place ≤ length case.now.line.now }
     requires minute { state.minute ≤ 14000000 }
-    ensures value { result ≡ worth_from case.now.instance.now case.now.chamber case.now.depth case.now.prices.now state.stand state.minute (drop state.place case.now.line.now) }
+    ensures value { result ≡ worth_alone (line_asked case.now) state }
     ensures low { pos 0 ≤ℤ result }
     ensures high { result ≤ℤ pos 6000000000000 }
 {

@@ -1,6 +1,6 @@
 //! The states of a chamber on its line.
 ghost use Rattle.std.specs.Prelude.{◌≡◌, ◌+◌, ◌*◌, ◌<◌, ◌≤◌};
-ghost use Rattle.price_table.specs.Values.{key_of, side_of};
+ghost use Rattle.price_table.specs.Values.{side_of, state_key};
 
 use lock_model::{SHIPS_AND_ROOT, Stand};
 
@@ -31,7 +31,7 @@ impl State {
         requires few { places ≤ SHIPS_AND_ROOT }
         requires place { self.now.place < places }
         requires minute { self.now.minute ≤ 14000000 }
-        ensures { result ≡ key_of places self.now.place self.now.stand self.now.minute }
+        ensures { result ≡ state_key places self.now }
     {
         (self.minute * places + self.place as u64) * 2 + side(self.stand)
     }

@@ -1,13 +1,13 @@
 //! What a chamber's table is worked out from.
 ghost use Rattle.std.specs.Prelude.{◌≡◌, ◌+◌, ◌≤◌, length, All};
 ghost use Rattle.price_rules.specs.Prices.{IsUncut};
-ghost use Rattle.price_choices.specs.Choosing.{list_of};
-ghost use Rattle.price_choices.specs.declared.menu.Menu.{Menu as AnyMenu};
-ghost use Rattle.price_groups.specs.Worth.{IsHorizon};
 ghost use Rattle.price_terms.specs.Cuts.{plain_cuts};
+ghost use Rattle.price_groups.specs.Worth.{IsHorizon};
+ghost use Rattle.price_choices.specs.Successors.{list_of};
+ghost use Rattle.price_choices.specs.declared.successors.Successors.{Successors as AnySuccessors};
 
 use crate::state::State;
-use price_choices::{Choice, Menu};
+use price_choices::{Choice, Successors};
 use price_groups::LineCase;
 
 /// A case whose line's own groups are uncut, what may come next at each place, and a minute from which
@@ -16,22 +16,22 @@ use price_groups::LineCase;
 pub(crate) struct Table<'a> {
     pub(crate) case: &'a LineCase<'a>,
     /// For each place of the line what may come next there.
-    pub(crate) menus: &'a [Menu],
+    pub(crate) successor_lists: &'a [Successors],
     pub(crate) horizon: u64,
     /// How many turns the value of a state may take.
     pub(crate) turns: u64,
-    pub(crate) ghost uncut: { All (IsUncut case.now.instance.now case.now.chamber (plain_cuts case.now.instance.now case.now.cuts.now)) case.now.line.now },
+    pub(crate) ghost uncut: { All (IsUncut case.now.instance.now case.now.index (plain_cuts case.now.instance.now case.now.cuts.now)) case.now.line.now },
     pub(crate) ghost late: { IsHorizon case.now.instance.now case.now.depth case.now.prices.now horizon },
     pub(crate) ghost small: { horizon ≤ 1010000 },
-    pub(crate) ghost whole: { length menus.now ≡ length case.now.line.now + 1 },
+    pub(crate) ghost whole: { length successor_lists.now ≡ length case.now.line.now + 1 },
 }
 
 impl Table<'_> {
     // The choices that are looked at in a state.
     pub(crate) fn list(&self, state: &State) -> &[Choice]
         requires { state.now.place ≤ length self.now.case.now.line.now }
-        ensures { (e : AnyMenu) → result.now ≡ list_of self.now.menus.now e state.now.place state.now.minute }
+        ensures { (e : AnySuccessors) → result.now ≡ list_of self.now.successor_lists.now e state.now.place state.now.minute }
     {
-        self.menus[state.place as usize].list(state.minute)
+        self.successor_lists[state.place as usize].list(state.minute)
     }
 }

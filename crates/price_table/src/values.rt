@@ -1,6 +1,6 @@
 //! Values that are remembered for states.
 ghost use Rattle.std.specs.Prelude.{◌≡◌, ◌+◌, ◌<◌, ◌≤◌, length, IfSome, IfOk, OnOk};
-ghost use Rattle.price_table.specs.Values.{key_of, AreEmpty, IsRemembered, Remembers};
+ghost use Rattle.price_table.specs.Values.{IsRemembered, AreEmpty, Remembers, state_key};
 
 use crate::state::State;
 use lock_model::SHIPS_AND_ROOT;
@@ -63,7 +63,7 @@ impl Values {
         requires few { self.now.places ≤ SHIPS_AND_ROOT }
         requires place { state.now.place < self.now.places }
         requires minute { state.now.minute ≤ 14000000 }
-        ensures { IfSome result (IsRemembered self.now (key_of self.now.places state.now.place state.now.stand state.now.minute)) }
+        ensures { IfSome result (IsRemembered self.now (state_key self.now.places state.now)) }
     {
         let key = state.key(self.places);
         match self.place(key) {
@@ -78,7 +78,7 @@ impl Values {
         requires few { self.now.places ≤ SHIPS_AND_ROOT }
         requires place { state.now.place < self.now.places }
         requires minute { state.now.minute ≤ 14000000 }
-        ensures { IfSome result (IsRemembered self.now (key_of self.now.places state.now.place state.now.stand state.now.minute)) }
+        ensures { IfSome result (IsRemembered self.now (state_key self.now.places state.now)) }
     {
         let place = self.place(state.key(self.places))?;
         self.row[place]
@@ -89,7 +89,7 @@ impl Values {
         requires few { self.old.places ≤ SHIPS_AND_ROOT }
         requires place { state.now.place < self.old.places }
         requires minute { state.now.minute ≤ 14000000 }
-        ensures { OnOk result (Remembers self.old self.new (key_of self.old.places state.now.place state.now.stand state.now.minute) value) }
+        ensures { OnOk result (Remembers self.old self.new (state_key self.old.places state.now) value) }
     {
         let key = state.key(self.places);
         match self.place(key) {

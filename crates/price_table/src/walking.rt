@@ -1,11 +1,10 @@
 //! A loose line of the least worth, found group by group.
-ghost use Rattle.std.specs.Prelude.{◌≡◌, ◌+◌, ◌<◌, ◌≤◌, ◌≤ℤ◌, ◌<ℤ◌, ◌+ℤ◌, pos, neg_ℤ, false, [], ◌++◌, length, drop, IfOk, IfSome, IfNone, OnOk, IsTrue};
-ghost use Rattle.price_groups.specs.Worth.{worth_from};
-ghost use Rattle.price_choices.specs.Choosing.{AreMenus, IsChoice, IsCounted, Leads};
-ghost use Rattle.price_table.specs.Values.{IsValue};
-ghost use Rattle.price_table.specs.Values.{AreValues};
-ghost use Rattle.price_table.specs.Lines.{IsNext, IsBegun, IsLineWorth};
-ghost use Rattle.price_terms.specs.Cuts.{plain_cuts};
+ghost use Rattle.std.specs.Prelude.{◌≡◌, ◌+◌, ◌<◌, ◌≤◌, ◌≤ℤ◌, ◌<ℤ◌, ◌+ℤ◌, pos, neg_ℤ, false, [], ◌++◌, length, IfOk, IfSome, IfNone, OnOk, IsTrue};
+ghost use Rattle.price_groups.specs.Asked.{line_asked};
+ghost use Rattle.price_choices.specs.Choices.{IsChoice, Leads};
+ghost use Rattle.price_choices.specs.Successors.{AreSuccessorLists};
+ghost use Rattle.price_table.specs.Lines.{IsLineWorth, IsBegun, IsNext};
+ghost use Rattle.price_table.specs.Values.{AreValues, IsValueOf, IsCountedIn, worth_alone};
 
 use crate::least::value_of;
 use crate::next_group::{NextGroup, ValuedState};
@@ -42,17 +41,17 @@ fn next_to(
     choice: &Choice,
     place: u8,
 ) -> Result<Option<NextGroup>, PriceError>
-    requires menus { AreMenus table.now.case.now.instance.now table.now.case.now.chamber (plain_cuts table.now.case.now.instance.now table.now.case.now.cuts.now) table.now.case.now.depth table.now.case.now.prices.now table.now.case.now.line.now table.now.menus.now }
-    requires values { AreValues table.now.case.now.instance.now table.now.case.now.chamber (plain_cuts table.now.case.now.instance.now table.now.case.now.cuts.now) table.now.case.now.depth table.now.case.now.prices.now table.now.case.now.line.now table.now.horizon values.old }
+    requires successor_lists { AreSuccessorLists (line_asked table.now.case.now) table.now.successor_lists.now }
+    requires values { AreValues (line_asked table.now.case.now) table.now.horizon values.old }
     requires place { from.now.state.place ≤ length table.now.case.now.line.now }
     requires early { from.now.state.minute < table.now.horizon }
-    requires value { IsValue table.now.case.now.instance.now table.now.case.now.chamber (plain_cuts table.now.case.now.instance.now table.now.case.now.cuts.now) table.now.case.now.depth table.now.case.now.prices.now table.now.case.now.line.now table.now.horizon from.now.state.place from.now.state.stand from.now.state.minute from.now.value }
-    requires is { IsChoice table.now.case.now.instance.now table.now.case.now.chamber (plain_cuts table.now.case.now.instance.now table.now.case.now.cuts.now) table.now.case.now.depth table.now.case.now.prices.now table.now.case.now.line.now choice.now }
+    requires value { IsValueOf (line_asked table.now.case.now) table.now.horizon from.now.state from.now.value }
+    requires is { IsChoice (line_asked table.now.case.now) choice.now }
     requires leads { Leads choice.now.joins from.now.state.place place }
     requires within { place ≤ length table.now.case.now.line.now }
-    ensures values { IfOk result (λ _. AreValues table.now.case.now.instance.now table.now.case.now.chamber (plain_cuts table.now.case.now.instance.now table.now.case.now.cuts.now) table.now.case.now.depth table.now.case.now.prices.now table.now.case.now.line.now table.now.horizon values.new) }
-    ensures some { IfOk result (λ next. IfSome next (IsNext table.now.case.now.instance.now table.now.case.now.chamber (plain_cuts table.now.case.now.instance.now table.now.case.now.cuts.now) table.now.case.now.depth table.now.case.now.prices.now table.now.case.now.line.now table.now.horizon from.now)) }
-    ensures none { IfOk result (λ next. IfNone next (IsCounted table.now.case.now.instance.now table.now.case.now.chamber (plain_cuts table.now.case.now.instance.now table.now.case.now.cuts.now) table.now.case.now.depth table.now.case.now.prices.now table.now.case.now.line.now from.now.state.stand from.now.state.minute from.now.state.place (from.now.value +ℤ pos 1) choice.now)) }
+    ensures values { IfOk result (λ _. AreValues (line_asked table.now.case.now) table.now.horizon values.new) }
+    ensures some { IfOk result (λ next. IfSome next (IsNext (line_asked table.now.case.now) table.now.horizon from.now)) }
+    ensures none { IfOk result (λ next. IfNone next (IsCountedIn (line_asked table.now.case.now) from.now.state (from.now.value +ℤ pos 1) choice.now)) }
 {
     let ready = Ready::new(table.case, from.state);
     let served = serve(table.case, &ready, choice);
@@ -82,15 +81,15 @@ fn next_by(
     from: &ValuedState,
     choice: &Choice,
 ) -> Result<Option<NextGroup>, PriceError>
-    requires menus { AreMenus table.now.case.now.instance.now table.now.case.now.chamber (plain_cuts table.now.case.now.instance.now table.now.case.now.cuts.now) table.now.case.now.depth table.now.case.now.prices.now table.now.case.now.line.now table.now.menus.now }
-    requires values { AreValues table.now.case.now.instance.now table.now.case.now.chamber (plain_cuts table.now.case.now.instance.now table.now.case.now.cuts.now) table.now.case.now.depth table.now.case.now.prices.now table.now.case.now.line.now table.now.horizon values.old }
+    requires successor_lists { AreSuccessorLists (line_asked table.now.case.now) table.now.successor_lists.now }
+    requires values { AreValues (line_asked table.now.case.now) table.now.horizon values.old }
     requires place { from.now.state.place ≤ length table.now.case.now.line.now }
     requires early { from.now.state.minute < table.now.horizon }
-    requires value { IsValue table.now.case.now.instance.now table.now.case.now.chamber (plain_cuts table.now.case.now.instance.now table.now.case.now.cuts.now) table.now.case.now.depth table.now.case.now.prices.now table.now.case.now.line.now table.now.horizon from.now.state.place from.now.state.stand from.now.state.minute from.now.value }
-    requires is { IsChoice table.now.case.now.instance.now table.now.case.now.chamber (plain_cuts table.now.case.now.instance.now table.now.case.now.cuts.now) table.now.case.now.depth table.now.case.now.prices.now table.now.case.now.line.now choice.now }
-    ensures values { IfOk result (λ _. AreValues table.now.case.now.instance.now table.now.case.now.chamber (plain_cuts table.now.case.now.instance.now table.now.case.now.cuts.now) table.now.case.now.depth table.now.case.now.prices.now table.now.case.now.line.now table.now.horizon values.new) }
-    ensures some { IfOk result (λ next. IfSome next (IsNext table.now.case.now.instance.now table.now.case.now.chamber (plain_cuts table.now.case.now.instance.now table.now.case.now.cuts.now) table.now.case.now.depth table.now.case.now.prices.now table.now.case.now.line.now table.now.horizon from.now)) }
-    ensures none { IfOk result (λ next. IfNone next (IsCounted table.now.case.now.instance.now table.now.case.now.chamber (plain_cuts table.now.case.now.instance.now table.now.case.now.cuts.now) table.now.case.now.depth table.now.case.now.prices.now table.now.case.now.line.now from.now.state.stand from.now.state.minute from.now.state.place (from.now.value +ℤ pos 1) choice.now)) }
+    requires value { IsValueOf (line_asked table.now.case.now) table.now.horizon from.now.state from.now.value }
+    requires is { IsChoice (line_asked table.now.case.now) choice.now }
+    ensures values { IfOk result (λ _. AreValues (line_asked table.now.case.now) table.now.horizon values.new) }
+    ensures some { IfOk result (λ next. IfSome next (IsNext (line_asked table.now.case.now) table.now.horizon from.now)) }
+    ensures none { IfOk result (λ next. IfNone next (IsCountedIn (line_asked table.now.case.now) from.now.state (from.now.value +ℤ pos 1) choice.now)) }
 {
     match led(choice, from.state.place) {
         None => Ok(None),
@@ -106,14 +105,14 @@ fn next_choice(
     values: &mut Values,
     from: &ValuedState,
 ) -> Result<Option<NextGroup>, PriceError>
-    requires menus { AreMenus table.now.case.now.instance.now table.now.case.now.chamber (plain_cuts table.now.case.now.instance.now table.now.case.now.cuts.now) table.now.case.now.depth table.now.case.now.prices.now table.now.case.now.line.now table.now.menus.now }
-    requires values { AreValues table.now.case.now.instance.now table.now.case.now.chamber (plain_cuts table.now.case.now.instance.now table.now.case.now.cuts.now) table.now.case.now.depth table.now.case.now.prices.now table.now.case.now.line.now table.now.horizon values.old }
+    requires successor_lists { AreSuccessorLists (line_asked table.now.case.now) table.now.successor_lists.now }
+    requires values { AreValues (line_asked table.now.case.now) table.now.horizon values.old }
     requires place { from.now.state.place ≤ length table.now.case.now.line.now }
     requires early { from.now.state.minute < table.now.horizon }
-    requires value { IsValue table.now.case.now.instance.now table.now.case.now.chamber (plain_cuts table.now.case.now.instance.now table.now.case.now.cuts.now) table.now.case.now.depth table.now.case.now.prices.now table.now.case.now.line.now table.now.horizon from.now.state.place from.now.state.stand from.now.state.minute from.now.value }
-    ensures values { IfOk result (λ _. AreValues table.now.case.now.instance.now table.now.case.now.chamber (plain_cuts table.now.case.now.instance.now table.now.case.now.cuts.now) table.now.case.now.depth table.now.case.now.prices.now table.now.case.now.line.now table.now.horizon values.new) }
-    ensures some { IfOk result (λ next. IfSome next (IsNext table.now.case.now.instance.now table.now.case.now.chamber (plain_cuts table.now.case.now.instance.now table.now.case.now.cuts.now) table.now.case.now.depth table.now.case.now.prices.now table.now.case.now.line.now table.now.horizon from.now)) }
-    ensures none { IfOk result (λ next. IfNone next (worth_from table.now.case.now.instance.now table.now.case.now.chamber table.now.case.now.depth table.now.case.now.prices.now from.now.state.stand from.now.state.minute (drop from.now.state.place table.now.case.now.line.now) ≡ from.now.value)) }
+    requires value { IsValueOf (line_asked table.now.case.now) table.now.horizon from.now.state from.now.value }
+    ensures values { IfOk result (λ _. AreValues (line_asked table.now.case.now) table.now.horizon values.new) }
+    ensures some { IfOk result (λ next. IfSome next (IsNext (line_asked table.now.case.now) table.now.horizon from.now)) }
+    ensures none { IfOk result (λ next. IfNone next (worth_alone (line_asked table.now.case.now) from.now.state ≡ from.now.value)) }
 {
     if alone(table.case, from.state) <= from.value {
         return Ok(None);
@@ -135,14 +134,14 @@ fn next_group(
     values: &mut Values,
     from: &ValuedState,
 ) -> Result<Option<NextGroup>, PriceError>
-    requires menus { AreMenus table.now.case.now.instance.now table.now.case.now.chamber (plain_cuts table.now.case.now.instance.now table.now.case.now.cuts.now) table.now.case.now.depth table.now.case.now.prices.now table.now.case.now.line.now table.now.menus.now }
-    requires values { AreValues table.now.case.now.instance.now table.now.case.now.chamber (plain_cuts table.now.case.now.instance.now table.now.case.now.cuts.now) table.now.case.now.depth table.now.case.now.prices.now table.now.case.now.line.now table.now.horizon values.old }
+    requires successor_lists { AreSuccessorLists (line_asked table.now.case.now) table.now.successor_lists.now }
+    requires values { AreValues (line_asked table.now.case.now) table.now.horizon values.old }
     requires place { from.now.state.place ≤ length table.now.case.now.line.now }
     requires minute { from.now.state.minute ≤ 14000000 }
-    requires value { IsValue table.now.case.now.instance.now table.now.case.now.chamber (plain_cuts table.now.case.now.instance.now table.now.case.now.cuts.now) table.now.case.now.depth table.now.case.now.prices.now table.now.case.now.line.now table.now.horizon from.now.state.place from.now.state.stand from.now.state.minute from.now.value }
-    ensures values { IfOk result (λ _. AreValues table.now.case.now.instance.now table.now.case.now.chamber (plain_cuts table.now.case.now.instance.now table.now.case.now.cuts.now) table.now.case.now.depth table.now.case.now.prices.now table.now.case.now.line.now table.now.horizon values.new) }
-    ensures some { IfOk result (λ next. IfSome next (IsNext table.now.case.now.instance.now table.now.case.now.chamber (plain_cuts table.now.case.now.instance.now table.now.case.now.cuts.now) table.now.case.now.depth table.now.case.now.prices.now table.now.case.now.line.now table.now.horizon from.now)) }
-    ensures none { IfOk result (λ next. IfNone next (worth_from table.now.case.now.instance.now table.now.case.now.chamber table.now.case.now.depth table.now.case.now.prices.now from.now.state.stand from.now.state.minute (drop from.now.state.place table.now.case.now.line.now) ≡ from.now.value)) }
+    requires value { IsValueOf (line_asked table.now.case.now) table.now.horizon from.now.state from.now.value }
+    ensures values { IfOk result (λ _. AreValues (line_asked table.now.case.now) table.now.horizon values.new) }
+    ensures some { IfOk result (λ next. IfSome next (IsNext (line_asked table.now.case.now) table.now.horizon from.now)) }
+    ensures none { IfOk result (λ next. IfNone next (worth_alone (line_asked table.now.case.now) from.now.state ≡ from.now.value)) }
 {
     if from.state.minute >= table.horizon {
         return Ok(None);
@@ -167,13 +166,13 @@ pub(crate) fn walked(
     values: &mut Values,
     first: ValuedState,
 ) -> Result<Vec<Group>, PriceError>
-    requires menus { AreMenus table.now.case.now.instance.now table.now.case.now.chamber (plain_cuts table.now.case.now.instance.now table.now.case.now.cuts.now) table.now.case.now.depth table.now.case.now.prices.now table.now.case.now.line.now table.now.menus.now }
-    requires values { AreValues table.now.case.now.instance.now table.now.case.now.chamber (plain_cuts table.now.case.now.instance.now table.now.case.now.cuts.now) table.now.case.now.depth table.now.case.now.prices.now table.now.case.now.line.now table.now.horizon values.old }
+    requires successor_lists { AreSuccessorLists (line_asked table.now.case.now) table.now.successor_lists.now }
+    requires values { AreValues (line_asked table.now.case.now) table.now.horizon values.old }
     requires place { first.state.place ≤ length table.now.case.now.line.now }
     requires minute { first.state.minute ≤ 14000000 }
-    requires value { IsValue table.now.case.now.instance.now table.now.case.now.chamber (plain_cuts table.now.case.now.instance.now table.now.case.now.cuts.now) table.now.case.now.depth table.now.case.now.prices.now table.now.case.now.line.now table.now.horizon first.state.place first.state.stand first.state.minute first.value }
-    requires begun { IsBegun table.now.case.now.instance.now table.now.case.now.chamber (plain_cuts table.now.case.now.instance.now table.now.case.now.cuts.now) table.now.case.now.depth table.now.case.now.prices.now table.now.case.now.line.now [] first first.value }
-    ensures { IfOk result (λ groups. IsLineWorth table.now.case.now.instance.now table.now.case.now.chamber (plain_cuts table.now.case.now.instance.now table.now.case.now.cuts.now) table.now.case.now.depth table.now.case.now.prices.now table.now.case.now.line.now groups.items first.value) }
+    requires value { IsValueOf (line_asked table.now.case.now) table.now.horizon first.state first.value }
+    requires begun { IsBegun (line_asked table.now.case.now) [] first first.value }
+    ensures { IfOk result (λ groups. IsLineWorth (line_asked table.now.case.now) groups.items first.value) }
 {
     let mut groups = Vec::new(alloc);
     let total = first.value;

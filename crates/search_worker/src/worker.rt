@@ -1,5 +1,6 @@
 //! A worker.
 ghost use Rattle.std.specs.Prelude.{◌≡◌, ◌<◌, ◌≤◌, []};
+ghost use Rattle.lock_model.specs.declared.limits.TheConstants.{WORKERS};
 
 use crate::hands::Hands;
 use crate::trail::Trail;

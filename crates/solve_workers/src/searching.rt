@@ -1,5 +1,6 @@
 //! The search of a book by workers.
 ghost use Rattle.std.specs.Prelude.{◌≡◌, ◌+◌, ◌≤◌, vec_len, vec_capacity, IfOk, IfSome};
+ghost use Rattle.lock_model.specs.declared.limits.TheConstants.{WORKERS};
 ghost use Rattle.boxcar.specs.Table.{Shows};
 
 use crate::crew::{deal, gather};

@@ -1,5 +1,5 @@
 use Rattle.std.proofs.Common.{◌≡◌, ℕ, ◌<◌, length, sym, ap, ◌∙◌, subst, arith, slice_index_or}
-use Rattle.price_bound.specs.Stock.{AreSpared}
+use Rattle.price_bound.specs.KeptGroups.{AreSpared}
 use Rattle.price_bound.proofs.SparedLemmas.{spared-first, spared-next}
 use Rattle.price_bound.proofs.kept_groups.spared_list.Goals as goal
 

@@ -1,4 +1,4 @@
-use Rattle.price_bound.specs.Stock.{AreSpared}
+use Rattle.price_bound.specs.KeptGroups.{AreSpared}
 use Rattle.price_bound.proofs.kept_groups.spared_list.Given as goal
 
 abbrev pub invariant-loop-one : goal.invariant-loop-one

@@ -1,5 +1,5 @@
 use Rattle.std.proofs.Common.{◌≡◌, ◌+◌, [], ◌∷◌, ◌++◌, length, sym, subst, arith}
-use Rattle.price_bound.specs.Stock.{AreSparedLists}
+use Rattle.price_bound.specs.KeptGroups.{AreSparedLists}
 use Rattle.price_bound.proofs.SparedLemmas.{lists-first, lists-next}
 use Rattle.price_bound.proofs.kept_groups.spared_lists.Goals as goal
 

@@ -1,4 +1,4 @@
-use Rattle.price_bound.specs.Stock.{AreSparedLists}
+use Rattle.price_bound.specs.KeptGroups.{AreSparedLists}
 use Rattle.price_bound.proofs.kept_groups.spared_lists.Given as goal
 
 abbrev pub invariant-loop-list : goal.invariant-loop-list

@@ -1,9 +1,11 @@
 use Rattle.std.proofs.Common.{◌≡◌, ◌+◌, ◌<◌, suc, length, inl, inr, sym, ap, ◌∙◌, subst, arith, slice_index_or}
 use Rattle.price_groups.specs.declared.grown_lists.GrownGroup.{GrownGroup}
 use Rattle.price_terms.specs.Cuts.{plain_cuts}
-use Rattle.price_choices.specs.Choosing.{HaveSome, IsVain, PutsGroup}
+use Rattle.price_groups.specs.Asked.{line_asked}
+use Rattle.price_choices.specs.Dominance.{IsGainless}
+use Rattle.price_choices.specs.Enough.{PutsGroup, HaveSome}
 use Rattle.price_choices.proofs.ChoiceLemmas.{grown-uncut, some-skip, some-next, some-vain, some-done}
-use Rattle.price_groups.proofs.StockLemmas.{grown-at}
+use Rattle.price_groups.proofs.GrownListLemmas.{grown-at}
 use Rattle.price_choices.proofs.choosing.add_grown.Goals as goal
 
 pub loop-grown-init : goal.loop-grown-init
@@ -15,35 +17,35 @@ loop-grown-init c = record {
 
 pub add_group-requires-clause-known : goal.add_group-requires-clause-known
 add_group-requires-clause-known c =
-    let case = c.args.growth.now.case.now in
-    let own = grown-at case.instance.now case.chamber case.depth c.args.growth.now.ceilings.now c.args.growth.now.sets.now c.args.list.now c.deref-grown-items.result.now c.loop-grown.grown-index c.grown-item.result c.requires.list c.deref-grown-items.ensures.value c.loop-grown-test.true c.grown-item.is in
+    let case = c.args.extension.now.case.now in
+    let own = grown-at case.instance.now case.index case.depth c.args.extension.now.ceilings.now c.args.extension.now.sets.now c.args.list.now c.deref-grown-items.result.now c.loop-grown.grown-index c.grown-item.result c.requires.list c.deref-grown-items.ensures.value c.loop-grown-test.true c.grown-item.is in
     own.grown.known
 
 pub add_group-requires-clause-sums : goal.add_group-requires-clause-sums
 add_group-requires-clause-sums c =
-    let case = c.args.growth.now.case.now in
-    let own = grown-at case.instance.now case.chamber case.depth c.args.growth.now.ceilings.now c.args.growth.now.sets.now c.args.list.now c.deref-grown-items.result.now c.loop-grown.grown-index c.grown-item.result c.requires.list c.deref-grown-items.ensures.value c.loop-grown-test.true c.grown-item.is in
+    let case = c.args.extension.now.case.now in
+    let own = grown-at case.instance.now case.index case.depth c.args.extension.now.ceilings.now c.args.extension.now.sets.now c.args.list.now c.deref-grown-items.result.now c.loop-grown.grown-index c.grown-item.result c.requires.list c.deref-grown-items.ensures.value c.loop-grown-test.true c.grown-item.is in
     own.sums
 
 pub add_group-requires-clause-uncut : goal.add_group-requires-clause-uncut
 add_group-requires-clause-uncut c = λ some.
-    let case = c.args.growth.now.case.now in
+    let case = c.args.extension.now.case.now in
     let I = case.instance.now in
-    let own = grown-at case.instance.now case.chamber case.depth c.args.growth.now.ceilings.now c.args.growth.now.sets.now c.args.list.now c.deref-grown-items.result.now c.loop-grown.grown-index c.grown-item.result c.requires.list c.deref-grown-items.ensures.value c.loop-grown-test.true c.grown-item.is in
-    grown-uncut I case.depth case.prices.now case.chamber (plain_cuts I case.cuts.now) case.line.now c.args.growth.now.sets.now c.requires.sets c.args.list.now.base (length I.ships) c.grown-item.result.group own.grown some
+    let own = grown-at case.instance.now case.index case.depth c.args.extension.now.ceilings.now c.args.extension.now.sets.now c.args.list.now c.deref-grown-items.result.now c.loop-grown.grown-index c.grown-item.result c.requires.list c.deref-grown-items.ensures.value c.loop-grown-test.true c.grown-item.is in
+    grown-uncut (line_asked case) c.args.extension.now.sets.now c.args.extension.now.forbids c.args.list.now.base (length I.ships) c.grown-item.result.group own.grown some
 
 pub add_group-requires-clause-keeps : goal.add_group-requires-clause-keeps
 add_group-requires-clause-keeps c =
-    let case = c.args.growth.now.case.now in
-    let own = grown-at case.instance.now case.chamber case.depth c.args.growth.now.ceilings.now c.args.growth.now.sets.now c.args.list.now c.deref-grown-items.result.now c.loop-grown.grown-index c.grown-item.result c.requires.list c.deref-grown-items.ensures.value c.loop-grown-test.true c.grown-item.is in
+    let case = c.args.extension.now.case.now in
+    let own = grown-at case.instance.now case.index case.depth c.args.extension.now.ceilings.now c.args.extension.now.sets.now c.args.list.now c.deref-grown-items.result.now c.loop-grown.grown-index c.grown-item.result c.requires.list c.deref-grown-items.ensures.value c.loop-grown-test.true c.grown-item.is in
     c.requires.base.keeps c.grown-item.result.group (record { way = own.grown.way; keeps = own.grown.keeps })
 
 pub loop-grown-preserved : goal.loop-grown-preserved
 loop-grown-preserved c =
-    let case = c.args.growth.now.case.now in
+    let case = c.args.extension.now.case.now in
     let I = case.instance.now in
     let cuts = plain_cuts I case.cuts.now in
-    let sets = c.args.growth.now.sets.now in
+    let sets = c.args.extension.now.sets.now in
     let list = c.args.list.now in
     let groups = list.groups.items in
     let one = c.grown-item.result in
@@ -52,31 +54,31 @@ loop-grown-preserved c =
     let at : one ≡ slice_index_or groups i one = c.grown-item.is ∙ ap (λ gs. slice_index_or gs i one) same in
     let here : i < length groups = omega (arith, c.loop-grown-test.true, ap length same) in
     let up : suc i ≡ i + 1 = omega arith in
-    let puts : PutsGroup I case.chamber cuts case.depth case.prices.now case.line.now c.args.joins one.group c.loop-grown.choices.items c.add_group.new.choices.items = c.in_ok-add_group.ensures in
+    let puts : PutsGroup (line_asked case) c.args.joins one.group c.loop-grown.choices.items c.add_group.new.choices.items = c.in_ok-add_group.ensures in
     let have = c.loop-grown.invariant in
-    let is : HaveSome I case.chamber cuts case.depth case.prices.now case.line.now c.args.joins groups (suc i) c.args.choices.now.items c.add_group.new.choices.items =
+    let is : HaveSome (line_asked case) c.args.joins groups (suc i) c.args.choices.now.items c.add_group.new.choices.items =
     elim puts.puts [
       | inl none ↦
-          subst (HaveSome I case.chamber cuts case.depth case.prices.now case.line.now c.args.joins groups (suc i) c.args.choices.now.items) (sym none.1)
-          (some-skip I case.depth case.prices.now case.chamber cuts case.line.now sets c.requires.sets c.args.joins c.args.growth.now.ceilings.now c.args.growth.now.below list c.requires.list i one c.args.choices.now.items c.loop-grown.choices.items here
+          subst (HaveSome (line_asked case) c.args.joins groups (suc i) c.args.choices.now.items) (sym none.1)
+          (some-skip (line_asked case) sets c.args.extension.now.forbids c.args.joins c.args.extension.now.ceilings.now c.args.extension.now.below list c.requires.list i one c.args.choices.now.items c.loop-grown.choices.items here
           (ap (λ (g : GrownGroup). length g.group.ships) (sym at) ∙ none.0) have)
       | inr (inl put) ↦
-          some-next I case.depth case.prices.now case.chamber cuts case.line.now sets c.requires.sets c.args.joins c.args.growth.now.ceilings.now c.args.growth.now.below list c.requires.list i one c.args.choices.now.items c.loop-grown.choices.items c.add_group.new.choices.items put.0 here put.1
+          some-next (line_asked case) sets c.args.extension.now.forbids c.args.joins c.args.extension.now.ceilings.now c.args.extension.now.below list c.requires.list i one c.args.choices.now.items c.loop-grown.choices.items c.add_group.new.choices.items put.0 here put.1
           (put.2 ∙ ap (λ (g : GrownGroup). g.group) at) have put.3
       | inr (inr vain) ↦
-          subst (HaveSome I case.chamber cuts case.depth case.prices.now case.line.now c.args.joins groups (suc i) c.args.choices.now.items) (sym vain.1)
-          (some-vain I case.depth case.prices.now case.chamber cuts case.line.now sets c.requires.sets c.args.joins c.args.growth.now.ceilings.now c.args.growth.now.below list c.requires.list i one c.args.choices.now.items c.loop-grown.choices.items here
-          (subst (λ (g : GrownGroup). IsVain I case.chamber case.depth case.prices.now 0 c.args.joins g.group) at vain.0) have)
+          subst (HaveSome (line_asked case) c.args.joins groups (suc i) c.args.choices.now.items) (sym vain.1)
+          (some-vain (line_asked case) sets c.args.extension.now.forbids c.args.joins c.args.extension.now.ceilings.now c.args.extension.now.below list c.requires.list i one c.args.choices.now.items c.loop-grown.choices.items here
+          (subst (λ (g : GrownGroup). IsGainless (line_asked case) 0 c.args.joins g.group) at vain.0) have)
     ] in
-    subst (λ i. HaveSome I case.chamber cuts case.depth case.prices.now case.line.now c.args.joins groups i c.args.choices.now.items c.add_group.new.choices.items) up is
+    subst (λ i. HaveSome (line_asked case) c.args.joins groups i c.args.choices.now.items c.add_group.new.choices.items) up is
 
 pub returns : goal.returns
 returns c =
-    let case = c.args.growth.now.case.now in
+    let case = c.args.extension.now.case.now in
     let I = case.instance.now in
     let cuts = plain_cuts I case.cuts.now in
     let list = c.args.list.now in
     let groups = list.groups.items in
     let all : c.loop-grown.grown-index ≡ length groups = omega (arith, c.loop-grown-test.false, c.loop-grown.auto.grown-index-end, ap length c.deref-grown-items.ensures.value) in
-    some-done I case.depth case.prices.now case.chamber cuts case.line.now c.args.growth.now.sets.now c.requires.sets c.args.joins c.args.growth.now.ceilings.now c.args.growth.now.below list c.requires.list case.chamber_in c.args.choices.now.items c.loop-grown.choices.items
-    (subst (λ i. HaveSome I case.chamber cuts case.depth case.prices.now case.line.now c.args.joins groups i c.args.choices.now.items c.loop-grown.choices.items) all c.loop-grown.invariant)
+    some-done (line_asked case) c.args.extension.now.sets.now c.args.extension.now.forbids c.args.joins c.args.extension.now.ceilings.now c.args.extension.now.below list c.requires.list case.chamber_in c.args.choices.now.items c.loop-grown.choices.items
+    (subst (λ i. HaveSome (line_asked case) c.args.joins groups i c.args.choices.now.items c.loop-grown.choices.items) all c.loop-grown.invariant)

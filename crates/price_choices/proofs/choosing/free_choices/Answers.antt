@@ -3,32 +3,35 @@ use Rattle.std.proofs.lemmas.List.Elements.{All-nil}
 use Rattle.lock_model.specs.declared.way.Way.TheVariants.{Up, Down}
 use Rattle.price_groups.specs.declared.grown_lists.GrownList.{GrownList}
 use Rattle.price_terms.specs.Cuts.{plain_cuts}
-use Rattle.price_choices.specs.Choosing.{IsChoice, AreLate, HaveEarly}
+use Rattle.price_groups.specs.Asked.{line_asked, group_asked}
 use Rattle.price_groups.specs.GrownLists.{IsGrownList}
+use Rattle.price_choices.specs.Choices.{IsChoice}
+use Rattle.price_choices.specs.Dominance.{AreLate}
+use Rattle.price_choices.specs.Enough.{HaveEarly}
 use Rattle.price_choices.proofs.ChoiceLemmas.{some-none}
 use Rattle.price_choices.proofs.LateLemmas.{late-none}
 use Rattle.price_choices.proofs.choosing.free_choices.Goals as goal
 
 pub put_grown-requires-clause-list : goal.put_grown-requires-clause-list
 put_grown-requires-clause-list c =
-    let case = c.args.growth.now.case.now in
-    subst (IsGrownList case.instance.now case.chamber case.depth c.args.growth.now.ceilings.now c.args.growth.now.sets.now) (sym c.index.ensures) (c.in_ok-up.ensures.lists c.in_ok-up.up c.index.result.now c.in_ok-up.ensures.place)
+    let case = c.args.extension.now.case.now in
+    subst (IsGrownList (group_asked c.args.extension.now)) (sym c.index.ensures) (c.in_ok-up.ensures.lists c.in_ok-up.up c.index.result.now c.in_ok-up.ensures.place)
 
 pub put_grown-requires-2-clause-list : goal.put_grown-requires-2-clause-list
 put_grown-requires-2-clause-list c =
-    let case = c.args.growth.now.case.now in
-    subst (IsGrownList case.instance.now case.chamber case.depth c.args.growth.now.ceilings.now c.args.growth.now.sets.now) (sym c.index-2.ensures) (c.in_ok-down.ensures.lists c.in_ok-down.down c.index-2.result.now c.in_ok-down.ensures.place)
+    let case = c.args.extension.now.case.now in
+    subst (IsGrownList (group_asked c.args.extension.now)) (sym c.index-2.ensures) (c.in_ok-down.ensures.lists c.in_ok-down.down c.index-2.result.now c.in_ok-down.ensures.place)
 
 pub returns-clause-some : goal.returns-clause-some
 returns-clause-some c =
-    let case = c.args.growth.now.case.now in
+    let case = c.args.extension.now.case.now in
     let I = case.instance.now in
     let cuts = plain_cuts I case.cuts.now in
-    let none = subst (AreLate I case.chamber cuts case.depth case.prices.now case.line.now 0 []) (sym c.new-choices.ensures.items) (late-none I case.chamber cuts case.depth case.prices.now case.line.now 0) in
+    let none = subst (AreLate (line_asked case) 0 []) (sym c.new-choices.ensures.items) (late-none (line_asked case) 0) in
     let first : c.index.result.now.base ≡ record { way = Up; ships = [] } = ap (λ (l : GrownList). l.base) c.index.ensures ∙ c.in_ok-up.ensures.base c.index.result.now ∙ c.empty.ensures in
     let second : c.index-2.result.now.base ≡ record { way = Down; ships = [] } = ap (λ (l : GrownList). l.base) c.index-2.ensures ∙ c.in_ok-down.ensures.base c.index-2.result.now ∙ c.empty-2.ensures in
-    let up = subst (λ base. HaveEarly I case.chamber cuts case.depth case.prices.now case.line.now None base [] c.put_grown.new.choices.items) first
-    (c.in_ok-put_grown.ensures [] (All-nil (IsChoice I case.chamber cuts case.depth case.prices.now case.line.now)) none) in
-    let down = subst (λ base. HaveEarly I case.chamber cuts case.depth case.prices.now case.line.now None base up.more c.put_grown-2.new.choices.items) second
+    let up = subst (λ base. HaveEarly (line_asked case) None base [] c.put_grown.new.choices.items) first
+    (c.in_ok-put_grown.ensures [] (All-nil (IsChoice (line_asked case))) none) in
+    let down = subst (λ base. HaveEarly (line_asked case) None base up.more c.put_grown-2.new.choices.items) second
     (c.in_ok-put_grown-2.ensures up.more up.have.each up.early) in
-    record { choices = down.more; some = some-none I case.chamber case.depth case.line.now cuts case.prices.now up.more down.more up.have down.have; early = down.early }
+    record { choices = down.more; some = some-none (line_asked case) up.more down.more up.have down.have; early = down.early }

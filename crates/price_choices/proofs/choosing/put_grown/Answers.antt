@@ -1,20 +1,23 @@
 use Rattle.std.proofs.Common.{◌≡◌, ◌++◌, All, sym, ap, ◌∙◌, subst, rules}
 use Rattle.std.proofs.lemmas.Result.{on_ok_weaker}
-use Rattle.price_choices.specs.Choosing.{HaveEarly, AreLate, IsChoice}
 use Rattle.price_terms.specs.Cuts.{plain_cuts}
+use Rattle.price_groups.specs.Asked.{line_asked}
+use Rattle.price_choices.specs.Choices.{IsChoice}
+use Rattle.price_choices.specs.Dominance.{AreLate}
+use Rattle.price_choices.specs.Enough.{HaveEarly}
 use Rattle.price_choices.proofs.LateLemmas.{early-together}
 use Rattle.price_choices.proofs.choosing.put_grown.Goals as goal
 
 pub late_choices-requires-clause-each : goal.late_choices-requires-clause-each
 late_choices-requires-clause-each c =
-    let case = c.args.growth.now.case.now in
+    let case = c.args.extension.now.case.now in
     let I = case.instance.now in
     let same : c.deref.result.now ≡ c.in_ok-more.more.items = search rules in
-    subst (All (IsChoice I case.chamber (plain_cuts I case.cuts.now) case.depth case.prices.now case.line.now)) (sym same) c.in_ok-more.ensures.each
+    subst (All (IsChoice (line_asked case))) (sym same) c.in_ok-more.ensures.each
 
 pub returns : goal.returns
 returns c =
-    let case = c.args.growth.now.case.now in
+    let case = c.args.extension.now.case.now in
     let I = case.instance.now in
     let cuts = plain_cuts I case.cuts.now in
     let more = c.in_ok-more.more.items in
@@ -22,7 +25,7 @@ returns c =
     let old = c.args.choices.now.items in
     let same : c.deref.result.now ≡ more = search rules in
     let put : c.deref-2.result.now ≡ enough = search rules in
-    let late = subst (λ more. AreLate I case.chamber cuts case.depth case.prices.now case.line.now 0 more enough) same c.in_ok-enough.ensures in
+    let late = subst (λ more. AreLate (line_asked case) 0 more enough) same c.in_ok-enough.ensures in
     on_ok_weaker c.append_all.result (λ appended all each first.
-    subst (HaveEarly I case.chamber cuts case.depth case.prices.now case.line.now c.args.joins c.args.list.now.base all) (sym (appended ∙ ap (λ xs. old ++ xs) put))
-    (early-together I case.chamber cuts case.depth case.prices.now case.line.now c.args.joins c.args.list.now.base all more old enough each c.in_ok-more.ensures first late)) c.append_all.ensures
+    subst (HaveEarly (line_asked case) c.args.joins c.args.list.now.base all) (sym (appended ∙ ap (λ xs. old ++ xs) put))
+    (early-together (line_asked case) c.args.joins c.args.list.now.base all more old enough each c.in_ok-more.ensures first late)) c.append_all.ensures

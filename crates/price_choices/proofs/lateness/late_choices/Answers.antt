@@ -1,7 +1,8 @@
 use Rattle.std.proofs.Common.{◌≡◌, ◌+◌, ◌++◌, [], ◌∷◌, suc, take, sym, ap, ◌∙◌, subst, arith}
 use Rattle.std.proofs.Math.Seq.{take-suc}
-use Rattle.price_terms.specs.Cuts.{plain_cuts}
-use Rattle.price_choices.specs.Choosing.{IsChoice, AreLate}
+use Rattle.price_groups.specs.Asked.{line_asked}
+use Rattle.price_choices.specs.Choices.{IsChoice}
+use Rattle.price_choices.specs.Dominance.{AreLate}
 use Rattle.price_choices.proofs.LateLemmas.{late-next}
 use Rattle.price_choices.proofs.lateness.late_choices.Goals as goal
 
@@ -15,7 +16,7 @@ loop-choice-preserved c =
     let here = c.loop-choice-test.true in
     let up : suc i ≡ i + 1 = omega arith in
     let more : take i choices ++ h ∷ [] ≡ take (i + 1) choices = (λ j. take i choices ++ c.choice-item.is j ∷ []) ∙ sym (take-suc choices i h here) ∙ ap (λ n. take n choices) up in
-    let is : IsChoice I case.chamber (plain_cuts I case.cuts.now) case.depth case.prices.now case.line.now h =
-    subst (IsChoice I case.chamber (plain_cuts I case.cuts.now) case.depth case.prices.now case.line.now) (sym c.choice-item.is) (c.requires.each i h here) in
-    subst (λ cs. AreLate I case.chamber (plain_cuts I case.cuts.now) case.depth case.prices.now case.line.now c.args.late cs c.put_late.new.lates.items) more
-    (late-next I case.chamber (plain_cuts I case.cuts.now) case.depth case.prices.now case.line.now c.args.late (take i choices) h c.loop-choice.lates.items c.put_late.new.lates.items is c.in_ok-put_late.ensures c.loop-choice.invariant)
+    let is : IsChoice (line_asked case) h =
+    subst (IsChoice (line_asked case)) (sym c.choice-item.is) (c.requires.each i h here) in
+    subst (λ cs. AreLate (line_asked case) c.args.late cs c.put_late.new.lates.items) more
+    (late-next (line_asked case) c.args.late (take i choices) h c.loop-choice.lates.items c.put_late.new.lates.items is c.in_ok-put_late.ensures c.loop-choice.invariant)

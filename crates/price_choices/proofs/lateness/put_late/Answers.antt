@@ -1,7 +1,7 @@
 use Rattle.std.proofs.Common.{◌++◌, [], ◌∷◌, sym, ap, ◌∙◌, subst}
 use Rattle.std.proofs.lemmas.Result.{on_ok_weaker}
-use Rattle.price_terms.specs.Cuts.{plain_cuts}
-use Rattle.price_choices.specs.Choosing.{HasLate}
+use Rattle.price_groups.specs.Asked.{line_asked}
+use Rattle.price_choices.specs.Dominance.{HasLate}
 use Rattle.price_choices.proofs.LateLemmas.{late-itself}
 use Rattle.price_choices.proofs.lateness.put_late.Goals as goal
 
@@ -11,5 +11,5 @@ returns c =
     let I = case.instance.now in
     let choice = c.args.choice.now in
     let old = c.args.lates.now.items in
-    on_ok_weaker c.append.result (λ pushed. subst (HasLate I case.chamber case.depth case.prices.now c.args.late choice old) (sym (pushed ∙ ap (λ h. old ++ h ∷ []) c.copy.ensures))
-    (late-itself I case.chamber (plain_cuts I case.cuts.now) case.depth case.prices.now case.line.now c.args.late choice old)) c.append.ensures
+    on_ok_weaker c.append.result (λ pushed. subst (HasLate (line_asked case) c.args.late choice old) (sym (pushed ∙ ap (λ h. old ++ h ∷ []) c.copy.ensures))
+    (late-itself (line_asked case) c.args.late choice old)) c.append.ensures

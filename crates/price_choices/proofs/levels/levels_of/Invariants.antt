@@ -1,7 +1,7 @@
 use Rattle.std.proofs.Common.{All}
-use Rattle.price_terms.specs.Cuts.{plain_cuts}
-use Rattle.price_choices.specs.Choosing.{IsLevel}
+use Rattle.price_groups.specs.Asked.{line_asked}
+use Rattle.price_choices.specs.Levels.{IsLevel}
 use Rattle.price_choices.proofs.levels.levels_of.Given as goal
 
 abbrev pub invariant-loop-step : goal.invariant-loop-step
-invariant-loop-step l = All (IsLevel l.case.instance.now l.case.chamber (plain_cuts l.case.instance.now l.case.cuts.now) l.case.depth l.case.prices.now l.case.line.now l.choices) l.levels.items
+invariant-loop-step l = All (IsLevel (line_asked l.case) l.choices) l.levels.items

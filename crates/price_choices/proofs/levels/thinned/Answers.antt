@@ -3,7 +3,9 @@ use Rattle.std.specs.Prelude.{slice_get}
 use Rattle.std.proofs.lemmas.Option.{slice_get_within, get_or_from_slice_get}
 use Rattle.std.proofs.lemmas.Result.{IfOk-weaker}
 use Rattle.price_terms.specs.Cuts.{plain_cuts}
-use Rattle.price_choices.specs.Choosing.{IsLevel, AreLate}
+use Rattle.price_groups.specs.Asked.{line_asked}
+use Rattle.price_choices.specs.Dominance.{AreLate}
+use Rattle.price_choices.specs.Levels.{IsLevel}
 use Rattle.price_choices.proofs.LateLemmas.{late-through}
 use Rattle.price_choices.proofs.levels.thinned.Goals as goal
 
@@ -17,10 +19,10 @@ returns-in-Some c =
     let level = c.in-Some.level.now in
     let at : slice_get levels (length levels - 1) ≡ Some level = sym c.in-Some.ensures.value in
     let here : length levels - 1 < length levels = slice_get_within levels (length levels - 1) level at in
-    let is = subst (IsLevel I case.chamber cuts case.depth case.prices.now case.line.now choices) (get_or_from_slice_get levels (length levels - 1) level level at) (c.requires.levels (length levels - 1) level here) in
+    let is = subst (IsLevel (line_asked case) choices) (get_or_from_slice_get levels (length levels - 1) level level at) (c.requires.levels (length levels - 1) level here) in
     let same : c.deref.result.now ≡ level.choices.items = search rules in
     let past : level.from ≤ c.args.from = omega (arith, c.if-level-from.true) in
-    IfOk-weaker c.late_choices.result (λ lates. AreLate I case.chamber cuts case.depth case.prices.now case.line.now c.args.from c.deref.result.now lates.items) (λ lates. AreLate I case.chamber cuts case.depth case.prices.now case.line.now c.args.from choices lates.items)
+    IfOk-weaker c.late_choices.result (λ lates. AreLate (line_asked case) c.args.from c.deref.result.now lates.items) (λ lates. AreLate (line_asked case) c.args.from choices lates.items)
     (λ lates fewer.
-    late-through I case.chamber case.chamber_in cuts case.depth case.prices.now case.line.now level.from c.args.from choices level.choices.items lates.items past c.requires.each is
-    (subst (λ mid. AreLate I case.chamber cuts case.depth case.prices.now case.line.now c.args.from mid lates.items) same fewer)) c.late_choices.ensures
+    late-through (line_asked case) case.chamber_in level.from c.args.from choices level.choices.items lates.items past c.requires.each is
+    (subst (λ mid. AreLate (line_asked case) c.args.from mid lates.items) same fewer)) c.late_choices.ensures

@@ -4,6 +4,6 @@ use Rattle.price_choices.proofs.paying.paid.Given as goal
 
 abbrev pub invariant-loop-ship : goal.invariant-loop-ship
 invariant-loop-ship l = record {
-  sum : l.sum ≡ sum_by (rate_of l.growth.case.now.instance.now l.growth.case.now.depth l.growth.case.now.prices.now) (take l.ship-index l.ships);
+  sum : l.sum ≡ sum_by (rate_of l.extension.case.now.instance.now l.extension.case.now.depth l.extension.case.now.prices.now) (take l.ship-index l.ships);
   small : l.sum ≤ l.ship-index * 101000000;
 }

@@ -1,5 +1,5 @@
 use Rattle.std.proofs.Common.{arith}
-use Rattle.price_terms.specs.Cuts.{plain_cuts}
+use Rattle.price_groups.specs.Asked.{line_asked}
 use Rattle.price_table.proofs.FrameLemmas.{value-rounded}
 use Rattle.price_table.proofs.least.found.Goals as goal
 
@@ -9,5 +9,5 @@ returns-in-Some c =
     let case = table.case.now in
     let I = case.instance.now in
     let first = c.args.first.now in
-    value-rounded I case.chamber case.chamber_in (plain_cuts I case.cuts.now) case.depth case.prices.now case.line.now table.horizon first.place first.stand first.minute c.in-Some.value table.small
+    value-rounded (line_asked case) case.chamber_in table.horizon first.place first.stand first.minute c.in-Some.value table.small
     (c.requires.values.told first.place first.stand first.minute c.in-Some.value (omega (arith, c.requires.place, case.few)) c.in-Some.ensures)

@@ -1,6 +1,6 @@
 use Rattle.std.proofs.Common.{◌++◌, ap, ◌∙◌}
 use Rattle.std.specs.Option.{option_to_list}
-use Rattle.price_terms.specs.Cuts.{plain_cuts}
+use Rattle.price_groups.specs.Asked.{line_asked}
 use Rattle.price_table.specs.Values.{IsFrame}
 use Rattle.price_groups.proofs.ForbiddenLemmas.{popped-all}
 use Rattle.price_table.proofs.least.worked.Goals as goal
@@ -10,7 +10,7 @@ turn-requires-clause-frames c =
     let table = c.args.table.now in
     let case = table.case.now in
     let I = case.instance.now in
-    (popped-all (IsFrame I case.chamber (plain_cuts I case.cuts.now) case.depth case.prices.now case.line.now table.horizon table.menus.now) c.loop.frames.items c.pop.new.self.items c.in-Some.frame
+    (popped-all (IsFrame (line_asked case) table.horizon table.successor_lists.now) c.loop.frames.items c.pop.new.self.items c.in-Some.frame
     (c.pop.ensures.items ∙ ap (λ r. c.pop.new.self.items ++ option_to_list r) c.in-Some.is) c.loop.invariant.frames).0
 
 pub turn-requires-clause-frame : goal.turn-requires-clause-frame
@@ -18,5 +18,5 @@ turn-requires-clause-frame c =
     let table = c.args.table.now in
     let case = table.case.now in
     let I = case.instance.now in
-    (popped-all (IsFrame I case.chamber (plain_cuts I case.cuts.now) case.depth case.prices.now case.line.now table.horizon table.menus.now) c.loop.frames.items c.pop.new.self.items c.in-Some.frame
+    (popped-all (IsFrame (line_asked case) table.horizon table.successor_lists.now) c.loop.frames.items c.pop.new.self.items c.in-Some.frame
     (c.pop.ensures.items ∙ ap (λ r. c.pop.new.self.items ++ option_to_list r) c.in-Some.is) c.loop.invariant.frames).1

@@ -1,10 +1,10 @@
 use Rattle.std.proofs.Common.{All}
-use Rattle.price_terms.specs.Cuts.{plain_cuts}
+use Rattle.price_groups.specs.Asked.{line_asked}
 use Rattle.price_table.specs.Values.{AreValues, IsFrame}
 use Rattle.price_table.proofs.least.worked.Given as goal
 
 abbrev pub invariant-loop : goal.invariant-loop
 invariant-loop l = record {
-  values : AreValues l.table.case.now.instance.now l.table.case.now.chamber (plain_cuts l.table.case.now.instance.now l.table.case.now.cuts.now) l.table.case.now.depth l.table.case.now.prices.now l.table.case.now.line.now l.table.horizon l.values;
-  frames : All (IsFrame l.table.case.now.instance.now l.table.case.now.chamber (plain_cuts l.table.case.now.instance.now l.table.case.now.cuts.now) l.table.case.now.depth l.table.case.now.prices.now l.table.case.now.line.now l.table.horizon l.table.menus.now) l.frames.items;
+  values : AreValues (line_asked l.table.case.now) l.table.horizon l.values;
+  frames : All (IsFrame (line_asked l.table.case.now) l.table.horizon l.table.successor_lists.now) l.frames.items;
 }

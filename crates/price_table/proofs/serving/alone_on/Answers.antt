@@ -14,7 +14,7 @@ loop-group-preserved c =
     let i = c.loop-group.group-index in
     let line = c.args.line.now in
     let old = c.loop-group.invariant in
-    let n = c.args.case.now.chamber in
+    let n = c.args.case.now.index in
     let end : c.group_times-end.result.1 ≡ end_after I n c.loop-group.stand c.loop-group.minute g = omega (arith, c.group_times-end.ensures.start, c.group_times-end.ensures.end) in
     let flow : c.flow_until-flow.result ≡ sum_by (λ s. c.group_times-end.result.1 - (ship_at I s).arrival) g.ships = c.flow_until-flow.ensures.value in
     let next = flow-next I n c.args.case.now.depth c.args.case.now.prices.now c.loop-group.stand c.loop-group.minute line i g c.group_times-end.result.1 c.flow_until-flow.result _ c.loop-group.flow c.loop-group-test.true c.group-item.is end flow old.sum in
@@ -29,7 +29,7 @@ pub returns-clause-value : goal.returns-clause-value
 returns-clause-value c =
     let I = c.args.case.now.instance.now in
     let line = c.args.line.now in
-    let n = c.args.case.now.chamber in
+    let n = c.args.case.now.index in
     let i = c.loop-group.group-index in
     let all : i ≡ length line = omega (arith, c.loop-group-test.false, c.loop-group.auto.group-index-end) in
     let rest : drop i line ≡ [] = ap (λ i. drop i line) all ∙ drop-length line in

@@ -1,9 +1,9 @@
 use Rattle.std.proofs.Common.{◌≤ℤ◌, pos, refl, sym, ◌∙◌, subst, arith}
 use Rattle.lock_rules.specs.Lawful.{stand_after}
-use Rattle.price_terms.specs.Cuts.{plain_cuts}
+use Rattle.price_groups.specs.Asked.{line_asked}
 use Rattle.price_table.specs.Values.{IsValue}
 use Rattle.price_table.proofs.FrameLemmas.{value-far, worth-far, far-rounded}
-use Rattle.price_table.proofs.BarLemmas.{bar-next}
+use Rattle.price_table.proofs.ThresholdLemmas.{threshold-next}
 use Rattle.price_table.proofs.SweepLemmas.{low-rounded, high-rounded, told-far, swept-next}
 use Rattle.price_table.proofs.sweeping.sweep_one.Goals as goal
 
@@ -21,8 +21,8 @@ pub returns-then-is_reached-clause-counted : goal.returns-then-is_reached-clause
 returns-then-is_reached-clause-counted c =
     let served = c.serve_open-served.ensures in
     let reached = c.if-is_reached.ensures in
-    let more = subst (λ w. c.args.counted.now.bar.worth ≤ℤ w) (far-rounded c.serve_open-served.result.worth (worth-far c.serve_open-served.result.worth served.low served.high) ∙ served.worth) (reached.worth refl) in
-    λ told. c.requires.bar.over c.args.choice.now c.requires.is (c.if-not-has.ensures.joins refl) (c.if-not-has.ensures.way refl) (omega (arith, reached.end refl, served.end)) more (subst (λ w. w ≤ℤ pos 30000000000) served.worth served.high)
+    let more = subst (λ w. c.args.counted.now.threshold.worth ≤ℤ w) (far-rounded c.serve_open-served.result.worth (worth-far c.serve_open-served.result.worth served.low served.high) ∙ served.worth) (reached.worth refl) in
+    λ told. c.requires.threshold.over c.args.choice.now c.requires.is (c.if-not-has.ensures.joins refl) (c.if-not-has.ensures.way refl) (omega (arith, reached.end refl, served.end)) more (subst (λ w. w ≤ℤ pos 30000000000) served.worth served.high)
 
 pub lesser-best-requires-clause-behind_low : goal.lesser-best-requires-clause-behind_low
 lesser-best-requires-clause-behind_low c =
@@ -30,7 +30,7 @@ lesser-best-requires-clause-behind_low c =
     let case = table.case.now in
     let I = case.instance.now in
     let route = c.args.route.now in
-    low-rounded c.in-Some.value (told-far I case.chamber case.chamber_in (plain_cuts I case.cuts.now) case.depth case.prices.now case.line.now table.horizon table.small c.args.values.now c.requires.values route.place c.stand_after.result c.serve_open-served.result.end c.in-Some.value c.requires.place c.in-Some.ensures)
+    low-rounded c.in-Some.value (told-far (line_asked case) case.chamber_in table.horizon table.small c.args.values.now c.requires.values route.place c.stand_after.result c.serve_open-served.result.end c.in-Some.value c.requires.place c.in-Some.ensures)
 
 pub lesser-best-requires-clause-behind_high : goal.lesser-best-requires-clause-behind_high
 lesser-best-requires-clause-behind_high c =
@@ -38,43 +38,43 @@ lesser-best-requires-clause-behind_high c =
     let case = table.case.now in
     let I = case.instance.now in
     let route = c.args.route.now in
-    high-rounded c.in-Some.value (told-far I case.chamber case.chamber_in (plain_cuts I case.cuts.now) case.depth case.prices.now case.line.now table.horizon table.small c.args.values.now c.requires.values route.place c.stand_after.result c.serve_open-served.result.end c.in-Some.value c.requires.place c.in-Some.ensures)
+    high-rounded c.in-Some.value (told-far (line_asked case) case.chamber_in table.horizon table.small c.args.values.now c.requires.values route.place c.stand_after.result c.serve_open-served.result.end c.in-Some.value c.requires.place c.in-Some.ensures)
 
-pub bar-requires-clause-value_low : goal.bar-requires-clause-value_low
-bar-requires-clause-value_low c =
+pub threshold-requires-clause-value_low : goal.threshold-requires-clause-value_low
+threshold-requires-clause-value_low c =
     let table = c.args.table.now in
     let case = table.case.now in
     let I = case.instance.now in
     let route = c.args.route.now in
-    low-rounded c.in-Some.value (told-far I case.chamber case.chamber_in (plain_cuts I case.cuts.now) case.depth case.prices.now case.line.now table.horizon table.small c.args.values.now c.requires.values route.place c.stand_after.result c.serve_open-served.result.end c.in-Some.value c.requires.place c.in-Some.ensures)
+    low-rounded c.in-Some.value (told-far (line_asked case) case.chamber_in table.horizon table.small c.args.values.now c.requires.values route.place c.stand_after.result c.serve_open-served.result.end c.in-Some.value c.requires.place c.in-Some.ensures)
 
-pub bar-requires-clause-value_high : goal.bar-requires-clause-value_high
-bar-requires-clause-value_high c =
+pub threshold-requires-clause-value_high : goal.threshold-requires-clause-value_high
+threshold-requires-clause-value_high c =
     let table = c.args.table.now in
     let case = table.case.now in
     let I = case.instance.now in
     let route = c.args.route.now in
-    high-rounded c.in-Some.value (told-far I case.chamber case.chamber_in (plain_cuts I case.cuts.now) case.depth case.prices.now case.line.now table.horizon table.small c.args.values.now c.requires.values route.place c.stand_after.result c.serve_open-served.result.end c.in-Some.value c.requires.place c.in-Some.ensures)
+    high-rounded c.in-Some.value (told-far (line_asked case) case.chamber_in table.horizon table.small c.args.values.now c.requires.values route.place c.stand_after.result c.serve_open-served.result.end c.in-Some.value c.requires.place c.in-Some.ensures)
 
-pub bar-requires-clause-best_low : goal.bar-requires-clause-best_low
-bar-requires-clause-best_low c =
+pub threshold-requires-clause-best_low : goal.threshold-requires-clause-best_low
+threshold-requires-clause-best_low c =
     let table = c.args.table.now in
     let case = table.case.now in
     let I = case.instance.now in
     let route = c.args.route.now in
     let served = c.serve_open-served.ensures in
-    let now = swept-next I case.chamber case.chamber_in (plain_cuts I case.cuts.now) case.depth case.prices.now case.line.now table.horizon table.small case.kept c.args.values.now c.requires.values c.args.ready.now route c.args.choice.now c.requires.early c.requires.route c.requires.place c.requires.is (c.if-not-has.ensures.joins refl) (c.if-not-has.ensures.way refl)
+    let now = swept-next (line_asked case) case.chamber_in table.horizon table.small case.kept c.args.values.now c.requires.values c.args.ready.now route c.args.choice.now c.requires.early c.requires.route c.requires.place c.requires.is (c.if-not-has.ensures.joins refl) (c.if-not-has.ensures.way refl)
     c.stand_after.result c.serve_open-served.result.end c.in-Some.value c.serve_open-served.result.worth c.args.counted.now.best c.lesser-best.result c.stand_after.ensures served.end c.in-Some.ensures served.worth served.low served.high c.requires.best c.lesser-best.ensures in
     (value-far _ table.horizon c.args.ready.now.state.minute table.small now.0.low now.0.high).0
 
-pub bar-requires-clause-best_high : goal.bar-requires-clause-best_high
-bar-requires-clause-best_high c =
+pub threshold-requires-clause-best_high : goal.threshold-requires-clause-best_high
+threshold-requires-clause-best_high c =
     let table = c.args.table.now in
     let case = table.case.now in
     let I = case.instance.now in
     let route = c.args.route.now in
     let served = c.serve_open-served.ensures in
-    let now = swept-next I case.chamber case.chamber_in (plain_cuts I case.cuts.now) case.depth case.prices.now case.line.now table.horizon table.small case.kept c.args.values.now c.requires.values c.args.ready.now route c.args.choice.now c.requires.early c.requires.route c.requires.place c.requires.is (c.if-not-has.ensures.joins refl) (c.if-not-has.ensures.way refl)
+    let now = swept-next (line_asked case) case.chamber_in table.horizon table.small case.kept c.args.values.now c.requires.values c.args.ready.now route c.args.choice.now c.requires.early c.requires.route c.requires.place c.requires.is (c.if-not-has.ensures.joins refl) (c.if-not-has.ensures.way refl)
     c.stand_after.result c.serve_open-served.result.end c.in-Some.value c.serve_open-served.result.worth c.args.counted.now.best c.lesser-best.result c.stand_after.ensures served.end c.in-Some.ensures served.worth served.low served.high c.requires.best c.lesser-best.ensures in
     (value-far _ table.horizon c.args.ready.now.state.minute table.small now.0.low now.0.high).1
 
@@ -85,7 +85,7 @@ returns-in-Some-clause-best c =
     let I = case.instance.now in
     let route = c.args.route.now in
     let served = c.serve_open-served.ensures in
-    (swept-next I case.chamber case.chamber_in (plain_cuts I case.cuts.now) case.depth case.prices.now case.line.now table.horizon table.small case.kept c.args.values.now c.requires.values c.args.ready.now route c.args.choice.now c.requires.early c.requires.route c.requires.place c.requires.is (c.if-not-has.ensures.joins refl) (c.if-not-has.ensures.way refl)
+    (swept-next (line_asked case) case.chamber_in table.horizon table.small case.kept c.args.values.now c.requires.values c.args.ready.now route c.args.choice.now c.requires.early c.requires.route c.requires.place c.requires.is (c.if-not-has.ensures.joins refl) (c.if-not-has.ensures.way refl)
     c.stand_after.result c.serve_open-served.result.end c.in-Some.value c.serve_open-served.result.worth c.args.counted.now.best c.lesser-best.result c.stand_after.ensures served.end c.in-Some.ensures served.worth served.low served.high c.requires.best c.lesser-best.ensures).0
 
 pub returns-in-Some-clause-less : goal.returns-in-Some-clause-less
@@ -95,7 +95,7 @@ returns-in-Some-clause-less c =
     let I = case.instance.now in
     let route = c.args.route.now in
     let served = c.serve_open-served.ensures in
-    (swept-next I case.chamber case.chamber_in (plain_cuts I case.cuts.now) case.depth case.prices.now case.line.now table.horizon table.small case.kept c.args.values.now c.requires.values c.args.ready.now route c.args.choice.now c.requires.early c.requires.route c.requires.place c.requires.is (c.if-not-has.ensures.joins refl) (c.if-not-has.ensures.way refl)
+    (swept-next (line_asked case) case.chamber_in table.horizon table.small case.kept c.args.values.now c.requires.values c.args.ready.now route c.args.choice.now c.requires.early c.requires.route c.requires.place c.requires.is (c.if-not-has.ensures.joins refl) (c.if-not-has.ensures.way refl)
     c.stand_after.result c.serve_open-served.result.end c.in-Some.value c.serve_open-served.result.worth c.args.counted.now.best c.lesser-best.result c.stand_after.ensures served.end c.in-Some.ensures served.worth served.low served.high c.requires.best c.lesser-best.ensures).2
 
 pub returns-in-Some-clause-counted : goal.returns-in-Some-clause-counted
@@ -105,11 +105,11 @@ returns-in-Some-clause-counted c =
     let I = case.instance.now in
     let route = c.args.route.now in
     let served = c.serve_open-served.ensures in
-    λ told. (swept-next I case.chamber case.chamber_in (plain_cuts I case.cuts.now) case.depth case.prices.now case.line.now table.horizon table.small case.kept c.args.values.now c.requires.values c.args.ready.now route c.args.choice.now c.requires.early c.requires.route c.requires.place c.requires.is (c.if-not-has.ensures.joins refl) (c.if-not-has.ensures.way refl)
+    λ told. (swept-next (line_asked case) case.chamber_in table.horizon table.small case.kept c.args.values.now c.requires.values c.args.ready.now route c.args.choice.now c.requires.early c.requires.route c.requires.place c.requires.is (c.if-not-has.ensures.joins refl) (c.if-not-has.ensures.way refl)
     c.stand_after.result c.serve_open-served.result.end c.in-Some.value c.serve_open-served.result.worth c.args.counted.now.best c.lesser-best.result c.stand_after.ensures served.end c.in-Some.ensures served.worth served.low served.high c.requires.best c.lesser-best.ensures).1
 
-pub returns-in-Some-clause-bar : goal.returns-in-Some-clause-bar
-returns-in-Some-clause-bar c =
+pub returns-in-Some-clause-threshold : goal.returns-in-Some-clause-threshold
+returns-in-Some-clause-threshold c =
     let table = c.args.table.now in
     let case = table.case.now in
     let I = case.instance.now in
@@ -117,5 +117,5 @@ returns-in-Some-clause-bar c =
     let end = c.serve_open-served.result.end in
     let value = c.requires.values.told route.place c.stand_after.result end c.in-Some.value c.requires.place c.in-Some.ensures in
     let far = value-far c.in-Some.value table.horizon end table.small value.low value.high in
-    let plain = subst (IsValue I case.chamber (plain_cuts I case.cuts.now) case.depth case.prices.now case.line.now table.horizon route.place (stand_after route.way) end) (sym (far-rounded c.in-Some.value far)) (subst (λ stand. IsValue I case.chamber (plain_cuts I case.cuts.now) case.depth case.prices.now case.line.now table.horizon route.place stand end c.in-Some.value) c.stand_after.ensures value) in
-    bar-next I case.chamber case.chamber_in (plain_cuts I case.cuts.now) case.depth case.prices.now case.line.now c.args.ready.now route table.horizon _ _ end c.bar.result c.requires.route c.bar.ensures.end c.bar.ensures.low c.bar.ensures.high c.bar.ensures.worth plain
+    let plain = subst (IsValue (line_asked case) table.horizon route.place (stand_after route.way) end) (sym (far-rounded c.in-Some.value far)) (subst (λ stand. IsValue (line_asked case) table.horizon route.place stand end c.in-Some.value) c.stand_after.ensures value) in
+    threshold-next (line_asked case) case.chamber_in c.args.ready.now route table.horizon _ _ end c.threshold.result c.requires.route c.threshold.ensures.end c.threshold.ensures.low c.threshold.ensures.high c.threshold.ensures.worth plain

@@ -1,10 +1,11 @@
 use Rattle.std.proofs.Common.{◌≡◌, ◌≤ℤ◌, ◌<ℤ◌, pos, ◌+ℤ◌, IfNone, All, Contains, sym, ◌∙◌, subst, arith}
 use Rattle.std.proofs.lemmas.Int.{ints}
-use Rattle.price_terms.specs.Cuts.{plain_cuts}
-use Rattle.price_choices.specs.Choosing.{IsChoice, IsCounted}
+use Rattle.price_groups.specs.Asked.{line_asked}
+use Rattle.price_choices.specs.Choices.{IsChoice}
+use Rattle.price_choices.specs.Counted.{IsCounted}
 use Rattle.price_table.proofs.FrameLemmas.{value-far}
 use Rattle.price_choices.specs.declared.choice.Choice.{Choice}
-use Rattle.price_choices.proofs.MenuLemmas.{some-menu, menu-each, counted-menu}
+use Rattle.price_choices.proofs.SuccessorLemmas.{some-successors, successors-each, counted-successors}
 use Rattle.price_table.proofs.WalkLemmas.{value-below, none-more, counted-next}
 use Rattle.price_table.proofs.walking.next_choice.Goals as goal
 
@@ -17,7 +18,7 @@ returns-then-alone-from-clause-none c =
     let told = c.alone.ensures in
     let v = from.value in
     let far = value-far v table.horizon from.state.minute table.small c.requires.value.low c.requires.value.high in
-    let below = value-below I case.chamber case.chamber_in (plain_cuts I case.cuts.now) case.depth case.prices.now case.line.now table.uncut case.kept table.horizon from.state.place from.state.stand from.state.minute v c.requires.value in
+    let below = value-below (line_asked case) case.chamber_in table.uncut case.kept table.horizon from.state.place from.state.stand from.state.minute v c.requires.value in
     let here : v ≤ℤ c.alone.result = subst (λ x. v ≤ℤ x) (sym told.value) below in
     let same : c.alone.result ≡ v = omega (arith, ints, here, c.if-alone-from.true, told.low, told.high, far.0, far.1) in
     sym told.value ∙ same
@@ -28,10 +29,10 @@ next_by-requires-clause-is c =
     let case = table.case.now in
     let I = case.instance.now in
     let from = c.args.from.now in
-    let e = some-menu I case.chamber (plain_cuts I case.cuts.now) case.depth case.prices.now case.line.now table.menus.now c.requires.menus in
-    let each = menu-each I case.chamber case.chamber_in (plain_cuts I case.cuts.now) case.depth case.prices.now case.line.now table.menus.now c.requires.menus from.state.place from.state.minute c.requires.place e in
-    let own = subst (All (IsChoice I case.chamber (plain_cuts I case.cuts.now) case.depth case.prices.now case.line.now)) (sym (c.list-choice-items.ensures e)) each in
-    subst (IsChoice I case.chamber (plain_cuts I case.cuts.now) case.depth case.prices.now case.line.now) (sym c.choice-item.is) (own c.loop-choice.choice-index c.choice-item.result c.loop-choice-test.true)
+    let e = some-successors (line_asked case) table.successor_lists.now c.requires.successor_lists in
+    let each = successors-each (line_asked case) case.chamber_in table.successor_lists.now c.requires.successor_lists from.state.place from.state.minute c.requires.place e in
+    let own = subst (All (IsChoice (line_asked case))) (sym (c.list-choice-items.ensures e)) each in
+    subst (IsChoice (line_asked case)) (sym c.choice-item.is) (own c.loop-choice.choice-index c.choice-item.result c.loop-choice-test.true)
 
 pub loop-choice-init : goal.loop-choice-init
 loop-choice-init c = record { values = c.requires.values; counted = λ j d none here. absurd (omega (arith, none)) }
@@ -43,10 +44,10 @@ loop-choice-preserved c =
     let I = case.instance.now in
     let from = c.args.from.now in
     let i = c.loop-choice.choice-index in
-    let counted = subst (λ o. IfNone o (IsCounted I case.chamber (plain_cuts I case.cuts.now) case.depth case.prices.now case.line.now from.state.stand from.state.minute from.state.place (from.value +ℤ pos 1) c.choice-item.result)) c.in-None.is c.in_ok-next.ensures.none in
+    let counted = subst (λ o. IfNone o (IsCounted (line_asked case) from.state.stand from.state.minute from.state.place (from.value +ℤ pos 1) c.choice-item.result)) c.in-None.is c.in_ok-next.ensures.none in
     record {
       values = c.in_ok-next.ensures.values;
-      counted = counted-next I case.chamber case.chamber_in (plain_cuts I case.cuts.now) case.depth case.prices.now case.line.now from.state.stand from.state.minute from.state.place (from.value +ℤ pos 1) c.list-choice-items.result.now i c.choice-item.result c.loop-choice-test.true c.choice-item.is counted c.loop-choice.invariant.counted;
+      counted = counted-next (line_asked case) case.chamber_in from.state.stand from.state.minute from.state.place (from.value +ℤ pos 1) c.list-choice-items.result.now i c.choice-item.result c.loop-choice-test.true c.choice-item.is counted c.loop-choice.invariant.counted;
     }
 
 pub returns-clause-none : goal.returns-clause-none
@@ -59,9 +60,9 @@ returns-clause-none c =
     let v = from.value in
     let far = value-far v table.horizon from.state.minute table.small c.requires.value.low c.requires.value.high in
     let over : v <ℤ c.alone.result = omega (arith, ints, c.if-alone-from.false, told.low, told.high, far.0, far.1) in
-    let e = some-menu I case.chamber (plain_cuts I case.cuts.now) case.depth case.prices.now case.line.now table.menus.now c.requires.menus in
-    absurd (none-more I case.chamber case.chamber_in (plain_cuts I case.cuts.now) case.depth case.prices.now case.line.now table.uncut case.kept table.horizon c.requires.menus.listed.choices c.requires.menus.listed.enough from.state.place from.state.stand from.state.minute v c.requires.value
+    let e = some-successors (line_asked case) table.successor_lists.now c.requires.successor_lists in
+    absurd (none-more (line_asked case) case.chamber_in table.uncut case.kept table.horizon c.requires.successor_lists.listed.choices c.requires.successor_lists.listed.enough from.state.place from.state.stand from.state.minute v c.requires.value
     (subst (λ x. v <ℤ x) told.value over)
-    (counted-menu I case.chamber case.chamber_in (plain_cuts I case.cuts.now) case.depth case.prices.now case.line.now table.menus.now c.requires.menus from.state.place from.state.minute c.requires.place e from.state.stand (v +ℤ pos 1)
-    (subst (λ hs. (h : Choice) → Contains hs h → IsCounted I case.chamber (plain_cuts I case.cuts.now) case.depth case.prices.now case.line.now from.state.stand from.state.minute from.state.place (v +ℤ pos 1) h) (c.list-choice-items.ensures e)
-    (λ h held. subst (IsCounted I case.chamber (plain_cuts I case.cuts.now) case.depth case.prices.now case.line.now from.state.stand from.state.minute from.state.place (v +ℤ pos 1)) held.2 (c.loop-choice.invariant.counted held.0 h (omega (arith, held.1, c.loop-choice-test.false, c.loop-choice.auto.choice-index-end)) held.1)))))
+    (counted-successors (line_asked case) case.chamber_in table.successor_lists.now c.requires.successor_lists from.state.place from.state.minute c.requires.place e from.state.stand (v +ℤ pos 1)
+    (subst (λ hs. (h : Choice) → Contains hs h → IsCounted (line_asked case) from.state.stand from.state.minute from.state.place (v +ℤ pos 1) h) (c.list-choice-items.ensures e)
+    (λ h held. subst (IsCounted (line_asked case) from.state.stand from.state.minute from.state.place (v +ℤ pos 1)) held.2 (c.loop-choice.invariant.counted held.0 h (omega (arith, held.1, c.loop-choice-test.false, c.loop-choice.auto.choice-index-end)) held.1)))))

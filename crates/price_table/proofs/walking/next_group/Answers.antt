@@ -2,6 +2,7 @@ use Rattle.std.proofs.Common.{drop}
 use Rattle.std.proofs.lemmas.List.Elements.{All-drop}
 use Rattle.price_rules.specs.Prices.{IsUncut}
 use Rattle.price_terms.specs.Cuts.{plain_cuts}
+use Rattle.price_groups.specs.Asked.{line_asked}
 use Rattle.price_groups.specs.Worth.{IsKeptGroup}
 use Rattle.price_table.proofs.StepLemmas.{alone-least}
 use Rattle.price_table.proofs.WalkLemmas.{least-one}
@@ -14,6 +15,6 @@ returns-then-from-table-clause-none c =
     let I = case.instance.now in
     let from = c.args.from.now in
     let rest = drop from.state.place case.line.now in
-    least-one I case.chamber case.chamber_in (plain_cuts I case.cuts.now) case.depth case.prices.now case.line.now from.state.stand from.state.minute rest _ from.value
-    (alone-least I case.chamber case.chamber_in (plain_cuts I case.cuts.now) case.depth case.prices.now table.horizon table.late from.state.stand from.state.minute rest c.if-from-table.true (All-drop (IsUncut I case.chamber (plain_cuts I case.cuts.now)) from.state.place case.line.now table.uncut) (All-drop (IsKeptGroup I case.depth) from.state.place case.line.now case.kept))
+    least-one (line_asked case) case.chamber_in from.state.stand from.state.minute rest _ from.value
+    (alone-least (line_asked case) case.chamber_in table.horizon table.late from.state.stand from.state.minute rest c.if-from-table.true (All-drop (IsUncut I case.index (plain_cuts I case.cuts.now)) from.state.place case.line.now table.uncut) (All-drop (IsKeptGroup I case.depth) from.state.place case.line.now case.kept))
     c.requires.value.least
