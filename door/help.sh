@@ -19,16 +19,3 @@ tell_version() {
   echo "glock commit $(commit)"
   echo "proved with $(kit_of_sources)"
 }
-
-# the commit of these files, where they lie in a repository of their own
-commit() {
-  local root
-  root=$(git -C "$top" rev-parse --show-toplevel 2>/dev/null)
-  if [ -z "$root" ] || ! [ "$root" -ef "$top" ]; then
-    echo unknown
-  elif [ -z "$(git -C "$top" status --porcelain -uno)" ]; then
-    git -C "$top" rev-parse --short HEAD
-  else
-    echo "$(git -C "$top" rev-parse --short HEAD) with later changes"
-  fi
-}

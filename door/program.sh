@@ -22,13 +22,22 @@ choose_program() {
     newer=$(newer_source)
     [ -n "$newer" ] || return 0
     reason="${newer#"$top"/} is newer than the proved program"
-    has_kit || { say "$reason, and the kit isn't here to build it anew; the older proved program answers"; return 0; }
+  fi
+  choose_unproved "$reason"
+}
+
+# the program that an unproved run of these sources left, or a new run of the kit, or without the kit an older proved program
+choose_unproved() {
+  if use_kept_program "$1"; then return 0; fi
+  if ! has_kit; then
+    [ -x "$program" ] && say "$1, and the kit isn't here to build it anew; the older proved program answers" && return 0
+    run=(unproved_run)
+    [ -z "$wrong" ] || return 0
+    say_no_kit "$1"
+    return 69
   fi
   run=(unproved_run)
-  [ -z "$wrong" ] || return 0
-  has_kit || { say_no_kit "$reason"; return 69; }
-  say "not the proved program: $reason, so this answer comes from the kit's unproved run, which takes a minute or more;" \
-    "./glock prove builds the proved program"
+  [ -n "$wrong" ] || make_trial_folder "$1"
 }
 
 # the kit that the sources are proved with, as the README names it
@@ -41,23 +50,15 @@ say_no_kit() {
   say "$1, and the Rattle kit isn't on this machine: its command rt proves and builds the program (see README.md)"
 }
 
-# The kit's run of the sources without a proof, which builds the program for this run alone and ends with its status.
-# Words that the door sees to be wrong need no program.
-unproved_run() {
-  if [ -n "$wrong" ]; then
-    echo "bad words"
-    exit 2
+# the commit of these files, where they lie in a repository of their own
+commit() {
+  local root
+  root=$(git -C "$top" rev-parse --show-toplevel 2>/dev/null)
+  if [ -z "$root" ] || ! [ "$root" -ef "$top" ]; then
+    echo unknown
+  elif [ -z "$(git -C "$top" status --porcelain -uno)" ]; then
+    git -C "$top" rev-parse --short HEAD
+  else
+    echo "$(git -C "$top" rev-parse --short HEAD) with later changes"
   fi
-  cd "$crate" && exec rt try --seconds 3600 -- "$@" 2>"$room/kit"
-}
-
-# The kit's last line says whether the status is the program's own.
-kit_gave_answer() {
-  local last
-  [ "${run[0]}" = unproved_run ] && [ -z "$wrong" ] || return 0
-  last=$(tail -n 1 "$room/kit" 2>/dev/null)
-  [[ $last != "run=ended status=$status "* ]] || return 0
-  tail -n 5 "$room/kit" >&2
-  say "the kit's unproved run gave no answer; ./glock prove builds the program, which may do better"
-  return 1
 }

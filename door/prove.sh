@@ -85,5 +85,3 @@ bytes_of() { find "$@" -type f -exec cat {} + 2>/dev/null | wc -c; }
 time_left() {
   if [ "$1" -gt 0 ] && [ "$SECONDS" -gt 10 ]; then echo ", about $(minutes $((SECONDS * ($2 - $1) / $1))) left"; fi
 }
-
-minutes() { printf '%d:%02d min' $(($1 / 60)) $(($1 % 60)); }

@@ -12,6 +12,8 @@ say_at() {
 # the sentence of sentences.txt with this key, or nothing
 sentence_of() { sed -n "s/^$1 | //p" "$door/sentences.txt"; }
 
+minutes() { printf '%d:%02d min' $(($1 / 60)) $(($1 % 60)); }
+
 # A folder of our own for what is kept while the program runs; it goes when the script ends.
 make_workroom() {
   room=$(mktemp -d) || { say "no folder for what is kept while the program runs"; exit 73; }
@@ -21,4 +23,5 @@ make_workroom() {
 leave() {
   rm -rf "$room"
   [ -z "${part_file-}" ] || rm -f "$part_file"
+  [ -z "${trial-}" ] || rm -rf "$trial"
 }
