@@ -25,3 +25,10 @@ leave() {
   [ -z "${part_file-}" ] || rm -f "$part_file"
   [ -z "${trial-}" ] || rm -rf "$trial"
 }
+
+# Ends the script by the signal that it got, so that a shell whose loop it is in ends too.
+die_by() {
+  [ -z "${room-}" ] || leave
+  trap - EXIT "$1"
+  kill -s "$1" $$
+}
