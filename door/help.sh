@@ -8,14 +8,9 @@ tell_about() {
     --help) topic=${2:-glock} ;;
   esac
   if [[ $topic =~ ^[a-z]+$ ]] && [ -f "$door/help/$topic.txt" ]; then
-    cat "$door/help/$topic.txt"
+    sed "s#\./glock#$me#g" "$door/help/$topic.txt"
   else
-    say "there is no help on \"$topic\"; there is on ${commands// /, }, prove and help"
+    say "there is no help on \"$topic\"; there is on ${commands// /, }, prove, install and help"
     return 2
   fi
-}
-
-tell_version() {
-  echo "glock commit $(commit)"
-  echo "proved with $(kit_of_sources)"
 }

@@ -1,22 +1,10 @@
 # Proves and builds the programs, and says how far it is: by the kit's gate with all processors, over a copy that holds
 # only the crates of the programs; or, where the gate can keep nothing, one crate after the other.
 
-# the program of the planner and that of the picture
-programs="lock_main lock_picture"
-is_program() { [[ " $programs " == *" $1 "* ]]; }
-program_of() { echo "$top/crates/$1/out/$1"; }
-
-are_built() {
-  local name
-  for name in $programs; do
-    program=$(program_of "$name")
-    [ -x "$program" ] && [ -z "$(newer_source)" ] || return 1
-  done
-}
-
 prove() {
   local log=$top/out/prove.log begin=$top/out/prove.begin name way=prove_by_gate
   [ $# = 0 ] || { say "prove takes no other words"; return 2; }
+  ! is_installed || { say "this copy is installed, and has no sources to prove; prove in the repository that it came from"; return 69; }
   has_kit || { say_no_kit "proving needs the kit"; return 69; }
   if are_built; then
     say "the program is proved and built already"

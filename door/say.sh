@@ -1,12 +1,20 @@
 # What the door says goes to standard error, one line at a time.
 
-say() { printf 'glock: %s\n' "$*" >&2; }
+# What is installed is called by its name alone.
+me=./glock
+if is_installed; then me=glock; fi
+
+say() {
+  local text=$*
+  printf 'glock: %s\n' "${text//.\/glock/$me}" >&2
+}
 
 # a message that belongs to a place: a file, or a file and a line
 say_at() {
-  local place=$1
+  local place=$1 text
   shift
-  printf '%s: %s\n' "$place" "$*" >&2
+  text=$*
+  printf '%s: %s\n' "$place" "${text//.\/glock/$me}" >&2
 }
 
 # the sentence of sentences.txt with this key, or nothing
