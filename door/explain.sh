@@ -69,7 +69,8 @@ explain_refused() {
 explain_line() {
   local sentence=
   if [ -n "$input" ]; then
-    sentence=$(awk -v number="$2" -v kind="$4" -v part="$1" -f "$door/line.awk" "$input" 2>/dev/null)
+    sentence=$(awk -v number="$2" -v kind="$4" -v part="$1" -v with_plan="$(reads_plan "$command" && echo 1)" \
+      -f "$door/nearest.awk" -f "$door/line.awk" "$input" 2>/dev/null)
   fi
   sentence=${sentence:-$(sentence_of "$1 $4")}
   if [ "$1" = instance ] && [ -n "$second_name" ] && [ "$2" -gt "$first_lines" ]; then

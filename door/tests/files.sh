@@ -98,6 +98,11 @@ check two.open | 7 | dossier fault 2 NoMark | This is an open dossier | old
 lot | 0 | | | glock 1
 ROWS
 
+for words in "--output old" --output=old -oold; do
+  call solve evening.lock $words
+  check "written by $words" gives 0 "" ""
+done
+
 no_file() {
   call $1
   check "refused: $1" gives "$2" "" "${3-}"
@@ -127,17 +132,61 @@ rows warned <<'ROWS'
 4s/1100 114/11000 1140/ | 8 | ship alva fits no chamber | The ship looks as if given in centimetres
 ROWS
 
-# The plan text of a report is the report's plan.
+# The plan text of a report is the report's plan; the script reads the report itself, also one with times of day.
 of_report() {
   call $1 -o x.report
-  awk -f "$top/examples/plan_of_report.awk" "$room/x.report" >"$room/x.plan" 2>"$room/err"
+  awk ${2:+-v $2} -f "$top/examples/plan_of_report.awk" "$room/x.report" >"$room/x.plan" 2>"$room/err"
   call judge evening.lock x.plan
-  check "the plan of the report: $1" gives "$2" "$3" "${4-}"
+  check "the plan of the report: $1, $2" gives "$3" "$4" "${5-}"
 }
 rows of_report <<'ROWS'
-solve evening.lock | 0 | legal cost 270
-judge evening.lock evening.plan | 0 | legal cost 270
-solve evening.lock --clock 17:00 | 10 | plan line 2 fault 11 NoEnd | x.plan:2: fault 11 NoEnd
+solve evening.lock | | 0 | legal cost 270
+judge evening.lock evening.plan | | 0 | legal cost 270
+solve evening.lock --clock 17:00 | begin=17:00 | 0 | legal cost 270
+solve evening.lock --clock 17:00 | | 10 | plan line 2 fault 11 NoEnd | x.plan:2: fault 11 NoEnd
+ROWS
+"$GLOCK_PROGRAM" solve --workers 1 <"$room/evening.lock" >"$room/plain.report"
+for clock in 17:00 23:50; do
+  "$top/glock" solve --workers 1 --clock $clock "$room/evening.lock" >"$room/${clock/:/}.report"
+done
+sed 's/$/\r/' "$room/1700.report" >"$room/crlf.report"
+cat "$room/evening.lock" "$room/2350.report" >"$room/both"
+sed '$d' "$room/1700.report" >"$room/cut.report"
+sed '/start 125/s/125/124/' "$room/plain.report" >"$room/early.report"
+sed 's/ 240 / 262 /' "$room/evening.lock" >"$room/now.lock"
+as_plan() {
+  call $1
+  check "a report as a plan: $1" gives "$2" "$3" "${4-}"
+}
+rows as_plan <<'ROWS'
+judge evening.lock plain.report | 0 | legal cost 270
+judge evening.lock 1700.report | 0 | legal cost 270
+judge evening.lock 2350.report | 0 | legal cost 270
+judge evening.lock 2350.report --clock 17:00 | 0 | legal cost 270
+judge evening.lock crlf.report | 0 | legal cost 270
+judge both | 0 | legal cost 270
+play evening.lock 2350.report --clock 17:00 | 0 | 17:00 main moor alva
+replan now.lock 1700.report --from 150 | 0 | optimal cost
+picture evening.lock 1700.report | 0 | <h1>legal, total flow time 270 minutes</h1>
+judge evening.lock cut.report | 10 | NoMark | cut.report: this report can't be read as a plan: this is no whole report: it has no line end
+judge evening.lock early.report | 10 | illegal lockage 4 Early | early.report:
+judge evening.lock | 10 | NoMark | nothing follows the chambers and the ships; a plan is wanted too
+judge evening.lock evening.lock | 10 | NoMark | here the chambers and the ships come a second time; the plan's file is wanted
+judge evening.plan evening.lock | 3 | NoHeader | a plan begins here; the file with the chambers and the ships comes first
+ROWS
+
+# - is standard input.
+from_input() {
+  (cd "$room" && "$top/glock" $1 <"$2" >out 2>err)
+  status=$? out=$(<"$room/out") err=$(<"$room/err")
+  check "standard input: $1" gives "$3" "$4" "${5-}"
+}
+rows from_input <<'ROWS'
+solve - | evening.lock | 0 | optimal cost 270
+solve - | bad.lock | 3 | line 9 fault 4 Count | standard input:9: fault 4 Count
+judge evening.lock - | evening-early.plan | 10 | illegal lockage 3 Early | standard input:7: lockage 3 Early
+judge - evening.plan | evening.lock | 0 | legal cost 270
+judge - | both | 0 | legal cost 270
 ROWS
 
 timed() {
@@ -168,6 +217,7 @@ help judge | 0 | ./glock judge [FILE PLAN]
 replan --help | 0 | ./glock replan [FILE PLAN]
 prove --help | 0 | ./glock prove
 --version | 0 | proved with rattle-kit
+-V | 0 | proved with rattle-kit
 help nothing | 2 | | there is no help on "nothing"
 ROWS
 
