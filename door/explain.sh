@@ -11,7 +11,7 @@ explain_answer() {
     2) say "${wrong:-these words are not understood; ./glock help tells what may be said}" ;;
     3) explain_refused "$first" ;;
     4) say_at "$subject" "read fault: $first_name could not be read to its end" ;;
-    5) say_at "$subject" "write fault: not all of the answer could be written; the disk may be full, or who reads it has ended" ;;
+    5) say_at "$subject" "write fault: not all of the answer could be written to $not_written" ;;
     6) say_at "$subject" "no memory: this machine has too little free memory for the work; close other programs$(fewer_nodes)" ;;
     7) explain_dossier "$first" ;;
     8) explain_unfit "${parts[1]}" ;;

@@ -23,7 +23,12 @@ take_input() {
     0) wait_for_keyboard && keep_standard_input ;;
     1) take_file ;;
     2) join_files ;;
-  esac
+  esac || return
+  # What is kept of the input, where that is all of it.
+  if [ -n "$input" ] && [ "${input%/*}" = "$room" ] && room_is_full; then
+    say "write fault: $(temporary_folder) is full, so the input can't be kept"
+    return 5
+  fi
 }
 
 wait_for_keyboard() {
@@ -72,7 +77,7 @@ join_file() {
 # the program is to say so itself.
 keep_standard_input() {
   reads_instance "$command" && [ -z "$wrong" ] || return 0
-  if head -c $most_kept >"$room/kept" 2>/dev/null; then input=$room/kept; fi
+  if head -c $most_kept >"$room/kept" 2>/dev/null || room_is_full; then input=$room/kept; fi
   if [ -n "$input" ] && reads_dossier "$command" && [ "$(wc -c <"$input")" -eq $most_kept ]; then goes_on=true; fi
 }
 

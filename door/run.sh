@@ -11,8 +11,9 @@ run_program() {
   fi
   "${run[@]}" "${program_words[@]}" <&0 >"$answer" &
   running=$!
-  trap 'stop_program 130' INT
-  trap 'stop_program 143' TERM HUP
+  trap 'stop_program INT' INT
+  trap 'stop_program TERM' TERM
+  trap 'stop_program HUP' HUP
   start_watch
   wait "$running"
   status=$?
@@ -20,12 +21,12 @@ run_program() {
   trap - INT TERM HUP
 }
 
-# Who stops the script stops the program.
+# Who stops the script stops the program, and the script ends by the same signal.
 stop_program() {
   kill "$running" 2>/dev/null
   wait "$running" 2>/dev/null
   end_watch
-  exit "$1"
+  die_by "$1"
 }
 
 start_watch() {

@@ -24,9 +24,16 @@ minutes() { printf '%d:%02d min' $(($1 / 60)) $(($1 % 60)); }
 
 # A folder of our own for what is kept while the program runs; it goes when the script ends.
 make_workroom() {
-  room=$(mktemp -d) || { say "no folder for what is kept while the program runs"; exit 73; }
+  room=$(mktemp -d 2>/dev/null) || { say "$(temporary_folder) can't be written in or is full"; exit 73; }
   trap leave EXIT
 }
+
+temporary_folder() { echo "the folder for temporary files (${TMPDIR:-/tmp}, which TMPDIR names)"; }
+
+# whether that folder is full, so that what was kept in it is cut off
+room_is_full() {
+  ! head -c 4096 /dev/zero 2>/dev/null >"$room/probe"
+} 2>/dev/null
 
 leave() {
   rm -rf "$room"

@@ -118,13 +118,13 @@ rows broken_plan <<'ROWS'
 17d | illegal lockage 1 Shape | It has no ship
 3s/ 4 20/ 1 20/ | illegal lockage 3 Shape | It has 2 ships, and side takes 1
 20s/125/124/ | illegal lockage 3 Early | x.both:20: lockage 3 Early: the lockage starts before all its ships have arrived; start it later. It starts at minute 124; eddy arrives at minute 125
-17s/10/5/ | illegal lockage 1 Outside alva | lockage 1 Outside: alva does not lie inside
-22s/100/50/ | illegal lockage 3 Touching cora eddy | cora and eddy lie too close
-17s/ 0 / 10 / | illegal lockage 1 Adrift alva | alva is to lie at the quay
-22s/100/110/ | illegal lockage 3 BadHost eddy cora | eddy cannot moor at cora
-1s/1/2/;6s/$/ 1/;8s/$/ 2/ | illegal lockage 3 Clash cora eddy | cora and eddy have cargoes
-18s/10/9/ | illegal lockage 2 Soon | x.both:18: lockage 2 Soon: the chamber is not ready
-1s/1/2/;3s/$/\nclose main 10 20/ | illegal lockage 1 Shut | x.both:17: lockage 1 Shut: the lockage would run into a closure
+17s/10/5/ | illegal lockage 1 Outside alva | It covers x 5 to 1105 and y 0 to 114; in main x may go from 10 to 1990 and y from 0 to 240.
+22s/100/50/ | illegal lockage 3 Touching cora eddy | Along the chamber they overlap by
+17s/ 0 / 10 / | illegal lockage 1 Adrift alva | Its y is 10.
+22s/100/110/ | illegal lockage 3 BadHost eddy cora | eddy has y 110, and beside cora y 100 is wanted.
+1s/1/2/;6s/$/ 1/;8s/$/ 2/ | illegal lockage 3 Clash cora eddy | put them into different ones. cora has class 1, eddy class 2.
+18s/10/9/ | illegal lockage 2 Soon | It starts at minute 9; side is ready at minute 10: it opens at minute 0 at high, and the empty turn takes 10.
+1s/1/2/;3s/$/\nclose main 10 20/ | illegal lockage 1 Shut | It lasts from minute 0 to 35; main is closed from 10 to 20.
 32s/iris/gull/ | illegal ship gull Double | x.both: ship gull Double: gull is in more than one lockage
 31,32d | illegal ship iris Missing | x.both: ship iris Missing: iris is in no lockage
 ROWS

@@ -114,7 +114,33 @@ solve evening.lock -o folder | 73 | is a folder
 solve evening.lock -o nofolder/x | 73 | there is no folder
 solve folder | 66 | folder is a folder
 solve evening.lock -o /dev/null | 0 |
+solve evening.lock -o /dev/full | 5 | evening.lock: write fault: not all of the answer could be written to /dev/full: No space left on device
 ROWS
+(cd "$room" && "$top/glock" solve evening.lock -o /dev/stdout 2>err | cat >out)
+status=$? out=$(<"$room/out") err=$(<"$room/err")
+check "standard output as the file of -o, in a pipe" gives 0 "optimal cost 270" ""
+
+# A file keeps its mode and its other names.
+echo old >"$room/one" && ln "$room/one" "$room/other" && echo old >"$room/mine" && chmod 640 "$room/mine" && ln -s mine "$room/linked"
+call solve evening.lock -o one
+check "other names" holds "$(head -n 1 "$room/other")" "optimal cost 270"
+call solve evening.lock -o linked
+check "a mode and a link" [ "$(stat -c %a "$room/mine") $(readlink "$room/linked") $(head -n 1 "$room/mine")" = "640 mine optimal cost 270" ]
+
+# A file without permission to write stays as it is. (Root may write all, so nobody is asked.)
+as_nobody() { if [ "$(id -u)" = 0 ]; then setpriv --reuid=65534 --regid=65534 --clear-groups "$@"; else "$@"; fi; }
+mkdir "$room/open" && chmod 777 "$room/open" && chmod 711 "$room" && echo old >"$room/open/locked" && chmod 444 "$room/open/locked"
+if as_nobody test -r "$top/door/say.sh" -a -x "$GLOCK_PROGRAM" 2>/dev/null; then
+  as_nobody "$top/glock" lot -o "$room/open/locked" >"$room/out" 2>"$room/err"
+  status=$? out=$(<"$room/out") err=$(<"$room/err")
+  check "no permission" gives 73 "" "locked can't be written: no permission"
+  check "it stays" [ "$(<"$room/open/locked")" = old ]
+else
+  echo "left out: nobody may not read $top, so a file without permission wasn't tried"
+fi
+
+TMPDIR=$room/nowhere call solve evening.lock
+check "no folder for temporary files" gives 73 "" "the folder for temporary files ($room/nowhere, which TMPDIR names) can't be written in"
 check "the device is still there" [ -c /dev/null ]
 
 # an edit of evening.lock, and a part of the warning or of the message
@@ -128,6 +154,10 @@ rows warned <<'ROWS'
 4s/1100 114/114 150/ | 0 | optimal | x.lock:4: warning: ship alva is wider (150) than long (114)
 4,12s/\([0-9]\)[0-9] \([0-9]*\)[0-9] \([0-9]* 5\)$/\1 \2 \3/ | 0 | optimal | such lines
 4s/1100 114/95 800/ | 8 | ship alva fits no chamber | x.lock:4: alva is 95 long and 800 wide, in decimetres; main takes ships up to 1980 by 240, side takes ships up to 1340 by 160. Its length and width look swapped
+2s/ 10 20 / 1 2 / | 0 | optimal | x.lock:2: warning: in chamber main the clearance at the ends is 1, which looks like metres
+2s/ 10 20 / 10 2 / | 0 | optimal | x.lock:2: warning: in chamber main the gap along the chamber is 2, which looks like metres
+4s/ 5$/ 300/ | 0 | optimal | x.lock:4: warning: ship alva has a handling of 300 minutes, which looks like seconds; times are minutes, and 300 seconds are 5.
+4,12s/ [0-9]* 5$/ 1725 5/ | 0 | optimal | x.lock:4: warning: all arrivals look like times of day (1725 as 17:25); they are minutes from one moment: after midnight 17:25 is minute 1045.
 2,3s/[0-9] / /;2s/240/24/;3s/160/16/ | 8 | ship alva fits no chamber | The chambers look as if given in metres
 4s/1100 114/11000 1140/ | 8 | ship alva fits no chamber | The ship looks as if given in centimetres
 ROWS
@@ -251,3 +281,16 @@ ROWS
 (cd "$room" && "$top/glock" solve evening.lock >/dev/full 2>err)
 status=$? out= err=$(<"$room/err")
 check "a full disk" gives 5 "" "write fault"
+
+# An interrupt ends a loop of the shell too.
+printf '#!/usr/bin/env bash\necho x >>"%s/started"; exec sleep 60\n' "$room" >"$room/sleeper"
+chmod +x "$room/sleeper"
+(cd "$room" && GLOCK_PROGRAM=$room/sleeper exec setsid env --default-signal=INT bash -c \
+  'for day in 1 2 3; do "$0" lot; done' "$top/glock" >out 2>err) &
+loop=$!
+for _ in {1..200}; do [ ! -e "$room/started" ] || break; sleep 0.1; done
+sleep 0.3
+kill -s INT -- -$loop
+wait $loop
+status=$? out= err=$(<"$room/err")
+check "an interrupt ends a loop" [ "$status $(wc -l <"$room/started")" = "130 1" ]
