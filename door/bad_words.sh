@@ -116,7 +116,7 @@ perhaps() {
 
 # what who names many files, as by *.lock, may have wanted
 many_days() {
-  [ "$command" != solve ] || echo "; to solve many days, name them one at a time, as in: for day in *.lock; do ./glock solve \"\$day\"; done (docs/using.md shows more)"
+  [ "$command" != solve ] || echo "; to solve many days, name them one at a time, as in: for day in *.lock; do ./glock solve \"\$day\"; done (docs/using.md shows more, and ./glock table prints a line for each report)"
 }
 
 missing_word() {

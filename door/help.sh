@@ -10,7 +10,7 @@ tell_about() {
   if [[ $topic =~ ^[a-z]+$ ]] && [ -f "$door/help/$topic.txt" ]; then
     sed "s#\./glock#$me#g" "$door/help/$topic.txt"
   else
-    say "there is no help on \"$topic\"; there is on ${commands// /, }, prove, install and help"
+    say "there is no help on \"$topic\"; there is on ${commands// /, }, ${own_commands// /, }"
     return 2
   fi
 }
