@@ -67,7 +67,7 @@ copy_crates() {
   cp "$top/HANDLES" "$1" || return
   for name in $(crates_of_programs); do
     mkdir "$1/crates/$name" || return
-    grep -E "^$name[ :]" "$top/crates.txt" >>"$1/crates.txt"
+    grep -E "^${name}[ :]" "$top/crates.txt" >>"$1/crates.txt"
     for part in src specs proofs stdin stdout args status data; do
       [ ! -e "$top/crates/$name/$part" ] || cp -R "$top/crates/$name/$part" "$1/crates/$name" || return
     done

@@ -34,6 +34,7 @@ function look_at_times() {
   if ($6 >= 100 && $6 < 2400 && $6 % 100 < 60) like_clock++
   else if ($6 != 0) unlike_clock++
   if (!clock_line && $6 >= 600) { clock_line = NR; clock_text = $6 }
+  if ($6 >= 1440) past_a_day = 1
 }
 
 function warn(text) {
@@ -43,8 +44,8 @@ function warn(text) {
 }
 
 END {
-  # One or two arrivals may look so by chance; of six minutes by chance one in some twenty lots does.
-  if (like_clock >= 4 && !unlike_clock && clock_line) {
+  # Six minutes all look so by chance in one of twenty lots, three past the minutes of a day more seldom.
+  if (like_clock >= (past_a_day ? 3 : 6) && !unlike_clock && clock_line) {
     at = sprintf("%02d:%02d", int(clock_text / 100), clock_text % 100)
     print clock_line "\tall arrivals look like times of day (" clock_text " as " at "); they are minutes from one moment: after midnight " at " is minute " int(clock_text / 100) * 60 + clock_text % 100 "."
   }

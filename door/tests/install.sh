@@ -52,10 +52,10 @@ check "a copy of a copy" gives 0 "optimal cost 270" ""
 installed moved help play
 check "its help calls it by its name" [ -z "$(grep -F ./glock "$room/out")" ]
 
-mkdir -p "$room/other/bin" && echo mine >"$room/other/bin/glock"
-kit install "$room/other"
+mkdir -p "$room/foreign/bin" && echo mine >"$room/foreign/bin/glock"
+kit install "$room/foreign"
 check "a file that isn't ours" gives 73 "" "bin/glock is there and isn't ours"
-check "it stays" [ "$(<"$room/other/bin/glock")" = mine ]
+check "it stays" [ "$(<"$room/foreign/bin/glock")" = mine ]
 
 check "a manual page" grep -q '^\.SH REPLAN$' "$room/moved/share/man/man1/glock.1"
 completed() {
