@@ -73,3 +73,4 @@ glock lot --sh | --ships
 glock replan --fr | --from
 ROWS
 check "a completion for zsh" grep -q "solve) options=('--nodes:" "$room/moved/share/zsh/site-functions/_glock"
+check "the version of CITATION.cff" grep -q "^version: $(head -n 1 "$top/VERSION")$" "$top/CITATION.cff"
