@@ -24,12 +24,12 @@ refuse() {
 check_option() {
   local name=${1%%=*}
   case $name in
-    -o) refuse "-o needs the name of a file after it, and may stand once"; return ;;
+    -o | --output) refuse "-o needs the name of a file after it, and may stand once"; return ;;
     --clock) check_clock "${1#--clock}" "${2-}"; return ;;
     --*) ;;
-    *) refuse "\"$1\" is no option; options of the program begin with two dashes"; return ;;
+    *) refuse "\"$1\" is no option; options begin with two dashes, and $(what_it_takes)"; return ;;
   esac
-  is_option "$name" || is_flag "$name" || { refuse "there is no option $name; $(what_it_takes)"; return; }
+  is_option "$name" || is_flag "$name" || { refuse "there is no option $name$(perhaps "$name" "$(all_options)"); $(what_it_takes)"; return; }
   if is_command "$command" && [[ " $(options_of "$command") " != *" $name "* ]]; then
     refuse "$name isn't for $command; $(what_it_takes)"
     return
@@ -76,14 +76,14 @@ check_plain() {
   for word in "$@"; do
     plain=$((plain + 1))
     if [ $plain = 1 ]; then
-      is_command "$word" || { refuse "there is no command \"$word\"; the commands are ${commands// /, }"; return; }
+      is_command "$word" || { refuse "there is no command \"$word\"$(perhaps "$word" "$commands $own_commands"); $(the_commands)"; return; }
     elif [ ! -e "$word" ]; then
       refuse "there is no file \"$word\""
       return
     else
       case $(most_files "$command") in
         0) refuse "$command reads no file, so \"$word\" is one word too many" ;;
-        1) refuse "$command reads one file, so \"$word\" is one too many" ;;
+        1) refuse "$command reads one file, so \"$word\" is one too many$(many_days)" ;;
         2) refuse "$command reads an instance and a plan, so \"$word\" is one file too many" ;;
       esac
       return
@@ -93,19 +93,35 @@ check_plain() {
 
 what_it_takes() {
   local options
-  options=$(options_of "$command")
-  if [ -n "$options" ]; then
-    echo "$command takes ${options// /, }"
-  elif is_command "$command"; then
-    echo "$command takes no such options"
-  else
+  if ! is_command "$command"; then
     echo "./glock help tells them"
+    return
   fi
+  options="$(options_of "$command") $(own_options_of "$command" | tr '\n' ' ')"
+  read -r -a options <<<"$options"
+  printf -v options '%s, ' "${options[@]}"
+  echo "$command takes ${options%, }"
+}
+
+the_commands() { echo "the commands are ${commands// /, }, and of the script ${own_commands// /, }"; }
+
+all_options() { if is_command "$command"; then echo "$(options_of "$command") --output --clock --help"; else echo "--help --version"; fi; }
+
+# the word of some others that was perhaps meant
+perhaps() {
+  local near
+  near=$(NEAREST_TO=$1 NEAREST_OF=$2 awk -f "$door/nearest.awk")
+  if [ -n "$near" ]; then echo "; perhaps $near is meant"; fi
+}
+
+# what who names many files, as by *.lock, may have wanted
+many_days() {
+  [ "$command" != solve ] || echo "; to solve many days, name them one at a time, as in: for day in *.lock; do ./glock solve \"\$day\"; done (docs/using.md shows more, and ./glock table prints a line for each report)"
 }
 
 missing_word() {
   if [ -z "$command" ]; then
-    refuse "the command is missing; the commands are ${commands// /, }"
+    refuse "the command is missing; $(the_commands)"
   elif [ "$command" = replan ] && [[ $seen != *" --from "* ]]; then
     refuse "replan needs --from and the minute from which on it may plan anew"
   fi

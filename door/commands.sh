@@ -2,6 +2,9 @@
 
 commands="solve check lot trial judge play replan lower resume picture"
 
+# what the script answers itself
+own_commands="table changes prove install help"
+
 is_command() { [[ " $commands " == *" $1 "* ]]; }
 
 # how many files a command takes in the place of standard input
@@ -25,6 +28,12 @@ options_of() {
     lot) echo "--number --ships --chambers" ;;
     trial) echo "--number --ships --chambers --nodes --turns" ;;
   esac
+}
+
+# the options of the script that a command takes
+own_options_of() {
+  echo "-o"
+  if reads_instance "$1"; then echo "--clock"; fi
 }
 
 is_option() { [[ " --nodes --turns --workers --from --number --ships --chambers " == *" $1 "* ]]; }

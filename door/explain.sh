@@ -11,7 +11,7 @@ explain_answer() {
     2) say "${wrong:-these words are not understood; ./glock help tells what may be said}" ;;
     3) explain_refused "$first" ;;
     4) say_at "$subject" "read fault: $first_name could not be read to its end" ;;
-    5) say_at "$subject" "write fault: not all of the answer could be written; the disk may be full, or who reads it has ended" ;;
+    5) say_at "$subject" "write fault: not all of the answer could be written to $not_written" ;;
     6) say_at "$subject" "no memory: this machine has too little free memory for the work; close other programs$(fewer_nodes)" ;;
     7) explain_dossier "$first" ;;
     8) explain_unfit "${parts[1]}" ;;
@@ -69,7 +69,8 @@ explain_refused() {
 explain_line() {
   local sentence=
   if [ -n "$input" ]; then
-    sentence=$(awk -v number="$2" -v kind="$4" -v part="$1" -f "$door/line.awk" "$input" 2>/dev/null)
+    sentence=$(awk -v number="$2" -v kind="$4" -v part="$1" -v with_plan="$(reads_plan "$command" && echo 1)" \
+      -f "$door/nearest.awk" -f "$door/line.awk" "$input" 2>/dev/null)
   fi
   sentence=${sentence:-$(sentence_of "$1 $4")}
   if [ "$1" = instance ] && [ -n "$second_name" ] && [ "$2" -gt "$first_lines" ]; then

@@ -19,7 +19,7 @@ explain_ship() { say_at "${second_name:-$first_name}" "ship $1 $2: $(break_sente
 # a lockage's number, its break and the ships that the break names
 explain_lockage() {
   local line detail
-  IFS=$'\t' read -r line detail < <(awk -v number="$1" -v kind="$2" -f "$door/lockage.awk" "$input")
+  IFS=$'\t' read -r line detail < <(awk -v number="$1" -v kind="$2" -v first="${3-}" -v second="${4-}" -f "$door/lockage.awk" "$input")
   say_at "$(place_of "$line")" "lockage $1 $2: $(break_sentence "${@:2}")${detail:+ ${detail% }}"
 }
 

@@ -8,27 +8,9 @@ tell_about() {
     --help) topic=${2:-glock} ;;
   esac
   if [[ $topic =~ ^[a-z]+$ ]] && [ -f "$door/help/$topic.txt" ]; then
-    cat "$door/help/$topic.txt"
+    sed "s#\./glock#$me#g" "$door/help/$topic.txt"
   else
-    say "there is no help on \"$topic\"; there is on ${commands// /, }, prove and help"
+    say "there is no help on \"$topic\"; there is on ${commands// /, }, ${own_commands// /, }"
     return 2
-  fi
-}
-
-tell_version() {
-  echo "glock commit $(commit)"
-  echo "proved with $(kit_of_sources)"
-}
-
-# the commit of these files, where they lie in a repository of their own
-commit() {
-  local root
-  root=$(git -C "$top" rev-parse --show-toplevel 2>/dev/null)
-  if [ -z "$root" ] || ! [ "$root" -ef "$top" ]; then
-    echo unknown
-  elif [ -z "$(git -C "$top" status --porcelain -uno)" ]; then
-    git -C "$top" rev-parse --short HEAD
-  else
-    echo "$(git -C "$top" rev-parse --short HEAD) with later changes"
   fi
 }

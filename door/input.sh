@@ -11,7 +11,11 @@ most_joined=16777216
 take_input() {
   input= goes_on=false first_name="standard input" second_name= first_lines=0
   local file
+  is_named=true
+  if [ ${#files[@]} = 0 ]; then is_named=false; fi
+  if [ "${files[*]}" = - ]; then files=(); fi
   for file in "${files[@]}"; do
+    [ "$file" != - ] || continue
     [ -d "$file" ] && { say "$file is a folder"; return 66; }
     [ -r "$file" ] || { say "$file can't be read: no permission"; return 66; }
   done
@@ -19,11 +23,16 @@ take_input() {
     0) wait_for_keyboard && keep_standard_input ;;
     1) take_file ;;
     2) join_files ;;
-  esac
+  esac || return
+  # What is kept of the input, where that is all of it.
+  if [ -n "$input" ] && [ "${input%/*}" = "$room" ] && room_is_full; then
+    say "write fault: $(temporary_folder) is full, so the input can't be kept"
+    return 5
+  fi
 }
 
 wait_for_keyboard() {
-  if [ -t 0 ] && [ -z "$wrong" ] && [ "$(most_files "$command")" -gt 0 ]; then
+  if [ -t 0 ] && ! $is_named && [ -z "$wrong" ] && [ "$(most_files "$command")" -gt 0 ]; then
     say "no file is named, so $command reads what you type; end it with Ctrl-D, or stop with Ctrl-C and name a file"
   fi
 }
@@ -41,22 +50,24 @@ take_file() {
 
 # The second file begins on a line of its own, also where the first doesn't end with a line feed.
 join_files() {
-  first_name=${files[0]} second_name=${files[1]} input=$room/joined
+  first_name=$(name_of "${files[0]}") second_name=$(name_of "${files[1]}") input=$room/joined
   : >"$input"
-  join_file "$first_name" || return
+  join_file "${files[0]}" || return
   [ -z "$(tail -c 1 "$input" | tr -d '\n' | tr '\0' 'x')" ] || echo >>"$input"
   first_lines=$(wc -l <"$input")
-  join_file "$second_name"
+  join_file "${files[1]}"
 }
+
+name_of() { if [ "$1" = - ]; then echo "standard input"; else echo "$1"; fi; }
 
 # Appends a file to the input. What is over the program's limit is left out; a program that has none gets all or nothing.
 join_file() {
   local before most=$most_kept
   before=$(wc -c <"$input")
   if reads_dossier "$command"; then most=$((most_joined + 1)); fi
-  head -c $most "$1" >>"$input"
+  if [ "$1" = - ]; then head -c $most; else head -c $most "$1"; fi >>"$input"
   if reads_dossier "$command" && [ $(($(wc -c <"$input") - before)) -eq $most ]; then
-    say "$1 has more than $most_joined bytes; join the two files and give one"
+    say "$(name_of "$1") has more than $most_joined bytes; join the two files and give one"
     return 66
   fi
 }
@@ -66,16 +77,18 @@ join_file() {
 # the program is to say so itself.
 keep_standard_input() {
   reads_instance "$command" && [ -z "$wrong" ] || return 0
-  if head -c $most_kept >"$room/kept" 2>/dev/null; then input=$room/kept; fi
+  if head -c $most_kept >"$room/kept" 2>/dev/null || room_is_full; then input=$room/kept; fi
   if [ -n "$input" ] && reads_dossier "$command" && [ "$(wc -c <"$input")" -eq $most_kept ]; then goes_on=true; fi
 }
 
 # where a line of the input stands, as file:line
 place_of() {
-  if [ -n "$second_name" ] && [ "$1" -gt "$first_lines" ]; then
-    echo "$second_name:$(($1 - first_lines))"
+  local line
+  line=$(given_line "$1")
+  if [ -n "$second_name" ] && [ "$line" -gt "$first_lines" ]; then
+    echo "$second_name:$((line - first_lines))"
   else
-    echo "$first_name:$1"
+    echo "$first_name:$line"
   fi
 }
 

@@ -58,8 +58,14 @@ function number_word(name, means, from, to) {
 
 { sub(/\r$/, ""); sub(/#.*/, "") }
 
-NR < number && ($1 == "chamber" || $1 == "ship") { line_of[$1 " " $2] = NR }
+NR < number && ($1 == "chamber" || $1 == "ship") {
+  line_of[$1 " " $2] = NR
+  names_of[$1] = names_of[$1] " " $2
+}
 NR == number { print sentence(); exit }
+
+# the text ends before the line that is wanted
+END { if (NR < number && kind == "NoMark") print no_plan() }
 
 function sentence() {
   if (kind == "NoHeader") return no_instance()
@@ -83,6 +89,7 @@ function sentence() {
 # where the instance must begin and something else does
 function no_instance() {
   if ($1 ~ /^\357\273\277/) return "the file begins with a hidden mark of three bytes; save it as UTF-8 without a byte order mark."
+  if ($1 == "plan" && !with_plan) return "this is a plan; the file with the chambers and the ships is wanted, and no plan."
   if ($1 == "plan") return "a plan begins here; the file with the chambers and the ships comes first, and the plan after it."
   return is_report() ? "this is a report; the file with the chambers and the ships is wanted." : ""
 }
@@ -91,7 +98,8 @@ function no_instance() {
 function no_plan() {
   if ($1 == "certificate") return "a certificate begins here and no plan; check, lower, resume and picture read dossiers."
   if ($1 == "glock") return "here the chambers and the ships come a second time; the plan's file is wanted."
-  return is_report() ? "this is a report and no plan text; awk -f examples/plan_of_report.awk makes a plan text of it." : ""
+  if (is_report()) return "this is a report, of which no plan could be made."
+  return NR == number && NF ? "" : "nothing follows the chambers and the ships; a plan is wanted too, as a second file or behind them."
 }
 
 function is_report() { return ($1 == "optimal" || $1 == "open" || $1 == "legal") && $(NF - 1) == "cost" }
@@ -112,13 +120,13 @@ function first_wrong_choice(    names, i, parts) {
   if ($1 == "plan") return "the plan begins here, and the line end before it is missing."
   if (tolower($1) != $1 && tolower($1) in count) return "\"" $1 "\" must be written in small letters: " tolower($1) "."
   if ($1 == "") return ""
-  if (!($1 in form)) return "no line may begin with \"" $1 "\" here; lines begin with " beginnings[part] "."
+  if (!($1 in form)) return "no line may begin with \"" $1 "\" here; lines begin with " beginnings[part] "." meant_line()
   split(form[$1], names, " ")
   for (i = 1; i < NF; i++)
     if (names[i] in choice) {
       split(choice[names[i]], parts, " or ")
       if ($(i + 1) != parts[1] && $(i + 1) != parts[2])
-        return "\"" $(i + 1) "\" stands where " choice[names[i]] " must stand." name_of_two_words()
+        return "\"" $(i + 1) "\" stands where " choice[names[i]] " must stand" perhaps($(i + 1), parts[1] " " parts[2]) "." name_of_two_words()
     }
   return $1 == "close" ? "a line close needs `glock 2` as the first line, and may not follow the line end." : ""
 }
@@ -156,7 +164,17 @@ function with_commas(whole,    text) {
 }
 
 function first_unknown() {
-  if ($1 == "close" || $1 == "lockage") return "there is no chamber named " $2 " above."
-  if (!(("ship " $2) in line_of)) return "there is no ship named " $2 " in the instance."
-  return $1 == "berth" ? "there is no ship named " $6 " in the instance." : ""
+  if ($1 == "close" || $1 == "lockage") return "there is no chamber named " $2 " above" perhaps($2, names_of["chamber"]) "."
+  if (!(("ship " $2) in line_of)) return "there is no ship named " $2 " in the instance" perhaps($2, names_of["ship"]) "."
+  return $1 == "berth" ? "there is no ship named " $6 " in the instance" perhaps($6, names_of["ship"]) "." : ""
+}
+
+function perhaps(word, list,    near) {
+  near = nearest(word, list)
+  return near == "" ? "" : "; perhaps " near " is meant"
+}
+
+function meant_line(    near) {
+  near = nearest($1, part == "plan" ? "lockage berth end" : "chamber ship close end")
+  return near == "" ? "" : " Perhaps " near " is meant."
 }

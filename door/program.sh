@@ -1,7 +1,24 @@
 # Which program answers: the proved one, or the kit's unproved run of the same sources where it isn't built.
 
-crate=$top/crates/lock_main
-program=$crate/out/lock_main
+# the program of the planner and that of the picture
+programs="lock_main lock_picture"
+is_program() { [[ " $programs " == *" $1 "* ]]; }
+program_of() { if is_installed; then echo "$top/programs/$1"; else echo "$top/crates/$1/out/$1"; fi; }
+
+# whether both programs are proved and built, of sources that are no newer
+are_built() {
+  local name
+  for name in $programs; do
+    program=$(program_of "$name")
+    [ -x "$program" ] && [ -z "$(newer_source)" ] || return 1
+  done
+}
+
+# sets the program that answers
+use_program() {
+  crate=$top/crates/$1
+  program=$(program_of "$1")
+}
 
 # the first source that is newer than the program, or nothing
 newer_source() {
@@ -17,47 +34,58 @@ choose_program() {
     return
   fi
   run=("$program")
+  if is_installed; then
+    grep -q '^programs proved$' "$top/BUILD" || say "not the proved program: what is installed here was built by the kit's unproved run of commit $(commit)"
+    return
+  fi
   reason="the proved program isn't built yet"
   if [ -x "$program" ]; then
     newer=$(newer_source)
     [ -n "$newer" ] || return 0
     reason="${newer#"$top"/} is newer than the proved program"
-    has_kit || { say "$reason, and the kit isn't here to build it anew; the older proved program answers"; return 0; }
+  fi
+  choose_unproved "$reason"
+}
+
+# the program that an unproved run of these sources left, or a new run of the kit, or without the kit an older proved program
+choose_unproved() {
+  if use_kept_program "$1"; then return 0; fi
+  if ! has_kit; then
+    [ -x "$program" ] && say "$1, and the kit isn't here to build it anew; the older proved program answers" && return 0
+    run=(unproved_run)
+    [ -z "$wrong" ] || return 0
+    say_no_kit "$1"
+    return 69
   fi
   run=(unproved_run)
-  [ -z "$wrong" ] || return 0
-  has_kit || { say_no_kit "$reason"; return 69; }
-  say "not the proved program: $reason, so this answer comes from the kit's unproved run, which takes a minute or more;" \
-    "./glock prove builds the proved program"
+  [ -n "$wrong" ] || make_trial_folder "$1"
 }
 
 # the kit that the sources are proved with, as the README names it
-kit_of_sources() { sed -n '/proved with `rattle-kit/{s/.*proved with `\([^`]*\)`.*/\1/p;q}' "$top/README.md"; }
+kit_of_sources() {
+  if is_installed; then sed -n 's/^kit //p' "$top/BUILD"; return; fi
+  sed -n '/proved with `rattle-kit/{s/.*proved with `\([^`]*\)`.*/\1/p;q}' "$top/README.md"
+}
 is_kit_of_sources() { [ "$(rt version)" = "$(kit_of_sources)" ]; }
 
 has_kit() { command -v rt >/dev/null; }
 
 say_no_kit() {
-  say "$1, and the Rattle kit isn't on this machine: its command rt proves and builds the program (see README.md)"
+  say "$1, and the Rattle kit isn't on this machine. The kit is the compiler and prover of the language in which glock is written;" \
+    "its command rt proves and builds the program, and is looked for in the folders of PATH. README.md tells more." \
+    "A copy that ./glock install made on another machine of this kind needs no kit"
 }
 
-# The kit's run of the sources without a proof, which builds the program for this run alone and ends with its status.
-# Words that the door sees to be wrong need no program.
-unproved_run() {
-  if [ -n "$wrong" ]; then
-    echo "bad words"
-    exit 2
+# the commit of these files, where they lie in a repository of their own
+commit() {
+  local root
+  if is_installed; then sed -n 's/^commit //p' "$top/BUILD"; return; fi
+  root=$(git -C "$top" rev-parse --show-toplevel 2>/dev/null)
+  if [ -z "$root" ] || ! [ "$root" -ef "$top" ]; then
+    echo unknown
+  elif [ -z "$(git -C "$top" status --porcelain -uno)" ]; then
+    git -C "$top" rev-parse --short HEAD
+  else
+    echo "$(git -C "$top" rev-parse --short HEAD) with later changes"
   fi
-  cd "$crate" && exec rt try --seconds 3600 -- "$@" 2>"$room/kit"
-}
-
-# The kit's last line says whether the status is the program's own.
-kit_gave_answer() {
-  local last
-  [ "${run[0]}" = unproved_run ] && [ -z "$wrong" ] || return 0
-  last=$(tail -n 1 "$room/kit" 2>/dev/null)
-  [[ $last != "run=ended status=$status "* ]] || return 0
-  tail -n 5 "$room/kit" >&2
-  say "the kit's unproved run gave no answer; ./glock prove builds the program, which may do better"
-  return 1
 }

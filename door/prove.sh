@@ -1,21 +1,10 @@
-# Proves and builds the programs, one crate after the other, and says how far it is.
-
-# the program of the planner and that of the picture
-programs="lock_main lock_picture"
-is_program() { [[ " $programs " == *" $1 "* ]]; }
-program_of() { echo "$top/crates/$1/out/$1"; }
-
-are_built() {
-  local name
-  for name in $programs; do
-    program=$(program_of "$name")
-    [ -x "$program" ] && [ -z "$(newer_source)" ] || return 1
-  done
-}
+# Proves and builds the programs, and says how far it is: by the kit's gate with all processors, over a copy that holds
+# only the crates of the programs; or, where the gate can keep nothing, one crate after the other.
 
 prove() {
-  local log=$top/out/prove.log begin=$top/out/prove.begin name
+  local log=$top/out/prove.log begin=$top/out/prove.begin name way=prove_by_gate
   [ $# = 0 ] || { say "prove takes no other words"; return 2; }
+  ! is_installed || { say "this copy is installed, and has no sources to prove; prove in the repository that it came from"; return 69; }
   has_kit || { say_no_kit "proving needs the kit"; return 69; }
   if are_built; then
     say "the program is proved and built already"
@@ -23,11 +12,107 @@ prove() {
   fi
   mkdir -p "$top/out" && : >"$log" && : >"$begin" || { say "$top/out can't be written in"; return 73; }
   is_kit_of_sources || say "this machine's kit is $(rt version), and the sources were proved with $(kit_of_sources); a proof may fail"
+  if ! gate_keeps; then
+    way=prove_crates
+    say "the kit can't keep beside itself what its gate proves, so one crate is proved after the other, on one processor"
+  fi
   say "proving the crates of the program; this may take an hour or more. What is proved is kept if you stop"
-  prove_crates "$log" || return 70
+  $way "$log" || return 70
   # A source that was changed since the start is newer than the program.
   for name in $programs; do touch -r "$begin" "$(program_of "$name")"; done
+  rm -rf "$kept_folder"
   say "the program is proved and built, $(minutes "$SECONDS") after the start; ./glock answers by it from now on"
+}
+
+# What the gate proves it keeps beside the kit. Who may not write there would prove all anew after each stop.
+gate_keeps() {
+  local kit
+  kit=$(readlink -f "$(command -v rt)")
+  kit=$(dirname "${kit%/bin/*}")
+  if [ -e "$kit/rattle-kept" ]; then [ -d "$kit/rattle-kept" ] && [ -w "$kit/rattle-kept" ]; else [ -w "$kit" ]; fi
+}
+
+# The gate takes no checkout in which a second one lies, so the copy goes however the run ends.
+prove_by_gate() {
+  local copy=$top/out/prove status
+  rm -rf "$copy"
+  trap 'stop_gate INT' INT
+  trap 'stop_gate TERM' TERM HUP
+  copy_crates "$copy" || { rm -rf "$copy"; say "$copy can't be written in"; return 1; }
+  (cd "$copy" && exec rt ci) >"$1" 2>&1 </dev/null &
+  running=$!
+  follow_gate "$1"
+  wait "$running"
+  status=$?
+  if [ $status = 0 ]; then take_programs "$copy" || status=1; fi
+  [ $status = 0 ] || say_refused "$1"
+  rm -rf "$copy"
+  trap - INT TERM HUP
+  return $status
+}
+
+# The kit ends its provers where it is ended itself.
+stop_gate() {
+  [ -z "${running-}" ] || { kill "$running" && wait "$running"; } 2>/dev/null
+  # A prover that is just ending may still write there.
+  rm -rf "$top/out/prove" 2>/dev/null || { sleep 1; rm -rf "$top/out/prove"; }
+  say "stopped; ./glock prove goes on from what is proved"
+  die_by "$1"
+}
+
+# crates.txt, HANDLES and the crates of the programs as a checkout of their own, without tests and planted bugs
+copy_crates() {
+  local name part
+  mkdir -p "$1/.git" "$1/crates" || return
+  cp "$top/HANDLES" "$1" || return
+  for name in $(crates_of_programs); do
+    mkdir "$1/crates/$name" || return
+    grep -E "^${name}[ :]" "$top/crates.txt" >>"$1/crates.txt"
+    for part in src specs proofs stdin stdout args status data; do
+      [ ! -e "$top/crates/$name/$part" ] || cp -R "$top/crates/$name/$part" "$1/crates/$name" || return
+    done
+  done
+}
+
+# While the gate runs: a line for each crate that it has proved. What it had kept goes quickly, and tells nothing of the time left.
+follow_gate() {
+  local line name bytes all=0 new=0 kept=0 number=0 is_over=false log
+  local -A sizes=()
+  while read -r name bytes; do
+    sizes[$name]=$bytes all=$((all + bytes))
+  done < <(crates_with_sizes)
+  exec {log}<"$1"
+  while :; do
+    while read -r line <&"$log"; do
+      name=$(proved_crate "$line")
+      [ -n "$name" ] && [ -n "${sizes[$name]-}" ] || continue
+      number=$((number + 1))
+      if [[ $line == *" is kept: "* ]]; then kept=$((kept + sizes[$name])); else new=$((new + sizes[$name])); fi
+      printf 'glock: %2d of %d  %-20s %s gone%s\n' $number ${#sizes[@]} "$name" "$(minutes "$SECONDS")" \
+        "$(time_left "$new" $((all - kept)))" >&2
+    done
+    ! $is_over || break
+    if kill -0 "$running" 2>/dev/null; then sleep 1; else is_over=true; fi
+  done
+  exec {log}<&-
+}
+
+# the crate of a line of the gate such as `rt: lock_rules proved` or `rt: lock_rules is kept: ..`
+proved_crate() { sed -n -E 's/^rt: ([a-z0-9_]+) (proved$|is kept: .*)/\1/p' <<<"$1"; }
+
+take_programs() {
+  local name made
+  for name in $programs; do
+    made=$1/crates/$name/out/$name
+    [ -x "$made" ] && mkdir -p "$top/crates/$name/out" && rm -f "$(program_of "$name")" && cp "$made" "$(program_of "$name")" || return
+  done
+}
+
+say_refused() {
+  local crate_name
+  tail -n 20 "$1" >&2
+  crate_name=$(sed -n -E 's/^rt: FAILED: //p' "$1")
+  say "${crate_name:-the program} could not be proved or built; all that the kit said is in $1"
 }
 
 # The time left is guessed from the bytes of the crates' files. What was proved before goes quickly, so the guess is rough.
@@ -62,8 +147,15 @@ say_unproved() {
   say "$1 could not be proved or built; all that the kit said is in $2"
 }
 
-# the programs and the crates below them with the bytes of their files, each crate after those that it uses
+# the programs and the crates below them with the bytes of their files
 crates_with_sizes() {
+  crates_of_programs | while read -r name; do
+    echo "$name $(bytes_of "$top/crates/$name/src" "$top/crates/$name/specs" "$top/crates/$name/proofs")"
+  done
+}
+
+# the programs and the crates below them, each crate after those that it uses
+crates_of_programs() {
   awk '
     { sub(/#.*/, "") }
     NF { name = $1; sub(/:.*/, "", name); names[++count] = name; uses[name] = $0; sub(/^[^:]*:/, "", uses[name]) }
@@ -74,10 +166,7 @@ crates_with_sizes() {
       for (i = 1; i <= n; i++) mark(parts[i])
       print name
     }
-    END { n = split(programs, parts, " "); for (i = 1; i <= n; i++) mark(parts[i]) }' programs="$programs" "$top/crates.txt" |
-    while read -r name; do
-      echo "$name $(bytes_of "$top/crates/$name/src" "$top/crates/$name/specs" "$top/crates/$name/proofs")"
-    done
+    END { n = split(programs, parts, " "); for (i = 1; i <= n; i++) mark(parts[i]) }' programs="$programs" "$top/crates.txt"
 }
 
 bytes_of() { find "$@" -type f -exec cat {} + 2>/dev/null | wc -c; }
@@ -85,5 +174,3 @@ bytes_of() { find "$@" -type f -exec cat {} + 2>/dev/null | wc -c; }
 time_left() {
   if [ "$1" -gt 0 ] && [ "$SECONDS" -gt 10 ]; then echo ", about $(minutes $((SECONDS * ($2 - $1) / $1))) left"; fi
 }
-
-minutes() { printf '%d:%02d min' $(($1 / 60)) $(($1 % 60)); }

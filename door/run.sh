@@ -11,8 +11,9 @@ run_program() {
   fi
   "${run[@]}" "${program_words[@]}" <&0 >"$answer" &
   running=$!
-  trap 'stop_program 130' INT
-  trap 'stop_program 143' TERM HUP
+  trap 'stop_program INT' INT
+  trap 'stop_program TERM' TERM
+  trap 'stop_program HUP' HUP
   start_watch
   wait "$running"
   status=$?
@@ -20,19 +21,23 @@ run_program() {
   trap - INT TERM HUP
 }
 
-# Who stops the script stops the program.
+# Who stops the script stops the program, and the script ends by the same signal.
 stop_program() {
   kill "$running" 2>/dev/null
   wait "$running" 2>/dev/null
   end_watch
-  exit "$1"
+  die_by "$1"
 }
 
 start_watch() {
-  watch=
-  [ -t 2 ] || return 0
-  begun=$SECONDS
-  show_time_gone &
+  watch= begun=$SECONDS
+  if is_unproved_run; then
+    watch_build &
+  elif [ -t 2 ]; then
+    show_time_gone &
+  else
+    return 0
+  fi
   watch=$!
   disown "$watch"
 }
@@ -41,14 +46,14 @@ end_watch() {
   [ -n "$watch" ] || return 0
   kill "$watch" 2>/dev/null
   watch=
-  if [ $((SECONDS - begun)) -ge 2 ]; then printf '\r\033[K' >&2; fi
+  if [ -t 2 ] && [ $((SECONDS - begun)) -ge 1 ]; then printf '\r\033[K' >&2; fi
 }
 
 show_time_gone() {
   local seconds=2
   sleep 2
   while :; do
-    printf '\rglock: at work for %d:%02d minutes' $((seconds / 60)) $((seconds % 60)) >&2
+    printf '\rglock: at work for %s' "$(minutes $seconds)" >&2
     sleep 1
     seconds=$((seconds + 1))
   done

@@ -1,7 +1,7 @@
 # The words of the command line: which are for the door, and which for the program.
 # A word that the door can't use goes to the program, which then answers that the words are bad.
 
-# sets command, program_words, files, output, clock and wants_help
+# sets command, program_words, files, output, clock, plan_clock and wants_help
 split_words() {
   command= output= clock= wants_help=false ended=false
   program_words=() files=()
@@ -9,6 +9,8 @@ split_words() {
     take_word "$@"
     shift "$taken"
   done
+  # A report may have been made by the same clock.
+  plan_clock=$clock
   # Of the commands, those that print minutes take --clock.
   if [ -n "$clock" ] && ! { reads_instance "$command" && is_time_of_day "$clock"; }; then
     program_words+=(--clock "$clock")
@@ -23,7 +25,9 @@ take_word() {
   case $1 in
     --) ended=true; program_words+=(--) ;;
     --help | -h) wants_help=true ;;
-    -o) [ -z "$output" ] && take_text "$@" && output=$2 || program_words+=(-o) ;;
+    -) take_plain - ;;
+    -o | --output) [ -z "$output" ] && take_text "$@" && output=$2 || program_words+=(-o) ;;
+    -o?* | --output=?*) [ -z "$output" ] && output=$(text_of "$1") || program_words+=(-o) ;;
     --clock) [ -z "$clock" ] && take_text "$@" && clock=$2 || program_words+=(--clock) ;;
     --clock=?*) [ -z "$clock" ] && clock=${1#*=} || program_words+=("$1") ;;
     -*)
@@ -34,18 +38,21 @@ take_word() {
   esac
 }
 
+# the file that stands in one word with its option: -oFILE or --output=FILE
+text_of() { case $1 in -o*) echo "${1#-o}" ;; *) echo "${1#*=}" ;; esac; }
+
 # whether the option's text follows it
 take_text() {
   [ $# -ge 2 ] && [ -n "$2" ] && [[ $2 != -* ]] || return 1
   taken=2
 }
 
-# the command, or a file of it
+# the command, or a file of it; - is standard input
 take_plain() {
   if [ -z "$command" ]; then
     command=$1
     program_words+=("$1")
-  elif is_command "$command" && [ -e "$1" ] && [ ${#files[@]} -lt "$(most_files "$command")" ]; then
+  elif is_command "$command" && { [ -e "$1" ] || [ "$1" = - ]; } && [ ${#files[@]} -lt "$(most_files "$command")" ]; then
     files+=("$1")
   else
     program_words+=("$1")

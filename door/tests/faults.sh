@@ -7,13 +7,18 @@ bad_words() {
 }
 rows bad_words <<'ROWS'
  | the command is missing
-sovle | there is no command "sovle"
+sovle | there is no command "sovle"; perhaps solve is meant; the commands are solve, check,
+instal | there is no command "instal"; perhaps install is meant
+moor | there is no command "moor"; the commands are
 solve nofile | there is no file "nofile"
 solve solve | there is no file "solve"
-solve evening.lock evening.plan | one too many
+solve evening.lock evening.plan | one too many; to solve many days, name them one at a time
+solve evening.lock two-chambers.lock | solve reads one file, so "two-chambers.lock" is one too many; to solve many days
+check evening.lock two-chambers.lock | check reads one file, so "two-chambers.lock" is one too many
 judge evening.lock evening.plan evening.plan | one file too many
 lot evening.lock | lot reads no file
-solve --node 5 | there is no option --node
+solve --node 5 | there is no option --node; perhaps --nodes is meant; solve takes --nodes, --turns, --workers, --dossier, --keep, -o, --clock
+check --outptu x | there is no option --outptu; perhaps --output is meant; check takes -o
 solve -n 5 | "-n" is no option
 lot --nodes 5 | --nodes isn't for lot
 solve --nodes 0 | from 1 to 1,000,000, and not "0"
@@ -24,9 +29,11 @@ lot --ships x | from 1 to 24, and not "x"
 lot --chambers | from 1 to 4
 solve --nodes 5 --nodes 5 | --nodes stands twice
 solve --keep=1 | --keep stands alone
-check --keep | --keep isn't for check; check takes no such options
+check --keep | --keep isn't for check; check takes -o
 replan evening.lock evening.plan | replan needs --from
 lot -o | -o needs the name of a file
+lot --output | -o needs the name of a file
+lot -ox --output=y | -o needs the name of a file after it, and may stand once
 lot --clock 10:00 | --clock is for solve
 solve --clock 24:00 | --clock needs a time of day
 ROWS
@@ -45,9 +52,11 @@ rows faulty_instance <<'ROWS'
 1s/^/\xef\xbb\xbf/ | line 1 fault 2 NoHeader | the file begins with a hidden mark
 4s/ship/boat/ | line 4 fault 3 Word | no line may begin with "boat" here; lines begin with chamber, ship,
 4s/ship/Ship/ | line 4 fault 3 Word | "Ship" must be written in small letters: ship
-1s/.*/plan/ | line 1 fault 2 NoHeader | a plan begins here
+1s/.*/plan/ | line 1 fault 2 NoHeader | this is a plan; the file with the chambers and the ships is wanted, and no plan.
 1s/.*/optimal cost 270/ | line 1 fault 2 NoHeader | this is a report
-4s/up/north/ | line 4 fault 3 Word | "north" stands where up or down must stand
+4s/up/north/ | line 4 fault 3 Word | "north" stands where up or down must stand.
+4s/up/Up/ | line 4 fault 3 Word | "Up" stands where up or down must stand; perhaps up is meant.
+4s/ship/shp/ | line 4 fault 3 Word | no line may begin with "shp" here; lines begin with chamber, ship, close (with `glock 2`) or end. Perhaps ship is meant.
 3s/high/top/ | line 3 fault 3 Word | "top" stands where low or high must stand
 4s/^/close main 1 2\n/ | line 4 fault 3 Word | a line close needs `glock 2`
 4s/ 5$// | line 4 fault 4 Count | this line has 6 words; a ship line has 7 words
@@ -65,7 +74,7 @@ s/$/\r/;9s/ 5\r/\r/ | line 9 fault 4 Count | this line has 6 words
 2,3d | line 11 fault 10 NoChamber | the lock has no chamber
 4,12d | line 4 fault 11 NoShip | there is no ship
 13d | line 13 fault 12 NoEnd | the text stops without its last line
-1s/1/2/;4s/^/close mian 1 2\n/ | line 4 fault 13 Unknown | there is no chamber named mian above
+1s/1/2/;4s/^/close mian 1 2\n/ | line 4 fault 13 Unknown | there is no chamber named mian above; perhaps main is meant.
 1s/1/2/;4s/^/close main 9 2\n/ | line 4 fault 14 Overlap | the closure begins at minute 9 and ends at minute 2
 ROWS
 
@@ -80,7 +89,7 @@ faulty_plan() {
 rows faulty_plan <<'ROWS'
 4s/alva/\xff/ | plan line 4 fault 1 NotUtf8 | this line holds a byte that is no text
 2d | plan line 2 fault 2 NoMark | the plan must begin
-2s/plan/legal cost 270/ | plan line 2 fault 2 NoMark | this is a report and no plan text
+2s/plan/legal cost 270/ | plan line 2 fault 2 NoMark | this is a report, of which no plan could be made
 2s/plan/glock 1/ | plan line 2 fault 2 NoMark | here the chambers and the ships come a second time
 2s/plan/certificate/ | plan line 2 fault 2 NoMark | a certificate begins here and no plan
 3s/lockage/passage/ | plan line 3 fault 3 Word | no line may begin with "passage" here; lines begin with lockage,
@@ -88,8 +97,9 @@ rows faulty_plan <<'ROWS'
 4s/ \*$// | plan line 4 fault 4 Count | this line has 5 words; a berth line has 6 words
 3s/ 0$/ noon/ | plan line 3 fault 5 Number | "noon" stands for the minute of the start
 4s/10/100001/ | plan line 4 fault 6 Range | 100001 stands for the place along the chamber, which must be from 0 to 100,000
-3s/main/mian/ | plan line 3 fault 7 Unknown | there is no chamber named mian above
-4s/alva/alwa/ | plan line 4 fault 7 Unknown | there is no ship named alwa
+3s/main/mian/ | plan line 3 fault 7 Unknown | there is no chamber named mian above; perhaps main is meant.
+3s/main/Main/ | plan line 3 fault 7 Unknown | there is no chamber named Main above; perhaps main is meant.
+4s/alva/alwa/ | plan line 4 fault 7 Unknown | there is no ship named alwa in the instance; perhaps alva is meant.
 9s/cora/kora/ | plan line 9 fault 7 Unknown | there is no ship named kora
 4p | plan line 5 fault 8 Twice | this ship has a berth in this lockage already
 3d | plan line 3 fault 9 Loose | a berth comes before the first lockage
@@ -108,13 +118,13 @@ rows broken_plan <<'ROWS'
 17d | illegal lockage 1 Shape | It has no ship
 3s/ 4 20/ 1 20/ | illegal lockage 3 Shape | It has 2 ships, and side takes 1
 20s/125/124/ | illegal lockage 3 Early | x.both:20: lockage 3 Early: the lockage starts before all its ships have arrived; start it later. It starts at minute 124; eddy arrives at minute 125
-17s/10/5/ | illegal lockage 1 Outside alva | lockage 1 Outside: alva does not lie inside
-22s/100/50/ | illegal lockage 3 Touching cora eddy | cora and eddy lie too close
-17s/ 0 / 10 / | illegal lockage 1 Adrift alva | alva is to lie at the quay
-22s/100/110/ | illegal lockage 3 BadHost eddy cora | eddy cannot moor at cora
-1s/1/2/;6s/$/ 1/;8s/$/ 2/ | illegal lockage 3 Clash cora eddy | cora and eddy have cargoes
-18s/10/9/ | illegal lockage 2 Soon | x.both:18: lockage 2 Soon: the chamber is not ready
-1s/1/2/;3s/$/\nclose main 10 20/ | illegal lockage 1 Shut | x.both:17: lockage 1 Shut: the lockage would run into a closure
+17s/10/5/ | illegal lockage 1 Outside alva | It covers x 5 to 1105 and y 0 to 114; in main x may go from 10 to 1990 and y from 0 to 240.
+22s/100/50/ | illegal lockage 3 Touching cora eddy | Along the chamber they overlap by
+17s/ 0 / 10 / | illegal lockage 1 Adrift alva | Its y is 10.
+22s/100/110/ | illegal lockage 3 BadHost eddy cora | eddy has y 110, and beside cora y 100 is wanted.
+1s/1/2/;6s/$/ 1/;8s/$/ 2/ | illegal lockage 3 Clash cora eddy | put them into different ones. cora has class 1, eddy class 2.
+18s/10/9/ | illegal lockage 2 Soon | It starts at minute 9; side is ready at minute 10: it opens at minute 0 at high, and the empty turn takes 10.
+1s/1/2/;3s/$/\nclose main 10 20/ | illegal lockage 1 Shut | It lasts from minute 0 to 35; main is closed from 10 to 20.
 32s/iris/gull/ | illegal ship gull Double | x.both: ship gull Double: gull is in more than one lockage
 31,32d | illegal ship iris Missing | x.both: ship iris Missing: iris is in no lockage
 ROWS

@@ -98,6 +98,11 @@ check two.open | 7 | dossier fault 2 NoMark | This is an open dossier | old
 lot | 0 | | | glock 1
 ROWS
 
+for words in "--output old" --output=old -oold; do
+  call solve evening.lock $words
+  check "written by $words" gives 0 "" ""
+done
+
 no_file() {
   call $1
   check "refused: $1" gives "$2" "" "${3-}"
@@ -109,7 +114,33 @@ solve evening.lock -o folder | 73 | is a folder
 solve evening.lock -o nofolder/x | 73 | there is no folder
 solve folder | 66 | folder is a folder
 solve evening.lock -o /dev/null | 0 |
+solve evening.lock -o /dev/full | 5 | evening.lock: write fault: not all of the answer could be written to /dev/full: No space left on device
 ROWS
+(cd "$room" && "$top/glock" solve evening.lock -o /dev/stdout 2>err | cat >out)
+status=$? out=$(<"$room/out") err=$(<"$room/err")
+check "standard output as the file of -o, in a pipe" gives 0 "optimal cost 270" ""
+
+# A file keeps its mode and its other names.
+echo old >"$room/one" && ln "$room/one" "$room/other" && echo old >"$room/mine" && chmod 640 "$room/mine" && ln -s mine "$room/linked"
+call solve evening.lock -o one
+check "other names" holds "$(head -n 1 "$room/other")" "optimal cost 270"
+call solve evening.lock -o linked
+check "a mode and a link" [ "$(stat -c %a "$room/mine") $(readlink "$room/linked") $(head -n 1 "$room/mine")" = "640 mine optimal cost 270" ]
+
+# A file without permission to write stays as it is. (Root may write all, so nobody is asked.)
+as_nobody() { if [ "$(id -u)" = 0 ]; then setpriv --reuid=65534 --regid=65534 --clear-groups "$@"; else "$@"; fi; }
+mkdir "$room/open" && chmod 777 "$room/open" && chmod 711 "$room" && echo old >"$room/open/locked" && chmod 444 "$room/open/locked"
+if as_nobody test -r "$top/door/say.sh" -a -x "$GLOCK_PROGRAM" 2>/dev/null; then
+  as_nobody "$top/glock" lot -o "$room/open/locked" >"$room/out" 2>"$room/err"
+  status=$? out=$(<"$room/out") err=$(<"$room/err")
+  check "no permission" gives 73 "" "locked can't be written: no permission"
+  check "it stays" [ "$(<"$room/open/locked")" = old ]
+else
+  echo "left out: nobody may not read $top, so a file without permission wasn't tried"
+fi
+
+TMPDIR=$room/nowhere call solve evening.lock
+check "no folder for temporary files" gives 73 "" "the folder for temporary files ($room/nowhere, which TMPDIR names) can't be written in"
 check "the device is still there" [ -c /dev/null ]
 
 # an edit of evening.lock, and a part of the warning or of the message
@@ -123,21 +154,69 @@ rows warned <<'ROWS'
 4s/1100 114/114 150/ | 0 | optimal | x.lock:4: warning: ship alva is wider (150) than long (114)
 4,12s/\([0-9]\)[0-9] \([0-9]*\)[0-9] \([0-9]* 5\)$/\1 \2 \3/ | 0 | optimal | such lines
 4s/1100 114/95 800/ | 8 | ship alva fits no chamber | x.lock:4: alva is 95 long and 800 wide, in decimetres; main takes ships up to 1980 by 240, side takes ships up to 1340 by 160. Its length and width look swapped
+2s/ 10 20 / 1 2 / | 0 | optimal | x.lock:2: warning: in chamber main the clearance at the ends is 1, which looks like metres
+2s/ 10 20 / 10 2 / | 0 | optimal | x.lock:2: warning: in chamber main the gap along the chamber is 2, which looks like metres
+4s/ 5$/ 300/ | 0 | optimal | x.lock:4: warning: ship alva has a handling of 300 minutes, which looks like seconds; times are minutes, and 300 seconds are 5.
+4,12s/ [0-9]* 5$/ 1725 5/ | 0 | optimal | x.lock:4: warning: all arrivals look like times of day (1725 as 17:25); they are minutes from one moment: after midnight 17:25 is minute 1045.
 2,3s/[0-9] / /;2s/240/24/;3s/160/16/ | 8 | ship alva fits no chamber | The chambers look as if given in metres
 4s/1100 114/11000 1140/ | 8 | ship alva fits no chamber | The ship looks as if given in centimetres
 ROWS
 
-# The plan text of a report is the report's plan.
+# The plan text of a report is the report's plan; the script reads the report itself, also one with times of day.
 of_report() {
   call $1 -o x.report
-  awk -f "$top/examples/plan_of_report.awk" "$room/x.report" >"$room/x.plan" 2>"$room/err"
+  awk ${2:+-v $2} -f "$top/examples/plan_of_report.awk" "$room/x.report" >"$room/x.plan" 2>"$room/err"
   call judge evening.lock x.plan
-  check "the plan of the report: $1" gives "$2" "$3" "${4-}"
+  check "the plan of the report: $1, $2" gives "$3" "$4" "${5-}"
 }
 rows of_report <<'ROWS'
-solve evening.lock | 0 | legal cost 270
-judge evening.lock evening.plan | 0 | legal cost 270
-solve evening.lock --clock 17:00 | 10 | plan line 2 fault 11 NoEnd | x.plan:2: fault 11 NoEnd
+solve evening.lock | | 0 | legal cost 270
+judge evening.lock evening.plan | | 0 | legal cost 270
+solve evening.lock --clock 17:00 | begin=17:00 | 0 | legal cost 270
+solve evening.lock --clock 17:00 | | 10 | plan line 2 fault 11 NoEnd | x.plan:2: fault 11 NoEnd
+ROWS
+"$GLOCK_PROGRAM" solve --workers 1 <"$room/evening.lock" >"$room/plain.report"
+for clock in 17:00 23:50; do
+  "$top/glock" solve --workers 1 --clock $clock "$room/evening.lock" >"$room/${clock/:/}.report"
+done
+sed 's/$/\r/' "$room/1700.report" >"$room/crlf.report"
+cat "$room/evening.lock" "$room/2350.report" >"$room/both"
+sed '$d' "$room/1700.report" >"$room/cut.report"
+sed '/start 125/s/125/124/' "$room/plain.report" >"$room/early.report"
+sed 's/ 240 / 262 /' "$room/evening.lock" >"$room/now.lock"
+as_plan() {
+  call $1
+  check "a report as a plan: $1" gives "$2" "$3" "${4-}"
+}
+rows as_plan <<'ROWS'
+judge evening.lock plain.report | 0 | legal cost 270
+judge evening.lock 1700.report | 0 | legal cost 270
+judge evening.lock 2350.report | 0 | legal cost 270
+judge evening.lock 2350.report --clock 17:00 | 0 | legal cost 270
+judge evening.lock crlf.report | 0 | legal cost 270
+judge both | 0 | legal cost 270
+play evening.lock 2350.report --clock 17:00 | 0 | 17:00 main moor alva
+replan now.lock 1700.report --from 150 | 0 | optimal cost
+picture evening.lock 1700.report | 0 | <h1>legal, total flow time 270 minutes</h1>
+judge evening.lock cut.report | 10 | NoMark | cut.report: this report can't be read as a plan: this is no whole report: it has no line end
+judge evening.lock early.report | 10 | illegal lockage 4 Early | early.report:
+judge evening.lock | 10 | NoMark | nothing follows the chambers and the ships; a plan is wanted too
+judge evening.lock evening.lock | 10 | NoMark | here the chambers and the ships come a second time; the plan's file is wanted
+judge evening.plan evening.lock | 3 | NoHeader | a plan begins here; the file with the chambers and the ships comes first
+ROWS
+
+# - is standard input.
+from_input() {
+  (cd "$room" && "$top/glock" $1 <"$2" >out 2>err)
+  status=$? out=$(<"$room/out") err=$(<"$room/err")
+  check "standard input: $1" gives "$3" "$4" "${5-}"
+}
+rows from_input <<'ROWS'
+solve - | evening.lock | 0 | optimal cost 270
+solve - | bad.lock | 3 | line 9 fault 4 Count | standard input:9: fault 4 Count
+judge evening.lock - | evening-early.plan | 10 | illegal lockage 3 Early | standard input:7: lockage 3 Early
+judge - evening.plan | evening.lock | 0 | legal cost 270
+judge - | both | 0 | legal cost 270
 ROWS
 
 timed() {
@@ -168,6 +247,7 @@ help judge | 0 | ./glock judge [FILE PLAN]
 replan --help | 0 | ./glock replan [FILE PLAN]
 prove --help | 0 | ./glock prove
 --version | 0 | proved with rattle-kit
+-V | 0 | proved with rattle-kit
 help nothing | 2 | | there is no help on "nothing"
 ROWS
 
@@ -201,3 +281,16 @@ ROWS
 (cd "$room" && "$top/glock" solve evening.lock >/dev/full 2>err)
 status=$? out= err=$(<"$room/err")
 check "a full disk" gives 5 "" "write fault"
+
+# An interrupt ends a loop of the shell too.
+printf '#!/usr/bin/env bash\necho x >>"%s/started"; exec sleep 60\n' "$room" >"$room/sleeper"
+chmod +x "$room/sleeper"
+(cd "$room" && GLOCK_PROGRAM=$room/sleeper exec setsid env --default-signal=INT bash -c \
+  'for day in 1 2 3; do "$0" lot; done' "$top/glock" >out 2>err) &
+loop=$!
+for _ in {1..200}; do [ ! -e "$room/started" ] || break; sleep 0.1; done
+sleep 0.3
+kill -s INT -- -$loop
+wait $loop
+status=$? out= err=$(<"$room/err")
+check "an interrupt ends a loop" [ "$status $(wc -l <"$room/started")" = "130 1" ]

@@ -9,9 +9,9 @@ ghost use Rattle.price_bound.specs.Keeping.{IsFound};
 ghost use Rattle.price_bound.specs.Total.{HasNoLooseLine, IsAdded, IsNodeSum, AreLeastLines, AreLinesFound};
 
 use crate::keeping::KeptLines;
+use crate::priced_node::PricedNode;
 use lock_model::SHIPS;
 use master_branch::arrival_order;
-use crate::priced_node::PricedNode;
 use price_groups::LineCase;
 use price_terms::{ChamberCut, Limits, LooseLine, LooseLines, PriceError, Prices, append};
 

@@ -7,7 +7,7 @@ ghost use Rattle.price_choices.specs.Choices.{AreSums};
 use crate::choice::Choice;
 use chamber_times::duration;
 use lock_model::MOST;
-use price_groups::{GrownGroup, Extension};
+use price_groups::{Extension, GrownGroup};
 
 // What a ship counts, as it was worked out before.
 fn known_rate(extension: &Extension, ship: u8) -> u32

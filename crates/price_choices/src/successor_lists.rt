@@ -4,8 +4,8 @@ ghost use Rattle.price_choices.specs.Successors.{AreFor, IsPutFor, AreLevelsFor,
 
 use crate::choice::{Choice, led};
 use crate::level::Level;
-use lock_model::SHIPS;
 use crate::successors::Successors;
+use lock_model::SHIPS;
 use price_groups::LineCase;
 use price_terms::{PriceError, append};
 use std::alloc::Global;

@@ -1,0 +1,94 @@
+# Tables of days, changes between plans, tables of other programs, and many days at once.
+# (After install.sh, whose installed program solves the days.)
+
+mkdir "$room/days"
+cp "$room/evening.lock" "$room/days/monday.lock"
+cp "$room/two-chambers.lock" "$room/days/tuesday.lock"
+cp "$room/bad.lock" "$room/days/friday.lock"
+
+# Each way to solve many days leaves these reports; a day with a mistake leaves none.
+solved_days() {
+  rm -f "$room"/days/*.report
+  (cd "$room" && GLOCK=$room/moved/bin/glock && export GLOCK && unset GLOCK_PROGRAM && eval "$2") >"$room/out" 2>"$room/err"
+  status=$? out=$(<"$room/out") err=$(<"$room/err")
+  check "$1" [ "$(cd "$room/days" && head -qn 1 *.report | cut -d ' ' -f 1,2 | tr '\n' ' ')" = "optimal cost open nodes " ]
+}
+solved_days "days by xargs" 'ls days/*.lock | sed "s/\.lock$//" | xargs -P 4 -I DAY $GLOCK solve DAY.lock -o DAY.report --workers 1 --nodes 50'
+solved_days "days by make -j" 'make -k -j 4 -f "$top/examples/days.mk" DAYS=days GLOCK=$GLOCK OPTIONS="--nodes 50"'
+solved_days "days by a Slurm array" 'for SLURM_ARRAY_TASK_ID in 1 2 3; do export SLURM_ARRAY_TASK_ID; OPTIONS="--nodes 50" bash "$top/examples/days.sbatch" days; done'
+if command -v parallel >/dev/null; then
+  solved_days "days by GNU parallel" 'parallel -j 4 $GLOCK solve {} -o {.}.report --workers 1 --nodes 50 ::: days/*.lock'
+else
+  echo "left out: GNU parallel isn't here, so days by it weren't tried"
+fi
+
+# A table goes by the locks, and has a line for a day without a report too.
+tabled() {
+  call $1
+  check "table: $1" gives "$2" "$3" "${4-}"
+}
+"$GLOCK_PROGRAM" judge <<<"$(cat "$room/evening.lock" "$room/evening.plan")" >"$room/judged.report"
+rows tabled <<'ROWS'
+table days | 1 | days/friday.lock   no report
+table days | 1 | days/monday.lock   optimal
+table --csv days | 1 | days/monday.lock,optimal,270,270,0.0,9,8,10,brio
+table --csv days | 1 | days/tuesday.lock,open,506,280,44.7,10,8,
+table --csv days | 1 | days/friday.lock,no report,,,,,,,
+table --csv days/monday.lock 2350.report judged.report | 0 | 2350.report,optimal,270,270,0.0,9,8,10,brio
+table --csv judged.report | 0 | judged.report,legal,270,,,9,8,10,brio
+table --csv cut.report | 1 | cut.report,no report
+table | 2 | | table needs a folder with files such as monday.lock
+table --scv days | 2 | | table takes --csv, and the names of folders and files, and not "--scv"
+table nodays | 2 | | there is no file "nodays"
+changes evening.plan evening-early.plan | 0 | cora: start 125 to 124
+changes evening.plan evening-early.plan | 0 | 7 ships unchanged
+changes plain.report plain.report | 0 | 9 ships unchanged
+changes evening.plan | 2 | | changes needs two reports or plans
+changes evening.plan noplan | 2 | | there is no file "noplan"
+help table | 0 | ./glock table [--csv] FOLDER
+changes --help | 0 | ./glock changes OLD NEW
+ROWS
+sed '/^berth iris/d' "$room/evening.plan" >"$room/less.plan"
+call changes "$room/evening.plan" "$room/less.plan"
+check "a ship that is gone" gives 0 "iris: gone, was " ""
+call changes "$room/less.plan" "$room/evening.plan"
+check "a new ship" gives 0 "iris: new, " ""
+touch -d '2 days ago' "$room/days/monday.report"
+call table days
+check "an older report" gives 1 "optimal" "days/monday.report: warning: older than days/monday.lock"
+
+# A table of ships becomes a lock's file, and a report a table.
+table_of_ships() {
+  printf "$1" >"$room/ships.csv"
+  (cd "$room" && awk -v lock=evening.lock -v begin=17:00 -f "$top/examples/lock_of_csv.awk" ships.csv) >"$room/out" 2>"$room/err"
+  status=$? out=$(<"$room/out") err=$(<"$room/err")
+  check "ships: $1" gives "$2" "$3" "${4-}"
+}
+rows table_of_ships <<'ROWS'
+name,way,length,width,arrival,handling\nalva,up,110,11.4,17:25,5\n | 0 | ship alva up 1100 114 25 5
+\xef\xbb\xbfName;Way;Length;Width;Arrival\r\nalva;UP;110,0;11,4;17:25\r\n | 0 | ship alva up 1100 114 25 0
+name,way,length,width,arrival\nalva,up,"110,05",11,12\n | 0 | ship alva up 1101 110 12 0
+width\tlength\tway\tname\tarrival\n9\t85\tdown\tMS Grüße\t9:05\n | 0 | ship MS_Gruesse down 850 90 965 0
+name,way,length,width,arrival\nalva,up,110,11,0\nalva,up,110,11,0\n | 0 | ship alva-1 up 1100 110 0 0
+name,way,length,width,arrival,class\nalva,up,110,11,0,2\nbrio,up,110,11,0,\n | 0 | ship alva up 1100 110 0 0 2
+name,length,width,arrival\nalva,110,11,0\n | 1 | | lock_of_csv: the first line names no column way
+name,way,length,width,arrival\nalva,north,110,11,0\n | 1 | | line 2: the way must be up or down, and not "north"
+name,way,length,width,arrival\nalva,up,long,11,0\n | 1 | | line 2: the length must be metres, and not "long"
+name,way,length,width,arrival\nalva,up,110,11,noon\n | 1 | | line 2: the arrival must be HH:MM or a minute, and not "noon"
+ROWS
+printf 'name;way;length;width;arrival\nalva;up;110,0;11,4;17:25\n' >"$room/ships.csv"
+awk -v lock="$room/evening.lock" -v begin=17:00 -f "$top/examples/lock_of_csv.awk" "$room/ships.csv" >"$room/ships.lock"
+call solve ships.lock
+check "a lock's file of a table" gives 0 "optimal cost 20" ""
+
+table_of_report() {
+  out=$(awk $1 -f "$top/examples/csv_of_report.awk" "$room/$2") err= status=0
+  check "a table of $2" gives 0 "$3" ""
+}
+rows table_of_report <<'ROWS'
+| plain.report | lockage,chamber,way,start,end,ship,x_m,y_m,rank,moored_at,flow,wait
+| plain.report | 1,main,up,0,35,alva,1.0,0.0,left,quay,35,0
+| 1700.report | 1,main,up,17:00,17:35,alva,1.0,0.0,left,quay,35,0
+-v separator=; -v decimal=, | 1700.report | 2;side;up;17:10;17:35;brio;1,0;0,0;left;quay;35;10
+-v decimal=, | plain.report | 1,main,up,0,35,alva,"1,0","0,0",left,quay,35,0
+ROWS

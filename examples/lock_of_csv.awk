@@ -1,0 +1,116 @@
+# Makes a lock's file of a table (CSV) of ships, with the chambers and closures of another lock's file:
+#   awk -v lock=examples/evening.lock -v begin=17:00 -f examples/lock_of_csv.awk ships.csv > today.lock
+# The table's first line names its columns, in any order: name, way (up or down), length and width in metres, arrival
+# (HH:MM, or minutes), and, where wanted, handling (minutes, else 0) and class. Commas, semicolons or tabs separate them;
+# a byte order mark, carriage returns, quotes and decimal commas are understood. `begin` is the time of minute 0 (else
+# midnight); an earlier time is one of the next day. A name that may not stand in a lock's file is changed, and a note
+# on the line before tells it.
+
+NR == 1 {
+  sub(/^\357\273\277/, "")
+  sub(/\r$/, "")
+  separator = /;/ ? ";" : /\t/ ? "\t" : ","
+  n = cells($0)
+  for (i = 1; i <= n; i++) column[tolower(cell[i])] = i
+  split("name way length width arrival", wanted, " ")
+  for (i = 1; i <= 5; i++) if (!(wanted[i] in column)) fail("the first line names no column " wanted[i])
+  first = minutes(begin == "" ? "0:00" : begin)
+  next
+}
+
+{ sub(/\r$/, "") }
+
+/[^ ;,\t]/ {
+  n = cells($0)
+  ships++
+  given = value("name")
+  name = good_name(given)
+  way = tolower(value("way"))
+  if (way != "up" && way != "down") fail("line " NR ": the way must be up or down, and not \"" way "\"")
+  class = value("class")
+  if (class != "" && class > 0) has_class = 1
+  ship[ships] = (name == given ? "" : "# " given "\n") "ship " name " " way " " decimetres("length") " " decimetres("width") " " \
+    arrival() " " (value("handling") == "" ? 0 : value("handling"))
+  class_of[ships] = class == "" ? 0 : class
+}
+
+END {
+  if (failed) exit 1
+  if (!ships) fail("there is no ship")
+  read_chambers()
+  print "glock " (has_class || closures != "" ? 2 : 1)
+  printf "%s%s", chambers, closures
+  for (i = 1; i <= ships; i++) print ship[i] (has_class ? " " class_of[i] : "")
+  print "end"
+}
+
+function value(name) { return name in column ? cell[column[name]] : "" }
+
+# splits a line into cells; a quoted cell may hold separators, and two quotes in it stand for one
+function cells(line,    count, at, sign, text, is_quoted) {
+  for (at = 1; at <= length(line) + 1; at++) {
+    sign = substr(line, at, 1)
+    if (is_quoted && sign == "\"" && substr(line, at + 1, 1) == "\"") { text = text sign; at++ }
+    else if (sign == "\"") is_quoted = !is_quoted
+    else if (at > length(line) || (sign == separator && !is_quoted)) {
+      gsub(/^ +| +$/, "", text)
+      cell[++count] = text
+      text = ""
+    } else text = text sign
+  }
+  for (at = count + 1; at <= 40; at++) cell[at] = ""
+  return count
+}
+
+function decimetres(name,    text) {
+  text = value(name)
+  sub(/,/, ".", text)
+  if (text !~ /^[0-9]+(\.[0-9]+)?$/) fail("line " NR ": the " name " must be metres, and not \"" value(name) "\"")
+  # a ship is taken no smaller than it is
+  text = text * 10
+  return int(text + 0.0001) < text - 0.0001 ? int(text) + 1 : int(text + 0.0001)
+}
+
+function arrival(    text, minute) {
+  text = value("arrival")
+  if (text ~ /^[0-9]+$/) return text
+  if (text !~ /^[0-9][0-9]?:[0-9][0-9]$/) fail("line " NR ": the arrival must be HH:MM or a minute, and not \"" text "\"")
+  minute = minutes(text) - first
+  return minute < 0 ? minute + 1440 : minute
+}
+
+function minutes(text,    parts) {
+  split(text, parts, ":")
+  return parts[1] * 60 + parts[2]
+}
+
+# 1 to 12 letters, digits, - and _, and no name twice
+function good_name(text,    short, number) {
+  gsub(/ä/, "ae", text); gsub(/ö/, "oe", text); gsub(/ü/, "ue", text); gsub(/ß/, "ss", text)
+  gsub(/Ä/, "Ae", text); gsub(/Ö/, "Oe", text); gsub(/Ü/, "Ue", text)
+  gsub(/ /, "_", text)
+  gsub(/[^A-Za-z0-9_-]/, "", text)
+  if (text == "") text = "ship"
+  text = substr(text, 1, 12)
+  short = text
+  while (text in taken) { number++; text = substr(short, 1, 12 - length(number) - 1) "-" number }
+  taken[text] = 1
+  return text
+}
+
+function read_chambers(    line, parts) {
+  if (lock == "") fail("name a lock's file with the chambers, as -v lock=examples/evening.lock")
+  while ((getline line < lock) > 0) {
+    sub(/\r$/, "", line)
+    split(line, parts, " ")
+    if (parts[1] == "chamber") chambers = chambers line "\n"
+    if (parts[1] == "close") closures = closures line "\n"
+  }
+  if (chambers == "") fail("there is no chamber in " lock)
+}
+
+function fail(why) {
+  print "lock_of_csv: " why > "/dev/stderr"
+  failed = 1
+  exit 1
+}
