@@ -1,5 +1,5 @@
 -- The least worths of the chambers, added, and what a node reaches by them.
-use Rattle.std.specs.Prelude.{ℕ, ◌≡◌, ◌<◌, ◌≤◌, ℤ, Some, None, List, length, slice_index_or, zero, suc, pos, ◌+ℤ◌, ◌≤ℤ◌}
+use Rattle.std.specs.Prelude.{ℕ, ◌≡◌, ◌<◌, ℤ, Some, None, List, length, slice_index_or, zero, suc, pos, ◌+ℤ◌, ◌≤ℤ◌}
 use Rattle.std.specs.declared.option.Option.{Option}
 use Rattle.lock_model.specs.Fleet.{chamber_at}
 use Rattle.lock_model.specs.declared.instance.Instance.{Instance}

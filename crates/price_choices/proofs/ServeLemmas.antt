@@ -16,7 +16,6 @@ use Rattle.lock_rules.proofs.TimetableLemmas.{start_of-lawful, closures_kept, la
 use Rattle.lock_rules.proofs.TraceLemmas.{Dominates, Dominates-itself, Dominates-later, Dominates-skipped, start_of-kept}
 use Rattle.price_rules.specs.Prices.{paid_in}
 use Rattle.price_groups.specs.Worth.{paid_on, end_after, worth_of, worth_from, ServeAsWell, soonest_of, ServeFrom}
-use Rattle.price_choices.specs.Dominance.{soonest}
 
 -- the later the end, the more it counts that ships are more
 pub later-more : (n m s e : ℕ) → n ≤ m → s ≤ e → n * e + m * s ≤ m * e + n * s

@@ -1,5 +1,5 @@
 -- When a choice serves as well as another one, in any state or from a minute on, and when it gains nothing.
-use Rattle.std.specs.Prelude.{ℕ, ◌≡◌, ◌+◌, ◌*◌, ◌≤◌, ◌⊎◌, max, ℤ, pos, ◌≤ℤ◌, None, List, [], ◌∷◌, ◌++◌, length, All, Contains}
+use Rattle.std.specs.Prelude.{ℕ, ◌≡◌, ◌+◌, ◌*◌, ◌≤◌, ◌⊎◌, max, pos, ◌≤ℤ◌, None, List, [], ◌∷◌, ◌++◌, length, All, Contains}
 use Rattle.std.specs.declared.option.Option.{Option}
 use Rattle.lock_model.specs.declared.group.Group.{Group}
 use Rattle.lock_model.specs.declared.way.Stand.{Stand}
