@@ -22,7 +22,7 @@ use deck_cuts::{Cut, known_cut};
 use gates::Gate;
 use lock_io::Source;
 use lock_model::{Instance, deck_of};
-use no_memory::{NoMemory, NoMemory};
+use no_memory::NoMemory;
 use run_answers::{Answer, no_memory, read_source};
 use solve_commands::best_answer;
 use solve_workers::{CutList, solve_from};
