@@ -4,7 +4,7 @@ ghost use Rattle.near_plan.specs.Rows.{IsRow, IsDraft, row_at};
 
 use crate::lines::{group_of, line_without};
 use crate::row::Row;
-use lock_model::{Instance, Line};
+use lock_model::Instance;
 use std::mem;
 
 /// A row of groups for each of four chambers, of which an instance may have fewer.
