@@ -7,7 +7,7 @@ use price_bound::Prices;
 use std::alloc::Global;
 
 /// Prices, and the number under which the book keeps them, where it does.
-#[derive(Debug, Drop)]
+#[derive(Drop)]
 pub struct Offer {
     pub prices: Prices,
     pub number: Option<u64>,
@@ -32,14 +32,14 @@ impl Offer {
 }
 
 // What a slot that was split leaves to its children.
-#[derive(Debug, Drop)]
+#[derive(Drop)]
 struct Left {
     slot: u32,
     offer: Offer,
 }
 
 /// The prices that slots which were split leave to their children.
-#[derive(Debug, Drop)]
+#[derive(Drop)]
 pub struct Offers {
     items: Vec<Left>,
 }

@@ -45,7 +45,7 @@ const PACE: Pace = Pace {
 };
 
 /// How soon a search leaves its first node, which one thread prices.
-#[derive(Clone, Copy, Debug, PartialEq, Eq)]
+#[derive(Clone, Copy)]
 pub enum FirstNode {
     /// Late: the better its prices, the fewer nodes are below it.
     Long,
@@ -75,7 +75,7 @@ fn copy_cuts(alloc: Global, cuts: &[ChamberCut]) -> Result<Vec<ChamberCut>, NoMe
 /// The prices of the nodes on the way from the root to the one in hand, those that are raised at the
 /// node in hand, how soon the first node is left, the first cuts of the book, how many rounds may be made
 /// still, and least lines that are kept from call to call.
-#[derive(Debug, Drop)]
+#[derive(Drop)]
 pub struct Pricing {
     pub(crate) path: Vec<Offer>,
     pub(crate) ascent: Ascent,
@@ -177,8 +177,8 @@ impl Pricing {
         append(&mut self.path, Offer::new(prices))
     }
 
-    // Whether a plan is to be made of the least lines: at the first node in every second round, at any
-    // other in each one.
+    /// Whether a plan is to be made of the least lines: at the first node in every second round, at any
+    /// other in each one.
     pub(crate) fn is_near_time(&self) -> bool {
         !self.is_first || self.left % 2 == 0
     }

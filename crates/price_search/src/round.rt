@@ -32,7 +32,7 @@ pub struct Asked<'a, K: KnownCuts> {
 }
 
 /// How a round ends.
-#[derive(Debug, Drop)]
+#[derive(Drop)]
 pub enum RoundEnd {
     /// The node reaches the best cost by these prices.
     Reached(Prices),
@@ -43,7 +43,7 @@ pub enum RoundEnd {
 }
 
 /// What a round found: new cuts, a plan that may be cheaper than the best one, and how it ended.
-#[derive(Debug, Drop)]
+#[derive(Drop)]
 pub struct Round {
     pub cuts: Vec<Cut>,
     pub plan: Option<Plan>,
@@ -51,7 +51,7 @@ pub struct Round {
 }
 
 // What is found of the least lines of a node.
-#[derive(Debug, Drop)]
+#[derive(Drop)]
 enum Least {
     Lines(LooseLines),
     // A chamber has no loose line, so that no legal plan lies under the node.

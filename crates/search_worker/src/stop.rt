@@ -5,7 +5,7 @@ use std::alloc::AllocFailed;
 
 /// The worker is to release and to end: it has worked on its quota of nodes, memory was refused, or
 /// the book answered what it doesn't answer a worker that keeps the rules.
-#[derive(Debug, Drop)]
+#[derive(Drop)]
 pub(crate) struct Stop;
 
 impl<T: Drop> From<AllocFailed<T>> for Stop {

@@ -12,13 +12,13 @@ use std::alloc::Global;
 use std::sync::ledger::Ledger;
 
 /// A slot in a worker's hand, and its node.
-#[derive(Debug, Drop)]
+#[derive(Drop)]
 pub(crate) struct Held {
     pub(crate) id: u32,
     pub(crate) node: Node,
 }
 
-// The fewest nodes that a worker goes ahead at the most.
+/// The fewest nodes that a worker goes ahead at the most.
 pub(crate) const SHORT: u32 = 16;
 
 /// What one worker has as it searches: its number, what it owns, the tokens of the cuts that it

@@ -7,7 +7,7 @@ use std::alloc::Global;
 use std::marker::Model;
 
 /// A list of cuts, in the order in which they were pushed.
-#[derive(Debug, Drop)]
+#[derive(Drop)]
 pub struct CutList {
     items: Vec<Cut>,
 }

@@ -13,7 +13,7 @@ use master_branch::Node;
 
 /// A slot that worker 8 holds, with a copy of its node: for prices, by which the book changes while
 /// the node is worked on. All else looks at the node in the book.
-#[derive(Debug, Drop)]
+#[derive(Drop)]
 pub(crate) struct Held {
     pub(crate) id: u32,
     pub(crate) node: Node,
