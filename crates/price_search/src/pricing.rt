@@ -46,7 +46,7 @@ const PACE: Pace = Pace {
 };
 
 /// How soon a search leaves its first node, which one thread prices.
-#[derive(Clone, Copy, PartialEq, Eq)]
+#[derive(Clone, Copy)]
 pub enum FirstNode {
     /// Late: the better its prices, the fewer nodes are below it.
     Long,
@@ -178,8 +178,8 @@ impl Pricing {
         append(&mut self.path, Offer::new(prices))
     }
 
-    // Whether a plan is to be made of the least lines: at the first node in every second round, at any
-    // other in each one.
+    /// Whether a plan is to be made of the least lines: at the first node in every second round, at any
+    /// other in each one.
     pub(crate) fn is_near_time(&self) -> bool {
         !self.is_first || self.left % 2 == 0
     }

@@ -17,7 +17,7 @@ pub struct Hands<L: Ledger> {
 // What one thread may hand to another.
 fn may_hand_over<T: Drop + Send>(_value: T) {}
 
-// A thread may be handed what a worker owns.
+/// A thread may be handed what a worker owns.
 pub(crate) fn may_own<L: Ledger + Send>(hands: Hands<L>) {
     may_hand_over(hands)
 }

@@ -34,7 +34,7 @@ pub struct Post<'s, L: Ledger, W: Wait, G: Gate> {
 // What threads may share.
 fn may_share<T: Sync>(_shared: &T) {}
 
-// Threads may share all that workers share.
+/// Threads may share all that workers share.
 pub(crate) fn may_search_beside<L: Ledger + Send + Sync, W: Wait + Sync, G: Gate + Sync>(
     post: &Post<'_, L, W, G>,
 ) {

@@ -10,16 +10,16 @@ use node_work::Search;
 use search_book::Stretch;
 use std::alloc::Global;
 
-/// A child of a node that is split, by its bound in minutes and its number among the children.
-#[derive(Clone, Copy, PartialEq, Eq)]
+// A child of a node that is split, by its bound in minutes and its number among the children.
+#[derive(Clone, Copy)]
 struct Child {
     bound: u64,
     number: u8,
 }
 
-/// A node that is split on the way, by its place in the stretch, and the child of it that was walked
-/// into last.
-#[derive(Clone, Copy, PartialEq, Eq)]
+// A node that is split on the way, by its place in the stretch, and the child of it that was walked
+// into last.
+#[derive(Clone, Copy)]
 struct Fork {
     place: usize,
     last: Option<Child>,
@@ -62,8 +62,8 @@ fn next_child(bounds: &[u64], last: Option<Child>, best: u64) -> Option<Child>
     next
 }
 
-#[tactic(auto, using(crate::proofs::ChildLemmas::number_within))]
 // The child of this number of a node whose children were bounded.
+#[tactic(auto, using(crate::proofs::ChildLemmas::number_within))]
 fn child_of(search: &Search<'_>, parent: &Foreseen<'_>, number: u8) -> Node
     requires instance { parent.now.instance.now ≡ search.now.instance.now }
     requires number { number < length parent.now.bounds }

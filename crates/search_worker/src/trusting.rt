@@ -78,10 +78,10 @@ fn are_own_lines(instance: &Instance, first: &[u8], node: &Node) -> bool
     true
 }
 
-#[tactic(auto, using(crate::proofs::OwnLemmas::first_known))]
 /// Whether a node is one of the instance, whose ships by arrival are given. A node's type keeps that
 /// no ship stands twice and how many there are, so it is enough that each ship is among as many first
 /// ones. Takes no memory.
+#[tactic(auto, using(crate::proofs::OwnLemmas::first_known))]
 pub fn is_node_of(order: &ShipOrder, instance: &Instance, node: &Node) -> bool
     requires { order.now ≡ order_of instance.now }
     ensures { IsTrue result ↔ IsNodeOf instance.now node.now }

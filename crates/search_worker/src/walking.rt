@@ -18,8 +18,8 @@ use search_book::{Ending, Stretch};
 use std::sync::Wait;
 use std::sync::ledger::Ledger;
 
-#[tactic(auto, using(crate::proofs::FateLemmas::may_end))]
 /// What becomes of a node that lacks ships.
+#[tactic(auto, using(crate::proofs::FateLemmas::may_end))]
 pub(crate) fn foreseen_fate<L: Ledger, W: Wait, G: Gate>(
     post: &Post<'_, L, W, G>,
     worker: &mut Worker<L>,

@@ -20,7 +20,7 @@ pub(crate) struct Held {
     pub(crate) node: Node,
 }
 
-// The fewest nodes that a worker goes ahead at the most.
+/// The fewest nodes that a worker goes ahead at the most.
 pub(crate) const SHORT: u32 = 16;
 
 /// What one worker has as it searches: its number, what it owns, the tokens of the cuts that it

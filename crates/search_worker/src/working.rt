@@ -23,8 +23,8 @@ use std::sync::ledger::Ledger;
 // How many nodes a worker goes ahead at the most, once the others have had time to find work.
 const LONG: u32 = 256;
 
-#[tactic(auto, using(crate::proofs::FateLemmas::may_end_anyway))]
 // Works on the held node, which holds all ships.
+#[tactic(auto, using(crate::proofs::FateLemmas::may_end_anyway))]
 fn work_whole<L: Ledger, W: Wait, G: Gate>(
     post: &Post<'_, L, W, G>,
     worker: &mut Worker<L>,

@@ -16,8 +16,8 @@ use no_memory::NoMemory;
 use node_work::Search;
 use std::alloc::Global;
 
-#[tactic(auto, using(crate::proofs::DrivenLemmas::driven_then, crate::proofs::DrivenLemmas::driven_none, crate::proofs::DrivenLemmas::own_still))]
 // Takes slots and works on them, until nothing is open or the nodes are spent.
+#[tactic(auto, using(crate::proofs::DrivenLemmas::driven_then, crate::proofs::DrivenLemmas::driven_none, crate::proofs::DrivenLemmas::own_still))]
 fn drive_nodes(driver: &mut Driver<'_>, book: &mut Book) -> Result<(), NoMemory>
     requires free { HoldsNothing book.old }
     requires running { IsRunning book.old }
@@ -32,9 +32,9 @@ fn drive_nodes(driver: &mut Driver<'_>, book: &mut Book) -> Result<(), NoMemory>
     Ok(())
 }
 
-#[tactic(auto, using(crate::proofs::DrivenLemmas::driven_then, crate::proofs::DrivenLemmas::driven_none, crate::proofs::DrivenLemmas::own_still))]
 /// Takes slots and works on them as long as fewer nodes are used than `most`. True where it came to an
 /// end before: nothing is open, or the budget is spent.
+#[tactic(auto, using(crate::proofs::DrivenLemmas::driven_then, crate::proofs::DrivenLemmas::driven_none, crate::proofs::DrivenLemmas::own_still))]
 pub(crate) fn drive_some(
     driver: &mut Driver<'_>,
     book: &mut Book,
@@ -68,8 +68,8 @@ fn is_parked(book: &Book, id: u32) -> bool
     }
 }
 
-#[tactic(auto, using(crate::proofs::DrivenLemmas::driven_none, crate::proofs::TidyLemmas::tidied_past))]
 // Closes a slot if it is parked and its bound is at least the best cost, below which the book refuses.
+#[tactic(auto, using(crate::proofs::DrivenLemmas::driven_none, crate::proofs::TidyLemmas::tidied_past))]
 fn close_if_parked(book: &mut Book, id: u32)
     requires known { id < length book.old.slots }
     requires tidied { IsTidied book.old id }
@@ -84,8 +84,8 @@ fn close_if_parked(book: &mut Book, id: u32)
     book.close_bound(id);
 }
 
-#[tactic(auto, using(crate::proofs::DrivenLemmas::driven_none, crate::proofs::TidyLemmas::tidied_none))]
 // Closes each parked slot whose bound is at least the best cost.
+#[tactic(auto, using(crate::proofs::DrivenLemmas::driven_none, crate::proofs::TidyLemmas::tidied_none))]
 fn close_parked(book: &mut Book)
     requires free { HoldsNothing book.old }
     requires done { IsDone book.old }
@@ -97,8 +97,8 @@ fn close_parked(book: &mut Book)
     }
 }
 
-#[tactic(auto, using(crate::proofs::TidyLemmas::tidied_ends, crate::proofs::DrivenLemmas::driven_then, crate::proofs::DrivenLemmas::driven_cost))]
 /// Drives the search of a book to its end, as `drive` does, with what a driver has.
+#[tactic(auto, using(crate::proofs::TidyLemmas::tidied_ends, crate::proofs::DrivenLemmas::driven_then, crate::proofs::DrivenLemmas::driven_cost))]
 pub(crate) fn finish(driver: &mut Driver<'_>, book: &mut Book) -> Result<(), NoMemory>
     requires free { HoldsNothing book.old }
     requires running { IsRunning book.old }

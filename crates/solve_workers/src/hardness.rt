@@ -42,8 +42,8 @@ pub(crate) fn first_nodes(case: &Case) -> u32 {
     }
 }
 
-#[tactic(auto, using(crate::proofs::DrivenLemmas::driven_then, crate::proofs::DrivenLemmas::driven_none))]
 // Posts the cuts of another book, as far as there is memory.
+#[tactic(auto, using(crate::proofs::DrivenLemmas::driven_then, crate::proofs::DrivenLemmas::driven_none))]
 fn post_cuts(book: &mut Book, other: &Book)
     requires free { HoldsNothing book.old }
     ensures free { HoldsNothing book.new }
@@ -101,9 +101,9 @@ fn board_of(alloc: Global, pricing: Option<Pricing>) -> Option<Board> {
     Board::new(alloc, pricing?).ok()
 }
 
-#[tactic(auto, using(crate::proofs::ReadyLemmas::best_legal, crate::proofs::ReadyLemmas::best_within, crate::proofs::ReadyLemmas::ready_within_ok))]
 // Lets the workers search a book with prices, and settles it: the book that they leave, or a fresh one
 // of the best plan.
+#[tactic(auto, using(crate::proofs::ReadyLemmas::best_legal, crate::proofs::ReadyLemmas::best_within, crate::proofs::ReadyLemmas::ready_within_ok))]
 fn priced_by_all<R: Threads + Wait + Sync, G: Gate + Sync>(
     lent: &Lent<'_, R, G>,
     book: Book,
@@ -122,9 +122,9 @@ fn priced_by_all<R: Threads + Wait + Sync, G: Gate + Sync>(
     settled(lent.alloc, left, lent.case, opening, best, &none)
 }
 
-#[tactic(auto, using(crate::proofs::ReadyLemmas::ready_driven, crate::proofs::DrivenLemmas::own_still))]
 // Searches a book with prices as far as several workers serve: the root on this thread, and then all
 // else by them, who begin with the prices of the root.
+#[tactic(auto, using(crate::proofs::ReadyLemmas::ready_driven, crate::proofs::DrivenLemmas::own_still))]
 fn priced<R: Threads + Wait + Sync, G: Gate + Sync>(
     lent: &Lent<'_, R, G>,
     driver: &mut Driver<'_>,
@@ -150,9 +150,9 @@ fn priced<R: Threads + Wait + Sync, G: Gate + Sync>(
     Ok(book)
 }
 
-#[tactic(auto, using(crate::proofs::ReadyLemmas::ready_driven, crate::proofs::ReadyLemmas::ready_again, crate::proofs::DrivenLemmas::own_still))]
 // Searches a book without prices for its first nodes. An instance that isn't solved by then begins again,
 // with prices, the best plan and the cuts that were found.
+#[tactic(auto, using(crate::proofs::ReadyLemmas::ready_driven, crate::proofs::ReadyLemmas::ready_again, crate::proofs::DrivenLemmas::own_still))]
 fn begun<R: Threads + Wait + Sync, G: Gate + Sync>(
     lent: &Lent<'_, R, G>,
     driver: &mut Driver<'_>,
@@ -171,10 +171,10 @@ fn begun<R: Threads + Wait + Sync, G: Gate + Sync>(
     priced(lent, driver, again, cost)
 }
 
-#[tactic(auto, using(crate::proofs::OpeningLemmas::ends_within))]
 /// Drives the search of a book to its end. An instance that is hard without prices is searched from the
 /// start with prices, with the best plan and the cuts that were found, by the
 /// workers first where there are several. All else is done on this thread. Refuses want of memory alone.
+#[tactic(auto, using(crate::proofs::OpeningLemmas::ends_within))]
 pub(crate) fn driven<R: Threads + Wait + Sync, G: Gate + Sync>(
     lent: &Lent<'_, R, G>,
     book: Book,

@@ -6,9 +6,9 @@
 //! `comparing`). Then it drives the search to its end on its own thread, so what the contract says
 //! rests on no worker. `solve` does so from the plan of `first_plan` and no cuts.
 //!
-//! An instance that isn't solved after some nodes, and isn't near it, is hard: its search begins again,
-//! with prices (`hardness`). Several workers search that book too, once the root is priced, and the
-//! caller drives on what they leave.
+//! An instance that isn't solved after some nodes is hard: its search begins again, with prices
+//! (`hardness`), unless the budget is small. Several workers search that book too, once the root is
+//! priced, and the caller drives on what they leave.
 //!
 //! - Workers: `crew` deals out what each owns and gathers it again, `running` starts them in threads,
 //!   or runs one on the caller's where none can be made, and waits for all. `search_worker` is the

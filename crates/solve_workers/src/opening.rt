@@ -12,8 +12,8 @@ use lock_model::Plan;
 use no_memory::NoMemory;
 use std::alloc::Global;
 
-#[tactic(auto, using(crate::proofs::OpeningLemmas::posted_just, crate::proofs::GrowLemmas::post_granted))]
 // Posts a copy of a cut, which is of the book's case.
+#[tactic(auto, using(crate::proofs::OpeningLemmas::posted_just, crate::proofs::GrowLemmas::post_granted))]
 fn post_copy(book: &mut Book, cut: &Cut) -> Result<(), NoMemory>
     requires { IsOwnCut book.old.case.instance cut.now }
     ensures { OnOk result (book.new ≡ with_cuts book.old (cut.now ∷ [])) }
@@ -23,8 +23,8 @@ fn post_copy(book: &mut Book, cut: &Cut) -> Result<(), NoMemory>
     Ok(())
 }
 
-#[tactic(auto, using(crate::proofs::OpeningLemmas::posted_next, crate::proofs::OpeningLemmas::posted_whole, crate::proofs::OpeningLemmas::own_still, crate::proofs::OpeningLemmas::with_none))]
 // Posts copies of cuts in their order; they are of the book's case.
+#[tactic(auto, using(crate::proofs::OpeningLemmas::posted_next, crate::proofs::OpeningLemmas::posted_whole, crate::proofs::OpeningLemmas::own_still, crate::proofs::OpeningLemmas::with_none))]
 fn post_all(book: &mut Book, cuts: &CutList) -> Result<(), NoMemory>
     requires { All (IsOwnCut book.old.case.instance) cuts.now }
     ensures { OnOk result (book.new ≡ with_cuts book.old cuts.now) }

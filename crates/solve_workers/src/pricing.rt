@@ -21,8 +21,8 @@ use price_terms::{Prices, Shown};
 use search_book::learn_cuts;
 use std::alloc::Global;
 
-#[tactic(auto, using(crate::proofs::DrivenLemmas::driven_none))]
 // Posts a cut, if there is one.
+#[tactic(auto, using(crate::proofs::DrivenLemmas::driven_none))]
 fn post_some(book: &mut Book, held: &Held, cut: Option<Cut>)
     requires holds { HoldsInHand book.old held.now }
     ensures holds { HoldsInHand book.new held.now }
@@ -34,8 +34,8 @@ fn post_some(book: &mut Book, held: &Held, cut: Option<Cut>)
     }
 }
 
-#[tactic(auto, using(crate::proofs::DrivenLemmas::driven_then, crate::proofs::DrivenLemmas::driven_none))]
 // Posts the cuts that were found.
+#[tactic(auto, using(crate::proofs::DrivenLemmas::driven_then, crate::proofs::DrivenLemmas::driven_none))]
 fn post_all(book: &mut Book, held: &Held, mut cuts: Vec<Cut>)
     requires holds { HoldsInHand book.old held.now }
     ensures holds { HoldsInHand book.new held.now }
@@ -46,9 +46,9 @@ fn post_all(book: &mut Book, held: &Held, mut cuts: Vec<Cut>)
     }
 }
 
-#[tactic(auto, using(crate::proofs::DrivenLemmas::driven_then, crate::proofs::DrivenLemmas::driven_none))]
 // Closes the held node by what was shown of it by these prices, which are posted unless the book has them
 // under a known number; the number, if the book took that.
+#[tactic(auto, using(crate::proofs::DrivenLemmas::driven_then, crate::proofs::DrivenLemmas::driven_none))]
 fn close_with(
     book: &mut Book,
     held: &Held,
@@ -99,8 +99,8 @@ fn close_by(
     }
 }
 
-#[tactic(auto, using(crate::proofs::DrivenLemmas::driven_then, crate::proofs::DrivenLemmas::driven_none))]
 // Makes one round and carries out what it found; how it ended.
+#[tactic(auto, using(crate::proofs::DrivenLemmas::driven_then, crate::proofs::DrivenLemmas::driven_none))]
 fn make_round(
     alloc: Global,
     search: &Search<'_>,
@@ -130,8 +130,8 @@ fn make_round(
     Ok(end)
 }
 
-#[tactic(auto, using(crate::proofs::DrivenLemmas::driven_then, crate::proofs::DrivenLemmas::driven_none, crate::proofs::DrivenLemmas::own_still))]
 // Makes rounds until the node is closed or prices show no more; whether it was closed.
+#[tactic(auto, using(crate::proofs::DrivenLemmas::driven_then, crate::proofs::DrivenLemmas::driven_none, crate::proofs::DrivenLemmas::own_still))]
 fn make_rounds(
     alloc: Global,
     search: &Search<'_>,
@@ -163,8 +163,8 @@ fn make_rounds(
     false
 }
 
-#[tactic(auto, using(crate::proofs::DrivenLemmas::driven_none))]
 // Closes the held node by the prices of the node above it, which close most nodes; whether they do.
+#[tactic(auto, using(crate::proofs::DrivenLemmas::driven_none))]
 fn close_as_inherited(
     instance: &Instance,
     pricing: &mut Pricing,
@@ -183,8 +183,8 @@ fn close_as_inherited(
     }
 }
 
-#[tactic(auto, using(crate::proofs::DrivenLemmas::driven_then, crate::proofs::DrivenLemmas::driven_none, crate::proofs::DrivenLemmas::own_still))]
 // Closes the held node by the prices of the node above it, or makes rounds; whether it was closed.
+#[tactic(auto, using(crate::proofs::DrivenLemmas::driven_then, crate::proofs::DrivenLemmas::driven_none, crate::proofs::DrivenLemmas::own_still))]
 fn close_or_raise(
     alloc: Global,
     search: &Search<'_>,

@@ -30,8 +30,8 @@ fn is_ours(book: &Book, case: &Case, cost: u64) -> bool
         && book.held_by(DRIVER).is_none()
 }
 
-#[tactic(auto, using(crate::proofs::SettleLemmas::free_at_last))]
 // Releases the workers; the book refuses those that have ended.
+#[tactic(auto, using(crate::proofs::SettleLemmas::free_at_last))]
 fn release_others(book: &mut Book)
     requires running { IsRunning book.old }
     requires empty { first_slot book.old (is_held_by WORKERS) ≡ None }
@@ -44,10 +44,10 @@ fn release_others(book: &mut Book)
     }
 }
 
-#[tactic(auto, using(crate::proofs::SettleLemmas::freed_ready, crate::proofs::OpeningLemmas::opened_ready_ok))]
 /// The book to drive on: the one that the workers leave, without what they hold, where it is of the
 /// case, was opened at this cost, which is at least the plan's, and the driver is free. Else it is a fresh book
 /// of the plan with the given cuts. Refuses want of memory alone.
+#[tactic(auto, using(crate::proofs::SettleLemmas::freed_ready, crate::proofs::OpeningLemmas::opened_ready_ok))]
 pub(crate) fn settled(
     alloc: Global,
     mut book: Book,

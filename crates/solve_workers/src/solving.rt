@@ -38,8 +38,8 @@ fn opening_plan(alloc: Global, case: &Case) -> Result<Plan, NoMemory>
     }
 }
 
-#[tactic(auto, using(crate::proofs::OpeningLemmas::ends_within_ok))]
 /// Searches a case from the plan of `first_plan` and no cuts, as `solve_from` does.
+#[tactic(auto, using(crate::proofs::OpeningLemmas::ends_within_ok))]
 pub fn solve<R: Threads + Wait + Sync, G: Gate + Sync>(
     rt: &R,
     alloc: Global,
@@ -56,7 +56,6 @@ pub fn solve<R: Threads + Wait + Sync, G: Gate + Sync>(
     solve_from(rt, alloc, case, plan, CutList::new(alloc), workers, gate)
 }
 
-#[tactic(auto, using(crate::proofs::ReadyLemmas::opened_within))]
 /// Searches a case from a legal plan and cuts of its chambers and ships, which are posted first, with
 /// 1 to `WORKERS` workers. Each of two or more workers has a thread of its own where one can be made. When
 /// all have ended, the caller drives the search to its end on its own thread; one worker alone is the
@@ -64,6 +63,7 @@ pub fn solve<R: Threads + Wait + Sync, G: Gate + Sync>(
 ///
 /// Refuses want of memory alone: the caller was refused memory before the workers began, or when it
 /// opened the book anew or drove it to its end after them.
+#[tactic(auto, using(crate::proofs::ReadyLemmas::opened_within))]
 pub fn solve_from<R: Threads + Wait + Sync, G: Gate + Sync>(
     rt: &R,
     alloc: Global,

@@ -1,5 +1,5 @@
 //! The work on the node that the driver holds.
-ghost use Rattle.std.specs.Prelude.{◌≡◌, ◌<◌, ◌≤◌, length, IfOk, OnOk};
+ghost use Rattle.std.specs.Prelude.{◌≡◌, ◌<◌, length, IfOk, OnOk};
 ghost use Rattle.std.specs.Bool.{OnTrue, OnFalse};
 ghost use Rattle.lock_rules.specs.Arrival.{next_ship};
 ghost use Rattle.book_rules.specs.Book.{best_cost, slot_at};
@@ -33,8 +33,8 @@ fn work_whole(driver: &mut Driver<'_>, book: &mut Book, id: u32) -> Result<(), N
     end(book, id, fate)
 }
 
-#[tactic(auto, using(crate::proofs::DrivenLemmas::driven_none))]
 // Whether prices, if there are any, close the held node. Only they need a copy of it.
+#[tactic(auto, using(crate::proofs::DrivenLemmas::driven_none))]
 fn is_priced(driver: &mut Driver<'_>, book: &mut Book, id: u32) -> bool
     requires holds { HoldsSlot book.old id }
     requires own { IsOwnSearch book.old driver.old.search }
@@ -51,8 +51,8 @@ fn is_priced(driver: &mut Driver<'_>, book: &mut Book, id: u32) -> bool
     price(driver, book, &held)
 }
 
-#[tactic(auto, using(crate::proofs::DrivenLemmas::driven_then))]
 // Splits the held node, which lacks a ship, unless prices close it.
+#[tactic(auto, using(crate::proofs::DrivenLemmas::driven_then))]
 fn split_unless_priced(driver: &mut Driver<'_>, book: &mut Book, id: u32) -> Result<(), NoMemory>
     requires holds { HoldsSlot book.old id }
     requires own { IsOwnSearch book.old driver.old.search }
@@ -115,8 +115,8 @@ fn work_inner(driver: &mut Driver<'_>, book: &mut Book, id: u32, best: u64) -> R
     end(book, id, fate)
 }
 
-#[tactic(auto, using(crate::proofs::HeldLemmas::early_closable, crate::proofs::HeldLemmas::held_bound, crate::proofs::DrivenLemmas::driven_then))]
 /// Works on the held node until it is closed, split or parked. Refuses want of memory alone.
+#[tactic(auto, using(crate::proofs::HeldLemmas::early_closable, crate::proofs::HeldLemmas::held_bound, crate::proofs::DrivenLemmas::driven_then))]
 pub(crate) fn work(driver: &mut Driver<'_>, book: &mut Book, id: u32) -> Result<(), NoMemory>
     requires holds { HoldsSlot book.old id }
     requires own { IsOwnSearch book.old driver.old.search }
