@@ -13,12 +13,14 @@ use Rattle.certificate_rules.specs.declared.certificate.Mark.TheVariants as mark
 use Rattle.certificate_rules.specs.declared.certificate.Mark.{Mark}
 use Rattle.certificate_rules.specs.declared.certificate.FailurePlace.{FailurePlace}
 use Rattle.certificate_rules.specs.declared.certificate.Reason.{Reason}
-use Rattle.certificate_rules.specs.Certificates.{Certificate, EndsNode, Stands}
+use Rattle.certificate_rules.specs.Certificates.{Certificate, EndsNode, Stands, HasNoOpenLeaf}
 use Rattle.certificate_rules.specs.Low.{OpenInOrder, HasOpen, leaf_bounds, IsLow}
 use Rattle.certificate_rules.specs.Failures.{Fails}
 use Rattle.certificate_rules.proofs.FailLemmas.{fails-not_stands}
 use Rattle.closing_rules.proofs.LawLemmas.{tree-laws}
 use Rattle.certificate_rules.proofs.LowLemmas.{stands-low}
+use Rattle.certificate_rules.proofs.AcceptLemmas.{whole-low, accepted-cheapest}
+use Rattle.lock_rules.specs.Plan.{IsCheapest}
 use Rattle.cert_check.specs.FirstFailure.{AreSameFailure}
 use Rattle.cert_check.proofs.FirstFailure.{failing-same}
 use Rattle.cert_check.proofs.SomeFailure.{fails-first}
@@ -107,3 +109,10 @@ module _ (I : Instance) (C : Certificate) where
         costs = good.cost ∙ sym own ∙ costs;
         least = stands-low I C m (tree-laws law normal I) good (subst (IsLow I C) lows is);
       }
+
+  -- of a certificate that leaves no node open
+  pub stands-cheapest : IsHereditary → ((d : Deck) → IsDeck d → HasNormal d) → (low paid : ℕ) → paid ≡ C.cost → Stands I C → IsLow I C low → (m n : ℕ) → answer.Stands low paid ≡ answer.Stands m n → HasNoOpenLeaf C.tree → IsCheapest I C.plan × (m ≡ n)
+  stands-cheapest law normal low paid own good is m n e whole =
+      let lows : low ≡ m = cc in
+      let costs : paid ≡ n = cc in
+      (accepted-cheapest I C (tree-laws law normal I) (record { stands = good; whole = whole }), sym lows ∙ whole-low I C low whole is ∙ sym own ∙ costs)

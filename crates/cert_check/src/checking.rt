@@ -1,9 +1,9 @@
 //! The checker: whether a certificate stands, and its low, or its first failure.
 ghost use Rattle.std.specs.Prelude.{◌≡◌, ◌↔◌, ℕ, All, IsTrue, IfOk, IfErr, IfNone, IfSome};
-ghost use Rattle.lock_rules.specs.Plan.{IsLegal, cost_of};
+ghost use Rattle.lock_rules.specs.Plan.{IsLegal, IsCheapest, cost_of};
 ghost use Rattle.lock_rules.specs.Node.{root};
 ghost use Rattle.closing_rules.specs.ProvedCuts.{IsProved};
-ghost use Rattle.certificate_rules.specs.Certificates.{Stands};
+ghost use Rattle.certificate_rules.specs.Certificates.{Stands, HasNoOpenLeaf};
 ghost use Rattle.certificate_rules.specs.Low.{IsLow};
 ghost use Rattle.certificate_rules.specs.Failures.{Fails};
 ghost use Rattle.certificate_rules.specs.declared.certificate.FailurePlace.{FailurePlace as Place};
@@ -170,6 +170,7 @@ pub fn check(
     ensures stands { IfOk result (λ answer. (low cost : ℕ) → (answer ≡ Answer.Stands low cost) ↔ (Stands instance.now certificate.now × IsLow instance.now certificate.now low × (cost ≡ certificate.now.cost))) }
     ensures rejected { IfOk result (λ answer. (place : Place) (why : Why) → (answer ≡ Answer.Rejected place why) ↔ Fails instance.now certificate.now place why) }
     ensures proves { IfOk result (λ answer. (low cost : ℕ) → answer ≡ Answer.Stands low cost → IsProvenLow instance.now certificate.now.plan low cost) }
+    ensures cheapest { IfOk result (λ answer. (low cost : ℕ) → answer ≡ Answer.Stands low cost → HasNoOpenLeaf certificate.now.tree → IsCheapest instance.now certificate.now.plan × (low ≡ cost)) }
 {
     heredity();
     normal_form();

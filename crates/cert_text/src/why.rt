@@ -1,13 +1,15 @@
 //! Refutations as JSON values.
-ghost use Rattle.std.specs.Prelude.{◌≡◌, ◌++◌, ◌<◌, map, OnOk, IfOk, Some, None};
+ghost use Rattle.std.specs.Prelude.{◌≡◌, ◌++◌, ◌∷◌, ◌<◌, ◌≤◌, length, map, OnOk, IfOk, Some, None};
 ghost use Rattle.refute_rules.specs.Why.{why_of};
 ghost use Rattle.certificate_rules.specs.WellFormed.{IsFormedRefutation};
 ghost use Rattle.serde_json.specs.View.{view, items_of, items_view};
 ghost use Rattle.cert_text.specs.Fields.{number_data, numbers_data, word_in, all_in};
+ghost use Rattle.cert_text.specs.Ships.{ships_of};
 ghost use Rattle.cert_text.specs.Cuts.{refutation_in, why_items, why_in};
 
 use crate::ships::{push_bytes, push_ships, ships_of};
 use crate::value::{byte_in, word_in};
+use lock_model::Ships;
 use refute_rules::{Marks, Quick, Refutation};
 use serde_json::Value;
 use std::alloc::{AllocError, Global};
@@ -32,6 +34,25 @@ pub(crate) fn push_words(list: &mut Vec<Value>, numbers: &[u32]) -> Result<(), A
     Ok(())
 }
 
+/// Appends the number of a kind and the numbers of a tree.
+fn push_tree(list: &mut Vec<Value>, kind: u8, marks: &Marks) -> Result<(), AllocError>
+    ensures reads_back { OnOk result (all_in word_in (items_of (map number_data marks.now)) ≡ Some marks.now) }
+    ensures values { OnOk result (map view list.new.items ≡ map view list.old.items ++ map number_data (kind ∷ marks.now)) }
+{
+    push_bytes(list, &[kind])?;
+    push_marks(list, marks)
+}
+
+/// Appends the number of a kind and one to eight places.
+fn push_places(list: &mut Vec<Value>, kind: u8, places: &Ships) -> Result<(), AllocError>
+    requires { 1 ≤ length places.now }
+    ensures reads_back { OnOk result (ships_of (items_of (map number_data places.now)) ≡ Some places.now) }
+    ensures values { OnOk result (map view list.new.items ≡ map view list.old.items ++ map number_data (kind ∷ places.now)) }
+{
+    push_bytes(list, &[kind])?;
+    push_ships(list, places)
+}
+
 /// Appends the numbers of a refutation.
 #[tactic(auto, using(crate::proofs::WhyLemmas::row_back, crate::proofs::WhyLemmas::column_back))]
 fn push_numbers(list: &mut Vec<Value>, refutation: &Refutation) -> Result<(), AllocError>
@@ -41,27 +62,12 @@ fn push_numbers(list: &mut Vec<Value>, refutation: &Refutation) -> Result<(), Al
 {
     match refutation {
         Refutation::Quick(Quick::Area) => push_bytes(list, &[0]),
-        Refutation::Quick(Quick::Row(ships)) => {
-            push_bytes(list, &[1])?;
-            push_ships(list, ships)
-        }
-        Refutation::Quick(Quick::Column(ships)) => {
-            push_bytes(list, &[2])?;
-            push_ships(list, ships)
-        }
-        Refutation::Cases(marks) => {
-            push_bytes(list, &[3])?;
-            push_marks(list, marks)
-        }
-        Refutation::Spots(marks) => {
-            push_bytes(list, &[4])?;
-            push_marks(list, marks)
-        }
+        Refutation::Quick(Quick::Row(places)) => push_places(list, 1, places),
+        Refutation::Quick(Quick::Column(places)) => push_places(list, 2, places),
+        Refutation::Cases(marks) => push_tree(list, 3, marks),
+        Refutation::Spots(marks) => push_tree(list, 4, marks),
         Refutation::Clash(first, second) => push_bytes(list, &[5, *first, *second]),
-        Refutation::Berths(marks) => {
-            push_bytes(list, &[6])?;
-            push_marks(list, marks)
-        }
+        Refutation::Berths(marks) => push_tree(list, 6, marks),
     }
 }
 
