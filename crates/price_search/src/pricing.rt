@@ -10,8 +10,8 @@ use lock_model::Instance;
 use master_branch::Node;
 use plain_text::NoMemory;
 use price_bound::{KeptLines, PricedNode, show};
-use price_terms::{ChamberCut, Prices, Shown};
 use price_raise::{Ascent, Pace};
+use price_terms::{ChamberCut, Prices, Shown};
 use std::alloc::Global;
 
 // The most rounds in a search, and the most at the first node that prices can serve and at any other.

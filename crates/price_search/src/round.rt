@@ -12,8 +12,8 @@ use place_refute::Cut;
 use placed_groups::Memory;
 use plain_text::NoMemory;
 use price_bound::{PricedNode, least_lines};
-use price_terms::{Limits, LooseLines, PriceError, Prices};
 use price_raise::Stands;
+use price_terms::{Limits, LooseLines, PriceError, Prices};
 use std::alloc::Global;
 
 /// The limits of the tables that a search works out: some five milliseconds for a chamber.

@@ -16,8 +16,8 @@ use node_work::Search;
 use place_refute::Cut;
 use placed_groups::Memory;
 use plain_text::NoMemory;
-use price_terms::{Prices, Shown};
 use price_search::{Asked, MOST_AT_A_NODE, Pricing, Round, RoundEnd};
+use price_terms::{Prices, Shown};
 use search_book::learn_cuts;
 use std::alloc::Global;
 

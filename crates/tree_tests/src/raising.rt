@@ -1,7 +1,7 @@
 //! Steps of ascents, worked out by hand.
 use lock_model::Ships;
-use price_terms::Prices;
 use price_raise::{Ascent, Pace, Stands};
+use price_terms::Prices;
 use std::test::Fail;
 
 // How two ships stand in lines.
