@@ -1,10 +1,9 @@
 #!/usr/bin/env python3
 """Looks up in the sources what the documents name as proved: clauses.py
 
-In the first table of docs/promises.md, the functions and methods that carry a promise, written `CRATE::NAME`, `CRATE`: or
-`TYPE::METHOD`, a name alone being of the crate and the type before it; and "field" or "fields" of a run's record. In the
-second table, the functions and types that stand beside a crate, which are its own or of a crate that it stands on. In README.md and docs/, the clauses of a run, written
-(clause `NAME`) or (clauses `NAME`, `NAME`). It prints what isn't there and `N names, M missing`; the status is 0 where
+In the table of docs/promises.md, the functions and methods that carry a promise, written `CRATE::NAME`, `CRATE`: or
+`TYPE::METHOD`, a name alone being of the crate and the type before it; and "field" or "fields" of a run's record. In
+README.md and docs/, the clauses of a run, written (clause `NAME`) or (clauses `NAME`, `NAME`). It prints what isn't there and `N names, M missing`; the status is 0 where
 none is missing.
 """
 
@@ -47,7 +46,7 @@ def fields():
 
 
 def carried(cell, all_crates):
-    """The crate and the name of each function that a cell of the first table names; of a field of a run the crate is None."""
+    """The crate and the name of each function that a cell of the table names; of a field of a run the crate is None."""
     crate, owner = None, ""
     for part in re.split(r"(\bfields?\b)|;", cell):
         if part is None or part in ("field", "fields"):
@@ -78,15 +77,9 @@ def rows(table):
 def named():
     """Where a name stands in the documents, the crates that may have it (none for a clause of a run), and the name."""
     promises, all_crates = (TOP / "docs/promises.md").read_text(), crates()
-    first, second = promises.split("\n## What each crate promises", 1)
-    for what, _, cell in rows(first):
+    for what, _, cell in rows(promises):
         for crate, name in carried(cell, all_crates):
             yield f"promises.md, {what}", [crate] if crate else [], name
-    for cells in rows(second):
-        crate = cells[0].strip("`")
-        for name in re.findall(r"`((?:\w+::)?[a-z]+(?:_[a-z]+)+|(?:[A-Z]\w+::)?[A-Z]\w+)`", cells[1]):
-            if name not in all_crates:
-                yield "promises.md, what each crate promises", [crate, *all_crates[crate]], name
     for path in [TOP / "README.md", *(TOP / "docs").glob("*.md")]:
         for words in re.findall(r"\(clauses? ((?:`\w+`(?:, | and )?)+)", path.read_text()):
             for name in re.findall("`([^`]+)`", words):
