@@ -29,7 +29,8 @@ place_pairs-returns-in-None t c =
     let ps = c.args.pairs.now.items in
     let spots = c.spots_of-search.result in
     let read : c.as_slice-2.result.now ≡ ps = search rules in
-    let are = subst (λ vs. AreSpotsSoFar d s.case vs (length d.ships) spots) (c.as_slice-in-None.ensures.value ∙ c.values-in-None.ensures) c.spots_of-search.ensures in
+    let drawn = subst (λ cs. AreSpotsSoFar d cs c.as_slice-in-None.result.now (length d.ships) spots) c.choices.ensures c.spots_of-search.ensures in
+    let are = subst (λ vs. AreSpotsSoFar d s.case vs (length d.ships) spots) (c.as_slice-in-None.ensures.value ∙ c.values-in-None.ensures) drawn in
     let apart = subst (λ qs. AreFirstApart d values qs (length qs)) read (subst (λ vs. AreFirstApart d vs c.as_slice-2.result.now (length c.as_slice-2.result.now)) (c.as_slice.ensures.value ∙ c.values.ensures) c.in-None.ensures.none) in
     placed_legal d s c.requires.ordered.ordering c.args.paths.now c.requires.longest spots ps are c.requires.ordered.all apart
 
