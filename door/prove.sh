@@ -76,7 +76,7 @@ copy_crates() {
 
 # While the gate runs: a line for each crate that it has proved. What it had kept goes quickly, and tells nothing of the time left.
 follow_gate() {
-  local line name bytes all=0 new=0 kept=0 number=0 is_over=false log
+  local line name bytes all=0 new=0 kept=0 number=0 told=$SECONDS is_over=false log
   local -A sizes=()
   while read -r name bytes; do
     sizes[$name]=$bytes all=$((all + bytes))
@@ -90,7 +90,12 @@ follow_gate() {
       if [[ $line == *" is kept: "* ]]; then kept=$((kept + sizes[$name])); else new=$((new + sizes[$name])); fi
       printf 'glock: %2d of %d  %-20s %s gone%s\n' $number ${#sizes[@]} "$name" "$(minutes "$SECONDS")" \
         "$(time_left "$new" $((all - kept)))" >&2
+      told=$SECONDS
     done
+    if [ $((SECONDS - told)) -ge 60 ]; then
+      say "at work on the next; $number of ${#sizes[@]} are proved, $(minutes "$SECONDS") gone$(time_left "$new" $((all - kept)))"
+      told=$SECONDS
+    fi
     ! $is_over || break
     if kill -0 "$running" 2>/dev/null; then sleep 1; else is_over=true; fi
   done
