@@ -27,7 +27,7 @@ second_checker_is_in_time() {
   local dossier=out/queue-24.dossier answer
   mkdir -p out && ./glock solve examples/queue-24.lock --dossier -o "$dossier" || return 1
   answer=$(./glock check "$dossier") || return 1
-  [ "$answer" = "$(ulimit -t 60 && python3 second_checker/check_dossier.py "$dossier")" ] && rm "$dossier"
+  [ "$answer" = "$(ulimit -t 60 && python3 checker/check_dossier.py "$dossier")" ] && rm "$dossier"
 }
 
 # each example is solved, by one worker and by two alike

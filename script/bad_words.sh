@@ -1,0 +1,128 @@
+# Which word of the command line is wrong, by the rules of the program.
+
+# prints a sentence on the first wrong word of those for the program; nothing where all are good
+tell_wrong_word() {
+  local seen=" " plain=0 i word
+  for ((i = 0; i < ${#program_words[@]}; i++)); do
+    word=${program_words[i]}
+    case $word in
+      --) check_plain "${program_words[@]:i+1}" || return 0; break ;;
+      -*) check_option "$word" "${program_words[@]:i+1}" || return 0 ;;
+      *) check_plain "$word" || return 0 ;;
+    esac
+    if is_option "$word"; then i=$((i + 1)); fi
+  done
+  missing_word
+}
+
+# The checks print a sentence and fail where something is wrong.
+refuse() {
+  printf '%s\n' "$*"
+  return 1
+}
+
+check_option() {
+  local name=${1%%=*}
+  case $name in
+    -o | --output) refuse "-o needs the name of a file after it, and may stand once"; return ;;
+    --clock) check_clock "${1#--clock}" "${2-}"; return ;;
+    --*) ;;
+    *) refuse "\"$1\" is no option; options begin with two dashes, and $(what_it_takes)"; return ;;
+  esac
+  is_option "$name" || is_flag "$name" || { refuse "there is no option $name$(perhaps "$name" "$(all_options)"); $(what_it_takes)"; return; }
+  if is_command "$command" && [[ " $(options_of "$command") " != *" $name "* ]]; then
+    refuse "$name isn't for $command; $(what_it_takes)"
+    return
+  fi
+  [[ $seen != *" $name "* ]] || { refuse "$name stands twice"; return; }
+  seen+="$name "
+  check_text "$name" "$@"
+}
+
+# the option's name, the word in which it stands, and the words after it
+check_text() {
+  local text least most
+  if is_flag "$1"; then
+    [ "$1" = "$2" ] || refuse "$1 stands alone, without a number"
+    return
+  fi
+  case $2 in
+    *=*) text=${2#*=} ;;
+    *) text=${3-} ;;
+  esac
+  read -r least most <<<"$(range_of "$1")"
+  in_range "$text" "$least" "$most" && return
+  refuse "$1 takes a whole number from $(with_commas "$least") to $(with_commas "$most")${text:+, and not \"$text\"}"
+}
+
+# one to ten digits between two numbers
+in_range() { [[ $1 =~ ^[0-9]{1,10}$ ]] && [ $((10#$1)) -ge "$2" ] && [ $((10#$1)) -le "$3" ]; }
+
+with_commas() { sed -E ':more; s/([0-9])([0-9]{3})($|,)/\1,\2\3/; t more' <<<"$1"; }
+
+check_clock() {
+  local time=${1#=}
+  time=${time:-$2}
+  if is_time_of_day "$time" && ! reads_instance "$command"; then
+    refuse "--clock is for solve, judge, play, replan and picture, and not for ${command:-this}"
+  else
+    refuse "--clock needs a time of day after it, such as 06:00, and may stand once"
+  fi
+}
+
+# the words that are no options: the command alone, since files were taken away before
+check_plain() {
+  local word
+  for word in "$@"; do
+    plain=$((plain + 1))
+    if [ $plain = 1 ]; then
+      is_command "$word" || { refuse "there is no command \"$word\"$(perhaps "$word" "$commands $own_commands"); $(the_commands)"; return; }
+    elif [ ! -e "$word" ]; then
+      refuse "there is no file \"$word\""
+      return
+    else
+      case $(most_files "$command") in
+        0) refuse "$command reads no file, so \"$word\" is one word too many" ;;
+        1) refuse "$command reads one file, so \"$word\" is one too many$(many_days)" ;;
+        2) refuse "$command reads an instance and a plan, so \"$word\" is one file too many" ;;
+      esac
+      return
+    fi
+  done
+}
+
+what_it_takes() {
+  local options
+  if ! is_command "$command"; then
+    echo "./glock help tells them"
+    return
+  fi
+  options="$(options_of "$command") $(own_options_of "$command" | tr '\n' ' ')"
+  read -r -a options <<<"$options"
+  printf -v options '%s, ' "${options[@]}"
+  echo "$command takes ${options%, }"
+}
+
+the_commands() { echo "the commands are ${commands// /, }, and of the script ${own_commands// /, }"; }
+
+all_options() { if is_command "$command"; then echo "$(options_of "$command") --output --clock --help"; else echo "--help --version"; fi; }
+
+# the word of some others that was perhaps meant
+perhaps() {
+  local near
+  near=$(NEAREST_TO=$1 NEAREST_OF=$2 awk -f "$script/nearest.awk")
+  if [ -n "$near" ]; then echo "; perhaps $near is meant"; fi
+}
+
+# what who names many files, as by *.lock, may have wanted
+many_days() {
+  [ "$command" != solve ] || echo "; to solve many days, name them one at a time, as in: for day in *.lock; do ./glock solve \"\$day\"; done (docs/using.md shows more, and ./glock table prints a line for each report)"
+}
+
+missing_word() {
+  if [ -z "$command" ]; then
+    refuse "the command is missing; $(the_commands)"
+  elif [ "$command" = replan ] && [[ $seen != *" --from "* ]]; then
+    refuse "replan needs --from and the minute from which on it may plan anew"
+  fi
+}

@@ -1,0 +1,32 @@
+# What a refused plan means.
+
+explain_plan() {
+  case $1 in
+    "plan line "*)
+      explain_line plan "$((${parts[2]} + $(end_of_instance)))" "${parts[4]}" "${parts[5]}"
+      if [ "$command" = picture ] && [ "${parts[5]}" = NoMark ]; then
+        say "a dossier has one of these lines there: certificate, certificate 2, certificate 3, certificate open, certificate open 3"
+      fi
+      ;;
+    "illegal ship "*) explain_ship "${parts[2]}" "${parts[3]}" ;;
+    "illegal lockage "*) explain_lockage "${parts[2]}" "${parts[3]}" "${parts[@]:4}" ;;
+  esac
+}
+
+# a ship that is in two lockages or in none
+explain_ship() { say_at "${second_name:-$first_name}" "ship $1 $2: $(break_sentence "$2" "$1")"; }
+
+# a lockage's number, its break and the ships that the break names
+explain_lockage() {
+  local line detail
+  IFS=$'\t' read -r line detail < <(awk -v number="$1" -v kind="$2" -v first="${3-}" -v second="${4-}" -f "$script/lockage.awk" "$input")
+  say_at "$(place_of "$line")" "lockage $1 $2: $(break_sentence "${@:2}")${detail:+ ${detail% }}"
+}
+
+# the sentence of a break with the names of its ships
+break_sentence() {
+  local sentence
+  sentence=$(sentence_of "break $1")
+  sentence=${sentence//%1/${2-}}
+  printf '%s' "${sentence//%2/${3-}}"
+}

@@ -1,0 +1,105 @@
+# What the program reads: a file, two files joined, or standard input.
+
+# more bytes than any instance with its plan may have; and the most bytes of a file that is joined to another one where
+# the program reads all
+most_kept=131073
+most_joined=16777216
+
+# sets input, the file that the program reads, or nothing for standard input itself; goes_on, whether standard input
+# goes on behind that file; first_name and second_name, what to call the parts in messages; and first_lines, the number
+# of lines of the first of two files
+take_input() {
+  input= goes_on=false first_name="standard input" second_name= first_lines=0
+  local file
+  is_named=true
+  if [ ${#files[@]} = 0 ]; then is_named=false; fi
+  if [ "${files[*]}" = - ]; then files=(); fi
+  for file in "${files[@]}"; do
+    [ "$file" != - ] || continue
+    [ -d "$file" ] && { say "$file is a folder"; return 66; }
+    [ -r "$file" ] || { say "$file can't be read: no permission"; return 66; }
+  done
+  case ${#files[@]} in
+    0) wait_for_keyboard && keep_standard_input ;;
+    1) take_file ;;
+    2) join_files ;;
+  esac || return
+  # What is kept of the input, where that is all of it.
+  if [ -n "$input" ] && [ "${input%/*}" = "$room" ] && room_is_full; then
+    say "write fault: $(temporary_folder) is full, so the input can't be kept"
+    return 5
+  fi
+}
+
+wait_for_keyboard() {
+  if [ -t 0 ] && ! $is_named && [ -z "$wrong" ] && [ "$(most_files "$command")" -gt 0 ]; then
+    say "no file is named, so $command reads what you type; end it with Ctrl-D, or stop with Ctrl-C and name a file"
+  fi
+}
+
+# A pipe can be read once only, so it is taken as standard input is.
+take_file() {
+  first_name=${files[0]}
+  if [ -f "$first_name" ]; then
+    input=$first_name
+  else
+    exec <"$first_name"
+    keep_standard_input
+  fi
+}
+
+# The second file begins on a line of its own, also where the first doesn't end with a line feed.
+join_files() {
+  first_name=$(name_of "${files[0]}") second_name=$(name_of "${files[1]}") input=$room/joined
+  : >"$input"
+  join_file "${files[0]}" || return
+  [ -z "$(tail -c 1 "$input" | tr -d '\n' | tr '\0' 'x')" ] || echo >>"$input"
+  first_lines=$(wc -l <"$input")
+  join_file "${files[1]}"
+}
+
+name_of() { if [ "$1" = - ]; then echo "standard input"; else echo "$1"; fi; }
+
+# Appends a file to the input. What is over the program's limit is left out; a program that has none gets all or nothing.
+join_file() {
+  local before most=$most_kept
+  before=$(wc -c <"$input")
+  if reads_dossier "$command"; then most=$((most_joined + 1)); fi
+  if [ "$1" = - ]; then head -c $most; else head -c $most "$1"; fi >>"$input"
+  if reads_dossier "$command" && [ $(($(wc -c <"$input") - before)) -eq $most ]; then
+    say "$(name_of "$1") has more than $most_joined bytes; join the two files and give one"
+    return 66
+  fi
+}
+
+# An instance on standard input is kept, so that messages can speak of its lines. What is over the program's limit is
+# left unread, as the program leaves it; only of a dossier the program reads what follows too. Where standard input fails
+# the program is to say so itself.
+keep_standard_input() {
+  reads_instance "$command" && [ -z "$wrong" ] || return 0
+  if head -c $most_kept >"$room/kept" 2>/dev/null || room_is_full; then input=$room/kept; fi
+  if [ -n "$input" ] && reads_dossier "$command" && [ "$(wc -c <"$input")" -eq $most_kept ]; then goes_on=true; fi
+}
+
+# where a line of the input stands, as file:line
+place_of() {
+  local line
+  line=$(given_line "$1")
+  if [ -n "$second_name" ] && [ "$line" -gt "$first_lines" ]; then
+    echo "$second_name:$((line - first_lines))"
+  else
+    echo "$first_name:$line"
+  fi
+}
+
+# the number of the first line whose words are the one word `end`
+end_of_instance() { awk '{ sub(/\r$/, ""); sub(/#.*/, "") } NF == 1 && $1 == "end" { print NR; exit }' "$input"; }
+
+# a warning, never a refusal
+warn_of_sizes() {
+  local line text
+  [ -n "$input" ] && reads_instance "$command" && [ -z "$wrong" ] || return 0
+  while IFS=$'\t' read -r line text; do
+    say_at "$(place_of "$line")" "warning: $text"
+  done < <(awk -f "$script/sizes.awk" "$input" 2>/dev/null)
+}

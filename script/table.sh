@@ -1,0 +1,50 @@
+# A line for each day of a folder, of the reports that lie beside the locks; and what differs between two plans.
+
+# table [--csv] FOLDER or FILES
+table() {
+  local is_csv=false file open=0
+  local -a days=() rows=()
+  for file in "$@"; do
+    case $file in
+      --csv) is_csv=true ;;
+      -*) say "table takes --csv, and the names of folders and files, and not \"$file\""; return 2 ;;
+      *) [ -e "$file" ] || { say "there is no file \"$file\""; return 2; }; add_days "$file" ;;
+    esac
+  done
+  [ ${#days[@]} -gt 0 ] || { say "table needs a folder with files such as monday.lock and monday.report, or such files"; return 2; }
+  for file in "${days[@]}"; do
+    rows+=("$(row_of_day "$file")")
+    [[ ${rows[-1]} =~ $'\t'(optimal|legal)$'\t' ]] || open=1
+  done
+  printf '%s\n' "${rows[@]}" | awk -F '\t' -v csv=$is_csv -f "$script/table_lines.awk" || return 5
+  return $open
+}
+
+# of a folder each lock, and each report that has no lock; else the file itself
+add_days() {
+  local file
+  if [ ! -d "$1" ]; then days+=("$1"); return; fi
+  for file in "${1%/}"/*.lock "${1%/}"/*.report; do
+    if [ -e "$file" ] && { [[ $file == *.lock ]] || [ ! -e "${file%.report}.lock" ]; }; then days+=("$file"); fi
+  done
+}
+
+# the day of a lock is its report, which lies beside it; any other file is a report itself
+row_of_day() {
+  local report=$1 row=
+  if [[ $1 == *.lock ]]; then report=${1%.lock}.report; fi
+  if [ -r "$report" ]; then row=$(awk -f "$script/table.awk" "$report"); fi
+  if [ -n "$row" ] && [ "$1" -nt "$report" ]; then say_at "$report" "warning: older than $1"; fi
+  printf '%s\t%s' "$1" "${row:-no report$(printf '\t-%.0s' {1..7})}"
+}
+
+# changes OLD NEW
+changes() {
+  local file
+  [ $# = 2 ] || { say "changes needs two reports or plans, the old one and the new one"; return 2; }
+  for file in "$@"; do
+    [ -e "$file" ] || { say "there is no file \"$file\""; return 2; }
+    [ ! -d "$file" ] && [ -r "$file" ] || { say "$file can't be read"; return 66; }
+  done
+  awk -v first="$1" -v second="$2" -f "$script/changes.awk" </dev/null
+}
