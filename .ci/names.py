@@ -32,7 +32,7 @@ def words_of_tree():
 
 
 def is_path_there(word, paths):
-    plain = word.rstrip("/").removeprefix("./")
+    plain = word.rstrip("/").removeprefix("./").removeprefix("../")
     tries = [plain, f"{plain}.antt", f"{plain}.rt", f"docs/{plain}"]
     return any(it in paths for it in tries) or any(path.endswith(f"/{it}") for it in tries for path in paths)
 
