@@ -5,7 +5,7 @@
 #![tactic(auto)]
 
 #[cfg(test)]
-mod gates;
+mod holding;
 #[cfg(test)]
 mod plans;
 #[cfg(test)]

@@ -5,4 +5,4 @@
 
 mod faults;
 mod fixture;
-mod gates;
+mod meeting;
