@@ -43,7 +43,7 @@ examples_are_solved() {
 stack_is_enough() {
   local program=crates/lock_main/out/lock_main dossier=out/queue-24.dossier answer
   mkdir -p out && (ulimit -s 512 && "$program" solve --dossier <examples/queue-24.lock >"$dossier") || return 1
-  answer=$(ulimit -s 128 && "$program" check <"$dossier") && rm "$dossier" || return 1
+  answer=$(ulimit -s 256 && "$program" check <"$dossier") && rm "$dossier" || return 1
   [[ $answer = "accepted cost "* ]] || return 1
   (ulimit -s 128 && cat examples/evening.lock examples/evening.plan | "$program" judge >/dev/null) &&
     (ulimit -s 128 && cat examples/evening.lock examples/evening.plan | "$program" play >/dev/null)
