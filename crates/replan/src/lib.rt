@@ -24,7 +24,7 @@ mod standing;
 mod together;
 
 pub use laws::{cheapest_that_keeps, plans_that_keep};
-pub use numbers::Ships24;
+pub use numbers::ShipNumbers;
 pub use refusal::ReplanError;
 pub use remainder::Residual;
 pub use remaining::residual;

@@ -7,11 +7,11 @@ use std::marker::Model;
 
 /// Up to `SHIPS` ship numbers.
 #[derive(Drop)]
-pub struct Ships24 {
+pub struct ShipNumbers {
     items: ArrayVec<u8, SHIPS>,
 }
 
-impl Model for Ships24 {
+impl Model for ShipNumbers {
     ghost use Rattle.std.specs.Prelude.{ℕ, List};
 
     ghost Value = { List ℕ };
@@ -21,12 +21,12 @@ impl Model for Ships24 {
     ghost inverse = { λ xs. record { items = record { items = xs } } };
 }
 
-impl Ships24 {
+impl ShipNumbers {
     /// No ships.
-    pub fn new() -> Ships24
+    pub fn new() -> ShipNumbers
         ensures { result ≡ [] }
     {
-        Ships24 {
+        ShipNumbers {
             items: ArrayVec::new(),
         }
     }

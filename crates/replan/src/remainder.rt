@@ -1,6 +1,6 @@
 //! What is left of an instance.
 
-use crate::numbers::Ships24;
+use crate::numbers::ShipNumbers;
 use lock_model::{Instance, Plan};
 
 /// What is left of an instance once a part of a plan is kept: the kept plan; the rest, None where
@@ -10,6 +10,6 @@ use lock_model::{Instance, Plan};
 pub struct Residual {
     pub kept: Plan,
     pub rest: Option<Instance>,
-    pub numbers: Ships24,
+    pub numbers: ShipNumbers,
     pub added: u64,
 }

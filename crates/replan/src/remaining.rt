@@ -7,7 +7,7 @@ ghost use Rattle.replan.specs.Rest.{ships_left, IsRest, IsLeft};
 use crate::keeping::{kept_of, kept_places};
 use crate::late::refusal;
 use crate::left::{delays, ships_from, ships_left};
-use crate::numbers::Ships24;
+use crate::numbers::ShipNumbers;
 use crate::refusal::ReplanError;
 use crate::remainder::Residual;
 use crate::standing::chambers_after;
@@ -15,7 +15,7 @@ use chamber_times::cost;
 use lock_model::{Instance, Plan};
 
 /// The rest after the kept plan and the minute, where these ships are left.
-fn rest_of(instance: &Instance, kept: &Plan, from: u32, numbers: &Ships24) -> Option<Instance>
+fn rest_of(instance: &Instance, kept: &Plan, from: u32, numbers: &ShipNumbers) -> Option<Instance>
     requires can { CanBeKept instance.now kept.now }
     requires early { from ≤ 1000000 }
     requires left { numbers.now ≡ ships_left instance.now kept.now }
