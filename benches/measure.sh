@@ -6,7 +6,7 @@ cd "$(dirname "$0")/.."
 whole=$PWD/out/measure
 own=$whole/crates/measure
 program=$own/out/measure
-uses="solve_workers book_core first_plan gates lock_io instance_text berth_place chamber_place spot_place mooring_rules ship_shapes flow_bounds master_branch deck_laws lock_model search_book price_bound place_refute refute_rules"
+uses="solve_workers book_core first_plan gates lock_io instance_text berth_place chamber_place spot_place mooring_rules ship_shapes flow_bounds master_branch deck_laws lock_model search_book price_bound price_terms place_refute deck_cuts refute_rules"
 
 if [ ! -x "$program" ]; then
   rm -rf "$whole"
