@@ -1,14 +1,14 @@
 //! The case of a deck that the search holds.
 
-use crate::edges::{add_edges, edge_count};
+use crate::edges::{CaseEdges, edge_count};
 use crate::faults::{CaseFault, write_fault};
 use crate::parts::ship_count;
 use crate::solving::{first_edges, solve, solve_first};
 use crate::spotting::spots_of;
 use arrayvec::ArrayVec;
 use case_search::Track;
-use deck_cases::{Choice, Decisions, case_decisions, option_at, option_count};
-use diff_system::{Edges, LongestPaths};
+use deck_cases::{Choice, Decisions, case_decisions, option_at, option_count, push_choice};
+use diff_system::LongestPaths;
 use lock_model::{DECISIONS, Deck, Spots};
 use refute_rules::Marks;
 use std::alloc::AllocError;
@@ -23,7 +23,7 @@ pub(crate) struct DeckCase {
     deck: Deck,
     decisions: Decisions,
     choices: ArrayVec<Choice, DECISIONS>,
-    edges: Edges,
+    edges: CaseEdges,
     paths: ArrayVec<LongestPaths, 37>,
     fault: Option<CaseFault>,
 }
@@ -50,7 +50,7 @@ impl DeckCase {
         let decisions = case_decisions(deck.ships.as_slice().len() as u8);
         let edges = first_edges(&deck);
         let mut paths = ArrayVec::new();
-        match solve_first(&deck, &edges) {
+        match solve_first(&deck, edges.all()) {
             Ok(first) => {
                 paths.push(first);
                 DeckCase {
@@ -137,14 +137,14 @@ impl Track for DeckCase {
         let taken = self.choices.len();
         let decision = self.decisions.at(taken);
         let last = option_at(&self.deck, &[], decision, option as usize);
-        let known = self.edges.as_slice().len();
-        add_edges(&self.deck, last, &mut self.edges);
+        let known = self.edges.len();
+        push_choice(&mut self.edges, &self.deck, last);
         self.choices.push(last);
         let solved = solve(
             &self.deck,
             self.choices.as_slice(),
             last,
-            &self.edges,
+            self.edges.all(),
             known,
             &self.paths.as_slice()[taken],
         );
@@ -157,7 +157,7 @@ impl Track for DeckCase {
     fn leave(&mut self) {
         let left = self.choices.len() - 1;
         let count = edge_count(&self.deck, &self.choices.as_slice()[left]);
-        self.edges.truncate(self.edges.as_slice().len() - count);
+        self.edges.truncate(self.edges.len() - count);
         self.choices.truncate(left);
         self.paths.truncate(left + 1);
         self.fault = None;

@@ -1,38 +1,71 @@
-//! The edges of a case as they are appended and counted.
-ghost use Rattle.std.specs.Prelude.{◌≡◌, ◌+◌, ◌≤◌, ◌<◌, ◌++◌, length};
-ghost use Rattle.refute_rules.specs.Edges.{choice_edges, ship_edges};
-ghost use Rattle.deck_cases.specs.Asked.{IsOfDeck};
+//! The edges of a case in order.
+ghost use Rattle.std.specs.Prelude.{◌≡◌, ◌≤◌, [], length, take};
+ghost use Rattle.refute_rules.specs.Edges.{choice_edges};
 
-use deck_cases::{Berth, Choice, choice_edges, ship_edges};
+use deck_cases::{Berth, Choice, EdgeList};
 use diff_system::{Edge, Edges};
 use lock_model::{Deck, Moor};
+use std::marker::Model;
 
-// Appends edges.
-fn push_edges(edges: &mut Edges, more: &[Edge])
-    requires { length edges.old + length more.now ≤ 96 }
-    ensures { edges.new ≡ edges.old ++ more.now }
-{
-    for &edge in more {
-        edges.push(edge);
+/// The edges of a case, as the solver takes them.
+#[derive(Drop)]
+pub(crate) struct CaseEdges {
+    edges: Edges,
+}
+
+impl Model for CaseEdges {
+    ghost use Rattle.std.specs.Prelude.{List};
+    ghost use Rattle.diff_rules.specs.declared.edges.Edge.{Edge};
+
+    ghost Value = { List Edge };
+
+    ghost view = { λ a. a.edges };
+}
+
+impl CaseEdges {
+    /// No edges.
+    pub(crate) fn new() -> CaseEdges
+        ensures { result ≡ [] }
+    {
+        CaseEdges {
+            edges: Edges::new(),
+        }
+    }
+
+    /// The edges as the solver takes them.
+    pub(crate) fn all(&self) -> &Edges
+        ensures { result.now ≡ self.now }
+    {
+        &self.edges
+    }
+
+    /// How many edges there are.
+    pub(crate) fn len(&self) -> usize
+        ensures { result ≡ length self.now }
+    {
+        self.edges.as_slice().len()
+    }
+
+    /// Keeps the first edges.
+    pub(crate) fn truncate(&mut self, count: usize)
+        requires { count ≤ length self.old }
+        ensures { self.new ≡ take count self.old }
+    {
+        self.edges.truncate(count);
     }
 }
 
-/// Appends the edges of an option.
-pub(crate) fn add_edges(deck: &Deck, choice: Choice, edges: &mut Edges)
-    requires room { length edges.old ≤ 92 }
-    requires known { IsOfDeck deck.now choice }
-    ensures { edges.new ≡ edges.old ++ choice_edges deck.now choice }
-{
-    push_edges(edges, choice_edges(deck, choice).as_slice());
-}
+impl EdgeList for CaseEdges {
+    ghost use Rattle.std.specs.Prelude.{List};
+    ghost use Rattle.diff_rules.specs.declared.edges.Edge.{Edge as Told};
 
-/// Appends the edges that keep a ship inside.
-pub(crate) fn add_ship(deck: &Deck, ship: u8, edges: &mut Edges)
-    requires room { length edges.old ≤ 92 }
-    requires ship { ship < length deck.now.ships }
-    ensures { edges.new ≡ edges.old ++ ship_edges deck.now ship }
-{
-    push_edges(edges, ship_edges(deck, ship).as_slice());
+    ghost edges = { λ (es : List Told). es };
+
+    ghost most = { 96 };
+
+    fn push(&mut self, edge: Edge) {
+        self.edges.push(edge);
+    }
 }
 
 /// How many edges an option has.

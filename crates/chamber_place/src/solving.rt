@@ -9,10 +9,10 @@ ghost use Rattle.refute_rules.specs.Cases.{IsCaseFault, vars_of};
 ghost use Rattle.chamber_place.specs.Faults.{fault_of};
 ghost use Rattle.chamber_place.specs.OnItsWay.{AreChosen, IsSettled};
 
-use crate::edges::add_ship;
+use crate::edges::CaseEdges;
 use crate::faults::CaseFault;
 use crate::ranks::first_other_rank;
-use deck_cases::Choice;
+use deck_cases::{Choice, push_ship};
 use diff_system::{Edges, LongestPaths};
 use lock_model::Deck;
 
@@ -67,12 +67,12 @@ pub(crate) fn solve(
 }
 
 /// The edges of the empty case.
-pub(crate) fn first_edges(deck: &Deck) -> Edges
+pub(crate) fn first_edges(deck: &Deck) -> CaseEdges
     ensures { result ≡ case_edges deck.now [] }
 {
-    let mut edges = Edges::new();
+    let mut edges = CaseEdges::new();
     for ship in 0..deck.ships.as_slice().len() as u8 {
-        add_ship(deck, ship, &mut edges);
+        push_ship(&mut edges, deck, ship);
     }
     edges
 }

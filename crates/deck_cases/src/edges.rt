@@ -1,15 +1,31 @@
 //! The difference constraints of a deck and of its options. Variable 0 is the origin; each ship has
 //! one for its x and one for its y.
-ghost use Rattle.std.specs.Prelude.{◌≡◌, ◌+◌, ◌*◌, ◌≤◌, ◌<◌, ◌-ℤ◌, ◌≤ℤ◌, neg_ℤ, pos, [], ◌∷◌, length};
+ghost use Rattle.std.specs.Prelude.{◌≡◌, ◌+◌, ◌*◌, ◌≤◌, ◌<◌, ◌-ℤ◌, ◌≤ℤ◌, neg_ℤ, pos, [], ◌∷◌, ◌++◌, length};
 ghost use Rattle.lock_model.specs.declared.placement.Moor.TheVariants.{Quay, Ship};
 ghost use Rattle.refute_rules.specs.Reasons.{length_at, width_at};
 ghost use Rattle.refute_rules.specs.Edges.{choice_edges, berth_edges, ship_edges};
 ghost use Rattle.deck_cases.specs.Asked.{IsMoorOfOthers, IsOfDeck};
 
-use arrayvec::ArrayVec;
 use diff_rules::Edge;
 use lock_model::{Deck, MOST, Moor, Rank};
 use refute_rules::{Berth, Choice};
+
+/// A list of edges that grows.
+pub trait EdgeList {
+    ghost use Rattle.std.specs.Prelude.{ℕ, ◌≡◌, ◌<◌, List, [], ◌∷◌, ◌++◌, length};
+    ghost use Rattle.diff_rules.specs.declared.edges.Edge.{Edge as Told};
+
+    /// The edges in order.
+    ghost edges: { Self → List Told };
+
+    /// How many edges it has room for.
+    ghost most: { ℕ };
+
+    /// Appends an edge.
+    fn push(&mut self, edge: Edge)
+        requires { length (edges self.old) < most }
+        ensures { edges self.new ≡ edges self.old ++ edge ∷ [] };
+}
 
 /// The variable of a ship's x.
 pub fn x_var(ship: u8) -> u8
@@ -94,25 +110,15 @@ fn edge(from: u8, to: u8, weight: i64) -> Edge
     Edge { from, to, weight }
 }
 
-// One edge alone.
-fn one(edge: Edge) -> ArrayVec<Edge, 4>
-    ensures { result.items ≡ edge ∷ [] }
+// Appends four edges.
+fn push_four<L: EdgeList>(edges: &mut L, first: Edge, second: Edge, third: Edge, fourth: Edge)
+    requires { length (L.edges edges.old) + 4 ≤ L.most }
+    ensures { L.edges edges.new ≡ L.edges edges.old ++ first ∷ second ∷ third ∷ fourth ∷ [] }
 {
-    let mut edges = ArrayVec::new();
-    edges.push(edge);
-    edges
-}
-
-// Four edges in order.
-fn four(first: Edge, second: Edge, third: Edge, fourth: Edge) -> ArrayVec<Edge, 4>
-    ensures { result.items ≡ first ∷ second ∷ third ∷ fourth ∷ [] }
-{
-    let mut edges = ArrayVec::new();
     edges.push(first);
     edges.push(second);
     edges.push(third);
     edges.push(fourth);
-    edges
 }
 
 // The edge of a berth at a quay.
@@ -127,13 +133,14 @@ fn quay_edge(deck: &Deck, ship: u8, rank: Rank) -> Edge
     }
 }
 
-// The edges of a berth at a host.
-fn host_edges(deck: &Deck, ship: u8, rank: Rank, host: u8) -> ArrayVec<Edge, 4>
+// Appends the edges of a berth at a host.
+fn push_host<L: EdgeList>(edges: &mut L, deck: &Deck, ship: u8, rank: Rank, host: u8)
+    requires room { length (L.edges edges.old) + 4 ≤ L.most }
     requires ship { ship < length deck.now.ships }
     requires host { host < length deck.now.ships }
     requires ship_few { ship < MOST }
     requires host_few { host < MOST }
-    ensures { result.items ≡ berth_edges deck.now ship rank (Ship host) }
+    ensures { L.edges edges.new ≡ L.edges edges.old ++ berth_edges deck.now ship rank (Ship host) }
 {
     let near = edge(x_var(host), x_var(ship), 0);
     let far = edge(x_var(ship), x_var(host), longer(deck, ship, host));
@@ -142,55 +149,56 @@ fn host_edges(deck: &Deck, ship: u8, rank: Rank, host: u8) -> ArrayVec<Edge, 4>
             let wide = across(deck, host);
             let up = edge(y_var(host), y_var(ship), wide);
             let down = edge(y_var(ship), y_var(host), -wide);
-            four(up, down, near, far)
+            push_four(edges, up, down, near, far);
         }
         Rank::Right => {
             let wide = across(deck, ship);
             let up = edge(y_var(ship), y_var(host), wide);
             let down = edge(y_var(host), y_var(ship), -wide);
-            four(up, down, near, far)
+            push_four(edges, up, down, near, far);
         }
     }
 }
 
-// The edges of a berth.
-fn berth_edges(deck: &Deck, ship: u8, berth: Berth) -> ArrayVec<Edge, 4>
+// Appends the edges of a berth.
+fn push_berth<L: EdgeList>(edges: &mut L, deck: &Deck, ship: u8, berth: Berth)
+    requires room { length (L.edges edges.old) + 4 ≤ L.most }
     requires few { length deck.now.ships ≤ MOST }
     requires ship { ship < length deck.now.ships }
     requires host { IsMoorOfOthers deck.now ship berth.moor }
-    ensures { result.items ≡ berth_edges deck.now ship berth.rank berth.moor }
+    ensures { L.edges edges.new ≡ L.edges edges.old ++ berth_edges deck.now ship berth.rank berth.moor }
 {
     match berth.moor {
-        Moor::Quay => one(quay_edge(deck, ship, berth.rank)),
-        Moor::Ship(host) => host_edges(deck, ship, berth.rank, host),
+        Moor::Quay => edges.push(quay_edge(deck, ship, berth.rank)),
+        Moor::Ship(host) => push_host(edges, deck, ship, berth.rank, host),
     }
 }
 
-/// The edges of an option about ships of the deck.
-pub fn choice_edges(deck: &Deck, choice: Choice) -> ArrayVec<Edge, 4>
-    requires { IsOfDeck deck.now choice }
-    ensures value { result.items ≡ choice_edges deck.now choice }
-    ensures few { length result.items ≤ 4 }
+/// Appends the edges of an option about ships of the deck.
+pub fn push_choice<L: EdgeList>(edges: &mut L, deck: &Deck, choice: Choice)
+    requires room { length (L.edges edges.old) + 4 ≤ L.most }
+    requires known { IsOfDeck deck.now choice }
+    ensures { L.edges edges.new ≡ L.edges edges.old ++ choice_edges deck.now choice }
 {
     prove!(deck.ships.as_slice().len() <= MOST);
     match choice {
-        Choice::Before(i, j) => one(edge(x_var(i), x_var(j), along(deck, i))),
-        Choice::Below(i, j) => one(edge(y_var(i), y_var(j), across(deck, i))),
-        Choice::Lies(i, berth) => berth_edges(deck, i, berth),
-        Choice::LiesAt(_, _) => ArrayVec::new(),
+        Choice::Before(i, j) => edges.push(edge(x_var(i), x_var(j), along(deck, i))),
+        Choice::Below(i, j) => edges.push(edge(y_var(i), y_var(j), across(deck, i))),
+        Choice::Lies(i, berth) => push_berth(edges, deck, i, berth),
+        Choice::LiesAt(_, _) => {}
     }
 }
 
-/// The edges that keep a ship inside.
-pub fn ship_edges(deck: &Deck, ship: u8) -> ArrayVec<Edge, 4>
-    requires { ship < length deck.now.ships }
-    ensures value { result.items ≡ ship_edges deck.now ship }
-    ensures few { length result.items ≤ 4 }
+/// Appends the edges that keep a ship inside.
+pub fn push_ship<L: EdgeList>(edges: &mut L, deck: &Deck, ship: u8)
+    requires room { length (L.edges edges.old) + 4 ≤ L.most }
+    requires ship { ship < length deck.now.ships }
+    ensures { L.edges edges.new ≡ L.edges edges.old ++ ship_edges deck.now ship }
 {
     prove!(deck.ships.as_slice().len() <= MOST);
     let near = edge(0, x_var(ship), deck.end as i64);
     let back = edge(x_var(ship), 0, back_along(deck, ship));
     let low = edge(0, y_var(ship), 0);
     let high = edge(y_var(ship), 0, back_across(deck, ship));
-    four(near, back, low, high)
+    push_four(edges, near, back, low, high);
 }

@@ -3,7 +3,8 @@
 //! - `case_decisions` and `spot_decisions` list what is decided of a deck; `option_count` and
 //!   `option_at` give the options of a decision by their numbers, `berth_option` the berths of a
 //!   ship.
-//! - `choice_edges` and `ship_edges` are the difference constraints of an option and of a ship.
+//! - `push_choice` and `push_ship` append the difference constraints of an option and of a ship to an
+//!   `EdgeList`, which each crate keeps as it likes.
 //! - `berth_of`, `x_of`, `host_of` and `has_other_rank` look up what some options have decided of a
 //!   ship, `leads_back`, `y_of` and `is_outside_across` what follows from the berths of its hosts.
 //! - `length_of`, `width_of`, `is_below` and `is_inside_across` are plain measures.
@@ -30,7 +31,7 @@ pub use across::{is_below, is_inside_across};
 pub use berths::berth_option;
 pub use decided::{berth_of, has_other_rank, host_of, x_of};
 pub use decisions::{Decisions, case_decisions, spot_decisions};
-pub use edges::{choice_edges, ship_edges, x_var, y_var};
+pub use edges::{EdgeList, push_choice, push_ship, x_var, y_var};
 pub use known::{is_outside_across, leads_back, y_of};
 pub use options::{option_at, option_count};
 pub use refute_rules::{Berth, Choice, Decision};

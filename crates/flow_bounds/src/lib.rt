@@ -17,8 +17,8 @@
 //! `Throughput`), and what the search of the whole tree comes to (`Search`). Here `specs/Walk` walks
 //! along a line by the loads of its groups (`Load`, `Along`), `Entering` says how a walk goes on once a
 //! ship has entered its line, `Most` how great the numbers become, `Whole` what the earliest plan of a
-//! node is, `Missing` a ship that a node lacks, and `Roster` what a roster is. Private functions rest
-//! on `Places`, the minutes of the throughput.
+//! node is, `Missing` a ship that a node lacks, `Least` the passages of a ship, and `Roster` what a
+//! roster is. Private functions rest on `Places`, the minutes of the throughput.
 #![tactic(auto)]
 
 mod capacity;

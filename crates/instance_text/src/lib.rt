@@ -10,7 +10,7 @@
 //!
 //! Definitions: `specs/Words` (numbers and names), `Chamber`, `Ship` and `Closing` (the words of a
 //! line), `Reading` (what a text means, its first defect, its instance part and what follows it),
-//! `Canonical` (the text that is printed), `Lot` (the generator).
+//! `Draft` (what has been read so far), `Canonical` (the text that is printed), `Lot` (the generator).
 #![tactic(auto)]
 
 mod append;

@@ -4,9 +4,9 @@ ghost use Rattle.refute_rules.specs.Edges.{choice_edges};
 ghost use Rattle.deck_cases.specs.Asked.{IsOfDeck};
 ghost use Rattle.place_refute.specs.Drawn.{deck_edges};
 
-use crate::edge_list::{EdgeList, push_edges};
+use crate::edge_list::CaseEdges;
 use arrayvec::ArrayVec;
-use deck_cases::{Choice, choice_edges, ship_edges};
+use deck_cases::{Choice, push_choice, push_ship};
 use diff_rules::Edge;
 use lock_model::{DECISIONS, Deck};
 use std::marker::Model;
@@ -15,7 +15,7 @@ use std::marker::Model;
 #[derive(Drop)]
 pub(crate) struct Case {
     choices: ArrayVec<Choice, DECISIONS>,
-    edges: EdgeList,
+    edges: CaseEdges,
 }
 
 impl Model for Case {
@@ -28,13 +28,13 @@ impl Model for Case {
 
 // The edges that keep the ships of a deck inside.
 #[tactic(auto, using(crate::proofs::DrawnLemmas::edges_more, crate::proofs::DrawnLemmas::edges_room))]
-fn deck_edges(deck: &Deck) -> EdgeList
+fn deck_edges(deck: &Deck) -> CaseEdges
     ensures { result ≡ deck_edges deck.now (length deck.now.ships) }
 {
-    let mut edges = EdgeList::new();
+    let mut edges = CaseEdges::new();
     let count = deck.ships.as_slice().len() as u8;
     for ship in 0..count {
-        push_edges(&mut edges, ship_edges(deck, ship).as_slice());
+        push_ship(&mut edges, deck, ship);
     }
     edges
 }
@@ -79,7 +79,7 @@ impl Case {
         ensures { self.new ≡ record { choices = self.old.choices ++ choice ∷ []; edges = self.old.edges ++ choice_edges deck.now choice } }
     {
         self.choices.push(choice);
-        push_edges(&mut self.edges, choice_edges(deck, choice).as_slice());
+        push_choice(&mut self.edges, deck, choice);
     }
 
     /// Goes back to the first options and edges.

@@ -1,17 +1,18 @@
 //! The edges of a case in order.
-ghost use Rattle.std.specs.Prelude.{◌≡◌, ◌+◌, ◌<◌, ◌≤◌, ◌++◌, [], ◌∷◌, length, take};
+ghost use Rattle.std.specs.Prelude.{◌≡◌, ◌≤◌, [], length, take};
 
 use arrayvec::ArrayVec;
+use deck_cases::EdgeList;
 use diff_rules::Edge;
 use std::marker::Model;
 
 /// Up to 176 edges: four for each of eight ships and of 36 options.
 #[derive(Drop)]
-pub(crate) struct EdgeList {
+pub(crate) struct CaseEdges {
     items: ArrayVec<Edge, 176>,
 }
 
-impl Model for EdgeList {
+impl Model for CaseEdges {
     ghost use Rattle.std.specs.Prelude.{List};
     ghost use Rattle.diff_rules.specs.declared.edges.Edge.{Edge};
 
@@ -20,12 +21,12 @@ impl Model for EdgeList {
     ghost view = { λ a. a.items.items };
 }
 
-impl EdgeList {
+impl CaseEdges {
     /// No edges.
-    pub(crate) fn new() -> EdgeList
+    pub(crate) fn new() -> CaseEdges
         ensures { result ≡ [] }
     {
-        EdgeList {
+        CaseEdges {
             items: ArrayVec::new(),
         }
     }
@@ -37,14 +38,6 @@ impl EdgeList {
         self.items.as_slice()
     }
 
-    /// Appends an edge.
-    fn push(&mut self, edge: Edge)
-        requires { length self.old < 176 }
-        ensures { self.new ≡ self.old ++ edge ∷ [] }
-    {
-        self.items.push(edge);
-    }
-
     /// Keeps the first edges.
     pub(crate) fn truncate(&mut self, count: usize)
         requires { count ≤ length self.old }
@@ -54,12 +47,15 @@ impl EdgeList {
     }
 }
 
-/// Appends edges.
-pub(crate) fn push_edges(edges: &mut EdgeList, more: &[Edge])
-    requires { length edges.old + length more.now ≤ 176 }
-    ensures { edges.new ≡ edges.old ++ more.now }
-{
-    for &edge in more {
-        edges.push(edge);
+impl EdgeList for CaseEdges {
+    ghost use Rattle.std.specs.Prelude.{List};
+    ghost use Rattle.diff_rules.specs.declared.edges.Edge.{Edge as Told};
+
+    ghost edges = { λ (es : List Told). es };
+
+    ghost most = { 176 };
+
+    fn push(&mut self, edge: Edge) {
+        self.items.push(edge);
     }
 }

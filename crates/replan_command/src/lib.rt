@@ -6,7 +6,7 @@
 //! with one status, and each other answer has its cause.
 //!
 //! Definitions: `specs/Options` (numbers in their ranges), `Keeping` (what is printed where the part
-//! can be kept), `Replanning` (what is answered to bytes).
+//! can be kept), `Replanning` (what is answered to bytes), `Ends` (how replanning may end).
 #![tactic(auto)]
 
 mod keeping;

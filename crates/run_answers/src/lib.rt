@@ -5,8 +5,9 @@
 //! texts of refusals that several commands have stand here.
 //!
 //! Definitions: `specs/Statuses` (the numbers of the statuses), `Ended` (what is answered by the
-//! statuses), `Texts` (what is written for each refusal), `Written` (the bytes of an answer), `Sources`
-//! (a source before and after a run, and what is answered to it by a command that reads).
+//! statuses), `Refusals` (why an instance is refused), `Texts` (what is written for each refusal),
+//! `Written` (the bytes of an answer), `Sources` (a source before and after a run, and what is answered
+//! to it by a command that reads).
 #![tactic(auto)]
 
 mod answer;

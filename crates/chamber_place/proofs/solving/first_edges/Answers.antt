@@ -1,15 +1,17 @@
-use Rattle.std.proofs.Common.{rules, ◌≡◌, ◌≤◌, ◌++◌, length, sym, ap, ◌∙◌, subst, flat_map, append-nil}
+use Rattle.std.proofs.Common.{rules, ◌≡◌, ◌≤◌, ◌++◌, length, sym, ap, ◌∙◌, subst, flat_map, append-nil, arith}
 use Rattle.lock_rules.specs.Arrival.{numbers_from}
 use Rattle.refute_rules.specs.Edges.{ship_edges}
 use Rattle.chamber_place.proofs.EdgeLemmas.{first-edges-few}
 use Rattle.chamber_place.proofs.WayLemmas.{ship-edges-push}
 use Rattle.chamber_place.proofs.solving.first_edges.Goals as goal
 
-pub add_ship-requires-clause-room : goal.add_ship-requires-clause-room
-add_ship-requires-clause-room c = subst (λ es. length es ≤ 92) (sym c.loop-ship.invariant) (first-edges-few c.args.deck.now c.loop-ship.ship (search rules))
+pub push_ship-requires-clause-room : goal.push_ship-requires-clause-room
+push_ship-requires-clause-room c =
+    let room = subst (λ es. length es ≤ 92) (sym c.loop-ship.invariant) (first-edges-few c.args.deck.now c.loop-ship.ship (search rules)) in
+    omega (arith, room)
 
 pub loop-ship-preserved : goal.loop-ship-preserved
-loop-ship-preserved c = c.add_ship.ensures ∙ ap (λ es. es ++ ship_edges c.args.deck.now c.loop-ship.ship) c.loop-ship.invariant ∙ sym (ship-edges-push c.args.deck.now c.loop-ship.ship)
+loop-ship-preserved c = c.push_ship.ensures ∙ ap (λ es. es ++ ship_edges c.args.deck.now c.loop-ship.ship) c.loop-ship.invariant ∙ sym (ship-edges-push c.args.deck.now c.loop-ship.ship)
 
 pub returns : goal.returns
 returns c =
