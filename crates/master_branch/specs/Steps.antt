@@ -41,12 +41,22 @@ steps_at I s lines c =
 abbrev pub steps_by : Instance → ℕ → List (List Group) → List Step
 steps_by I s lines = flat_map (steps_at I s lines) (numbers_from 0 (length I.chambers))
 
+-- the line once ship s has joined the group at a place
+abbrev pub joined_line : ℕ → List Group → ℕ → List Group
+joined_line s line place = slice_set line place (with_ship s (group_in line place))
+
+-- the line once ship s stands alone at a place, before the group that stands there
+abbrev pub opened_line : Instance → ℕ → List Group → ℕ → List Group
+opened_line I s line place = insert line place (single (ship_at I s).way s)
+
 -- the lines after a step of ship s
 abbrev pub lines_after : Instance → ℕ → List (List Group) → Step → List (List Group)
-lines_after I s lines (Join c place) = slice_set lines c (slice_set (line_at lines c) place (with_ship s (group_in (line_at lines c) place)))
-lines_after I s lines (Open c place) = slice_set lines c (insert (line_at lines c) place (single (ship_at I s).way s))
+lines_after I s lines (Join c place) = slice_set lines c (joined_line s (line_at lines c) place)
+lines_after I s lines (Open c place) = slice_set lines c (opened_line I s (line_at lines c) place)
 
 -- ship s may take the step
 abbrev pub IsStep : Instance → ℕ → List (List Group) → Step → Type 0
-IsStep I s lines (Join c place) = (c < length I.chambers) × (place < length (line_at lines c)) × (may_join (chamber_at I c).most (ship_at I s).way (group_in (line_at lines c) place) ≡ true)
+IsStep I s lines (Join c place) =
+    (c < length I.chambers) × (place < length (line_at lines c))
+    × (may_join (chamber_at I c).most (ship_at I s).way (group_in (line_at lines c) place) ≡ true)
 IsStep I s lines (Open c place) = (c < length I.chambers) × (place ≤ length (line_at lines c))

@@ -3,7 +3,7 @@ ghost use Rattle.std.specs.Prelude.{◌≡◌, ◌<◌, ◌≤◌, length, slice
 ghost use Rattle.lock_rules.specs.Plan.{times_in};
 ghost use Rattle.lock_rules.specs.Node.{line_at};
 ghost use Rattle.lock_rules.specs.Children.{insert_number, with_ship};
-ghost use Rattle.master_branch.specs.Steps.{group_in};
+ghost use Rattle.master_branch.specs.Steps.{group_in, joined_line};
 
 use crate::lines::Lines;
 use lock_model::{CHAMBERS, Group, MOST, Ships};
@@ -61,7 +61,7 @@ pub(crate) fn join(lines: &mut Lines, chamber: u8, place: u8, ship: u8)
     requires place { place < length (line_at lines.old chamber) }
     requires room { length (group_in (line_at lines.old chamber) place).ships < MOST }
     requires absent { times_in (group_in (line_at lines.old chamber) place).ships ship ≡ 0 }
-    ensures { lines.new ≡ slice_set lines.old chamber (slice_set (line_at lines.old chamber) place (with_ship ship (group_in (line_at lines.old chamber) place))) }
+    ensures { lines.new ≡ slice_set lines.old chamber (joined_line ship (line_at lines.old chamber) place) }
 {
     let joined = with_ship(&lines.line(chamber)[place as usize], ship);
     lines.set(chamber, place, joined);

@@ -5,8 +5,8 @@ ghost use Rattle.lock_model.specs.declared.plan.Plan.{Plan as AnyPlan};
 ghost use Rattle.lock_rules.specs.Plan.{IsLegal};
 ghost use Rattle.lock_rules.specs.Node.{IsNode, root_lines};
 ghost use Rattle.lock_rules.specs.Trace.{IsUnder};
-ghost use Rattle.lock_rules.specs.Size.{node_limit, nodes_from};
-ghost use Rattle.master_branch.specs.Node.{IsNodeOf, children};
+ghost use Rattle.lock_rules.specs.Size.{nodes_from};
+ghost use Rattle.master_branch.specs.Node.{IsNodeOf, children, node_limit_of};
 ghost use Rattle.master_branch.specs.Split.{IsUnderOneChild};
 
 use crate::node::Node;
@@ -30,7 +30,7 @@ pub fn children_split_plans(instance: &Instance, node: &Node)
 /// over i = 1 to k of 2 (i - 1) + m; None exactly where that takes more than 128 bits. The tree from
 /// the root has at most so many nodes. Takes no memory.
 pub fn node_limit(instance: &Instance) -> Option<u128>
-    ensures value { SomeIff result (node_limit (length instance.now.ships) (length instance.now.chambers) < 2 ^ 128) (node_limit (length instance.now.ships) (length instance.now.chambers)) }
+    ensures value { SomeIff result (node_limit_of instance.now < 2 ^ 128) (node_limit_of instance.now) }
     ensures law { IfSome result (λ limit. nodes_from instance.now (length instance.now.ships) 0 root_lines ≤ limit) }
 {
     let chambers = instance.chambers.as_slice().len() as u128;

@@ -52,7 +52,7 @@ right-more : (I : Instance) (k : ℕ) (some all : List ChamberCut) (ceilings : L
 right-more I k some all ceilings first own is = record {
   seen = omega (arith, is.seen, first.few);
   forbidden = subst (λ ts. AreForbidden I own.chamber (plain_cuts I ts) own.sets.items) (sym (same-seen some all own.seen first is.seen)) is.forbidden;
-  nears = is.nears;
+  completable = is.completable;
   lists = is.lists;
 }
 

@@ -11,7 +11,7 @@ use Rattle.price_bound.specs.declared.kept_groups.KeptGroups.{KeptGroups}
 use Rattle.price_terms.specs.Cuts.{plain_cuts}
 use Rattle.price_groups.specs.Asks.{group_ask}
 use Rattle.price_groups.specs.GrownLists.{IsGrownList}
-use Rattle.price_groups.specs.Masks.{AreNears}
+use Rattle.price_groups.specs.Masks.{AreAllCompletable}
 use Rattle.price_groups.specs.Sparing.{AreForbidden}
 
 -- none of the sets of these masks is among the ships of another mask
@@ -42,7 +42,7 @@ pub record AreSparedLists (masks : List ℕ) (lists : List GrownList) (n : ℕ) 
 pub record AreGroupsFor (I : Instance) (k : ℕ) (cuts : List ChamberCut) (ceilings : List ℕ) (own : ChamberGroups) : Type 0 where
   pub seen : own.seen ≤ length cuts
   pub forbidden : AreForbidden I own.chamber (plain_cuts I (take own.seen cuts)) own.sets.items
-  pub nears : AreNears I k own.sets.items (length I.ships) own.nears.items
+  pub completable : AreAllCompletable I k own.sets.items (length I.ships) own.completable.items
   pub lists : All (IsGrownList (group_ask I own.chamber k ceilings own.sets.items)) own.lists.items
 
 -- what serves stays so, whatever the ceilings

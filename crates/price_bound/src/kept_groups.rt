@@ -10,8 +10,8 @@ ghost use Rattle.price_bound.specs.KeptGroups.{IsPutSpared, IsSparedList, AreSpa
 
 use lock_model::{SHIPS, Ships};
 use price_groups::{
-    Extension, GrownGroup, GrownList, LineCase, Near, forbidden_sets, marks, misses_all_of, nears,
-    rates,
+    CompletableSets, Extension, GrownGroup, GrownList, LineCase, completable_by_ship,
+    forbidden_sets, marks, misses_all_of, rates,
 };
 use price_table::least_line;
 use price_terms::{Limits, LooseLine, PriceError, Prices, append};
@@ -24,7 +24,7 @@ pub(crate) struct ChamberGroups {
     pub(crate) chamber: u8,
     pub(crate) seen: usize,
     pub(crate) sets: Vec<Ships>,
-    pub(crate) nears: Vec<Near>,
+    pub(crate) completable: Vec<CompletableSets>,
     pub(crate) lists: Vec<GrownList>,
 }
 
@@ -120,7 +120,7 @@ fn fresh(alloc: Global, case: &LineCase) -> Result<ChamberGroups, PriceError>
         chamber: case.index,
         seen: 0,
         sets: Vec::new(alloc),
-        nears: nears(alloc, case, &[])?,
+        completable: completable_by_ship(alloc, case, &[])?,
         lists: Vec::new(alloc),
     })
 }
@@ -140,7 +140,7 @@ fn update(alloc: Global, own: &mut ChamberGroups, case: &LineCase) -> Result<(),
     let masks = marks(alloc, case.instance, &added)?;
     own.lists = spared_lists(alloc, &own.lists, &masks)?;
     append_sets(&mut own.sets, &added)?;
-    own.nears = nears(alloc, case, &own.sets)?;
+    own.completable = completable_by_ship(alloc, case, &own.sets)?;
     own.seen = case.cuts.len();
     Ok(())
 }
@@ -158,8 +158,8 @@ fn place_of(chambers: &[ChamberGroups], case: &LineCase) -> Option<usize>
     None
 }
 
-// A loose line of the chamber of a case of the least worth, if there is a loose one, by what is kept of the
-// chamber, where no price is above its ceiling.
+// A loose line of the chamber of a case of the least worth, if there is a loose one, by what is kept of
+// the chamber, where no price is above its ceiling.
 fn least_of(
     alloc: Global,
     own: &mut ChamberGroups,
@@ -179,7 +179,7 @@ fn least_of(
     let extension = Extension {
         case,
         sets: &own.sets,
-        nears: &own.nears,
+        completable: &own.completable,
         rates: &own_rates,
         ceilings,
         high_rates: &high_rates,
@@ -265,8 +265,8 @@ impl KeptGroups {
         let _ = self.chambers.push(own);
     }
 
-    // A loose line of the chamber of a case of the least worth, if there is a loose one, where no price is
-    // above its ceiling.
+    // A loose line of the chamber of a case of the least worth, if there is a loose one, where no price
+    // is above its ceiling.
     fn least_by(
         &mut self,
         alloc: Global,

@@ -1,7 +1,7 @@
 //! Lower bounds by prices, worked out: the Lagrangian relaxation of a set partition by chamber lines.
 //!
-//! `reaches` says whether a node reaches a cost by prices and cuts, exactly; `price_sum` is the sum
-//! by which it does; `show` makes a `Shown`, the value that carries the fact; `least_lines` gives for each
+//! `reaches` says whether a node reaches a cost by prices and cuts, exactly; `price_sum` is the sum by
+//! which it does; `show` makes a `Shown`, the value that carries the fact; `least_lines` gives for each
 //! chamber a loose line with the least of `100 * flow - paid`.
 //!
 //! What is worked out is kept for later calls in `KeptLines`, which helps speed alone; nothing else that
@@ -9,10 +9,10 @@
 //! is above its own, and under the cuts so far, so that those which a later cut forbids are taken out.
 //! Refused are want of memory, and more groups or turns than the caller's `Limits` allow.
 //!
-//! Definitions: `price_rules` says what loose lines are, what they pay and what a node reaches, and `Claim`
-//! of `price_terms` what a `Shown` carries. Here `specs/Asks` says once what is asked of a node and `Asked`
-//! that a `PricedNode` asks it, and `Total` says the sum over the chambers, by `Lines` of `price_table` and
-//! `Worth` of `price_groups`. `Keeping` and `KeptGroups` are of what is kept.
+//! Definitions: `price_rules` says what loose lines are, what they pay and what a node reaches, and
+//! `Claim` of `price_terms` what a `Shown` carries. Here `specs/Asks` says once what is asked of a node
+//! and `Asked` that a `PricedNode` asks it, and `Total` says the sum over the chambers, by `Lines` of
+//! `price_table` and `Worth` of `price_groups`. `Keeping` and `KeptGroups` are of what is kept.
 #![tactic(auto)]
 
 mod keeping;

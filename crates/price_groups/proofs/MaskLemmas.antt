@@ -16,9 +16,9 @@ use Rattle.lock_rules.proofs.NodeLemmas.{All-insert_number}
 use Rattle.lock_rules.proofs.AmongLemmas.{contains-times, times-contains}
 use Rattle.price_rules.specs.Prices.{is_missing}
 use Rattle.price_groups.specs.Growing.{IsAllowed}
-use Rattle.price_groups.specs.Masks.{IsMask, IsSetMask, HasMask, AreNear, AreAllowed, AreMarks, IsNoted, IsBetween, AreHaving, IsPutNear, AreNears}
+use Rattle.price_groups.specs.Masks.{IsMask, IsSetMask, HasMask, AreCompletable, AreAllowed, AreMarks, IsNoted, IsBetween, AreHaving, IsPutBetween, AreAllCompletable}
 use Rattle.price_groups.specs.Sparing.{AreIn, LacksSome}
-use Rattle.price_groups.specs.declared.near.Near.{Near}
+use Rattle.price_groups.specs.declared.completable_sets.CompletableSets.{CompletableSets}
 
 one-of : (xs : List ℕ) (x y : ℕ) → Contains (xs ++ x ∷ []) y → y ≢ x → Contains xs y
 one-of xs x y at apart = elim (leb_tells (suc at.0) (length xs)) [
@@ -128,7 +128,7 @@ module _ (own early : ℕ) (marks : List ℕ) where
   pub having-first : AreHaving own early marks 0 []
   having-first = record { each = λ j d here. absurd (omega (arith, here)); whole = λ j d none here. absurd (omega (arith, none)) }
 
-  pub having-next : (i mask : ℕ) (old new : List ℕ) → i < length marks → mask ≡ slice_index_or marks i mask → IsPutNear own early mask old new → AreHaving own early marks i old → AreHaving own early marks (i + 1) new
+  pub having-next : (i mask : ℕ) (old new : List ℕ) → i < length marks → mask ≡ slice_index_or marks i mask → IsPutBetween own early mask old new → AreHaving own early marks i old → AreHaving own early marks (i + 1) new
   having-next i mask old new here is put have = record {
     each = elim put [
       | inl more ↦ subst (All (Contains marks)) (sym more.1) (All-push (Contains marks) old mask have.each (i, here, sym is))
@@ -142,17 +142,17 @@ module _ (own early : ℕ) (marks : List ℕ) where
     ];
   }
     where
-      last : IsPutNear own early mask old new → IsBetween own early mask → Contains new mask
+      last : IsPutBetween own early mask old new → IsBetween own early mask → Contains new mask
       last (inl more) bits = subst (λ xs. Contains xs mask) (sym more.1) (Contains-push old mask)
       last (inr left) bits = absurd (left.0 bits)
 
-      kept : IsPutNear own early mask old new → (m : ℕ) → Contains old m → Contains new m
+      kept : IsPutBetween own early mask old new → (m : ℕ) → Contains old m → Contains new m
       kept (inl more) m held = subst (λ xs. Contains xs m) (sym more.1) (Contains-before_push old mask m held)
       kept (inr left) m held = subst (λ xs. Contains xs m) (sym left.1) held
 
   -- of the sets' masks they are those of the sets that the ship may complete
   pub having-done : (I : Instance) (k : ℕ) (sets : List (List ℕ)) (ship : ℕ) (ships : List ℕ) (masks : List ℕ) → IsMask own (ship ∷ []) → IsMask early ships → AreAllowed I k ship (length I.ships) ships
-      → AreMarks I sets (length sets) marks → AreHaving own early marks (length marks) masks → AreNear I k sets (length sets) ship masks
+      → AreMarks I sets (length sets) marks → AreHaving own early marks (length marks) masks → AreCompletable I k sets (length sets) ship masks
   having-done I k sets ship ships masks is early_is allowed are have = record {
     each = All-weaker (Contains marks) (IsSetMask I sets) (λ m held. All-contains (IsSetMask I sets) marks m are.each held) masks have.each;
     whole = λ j d less inside has late known.
@@ -179,35 +179,35 @@ module _ (I : Instance) (k ship : ℕ) where
     ];
   }
 
--- the masks near one ship more
-pub nears-next : (I : Instance) (k : ℕ) (sets : List (List ℕ)) (n : ℕ) (old : List Near) (near : Near) → (is_missing I k n ≡ true → AreNear I k sets (length sets) n near.masks.items) → AreNears I k sets n old → AreNears I k sets (n + 1) (old ++ near ∷ [])
-nears-next I k sets n old near is are = record {
-  count = omega (arith, are.count, length-append old (near ∷ []));
+-- the masks completable one ship more
+pub completable-next : (I : Instance) (k : ℕ) (sets : List (List ℕ)) (n : ℕ) (old : List CompletableSets) (completable : CompletableSets) → (is_missing I k n ≡ true → AreCompletable I k sets (length sets) n completable.masks.items) → AreAllCompletable I k sets n old → AreAllCompletable I k sets (n + 1) (old ++ completable ∷ [])
+completable-next I k sets n old completable is are = record {
+  count = omega (arith, are.count, length-append old (completable ∷ []));
   each = λ s d less missing. elim (eqb_tells s n) [
     | inl y ↦
-        let at : near ≡ slice_index_or (old ++ near ∷ []) n d = sym (get_or-append_seam old near [] d) ∙ ap (λ i. slice_index_or (old ++ near ∷ []) i d) are.count in
-        subst (λ s. AreNear I k sets (length sets) s (slice_index_or (old ++ near ∷ []) s d).masks.items) (sym y.1) (subst (λ (near : Near). AreNear I k sets (length sets) n near.masks.items) at (is (subst (λ s. is_missing I k s ≡ true) y.1 missing)))
+        let at : completable ≡ slice_index_or (old ++ completable ∷ []) n d = sym (get_or-append_seam old completable [] d) ∙ ap (λ i. slice_index_or (old ++ completable ∷ []) i d) are.count in
+        subst (λ s. AreCompletable I k sets (length sets) s (slice_index_or (old ++ completable ∷ []) s d).masks.items) (sym y.1) (subst (λ (completable : CompletableSets). AreCompletable I k sets (length sets) n completable.masks.items) at (is (subst (λ s. is_missing I k s ≡ true) y.1 missing)))
     | inr m ↦
         let before = earlier n s m.1 less in
-        subst (λ (near : Near). AreNear I k sets (length sets) s near.masks.items) (sym (get_or_append_left old (near ∷ []) d s (omega (arith, are.count, before)))) (are.each s d before missing)
+        subst (λ (completable : CompletableSets). AreCompletable I k sets (length sets) s completable.masks.items) (sym (get_or_append_left old (completable ∷ []) d s (omega (arith, are.count, before)))) (are.each s d before missing)
   ];
 }
 
-pub nears-first : (I : Instance) (k : ℕ) (sets : List (List ℕ)) → AreNears I k sets 0 []
-nears-first I k sets = record { count = refl; each = λ s d none. absurd (omega (arith, none)) }
+pub completable-first : (I : Instance) (k : ℕ) (sets : List (List ℕ)) → AreAllCompletable I k sets 0 []
+completable-first I k sets = record { count = refl; each = λ s d none. absurd (omega (arith, none)) }
 
 module _ (I : Instance) (k : ℕ) (sets : List (List ℕ)) (ship : ℕ) where
-  module _ (masks : List ℕ) (near : AreNear I k sets (length sets) ship masks) (ships : List ℕ) (mask : ℕ) (is : IsMask mask (insert_number ship ships))
+  module _ (masks : List ℕ) (completable : AreCompletable I k sets (length sets) ship masks) (ships : List ℕ) (mask : ℕ) (is : IsMask mask (insert_number ship ships))
       (known : All (λ s. s < length I.ships) (insert_number ship ships)) (few : length I.ships ≤ 32) where
     -- NO OTHER SET can be among ships that held none before the ship.
-    pub near-missed : All (IsAllowed I k ship) ships → All (LacksSome ships) sets → All (λ m. ¬ (bit_and m mask ≡ m)) masks → All (LacksSome (insert_number ship ships)) sets
-    near-missed allowed before apart = λ j d here within.
+    pub completable-missed : All (IsAllowed I k ship) ships → All (LacksSome ships) sets → All (λ m. ¬ (bit_and m mask ≡ m)) masks → All (LacksSome (insert_number ship ships)) sets
+    completable-missed allowed before apart = λ j d here within.
         let set = slice_index_or sets j d in
         elim (leb_tells 1 (times_in set ship)) [
           | inl some ↦
               let mine = All-weaker (Contains (insert_number ship ships)) (λ s. s < length I.ships) (λ s h. All-contains (λ s. s < length I.ships) (insert_number ship ships) s known h) set within.among in
               let ends = All-weaker (Contains (insert_number ship ships)) (IsAllowed I k (suc ship)) (λ s h. All-contains (IsAllowed I k (suc ship)) (insert_number ship ships) s completed h) set within.among in
-              let own = near.whole j d here here (times-contains set ship some.1) ends mine in
+              let own = completable.whole j d here here (times-contains set ship some.1) ends mine in
               All-contains (λ m. ¬ (bit_and m mask ≡ m)) masks own.mask apart own.held (in-mask own.mask mask set (insert_number ship ships) own.is is within)
           | inr none ↦ before j d here (record { among = λ i e inside. old set i e inside (omega (arith, none.1)) (within.among i e inside) })
         ]
@@ -223,8 +223,8 @@ module _ (I : Instance) (k : ℕ) (sets : List (List ℕ)) (ship : ℕ) where
               | inr m ↦ omega (arith, times_in-insert_number ship s ships, ap {B = ℕ} (λ b. cond b 1 0) m.0, contains-times (insert_number ship ships) s held)
             ])
 
-    pub missed-near : All (LacksSome (insert_number ship ships)) sets → All (λ m. ¬ (bit_and m mask ≡ m)) masks
-    missed-near missed = λ j d here same.
-        let own = near.each j d here in
+    pub missed-completable : All (LacksSome (insert_number ship ships)) sets → All (λ m. ¬ (bit_and m mask ≡ m)) masks
+    missed-completable missed = λ j d here same.
+        let own = completable.each j d here in
         All-contains (LacksSome (insert_number ship ships)) sets own.set missed own.held
         (mask-in (slice_index_or masks j d) mask own.set (insert_number ship ships) (All-weaker (λ s. s < length I.ships) (λ s. s < 32) (λ s h. omega (arith, h, few)) own.set own.known) own.is is same)

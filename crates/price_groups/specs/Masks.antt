@@ -2,7 +2,7 @@
 use Rattle.std.specs.Prelude.{ℕ, suc, ◌≡◌, ◌<◌, ◌^◌, ◌⊎◌, true, List, [], ◌∷◌, ◌++◌, length, All, Contains, bit_and, slice_index_or}
 use Rattle.std.specs.Int.{bit_at}
 use Rattle.lock_model.specs.declared.instance.Instance.{Instance}
-use Rattle.price_groups.specs.declared.near.Near.{Near}
+use Rattle.price_groups.specs.declared.completable_sets.CompletableSets.{CompletableSets}
 use Rattle.price_rules.specs.Prices.{is_missing}
 use Rattle.price_groups.specs.Asks.{GroupAsk}
 use Rattle.price_groups.specs.Growing.{IsAllowed}
@@ -27,7 +27,7 @@ pub record HasMask (masks : List ℕ) (set : List ℕ) : Type 0 where
   pub is : IsMask mask set
 
 -- Masks of sets, and of each of the first i sets that the ship may complete: one that has the ship, no later one that is missing, and ships of the instance alone.
-pub record AreNear (I : Instance) (k : ℕ) (sets : List (List ℕ)) (i ship : ℕ) (masks : List ℕ) : Type 0 where
+pub record AreCompletable (I : Instance) (k : ℕ) (sets : List (List ℕ)) (i ship : ℕ) (masks : List ℕ) : Type 0 where
   pub each : All (IsSetMask I sets) masks
   pub whole : (j : ℕ) (d : List ℕ) → j < i → j < length sets → Contains (slice_index_or sets j d) ship → All (IsAllowed I k (suc ship)) (slice_index_or sets j d) → All (λ s. s < length I.ships) (slice_index_or sets j d) → HasMask masks (slice_index_or sets j d)
 
@@ -57,25 +57,25 @@ pub record AreHaving (own early : ℕ) (marks : List ℕ) (i : ℕ) (masks : Lis
   pub whole : (j d : ℕ) → j < i → j < length marks → IsBetween own early (slice_index_or marks j d) → Contains masks (slice_index_or marks j d)
 
 -- the mask was appended, or it doesn't lie between the numbers
-abbrev pub IsPutNear : ℕ → ℕ → ℕ → List ℕ → List ℕ → Type 0
-IsPutNear own early mask old new = (IsBetween own early mask × (new ≡ old ++ mask ∷ [])) ⊎ ((¬ IsBetween own early mask) × (new ≡ old))
+abbrev pub IsPutBetween : ℕ → ℕ → ℕ → List ℕ → List ℕ → Type 0
+IsPutBetween own early mask old new = (IsBetween own early mask × (new ≡ old ++ mask ∷ [])) ⊎ ((¬ IsBetween own early mask) × (new ≡ old))
 
 -- for each of the first n ships that is missing the masks of the sets that it may complete
-pub record AreNears (I : Instance) (k : ℕ) (sets : List (List ℕ)) (n : ℕ) (nears : List Near) : Type 0 where
-  pub count : length nears ≡ n
-  pub each : (s : ℕ) (d : Near) → s < n → is_missing I k s ≡ true → AreNear I k sets (length sets) s (slice_index_or nears s d).masks.items
+pub record AreAllCompletable (I : Instance) (k : ℕ) (sets : List (List ℕ)) (n : ℕ) (completable : List CompletableSets) : Type 0 where
+  pub count : length completable ≡ n
+  pub each : (s : ℕ) (d : CompletableSets) → s < n → is_missing I k s ≡ true → AreCompletable I k sets (length sets) s (slice_index_or completable s d).masks.items
 
 -- whatever sets the masks are of, those that the ship may complete
-abbrev pub AreNearOf : Instance → ℕ → List ℕ → ℕ → List ℕ → Type 0
-AreNearOf I k marks ship masks = (sets : List (List ℕ)) → AreMarks I sets (length sets) marks → AreNear I k sets (length sets) ship masks
+abbrev pub AreCompletableOf : Instance → ℕ → List ℕ → ℕ → List ℕ → Type 0
+AreCompletableOf I k marks ship masks = (sets : List (List ℕ)) → AreMarks I sets (length sets) marks → AreCompletable I k sets (length sets) ship masks
 
 -- the same, where the ship is missing
-abbrev pub AreNearMissing : Instance → ℕ → List ℕ → ℕ → List ℕ → Type 0
-AreNearMissing I k marks ship masks = (sets : List (List ℕ)) → AreMarks I sets (length sets) marks → is_missing I k ship ≡ true → AreNear I k sets (length sets) ship masks
+abbrev pub AreCompletableByMissing : Instance → ℕ → List ℕ → ℕ → List ℕ → Type 0
+AreCompletableByMissing I k marks ship masks = (sets : List (List ℕ)) → AreMarks I sets (length sets) marks → is_missing I k ship ≡ true → AreCompletable I k sets (length sets) ship masks
 
 -- the same of what groups are asked by
-abbrev pub AreNearIn : GroupAsk → ℕ → List ℕ → Type 0
-AreNearIn A = AreNear A.instance A.depth A.sets (length A.sets)
+abbrev pub AreCompletableIn : GroupAsk → ℕ → List ℕ → Type 0
+AreCompletableIn A = AreCompletable A.instance A.depth A.sets (length A.sets)
 
-abbrev pub AreNearsIn : GroupAsk → List Near → Type 0
-AreNearsIn A = AreNears A.instance A.depth A.sets (length A.instance.ships)
+abbrev pub AreAllCompletableIn : GroupAsk → List CompletableSets → Type 0
+AreAllCompletableIn A = AreAllCompletable A.instance A.depth A.sets (length A.instance.ships)

@@ -5,8 +5,8 @@ ghost use Rattle.price_groups.specs.Growing.{AreBelow};
 ghost use Rattle.price_groups.specs.Sparing.{AreForbidden};
 ghost use Rattle.price_groups.specs.Sums.{AreRates};
 
+use crate::completable_sets::CompletableSets;
 use crate::line_case::LineCase;
-use crate::near::Near;
 use lock_model::Ships;
 use price_terms::Prices;
 
@@ -18,7 +18,7 @@ pub struct Extension<'a> {
     pub case: &'a LineCase<'a>,
     pub sets: &'a [Ships],
     /// For each ship the sets that it may complete.
-    pub nears: &'a [Near],
+    pub completable: &'a [CompletableSets],
     /// What each ship counts: 100 times its arrival, and its price where the node lacks it.
     pub rates: &'a [u32],
     /// Prices that are no lower, by which groups are left out as they grow, and what each ship counts

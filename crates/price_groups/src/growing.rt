@@ -5,7 +5,7 @@ ghost use Rattle.lock_rules.specs.Children.{with_ship};
 ghost use Rattle.master_branch.specs.Steps.{group_in};
 ghost use Rattle.price_groups.specs.Asked.{group_asked};
 ghost use Rattle.price_groups.specs.Growing.{AreGrown, AreWhollyGrown, MayJoin, IsNew, IsPutJoined, IsJoinedBy, IsJoined, IsBaseIn, IsNewIn, IsAllowedIn};
-ghost use Rattle.price_groups.specs.Masks.{IsMask, AreNearIn, AreNearsIn};
+ghost use Rattle.price_groups.specs.Masks.{IsMask, AreCompletableIn, AreAllCompletableIn};
 ghost use Rattle.price_groups.specs.Sparing.{IsSpared};
 ghost use Rattle.price_groups.specs.Sums.{AreSumsIn, AreWeighedIn, AreWeighedGroups};
 
@@ -57,9 +57,15 @@ fn with_more(group: &Group, mask: u32, ship: u8) -> Group
 
 // The group with a ship more, where the chamber may serve them together and no forbidden set is
 // among them.
-fn joined(extension: &Extension, near: &[u32], group: &Group, mask: u32, ship: u8) -> Option<Group>
+fn joined(
+    extension: &Extension,
+    completable: &[u32],
+    group: &Group,
+    mask: u32,
+    ship: u8,
+) -> Option<Group>
     requires mask { IsMask mask group.now.ships }
-    requires near { AreNearIn (group_asked extension.now) ship near.now }
+    requires completable { AreCompletableIn (group_asked extension.now) ship completable.now }
     requires known { ship < length extension.now.case.now.instance.now.ships }
     requires ships_in { All (λ s. s < length extension.now.case.now.instance.now.ships) group.now.ships }
     requires allowed { All (IsAllowedIn (group_asked extension.now) ship) group.now.ships }
@@ -72,7 +78,7 @@ fn joined(extension: &Extension, near: &[u32], group: &Group, mask: u32, ship: u
     if group.ships.len() >= extension.case.chamber.most as usize {
         return None;
     }
-    if misses_all_of(near, with_bit(mask, ship)) {
+    if misses_all_of(completable, with_bit(mask, ship)) {
         Some(with_more(group, mask, ship))
     } else {
         None
@@ -113,13 +119,13 @@ fn put_joined(
 // Joins a ship to the group at a place, where that may be.
 fn join(
     extension: &Extension,
-    near: &[u32],
+    completable: &[u32],
     groups: &mut Vec<Group>,
     sums: &mut Vec<Sums>,
     place: usize,
     ship: u8,
 ) -> Result<(), PriceError>
-    requires near { AreNearIn (group_asked extension.now) ship near.now }
+    requires completable { AreCompletableIn (group_asked extension.now) ship completable.now }
     requires known { ship < length extension.now.case.now.instance.now.ships }
     requires ships_in { All (λ s. s < length extension.now.case.now.instance.now.ships) (group_in groups.old.items place).ships }
     requires allowed { All (IsAllowedIn (group_asked extension.now) ship) (group_in groups.old.items place).ships }
@@ -132,7 +138,7 @@ fn join(
     ensures joined { OnOk result (IsJoined (group_asked extension.now) ship (group_in groups.old.items place) groups.old.items groups.new.items) }
 {
     let own = &sums[place];
-    match joined(extension, near, &groups[place], own.mask, ship) {
+    match joined(extension, completable, &groups[place], own.mask, ship) {
         None => Ok(()),
         Some(group) => {
             let more = more_sums(extension, own, ship);
@@ -144,13 +150,13 @@ fn join(
 // Joins a ship to each of the groups that have not met it.
 fn join_each(
     extension: &Extension,
-    near: &[u32],
+    completable: &[u32],
     base: &Group,
     groups: &mut Vec<Group>,
     sums: &mut Vec<Sums>,
     ship: u8,
 ) -> Result<(), PriceError>
-    requires near { AreNearIn (group_asked extension.now) ship near.now }
+    requires completable { AreCompletableIn (group_asked extension.now) ship completable.now }
     requires known { ship < length extension.now.case.now.instance.now.ships }
     requires new { IsNewIn (group_asked extension.now) base.now ship }
     requires grown { AreGrown (group_asked extension.now) base.now ship groups.old.items }
@@ -159,7 +165,7 @@ fn join_each(
     ensures grown { OnOk result (AreGrown (group_asked extension.now) base.now (ship + 1) groups.new.items) }
 {
     for place in 0..groups.len() {
-        join(extension, near, groups, sums, place, ship)?;
+        join(extension, completable, groups, sums, place, ship)?;
     }
     Ok(())
 }
@@ -172,7 +178,7 @@ fn grow(
     sums: &mut Vec<Sums>,
     ship: u8,
 ) -> Result<(), PriceError>
-    requires nears { AreNearsIn (group_asked extension.now) extension.now.nears.now }
+    requires completable { AreAllCompletableIn (group_asked extension.now) extension.now.completable.now }
     requires known { ship < length extension.now.case.now.instance.now.ships }
     requires grown { AreGrown (group_asked extension.now) base.now ship groups.old.items }
     requires weighed { AreWeighedIn (group_asked extension.now) groups.old.items sums.old.items }
@@ -184,7 +190,7 @@ fn grow(
     }
     join_each(
         extension,
-        &extension.nears[ship as usize].masks,
+        &extension.completable[ship as usize].masks,
         base,
         groups,
         sums,
@@ -229,7 +235,7 @@ pub(crate) fn grown(
     extension: &Extension,
     base: &Group,
 ) -> Result<WeighedGroups, PriceError>
-    requires nears { AreNearsIn (group_asked extension.now) extension.now.nears.now }
+    requires completable { AreAllCompletableIn (group_asked extension.now) extension.now.completable.now }
     requires base { IsBaseIn (group_asked extension.now) base.now }
     ensures grown { IfOk result (λ listed. AreWhollyGrown (group_asked extension.now) base.now listed.groups.items) }
     ensures weighed { IfOk result (AreWeighedGroups (group_asked extension.now)) }

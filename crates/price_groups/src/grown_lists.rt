@@ -5,7 +5,7 @@ ghost use Rattle.price_groups.specs.declared.grown_lists.GrownList.{GrownList as
 ghost use Rattle.price_groups.specs.Asked.{group_asked};
 ghost use Rattle.price_groups.specs.Growing.{IsBaseIn};
 ghost use Rattle.price_groups.specs.GrownLists.{ArePaired, IsGrownList};
-ghost use Rattle.price_groups.specs.Masks.{AreNearsIn};
+ghost use Rattle.price_groups.specs.Masks.{AreAllCompletableIn};
 
 use crate::extension::Extension;
 use crate::growing::{WeighedGroups, grown};
@@ -71,7 +71,7 @@ fn soon_first(groups: &mut Vec<GrownGroup>) -> Result<(), PriceError>
 
 // What grows from a base.
 fn grown_list(alloc: Global, extension: &Extension, base: &Group) -> Result<GrownList, PriceError>
-    requires nears { AreNearsIn (group_asked extension.now) extension.now.nears.now }
+    requires completable { AreAllCompletableIn (group_asked extension.now) extension.now.completable.now }
     requires base { IsBaseIn (group_asked extension.now) base.now }
     ensures base { IfOk result (λ list. list.base ≡ base.now) }
     ensures grown { IfOk result (IsGrownList (group_asked extension.now)) }
@@ -106,7 +106,7 @@ pub fn list_for(
     extension: &Extension,
     base: &Group,
 ) -> Result<usize, PriceError>
-    requires nears { AreNearsIn (group_asked extension.now) extension.now.nears.now }
+    requires completable { AreAllCompletableIn (group_asked extension.now) extension.now.completable.now }
     requires base { IsBaseIn (group_asked extension.now) base.now }
     requires lists { All (IsGrownList (group_asked extension.now)) lists.old.items }
     ensures lists { All (IsGrownList (group_asked extension.now)) lists.new.items }

@@ -1,10 +1,10 @@
 //! Uncut groups of missing ships, grown ship by ship, for lower bounds by prices.
 //!
-//! A `LineCase` is one chamber's part of a bound. `forbidden_sets` gives the ship sets that the cuts forbid
-//! its chamber, and `nears` for each ship those that it may complete, as numbers. `list_for` grows a group
-//! of the chamber's line, or none, by missing ships in all ways that hold no forbidden set, by what an
-//! `Extension` says; groups of which a ship gains nothing at prices that are no lower are left out. So
-//! lists serve until prices rise above these.
+//! A `LineCase` is one chamber's part of a bound. `forbidden_sets` gives the ship sets that the cuts
+//! forbid its chamber, and `completable_by_ship` for each ship those that it may complete, as numbers.
+//! `list_for` grows a group of the chamber's line, or none, by missing ships in all ways that hold no
+//! forbidden set, by what an `Extension` says; groups of which a ship gains nothing at prices that are no
+//! lower are left out. So lists serve until prices rise above these.
 //!
 //! Definitions: `price_rules` says what uncut groups are. Here `specs/Asks` says once what is asked of a
 //! chamber's line (`LineAsk`) and of its groups (`GroupAsk`), and `Asked` what a `LineCase` and an
@@ -13,6 +13,7 @@
 //! what a list of them holds. `Growing` is of the steps.
 #![tactic(auto)]
 
+mod completable_sets;
 mod extension;
 mod forbidden;
 mod growing;
@@ -20,15 +21,14 @@ mod grown_lists;
 mod idling;
 mod line_case;
 mod masks;
-mod near;
 mod sums;
 mod weighing;
 
+pub use completable_sets::CompletableSets;
 pub use extension::Extension;
 pub use forbidden::{are_spared, forbidden_sets};
 pub use grown_lists::{GrownGroup, GrownList, list_for};
 pub use line_case::LineCase;
-pub use masks::{marks, misses_all_of, nears};
-pub use near::Near;
+pub use masks::{completable_by_ship, marks, misses_all_of};
 pub use sums::Sums;
 pub use weighing::rates;

@@ -1,11 +1,11 @@
 //! Ship sets as numbers, so that a group is held against many of them fast.
 ghost use Rattle.std.specs.Prelude.{ℕ, ◌≡◌, ◌+◌, ◌<◌, ◌↔◌, true, List, length, All, IsTrue, IfOk, OnOk, bit_and};
 ghost use Rattle.lock_rules.specs.Children.{insert_number};
-ghost use Rattle.price_groups.specs.Masks.{IsMask, AreAllowed, AreMarks, IsNoted, IsBetween, AreHaving, IsPutNear, AreNears, AreNearOf, AreNearMissing};
+ghost use Rattle.price_groups.specs.Masks.{IsMask, AreAllowed, AreMarks, IsNoted, IsBetween, AreHaving, IsPutBetween, AreAllCompletable, AreCompletableOf, AreCompletableByMissing};
 
+use crate::completable_sets::CompletableSets;
 use crate::forbidden::are_known;
 use crate::line_case::LineCase;
-use crate::near::Near;
 use lock_model::{Instance, Ships};
 use price_terms::{PriceError, append};
 use std::alloc::Global;
@@ -88,8 +88,8 @@ fn is_between(own: u32, early: u32, mask: u32) -> bool
 }
 
 // Appends a mask, where it lies between two numbers.
-fn put_near(masks: &mut Vec<u32>, own: u32, early: u32, mask: u32) -> Result<(), PriceError>
-    ensures { OnOk result (IsPutNear own early mask masks.old.items masks.new.items) }
+fn put_between(masks: &mut Vec<u32>, own: u32, early: u32, mask: u32) -> Result<(), PriceError>
+    ensures { OnOk result (IsPutBetween own early mask masks.old.items masks.new.items) }
 {
     if is_between(own, early, mask) {
         return append(masks, mask);
@@ -103,7 +103,7 @@ fn having(alloc: Global, marks: &[u32], own: u32, early: u32) -> Result<Vec<u32>
 {
     let mut masks = Vec::new(alloc);
     for &mask in marks {
-        put_near(&mut masks, own, early, mask)?;
+        put_between(&mut masks, own, early, mask)?;
     }
     Ok(masks)
 }
@@ -132,26 +132,36 @@ fn allowed(alloc: Global, case: &LineCase, last: u8) -> Result<Vec<u8>, PriceErr
 }
 
 // Those of the masks of sets that a ship may complete.
-fn near(alloc: Global, case: &LineCase, marks: &[u32], ship: u8) -> Result<Near, PriceError>
+fn completable_by(
+    alloc: Global,
+    case: &LineCase,
+    marks: &[u32],
+    ship: u8,
+) -> Result<CompletableSets, PriceError>
     requires { ship < 32 }
-    ensures { IfOk result (λ near. AreNearOf case.now.instance.now case.now.depth marks.now ship near.masks.items) }
+    ensures { IfOk result (λ completable. AreCompletableOf case.now.instance.now case.now.depth marks.now ship completable.masks.items) }
 {
     let own = mask_of(&[ship]);
     let early = mask_of(&allowed(alloc, case, ship)?);
-    Ok(Near {
+    Ok(CompletableSets {
         masks: having(alloc, marks, own, early)?,
     })
 }
 
 // The same, where the node lacks the ship; of one that it holds nothing is asked.
-fn near_missing(alloc: Global, case: &LineCase, marks: &[u32], ship: u8) -> Result<Near, PriceError>
+fn completable_by_missing(
+    alloc: Global,
+    case: &LineCase,
+    marks: &[u32],
+    ship: u8,
+) -> Result<CompletableSets, PriceError>
     requires { ship < 32 }
-    ensures { IfOk result (λ near. AreNearMissing case.now.instance.now case.now.depth marks.now ship near.masks.items) }
+    ensures { IfOk result (λ completable. AreCompletableByMissing case.now.instance.now case.now.depth marks.now ship completable.masks.items) }
 {
     if case.lacks(ship) {
-        near(alloc, case, marks, ship)
+        completable_by(alloc, case, marks, ship)
     } else {
-        Ok(Near {
+        Ok(CompletableSets {
             masks: Vec::new(alloc),
         })
     }
@@ -160,13 +170,20 @@ fn near_missing(alloc: Global, case: &LineCase, marks: &[u32], ship: u8) -> Resu
 /// For each missing ship the masks of the sets that it may complete where ships join one after another:
 /// those that have it, but no later one that the node lacks. Where a group that holds no set is joined
 /// by the ship, no other one can be in it then.
-pub fn nears(alloc: Global, case: &LineCase, sets: &[Ships]) -> Result<Vec<Near>, PriceError>
-    ensures { IfOk result (λ nears. AreNears case.now.instance.now case.now.depth sets.now (length case.now.instance.now.ships) nears.items) }
+pub fn completable_by_ship(
+    alloc: Global,
+    case: &LineCase,
+    sets: &[Ships],
+) -> Result<Vec<CompletableSets>, PriceError>
+    ensures { IfOk result (λ completable. AreAllCompletable case.now.instance.now case.now.depth sets.now (length case.now.instance.now.ships) completable.items) }
 {
     let marks = marks(alloc, case.instance, sets)?;
-    let mut nears = Vec::new(alloc);
+    let mut completable = Vec::new(alloc);
     for ship in 0..case.instance.ships.as_slice().len() as u8 {
-        append(&mut nears, near_missing(alloc, case, &marks, ship)?)?;
+        append(
+            &mut completable,
+            completable_by_missing(alloc, case, &marks, ship)?,
+        )?;
     }
-    Ok(nears)
+    Ok(completable)
 }

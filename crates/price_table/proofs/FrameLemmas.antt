@@ -1,4 +1,4 @@
--- Counting choices, and remembering values.
+-- Counting successors, and remembering values.
 use Rattle.std.proofs.Common.{◌≡◌, ◌≢◌, ℕ, suc, ◌+◌, ◌-◌, ◌*◌, ◌/◌, ◌%◌, ◌<◌, ◌≤◌, true, false, cond, ℤ, pos, neg_ℤ, ◌+ℤ◌, ◌≤ℤ◌, to_z, of_z, w64, inl, inr, Some, None, List, [], ◌∷◌, length, drop, filter, All, refl, sym, ap, ◌∙◌, subst, arith, slice_index_or}
 use Rattle.std.specs.Prelude.{int_lt, IfSome}
 use Rattle.std.specs.Int.{int_min}
@@ -20,19 +20,19 @@ use Rattle.lock_rules.specs.Trace.{has_number, with_group}
 use Rattle.lock_model.specs.Fleet.{ship_at}
 use Rattle.price_rules.specs.Prices.{PlainCut, IsUncut, IsLoose, is_missing, price_at}
 use Rattle.price_table.specs.declared.frame.Frame.{Frame}
-use Rattle.price_choices.specs.declared.choice.Choice.{Choice}
-use Rattle.price_choices.specs.declared.successors.Successors.{Successors}
+use Rattle.price_successors.specs.declared.successor.Successor.{Successor}
+use Rattle.price_successors.specs.declared.successor_list.SuccessorList.{SuccessorList}
 use Rattle.price_table.specs.declared.values.Values.{Values}
 use Rattle.price_groups.specs.Asks.{LineAsk}
 use Rattle.price_groups.specs.Sparing.{IsSpared, AreForbidden}
 use Rattle.price_groups.specs.Worth.{end_after, worth_of, worth_from, IsWorth, IsLeastWorth, IsKeptGroup, IsHorizon}
-use Rattle.price_choices.specs.Choices.{Keeps, IsChoice, Leads}
-use Rattle.price_choices.specs.Counted.{IsCounted}
-use Rattle.price_choices.specs.Successors.{list_of, AreSuccessorLists}
+use Rattle.price_successors.specs.Successors.{Keeps, IsSuccessor, Leads}
+use Rattle.price_successors.specs.Counted.{IsCounted}
+use Rattle.price_successors.specs.SuccessorLists.{list_of, AreSuccessorLists}
 use Rattle.price_table.specs.Values.{IsValue, side_of, key_of, IsRemembered, AreEmpty, Remembers, AreValues, IsBest, IsFrame}
 use Rattle.price_table.proofs.LineLemmas.{worth-next, end-later, uncut-trace}
-use Rattle.price_choices.proofs.SuccessorLemmas.{counted-successors}
-use Rattle.price_table.proofs.StepLemmas.{own-worth, alone-least, choices-least}
+use Rattle.price_successors.proofs.SuccessorListLemmas.{counted-successor_list}
+use Rattle.price_table.proofs.StepLemmas.{own-worth, alone-least, successors-least}
 
 with-some : (way : Way) (ks : List ℕ) (rest : List Group) → 1 ≤ length ks → with_group way ks rest ≡ record { way = way; ships = ks } ∷ rest
 with-some way [] rest some = absurd (omega (arith, some))
@@ -60,7 +60,7 @@ lesser-rounded r b w v far-b far-w far-v is =
     last : (r b w v : ℤ) → r ≡ int_min b (w +ℤ v) → neg_ℤ (pos 1000000000000000) ≤ℤ b → b ≤ℤ pos 1000000000000000 → neg_ℤ (pos 1000000000000000) ≤ℤ w → w ≤ℤ pos 1000000000000000 → neg_ℤ (pos 1000000000000000) ≤ℤ v → v ≤ℤ pos 1000000000000000 → to_z w64 (of_z w64 r) ≡ r
     last r b w v e h1 h2 h3 h4 h5 h6 = omega (arith, ints, clamps)
 
--- a choice leads to one place
+-- a successor leads to one place
 pub one-way : (to : Option ℕ) (p q r : ℕ) → Leads to p q → Leads to p r → q ≡ r
 one-way None p q r first second = sym first ∙ second
 one-way (Some j) p q r first second = sym first.1 ∙ second.1
@@ -84,7 +84,7 @@ module _ (L : LineAsk) (known : L.chamber < length L.instance.chambers) (horizon
   abbrev line : List Group
   line = L.line
 
-  pub counted-less : (stand : Stand) (from p : ℕ) (best less : ℤ) (h : Choice) → less ≤ℤ best → IsCounted L stand from p best h → IsCounted L stand from p less h
+  pub counted-less : (stand : Stand) (from p : ℕ) (best less : ℤ) (h : Successor) → less ≤ℤ best → IsCounted L stand from p best h → IsCounted L stand from p less h
   counted-less stand from p best less h low counted = λ q leads. elim (counted q leads) [
     | inl below ↦ inl (λ gs loose. through less best _ low (below gs loose))
     | inr idle ↦ inr idle
@@ -117,8 +117,8 @@ module _ (L : LineAsk) (known : L.chamber < length L.instance.chambers) (horizon
       high = high;
     }
 
-  module _ (own : All (IsKeptGroup I k) line) (p : ℕ) (stand : Stand) (from : ℕ) (h : Choice) (is : IsChoice L h) (q : ℕ) (leads : Leads h.joins p q) where
-    -- what is left behind the choice joins it to the line
+  module _ (own : All (IsKeptGroup I k) line) (p : ℕ) (stand : Stand) (from : ℕ) (h : Successor) (is : IsSuccessor L h) (q : ℕ) (leads : Leads h.joins p q) where
+    -- what is left behind the successor joins it to the line
     joins-line : (to : Option ℕ) (p q : ℕ) (g : Group) → Keeps L to g → Leads to p q → with_group g.way (filter (has_number (first_ships I k)) g.ships) (drop q line) ≡ drop p line
     joins-line None p q g keeps leads = (λ i. with_group g.way (keeps i) (drop q line)) ∙ ap (λ q. drop q line) (sym leads)
     joins-line (Some j) p q g keeps leads =
@@ -130,10 +130,10 @@ module _ (L : LineAsk) (known : L.chamber < length L.instance.chambers) (horizon
     counted-idle best none gains = λ q leads. inr (none, gains)
 
     module _ (best w v : ℤ) (early : from < horizon) (worth : w ≡ worth_of I c k prices stand from h.group) (low : neg_ℤ (pos 808000000) ≤ℤ w) (value : IsValue L horizon q (stand_after h.group.way) (end_after I c stand from h.group) v) where
-      -- whatever goes on behind the choice goes on with it before
-      pub choice-goes : (gs : List Group) → IsLoose I c cuts k (drop q line) gs → worth_from I c k prices (stand_after h.group.way) (end_after I c stand from h.group) gs ≡ v
+      -- whatever goes on behind the successor goes on with it before
+      pub successor-goes : (gs : List Group) → IsLoose I c cuts k (drop q line) gs → worth_from I c k prices (stand_after h.group.way) (end_after I c stand from h.group) gs ≡ v
           → IsLoose I c cuts k (drop p line) (h.group ∷ gs) × (worth_from I c k prices stand from (h.group ∷ gs) ≡ (w +ℤ v))
-      choice-goes gs loose behind = (
+      successor-goes gs loose behind = (
         record {
           uncut = All-cons (IsUncut I c cuts) h.group gs is.uncut loose.uncut;
           trace = ap (with_group h.group.way (filter (has_number (first_ships I k)) h.group.ships)) loose.trace ∙ joins-line h.joins p q h.group is.keeps leads;
@@ -144,7 +144,7 @@ module _ (L : LineAsk) (known : L.chamber < length L.instance.chambers) (horizon
       sum-reached : IsWorth I c cuts k prices stand from (drop p line) (w +ℤ v)
       sum-reached =
           let behind = value.least.reached in
-          let goes = choice-goes behind.loose behind.is_loose behind.worth in
+          let goes = successor-goes behind.loose behind.is_loose behind.worth in
           record { loose = h.group ∷ behind.loose; is_loose = goes.0; worth = goes.1 }
 
       pub best-counted : IsBest L horizon p stand from best → IsBest L horizon p stand from (int_min best (w +ℤ v))
@@ -169,20 +169,20 @@ module _ (L : LineAsk) (known : L.chamber < length L.instance.chambers) (horizon
           below : (a w v x y : ℤ) → w ≡ x → v ≤ℤ y → int_min a (w +ℤ v) ≤ℤ (x +ℤ y)
           below a w v x y e h = omega (arith, ints, clamps)
 
-      -- the choice comes to the value or to more
-      pub choice-least : (u : ℤ) → IsValue L horizon p stand from u → u ≤ℤ (w +ℤ v)
-      choice-least u least =
+      -- the successor comes to the value or to more
+      pub successor-least : (u : ℤ) → IsValue L horizon p stand from u → u ≤ℤ (w +ℤ v)
+      successor-least u least =
           let reached = sum-reached in
           subst (λ x. u ≤ℤ x) reached.worth (least.least.below reached.loose reached.is_loose)
 
-      -- a choice that comes to no less than a number is counted with it
+      -- a successor that comes to no less than a number is counted with it
       pub counted-more : best ≤ℤ (w +ℤ v) → IsCounted L stand from p best h
       counted-more more = subst (λ x. IsCounted L stand from p x h) (smaller best (w +ℤ v) more) counted-value
         where
           smaller : (a b : ℤ) → a ≤ℤ b → int_min a b ≡ a
           smaller a b h = omega (arith, ints, clamps)
 
-  module _ (successor_lists : List Successors) where
+  module _ (successor_lists : List SuccessorList) where
     -- a frame whose best is less
     pub frame-less : (frame : Frame) (best : ℤ) → best ≤ℤ frame.best → IsBest L horizon frame.ready.state.place frame.ready.state.stand frame.ready.state.minute best
         → IsFrame L horizon successor_lists frame → IsFrame L horizon successor_lists (record { ready = frame.ready; best = best; next = frame.next })
@@ -194,8 +194,8 @@ module _ (L : LineAsk) (known : L.chamber < length L.instance.chambers) (horizon
       counted = λ j d e before here. counted-less frame.ready.state.stand frame.ready.state.minute frame.ready.state.place frame.best best (slice_index_or (list_of successor_lists e frame.ready.state.place frame.ready.state.minute) j d) less (was.counted j d e before here);
     }
 
-    -- one choice more is counted
-    pub frame-next : (frame : Frame) (best : ℤ) (h : Choice) (i : ℕ) (listed : List Choice) → ((e : Successors) → listed ≡ list_of successor_lists e frame.ready.state.place frame.ready.state.minute) → i < length listed → frame.next ≡ i → h ≡ slice_index_or listed i h → best ≤ℤ frame.best
+    -- one successor more is counted
+    pub frame-next : (frame : Frame) (best : ℤ) (h : Successor) (i : ℕ) (listed : List Successor) → ((e : SuccessorList) → listed ≡ list_of successor_lists e frame.ready.state.place frame.ready.state.minute) → i < length listed → frame.next ≡ i → h ≡ slice_index_or listed i h → best ≤ℤ frame.best
         → IsBest L horizon frame.ready.state.place frame.ready.state.stand frame.ready.state.minute best → IsCounted L frame.ready.state.stand frame.ready.state.minute frame.ready.state.place best h
         → IsFrame L horizon successor_lists frame → IsFrame L horizon successor_lists (record { ready = frame.ready; best = best; next = i + 1 })
     frame-next frame best h i listed same here at held less is counted was = record {
@@ -214,11 +214,11 @@ module _ (L : LineAsk) (known : L.chamber < length L.instance.chambers) (horizon
         earlier j apart before = elim (leb_tells (suc j) i) [ inl y ↦ omega (arith, at, y.1) | inr q ↦ absurd (apart (omega (arith, before, q.1))) ]
 
     -- THE LAST CHOICE COUNTED, the best is the value.
-    pub frame-value : (frame : Frame) (e : Successors) → AreSuccessorLists L successor_lists → length (list_of successor_lists e frame.ready.state.place frame.ready.state.minute) ≤ frame.next
+    pub frame-value : (frame : Frame) (e : SuccessorList) → AreSuccessorLists L successor_lists → length (list_of successor_lists e frame.ready.state.place frame.ready.state.minute) ≤ frame.next
         → IsFrame L horizon successor_lists frame → IsValue L horizon frame.ready.state.place frame.ready.state.stand frame.ready.state.minute frame.best
     frame-value frame e are all is = record {
-      least = choices-least L known are.listed.choices are.listed.enough frame.ready.state.stand frame.ready.state.minute frame.ready.state.place frame.best is.best.stop
-          (counted-successors L known successor_lists are frame.ready.state.place frame.ready.state.minute is.place e frame.ready.state.stand frame.best
+      least = successors-least L known are.listed.successors are.listed.enough frame.ready.state.stand frame.ready.state.minute frame.ready.state.place frame.best is.best.stop
+          (counted-successor_list L known successor_lists are frame.ready.state.place frame.ready.state.minute is.place e frame.ready.state.stand frame.best
           (λ h held. subst (IsCounted L frame.ready.state.stand frame.ready.state.minute frame.ready.state.place frame.best) held.2 (is.counted held.0 h e (omega (arith, held.1, all)) held.1)))
           is.best.reached;
       low = is.best.low;

@@ -1,4 +1,4 @@
--- What a choice is worth by its sums, and what a line's own groups are worth.
+-- What a successor is worth by its sums, and what a line's own groups are worth.
 use Rattle.std.proofs.Common.{◌≡◌, ℕ, suc, ◌+◌, ◌-◌, ◌*◌, ◌<◌, ◌≤◌, max, pos, neg_ℤ, ◌-ℤ◌, ◌≤ℤ◌, true, false, not, List, [], ◌∷◌, length, drop, filter, sum_by, All, refl, sym, ap, ◌∙◌, arith, to_z, of_z, w64, slice_index_or}
 use Rattle.std.proofs.Math.Seq.{drop-cons}
 use Rattle.std.proofs.lemmas.Int.{ints}
@@ -16,7 +16,7 @@ use Rattle.lock_rules.specs.Trace.{has_number}
 use Rattle.price_rules.specs.Prices.{is_missing, price_at, paid_by, paid_in}
 use Rattle.price_rules.proofs.ReachLemmas.{filter-none}
 use Rattle.price_groups.specs.Worth.{arrivals_of, end_after, worth_of, worth_from, IsKeptGroup}
-use Rattle.price_choices.proofs.SumLemmas.{start-sums, worth-sums}
+use Rattle.price_successors.proofs.SumLemmas.{start-sums, worth-sums}
 
 -- a line of the first k ships pays nothing
 pub kept-free : (I : Instance) (k : ℕ) (prices : List ℕ) (line : List Group) → All (IsKeptGroup I k) line → paid_in I k prices line ≡ 0
@@ -51,7 +51,7 @@ module _ (I : Instance) (c k : ℕ) (prices : List ℕ) where
       omega (arith, all, one, same, later)
 
   module _ (stand : Stand) (from : ℕ) (g : Group) where
-    -- the end of a choice from its sums
+    -- the end of a successor from its sums
     pub sums-end : (chamber : Chamber) (r l m f d : ℕ) → chamber ≡ chamber_at I c → r ≡ ready_at chamber stand from g.way → l ≡ last_arrival I 0 g.ships → m ≡ max r l → f ≡ first_free chamber.closures d m → d ≡ duration_of I c g.ships → f + d ≡ end_after I c stand from g
     sums-end chamber r l m f d at ready last most free long =
         let when : m ≡ max (ready_at (chamber_at I c) stand from g.way) (last_arrival I 0 g.ships) = most ∙ (λ i. max ((ready ∙ (λ j. ready_at (at j) stand from g.way)) i) (last i)) in

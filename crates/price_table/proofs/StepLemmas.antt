@@ -1,4 +1,4 @@
--- When the least of what the choices come to is the value of a state.
+-- When the least of what the successors come to is the value of a state.
 use Rattle.std.proofs.Common.{◌≡◌, ℕ, suc, Bool, true, ◌<◌, ◌≤◌, ℤ, pos, ◌+ℤ◌, ◌≤ℤ◌, inl, inr, Some, None, List, [], ◌∷◌, length, drop, filter, All, Contains, refl, sym, ◌∙◌, subst, arith}
 use Rattle.std.specs.declared.option.Option.{Option}
 use Rattle.std.proofs.lemmas.Int.{ints}
@@ -13,14 +13,14 @@ use Rattle.lock_rules.specs.Arrival.{first_ships}
 use Rattle.lock_rules.specs.Trace.{has_number, with_group, trace_by}
 use Rattle.lock_rules.proofs.LeafLemmas.{trace-whole}
 use Rattle.price_rules.specs.Prices.{PlainCut, IsUncut, IsLoose}
-use Rattle.price_choices.specs.declared.choice.Choice.{Choice}
+use Rattle.price_successors.specs.declared.successor.Successor.{Successor}
 use Rattle.price_groups.specs.Asks.{LineAsk}
 use Rattle.price_groups.specs.Worth.{end_after, worth_of, worth_from, IsWorth, IsLeastWorth, IsKeptGroup, IsHorizon}
-use Rattle.price_choices.specs.Choices.{Keeps, Leads}
-use Rattle.price_choices.specs.Counted.{IsBelow, IsCounted}
-use Rattle.price_choices.specs.Dominance.{IsGainless, IsDominated}
-use Rattle.price_choices.specs.Enough.{AreChoices}
-use Rattle.price_choices.proofs.ServeLemmas.{serve-later, serve-line, worth-skipped}
+use Rattle.price_successors.specs.Successors.{Keeps, Leads}
+use Rattle.price_successors.specs.Counted.{IsBelow, IsCounted}
+use Rattle.price_successors.specs.Dominance.{IsGainless, IsDominated}
+use Rattle.price_successors.specs.Enough.{AreEnoughSuccessors}
+use Rattle.price_successors.proofs.ServeLemmas.{serve-later, serve-line, worth-skipped}
 use Rattle.price_table.proofs.LineLemmas.{worth-next, late-least}
 
 module _ (L : LineAsk) (known : L.chamber < length L.instance.chambers) where
@@ -65,16 +65,16 @@ module _ (L : LineAsk) (known : L.chamber < length L.instance.chambers) where
     reached = own-worth stand from line uncut own;
   }
 
-  module _ (choices : List Choice) (are : AreChoices L choices) (stand : Stand) (from p : ℕ) (best : ℤ) (stop : best ≤ℤ worth_from I c k prices stand from (drop p line)) (counted : (h : Choice) → Contains choices h → IsCounted L stand from p best h) where
-    -- a choice that serves as well as the first group of a loose line
+  module _ (successors : List Successor) (are : AreEnoughSuccessors L successors) (stand : Stand) (from p : ℕ) (best : ℤ) (stop : best ≤ℤ worth_from I c k prices stand from (drop p line)) (counted : (h : Successor) → Contains successors h → IsCounted L stand from p best h) where
+    -- a successor that serves as well as the first group of a loose line
     served-below : (g : Group) (gs : List Group) (to : Option ℕ) (q : ℕ) → Leads to p q → IsLoose I c cuts k (drop q line) gs → (to ≡ None → best ≤ℤ worth_from I c k prices stand from gs)
-        → IsDominated L choices to g → best ≤ℤ worth_from I c k prices stand from (g ∷ gs)
+        → IsDominated L successors to g → best ≤ℤ worth_from I c k prices stand from (g ∷ gs)
     served-below g gs to q leads loose skip served =
-        let h : Group = record { way = g.way; ships = served.choice.group.ships } in
-        let same : served.choice.group ≡ h = λ i. record { way = served.way i; ships = served.choice.group.ships } in
-        let here = serve-line I c known k prices g.way served.choice.group.ships g.ships stand from (serve-later I c k prices served.choice.group.ships g.ships 0 from (omega arith) served.as_good) gs in
+        let h : Group = record { way = g.way; ships = served.successor.group.ships } in
+        let same : served.successor.group ≡ h = λ i. record { way = served.way i; ships = served.successor.group.ships } in
+        let here = serve-line I c known k prices g.way served.successor.group.ships g.ships stand from (serve-later I c k prices served.successor.group.ships g.ships 0 from (omega arith) served.as_good) gs in
         let next = worth-next I c k prices stand from g gs in
-        elim (counted served.choice served.held q (subst (λ to. Leads to p q) (sym served.joins) leads)) [
+        elim (counted served.successor served.held q (subst (λ to. Leads to p q) (sym served.joins) leads)) [
           | inl below ↦ under best (worth_from I c k prices stand from (g ∷ gs)) (worth_of I c k prices stand from g +ℤ worth_from I c k prices (stand_after g.way) (end_after I c stand from g) gs)
               (worth_of I c k prices stand from h +ℤ worth_from I c k prices (stand_after g.way) (end_after I c stand from h) gs) next here (subst (IsBelow L stand from q best) same below gs loose)
           | inr idle ↦ over best (worth_from I c k prices stand from (g ∷ gs)) (worth_of I c k prices stand from g +ℤ worth_from I c k prices (stand_after g.way) (end_after I c stand from g) gs)
@@ -120,5 +120,5 @@ module _ (L : LineAsk) (known : L.chamber < length L.instance.chambers) where
             ]
 
     -- THE LEAST OF ALL CHOICES is the least worth, where some loose line is worth it.
-    pub choices-least : IsWorth I c cuts k prices stand from (drop p line) best → IsLeastWorth I c cuts k prices stand from (drop p line) (Some best)
-    choices-least reached = record { below = all-below; reached = reached }
+    pub successors-least : IsWorth I c cuts k prices stand from (drop p line) best → IsLeastWorth I c cuts k prices stand from (drop p line) (Some best)
+    successors-least reached = record { below = all-below; reached = reached }

@@ -1,4 +1,4 @@
--- Counting a choice of a route by the value that is remembered behind it.
+-- Counting a successor of a route by the value that is remembered behind it.
 use Rattle.std.proofs.Common.{◌≡◌, ℕ, ◌<◌, ◌≤◌, ℤ, pos, neg_ℤ, ◌+ℤ◌, ◌≤ℤ◌, to_z, of_z, w64, List, length, All, sym, ap, ◌∙◌, subst}
 use Rattle.std.specs.Int.{int_min}
 use Rattle.lock_model.specs.declared.instance.Instance.{Instance}
@@ -6,14 +6,14 @@ use Rattle.lock_model.specs.declared.group.Group.{Group}
 use Rattle.lock_model.specs.declared.way.Stand.{Stand}
 use Rattle.lock_rules.specs.Lawful.{stand_after}
 use Rattle.price_rules.specs.Prices.{PlainCut}
-use Rattle.price_choices.specs.declared.choice.Choice.{Choice}
+use Rattle.price_successors.specs.declared.successor.Successor.{Successor}
 use Rattle.price_table.specs.declared.ready.Ready.{Ready}
 use Rattle.price_table.specs.declared.route.Route.{Route}
 use Rattle.price_table.specs.declared.values.Values.{Values}
 use Rattle.price_groups.specs.Asks.{LineAsk}
 use Rattle.price_groups.specs.Worth.{end_after, worth_of, IsKeptGroup}
-use Rattle.price_choices.specs.Choices.{IsChoice, Leads}
-use Rattle.price_choices.specs.Counted.{IsCounted}
+use Rattle.price_successors.specs.Successors.{IsSuccessor, Leads}
+use Rattle.price_successors.specs.Counted.{IsCounted}
 use Rattle.price_table.specs.Values.{IsValue, key_of, IsRemembered, AreValues, IsBest, IsRoute}
 use Rattle.price_table.proofs.FrameLemmas.{IsFar, best-counted, counted-value, far-rounded, lesser-less, lesser-rounded, value-far, worth-far}
 
@@ -49,9 +49,9 @@ module _ (L : LineAsk) (known : L.chamber < length L.instance.chambers) (horizon
       let value = are.told p stand minute v within held in
       value-far v horizon minute small value.low value.high
 
-  -- The lesser of the best so far and of what the choice comes to is the best then, and by it the choice is counted.
+  -- The lesser of the best so far and of what the successor comes to is the best then, and by it the successor is counted.
   pub swept-next : All (IsKeptGroup I k) line → (values : Values) → AreValues L horizon values
-      → (ready : Ready) (route : Route) (h : Choice) → ready.state.minute < horizon → IsRoute ready route → route.place ≤ length line → IsChoice L h → h.joins ≡ route.joins → h.group.way ≡ route.way
+      → (ready : Ready) (route : Route) (h : Successor) → ready.state.minute < horizon → IsRoute ready route → route.place ≤ length line → IsSuccessor L h → h.joins ≡ route.joins → h.group.way ≡ route.way
       → (stand : Stand) (end : ℕ) (v w best lesser : ℤ) → stand ≡ stand_after route.way → end ≡ end_after I c ready.state.stand ready.state.minute h.group → IsRemembered values (key_of values.places route.place stand end) v
       → w ≡ worth_of I c k prices ready.state.stand ready.state.minute h.group → neg_ℤ (pos 808000000) ≤ℤ w → w ≤ℤ pos 30000000000
       → IsBest L horizon ready.state.place ready.state.stand ready.state.minute best
@@ -59,9 +59,9 @@ module _ (L : LineAsk) (known : L.chamber < length L.instance.chambers) (horizon
       → IsBest L horizon ready.state.place ready.state.stand ready.state.minute (to_z w64 (of_z w64 lesser))
       × IsCounted L ready.state.stand ready.state.minute ready.state.place (to_z w64 (of_z w64 lesser)) h
       × (to_z w64 (of_z w64 lesser) ≤ℤ best)
-  swept-next own values are ready route h early is within choice joins way stand end v w best lesser stands ends held worth low high was least = (
-    subst (IsBest L horizon ready.state.place ready.state.stand ready.state.minute) same (best-counted L known horizon own ready.state.place ready.state.stand ready.state.minute h choice route.place leads best w v early worth low behind was),
-    subst (λ best. IsCounted L ready.state.stand ready.state.minute ready.state.place best h) same (counted-value L known horizon own ready.state.place ready.state.stand ready.state.minute h choice route.place leads best w v early worth low behind),
+  swept-next own values are ready route h early is within successor joins way stand end v w best lesser stands ends held worth low high was least = (
+    subst (IsBest L horizon ready.state.place ready.state.stand ready.state.minute) same (best-counted L known horizon own ready.state.place ready.state.stand ready.state.minute h successor route.place leads best w v early worth low behind was),
+    subst (λ best. IsCounted L ready.state.stand ready.state.minute ready.state.place best h) same (counted-value L known horizon own ready.state.place ready.state.stand ready.state.minute h successor route.place leads best w v early worth low behind),
     subst (λ x. x ≤ℤ best) same (lesser-less best w v),
   )
     where

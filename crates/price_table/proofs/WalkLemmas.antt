@@ -9,13 +9,13 @@ use Rattle.lock_model.specs.declared.instance.Instance.{Instance}
 use Rattle.lock_model.specs.declared.group.Group.{Group}
 use Rattle.lock_model.specs.declared.way.Stand.{Stand}
 use Rattle.price_rules.specs.Prices.{PlainCut, IsUncut}
-use Rattle.price_choices.specs.declared.choice.Choice.{Choice}
+use Rattle.price_successors.specs.declared.successor.Successor.{Successor}
 use Rattle.price_table.specs.declared.next_group.NextGroup.{NextGroup}
 use Rattle.price_table.specs.declared.next_group.ValuedState.{ValuedState}
 use Rattle.price_groups.specs.Asks.{LineAsk}
 use Rattle.price_groups.specs.Worth.{worth_from, IsLeastWorth, IsKeptGroup}
-use Rattle.price_choices.specs.Counted.{IsCounted}
-use Rattle.price_choices.specs.Enough.{AreChoices}
+use Rattle.price_successors.specs.Counted.{IsCounted}
+use Rattle.price_successors.specs.Enough.{AreEnoughSuccessors}
 use Rattle.price_table.specs.Lines.{IsLineWorth, IsBegun, IsNext}
 use Rattle.price_table.specs.Values.{IsValue}
 use Rattle.price_table.proofs.StepLemmas.{own-loose, all-below}
@@ -59,11 +59,11 @@ module _ (L : LineAsk) (known : L.chamber < length L.instance.chambers) where
         value.least.below (drop p line) (own-loose L known (drop p line) (All-drop (IsUncut I c cuts) p line uncut) (All-drop (IsKeptGroup I k) p line own))
 
     -- ONE OF THE CHOICES, OR THE LINE'S OWN GROUPS, COME TO THE VALUE: they can't all come to more.
-    pub none-more : (horizon : ℕ) (choices : List Choice) → AreChoices L choices → (p : ℕ) (stand : Stand) (from : ℕ) (v : ℤ) → IsValue L horizon p stand from v
-        → v <ℤ worth_from I c k prices stand from (drop p line) → ((h : Choice) → Contains choices h → IsCounted L stand from p (v +ℤ pos 1) h) → ⊥
-    none-more horizon choices are p stand from v value more counted =
+    pub none-more : (horizon : ℕ) (successors : List Successor) → AreEnoughSuccessors L successors → (p : ℕ) (stand : Stand) (from : ℕ) (v : ℤ) → IsValue L horizon p stand from v
+        → v <ℤ worth_from I c k prices stand from (drop p line) → ((h : Successor) → Contains successors h → IsCounted L stand from p (v +ℤ pos 1) h) → ⊥
+    none-more horizon successors are p stand from v value more counted =
         let reached = value.least.reached in
-        let above = all-below L known choices are stand from p (v +ℤ pos 1) (up v _ more) counted reached.loose reached.is_loose in
+        let above = all-below L known successors are stand from p (v +ℤ pos 1) (up v _ more) counted reached.loose reached.is_loose in
         apart v _ above reached.worth
       where
         up : (a b : ℤ) → a <ℤ b → (a +ℤ pos 1) ≤ℤ b
@@ -72,12 +72,12 @@ module _ (L : LineAsk) (known : L.chamber < length L.instance.chambers) where
         apart : (a b : ℤ) → (a +ℤ pos 1) ≤ℤ b → b ≡ a → ⊥
         apart a b h e = absurd (omega (arith, ints, h, e))
 
-  -- one choice more is counted
-  pub counted-next : (stand : Stand) (from p : ℕ) (best : ℤ) (choices : List Choice) (i : ℕ) (h : Choice) → i < length choices → h ≡ slice_index_or choices i h → IsCounted L stand from p best h
-      → ((j : ℕ) (d : Choice) → j < i → j < length choices → IsCounted L stand from p best (slice_index_or choices j d))
-      → (j : ℕ) (d : Choice) → j < i + 1 → j < length choices → IsCounted L stand from p best (slice_index_or choices j d)
-  counted-next stand from p best choices i h here held counted before j d less inside = elim (eqb_tells j i) [
-    | inl y ↦ subst (IsCounted L stand from p best) (held ∙ get_or_default choices i h d here ∙ ap (λ i. slice_index_or choices i d) (sym y.1)) counted
+  -- one successor more is counted
+  pub counted-next : (stand : Stand) (from p : ℕ) (best : ℤ) (successors : List Successor) (i : ℕ) (h : Successor) → i < length successors → h ≡ slice_index_or successors i h → IsCounted L stand from p best h
+      → ((j : ℕ) (d : Successor) → j < i → j < length successors → IsCounted L stand from p best (slice_index_or successors j d))
+      → (j : ℕ) (d : Successor) → j < i + 1 → j < length successors → IsCounted L stand from p best (slice_index_or successors j d)
+  counted-next stand from p best successors i h here held counted before j d less inside = elim (eqb_tells j i) [
+    | inl y ↦ subst (IsCounted L stand from p best) (held ∙ get_or_default successors i h d here ∙ ap (λ i. slice_index_or successors i d) (sym y.1)) counted
     | inr m ↦ before j d (earlier j m.1 less) inside
   ]
     where

@@ -4,12 +4,12 @@ use Rattle.lock_model.specs.declared.instance.Instance.{Instance}
 use Rattle.lock_model.specs.declared.group.Group.{Group}
 use Rattle.price_groups.specs.Asks.{LineAsk, group_end, group_worth, line_worth}
 use Rattle.price_groups.specs.Worth.{IsWorth, IsLeastWorth}
-use Rattle.price_choices.specs.Choices.{IsChoice, Leads}
-use Rattle.price_choices.specs.Counted.{IsCounted}
-use Rattle.price_choices.specs.Successors.{list_of}
+use Rattle.price_successors.specs.Successors.{IsSuccessor, Leads}
+use Rattle.price_successors.specs.Counted.{IsCounted}
+use Rattle.price_successors.specs.SuccessorLists.{list_of}
 use Rattle.lock_model.specs.declared.way.Stand.{Stand}
-use Rattle.price_choices.specs.declared.choice.Choice.{Choice}
-use Rattle.price_choices.specs.declared.successors.Successors.{Successors}
+use Rattle.price_successors.specs.declared.successor.Successor.{Successor}
+use Rattle.price_successors.specs.declared.successor_list.SuccessorList.{SuccessorList}
 use Rattle.std.specs.HashMap.{get}
 use Rattle.lock_model.specs.Fleet.{chamber_at}
 use Rattle.lock_model.specs.declared.way.Way.{Way}
@@ -74,24 +74,24 @@ pub record IsBest (L : LineAsk) (horizon : ℕ) (p : ℕ) (stand : Stand) (minut
   pub low : pos 0 ≤ℤ (best +ℤ pos (808000000 * (horizon - minute)))
   pub high : best ≤ℤ pos 6000000000000
 
--- a state before the horizon, of which the first choices that are looked at are counted
-pub record IsFrame (L : LineAsk) (horizon : ℕ) (successor_lists : List Successors) (frame : Frame) : Type 0 where
+-- a state before the horizon, of which the first successors that are looked at are counted
+pub record IsFrame (L : LineAsk) (horizon : ℕ) (successor_lists : List SuccessorList) (frame : Frame) : Type 0 where
   pub ready : IsReady L.instance L.chamber frame.ready
   pub place : frame.ready.state.place ≤ length L.line
   pub early : frame.ready.state.minute < horizon
   pub best : IsBest L horizon frame.ready.state.place frame.ready.state.stand frame.ready.state.minute frame.best
-  pub counted : (j : ℕ) (d : Choice) (e : Successors) → j < frame.next → j < length (list_of successor_lists e frame.ready.state.place frame.ready.state.minute) → IsCounted L frame.ready.state.stand frame.ready.state.minute frame.ready.state.place frame.best (slice_index_or (list_of successor_lists e frame.ready.state.place frame.ready.state.minute) j d)
+  pub counted : (j : ℕ) (d : Successor) (e : SuccessorList) → j < frame.next → j < length (list_of successor_lists e frame.ready.state.place frame.ready.state.minute) → IsCounted L frame.ready.state.stand frame.ready.state.minute frame.ready.state.place frame.best (slice_index_or (list_of successor_lists e frame.ready.state.place frame.ready.state.minute) j d)
 
--- a route from the state: where its choices lead, and the first minute for their way
+-- a route from the state: where its successors lead, and the first minute for their way
 pub record IsRoute (ready : Ready) (route : Route) : Type 0 where
   pub leads : Leads route.joins ready.state.place route.place
   pub minute : route.minute ≡ minute_for ready route.way
 
--- A choice of the route that ends no sooner than the threshold and is worth no less is counted.
+-- A successor of the route that ends no sooner than the threshold and is worth no less is counted.
 pub record IsThreshold (L : LineAsk) (ready : Ready) (route : Route) (best : ℤ) (threshold : Threshold) : Type 0 where
   pub low : neg_ℤ (pos 2000000000000000) ≤ℤ threshold.worth
   pub high : threshold.worth ≤ℤ pos 2000000000000000
-  pub over : (h : Choice) → IsChoice L h → h.joins ≡ route.joins → h.group.way ≡ route.way
+  pub over : (h : Successor) → IsSuccessor L h → h.joins ≡ route.joins → h.group.way ≡ route.way
       → threshold.end ≤ group_end L ready.state.stand ready.state.minute h.group → threshold.worth ≤ℤ group_worth L ready.state.stand ready.state.minute h.group → group_worth L ready.state.stand ready.state.minute h.group ≤ℤ pos 30000000000
       → IsCounted L ready.state.stand ready.state.minute ready.state.place best h
 
@@ -102,7 +102,7 @@ IsValueOf L horizon state = IsValue L horizon state.place state.stand state.minu
 abbrev pub IsBestOf : LineAsk → ℕ → State → ℤ → Type 0
 IsBestOf L horizon state = IsBest L horizon state.place state.stand state.minute
 
-abbrev pub IsCountedIn : LineAsk → State → ℤ → Choice → Type 0
+abbrev pub IsCountedIn : LineAsk → State → ℤ → Successor → Type 0
 IsCountedIn L state = IsCounted L state.stand state.minute state.place
 
 -- the state's key among so many places
@@ -124,10 +124,10 @@ worth_alone L state = line_worth L state.stand state.minute (drop state.place L.
 abbrev pub IsEarlyState : LineAsk → ℕ → State → Type 0
 IsEarlyState L horizon state = (state.place ≤ length L.line) × (state.minute < horizon)
 
--- the choices that are looked at in the state are these, whatever stands in place of a list of successors that isn't there
-abbrev pub AreLookedAt : List Successors → State → List Choice → Type 0
-AreLookedAt successor_lists state choices = (e : Successors) → choices ≡ list_of successor_lists e state.place state.minute
+-- the successors that are looked at in the state are these, whatever stands in place of a list of successor lists that isn't there
+abbrev pub AreLookedAt : List SuccessorList → State → List Successor → Type 0
+AreLookedAt successor_lists state successors = (e : SuccessorList) → successors ≡ list_of successor_lists e state.place state.minute
 
--- all choices that are looked at in the frame's state are counted
-abbrev pub AreAllCounted : List Successors → Frame → Type 0
-AreAllCounted successor_lists frame = (e : Successors) → length (list_of successor_lists e frame.ready.state.place frame.ready.state.minute) ≤ frame.next
+-- all successors that are looked at in the frame's state are counted
+abbrev pub AreAllCounted : List SuccessorList → Frame → Type 0
+AreAllCounted successor_lists frame = (e : SuccessorList) → length (list_of successor_lists e frame.ready.state.place frame.ready.state.minute) ≤ frame.next

@@ -1,8 +1,8 @@
-//! The table of a chamber's line, one choice after another.
+//! The table of a chamber's line, one successor after another.
 ghost use Rattle.std.specs.Prelude.{◌≡◌, ◌+◌, ◌-◌, ◌*◌, ◌<◌, ◌≤◌, ◌≤ℤ◌, length, IfSome, IfNone, None};
 ghost use Rattle.price_groups.specs.Asked.{line_asked};
-ghost use Rattle.price_choices.specs.Choices.{IsChoice, Leads};
-ghost use Rattle.price_choices.specs.Successors.{AreSuccessorLists};
+ghost use Rattle.price_successors.specs.Successors.{IsSuccessor, Leads};
+ghost use Rattle.price_successors.specs.SuccessorLists.{AreSuccessorLists};
 ghost use Rattle.price_table.specs.Values.{AreValues, IsReady, IsFrame, IsValueOf, IsBestOf, IsCountedIn, IsEarlyState, AreLookedAt, AreAllCounted};
 
 use crate::frame::Frame;
@@ -14,9 +14,9 @@ use crate::sweeping::sweep;
 use crate::table::Table;
 use crate::values::Values;
 use chamber_times::stand_after;
-use price_choices::{Choice, led};
+use price_successors::{Successor, led};
 
-/// A state of which no choice is counted.
+/// A state of which no successor is counted.
 pub(crate) fn opened(table: &Table, state: State) -> Frame
     requires place { state.place ≤ length table.now.case.now.line.now }
     requires early { state.minute < table.now.horizon }
@@ -46,34 +46,34 @@ pub(crate) fn known(table: &Table, values: &Values, state: State) -> Option<i64>
 }
 
 #[inline(always)]
-// Counts a choice that leads to a place, or names the state behind it whose value isn't known yet.
+// Counts a successor that leads to a place, or names the state behind it whose value isn't known yet.
 fn count_to(
     table: &Table,
     values: &Values,
     ready: &Ready,
     best: &mut i64,
-    choice: &Choice,
+    successor: &Successor,
     place: u8,
 ) -> Option<State>
     requires values { AreValues (line_asked table.now.case.now) table.now.horizon values.now }
     requires ready { IsReady table.now.case.now.instance.now table.now.case.now.index ready.now }
     requires early { ready.now.state.minute < table.now.horizon }
     requires best { IsBestOf (line_asked table.now.case.now) table.now.horizon ready.now.state best.old }
-    requires is { IsChoice (line_asked table.now.case.now) choice.now }
-    requires leads { Leads choice.now.joins ready.now.state.place place }
+    requires is { IsSuccessor (line_asked table.now.case.now) successor.now }
+    requires leads { Leads successor.now.joins ready.now.state.place place }
     requires place { place ≤ length table.now.case.now.line.now }
     ensures best { IsBestOf (line_asked table.now.case.now) table.now.horizon ready.now.state best.new }
     ensures less { best.new ≤ℤ best.old }
-    ensures none { IfNone result (IsCountedIn (line_asked table.now.case.now) ready.now.state best.new choice.now) }
+    ensures none { IfNone result (IsCountedIn (line_asked table.now.case.now) ready.now.state best.new successor.now) }
     ensures some { IfSome result (IsEarlyState (line_asked table.now.case.now) table.now.horizon) }
 {
-    let served = serve(table.case, ready, choice);
-    if is_idle(choice, served.worth) {
+    let served = serve(table.case, ready, successor);
+    if is_idle(successor, served.worth) {
         return None;
     }
     let behind = State {
         place,
-        stand: stand_after(choice.group.way),
+        stand: stand_after(successor.group.way),
         minute: served.end,
     };
     match known(table, values, behind) {
@@ -86,43 +86,43 @@ fn count_to(
 }
 
 #[inline(always)]
-// Counts a choice, or names the state behind it whose value isn't known yet.
+// Counts a successor, or names the state behind it whose value isn't known yet.
 fn count(
     table: &Table,
     values: &Values,
     ready: &Ready,
     best: &mut i64,
-    choice: &Choice,
+    successor: &Successor,
 ) -> Option<State>
     requires values { AreValues (line_asked table.now.case.now) table.now.horizon values.now }
     requires ready { IsReady table.now.case.now.instance.now table.now.case.now.index ready.now }
     requires early { ready.now.state.minute < table.now.horizon }
     requires place { ready.now.state.place ≤ length table.now.case.now.line.now }
     requires best { IsBestOf (line_asked table.now.case.now) table.now.horizon ready.now.state best.old }
-    requires is { IsChoice (line_asked table.now.case.now) choice.now }
+    requires is { IsSuccessor (line_asked table.now.case.now) successor.now }
     ensures best { IsBestOf (line_asked table.now.case.now) table.now.horizon ready.now.state best.new }
     ensures less { best.new ≤ℤ best.old }
-    ensures none { IfNone result (IsCountedIn (line_asked table.now.case.now) ready.now.state best.new choice.now) }
+    ensures none { IfNone result (IsCountedIn (line_asked table.now.case.now) ready.now.state best.new successor.now) }
     ensures some { IfSome result (IsEarlyState (line_asked table.now.case.now) table.now.horizon) }
 {
-    match led(choice, ready.state.place) {
+    match led(successor, ready.state.place) {
         None => None,
-        Some(place) => count_to(table, values, ready, best, choice, place),
+        Some(place) => count_to(table, values, ready, best, successor, place),
     }
 }
 
-// Counts the next choice, or names the state behind it whose value isn't known yet.
+// Counts the next successor, or names the state behind it whose value isn't known yet.
 fn count_next(
     table: &Table,
     values: &Values,
-    choices: &[Choice],
+    successors: &[Successor],
     frame: &mut Frame,
 ) -> Option<State>
     requires values { AreValues (line_asked table.now.case.now) table.now.horizon values.now }
     requires successor_lists { AreSuccessorLists (line_asked table.now.case.now) table.now.successor_lists.now }
     requires frame { IsFrame (line_asked table.now.case.now) table.now.horizon table.now.successor_lists.now frame.old }
-    requires listed { AreLookedAt table.now.successor_lists.now frame.old.ready.state choices.now }
-    requires here { frame.old.next < length choices.now }
+    requires listed { AreLookedAt table.now.successor_lists.now frame.old.ready.state successors.now }
+    requires here { frame.old.next < length successors.now }
     ensures frame { IsFrame (line_asked table.now.case.now) table.now.horizon table.now.successor_lists.now frame.new }
     ensures same { frame.new.ready ≡ frame.old.ready }
     ensures none { IfNone result (frame.new.next ≡ frame.old.next + 1) }
@@ -133,7 +133,7 @@ fn count_next(
         values,
         &frame.ready,
         &mut frame.best,
-        &choices[frame.next],
+        &successors[frame.next],
     ) {
         Some(state) => Some(state),
         None => {
@@ -143,13 +143,13 @@ fn count_next(
     }
 }
 
-// Counts more choices of a frame, where the next one may come next in a chamber without closures.
-fn sweep_from(table: &Table, values: &Values, choices: &[Choice], frame: &mut Frame)
+// Counts more successors of a frame, where the next one may come next in a chamber without closures.
+fn sweep_from(table: &Table, values: &Values, successors: &[Successor], frame: &mut Frame)
     requires values { AreValues (line_asked table.now.case.now) table.now.horizon values.now }
     requires successor_lists { AreSuccessorLists (line_asked table.now.case.now) table.now.successor_lists.now }
     requires frame { IsFrame (line_asked table.now.case.now) table.now.horizon table.now.successor_lists.now frame.old }
-    requires listed { AreLookedAt table.now.successor_lists.now frame.old.ready.state choices.now }
-    requires here { frame.old.next < length choices.now }
+    requires listed { AreLookedAt table.now.successor_lists.now frame.old.ready.state successors.now }
+    requires here { frame.old.next < length successors.now }
     ensures frame { IsFrame (line_asked table.now.case.now) table.now.horizon table.now.successor_lists.now frame.new }
     ensures same { frame.new.ready ≡ frame.old.ready }
     ensures more { frame.old.next ≤ frame.new.next }
@@ -157,12 +157,12 @@ fn sweep_from(table: &Table, values: &Values, choices: &[Choice], frame: &mut Fr
     if !frame.ready.always_open {
         return;
     }
-    if let Some(route) = Route::of(&choices[frame.next], &frame.ready) {
-        sweep(table, values, &route, choices, frame);
+    if let Some(route) = Route::of(&successors[frame.next], &frame.ready) {
+        sweep(table, values, &route, successors, frame);
     }
 }
 
-/// Counts choices one after another, until all are counted or the value of a state behind one isn't
+/// Counts successors one after another, until all are counted or the value of a state behind one isn't
 /// known yet; that state.
 pub(crate) fn advance(table: &Table, values: &Values, frame: &mut Frame) -> Option<State>
     requires values { AreValues (line_asked table.now.case.now) table.now.horizon values.now }
@@ -172,12 +172,12 @@ pub(crate) fn advance(table: &Table, values: &Values, frame: &mut Frame) -> Opti
     ensures none { IfNone result (AreAllCounted table.now.successor_lists.now frame.new) }
     ensures some { IfSome result (IsEarlyState (line_asked table.now.case.now) table.now.horizon) }
 {
-    let choices = table.list(&frame.ready.state);
-    while frame.next < choices.len() {
+    let successors = table.list(&frame.ready.state);
+    while frame.next < successors.len() {
         let before = frame.next;
-        sweep_from(table, values, choices, frame);
+        sweep_from(table, values, successors, frame);
         if frame.next == before {
-            if let Some(state) = count_next(table, values, choices, frame) {
+            if let Some(state) = count_next(table, values, successors, frame) {
                 return Some(state);
             }
         }

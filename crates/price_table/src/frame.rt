@@ -1,8 +1,8 @@
-//! States whose choices are being counted.
+//! States whose successors are being counted.
 
 use crate::ready::Ready;
 
-/// A state of which the choices before `next` are counted; `best` is the least of what they come
+/// A state of which the successors before `next` are counted; `best` is the least of what they come
 /// to, in hundredths of a minute.
 #[derive(Clone, Copy)]
 pub(crate) struct Frame {

@@ -1,7 +1,7 @@
 //! The values of states.
 ghost use Rattle.std.specs.Prelude.{◌<◌, ◌≤◌, length, All, IfOk, OnOk};
 ghost use Rattle.price_groups.specs.Asked.{line_asked};
-ghost use Rattle.price_choices.specs.Successors.{AreSuccessorLists};
+ghost use Rattle.price_successors.specs.SuccessorLists.{AreSuccessorLists};
 ghost use Rattle.price_table.specs.Values.{AreValues, IsFrame, IsValueOf};
 
 use crate::counting::{advance, known, opened};
@@ -12,7 +12,7 @@ use crate::values::Values;
 use price_terms::{PriceError, append};
 use std::alloc::Global;
 
-// One turn: counts choices of a state, and then remembers its value, or opens a state behind it
+// One turn: counts successors of a state, and then remembers its value, or opens a state behind it
 // first.
 fn turn(
     table: &Table,

@@ -1,9 +1,9 @@
 //! The least worth of a chamber's loose lines, by the table of its states.
 //!
-//! `least_line` gives a loose line with the least of `100 * flow - paid` over all loose lines of a chamber,
-//! exactly, or says that there is none. The states of the chamber that can be reached are worked out with
-//! their values remembered, up to the horizon, the minute from which on missing ships may be left out of a
-//! line.
+//! `least_line` gives a loose line with the least of `100 * flow - paid` over all loose lines of a
+//! chamber, exactly, or says that there is none. The states of the chamber that can be reached are worked
+//! out with their values remembered, up to the horizon, the minute from which on missing ships may be
+//! left out of a line.
 //!
 //! Definitions: `specs/Lines` says which lines are least; `Values` is of the steps.
 #![tactic(auto)]

@@ -2,8 +2,8 @@
 ghost use Rattle.std.specs.Prelude.{◌≤◌, ◌≤ℤ◌, pos, neg_ℤ, All, IfOk, IfSome};
 ghost use Rattle.price_groups.specs.Asked.{line_asked, group_asked};
 ghost use Rattle.price_groups.specs.GrownLists.{IsGrownList};
-ghost use Rattle.price_groups.specs.Masks.{AreNearsIn};
-ghost use Rattle.price_choices.specs.Successors.{AreSuccessorLists};
+ghost use Rattle.price_groups.specs.Masks.{AreAllCompletableIn};
+ghost use Rattle.price_successors.specs.SuccessorLists.{AreSuccessorLists};
 ghost use Rattle.price_table.specs.Lines.{IsLeastLine, IsLineFound};
 
 use crate::horizon::horizon;
@@ -13,8 +13,10 @@ use crate::state::State;
 use crate::table::Table;
 use crate::values::Values;
 use crate::walking::walked;
-use price_choices::{Buckets, Successors, choices, latest, levels_of, successor_lists_of};
 use price_groups::{Extension, GrownList, are_spared};
+use price_successors::{
+    Buckets, SuccessorList, late_lists_of, latest, successor_lists_of, successors,
+};
 use price_terms::{LooseLine, PriceError};
 use std::alloc::Global;
 
@@ -46,17 +48,17 @@ fn successor_lists_for(
     alloc: Global,
     extension: &Extension,
     lists: &mut Vec<GrownList>,
-) -> Result<Vec<Successors>, PriceError>
-    requires nears { AreNearsIn (group_asked extension.now) extension.now.nears.now }
+) -> Result<Vec<SuccessorList>, PriceError>
+    requires completable { AreAllCompletableIn (group_asked extension.now) extension.now.completable.now }
     requires lists { All (IsGrownList (group_asked extension.now)) lists.old.items }
     ensures lists { All (IsGrownList (group_asked extension.now)) lists.new.items }
     ensures successor_lists { IfOk result (λ successor_lists. AreSuccessorLists (line_asked extension.now.case.now) successor_lists.items) }
 {
     let case = extension.case;
     let mut buckets = Buckets::new(case.chamber.pass);
-    let choices = choices(alloc, extension, lists, &mut buckets)?;
-    let levels = levels_of(alloc, case, &choices, latest(&choices))?;
-    successor_lists_of(alloc, case, &choices, &levels)
+    let successors = successors(alloc, extension, lists, &mut buckets)?;
+    let late_lists = late_lists_of(alloc, case, &successors, latest(&successors))?;
+    successor_lists_of(alloc, case, &successors, &late_lists)
 }
 
 /// A loose line of the chamber with the least of 100 times the flow time minus what is paid, over all
@@ -67,7 +69,7 @@ pub fn least_line(
     lists: &mut Vec<GrownList>,
     turns: u64,
 ) -> Result<Option<LooseLine>, PriceError>
-    requires nears { AreNearsIn (group_asked extension.now) extension.now.nears.now }
+    requires completable { AreAllCompletableIn (group_asked extension.now) extension.now.completable.now }
     requires lists { All (IsGrownList (group_asked extension.now)) lists.old.items }
     ensures lists { All (IsGrownList (group_asked extension.now)) lists.new.items }
     ensures least { IfOk result (IsLineFound (line_asked extension.now.case.now)) }

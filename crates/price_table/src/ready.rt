@@ -9,7 +9,7 @@ use lock_model::Way;
 use price_groups::LineCase;
 
 /// A state, the first minutes at which the chamber may be ready in it for each way, and whether it has
-/// no closures; they are worked out once for all choices.
+/// no closures; they are worked out once for all successors.
 #[derive(Clone, Copy)]
 pub(crate) struct Ready {
     pub(crate) state: State,

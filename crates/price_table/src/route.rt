@@ -1,16 +1,16 @@
-//! What choices have in common that join the same group and have the same way.
+//! What successors have in common that join the same group and have the same way.
 ghost use Rattle.std.specs.Prelude.{◌≡◌, ◌≤◌, ◌≤ℤ◌, ◌-ℤ◌, ◌⊎◌, pos, neg_ℤ, ℤ, None, IsTrue, IfSome};
 ghost use Rattle.price_table.specs.Values.{IsRoute};
 
 use crate::ready::Ready;
 use lock_model::{SHIPS, Way};
-use price_choices::{Choice, led};
+use price_successors::{Successor, led};
 
-// More than a choice is worth, in hundredths of a minute.
+// More than a successor is worth, in hundredths of a minute.
 const MOST_WORTH: i64 = 40_000_000_000;
 
-/// The way of choices and the group that they join, the place that they lead to, and the first minute at
-/// which the chamber may be ready for them.
+/// The way of successors and the group that they join, the place that they lead to, and the first minute
+/// at which the chamber may be ready for them.
 #[derive(Clone, Copy)]
 pub(crate) struct Route {
     pub(crate) way: Way,
@@ -19,7 +19,7 @@ pub(crate) struct Route {
     pub(crate) minute: u64,
 }
 
-/// What a choice of a route comes to no less than, by what is counted, where it ends no sooner and is
+/// What a successor of a route comes to no less than, by what is counted, where it ends no sooner and is
 /// worth no less, in hundredths of a minute.
 #[derive(Clone, Copy)]
 pub(crate) struct Threshold {
@@ -28,32 +28,32 @@ pub(crate) struct Threshold {
 }
 
 impl Route {
-    // The route of a choice from a state, where it may come next there.
-    pub(crate) fn of(choice: &Choice, ready: &Ready) -> Option<Route>
+    // The route of a successor from a state, where it may come next there.
+    pub(crate) fn of(successor: &Successor, ready: &Ready) -> Option<Route>
         requires { ready.now.state.place ≤ SHIPS }
         ensures is { IfSome result (IsRoute ready.now) }
-        ensures joins { IfSome result (λ route. route.joins ≡ choice.now.joins) }
+        ensures joins { IfSome result (λ route. route.joins ≡ successor.now.joins) }
     {
-        let place = led(choice, ready.state.place)?;
-        let way = choice.group.way;
+        let place = led(successor, ready.state.place)?;
+        let way = successor.group.way;
         Some(Route {
             way,
-            joins: choice.joins,
+            joins: successor.joins,
             place,
             minute: ready.minute(way),
         })
     }
 
     #[inline(always)]
-    // Whether a choice is of this route.
-    pub(crate) fn has(&self, choice: &Choice) -> bool
-        ensures joins { IsTrue result → choice.now.joins ≡ self.now.joins }
-        ensures way { IsTrue result → choice.now.group.way ≡ self.now.way }
+    // Whether a successor is of this route.
+    pub(crate) fn has(&self, successor: &Successor) -> bool
+        ensures joins { IsTrue result → successor.now.joins ≡ self.now.joins }
+        ensures way { IsTrue result → successor.now.group.way ≡ self.now.way }
     {
-        choice.group.way == self.way && choice.joins == self.joins
+        successor.group.way == self.way && successor.joins == self.joins
     }
 
-    // The threshold before any choice is counted: missing ships alone that gain nothing are left out.
+    // The threshold before any successor is counted: missing ships alone that gain nothing are left out.
     pub(crate) fn first_threshold(&self) -> Threshold
         ensures low { neg_ℤ (pos 2000000000000000) ≤ℤ result.worth }
         ensures high { result.worth ≤ℤ pos 2000000000000000 }
@@ -64,7 +64,8 @@ impl Route {
     }
 
     #[inline(always)]
-    // The threshold once a choice that ends at this minute is counted, behind which the least is a value.
+    // The threshold once a successor that ends at this minute is counted, behind which the least is a
+    // value.
     pub(crate) fn threshold(&self, end: u64, best: i64, value: i64) -> Threshold
         requires best_low { neg_ℤ (pos 1000000000000000) ≤ℤ best }
         requires best_high { best ≤ℤ pos 1000000000000000 }
@@ -86,7 +87,8 @@ impl Route {
 
 impl Threshold {
     #[inline(always)]
-    // Whether a choice that ends at this minute and is worth so much ends no sooner and is worth no less.
+    // Whether a successor that ends at this minute and is worth so much ends no sooner and is worth no
+    // less.
     pub(crate) fn is_reached(&self, end: u64, worth: i64) -> bool
         requires low { neg_ℤ (pos 2000000000000000) ≤ℤ self.now.worth }
         requires high { self.now.worth ≤ℤ pos 2000000000000000 }

@@ -1,20 +1,20 @@
-//! What a choice is worth that comes next, and what a line's own groups are worth alone.
+//! What a successor is worth that comes next, and what a line's own groups are worth alone.
 ghost use Rattle.std.specs.Prelude.{◌≡◌, ◌+◌, ◌*◌, ◌<◌, ◌≤◌, ◌≤ℤ◌, ◌-ℤ◌, neg_ℤ, pos, true, length, All, max, ◌+ℤ◌, IsTrue, None};
 ghost use Rattle.std.specs.Int.{int_min};
 ghost use Rattle.price_groups.specs.Asked.{line_asked};
 ghost use Rattle.price_groups.specs.Asks.{line_worth};
 ghost use Rattle.price_groups.specs.Worth.{IsKeptGroup};
-ghost use Rattle.price_choices.specs.Choices.{IsChoice};
+ghost use Rattle.price_successors.specs.Successors.{IsSuccessor};
 ghost use Rattle.price_table.specs.Values.{minute_for, IsReady, end_next, worth_next, worth_alone};
 
 use crate::ready::Ready;
 use crate::state::State;
 use chamber_times::{flow_until, group_times, stand_after};
 use lock_model::{Group, MOST, SHIPS};
-use price_choices::Choice;
 use price_groups::LineCase;
+use price_successors::Successor;
 
-/// The minute at which a choice ends that comes next, and what it is worth, in hundredths of a
+/// The minute at which a successor ends that comes next, and what it is worth, in hundredths of a
 /// minute.
 #[derive(Clone, Copy)]
 pub(crate) struct Served {
@@ -34,55 +34,60 @@ fn product(count: u64, end: u64) -> u64
 }
 
 #[inline(always)]
-// A choice that ends at a minute.
-fn ended(choice: &Choice, end: u64) -> Served
+// A successor that ends at a minute.
+fn ended(successor: &Successor, end: u64) -> Served
     requires end { end ≤ 30000000 }
-    requires fair { choice.now.pays ≤ 808000000 }
+    requires fair { successor.now.pays ≤ 808000000 }
     ensures end { result.end ≡ end }
-    ensures worth { result.worth ≡ (pos (100 * (length choice.now.group.ships * end)) -ℤ pos choice.now.pays) }
+    ensures worth { result.worth ≡ (pos (100 * (length successor.now.group.ships * end)) -ℤ pos successor.now.pays) }
     ensures low { neg_ℤ (pos 808000000) ≤ℤ result.worth }
     ensures high { result.worth ≤ℤ pos 30000000000 }
 {
-    let sum = product(choice.group.ships.len() as u64, end);
+    let sum = product(successor.group.ships.len() as u64, end);
     Served {
         end,
-        worth: (100 * sum) as i64 - choice.pays as i64,
+        worth: (100 * sum) as i64 - successor.pays as i64,
     }
 }
 
-/// Serves a choice next.
+/// Serves a successor next.
 #[inline(always)]
-pub(crate) fn serve(case: &LineCase, ready: &Ready, choice: &Choice) -> Served
-    requires is { IsChoice (line_asked case.now) choice.now }
+pub(crate) fn serve(case: &LineCase, ready: &Ready, successor: &Successor) -> Served
+    requires is { IsSuccessor (line_asked case.now) successor.now }
     requires ready { IsReady case.now.instance.now case.now.index ready.now }
     requires minute { ready.now.state.minute ≤ 14000000 }
-    ensures end { result.end ≡ end_next (line_asked case.now) ready.now.state choice.now.group }
-    ensures worth { result.worth ≡ worth_next (line_asked case.now) ready.now.state choice.now.group }
+    ensures end { result.end ≡ end_next (line_asked case.now) ready.now.state successor.now.group }
+    ensures worth { result.worth ≡ worth_next (line_asked case.now) ready.now.state successor.now.group }
     ensures small { result.end ≤ max ready.now.state.minute 1000000 + 12000000 }
     ensures low { neg_ℤ (pos 808000000) ≤ℤ result.worth }
     ensures high { result.worth ≤ℤ pos 30000000000 }
 {
-    let long = choice.duration as u64;
-    let from = ready.minute(choice.group.way).max(choice.last as u64);
-    ended(choice, ready.first_free(case, long, from) + long)
+    let long = successor.duration as u64;
+    let from = ready.minute(successor.group.way).max(successor.last as u64);
+    ended(successor, ready.first_free(case, long, from) + long)
 }
 
-/// Serves a choice next in a chamber without closures that may be ready for it at a minute.
+/// Serves a successor next in a chamber without closures that may be ready for it at a minute.
 #[inline(always)]
-pub(crate) fn serve_open(case: &LineCase, ready: &Ready, minute: u64, choice: &Choice) -> Served
-    requires is { IsChoice (line_asked case.now) choice.now }
+pub(crate) fn serve_open(
+    case: &LineCase,
+    ready: &Ready,
+    minute: u64,
+    successor: &Successor,
+) -> Served
+    requires is { IsSuccessor (line_asked case.now) successor.now }
     requires ready { IsReady case.now.instance.now case.now.index ready.now }
     requires minute { ready.now.state.minute ≤ 14000000 }
     requires open { ready.now.always_open ≡ true }
-    requires first { minute ≡ minute_for ready.now choice.now.group.way }
-    ensures end { result.end ≡ end_next (line_asked case.now) ready.now.state choice.now.group }
-    ensures worth { result.worth ≡ worth_next (line_asked case.now) ready.now.state choice.now.group }
+    requires first { minute ≡ minute_for ready.now successor.now.group.way }
+    ensures end { result.end ≡ end_next (line_asked case.now) ready.now.state successor.now.group }
+    ensures worth { result.worth ≡ worth_next (line_asked case.now) ready.now.state successor.now.group }
     ensures small { result.end ≤ max ready.now.state.minute 1000000 + 12000000 }
     ensures low { neg_ℤ (pos 808000000) ≤ℤ result.worth }
     ensures high { result.worth ≤ℤ pos 30000000000 }
 {
-    let from = minute.max(choice.last as u64);
-    ended(choice, from + choice.duration as u64)
+    let from = minute.max(successor.last as u64);
+    ended(successor, from + successor.duration as u64)
 }
 
 // What some of the line's own groups are worth alone, in hundredths of a minute.
@@ -119,15 +124,15 @@ pub(crate) fn alone(case: &LineCase, state: State) -> i64
 }
 
 #[inline(always)]
-/// Whether a choice may be left out: missing ships alone that gain nothing.
-pub(crate) fn is_idle(choice: &Choice, worth: i64) -> bool
-    ensures { IsTrue result → (choice.now.joins ≡ None) × (pos 0 ≤ℤ worth) }
+/// Whether a successor may be left out: missing ships alone that gain nothing.
+pub(crate) fn is_idle(successor: &Successor, worth: i64) -> bool
+    ensures { IsTrue result → (successor.now.joins ≡ None) × (pos 0 ≤ℤ worth) }
 {
-    choice.joins.is_none() && worth >= 0
+    successor.joins.is_none() && worth >= 0
 }
 
 #[inline(always)]
-/// The lesser of a value and of what a choice comes to with the value behind it.
+/// The lesser of a value and of what a successor comes to with the value behind it.
 pub(crate) fn lesser(best: i64, worth: i64, behind: i64) -> i64
     requires worth_low { neg_ℤ (pos 1000000000000000) ≤ℤ worth }
     requires worth_high { worth ≤ℤ pos 1000000000000000 }

@@ -1,8 +1,8 @@
-//! Counting many choices of a state that need no more than a look at remembered values.
+//! Counting many successors of a state that need no more than a look at remembered values.
 ghost use Rattle.std.specs.Prelude.{◌≡◌, ◌<◌, ◌≤◌, ◌≤ℤ◌, length, true, IsTrue};
 ghost use Rattle.price_groups.specs.Asked.{line_asked};
-ghost use Rattle.price_choices.specs.Choices.{IsChoice};
-ghost use Rattle.price_choices.specs.Successors.{AreSuccessorLists};
+ghost use Rattle.price_successors.specs.Successors.{IsSuccessor};
+ghost use Rattle.price_successors.specs.SuccessorLists.{AreSuccessorLists};
 ghost use Rattle.price_table.specs.Values.{AreValues, IsReady, IsFrame, IsRoute, IsThreshold, IsBestOf, IsCountedIn, AreLookedAt};
 
 use crate::frame::Frame;
@@ -13,9 +13,9 @@ use crate::state::State;
 use crate::table::Table;
 use crate::values::Values;
 use chamber_times::stand_after;
-use price_choices::Choice;
+use price_successors::Successor;
 
-/// The least that counted choices come to, and the threshold for the next ones of their route.
+/// The least that counted successors come to, and the threshold for the next ones of their route.
 #[derive(Clone, Copy)]
 pub(crate) struct Counted {
     pub(crate) best: i64,
@@ -23,15 +23,15 @@ pub(crate) struct Counted {
 }
 
 #[inline(always)]
-// Counts a choice, where it is of the route and reaches the threshold or the value behind it stands in the
-// row; whether that is so.
+// Counts a successor, where it is of the route and reaches the threshold or the value behind it stands in
+// the row; whether that is so.
 fn sweep_one(
     table: &Table,
     values: &Values,
     ready: &Ready,
     route: &Route,
     counted: &mut Counted,
-    choice: &Choice,
+    successor: &Successor,
 ) -> bool
     requires values { AreValues (line_asked table.now.case.now) table.now.horizon values.now }
     requires ready { IsReady table.now.case.now.instance.now table.now.case.now.index ready.now }
@@ -41,16 +41,16 @@ fn sweep_one(
     requires place { route.now.place ≤ length table.now.case.now.line.now }
     requires best { IsBestOf (line_asked table.now.case.now) table.now.horizon ready.now.state counted.old.best }
     requires threshold { IsThreshold (line_asked table.now.case.now) ready.now route.now counted.old.best counted.old.threshold }
-    requires is { IsChoice (line_asked table.now.case.now) choice.now }
+    requires is { IsSuccessor (line_asked table.now.case.now) successor.now }
     ensures best { IsBestOf (line_asked table.now.case.now) table.now.horizon ready.now.state counted.new.best }
     ensures less { counted.new.best ≤ℤ counted.old.best }
     ensures threshold { IsThreshold (line_asked table.now.case.now) ready.now route.now counted.new.best counted.new.threshold }
-    ensures counted { IsTrue result → IsCountedIn (line_asked table.now.case.now) ready.now.state counted.new.best choice.now }
+    ensures counted { IsTrue result → IsCountedIn (line_asked table.now.case.now) ready.now.state counted.new.best successor.now }
 {
-    if !route.has(choice) {
+    if !route.has(successor) {
         return false;
     }
-    let served = serve_open(table.case, ready, route.minute, choice);
+    let served = serve_open(table.case, ready, route.minute, successor);
     if counted.threshold.is_reached(served.end, served.worth) {
         return true;
     }
@@ -73,14 +73,14 @@ fn sweep_one(
 }
 
 #[inline(never)]
-/// Counts more choices of a frame: those of the route one after another, up to one of another route, or
-/// whose value behind it doesn't stand in the row. Apart from what calls others, the loop keeps what it
-/// needs in registers.
+/// Counts more successors of a frame: those of the route one after another, up to one of another route,
+/// or whose value behind it doesn't stand in the row. Apart from what calls others, the loop keeps what
+/// it needs in registers.
 pub(crate) fn sweep(
     table: &Table,
     values: &Values,
     route: &Route,
-    choices: &[Choice],
+    successors: &[Successor],
     frame: &mut Frame,
 )
     requires values { AreValues (line_asked table.now.case.now) table.now.horizon values.now }
@@ -89,8 +89,8 @@ pub(crate) fn sweep(
     requires open { frame.old.ready.always_open ≡ true }
     requires route { IsRoute frame.old.ready route.now }
     requires place { route.now.place ≤ length table.now.case.now.line.now }
-    requires listed { AreLookedAt table.now.successor_lists.now frame.old.ready.state choices.now }
-    requires here { frame.old.next < length choices.now }
+    requires listed { AreLookedAt table.now.successor_lists.now frame.old.ready.state successors.now }
+    requires here { frame.old.next < length successors.now }
     ensures frame { IsFrame (line_asked table.now.case.now) table.now.horizon table.now.successor_lists.now frame.new }
     ensures same { frame.new.ready ≡ frame.old.ready }
     ensures more { frame.old.next ≤ frame.new.next }
@@ -100,13 +100,20 @@ pub(crate) fn sweep(
         best: frame.best,
         threshold: route.first_threshold(),
     };
-    for place in frame.next..choices.len() {
-        if !sweep_one(table, values, &ready, route, &mut counted, &choices[place]) {
+    for place in frame.next..successors.len() {
+        if !sweep_one(
+            table,
+            values,
+            &ready,
+            route,
+            &mut counted,
+            &successors[place],
+        ) {
             frame.best = counted.best;
             frame.next = place;
             return;
         }
     }
     frame.best = counted.best;
-    frame.next = choices.len();
+    frame.next = successors.len();
 }

@@ -3,12 +3,12 @@ ghost use Rattle.std.specs.Prelude.{◌≡◌, ◌+◌, ◌≤◌, length, All};
 ghost use Rattle.price_rules.specs.Prices.{IsUncut};
 ghost use Rattle.price_terms.specs.Cuts.{plain_cuts};
 ghost use Rattle.price_groups.specs.Worth.{IsHorizon};
-ghost use Rattle.price_choices.specs.Successors.{list_of};
-ghost use Rattle.price_choices.specs.declared.successors.Successors.{Successors as AnySuccessors};
+ghost use Rattle.price_successors.specs.SuccessorLists.{list_of};
+ghost use Rattle.price_successors.specs.declared.successor_list.SuccessorList.{SuccessorList as AnySuccessorList};
 
 use crate::state::State;
-use price_choices::{Choice, Successors};
 use price_groups::LineCase;
+use price_successors::{Successor, SuccessorList};
 
 /// A case whose line's own groups are uncut, what may come next at each place, and a minute from which
 /// on missing ships may be left out.
@@ -16,7 +16,7 @@ use price_groups::LineCase;
 pub(crate) struct Table<'a> {
     pub(crate) case: &'a LineCase<'a>,
     /// For each place of the line what may come next there.
-    pub(crate) successor_lists: &'a [Successors],
+    pub(crate) successor_lists: &'a [SuccessorList],
     pub(crate) horizon: u64,
     /// How many turns the value of a state may take.
     pub(crate) turns: u64,
@@ -27,10 +27,10 @@ pub(crate) struct Table<'a> {
 }
 
 impl Table<'_> {
-    // The choices that are looked at in a state.
-    pub(crate) fn list(&self, state: &State) -> &[Choice]
+    // The successors that are looked at in a state.
+    pub(crate) fn list(&self, state: &State) -> &[Successor]
         requires { state.now.place ≤ length self.now.case.now.line.now }
-        ensures { (e : AnySuccessors) → result.now ≡ list_of self.now.successor_lists.now e state.now.place state.now.minute }
+        ensures { (e : AnySuccessorList) → result.now ≡ list_of self.now.successor_lists.now e state.now.place state.now.minute }
     {
         self.successor_lists[state.place as usize].list(state.minute)
     }

@@ -1,8 +1,8 @@
 //! A loose line of the least worth, found group by group.
 ghost use Rattle.std.specs.Prelude.{◌≡◌, ◌+◌, ◌<◌, ◌≤◌, ◌≤ℤ◌, ◌<ℤ◌, ◌+ℤ◌, pos, neg_ℤ, false, [], ◌++◌, length, IfOk, IfSome, IfNone, OnOk, IsTrue};
 ghost use Rattle.price_groups.specs.Asked.{line_asked};
-ghost use Rattle.price_choices.specs.Choices.{IsChoice, Leads};
-ghost use Rattle.price_choices.specs.Successors.{AreSuccessorLists};
+ghost use Rattle.price_successors.specs.Successors.{IsSuccessor, Leads};
+ghost use Rattle.price_successors.specs.SuccessorLists.{AreSuccessorLists};
 ghost use Rattle.price_table.specs.Lines.{IsLineWorth, IsBegun, IsNext};
 ghost use Rattle.price_table.specs.Values.{AreValues, IsValueOf, IsCountedIn, worth_alone};
 
@@ -15,11 +15,11 @@ use crate::table::Table;
 use crate::values::Values;
 use chamber_times::stand_after;
 use lock_model::Group;
-use price_choices::{Choice, led};
+use price_successors::{Successor, led};
 use price_terms::{PriceError, append};
 use std::alloc::Global;
 
-// Whether what a choice is worth and the value behind it come to more than a value.
+// Whether what a successor is worth and the value behind it come to more than a value.
 fn is_above(worth: i64, behind: i64, value: i64) -> bool
     requires worth_low { neg_ℤ (pos 1000000000000000) ≤ℤ worth }
     requires worth_high { worth ≤ℤ pos 1000000000000000 }
@@ -31,14 +31,14 @@ fn is_above(worth: i64, behind: i64, value: i64) -> bool
     worth + behind > value
 }
 
-// A choice that leads to a place as the next group, where it comes to the value of the state that it
+// A successor that leads to a place as the next group, where it comes to the value of the state that it
 // leads from.
 fn next_to(
     alloc: Global,
     table: &Table,
     values: &mut Values,
     from: &ValuedState,
-    choice: &Choice,
+    successor: &Successor,
     place: u8,
 ) -> Result<Option<NextGroup>, PriceError>
     requires successor_lists { AreSuccessorLists (line_asked table.now.case.now) table.now.successor_lists.now }
@@ -46,21 +46,21 @@ fn next_to(
     requires place { from.now.state.place ≤ length table.now.case.now.line.now }
     requires early { from.now.state.minute < table.now.horizon }
     requires value { IsValueOf (line_asked table.now.case.now) table.now.horizon from.now.state from.now.value }
-    requires is { IsChoice (line_asked table.now.case.now) choice.now }
-    requires leads { Leads choice.now.joins from.now.state.place place }
+    requires is { IsSuccessor (line_asked table.now.case.now) successor.now }
+    requires leads { Leads successor.now.joins from.now.state.place place }
     requires within { place ≤ length table.now.case.now.line.now }
     ensures values { IfOk result (λ _. AreValues (line_asked table.now.case.now) table.now.horizon values.new) }
     ensures some { IfOk result (λ next. IfSome next (IsNext (line_asked table.now.case.now) table.now.horizon from.now)) }
-    ensures none { IfOk result (λ next. IfNone next (IsCountedIn (line_asked table.now.case.now) from.now.state (from.now.value +ℤ pos 1) choice.now)) }
+    ensures none { IfOk result (λ next. IfNone next (IsCountedIn (line_asked table.now.case.now) from.now.state (from.now.value +ℤ pos 1) successor.now)) }
 {
     let ready = Ready::new(table.case, from.state);
-    let served = serve(table.case, &ready, choice);
-    if is_idle(choice, served.worth) {
+    let served = serve(table.case, &ready, successor);
+    if is_idle(successor, served.worth) {
         return Ok(None);
     }
     let state = State {
         place,
-        stand: stand_after(choice.group.way),
+        stand: stand_after(successor.group.way),
         minute: served.end,
     };
     let value = value_of(alloc, table, values, &state)?;
@@ -68,38 +68,38 @@ fn next_to(
         return Ok(None);
     }
     Ok(Some(NextGroup {
-        group: choice.group.copy(),
+        group: successor.group.copy(),
         behind: ValuedState { state, value },
     }))
 }
 
-// A choice as the next group, where it may come next and comes to the value of the state.
+// A successor as the next group, where it may come next and comes to the value of the state.
 fn next_by(
     alloc: Global,
     table: &Table,
     values: &mut Values,
     from: &ValuedState,
-    choice: &Choice,
+    successor: &Successor,
 ) -> Result<Option<NextGroup>, PriceError>
     requires successor_lists { AreSuccessorLists (line_asked table.now.case.now) table.now.successor_lists.now }
     requires values { AreValues (line_asked table.now.case.now) table.now.horizon values.old }
     requires place { from.now.state.place ≤ length table.now.case.now.line.now }
     requires early { from.now.state.minute < table.now.horizon }
     requires value { IsValueOf (line_asked table.now.case.now) table.now.horizon from.now.state from.now.value }
-    requires is { IsChoice (line_asked table.now.case.now) choice.now }
+    requires is { IsSuccessor (line_asked table.now.case.now) successor.now }
     ensures values { IfOk result (λ _. AreValues (line_asked table.now.case.now) table.now.horizon values.new) }
     ensures some { IfOk result (λ next. IfSome next (IsNext (line_asked table.now.case.now) table.now.horizon from.now)) }
-    ensures none { IfOk result (λ next. IfNone next (IsCountedIn (line_asked table.now.case.now) from.now.state (from.now.value +ℤ pos 1) choice.now)) }
+    ensures none { IfOk result (λ next. IfNone next (IsCountedIn (line_asked table.now.case.now) from.now.state (from.now.value +ℤ pos 1) successor.now)) }
 {
-    match led(choice, from.state.place) {
+    match led(successor, from.state.place) {
         None => Ok(None),
-        Some(place) => next_to(alloc, table, values, from, choice, place),
+        Some(place) => next_to(alloc, table, values, from, successor, place),
     }
 }
 
-// The first choice that comes to the value of a state; None where the line's own groups alone do,
+// The first successor that comes to the value of a state; None where the line's own groups alone do,
 // since one of the two has to.
-fn next_choice(
+fn next_successor(
     alloc: Global,
     table: &Table,
     values: &mut Values,
@@ -117,8 +117,8 @@ fn next_choice(
     if alone(table.case, from.state) <= from.value {
         return Ok(None);
     }
-    for choice in table.list(&from.state) {
-        match next_by(alloc, table, values, from, choice)? {
+    for successor in table.list(&from.state) {
+        match next_by(alloc, table, values, from, successor)? {
             Some(next) => return Ok(Some(next)),
             None => {}
         }
@@ -146,7 +146,7 @@ fn next_group(
     if from.state.minute >= table.horizon {
         return Ok(None);
     }
-    next_choice(alloc, table, values, from)
+    next_successor(alloc, table, values, from)
 }
 
 // Appends groups.

@@ -22,7 +22,7 @@ returns-clause-right c =
     record {
       seen = right.seen;
       forbidden = right.forbidden;
-      nears = right.nears;
+      completable = right.completable;
       lists =
           subst (λ sets. All (IsGrownList (group_ask I own.chamber k ceilings sets)) c.least_line.new.lists.items) c.deref.ensures.value
           (subst (λ d. All (IsGrownList (group_ask I d k ceilings c.deref.result.now)) c.least_line.new.lists.items) (sym c.requires.chamber) c.least_line.ensures.lists);

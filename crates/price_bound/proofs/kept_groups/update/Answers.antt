@@ -3,7 +3,7 @@ use Rattle.std.proofs.lemmas.List.{map-append, take_all, take-append-drop}
 use Rattle.price_terms.specs.Cuts.{plain_cut, plain_cuts}
 use Rattle.price_groups.specs.Asks.{group_ask}
 use Rattle.price_groups.specs.GrownLists.{IsGrownList}
-use Rattle.price_groups.specs.Masks.{AreMarks, AreNears}
+use Rattle.price_groups.specs.Masks.{AreMarks, AreAllCompletable}
 use Rattle.price_groups.specs.Sparing.{AreForbidden}
 use Rattle.price_bound.specs.KeptGroups.{AreSparedLists}
 use Rattle.price_bound.proofs.SparedLemmas.{forbidden-both, spared-all}
@@ -37,7 +37,7 @@ returns-clause-right c = λ ceilings right.
     record {
       seen = omega arith;
       forbidden = subst (AreForbidden I chamber (plain_cuts I (take (length cuts) cuts))) (sym sets) (subst (λ cs. AreForbidden I chamber cs (own.sets.items ++ added)) all both);
-      nears = subst (λ sets. AreNears I k sets (length I.ships) c.in_ok-own-2.field-0.items) held c.in_ok-own-2.ensures;
+      completable = subst (λ sets. AreAllCompletable I k sets (length I.ships) c.in_ok-own-2.field-0.items) held c.in_ok-own-2.ensures;
       lists =
           subst (λ sets. All (IsGrownList (group_ask I chamber k ceilings sets)) c.in_ok-own.field-0.items) (sym sets)
           (spared-all I chamber k ceilings own.sets.items added masks own.lists.items c.in_ok-own.field-0.items (omega (arith, I.limits.ship_count.1)) marks spared right.lists);

@@ -9,8 +9,8 @@ loop-mask-init c = subst (AreHaving c.args.own c.args.early c.args.marks.now 0) 
 
 pub loop-mask-preserved : goal.loop-mask-preserved
 loop-mask-preserved c =
-    having-next c.args.own c.args.early c.args.marks.now c.loop-mask.mask-index (slice_index_or c.args.marks.now c.loop-mask.mask-index 0) c.loop-mask.masks.items c.put_near.new.masks.items c.loop-mask-test.true
-    (get_or_default c.args.marks.now c.loop-mask.mask-index 0 (slice_index_or c.args.marks.now c.loop-mask.mask-index 0) c.loop-mask-test.true) c.in_ok-put_near.ensures c.loop-mask.invariant
+    having-next c.args.own c.args.early c.args.marks.now c.loop-mask.mask-index (slice_index_or c.args.marks.now c.loop-mask.mask-index 0) c.loop-mask.masks.items c.put_between.new.masks.items c.loop-mask-test.true
+    (get_or_default c.args.marks.now c.loop-mask.mask-index 0 (slice_index_or c.args.marks.now c.loop-mask.mask-index 0) c.loop-mask-test.true) c.in_ok-put_between.ensures c.loop-mask.invariant
 
 pub returns : goal.returns
 returns c =

@@ -5,7 +5,7 @@ use Rattle.price_table.specs.declared.frame.Frame.{Frame}
 use Rattle.price_groups.specs.Asked.{line_asked}
 use Rattle.price_table.specs.Values.{IsFrame}
 use Rattle.price_table.proofs.FrameLemmas.{frame-value, values-kept, value-rounded}
-use Rattle.price_choices.proofs.SuccessorLemmas.{some-successors}
+use Rattle.price_successors.proofs.SuccessorListLemmas.{some-successor_list}
 use Rattle.price_table.proofs.least.turn.Goals as goal
 
 pub returns-in-None-clause-values : goal.returns-in-None-clause-values
@@ -15,7 +15,7 @@ returns-in-None-clause-values c =
     let I = case.instance.now in
     let told = c.in-None.ensures in
     let frame = c.advance.new.frame in
-    let e = some-successors (line_asked case) table.successor_lists.now c.requires.successor_lists in
+    let e = some-successor_list (line_asked case) table.successor_lists.now c.requires.successor_lists in
     on_ok_weaker c.keep.result (λ more.
     values-kept (line_asked case) case.chamber_in table.horizon c.args.values.now c.keep.new.self frame.ready.state.place frame.ready.state.stand frame.ready.state.minute _ told.frame.place c.requires.values
     (value-rounded (line_asked case) case.chamber_in table.horizon frame.ready.state.place frame.ready.state.stand frame.ready.state.minute frame.best table.small (frame-value (line_asked case) case.chamber_in table.horizon table.successor_lists.now frame e c.requires.successor_lists (told.none e) told.frame)) more) c.keep.ensures

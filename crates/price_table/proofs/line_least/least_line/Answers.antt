@@ -3,7 +3,7 @@ use Rattle.lock_model.specs.Fleet.{chamber_at}
 use Rattle.price_terms.specs.Cuts.{plain_cuts}
 use Rattle.price_groups.specs.Asked.{line_asked}
 use Rattle.price_groups.specs.Sparing.{IsSpared}
-use Rattle.price_choices.specs.Successors.{AreSuccessorLists}
+use Rattle.price_successors.specs.SuccessorLists.{AreSuccessorLists}
 use Rattle.price_table.proofs.FrameLemmas.{spared-uncut, cut-least}
 use Rattle.price_table.proofs.line_least.least_line.Goals as goal
 

@@ -1,30 +1,30 @@
 use Rattle.std.proofs.Common.{refl, sym, ap, ◌∙◌, arith}
 use Rattle.lock_model.specs.Fleet.{chamber_at}
 use Rattle.lock_rules.specs.Timetable.{first_free}
-use Rattle.price_choices.proofs.ChoiceLemmas.{rates-sum}
+use Rattle.price_successors.proofs.SuccessorLemmas.{rates-sum}
 use Rattle.price_table.proofs.ServingLemmas.{sums-end, sums-worth}
 use Rattle.price_table.proofs.serving.serve_open.Goals as goal
 use Rattle.price_groups.specs.Asked.{line_asked}
 
 pub ended-requires-clause-end : goal.ended-requires-clause-end
-ended-requires-clause-end c = omega (arith, c.max-from.ensures, c.requires.first, c.requires.ready.small c.args.choice.now.group.way, c.requires.minute, c.requires.is.sums.short, c.requires.is.sums.soon)
+ended-requires-clause-end c = omega (arith, c.max-from.ensures, c.requires.first, c.requires.ready.small c.args.successor.now.group.way, c.requires.minute, c.requires.is.sums.short, c.requires.is.sums.soon)
 
 pub returns-clause-end : goal.returns-clause-end
 returns-clause-end c =
     let I = c.args.case.now.instance.now in
     let sums = c.requires.is.sums in
-    let free = ap (λ closures. first_free closures c.args.choice.now.duration c.max-from.result) (c.requires.ready.open_always c.requires.open) in
+    let free = ap (λ closures. first_free closures c.args.successor.now.duration c.max-from.result) (c.requires.ready.open_always c.requires.open) in
     c.ended.ensures.end
-    ∙ sums-end I c.args.case.now.index c.args.case.now.depth c.args.case.now.prices.now c.args.ready.now.state.stand c.args.ready.now.state.minute c.args.choice.now.group (chamber_at I c.args.case.now.index) c.args.minute c.args.choice.now.last c.max-from.result c.max-from.result c.args.choice.now.duration
-    refl (c.requires.first ∙ c.requires.ready.value c.args.choice.now.group.way) sums.last c.max-from.ensures (sym free) sums.duration
+    ∙ sums-end I c.args.case.now.index c.args.case.now.depth c.args.case.now.prices.now c.args.ready.now.state.stand c.args.ready.now.state.minute c.args.successor.now.group (chamber_at I c.args.case.now.index) c.args.minute c.args.successor.now.last c.max-from.result c.max-from.result c.args.successor.now.duration
+    refl (c.requires.first ∙ c.requires.ready.value c.args.successor.now.group.way) sums.last c.max-from.ensures (sym free) sums.duration
 
 pub returns-clause-worth : goal.returns-clause-worth
 returns-clause-worth c =
     let I = c.args.case.now.instance.now in
     let sums = c.requires.is.sums in
     c.ended.ensures.worth
-    ∙ sums-worth I c.args.case.now.index c.args.case.now.depth c.args.case.now.prices.now c.args.ready.now.state.stand c.args.ready.now.state.minute c.args.choice.now.group c.args.case.now.chamber_in _ c.args.choice.now.pays
-    (sym c.ended.ensures.end ∙ returns-clause-end c) (sums.pays ∙ rates-sum (line_asked c.args.case.now) c.args.choice.now.group.ships)
+    ∙ sums-worth I c.args.case.now.index c.args.case.now.depth c.args.case.now.prices.now c.args.ready.now.state.stand c.args.ready.now.state.minute c.args.successor.now.group c.args.case.now.chamber_in _ c.args.successor.now.pays
+    (sym c.ended.ensures.end ∙ returns-clause-end c) (sums.pays ∙ rates-sum (line_asked c.args.case.now) c.args.successor.now.group.ships)
 
 pub returns-clause-small : goal.returns-clause-small
-returns-clause-small c = omega (arith, c.ended.ensures.end, c.max-from.ensures, c.requires.first, c.requires.ready.small c.args.choice.now.group.way, c.requires.is.sums.short, c.requires.is.sums.soon)
+returns-clause-small c = omega (arith, c.ended.ensures.end, c.max-from.ensures, c.requires.first, c.requires.ready.small c.args.successor.now.group.way, c.requires.is.sums.short, c.requires.is.sums.soon)

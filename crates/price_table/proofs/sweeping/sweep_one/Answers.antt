@@ -22,7 +22,7 @@ returns-then-is_reached-clause-counted c =
     let served = c.serve_open-served.ensures in
     let reached = c.if-is_reached.ensures in
     let more = subst (λ w. c.args.counted.now.threshold.worth ≤ℤ w) (far-rounded c.serve_open-served.result.worth (worth-far c.serve_open-served.result.worth served.low served.high) ∙ served.worth) (reached.worth refl) in
-    λ told. c.requires.threshold.over c.args.choice.now c.requires.is (c.if-not-has.ensures.joins refl) (c.if-not-has.ensures.way refl) (omega (arith, reached.end refl, served.end)) more (subst (λ w. w ≤ℤ pos 30000000000) served.worth served.high)
+    λ told. c.requires.threshold.over c.args.successor.now c.requires.is (c.if-not-has.ensures.joins refl) (c.if-not-has.ensures.way refl) (omega (arith, reached.end refl, served.end)) more (subst (λ w. w ≤ℤ pos 30000000000) served.worth served.high)
 
 pub lesser-best-requires-clause-behind_low : goal.lesser-best-requires-clause-behind_low
 lesser-best-requires-clause-behind_low c =
@@ -63,7 +63,7 @@ threshold-requires-clause-best_low c =
     let I = case.instance.now in
     let route = c.args.route.now in
     let served = c.serve_open-served.ensures in
-    let now = swept-next (line_asked case) case.chamber_in table.horizon table.small case.kept c.args.values.now c.requires.values c.args.ready.now route c.args.choice.now c.requires.early c.requires.route c.requires.place c.requires.is (c.if-not-has.ensures.joins refl) (c.if-not-has.ensures.way refl)
+    let now = swept-next (line_asked case) case.chamber_in table.horizon table.small case.kept c.args.values.now c.requires.values c.args.ready.now route c.args.successor.now c.requires.early c.requires.route c.requires.place c.requires.is (c.if-not-has.ensures.joins refl) (c.if-not-has.ensures.way refl)
     c.stand_after.result c.serve_open-served.result.end c.in-Some.value c.serve_open-served.result.worth c.args.counted.now.best c.lesser-best.result c.stand_after.ensures served.end c.in-Some.ensures served.worth served.low served.high c.requires.best c.lesser-best.ensures in
     (value-far _ table.horizon c.args.ready.now.state.minute table.small now.0.low now.0.high).0
 
@@ -74,7 +74,7 @@ threshold-requires-clause-best_high c =
     let I = case.instance.now in
     let route = c.args.route.now in
     let served = c.serve_open-served.ensures in
-    let now = swept-next (line_asked case) case.chamber_in table.horizon table.small case.kept c.args.values.now c.requires.values c.args.ready.now route c.args.choice.now c.requires.early c.requires.route c.requires.place c.requires.is (c.if-not-has.ensures.joins refl) (c.if-not-has.ensures.way refl)
+    let now = swept-next (line_asked case) case.chamber_in table.horizon table.small case.kept c.args.values.now c.requires.values c.args.ready.now route c.args.successor.now c.requires.early c.requires.route c.requires.place c.requires.is (c.if-not-has.ensures.joins refl) (c.if-not-has.ensures.way refl)
     c.stand_after.result c.serve_open-served.result.end c.in-Some.value c.serve_open-served.result.worth c.args.counted.now.best c.lesser-best.result c.stand_after.ensures served.end c.in-Some.ensures served.worth served.low served.high c.requires.best c.lesser-best.ensures in
     (value-far _ table.horizon c.args.ready.now.state.minute table.small now.0.low now.0.high).1
 
@@ -85,7 +85,7 @@ returns-in-Some-clause-best c =
     let I = case.instance.now in
     let route = c.args.route.now in
     let served = c.serve_open-served.ensures in
-    (swept-next (line_asked case) case.chamber_in table.horizon table.small case.kept c.args.values.now c.requires.values c.args.ready.now route c.args.choice.now c.requires.early c.requires.route c.requires.place c.requires.is (c.if-not-has.ensures.joins refl) (c.if-not-has.ensures.way refl)
+    (swept-next (line_asked case) case.chamber_in table.horizon table.small case.kept c.args.values.now c.requires.values c.args.ready.now route c.args.successor.now c.requires.early c.requires.route c.requires.place c.requires.is (c.if-not-has.ensures.joins refl) (c.if-not-has.ensures.way refl)
     c.stand_after.result c.serve_open-served.result.end c.in-Some.value c.serve_open-served.result.worth c.args.counted.now.best c.lesser-best.result c.stand_after.ensures served.end c.in-Some.ensures served.worth served.low served.high c.requires.best c.lesser-best.ensures).0
 
 pub returns-in-Some-clause-less : goal.returns-in-Some-clause-less
@@ -95,7 +95,7 @@ returns-in-Some-clause-less c =
     let I = case.instance.now in
     let route = c.args.route.now in
     let served = c.serve_open-served.ensures in
-    (swept-next (line_asked case) case.chamber_in table.horizon table.small case.kept c.args.values.now c.requires.values c.args.ready.now route c.args.choice.now c.requires.early c.requires.route c.requires.place c.requires.is (c.if-not-has.ensures.joins refl) (c.if-not-has.ensures.way refl)
+    (swept-next (line_asked case) case.chamber_in table.horizon table.small case.kept c.args.values.now c.requires.values c.args.ready.now route c.args.successor.now c.requires.early c.requires.route c.requires.place c.requires.is (c.if-not-has.ensures.joins refl) (c.if-not-has.ensures.way refl)
     c.stand_after.result c.serve_open-served.result.end c.in-Some.value c.serve_open-served.result.worth c.args.counted.now.best c.lesser-best.result c.stand_after.ensures served.end c.in-Some.ensures served.worth served.low served.high c.requires.best c.lesser-best.ensures).2
 
 pub returns-in-Some-clause-counted : goal.returns-in-Some-clause-counted
@@ -105,7 +105,7 @@ returns-in-Some-clause-counted c =
     let I = case.instance.now in
     let route = c.args.route.now in
     let served = c.serve_open-served.ensures in
-    λ told. (swept-next (line_asked case) case.chamber_in table.horizon table.small case.kept c.args.values.now c.requires.values c.args.ready.now route c.args.choice.now c.requires.early c.requires.route c.requires.place c.requires.is (c.if-not-has.ensures.joins refl) (c.if-not-has.ensures.way refl)
+    λ told. (swept-next (line_asked case) case.chamber_in table.horizon table.small case.kept c.args.values.now c.requires.values c.args.ready.now route c.args.successor.now c.requires.early c.requires.route c.requires.place c.requires.is (c.if-not-has.ensures.joins refl) (c.if-not-has.ensures.way refl)
     c.stand_after.result c.serve_open-served.result.end c.in-Some.value c.serve_open-served.result.worth c.args.counted.now.best c.lesser-best.result c.stand_after.ensures served.end c.in-Some.ensures served.worth served.low served.high c.requires.best c.lesser-best.ensures).1
 
 pub returns-in-Some-clause-threshold : goal.returns-in-Some-clause-threshold

@@ -1,7 +1,0 @@
-//! Which forbidden sets a ship may complete.
-
-/// Masks of the sets that a ship may complete.
-#[derive(Drop)]
-pub struct Near {
-    pub masks: Vec<u32>,
-}
