@@ -46,3 +46,6 @@ touching_first d case i j none h = none.none h.xi h.yi (record { decided = h.dec
 
 pub touching_second : (d : Deck) (case : List Choice) (i j : ℕ) → HasNoPosition d case j → AreTouching d case i j → ⊥
 touching_second d case i j none h = none.none h.xj h.yj (record { decided = h.decided_j; known = h.known_j })
+
+-- what `are_touching` goes by
+pub ruleset of_touching = (touching, touching_apart, touching_first, touching_second)

@@ -45,3 +45,6 @@ cycle_total edges numbers h = h.positive
 pub cycle_leads : (edges : List Edge) (numbers : List ℕ) (start : ℕ) → 1 ≤ length numbers → start ≡ (edge_at edges (get_or numbers 0 0)).from → IsPositiveCycle edges numbers → LeadsTo edges start numbers start
 cycle_leads edges [] start some e h = absurd (omega (arith, some))
 cycle_leads edges (n ∷ ns) start some e h = subst (λ s. LeadsTo edges s (n ∷ ns) s) (sym h.closed.1 ∙ sym e) h.closed
+
+-- what `leads_to` goes by
+pub ruleset of_leads = (leads_unknown, leads_off, leads_on, leads_end)

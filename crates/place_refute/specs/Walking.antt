@@ -8,6 +8,7 @@ use Rattle.refute_rules.specs.declared.choices.Choice.{Choice}
 use Rattle.refute_rules.specs.Choices.{options_of}
 use Rattle.refute_rules.specs.Trees.{AreInOrder}
 use Rattle.place_refute.specs.declared.leaf.Trees.{Trees}
+use Rattle.place_refute.specs.declared.tree.Reading.{Reading}
 use Rattle.deck_cases.specs.Asked.{IsAsked}
 use Rattle.place_refute.specs.Reading.{IsTreeOf, IsTreeAt, HasNoTreeAt, decisions_of}
 
@@ -43,3 +44,27 @@ IsChildAt d trees list case marks choice at end = IsTreeAt d trees (later_of lis
 
 abbrev pub HasNoChildAt : Deck → Trees → List Decision → List Choice → List ℕ → Choice → ℕ → Type 0
 HasNoChildAt d trees list case marks choice at = HasNoTreeAt d trees (later_of list case) (case ++ choice ∷ []) marks at
+
+-- ---- what ends where, and what stands nowhere, in the marks that are read
+
+-- the tree of a case
+abbrev pub IsTreeEnd : Reading → List Choice → ℕ → ℕ → Type 0
+IsTreeEnd r case at end = IsTreeAt r.deck.now r.trees (drop (length case) r.decisions.now) case r.marks.now at end
+
+abbrev pub HasNoTreeEnd : Reading → List Choice → ℕ → Type 0
+HasNoTreeEnd r case at = HasNoTreeAt r.deck.now r.trees (drop (length case) r.decisions.now) case r.marks.now at
+
+-- the trees of all its extensions by the options of the next decision
+abbrev pub IsChildrenEnd : Reading → List Choice → ℕ → ℕ → Type 0
+IsChildrenEnd r case first end =
+    AreChildrenAt r.deck.now r.trees r.decisions.now case r.marks.now first (length (options_of r.deck.now (next_of r.decisions.now case))) end
+
+abbrev pub HasNoChildrenEnd : Reading → List Choice → ℕ → Type 0
+HasNoChildrenEnd r case first = HasNoChildrenAt r.deck.now r.trees r.decisions.now case r.marks.now first
+
+-- the tree of its extension by an option
+abbrev pub IsChildEnd : Reading → List Choice → Choice → ℕ → ℕ → Type 0
+IsChildEnd r case choice at end = IsChildAt r.deck.now r.trees r.decisions.now case r.marks.now choice at end
+
+abbrev pub HasNoChildEnd : Reading → List Choice → Choice → ℕ → Type 0
+HasNoChildEnd r case choice at = HasNoChildAt r.deck.now r.trees r.decisions.now case r.marks.now choice at

@@ -102,7 +102,7 @@ fn position_of(deck: &Deck, choices: &[Choice], ship: u32) -> Option<Position>
 }
 
 /// Whether two different ships lie at known positions and aren't apart.
-#[tactic(auto, using(crate::proofs::SpotLemmas::touching, crate::proofs::SpotLemmas::touching_apart, crate::proofs::SpotLemmas::touching_first, crate::proofs::SpotLemmas::touching_second))]
+#[tactic(auto, using(crate::proofs::SpotLemmas::of_touching))]
 pub(crate) fn are_touching(deck: &Deck, choices: &[Choice], i: u32, j: u32) -> bool
     ensures { IsTrue result ↔ AreTouching deck.now choices.now i j }
 {

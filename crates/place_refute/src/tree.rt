@@ -1,12 +1,9 @@
 //! Walks over the marks of a case tree or of a spot tree. No call goes deeper than the decisions
 //! of the deck.
-ghost use Rattle.std.specs.Prelude.{◌≡◌, ◌<◌, ◌≤◌, length, drop, slice_index_or, IfSome, IfNone};
-ghost use Rattle.refute_rules.specs.declared.choices.Decision.TheVariants.{BerthOf};
-ghost use Rattle.refute_rules.specs.Choices.{options_of};
+ghost use Rattle.std.specs.Prelude.{◌≡◌, ◌<◌, ◌≤◌, length, IfSome, IfNone};
 ghost use Rattle.deck_cases.specs.Asked.{IsOfDeck};
 ghost use Rattle.place_refute.specs.Drawn.{IsDrawn};
-ghost use Rattle.place_refute.specs.Reading.{IsTreeAt, HasNoTreeAt};
-ghost use Rattle.place_refute.specs.Walking.{IsReading, AreChildrenAt, HasNoChildrenAt, IsChildAt, HasNoChildAt};
+ghost use Rattle.place_refute.specs.Walking.{IsReading, IsTreeEnd, HasNoTreeEnd, IsChildrenEnd, HasNoChildrenEnd, IsChildEnd, HasNoChildEnd};
 
 use crate::case::Case;
 use crate::leaf::{Trees, leaf_end};
@@ -30,8 +27,8 @@ pub(crate) fn tree_end(reading: &Reading, case: &mut Case, at: usize) -> Option<
     requires drawn { IsDrawn reading.now.deck.now case.old }
     requires room { length case.old.choices ≤ length reading.now.decisions.now }
     ensures kept { case.new ≡ case.old }
-    ensures some { IfSome result (IsTreeAt reading.now.deck.now reading.now.trees (drop (length case.old.choices) reading.now.decisions.now) case.old.choices reading.now.marks.now at) }
-    ensures none { IfNone result (HasNoTreeAt reading.now.deck.now reading.now.trees (drop (length case.old.choices) reading.now.decisions.now) case.old.choices reading.now.marks.now at) }
+    ensures some { IfSome result (IsTreeEnd reading.now case.old.choices at) }
+    ensures none { IfNone result (HasNoTreeEnd reading.now case.old.choices at) }
 {
     if at >= reading.marks.len() {
         return None;
@@ -53,8 +50,8 @@ fn children_end(reading: &Reading, case: &mut Case, first: usize) -> Option<usiz
     requires room { length case.old.choices < length reading.now.decisions.now }
     requires first { first ≤ length reading.now.marks.now }
     ensures kept { case.new ≡ case.old }
-    ensures some { IfSome result (AreChildrenAt reading.now.deck.now reading.now.trees reading.now.decisions.now case.old.choices reading.now.marks.now first (length (options_of reading.now.deck.now (slice_index_or reading.now.decisions.now (length case.old.choices) (BerthOf 0))))) }
-    ensures none { IfNone result (HasNoChildrenAt reading.now.deck.now reading.now.trees reading.now.decisions.now case.old.choices reading.now.marks.now first) }
+    ensures some { IfSome result (IsChildrenEnd reading.now case.old.choices first) }
+    ensures none { IfNone result (HasNoChildrenEnd reading.now case.old.choices first) }
 {
     let decision = reading.decisions.at(case.len());
     let count = option_count(reading.deck, reading.values, decision);
@@ -77,8 +74,8 @@ fn child_end(reading: &Reading, case: &mut Case, choice: Choice, at: usize) -> O
     requires room { length case.old.choices < length reading.now.decisions.now }
     requires known { IsOfDeck reading.now.deck.now choice }
     ensures kept { case.new ≡ case.old }
-    ensures some { IfSome result (IsChildAt reading.now.deck.now reading.now.trees reading.now.decisions.now case.old.choices reading.now.marks.now choice at) }
-    ensures none { IfNone result (HasNoChildAt reading.now.deck.now reading.now.trees reading.now.decisions.now case.old.choices reading.now.marks.now choice at) }
+    ensures some { IfSome result (IsChildEnd reading.now case.old.choices choice at) }
+    ensures none { IfNone result (HasNoChildEnd reading.now case.old.choices choice at) }
 {
     let choices = case.len();
     let edges = case.edges().len();

@@ -16,7 +16,7 @@ fn edge_at(edges: &[Edge], number: u32) -> Edge
 
 // Whether the edges of these numbers lead from a variable to another, each from where the one
 // before it ends.
-#[tactic(auto, using(crate::proofs::WalkLemmas::leads_unknown, crate::proofs::WalkLemmas::leads_off, crate::proofs::WalkLemmas::leads_on, crate::proofs::WalkLemmas::leads_end))]
+#[tactic(auto, using(crate::proofs::WalkLemmas::of_leads))]
 fn leads_to(edges: &[Edge], from: u8, numbers: &[u32], to: u8) -> bool
     ensures { IsTrue result ↔ LeadsTo edges.now from numbers.now to }
 {

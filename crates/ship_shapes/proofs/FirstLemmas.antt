@@ -98,3 +98,6 @@ row_tells d S b h = (λ yes. jam_row d S (h.0 yes), λ row. h.1 (row_jam d S row
 
 pub column_tells : (d : Deck) (S : List ℕ) (b : Bool) → IsTrue b ↔ IsJam (column_lane d) S → IsTrue b ↔ IsColumn d S
 column_tells d S b h = (λ yes. jam_column d S (h.0 yes), λ column. h.1 (column_jam d S column))
+
+-- what `first_reason` goes by
+pub ruleset of_reasons = (area_first, row_first, column_first, no_first)

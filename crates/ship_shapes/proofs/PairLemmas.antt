@@ -47,3 +47,6 @@ jam_some lane S jam = jam.some
 
 pub jam_long : (lane : Passage) (S : List ℕ) (along : ℕ) → along ≡ along_of lane S → IsJam lane S → lane.reach < along + lane.spare
 jam_long lane S along e jam = let long = jam.long in omega (arith, e, long)
+
+-- what `is_jam` goes by
+pub ruleset of_jams = (jam_whole, jam_some, jam_known, jam_pairs, jam_long)

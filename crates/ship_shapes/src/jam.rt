@@ -64,7 +64,7 @@ fn along_of(lane: &Lane, ships: &[u8]) -> u64
 
 /// Whether ships are a jam of the lane: at least one, no two of which have room beside each other,
 /// and too long one after the other.
-#[tactic(auto, using(crate::proofs::PairLemmas::jam_whole, crate::proofs::PairLemmas::jam_some, crate::proofs::PairLemmas::jam_known, crate::proofs::PairLemmas::jam_pairs, crate::proofs::PairLemmas::jam_long))]
+#[tactic(auto, using(crate::proofs::PairLemmas::of_jams))]
 pub(crate) fn is_jam(lane: &Lane, ships: &Ships) -> bool
     ensures { IsTrue result ↔ IsJam lane.now ships.now }
 {

@@ -47,7 +47,7 @@ fn is_column(deck: &Deck, ships: &Ships) -> bool
 }
 
 // The first quick reason that holds, if there is one.
-#[tactic(auto, using(crate::proofs::FirstLemmas::area_first, crate::proofs::FirstLemmas::row_first, crate::proofs::FirstLemmas::column_first, crate::proofs::FirstLemmas::no_first))]
+#[tactic(auto, using(crate::proofs::FirstLemmas::of_reasons))]
 fn first_reason(deck: &Deck) -> Option<Quick>
     ensures limits { IsDeck deck.now }
     ensures none { IfNone result (HasNoReason deck.now) }
