@@ -10,7 +10,8 @@ use Rattle.closing_rules.specs.ListedPrices.{ArePrices}
 use Rattle.lock_rules.specs.Node.{Node as TreeNode}
 use Rattle.book_rules.specs.Shown.{Shown, IsShown}
 
--- The events; `park` names slot, chamber and place, and carries the deck and the turns of the lent value; `close_price` names slot and prices, and carries what was shown.
+-- The events; `park` names slot, chamber and place, and carries the deck and the turns of the lent value; `close_price` names slot
+-- and prices, and carries what was shown.
 pub data Event : Type 0 where
   take : ℕ → Event
   split : ℕ → Event
@@ -62,7 +63,8 @@ is_acceptance (Replaced cost) = true
 is_acceptance (Released count) = true
 is_acceptance _ = false
 
--- what the caller of an event owes: a worker's number is at most WORKERS, the driver's, a lent deck is hard and spot-hard, a cut's refutation holds, prices are within their limits, and what is shown is reached
+-- what the caller of an event owes: a worker's number is at most WORKERS, the driver's, a lent deck is hard and spot-hard, a cut's
+-- refutation holds, prices are within their limits, and what is shown is reached
 abbrev pub IsOwed : Event → Type 0
 IsOwed (take w) = w ≤ WORKERS
 IsOwed (release w) = w ≤ WORKERS

@@ -29,8 +29,10 @@ abbrev pub closing_of : Book → ℕ → Ground → Event
 closing_of b id (by.Price number) = close_price id number (own_shown b id number)
 closing_of b id why = close id why
 
--- The book after the entries; a post takes the next cut or prices, a replace the next plan, a park the group's deck and the case's turns, and a closing by prices what the book itself says.
-abbrev pub replay_from : {Break : Type 0} → (Instance → Plan → Option Break) → Book → List Entry → List Cut → List Plan → List (List ℕ) → Book
+-- The book after the entries; a post takes the next cut or prices, a replace the next plan, a park the group's deck and the case's
+-- turns, and a closing by prices what the book itself says.
+abbrev pub replay_from :
+    {Break : Type 0} → (Instance → Plan → Option Break) → Book → List Entry → List Cut → List Plan → List (List ℕ) → Book
 replay_from broken b [] cuts plans prices = b
 replay_from broken b (entry.Take w ∷ es) cuts plans prices = replay_from broken (step broken b (take w)).0 es cuts plans prices
 replay_from broken b (entry.Split id ∷ es) cuts plans prices = replay_from broken (step broken b (split id)).0 es cuts plans prices
@@ -46,7 +48,8 @@ replay_from broken b (entry.Replace ∷ es) cuts (plan ∷ plans) prices = repla
 replay_from broken b (entry.Release w ∷ es) cuts plans prices = replay_from broken (step broken b (release w)).0 es cuts plans prices
 
 -- the book that a case and an opening plan give, after this history
-abbrev pub replay : {Break : Type 0} → (Instance → Plan → Option Break) → Case → Plan → List Entry → List Cut → List Plan → List (List ℕ) → Book
+abbrev pub replay :
+    {Break : Type 0} → (Instance → Plan → Option Break) → Case → Plan → List Entry → List Cut → List Plan → List (List ℕ) → Book
 replay broken case plan history cuts plans prices = replay_from broken (opening_book case plan) history cuts plans prices
 
 -- the entries that take a cut, a plan, or prices

@@ -34,7 +34,9 @@ pub record IsSpentGroup (case : Case) (node : Node) (c p : ℕ) : Type 0 where
 -- by the state of a slot, with these cuts, prices and best cost; of Back, Held and Split slots nothing is said
 abbrev pub Tells : Case → List Cut → List (List ℕ) → ℕ → Node → ℕ → SlotState → Type 0
 Tells case cuts prices cost node bound slot.Fresh = bound < cost
-Tells case cuts prices cost node bound (slot.Closed why) = IsClosedBy case.instance (IsHitBy case.instance cuts) (IsPricedBy case.instance (cuts_in case.instance cuts) prices) cost bound node.depth node.lines why
+Tells case cuts prices cost node bound (slot.Closed why) =
+    IsClosedBy case.instance (IsHitBy case.instance cuts) (IsPricedBy case.instance (cuts_in case.instance cuts) prices)
+    cost bound node.depth node.lines why
 Tells case cuts prices cost node bound (slot.Parked c p) = IsSpentGroup case node c p
 Tells case cuts prices cost node bound _ = ⊤
 

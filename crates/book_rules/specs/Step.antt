@@ -1,5 +1,6 @@
 -- The book machine: what each event changes, and what is answered. A refusal changes nothing.
-use Rattle.std.specs.Prelude.{ℕ, suc, Bool, true, false, not, ◌&&◌, ◌||◌, List, [], ◌∷◌, ◌++◌, length, map, slice_index_or, slice_set, slice_get, nat_eq, nat_le, nat_lt, if◌then◌else◌, Some, None}
+use Rattle.std.specs.Prelude.{ℕ, suc, nat_eq, nat_le, nat_lt, Bool, true, false, not, ◌&&◌, ◌||◌, if◌then◌else◌, Some, None}
+use Rattle.std.specs.Prelude.{List, [], ◌∷◌, ◌++◌, length, map, slice_index_or, slice_set, slice_get}
 use Rattle.std.specs.declared.option.Option.{Option}
 use Rattle.std.specs.Cmp.Lexicographic.{pointwise}
 use Rattle.lock_model.specs.Deck.{Deck}
@@ -22,7 +23,10 @@ use Rattle.book_rules.specs.Same.{same_instance, same_node}
 use Rattle.book_rules.specs.Shown.{Shown, are_first_cuts}
 use Rattle.book_rules.specs.Tests.{same_deck, has_clash, is_node_hit, is_own_cut}
 use Rattle.book_rules.specs.Book.{Slot, Book, slot_at, best_cost, new_slot, is_fresh, is_back, is_held, is_held_by, is_parked, has_slot, first_slot, group_at}
-use Rattle.book_rules.specs.Events.{Event, Reply, take, split, close, post, post_prices, close_price, park, replace, release, Node, Made, Closed, Posted, Priced, Parked, Replaced, Released, Ended, Holds, NodesSpent, Idle, Done, NotHeld, Whole, Cheaper, NoHit, OtherDeck, NotLegal, NotCheaper, Absent, Clashes, OtherPrices, NoPrices, NotShown}
+use Rattle.book_rules.specs.Events.{Event, take, split, close, post, post_prices, close_price, park, replace, release}
+use Rattle.book_rules.specs.Events.{Reply, Node, Made, Closed, Posted, Priced, Parked, Replaced, Released}
+use Rattle.book_rules.specs.Events.{Ended, Holds, NodesSpent, Idle, Done, NotHeld, Whole, Cheaper, NoHit, OtherDeck, NotLegal, NotCheaper}
+use Rattle.book_rules.specs.Events.{Absent, Clashes, OtherPrices, NoPrices, NotShown}
 use Rattle.book_rules.specs.NextSlot.{next_fresh}
 use Rattle.book_rules.specs.declared.book.SlotState.TheVariants as slot
 use Rattle.book_rules.specs.declared.book.Entry.TheVariants as entry
@@ -63,7 +67,9 @@ child_slots I cost parent depth number (lines ∷ more) =
     new_slot I cost parent number (record { depth = depth; lines = lines }) ∷ child_slots I cost parent depth (suc number) more
 
 abbrev pub children_in : Book → ℕ → List Slot
-children_in b id = child_slots b.case.instance (best_cost b) id (suc (slot_at b id).node.depth) 0 (children_of b.case.instance (slot_at b id).node.depth (slot_at b id).node.lines)
+children_in b id =
+    child_slots b.case.instance (best_cost b) id (suc (slot_at b id).node.depth) 0
+    (children_of b.case.instance (slot_at b id).node.depth (slot_at b id).node.lines)
 
 -- the slot becomes Split, and its children are appended
 abbrev pub with_children : Book → ℕ → Book

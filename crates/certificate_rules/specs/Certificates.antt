@@ -45,8 +45,10 @@ EndsNode I cost cuts prices k lines mark.Open = ⊤
 abbrev pub IsEndLeaf : (ℕ → List (List Group) → Mark → Type 0) → ℕ → List (List Group) → List Mark → List Mark → Type 0
 IsEndLeaf Ends k lines marks rest = (m : Mark) × Ends k lines m × (marks ≡ m ∷ rest)
 
--- The marks begin with one tree of a node of depth k that lacks so many ships, and the rest follows: a mark that ends it, or, where it lacks a ship, a split mark and trees of all children in order.
-abbrev pub IsMarkTree : Instance → (ℕ → List (List Group) → Mark → Type 0) → ℕ → ℕ → List (List Group) → List Mark → List Mark → Type 0
+-- The marks begin with one tree of a node of depth k that lacks so many ships, and the rest follows: a mark that ends it, or, where
+-- it lacks a ship, a split mark and trees of all children in order.
+abbrev pub IsMarkTree :
+    Instance → (ℕ → List (List Group) → Mark → Type 0) → ℕ → ℕ → List (List Group) → List Mark → List Mark → Type 0
 IsMarkTree I Ends zero k lines marks rest = IsEndLeaf Ends k lines marks rest
 IsMarkTree I Ends (suc lacking) k lines marks rest =
     IsEndLeaf Ends k lines marks rest

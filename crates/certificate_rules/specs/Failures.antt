@@ -33,7 +33,8 @@ reason_of (mark.Leaf why) = ground_reason why
 reason_of mark.Open = reason.SplitFull
 
 -- reading one tree after the other from the marks on, it ends at `stuck` for a reason
-abbrev pub FailInOrder : {X M : Type 0} → (X → List M → List M → Type 0) → (X → List M → List M → Reason → Type 0) → List X → List M → List M → Reason → Type 0
+abbrev pub FailInOrder :
+    {X M : Type 0} → (X → List M → List M → Type 0) → (X → List M → List M → Reason → Type 0) → List X → List M → List M → Reason → Type 0
 FailInOrder Tree Fails [] marks stuck r = ⊥
 FailInOrder {X} {M} Tree Fails (x ∷ xs) marks stuck r =
     Fails x marks stuck r ⊎ ((middle : List M) × Tree x marks middle × FailInOrder Tree Fails xs middle stuck r)
@@ -44,7 +45,8 @@ FailsHere Ends [] stuck r = (stuck ≡ []) × (r ≡ reason.TreeShort)
 FailsHere Ends (m ∷ ms) stuck r = (stuck ≡ m ∷ ms) × (Ends m → ⊥) × (r ≡ reason_of m)
 
 -- Reading a tree of a node of depth k from the marks on, it ends at `stuck` for a reason.
-abbrev pub TreeFails : Instance → (ℕ → List (List Group) → Mark → Type 0) → ℕ → ℕ → List (List Group) → List Mark → List Mark → Reason → Type 0
+abbrev pub TreeFails :
+    Instance → (ℕ → List (List Group) → Mark → Type 0) → ℕ → ℕ → List (List Group) → List Mark → List Mark → Reason → Type 0
 TreeFails I Ends zero k lines marks stuck r = FailsHere (Ends k lines) marks stuck r
 TreeFails I Ends (suc lacking) k lines marks stuck r =
     FailsHere (λ m. Ends k lines m ⊎ (m ≡ mark.Split)) marks stuck r
@@ -75,7 +77,8 @@ pub record PricesFail (I : Instance) (prices : List (List ℕ)) (v : ℕ) (r : R
   pub reason : r ≡ reason.PricesShape
 
 -- The first place and reason at which a certificate fails; `Fail` says it of the marks that are left at the place.
-abbrev pub FailsAt : Instance → ℕ → List CertCut → List (List ℕ) → Plan → List Mark → (List Mark → Reason → Type 0) → FailurePlace → Reason → Type 0
+abbrev pub FailsAt :
+    Instance → ℕ → List CertCut → List (List ℕ) → Plan → List Mark → (List Mark → Reason → Type 0) → FailurePlace → Reason → Type 0
 FailsAt I cost cuts prices plan tree Fail place.Plan r = (IsLegal I plan → ⊥) × (r ≡ reason.PlanIllegal)
 FailsAt I cost cuts prices plan tree Fail place.Cost r = IsLegal I plan × (cost_of I plan ≢ cost) × (r ≡ reason.CostWrong)
 FailsAt I cost cuts prices plan tree Fail (place.Cut c) r = IsLegal I plan × (cost_of I plan ≡ cost) × CutFails I cuts c r

@@ -10,7 +10,8 @@ use Rattle.certificate_rules.specs.Certificates.{Certificate}
 use Rattle.certificate_rules.specs.declared.certificate.Mark.TheVariants as mark
 
 -- the bounds of the open leaves of one tree for each of these nodes, in order
-abbrev pub OpenInOrder : (List (List Group) → List Mark → List Mark → List ℕ → Type 0) → List (List (List Group)) → List Mark → List Mark → List ℕ → Type 0
+abbrev pub OpenInOrder :
+    (List (List Group) → List Mark → List Mark → List ℕ → Type 0) → List (List (List Group)) → List Mark → List Mark → List ℕ → Type 0
 OpenInOrder Tree [] marks rest bounds = (marks ≡ rest) × (bounds ≡ [])
 OpenInOrder Tree (x ∷ xs) marks rest bounds =
     (middle : List Mark) × (first : List ℕ) × (others : List ℕ)

@@ -27,10 +27,14 @@ pub record TreeLaws (I : Instance) : Type 0 where
   pub root : IsNode I 0 root_lines
   pub all : (P : Plan) → IsLegal I P → IsUnder I 0 root_lines P
   pub child : (k : ℕ) (lines : List (List Group)) → IsNode I k lines → k < length I.ships → All (IsNode I (suc k)) (children_of I k lines)
-  pub split : (k : ℕ) (lines : List (List Group)) (P : Plan) → IsNode I k lines → k < length I.ships → IsLegal I P → IsUnder I k lines P → IsUnderSomeChild I k lines P
+  pub split : (k : ℕ) (lines : List (List Group)) (P : Plan)
+      → IsNode I k lines → k < length I.ships → IsLegal I P → IsUnder I k lines P → IsUnderSomeChild I k lines P
   pub bound : (k : ℕ) (lines : List (List Group)) → IsNode I k lines → IsLowerBound I k lines (bound_of I k lines)
   pub throughput : (P : Plan) → IsLegal I P → throughput_of I ≤ cost_of I P
-  pub probe : (k : ℕ) (lines : List (List Group)) (s : ℕ) → IsNode I k lines → Contains (missing_ships I k) s → IsLowerBound I k lines (probe_of I k lines s)
-  pub cut : (c : CertCut) (k : ℕ) (lines : List (List Group)) (P : Plan) → IsProved I c → IsNode I k lines → HitsNode c.ships (deck_of I c.chamber c.ships) I lines → IsLegal I P → IsUnder I k lines P → ⊥
+  pub probe : (k : ℕ) (lines : List (List Group)) (s : ℕ)
+      → IsNode I k lines → Contains (missing_ships I k) s → IsLowerBound I k lines (probe_of I k lines s)
+  pub cut : (c : CertCut) (k : ℕ) (lines : List (List Group)) (P : Plan)
+      → IsProved I c → IsNode I k lines → HitsNode c.ships (deck_of I c.chamber c.ships) I lines → IsLegal I P → IsUnder I k lines P → ⊥
   pub holds : (c : CertCut) → IsProved I c → CutHolds (cut_in I c.chamber c.ships)
-  pub price : (cuts : List PlainCut) (k : ℕ) (lines : List (List Group)) (prices : List ℕ) (cost : ℕ) → All CutHolds cuts → Reaches I cuts k lines prices cost → IsLowerBound I k lines cost
+  pub price : (cuts : List PlainCut) (k : ℕ) (lines : List (List Group)) (prices : List ℕ) (cost : ℕ)
+      → All CutHolds cuts → Reaches I cuts k lines prices cost → IsLowerBound I k lines cost
