@@ -20,7 +20,8 @@ IsAllowed I k n s = (has_number (first_ships I k) s ≡ true) ⊎ (s < n)
 abbrev pub AreBelow : List ℕ → List ℕ → Type 0
 AreBelow prices ceilings = (s : ℕ) → price_at prices s ≤ price_at ceilings s
 
--- The group is the base joined by missing ships of its way with numbers below n; the chamber may serve them together, and no forbidden set is among them. It may be empty where the base is.
+-- The group is the base joined by missing ships of its way with numbers below n; the chamber may serve them
+-- together, and no forbidden set is among them. It may be empty where the base is.
 pub record IsGrown (I : Instance) (c k : ℕ) (sets : List (List ℕ)) (base : Group) (n : ℕ) (g : Group) : Type 0 where
   pub rising : IsStrictlyIncreasing g.ships
   pub known : All (λ s. s < length I.ships) g.ships

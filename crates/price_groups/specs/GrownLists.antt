@@ -12,7 +12,8 @@ use Rattle.price_groups.specs.Sums.{AreSumsOf}
 -- of the first n groups each with its sums
 pub record ArePaired (groups : List Group) (sums : List Sums) (n : ℕ) (pairs : List GrownGroup) : Type 0 where
   pub count : length pairs ≡ n
-  pub each : (j : ℕ) (d : GrownGroup) → j < n → (slice_index_or pairs j d).group ≡ slice_index_or groups j d.group × (slice_index_or pairs j d).sums ≡ slice_index_or sums j d.sums
+  pub each : (j : ℕ) (d : GrownGroup) → j < n
+      → (slice_index_or pairs j d).group ≡ slice_index_or groups j d.group × (slice_index_or pairs j d).sums ≡ slice_index_or sums j d.sums
 
 -- the group has grown from the base by any ships, and its sums are its own
 pub record IsGrownGroup (I : Instance) (c k : ℕ) (sets : List (List ℕ)) (base : Group) (one : GrownGroup) : Type 0 where

@@ -26,10 +26,13 @@ pub record HasMask (masks : List ℕ) (set : List ℕ) : Type 0 where
   pub held : Contains masks mask
   pub is : IsMask mask set
 
--- Masks of sets, and of each of the first i sets that the ship may complete: one that has the ship, no later one that is missing, and ships of the instance alone.
+-- Masks of sets, and of each of the first i sets that the ship may complete: one that has the ship, no later one
+-- that is missing, and ships of the instance alone.
 pub record AreCompletable (I : Instance) (k : ℕ) (sets : List (List ℕ)) (i ship : ℕ) (masks : List ℕ) : Type 0 where
   pub each : All (IsSetMask I sets) masks
-  pub whole : (j : ℕ) (d : List ℕ) → j < i → j < length sets → Contains (slice_index_or sets j d) ship → All (IsAllowed I k (suc ship)) (slice_index_or sets j d) → All (λ s. s < length I.ships) (slice_index_or sets j d) → HasMask masks (slice_index_or sets j d)
+  pub whole : (j : ℕ) (d : List ℕ) → j < i → j < length sets → Contains (slice_index_or sets j d) ship
+      → All (IsAllowed I k (suc ship)) (slice_index_or sets j d) → All (λ s. s < length I.ships) (slice_index_or sets j d)
+      → HasMask masks (slice_index_or sets j d)
 
 -- of the first n ships those that are allowed up to a ship, all of them below 32
 pub record AreAllowed (I : Instance) (k ship n : ℕ) (ships : List ℕ) : Type 0 where
@@ -39,7 +42,8 @@ pub record AreAllowed (I : Instance) (k ship n : ℕ) (ships : List ℕ) : Type 
 -- masks of sets, and of each of the first i sets whose ships are the instance's
 pub record AreMarks (I : Instance) (sets : List (List ℕ)) (i : ℕ) (masks : List ℕ) : Type 0 where
   pub each : All (IsSetMask I sets) masks
-  pub whole : (j : ℕ) (d : List ℕ) → j < i → j < length sets → All (λ s. s < length I.ships) (slice_index_or sets j d) → HasMask masks (slice_index_or sets j d)
+  pub whole : (j : ℕ) (d : List ℕ) → j < i → j < length sets
+      → All (λ s. s < length I.ships) (slice_index_or sets j d) → HasMask masks (slice_index_or sets j d)
 
 -- the set's mask was appended, or its ships aren't the instance's
 abbrev pub IsNoted : Instance → List ℕ → List ℕ → List ℕ → Type 0
@@ -63,15 +67,19 @@ IsPutBetween own early mask old new = (IsBetween own early mask × (new ≡ old 
 -- for each of the first n ships that is missing the masks of the sets that it may complete
 pub record AreAllCompletable (I : Instance) (k : ℕ) (sets : List (List ℕ)) (n : ℕ) (completable : List CompletableSets) : Type 0 where
   pub count : length completable ≡ n
-  pub each : (s : ℕ) (d : CompletableSets) → s < n → is_missing I k s ≡ true → AreCompletable I k sets (length sets) s (slice_index_or completable s d).masks.items
+  pub each : (s : ℕ) (d : CompletableSets) → s < n → is_missing I k s ≡ true
+      → AreCompletable I k sets (length sets) s (slice_index_or completable s d).masks.items
 
 -- whatever sets the masks are of, those that the ship may complete
 abbrev pub AreCompletableOf : Instance → ℕ → List ℕ → ℕ → List ℕ → Type 0
-AreCompletableOf I k marks ship masks = (sets : List (List ℕ)) → AreMarks I sets (length sets) marks → AreCompletable I k sets (length sets) ship masks
+AreCompletableOf I k marks ship masks =
+    (sets : List (List ℕ)) → AreMarks I sets (length sets) marks → AreCompletable I k sets (length sets) ship masks
 
 -- the same, where the ship is missing
 abbrev pub AreCompletableByMissing : Instance → ℕ → List ℕ → ℕ → List ℕ → Type 0
-AreCompletableByMissing I k marks ship masks = (sets : List (List ℕ)) → AreMarks I sets (length sets) marks → is_missing I k ship ≡ true → AreCompletable I k sets (length sets) ship masks
+AreCompletableByMissing I k marks ship masks =
+    (sets : List (List ℕ)) → AreMarks I sets (length sets) marks → is_missing I k ship ≡ true
+    → AreCompletable I k sets (length sets) ship masks
 
 -- the same of what groups are asked by
 abbrev pub AreCompletableIn : GroupAsk → ℕ → List ℕ → Type 0

@@ -40,13 +40,15 @@ AtMost None v = ⊥
 AtMost (Some a) v = a ≤ℤ v
 
 -- some loose line is worth this
-pub record IsWorth (I : Instance) (c : ℕ) (cuts : List PlainCut) (k : ℕ) (prices : List ℕ) (stand : Stand) (from : ℕ) (line : List Group) (v : ℤ) : Type 0 where
+pub record IsWorth (I : Instance) (c : ℕ) (cuts : List PlainCut) (k : ℕ) (prices : List ℕ)
+    (stand : Stand) (from : ℕ) (line : List Group) (v : ℤ) : Type 0 where
   pub loose : List Group
   pub is_loose : IsLoose I c cuts k line loose
   pub worth : worth_from I c k prices stand from loose ≡ v
 
 -- The least worth of the loose lines from this state on; nothing where there is no loose line.
-pub record IsLeastWorth (I : Instance) (c : ℕ) (cuts : List PlainCut) (k : ℕ) (prices : List ℕ) (stand : Stand) (from : ℕ) (line : List Group) (least : Option ℤ) : Type 0 where
+pub record IsLeastWorth (I : Instance) (c : ℕ) (cuts : List PlainCut) (k : ℕ) (prices : List ℕ)
+    (stand : Stand) (from : ℕ) (line : List Group) (least : Option ℤ) : Type 0 where
   pub below : (loose : List Group) → IsLoose I c cuts k line loose → AtMost least (worth_from I c k prices stand from loose)
   pub reached : MatchOption least ⊤ (IsWorth I c cuts k prices stand from line)
 
@@ -63,7 +65,8 @@ IsLateBy I k prices s minute = is_missing I k s ≡ true → price_at prices s +
 pub record IsHorizon (I : Instance) (k : ℕ) (prices : List ℕ) (horizon : ℕ) : Type 0 where
   pub late : (s : ℕ) → s < length I.ships → IsLateBy I k prices s horizon
 
--- The ships hs serve as well as the ships gs: they are no more and keep the same ships, arrive no later, take no longer, and pay no less, with 100 for each minute of their arrivals.
+-- The ships hs serve as well as the ships gs: they are no more and keep the same ships, arrive no later, take no
+-- longer, and pay no less, with 100 for each minute of their arrivals.
 pub record ServeAsWell (I : Instance) (k : ℕ) (prices : List ℕ) (hs gs : List ℕ) : Type 0 where
   pub count : length hs ≤ length gs
   pub same : filter (has_number (first_ships I k)) hs ≡ filter (has_number (first_ships I k)) gs
@@ -75,9 +78,11 @@ pub record ServeAsWell (I : Instance) (k : ℕ) (prices : List ℕ) (hs gs : Lis
 abbrev pub soonest_of : Instance → ℕ → ℕ → List ℕ → ℕ
 soonest_of I c from ss = max from (last_arrival I 0 ss) + duration_of I c ss
 
--- The same from a minute on, where arrivals until then make no difference, and whatever ships they keep; they may pay less by what the ships that the others have more are worth at their soonest end.
+-- The same from a minute on, where arrivals until then make no difference, and whatever ships they keep; they may
+-- pay less by what the ships that the others have more are worth at their soonest end.
 pub record ServeFrom (I : Instance) (c k : ℕ) (prices : List ℕ) (from : ℕ) (hs gs : List ℕ) : Type 0 where
   pub count : length hs ≤ length gs
   pub early : last_arrival I 0 hs ≤ max from (last_arrival I 0 gs)
   pub quick : sum_by (λ s. (ship_at I s).handling) hs ≤ sum_by (λ s. (ship_at I s).handling) gs
-  pub pays : paid_on I k prices gs + 100 * arrivals_of I gs + 100 * (length hs * soonest_of I c from gs) ≤ paid_on I k prices hs + 100 * arrivals_of I hs + 100 * (length gs * soonest_of I c from gs)
+  pub pays : paid_on I k prices gs + 100 * arrivals_of I gs + 100 * (length hs * soonest_of I c from gs)
+      ≤ paid_on I k prices hs + 100 * arrivals_of I hs + 100 * (length gs * soonest_of I c from gs)

@@ -1,7 +1,8 @@
 //! Ship sets as numbers, so that a group is held against many of them fast.
 ghost use Rattle.std.specs.Prelude.{ℕ, ◌≡◌, ◌+◌, ◌<◌, ◌↔◌, true, List, length, All, IsTrue, IfOk, OnOk, bit_and};
 ghost use Rattle.lock_rules.specs.Children.{insert_number};
-ghost use Rattle.price_groups.specs.Masks.{IsMask, AreAllowed, AreMarks, IsNoted, IsBetween, AreHaving, IsPutBetween, AreAllCompletable, AreCompletableOf, AreCompletableByMissing};
+ghost use Rattle.price_groups.specs.Masks.{IsMask, AreAllowed, AreMarks, IsNoted, IsBetween, AreHaving, IsPutBetween};
+ghost use Rattle.price_groups.specs.Masks.{AreAllCompletable, AreCompletableOf, AreCompletableByMissing};
 
 use crate::completable_sets::CompletableSets;
 use crate::forbidden::are_known;
@@ -175,7 +176,7 @@ pub fn completable_by_ship(
     case: &LineCase,
     sets: &[Ships],
 ) -> Result<Vec<CompletableSets>, PriceError>
-    ensures { IfOk result (λ completable. AreAllCompletable case.now.instance.now case.now.depth sets.now (length case.now.instance.now.ships) completable.items) }
+    ensures { IfOk result (λ all. AreAllCompletable case.now.instance.now case.now.depth sets.now (length case.now.instance.now.ships) all.items) }
 {
     let marks = marks(alloc, case.instance, sets)?;
     let mut completable = Vec::new(alloc);

@@ -71,7 +71,7 @@ made-next successors late_lists n successor_lists successor_list is are = record
   ];
 }
 
--- the successor lists that are looked at in a minute are those that may come next at its place
+-- the successors that are looked at in a minute are those that may come next at its place
 list-for : (p minute : ℕ) (late_lists fors : List LateList) (successors own : List Successor) → length fors ≡ length late_lists → ((j : ℕ) (d e : LateList) → j < length late_lists → IsLateListFor p (slice_index_or late_lists j d) (slice_index_or fors j e))
     → AreFor p successors own → AreFor p (list_at successors late_lists minute) (list_at own fors minute)
 list-for p minute [] [] successors own count each are = are

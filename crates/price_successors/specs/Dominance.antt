@@ -8,7 +8,8 @@ use Rattle.price_groups.specs.Asks.{LineAsk, group_worth}
 use Rattle.price_groups.specs.Worth.{ServeFrom}
 use Rattle.price_successors.specs.Successors.{IsSuccessor}
 
--- The successor joins the same group as the other, has its way, and is no more ships, arrives no later, takes no longer and pays no less.
+-- The successor joins the same group as the other, has its way, and is no more ships, arrives no later, takes no
+-- longer and pays no less.
 pub record Dominates (other successor : Successor) : Type 0 where
   pub joins : other.joins ≡ successor.joins
   pub way : other.group.way ≡ successor.group.way
@@ -21,7 +22,8 @@ pub record Dominates (other successor : Successor) : Type 0 where
 abbrev pub soonest : ℕ → Successor → ℕ
 soonest late successor = max late successor.last + successor.duration
 
--- What the successor pays more than the other is no more than what its further ships are worth at its soonest end from the minute on.
+-- What the successor pays more than the other is no more than what its further ships are worth at its soonest end
+-- from the minute on.
 abbrev pub PaysEnough : ℕ → Successor → Successor → Type 0
 PaysEnough late other successor =
     successor.pays + 100 * (length other.group.ships * soonest late successor) ≤ other.pays + 100 * (length successor.group.ships * soonest late successor)
@@ -30,7 +32,8 @@ PaysEnough late other successor =
 abbrev pub PaysLittle : ℕ → Successor → Type 0
 PaysLittle late successor = (successor.joins ≡ None) × (successor.pays ≤ 100 * (length successor.group.ships * soonest late successor))
 
--- The successor joins the same group as the other, has its way, and is no more ships, arrives no later or by the minute, and takes no longer; it may pay less by what the other's further ships are worth at its soonest end.
+-- The successor joins the same group as the other, has its way, and is no more ships, arrives no later or by the
+-- minute, and takes no longer; it may pay less by what the other's further ships are worth at its soonest end.
 pub record DominatesLate (late : ℕ) (other successor : Successor) : Type 0 where
   pub joins : other.joins ≡ successor.joins
   pub way : other.group.way ≡ successor.group.way

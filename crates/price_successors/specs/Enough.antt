@@ -28,20 +28,24 @@ pub record HavePut (L : LineAsk) (more : List Successor) (i : ℕ) (old new : Li
 
 -- a successor of the group was put to the others or is served by one, or the group is empty or gains nothing
 pub record PutsGroup (L : LineAsk) (to : Option ℕ) (g : Group) (old new : List Successor) : Type 0 where
-  pub puts : ((length g.ships ≡ 0) × (new ≡ old)) ⊎ ((successor : Successor) × (successor.joins ≡ to) × (successor.group ≡ g) × HasOne L successor old new) ⊎ (IsGainless L 0 to g × (new ≡ old))
+  pub puts : ((length g.ships ≡ 0) × (new ≡ old))
+      ⊎ ((successor : Successor) × (successor.joins ≡ to) × (successor.group ≡ g) × HasOne L successor old new)
+      ⊎ (IsGainless L 0 to g × (new ≡ old))
 
 -- the same said of the first i of the grown groups
 pub record HaveSome (L : LineAsk) (to : Option ℕ) (groups : List GrownGroup) (i : ℕ) (old new : List Successor) : Type 0 where
   pub each : All (IsSuccessor L) new
   pub kept : (h : Successor) → Contains old h → Contains new h
-  pub done : (j : ℕ) (d : GrownGroup) → j < i → j < length groups → 1 ≤ length (slice_index_or groups j d).group.ships → IsDominatedOrGainless L new to (slice_index_or groups j d).group
+  pub done : (j : ℕ) (d : GrownGroup) → j < i → j < length groups → 1 ≤ length (slice_index_or groups j d).group.ships
+      → IsDominatedOrGainless L new to (slice_index_or groups j d).group
 
 -- These successors are enough for the line: they cover each uncut group.
 pub record AreEnoughSuccessors (L : LineAsk) (successors : List Successor) : Type 0 where
   pub each : All (IsSuccessor L) successors
   pub whole : (to : Option ℕ) (g : Group) → IsUncutIn L g → Keeps L to g → IsDominatedOrGainless L successors to g
 
--- After the first i places of the line: the successors are right, and they cover each uncut group that keeps none of the line's groups, or the one at one of these places.
+-- After the first i places of the line: the successors are right, and they cover each uncut group that keeps none
+-- of the line's groups, or the one at one of these places.
 pub record AreEnoughSuccessorsSoFar (L : LineAsk) (i : ℕ) (successors : List Successor) : Type 0 where
   pub each : All (IsSuccessor L) successors
   pub free : (g : Group) → IsUncutIn L g → Keeps L None g → IsDominatedOrGainless L successors None g
@@ -57,7 +61,8 @@ pub record HaveEarly (L : LineAsk) (to : Option ℕ) (base : Group) (all earlies
 abbrev pub AreEarlyMore : LineAsk → Option ℕ → Group → List Successor → List Successor → Type 0
 AreEarlyMore L to base old new = (all : List Successor) → All (IsSuccessor L) all → AreLate L 0 all old → HaveEarly L to base all new
 
--- After the first i places of the line: some successors cover what `AreEnoughSuccessorsSoFar` says, and these ones cover those successors from minute 0 on.
+-- After the first i places of the line: some successors cover what `AreEnoughSuccessorsSoFar` says, and these ones
+-- cover those successors from minute 0 on.
 pub record AreSomeEarly (L : LineAsk) (i : ℕ) (earlies : List Successor) : Type 0 where
   pub successors : List Successor
   pub some : AreEnoughSuccessorsSoFar L i successors

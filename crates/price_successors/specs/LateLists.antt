@@ -10,7 +10,8 @@ use Rattle.price_successors.specs.Enough.{AreEnoughSuccessors}
 abbrev pub IsLateList : LineAsk → List Successor → LateList → Type 0
 IsLateList L successors late_list = AreLate L late_list.from successors late_list.successors.items
 
--- the successors that are looked at in a state of this minute: those of the last late list that has begun, and before all late lists the first ones
+-- the successors that are looked at in a state of this minute: those of the last late list that has begun, and
+-- before all late lists the first ones
 abbrev pub list_at : List Successor → List LateList → ℕ → List Successor
 list_at successors [] minute = successors
 list_at successors (late_list ∷ late_lists) minute = list_at (cond (nat_lt minute late_list.from) successors late_list.successors.items) late_lists minute

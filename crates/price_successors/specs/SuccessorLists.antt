@@ -38,7 +38,8 @@ pub record AreMade (successors : List Successor) (late_lists : List LateList) (n
 
 -- the successors that are looked at in a state of a place and a minute
 abbrev pub list_of : List SuccessorList → SuccessorList → ℕ → ℕ → List Successor
-list_of successor_lists e p minute = list_at (slice_index_or successor_lists p e).successors.items (slice_index_or successor_lists p e).late_lists.items minute
+list_of successor_lists e p minute =
+    list_at (slice_index_or successor_lists p e).successors.items (slice_index_or successor_lists p e).late_lists.items minute
 
 -- the successor lists of all places of a line, made of successors that are enough for it
 pub record AreSuccessorLists (L : LineAsk) (successor_lists : List SuccessorList) : Type 0 where
