@@ -57,3 +57,12 @@ module _ (case : List Choice) (i j : ℕ) where
     where
       nothing : Contains [] (Before i j) → ⊥
       nothing o = let short : o.0 < 0 = o.1 in omega (arith, short)
+
+-- what `do_overlap` goes by
+pub ruleset of_overlaps = (overlap_yes, overlap_no, overlap_first, overlap_second)
+
+-- what `share_host` goes by
+pub ruleset of_hosts = (host_yes, host_no, host_first, host_second)
+
+-- what `has_order` goes by
+pub ruleset of_orders = (order_begun, order_passed, order_found, order_absent)

@@ -182,3 +182,9 @@ start_below d case xs at = record { below = λ x o. record { most = λ i known. 
 pub start_no_places : (d : Deck) (case : List Choice) (xs : List ℕ) → ((i : ℕ) → i < length d.ships → x_at xs i ≡ d.end) → (AreFirstInside d xs (length d.ships) → ⊥) → HasPlaces d case → ⊥
 start_no_places d case xs at out h =
     out (record { inside = λ i known. let e = at i known in let near = (h.obey.inside i known).0 in let far = (h.obey.inside i known).1 in (omega (arith, e), omega (arith, e, near, far)) })
+
+-- what `first_order_raise` goes by
+pub ruleset of_orders = (choice_known, choice_of_case, orders_begun, orders_more, orders_whole)
+
+-- what `settle` goes by
+pub ruleset of_places = (settled_places, no_places, raised_below, raised_inside, raised_less)

@@ -74,3 +74,6 @@ module _ (d : Deck) (marks : List ℕ) where
 pub tree_told : {E : Type 0} (d : Deck) (marks : List ℕ) (r : Result Bool E) → IsDeck d → IfOk r (λ b. IsTrue b ↔ IsBerthTree d marks) → IfOk r (λ b. IsTrue b → Fits d → ⊥)
 tree_told d marks (Ok b) good h = λ yes' fits. berth_tree-unfit d marks good (h.0 yes') fits
 tree_told d marks (Err e) good h = tt
+
+-- what `is_walked` goes by
+pub ruleset of_walks = (walk_begun, walk_read, walk_fails, walk_whole, walk_left)

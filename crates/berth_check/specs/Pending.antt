@@ -1,11 +1,13 @@
 -- What is still to be read of a berth tree.
-use Rattle.std.specs.Prelude.{ℕ, ◌≡◌, ◌≤◌, ◌<◌, ◌↔◌, Bool, true, false, List, [], ◌∷◌, ◌++◌, length, drop, take, map, nat_eq, if◌then◌else◌, Some, None}
+use Rattle.std.specs.Prelude.{ℕ, ◌≡◌, ◌≤◌, ◌<◌, ◌↔◌, Bool, true, false, nat_eq, if◌then◌else◌, Some, None}
+use Rattle.std.specs.Prelude.{List, [], ◌∷◌, ◌++◌, length, drop, take, map, flat_map}
 use Rattle.std.specs.declared.option.Option.{Option}
 use Rattle.lock_model.specs.Deck.{Deck}
 use Rattle.lock_model.specs.declared.placement.Rank.{Rank}
 use Rattle.lock_model.specs.declared.placement.Rank.TheVariants.{Left, Right}
 use Rattle.lock_model.specs.declared.placement.Moor.{Moor}
 use Rattle.lock_model.specs.declared.placement.Moor.TheVariants.{Ship}
+use Rattle.lock_rules.specs.Arrival.{numbers_from}
 use Rattle.refute_rules.specs.declared.choices.Choice.{Choice}
 use Rattle.refute_rules.specs.declared.choices.Choice.TheVariants.{Lies}
 use Rattle.refute_rules.specs.Trees.{AreInOrder}
@@ -48,6 +50,10 @@ with_berth case ship rank moor = case ++ Lies ship (record { rank = rank; moor =
 -- the case with a ship at another one, left and right
 abbrev pub host_cases : List Choice → ℕ → ℕ → List (List Choice)
 host_cases case ship host = if nat_eq host ship then [] else (with_berth case ship Left (Ship host) ∷ with_berth case ship Right (Ship host) ∷ [])
+
+-- the case with a ship at each other ship of the deck, left and right
+abbrev pub all_host_cases : Deck → List Choice → ℕ → List (List Choice)
+all_host_cases d case ship = flat_map (host_cases case ship) (numbers_from 0 (length d.ships))
 
 -- what was read leaves these cases and this place of the marks
 pub record IsRead (d : Deck) (old new : List (List Choice)) (marks : List ℕ) (at end : ℕ) : Type 0 where

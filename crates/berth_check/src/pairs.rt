@@ -19,7 +19,7 @@ fn are_passing(deck: &Deck, i: u32, p: i64, j: u32, q: i64) -> bool
 }
 
 /// Whether two ships have a known y and neither lies below the other.
-#[tactic(auto, using(crate::proofs::PairLemmas::overlap_yes, crate::proofs::PairLemmas::overlap_no, crate::proofs::PairLemmas::overlap_first, crate::proofs::PairLemmas::overlap_second))]
+#[tactic(auto, using(crate::proofs::PairLemmas::of_overlaps))]
 pub fn do_overlap(deck: &Deck, choices: &[Choice], i: u32, j: u32) -> bool
     ensures { IsTrue result ↔ DoOverlap deck.now choices.now i j }
 {
@@ -30,7 +30,7 @@ pub fn do_overlap(deck: &Deck, choices: &[Choice], i: u32, j: u32) -> bool
 }
 
 // Whether two ships have the same decided host.
-#[tactic(auto, using(crate::proofs::PairLemmas::host_yes, crate::proofs::PairLemmas::host_no, crate::proofs::PairLemmas::host_first, crate::proofs::PairLemmas::host_second))]
+#[tactic(auto, using(crate::proofs::PairLemmas::of_hosts))]
 fn share_host(choices: &[Choice], i: u32, j: u32) -> bool
     ensures { IsTrue result ↔ ShareHost choices.now i j }
 {
@@ -59,7 +59,7 @@ fn is_order(choice: &Choice, i: u32, j: u32) -> bool
 }
 
 // Whether the order of the first before the second stands in the case.
-#[tactic(auto, using(crate::proofs::PairLemmas::order_begun, crate::proofs::PairLemmas::order_passed, crate::proofs::PairLemmas::order_found, crate::proofs::PairLemmas::order_absent))]
+#[tactic(auto, using(crate::proofs::PairLemmas::of_orders))]
 fn has_order(choices: &[Choice], i: u32, j: u32) -> bool
     ensures { IsTrue result ↔ HasOrder choices.now i j }
 {

@@ -1,8 +1,7 @@
 //! The cases whose trees are still to be read: the case at hand, and those after it.
-ghost use Rattle.std.specs.Prelude.{◌≡◌, [], ◌∷◌, ◌++◌, length, flat_map, IfOk, OnOk};
-ghost use Rattle.lock_rules.specs.Arrival.{numbers_from};
+ghost use Rattle.std.specs.Prelude.{◌≡◌, [], ◌∷◌, ◌++◌, IfOk, OnOk};
 ghost use Rattle.refute_rules.specs.BerthTrees.{OfBerth, OfOrder};
-ghost use Rattle.berth_check.specs.Pending.{extensions, host_cases, with_berth, IsAdvanced};
+ghost use Rattle.berth_check.specs.Pending.{extensions, host_cases, all_host_cases, with_berth, IsAdvanced};
 
 use crate::case::BerthCase;
 use deck_cases::{Berth, Choice};
@@ -107,7 +106,7 @@ fn push_host(pending: &mut Pending, ship: u8, host: u8) -> Result<(), NoMemory>
 #[tactic(auto, using(crate::proofs::PendingLemmas::hosts_begun, crate::proofs::PendingLemmas::hosts_more, crate::proofs::PendingLemmas::hosts_done))]
 fn push_hosts(pending: &mut Pending, deck: &Deck, ship: u8) -> Result<(), NoMemory>
     ensures case { OnOk result (pending.new.case ≡ pending.old.case) }
-    ensures others { OnOk result (pending.new.others ≡ flat_map (host_cases pending.old.case ship) (numbers_from 0 (length deck.now.ships)) ++ pending.old.others) }
+    ensures others { OnOk result (pending.new.others ≡ all_host_cases deck.now pending.old.case ship ++ pending.old.others) }
 {
     let mut host = deck.ships.as_slice().len() as u8;
     while host > 0 {

@@ -2,7 +2,8 @@
 ghost use Rattle.std.specs.Prelude.{◌≡◌, ◌+◌, ◌<◌, ◌≤◌, ◌↔◌, Some, length, IsTrue, IfSome, IfNone};
 ghost use Rattle.refute_rules.specs.SpotFaults.{IsInsideAlong};
 ghost use Rattle.refute_rules.specs.BerthCases.{host_in};
-ghost use Rattle.berth_check.specs.Raises.{AreKnown, IsKnownChoice, IsOf, IsForced, IsHostObeyed, IsOrderObeyed, AreHostsObeyed, AreOrdersObeyed, AreSettled, AreBelow, AreFirstInside, HasPlaces};
+ghost use Rattle.berth_check.specs.Raises.{AreKnown, IsKnownChoice, IsOf, IsForced, IsHostObeyed, IsOrderObeyed, AreHostsObeyed, AreOrdersObeyed};
+ghost use Rattle.berth_check.specs.Raises.{AreSettled, AreBelow, AreFirstInside, HasPlaces};
 
 use deck_cases::{Choice, host_of, length_of};
 use lock_model::{Deck, MOST};
@@ -111,7 +112,7 @@ fn first_host_raise(deck: &Deck, choices: &[Choice], places: &[u32]) -> Option<R
 }
 
 // The first raise that an order asks.
-#[tactic(auto, using(crate::proofs::RaiseLemmas::choice_known, crate::proofs::RaiseLemmas::choice_of_case, crate::proofs::RaiseLemmas::orders_begun, crate::proofs::RaiseLemmas::orders_more, crate::proofs::RaiseLemmas::orders_whole))]
+#[tactic(auto, using(crate::proofs::RaiseLemmas::of_orders))]
 fn first_order_raise(deck: &Deck, choices: &[Choice], places: &[u32]) -> Option<Raise>
     requires known { AreKnown deck.now choices.now }
     requires count { length places.now ≡ MOST }
@@ -165,7 +166,7 @@ fn are_inside(deck: &Deck, places: &[u32]) -> bool
     true
 }
 
-#[tactic(auto, using(crate::proofs::RaiseLemmas::settled_places, crate::proofs::RaiseLemmas::no_places, crate::proofs::RaiseLemmas::raised_below, crate::proofs::RaiseLemmas::raised_inside, crate::proofs::RaiseLemmas::raised_less))]
+#[tactic(auto, using(crate::proofs::RaiseLemmas::of_places))]
 // Raises places until they obey the case, or until a ship isn't inside.
 fn settle(deck: &Deck, choices: &[Choice], places: &mut [u32]) -> bool
     requires known { AreKnown deck.now choices.now }

@@ -39,7 +39,7 @@ fn step(
 }
 
 // Whether the marks are exactly one tree of the case that decides nothing.
-#[tactic(auto, using(crate::proofs::StepLemmas::walk_begun, crate::proofs::StepLemmas::walk_read, crate::proofs::StepLemmas::walk_fails, crate::proofs::StepLemmas::walk_whole, crate::proofs::StepLemmas::walk_left))]
+#[tactic(auto, using(crate::proofs::StepLemmas::of_walks))]
 fn is_walked(alloc: Global, deck: &Deck, marks: &[u32]) -> Result<bool, NoMemory>
     ensures { IfOk result (λ b. IsTrue b ↔ IsBerthTree deck.now marks.now) }
 {

@@ -4,7 +4,8 @@ use Rattle.lock_model.specs.Deck.{Deck}
 use Rattle.refute_rules.specs.declared.choices.Choice.{Choice}
 use Rattle.refute_rules.specs.Decided.{x_in}
 use Rattle.refute_rules.specs.Known.{y_in}
-use Rattle.refute_rules.specs.SpotFaults.{AreTouching, SpotFault as Fault, OtherRank as AtOtherRank, LeadsBack as Back, Outside as NotInside, PastHost as Past, Touching as NotApart}
+use Rattle.refute_rules.specs.SpotFaults.{AreTouching, SpotFault as Fault}
+use Rattle.refute_rules.specs.SpotFaults.{OtherRank as AtOtherRank, LeadsBack as Back, Outside as NotInside, PastHost as Past, Touching as NotApart}
 use Rattle.spot_place.specs.declared.faults.SpotFault.{SpotFault}
 use Rattle.spot_place.specs.declared.faults.SpotFault.TheVariants.{OtherRank, LeadsBack, Outside, PastHost, Touching}
 use Rattle.spot_place.specs.declared.geometry.Position.{Position}

@@ -1,8 +1,11 @@
 -- What is kept of a spot case while the search goes through them.
-use Rattle.std.specs.Prelude.{ℕ, suc, ◌≡◌, ◌≤◌, ℤ, List, [], length, take, slice_index_or}
+use Rattle.std.specs.Prelude.{ℕ, suc, ◌≡◌, ◌≤◌, ℤ, List, [], ◌∷◌, ◌++◌, length, take, slice_index_or}
 use Rattle.std.specs.declared.option.Option.{Option}
 use Rattle.lock_model.specs.Deck.{Deck, IsDeck}
+use Rattle.refute_rules.specs.declared.choices.Decision.{Decision}
 use Rattle.refute_rules.specs.declared.choices.Choice.{Choice}
+use Rattle.refute_rules.specs.declared.choices.Choice.TheVariants.{Before}
+use Rattle.refute_rules.specs.Choices.{options_of}
 use Rattle.refute_rules.specs.Values.{spot_values}
 use Rattle.refute_rules.specs.Spots.{IsListed}
 use Rattle.refute_rules.specs.declared.choices.Berth.{Berth}
@@ -17,6 +20,10 @@ pub record OnWay : Type 0 where
 
 abbrev pub case_on : OnWay → List Choice
 case_on s = case_of s.berths s.places
+
+-- the case with an option of a decision
+abbrev pub with_choice : OnWay → Decision → ℕ → List Choice
+with_choice s decision option = case_on s ++ slice_index_or (options_of s.deck decision) option (Before 0 0) ∷ []
 
 -- berths and places that go in step, of ships of the deck, in a listed spot case
 pub record IsOnWay (d : Deck) (berths : List Berth) (places : List ℕ) : Type 0 where

@@ -1,11 +1,9 @@
 //! The options of the next spot decision.
-ghost use Rattle.std.specs.Prelude.{◌≡◌, ◌*◌, ◌<◌, ◌++◌, ◌∷◌, [], length, suc, slice_index_or};
+ghost use Rattle.std.specs.Prelude.{◌≡◌, ◌*◌, ◌<◌, length, suc};
 ghost use Rattle.refute_rules.specs.declared.choices.Decision.TheVariants.{BerthOf, XOf};
-ghost use Rattle.refute_rules.specs.declared.choices.Choice.TheVariants.{Before};
-ghost use Rattle.refute_rules.specs.Choices.{options_of};
 ghost use Rattle.refute_rules.specs.SpotFaults.{IsFaultless};
 ghost use Rattle.refute_rules.specs.Values.{spot_values};
-ghost use Rattle.spot_place.specs.SpotCase.{case_on};
+ghost use Rattle.spot_place.specs.SpotCase.{case_on, with_choice};
 
 use crate::spot_case::SpotCase;
 use deck_cases::berth_option;
@@ -25,7 +23,7 @@ impl SpotCase {
         requires good { IsFaultless self.old.deck (case_on self.old) }
         requires option { option < 2 * length self.old.deck.ships }
         ensures deck { self.new.deck ≡ self.old.deck }
-        ensures case { case_on self.new ≡ case_on self.old ++ slice_index_or (options_of self.old.deck (BerthOf (length self.old.berths))) option (Before 0 0) ∷ [] }
+        ensures case { case_on self.new ≡ with_choice self.old (BerthOf (length self.old.berths)) option }
     {
         let ship = self.berths.len() as u8;
         self.moor(berth_option(self.ships(), ship, option));
@@ -37,7 +35,7 @@ impl SpotCase {
         requires good { IsFaultless self.old.deck (case_on self.old) }
         requires option { option < length (spot_values self.old.deck) }
         ensures deck { self.new.deck ≡ self.old.deck }
-        ensures case { case_on self.new ≡ case_on self.old ++ slice_index_or (options_of self.old.deck (XOf (length self.old.places))) option (Before 0 0) ∷ [] }
+        ensures case { case_on self.new ≡ with_choice self.old (XOf (length self.old.places)) option }
     {
         let x = self.values.as_slice()[option as usize];
         self.place(x);
