@@ -4,3 +4,4 @@ pub mod OverLemmas
 pub mod FirstLemmas
 pub mod DominanceLemmas
 pub mod GoingLemmas
+pub mod CoverLemmas
