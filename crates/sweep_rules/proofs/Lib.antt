@@ -5,3 +5,6 @@ pub mod FirstLemmas
 pub mod DominanceLemmas
 pub mod GoingLemmas
 pub mod CoverLemmas
+pub mod FlowLemmas
+pub mod MissingLemmas
+pub mod GainLemmas
