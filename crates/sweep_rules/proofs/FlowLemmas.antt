@@ -74,3 +74,9 @@ module _ (I : Instance) (c : ℕ) (known : c < length I.chambers) where
       let own = sum_by-le-sum_by (λ s. end - (ship_at I s).arrival) (λ s. done - (ship_at I s).arrival) g.ships (λ s. omega arith) in
       let rest = flow-later (stand_after g.way) end done gs (omega arith) in
       omega (arith, own, rest)
+
+  -- nor where both are told by way
+  pub flow-minutes : (ready later : Way → ℕ) (gs : List Group) → ((g : Group) (rest : List Group) → gs ≡ g ∷ rest → ready g.way ≤ later g.way)
+      → flow_of I gs (timetable_after I c ready gs) ≤ flow_of I gs (timetable_after I c later gs)
+  flow-minutes ready later [] less = omega arith
+  flow-minutes ready later (g ∷ gs) less = flow-later (stand_before g.way) (ready g.way) (later g.way) (g ∷ gs) (less g gs refl)

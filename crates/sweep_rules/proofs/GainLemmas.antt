@@ -1,5 +1,5 @@
 -- A label whose bound by prices is above the goal has no completion of a total below it.
-use Rattle.std.proofs.Common.{◌≡◌, ◌≢◌, ℕ, zero, suc, ◌+◌, ◌-◌, ◌*◌, ◌<◌, ◌≤◌, max, ◌||◌, not, nat_eq, Bool, true, false, cond, List, [], ◌∷◌, ◌++◌, length, All, sum_by, filter, inl, inr, refl, sym, ap, ◌∙◌, subst, arith}
+use Rattle.std.proofs.Common.{◌≡◌, ◌≢◌, ℕ, zero, suc, ◌+◌, ◌-◌, ◌*◌, ◌<◌, ◌≤◌, max, ◌||◌, not, nat_eq, Bool, true, false, cond, List, [], ◌∷◌, ◌++◌, length, All, sum_by, filter, inl, inr, refl, sym, ap, ◌∙◌, subst, arith, slice_index_or}
 use Rattle.std.specs.List.{flat_map}
 use Rattle.std.proofs.lemmas.Bool.Decides.{eqb_tells, leb_tells}
 use Rattle.std.proofs.lemmas.List.Sums.{sum_by-cons, sum_by-append, sum_by-le-sum_by}
@@ -12,7 +12,7 @@ use Rattle.lock_model.specs.declared.way.Stand.{Stand}
 use Rattle.lock_rules.specs.Lawful.{IsLawfulStart, AreLawfulFrom, IsFree, duration_of, stand_before, stand_after}
 use Rattle.lock_rules.specs.Timetable.{ready_at, last_arrival, first_free, start_of, timetable_from, starts_of}
 use Rattle.lock_rules.specs.Plan.{times_in}
-use Rattle.lock_rules.specs.Trace.{has_number, trace_of}
+use Rattle.lock_rules.specs.Trace.{has_number, trace_of, with_group}
 use Rattle.lock_rules.specs.Arrival.{numbers_from, first_ships}
 use Rattle.lock_rules.specs.Node.{times_on}
 use Rattle.lock_rules.specs.Bound.{flow_of}
@@ -20,7 +20,10 @@ use Rattle.lock_rules.proofs.FreeLemmas.{first_free-least}
 use Rattle.lock_rules.proofs.TimetableLemmas.{closures_kept, ready_at-mono, start_of-least, start_of-lawful, last_arrival-least, timetable-lawful}
 use Rattle.lock_rules.proofs.CountLemmas.{sum_by-counts, times_in-append, times_in-between, times_in-above, times_in-outside}
 use Rattle.lock_rules.proofs.LeafLemmas.{sum_by-flat_map}
-use Rattle.lock_rules.proofs.TreeLemmas.{times_in-hit, times_in-miss}
+use Rattle.lock_rules.proofs.LeafLemmas.{has_number-some}
+use Rattle.lock_rules.proofs.SplitLemmas.{All-times, has_number-none, RisesFrom-increasing}
+use Rattle.lock_rules.proofs.TreeLemmas.{times_in-hit, times_in-miss, low-times_in}
+use Rattle.lock_model.specs.Ships.{RisesFrom}
 use Rattle.lock_rules.proofs.LineLemmas.{sum_by-zero}
 use Rattle.price_rules.specs.Prices.{PlainCut, IsUncut, IsLoose, is_missing, price_at, paid_by, paid_in}
 use Rattle.sweep_rules.specs.Uncut.{times_over}
@@ -28,8 +31,9 @@ use Rattle.sweep_rules.specs.Label.{Label, IsWanted, CanGoOn, IsGoneOn, start_on
 use Rattle.sweep_rules.specs.Completion.{AreLawfulAfter, IsCompletion, EndsBelow, flow_starting, flow_completed}
 use Rattle.sweep_rules.specs.Gain.{IsWayOn, IsGainFrom, IsGain, IsAbove, timetable_after, ships_missing, prices_missing}
 use Rattle.sweep_rules.proofs.FirstLemmas.{flow-starts}
-use Rattle.sweep_rules.proofs.FlowLemmas.{flow-after, flow-later, flow-ready}
-use Rattle.sweep_rules.proofs.MissingLemmas.{ships_of, times_in-ships_of, paid-ships, missing-counts, times_on-past, times_in-flat}
+use Rattle.sweep_rules.proofs.FlowLemmas.{flow-after, flow-later, flow-ready, flow-minutes}
+use Rattle.sweep_rules.proofs.GoingLemmas.{still-missing, others-later}
+use Rattle.sweep_rules.proofs.MissingLemmas.{ships_of, times_in-ships_of, paid-ships, missing-counts, missing-one, missing-none, missing-past, times_on-past, times_in-flat}
 use Rattle.sweep_rules.proofs.OverLemmas.{sum-same, completion-on}
 use Rattle.sweep_rules.proofs.ReadyLemmas.{ready_at-before, way_on-head, uncut-ship, ship-wanted}
 
@@ -76,3 +80,126 @@ module _ (I : Instance) (cuts : List PlainCut) (label : Label) (prices : List �
         flow-after I c known (label.ready c) (ends.lines c) (ends.starts c) (ends.is.lawful c known),
       )) in
       absurd (omega (arith, high, completion-paid ends.lines ends.starts ends.is, above.high, ends.below))
+
+-- rising numbers hold each number once at most
+pub rising-once : (low : ℕ) (xs : List ℕ) → RisesFrom low xs → (s : ℕ) → times_in xs s ≤ 1
+rising-once low [] rises s = omega arith
+rising-once low (x ∷ xs) rises s =
+    elim (eqb_tells x s) [
+      | inl same ↦ elim (leb_tells 1 (times_in xs s)) [
+        | inl again ↦ absurd (omega (arith, same.1, low-times_in s (suc x) xs rises.1 again.1))
+        | inr once ↦ omega (arith, times_in-hit s x xs same.0, once.1)
+      ]
+      | inr other ↦ omega (arith, times_in-miss s x xs other.0, rising-once (suc x) xs rises.1 s)
+    ]
+
+-- fewer missing ships leave fewer ways to go on
+pub way_on-fewer : (I : Instance) (c : ℕ) (cuts : List PlainCut) (served more : ℕ → Bool) → ((s : ℕ) → s < length I.ships → more s ≡ false → served s ≡ false) → (gs : List Group) → IsWayOn I c cuts more gs → IsWayOn I c cuts served gs
+way_on-fewer I c cuts served more fewer gs on = record {
+  uncut = on.uncut;
+  missing = λ j d here i e inside.
+      let s = slice_index_or (slice_index_or gs j d).ships i e in
+      fewer s ((on.uncut j d here).known i e inside) (on.missing j d here i e inside);
+}
+
+-- A GAIN FROM A STATE stays one from later minutes, with fewer missing ships, and with more gain.
+pub gain_from-later : (I : Instance) (c : ℕ) → c < length I.chambers → (cuts : List PlainCut) (served more : ℕ → Bool) (prices : List ℕ) (stand : Stand) (from later gain greater : ℕ)
+    → ((s : ℕ) → s < length I.ships → more s ≡ false → served s ≡ false) → from ≤ later → gain ≤ greater
+    → IsGainFrom I c cuts served prices stand from gain → IsGainFrom I c cuts more prices stand later greater
+gain_from-later I c known cuts served more prices stand from later gain greater fewer early less bound = record {
+  high = λ gs on. omega (arith, less, bound.high gs (way_on-fewer I c cuts served more fewer gs on), flow-later I c known stand from later gs early);
+}
+
+-- A LABEL'S GAIN of a chamber is at most the greater of those from its two minutes.
+pub gain-ways : (I : Instance) (c : ℕ) (cuts : List PlainCut) (label : Label) (prices : List ℕ) (gain : ℕ)
+    → ((way : Way) → IsGainFrom I c cuts label.served prices (stand_before way) (label.ready c way) gain) → IsGain I c cuts label prices gain
+gain-ways I c cuts label prices gain bounds = record { high = λ gs on. each gs on }
+  where
+    each : (gs : List Group) → IsWayOn I c cuts label.served gs → paid_in I 0 prices gs ≤ 100 * flow_of I gs (timetable_after I c (label.ready c) gs) + gain
+    each [] on = omega arith
+    each (g ∷ gs) on = (bounds g.way).high (g ∷ gs) on
+
+module _ (I : Instance) (cuts : List PlainCut) (label next : Label) (c : ℕ) (g : Group) (can : CanGoOn I cuts label c g) (gone : IsGoneOn I cuts label c g next) (prices : List ℕ) where
+  -- the first group of a way to go on has a wanted ship
+  first-wanted : (d : ℕ) (gs : List Group) → IsWayOn I d cuts next.served gs → (h : Group) (rest : List Group) → gs ≡ h ∷ rest → (s : ℕ) × IsWanted I cuts next.served d h.way s
+  first-wanted d gs on h rest line =
+      let own = way_on-head I d cuts next.served h rest (subst (IsWayOn I d cuts next.served) line on) in
+      let one = uncut-ship I d cuts h own.0 in
+      (one.ship, ship-wanted I d cuts next.served h own.0 own.1 one.ship one.held)
+
+  -- THE GAIN OF ANOTHER CHAMBER is no more behind the group.
+  pub gain-other : (d : ℕ) → d < length I.chambers → d ≢ c → (gain : ℕ) → IsGain I d cuts label prices gain → IsGain I d cuts next prices gain
+  gain-other d known other gain bound = record {
+    high = λ gs on. omega (
+      arith,
+      bound.high gs (way_on-fewer I d cuts label.served next.served (still-missing I cuts label next c g gone) gs on),
+      flow-minutes I d known (label.ready d) (next.ready d) gs (λ h rest line.
+      let one = first-wanted d gs on h rest line in
+      others-later I cuts label next c g gone d known other h.way one.0 one.1),
+    );
+  }
+
+  -- THE GAIN OF ITS OWN CHAMBER is no more than the gain from the group's end.
+  pub gain-own : (gain : ℕ) → IsGainFrom I c cuts next.served prices (stand_after g.way) (end_on I label c g) gain → IsGain I c cuts next prices gain
+  gain-own gain bound = record {
+    high = λ gs on. omega (
+      arith,
+      bound.high gs on,
+      flow-ready I c can.chamber (stand_after g.way) (end_on I label c g) (next.ready c) gs (λ h rest line.
+      let one = first-wanted c gs on h rest line in
+      (gone.own h.way).after one.0 one.1),
+    );
+  }
+
+  -- the group pays for its ships, and the others are still missing
+  pub missing-paid : prices_missing I prices label.served ≡ prices_missing I prices next.served + sum_by (price_at prices) g.ships
+  missing-paid =
+      let left = ships_missing I next.served in
+      sym (sum_by-counts (price_at prices) (left ++ g.ships) (ships_missing I label.served)
+      (missing-counts I label.served (times_in (left ++ g.ships)) (λ s known. both s known) (λ s past. times_in-append left g.ships s ∙ outside s past)))
+      ∙ sum_by-append (price_at prices) left g.ships
+    where
+      differ : true ≡ false → ⊥
+      differ e = cc
+
+      outside : (s : ℕ) → length I.ships ≤ s → times_in (ships_missing I next.served) s + times_in g.ships s ≡ 0
+      outside s past = omega (arith, missing-past I next.served s past, times_in-outside (length I.ships) g.ships s can.uncut.known past)
+
+      parts : (served after held : Bool) (left own : ℕ) → after ≡ (served || held) → (after ≡ true → left ≡ 0) → (after ≡ false → left ≡ 1) → (1 ≤ own → served ≡ false) → (1 ≤ own → held ≡ true) → (own ≡ 0 → held ≡ false) → own ≤ 1
+          → left + own ≡ cond served 0 1
+      parts true after held left own is gone kept out some none most =
+          elim (leb_tells 1 own) [
+            | inl here ↦ absurd (differ (out here.1))
+            | inr missed ↦ omega (arith, gone is, missed.1)
+          ]
+      parts false after true left own is gone kept out some none most =
+          elim (leb_tells 1 own) [
+            | inl here ↦ omega (arith, gone is, here.1, most)
+            | inr missed ↦ absurd (differ (none (omega (arith, missed.1))))
+          ]
+      parts false after false left own is gone kept out some none most =
+          elim (leb_tells 1 own) [
+            | inl here ↦ absurd (differ (sym (some here.1)))
+            | inr missed ↦ omega (arith, kept is, missed.1)
+          ]
+
+      both : (s : ℕ) → s < length I.ships → times_in (ships_missing I next.served ++ g.ships) s ≡ cond (label.served s) 0 1
+      both s known =
+          times_in-append (ships_missing I next.served) g.ships s
+          ∙ parts (label.served s) (next.served s) (has_number g.ships s) (times_in (ships_missing I next.served) s) (times_in g.ships s) (gone.served s known)
+          (missing-none I next.served s) (missing-one I next.served s known)
+          (λ some. All-times (λ s. label.served s ≡ false) s g.ships can.missing some)
+          (has_number-some g.ships s) (has_number-none g.ships s)
+          (rising-once 0 g.ships (RisesFrom-increasing g.ships can.uncut.good.rising) s)
+
+-- uncut groups are a loose line of the root
+pub uncut-loose : (I : Instance) (c : ℕ) (cuts : List PlainCut) (gs : List Group) → All (IsUncut I c cuts) gs → IsLoose I c cuts 0 [] gs
+uncut-loose I c cuts gs uncut = record { uncut = uncut; trace = nothing gs }
+  where
+    none : (xs : List ℕ) → filter (has_number []) xs ≡ []
+    none [] = refl
+    none (x ∷ xs) = none xs
+
+    nothing : (gs : List Group) → trace_of [] gs ≡ []
+    nothing [] = refl
+    nothing (g ∷ gs) = (λ i. with_group g.way (none g.ships i) (trace_of [] gs)) ∙ nothing gs

@@ -1,6 +1,6 @@
 -- A label with a completion goes on by the first group of it.
-use Rattle.std.proofs.Common.{◌≡◌, ◌≢◌, ℕ, zero, suc, ◌+◌, ◌-◌, ◌<◌, ◌≤◌, max, ◌||◌, Bool, true, false, cond, List, [], ◌∷◌, length, All, sum_by, nat_eq, ◌⊎◌, inl, inr, refl, sym, ap, ◌∙◌, subst, arith}
-use Rattle.std.proofs.lemmas.Bool.{ne_eqb, eq-eqb}
+use Rattle.std.proofs.Common.{◌≡◌, ◌≢◌, ℕ, zero, suc, ◌+◌, ◌-◌, ◌<◌, ◌≤◌, max, ◌||◌, Bool, true, false, cond, List, [], ◌∷◌, length, All, sum_by, nat_eq, nat_lt, ◌⊎◌, inl, inr, refl, sym, ap, ◌∙◌, subst, arith}
+use Rattle.std.proofs.lemmas.Bool.{ne_eqb, eq-eqb, lt-ltb, le-ltb}
 use Rattle.std.proofs.lemmas.Bool.Decides.{eqb_tells, leb_tells}
 use Rattle.std.proofs.lemmas.List.Sums.{sum_by-le-sum_by}
 use Rattle.std.proofs.lemmas.List.Elements.{All-tail}
@@ -20,7 +20,7 @@ use Rattle.lock_rules.proofs.LineLemmas.{sum_by-zero}
 use Rattle.lock_rules.proofs.TimetableLemmas.{closures_kept, ready_at-mono, start_of-least}
 use Rattle.price_rules.specs.Prices.{PlainCut, IsUncut}
 use Rattle.sweep_rules.specs.Uncut.{times_over}
-use Rattle.sweep_rules.specs.Label.{Label, IsWanted, IsReadyFrom, CanGoOn, IsGoneOn, start_on, end_on, flow_on}
+use Rattle.sweep_rules.specs.Label.{Label, IsWanted, IsReadyFrom, CanGoOn, IsGoneOn, start_on, end_on, flow_on, gone_on}
 use Rattle.sweep_rules.specs.Completion.{AreLawfulAfter, IsCompletion, EndsBelow, flow_starting, flow_completed}
 use Rattle.sweep_rules.specs.Gain.{IsWayOn}
 use Rattle.sweep_rules.proofs.OverLemmas.{sum-same, sum-but_one, missing-on, completion-on}
@@ -298,3 +298,46 @@ label-goes I cuts goal label ends s known missing =
     none-both : (n : ℕ) (b : Bool) → n ≡ 0 → n ≡ cond b 0 1 → b ≡ false → ⊥
     none-both n true empty once is = absurd (differ is)
     none-both n false empty once is = absurd (omega (arith, empty, once))
+
+-- EACH LABEL GOES ON to one at least.
+pub gone_on-is : (I : Instance) (cuts : List PlainCut) (label : Label) (c : ℕ) (g : Group) → IsGoneOn I cuts label c g (gone_on I label c g)
+gone_on-is I cuts label c g =
+    let start = start_on I label c g in
+    let own : Way → ℕ = λ way. ready_at (chamber_at I c) (stand_after g.way) (end_on I label c g) way in
+    let later : ℕ → Way → ℕ = λ d way. max (label.ready d way) start in
+    let sooner : ℕ → Way → ℕ = λ d way. max (label.ready d way) (start + 1) in
+    record {
+      served = λ s known. refl;
+      own = λ way. raised-not (gone_on I label c g).served c way (own way) ((gone_on I label c g).ready c way) (λ i. cond (eq-eqb c c refl i) (own way) (cond (nat_lt c c) (later c way) (sooner c way)));
+      later = λ d above known way. raised-not (gone_on I label c g).served d way (later d way) ((gone_on I label c g).ready d way)
+          ((λ i. cond (ne_eqb d c (λ e. absurd (omega (arith, e, above))) i) (own way) (cond (nat_lt c d) (later d way) (sooner d way))) ∙ (λ i. cond (lt-ltb c d above i) (later d way) (sooner d way)));
+      sooner = λ d below way. raised-not (gone_on I label c g).served d way (sooner d way) ((gone_on I label c g).ready d way)
+          ((λ i. cond (ne_eqb d c (λ e. absurd (omega (arith, e, below))) i) (own way) (cond (nat_lt c d) (later d way) (sooner d way))) ∙ (λ i. cond (le-ltb c d (omega (arith, below)) i) (later d way) (sooner d way)));
+      flow = refl;
+    }
+  where
+    raised-not : (served : ℕ → Bool) (d : ℕ) (way : Way) (low at : ℕ) → at ≡ low → IsReadyFrom I cuts served d way low at
+    raised-not served d way low at same = record { after = λ s wanted. omega (arith, same); before = λ s wanted. omega (arith, same) }
+
+module _ (I : Instance) (cuts : List PlainCut) (label next : Label) (c : ℕ) (g : Group) (gone : IsGoneOn I cuts label c g next) where
+  -- a ship that is missing behind the group was so before
+  pub still-missing : (s : ℕ) → s < length I.ships → next.served s ≡ false → label.served s ≡ false
+  still-missing s known out = left (label.served s) (has_number g.ships s) (sym (gone.served s known) ∙ out)
+    where
+      left : (a b : Bool) → (a || b) ≡ false → a ≡ false
+      left true b e = e
+      left false b e = refl
+
+  pub still-wanted : (d : ℕ) (way : Way) (s : ℕ) → IsWanted I cuts next.served d way s → IsWanted I cuts label.served d way s
+  still-wanted d way s wanted = record { known = wanted.known; missing = still-missing s wanted.known wanted.missing; same = wanted.same; alone = wanted.alone }
+
+  -- no minute of another chamber is sooner behind the group
+  pub others-later : (d : ℕ) → d < length I.chambers → d ≢ c → (way : Way) (s : ℕ) → IsWanted I cuts next.served d way s → label.ready d way ≤ next.ready d way
+  others-later d known other way s wanted =
+      elim (leb_tells (suc d) c) [
+        | inl before ↦ omega (arith, (gone.sooner d before.1 way).after s wanted)
+        | inr behind ↦ omega (arith, (gone.later d (above d c other behind.1) known way).after s wanted)
+      ]
+    where
+      above : (d c : ℕ) → d ≢ c → c < suc d → c < d
+      above d c other less = elim (leb_tells (suc c) d) [ inl y ↦ y.1 | inr m ↦ absurd (other (omega (arith, m.1))) ]

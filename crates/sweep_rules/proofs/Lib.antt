@@ -8,3 +8,4 @@ pub mod CoverLemmas
 pub mod FlowLemmas
 pub mod MissingLemmas
 pub mod GainLemmas
+pub mod BeginningLemmas

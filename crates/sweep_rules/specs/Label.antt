@@ -1,5 +1,5 @@
 -- Labels of a sweep, and how they go on.
-use Rattle.std.specs.Prelude.{ℕ, ◌≡◌, ◌+◌, ◌-◌, ◌≤◌, ◌<◌, ◌||◌, max, Bool, true, false, List, [], ◌∷◌, length, All, sum_by}
+use Rattle.std.specs.Prelude.{ℕ, ◌≡◌, ◌+◌, ◌-◌, ◌≤◌, ◌<◌, ◌||◌, max, Bool, true, false, nat_eq, nat_lt, if◌then◌else◌, List, [], ◌∷◌, length, All, sum_by}
 use Rattle.lock_model.specs.Fleet.{ship_at, chamber_at}
 use Rattle.lock_model.specs.declared.instance.Instance.{Instance}
 use Rattle.lock_model.specs.declared.group.Group.{Group}
@@ -59,3 +59,13 @@ pub record IsGoneOn (I : Instance) (cuts : List PlainCut) (label : Label) (c : �
   pub sooner : (d : ℕ) → d < c → (way : Way)
       → IsReadyFrom I cuts next.served d way (max (label.ready d way) (start_on I label c g + 1)) (next.ready d way)
   pub flow : next.flow ≡ label.flow + flow_on I label c g
+
+-- the label gone on by this group of chamber c, with no minute raised to an arrival
+abbrev pub gone_on : Instance → Label → ℕ → Group → Label
+gone_on I label c g = record {
+  served = λ s. label.served s || has_number g.ships s;
+  ready = λ d way.
+      if nat_eq d c then ready_at (chamber_at I c) (stand_after g.way) (end_on I label c g) way
+      else (if nat_lt c d then max (label.ready d way) (start_on I label c g) else max (label.ready d way) (start_on I label c g + 1));
+  flow = label.flow + flow_on I label c g;
+}
