@@ -1,5 +1,5 @@
 -- A label that serves all ships is an uncut plan.
-use Rattle.std.proofs.Common.{◌≡◌, ◌≢◌, ℕ, zero, suc, ◌+◌, ◌-◌, ◌<◌, ◌≤◌, max, ◌||◌, Bool, true, false, cond, List, [], ◌∷◌, ◌++◌, length, All, sum_by, nat_eq, inl, inr, refl, sym, ap, ◌∙◌, subst, arith}
+use Rattle.std.proofs.Common.{◌≡◌, ◌≢◌, ℕ, ◌+◌, ◌-◌, ◌<◌, ◌≤◌, ◌||◌, Bool, true, false, cond, List, [], ◌∷◌, ◌++◌, length, All, sum_by, nat_eq, inl, inr, refl, sym, ap, ◌∙◌, subst, arith}
 use Rattle.std.proofs.lemmas.Bool.{ne_eqb, eq-eqb}
 use Rattle.std.proofs.lemmas.Bool.Decides.{eqb_tells, leb_tells}
 use Rattle.std.proofs.lemmas.List.Sums.{sum_by-le-sum_by}
@@ -22,12 +22,11 @@ use Rattle.lock_rules.proofs.SplitLemmas.{All-times, has_number-none, RisesFrom-
 use Rattle.lock_rules.proofs.TimetableLemmas.{closures_kept, ready_at-mono, start_of-lawful}
 use Rattle.price_rules.specs.Prices.{PlainCut, IsUncut, flow_over}
 use Rattle.sweep_rules.specs.Uncut.{times_over, IsUncutPlan, IsSwept}
-use Rattle.sweep_rules.specs.Label.{Label, IsWanted, IsFirstLabel, CanGoOn, IsGoneOn, start_on, end_on, flow_on}
+use Rattle.sweep_rules.specs.Label.{Label, IsWanted, IsFirstLabel, CanGoOn, IsGoneOn, start_on, end_on}
 use Rattle.sweep_rules.specs.Beginning.{stand_behind, done_behind, ready_behind, LeadTo}
 use Rattle.sweep_rules.proofs.FlowLemmas.{start-least}
-use Rattle.sweep_rules.proofs.GainLemmas.{rising-once}
 use Rattle.sweep_rules.proofs.GoingLemmas.{still-wanted, others-later}
-use Rattle.sweep_rules.proofs.OverLemmas.{sum-but_one}
+use Rattle.sweep_rules.proofs.OverLemmas.{sum-but_one, rising-once}
 use Rattle.sweep_rules.proofs.ReadyLemmas.{uncut-ship, ship-wanted}
 
 -- what a group at a line's end makes of it
@@ -151,7 +150,7 @@ module _ (I : Instance) (cuts : List PlainCut) where
         let opens = (chamber_at I c).opens in
         let end : ℕ = start_here + duration_of I c g.ships in
         let here : ready_behind I c (longer c) way ≡ ready_at (chamber_at I c) (stand_after g.way) end way =
-            (λ i. ready_behind I c (with_last-own lines c g c refl i) way) ∙ (λ i. ready_at (chamber_at I c) (stand-push stand (lines c) g i) (done-push I c stand opens (lines c) g i) way) in
+        (λ i. ready_behind I c (with_last-own lines c g c refl i) way) ∙ (λ i. ready_at (chamber_at I c) (stand-push stand (lines c) g i) (done-push I c stand opens (lines c) g i) way) in
         let less = ready_at-mono (chamber_at I c) (stand_after g.way) end (end_on I label c g) way (closures_kept I c can.chamber) (omega (arith, start-no_later)) in
         omega (arith, here, less, (gone.own way).after s wanted)
 

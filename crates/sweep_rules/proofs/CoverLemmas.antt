@@ -1,10 +1,10 @@
 -- What labels cover, as they are replaced, and what is swept where none is left.
-use Rattle.std.proofs.Common.{◌≡◌, ℕ, ◌+◌, ◌<◌, ◌≤◌, false, List, [], ◌∷◌, length, Contains, inl, inr, refl, subst, arith}
+use Rattle.std.proofs.Common.{◌≡◌, ℕ, ◌<◌, ◌≤◌, false, List, [], ◌∷◌, length, Contains, inl, inr, refl, arith}
 use Rattle.std.proofs.lemmas.Bool.Decides.{leb_tells}
 use Rattle.lock_model.specs.declared.instance.Instance.{Instance}
 use Rattle.lock_model.specs.declared.group.Group.{Group}
 use Rattle.price_rules.specs.Prices.{PlainCut, flow_over}
-use Rattle.sweep_rules.specs.Uncut.{IsUncutPlan, IsSwept}
+use Rattle.sweep_rules.specs.Uncut.{IsSwept}
 use Rattle.sweep_rules.specs.Label.{Label, IsFirstLabel, CanGoOn, IsGoneOn}
 use Rattle.sweep_rules.specs.Completion.{EndsBelow}
 use Rattle.sweep_rules.specs.Dominance.{ServesFor}

@@ -1,10 +1,9 @@
 -- A label that serves for another has its completions.
-use Rattle.std.proofs.Common.{◌≡◌, ℕ, ◌+◌, ◌<◌, List, length, cond, sym, ap, ◌∙◌, arith}
+use Rattle.std.proofs.Common.{ℕ, List, cond, sym, ap, ◌∙◌, arith}
 use Rattle.lock_model.specs.declared.instance.Instance.{Instance}
 use Rattle.lock_model.specs.declared.group.Group.{Group}
-use Rattle.lock_model.specs.declared.way.Way.{Way}
 use Rattle.price_rules.specs.Prices.{PlainCut}
-use Rattle.sweep_rules.specs.Label.{Label, IsWanted}
+use Rattle.sweep_rules.specs.Label.{Label}
 use Rattle.sweep_rules.specs.Completion.{IsCompletion, EndsBelow}
 use Rattle.sweep_rules.specs.Dominance.{ServesFor}
 use Rattle.sweep_rules.proofs.OverLemmas.{completion-on}

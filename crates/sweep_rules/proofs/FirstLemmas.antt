@@ -1,5 +1,5 @@
 -- Each uncut plan is a completion of a first label.
-use Rattle.std.proofs.Common.{◌≡◌, ℕ, ◌+◌, ◌<◌, List, [], ◌∷◌, length, All, cond, sum_by, refl, sym, ap, ◌∙◌, arith, slice_index_or}
+use Rattle.std.proofs.Common.{◌≡◌, ℕ, ◌+◌, ◌<◌, List, [], ◌∷◌, length, cond, sum_by, refl, sym, ap, ◌∙◌, arith, slice_index_or}
 use Rattle.lock_model.specs.Fleet.{chamber_at}
 use Rattle.lock_model.specs.declared.instance.Instance.{Instance}
 use Rattle.lock_model.specs.declared.group.Group.{Group}
@@ -47,5 +47,5 @@ module _ (I : Instance) (cuts : List PlainCut) (label : Label) (first : IsFirstL
   pub first-cost : label.flow + flow_completed I lines (starts_in I lines) ≡ flow_over I lines
   first-cost =
       let flows : flow_completed I lines (starts_in I lines) ≡ flow_over I lines =
-          λ i. sum_by (λ c. flow-starts I c (chamber_at I c).stands (chamber_at I c).opens (lines c) i) (numbers_from 0 (length I.chambers)) in
+      λ i. sum_by (λ c. flow-starts I c (chamber_at I c).stands (chamber_at I c).opens (lines c) i) (numbers_from 0 (length I.chambers)) in
       omega (arith, flows, first.flow)

@@ -1,42 +1,33 @@
 -- A label whose bound by prices is above the goal has no completion of a total below it.
-use Rattle.std.proofs.Common.{◌≡◌, ◌≢◌, ℕ, zero, suc, ◌+◌, ◌-◌, ◌*◌, ◌<◌, ◌≤◌, max, ◌||◌, not, nat_eq, Bool, true, false, cond, List, [], ◌∷◌, ◌++◌, length, All, sum_by, filter, inl, inr, refl, sym, ap, ◌∙◌, subst, arith, slice_index_or}
+use Rattle.std.proofs.Common.{◌≡◌, ◌≢◌, ℕ, zero, suc, ◌+◌, ◌*◌, ◌<◌, ◌≤◌, ◌||◌, Bool, true, false, cond, List, [], ◌∷◌, ◌++◌, length, All, sum_by, filter, inl, inr, refl, sym, ◌∙◌, subst, arith, slice_index_or}
 use Rattle.std.specs.List.{flat_map}
 use Rattle.std.proofs.lemmas.Bool.Decides.{eqb_tells, leb_tells}
-use Rattle.std.proofs.lemmas.List.Sums.{sum_by-cons, sum_by-append, sum_by-le-sum_by}
-use Rattle.std.proofs.lemmas.List.Elements.{All-head, All-tail, All-weaker, All-contains}
-use Rattle.lock_model.specs.Fleet.{ship_at, chamber_at}
+use Rattle.std.proofs.lemmas.List.Sums.{sum_by-cons, sum_by-append}
 use Rattle.lock_model.specs.declared.instance.Instance.{Instance}
 use Rattle.lock_model.specs.declared.group.Group.{Group}
 use Rattle.lock_model.specs.declared.way.Way.{Way}
 use Rattle.lock_model.specs.declared.way.Stand.{Stand}
-use Rattle.lock_rules.specs.Lawful.{IsLawfulStart, AreLawfulFrom, IsFree, duration_of, stand_before, stand_after}
-use Rattle.lock_rules.specs.Timetable.{ready_at, last_arrival, first_free, start_of, timetable_from, starts_of}
+use Rattle.lock_rules.specs.Lawful.{stand_before, stand_after}
 use Rattle.lock_rules.specs.Plan.{times_in}
 use Rattle.lock_rules.specs.Trace.{has_number, trace_of, with_group}
-use Rattle.lock_rules.specs.Arrival.{numbers_from, first_ships}
+use Rattle.lock_rules.specs.Arrival.{numbers_from}
 use Rattle.lock_rules.specs.Node.{times_on}
 use Rattle.lock_rules.specs.Bound.{flow_of}
-use Rattle.lock_rules.proofs.FreeLemmas.{first_free-least}
-use Rattle.lock_rules.proofs.TimetableLemmas.{closures_kept, ready_at-mono, start_of-least, start_of-lawful, last_arrival-least, timetable-lawful}
-use Rattle.lock_rules.proofs.CountLemmas.{sum_by-counts, times_in-append, times_in-between, times_in-above, times_in-outside}
+use Rattle.lock_rules.proofs.CountLemmas.{sum_by-counts, times_in-append, times_in-outside}
 use Rattle.lock_rules.proofs.LeafLemmas.{sum_by-flat_map}
 use Rattle.lock_rules.proofs.LeafLemmas.{has_number-some}
 use Rattle.lock_rules.proofs.SplitLemmas.{All-times, has_number-none, RisesFrom-increasing}
-use Rattle.lock_rules.proofs.TreeLemmas.{times_in-hit, times_in-miss, low-times_in}
-use Rattle.lock_model.specs.Ships.{RisesFrom}
 use Rattle.lock_rules.proofs.LineLemmas.{sum_by-zero}
-use Rattle.price_rules.specs.Prices.{PlainCut, IsUncut, IsLoose, is_missing, price_at, paid_by, paid_in}
+use Rattle.price_rules.specs.Prices.{PlainCut, IsUncut, IsLoose, price_at, paid_in}
 use Rattle.sweep_rules.specs.Uncut.{times_over}
-use Rattle.sweep_rules.specs.Label.{Label, IsWanted, CanGoOn, IsGoneOn, start_on, end_on}
-use Rattle.sweep_rules.specs.Completion.{AreLawfulAfter, IsCompletion, EndsBelow, flow_starting, flow_completed}
+use Rattle.sweep_rules.specs.Label.{Label, IsWanted, CanGoOn, IsGoneOn, end_on, flow_on}
+use Rattle.sweep_rules.specs.Completion.{IsCompletion, EndsBelow, flow_starting}
 use Rattle.sweep_rules.specs.Gain.{IsWayOn, IsGainFrom, IsGain, IsAbove, timetable_after, ships_missing, prices_missing}
-use Rattle.sweep_rules.proofs.FirstLemmas.{flow-starts}
 use Rattle.sweep_rules.proofs.FlowLemmas.{flow-after, flow-later, flow-ready, flow-minutes}
 use Rattle.sweep_rules.proofs.GoingLemmas.{still-missing, others-later}
 use Rattle.sweep_rules.proofs.MissingLemmas.{ships_of, times_in-ships_of, paid-ships, missing-counts, missing-one, missing-none, missing-past, times_on-past, times_in-flat}
-use Rattle.sweep_rules.proofs.OverLemmas.{sum-same, completion-on}
-use Rattle.sweep_rules.proofs.ReadyLemmas.{ready_at-before, way_on-head, uncut-ship, ship-wanted}
-
+use Rattle.sweep_rules.proofs.OverLemmas.{sum-same, completion-on, rising-once}
+use Rattle.sweep_rules.proofs.ReadyLemmas.{way_on-head, uncut-ship, ship-wanted}
 
 -- one sum bounded by another, part by part
 sum-bounded : (p f g : ℕ → ℕ) (low n : ℕ) → ((c : ℕ) → low ≤ c → c < low + n → p c ≤ 100 * f c + g c) → sum_by p (numbers_from low n) ≤ 100 * sum_by f (numbers_from low n) + sum_by g (numbers_from low n)
@@ -59,9 +50,9 @@ module _ (I : Instance) (cuts : List PlainCut) (label : Label) (prices : List �
       let m = length I.chambers in
       let all : List ℕ = flat_map (λ c. ships_of (lines c)) (numbers_from 0 m) in
       let count : (s : ℕ) → times_in all s ≡ times_over I s lines =
-          λ s. times_in-flat (λ c. ships_of (lines c)) (numbers_from 0 m) s ∙ (λ i. sum_by (λ c. times_in-ships_of (lines c) s i) (numbers_from 0 m)) in
+      λ s. times_in-flat (λ c. ships_of (lines c)) (numbers_from 0 m) s ∙ (λ i. sum_by (λ c. times_in-ships_of (lines c) s i) (numbers_from 0 m)) in
       let past : (s : ℕ) → length I.ships ≤ s → times_over I s lines ≡ 0 =
-          λ s out. sum-same (λ c. times_on s (lines c)) (λ c. 0) 0 m (λ c low less. times_on-past I (lines c) (λ j d here. (completion.uncut c (omega (arith, less)) j d here).known) s out) ∙ sum_by-zero (numbers_from 0 m) in
+      λ s out. sum-same (λ c. times_on s (lines c)) (λ c. 0) 0 m (λ c low less. times_on-past I (lines c) (λ j d here. (completion.uncut c (omega (arith, less)) j d here).known) s out) ∙ sum_by-zero (numbers_from 0 m) in
       (λ i. sum_by (λ c. paid-ships I prices (lines c) i) (numbers_from 0 m))
       ∙ sym (sum_by-flat_map (price_at prices) (λ c. ships_of (lines c)) (numbers_from 0 m))
       ∙ sum_by-counts (price_at prices) all (ships_missing I label.served)
@@ -80,18 +71,6 @@ module _ (I : Instance) (cuts : List PlainCut) (label : Label) (prices : List �
         flow-after I c known (label.ready c) (ends.lines c) (ends.starts c) (ends.is.lawful c known),
       )) in
       absurd (omega (arith, high, completion-paid ends.lines ends.starts ends.is, above.high, ends.below))
-
--- rising numbers hold each number once at most
-pub rising-once : (low : ℕ) (xs : List ℕ) → RisesFrom low xs → (s : ℕ) → times_in xs s ≤ 1
-rising-once low [] rises s = omega arith
-rising-once low (x ∷ xs) rises s =
-    elim (eqb_tells x s) [
-      | inl same ↦ elim (leb_tells 1 (times_in xs s)) [
-        | inl again ↦ absurd (omega (arith, same.1, low-times_in s (suc x) xs rises.1 again.1))
-        | inr once ↦ omega (arith, times_in-hit s x xs same.0, once.1)
-      ]
-      | inr other ↦ omega (arith, times_in-miss s x xs other.0, rising-once (suc x) xs rises.1 s)
-    ]
 
 -- fewer missing ships leave fewer ways to go on
 pub way_on-fewer : (I : Instance) (c : ℕ) (cuts : List PlainCut) (served more : ℕ → Bool) → ((s : ℕ) → s < length I.ships → more s ≡ false → served s ≡ false) → (gs : List Group) → IsWayOn I c cuts more gs → IsWayOn I c cuts served gs
@@ -134,8 +113,8 @@ module _ (I : Instance) (cuts : List PlainCut) (label next : Label) (c : ℕ) (g
       arith,
       bound.high gs (way_on-fewer I d cuts label.served next.served (still-missing I cuts label next c g gone) gs on),
       flow-minutes I d known (label.ready d) (next.ready d) gs (λ h rest line.
-      let one = first-wanted d gs on h rest line in
-      others-later I cuts label next c g gone d known other h.way one.0 one.1),
+          let one = first-wanted d gs on h rest line in
+          others-later I cuts label next c g gone d known other h.way one.0 one.1),
     );
   }
 
@@ -146,8 +125,8 @@ module _ (I : Instance) (cuts : List PlainCut) (label next : Label) (c : ℕ) (g
       arith,
       bound.high gs on,
       flow-ready I c can.chamber (stand_after g.way) (end_on I label c g) (next.ready c) gs (λ h rest line.
-      let one = first-wanted c gs on h rest line in
-      (gone.own h.way).after one.0 one.1),
+          let one = first-wanted c gs on h rest line in
+          (gone.own h.way).after one.0 one.1),
     );
   }
 
@@ -191,6 +170,22 @@ module _ (I : Instance) (cuts : List PlainCut) (label next : Label) (c : ℕ) (g
           (λ some. All-times (λ s. label.served s ≡ false) s g.ships can.missing some)
           (has_number-some g.ships s) (has_number-none g.ships s)
           (rising-once 0 g.ships (RisesFrom-increasing g.ships can.uncut.good.rising) s)
+
+  -- A GROUP WHOSE OWN SUM IS ABOVE THE GOAL leads to no label that has a completion of a total below it.
+  pub arc-none : (gains : ℕ → ℕ) → ((d : ℕ) → d < length I.chambers → d ≢ c → IsGain I d cuts label prices (gains d)) → IsGainFrom I c cuts label.served prices (stand_after g.way) (end_on I label c g) (gains c)
+      → (goal : ℕ) → 100 * goal + sum_by gains (numbers_from 0 (length I.chambers)) + sum_by (price_at prices) g.ships < 100 * (label.flow + flow_on I label c g) + prices_missing I prices label.served + 100
+      → EndsBelow I cuts goal next → ⊥
+  arc-none gains others own goal above =
+      above-none I cuts next prices gains bounds goal (record { high = omega (arith, above, missing-paid, gone.flow) })
+    where
+      bounds : (d : ℕ) → d < length I.chambers → IsGain I d cuts next prices (gains d)
+      bounds d known =
+          elim (eqb_tells d c) [
+            | inl same ↦
+                subst (λ d. IsGain I d cuts next prices (gains d)) (sym same.1)
+                (gain-own (gains c) (gain_from-later I c can.chamber cuts label.served next.served prices (stand_after g.way) (end_on I label c g) (end_on I label c g) (gains c) (gains c) (still-missing I cuts label next c g gone) (omega arith) (omega arith) own))
+            | inr other ↦ gain-other d known other.1 (gains d) (others d known other.1)
+          ]
 
 -- uncut groups are a loose line of the root
 pub uncut-loose : (I : Instance) (c : ℕ) (cuts : List PlainCut) (gs : List Group) → All (IsUncut I c cuts) gs → IsLoose I c cuts 0 [] gs

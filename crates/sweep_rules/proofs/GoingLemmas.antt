@@ -8,7 +8,7 @@ use Rattle.lock_model.specs.Fleet.{ship_at, chamber_at}
 use Rattle.lock_model.specs.declared.instance.Instance.{Instance}
 use Rattle.lock_model.specs.declared.group.Group.{Group}
 use Rattle.lock_model.specs.declared.way.Way.{Way}
-use Rattle.lock_rules.specs.Lawful.{IsLawfulStart, AreLawfulFrom, duration_of, stand_before, stand_after}
+use Rattle.lock_rules.specs.Lawful.{duration_of, stand_before, stand_after}
 use Rattle.lock_rules.specs.Timetable.{ready_at}
 use Rattle.lock_rules.specs.Plan.{times_in}
 use Rattle.lock_rules.specs.Trace.{has_number}
@@ -20,7 +20,7 @@ use Rattle.lock_rules.proofs.LineLemmas.{sum_by-zero}
 use Rattle.lock_rules.proofs.TimetableLemmas.{closures_kept, ready_at-mono, start_of-least}
 use Rattle.price_rules.specs.Prices.{PlainCut, IsUncut}
 use Rattle.sweep_rules.specs.Uncut.{times_over}
-use Rattle.sweep_rules.specs.Label.{Label, IsWanted, IsReadyFrom, CanGoOn, IsGoneOn, start_on, end_on, flow_on, gone_on}
+use Rattle.sweep_rules.specs.Label.{Label, IsWanted, IsReadyFrom, CanGoOn, IsGoneOn, start_on, end_on, gone_on}
 use Rattle.sweep_rules.specs.Completion.{AreLawfulAfter, IsCompletion, EndsBelow, flow_starting, flow_completed}
 use Rattle.sweep_rules.specs.Gain.{IsWayOn}
 use Rattle.sweep_rules.proofs.OverLemmas.{sum-same, sum-but_one, missing-on, completion-on}
@@ -152,7 +152,7 @@ once-left served next held all left own once split is some none = subst (λ b. l
         ]
 
 module _ (I : Instance) (cuts : List PlainCut) (label next : Label) (lines : ℕ → List Group) (starts : ℕ → List ℕ) (completion : IsCompletion I cuts label lines starts)
-         (f : IsFirstOf lines starts (length I.chambers)) (gone : IsGoneOn I cuts label f.chamber f.group next) where
+    (f : IsFirstOf lines starts (length I.chambers)) (gone : IsGoneOn I cuts label f.chamber f.group next) where
   abbrev left_lines : ℕ → List Group
   left_lines = without_first lines f.chamber f.others
 
@@ -252,9 +252,9 @@ module _ (I : Instance) (cuts : List PlainCut) (label next : Label) (lines : ℕ
       let done : ℕ = f.start + duration_of I c f.group.ships in
       let own : ℕ = sum_by (λ s. done - (ship_at I s).arrival) f.group.ships in
       let whole : flow_starting I c (lines c) (starts c) ≡ own + flow_starting I c f.others f.times =
-          (λ i. flow_starting I c (f.line i) (starts c)) ∙ (λ i. flow_starting I c (f.group ∷ f.others) (f.at i)) in
+      (λ i. flow_starting I c (f.line i) (starts c)) ∙ (λ i. flow_starting I c (f.group ∷ f.others) (f.at i)) in
       let rest : flow_starting I c (left_lines c) (left_starts c) ≡ flow_starting I c f.others f.times =
-          λ i. flow_starting I c (without-own lines c f.others c refl i) (without-own starts c f.times c refl i) in
+      λ i. flow_starting I c (without-own lines c f.others c refl i) (without-own starts c f.times c refl i) in
       let split = sum-but_one (λ d. flow_starting I d (lines d) (starts d)) (λ d. flow_starting I d (left_lines d) (left_starts d)) own 0 (length I.chambers) c (omega arith) (omega (arith, f.below)) (omega (arith, whole, rest))
       (λ d other. λ i. flow_starting I d (sym (without-other lines c f.others d other) i) (sym (without-other starts c f.times d other) i)) in
       let less = sum_by-le-sum_by (λ s. end_on I label c f.group - (ship_at I s).arrival) (λ s. done - (ship_at I s).arrival) f.group.ships (λ s. omega (arith, start-early)) in

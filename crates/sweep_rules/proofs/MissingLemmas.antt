@@ -1,34 +1,18 @@
 -- The ships that a label misses, counted, and their prices.
-use Rattle.std.proofs.Common.{◌≡◌, ◌≢◌, ℕ, zero, suc, ◌+◌, ◌-◌, ◌*◌, ◌<◌, ◌≤◌, max, ◌||◌, not, nat_eq, Bool, true, false, cond, List, [], ◌∷◌, ◌++◌, length, All, sum_by, filter, inl, inr, refl, sym, ap, ◌∙◌, subst, arith}
+use Rattle.std.proofs.Common.{◌≡◌, ℕ, ◌+◌, ◌<◌, ◌≤◌, not, nat_eq, Bool, true, false, cond, List, [], ◌∷◌, ◌++◌, length, All, sum_by, filter, inl, inr, refl, sym, ap, ◌∙◌, arith}
 use Rattle.std.specs.List.{flat_map}
 use Rattle.std.proofs.lemmas.Bool.Decides.{eqb_tells, leb_tells}
-use Rattle.std.proofs.lemmas.List.Sums.{sum_by-cons, sum_by-append, sum_by-le-sum_by}
-use Rattle.std.proofs.lemmas.List.Elements.{All-head, All-tail, All-weaker, All-contains}
-use Rattle.lock_model.specs.Fleet.{ship_at, chamber_at}
+use Rattle.std.proofs.lemmas.List.Sums.{sum_by-cons, sum_by-append}
+use Rattle.std.proofs.lemmas.List.Elements.{All-head, All-tail}
 use Rattle.lock_model.specs.declared.instance.Instance.{Instance}
 use Rattle.lock_model.specs.declared.group.Group.{Group}
-use Rattle.lock_model.specs.declared.way.Way.{Way}
-use Rattle.lock_model.specs.declared.way.Stand.{Stand}
-use Rattle.lock_rules.specs.Lawful.{IsLawfulStart, AreLawfulFrom, IsFree, duration_of, stand_before, stand_after}
-use Rattle.lock_rules.specs.Timetable.{ready_at, last_arrival, first_free, start_of, timetable_from, starts_of}
 use Rattle.lock_rules.specs.Plan.{times_in}
-use Rattle.lock_rules.specs.Trace.{has_number, trace_of}
-use Rattle.lock_rules.specs.Arrival.{numbers_from, first_ships}
+use Rattle.lock_rules.specs.Arrival.{numbers_from}
 use Rattle.lock_rules.specs.Node.{times_on}
-use Rattle.lock_rules.specs.Bound.{flow_of}
-use Rattle.lock_rules.proofs.FreeLemmas.{first_free-least}
-use Rattle.lock_rules.proofs.TimetableLemmas.{closures_kept, ready_at-mono, start_of-least, start_of-lawful, last_arrival-least, timetable-lawful}
-use Rattle.lock_rules.proofs.CountLemmas.{sum_by-counts, times_in-append, times_in-between, times_in-above, times_in-outside}
-use Rattle.lock_rules.proofs.LeafLemmas.{sum_by-flat_map}
-use Rattle.lock_rules.proofs.TreeLemmas.{times_in-hit, times_in-miss}
-use Rattle.price_rules.specs.Prices.{PlainCut, IsUncut, IsLoose, is_missing, price_at, paid_by, paid_in}
-use Rattle.sweep_rules.specs.Uncut.{times_over}
-use Rattle.sweep_rules.specs.Label.{Label, IsWanted, CanGoOn, IsGoneOn, start_on, end_on}
-use Rattle.sweep_rules.specs.Completion.{AreLawfulAfter, IsCompletion, EndsBelow, flow_starting, flow_completed}
-use Rattle.sweep_rules.specs.Gain.{IsWayOn, IsGainFrom, IsGain, IsAbove, timetable_after, ships_missing, prices_missing}
-use Rattle.sweep_rules.proofs.FirstLemmas.{flow-starts}
-use Rattle.sweep_rules.proofs.OverLemmas.{sum-at, completion-on}
-use Rattle.sweep_rules.proofs.ReadyLemmas.{ready_at-before, way_on-head, uncut-ship, ship-wanted}
+use Rattle.lock_rules.proofs.CountLemmas.{times_in-append, times_in-between, times_in-above, times_in-outside}
+use Rattle.lock_rules.proofs.TreeLemmas.{times_in-miss}
+use Rattle.price_rules.specs.Prices.{is_missing, price_at, paid_by, paid_in}
+use Rattle.sweep_rules.specs.Gain.{ships_missing}
 
 -- all ships of some groups
 abbrev pub ships_of : List Group → List ℕ

@@ -7,6 +7,8 @@ use Rattle.lock_model.specs.declared.group.Group.{Group}
 use Rattle.lock_rules.specs.Plan.{times_in}
 use Rattle.lock_rules.specs.Arrival.{numbers_from}
 use Rattle.lock_rules.specs.Node.{times_on}
+use Rattle.lock_model.specs.Ships.{RisesFrom}
+use Rattle.lock_rules.proofs.TreeLemmas.{times_in-hit, times_in-miss, low-times_in}
 use Rattle.lock_rules.proofs.SplitLemmas.{times_in-at}
 use Rattle.lock_rules.proofs.NodeLemmas.{group-line}
 use Rattle.price_rules.specs.Prices.{PlainCut, IsUncut}
@@ -14,6 +16,18 @@ use Rattle.sweep_rules.specs.Uncut.{times_over}
 use Rattle.sweep_rules.specs.Label.{Label}
 use Rattle.sweep_rules.specs.Completion.{IsCompletion}
 use Rattle.sweep_rules.specs.Gain.{IsWayOn}
+
+-- rising numbers hold each number once at most
+pub rising-once : (low : ℕ) (xs : List ℕ) → RisesFrom low xs → (s : ℕ) → times_in xs s ≤ 1
+rising-once low [] rises s = omega arith
+rising-once low (x ∷ xs) rises s =
+    elim (eqb_tells x s) [
+      | inl same ↦ elim (leb_tells 1 (times_in xs s)) [
+        | inl again ↦ absurd (omega (arith, same.1, low-times_in s (suc x) xs rises.1 again.1))
+        | inr once ↦ omega (arith, times_in-hit s x xs same.0, once.1)
+      ]
+      | inr other ↦ omega (arith, times_in-miss s x xs other.0, rising-once (suc x) xs rises.1 s)
+    ]
 
 -- a part is at most the sum
 pub sum-at : (f : ℕ → ℕ) (low n c : ℕ) → low ≤ c → c < low + n → f c ≤ sum_by f (numbers_from low n)

@@ -1,5 +1,5 @@
 -- Lines behind a label: what a start says of its minutes, and what a start there says of a chamber's state.
-use Rattle.std.proofs.Common.{◌≡◌, ◌≢◌, ℕ, zero, suc, ◌+◌, ◌<◌, ◌≤◌, max, Bool, true, false, cond, List, [], ◌∷◌, length, All, Contains, refl, sym, subst, arith, slice_index_or}
+use Rattle.std.proofs.Common.{◌≡◌, ℕ, ◌<◌, ◌≤◌, max, Bool, false, List, [], ◌∷◌, length, All, Contains, refl, subst, arith}
 use Rattle.std.proofs.lemmas.List.Elements.{All-head, All-tail, All-cons, All-nil, All-weaker, All-contains}
 use Rattle.lock_model.specs.Fleet.{ship_at, chamber_at}
 use Rattle.lock_model.specs.declared.chamber.Chamber.{Chamber}
@@ -12,7 +12,7 @@ use Rattle.lock_rules.specs.Lawful.{HasTurned, IsLawfulStart, AreLawfulFrom, sta
 use Rattle.lock_rules.specs.Timetable.{ready_at}
 use Rattle.lock_rules.proofs.TimetableLemmas.{ready_at-least}
 use Rattle.price_rules.specs.Prices.{PlainCut, Spares, IsUncut}
-use Rattle.sweep_rules.specs.Label.{IsWanted, IsReadyFrom}
+use Rattle.sweep_rules.specs.Label.{IsWanted}
 use Rattle.sweep_rules.specs.Completion.{AreLawfulAfter}
 use Rattle.sweep_rules.specs.Gain.{IsWayOn}
 

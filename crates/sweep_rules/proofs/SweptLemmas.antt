@@ -1,12 +1,12 @@
 -- No legal plan costs less than a cost that is swept by cuts that hold.
-use Rattle.std.proofs.Common.{◌≡◌, ℕ, ◌<◌, ◌≤◌, List, length, All, Contains, sum_by, sym, ◌∙◌, arith}
+use Rattle.std.proofs.Common.{ℕ, ◌≤◌, List, length, All, Contains, sum_by, sym, ◌∙◌, arith}
 use Rattle.lock_model.specs.declared.instance.Instance.{Instance}
 use Rattle.lock_model.specs.declared.group.Group.{Group}
 use Rattle.lock_model.specs.declared.plan.Plan.{Plan}
 use Rattle.lock_rules.specs.Plan.{IsLegal, times_in, cost_of}
 use Rattle.lock_rules.specs.Lines.{line_of, groups_of}
 use Rattle.lock_rules.specs.Arrival.{numbers_from}
-use Rattle.lock_rules.specs.Node.{times_on, root_lines}
+use Rattle.lock_rules.specs.Node.{root_lines}
 use Rattle.lock_rules.specs.Heredity.{IsHereditary}
 use Rattle.lock_rules.proofs.LegalLemmas.{legal-chambers}
 use Rattle.lock_rules.proofs.LineLemmas.{sum_by-lines}
@@ -16,7 +16,7 @@ use Rattle.price_rules.specs.Prices.{PlainCut, CutHolds, IsUncut}
 use Rattle.price_rules.proofs.LooseLemmas.{plan-loose}
 use Rattle.price_rules.proofs.ReachLemmas.{plan-flow, uncut-fewer}
 use Rattle.std.proofs.lemmas.List.Elements.{All-weaker}
-use Rattle.sweep_rules.specs.Uncut.{times_over, IsUncutPlan, IsSwept}
+use Rattle.sweep_rules.specs.Uncut.{IsUncutPlan, IsSwept}
 
 -- the lines of a legal plan are an uncut plan where the cuts hold, given heredity
 pub plan-uncut : IsHereditary → (I : Instance) (cuts : List PlainCut) → All CutHolds cuts → (P : Plan) → IsLegal I P → IsUncutPlan I cuts (groups_of P)

@@ -1,5 +1,5 @@
 -- Labels of a sweep, and how they go on.
-use Rattle.std.specs.Prelude.{ℕ, ◌≡◌, ◌+◌, ◌-◌, ◌≤◌, ◌<◌, ◌||◌, max, Bool, true, false, nat_eq, nat_lt, if◌then◌else◌, List, [], ◌∷◌, length, All, sum_by}
+use Rattle.std.specs.Prelude.{ℕ, ◌≡◌, ◌+◌, ◌-◌, ◌≤◌, ◌<◌, ◌||◌, max, Bool, false, nat_eq, nat_lt, if◌then◌else◌, List, [], ◌∷◌, length, All, sum_by}
 use Rattle.lock_model.specs.Fleet.{ship_at, chamber_at}
 use Rattle.lock_model.specs.declared.instance.Instance.{Instance}
 use Rattle.lock_model.specs.declared.group.Group.{Group}
