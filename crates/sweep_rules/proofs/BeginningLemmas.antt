@@ -64,10 +64,10 @@ with_last-own lines c g d same = λ i. cond (eq-eqb d c same i) (lines c ++ g �
 pub with_last-other : (lines : ℕ → List Group) (c : ℕ) (g : Group) (d : ℕ) → d ≢ c → with_last lines c g d ≡ lines d
 with_last-other lines c g d other = λ i. cond (ne_eqb d c other i) (lines c ++ g ∷ []) (lines d)
 
-module _ (I : Instance) (cuts : List PlainCut) where
-  abbrev no_lines : ℕ → List Group
-  no_lines c = []
+abbrev pub no_lines : ℕ → List Group
+no_lines c = []
 
+module _ (I : Instance) (cuts : List PlainCut) where
   -- EMPTY LINES LEAD to a first label,
   pub lead-first : (label : Label) → IsFirstLabel I cuts label → LeadTo I cuts label no_lines
   lead-first label first = record {

@@ -1,5 +1,5 @@
 -- A label with a completion goes on by the first group of it.
-use Rattle.std.proofs.Common.{◌≡◌, ◌≢◌, ℕ, zero, suc, ◌+◌, ◌-◌, ◌<◌, ◌≤◌, max, ◌||◌, Bool, true, false, cond, List, [], ◌∷◌, length, All, sum_by, nat_eq, nat_lt, ◌⊎◌, inl, inr, refl, sym, ap, ◌∙◌, subst, arith}
+use Rattle.std.proofs.Common.{◌≡◌, ◌≢◌, ℕ, suc, ◌+◌, ◌-◌, ◌<◌, ◌≤◌, max, ◌||◌, Bool, true, false, cond, List, [], ◌∷◌, length, All, sum_by, nat_eq, nat_lt, inl, inr, refl, sym, ap, ◌∙◌, subst, arith}
 use Rattle.std.proofs.lemmas.Bool.{ne_eqb, eq-eqb, lt-ltb, le-ltb}
 use Rattle.std.proofs.lemmas.Bool.Decides.{eqb_tells, leb_tells}
 use Rattle.std.proofs.lemmas.List.Sums.{sum_by-le-sum_by}
@@ -24,102 +24,8 @@ use Rattle.sweep_rules.specs.Label.{Label, IsWanted, IsReadyFrom, CanGoOn, IsGon
 use Rattle.sweep_rules.specs.Completion.{AreLawfulAfter, IsCompletion, EndsBelow, flow_starting, flow_completed}
 use Rattle.sweep_rules.specs.Gain.{IsWayOn}
 use Rattle.sweep_rules.proofs.OverLemmas.{sum-same, sum-but_one, missing-on, completion-on}
+use Rattle.sweep_rules.proofs.SoonestLemmas.{IsSoonest, soonest-of}
 use Rattle.sweep_rules.proofs.ReadyLemmas.{start-ready, lawful-after, lawful-others, way_on-head}
-
--- Of the first n chambers the one whose line starts first, by start and chamber.
-record IsFirstOf (lines : ℕ → List Group) (starts : ℕ → List ℕ) (n : ℕ) : Type 0 where
-  chamber : ℕ
-  below : chamber < n
-  group : Group
-  others : List Group
-  start : ℕ
-  times : List ℕ
-  line : lines chamber ≡ group ∷ others
-  at : starts chamber ≡ start ∷ times
-  first : (d : ℕ) → d < n → (h : Group) (hs : List Group) (u : ℕ) (us : List ℕ) → lines d ≡ h ∷ hs → starts d ≡ u ∷ us → (chamber < d → start ≤ u) × (d < chamber → start < u)
-
-module _ (lines : ℕ → List Group) (starts : ℕ → List ℕ) where
-  abbrev IsNone : ℕ → Type 0
-  IsNone n = (d : ℕ) → d < n → lines d ≡ []
-
-  not_both : (d : ℕ) (h : Group) (hs : List Group) → lines d ≡ [] → lines d ≡ h ∷ hs → ⊥
-  not_both d h hs e f = cc
-
-  same-start : (c d u t : ℕ) (us ts : List ℕ) → d ≡ c → starts d ≡ u ∷ us → starts c ≡ t ∷ ts → u ≡ t
-  same-start c d u t us ts e f g = cc
-
-  below-other : (d n : ℕ) → d < suc n → d ≢ n → d < n
-  below-other d n less other = elim (leb_tells (suc d) n) [ inl y ↦ y.1 | inr m ↦ absurd (other (omega (arith, m.1))) ]
-
-  -- the chamber that is first stays so, where the next one's line is empty or starts no sooner
-  first-kept : (n : ℕ) (f : IsFirstOf lines starts n) → ((h : Group) (hs : List Group) (u : ℕ) (us : List ℕ) → lines n ≡ h ∷ hs → starts n ≡ u ∷ us → f.start ≤ u) → IsFirstOf lines starts (suc n)
-  first-kept n f later = record {
-    chamber = f.chamber;
-    below = omega (arith, f.below);
-    group = f.group;
-    others = f.others;
-    start = f.start;
-    times = f.times;
-    line = f.line;
-    at = f.at;
-    first = λ d less h hs u us line at. elim (eqb_tells d n) [
-      | inl same ↦
-          let own : f.start ≤ u = later h hs u us (ap lines (sym same.1) ∙ line) (ap starts (sym same.1) ∙ at) in
-          (λ before. own, λ before. absurd (omega (arith, before, same.1, f.below)))
-      | inr other ↦ f.first d (below-other d n less other.1) h hs u us line at
-    ];
-  }
-
-  -- the next chamber is first, where all lines before are empty, or it starts sooner than the one that was
-  first-next : (n : ℕ) (g : Group) (gs : List Group) (t : ℕ) (ts : List ℕ) → lines n ≡ g ∷ gs → starts n ≡ t ∷ ts
-      → ((d : ℕ) → d < n → (h : Group) (hs : List Group) (u : ℕ) (us : List ℕ) → lines d ≡ h ∷ hs → starts d ≡ u ∷ us → t < u) → IsFirstOf lines starts (suc n)
-  first-next n g gs t ts line at sooner = record {
-    chamber = n;
-    below = omega arith;
-    group = g;
-    others = gs;
-    start = t;
-    times = ts;
-    line = line;
-    at = at;
-    first = λ d less h hs u us line at. (λ before. absurd (omega (arith, before, less)), λ before. sooner d before h hs u us line at);
-  }
-
-  -- no line of the first ones starts before the first of them
-  first-least : (n : ℕ) (f : IsFirstOf lines starts n) (d : ℕ) → d < n → (h : Group) (hs : List Group) (u : ℕ) (us : List ℕ) → lines d ≡ h ∷ hs → starts d ≡ u ∷ us → f.start ≤ u
-  first-least n f d less h hs u us line at =
-      elim (eqb_tells d f.chamber) [
-        | inl same ↦ omega (arith, same-start f.chamber d u f.start us f.times same.1 at f.at)
-        | inr other ↦ elim (leb_tells (suc d) f.chamber) [
-          | inl before ↦ (let strict = (f.first d less h hs u us line at).1 before.1 in omega (arith, strict))
-          | inr behind ↦ (f.first d less h hs u us line at).0 (above d f.chamber other.1 behind.1)
-        ]
-      ]
-    where
-      above : (d c : ℕ) → d ≢ c → c < suc d → c < d
-      above d c other less = elim (leb_tells (suc c) d) [ inl y ↦ y.1 | inr m ↦ absurd (other (omega (arith, m.1))) ]
-
-  first-more : (I : Instance) (n : ℕ) (ready : Way → ℕ) → IsNone n ⊎ IsFirstOf lines starts n → (gs : List Group) (ts : List ℕ) → lines n ≡ gs → starts n ≡ ts → AreLawfulAfter I n ready gs ts
-      → IsNone (suc n) ⊎ IsFirstOf lines starts (suc n)
-  first-more I n ready so_far [] [] line at lawful =
-      elim so_far [
-        | inl none ↦ inl (λ d less. elim (eqb_tells d n) [ inl same ↦ ap lines same.1 ∙ line | inr other ↦ none d (below-other d n less other.1) ])
-        | inr f ↦ inr (first-kept n f (λ h hs u us own times. absurd (not_both n h hs line own)))
-      ]
-  first-more I n ready so_far [] (t ∷ ts) line at lawful = absurd lawful
-  first-more I n ready so_far (g ∷ gs) [] line at lawful = absurd lawful
-  first-more I n ready so_far (g ∷ gs) (t ∷ ts) line at lawful =
-      elim so_far [
-        | inl none ↦ inr (first-next n g gs t ts line at (λ d less h hs u us own times. absurd (not_both d h hs (none d less) own)))
-        | inr f ↦ elim (leb_tells f.start t) [
-          | inl kept ↦ inr (first-kept n f (λ h hs u us own times. let same = same-start n n u t us ts refl times at in omega (arith, kept.1, same)))
-          | inr sooner ↦ inr (first-next n g gs t ts line at (λ d less h hs u us own times. omega (arith, sooner.1, first-least n f d less h hs u us own times)))
-        ]
-      ]
-
-  first-of : (I : Instance) (ready : ℕ → Way → ℕ) (n : ℕ) → ((c : ℕ) → c < n → AreLawfulAfter I c (ready c) (lines c) (starts c)) → IsNone n ⊎ IsFirstOf lines starts n
-  first-of I ready zero lawful = inl (λ d less. absurd (omega (arith, less)))
-  first-of I ready (suc n) lawful = first-more I n (ready n) (first-of I ready n (λ c less. lawful c (omega arith))) (lines n) (starts n) refl refl (lawful n (omega arith))
 
 -- what is left of lines when the first group of chamber c is taken off
 abbrev pub without_first : {X : Type 0} → (ℕ → List X) → ℕ → List X → ℕ → List X
@@ -152,7 +58,7 @@ once-left served next held all left own once split is some none = subst (λ b. l
         ]
 
 module _ (I : Instance) (cuts : List PlainCut) (label next : Label) (lines : ℕ → List Group) (starts : ℕ → List ℕ) (completion : IsCompletion I cuts label lines starts)
-    (f : IsFirstOf lines starts (length I.chambers)) (gone : IsGoneOn I cuts label f.chamber f.group next) where
+    (f : IsSoonest lines starts (length I.chambers)) (gone : IsGoneOn I cuts label f.chamber f.group next) where
   abbrev left_lines : ℕ → List Group
   left_lines = without_first lines f.chamber f.others
 
@@ -275,7 +181,7 @@ pub record GoesBelow (I : Instance) (cuts : List PlainCut) (goal : ℕ) (label :
 -- A LABEL GOES ON BY THE FIRST GROUP OF A COMPLETION, by start and chamber, to labels that have one of no greater total.
 pub label-goes : (I : Instance) (cuts : List PlainCut) (goal : ℕ) (label : Label) → EndsBelow I cuts goal label → (s : ℕ) → s < length I.ships → label.served s ≡ false → GoesBelow I cuts goal label
 label-goes I cuts goal label ends s known missing =
-    elim (first-of ends.lines ends.starts I label.ready (length I.chambers) ends.is.lawful) [
+    elim (soonest-of ends.lines ends.starts I label.ready (length I.chambers) ends.is.lawful) [
       | inl none ↦ absurd (none-both (times_over I s ends.lines) (label.served s) (none-over I ends.lines s none) (ends.is.once s known) missing)
       | inr f ↦
           (let own = way_on-head I f.chamber cuts label.served f.group f.others (subst (IsWayOn I f.chamber cuts label.served) f.line (completion-on I cuts label ends.lines ends.starts ends.is f.chamber f.below)) in
