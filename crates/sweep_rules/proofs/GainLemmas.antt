@@ -1,0 +1,200 @@
+-- A label whose bound by prices is above the goal has no completion of a total below it.
+use Rattle.std.proofs.Common.{◌≡◌, ◌≢◌, ℕ, zero, suc, ◌+◌, ◌*◌, ◌<◌, ◌≤◌, ◌||◌, Bool, true, false, cond, List, [], ◌∷◌, ◌++◌, length, All, sum_by, filter, inl, inr, refl, sym, ◌∙◌, subst, arith, slice_index_or}
+use Rattle.std.specs.List.{flat_map}
+use Rattle.std.proofs.lemmas.Bool.Decides.{eqb_tells, leb_tells}
+use Rattle.std.proofs.lemmas.List.Sums.{sum_by-cons, sum_by-append}
+use Rattle.lock_model.specs.declared.instance.Instance.{Instance}
+use Rattle.lock_model.specs.declared.group.Group.{Group}
+use Rattle.lock_model.specs.declared.way.Way.{Way}
+use Rattle.lock_model.specs.declared.way.Stand.{Stand}
+use Rattle.lock_rules.specs.Lawful.{stand_before, stand_after}
+use Rattle.lock_rules.specs.Plan.{times_in}
+use Rattle.lock_rules.specs.Trace.{has_number, trace_of, with_group}
+use Rattle.lock_rules.specs.Arrival.{numbers_from}
+use Rattle.lock_rules.specs.Node.{times_on}
+use Rattle.lock_rules.specs.Bound.{flow_of}
+use Rattle.lock_rules.proofs.CountLemmas.{sum_by-counts, times_in-append, times_in-outside}
+use Rattle.lock_rules.proofs.LeafLemmas.{sum_by-flat_map}
+use Rattle.lock_rules.proofs.LeafLemmas.{has_number-some}
+use Rattle.lock_rules.proofs.SplitLemmas.{All-times, has_number-none, RisesFrom-increasing}
+use Rattle.lock_rules.proofs.LineLemmas.{sum_by-zero}
+use Rattle.price_rules.specs.Prices.{PlainCut, IsUncut, IsLoose, price_at, paid_in}
+use Rattle.sweep_rules.specs.Uncut.{times_over}
+use Rattle.sweep_rules.specs.Label.{Label, IsWanted, CanGoOn, IsGoneOn, end_on, flow_on}
+use Rattle.sweep_rules.specs.Completion.{IsCompletion, EndsBelow, flow_starting}
+use Rattle.sweep_rules.specs.Gain.{IsWayOn, IsGainFrom, IsGain, IsAbove, timetable_after, ships_missing, prices_missing}
+use Rattle.sweep_rules.proofs.FlowLemmas.{flow-after, flow-later, flow-ready, flow-minutes}
+use Rattle.sweep_rules.proofs.GoingLemmas.{still-missing, others-later}
+use Rattle.sweep_rules.proofs.MissingLemmas.{ships_of, times_in-ships_of, paid-ships, missing-counts, missing-one, missing-none, missing-past, times_on-past, times_in-flat}
+use Rattle.sweep_rules.proofs.OverLemmas.{sum-same, completion-on, rising-once}
+use Rattle.sweep_rules.proofs.ReadyLemmas.{way_on-head, uncut-ship, ship-wanted}
+
+-- one sum bounded by another, part by part
+sum-bounded : (p f g : ℕ → ℕ) (low n : ℕ) → ((c : ℕ) → low ≤ c → c < low + n → p c ≤ 100 * f c + g c) → sum_by p (numbers_from low n) ≤ 100 * sum_by f (numbers_from low n) + sum_by g (numbers_from low n)
+sum-bounded p f g low zero each = omega arith
+sum-bounded p f g low (suc n) each =
+    omega (
+      arith,
+      each low (omega arith) (omega arith),
+      sum-bounded p f g (suc low) n (λ c h less. each c (omega arith) (omega arith)),
+      sum_by-cons p low (numbers_from (suc low) n),
+      sum_by-cons f low (numbers_from (suc low) n),
+      sum_by-cons g low (numbers_from (suc low) n),
+    )
+
+module _ (I : Instance) (cuts : List PlainCut) (label : Label) (prices : List ℕ) where
+  -- a completion pays for each missing ship once
+  pub completion-paid : (lines : ℕ → List Group) (starts : ℕ → List ℕ) → IsCompletion I cuts label lines starts
+      → sum_by (λ c. paid_in I 0 prices (lines c)) (numbers_from 0 (length I.chambers)) ≡ prices_missing I prices label.served
+  completion-paid lines starts completion =
+      let m = length I.chambers in
+      let all : List ℕ = flat_map (λ c. ships_of (lines c)) (numbers_from 0 m) in
+      let count : (s : ℕ) → times_in all s ≡ times_over I s lines =
+      λ s. times_in-flat (λ c. ships_of (lines c)) (numbers_from 0 m) s ∙ (λ i. sum_by (λ c. times_in-ships_of (lines c) s i) (numbers_from 0 m)) in
+      let past : (s : ℕ) → length I.ships ≤ s → times_over I s lines ≡ 0 =
+      λ s out. sum-same (λ c. times_on s (lines c)) (λ c. 0) 0 m (λ c low less. times_on-past I (lines c) (λ j d here. (completion.uncut c (omega (arith, less)) j d here).known) s out) ∙ sum_by-zero (numbers_from 0 m) in
+      (λ i. sum_by (λ c. paid-ships I prices (lines c) i) (numbers_from 0 m))
+      ∙ sym (sum_by-flat_map (price_at prices) (λ c. ships_of (lines c)) (numbers_from 0 m))
+      ∙ sum_by-counts (price_at prices) all (ships_missing I label.served)
+      (missing-counts I label.served (times_in all) (λ s known. count s ∙ completion.once s known) (λ s out. count s ∙ past s out))
+
+  -- A LABEL ABOVE ITS BOUND has no completion of a total below the goal.
+  pub above-none : (gains : ℕ → ℕ) → ((c : ℕ) → c < length I.chambers → IsGain I c cuts label prices (gains c)) → (goal : ℕ) → IsAbove I label prices gains goal → EndsBelow I cuts goal label → ⊥
+  above-none gains bounds goal above ends =
+      let m = length I.chambers in
+      let flow : ℕ → ℕ = λ c. flow_starting I c (ends.lines c) (ends.starts c) in
+      let high = sum-bounded (λ c. paid_in I 0 prices (ends.lines c)) flow gains 0 m (λ c low less.
+      let known : c < m = omega arith in
+      omega (
+        arith,
+        (bounds c known).high (ends.lines c) (completion-on I cuts label ends.lines ends.starts ends.is c known),
+        flow-after I c known (label.ready c) (ends.lines c) (ends.starts c) (ends.is.lawful c known),
+      )) in
+      absurd (omega (arith, high, completion-paid ends.lines ends.starts ends.is, above.high, ends.below))
+
+-- fewer missing ships leave fewer ways to go on
+pub way_on-fewer : (I : Instance) (c : ℕ) (cuts : List PlainCut) (served more : ℕ → Bool) → ((s : ℕ) → s < length I.ships → more s ≡ false → served s ≡ false) → (gs : List Group) → IsWayOn I c cuts more gs → IsWayOn I c cuts served gs
+way_on-fewer I c cuts served more fewer gs on = record {
+  uncut = on.uncut;
+  missing = λ j d here i e inside.
+      let s = slice_index_or (slice_index_or gs j d).ships i e in
+      fewer s ((on.uncut j d here).known i e inside) (on.missing j d here i e inside);
+}
+
+-- A GAIN FROM A STATE stays one from later minutes, with fewer missing ships, and with more gain.
+pub gain_from-later : (I : Instance) (c : ℕ) → c < length I.chambers → (cuts : List PlainCut) (served more : ℕ → Bool) (prices : List ℕ) (stand : Stand) (from later gain greater : ℕ)
+    → ((s : ℕ) → s < length I.ships → more s ≡ false → served s ≡ false) → from ≤ later → gain ≤ greater
+    → IsGainFrom I c cuts served prices stand from gain → IsGainFrom I c cuts more prices stand later greater
+gain_from-later I c known cuts served more prices stand from later gain greater fewer early less bound = record {
+  high = λ gs on. omega (arith, less, bound.high gs (way_on-fewer I c cuts served more fewer gs on), flow-later I c known stand from later gs early);
+}
+
+-- A LABEL'S GAIN of a chamber is at most the greater of those from its two minutes.
+pub gain-ways : (I : Instance) (c : ℕ) (cuts : List PlainCut) (label : Label) (prices : List ℕ) (gain : ℕ)
+    → ((way : Way) → IsGainFrom I c cuts label.served prices (stand_before way) (label.ready c way) gain) → IsGain I c cuts label prices gain
+gain-ways I c cuts label prices gain bounds = record { high = λ gs on. each gs on }
+  where
+    each : (gs : List Group) → IsWayOn I c cuts label.served gs → paid_in I 0 prices gs ≤ 100 * flow_of I gs (timetable_after I c (label.ready c) gs) + gain
+    each [] on = omega arith
+    each (g ∷ gs) on = (bounds g.way).high (g ∷ gs) on
+
+module _ (I : Instance) (cuts : List PlainCut) (label next : Label) (c : ℕ) (g : Group) (can : CanGoOn I cuts label c g) (gone : IsGoneOn I cuts label c g next) (prices : List ℕ) where
+  -- the first group of a way to go on has a wanted ship
+  first-wanted : (d : ℕ) (gs : List Group) → IsWayOn I d cuts next.served gs → (h : Group) (rest : List Group) → gs ≡ h ∷ rest → (s : ℕ) × IsWanted I cuts next.served d h.way s
+  first-wanted d gs on h rest line =
+      let own = way_on-head I d cuts next.served h rest (subst (IsWayOn I d cuts next.served) line on) in
+      let one = uncut-ship I d cuts h own.0 in
+      (one.ship, ship-wanted I d cuts next.served h own.0 own.1 one.ship one.held)
+
+  -- THE GAIN OF ANOTHER CHAMBER is no more behind the group.
+  pub gain-other : (d : ℕ) → d < length I.chambers → d ≢ c → (gain : ℕ) → IsGain I d cuts label prices gain → IsGain I d cuts next prices gain
+  gain-other d known other gain bound = record {
+    high = λ gs on. omega (
+      arith,
+      bound.high gs (way_on-fewer I d cuts label.served next.served (still-missing I cuts label next c g gone) gs on),
+      flow-minutes I d known (label.ready d) (next.ready d) gs (λ h rest line.
+          let one = first-wanted d gs on h rest line in
+          others-later I cuts label next c g gone d known other h.way one.0 one.1),
+    );
+  }
+
+  -- THE GAIN OF ITS OWN CHAMBER is no more than the gain from the group's end.
+  pub gain-own : (gain : ℕ) → IsGainFrom I c cuts next.served prices (stand_after g.way) (end_on I label c g) gain → IsGain I c cuts next prices gain
+  gain-own gain bound = record {
+    high = λ gs on. omega (
+      arith,
+      bound.high gs on,
+      flow-ready I c can.chamber (stand_after g.way) (end_on I label c g) (next.ready c) gs (λ h rest line.
+          let one = first-wanted c gs on h rest line in
+          (gone.own h.way).after one.0 one.1),
+    );
+  }
+
+  -- the group pays for its ships, and the others are still missing
+  pub missing-paid : prices_missing I prices label.served ≡ prices_missing I prices next.served + sum_by (price_at prices) g.ships
+  missing-paid =
+      let left = ships_missing I next.served in
+      sym (sum_by-counts (price_at prices) (left ++ g.ships) (ships_missing I label.served)
+      (missing-counts I label.served (times_in (left ++ g.ships)) (λ s known. both s known) (λ s past. times_in-append left g.ships s ∙ outside s past)))
+      ∙ sum_by-append (price_at prices) left g.ships
+    where
+      differ : true ≡ false → ⊥
+      differ e = cc
+
+      outside : (s : ℕ) → length I.ships ≤ s → times_in (ships_missing I next.served) s + times_in g.ships s ≡ 0
+      outside s past = omega (arith, missing-past I next.served s past, times_in-outside (length I.ships) g.ships s can.uncut.known past)
+
+      parts : (served after held : Bool) (left own : ℕ) → after ≡ (served || held) → (after ≡ true → left ≡ 0) → (after ≡ false → left ≡ 1) → (1 ≤ own → served ≡ false) → (1 ≤ own → held ≡ true) → (own ≡ 0 → held ≡ false) → own ≤ 1
+          → left + own ≡ cond served 0 1
+      parts true after held left own is gone kept out some none most =
+          elim (leb_tells 1 own) [
+            | inl here ↦ absurd (differ (out here.1))
+            | inr missed ↦ omega (arith, gone is, missed.1)
+          ]
+      parts false after true left own is gone kept out some none most =
+          elim (leb_tells 1 own) [
+            | inl here ↦ omega (arith, gone is, here.1, most)
+            | inr missed ↦ absurd (differ (none (omega (arith, missed.1))))
+          ]
+      parts false after false left own is gone kept out some none most =
+          elim (leb_tells 1 own) [
+            | inl here ↦ absurd (differ (sym (some here.1)))
+            | inr missed ↦ omega (arith, kept is, missed.1)
+          ]
+
+      both : (s : ℕ) → s < length I.ships → times_in (ships_missing I next.served ++ g.ships) s ≡ cond (label.served s) 0 1
+      both s known =
+          times_in-append (ships_missing I next.served) g.ships s
+          ∙ parts (label.served s) (next.served s) (has_number g.ships s) (times_in (ships_missing I next.served) s) (times_in g.ships s) (gone.served s known)
+          (missing-none I next.served s) (missing-one I next.served s known)
+          (λ some. All-times (λ s. label.served s ≡ false) s g.ships can.missing some)
+          (has_number-some g.ships s) (has_number-none g.ships s)
+          (rising-once 0 g.ships (RisesFrom-increasing g.ships can.uncut.good.rising) s)
+
+  -- A GROUP WHOSE OWN SUM IS ABOVE THE GOAL leads to no label that has a completion of a total below it.
+  pub arc-none : (gains : ℕ → ℕ) → ((d : ℕ) → d < length I.chambers → d ≢ c → IsGain I d cuts label prices (gains d)) → IsGainFrom I c cuts label.served prices (stand_after g.way) (end_on I label c g) (gains c)
+      → (goal : ℕ) → 100 * goal + sum_by gains (numbers_from 0 (length I.chambers)) + sum_by (price_at prices) g.ships < 100 * (label.flow + flow_on I label c g) + prices_missing I prices label.served + 100
+      → EndsBelow I cuts goal next → ⊥
+  arc-none gains others own goal above =
+      above-none I cuts next prices gains bounds goal (record { high = omega (arith, above, missing-paid, gone.flow) })
+    where
+      bounds : (d : ℕ) → d < length I.chambers → IsGain I d cuts next prices (gains d)
+      bounds d known =
+          elim (eqb_tells d c) [
+            | inl same ↦
+                subst (λ d. IsGain I d cuts next prices (gains d)) (sym same.1)
+                (gain-own (gains c) (gain_from-later I c can.chamber cuts label.served next.served prices (stand_after g.way) (end_on I label c g) (end_on I label c g) (gains c) (gains c) (still-missing I cuts label next c g gone) (omega arith) (omega arith) own))
+            | inr other ↦ gain-other d known other.1 (gains d) (others d known other.1)
+          ]
+
+-- uncut groups are a loose line of the root
+pub uncut-loose : (I : Instance) (c : ℕ) (cuts : List PlainCut) (gs : List Group) → All (IsUncut I c cuts) gs → IsLoose I c cuts 0 [] gs
+uncut-loose I c cuts gs uncut = record { uncut = uncut; trace = nothing gs }
+  where
+    none : (xs : List ℕ) → filter (has_number []) xs ≡ []
+    none [] = refl
+    none (x ∷ xs) = none xs
+
+    nothing : (gs : List Group) → trace_of [] gs ≡ []
+    nothing [] = refl
+    nothing (g ∷ gs) = (λ i. with_group g.way (none g.ships i) (trace_of [] gs)) ∙ nothing gs

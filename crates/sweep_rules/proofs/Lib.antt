@@ -1,0 +1,14 @@
+pub mod SweptLemmas
+pub mod ReadyLemmas
+pub mod OverLemmas
+pub mod FirstLemmas
+pub mod DominanceLemmas
+pub mod SoonestLemmas
+pub mod GoingLemmas
+pub mod CoverLemmas
+pub mod FlowLemmas
+pub mod MissingLemmas
+pub mod GainLemmas
+pub mod BeginningLemmas
+pub mod RowLock
+pub mod Rows
