@@ -7,10 +7,34 @@ pub enum Point {
     Took(u8),
     /// It read this number from the shared best cost.
     Read(u64),
+    /// It is about to work out prices at its node, which has this depth.
+    Prices(u8),
+    /// It knows so many cuts as it begins a round of prices.
+    Knows(u64),
     /// It closed, split or parked its node.
     Closed,
     /// It has nothing to do, and begins to wait.
     Idle,
+}
+
+/// Where the node begins for which a gate holds a worker.
+#[derive(Clone, Copy)]
+pub enum Stage {
+    /// A worker that took a node.
+    Taking,
+    /// A worker that is about to work out prices at its node.
+    Pricing,
+}
+
+impl Stage {
+    /// Whether a worker at this point begins with a node below the root.
+    pub(crate) fn begins(self, point: Point) -> bool {
+        match (self, point) {
+            (Stage::Taking, Point::Took(depth)) | (Stage::Pricing, Point::Prices(depth)) => depth
+                > 0,
+            _ => false,
+        }
+    }
 }
 
 /// What workers call as they go, so that a test can hold one of them. No claim rests on it.

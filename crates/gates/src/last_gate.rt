@@ -1,25 +1,31 @@
 //! A gate that holds a worker until another one has nothing left to do.
-use crate::gate::{Gate, Point};
+use crate::gate::{Gate, Point, Stage};
 use crate::hold::Hold;
 use crate::worker_set::WorkerSet;
 use std::sync::OnceLock;
 
-/// Holds the first worker that takes a node below the root until another worker has taken one after that
-/// and then is idle, or for so many looks.
+/// Holds the first worker that begins with a node below the root until another worker has begun with one
+/// after that and then is idle, or for so many looks.
 #[derive(Drop)]
 pub struct LastGate {
+    stage: Stage,
     hold: Hold,
     followers: WorkerSet,
     heard: OnceLock<u64>,
+    began: OnceLock<u64>,
+    learnt: OnceLock<u64>,
 }
 
 impl LastGate {
-    /// A gate to which nobody has come, and which holds for at most `limit` looks.
-    pub fn new(limit: u64) -> LastGate {
+    /// A gate of this stage to which nobody has come, and which holds for at most `limit` looks.
+    pub fn new(stage: Stage, limit: u64) -> LastGate {
         LastGate {
+            stage,
             hold: Hold::new(limit),
             followers: WorkerSet::new(),
             heard: OnceLock::new(),
+            began: OnceLock::new(),
+            learnt: OnceLock::new(),
         }
     }
 
@@ -28,13 +34,23 @@ impl LastGate {
         self.hold.is_released()
     }
 
-    /// The number that the held worker read first after it was let go so.
+    /// The best cost that the held worker read first after it was let go so.
     pub fn heard(&self) -> Option<u64> {
         self.heard.get().copied()
     }
 
+    /// How many cuts the first worker that came after the held one knew as it began its first round.
+    pub fn began(&self) -> Option<u64> {
+        self.began.get().copied()
+    }
+
+    /// How many cuts the held worker knew as it began its first round after it was let go so.
+    pub fn learnt(&self) -> Option<u64> {
+        self.learnt.get().copied()
+    }
+
     // The first worker is held, and each other one that comes after it is remembered.
-    fn took(&self, worker: u8) {
+    fn begin(&self, worker: u8) {
         if !self.hold.enter(worker) && self.hold.is_of_another(worker) {
             self.followers.insert(worker);
         }
@@ -46,21 +62,32 @@ impl LastGate {
         }
     }
 
-    fn read(&self, worker: u8, number: u64) {
+    fn read(&self, worker: u8, cost: u64) {
         if self.hold.has_released(worker) {
             // A number that was heard before stays.
-            let _ = self.heard.try_set(number);
+            let _ = self.heard.try_set(cost);
+        }
+    }
+
+    fn know(&self, worker: u8, cuts: u64) {
+        if self.followers.contains(worker) {
+            let _ = self.began.try_set(cuts);
+        } else if self.hold.has_released(worker) {
+            let _ = self.learnt.try_set(cuts);
         }
     }
 }
 
 impl Gate for LastGate {
     fn at(&self, worker: u8, point: Point) {
+        if self.stage.begins(point) {
+            self.begin(worker);
+        }
         match point {
-            Point::Took(1..) => self.took(worker),
-            Point::Read(number) => self.read(worker, number),
+            Point::Read(cost) => self.read(worker, cost),
+            Point::Knows(cuts) => self.know(worker, cuts),
             Point::Idle => self.idle(worker),
-            Point::Took(0) | Point::Closed => {}
+            Point::Took(_) | Point::Prices(_) | Point::Closed => {}
         }
     }
 }

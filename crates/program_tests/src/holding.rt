@@ -1,14 +1,14 @@
 //! Gates with one worker, and with a third. That two meet, and what the held one hears, stands in
 //! `runs`.
 
-use gates::{Gate, LastGate, MeetGate, OpenGate, Point};
+use gates::{Gate, LastGate, MeetGate, OpenGate, Point, Stage};
 use std::thread::join;
 
 #[test]
 fn one_worker_is_let_go_and_meets_nobody(rt: HostRuntime) {
     for limit in [0, 1, 3] {
-        let meet = MeetGate::new(limit);
-        let last = LastGate::new(limit);
+        let meet = MeetGate::new(Stage::Taking, limit);
+        let last = LastGate::new(Stage::Taking, limit);
         let points = [
             (0, Point::Took(0)),
             (0, Point::Took(1)),
@@ -41,7 +41,7 @@ fn works<G: Gate>(gate: &G, worker: u8) {
 
 #[test]
 fn any_worker_that_followed_frees_the_held_one(rt: HostRuntime) {
-    let last = LastGate::new(10_000_000);
+    let last = LastGate::new(Stage::Taking, 10_000_000);
     let two = || {
         last.at(1, Point::Took(1));
         last.at(2, Point::Took(1));

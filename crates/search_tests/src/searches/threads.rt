@@ -2,7 +2,7 @@
 
 use crate::fixture::case_of;
 use book_core::Case;
-use gates::LastGate;
+use gates::{LastGate, Stage};
 use instance_text::read_instance;
 use solve_workers::solve;
 use std::test::Fail;
@@ -24,7 +24,7 @@ fn case_from(text: &[u8]) -> Result<Case, Fail> {
 #[test]
 fn a_worker_closes_by_the_cuts_of_another(rt: HostRuntime) -> Result<(), Fail> {
     let case = case_from(EQUAL)?;
-    let gate = LastGate::new(LOOKS);
+    let gate = LastGate::new(Stage::Taking, LOOKS);
     let solved = solve(&rt, rt.alloc(), &case, 2, &gate)?;
     assert!(rt; gate.freed());
     assert!(rt; solved.book.cut(0).is_some() && solved.book.cut(3).is_none());
