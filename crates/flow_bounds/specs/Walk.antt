@@ -9,6 +9,7 @@ use Rattle.lock_model.specs.declared.chamber.Chamber.{Chamber}
 use Rattle.lock_model.specs.declared.instance.Instance.{Instance}
 use Rattle.lock_model.specs.declared.group.Group.{Group}
 use Rattle.lock_rules.specs.Lawful.{duration_of, stand_after}
+use Rattle.lock_rules.specs.Node.{line_at}
 use Rattle.lock_rules.specs.Timetable.{first_free, ready_at, start_of}
 use Rattle.master_branch.specs.declared.step.Step.{Step}
 use Rattle.master_branch.specs.declared.step.Step.TheVariants.{Join, Open}
@@ -39,7 +40,9 @@ turn_for lock High Down = 0
 
 -- the end of a group of this load behind a walk
 abbrev pub end_with : Chamber → Walk → Load → ℕ
-end_with lock w load = first_free lock.closures (lock.pass + load.handling) (max (ready_at lock w.stand w.done load.way) load.latest) + (lock.pass + load.handling)
+end_with lock w load =
+    first_free lock.closures (lock.pass + load.handling) (max (ready_at lock w.stand w.done load.way) load.latest)
+    + (lock.pass + load.handling)
 
 -- after these groups
 abbrev pub serve_all : Instance → ℕ → Walk → List Group → Walk
@@ -63,3 +66,7 @@ pub record AreWalks (I : Instance) (c : ℕ) (line : List Group) (ws : List Walk
 abbrev pub chamber_of : Step → ℕ
 chamber_of (Join c p) = c
 chamber_of (Open c p) = c
+
+-- the line of its chamber
+abbrev pub line_of : List (List Group) → Step → List Group
+line_of lines step = line_at lines (chamber_of step)

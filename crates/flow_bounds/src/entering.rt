@@ -1,15 +1,11 @@
 //! A ship that enters a line of a node.
-ghost use Rattle.std.specs.Prelude.{◌≡◌, ◌+◌, ◌<◌, ◌≤◌, length, slice_set, drop};
-ghost use Rattle.std.specs.List.{insert};
-ghost use Rattle.lock_model.specs.Fleet.{ship_at};
-ghost use Rattle.lock_rules.specs.Node.{line_at};
-ghost use Rattle.lock_rules.specs.Children.{with_ship, single};
-ghost use Rattle.lock_rules.specs.Bound.{line_flow, node_flow};
+ghost use Rattle.std.specs.Prelude.{◌≡◌, ◌<◌, ◌≤◌, length};
+ghost use Rattle.lock_rules.specs.Bound.{line_flow};
 ghost use Rattle.master_branch.specs.Node.{IsNodeOf};
-ghost use Rattle.master_branch.specs.Steps.{group_in, lines_after, IsStep};
-ghost use Rattle.flow_bounds.specs.Walk.{chamber_of, serve_all};
+ghost use Rattle.master_branch.specs.Steps.{group_in, joined_line, opened_line, IsStep};
+ghost use Rattle.flow_bounds.specs.Walk.{chamber_of, line_of};
 ghost use Rattle.flow_bounds.specs.Along.{IsAlong};
-ghost use Rattle.flow_bounds.specs.Entering.{IsEntered};
+ghost use Rattle.flow_bounds.specs.Entering.{IsEntered, IsFlowAfter, entered_flow};
 
 use crate::line_walks::LineWalks;
 use crate::load::{load_alone, with_one};
@@ -43,7 +39,7 @@ pub fn joined(
     requires place { place < length line.now }
     requires room { length (group_in line.now place).ships < MOST }
     ensures entered { IsEntered instance.now chamber line.now along.now.walks result }
-    ensures flow { (serve_all instance.now chamber result.walk (drop result.from line.now)).flow ≡ line_flow instance.now chamber (slice_set line.now place (with_ship ship (group_in line.now place))) }
+    ensures flow { entered_flow instance.now chamber line.now result ≡ line_flow instance.now chamber (joined_line ship line.now place) }
 {
     let _ = line;
     let place = place as usize;
@@ -71,7 +67,7 @@ pub fn opened(
     requires along { IsAlong instance.now chamber line.now along.now }
     requires place { place ≤ length line.now }
     ensures entered { IsEntered instance.now chamber line.now along.now.walks result }
-    ensures flow { (serve_all instance.now chamber result.walk (drop result.from line.now)).flow ≡ line_flow instance.now chamber (insert line.now place (single (ship_at instance.now ship).way ship)) }
+    ensures flow { entered_flow instance.now chamber line.now result ≡ line_flow instance.now chamber (opened_line instance.now ship line.now place) }
 {
     let _ = line;
     let place = place as usize;
@@ -104,9 +100,9 @@ pub(crate) fn enter(
     requires node { IsNodeOf instance.now node.now }
     requires ship_in { ship < length instance.now.ships }
     requires step { IsStep instance.now ship node.now.lines step }
-    requires along { IsAlong instance.now (chamber_of step) (line_at node.now.lines (chamber_of step)) along.now }
-    ensures entered { IsEntered instance.now (chamber_of step) (line_at node.now.lines (chamber_of step)) along.now.walks result }
-    ensures flow { (serve_all instance.now (chamber_of step) result.walk (drop result.from (line_at node.now.lines (chamber_of step)))).flow + node_flow instance.now node.now.lines ≡ node_flow instance.now (lines_after instance.now ship node.now.lines step) + line_flow instance.now (chamber_of step) (line_at node.now.lines (chamber_of step)) }
+    requires along { IsAlong instance.now (chamber_of step) (line_of node.now.lines step) along.now }
+    ensures entered { IsEntered instance.now (chamber_of step) (line_of node.now.lines step) along.now.walks result }
+    ensures flow { IsFlowAfter instance.now ship node.now.lines step result }
 {
     match step {
         Step::Join { chamber, place } => {

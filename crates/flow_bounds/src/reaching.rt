@@ -149,7 +149,7 @@ pub fn children_reaching(
     requires lacks { node.now.depth < length instance.now.ships }
     requires steps { steps.now ≡ steps_by instance.now (next_ship instance.now node.now.depth) node.now.lines }
     ensures value { result ≡ map (λ lines. nat_le cost (bound_of instance.now (node.now.depth + 1) lines)) (children instance.now node.now) }
-    ensures probe { All (λ reached. IsTrue reached) result ↔ (cost ≤ probe_of instance.now node.now.depth node.now.lines (next_ship instance.now node.now.depth)) }
+    ensures probe { All IsTrue result ↔ (cost ≤ probe_of instance.now node.now.depth node.now.lines (next_ship instance.now node.now.depth)) }
 {
     let ship = roster.ship(instance, node.depth());
     let rest = roster.rest(instance, node.depth() + 1);
