@@ -63,7 +63,8 @@ IsState d picks paths None = length paths ≡ suc (length picks)
 IsState d picks paths (Some fault) = (length paths ≡ length picks) × IsCaseFault d picks (fault_of fault)
 
 -- The decisions in order, the options of the first of them, the edges of the case, and the paths of each of its beginnings but a faulty last one.
-pub record IsOnItsWay (d : Deck) (decided : List Decision) (picks : List Choice) (edges : List Edge) (paths : List PathTree) (fault : Option CaseFault) : Type 0 where
+pub record IsOnItsWay (d : Deck) (decided : List Decision) (picks : List Choice) (edges : List Edge) (paths : List PathTree) (fault : Option CaseFault)
+    : Type 0 where
   pub limits : IsDeck d
   pub in_order : decided ≡ decisions (length d.ships)
   pub chosen : AreChosen d (decisions (length d.ships)) picks

@@ -1,5 +1,6 @@
 -- Some of a deck's ships, and what shrinking gives.
 use Rattle.std.specs.Prelude.{ℕ, ◌≡◌, ◌⊎◌, ◌<◌, ◌≤◌, List, [], ◌∷◌, length, map, All, Contains, slice_index_or}
+use Rattle.std.specs.List.{remove}
 use Rattle.lock_model.specs.Deck.{Deck, size_at}
 use Rattle.deck_laws.specs.Thin.{thin_deck}
 use Rattle.refute_rules.specs.declared.refutation.Refutation.{Refutation}
@@ -16,6 +17,10 @@ part_of d places = record { length = d.length; width = d.width; end = d.end; gap
 -- Where a deck has two ships or more, `place` refutes no deck that leaves out one of them.
 pub record IsLeast (d : Deck) (turns : ℕ) : Type 0 where
   pub needed : (k : ℕ) → 2 ≤ length d.ships → k < length d.ships → PlaceRefutes (thin_deck d k) turns → ⊥
+
+-- `place` refutes none of the parts with one of these ships fewer
+abbrev pub HasNoSmallerPart : Deck → ℕ → List ℕ → Type 0
+HasNoSmallerPart d turns places = (k : ℕ) → k < length places → PlaceRefutes (part_of d (remove places k)) turns → ⊥
 
 -- Of a clashing pair both ships are kept, or one that `place` refutes alone.
 abbrev pub KeepsClash : Deck → ℕ → Refutation → List ℕ → Type 0

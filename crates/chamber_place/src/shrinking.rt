@@ -1,12 +1,11 @@
 //! Smaller cuts.
-ghost use Rattle.std.specs.Prelude.{ℕ, ◌≡◌, ◌≤◌, ◌<◌, [], ◌∷◌, length, IfOk, IfSome, IfNone};
-ghost use Rattle.std.specs.List.{remove};
+ghost use Rattle.std.specs.Prelude.{◌≡◌, ◌≤◌, [], ◌∷◌, length, IfOk, IfSome, IfNone};
 ghost use Rattle.refute_rules.specs.Clashes.{IsClashingPair};
 ghost use Rattle.refute_rules.specs.Cuts.{IsCut};
 ghost use Rattle.refute_rules.specs.Refutes.{IsRefuted};
 ghost use Rattle.refute_rules.specs.Reasons.{AreSome};
 ghost use Rattle.chamber_place.specs.Placing.{PlaceRefutes};
-ghost use Rattle.chamber_place.specs.Parts.{part_of, IsLeast, IsShrunk, IsPart, IsRefutedPart, IsSmaller, IsSmallerPart, BeginsWithClash};
+ghost use Rattle.chamber_place.specs.Parts.{part_of, IsLeast, IsShrunk, IsPart, IsRefutedPart, IsSmaller, IsSmallerPart, HasNoSmallerPart, BeginsWithClash};
 
 use crate::parts::{all_places, part_of, ship_count, ships_at, without};
 use crate::placing::{Placed, place};
@@ -53,7 +52,7 @@ fn smaller_part(
     requires some { AreSome deck.now places.now }
     requires two { 2 ≤ length places.now }
     ensures some { IfOk result (λ found. IfSome found (λ part. IsSmallerPart deck.now turns places.now part.places part.refutation)) }
-    ensures none { IfOk result (λ found. IfNone found ((k : ℕ) → k < length places.now → PlaceRefutes (part_of deck.now (remove places.now k)) turns → ⊥)) }
+    ensures none { IfOk result (λ found. IfNone found (HasNoSmallerPart deck.now turns places.now)) }
 {
     for number in 0..places.len() {
         if let Some(part) = refuted_part(alloc, deck, without(places, number), turns)? {

@@ -105,3 +105,6 @@ case-few n few = omega (arith, twice n, mul-le n (n + 1) 8 9 few (omega (arith, 
 
 pub spot-few : (n : ℕ) → n ≤ MOST → length (spot_decisions n) ≤ 16
 spot-few n few = omega (arith, spots-length 0 n, few)
+
+-- what `push_ship` goes by
+pub ruleset of_decisions = (pairs_begun, pairs_more, pairs_whole, pairs_room, berth_room)

@@ -59,7 +59,7 @@ impl Decisions {
 }
 
 // Appends a ship's berth and its pairs with the lower ships.
-#[tactic(auto, using(crate::proofs::DecisionLemmas::pairs_begun, crate::proofs::DecisionLemmas::pairs_more, crate::proofs::DecisionLemmas::pairs_whole, crate::proofs::DecisionLemmas::pairs_room, crate::proofs::DecisionLemmas::berth_room))]
+#[tactic(auto, using(crate::proofs::DecisionLemmas::of_decisions))]
 fn push_ship(list: &mut Decisions, ship: u8)
     requires ship { ship < MOST }
     requires begun { list.old ≡ decisions ship }
