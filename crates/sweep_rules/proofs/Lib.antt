@@ -10,5 +10,6 @@ pub mod FlowLemmas
 pub mod MissingLemmas
 pub mod GainLemmas
 pub mod BeginningLemmas
+pub mod SwapLemmas
 pub mod RowLock
 pub mod Rows
