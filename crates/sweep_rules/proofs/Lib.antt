@@ -11,5 +11,6 @@ pub mod MissingLemmas
 pub mod GainLemmas
 pub mod BeginningLemmas
 pub mod SwapLemmas
+pub mod EqualLemmas
 pub mod RowLock
 pub mod Rows
