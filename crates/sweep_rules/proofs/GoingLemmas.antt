@@ -185,6 +185,14 @@ module _ (I : Instance) (cuts : List PlainCut) (goal : ℕ) (label : Label) (lin
       let own = way_on-head I f.chamber cuts label.served f.group f.others (subst (IsWayOn I f.chamber cuts label.served) f.line (completion-on I cuts label lines starts completion f.chamber f.below)) in
       record { chamber = f.below; uncut = own.0; missing = own.1 }
 
+  -- whose ships have arrived by then,
+  pub soonest-arrived : All (λ s. (ship_at I s).arrival ≤ f.start) f.group.ships
+  soonest-arrived =
+      let lawful : AreLawfulAfter I f.chamber (label.ready f.chamber) (f.group ∷ f.others) (f.start ∷ f.times) =
+          subst (λ gs. AreLawfulAfter I f.chamber (label.ready f.chamber) gs (f.start ∷ f.times)) f.line
+          (subst (AreLawfulAfter I f.chamber (label.ready f.chamber) (lines f.chamber)) f.at (completion.lawful f.chamber f.below)) in
+      lawful.0.arrived
+
   -- to labels that have a completion of no greater total
   pub soonest-ends : label.flow + flow_completed I lines starts < goal → (next : Label) → IsGoneOn I cuts label f.chamber f.group next → EndsBelow I cuts goal next
   soonest-ends below next gone = record {

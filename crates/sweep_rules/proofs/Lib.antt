@@ -12,5 +12,6 @@ pub mod GainLemmas
 pub mod BeginningLemmas
 pub mod SwapLemmas
 pub mod EqualLemmas
+pub mod OrderLemmas
 pub mod RowLock
 pub mod Rows
