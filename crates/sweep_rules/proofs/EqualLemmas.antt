@@ -1,6 +1,5 @@
 -- Of equal ships the earlier ones go first: a completion stays one when two of them are swapped.
-use Rattle.std.proofs.Common.{◌≡◌, ◌≢◌, ℕ, zero, suc, ◌+◌, ◌-◌, ◌*◌, ◌<◌, ◌≤◌, Bool, true, false, cond, List, [], ◌∷◌, ◌++◌, length, map, All, Contains, sum_by, ◌⊎◌, inl, inr, refl, sym, ap, ◌∙◌, subst, arith, slice_index_or}
-use Rattle.std.proofs.lemmas.Bool.Decides.{eqb_tells, leb_tells}
+use Rattle.std.proofs.Common.{◌≡◌, ◌≢◌, ℕ, ◌+◌, ◌-◌, ◌<◌, ◌≤◌, cond, List, [], ◌∷◌, length, map, All, Contains, sum_by, inl, inr, refl, sym, ap, ◌∙◌, subst, arith, slice_index_or}
 use Rattle.std.proofs.lemmas.List.Sums.{sum_by-cons, sum_by-append}
 use Rattle.std.proofs.lemmas.List.Elements.{All-head, All-tail, All-weaker, All-contains, All-map}
 use Rattle.lock_model.specs.Limits.{Within}
@@ -18,17 +17,14 @@ use Rattle.lock_rules.proofs.LineLemmas.{sum_by-plus}
 use Rattle.lock_rules.proofs.NodeLemmas.{increasing-RisesFrom}
 use Rattle.lock_rules.proofs.SplitLemmas.{RisesFrom-increasing}
 use Rattle.price_rules.specs.Prices.{PlainCut, Spares, IsUncut}
-use Rattle.sweep_rules.specs.Uncut.{times_over}
-use Rattle.sweep_rules.specs.Label.{Label, CanGoOn, IsGoneOn}
-use Rattle.sweep_rules.specs.Completion.{AreLawfulAfter, IsCompletion, EndsBelow, flow_starting, flow_completed}
-use Rattle.sweep_rules.specs.Equal.{IsEqualBefore, swapped, HasSwapped, AreSwapped, IsInOrder}
+use Rattle.sweep_rules.specs.Label.{Label}
+use Rattle.sweep_rules.specs.Completion.{AreLawfulAfter, IsCompletion, flow_starting, flow_completed}
+use Rattle.sweep_rules.specs.Equal.{IsEqualBefore, swapped, AreSwapped}
 use Rattle.sweep_rules.specs.Gain.{ships_missing}
 use Rattle.sweep_rules.proofs.OverLemmas.{sum-same, rising-once}
 use Rattle.sweep_rules.proofs.MissingLemmas.{ships_of}
 use Rattle.sweep_rules.proofs.GainLemmas.{completion-sum}
-use Rattle.sweep_rules.proofs.SoonestLemmas.{IsSoonest}
-use Rattle.sweep_rules.proofs.GoingLemmas.{soonest-can, soonest-ends, soonest-some}
-use Rattle.sweep_rules.proofs.SwapLemmas.{swapped-cases, swapped-alike, swapped-twice, swap_ships, times_in-swap, length-swap, All-swap, rises-swap, sum_by-alike, sum_by-less}
+use Rattle.sweep_rules.proofs.SwapLemmas.{swapped-cases, swapped-alike, swapped-twice, swap_ships, times_in-swap, length-swap, All-swap, rises-swap, sum_by-alike}
 
 -- ---- ends and arrivals in place of flow times
 module _ (I : Instance) (c : ℕ) where
@@ -78,6 +74,13 @@ completion-ends I cuts label lines starts completion =
     (λ c low less. flow-ends_after I c (label.ready c) (lines c) (starts c) (completion.lawful c (omega (arith, less)))) in
     omega (arith, arrivals, both, same)
 
+-- a group with a and b swapped, and the lines of all chambers
+abbrev pub swap_group : ℕ → ℕ → Group → Group
+swap_group a b g = record { way = g.way; ships = swap_ships a b g.ships }
+
+abbrev pub swap_lines : ℕ → ℕ → (ℕ → List Group) → ℕ → List Group
+swap_lines a b lines c = map (swap_group a b) (lines c)
+
 module _ (I : Instance) (cuts : List PlainCut) (closed : AreSwapped I cuts) (a b : ℕ) (known_a : a < length I.ships) (known_b : b < length I.ships) (equal : IsEqualBefore I a b) where
   no_later : (ship_at I a).arrival ≤ (ship_at I b).arrival
   no_later = elim equal.order [ inl sooner ↦ omega (arith, sooner) | inr at_once ↦ omega (arith, at_once.0) ]
@@ -87,9 +90,6 @@ module _ (I : Instance) (cuts : List PlainCut) (closed : AreSwapped I cuts) (a b
     | inl sooner ↦ absurd (omega (arith, sooner, ap (λ s. (ship_at I s).arrival) same))
     | inr at_once ↦ absurd (omega (arith, at_once.1, same))
   ]
-
-  abbrev pub swap_group : Group → Group
-  swap_group g = record { way = g.way; ships = swap_ships a b g.ships }
 
   swap-known : (s : ℕ) → s < length I.ships → swapped a b s < length I.ships
   swap-known s known = swapped-cases a b (λ s t. s < length I.ships → t < length I.ships) (λ s same h. known_b) (λ s other same h. known_a) (λ s other apart h. h) s known
@@ -110,7 +110,7 @@ module _ (I : Instance) (cuts : List PlainCut) (closed : AreSwapped I cuts) (a b
         });
       }
 
-  swap-uncut : (c : ℕ) (g : Group) → IsUncut I c cuts g → IsUncut I c cuts (swap_group g)
+  swap-uncut : (c : ℕ) (g : Group) → IsUncut I c cuts g → IsUncut I c cuts (swap_group a b g)
   swap-uncut c g uncut = record {
     good = record {
       rising = increasing-RisesFrom 0 (swap_ships a b g.ships) (rises-swap a b equal-differ g.ships (rising-once 0 g.ships (RisesFrom-increasing g.ships uncut.good.rising)));
@@ -126,7 +126,7 @@ module _ (I : Instance) (cuts : List PlainCut) (closed : AreSwapped I cuts) (a b
   swap-duration c ss = ap {B = ℕ} (λ n. (chamber_at I c).pass + n) (sum_by-alike a b (λ s. (ship_at I s).handling) equal.handling ss)
 
   -- a start by which b has arrived is one for the swapped group
-  swap-start : (c : ℕ) (stand : Stand) (from : ℕ) (g : Group) (t : ℕ) → (ship_at I b).arrival ≤ t → IsLawfulStart I c stand from g t → IsLawfulStart I c stand from (swap_group g) t
+  swap-start : (c : ℕ) (stand : Stand) (from : ℕ) (g : Group) (t : ℕ) → (ship_at I b).arrival ≤ t → IsLawfulStart I c stand from g t → IsLawfulStart I c stand from (swap_group a b g) t
   swap-start c stand from g t late lawful = record {
     arrived = All-swap a b (λ s. (ship_at I s).arrival ≤ t) g.ships (All-weaker (λ s. (ship_at I s).arrival ≤ t) (λ s. (ship_at I (swapped a b s)).arrival ≤ t) (λ s h.
         swapped-cases a b (λ s t'. (ship_at I s).arrival ≤ t → (ship_at I t').arrival ≤ t) (λ s same h. late) (λ s other same h. omega (arith, no_later, late)) (λ s other apart h. h) s h) g.ships lawful.arrived);
@@ -135,30 +135,30 @@ module _ (I : Instance) (cuts : List PlainCut) (closed : AreSwapped I cuts) (a b
     free = subst (λ n. IsFree (chamber_at I c).closures t (t + n)) (sym (swap-duration c g.ships)) lawful.free;
   }
 
-  swap-from : (c : ℕ) (stand : Stand) (from : ℕ) (gs : List Group) (ts : List ℕ) → (ship_at I b).arrival ≤ from → AreLawfulFrom I c stand from gs ts → AreLawfulFrom I c stand from (map swap_group gs) ts
+  swap-from : (c : ℕ) (stand : Stand) (from : ℕ) (gs : List Group) (ts : List ℕ) → (ship_at I b).arrival ≤ from → AreLawfulFrom I c stand from gs ts → AreLawfulFrom I c stand from (map (swap_group a b) gs) ts
   swap-from c stand from [] [] late lawful = tt
   swap-from c stand from [] (t ∷ ts) late lawful = lawful
   swap-from c stand from (g ∷ gs) [] late lawful = lawful
   swap-from c stand from (g ∷ gs) (t ∷ ts) late lawful =
       let later : from ≤ t = lawful.0.later in (
         swap-start c stand from g t (omega arith) lawful.0,
-        subst (λ n. AreLawfulFrom I c (stand_after g.way) (t + n) (map swap_group gs) ts) (sym (swap-duration c g.ships))
-        (swap-from c (stand_after g.way) (t + duration_of I c g.ships) gs ts (omega arith) lawful.1),
+        subst (λ n. AreLawfulFrom I c (stand_after g.way) (t + n) (map (swap_group a b) gs) ts) (sym (swap-duration c g.ships))
+            (swap-from c (stand_after g.way) (t + duration_of I c g.ships) gs ts (omega arith) lawful.1),
       )
 
   swap-after : (c : ℕ) (ready : Way → ℕ) (gs : List Group) (ts : List ℕ) → ((t : ℕ) (later : List ℕ) → ts ≡ t ∷ later → (ship_at I b).arrival ≤ t)
-      → AreLawfulAfter I c ready gs ts → AreLawfulAfter I c ready (map swap_group gs) ts
+      → AreLawfulAfter I c ready gs ts → AreLawfulAfter I c ready (map (swap_group a b) gs) ts
   swap-after c ready [] [] late lawful = tt
   swap-after c ready [] (t ∷ ts) late lawful = lawful
   swap-after c ready (g ∷ gs) [] late lawful = lawful
   swap-after c ready (g ∷ gs) (t ∷ ts) late lawful =
       let here : (ship_at I b).arrival ≤ t = late t ts refl in (
         swap-start c (stand_before g.way) (ready g.way) g t here lawful.0,
-        subst (λ n. AreLawfulFrom I c (stand_after g.way) (t + n) (map swap_group gs) ts) (sym (swap-duration c g.ships))
-        (swap-from c (stand_after g.way) (t + duration_of I c g.ships) gs ts (omega arith) lawful.1),
+        subst (λ n. AreLawfulFrom I c (stand_after g.way) (t + n) (map (swap_group a b) gs) ts) (sym (swap-duration c g.ships))
+            (swap-from c (stand_after g.way) (t + duration_of I c g.ships) gs ts (omega arith) lawful.1),
       )
 
-  swap-ends : (c : ℕ) (gs : List Group) (ts : List ℕ) → ends_in I c (map swap_group gs) ts ≡ ends_in I c gs ts
+  swap-ends : (c : ℕ) (gs : List Group) (ts : List ℕ) → ends_in I c (map (swap_group a b) gs) ts ≡ ends_in I c gs ts
   swap-ends c [] ts = refl
   swap-ends c (g ∷ gs) [] = refl
   swap-ends c (g ∷ gs) (t ∷ ts) =
@@ -167,20 +167,17 @@ module _ (I : Instance) (cuts : List PlainCut) (closed : AreSwapped I cuts) (a b
       (λ i. sum_by (λ (s : ℕ). t + swap-duration c g.ships i) (swap_ships a b g.ships)) ∙ sum_by-alike a b (λ (s : ℕ). end) refl g.ships in
       omega (arith, own, swap-ends c gs ts)
 
-  swap-times : (s : ℕ) (gs : List Group) → times_on s (map swap_group gs) ≡ times_on (swapped a b s) gs
+  swap-times : (s : ℕ) (gs : List Group) → times_on s (map (swap_group a b) gs) ≡ times_on (swapped a b s) gs
   swap-times s [] = refl
   swap-times s (g ∷ gs) = omega (arith, times_in-swap a b equal-differ g.ships s, swap-times s gs)
 
-  swap-all : (c : ℕ) (gs : List Group) → All (IsUncut I c cuts) gs → All (IsUncut I c cuts) (map swap_group gs)
-  swap-all c gs all = All-map (IsUncut I c cuts) swap_group gs (All-weaker (IsUncut I c cuts) (λ g. IsUncut I c cuts (swap_group g)) (swap-uncut c) gs all)
+  swap-all : (c : ℕ) (gs : List Group) → All (IsUncut I c cuts) gs → All (IsUncut I c cuts) (map (swap_group a b) gs)
+  swap-all c gs all = All-map (IsUncut I c cuts) (swap_group a b) gs (All-weaker (IsUncut I c cuts) (λ g. IsUncut I c cuts (swap_group a b g)) (swap-uncut c) gs all)
 
   module _ (label : Label) (lines : ℕ → List Group) (starts : ℕ → List ℕ) (completion : IsCompletion I cuts label lines starts) (alike : label.served a ≡ label.served b)
-           (late : (c : ℕ) → c < length I.chambers → (t : ℕ) (later : List ℕ) → starts c ≡ t ∷ later → (ship_at I b).arrival ≤ t) where
-    abbrev pub swapped_lines : ℕ → List Group
-    swapped_lines c = map swap_group (lines c)
-
+      (late : (c : ℕ) → c < length I.chambers → (t : ℕ) (later : List ℕ) → starts c ≡ t ∷ later → (ship_at I b).arrival ≤ t) where
     -- A COMPLETION STAYS ONE when two equal ships are swapped, where the later one has arrived by its first start,
-    pub swap-completion : IsCompletion I cuts label swapped_lines starts
+    pub swap-completion : IsCompletion I cuts label (swap_lines a b lines) starts
     swap-completion = record {
       uncut = λ c known. swap-all c (lines c) (completion.uncut c known);
       lawful = λ c known. swap-after c (label.ready c) (lines c) (starts c) (late c known) (completion.lawful c known);
@@ -191,8 +188,8 @@ module _ (I : Instance) (cuts : List PlainCut) (closed : AreSwapped I cuts) (a b
     }
 
     -- at the same flow time.
-    pub swap-flow : flow_completed I swapped_lines starts ≡ flow_completed I lines starts
+    pub swap-flow : flow_completed I (swap_lines a b lines) starts ≡ flow_completed I lines starts
     swap-flow =
-        let same : sum_by (λ c. ends_in I c (swapped_lines c) (starts c)) (numbers_from 0 (length I.chambers)) ≡ sum_by (λ c. ends_in I c (lines c) (starts c)) (numbers_from 0 (length I.chambers)) =
+        let same : sum_by (λ c. ends_in I c (swap_lines a b lines c) (starts c)) (numbers_from 0 (length I.chambers)) ≡ sum_by (λ c. ends_in I c (lines c) (starts c)) (numbers_from 0 (length I.chambers)) =
         λ i. sum_by (λ c. swap-ends c (lines c) (starts c) i) (numbers_from 0 (length I.chambers)) in
-        omega (arith, same, completion-ends I cuts label lines starts completion, completion-ends I cuts label swapped_lines starts swap-completion)
+        omega (arith, same, completion-ends I cuts label lines starts completion, completion-ends I cuts label (swap_lines a b lines) starts swap-completion)

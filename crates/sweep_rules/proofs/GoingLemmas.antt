@@ -189,8 +189,8 @@ module _ (I : Instance) (cuts : List PlainCut) (goal : ℕ) (label : Label) (lin
   pub soonest-arrived : All (λ s. (ship_at I s).arrival ≤ f.start) f.group.ships
   soonest-arrived =
       let lawful : AreLawfulAfter I f.chamber (label.ready f.chamber) (f.group ∷ f.others) (f.start ∷ f.times) =
-          subst (λ gs. AreLawfulAfter I f.chamber (label.ready f.chamber) gs (f.start ∷ f.times)) f.line
-          (subst (AreLawfulAfter I f.chamber (label.ready f.chamber) (lines f.chamber)) f.at (completion.lawful f.chamber f.below)) in
+      subst (λ gs. AreLawfulAfter I f.chamber (label.ready f.chamber) gs (f.start ∷ f.times)) f.line
+      (subst (AreLawfulAfter I f.chamber (label.ready f.chamber) (lines f.chamber)) f.at (completion.lawful f.chamber f.below)) in
       lawful.0.arrived
 
   -- to labels that have a completion of no greater total

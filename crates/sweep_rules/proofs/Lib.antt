@@ -15,3 +15,4 @@ pub mod EqualLemmas
 pub mod OrderLemmas
 pub mod RowLock
 pub mod Rows
+pub mod PlanRows

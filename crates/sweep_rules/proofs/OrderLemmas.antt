@@ -1,5 +1,5 @@
 -- A label goes on by a group with which no equal ship before its ships stays missing.
-use Rattle.std.proofs.Common.{◌≡◌, ◌≢◌, ℕ, zero, suc, ◌+◌, ◌*◌, ◌<◌, ◌≤◌, Bool, true, false, List, [], ◌∷◌, length, map, All, Contains, sum_by, ◌⊎◌, inl, inr, refl, sym, ap, ◌∙◌, subst, arith}
+use Rattle.std.proofs.Common.{◌≡◌, ℕ, zero, suc, ◌+◌, ◌*◌, ◌<◌, ◌≤◌, Bool, true, false, List, [], ◌∷◌, length, map, All, Contains, sum_by, ◌⊎◌, inl, inr, refl, sym, ap, ◌∙◌, subst, arith}
 use Rattle.std.proofs.Math.Nat.{mul-le-mul_left, mul-suc}
 use Rattle.std.proofs.lemmas.Bool.Decides.{eqb_tells, leb_tells}
 use Rattle.std.proofs.lemmas.List.Elements.{All-contains}
@@ -20,7 +20,7 @@ use Rattle.sweep_rules.specs.Equal.{IsEqualBefore, AreSwapped, IsInOrder}
 use Rattle.sweep_rules.proofs.SoonestLemmas.{IsSoonest, soonest-least}
 use Rattle.sweep_rules.proofs.GoingLemmas.{soonest-can, soonest-ends, soonest-some, soonest-arrived}
 use Rattle.sweep_rules.proofs.SwapLemmas.{sum_by-less}
-use Rattle.sweep_rules.proofs.EqualLemmas.{equal-differ, swap_group, swapped_lines, swap-completion, swap-flow}
+use Rattle.sweep_rules.proofs.EqualLemmas.{swap_group, swap_lines, swap-completion, swap-flow}
 
 -- ---- deciding whether a group is in order
 abbrev Decided : Type 0 → Type 0
@@ -217,10 +217,10 @@ module _ (I : Instance) (cuts : List PlainCut) (closed : AreSwapped I cuts) (goa
             omega (arith, here, soonest-least lines starts (length I.chambers) f c known some.head some.rest t later some.is at) in
             let none : times_in f.group.ships a ≡ 0 = no-times f.group.ships a out in
             let fewer = sum_by-less a b (rank_of I) (rank-less I a b known_a equal) f.group.ships none (contains-times f.group.ships b held) in
-            goes-in_order left (swapped_lines I cuts closed a b known_a known_b equal label lines starts completion alike late) starts
+            goes-in_order left (swap_lines a b lines) starts
             (swap-completion I cuts closed a b known_a known_b equal label lines starts completion alike late)
             (omega (arith, below, swap-flow I cuts closed a b known_a known_b equal label lines starts completion alike late))
-            (soonest-swap (swap_group I cuts closed a b known_a known_b equal) lines starts (length I.chambers) f)
+            (soonest-swap (swap_group a b) lines starts (length I.chambers) f)
             (omega (arith, fewer, less)))
       ]
     where
