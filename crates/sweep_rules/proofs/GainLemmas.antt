@@ -42,25 +42,30 @@ sum-bounded p f g low (suc n) each =
       sum_by-cons g low (numbers_from (suc low) n),
     )
 
-module _ (I : Instance) (cuts : List PlainCut) (label : Label) (prices : List ℕ) where
-  -- a completion pays for each missing ship once
-  pub completion-paid : (lines : ℕ → List Group) (starts : ℕ → List ℕ) → IsCompletion I cuts label lines starts
-      → sum_by (λ c. paid_in I 0 prices (lines c)) (numbers_from 0 (length I.chambers)) ≡ prices_missing I prices label.served
-  completion-paid lines starts completion =
+module _ (I : Instance) (cuts : List PlainCut) (label : Label) where
+  -- a completion's sum over its ships is that over the missing ships
+  pub completion-sum : (f : ℕ → ℕ) (lines : ℕ → List Group) (starts : ℕ → List ℕ) → IsCompletion I cuts label lines starts
+      → sum_by (λ c. sum_by f (ships_of (lines c))) (numbers_from 0 (length I.chambers)) ≡ sum_by f (ships_missing I label.served)
+  completion-sum f lines starts completion =
       let m = length I.chambers in
       let all : List ℕ = flat_map (λ c. ships_of (lines c)) (numbers_from 0 m) in
       let count : (s : ℕ) → times_in all s ≡ times_over I s lines =
       λ s. times_in-flat (λ c. ships_of (lines c)) (numbers_from 0 m) s ∙ (λ i. sum_by (λ c. times_in-ships_of (lines c) s i) (numbers_from 0 m)) in
       let past : (s : ℕ) → length I.ships ≤ s → times_over I s lines ≡ 0 =
       λ s out. sum-same (λ c. times_on s (lines c)) (λ c. 0) 0 m (λ c low less. times_on-past I (lines c) (λ j d here. (completion.uncut c (omega (arith, less)) j d here).known) s out) ∙ sum_by-zero (numbers_from 0 m) in
-      (λ i. sum_by (λ c. paid-ships I prices (lines c) i) (numbers_from 0 m))
-      ∙ sym (sum_by-flat_map (price_at prices) (λ c. ships_of (lines c)) (numbers_from 0 m))
-      ∙ sum_by-counts (price_at prices) all (ships_missing I label.served)
+      sym (sum_by-flat_map f (λ c. ships_of (lines c)) (numbers_from 0 m))
+      ∙ sum_by-counts f all (ships_missing I label.served)
       (missing-counts I label.served (times_in all) (λ s known. count s ∙ completion.once s known) (λ s out. count s ∙ past s out))
 
+  -- and it pays for each missing ship once
+  pub completion-paid : (prices : List ℕ) (lines : ℕ → List Group) (starts : ℕ → List ℕ) → IsCompletion I cuts label lines starts
+      → sum_by (λ c. paid_in I 0 prices (lines c)) (numbers_from 0 (length I.chambers)) ≡ prices_missing I prices label.served
+  completion-paid prices lines starts completion =
+      (λ i. sum_by (λ c. paid-ships I prices (lines c) i) (numbers_from 0 (length I.chambers))) ∙ completion-sum (price_at prices) lines starts completion
+
   -- A LABEL ABOVE ITS BOUND has no completion of a total below the goal.
-  pub above-none : (gains : ℕ → ℕ) → ((c : ℕ) → c < length I.chambers → IsGain I c cuts label prices (gains c)) → (goal : ℕ) → IsAbove I label prices gains goal → EndsBelow I cuts goal label → ⊥
-  above-none gains bounds goal above ends =
+  pub above-none : (prices : List ℕ) (gains : ℕ → ℕ) → ((c : ℕ) → c < length I.chambers → IsGain I c cuts label prices (gains c)) → (goal : ℕ) → IsAbove I label prices gains goal → EndsBelow I cuts goal label → ⊥
+  above-none prices gains bounds goal above ends =
       let m = length I.chambers in
       let flow : ℕ → ℕ = λ c. flow_starting I c (ends.lines c) (ends.starts c) in
       let high = sum-bounded (λ c. paid_in I 0 prices (ends.lines c)) flow gains 0 m (λ c low less.
@@ -70,7 +75,7 @@ module _ (I : Instance) (cuts : List PlainCut) (label : Label) (prices : List �
         (bounds c known).high (ends.lines c) (completion-on I cuts label ends.lines ends.starts ends.is c known),
         flow-after I c known (label.ready c) (ends.lines c) (ends.starts c) (ends.is.lawful c known),
       )) in
-      absurd (omega (arith, high, completion-paid ends.lines ends.starts ends.is, above.high, ends.below))
+      absurd (omega (arith, high, completion-paid prices ends.lines ends.starts ends.is, above.high, ends.below))
 
 -- fewer missing ships leave fewer ways to go on
 pub way_on-fewer : (I : Instance) (c : ℕ) (cuts : List PlainCut) (served more : ℕ → Bool) → ((s : ℕ) → s < length I.ships → more s ≡ false → served s ≡ false) → (gs : List Group) → IsWayOn I c cuts more gs → IsWayOn I c cuts served gs

@@ -178,24 +178,37 @@ pub record GoesBelow (I : Instance) (cuts : List PlainCut) (goal : ℕ) (label :
   pub can : CanGoOn I cuts label chamber group
   pub ends : (next : Label) → IsGoneOn I cuts label chamber group next → EndsBelow I cuts goal next
 
--- A LABEL GOES ON BY THE FIRST GROUP OF A COMPLETION, by start and chamber, to labels that have one of no greater total.
-pub label-goes : (I : Instance) (cuts : List PlainCut) (goal : ℕ) (label : Label) → EndsBelow I cuts goal label → (s : ℕ) → s < length I.ships → label.served s ≡ false → GoesBelow I cuts goal label
-label-goes I cuts goal label ends s known missing =
-    elim (soonest-of ends.lines ends.starts I label.ready (length I.chambers) ends.is.lawful) [
-      | inl none ↦ absurd (none-both (times_over I s ends.lines) (label.served s) (none-over I ends.lines s none) (ends.is.once s known) missing)
-      | inr f ↦
-          (let own = way_on-head I f.chamber cuts label.served f.group f.others (subst (IsWayOn I f.chamber cuts label.served) f.line (completion-on I cuts label ends.lines ends.starts ends.is f.chamber f.below)) in
-          record {
-            chamber = f.chamber;
-            group = f.group;
-            can = record { chamber = f.below; uncut = own.0; missing = own.1 };
-            ends = λ next gone. record {
-              lines = without_first ends.lines f.chamber f.others;
-              starts = without_first ends.starts f.chamber f.times;
-              is = left-completion I cuts label next ends.lines ends.starts ends.is f gone;
-              below = omega (arith, left-flow I cuts label next ends.lines ends.starts ends.is f gone, ends.below);
-            };
-          })
+module _ (I : Instance) (cuts : List PlainCut) (goal : ℕ) (label : Label) (lines : ℕ → List Group) (starts : ℕ → List ℕ) (completion : IsCompletion I cuts label lines starts) (f : IsSoonest lines starts (length I.chambers)) where
+  -- the label may go on by the first group of a completion,
+  pub soonest-can : CanGoOn I cuts label f.chamber f.group
+  soonest-can =
+      let own = way_on-head I f.chamber cuts label.served f.group f.others (subst (IsWayOn I f.chamber cuts label.served) f.line (completion-on I cuts label lines starts completion f.chamber f.below)) in
+      record { chamber = f.below; uncut = own.0; missing = own.1 }
+
+  -- whose ships have arrived by then,
+  pub soonest-arrived : All (λ s. (ship_at I s).arrival ≤ f.start) f.group.ships
+  soonest-arrived =
+      let lawful : AreLawfulAfter I f.chamber (label.ready f.chamber) (f.group ∷ f.others) (f.start ∷ f.times) =
+      subst (λ gs. AreLawfulAfter I f.chamber (label.ready f.chamber) gs (f.start ∷ f.times)) f.line
+      (subst (AreLawfulAfter I f.chamber (label.ready f.chamber) (lines f.chamber)) f.at (completion.lawful f.chamber f.below)) in
+      lawful.0.arrived
+
+  -- to labels that have a completion of no greater total
+  pub soonest-ends : label.flow + flow_completed I lines starts < goal → (next : Label) → IsGoneOn I cuts label f.chamber f.group next → EndsBelow I cuts goal next
+  soonest-ends below next gone = record {
+    lines = without_first lines f.chamber f.others;
+    starts = without_first starts f.chamber f.times;
+    is = left-completion I cuts label next lines starts completion f gone;
+    below = omega (arith, left-flow I cuts label next lines starts completion f gone, below);
+  }
+
+-- where a ship is missing some line of a completion starts first
+pub soonest-some : (I : Instance) (cuts : List PlainCut) (label : Label) (lines : ℕ → List Group) (starts : ℕ → List ℕ) → IsCompletion I cuts label lines starts
+    → (s : ℕ) → s < length I.ships → label.served s ≡ false → IsSoonest lines starts (length I.chambers)
+soonest-some I cuts label lines starts completion s known missing =
+    elim (soonest-of lines starts I label.ready (length I.chambers) completion.lawful) [
+      | inl none ↦ absurd (none-both (times_over I s lines) (label.served s) (none-over I lines s none) (completion.once s known) missing)
+      | inr f ↦ f
     ]
   where
     differ : true ≡ false → ⊥
@@ -204,6 +217,17 @@ label-goes I cuts goal label ends s known missing =
     none-both : (n : ℕ) (b : Bool) → n ≡ 0 → n ≡ cond b 0 1 → b ≡ false → ⊥
     none-both n true empty once is = absurd (differ is)
     none-both n false empty once is = absurd (omega (arith, empty, once))
+
+-- A LABEL GOES ON BY THE FIRST GROUP OF A COMPLETION, by start and chamber, to labels that have one of no greater total.
+pub label-goes : (I : Instance) (cuts : List PlainCut) (goal : ℕ) (label : Label) → EndsBelow I cuts goal label → (s : ℕ) → s < length I.ships → label.served s ≡ false → GoesBelow I cuts goal label
+label-goes I cuts goal label ends s known missing =
+    let f = soonest-some I cuts label ends.lines ends.starts ends.is s known missing in
+    record {
+      chamber = f.chamber;
+      group = f.group;
+      can = soonest-can I cuts goal label ends.lines ends.starts ends.is f;
+      ends = soonest-ends I cuts goal label ends.lines ends.starts ends.is f ends.below;
+    }
 
 -- EACH LABEL GOES ON to one at least.
 pub gone_on-is : (I : Instance) (cuts : List PlainCut) (label : Label) (c : ℕ) (g : Group) → IsGoneOn I cuts label c g (gone_on I label c g)

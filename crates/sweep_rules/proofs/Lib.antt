@@ -10,5 +10,9 @@ pub mod FlowLemmas
 pub mod MissingLemmas
 pub mod GainLemmas
 pub mod BeginningLemmas
+pub mod SwapLemmas
+pub mod EqualLemmas
+pub mod OrderLemmas
 pub mod RowLock
 pub mod Rows
+pub mod PlanRows

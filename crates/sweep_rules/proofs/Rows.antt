@@ -29,11 +29,11 @@ use Rattle.sweep_rules.proofs.GainLemmas.{above-none, gain-ways}
 use Rattle.sweep_rules.proofs.BeginningLemmas.{no_lines, lead-first, lead-gone, with_last}
 use Rattle.sweep_rules.proofs.RowLock.{row}
 
-abbrev up : ℕ → Group
+abbrev pub up : ℕ → Group
 up s = single Up s
 
 -- ---- first come, first served
-abbrev in_order : ℕ → List Group
+abbrev pub in_order : ℕ → List Group
 in_order c = up 0 ∷ up 1 ∷ up 2 ∷ []
 
 single-uncut : (s : ℕ) → s < 3 → (ship_at row s).way ≡ Up → IsUncut row 0 [] (up s)
@@ -145,7 +145,7 @@ line-count (g ∷ gs) all =
     subst (λ g. IsCounted (g ∷ gs)) (sym one.is) (count-step one.ship gs one.known (line-count gs (All-tail (IsUncut row 0 []) g gs all)))
 
 -- THREE SHIPS OF ONE WAY, one at a time with equal handling: the cost of first come, first served is swept,
-in_order-swept : IsSwept row [] 225
+pub in_order-swept : IsSwept row [] 225
 in_order-swept = record { least = λ lines plan. least (lines 0) (plan.uncut 0 (omega arith)) (λ s known. plan.once s known) }
   where
     long : (stand : Stand) (from : ℕ) (gs : List Group) → length gs ≡ 3 → ends_from stand from (length gs) ≡ ends_from stand from 3

@@ -66,7 +66,7 @@ module _ (lines : ℕ → List Group) (starts : ℕ → List ℕ) where
   }
 
   -- no line of the first ones starts before the first of them
-  soonest-least : (n : ℕ) (f : IsSoonest lines starts n) (d : ℕ) → d < n → (h : Group) (hs : List Group) (u : ℕ) (us : List ℕ) → lines d ≡ h ∷ hs → starts d ≡ u ∷ us → f.start ≤ u
+  pub soonest-least : (n : ℕ) (f : IsSoonest lines starts n) (d : ℕ) → d < n → (h : Group) (hs : List Group) (u : ℕ) (us : List ℕ) → lines d ≡ h ∷ hs → starts d ≡ u ∷ us → f.start ≤ u
   soonest-least n f d less h hs u us line at =
       elim (eqb_tells d f.chamber) [
         | inl same ↦ omega (arith, same-start f.chamber d u f.start us f.times same.1 at f.at)

@@ -5,3 +5,4 @@ pub mod Dominance
 pub mod Covering
 pub mod Gain
 pub mod Beginning
+pub mod Equal

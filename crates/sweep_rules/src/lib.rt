@@ -9,12 +9,21 @@
 //! `specs/Uncut` has uncut plans and swept costs, which public contracts rest on. The others are of
 //! the sweep itself: `Label` (labels, and how they go on), `Completion` (what may come behind a
 //! label), `Dominance`, `Covering` (what the labels that are left stand for), `Gain` (what prices
-//! bound) and `Beginning` (the lines that lead to a label).
+//! bound), `Beginning` (the lines that lead to a label) and `Equal` (which of equal ships go first).
 //!
-//! The laws stand in `proofs/`: no legal plan costs less than a swept cost (`SweptLemmas`), each
-//! uncut plan is a completion of the first label (`FirstLemmas`), dominance and going on keep what
-//! the labels stand for (`DominanceLemmas`, `GoingLemmas`), a label above its bound has no
-//! completion below the goal (`GainLemmas`), a label that serves all ships is an uncut plan
-//! (`BeginningLemmas`), and where no label is left the goal is swept (`CoverLemmas`). `Rows` holds
-//! worked rows that meet their premises.
+//! The laws stand in `proofs/`:
+//! - no legal plan costs less than a cost that is swept by cuts that hold (`SweptLemmas`, which takes
+//!   `IsHereditary` of `lock_rules`, as `deck_laws` proves it);
+//! - each uncut plan is a completion of a first label, at its cost (`FirstLemmas`);
+//! - a label that serves for another has its completions (`DominanceLemmas`), and a label with a
+//!   completion goes on by the first group of it (`GoingLemmas`);
+//! - a label whose bound by prices is above the goal has no completion below it, nor has one that a
+//!   group leads to whose own sum is (`GainLemmas`);
+//! - what the labels cover, as they are replaced; where none is left the goal is swept
+//!   (`CoverLemmas`);
+//! - the lines that lead to a label of all ships are an uncut plan (`BeginningLemmas`);
+//! - where the cuts have all swaps of equal ships, a label need go on only by groups that leave no
+//!   equal ship before theirs behind (`OrderLemmas`).
+//!
+//! `Rows` and `PlanRows` hold a worked sweep that meets what the laws ask.
 #![tactic(auto)]
