@@ -193,3 +193,9 @@ module _ (ps : List Pair) (number : ℕ) where
 
 pub value_small : (d : Deck) (values : List ℤ) (i : ℕ) → AreSmallValues d values → i < length d.ships → IsSmall values (place_var i)
 value_small d values i small h = small.small (place_var i) (omega (arith, h))
+
+-- what `add_pair` goes by
+pub ruleset of_pairs = (pair_is, pairs_more, partly_more, partly_passed)
+
+-- what `without` goes by
+pub ruleset of_kept_pairs = (kept_begun, kept_passed, kept_more, kept_whole)

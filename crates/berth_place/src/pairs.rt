@@ -2,7 +2,8 @@
 ghost use Rattle.std.specs.Prelude.{◌≡◌, ◌+◌, ◌*◌, ◌<◌, ◌≤◌, ◌↔◌, pos, ◌+ℤ◌, ◌≤ℤ◌, IsTrue, IfSome, IfNone, length};
 ghost use Rattle.diff_rules.specs.Differences.{value_at};
 ghost use Rattle.berth_place.specs.Along.{place_var};
-ghost use Rattle.berth_place.specs.Pairs.{ArePairs, AreAllPairs, AreApartAlong, IsBeforeAt, AreFirstApart, AreNotApart, AreSmallValues, ArePairsBut, ArePartlyPairs};
+ghost use Rattle.berth_place.specs.Pairs.{ArePairs, AreAllPairs, AreApartAlong, IsBeforeAt, AreFirstApart, AreNotApart};
+ghost use Rattle.berth_place.specs.Pairs.{AreSmallValues, ArePairsBut, ArePartlyPairs};
 
 use crate::along::{along, place_var};
 use arrayvec::ArrayVec;
@@ -21,7 +22,7 @@ pub(crate) struct Pair {
 pub(crate) type Pairs = ArrayVec<Pair, 64>;
 
 // Appends a pair, where it overlaps.
-#[tactic(auto, using(crate::proofs::PairLemmas::pair_is, crate::proofs::PairLemmas::pairs_more, crate::proofs::PairLemmas::partly_more, crate::proofs::PairLemmas::partly_passed))]
+#[tactic(auto, using(crate::proofs::PairLemmas::of_pairs))]
 fn add_pair(deck: &Deck, choices: &[Choice], lower: u8, upper: u8, pairs: &mut Pairs)
     requires lower { lower < upper }
     requires upper { upper < length deck.now.ships }
@@ -128,7 +129,7 @@ pub(crate) fn first_touching(deck: &Deck, values: &[i64], pairs: &[Pair]) -> Opt
 }
 
 /// The pairs but the one of this number.
-#[tactic(auto, using(crate::proofs::PairLemmas::kept_begun, crate::proofs::PairLemmas::kept_passed, crate::proofs::PairLemmas::kept_more, crate::proofs::PairLemmas::kept_whole))]
+#[tactic(auto, using(crate::proofs::PairLemmas::of_kept_pairs))]
 pub(crate) fn without(pairs: &[Pair], number: usize) -> Pairs
     requires number { number < length pairs.now }
     requires few { length pairs.now ≤ 64 }

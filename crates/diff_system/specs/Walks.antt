@@ -9,7 +9,8 @@ use Rattle.diff_system.specs.Rounds.{IsDeep}
 -- each edge ends at x, or deeper than so many parent edges
 abbrev pub AreAhead : List Edge → List ℕ → ℕ → ℕ → List ℕ → Type 0
 AreAhead edges parents x depth [] = Unit {0}
-AreAhead edges parents x depth (k ∷ ks) = (((edge_at edges k).to ≡ x) ⊎ IsDeep edges parents (suc depth) (edge_at edges k).to) × AreAhead edges parents x depth ks
+AreAhead edges parents x depth (k ∷ ks) =
+    (((edge_at edges k).to ≡ x) ⊎ IsDeep edges parents (suc depth) (edge_at edges k).to) × AreAhead edges parents x depth ks
 
 -- The end of a walk to x, from v on: its last edge raises x, and the others are parent edges of deeper variables.
 pub record IsTail (edges : List Edge) (tree : PathTree) (x v : ℕ) (numbers : List ℕ) : Type 0 where

@@ -3,7 +3,8 @@ ghost use Rattle.std.specs.Prelude.{◌<◌, IfNone, IfSome};
 ghost use Rattle.lock_model.specs.Fitting.{deck_of};
 ghost use Rattle.mooring_rules.specs.PlacementBreaks.{IsFirstBroken};
 ghost use Rattle.mooring_rules.specs.CargoBreaks.{AreFirstClashing};
-ghost use Rattle.mooring_rules.specs.PlanBreaks.{HasShape, AreShaped, IsPlaced, ArePlaced, IsClear, AreClear, AreOnTime, IsFirstMisplaced, IsFirstClash, IsFirstUntimely};
+ghost use Rattle.mooring_rules.specs.PlanBreaks.{HasShape, AreShaped, IsPlaced, ArePlaced, IsClear, AreClear, AreOnTime};
+ghost use Rattle.mooring_rules.specs.PlanBreaks.{IsFirstMisplaced, IsFirstClash, IsFirstUntimely};
 
 use crate::breaks::Broken;
 use crate::cargo::first_clash;

@@ -1,7 +1,8 @@
 //! The judge of a placement.
 ghost use Rattle.std.specs.Prelude.{◌≡◌, ◌<◌, ◌↔◌, length, IsNone, IfNone, IfSome};
 ghost use Rattle.lock_model.specs.Placement.{IsApartFromLater, IsLegalPlacement};
-ghost use Rattle.mooring_rules.specs.PlacementBreaks.{AreInside, AreAllApart, AreBerthed, IsFirstOutside, TouchesFirst, AreFirstTouching, IsFirstLoose, IsFirstBroken, loose_break};
+ghost use Rattle.mooring_rules.specs.PlacementBreaks.{AreInside, AreAllApart, AreBerthed, IsFirstOutside, TouchesFirst, AreFirstTouching};
+ghost use Rattle.mooring_rules.specs.PlacementBreaks.{IsFirstLoose, IsFirstBroken, loose_break};
 
 use crate::berth::is_berthed;
 use crate::breaks::Broken;
