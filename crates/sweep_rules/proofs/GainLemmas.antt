@@ -135,13 +135,13 @@ module _ (I : Instance) (cuts : List PlainCut) (label next : Label) (c : ℕ) (g
     );
   }
 
-  -- the group pays for its ships, and the others are still missing
-  pub missing-paid : prices_missing I prices label.served ≡ prices_missing I prices next.served + sum_by (price_at prices) g.ships
-  missing-paid =
+  -- a sum over the missing ships is that over those of the group and those that are still missing
+  pub missing-sum : (f : ℕ → ℕ) → sum_by f (ships_missing I label.served) ≡ sum_by f (ships_missing I next.served) + sum_by f g.ships
+  missing-sum f =
       let left = ships_missing I next.served in
-      sym (sum_by-counts (price_at prices) (left ++ g.ships) (ships_missing I label.served)
+      sym (sum_by-counts f (left ++ g.ships) (ships_missing I label.served)
       (missing-counts I label.served (times_in (left ++ g.ships)) (λ s known. both s known) (λ s past. times_in-append left g.ships s ∙ outside s past)))
-      ∙ sum_by-append (price_at prices) left g.ships
+      ∙ sum_by-append f left g.ships
     where
       differ : true ≡ false → ⊥
       differ e = cc
@@ -175,6 +175,10 @@ module _ (I : Instance) (cuts : List PlainCut) (label next : Label) (c : ℕ) (g
           (λ some. All-times (λ s. label.served s ≡ false) s g.ships can.missing some)
           (has_number-some g.ships s) (has_number-none g.ships s)
           (rising-once 0 g.ships (RisesFrom-increasing g.ships can.uncut.good.rising) s)
+
+  -- so the group pays for its ships, and the others are still missing
+  pub missing-paid : prices_missing I prices label.served ≡ prices_missing I prices next.served + sum_by (price_at prices) g.ships
+  missing-paid = missing-sum (price_at prices)
 
   -- A GROUP WHOSE OWN SUM IS ABOVE THE GOAL leads to no label that has a completion of a total below it.
   pub arc-none : (gains : ℕ → ℕ) → ((d : ℕ) → d < length I.chambers → d ≢ c → IsGain I d cuts label prices (gains d)) → IsGainFrom I c cuts label.served prices (stand_after g.way) (end_on I label c g) (gains c)

@@ -193,7 +193,7 @@ first_row-covers : LabelsCover row [] 225 (first_row ∷ [])
 first_row-covers = cover-first row [] 225 first_row first_row-is
 
 none-cover : LabelsCover row [] 225 []
-none-cover = record { some = λ lines plan below. absurd (omega (arith, below, in_order-swept.least lines plan)) }
+none-cover = record { some = λ lines plan total below high. absurd (omega (arith, below, high, in_order-swept.least lines plan)) }
 
 -- it goes on by the first ship, from minute 0 to minute 35
 goes-first : CanGoOn row [] first_row 0 (up 0)
