@@ -1,5 +1,6 @@
 -- A label whose bound by prices is above the goal has no completion of a total below it.
-use Rattle.std.proofs.Common.{◌≡◌, ◌≢◌, ℕ, zero, suc, ◌+◌, ◌*◌, ◌<◌, ◌≤◌, ◌||◌, Bool, true, false, cond, List, [], ◌∷◌, ◌++◌, length, All, sum_by, filter, inl, inr, refl, sym, ◌∙◌, subst, arith, slice_index_or}
+use Rattle.std.proofs.lemmas.Int.{ints}
+use Rattle.std.proofs.Common.{◌≡◌, ◌≢◌, ℕ, zero, suc, ◌+◌, ◌*◌, ◌<◌, ◌≤◌, ℤ, pos, ◌+ℤ◌, ◌-ℤ◌, ◌≤ℤ◌, ◌||◌, Bool, true, false, cond, List, [], ◌∷◌, ◌++◌, length, All, sum_by, filter, inl, inr, refl, sym, ◌∙◌, subst, arith, slice_index_or}
 use Rattle.std.specs.List.{flat_map}
 use Rattle.std.proofs.lemmas.Bool.Decides.{eqb_tells, leb_tells}
 use Rattle.std.proofs.lemmas.List.Sums.{sum_by-cons, sum_by-append}
@@ -7,6 +8,7 @@ use Rattle.lock_model.specs.declared.instance.Instance.{Instance}
 use Rattle.lock_model.specs.declared.group.Group.{Group}
 use Rattle.lock_model.specs.declared.way.Way.{Way}
 use Rattle.lock_model.specs.declared.way.Stand.{Stand}
+use Rattle.lock_rules.specs.Timetable.{timetable_from}
 use Rattle.lock_rules.specs.Lawful.{stand_before, stand_after}
 use Rattle.lock_rules.specs.Plan.{times_in}
 use Rattle.lock_rules.specs.Trace.{has_number, trace_of, with_group}
@@ -207,3 +209,13 @@ uncut-loose I c cuts gs uncut = record { uncut = uncut; trace = nothing gs }
     nothing : (gs : List Group) → trace_of [] gs ≡ []
     nothing [] = refl
     nothing (g ∷ gs) = (λ i. with_group g.way (none g.ships i) (trace_of [] gs)) ∙ nothing gs
+
+-- THE LEAST WORTH OF THE ROOT'S LOOSE LINES from a state is a gain from it.
+pub gain_from-least : (I : Instance) (c : ℕ) (cuts : List PlainCut) (prices : List ℕ) (stand : Stand) (from gain : ℕ) (least : ℤ)
+    → ((gs : List Group) → IsLoose I c cuts 0 [] gs → least ≤ℤ (pos (100 * flow_of I gs (timetable_from I c stand from gs)) -ℤ pos (paid_in I 0 prices gs)))
+    → pos 0 ≤ℤ (least +ℤ pos gain) → IsGainFrom I c cuts (λ s. false) prices stand from gain
+gain_from-least I c cuts prices stand from gain least below high = record {
+  high = λ gs on.
+      let own = below gs (uncut-loose I c cuts gs on.uncut) in
+      omega (arith, ints, own, high);
+}

@@ -1,5 +1,5 @@
 -- Where all labels that a sweep has made are treated, none of them ends below the goal.
-use Rattle.std.proofs.Common.{◌≡◌, ℕ, zero, suc, ◌+◌, ◌<◌, ◌≤◌, Bool, true, false, cond, List, [], ◌∷◌, ◌++◌, length, sum_by, ◌⊎◌, inl, inr, refl, sym, ap, ◌∙◌, subst, arith, length-append}
+use Rattle.std.proofs.Common.{◌≡◌, ℕ, zero, suc, ◌+◌, ◌<◌, ◌≤◌, Bool, true, false, cond, List, [], ◌++◌, length, ◌⊎◌, inl, inr, refl, sym, ap, ◌∙◌, subst, arith, length-append}
 use Rattle.std.proofs.lemmas.Bool.Decides.{leb_tells}
 use Rattle.std.proofs.lemmas.List.{get_or_append_left}
 use Rattle.lock_model.specs.declared.instance.Instance.{Instance}
@@ -8,7 +8,7 @@ use Rattle.lock_rules.specs.Plan.{times_in}
 use Rattle.lock_rules.proofs.CountLemmas.{sum_by-counts}
 use Rattle.lock_rules.proofs.ThroughputLemmas.{length-sum}
 use Rattle.price_rules.specs.Prices.{PlainCut, flow_over}
-use Rattle.sweep_rules.specs.Uncut.{IsUncutPlan, IsSwept}
+use Rattle.sweep_rules.specs.Uncut.{IsSwept}
 use Rattle.sweep_rules.specs.Label.{Label, IsFirstLabel, CanGoOn, IsGoneOn}
 use Rattle.sweep_rules.specs.Completion.{EndsBelow, flow_completed}
 use Rattle.sweep_rules.specs.Dominance.{ServesFor}
@@ -27,7 +27,7 @@ pub count-same : (I : Instance) (a b : Label) → ((s : ℕ) → s < length I.sh
 count-same I a b same =
     let one : ℕ → ℕ = λ s. 1 in
     let equal = sum_by-counts one (ships_missing I a.served) (ships_missing I b.served)
-        (missing-counts I b.served (times_in (ships_missing I a.served)) (λ s known. counted s known (a.served s) refl) (missing-past I a.served)) in
+    (missing-counts I b.served (times_in (ships_missing I a.served)) (λ s known. counted s known (a.served s) refl) (missing-past I a.served)) in
     omega (arith, equal, length-sum (ships_missing I a.served), length-sum (ships_missing I b.served))
   where
     counted : (s : ℕ) → s < length I.ships → (t : Bool) → a.served s ≡ t → times_in (ships_missing I a.served) s ≡ cond (b.served s) 0 1
