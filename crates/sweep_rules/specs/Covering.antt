@@ -15,7 +15,8 @@ pub record SomeEndsBelow (I : Instance) (cuts : List PlainCut) (goal : ℕ) (lab
 
 -- The labels cover the uncut plans that cost less than the goal: for each of them some label has a completion of no greater total.
 pub record LabelsCover (I : Instance) (cuts : List PlainCut) (goal : ℕ) (labels : List Label) : Type 0 where
-  pub some : (lines : ℕ → List Group) → IsUncutPlan I cuts lines → (total : ℕ) → flow_over I lines < total → total ≤ goal → SomeEndsBelow I cuts total labels
+  pub some : (lines : ℕ → List Group) → IsUncutPlan I cuts lines → (total : ℕ) → flow_over I lines < total → total ≤ goal
+      → SomeEndsBelow I cuts total labels
 
 -- The labels replace this one: where it has a completion below some total up to the goal, some of them has one.
 pub record IsReplaced (I : Instance) (cuts : List PlainCut) (goal : ℕ) (labels : List Label) (label : Label) : Type 0 where

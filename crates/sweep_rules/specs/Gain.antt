@@ -26,7 +26,7 @@ abbrev pub timetable_after : Instance → ℕ → (Way → ℕ) → List Group �
 timetable_after I c ready [] = []
 timetable_after I c ready (g ∷ gs) = timetable_from I c (stand_before g.way) (ready g.way) (g ∷ gs)
 
--- the same where chamber c is ready by the way of the first group, as in the label
+-- the gain of chamber c behind a label: the same where it is ready by the way of the first group, as the label says
 pub record IsGain (I : Instance) (c : ℕ) (cuts : List PlainCut) (label : Label) (prices : List ℕ) (gain : ℕ) : Type 0 where
   pub high : (gs : List Group) → IsWayOn I c cuts label.served gs
       → paid_in I 0 prices gs ≤ 100 * flow_of I gs (timetable_after I c (label.ready c) gs) + gain
