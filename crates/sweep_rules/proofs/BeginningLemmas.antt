@@ -195,3 +195,7 @@ module _ (I : Instance) (cuts : List PlainCut) where
   -- so a label of all ships with less flow time than a cost shows that it isn't swept
   pub lead-cheaper : (label : Label) → ((s : ℕ) → s < length I.ships → label.served s ≡ true) → (lines : ℕ → List Group) → LeadTo I cuts label lines → (cost : ℕ) → label.flow < cost → IsSwept I cuts cost → ⊥
   lead-cheaper label whole lines lead cost low swept = absurd (omega (arith, low, lead.flow, swept.least lines (lead-whole label whole lines lead)))
+
+  -- and where its flow time is swept, they are a cheapest uncut plan
+  pub lead-least : (label : Label) → ((s : ℕ) → s < length I.ships → label.served s ≡ true) → (lines : ℕ → List Group) → LeadTo I cuts label lines → IsSwept I cuts label.flow → flow_over I lines ≡ label.flow
+  lead-least label whole lines lead swept = omega (arith, lead.flow, swept.least lines (lead-whole label whole lines lead))

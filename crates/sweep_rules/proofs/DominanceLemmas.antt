@@ -1,5 +1,5 @@
 -- A label that serves for another has its completions.
-use Rattle.std.proofs.Common.{ℕ, List, cond, sym, ap, ◌∙◌, arith}
+use Rattle.std.proofs.Common.{ℕ, ◌≤◌, List, cond, sym, ap, ◌∙◌, arith}
 use Rattle.lock_model.specs.declared.instance.Instance.{Instance}
 use Rattle.lock_model.specs.declared.group.Group.{Group}
 use Rattle.price_rules.specs.Prices.{PlainCut}
@@ -26,6 +26,10 @@ module _ (I : Instance) (cuts : List PlainCut) where
     is = serves-completion a b serves ends.lines ends.starts ends.is;
     below = omega (arith, serves.flow, ends.below);
   }
+
+  -- what ends below a total ends below a greater one
+  pub ends-more : (total goal : ℕ) (a : Label) → total ≤ goal → EndsBelow I cuts total a → EndsBelow I cuts goal a
+  ends-more total goal a more ends = record { lines = ends.lines; starts = ends.starts; is = ends.is; below = omega (arith, more, ends.below) }
 
   -- each label serves for itself
   pub serves-itself : (a : Label) → ServesFor I cuts a a

@@ -1,5 +1,6 @@
 -- A label whose bound by prices is above the goal has no completion of a total below it.
-use Rattle.std.proofs.Common.{◌≡◌, ◌≢◌, ℕ, zero, suc, ◌+◌, ◌*◌, ◌<◌, ◌≤◌, ◌||◌, Bool, true, false, cond, List, [], ◌∷◌, ◌++◌, length, All, sum_by, filter, inl, inr, refl, sym, ◌∙◌, subst, arith, slice_index_or}
+use Rattle.std.proofs.lemmas.Int.{ints}
+use Rattle.std.proofs.Common.{◌≡◌, ◌≢◌, ℕ, zero, suc, ◌+◌, ◌*◌, ◌<◌, ◌≤◌, ℤ, pos, ◌+ℤ◌, ◌-ℤ◌, ◌≤ℤ◌, ◌||◌, Bool, true, false, cond, List, [], ◌∷◌, ◌++◌, length, All, sum_by, filter, inl, inr, refl, sym, ◌∙◌, subst, arith, slice_index_or}
 use Rattle.std.specs.List.{flat_map}
 use Rattle.std.proofs.lemmas.Bool.Decides.{eqb_tells, leb_tells}
 use Rattle.std.proofs.lemmas.List.Sums.{sum_by-cons, sum_by-append}
@@ -7,6 +8,7 @@ use Rattle.lock_model.specs.declared.instance.Instance.{Instance}
 use Rattle.lock_model.specs.declared.group.Group.{Group}
 use Rattle.lock_model.specs.declared.way.Way.{Way}
 use Rattle.lock_model.specs.declared.way.Stand.{Stand}
+use Rattle.lock_rules.specs.Timetable.{timetable_from}
 use Rattle.lock_rules.specs.Lawful.{stand_before, stand_after}
 use Rattle.lock_rules.specs.Plan.{times_in}
 use Rattle.lock_rules.specs.Trace.{has_number, trace_of, with_group}
@@ -135,13 +137,13 @@ module _ (I : Instance) (cuts : List PlainCut) (label next : Label) (c : ℕ) (g
     );
   }
 
-  -- the group pays for its ships, and the others are still missing
-  pub missing-paid : prices_missing I prices label.served ≡ prices_missing I prices next.served + sum_by (price_at prices) g.ships
-  missing-paid =
+  -- a sum over the missing ships is that over those of the group and those that are still missing
+  pub missing-sum : (f : ℕ → ℕ) → sum_by f (ships_missing I label.served) ≡ sum_by f (ships_missing I next.served) + sum_by f g.ships
+  missing-sum f =
       let left = ships_missing I next.served in
-      sym (sum_by-counts (price_at prices) (left ++ g.ships) (ships_missing I label.served)
+      sym (sum_by-counts f (left ++ g.ships) (ships_missing I label.served)
       (missing-counts I label.served (times_in (left ++ g.ships)) (λ s known. both s known) (λ s past. times_in-append left g.ships s ∙ outside s past)))
-      ∙ sum_by-append (price_at prices) left g.ships
+      ∙ sum_by-append f left g.ships
     where
       differ : true ≡ false → ⊥
       differ e = cc
@@ -176,6 +178,10 @@ module _ (I : Instance) (cuts : List PlainCut) (label next : Label) (c : ℕ) (g
           (has_number-some g.ships s) (has_number-none g.ships s)
           (rising-once 0 g.ships (RisesFrom-increasing g.ships can.uncut.good.rising) s)
 
+  -- so the group pays for its ships, and the others are still missing
+  pub missing-paid : prices_missing I prices label.served ≡ prices_missing I prices next.served + sum_by (price_at prices) g.ships
+  missing-paid = missing-sum (price_at prices)
+
   -- A GROUP WHOSE OWN SUM IS ABOVE THE GOAL leads to no label that has a completion of a total below it.
   pub arc-none : (gains : ℕ → ℕ) → ((d : ℕ) → d < length I.chambers → d ≢ c → IsGain I d cuts label prices (gains d)) → IsGainFrom I c cuts label.served prices (stand_after g.way) (end_on I label c g) (gains c)
       → (goal : ℕ) → 100 * goal + sum_by gains (numbers_from 0 (length I.chambers)) + sum_by (price_at prices) g.ships < 100 * (label.flow + flow_on I label c g) + prices_missing I prices label.served + 100
@@ -203,3 +209,13 @@ uncut-loose I c cuts gs uncut = record { uncut = uncut; trace = nothing gs }
     nothing : (gs : List Group) → trace_of [] gs ≡ []
     nothing [] = refl
     nothing (g ∷ gs) = (λ i. with_group g.way (none g.ships i) (trace_of [] gs)) ∙ nothing gs
+
+-- THE LEAST WORTH OF THE ROOT'S LOOSE LINES from a state is a gain from it.
+pub gain_from-least : (I : Instance) (c : ℕ) (cuts : List PlainCut) (prices : List ℕ) (stand : Stand) (from gain : ℕ) (least : ℤ)
+    → ((gs : List Group) → IsLoose I c cuts 0 [] gs → least ≤ℤ (pos (100 * flow_of I gs (timetable_from I c stand from gs)) -ℤ pos (paid_in I 0 prices gs)))
+    → pos 0 ≤ℤ (least +ℤ pos gain) → IsGainFrom I c cuts (λ s. false) prices stand from gain
+gain_from-least I c cuts prices stand from gain least below high = record {
+  high = λ gs on.
+      let own = below gs (uncut-loose I c cuts gs on.uncut) in
+      omega (arith, ints, own, high);
+}

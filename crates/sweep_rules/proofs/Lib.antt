@@ -13,6 +13,7 @@ pub mod BeginningLemmas
 pub mod SwapLemmas
 pub mod EqualLemmas
 pub mod OrderLemmas
+pub mod TreatedLemmas
 pub mod RowLock
 pub mod Rows
 pub mod PlanRows

@@ -233,12 +233,12 @@ module _ (I : Instance) (cuts : List PlainCut) (closed : AreSwapped I cuts) (goa
       let f = soonest-some I cuts label ends.lines ends.starts ends.is s known missing in
       goes-in_order (suc (sum_by (rank_of I) f.group.ships)) ends.lines ends.starts ends.is ends.below f (omega arith)
 
-  -- SO IT IS REPLACED WHERE EACH LABEL IS THAT IT GOES ON TO BY A GROUP IN ORDER.
-  pub replaced-in_order : (labels : List Label) (s : ℕ) → s < length I.ships → label.served s ≡ false
-      → ((c : ℕ) (g : Group) → CanGoOn I cuts label c g → IsInOrder I label.served g → (next : Label) × IsGoneOn I cuts label c g next × IsReplaced I cuts goal labels next) → IsReplaced I cuts goal labels label
-  replaced-in_order labels s known missing gone = record {
-    by = λ ends.
-        let first = label-goes_in_order ends s known missing in
-        let next = gone first.chamber first.group first.can first.in_order in
-        next.2.by (first.ends next.0 next.1);
-  }
+-- SO A LABEL IS REPLACED WHERE EACH IS THAT IT GOES ON TO BY A GROUP IN ORDER.
+pub replaced-in_order : (I : Instance) (cuts : List PlainCut) → AreSwapped I cuts → (goal : ℕ) (labels : List Label) (label : Label) (s : ℕ) → s < length I.ships → label.served s ≡ false
+    → ((c : ℕ) (g : Group) → CanGoOn I cuts label c g → IsInOrder I label.served g → (next : Label) × IsGoneOn I cuts label c g next × IsReplaced I cuts goal labels next) → IsReplaced I cuts goal labels label
+replaced-in_order I cuts closed goal labels label s known missing gone = record {
+  by = λ total high ends.
+      let first = label-goes_in_order I cuts closed total label ends s known missing in
+      let next = gone first.chamber first.group first.can first.in_order in
+      next.2.by total high (first.ends next.0 next.1);
+}

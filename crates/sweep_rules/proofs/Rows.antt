@@ -1,5 +1,5 @@
 -- A worked sweep: what the laws ask is met here, and first come, first served is the swept cost.
-use Rattle.std.proofs.Common.{◌≡◌, ℕ, zero, suc, ◌+◌, ◌*◌, ◌<◌, ◌≤◌, false, List, [], ◌∷◌, length, All, Contains, refl, sym, ap, ◌∙◌, subst, arith}
+use Rattle.std.proofs.Common.{◌≡◌, ◌≢◌, ℕ, zero, suc, ◌+◌, ◌*◌, ◌<◌, ◌≤◌, false, List, [], ◌∷◌, length, All, Contains, sum_by, refl, sym, ap, ◌∙◌, subst, arith}
 use Rattle.std.proofs.lemmas.List.Elements.{All-head, All-tail, All-cons, All-nil}
 use Rattle.lock_model.specs.Fleet.{ship_at, chamber_at}
 use Rattle.lock_model.specs.declared.group.Group.{Group}
@@ -7,25 +7,28 @@ use Rattle.lock_model.specs.declared.way.Way.{Way}
 use Rattle.lock_model.specs.declared.way.Way.TheVariants.{Up}
 use Rattle.lock_model.specs.declared.way.Stand.{Stand}
 use Rattle.lock_model.specs.declared.way.Stand.TheVariants.{Low, High}
-use Rattle.lock_rules.specs.Lawful.{duration_of, stand_before}
+use Rattle.lock_rules.specs.Lawful.{duration_of, stand_before, stand_after}
 use Rattle.lock_rules.specs.Timetable.{ready_at, start_of, timetable_from}
 use Rattle.lock_rules.specs.Children.{single}
 use Rattle.lock_rules.specs.Node.{times_on}
 use Rattle.lock_rules.specs.Bound.{flow_of}
 use Rattle.lock_rules.proofs.NodeLemmas.{increasing-RisesFrom}
-use Rattle.price_rules.specs.Prices.{Spares, IsUncut, flow_over, paid_in}
+use Rattle.price_rules.specs.Prices.{price_at, Spares, IsUncut, flow_over, paid_in}
 use Rattle.sweep_rules.specs.Uncut.{IsUncutPlan, IsSwept, times_over}
-use Rattle.sweep_rules.specs.Label.{Label, IsFirstLabel, CanGoOn, IsGoneOn, gone_on}
+use Rattle.sweep_rules.specs.Label.{Label, IsFirstLabel, CanGoOn, IsGoneOn, gone_on, end_on, flow_on}
 use Rattle.sweep_rules.specs.Completion.{EndsBelow}
 use Rattle.sweep_rules.specs.Dominance.{ServesFor}
 use Rattle.sweep_rules.specs.Covering.{LabelsCover}
 use Rattle.sweep_rules.specs.Gain.{IsGain, IsAbove}
 use Rattle.sweep_rules.specs.Beginning.{LeadTo}
+use Rattle.sweep_rules.specs.Treated.{IsTreated}
+use Rattle.sweep_rules.proofs.DominanceLemmas.{serves-itself}
+use Rattle.sweep_rules.proofs.TreatedLemmas.{met-served, met-dropped, treated-gone, treated-swept}
 use Rattle.sweep_rules.proofs.SweptLemmas.{swept-stays}
 use Rattle.sweep_rules.proofs.FirstLemmas.{starts_in, first-completion, first-cost}
 use Rattle.sweep_rules.proofs.GoingLemmas.{gone_on-is}
 use Rattle.sweep_rules.proofs.CoverLemmas.{cover-first}
-use Rattle.sweep_rules.proofs.GainLemmas.{above-none, gain-ways}
+use Rattle.sweep_rules.proofs.GainLemmas.{above-none, gain-ways, arc-none}
 use Rattle.sweep_rules.proofs.BeginningLemmas.{no_lines, lead-first, lead-gone, with_last}
 use Rattle.sweep_rules.proofs.RowLock.{row}
 
@@ -193,7 +196,7 @@ first_row-covers : LabelsCover row [] 225 (first_row ∷ [])
 first_row-covers = cover-first row [] 225 first_row first_row-is
 
 none-cover : LabelsCover row [] 225 []
-none-cover = record { some = λ lines plan below. absurd (omega (arith, below, in_order-swept.least lines plan)) }
+none-cover = record { some = λ lines plan total below high. absurd (omega (arith, below, high, in_order-swept.least lines plan)) }
 
 -- it goes on by the first ship, from minute 0 to minute 35
 goes-first : CanGoOn row [] first_row 0 (up 0)
@@ -255,3 +258,46 @@ none-below = above-none row [] first_row row_prices (λ c. 0) (λ c known. only 
     only : (c : ℕ) → c < 1 → IsGain row c [] first_row row_prices 0
     only zero known = no-gain
     only (suc c) known = absurd (omega (arith, known))
+
+-- ---- one chamber alone, so no other one has a gain
+no-others : (d : ℕ) → d < 1 → d ≢ 0 → IsGain row d [] first_row row_prices 0
+no-others zero known other = absurd (other refl)
+no-others (suc d) known other = absurd (omega (arith, known))
+
+-- the ship's own sum is above 105 already
+first-arc : (s : ℕ) → s < 3 → 100 * 105 + 0 + 3500 < 100 * flow_on row first_row 0 (up s) + 10500 + 100
+first-arc zero known = omega arith
+first-arc (suc zero) known = omega arith
+first-arc (suc (suc zero)) known = omega arith
+first-arc (suc (suc (suc s))) known = absurd (omega (arith, known))
+
+first-paid : (s : ℕ) → s < 3 → sum_by (price_at row_prices) (up s).ships ≡ 3500
+first-paid zero known = refl
+first-paid (suc zero) known = refl
+first-paid (suc (suc zero)) known = refl
+first-paid (suc (suc (suc s))) known = absurd (omega (arith, known))
+
+-- so by no group it goes on to a label that ends below 105
+arcs-none : (c : ℕ) (g : Group) → CanGoOn row [] first_row c g → EndsBelow row [] 105 (gone_on row first_row c g) → ⊥
+arcs-none zero g can =
+    let one = uncut-one g can.uncut in
+    let above : 100 * 105 + 0 + sum_by (price_at row_prices) g.ships < 100 * flow_on row first_row 0 g + 10500 + 100 =
+    subst (λ g. 100 * 105 + 0 + sum_by (price_at row_prices) g.ships < 100 * flow_on row first_row 0 g + 10500 + 100) (sym one.is) (omega (arith, first-arc one.ship one.known, first-paid one.ship one.known)) in
+    arc-none row [] first_row (gone_on row first_row 0 g) 0 g can (gone_on-is row [] first_row 0 g) row_prices (λ c. 0) no-others
+    (record { high = λ gs on. omega (arith, paid-flow (stand_after g.way) (end_on row first_row 0 g) gs on.uncut) }) 105 (omega (arith, above))
+arcs-none (suc c) g can = absurd (omega (arith, can.chamber))
+
+first_row-treated : IsTreated row [] 105 (first_row ∷ []) 0
+first_row-treated =
+    treated-gone row [] 105 (first_row ∷ []) 0 0 (omega arith) refl (λ c g can.
+    (gone_on row first_row c g, gone_on-is row [] first_row c g, met-dropped row [] 105 (first_row ∷ []) (gone_on row first_row c g) (arcs-none c g can)))
+
+-- the sweep of one label: 105 is swept
+low-swept : IsSwept row [] 105
+low-swept =
+    treated-swept row [] 105 (first_row ∷ []) (λ k within. only k within) first_row first_row-is
+    (met-served row [] 105 (first_row ∷ []) 0 (omega arith) first_row (serves-itself row [] first_row))
+  where
+    only : (k : ℕ) → k < 1 → IsTreated row [] 105 (first_row ∷ []) k
+    only zero within = first_row-treated
+    only (suc k) within = absurd (omega (arith, within))

@@ -29,5 +29,6 @@ ready_behind I c line way =
 pub record LeadTo (I : Instance) (cuts : List PlainCut) (label : Label) (lines : ℕ → List Group) : Type 0 where
   pub uncut : (c : ℕ) → c < length I.chambers → All (IsUncut I c cuts) (lines c)
   pub once : (s : ℕ) → s < length I.ships → times_over I s lines ≡ (if label.served s then 1 else 0)
-  pub ready : (c : ℕ) → c < length I.chambers → (way : Way) (s : ℕ) → IsWanted I cuts label.served c way s → ready_behind I c (lines c) way ≤ label.ready c way
+  pub ready : (c : ℕ) → c < length I.chambers → (way : Way) (s : ℕ) → IsWanted I cuts label.served c way s
+      → ready_behind I c (lines c) way ≤ label.ready c way
   pub flow : flow_over I lines ≤ label.flow

@@ -17,7 +17,8 @@ pub record IsWayOn (I : Instance) (c : ℕ) (cuts : List PlainCut) (served : ℕ
   pub missing : All (λ g. All (λ s. served s ≡ false) g.ships) gs
 
 -- Where chamber c stands so and is free at a minute, no way to go on pays more than 100 times its flow time and the gain, in hundredths of a minute.
-pub record IsGainFrom (I : Instance) (c : ℕ) (cuts : List PlainCut) (served : ℕ → Bool) (prices : List ℕ) (stand : Stand) (from gain : ℕ) : Type 0 where
+pub record IsGainFrom (I : Instance) (c : ℕ) (cuts : List PlainCut) (served : ℕ → Bool) (prices : List ℕ) (stand : Stand) (from : ℕ)
+    (gain : ℕ) : Type 0 where
   pub high : (gs : List Group) → IsWayOn I c cuts served gs → paid_in I 0 prices gs ≤ 100 * flow_of I gs (timetable_from I c stand from gs) + gain
 
 -- the earliest timetable of groups of chamber c, where it is ready for a first one by its way
@@ -25,9 +26,10 @@ abbrev pub timetable_after : Instance → ℕ → (Way → ℕ) → List Group �
 timetable_after I c ready [] = []
 timetable_after I c ready (g ∷ gs) = timetable_from I c (stand_before g.way) (ready g.way) (g ∷ gs)
 
--- the same where chamber c is ready by the way of the first group, as in the label
+-- the gain of chamber c behind a label: the same where it is ready by the way of the first group, as the label says
 pub record IsGain (I : Instance) (c : ℕ) (cuts : List PlainCut) (label : Label) (prices : List ℕ) (gain : ℕ) : Type 0 where
-  pub high : (gs : List Group) → IsWayOn I c cuts label.served gs → paid_in I 0 prices gs ≤ 100 * flow_of I gs (timetable_after I c (label.ready c) gs) + gain
+  pub high : (gs : List Group) → IsWayOn I c cuts label.served gs
+      → paid_in I 0 prices gs ≤ 100 * flow_of I gs (timetable_after I c (label.ready c) gs) + gain
 
 -- the ships that aren't served, by number, and their prices, once each
 abbrev pub ships_missing : Instance → (ℕ → Bool) → List ℕ

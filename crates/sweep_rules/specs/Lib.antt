@@ -6,3 +6,4 @@ pub mod Covering
 pub mod Gain
 pub mod Beginning
 pub mod Equal
+pub mod Treated

@@ -8,8 +8,9 @@
 //!
 //! `specs/Uncut` has uncut plans and swept costs, which public contracts rest on. The others are of
 //! the sweep itself: `Label` (labels, and how they go on), `Completion` (what may come behind a
-//! label), `Dominance`, `Covering` (what the labels that are left stand for), `Gain` (what prices
-//! bound), `Beginning` (the lines that lead to a label) and `Equal` (which of equal ships go first).
+//! label), `Dominance`, `Covering` (what the labels that are left stand for), `Treated` (the labels
+//! that were made, and those that are done with), `Gain` (what prices bound), `Beginning` (the lines
+//! that lead to a label) and `Equal` (which of equal ships go first).
 //!
 //! The laws stand in `proofs/`:
 //! - no legal plan costs less than a cost that is swept by cuts that hold (`SweptLemmas`, which takes
@@ -19,8 +20,9 @@
 //!   completion goes on by the first group of it (`GoingLemmas`);
 //! - a label whose bound by prices is above the goal has no completion below it, nor has one that a
 //!   group leads to whose own sum is (`GainLemmas`);
-//! - what the labels cover, as they are replaced; where none is left the goal is swept
-//!   (`CoverLemmas`);
+//! - what labels cover as they are replaced, and where none is left the goal is swept
+//!   (`CoverLemmas`); for a program that keeps all labels that it made, the goal is swept where all
+//!   are treated: dropped by their bound, served for by a later one, or gone on (`TreatedLemmas`);
 //! - the lines that lead to a label of all ships are an uncut plan (`BeginningLemmas`);
 //! - where the cuts have all swaps of equal ships, a label need go on only by groups that leave no
 //!   equal ship before theirs behind (`OrderLemmas`).
