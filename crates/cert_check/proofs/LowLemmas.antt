@@ -10,7 +10,7 @@ use Rattle.certificate_rules.specs.declared.certificate.Mark.{Mark}
 use Rattle.certificate_rules.specs.declared.certificate.Reason.TheVariants as reason
 use Rattle.certificate_rules.specs.Low.{OpenInOrder, HasOpen, leaf_bounds}
 use Rattle.master_branch.specs.Node.{children, child_lines}
-use Rattle.cert_check.specs.declared.closing.Claim.{Claim}
+use Rattle.cert_check.specs.declared.claim.Claim.{Claim}
 use Rattle.certificate_rules.proofs.TreeLemmas.{lacks-one}
 use Rattle.cert_check.proofs.ReadLemmas.{leaf-read, split-read, more-read, child-lines, child-read, end-read, end-stuck, deep-reached}
 use Rattle.cert_check.specs.Reading.{Ends, LeavesOf, IsChildStuck, IsReadLow, IsChildReadLow, AreReadLow}

@@ -17,7 +17,7 @@ use Rattle.certificate_rules.specs.Certificates.{IsMarkTree}
 use Rattle.certificate_rules.specs.Failures.{FailInOrder, TreeFails, reason_of}
 use Rattle.master_branch.specs.Node.{children, child_lines}
 use Rattle.cert_check.specs.Reading.{Ends, IsTreeOf, TreeSticks, IsRead, IsStuck, IsChildRead, IsChildStuck, AreRead, AreStuck}
-use Rattle.cert_check.specs.declared.closing.Claim.{Claim}
+use Rattle.cert_check.specs.declared.claim.Claim.{Claim}
 use Rattle.certificate_rules.proofs.TreeLemmas.{in_order-append, in_order-fails, lacks-one, leaf-tree, wrong-tree, tree-shorter, stuck-shorter}
 use Rattle.closing_rules.specs.declared.grounds.Ground.TheVariants as by
 

@@ -13,7 +13,7 @@ use Rattle.closing_rules.specs.ListedPrices.{AreShapedPrices}
 use Rattle.certificate_rules.specs.Certificates.{Certificate, EndsNode, IsMarkTree, Stands}
 use Rattle.certificate_rules.specs.Low.{HasOpen}
 use Rattle.certificate_rules.specs.Failures.{MarksFail, FailsAt, Fails}
-use Rattle.cert_check.specs.declared.closing.Claim.{Claim}
+use Rattle.cert_check.specs.declared.claim.Claim.{Claim}
 
 -- the same place and the same reason
 pub record AreSameFailure (p q : FailurePlace) (r s : Reason) : Type 0 where

@@ -10,7 +10,7 @@ use Rattle.certificate_rules.specs.Failures.{FailInOrder, TreeFails}
 use Rattle.master_branch.specs.Node.{children, child_lines}
 use Rattle.lock_rules.specs.Node.{Node}
 use Rattle.lock_rules.specs.Bound.{least_number}
-use Rattle.cert_check.specs.declared.closing.Claim.{Claim}
+use Rattle.cert_check.specs.declared.claim.Claim.{Claim}
 
 module _ (claim : Claim) where
   -- a mark ends a node of this depth

@@ -5,7 +5,7 @@ use Rattle.lock_rules.specs.Bound.{bound_of}
 use Rattle.master_branch.specs.Node.{IsNodeOf, children, child_lines}
 use Rattle.lock_rules.specs.Node.{Node}
 use Rattle.master_branch.specs.Steps.{steps_by}
-use Rattle.cert_check.specs.declared.closing.Claim.{Claim}
+use Rattle.cert_check.specs.declared.claim.Claim.{Claim}
 use Rattle.cert_check.specs.declared.splitting.SplitNode.{SplitNode}
 
 -- the bound of child i of a node

@@ -13,7 +13,7 @@ ghost use Rattle.cert_check.specs.Proven.{IsProvenLow, ProvesCheapest, StandsWit
 ghost use Rattle.cert_check.specs.Reading.{IsStuck, IsReadLow};
 
 use crate::answers::Answer;
-use crate::closing::Claim;
+use crate::claim::Claim;
 use crate::cuts::first_unproved;
 use crate::prices::{chamber_cuts, first_misshaped};
 use crate::reading::{Reading, read_tree};

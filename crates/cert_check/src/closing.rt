@@ -1,46 +1,23 @@
 //! Which marks end a node: those that close it, and open leaves.
-ghost use Rattle.std.specs.Prelude.{◌≡◌, ◌<◌, ◌≤◌, ◌↔◌, length, All, IsTrue, IfOk};
+ghost use Rattle.std.specs.Prelude.{◌≡◌, ◌<◌, ◌≤◌, ◌↔◌, length, IsTrue, IfOk};
 ghost use Rattle.std.specs.Bool.{OnTrue};
-ghost use Rattle.lock_rules.specs.Throughput.{throughput_of};
 ghost use Rattle.lock_rules.specs.Bound.{probe_of};
 ghost use Rattle.master_branch.specs.Node.{IsNodeOf};
 ghost use Rattle.lock_rules.specs.Arrival.{next_ship};
-ghost use Rattle.flow_bounds.specs.Roster.{IsRosterOf};
-ghost use Rattle.price_terms.specs.Cuts.{plain_cuts};
-ghost use Rattle.closing_rules.specs.ProvedCuts.{IsShaped};
-ghost use Rattle.certificate_rules.specs.Certificates.{IsCutBy, cuts_in};
+ghost use Rattle.certificate_rules.specs.Certificates.{IsCutBy};
 ghost use Rattle.certificate_rules.specs.Failures.{ground_reason, reason_of};
 ghost use Rattle.cert_check.specs.Reading.{Ends};
 
+use crate::claim::Claim;
 use crate::hitting::hits_node;
 use crate::workspace::Workspace;
-use certificate_parts::CertCut;
 use certificate_rules::{Mark, Reason};
 use closing_rules::Ground;
-use flow_bounds::{Roster, bound, children_reaching, is_missing, probe};
-use lock_model::Instance;
+use flow_bounds::{bound, children_reaching, is_missing, probe};
 use master_branch::{Node, steps_by};
 use no_memory::NoMemory;
 use price_bound::{PricedNode, reaches};
-use price_terms::{ChamberCut, Limits, Prices};
-
-// What the marks of a certificate are held against: the instance, its roster and its throughput, and
-// the cost in minutes, the prices and the cuts of the certificate, each cut about a chamber and ships
-// of the instance, and the cuts as prices see them.
-#[derive(Drop)]
-pub(crate) struct Claim<'c> {
-    pub(crate) instance: &'c Instance,
-    pub(crate) roster: &'c Roster,
-    pub(crate) throughput: u64,
-    pub(crate) cost: u64,
-    pub(crate) cuts: &'c [CertCut],
-    pub(crate) prices: &'c [Prices],
-    pub(crate) chamber_cuts: &'c [ChamberCut],
-    pub(crate) ghost rostered: { IsRosterOf instance.now roster.now },
-    pub(crate) ghost told: { throughput ≡ throughput_of instance.now },
-    pub(crate) ghost shaped: { All (IsShaped instance.now) cuts.now },
-    pub(crate) ghost same_cuts: { plain_cuts instance.now chamber_cuts.now ≡ cuts_in instance.now cuts.now },
-}
+use price_terms::{Limits, Prices};
 
 // Whether there is a cut of this number, and it hits a group of the node.
 fn is_cut_by(claim: &Claim, node: &Node, number: u64) -> bool

@@ -18,6 +18,7 @@
 
 mod answers;
 mod checking;
+mod claim;
 mod closing;
 mod cuts;
 mod hitting;

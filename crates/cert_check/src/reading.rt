@@ -6,7 +6,8 @@ ghost use Rattle.certificate_rules.specs.Low.{leaf_bounds};
 ghost use Rattle.cert_check.specs.Splitting.{IsSplit};
 ghost use Rattle.cert_check.specs.Reading.{IsStuck, IsChildStuck, AreStuck, IsReadLow, IsChildReadLow, AreAllReadLow};
 
-use crate::closing::{Claim, ends, reason_against};
+use crate::claim::Claim;
+use crate::closing::{ends, reason_against};
 use crate::splitting::{SplitNode, child_of, child_reaches, count_children, split};
 use crate::workspace::Workspace;
 use certificate_parts::{Ground, Mark};

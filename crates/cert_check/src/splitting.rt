@@ -4,7 +4,7 @@ ghost use Rattle.lock_rules.specs.Bound.{bound_of};
 ghost use Rattle.master_branch.specs.Node.{IsNodeOf, children, child_lines};
 ghost use Rattle.cert_check.specs.Splitting.{IsSplit, child_bound};
 
-use crate::closing::Claim;
+use crate::claim::Claim;
 use flow_bounds::{NodeWalks, Reached, children_reaching};
 use master_branch::{Node, Steps, steps_by, take_step};
 
