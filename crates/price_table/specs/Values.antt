@@ -1,5 +1,6 @@
 -- Values that are remembered for states.
-use Rattle.std.specs.Prelude.{ℕ, ◌≡◌, ◌+◌, ◌-◌, ◌*◌, ◌≤◌, ◌<◌, ◌⊎◌, max, ℤ, pos, ◌+ℤ◌, ◌≤ℤ◌, Some, None, List, [], length, drop, slice_index_or, nat_eq, neg_ℤ, true}
+use Rattle.std.specs.Prelude.{ℕ, ◌≡◌, ◌+◌, ◌-◌, ◌*◌, ◌≤◌, ◌<◌, ◌⊎◌, max, nat_eq, ℤ, pos, neg_ℤ, ◌+ℤ◌, ◌≤ℤ◌, true, Some, None}
+use Rattle.std.specs.Prelude.{List, [], length, drop, slice_index_or}
 use Rattle.lock_model.specs.declared.instance.Instance.{Instance}
 use Rattle.lock_model.specs.declared.group.Group.{Group}
 use Rattle.price_groups.specs.Asks.{LineAsk, group_end, group_worth, line_worth}
@@ -39,7 +40,9 @@ key_of places place stand minute = (minute * places + place) * 2 + side_of stand
 
 -- the value is remembered under the key, in the row or among the others
 abbrev pub IsRemembered : Values → ℕ → ℤ → Type 0
-IsRemembered values key v = ((place : ℕ) × (key ≡ values.start + place) × (place < length values.row.items) × (slice_index_or values.row.items place None ≡ Some v)) ⊎ (get nat_eq values.others key ≡ Some v)
+IsRemembered values key v =
+    ((place : ℕ) × (key ≡ values.start + place) × (place < length values.row.items) × (slice_index_or values.row.items place None ≡ Some v))
+    ⊎ (get nat_eq values.others key ≡ Some v)
 
 -- nothing is remembered, and there are so many places
 pub record AreEmpty (places : ℕ) (values : Values) : Type 0 where
@@ -54,7 +57,8 @@ pub record Remembers (old new : Values) (key : ℕ) (v : ℤ) : Type 0 where
 -- what is remembered for a state is its value, and each place of the line has room
 pub record AreValues (L : LineAsk) (horizon : ℕ) (values : Values) : Type 0 where
   pub wide : values.places ≡ length L.line + 1
-  pub told : (p : ℕ) (stand : Stand) (minute : ℕ) (v : ℤ) → p ≤ length L.line → IsRemembered values (key_of values.places p stand minute) v → IsValue L horizon p stand minute v
+  pub told : (p : ℕ) (stand : Stand) (minute : ℕ) (v : ℤ) → p ≤ length L.line
+      → IsRemembered values (key_of values.places p stand minute) v → IsValue L horizon p stand minute v
 
 -- the first minute for a way
 abbrev pub minute_for : Ready → Way → ℕ
@@ -74,13 +78,38 @@ pub record IsBest (L : LineAsk) (horizon : ℕ) (p : ℕ) (stand : Stand) (minut
   pub low : pos 0 ≤ℤ (best +ℤ pos (808000000 * (horizon - minute)))
   pub high : best ≤ℤ pos 6000000000000
 
+-- the same said of a state
+abbrev pub IsValueOf : LineAsk → ℕ → State → ℤ → Type 0
+IsValueOf L horizon state = IsValue L horizon state.place state.stand state.minute
+
+abbrev pub IsBestOf : LineAsk → ℕ → State → ℤ → Type 0
+IsBestOf L horizon state = IsBest L horizon state.place state.stand state.minute
+
+abbrev pub IsCountedIn : LineAsk → State → ℤ → Successor → Type 0
+IsCountedIn L state = IsCounted L state.stand state.minute state.place
+
+-- when a group ends that comes next in the state, and what it and a line are worth
+abbrev pub end_next : LineAsk → State → Group → ℕ
+end_next L state = group_end L state.stand state.minute
+
+abbrev pub worth_next : LineAsk → State → Group → ℤ
+worth_next L state = group_worth L state.stand state.minute
+
+abbrev pub line_worth_next : LineAsk → State → List Group → ℤ
+line_worth_next L state = line_worth L state.stand state.minute
+
+-- the successors that are looked at in the state
+abbrev pub list_in : List SuccessorList → SuccessorList → State → List Successor
+list_in successor_lists e state = list_of successor_lists e state.place state.minute
+
 -- a state before the horizon, of which the first successors that are looked at are counted
 pub record IsFrame (L : LineAsk) (horizon : ℕ) (successor_lists : List SuccessorList) (frame : Frame) : Type 0 where
   pub ready : IsReady L.instance L.chamber frame.ready
   pub place : frame.ready.state.place ≤ length L.line
   pub early : frame.ready.state.minute < horizon
-  pub best : IsBest L horizon frame.ready.state.place frame.ready.state.stand frame.ready.state.minute frame.best
-  pub counted : (j : ℕ) (d : Successor) (e : SuccessorList) → j < frame.next → j < length (list_of successor_lists e frame.ready.state.place frame.ready.state.minute) → IsCounted L frame.ready.state.stand frame.ready.state.minute frame.ready.state.place frame.best (slice_index_or (list_of successor_lists e frame.ready.state.place frame.ready.state.minute) j d)
+  pub best : IsBestOf L horizon frame.ready.state frame.best
+  pub counted : (j : ℕ) (d : Successor) (e : SuccessorList) → j < frame.next → j < length (list_in successor_lists e frame.ready.state)
+      → IsCountedIn L frame.ready.state frame.best (slice_index_or (list_in successor_lists e frame.ready.state) j d)
 
 -- a route from the state: where its successors lead, and the first minute for their way
 pub record IsRoute (ready : Ready) (route : Route) : Type 0 where
@@ -92,42 +121,25 @@ pub record IsThreshold (L : LineAsk) (ready : Ready) (route : Route) (best : ℤ
   pub low : neg_ℤ (pos 2000000000000000) ≤ℤ threshold.worth
   pub high : threshold.worth ≤ℤ pos 2000000000000000
   pub over : (h : Successor) → IsSuccessor L h → h.joins ≡ route.joins → h.group.way ≡ route.way
-      → threshold.end ≤ group_end L ready.state.stand ready.state.minute h.group → threshold.worth ≤ℤ group_worth L ready.state.stand ready.state.minute h.group → group_worth L ready.state.stand ready.state.minute h.group ≤ℤ pos 30000000000
-      → IsCounted L ready.state.stand ready.state.minute ready.state.place best h
-
--- the same said of a state
-abbrev pub IsValueOf : LineAsk → ℕ → State → ℤ → Type 0
-IsValueOf L horizon state = IsValue L horizon state.place state.stand state.minute
-
-abbrev pub IsBestOf : LineAsk → ℕ → State → ℤ → Type 0
-IsBestOf L horizon state = IsBest L horizon state.place state.stand state.minute
-
-abbrev pub IsCountedIn : LineAsk → State → ℤ → Successor → Type 0
-IsCountedIn L state = IsCounted L state.stand state.minute state.place
+      → threshold.end ≤ end_next L ready.state h.group → threshold.worth ≤ℤ worth_next L ready.state h.group
+      → worth_next L ready.state h.group ≤ℤ pos 30000000000 → IsCountedIn L ready.state best h
 
 -- the state's key among so many places
 abbrev pub state_key : ℕ → State → ℕ
 state_key places state = key_of places state.place state.stand state.minute
 
--- when a group ends that comes next in the state, and what it is worth
-abbrev pub end_next : LineAsk → State → Group → ℕ
-end_next L state = group_end L state.stand state.minute
-
-abbrev pub worth_next : LineAsk → State → Group → ℤ
-worth_next L state = group_worth L state.stand state.minute
-
 -- what the line's own groups from the state's place on are worth alone
 abbrev pub worth_alone : LineAsk → State → ℤ
-worth_alone L state = line_worth L state.stand state.minute (drop state.place L.line)
+worth_alone L state = line_worth_next L state (drop state.place L.line)
 
 -- a state before the horizon, at a place of the line or at its end
 abbrev pub IsEarlyState : LineAsk → ℕ → State → Type 0
 IsEarlyState L horizon state = (state.place ≤ length L.line) × (state.minute < horizon)
 
--- the successors that are looked at in the state are these, whatever stands in place of a list of successor lists that isn't there
+-- these are the successors that are looked at in the state, whatever stands in place of a list that isn't there
 abbrev pub AreLookedAt : List SuccessorList → State → List Successor → Type 0
-AreLookedAt successor_lists state successors = (e : SuccessorList) → successors ≡ list_of successor_lists e state.place state.minute
+AreLookedAt successor_lists state successors = (e : SuccessorList) → successors ≡ list_in successor_lists e state
 
 -- all successors that are looked at in the frame's state are counted
 abbrev pub AreAllCounted : List SuccessorList → Frame → Type 0
-AreAllCounted successor_lists frame = (e : SuccessorList) → length (list_of successor_lists e frame.ready.state.place frame.ready.state.minute) ≤ frame.next
+AreAllCounted successor_lists frame = (e : SuccessorList) → length (list_in successor_lists e frame.ready.state) ≤ frame.next
