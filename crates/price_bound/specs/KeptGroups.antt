@@ -26,7 +26,8 @@ IsPutSpared masks one old new = (IsApart masks one.sums.mask × (new ≡ old ++ 
 pub record AreSpared (masks : List ℕ) (groups : List GrownGroup) (i : ℕ) (spared : List GrownGroup) : Type 0 where
   pub each : All (Contains groups) spared
   pub apart : All (λ one. IsApart masks one.sums.mask) spared
-  pub whole : (j : ℕ) (d : GrownGroup) → j < i → j < length groups → IsApart masks (slice_index_or groups j d).sums.mask → Contains spared (slice_index_or groups j d)
+  pub whole : (j : ℕ) (d : GrownGroup) → j < i → j < length groups → IsApart masks (slice_index_or groups j d).sums.mask
+      → Contains spared (slice_index_or groups j d)
 
 -- the same list without the groups that hold one of the masks' sets
 pub record IsSparedList (masks : List ℕ) (list spared : GrownList) : Type 0 where
@@ -38,7 +39,8 @@ pub record AreSparedLists (masks : List ℕ) (lists : List GrownList) (n : ℕ) 
   pub count : length spared ≡ n
   pub each : (j : ℕ) (d e : GrownList) → j < n → IsSparedList masks (slice_index_or lists j d) (slice_index_or spared j e)
 
--- What is kept of a chamber at nodes of depth k: the sets that the first of the cuts forbid it, and what has grown at the ceilings without these.
+-- What is kept of a chamber at nodes of depth k: the sets that the first of the cuts forbid it, and what has grown
+-- at the ceilings without these.
 pub record AreGroupsFor (I : Instance) (k : ℕ) (cuts : List ChamberCut) (ceilings : List ℕ) (own : ChamberGroups) : Type 0 where
   pub seen : own.seen ≤ length cuts
   pub forbidden : AreForbidden I own.chamber (plain_cuts I (take own.seen cuts)) own.sets.items
@@ -55,7 +57,8 @@ AreAllGroupsFor I k cuts kept = All (AreGroupsFor I k cuts kept.ceilings) kept.c
 
 -- all that was kept still serves, and what was put to it where it does
 abbrev pub AreGroupsWith : KeptGroups → ChamberGroups → KeptGroups → Type 0
-AreGroupsWith old own new = (I : Instance) (k : ℕ) (cuts : List ChamberCut) → AreAllGroupsFor I k cuts old → AreGroupsFor I k cuts old.ceilings own → AreAllGroupsFor I k cuts new
+AreGroupsWith old own new =
+    (I : Instance) (k : ℕ) (cuts : List ChamberCut) → AreAllGroupsFor I k cuts old → AreGroupsFor I k cuts old.ceilings own → AreAllGroupsFor I k cuts new
 
 -- the same under the terms; without terms nothing is kept
 abbrev pub AreGroupsUnder : Option Terms → KeptGroups → Type 0

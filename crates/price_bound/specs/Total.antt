@@ -16,11 +16,13 @@ use Rattle.price_bound.specs.Asks.{NodeAsk, chamber_ask}
 -- what the chosen lines of the first n chambers are worth
 abbrev pub worths_of : Instance → ℕ → List ℕ → (ℕ → List Group) → ℕ → ℤ
 worths_of I k prices chosen zero = pos 0
-worths_of I k prices chosen (suc n) = worths_of I k prices chosen n +ℤ worth_from I n k prices (chamber_at I n).stands (chamber_at I n).opens (chosen n)
+worths_of I k prices chosen (suc n) =
+    worths_of I k prices chosen n +ℤ worth_from I n k prices (chamber_at I n).stands (chamber_at I n).opens (chosen n)
 
 -- the least worth of loose lines of the first n chambers together
 pub record IsLeastSum (N : NodeAsk) (n : ℕ) (v : ℤ) : Type 0 where
-  pub below : (chosen : ℕ → List Group) → ((c : ℕ) → c < n → IsLooseIn (chamber_ask N c) (line_at N.lines c) (chosen c)) → v ≤ℤ worths_of N.instance N.depth N.prices chosen n
+  pub below : (chosen : ℕ → List Group) → ((c : ℕ) → c < n → IsLooseIn (chamber_ask N c) (line_at N.lines c) (chosen c))
+      → v ≤ℤ worths_of N.instance N.depth N.prices chosen n
   pub chosen : ℕ → List Group
   pub loose : (c : ℕ) → c < n → IsLooseIn (chamber_ask N c) (line_at N.lines c) (chosen c)
   pub worth : worths_of N.instance N.depth N.prices chosen n ≡ v
