@@ -2,7 +2,10 @@
 
 use super::fixture::{LARGE, run_over, run_past};
 use gates::{LastGate, MeetGate, Stage};
+use std::alloc::Global;
+use std::sync::Wait;
 use std::test::Fail;
+use std::thread::Threads;
 
 // A lot that 1,000 nodes don't solve, so that prices are asked.
 const LOT: [&str; 7] = ["lot", "--number", "29", "--ships", "11", "--chambers", "2"];
@@ -15,17 +18,27 @@ const LOOKS: u64 = 10_000_000;
 
 // Whether two workers price nodes below the root at once. The caller prices the root alone, so a run whose
 // workers have no prices leaves the gate alone.
-fn do_meet(rt: &HostRuntime, words: &[&str], text: &[u8]) -> Result<bool, Fail> {
+fn do_meet<R: Threads + Wait + Sync>(
+    rt: &R,
+    alloc: Global,
+    words: &[&str],
+    text: &[u8],
+) -> Result<bool, Fail> {
     let gate = MeetGate::new(Stage::Pricing, LOOKS);
-    let ran = run_past(rt, rt.alloc(), words, text, LARGE, &gate)?;
+    let ran = run_past(rt, alloc, words, text, LARGE, &gate)?;
     Ok(gate.met() && ran.text.as_slice().starts_with(FIRST_LINE))
 }
 
 // Whether the held worker, which prices its node once the other one is done with all others, knows the cut
 // that the other found by prices: it knows nine, and the other one began with eight.
-fn does_learn(rt: &HostRuntime, words: &[&str], text: &[u8]) -> Result<bool, Fail> {
+fn does_learn<R: Threads + Wait + Sync>(
+    rt: &R,
+    alloc: Global,
+    words: &[&str],
+    text: &[u8],
+) -> Result<bool, Fail> {
     let gate = LastGate::new(Stage::Pricing, LOOKS);
-    let ran = run_past(rt, rt.alloc(), words, text, LARGE, &gate)?;
+    let ran = run_past(rt, alloc, words, text, LARGE, &gate)?;
     let solved = ran.text.as_slice().starts_with(FIRST_LINE);
     Ok(solved && gate.began() == Some(8) && gate.learnt() == Some(9))
 }
@@ -34,8 +47,8 @@ fn does_learn(rt: &HostRuntime, words: &[&str], text: &[u8]) -> Result<bool, Fai
 fn two_workers_price_in_a_run(rt: HostRuntime) -> Result<(), Fail> {
     let lot = run_over(&rt, rt.alloc(), &LOT, b"")?;
     let words = ["solve", "--workers", "2"];
-    assert!(rt; do_meet(&rt, &words, lot.text.as_slice())?);
-    assert!(rt; does_learn(&rt, &words, lot.text.as_slice())?);
+    assert!(rt; do_meet(&rt, rt.alloc(), &words, lot.text.as_slice())?);
+    assert!(rt; does_learn(&rt, rt.alloc(), &words, lot.text.as_slice())?);
     Ok(())
 }
 
@@ -45,8 +58,8 @@ fn two_workers_price_when_the_rest_is_planned(rt: HostRuntime) -> Result<(), Fai
     let mut text = run_over(&rt, rt.alloc(), &LOT, b"")?.text;
     text.extend_from_slice(b"plan\nend\n")?;
     let words = ["replan", "--from", "0", "--workers", "2"];
-    assert!(rt; do_meet(&rt, &words, text.as_slice())?);
-    assert!(rt; does_learn(&rt, &words, text.as_slice())?);
+    assert!(rt; do_meet(&rt, rt.alloc(), &words, text.as_slice())?);
+    assert!(rt; does_learn(&rt, rt.alloc(), &words, text.as_slice())?);
     Ok(())
 }
 
@@ -56,7 +69,7 @@ fn two_workers_price_in_a_resumed_search(rt: HostRuntime) -> Result<(), Fail> {
     let begun = ["solve", "--nodes", "1", "--keep", "--workers", "1"];
     let kept = run_over(&rt, rt.alloc(), &begun, lot.text.as_slice())?;
     let words = ["resume", "--workers", "2"];
-    assert!(rt; do_meet(&rt, &words, kept.text.as_slice())?);
-    assert!(rt; does_learn(&rt, &words, kept.text.as_slice())?);
+    assert!(rt; do_meet(&rt, rt.alloc(), &words, kept.text.as_slice())?);
+    assert!(rt; does_learn(&rt, rt.alloc(), &words, kept.text.as_slice())?);
     Ok(())
 }
