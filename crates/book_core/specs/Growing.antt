@@ -20,7 +20,12 @@ kept_prices b prices = noted (record b { prices = b.prices ++ prices ∷ [] }) e
 
 -- what is stored of a child with this bound
 abbrev pub stored_child : ℕ → ℕ → ℕ → ℕ → StoredSlot
-stored_child cost parent number bound = record { bound = bound; state = if nat_le cost bound then (slot.Closed by.Bound) else slot.Fresh; parent = parent; number = number }
+stored_child cost parent number bound = record {
+  bound = bound;
+  state = if nat_le cost bound then (slot.Closed by.Bound) else slot.Fresh;
+  parent = parent;
+  number = number;
+}
 
 -- what is stored of children with these bounds, numbered from `number` on
 abbrev pub stored_children : ℕ → ℕ → ℕ → List ℕ → List StoredSlot

@@ -71,7 +71,9 @@ pub record AreNodes (I : Instance) (slots : List Slot) (hands : List (Option Han
 
 -- the bounds of the children of the node of slot id
 abbrev pub bounds_at : Book → ℕ → List ℕ
-bounds_at b id = map (bound_of b.case.instance ((slot_at b id).node.depth + 1)) (children_of b.case.instance (slot_at b id).node.depth (slot_at b id).node.lines)
+bounds_at b id =
+    map (bound_of b.case.instance ((slot_at b id).node.depth + 1))
+    (children_of b.case.instance (slot_at b id).node.depth (slot_at b id).node.lines)
 
 -- the hand that holds slot id
 pub record IsHandOf (b : Book) (id : ℕ) (hand : Hand) : Type 0 where

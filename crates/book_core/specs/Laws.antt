@@ -22,7 +22,9 @@ pub record IsJudgeable (I : Instance) (e : Event) : Type 0 where
   pub found : Option BrokenPlan
   pub first : IsFirstOf I e found
 
--- After its opening and any list of events, accepted or refused, whose conditions hold, a book is sound: it is the replay of its history, it covers, and its parts are kept. Every list of events whose plans are judgeable leads to some book, and legal plans are judgeable.
+-- After its opening and any list of events, accepted or refused, whose conditions hold, a book is sound: it is the replay of its
+-- history, it covers, and its parts are kept. Every list of events whose plans are judgeable leads to some book, and legal plans are
+-- judgeable.
 pub record EveryListKeeps (case : Case) (plan : Plan) : Type 0 where
   pub keeps : (events : List Event) (end : Book) → AllByRecursion IsOwed events → RunsTo (opening_book case plan) events end → IsSound end
   pub runs : (events : List Event) → AllByRecursion (IsJudgeable case.instance) events → (end : Book) × RunsTo (opening_book case plan) events end

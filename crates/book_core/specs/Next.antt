@@ -46,8 +46,10 @@ pub record IsNext (slots : List Slot) (id : ℕ) : Type 0 where
   pub from : entry.first ≤ id
   pub before : id < entry.end
   pub fresh : state_in slots id ≡ slot.Fresh
-  pub least : (other : ℕ) → entry.first ≤ other → other < entry.end → state_in slots other ≡ slot.Fresh → (slice_index_or slots id no_slot).bound ≤ (slice_index_or slots other no_slot).bound
-  pub tie : (other : ℕ) → entry.first ≤ other → other < entry.end → state_in slots other ≡ slot.Fresh → other < id → (slice_index_or slots id no_slot).bound < (slice_index_or slots other no_slot).bound
+  pub least : (other : ℕ) → entry.first ≤ other → other < entry.end → state_in slots other ≡ slot.Fresh
+      → (slice_index_or slots id no_slot).bound ≤ (slice_index_or slots other no_slot).bound
+  pub tie : (other : ℕ) → entry.first ≤ other → other < entry.end → state_in slots other ≡ slot.Fresh → other < id
+      → (slice_index_or slots id no_slot).bound < (slice_index_or slots other no_slot).bound
   pub last : (other : ℕ) → 0 < other → state_in slots other ≡ slot.Fresh → StandsBefore slots entry.first other
 
 -- no slot but the root is Fresh

@@ -8,7 +8,8 @@ use Rattle.closing_rules.specs.declared.grounds.Ground.TheVariants as by
 
 -- a Fresh, Back or Parked slot whose bound is at least the cost is closed
 abbrev pub outdone_stored : ℕ → StoredSlot → StoredSlot
-outdone_stored cost s = if (is_fresh s.state || is_back s.state || is_parked s.state) && nat_le cost s.bound then record s { state = slot.Closed by.Bound } else s
+outdone_stored cost s =
+    if (is_fresh s.state || is_back s.state || is_parked s.state) && nat_le cost s.bound then record s { state = slot.Closed by.Bound } else s
 
 -- slot id is Back
 abbrev pub is_back_in : List StoredSlot → ℕ → Bool

@@ -36,7 +36,8 @@ Passes old e w (a ∷ rest) taken new = Follows old e w (next.Taken (reply.Node 
 abbrev pub GoesAhead : ℕ → Book → ℕ → List Ahead → ℕ → Gone → Book → Type 0
 GoesAhead w old id [] place gone new = ⊥
 GoesAhead w old id (a ∷ rest) zero gone new = (gone.id ≡ id) × IsStop old (ending_of id a.ending) w rest gone.next new
-GoesAhead w old id (a ∷ rest) (suc place) gone new = (taken : ℕ) × (between : Book) × Passes old (ending_of id a.ending) w rest taken between × GoesAhead w between taken rest place gone new
+GoesAhead w old id (a ∷ rest) (suc place) gone new =
+    (taken : ℕ) × (between : Book) × Passes old (ending_of id a.ending) w rest taken between × GoesAhead w between taken rest place gone new
 
 -- how many events were accepted: two for each node that was passed, and those of the last one
 abbrev pub gone_count : Gone → ℕ
