@@ -11,6 +11,7 @@ use Rattle.book_rules.specs.Events.{Event, IsOwed, close}
 use Rattle.book_rules.specs.Step.{step, may_close, refusal_of, cheaper_than, close_unless, closed, hits_in, probe_at, lacks_ship}
 use Rattle.book_core.specs.declared.reply.Reply.{Reply}
 use Rattle.book_core.specs.declared.reply.Reply.TheVariants as reply
+use Rattle.book_core.specs.declared.reply.Refusal.TheVariants as refusing
 use Rattle.book_core.specs.Keeps.{IsSound}
 use Rattle.book_core.specs.Replies.{told, IsFirstOf, Answers}
 use Rattle.book_core.proofs.SoundLemmas.{step-sound}
@@ -34,7 +35,7 @@ module _ (b : Book) (id : ℕ) (why : Ground) (e : Event) (refusal : Option (mac
   abbrev not_held : Out
   not_held = (b, machine.NotHeld id)
 
-  pub event-missed : may_close b id ≡ false → Answers b e (reply.NotHeld id) b
+  pub event-missed : may_close b id ≡ false → Answers b e (reply.Refused (refusing.NotHeld id)) b
   event-missed missing = record {
     found = None;
     judged = unjudged;
@@ -74,7 +75,7 @@ module _ (b : Book) (refusal : Option (machine.Reply BrokenPlan)) (n best : ℕ)
 -- ---- a slot is closed by the book alone
 
 module _ (b : Book) (id : ℕ) (why : Ground) where
-  pub missed : may_close b id ≡ false → Answers b (close id why) (reply.NotHeld id) b
+  pub missed : may_close b id ≡ false → Answers b (close id why) (reply.Refused (refusing.NotHeld id)) b
   missed = event-missed b id why (close id why) (refusal_of b id why) refl tt
 
   pub refused : (r : Reply) (o : machine.Reply BrokenPlan) → told r ≡ Some o → may_close b id ≡ true → refusal_of {Break = BrokenPlan} b id why ≡ Some o → Answers b (close id why) r b

@@ -12,6 +12,7 @@ use Rattle.book_core.specs.declared.reply.Grant.{Grant}
 use Rattle.book_core.specs.declared.reply.Grant.TheVariants as grant
 use Rattle.book_core.specs.declared.reply.Reply.{Reply}
 use Rattle.book_core.specs.declared.reply.Reply.TheVariants as reply
+use Rattle.book_core.specs.declared.reply.Refusal.TheVariants as refusing
 use Rattle.book_core.specs.Changes.{IsNextFree, IsNew, handed, returned, finished}
 use Rattle.book_core.specs.Keeps.{IsSound}
 use Rattle.book_core.specs.Replies.{Answers, Grants, HasNode, grant_told, told}
@@ -84,7 +85,7 @@ module _ (b : Book) (w : ℕ) where
 
   -- ---- release
 
-  pub release-ended : has_ended ≡ true → Answers b (release w) (reply.Ended w) b
+  pub release-ended : has_ended ≡ true → Answers b (release w) (reply.Refused (refusing.Ended w)) b
   release-ended e = record { found = None; judged = tt; answer = machine.Ended w; said = refl; same = pick-true has_ended (b, machine.Ended w) (release_slot b w (first_slot b (is_held_by w))) e }
 
   way-release : has_ended ≡ false → step (λ _ _. none) b (release w) ≡ release_slot b w (first_slot b (is_held_by w))

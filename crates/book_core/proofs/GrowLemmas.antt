@@ -20,6 +20,7 @@ use Rattle.book_rules.specs.Events as machine
 use Rattle.book_rules.specs.Events.{split}
 use Rattle.book_rules.specs.Step.{step, child_slots, children_in, split_slot}
 use Rattle.book_core.specs.declared.reply.Reply.TheVariants as reply
+use Rattle.book_core.specs.declared.reply.Refusal.TheVariants as refusing
 use Rattle.book_core.specs.declared.stored_slot.StoredSlot.{StoredSlot}
 use Rattle.book_core.specs.declared.waiting.Waiting.{Waiting}
 use Rattle.book_core.specs.Stored.{node_after, slots_after, slots_of}
@@ -211,7 +212,7 @@ module _ (b : Book) (id : ℕ) where
   abbrev whole : Bool
   whole = nat_le (length b.case.instance.ships) (slot_at b id).node.depth
 
-  pub split-missed : is_held (slot_at b id).state ≡ false → Does b (split id) (reply.NotHeld id) b
+  pub split-missed : is_held (slot_at b id).state ≡ false → Does b (split id) (reply.Refused (refusing.NotHeld id)) b
   split-missed e = Steps (record {
     found = None;
     judged = tt;
@@ -223,7 +224,7 @@ module _ (b : Book) (id : ℕ) where
   way-held : is_held (slot_at b id).state ≡ true → step (λ _ _. none) b (split id) ≡ cond whole (b, machine.Whole id) (split_slot {Break = BrokenPlan} b id)
   way-held e = pick-false (not (is_held (slot_at b id).state)) (b, machine.NotHeld id) (cond whole (b, machine.Whole id) (split_slot {Break = BrokenPlan} b id)) (not_from_true (is_held (slot_at b id).state) e)
 
-  pub split-whole : is_held (slot_at b id).state ≡ true → length b.case.instance.ships ≤ (slot_at b id).node.depth → Does b (split id) (reply.Whole id) b
+  pub split-whole : is_held (slot_at b id).state ≡ true → length b.case.instance.ships ≤ (slot_at b id).node.depth → Does b (split id) (reply.Refused (refusing.Whole id)) b
   split-whole e full = Steps (record {
     found = None;
     judged = tt;

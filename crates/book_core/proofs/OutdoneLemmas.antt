@@ -21,6 +21,7 @@ use Rattle.book_rules.specs.Step.{step, outdone, replaced}
 use Rattle.book_rules.proofs.CoverLemmas.{got-map}
 use Rattle.book_rules.proofs.SlotLemmas.{back-is}
 use Rattle.book_core.specs.declared.reply.Reply.TheVariants as reply
+use Rattle.book_core.specs.declared.reply.Refusal.TheVariants as refusing
 use Rattle.book_rules.specs.declared.book.Entry.{Entry}
 use Rattle.book_rules.specs.declared.book.Entry.TheVariants as entry
 use Rattle.book_core.specs.declared.book.Book.TheInside.{Inside}
@@ -166,7 +167,7 @@ module _ (cost : ℕ) (slots : List Slot) where
 
 -- ---- replace
 
-pub replace-broken : (b : Book) (plan : Plan) (found : BrokenPlan) → IsJudged b.case.instance plan (Some found) → Does b (replace plan) (reply.NotLegal found) b
+pub replace-broken : (b : Book) (plan : Plan) (found : BrokenPlan) → IsJudged b.case.instance plan (Some found) → Does b (replace plan) (reply.Refused (refusing.NotLegal found)) b
 replace-broken b plan found judged = Steps (record { found = Some found; judged = judged; answer = machine.NotLegal found; said = refl; same = refl })
 
 module _ (b : Book) (plan : Plan) (judged : IsJudged b.case.instance plan None) (cost best : ℕ) (cost_is : cost ≡ cost_of b.case.instance plan) (best_is : best ≡ best_cost b) where
@@ -179,7 +180,7 @@ module _ (b : Book) (plan : Plan) (judged : IsJudged b.case.instance plan None) 
   abbrev done : Out
   done = (replaced b plan, machine.Replaced (cost_of b.case.instance plan))
 
-  pub replace-dear : best ≤ cost → Does b (replace plan) (reply.NotCheaper cost best) b
+  pub replace-dear : best ≤ cost → Does b (replace plan) (reply.Refused (refusing.NotCheaper cost best)) b
   replace-dear high = Steps (record {
     found = None;
     judged = judged;

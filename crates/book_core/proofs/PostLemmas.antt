@@ -20,6 +20,7 @@ use Rattle.book_rules.specs.Events.{post, post_prices, park}
 use Rattle.book_rules.specs.Tests.{has_clash, is_own_cut}
 use Rattle.book_rules.specs.Step.{step, noted, with_state, posted, priced, parked, park_group, is_lent}
 use Rattle.book_core.specs.declared.reply.Reply.TheVariants as reply
+use Rattle.book_core.specs.declared.reply.Refusal.TheVariants as refusing
 use Rattle.book_core.specs.Parking.{group_lent, names_lent}
 use Rattle.book_core.specs.Growing.{kept_cut, kept_prices}
 use Rattle.book_core.specs.Keeps.{IsSound}
@@ -32,7 +33,7 @@ known_ships r n ships decides = same_from_decides r (list_all (λ s. nat_lt s n)
 
 -- ---- post
 
-pub post-other : (b : Book) (cut : Cut) → is_own_cut b.case.instance cut ≡ false → Does b (post cut) reply.OtherDeck b
+pub post-other : (b : Book) (cut : Cut) → is_own_cut b.case.instance cut ≡ false → Does b (post cut) (reply.Refused refusing.OtherDeck) b
 post-other b cut e = Steps (record {
   found = None;
   judged = tt;
@@ -65,7 +66,7 @@ module _ (b : Book) (prices : List ℕ) where
   abbrev kept_so : Out
   kept_so = priced {Break = BrokenPlan} b prices
 
-  pub prices-other : length prices ≢ length b.case.instance.ships → Does b (post_prices prices) reply.OtherPrices b
+  pub prices-other : length prices ≢ length b.case.instance.ships → Does b (post_prices prices) (reply.Refused refusing.OtherPrices) b
   prices-other other = Steps (record {
     found = None;
     judged = tt;
@@ -111,7 +112,7 @@ module _ (b : Book) (id c p : ℕ) (deck : Deck) (turns : ℕ) where
   past-held : is_held (slot_at b id).state ≡ true → step (λ _ _. none) b (park id c p deck turns) ≡ rest
   past-held e = pick-false (not (is_held (slot_at b id).state)) (b, machine.NotHeld id) rest (not_from_true (is_held (slot_at b id).state) e)
 
-  pub park-missed : is_held (slot_at b id).state ≡ false → Answers b (park id c p deck turns) (reply.NotHeld id) b
+  pub park-missed : is_held (slot_at b id).state ≡ false → Answers b (park id c p deck turns) (reply.Refused (refusing.NotHeld id)) b
   park-missed e = record { found = None; judged = tt; answer = machine.NotHeld id; said = refl; same = pick-true (not (is_held (slot_at b id).state)) (b, machine.NotHeld id) rest (not_from_false (is_held (slot_at b id).state) e) }
 
   by-other : (o : Option Group) → group_lent b c deck turns o ≡ false → park_group {Break = BrokenPlan} b id c p deck turns o ≡ (b, machine.OtherDeck)
@@ -122,10 +123,10 @@ module _ (b : Book) (id c p : ℕ) (deck : Deck) (turns : ℕ) where
   by-lent None e = absurd (false≢true e)
   by-lent (Some g) e = pick-false (not (is_lent b c g deck turns)) (b, machine.OtherDeck) (cond (has_clash deck.ships) (b, machine.Clashes id) (parked b id c p)) (not_from_true (is_lent b c g deck turns) e)
 
-  pub park-other : is_held (slot_at b id).state ≡ true → names_lent b id c p deck turns ≡ false → Answers b (park id c p deck turns) reply.OtherDeck b
+  pub park-other : is_held (slot_at b id).state ≡ true → names_lent b id c p deck turns ≡ false → Answers b (park id c p deck turns) (reply.Refused refusing.OtherDeck) b
   park-other e m = record { found = None; judged = tt; answer = machine.OtherDeck; said = refl; same = past-held e ∙ by-other (group_at (slot_at b id).node c p) m }
 
-  pub park-clashes : is_held (slot_at b id).state ≡ true → names_lent b id c p deck turns ≡ true → has_clash deck.ships ≡ true → Answers b (park id c p deck turns) (reply.Clashes id) b
+  pub park-clashes : is_held (slot_at b id).state ≡ true → names_lent b id c p deck turns ≡ true → has_clash deck.ships ≡ true → Answers b (park id c p deck turns) (reply.Refused (refusing.Clashes id)) b
   park-clashes e m h = record {
     found = None;
     judged = tt;

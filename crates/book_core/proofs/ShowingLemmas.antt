@@ -22,6 +22,7 @@ use Rattle.book_rules.specs.Step.{may_close, is_shown, price_refusal, cheaper_th
 use Rattle.lock_model.proofs.SameLemmas.{instance_decides}
 use Rattle.book_rules.proofs.SameLemmas.{same_node-decides}
 use Rattle.book_core.specs.declared.reply.Reply.TheVariants as reply
+use Rattle.book_core.specs.declared.reply.Refusal.TheVariants as refusing
 use Rattle.book_core.specs.Keeps.{IsSound}
 use Rattle.book_core.specs.Replies.{Answers}
 use Rattle.book_core.specs.Telling.{told_cut, bare_cut, told_shown}
@@ -90,9 +91,9 @@ module _ (b : Book) (id number : ℕ) (shown : Shown) where
       asked : refusal ≡ cheaper_than (best_cost b) cost
       asked = was-shown shown_is ∙ ap (cheaper_than (best_cost b)) (sym cost_is)
 
-      pub shown-cheaper : cost < best → Answers b (close_price id number shown) (reply.Cheaper cost best) b
+      pub shown-cheaper : cost < best → Answers b (close_price id number shown) (reply.Refused (refusing.Cheaper cost best)) b
       shown-cheaper low =
-          event-refused b id (by.Price number) (close_price id number shown) refusal refl tt (reply.Cheaper cost best) (machine.Cheaper cost best) refl may
+          event-refused b id (by.Price number) (close_price id number shown) refusal refl tt (reply.Refused (refusing.Cheaper cost best)) (machine.Cheaper cost best) refl may
           (cheap-refused b refusal cost best best_is asked low)
 
       pub shown-sound : best ≤ cost → IsShown shown → IsSound b → IsSound (closed b id (by.Price number))

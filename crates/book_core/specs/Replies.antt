@@ -13,8 +13,31 @@ use Rattle.book_rules.specs.Events.{Event, replace}
 use Rattle.book_rules.specs.Step.{step}
 use Rattle.book_core.specs.declared.reply.Grant.{Grant}
 use Rattle.book_core.specs.declared.reply.Grant.TheVariants as grant
+use Rattle.book_core.specs.declared.reply.Refusal.{Refusal}
 use Rattle.book_core.specs.declared.reply.Reply.{Reply}
 use Rattle.book_core.specs.declared.reply.Reply.TheVariants as reply
+use Rattle.book_core.specs.declared.reply.Refusal.TheVariants as refusing
+
+-- the machine's refusal; none for want of memory
+abbrev pub refusal_told : Refusal → Option (machine.Reply BrokenPlan)
+refusal_told (refusing.Ended worker) = Some (machine.Ended worker)
+refusal_told (refusing.Holds id) = Some (machine.Holds id)
+refusal_told (refusing.NodesSpent used) = Some (machine.NodesSpent used)
+refusal_told refusing.Idle = Some machine.Idle
+refusal_told refusing.Done = Some machine.Done
+refusal_told (refusing.NotHeld id) = Some (machine.NotHeld id)
+refusal_told (refusing.Whole id) = Some (machine.Whole id)
+refusal_told (refusing.Cheaper bound best) = Some (machine.Cheaper bound best)
+refusal_told (refusing.NoHit number) = Some (machine.NoHit number)
+refusal_told refusing.OtherDeck = Some machine.OtherDeck
+refusal_told (refusing.NotLegal found) = Some (machine.NotLegal found)
+refusal_told (refusing.NotCheaper cost best) = Some (machine.NotCheaper cost best)
+refusal_told refusing.NoMemory = None
+refusal_told (refusing.Absent ship) = Some (machine.Absent ship)
+refusal_told (refusing.Clashes id) = Some (machine.Clashes id)
+refusal_told refusing.OtherPrices = Some machine.OtherPrices
+refusal_told (refusing.NoPrices number) = Some (machine.NoPrices number)
+refusal_told refusing.NotShown = Some machine.NotShown
 
 -- the machine's reply; none for want of memory
 abbrev pub told : Reply → Option (machine.Reply BrokenPlan)
@@ -26,24 +49,7 @@ told (reply.Priced number) = Some (machine.Priced number)
 told reply.Parked = Some machine.Parked
 told (reply.Replaced cost) = Some (machine.Replaced cost)
 told (reply.Released count) = Some (machine.Released count)
-told (reply.Ended worker) = Some (machine.Ended worker)
-told (reply.Holds id) = Some (machine.Holds id)
-told (reply.NodesSpent used) = Some (machine.NodesSpent used)
-told reply.Idle = Some machine.Idle
-told reply.Done = Some machine.Done
-told (reply.NotHeld id) = Some (machine.NotHeld id)
-told (reply.Whole id) = Some (machine.Whole id)
-told (reply.Cheaper bound best) = Some (machine.Cheaper bound best)
-told (reply.NoHit number) = Some (machine.NoHit number)
-told reply.OtherDeck = Some machine.OtherDeck
-told (reply.NotLegal found) = Some (machine.NotLegal found)
-told (reply.NotCheaper cost best) = Some (machine.NotCheaper cost best)
-told reply.NoMemory = None
-told (reply.Absent ship) = Some (machine.Absent ship)
-told (reply.Clashes id) = Some (machine.Clashes id)
-told reply.OtherPrices = Some machine.OtherPrices
-told (reply.NoPrices number) = Some (machine.NoPrices number)
-told reply.NotShown = Some machine.NotShown
+told (reply.Refused why) = refusal_told why
 
 -- what `judge_plan` says of a plan: nothing of a legal one, else its first break
 pub record IsJudged (I : Instance) (P : Plan) (found : Option BrokenPlan) : Type 0 where
@@ -65,7 +71,7 @@ pub record Answers (old : Book) (e : Event) (r : Reply) (new : Book) : Type 0 wh
 
 -- there was no memory, and the book is as it was
 pub record Wants (old : Book) (r : Reply) (new : Book) : Type 0 where
-  pub want : r ≡ reply.NoMemory
+  pub want : r ≡ reply.Refused refusing.NoMemory
   pub same : new ≡ old
 
 -- an event that takes memory: a step of the machine, or none for want of memory

@@ -8,7 +8,7 @@ ghost use Rattle.book_core.specs.Keeps.{IsSound};
 ghost use Rattle.book_core.specs.Replies.{Answers};
 
 use crate::book::Book;
-use crate::reply::Reply;
+use crate::reply::{Refusal, Reply};
 use book_rules::{Entry, SlotState};
 use closing_rules::Ground;
 
@@ -34,7 +34,7 @@ impl Book {
     {
         let best = self.best_cost();
         if number < best {
-            return Reply::Cheaper(number, best);
+            return Reply::Refused(Refusal::Cheaper(number, best));
         }
         self.shut(id, why)
     }
@@ -45,7 +45,7 @@ impl Book {
         ensures { Answers self.old (close id Ground.Bound) result self.new }
     {
         if !self.may_close(id) {
-            return Reply::NotHeld(id);
+            return Reply::Refused(Refusal::NotHeld(id));
         }
         let bound = self.stored(id).bound;
         self.shut_from(id, Ground::Bound, bound)
@@ -57,7 +57,7 @@ impl Book {
         ensures { Answers self.old (close id Ground.Throughput) result self.new }
     {
         if !self.may_close(id) {
-            return Reply::NotHeld(id);
+            return Reply::Refused(Refusal::NotHeld(id));
         }
         let throughput = self.throughput();
         self.shut_from(id, Ground::Throughput, throughput)
@@ -70,11 +70,11 @@ impl Book {
         ensures { Answers self.old (close id (Ground.Probe ship)) result self.new }
     {
         if !self.may_close(id) {
-            return Reply::NotHeld(id);
+            return Reply::Refused(Refusal::NotHeld(id));
         }
         match self.probe_with(id, ship) {
             Some(least) => self.shut_from(id, Ground::Probe(ship), least),
-            None => Reply::Absent(ship),
+            None => Reply::Refused(Refusal::Absent(ship)),
         }
     }
 
@@ -85,10 +85,10 @@ impl Book {
         ensures { Answers self.old (close id (Ground.Cut number)) result self.new }
     {
         if !self.may_close(id) {
-            return Reply::NotHeld(id);
+            return Reply::Refused(Refusal::NotHeld(id));
         }
         if !self.hits(id, number) {
-            return Reply::NoHit(number);
+            return Reply::Refused(Refusal::NoHit(number));
         }
         self.shut(id, Ground::Cut(number))
     }
@@ -99,9 +99,9 @@ impl Book {
     {
         let _number = number;
         if !self.may_close(id) {
-            return Reply::NotHeld(id);
+            return Reply::Refused(Refusal::NotHeld(id));
         }
-        Reply::NotShown
+        Reply::Refused(Refusal::NotShown)
     }
 
     /// Closes a slot as the method of its ground does. Refuses `NotShown` where it is to be closed by

@@ -73,4 +73,4 @@ pub use foreseen::Foreseen;
 pub use laws::every_list_keeps;
 pub use opening::open_book;
 pub use probed::Probed;
-pub use reply::{Grant, Reply};
+pub use reply::{Grant, Refusal, Reply};

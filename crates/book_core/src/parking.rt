@@ -8,7 +8,7 @@ ghost use Rattle.book_core.specs.Replies.{Answers};
 
 use crate::book::Book;
 use crate::decks::{deck_clashes, same_deck};
-use crate::reply::Reply;
+use crate::reply::{Refusal, Reply};
 use book_rules::{Entry, SlotState};
 use deck_cuts::Hard;
 use lock_model::deck_of;
@@ -41,13 +41,13 @@ impl Book {
         ensures { Answers self.old (park id chamber place hard.now.deck hard.now.turns) result self.new }
     {
         if !self.is_held(id) {
-            return Reply::NotHeld(id);
+            return Reply::Refused(Refusal::NotHeld(id));
         }
         if !self.names_lent(id, chamber, place, hard) {
-            return Reply::OtherDeck;
+            return Reply::Refused(Refusal::OtherDeck);
         }
         if deck_clashes(&hard.deck) {
-            return Reply::Clashes(id);
+            return Reply::Refused(Refusal::Clashes(id));
         }
         let parked = SlotState::Parked(chamber, place);
         self.settle(id, parked, Entry::Park(id, chamber, place));

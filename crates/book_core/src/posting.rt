@@ -11,7 +11,7 @@ ghost use Rattle.book_core.specs.Replies.{Does};
 use crate::book::Book;
 use crate::decks::same_deck;
 use crate::growing::widen;
-use crate::reply::Reply;
+use crate::reply::{Refusal, Reply};
 use book_rules::Entry;
 use deck_cuts::Cut;
 use lock_model::{Instance, deck_of};
@@ -70,13 +70,13 @@ impl Book {
         ensures { Does self.old (post cut) result self.new }
     {
         if !is_own(self.instance(), &cut) {
-            return Reply::OtherDeck;
+            return Reply::Refused(Refusal::OtherDeck);
         }
         known_cut(&cut);
         let number = self.cuts_len();
         match self.keep_cut(cut) {
             Ok(()) => Reply::Posted(number),
-            Err(NoMemory) => Reply::NoMemory,
+            Err(NoMemory) => Reply::Refused(Refusal::NoMemory),
         }
     }
 }

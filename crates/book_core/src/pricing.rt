@@ -8,7 +8,7 @@ ghost use Rattle.book_core.specs.Replies.{Does};
 
 use crate::book::Book;
 use crate::growing::make_room;
-use crate::reply::Reply;
+use crate::reply::{Refusal, Reply};
 use book_rules::Entry;
 use no_memory::NoMemory;
 use price_terms::Prices;
@@ -50,12 +50,12 @@ impl Book {
         ensures { Does self.old (post_prices prices) result self.new }
     {
         if count(&prices) != self.instance().ships.as_slice().len() {
-            return Reply::OtherPrices;
+            return Reply::Refused(Refusal::OtherPrices);
         }
         let number = self.prices_len();
         match self.keep_prices(prices) {
             Ok(()) => Reply::Priced(number),
-            Err(NoMemory) => Reply::NoMemory,
+            Err(NoMemory) => Reply::Refused(Refusal::NoMemory),
         }
     }
 }

@@ -4,7 +4,7 @@ ghost use Rattle.book_rules.specs.Events.{release};
 ghost use Rattle.book_core.specs.Replies.{Answers};
 
 use crate::book::Book;
-use crate::reply::Reply;
+use crate::reply::{Refusal, Reply};
 use lock_model::WORKERS;
 
 impl Book {
@@ -16,7 +16,7 @@ impl Book {
     {
         self.keeps();
         if self.ended(worker) {
-            return Reply::Ended(worker);
+            return Reply::Refused(Refusal::Ended(worker));
         }
         match self.held_by(worker) {
             Some(id) => {

@@ -12,7 +12,7 @@ use crate::back_list::BackList;
 use crate::book::Book;
 use crate::growing::make_room;
 use crate::opening::cost_of_legal;
-use crate::reply::Reply;
+use crate::reply::{Refusal, Reply};
 use crate::stored_slot::StoredSlot;
 use book_rules::{Entry, SlotState};
 use closing_rules::Ground;
@@ -107,16 +107,16 @@ impl Book {
     {
         self.keeps();
         if let Some(found) = judge_plan(self.instance(), &plan) {
-            return Reply::NotLegal(found);
+            return Reply::Refused(Refusal::NotLegal(found));
         }
         let cost = cost_of_legal(self.instance(), &plan);
         let best = self.best_cost();
         if cost >= best {
-            return Reply::NotCheaper(cost, best);
+            return Reply::Refused(Refusal::NotCheaper(cost, best));
         }
         match self.put_plan(plan, cost) {
             Ok(()) => Reply::Replaced(cost),
-            Err(NoMemory) => Reply::NoMemory,
+            Err(NoMemory) => Reply::Refused(Refusal::NoMemory),
         }
     }
 }

@@ -3,8 +3,7 @@
 use master_branch::Node;
 use mooring_rules::BrokenPlan;
 
-/// The reply to an event. The first eight are accepted; the others are refusals, and leave the book
-/// as it was.
+/// The reply to an event.
 #[derive(PartialEq, Eq, Drop)]
 pub enum Reply {
     /// The slot that was taken, and its node.
@@ -23,6 +22,13 @@ pub enum Reply {
     Replaced(u64),
     /// The worker has ended: 1 where it gave a slot back, else 0.
     Released(u32),
+    /// The event was refused, and the book is as it was.
+    Refused(Refusal),
+}
+
+/// Why an event was refused.
+#[derive(PartialEq, Eq, Drop)]
+pub enum Refusal {
     /// The worker has released before.
     Ended(u8),
     /// The worker holds this slot.

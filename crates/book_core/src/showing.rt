@@ -12,7 +12,7 @@ ghost use Rattle.book_core.specs.Replies.{Answers};
 ghost use Rattle.book_core.specs.Telling.{told_cut, told_shown};
 
 use crate::book::Book;
-use crate::reply::Reply;
+use crate::reply::{Refusal, Reply};
 use book_rules::{Entry, SlotState};
 use closing_rules::Ground;
 use master_branch::Node;
@@ -81,7 +81,7 @@ impl Book {
         let cost = shown.cost();
         let best = self.best_cost();
         if cost < best {
-            return Reply::Cheaper(cost, best);
+            return Reply::Refused(Refusal::Cheaper(cost, best));
         }
         let why = Ground::Price(number);
         self.settle(id, SlotState::Closed(why), Entry::Close(id, why));
@@ -97,16 +97,16 @@ impl Book {
         ensures { Answers self.old (close_price id number (told_shown shown.now)) result self.new }
     {
         if !self.may_close(id) {
-            return Reply::NotHeld(id);
+            return Reply::Refused(Refusal::NotHeld(id));
         }
         match self.prices_of(number) {
             Some(prices) => {
                 if !self.is_shown(id, prices, shown) {
-                    return Reply::NotShown;
+                    return Reply::Refused(Refusal::NotShown);
                 }
                 self.shut_shown(id, number, shown)
             }
-            None => Reply::NoPrices(number),
+            None => Reply::Refused(Refusal::NoPrices(number)),
         }
     }
 }

@@ -11,7 +11,7 @@ ghost use Rattle.book_core.specs.Replies.{Does};
 use crate::book::Book;
 use crate::hand::{Hand, bounds_in};
 use crate::hands::fill_hand;
-use crate::reply::Reply;
+use crate::reply::{Refusal, Reply};
 use crate::stored_slot::StoredSlot;
 use crate::waiting::Waiting;
 use book_rules::{Entry, SlotState};
@@ -135,14 +135,14 @@ impl Book {
         self.keeps();
         let worker = match self.holder(id) {
             Some(worker) => worker,
-            None => return Reply::NotHeld(id),
+            None => return Reply::Refused(Refusal::NotHeld(id)),
         };
         if self.is_whole(id) {
-            return Reply::Whole(id);
+            return Reply::Refused(Refusal::Whole(id));
         }
         match self.grow(id, worker) {
             Ok(count) => Reply::Made(count),
-            Err(NoMemory) => Reply::NoMemory,
+            Err(NoMemory) => Reply::Refused(Refusal::NoMemory),
         }
     }
 }

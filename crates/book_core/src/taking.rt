@@ -9,7 +9,7 @@ ghost use Rattle.book_core.specs.Keeps.{IsSound};
 ghost use Rattle.book_core.specs.Replies.{Answers, Grants, HasNode, IsInHand, grant_told, told};
 
 use crate::book::Book;
-use crate::reply::{Grant, Reply};
+use crate::reply::{Grant, Refusal, Reply};
 use lock_model::WORKERS;
 
 impl Book {
@@ -107,11 +107,11 @@ impl Book {
     {
         match grant {
             Grant::Slot(id) => Reply::Node(id, self.held_node(id).copy()),
-            Grant::Ended(worker) => Reply::Ended(worker),
-            Grant::Holds(id) => Reply::Holds(id),
-            Grant::NodesSpent(used) => Reply::NodesSpent(used),
-            Grant::Idle => Reply::Idle,
-            Grant::Done => Reply::Done,
+            Grant::Ended(worker) => Reply::Refused(Refusal::Ended(worker)),
+            Grant::Holds(id) => Reply::Refused(Refusal::Holds(id)),
+            Grant::NodesSpent(used) => Reply::Refused(Refusal::NodesSpent(used)),
+            Grant::Idle => Reply::Refused(Refusal::Idle),
+            Grant::Done => Reply::Refused(Refusal::Done),
         }
     }
 

@@ -4,6 +4,7 @@ use Rattle.std.specs.Option.{option_map_or}
 use Rattle.book_rules.specs.Events as machine
 use Rattle.book_core.specs.declared.reply.Reply.{Reply}
 use Rattle.book_core.specs.declared.reply.Reply.TheVariants as reply
+use Rattle.book_core.specs.declared.reply.Refusal.TheVariants as refusing
 use Rattle.book_core.specs.Replies.{told}
 
 -- the reply accepts its event, as the machine's does; want of memory accepts nothing
@@ -16,5 +17,5 @@ accepted r = if is_accepting r then 1 else 0
 
 -- nothing is open, and a slot is held
 abbrev pub is_idle : Reply → Bool
-is_idle reply.Idle = true
+is_idle (reply.Refused refusing.Idle) = true
 is_idle _ = false

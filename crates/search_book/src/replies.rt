@@ -3,22 +3,15 @@ ghost use Rattle.std.specs.Prelude.{◌≡◌};
 ghost use Rattle.std.specs.Bool.{OnTrue};
 ghost use Rattle.search_book.specs.Replies.{is_accepting, is_idle, accepted};
 
-use book_core::Reply;
+use book_core::{Refusal, Reply};
 
 /// Whether a reply accepts its event.
 pub(crate) fn is_accepting(reply: &Reply) -> bool
     ensures { result ≡ is_accepting reply.now }
 {
     match reply {
-        Reply::Node(_, _)
-        | Reply::Made(_)
-        | Reply::Closed
-        | Reply::Posted(_)
-        | Reply::Priced(_)
-        | Reply::Parked
-        | Reply::Replaced(_)
-        | Reply::Released(_) => true,
-        _ => false,
+        Reply::Refused(_) => false,
+        _ => true,
     }
 }
 
@@ -28,7 +21,7 @@ pub(crate) fn is_idle(reply: &Reply) -> bool
     ensures refused { OnTrue result (accepted reply.now ≡ 0) }
 {
     match reply {
-        Reply::Idle => true,
+        Reply::Refused(Refusal::Idle) => true,
         _ => false,
     }
 }

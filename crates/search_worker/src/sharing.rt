@@ -5,7 +5,7 @@ use crate::asking::ask;
 use crate::post::Post;
 use crate::stop::Stop;
 use crate::worker::Worker;
-use book_core::Reply;
+use book_core::{Refusal, Reply};
 use deck_cuts::{Cut, copy_cut};
 use gates::Gate;
 use lock_model::Plan;
@@ -71,7 +71,7 @@ pub(crate) fn give<L: Ledger, W: Wait, G: Gate>(
 {
     match ask(post, worker, Event::Replace(plan)) {
         Reply::Replaced(cost) => show_cost(post, worker, cost),
-        Reply::NotCheaper(_, _) => {}
+        Reply::Refused(Refusal::NotCheaper(_, _)) => {}
         _ => return Err(Stop),
     }
     Ok(())

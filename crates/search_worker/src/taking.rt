@@ -5,7 +5,7 @@ use crate::asking::take_or_wait;
 use crate::post::Post;
 use crate::stop::Stop;
 use crate::worker::{Held, SHORT, Worker};
-use book_core::Reply;
+use book_core::{Refusal, Reply};
 use gates::{Gate, Point};
 use std::mem;
 use std::sync::Wait;
@@ -16,7 +16,7 @@ fn wait_if_idle<L: Ledger, W: Wait, G: Gate>(post: &Post<'_, L, W, G>, worker: &
     requires serves { Serves post.now worker.old }
     ensures serves { Serves post.now worker.new }
 {
-    if let Reply::Idle = worker.taken {
+    if let Reply::Refused(Refusal::Idle) = worker.taken {
         post.gate.at(worker.number, Point::Idle);
         worker.reach = SHORT;
         take_or_wait(post, worker);
@@ -33,9 +33,9 @@ pub(crate) fn taken<L: Ledger, W: Wait, G: Gate>(
     ensures serves { Serves post.now worker.new }
 {
     wait_if_idle(post, worker);
-    match mem::replace(&mut worker.taken, Reply::Idle) {
+    match mem::replace(&mut worker.taken, Reply::Refused(Refusal::Idle)) {
         Reply::Node(id, node) => Ok(Some(Held { id, node })),
-        Reply::Done | Reply::NodesSpent(_) => Ok(None),
+        Reply::Refused(Refusal::Done | Refusal::NodesSpent(_)) => Ok(None),
         _ => Err(Stop),
     }
 }

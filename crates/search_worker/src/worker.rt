@@ -4,7 +4,7 @@ ghost use Rattle.lock_model.specs.declared.limits.TheConstants.{WORKERS};
 
 use crate::hands::Hands;
 use crate::trail::Trail;
-use book_core::Reply;
+use book_core::{Refusal, Reply};
 use cut_pool::Tokens;
 use lock_model::WORKERS;
 use master_branch::Node;
@@ -59,7 +59,7 @@ impl<L: Ledger> Worker<L> {
             hands,
             tokens: Tokens::new(alloc),
             memory: Memory::new(alloc),
-            taken: Reply::Idle,
+            taken: Reply::Refused(Refusal::Idle),
             trail: Trail::new(alloc),
             reach: SHORT,
             worked: 0,

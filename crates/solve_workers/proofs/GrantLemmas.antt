@@ -10,6 +10,7 @@ use Rattle.book_core.specs.declared.reply.Grant.{Grant}
 use Rattle.book_core.specs.declared.reply.Grant.TheVariants as grant
 use Rattle.book_core.specs.declared.reply.Reply.{Reply}
 use Rattle.book_core.specs.declared.reply.Reply.TheVariants as reply
+use Rattle.book_core.specs.declared.reply.Refusal.TheVariants as refusing
 use Rattle.book_core.specs.Keeps.{IsSound}
 use Rattle.book_core.specs.Replies.{Answers, Grants, grant_told, told}
 use Rattle.lock_rules.specs.Node.{Node}
@@ -23,11 +24,11 @@ use Rattle.solve_workers.proofs.TakeLemmas.{taken_holds, taken_falls, refused_do
 -- the reply that the grant stands for
 abbrev reply_of : Book → Grant → Reply
 reply_of b (grant.Slot id) = reply.Node id (node_at b id)
-reply_of b (grant.Ended worker) = reply.Ended worker
-reply_of b (grant.Holds id) = reply.Holds id
-reply_of b (grant.NodesSpent used) = reply.NodesSpent used
-reply_of b grant.Idle = reply.Idle
-reply_of b grant.Done = reply.Done
+reply_of b (grant.Ended worker) = reply.Refused (refusing.Ended worker)
+reply_of b (grant.Holds id) = reply.Refused (refusing.Holds id)
+reply_of b (grant.NodesSpent used) = reply.Refused (refusing.NodesSpent used)
+reply_of b grant.Idle = reply.Refused refusing.Idle
+reply_of b grant.Done = reply.Refused refusing.Done
 
 told-reply : (b : Book) (g : Grant) → told (reply_of b g) ≡ Some (grant_told b g)
 told-reply b (grant.Slot id) = refl

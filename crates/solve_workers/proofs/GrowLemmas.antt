@@ -26,6 +26,7 @@ use Rattle.book_rules.proofs.TestLemmas.{is_own_cut-decides, same_deck-decides}
 use Rattle.book_rules.proofs.TurnLemmas.{outdone-at}
 use Rattle.book_core.specs.declared.reply.Reply.{Reply}
 use Rattle.book_core.specs.declared.reply.Reply.TheVariants as reply
+use Rattle.book_core.specs.declared.reply.Refusal.TheVariants as refusing
 use Rattle.book_core.specs.Replies.{Answers, Does, Wants, Steps, Stays, told}
 use Rattle.book_core.proofs.CloseLemmas.{pick-false}
 use Rattle.solve_workers.specs.Holding.{HoldsOnly}
@@ -41,7 +42,7 @@ Out = Book × Answer
 -- ---- want of memory
 
 untold : (r : Reply) → is_want r ≡ true → told r ≡ None
-untold reply.NoMemory e = refl
+untold (reply.Refused refusing.NoMemory) e = refl
 untold _ e = absurd (true≢false (sym e))
 
 pub want_kept : (b : Book) (e : Event) (r : Reply) (new : Book) → Does b e r new → is_want r ≡ true → new ≡ b

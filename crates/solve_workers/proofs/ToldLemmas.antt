@@ -4,9 +4,11 @@ use Rattle.std.specs.declared.option.Option.{Option}
 use Rattle.mooring_rules.specs.declared.breaks.BrokenPlan.{BrokenPlan}
 use Rattle.lock_rules.specs.Node.{Node}
 use Rattle.book_rules.specs.Events as machine
+use Rattle.book_core.specs.declared.reply.Refusal.{Refusal}
+use Rattle.book_core.specs.declared.reply.Refusal.TheVariants as refusing
 use Rattle.book_core.specs.declared.reply.Reply.{Reply}
 use Rattle.book_core.specs.declared.reply.Reply.TheVariants as reply
-use Rattle.book_core.specs.Replies.{told}
+use Rattle.book_core.specs.Replies.{refusal_told, told}
 use Rattle.solve_workers.specs.Told.{node_in, number_in, is_closed, is_made}
 
 abbrev pub Answer : Type 0
@@ -41,20 +43,41 @@ abbrev numbered : Option Answer → Option ℕ
 numbered None = None
 numbered (Some a) = number_of a
 
+-- a refusal tells none of these
+refused-closes : (why : Refusal) → among closes (refusal_told why) ≡ false
+refused-closes refusing.NoMemory = refl
+refused-closes _ = refl
+
+refused-makes : (why : Refusal) → among makes (refusal_told why) ≡ false
+refused-makes refusing.NoMemory = refl
+refused-makes _ = refl
+
+refused-gives : (why : Refusal) → given (refusal_told why) ≡ None
+refused-gives refusing.NoMemory = refl
+refused-gives _ = refl
+
+refused-numbers : (why : Refusal) → numbered (refusal_told why) ≡ None
+refused-numbers refusing.NoMemory = refl
+refused-numbers _ = refl
+
 closed-by : (r : Reply) → among closes (told r) ≡ is_closed r
 closed-by reply.Closed = refl
+closed-by (reply.Refused why) = refused-closes why
 closed-by _ = refl
 
 made-by : (r : Reply) → among makes (told r) ≡ is_made r
 made-by (reply.Made count) = refl
+made-by (reply.Refused why) = refused-makes why
 made-by _ = refl
 
 node-by : (r : Reply) → given (told r) ≡ node_in r
 node-by (reply.Node id node) = refl
+node-by (reply.Refused why) = refused-gives why
 node-by _ = refl
 
 number-by : (r : Reply) → numbered (told r) ≡ number_in r
 number-by (reply.Posted number) = refl
+number-by (reply.Refused why) = refused-numbers why
 number-by _ = refl
 
 module _ (r : Reply) (a : Answer) (said : told r ≡ Some a) where

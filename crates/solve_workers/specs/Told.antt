@@ -6,6 +6,7 @@ use Rattle.book_core.specs.declared.reply.Grant.{Grant}
 use Rattle.book_core.specs.declared.reply.Grant.TheVariants as grant
 use Rattle.book_core.specs.declared.reply.Reply.{Reply}
 use Rattle.book_core.specs.declared.reply.Reply.TheVariants as reply
+use Rattle.book_core.specs.declared.reply.Refusal.TheVariants as refusing
 
 -- the slot that was given
 abbrev pub slot_in : Grant → Option ℕ
@@ -31,17 +32,17 @@ is_made (reply.Made count) = true
 is_made _ = false
 
 abbrev pub is_want : Reply → Bool
-is_want reply.NoMemory = true
+is_want (reply.Refused refusing.NoMemory) = true
 is_want _ = false
 
 -- a slot was split, or there was no memory
 abbrev pub IsMadeOrWant : Reply → Type 0
 IsMadeOrWant (reply.Made count) = ⊤
-IsMadeOrWant reply.NoMemory = ⊤
+IsMadeOrWant (reply.Refused refusing.NoMemory) = ⊤
 IsMadeOrWant _ = ⊥
 
 -- a cut was kept, or there was no memory
 abbrev pub IsPostedOrWant : Reply → Type 0
 IsPostedOrWant (reply.Posted number) = ⊤
-IsPostedOrWant reply.NoMemory = ⊤
+IsPostedOrWant (reply.Refused refusing.NoMemory) = ⊤
 IsPostedOrWant _ = ⊥

@@ -2,7 +2,7 @@
 ghost use Rattle.std.specs.Prelude.{◌≡◌, true, Some, IfOk, OnOk, OnErr};
 ghost use Rattle.solve_workers.specs.Told.{slot_in, number_in, is_closed, is_made, is_want, IsMadeOrWant, IsPostedOrWant};
 
-use book_core::{Grant, Reply};
+use book_core::{Grant, Refusal, Reply};
 use no_memory::NoMemory;
 
 /// The slot that was given.
@@ -30,7 +30,7 @@ pub(crate) fn is_want(reply: &Reply) -> bool
     ensures { result ≡ is_want reply.now }
 {
     match reply {
-        Reply::NoMemory => true,
+        Reply::Refused(Refusal::NoMemory) => true,
         _ => false,
     }
 }
@@ -43,7 +43,7 @@ pub(crate) fn made(reply: &Reply) -> Result<(), NoMemory>
 {
     match reply {
         Reply::Made(_) => Ok(()),
-        Reply::NoMemory => Err(NoMemory),
+        Reply::Refused(Refusal::NoMemory) => Err(NoMemory),
         _ => unreachable!(),
     }
 }
@@ -56,7 +56,7 @@ pub(crate) fn posted(reply: &Reply) -> Result<u64, NoMemory>
 {
     match reply {
         Reply::Posted(number) => Ok(*number),
-        Reply::NoMemory => Err(NoMemory),
+        Reply::Refused(Refusal::NoMemory) => Err(NoMemory),
         _ => unreachable!(),
     }
 }

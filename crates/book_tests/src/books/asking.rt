@@ -2,7 +2,7 @@
 
 use crate::fixture::{both, one_after_the_other, row_cut};
 use crate::spent_decks::spent_both;
-use book_core::{Book, Reply};
+use book_core::{Book, Refusal, Reply};
 use book_rules::SlotState;
 use closing_rules::Ground;
 use std::alloc::Global;
@@ -44,43 +44,43 @@ pub(crate) fn reply_of(alloc: Global, book: &mut Book, ask: Ask) -> Result<Reply
 }
 
 // An accepted event as text; of a node the depth alone.
-fn accepted_text(alloc: Global, reply: &Reply) -> Result<Option<String>, Fail> {
+fn accepted_text(alloc: Global, reply: &Reply) -> Result<String, Fail> {
     Ok(match reply {
-        Reply::Node(id, node) => Some(format!(in alloc; "Node({id}, {})", node.depth())?),
-        Reply::Made(count) => Some(format!(in alloc; "Made({count})")?),
-        Reply::Closed => Some(format!(in alloc; "Closed")?),
-        Reply::Posted(number) => Some(format!(in alloc; "Posted({number})")?),
-        Reply::Parked => Some(format!(in alloc; "Parked")?),
-        Reply::Replaced(cost) => Some(format!(in alloc; "Replaced({cost})")?),
-        Reply::Released(count) => Some(format!(in alloc; "Released({count})")?),
-        _ => None,
+        Reply::Node(id, node) => format!(in alloc; "Node({id}, {})", node.depth())?,
+        Reply::Made(count) => format!(in alloc; "Made({count})")?,
+        Reply::Closed => format!(in alloc; "Closed")?,
+        Reply::Posted(number) => format!(in alloc; "Posted({number})")?,
+        Reply::Parked => format!(in alloc; "Parked")?,
+        Reply::Replaced(cost) => format!(in alloc; "Replaced({cost})")?,
+        Reply::Released(count) => format!(in alloc; "Released({count})")?,
+        _ => format!(in alloc; "another")?,
     })
 }
 
 // A refusal as text.
-fn refusal_text(alloc: Global, reply: &Reply) -> Result<String, Fail> {
-    Ok(match reply {
-        Reply::Ended(worker) => format!(in alloc; "Ended({worker})")?,
-        Reply::Holds(id) => format!(in alloc; "Holds({id})")?,
-        Reply::Idle => format!(in alloc; "Idle")?,
-        Reply::Done => format!(in alloc; "Done")?,
-        Reply::NotHeld(id) => format!(in alloc; "NotHeld({id})")?,
-        Reply::Whole(id) => format!(in alloc; "Whole({id})")?,
-        Reply::Cheaper(bound, best) => format!(in alloc; "Cheaper({bound}, {best})")?,
-        Reply::NoHit(number) => format!(in alloc; "NoHit({number})")?,
-        Reply::OtherDeck => format!(in alloc; "OtherDeck")?,
-        Reply::NotLegal(_) => format!(in alloc; "NotLegal")?,
-        Reply::NotCheaper(cost, best) => format!(in alloc; "NotCheaper({cost}, {best})")?,
-        Reply::Absent(ship) => format!(in alloc; "Absent({ship})")?,
+fn refusal_text(alloc: Global, why: &Refusal) -> Result<String, Fail> {
+    Ok(match why {
+        Refusal::Ended(worker) => format!(in alloc; "Ended({worker})")?,
+        Refusal::Holds(id) => format!(in alloc; "Holds({id})")?,
+        Refusal::Idle => format!(in alloc; "Idle")?,
+        Refusal::Done => format!(in alloc; "Done")?,
+        Refusal::NotHeld(id) => format!(in alloc; "NotHeld({id})")?,
+        Refusal::Whole(id) => format!(in alloc; "Whole({id})")?,
+        Refusal::Cheaper(bound, best) => format!(in alloc; "Cheaper({bound}, {best})")?,
+        Refusal::NoHit(number) => format!(in alloc; "NoHit({number})")?,
+        Refusal::OtherDeck => format!(in alloc; "OtherDeck")?,
+        Refusal::NotLegal(_) => format!(in alloc; "NotLegal")?,
+        Refusal::NotCheaper(cost, best) => format!(in alloc; "NotCheaper({cost}, {best})")?,
+        Refusal::Absent(ship) => format!(in alloc; "Absent({ship})")?,
         _ => format!(in alloc; "another")?,
     })
 }
 
 // The reply as text.
 fn text_of(alloc: Global, reply: &Reply) -> Result<String, Fail> {
-    match accepted_text(alloc, reply)? {
-        Some(text) => Ok(text),
-        None => refusal_text(alloc, reply),
+    match reply {
+        Reply::Refused(why) => refusal_text(alloc, why),
+        _ => accepted_text(alloc, reply),
     }
 }
 

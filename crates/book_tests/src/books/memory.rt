@@ -2,7 +2,7 @@
 //! --fail-alloc N` for each N.
 
 use crate::fixture::{both, open, open_for, side_by_side};
-use book_core::{Book, Reply};
+use book_core::{Book, Refusal, Reply};
 use lock_model::Instance;
 use std::alloc::Global;
 use std::process::Abort;
@@ -33,7 +33,7 @@ fn opened(alloc: Global, first: Instance, again: Instance) -> Result<Book, Fail>
 fn expect_split(rt: &impl Abort, book: &mut Book) {
     let before = told(book);
     let mut reply = book.split(0);
-    if reply == Reply::NoMemory {
+    if reply == Reply::Refused(Refusal::NoMemory) {
         assert!(rt; told(book) == before);
         assert!(rt; book.held_by(0) == Some(0));
         reply = book.split(0);
@@ -45,7 +45,7 @@ fn expect_split(rt: &impl Abort, book: &mut Book) {
 fn expect_replaced(rt: &impl Abort, book: &mut Book) {
     let before = told(book);
     let mut reply = book.replace(both());
-    if reply == Reply::NoMemory {
+    if reply == Reply::Refused(Refusal::NoMemory) {
         assert!(rt; told(book) == before);
         reply = book.replace(both());
     }

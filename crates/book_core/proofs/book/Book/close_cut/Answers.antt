@@ -2,6 +2,7 @@ use Rattle.std.proofs.Common.{refl, sym, ◌∙◌}
 use Rattle.closing_rules.specs.declared.grounds.Ground.TheVariants as by
 use Rattle.book_rules.specs.Events as machine
 use Rattle.book_core.specs.declared.reply.Reply.TheVariants as reply
+use Rattle.book_core.specs.declared.reply.Refusal.TheVariants as refusing
 use Rattle.book_core.proofs.CloseLemmas.{missed, refused, cut-misses, cut-hits}
 use Rattle.book_core.proofs.book.Book.close_cut.Goals as goal
 
@@ -10,7 +11,7 @@ returns-then-not-may_close c = missed c.args.self.now c.args.id (by.Cut c.args.n
 
 pub returns-then-not-hits : goal.returns-then-not-hits
 returns-then-not-hits c =
-    refused c.args.self.now c.args.id (by.Cut c.args.number) (reply.NoHit c.args.number) (machine.NoHit c.args.number) refl (sym c.may_close.ensures.value ∙ c.if-not-may_close.false)
+    refused c.args.self.now c.args.id (by.Cut c.args.number) (reply.Refused (refusing.NoHit c.args.number)) (machine.NoHit c.args.number) refl (sym c.may_close.ensures.value ∙ c.if-not-may_close.false)
     (cut-misses c.args.self.now c.args.id c.args.number (sym c.hits.ensures ∙ c.if-not-hits.true))
 
 pub shut-requires-clause-held : goal.shut-requires-clause-held

@@ -6,6 +6,7 @@ use Rattle.book_rules.specs.Events as machine
 use Rattle.book_rules.specs.Events.{close}
 use Rattle.book_rules.specs.Step.{may_close, refusal_of, cheaper_than}
 use Rattle.book_core.specs.declared.reply.Reply.TheVariants as reply
+use Rattle.book_core.specs.declared.reply.Refusal.TheVariants as refusing
 use Rattle.book_core.specs.Keeps.{IsSound}
 use Rattle.book_core.specs.Replies.{Answers}
 use Rattle.book_core.proofs.CloseLemmas.{missed, refused, probe-absent, probe-asked}
@@ -30,6 +31,6 @@ returns-in-Some c = subst (λ u. Answers u (close c.args.id (by.Probe c.args.shi
 
 pub returns-in-None : goal.returns-in-None
 returns-in-None c =
-    subst (λ u. Answers c.args.self.now (close c.args.id (by.Probe c.args.ship)) (reply.Absent c.args.ship) u) (sym c.probe_with.ensures.same)
-    (refused c.args.self.now c.args.id (by.Probe c.args.ship) (reply.Absent c.args.ship) (machine.Absent c.args.ship) refl (sym c.may_close.ensures.value ∙ c.if-not-may_close.false)
+    subst (λ u. Answers c.args.self.now (close c.args.id (by.Probe c.args.ship)) (reply.Refused (refusing.Absent c.args.ship)) u) (sym c.probe_with.ensures.same)
+    (refused c.args.self.now c.args.id (by.Probe c.args.ship) (reply.Refused (refusing.Absent c.args.ship)) (machine.Absent c.args.ship) refl (sym c.may_close.ensures.value ∙ c.if-not-may_close.false)
     (probe-absent c.args.self.now c.args.id c.args.ship c.in-None.ensures.none))
