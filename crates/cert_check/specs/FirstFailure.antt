@@ -13,6 +13,7 @@ use Rattle.closing_rules.specs.ListedPrices.{AreShapedPrices}
 use Rattle.certificate_rules.specs.Certificates.{Certificate, EndsNode, IsMarkTree, Stands}
 use Rattle.certificate_rules.specs.Low.{HasOpen}
 use Rattle.certificate_rules.specs.Failures.{MarksFail, FailsAt, Fails}
+use Rattle.cert_check.specs.declared.closing.Claim.{Claim}
 
 -- the same place and the same reason
 pub record AreSameFailure (p q : FailurePlace) (r s : Reason) : Type 0 where
@@ -48,3 +49,17 @@ pub record IsLowOfMarks (I : Instance) (cost : ℕ) (cuts : List CertCut) (price
   pub bounds : List ℕ
   pub leaves : HasOpen I (length I.ships) 0 root_lines marks [] bounds
   pub least : low ≡ least_number (cost ∷ bounds)
+
+-- the same of marks that are held against a claim
+abbrev pub FailsBy : Claim → List Mark → ℕ → Reason → Type 0
+FailsBy claim = FailAtMark claim.instance.now claim.cost claim.cuts.now claim.prices.now
+
+abbrev pub IsLowBy : Claim → List Mark → ℕ → Type 0
+IsLowBy claim = IsLowOfMarks claim.instance.now claim.cost claim.cuts.now claim.prices.now
+
+-- and of the marks of a certificate
+abbrev pub FailsInTree : Instance → Certificate → ℕ → Reason → Type 0
+FailsInTree I C = FailAtMark I C.cost C.cuts C.prices C.tree
+
+abbrev pub IsLowOfTree : Instance → Certificate → ℕ → Type 0
+IsLowOfTree I C = IsLowOfMarks I C.cost C.cuts C.prices C.tree

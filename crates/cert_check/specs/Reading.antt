@@ -72,3 +72,7 @@ module _ (claim : Claim) where
     pub bounds : List ℕ
     pub leaves : OpenInOrder (LeavesOf (suc node.depth)) (take n (children claim.instance.now node)) marks rest bounds
     pub is : least ≡ least_number (low ∷ bounds)
+
+  -- and of all of them
+  abbrev pub AreAllReadLow : Node → ℕ → List Mark → List Mark → ℕ → Type 0
+  AreAllReadLow node = AreReadLow node (length (children claim.instance.now node))

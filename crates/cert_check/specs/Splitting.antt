@@ -1,12 +1,16 @@
 -- A node that is split: its steps, and which bounds of its children reach the cost.
-use Rattle.std.specs.Prelude.{◌≡◌, ◌+◌, ◌<◌, List, Bool, length, map, nat_le}
+use Rattle.std.specs.Prelude.{ℕ, ◌≡◌, ◌+◌, ◌<◌, List, Bool, length, map, nat_le}
 use Rattle.lock_rules.specs.Arrival.{next_ship}
 use Rattle.lock_rules.specs.Bound.{bound_of}
-use Rattle.master_branch.specs.Node.{IsNodeOf, children}
+use Rattle.master_branch.specs.Node.{IsNodeOf, children, child_lines}
 use Rattle.lock_rules.specs.Node.{Node}
 use Rattle.master_branch.specs.Steps.{steps_by}
 use Rattle.cert_check.specs.declared.closing.Claim.{Claim}
 use Rattle.cert_check.specs.declared.splitting.SplitNode.{SplitNode}
+
+-- the bound of child i of a node
+abbrev pub child_bound : Claim → Node → ℕ → ℕ
+child_bound claim node i = bound_of claim.instance.now (node.depth + 1) (child_lines claim.instance.now node i)
 
 -- of each child of a node, in order, whether its bound reaches the cost
 abbrev pub reached_below : Claim → Node → List Bool

@@ -1,15 +1,15 @@
 //! The checker: whether a certificate stands, and its low, or its first failure.
 ghost use Rattle.std.specs.Prelude.{◌≡◌, ◌↔◌, ℕ, All, IsTrue, IfOk, IfErr, IfNone, IfSome};
-ghost use Rattle.lock_rules.specs.Plan.{IsLegal, IsCheapest, cost_of};
+ghost use Rattle.lock_rules.specs.Plan.{IsLegal, cost_of};
 ghost use Rattle.lock_rules.specs.Node.{root};
 ghost use Rattle.closing_rules.specs.ProvedCuts.{IsProved};
-ghost use Rattle.certificate_rules.specs.Certificates.{Stands, HasNoOpenLeaf};
+ghost use Rattle.certificate_rules.specs.Certificates.{Stands};
 ghost use Rattle.certificate_rules.specs.Low.{IsLow};
 ghost use Rattle.certificate_rules.specs.Failures.{Fails};
 ghost use Rattle.certificate_rules.specs.declared.certificate.FailurePlace.{FailurePlace as Place};
 ghost use Rattle.certificate_rules.specs.declared.certificate.Reason.{Reason as Why};
-ghost use Rattle.cert_check.specs.FirstFailure.{HoldBeforeMarks, FailBeforeMarks, FailAtMark, IsLowOfMarks};
-ghost use Rattle.cert_check.specs.Proven.{IsProvenLow};
+ghost use Rattle.cert_check.specs.FirstFailure.{HoldBeforeMarks, FailBeforeMarks, IsLowBy, FailsBy, IsLowOfTree, FailsInTree};
+ghost use Rattle.cert_check.specs.Proven.{IsProvenLow, ProvesCheapest, StandsWith};
 ghost use Rattle.cert_check.specs.Reading.{IsStuck, IsReadLow};
 
 use crate::answers::Answer;
@@ -89,8 +89,8 @@ fn read_root<'m>(alloc: Global, claim: &Claim, marks: &'m [Mark]) -> Result<Read
 // The low of marks that are one tree of the root, or their first failure, by the number of the
 // mark where it comes.
 fn low_of_marks(alloc: Global, claim: &Claim, marks: &[Mark]) -> Result<LowOrFailure, NoMemory>
-    ensures low { IfOk result (λ told. IfOk told (IsLowOfMarks claim.now.instance.now claim.now.cost claim.now.cuts.now claim.now.prices.now marks.now)) }
-    ensures failure { IfOk result (λ told. IfErr told (λ f. FailAtMark claim.now.instance.now claim.now.cost claim.now.cuts.now claim.now.prices.now marks.now f.0 f.1)) }
+    ensures low { IfOk result (λ told. IfOk told (IsLowBy claim.now marks.now)) }
+    ensures failure { IfOk result (λ told. IfErr told (λ f. FailsBy claim.now marks.now f.0 f.1)) }
 {
     let read = match read_root(alloc, claim, marks)? {
         Ok(read) => read,
@@ -110,8 +110,8 @@ fn low_of(
     certificate: &Certificate,
 ) -> Result<LowOrFailure, NoMemory>
     requires { All (IsProved instance.now) certificate.now.cuts }
-    ensures low { IfOk result (λ told. IfOk told (IsLowOfMarks instance.now certificate.now.cost certificate.now.cuts certificate.now.prices certificate.now.tree)) }
-    ensures failure { IfOk result (λ told. IfErr told (λ f. FailAtMark instance.now certificate.now.cost certificate.now.cuts certificate.now.prices certificate.now.tree f.0 f.1)) }
+    ensures low { IfOk result (λ told. IfOk told (IsLowOfTree instance.now certificate.now)) }
+    ensures failure { IfOk result (λ told. IfErr told (λ f. FailsInTree instance.now certificate.now f.0 f.1)) }
 {
     let roster = Roster::of(instance);
     let cuts = certificate.cuts.as_slice();
@@ -167,10 +167,10 @@ pub fn check(
     instance: &Instance,
     certificate: &Certificate,
 ) -> Result<Answer, NoMemory>
-    ensures stands { IfOk result (λ answer. (low cost : ℕ) → (answer ≡ Answer.Stands low cost) ↔ (Stands instance.now certificate.now × IsLow instance.now certificate.now low × (cost ≡ certificate.now.cost))) }
-    ensures rejected { IfOk result (λ answer. (place : Place) (why : Why) → (answer ≡ Answer.Rejected place why) ↔ Fails instance.now certificate.now place why) }
+    ensures stands { IfOk result (λ answer. (low cost : ℕ) → (answer ≡ Answer.Stands low cost) ↔ StandsWith instance.now certificate.now low cost) }
+    ensures rejected { IfOk result (λ answer. (p : Place) (r : Why) → (answer ≡ Answer.Rejected p r) ↔ Fails instance.now certificate.now p r) }
     ensures proves { IfOk result (λ answer. (low cost : ℕ) → answer ≡ Answer.Stands low cost → IsProvenLow instance.now certificate.now.plan low cost) }
-    ensures cheapest { IfOk result (λ answer. (low cost : ℕ) → answer ≡ Answer.Stands low cost → HasNoOpenLeaf certificate.now.tree → IsCheapest instance.now certificate.now.plan × (low ≡ cost)) }
+    ensures cheapest { IfOk result (λ answer. (low cost : ℕ) → answer ≡ Answer.Stands low cost → ProvesCheapest instance.now certificate.now low cost) }
 {
     heredity();
     normal_form();

@@ -8,8 +8,9 @@ ghost use Rattle.lock_rules.specs.Arrival.{next_ship};
 ghost use Rattle.flow_bounds.specs.Roster.{IsRosterOf};
 ghost use Rattle.price_terms.specs.Cuts.{plain_cuts};
 ghost use Rattle.closing_rules.specs.ProvedCuts.{IsShaped};
-ghost use Rattle.certificate_rules.specs.Certificates.{IsCutBy, cuts_in, EndsNode};
+ghost use Rattle.certificate_rules.specs.Certificates.{IsCutBy, cuts_in};
 ghost use Rattle.certificate_rules.specs.Failures.{ground_reason, reason_of};
+ghost use Rattle.cert_check.specs.Reading.{Ends};
 
 use crate::hitting::hits_node;
 use crate::workspace::Workspace;
@@ -81,7 +82,7 @@ fn all_reach(claim: &Claim, node: &Node, ship: u8, space: &mut Workspace) -> boo
 // the roster spares work, and nearly all that are asked for are that one.
 fn is_probed(claim: &Claim, node: &Node, ship: u8, space: &mut Workspace) -> bool
     requires { IsNodeOf claim.now.instance.now node.now }
-    ensures { IsTrue result ↔ EndsNode claim.now.instance.now claim.now.cost claim.now.cuts.now claim.now.prices.now node.now.depth node.now.lines (Mark.Leaf (Ground.Probe ship)) }
+    ensures { IsTrue result ↔ Ends claim.now node.now.depth node.now.lines (Mark.Leaf (Ground.Probe ship)) }
 {
     if is_next(claim, node, ship) {
         return all_reach(claim, node, ship, space);
@@ -103,7 +104,7 @@ fn is_priced_by(
     space: &mut Workspace,
 ) -> Result<bool, NoMemory>
     requires { IsNodeOf claim.now.instance.now node.now }
-    ensures { IfOk result (λ priced. IsTrue priced ↔ EndsNode claim.now.instance.now claim.now.cost claim.now.cuts.now claim.now.prices.now node.now.depth node.now.lines (Mark.Leaf (Ground.Price number))) }
+    ensures { IfOk result (λ priced. IsTrue priced ↔ Ends claim.now node.now.depth node.now.lines (Mark.Leaf (Ground.Price number))) }
 {
     if number >= claim.prices.len() as u64 {
         return Ok(false);
@@ -128,7 +129,7 @@ fn is_closed_by(
     space: &mut Workspace,
 ) -> Result<bool, NoMemory>
     requires { IsNodeOf claim.now.instance.now node.now }
-    ensures { IfOk result (λ closed. IsTrue closed ↔ EndsNode claim.now.instance.now claim.now.cost claim.now.cuts.now claim.now.prices.now node.now.depth node.now.lines (Mark.Leaf why)) }
+    ensures { IfOk result (λ closed. IsTrue closed ↔ Ends claim.now node.now.depth node.now.lines (Mark.Leaf why)) }
 {
     match why {
         Ground::Bound => Ok(bound(claim.instance, node) >= claim.cost),
@@ -148,7 +149,7 @@ pub(crate) fn ends(
     space: &mut Workspace,
 ) -> Result<bool, NoMemory>
     requires { IsNodeOf claim.now.instance.now node.now }
-    ensures { IfOk result (λ ended. IsTrue ended ↔ EndsNode claim.now.instance.now claim.now.cost claim.now.cuts.now claim.now.prices.now node.now.depth node.now.lines mark) }
+    ensures { IfOk result (λ ended. IsTrue ended ↔ Ends claim.now node.now.depth node.now.lines mark) }
 {
     match mark {
         Mark::Split => Ok(false),

@@ -4,7 +4,7 @@ ghost use Rattle.lock_rules.specs.Bound.{bound_of, least_number};
 ghost use Rattle.master_branch.specs.Node.{IsNodeOf, children};
 ghost use Rattle.certificate_rules.specs.Low.{leaf_bounds};
 ghost use Rattle.cert_check.specs.Splitting.{IsSplit};
-ghost use Rattle.cert_check.specs.Reading.{IsStuck, IsChildStuck, AreStuck, IsReadLow, IsChildReadLow, AreReadLow};
+ghost use Rattle.cert_check.specs.Reading.{IsStuck, IsChildStuck, AreStuck, IsReadLow, IsChildReadLow, AreAllReadLow};
 
 use crate::closing::{Claim, ends, reason_against};
 use crate::splitting::{SplitNode, child_of, child_reaches, count_children, split};
@@ -130,7 +130,7 @@ fn read_children<'m>(
 ) -> Result<Reading<'m>, NoMemory>
     requires node { IsNodeOf claim.now.instance.now node.now }
     requires lacks { node.now.depth < length claim.now.instance.now.ships }
-    ensures read { IfOk result (λ reading. IfOk reading (λ read. AreReadLow claim.now node.now (length (children claim.now.instance.now node.now)) low marks.now read.marks.now read.low)) }
+    ensures read { IfOk result (λ reading. IfOk reading (λ read. AreAllReadLow claim.now node.now low marks.now read.marks.now read.low)) }
     ensures stuck { IfOk result (λ reading. IfErr reading (λ stuck. AreStuck claim.now node.now marks.now stuck.marks.now stuck.reason)) }
 {
     let parent = split(claim, node, &mut space.walks);

@@ -2,7 +2,7 @@
 ghost use Rattle.std.specs.Prelude.{◌≡◌, ◌+◌, ◌<◌, ◌≤◌, ◌↔◌, length, slice_get, Some, IsTrue};
 ghost use Rattle.lock_rules.specs.Bound.{bound_of};
 ghost use Rattle.master_branch.specs.Node.{IsNodeOf, children, child_lines};
-ghost use Rattle.cert_check.specs.Splitting.{IsSplit};
+ghost use Rattle.cert_check.specs.Splitting.{IsSplit, child_bound};
 
 use crate::closing::Claim;
 use flow_bounds::{NodeWalks, Reached, children_reaching};
@@ -50,7 +50,7 @@ pub(crate) fn count_children(claim: &Claim, parent: &SplitNode<'_>) -> u32
 pub(crate) fn child_reaches(claim: &Claim, parent: &SplitNode<'_>, i: u32) -> bool
     requires split { IsSplit claim.now parent.now }
     requires within { i < length (children claim.now.instance.now parent.now.node.now) }
-    ensures { IsTrue result ↔ (claim.now.cost ≤ bound_of claim.now.instance.now (parent.now.node.now.depth + 1) (child_lines claim.now.instance.now parent.now.node.now i)) }
+    ensures { IsTrue result ↔ (claim.now.cost ≤ child_bound claim.now parent.now.node.now i) }
 {
     let _ = claim;
     parent.reached.as_slice()[i as usize]

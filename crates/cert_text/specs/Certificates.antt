@@ -25,10 +25,18 @@ end_members First prices tree = (codes "tree", tree) ∷ []
 end_members Second prices tree = (codes "tree", tree) ∷ []
 end_members Third prices tree = (codes "prices", price_lists_data prices) ∷ (codes "tree", tree) ∷ []
 
+-- the keys before it
+abbrev pub claim_members : ℕ → List CertCut → List (List ℕ × Data) → List (List ℕ × Data)
+claim_members cost cuts more = (codes "cost", cost_data cost) ∷ (codes "cuts", cuts_data cuts) ∷ more
+
+-- the keys of the versions without prices
+abbrev pub plain_members : ℕ → List CertCut → Plan → Data → List (List ℕ × Data)
+plain_members cost cuts plan tree = claim_members cost cuts ((codes "plan", plan_data plan) ∷ (codes "tree", tree) ∷ [])
+
 -- the object of a version with these parts
 abbrev pub parts_data : Version → ℕ → List CertCut → Plan → List (List ℕ) → Data → Data
 parts_data version cost cuts plan prices tree =
-    object_data ((codes "cost", cost_data cost) ∷ (codes "cuts", cuts_data cuts) ∷ (codes "plan", plan_data plan) ∷ end_members version prices tree)
+    object_data (claim_members cost cuts ((codes "plan", plan_data plan) ∷ end_members version prices tree))
 
 -- a certificate, written in the first version of its form that has all its parts
 abbrev pub certificate_data : Form → Certificate → Data

@@ -14,7 +14,8 @@ use Rattle.cert_text.specs.Fields.{number_data, list_data, numbers_data, object_
 use Rattle.cert_text.specs.Ships.{ships_of, ships_in}
 
 abbrev pub cut_data : CertCut → Data
-cut_data c = object_data ((codes "chamber", number_data c.chamber) ∷ (codes "ships", numbers_data c.ships) ∷ (codes "why", numbers_data (why_of c.refutation)) ∷ [])
+cut_data c =
+    object_data ((codes "chamber", number_data c.chamber) ∷ (codes "ships", numbers_data c.ships) ∷ (codes "why", numbers_data (why_of c.refutation)) ∷ [])
 
 abbrev pub cuts_data : List CertCut → Data
 cuts_data = list_data cut_data

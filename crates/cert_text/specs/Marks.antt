@@ -39,7 +39,8 @@ abbrev pub AreOf : Form → List Mark → Type 0
 AreOf form.Whole marks = HasNoOpenLeaf marks
 AreOf form.Open marks = ⊤
 
--- The mark that is one number, in a certificate of this form: 4 to 9, those between the probe of the last ship and 100, and those above 2^63 + 99 are none, and 3 is one in an open one.
+-- The mark that is one number, in a certificate of this form: 4 to 9, those between the probe of the last ship and 100, and those
+-- above 2^63 + 99 are none, and 3 is one in an open one.
 unfoldable pub mark_of : Form → ℕ → Option Mark
 mark_of own n =
     if n == 0 then Some Split
@@ -55,7 +56,8 @@ price_mark_in d = do
   number ← number_below 9223372036854775808 d
   Some (Leaf (Price number))
 
--- What a number of a tree says: the mark that it ends, or no mark where it is the 4 that begins one of two numbers, which only the third version has. `begun` says that such a 4 stands before it.
+-- What a number of a tree says: the mark that it ends, or no mark where it is the 4 that begins one of two numbers, which only the
+-- third version has. `begun` says that such a 4 stands before it.
 unfoldable pub mark_in : Form → Bool → Bool → Data → Option (Option Mark)
 mark_in own third true d = option_map Some (price_mark_in d)
 mark_in own third false d = do

@@ -32,8 +32,16 @@ moor_number (Ship k) = suc k
 abbrev pub spot_data : Spot → Data
 spot_data s = numbers_data (s.x ∷ s.y ∷ rank_number s.rank ∷ moor_number s.moor ∷ [])
 
+-- the keys of a lockage: its chamber and its ships, and then its spots, its start and its way
+abbrev pub group_members : Lockage → List (List ℕ × Data) → List (List ℕ × Data)
+group_members l more = (codes "chamber", number_data l.chamber) ∷ (codes "ships", numbers_data l.ships) ∷ more
+
+abbrev pub turn_members : Lockage → List (List ℕ × Data)
+turn_members l =
+    (codes "spots", list_data spot_data l.spots) ∷ (codes "start", number_data l.start) ∷ (codes "way", number_data (way_number l.way)) ∷ []
+
 abbrev pub lockage_data : Lockage → Data
-lockage_data l = object_data ((codes "chamber", number_data l.chamber) ∷ (codes "ships", numbers_data l.ships) ∷ (codes "spots", list_data spot_data l.spots) ∷ (codes "start", number_data l.start) ∷ (codes "way", number_data (way_number l.way)) ∷ [])
+lockage_data l = object_data (group_members l (turn_members l))
 
 abbrev pub plan_data : Plan → Data
 plan_data p = list_data lockage_data p.lockages

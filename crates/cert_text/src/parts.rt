@@ -3,10 +3,9 @@ ghost use Rattle.std.specs.Prelude.{◌≡◌, [], ◌∷◌, All, IfOk, Some, c
 ghost use Rattle.certificate_rules.specs.WellFormed.{IsFormedCut, IsFormedLockage, AreFormedPrices};
 ghost use Rattle.serde_json.specs.View.{view, members_view};
 ghost use Rattle.cert_text.specs.Fields.{members};
-ghost use Rattle.cert_text.specs.Cost.{cost_data};
 ghost use Rattle.cert_text.specs.Cuts.{cuts_data, cuts_in};
 ghost use Rattle.cert_text.specs.Plans.{plan_data, plan_in};
-ghost use Rattle.cert_text.specs.Certificates.{parts_data};
+ghost use Rattle.cert_text.specs.Certificates.{claim_members, plain_members, parts_data};
 
 use crate::cost::put_cost;
 use crate::cuts::put_cuts;
@@ -33,7 +32,7 @@ pub struct Parts<'a> {
 #[tactic(auto, unfolding(serde_json::proofs::OnLiterals::serde_json_on_literals))]
 fn put_claims(alloc: Global, parts: &Parts) -> Result<Map<String, Value>, NoMemory>
     requires { All IsFormedCut parts.now.cuts.now }
-    ensures members { IfOk result (λ map. members_view map.entries ≡ members ((codes "cost", cost_data parts.now.cost) ∷ (codes "cuts", cuts_data parts.now.cuts.now) ∷ [])) }
+    ensures members { IfOk result (λ map. members_view map.entries ≡ members (claim_members parts.now.cost parts.now.cuts.now [])) }
     ensures cuts_back { IfOk result (λ _. cuts_in (cuts_data parts.now.cuts.now) ≡ Some parts.now.cuts.now) }
 {
     let mut map = Map::new(alloc);
@@ -49,7 +48,7 @@ fn put_claims(alloc: Global, parts: &Parts) -> Result<Map<String, Value>, NoMemo
 fn put_members(alloc: Global, parts: &Parts, tree: Value) -> Result<Map<String, Value>, NoMemory>
     requires cuts { All IsFormedCut parts.now.cuts.now }
     requires lockages { All IsFormedLockage parts.now.plan.now.lockages }
-    ensures members { IfOk result (λ map. members_view map.entries ≡ members ((codes "cost", cost_data parts.now.cost) ∷ (codes "cuts", cuts_data parts.now.cuts.now) ∷ (codes "plan", plan_data parts.now.plan.now) ∷ (codes "tree", view tree) ∷ [])) }
+    ensures members { IfOk result (λ map. members_view map.entries ≡ members (plain_members parts.now.cost parts.now.cuts.now parts.now.plan.now (view tree))) }
     ensures cuts_back { IfOk result (λ _. cuts_in (cuts_data parts.now.cuts.now) ≡ Some parts.now.cuts.now) }
     ensures plan_back { IfOk result (λ _. plan_in (plan_data parts.now.plan.now) ≡ Some parts.now.plan.now) }
 {

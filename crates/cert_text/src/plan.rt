@@ -4,7 +4,7 @@ ghost use Rattle.certificate_rules.specs.WellFormed.{IsFormedLockage};
 ghost use Rattle.serde_json.specs.View.{view, items_of, items_view, members_view};
 ghost use Rattle.cert_text.specs.Fields.{number_data, numbers_data, members, byte_in, word_in, all_in, value_at};
 ghost use Rattle.cert_text.specs.Ships.{ships_in};
-ghost use Rattle.cert_text.specs.Plans.{way_number, way_of, way_in, spots_in, lockage_data, plan_data, lockage_in, plan_items, plan_in};
+ghost use Rattle.cert_text.specs.Plans.{way_number, way_of, way_in, spots_in, group_members, lockage_data, plan_data, lockage_in, plan_items, plan_in};
 ghost use Rattle.cert_text.specs.declared.bad.BadDossier.TheVariants.{Shape};
 
 use crate::bad::BadDossier;
@@ -31,7 +31,7 @@ fn way_number(way: Way) -> u8
 #[tactic(auto, unfolding(serde_json::proofs::OnLiterals::serde_json_on_literals))]
 fn put_group(alloc: Global, lockage: &Lockage) -> Result<Map<String, Value>, AllocError>
     requires { IsFormedLockage lockage.now }
-    ensures members { IfOk result (λ map. members_view map.entries ≡ members ((codes "chamber", number_data lockage.now.chamber) ∷ (codes "ships", numbers_data lockage.now.ships) ∷ [])) }
+    ensures members { IfOk result (λ map. members_view map.entries ≡ members (group_members lockage.now [])) }
     ensures chamber_back { IfOk result (λ _. byte_in (number_data lockage.now.chamber) ≡ Some lockage.now.chamber) }
     ensures ships_back { IfOk result (λ _. ships_in (numbers_data lockage.now.ships) ≡ Some lockage.now.ships) }
 {

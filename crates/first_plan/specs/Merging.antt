@@ -1,5 +1,6 @@
--- Plans that cost less than another.
-use Rattle.std.specs.Prelude.{ℕ, ◌<◌, ◌≤◌, ⊤}
+-- Plans that cost less than another, and the ships of their lockages.
+use Rattle.std.specs.Prelude.{ℕ, ◌<◌, ◌≤◌, List, All, ⊤}
+use Rattle.lock_model.specs.declared.group.Group.{Group}
 use Rattle.lock_model.specs.declared.instance.Instance.{Instance}
 use Rattle.lock_model.specs.declared.plan.Plan.{Plan}
 use Rattle.lock_rules.specs.Plan.{IsLegal, cost_of}
@@ -21,3 +22,10 @@ pub record IsAtMost (I : Instance) (limit : ℕ) (P : Plan) : Type 0 where
 abbrev pub IsRefusal : Instance → FirstError → Type 0
 IsRefusal I (Unfit s) = IsFirstUnfit I s
 IsRefusal I NoMemory = ⊤
+
+-- the ships have numbers below n, and so have those of all groups
+abbrev pub AreShipsBelow : ℕ → List ℕ → Type 0
+AreShipsBelow n ships = All (λ s. s < n) ships
+
+abbrev pub AreGroupsBelow : ℕ → List Group → Type 0
+AreGroupsBelow n groups = All (λ (g : Group). AreShipsBelow n g.ships) groups

@@ -1,5 +1,6 @@
 //! Two lockages of a chamber served as one.
 ghost use Rattle.std.specs.Prelude.{ℕ, ◌≡◌, ◌+◌, ◌^◌, ◌<◌, ◌≤◌, length, All, IfSome};
+ghost use Rattle.first_plan.specs.Merging.{AreGroupsBelow, AreShipsBelow};
 
 use lock_model::{Group, Instance, Line, Lockage, Lockages, MOST, Plan, SHIPS, Ships, Spots};
 
@@ -65,7 +66,7 @@ impl Joined {
     fn put_group(&self, i: usize, lockage: &Lockage, chamber: u8, line: &mut Line)
         requires { length line.old < SHIPS }
         ensures fits { length line.new ≤ length line.old + 1 }
-        ensures known { (n : ℕ) → All (λ s. s < n) self.now.ships → All (λ s. s < n) lockage.now.ships → All (λ g. All (λ s. s < n) g.ships) line.old → All (λ g. All (λ s. s < n) g.ships) line.new }
+        ensures known { (n : ℕ) → AreShipsBelow n self.now.ships → AreShipsBelow n lockage.now.ships → AreGroupsBelow n line.old → AreGroupsBelow n line.new }
     {
         if lockage.chamber == chamber && i != self.gone {
             line.push(self.group_of(i, lockage));

@@ -12,12 +12,14 @@ use Rattle.deck_cuts.specs.Tried.{Tried}
 use Rattle.book_rules.specs.Cover.{IsOwnCut}
 use Rattle.lock_model.specs.declared.plan.Plan.{Plan as AnyPlan}
 use Rattle.lock_rules.specs.Plan.{IsLegal, cost_of}
-use Rattle.lock_rules.specs.Bound.{bound_of}
+use Rattle.lock_rules.specs.Arrival.{next_ship}
+use Rattle.lock_rules.specs.Bound.{bound_of, probe_of}
 use Rattle.closing_rules.specs.declared.grounds.Ground.{Ground}
 use Rattle.closing_rules.specs.declared.grounds.Ground.TheVariants as by
 use Rattle.closing_rules.specs.Grounds.{IsClosedBy}
 use Rattle.lock_rules.specs.Throughput.{throughput_of}
 use Rattle.node_work.specs.declared.fate.Fate.{Fate}
+use Rattle.node_work.specs.declared.search.Search.{Search}
 use Rattle.node_work.specs.declared.fate.Fate.TheVariants.{Closed, Split, Plan, Refuted, Spent}
 
 -- the cut is proved, is about a chamber and ships of the instance, and hits a group of the node
@@ -65,6 +67,10 @@ IsFate tells I turns best node (Spent c p hard) = IsSpentAt I turns node.lines c
 pub record IsAnyway (tells : ℕ → List ℕ → ℕ → Type 0) (I : Instance) (turns : ℕ) (node : Node) (fate : Fate) : Type 0 where
   pub fate_is : (best : ℕ) → IsFate tells I turns best node fate
 
+-- the same in a search, where cuts are told so
+abbrev pub IsAnywayIn : Search → (Instance → ℕ → List ℕ → ℕ → Type 0) → Node → Fate → Type 0
+IsAnywayIn search tells = IsAnyway (tells search.instance.now) search.instance.now search.turns
+
 -- by a new cut, and by a group that is spent
 abbrev pub IsRefutedBy : Cut → Fate → Type 0
 IsRefutedBy cut (Refuted own) = own.value ≡ cut
@@ -79,6 +85,11 @@ abbrev pub IsEarly : Instance → ℕ → ℕ → Ground → Type 0
 IsEarly I bound best by.Bound = best ≤ bound
 IsEarly I bound best by.Throughput = best ≤ throughput_of I
 IsEarly I bound best _ = ⊥
+
+-- where the probe of the ship that the node lacks first is at least this cost, the node is closed by it
+abbrev pub IsClosedByProbe : Instance → ℕ → Node → Fate → Type 0
+IsClosedByProbe I best node fate =
+    best ≤ probe_of I node.depth node.lines (next_ship I node.depth) → fate ≡ Closed (by.Probe (next_ship I node.depth))
 
 -- there is a group p of chamber c
 pub record IsGroupAt (I : Instance) (node : Node) (c p : ℕ) : Type 0 where

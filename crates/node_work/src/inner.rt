@@ -4,7 +4,7 @@ ghost use Rattle.lock_rules.specs.Arrival.{next_ship};
 ghost use Rattle.lock_rules.specs.Bound.{probe_of};
 ghost use Rattle.lock_rules.specs.Throughput.{throughput_of};
 ghost use Rattle.master_branch.specs.Node.{IsNodeOf};
-ghost use Rattle.node_work.specs.Fates.{IsAnyway, IsEarly, IsFate, IsGroupAt};
+ghost use Rattle.node_work.specs.Fates.{IsAnyway, IsClosedByProbe, IsEarly, IsFate, IsGroupAt};
 
 use crate::fate::Fate;
 use crate::group_fate::group_fate;
@@ -84,7 +84,7 @@ pub fn inner_fate<K: KnownCuts>(
 ) -> Result<Fate, NoMemory>
     requires { probed.now.instance.now ≡ search.now.instance.now }
     ensures fate { IfOk result (IsFate (K.tells known.now search.now.instance.now) search.now.instance.now search.now.turns best probed.now.node.now) }
-    ensures probed { IfOk result (λ fate. best ≤ probe_of search.now.instance.now probed.now.node.now.depth probed.now.node.now.lines (next_ship search.now.instance.now probed.now.node.now.depth) → fate ≡ Fate.Closed (Ground.Probe (next_ship search.now.instance.now probed.now.node.now.depth))) }
+    ensures probed { IfOk result (IsClosedByProbe search.now.instance.now best probed.now.node.now) }
 {
     if probed.least < best {
         return fate_by_newest(alloc, search, probed.node, known, memory);

@@ -2,8 +2,8 @@
 ghost use Rattle.std.specs.Prelude.{◌≡◌, ◌+◌, ◌<◌, ◌≤◌, length, IfOk, IfSome, IfNone};
 ghost use Rattle.lock_rules.specs.Node.{line_at};
 ghost use Rattle.master_branch.specs.Node.{IsNodeOf};
-ghost use Rattle.node_work.specs.Fates.{IsAnyway};
-ghost use Rattle.node_work.specs.Lines.{IsMooredUpTo};
+ghost use Rattle.node_work.specs.Fates.{IsAnyway, IsAnywayIn};
+ghost use Rattle.node_work.specs.Lines.{IsMooredLine};
 
 use crate::boxed::boxed;
 use crate::fate::Fate;
@@ -42,8 +42,8 @@ fn moor_line<K: KnownCuts>(
     requires node { IsNodeOf search.now.instance.now line.node.now }
     requires chamber_in { line.chamber < length search.now.instance.now.chambers }
     requires room { length moorings.old + length (line_at line.node.now.lines line.chamber) ≤ SHIPS }
-    ensures stuck { IfOk result (λ found. IfSome found (IsAnyway (K.tells known.now search.now.instance.now) search.now.instance.now search.now.turns line.entry.node.now)) }
-    ensures moored { IfOk result (λ found. IfNone found (IsMooredUpTo search.now.instance.now line.entry.chamber (line_at line.entry.node.now.lines line.entry.chamber) (length (line_at line.entry.node.now.lines line.entry.chamber)) moorings.old moorings.new)) }
+    ensures stuck { IfOk result (λ found. IfSome found (IsAnywayIn search.now (K.tells known.now) line.entry.node.now)) }
+    ensures moored { IfOk result (λ found. IfNone found (IsMooredLine search.now.instance.now line.entry moorings.old moorings.new)) }
 {
     let Row { node, chamber } = line;
     let groups = node.line(chamber);

@@ -1,7 +1,7 @@
 //! Prices that are kept from node to node.
 ghost use Rattle.std.specs.Prelude.{◌≡◌, ◌↔◌, IsTrue, IfSome};
 ghost use Rattle.master_branch.specs.Node.{IsNodeOf};
-ghost use Rattle.price_search.specs.Serving.{MayServe};
+ghost use Rattle.price_search.specs.Serving.{IsClaimOf, MayServe};
 
 use crate::appending::append;
 use crate::offers::Offer;
@@ -228,7 +228,7 @@ impl Pricing {
         cost: u64,
     ) -> Option<Shown<'a>>
         requires { IsNodeOf instance.now node.now }
-        ensures { IfSome result (λ shown. (shown.instance ≡ instance.now) × (shown.node ≡ node.now) × (shown.prices ≡ prices.now) × (shown.cuts ≡ self.old.cuts.items) × (shown.cost ≡ cost)) }
+        ensures { IfSome result (λ shown. IsClaimOf shown instance.now node.now prices.now self.old.cuts.items cost) }
     {
         let asked = PricedNode {
             instance,
