@@ -14,7 +14,7 @@ const LOT: [&str; 7] = ["lot", "--number", "29", "--ships", "11", "--chambers", 
 const FIRST_LINE: &[u8] = b"optimal cost 467\n";
 
 // For how many looks a gate holds a worker at the most.
-const LOOKS: u64 = 10_000_000;
+const LOOKS: u64 = 100_000_000;
 
 // Whether two workers price nodes below the root at once. The caller prices the root alone, so a run whose
 // workers have no prices leaves the gate alone.
