@@ -84,7 +84,7 @@ module _ (I : Instance) (p : ℕ) (l : Lockage) where
   moors-ordered [] rest order = order
   moors-ordered (k ∷ ks) rest order = (omega arith, moors-ordered ks rest order)
 
-  lockage-ordered : (stand : Stand) (from : ℕ) (rest : List Beat) → IsLawfulStart I l.chamber stand from (group_of l) l.start
+  pub lockage-ordered : (stand : Stand) (from : ℕ) (rest : List Beat) → IsLawfulStart I l.chamber stand from (group_of l) l.start
       → IsOrdered minute_of (l.start + duration_of I l.chamber l.ships) rest → IsOrdered minute_of from (lockage_beats I p l stand from ++ rest)
   lockage-ordered stand from rest lawful order =
       let ts = turn_beats I p l from stand l.way in
@@ -95,7 +95,7 @@ module _ (I : Instance) (p : ℕ) (l : Lockage) where
       (turns-ordered from stand l.way (ms ++ (ends ++ rest)) lawful.turned lawful.later (moors-ordered (moor_order I l) (ends ++ rest) (omega arith, (omega arith, order))))
 
 module _ (I : Instance) (P : Plan) where
-  line-own : (c : ℕ) (stand : Stand) (from : ℕ) (ps : List ℕ) → ((q : ℕ) → IsAmong ps q → (lockage_at P q).chamber ≡ c) → (x : Beat) → IsAmong (line_beats I P stand from ps) x → x.chamber ≡ c
+  pub line-own : (c : ℕ) (stand : Stand) (from : ℕ) (ps : List ℕ) → ((q : ℕ) → IsAmong ps q → (lockage_at P q).chamber ≡ c) → (x : Beat) → IsAmong (line_beats I P stand from ps) x → x.chamber ≡ c
   line-own c stand from [] own x h = absurd h
   line-own c stand from (q ∷ ps) own x h =
       let l = lockage_at P q in
@@ -117,7 +117,7 @@ module _ (I : Instance) (P : Plan) where
       (line-ordered c (stand_after l.way) (l.start + duration_of I l.chamber l.ships) ps (λ r among. own r (inr among))
       (subst (λ d. AreLawfulFrom I c (stand_after l.way) (l.start + duration_of I d l.ships) (map group_of (lockages_at P ps)) (map (λ l. l.start) (lockages_at P ps))) (sym (own q (inl refl))) lawful.1))
 
-  line-done : (stand : Stand) (from : ℕ) (ps : List ℕ) (q : ℕ) → IsAmong ps q → IsAmong (line_beats I P stand from ps) (done_beat I q (lockage_at P q))
+  pub line-done : (stand : Stand) (from : ℕ) (ps : List ℕ) (q : ℕ) → IsAmong ps q → IsAmong (line_beats I P stand from ps) (done_beat I q (lockage_at P q))
   line-done stand from [] q h = absurd h
   line-done stand from (p ∷ ps) q (inl e) =
       let l = lockage_at P p in
@@ -163,10 +163,10 @@ module _ (I : Instance) (P : Plan) (legal : IsLegal I P) where
   each c =
       elim (leb_tells (length I.chambers) c) [
         | inl past ↦
-            let nothing = others-after c I P (chamber-own I P) (rises c) 0 (length I.chambers) [] (inr (omega (arith, past.1))) in
+            let nothing = others-after c (chamber_beats I P) (length I.chambers) (chamber-own I P) (rises c) 0 (length I.chambers) [] (inr (omega (arith, past.1))) in
             subst (RunsHere I P (opening_chamber I c)) (sym nothing) (record { empty = refl; idle = refl })
         | inr known ↦
-            let all = own-once c I P (chamber-own I P) (rises c) 0 (length I.chambers) [] tt refl (omega arith) (omega (arith, known.1)) known.1 in
+            let all = own-once c (chamber_beats I P) (length I.chambers) (chamber-own I P) (rises c) 0 (length I.chambers) [] tt refl (omega arith) (omega (arith, known.1)) known.1 in
             subst (RunsHere I P (opening_chamber I c)) (sym all) (line-run I P c (chamber_at I c).stands (chamber_at I c).opens (line_places P c) (good c) (lawful-line c known.1))
       ]
 

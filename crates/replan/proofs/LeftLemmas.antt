@@ -54,7 +54,7 @@ opens-small I c from (l ∷ ls) small own in_time =
     (All-tail (λ (l : Lockage). l.chamber ≡ c) l ls own) (All-tail (EndsInTime I) l ls in_time)
 
 module _ (I : Instance) (K : Plan) (M : ℕ) (can : CanBeKept I K) (early : M ≤ 1000000) where
-  chamber-limits : (c : ℕ) → c < length I.chambers → IsChamber (chamber_after I K c)
+  pub chamber-limits : (c : ℕ) → c < length I.chambers → IsChamber (chamber_after I K c)
   chamber-limits c known =
       let h : IsChamber (chamber_at I c) = I.limits.chamber c no_chamber known in
       record {
@@ -107,19 +107,23 @@ module _ (I : Instance) (K : Plan) (M : ℕ) (can : CanBeKept I K) (early : M �
         (sym (ap (λ (s : Ship). s.name) (from_at I M (ships_left I K) i d (omega (arith, less, known)))) ∙ same ∙ ap (λ (s : Ship). s.name) (from_at I M (ships_left I K) j d known));
   }
 
-  -- there is no rest exactly where no ship is left
-  rest-empty : (o : Option Instance) (cs : List Chamber) (ships : List Ship) (ns : List ℕ) → (IsSome o ↔ IsInstance cs ships) → cs ≡ chambers_after I K → ns ≡ ships_left I K → ships ≡ ships_from I M ns → IsNone o → ns ≡ []
-  rest-empty o cs ships [] valid chambers left made none = refl
-  rest-empty o cs ships (n ∷ ns) valid chambers left made none =
+-- There is no rest exactly where no ship is left, if it is within the limits with these chambers where some are.
+module _ (I : Instance) (K : Plan) (M : ℕ) (chambers : List Chamber) (limits : 1 ≤ length (ships_left I K) → IsInstance chambers (ships_from I M (ships_left I K))) where
+  rest-empty : (o : Option Instance) (cs : List Chamber) (ships : List Ship) (ns : List ℕ) → (IsSome o ↔ IsInstance cs ships) → cs ≡ chambers → ns ≡ ships_left I K → ships ≡ ships_from I M ns → IsNone o → ns ≡ []
+  rest-empty o cs ships [] valid made left from none = refl
+  rest-empty o cs ships (n ∷ ns) valid made left from none =
       let some : 1 ≤ length (ships_left I K) = subst (λ xs. 1 ≤ length xs) left (omega arith) in
-      let limits : IsInstance cs ships = subst (λ cs. IsInstance cs ships) (sym chambers) (subst (IsInstance (chambers_after I K)) (sym (made ∙ ap (ships_from I M) left)) (rest-limits some)) in
-      absurd (true≢false (sym (valid.1 limits) ∙ none))
+      let whole : IsInstance cs ships = subst (λ cs. IsInstance cs ships) (sym made) (subst (IsInstance chambers) (sym (from ∙ ap (ships_from I M) left)) (limits some)) in
+      absurd (true≢false (sym (valid.1 whole) ∙ none))
 
-  pub rest_none : (o : Option Instance) (cs : List Chamber) (ships : List Ship) (ns : List ℕ) → (IsSome o ↔ IsInstance cs ships) → cs ≡ chambers_after I K → ns ≡ ships_left I K → ships ≡ ships_from I M ns → IsNone o ↔ (ns ≡ [])
-  rest_none o cs ships ns valid chambers left made = (rest-empty o cs ships ns valid chambers left made, λ empty. by (is_some o) refl empty)
+  pub none_left : (o : Option Instance) (cs : List Chamber) (ships : List Ship) (ns : List ℕ) → (IsSome o ↔ IsInstance cs ships) → cs ≡ chambers → ns ≡ ships_left I K → ships ≡ ships_from I M ns → IsNone o ↔ (ns ≡ [])
+  none_left o cs ships ns valid made left from = (rest-empty o cs ships ns valid made left from, λ empty. by (is_some o) refl empty)
     where
       by : (b : Bool) → is_some o ≡ b → ns ≡ [] → is_some o ≡ false
       by true e empty =
-          let limits : IsInstance cs ships = valid.0 e in
-          absurd (omega (arith, limits.ship_count.0, ap length made, count-from I M ns, ap length empty))
+          let whole : IsInstance cs ships = valid.0 e in
+          absurd (omega (arith, whole.ship_count.0, ap length from, count-from I M ns, ap length empty))
       by false e empty = e
+
+pub rest_none : (I : Instance) (K : Plan) (M : ℕ) → CanBeKept I K → M ≤ 1000000 → (o : Option Instance) (cs : List Chamber) (ships : List Ship) (ns : List ℕ) → (IsSome o ↔ IsInstance cs ships) → cs ≡ chambers_after I K → ns ≡ ships_left I K → ships ≡ ships_from I M ns → IsNone o ↔ (ns ≡ [])
+rest_none I K M can early = none_left I K M (chambers_after I K) (rest-limits I K M can early)

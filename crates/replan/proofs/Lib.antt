@@ -7,3 +7,5 @@ pub mod JoinLemmas
 pub mod CostLemmas
 pub mod PutLemmas
 pub mod BackLemmas
+pub mod AlikeLemmas
+pub mod LivedLemmas
