@@ -1,9 +1,7 @@
 -- Courses whose chambers go on from one part to the next: lockages in a row, a turn, and others.
-use Rattle.std.proofs.Common.{◌≡◌, ℕ, ◌+◌, ◌<◌, ◌≤◌, List, [], ◌∷◌, ◌++◌, map, inl, inr, refl, ap, sym, subst, ◌∙◌, arith}
+use Rattle.std.proofs.Common.{◌≡◌, ℕ, ◌+◌, ◌≤◌, List, [], ◌∷◌, ◌++◌, map, inl, inr, refl, sym, subst, ◌∙◌, arith}
 use Rattle.std.proofs.lemmas.List.{append_assoc}
-use Rattle.lock_model.specs.Fleet.{chamber_at}
 use Rattle.lock_model.specs.declared.instance.Instance.{Instance}
-use Rattle.lock_model.specs.declared.plan.Lockage.{Lockage}
 use Rattle.lock_model.specs.declared.plan.Plan.{Plan}
 use Rattle.lock_model.specs.declared.way.Stand.{Stand}
 use Rattle.lock_rules.specs.Lawful.{IsLawfulStart, AreLawfulFrom, duration_of, stand_after}
@@ -13,7 +11,7 @@ use Rattle.chamber_times.specs.Walk.{lockages_at}
 use Rattle.list_laws.specs.Among.{IsAmong}
 use Rattle.day_play.specs.Order.{minute_of, IsOrdered}
 use Rattle.day_play.specs.State.{Idle, ChamberState, chamber_after}
-use Rattle.day_play.specs.Lawful.{IsStill, MayDo}
+use Rattle.day_play.specs.Lawful.{MayDo}
 use Rattle.day_play.specs.Playing.{lockage_beats, line_beats}
 use Rattle.day_play.specs.declared.beat.Act.TheVariants.{Turn, Moor, Go, Done}
 use Rattle.day_play.specs.declared.beat.Act.{Act}
@@ -57,13 +55,15 @@ module _ (I : Instance) (P : Plan) where
 
   pub runs-sooner : (free : ℕ) (bs : List Beat) (s : ChamberState) → s.going ≡ Idle → free ≤ s.free → RunsHere I P s bs → RunsHere I P (record s { free = free }) bs
   runs-sooner free [] s idle less still = record { empty = still.empty; idle = still.idle }
-  runs-sooner free (b ∷ bs) s idle less runs = (sooner-may b.minute b.chamber b.lockage free b.act s idle less runs.0, by b.act runs.0 runs.1)
+  runs-sooner free (b ∷ bs) s idle less runs = (sooner-may b.minute b.chamber b.lockage free b.act s idle less runs.0, by b.act runs.0 runs.1 (λ i. runs-sooner free bs (chamber_after I P b.minute b.chamber b.lockage (Moor i) s) idle less))
     where
-      by : (a : Act) → MayDo I P b.minute b.chamber b.lockage a s → RunsHere I P (chamber_after I P b.minute b.chamber b.lockage a s) bs → RunsHere I P (chamber_after I P b.minute b.chamber b.lockage a (record s { free = free })) bs
-      by Turn may rest = rest
-      by (Moor i) may rest = runs-sooner free bs (chamber_after I P b.minute b.chamber b.lockage (Moor i) s) idle less rest
-      by Go may rest = rest
-      by Done may rest = absurd (idle_not_under b.lockage (sym idle ∙ may.going))
+      by : (a : Act) → MayDo I P b.minute b.chamber b.lockage a s → RunsHere I P (chamber_after I P b.minute b.chamber b.lockage a s) bs
+          → ((i : ℕ) → RunsHere I P (chamber_after I P b.minute b.chamber b.lockage (Moor i) s) bs → RunsHere I P (record (chamber_after I P b.minute b.chamber b.lockage (Moor i) s) { free = free }) bs)
+          → RunsHere I P (chamber_after I P b.minute b.chamber b.lockage a (record s { free = free })) bs
+      by Turn may rest moored = rest
+      by (Moor i) may rest moored = moored i rest
+      by Go may rest moored = rest
+      by Done may rest moored = absurd (idle_not_under b.lockage (sym idle ∙ may.going))
 
   module _ (c : ℕ) where
     -- A line with lawful starts may be played in its chamber before what the chamber may do then.

@@ -1,5 +1,5 @@
 -- The beats of each chamber stand in the day as they do in the chamber.
-use Rattle.std.proofs.Common.{◌≡◌, ◌≢◌, ℕ, zero, suc, ◌+◌, ◌<◌, ◌≤◌, List, [], ◌∷◌, ◌++◌, length, cond, true, false, nat_eq, nat_le, Bool, ◌⊎◌, inl, inr, refl, ap, sym, subst, ◌∙◌, arith}
+use Rattle.std.proofs.Common.{◌≡◌, ◌≢◌, ℕ, zero, suc, ◌+◌, ◌<◌, ◌≤◌, List, [], ◌∷◌, ◌++◌, cond, true, false, nat_eq, nat_le, Bool, ◌⊎◌, inl, inr, refl, ap, sym, subst, ◌∙◌, arith}
 use Rattle.std.proofs.lemmas.Bool.Decides.{eqb_tells, leb_tells}
 use Rattle.std.proofs.lemmas.List.{append_assoc, append-nil}
 use Rattle.lock_rules.specs.Arrival.{numbers_from}

@@ -1,7 +1,7 @@
 -- How the beats of a chamber leave it, and what that says of the lockage that goes next.
 use Rattle.std.proofs.Common.{◌≡◌, ℕ, suc, ◌+◌, ◌<◌, ◌≤◌, List, [], ◌∷◌, ◌++◌, map, filter, cond, not, Bool, true, false, nat_eq, nat_lt, get_or, All, ◌⊎◌, inl, inr, refl, ap, sym, subst, ◌∙◌, arith}
 use Rattle.std.specs.Prelude.{◌&&◌}
-use Rattle.std.proofs.lemmas.Bool.{lt-ltb, le-ltb, eq-eqb}
+use Rattle.std.proofs.lemmas.Bool.{le-ltb, eq-eqb}
 use Rattle.std.proofs.lemmas.Bool.Decides.{eqb_tells, leb_tells}
 use Rattle.std.proofs.lemmas.List.Elements.{All-head, All-tail, All-cons, All-nil}
 use Rattle.lock_model.specs.Fleet.{chamber_at}
@@ -12,16 +12,16 @@ use Rattle.lock_model.specs.declared.way.Stand.{Stand}
 use Rattle.lock_rules.specs.Lawful.{HasTurn, HasTurned, duration_of, stand_after}
 use Rattle.lock_rules.specs.Lines.{lockage_at}
 use Rattle.chamber_times.specs.Walk.{lockages_at}
-use Rattle.day_play.specs.GoingOn.{is_before, unnumbered, beats_before}
+use Rattle.day_play.specs.GoingOn.{unnumbered, beats_before}
 use Rattle.day_play.specs.Order.{minute_of, IsOrdered}
-use Rattle.day_play.specs.State.{Going, Idle, Under, ChamberState, State, other_side, chamber_after, state_after, after, after_all}
-use Rattle.day_play.specs.Lawful.{MayDo, IsLawful, AreLawfulBeats}
+use Rattle.day_play.specs.State.{Going, Idle, Under, ChamberState, State, other_side, chamber_after, after, after_all}
+use Rattle.day_play.specs.Lawful.{MayDo, AreLawfulBeats}
 use Rattle.day_play.specs.declared.beat.Act.{Act}
 use Rattle.day_play.specs.declared.beat.Act.TheVariants.{Turn, Moor, Go, Done}
 use Rattle.day_play.specs.declared.beat.Beat.{Beat}
 use Rattle.day_play.proofs.ChamberLemmas.{other_before}
 use Rattle.day_play.proofs.MixLemmas.{hit, skip}
-use Rattle.day_play.proofs.RunLemmas.{beats_at, pick}
+use Rattle.day_play.proofs.RunLemmas.{beats_at}
 use Rattle.day_play.proofs.WentLemmas.{go_first, went, turned-by}
 
 lt_tells : (a b : ℕ) → ((nat_lt a b ≡ true) × (a < b)) ⊎ ((nat_lt a b ≡ false) × (b ≤ a))
@@ -44,7 +44,7 @@ abbrev pub late : ℕ → List Beat → List Beat
 late M bs = filter (λ b. not (is_early M b)) bs
 
 module _ (M : ℕ) where
-  late-all : (low : ℕ) (bs : List Beat) → M ≤ low → IsOrdered minute_of low bs → (early M bs ≡ []) × (late M bs ≡ bs)
+  pub late-all : (low : ℕ) (bs : List Beat) → M ≤ low → IsOrdered minute_of low bs → (early M bs ≡ []) × (late M bs ≡ bs)
   late-all low [] above order = (refl, refl)
   late-all low (b ∷ bs) above order =
       let miss : is_early M b ≡ false = le-ltb b.minute M (omega (arith, above, order.0)) in

@@ -1,5 +1,5 @@
 -- The rest is within the limits.
-use Rattle.std.proofs.Common.{◌↔◌, Option, IsSome, IsNone, is_some, Bool, true≢false, ◌≡◌, ◌≢◌, ℕ, ◌+◌, ◌<◌, ◌≤◌, List, [], ◌∷◌, length, get_or, All, true, false, nat_eq, refl, sym, ap, ◌∙◌, subst, arith}
+use Rattle.std.proofs.Common.{◌↔◌, Option, IsSome, IsNone, is_some, Bool, true≢false, ◌≡◌, ℕ, ◌+◌, ◌<◌, ◌≤◌, List, [], ◌∷◌, length, get_or, All, true, false, nat_eq, refl, sym, ap, ◌∙◌, subst, arith}
 use Rattle.std.proofs.lemmas.List.{length-map, get_or-map}
 use Rattle.std.proofs.lemmas.List.Elements.{All-head, All-tail, All-weaker, All-filter}
 use Rattle.std.proofs.lemmas.List.Kept.{AllPairs-from_increasing}
@@ -53,7 +53,7 @@ opens-small I c from (l ∷ ls) small own in_time =
     opens-small I c (l.start + duration_of I c l.ships) ls (subst (λ c. l.start + duration_of I c l.ships ≤ 1000000) here ends.ends)
     (All-tail (λ (l : Lockage). l.chamber ≡ c) l ls own) (All-tail (EndsInTime I) l ls in_time)
 
-module _ (I : Instance) (K : Plan) (M : ℕ) (can : CanBeKept I K) (early : M ≤ 1000000) where
+module _ (I : Instance) (K : Plan) (can : CanBeKept I K) where
   pub chamber-limits : (c : ℕ) → c < length I.chambers → IsChamber (chamber_after I K c)
   chamber-limits c known =
       let h : IsChamber (chamber_at I c) = I.limits.chamber c no_chamber known in
@@ -71,6 +71,7 @@ module _ (I : Instance) (K : Plan) (M : ℕ) (can : CanBeKept I K) (early : M �
         closures = h.closures;
       }
 
+module _ (I : Instance) (K : Plan) (M : ℕ) (can : CanBeKept I K) (early : M ≤ 1000000) where
   ship-limits : (s : ℕ) → s < length I.ships → IsShip (from_minute M (ship_at I s))
   ship-limits s known =
       let h : IsShip (ship_at I s) = I.limits.ship s no_ship known in
@@ -91,7 +92,7 @@ module _ (I : Instance) (K : Plan) (M : ℕ) (can : CanBeKept I K) (early : M �
     ship_count = subst (λ n. (1 ≤ n) × (n ≤ SHIPS)) (sym (count-from I M (ships_left I K))) (some, left-count);
     chamber = λ c d within.
         let known : c < length I.chambers = subst (λ n. c < n) (count-after I K) within in
-        subst IsChamber (sym (after_at I K c d known)) (chamber-limits c known);
+        subst IsChamber (sym (after_at I K c d known)) (chamber-limits I K can c known);
     ship = λ k d within.
         let known : k < length (ships_left I K) = subst (λ n. k < n) (count-from I M (ships_left I K)) within in
         subst IsShip (sym (from_at I M (ships_left I K) k d known)) (ship-limits (get_or (ships_left I K) k 0) (left-known I K k 0 known));

@@ -9,3 +9,9 @@ pub mod PutLemmas
 pub mod BackLemmas
 pub mod AlikeLemmas
 pub mod LivedLemmas
+pub mod TurnLemmas
+pub mod PutLivedLemmas
+pub mod BegunLemmas
+pub mod GoneLemmas
+pub mod AheadLemmas
+pub mod PlayedLemmas

@@ -1,5 +1,5 @@
 -- The rest as lived beside the rest of a day that is known beforehand: its chambers differ in their sides and openings alone, and its legal plans are legal there.
-use Rattle.std.proofs.Common.{◌≡◌, ℕ, zero, suc, ◌+◌, ◌<◌, ◌≤◌, List, [], ◌∷◌, length, map, max, get_or, All, Option, Some, None, refl, sym, ap, ◌∙◌, subst, arith}
+use Rattle.std.proofs.Common.{◌≡◌, ℕ, ◌<◌, ◌≤◌, List, [], ◌∷◌, length, map, max, get_or, Option, Some, None, refl, sym, ap, ◌∙◌, subst, arith}
 use Rattle.std.proofs.lemmas.List.{length-map, get_or-map}
 use Rattle.lock_model.specs.declared.limits.TheConstants.{CHAMBERS}
 use Rattle.lock_model.specs.Instance.{IsInstance, IsChamber}
@@ -12,24 +12,22 @@ use Rattle.lock_model.specs.declared.way.Stand.{Stand}
 use Rattle.lock_model.specs.declared.way.Stand.TheVariants.{Low, High}
 use Rattle.lock_model.specs.declared.group.Group.{Group}
 use Rattle.lock_model.specs.declared.instance.Instance.{Instance}
-use Rattle.lock_model.specs.declared.plan.Lockage.{Lockage}
 use Rattle.lock_model.specs.declared.plan.Plan.{Plan}
 use Rattle.lock_rules.specs.Arrival.{numbers_from}
-use Rattle.lock_rules.specs.Lawful.{stand_after, duration_of, HasTurn, HasTurned, IsFree, IsLawfulStart, AreLawfulFrom}
+use Rattle.lock_rules.specs.Lawful.{HasTurn, HasTurned, IsLawfulStart, AreLawfulFrom}
 use Rattle.lock_rules.specs.Lines.{line_of, groups_of}
-use Rattle.lock_rules.specs.Plan.{served_in, IsLegal, cost_of}
+use Rattle.lock_rules.specs.Plan.{IsLegal, cost_of}
 use Rattle.lock_rules.specs.Timetable.{turned_at}
 use Rattle.lock_rules.proofs.FreeLemmas.{AreClosuresFrom, first_free-from, first_free-free}
 use Rattle.lock_rules.proofs.LegalLemmas.{legal-chambers}
 use Rattle.lock_rules.proofs.LineLemmas.{length-numbers}
 use Rattle.lock_rules.proofs.TimetableLemmas.{closures_kept}
-use Rattle.day_play.specs.State.{other_side}
-use Rattle.replan.specs.Begun.{turn_minute, turned, turned_where, begun_turn, chamber_begun}
-use Rattle.replan.specs.Kept.{kept_of, CanBeKept}
+use Rattle.replan.specs.Begun.{turn_minute, turned_where, begun_turn, chamber_begun}
+use Rattle.replan.specs.Kept.{kept_of}
 use Rattle.replan.specs.Lived.{opened_from, chambers_lived, IsLivedRest, CanBeLived}
 use Rattle.replan.specs.Rest.{chamber_after, chambers_after, ships_left, ships_from, from_minute, IsRest}
 use Rattle.replan.proofs.AlikeLemmas.{legal-alike, lawful-alike, cost-alike}
-use Rattle.replan.proofs.LeftLemmas.{left-known, count-after, after_at, from_at, count-from, chamber-limits, rest-limits}
+use Rattle.replan.proofs.LeftLemmas.{count-after, after_at, from_at, count-from, chamber-limits, rest-limits}
 use Rattle.replan.proofs.ListLemmas.{get_or-numbers}
 
 -- a turn and an opening change a chamber's side and opening alone
@@ -92,7 +90,7 @@ lived-limits I P M can early some =
       chamber = λ c d within.
           let here : c < length I.chambers = subst (λ n. c < n) (count-lived I P M) within in
           subst IsChamber (sym (lived_at I P M c d here))
-          (chamber-limits_moved M (begun_turn I P M c) (chamber_after I (kept_of P M) c) early (can.turns c here).opens (chamber-limits I (kept_of P M) M can.kept early c here));
+          (chamber-limits_moved M (begun_turn I P M c) (chamber_after I (kept_of P M) c) early (can.turns c here).opens (chamber-limits I (kept_of P M) can.kept c here));
       ship = known.ship;
       chamber_names = λ i j d less within same.
           let there : j < length I.chambers = subst (λ n. j < n) (count-lived I P M) within in
@@ -101,16 +99,16 @@ lived-limits I P M can early some =
     }
 
 module _ (I R : Instance) (P : Plan) (M : ℕ) (can : CanBeLived I P M) (rest : IsLivedRest I P M R) where
-  lived-count : length R.chambers ≡ length I.chambers
+  pub lived-count : length R.chambers ≡ length I.chambers
   lived-count = ap length rest.chambers ∙ count-lived I P M
 
   pub chamber-lived : (c : ℕ) → c < length I.chambers → chamber_at R c ≡ opened_from M (chamber_begun I P M c)
   chamber-lived c known = ap (λ cs. get_or cs c no_chamber) rest.chambers ∙ lived_at I P M c no_chamber known
 
-  ships-count : length R.ships ≡ length (ships_left I (kept_of P M))
+  pub ships-count : length R.ships ≡ length (ships_left I (kept_of P M))
   ships-count = ap length rest.ships ∙ count-from I M (ships_left I (kept_of P M))
 
-  some-left : 1 ≤ length (ships_left I (kept_of P M))
+  pub some-left : 1 ≤ length (ships_left I (kept_of P M))
   some-left = omega (arith, ships-count, R.limits.ship_count.0)
 
   -- the first ship that is left arrives at the minute or later

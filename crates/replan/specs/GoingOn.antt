@@ -2,16 +2,14 @@
 use Rattle.std.specs.Prelude.{ℕ, ◌≡◌, ◌+◌, ◌≤◌, List, [], ◌∷◌, ◌++◌, length, Option, Some, None}
 use Rattle.lock_model.specs.declared.instance.Instance.{Instance}
 use Rattle.lock_model.specs.declared.plan.Plan.{Plan}
-use Rattle.lock_rules.specs.Arrival.{numbers_from}
 use Rattle.lock_rules.specs.Plan.{IsLegal, IsCheapest, cost_of}
 use Rattle.day_play.specs.declared.beat.Act.TheVariants.{Turn}
 use Rattle.day_play.specs.declared.beat.Beat.{Beat}
 use Rattle.day_play.specs.GoingOn.{GoesOn}
 use Rattle.day_play.specs.Lawful.{IsLawfulCourse}
-use Rattle.day_play.specs.Order.{put_each, minute_of}
-use Rattle.day_play.specs.Playing.{chamber_beats}
+use Rattle.day_play.specs.Playing.{chamber_beats, mixed, day_of}
 use Rattle.replan.specs.Begun.{begun_turn, turn_minute}
-use Rattle.replan.specs.Kept.{kept_of}
+use Rattle.replan.specs.Kept.{kept_of, CanBeKept}
 use Rattle.replan.specs.Lived.{IsLivedRest, CanBeLived}
 use Rattle.replan.specs.Rest.{ships_left, chamber_after, added_of}
 use Rattle.replan.specs.Together.{joined, Keeps, ComesFrom}
@@ -25,13 +23,9 @@ turn_beats_for c t (Some p) = record { minute = t; chamber = c; lockage = p; act
 abbrev pub begun_beats : Instance → Plan → ℕ → ℕ → List Beat
 begun_beats I P M c = chamber_beats I (kept_of P M) c ++ turn_beats_for c (turn_minute (chamber_after I (kept_of P M) c)) (begun_turn I P M c)
 
-abbrev pub all_begun_beats : Instance → Plan → ℕ → List ℕ → List Beat
-all_begun_beats I P M [] = []
-all_begun_beats I P M (c ∷ cs) = begun_beats I P M c ++ all_begun_beats I P M cs
-
 -- THE DAY OF WHAT HAS BEGUN
 abbrev pub day_begun : Instance → Plan → ℕ → List Beat
-day_begun I P M = put_each minute_of [] (all_begun_beats I P M (numbers_from 0 (length I.chambers)))
+day_begun I P M = mixed (begun_beats I P M) (length I.chambers)
 
 -- Plan W can still be carried out: it keeps the begun lockages, and has a lawful day that goes on at minute M from the day of what has begun.
 pub record CanGoOn (I : Instance) (P : Plan) (M : ℕ) (W : Plan) : Type 0 where
@@ -45,6 +39,10 @@ pub record IsGoneOn (I R : Instance) (P : Plan) (M : ℕ) (Q W : Plan) : Type 0 
   pub legal : IsLegal I W
   pub can : CanGoOn I P M W
   pub cost : cost_of I W ≡ cost_of R Q + added_of I (kept_of P M) M
+
+-- What has begun is what is played: the day of a legal plan goes on from the day of what has begun in it, so the plan can still be carried out.
+abbrev pub LegalPlansGoOn : Type 0
+LegalPlansGoOn = (I : Instance) (P : Plan) (M : ℕ) → IsLegal I P → CanBeKept I (kept_of P M) → GoesOn M (day_begun I P M) (day_of I P) × CanGoOn I P M P
 
 -- Every legal plan of the rest, put together with the kept lockages, is a legal plan that can still be carried out.
 abbrev pub RestsGoOn : Type 0

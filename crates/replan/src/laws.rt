@@ -1,6 +1,6 @@
 //! Why a rest may be planned in the place of all plans that keep the kept part. Each law is the
 //! contract of a function that does nothing.
-ghost use Rattle.replan.specs.GoingOn.{RestsGoOn, ComeFromLivedRests, StayCheapestAsLived};
+ghost use Rattle.replan.specs.GoingOn.{LegalPlansGoOn, RestsGoOn, ComeFromLivedRests, StayCheapestAsLived};
 ghost use Rattle.replan.specs.Together.{ComeFromRests, StayCheapest};
 
 /// Every legal plan of the instance that keeps the kept plan comes, up to the order of its
@@ -14,6 +14,13 @@ pub fn plans_that_keep()
 /// that keeps the kept plan.
 pub fn cheapest_that_keeps()
     ensures { StayCheapest }
+{}
+
+/// What has begun at a minute is what is played: the day that `play` tells of a legal plan, whose
+/// lockages before the minute can be kept, goes on from the day of what has begun in it. So the plan
+/// can still be carried out.
+pub fn legal_plans_go_on()
+    ensures { LegalPlansGoOn }
 {}
 
 /// Every legal plan of a rest as lived, put together with the begun lockages, is legal for the

@@ -13,7 +13,8 @@ const LAST_OPENING: u32 = 1_000_000;
 
 /// The place of the chamber's first lockage, by start, that has not begun at the minute.
 fn next_place(plan: &Plan, chamber: u8, minute: u32) -> Option<u8>
-    ensures { result ≡ next_place plan.now minute chamber }
+    ensures place { result ≡ next_place plan.now minute chamber }
+    ensures known { IfSome result (λ p. p < length plan.now.lockages) }
 {
     let places = line_places(plan, chamber);
     for &p in places.as_slice() {
@@ -89,13 +90,7 @@ pub(crate) fn chamber_begun(
 }
 
 /// The place of the lockage for which the chamber has begun a turn that ends too late.
-fn late_turn(
-    instance: &Instance,
-    plan: &Plan,
-    kept: &Plan,
-    minute: u32,
-    chamber: u8,
-) -> Option<u8>
+fn late_turn(instance: &Instance, plan: &Plan, kept: &Plan, minute: u32, chamber: u8) -> Option<u8>
     requires chamber_in { chamber < length instance.now.chambers }
     requires kept { kept.now ≡ kept_of plan.now minute }
     requires can { CanBeKept instance.now kept.now }

@@ -21,7 +21,7 @@ use std::sync::Wait;
 use std::thread::Threads;
 
 // What is answered to a plan of the instance.
-#[tactic(auto, using(crate::proofs::AnswerLemmas::kept_answers))]
+#[tactic(auto, using(crate::proofs::AnswerLemmas::kept_answers, crate::proofs::KeepingLemmas::left_is))]
 fn plan_answer<R: Threads + Wait + Sync, G: Gate + Sync>(
     rt: &R,
     alloc: Global,
