@@ -8,7 +8,7 @@ use Rattle.clap.specs.declared.builder.value_parser.ValueParser.TheVariants as v
 use Rattle.command_words.specs.Names.{Text, name_of, option_named}
 use Rattle.command_words.specs.Parser.{parser, rule_for, arguments}
 use Rattle.command_words.specs.declared.arguments.Argument.{Argument}
-use Rattle.command_words.specs.declared.arguments.Argument.TheVariants.{Command, Nodes, Turns, Workers, Dossier, Keep, Number, Ships, Chambers, From}
+use Rattle.command_words.specs.declared.arguments.Argument.TheVariants.{Command, Nodes, Turns, Workers, Dossier, Keep, Number, Ships, Chambers, From, Now}
 
 abbrev pub flag : Rule → Rule
 flag r = record r { parser = Some vp.Bool; defaults = codes "false" ∷ []; missing = codes "true" ∷ []; range = Some (record { start_inclusive = 0; end_inclusive = 0 }) }
@@ -44,6 +44,7 @@ by_id Number = refl
 by_id Ships = refl
 by_id Chambers = refl
 by_id From = refl
+by_id Now = refl
 
 next : (b : Bool) (s : Argument) (r : Rule) (x : Option Rule) (y : Option Argument) → r ≡ built_rule s → x ≡ option_map built_rule y → (if b || false then Some r else x) ≡ option_map built_rule (if b then Some s else y)
 next true s r x y e h = rw e refl
@@ -53,4 +54,4 @@ pub by_long : (t : Text) → arg_by_long rules t ≡ option_map built_rule (opti
 unfolding option_named
 by_long t =
     next _ Nodes _ _ _ refl (next _ Turns _ _ _ refl (next _ Workers _ _ _ refl (next _ Dossier _ _ _ refl (next _ Keep _ _ _ refl
-    (next _ Number _ _ _ refl (next _ Ships _ _ _ refl (next _ Chambers _ _ _ refl (next _ From _ _ _ refl refl))))))))
+    (next _ Number _ _ _ refl (next _ Ships _ _ _ refl (next _ Chambers _ _ _ refl (next _ From _ _ _ refl (next _ Now _ _ _ refl refl)))))))))

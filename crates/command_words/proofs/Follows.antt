@@ -11,7 +11,7 @@ use Rattle.command_words.specs.Given.{Given, is_given}
 use Rattle.command_words.specs.Numbers.{is_number, is_digit}
 use Rattle.command_words.specs.WordByWord.{PartialLine, filled, with_text, behind, named, option_word as read_option, read_word, read_words, name_part, text_part, one_hyphen, two_hyphens, plain_or_hyphen}
 use Rattle.command_words.specs.declared.arguments.Argument.{Argument}
-use Rattle.command_words.specs.declared.arguments.Argument.TheVariants.{Command, Nodes, Turns, Workers, Dossier, Keep, Number, Ships, Chambers, From}
+use Rattle.command_words.specs.declared.arguments.Argument.TheVariants.{Command, Nodes, Turns, Workers, Dossier, Keep, Number, Ships, Chambers, From, Now}
 use Rattle.command_words.proofs.Built.{top}
 use Rattle.command_words.proofs.Turns.{walk_at, Rests, Holds, TurnsTo, is_plain, plain_word_is, trailing_turn, plain_turn, dashes_turn, due_turn, dashed, joined_turn, due_from_turn, flag_turn}
 
@@ -71,7 +71,7 @@ none_some s e = cc
 pub named_other : (t : Text) (s : Argument) → option_named t ≡ Some s → is_command s ≡ false
 unfolding option_named
 named_other t s = named_step _ Nodes s _ refl (named_step _ Turns s _ refl (named_step _ Workers s _ refl (named_step _ Dossier s _ refl (named_step _ Keep s _ refl
-    (named_step _ Number s _ refl (named_step _ Ships s _ refl (named_step _ Chambers s _ refl (named_step _ From s _ refl (none_some s)))))))))
+    (named_step _ Number s _ refl (named_step _ Ships s _ refl (named_step _ Chambers s _ refl (named_step _ From s _ refl (named_step _ Now s _ refl (none_some s))))))))))
 
 -- the words stay calm: no option waits behind `--`
 abbrev Calm : PartialLine → Type 0

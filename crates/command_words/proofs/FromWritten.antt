@@ -8,7 +8,7 @@ use Rattle.command_words.specs.Numbers.{is_number}
 use Rattle.command_words.specs.Written.{Use, plain, apart, joined, flag, hyphens, written, all_written, ending, begins_with_hyphen, IsProper, AreProper, given_by, given_plainly, given_after, IsWritten}
 use Rattle.command_words.specs.WordByWord.{PartialLine, start, filled, with_text, named, option_word, read_word, read_words}
 use Rattle.command_words.specs.declared.arguments.Argument.{Argument}
-use Rattle.command_words.specs.declared.arguments.Argument.TheVariants.{Command, Nodes, Turns, Workers, Dossier, Keep, Number, Ships, Chambers, From}
+use Rattle.command_words.specs.declared.arguments.Argument.TheVariants.{Command, Nodes, Turns, Workers, Dossier, Keep, Number, Ships, Chambers, From, Now}
 use Rattle.command_words.proofs.Follows.{open_at}
 use Rattle.command_words.proofs.Times.{Once, free_before}
 
@@ -42,6 +42,7 @@ name_alone Number given e = refl
 name_alone Ships given e = refl
 name_alone Chambers given e = refl
 name_alone From given e = refl
+name_alone Now given e = refl
 
 -- a name with its text in the same word
 name_joined : (a : Argument) (t : Text) (given : Given) → is_command a ≡ false → read_word (hyphens (name_of a ++ 61 ∷ t)) (open_at given) ≡ named a (Some t) (open_at given)
@@ -56,6 +57,7 @@ name_joined Number t given e = refl
 name_joined Ships t given e = refl
 name_joined Chambers t given e = refl
 name_joined From t given e = refl
+name_joined Now t given e = refl
 
 waits : (a : Argument) (given : Given) → is_flag a ≡ false → named a None (open_at given) ≡ Some (waiting_at a given)
 unfolding named
@@ -88,6 +90,7 @@ no_command Number e = refl
 no_command Ships e = refl
 no_command Chambers e = refl
 no_command From e = refl
+no_command Now e = refl
 
 -- ---- words
 

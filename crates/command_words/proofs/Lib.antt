@@ -11,3 +11,4 @@ pub mod FromWritten
 pub mod ToWritten
 pub mod Whole
 pub mod Meant
+mod RestGiven

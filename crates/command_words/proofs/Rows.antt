@@ -11,7 +11,7 @@ use Rattle.clap.specs.declared.builder.value_parser.Reading.TheVariants as readi
 use Rattle.command_words.specs.Names.{Text, name_of, is_flag}
 use Rattle.command_words.specs.Given.{Given, is_given, is_in}
 use Rattle.command_words.specs.declared.arguments.Argument.{Argument}
-use Rattle.command_words.specs.declared.arguments.Argument.TheVariants.{Command, Nodes, Turns, Workers, Dossier, Keep, Number, Ships, Chambers, From}
+use Rattle.command_words.specs.declared.arguments.Argument.TheVariants.{Command, Nodes, Turns, Workers, Dossier, Keep, Number, Ships, Chambers, From, Now}
 use Rattle.command_words.specs.Parser.{value_of, row_for, rows_for}
 use Rattle.command_words.proofs.Built.{built_rule}
 
@@ -50,6 +50,7 @@ used_set Number t rows e = refl
 used_set Ships t rows e = refl
 used_set Chambers t rows e = refl
 used_set From t rows e = refl
+used_set Now t rows e = refl
 
 pub used_option : (s : Argument) (t : Text) (given : Given) → is_flag s ≡ false → is_given s given ≡ false
     → used (built_rule s) (t ∷ []) (rows_for given) ≡ rows_for (given ++ (s, t) ∷ [])
@@ -67,6 +68,7 @@ used_flag Number given e fresh = cc
 used_flag Ships given e fresh = cc
 used_flag Chambers given e fresh = cc
 used_flag From given e fresh = cc
+used_flag Now given e fresh = cc
 
 passes_set : (s : Argument) (t : Text) (rows : List Row) → is_flag s ≡ false → has_row (name_of s) rows ≡ false → use_passes false (built_rule s) (t ∷ []) rows ≡ true
 passes_set Command t rows e free = rw free refl
@@ -79,6 +81,7 @@ passes_set Number t rows e free = rw free refl
 passes_set Ships t rows e free = rw free refl
 passes_set Chambers t rows e free = rw free refl
 passes_set From t rows e free = rw free refl
+passes_set Now t rows e free = rw free refl
 
 pub passes_option : (s : Argument) (t : Text) (given : Given) → is_flag s ≡ false → is_given s given ≡ false → use_passes false (built_rule s) (t ∷ []) (rows_for given) ≡ true
 passes_option s t given e fresh = passes_set s t (rows_for given) e (has_rows s given ∙ fresh)
@@ -94,6 +97,7 @@ passes_flag Number given e fresh = cc
 passes_flag Ships given e fresh = cc
 passes_flag Chambers given e fresh = cc
 passes_flag From given e fresh = cc
+passes_flag Now given e fresh = cc
 
 pub takes_one : (s : Argument) → is_flag s ≡ false → most_values (built_rule s) ≡ 1
 takes_one Command e = refl
@@ -106,6 +110,7 @@ takes_one Number e = refl
 takes_one Ships e = refl
 takes_one Chambers e = refl
 takes_one From e = refl
+takes_one Now e = refl
 
 pub takes_none : (s : Argument) → is_flag s ≡ true → most_values (built_rule s) ≡ 0
 takes_none Dossier e = refl
@@ -118,6 +123,7 @@ takes_none Number e = cc
 takes_none Ships e = cc
 takes_none Chambers e = cc
 takes_none From e = cc
+takes_none Now e = cc
 
 pub id_is : (s : Argument) → (built_rule s).id ≡ name_of s
 id_is Command = refl
@@ -130,3 +136,4 @@ id_is Number = refl
 id_is Ships = refl
 id_is Chambers = refl
 id_is From = refl
+id_is Now = refl

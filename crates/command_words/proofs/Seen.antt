@@ -13,7 +13,7 @@ use Rattle.command_words.specs.WordByWord.{PartialLine, filled, is_equals, name_
 use Rattle.command_words.specs.Stands.{place_of, Stands, StepsTo}
 use Rattle.command_words.specs.Parser.{arguments}
 use Rattle.command_words.specs.declared.arguments.Argument.{Argument}
-use Rattle.command_words.specs.declared.arguments.Argument.TheVariants.{Command, Nodes, Turns, Workers, Dossier, Keep, Number, Ships, Chambers, From}
+use Rattle.command_words.specs.declared.arguments.Argument.TheVariants.{Command, Nodes, Turns, Workers, Dossier, Keep, Number, Ships, Chambers, From, Now}
 use Rattle.command_words.specs.declared.command_names.CommandName.{CommandName}
 use Rattle.command_words.specs.declared.partial_line.PartialLine.{PartialLine as TheLine}
 use Rattle.command_words.proofs.Turns.{given_more, other_name, same_ids}
@@ -33,6 +33,7 @@ place_from_name Number = refl
 place_from_name Ships = refl
 place_from_name Chambers = refl
 place_from_name From = refl
+place_from_name Now = refl
 
 argument_from_place : (s : Argument) → slice_index_or arguments (place_of s) Command ≡ s
 argument_from_place Command = refl
@@ -45,6 +46,7 @@ argument_from_place Number = refl
 argument_from_place Ships = refl
 argument_from_place Chambers = refl
 argument_from_place From = refl
+argument_from_place Now = refl
 
 -- names are the same where places are
 same_places : (s r : Argument) → bytes_eq (name_of s) (name_of r) ≡ (place_of s == place_of r)
@@ -70,7 +72,7 @@ set_other xs i j e = get_or-set_other xs i j true false (λ same. eqb-false i j 
 set_same : (xs : List Bool) (i : ℕ) → i < length xs → slice_index_or (slice_set xs i true) i false ≡ true
 set_same xs i lt = get_or-set_same xs i true false lt
 
-place_low : (s : Argument) → place_of s < 10
+place_low : (s : Argument) → place_of s < 11
 place_low Command = omega arith
 place_low Nodes = omega arith
 place_low Turns = omega arith
@@ -81,8 +83,9 @@ place_low Number = omega arith
 place_low Ships = omega arith
 place_low Chambers = omega arith
 place_low From = omega arith
+place_low Now = omega arith
 
-pub seen_after : (seen : List Bool) (given : Given) (s : Argument) (t : Text) → length seen ≡ 10 → ((r : Argument) → slice_index_or seen (place_of r) false ≡ is_given r given)
+pub seen_after : (seen : List Bool) (given : Given) (s : Argument) (t : Text) → length seen ≡ 11 → ((r : Argument) → slice_index_or seen (place_of r) false ≡ is_given r given)
     → (r : Argument) → slice_index_or (slice_set seen (place_of s) true) (place_of r) false ≡ is_given r (given ++ (s, t) ∷ [])
 seen_after seen given s t size before r = go (place_of s == place_of r) refl ∙ sym (given_more r s t given)
   where
@@ -112,7 +115,7 @@ command_after (g ∷ gs) t e = go (is_in Command g) e (command_after gs t)
     go true e rest = cc
     go false e rest = rest e
 
-size_after : (seen : List Bool) (i : ℕ) → length seen ≡ 10 → length (slice_set seen i true) ≡ 10
+size_after : (seen : List Bool) (i : ℕ) → length seen ≡ 11 → length (slice_set seen i true) ≡ 11
 size_after seen i e = length-set seen i true ∙ e
 
 -- ---- the argument gets a text

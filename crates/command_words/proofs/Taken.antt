@@ -17,7 +17,7 @@ use Rattle.command_words.specs.Given.{Given, is_given, is_in, text_in}
 use Rattle.command_words.specs.WordByWord.{PartialLine, start, read_words, is_good, is_whole, is_whole_for, given_of}
 use Rattle.command_words.specs.Parser.{parser, row_for, rows_for, default_row, default_for, all_rows}
 use Rattle.command_words.specs.declared.arguments.Argument.{Argument}
-use Rattle.command_words.specs.declared.arguments.Argument.TheVariants.{Command, Nodes, Turns, Workers, Dossier, Keep, Number, Ships, Chambers, From}
+use Rattle.command_words.specs.declared.arguments.Argument.TheVariants.{Command, Nodes, Turns, Workers, Dossier, Keep, Number, Ships, Chambers, From, Now}
 use Rattle.command_words.proofs.Built.{built_rule, rules, top, simple}
 use Rattle.command_words.proofs.Rows.{has_rows, at_none}
 use Rattle.command_words.proofs.Turns.{walk_at, Holds, Rests}
@@ -71,6 +71,7 @@ plain_default Number rows e = same_either _ rows
 plain_default Ships rows e = same_either _ rows
 plain_default Chambers rows e = same_either _ rows
 plain_default From rows e = same_either _ rows
+plain_default Now rows e = same_either _ rows
 
 finished_rows : (h : Held) (given : Given) → Rests given h → finished rules h ≡ all_rows given
 finished_rows h given rests =
@@ -79,12 +80,12 @@ finished_rows h given rests =
     ap (λ rows. with_default rows (built_rule Dossier)) (sym (append-nil (rows_for given))) ∙ default_after Dossier given [] refl in
     let keep : with_default (rows_for given ++ default_for Dossier given) (built_rule Keep) ≡ all_rows given = default_after Keep given (default_for Dossier given) (no_keep given) in
     let same : (s : Argument) (rows : List Row) → is_flag s ≡ false → with_default rows (built_rule s) ≡ rows = plain_default in
-    let a : fold with_default (rows_for given) rules ≡ fold with_default (with_default (rows_for given) (built_rule Dossier)) (map built_rule (Keep ∷ Number ∷ Ships ∷ Chambers ∷ From ∷ [])) =
+    let a : fold with_default (rows_for given) rules ≡ fold with_default (with_default (rows_for given) (built_rule Dossier)) (map built_rule (Keep ∷ Number ∷ Ships ∷ Chambers ∷ From ∷ Now ∷ [])) =
     rw (same Command (rows_for given) refl, same Nodes (rows_for given) refl, same Turns (rows_for given) refl, same Workers (rows_for given) refl) refl in
-    let b : fold with_default (with_default (rows_for given) (built_rule Dossier)) (map built_rule (Keep ∷ Number ∷ Ships ∷ Chambers ∷ From ∷ [])) ≡ fold with_default (all_rows given) (map built_rule (Number ∷ Ships ∷ Chambers ∷ From ∷ [])) =
+    let b : fold with_default (with_default (rows_for given) (built_rule Dossier)) (map built_rule (Keep ∷ Number ∷ Ships ∷ Chambers ∷ From ∷ Now ∷ [])) ≡ fold with_default (all_rows given) (map built_rule (Number ∷ Ships ∷ Chambers ∷ From ∷ Now ∷ [])) =
     rw (dossier, keep) refl in
-    let c : fold with_default (all_rows given) (map built_rule (Number ∷ Ships ∷ Chambers ∷ From ∷ [])) ≡ all_rows given =
-    rw (same Number (all_rows given) refl, same Ships (all_rows given) refl, same Chambers (all_rows given) refl, same From (all_rows given) refl) refl in
+    let c : fold with_default (all_rows given) (map built_rule (Number ∷ Ships ∷ Chambers ∷ From ∷ Now ∷ [])) ≡ all_rows given =
+    rw (same Number (all_rows given) refl, same Ships (all_rows given) refl, same Chambers (all_rows given) refl, same From (all_rows given) refl, same Now (all_rows given) refl) refl in
     first ∙ (a ∙ (b ∙ c))
 
 -- ---- look-ups
@@ -104,6 +105,7 @@ flag_is Number = refl
 flag_is Ships = refl
 flag_is Chambers = refl
 flag_is From = refl
+flag_is Now = refl
 
 flags_same : (a b : Argument) → bytes_eq (name_of a) (name_of b) ≡ true → is_flag a ≡ is_flag b
 flags_same a b e = flag_is a ∙ (ap flag_name ((bytes_eq-Decides (name_of a) (name_of b)).0 e) ∙ sym (flag_is b))
@@ -204,6 +206,7 @@ flag_found Number given e = cc
 flag_found Ships given e = cc
 flag_found Chambers given e = cc
 flag_found From given e = cc
+flag_found Now given e = cc
 
 pub flag_reads : (r b : Bool) (one : Option Text) → (one ≡ Some (codes "true") → r ≡ true) → (one ≡ Some (codes "false") → r ≡ false) → one ≡ Some (flag_text b) → r ≡ b
 flag_reads r true one when other e = when e
@@ -214,7 +217,7 @@ flag_reads r false one when other e = other e
 is_some_since : (o : Option Text) (t : Text) → o ≡ Some t → is_some o ≡ true
 is_some_since o t e = rw e refl
 
-text_given : (s : Argument) (given : Given) → is_some (text_in s given) ≡ is_given s given
+pub text_given : (s : Argument) (given : Given) → is_some (text_in s given) ≡ is_given s given
 text_given s [] = refl
 text_given s (g ∷ gs) = go (is_in s g) (text_given s gs)
   where

@@ -15,7 +15,7 @@ use Rattle.command_words.specs.Given.{Given, is_given, is_in}
 use Rattle.command_words.specs.WordByWord.{PartialLine, behind, name_part, text_part}
 use Rattle.command_words.specs.Parser.{parser, rows_for}
 use Rattle.command_words.specs.declared.arguments.Argument.{Argument}
-use Rattle.command_words.specs.declared.arguments.Argument.TheVariants.{Command, Nodes, Turns, Workers, Dossier, Keep, Number, Ships, Chambers, From}
+use Rattle.command_words.specs.declared.arguments.Argument.TheVariants.{Command, Nodes, Turns, Workers, Dossier, Keep, Number, Ships, Chambers, From, Now}
 use Rattle.command_words.proofs.Built.{built_rule, rules, top, by_id, by_long}
 use Rattle.command_words.proofs.Rows.{used_option, used_flag, passes_option, passes_flag, takes_one, takes_none, id_is}
 
@@ -92,6 +92,7 @@ other_name Number e = refl
 other_name Ships e = refl
 other_name Chambers e = refl
 other_name From e = refl
+other_name Now e = refl
 
 pub given_more : (s r : Argument) (t : Text) (given : Given) → is_given s (given ++ (r, t) ∷ []) ≡ (is_given s given || bytes_eq (name_of r) (name_of s))
 given_more s r t given = list_any-append (is_in s) given ((r, t) ∷ []) ∙ ap (λ b. is_given s given || b) (or-false (bytes_eq (name_of r) (name_of s)))

@@ -1,17 +1,17 @@
 -- The tests at the end of the words: a command, and arguments that are for it.
 use Rattle.std.proofs.Common.{◌≡◌, ◌∙◌, Bool, true, false, not, List, [], ◌∷◌, Option, Some, None, refl, sym, ap}
-use Rattle.std.specs.Prelude.{◌||◌, option_and_then, is_some}
+use Rattle.std.specs.Prelude.{◌||◌, option_and_then, is_some, if◌then◌else◌}
 use Rattle.std.specs.List.{list_all}
 use Rattle.std.specs.Option.{option_map_or}
 use Rattle.std.specs.Str.{bytes_eq}
 use Rattle.std.proofs.lemmas.Slice.Eq.{bytes_eq-Decides}
-use Rattle.command_words.specs.Names.{Text, word_of, command_names, command_named, options, is_for, needs_from}
+use Rattle.command_words.specs.Names.{Text, word_of, command_names, command_named, options, is_for, needs_minute}
 use Rattle.command_words.specs.Given.{Given, is_given, text_in}
-use Rattle.command_words.specs.WordByWord.{command_given, is_whole_for, is_whole, is_good, given_of}
+use Rattle.command_words.specs.WordByWord.{command_given, has_minute, is_whole_for, is_whole, is_good, given_of}
 use Rattle.command_words.specs.Written.{IsWritten}
 use Rattle.command_words.specs.Meaning.{IsGood}
 use Rattle.command_words.specs.declared.arguments.Argument.{Argument}
-use Rattle.command_words.specs.declared.arguments.Argument.TheVariants.{Command, Nodes, Turns, Workers, Dossier, Keep, Number, Ships, Chambers, From}
+use Rattle.command_words.specs.declared.arguments.Argument.TheVariants.{Command, Nodes, Turns, Workers, Dossier, Keep, Number, Ships, Chambers, From, Now}
 use Rattle.command_words.specs.declared.command_names.CommandName.{CommandName}
 use Rattle.command_words.specs.declared.command_names.CommandName.TheVariants.{Solve, Check, Lot, Trial, Judge, Play, Replan, Lower, Resume}
 use Rattle.command_words.proofs.Follows.{and_left, and_right}
@@ -75,41 +75,58 @@ each_suits c given e a = go a
     p : Argument → Bool
     p a = not (is_given a given) || is_for c a
 
-    after_nodes : list_all p (Turns ∷ Workers ∷ Dossier ∷ Keep ∷ Number ∷ Ships ∷ Chambers ∷ From ∷ []) ≡ true
-    after_nodes = tail_of p Nodes (Turns ∷ Workers ∷ Dossier ∷ Keep ∷ Number ∷ Ships ∷ Chambers ∷ From ∷ []) e
+    after_nodes : list_all p (Turns ∷ Workers ∷ Dossier ∷ Keep ∷ Number ∷ Ships ∷ Chambers ∷ From ∷ Now ∷ []) ≡ true
+    after_nodes = tail_of p Nodes (Turns ∷ Workers ∷ Dossier ∷ Keep ∷ Number ∷ Ships ∷ Chambers ∷ From ∷ Now ∷ []) e
 
-    after_turns : list_all p (Workers ∷ Dossier ∷ Keep ∷ Number ∷ Ships ∷ Chambers ∷ From ∷ []) ≡ true
-    after_turns = tail_of p Turns (Workers ∷ Dossier ∷ Keep ∷ Number ∷ Ships ∷ Chambers ∷ From ∷ []) after_nodes
+    after_turns : list_all p (Workers ∷ Dossier ∷ Keep ∷ Number ∷ Ships ∷ Chambers ∷ From ∷ Now ∷ []) ≡ true
+    after_turns = tail_of p Turns (Workers ∷ Dossier ∷ Keep ∷ Number ∷ Ships ∷ Chambers ∷ From ∷ Now ∷ []) after_nodes
 
-    after_workers : list_all p (Dossier ∷ Keep ∷ Number ∷ Ships ∷ Chambers ∷ From ∷ []) ≡ true
-    after_workers = tail_of p Workers (Dossier ∷ Keep ∷ Number ∷ Ships ∷ Chambers ∷ From ∷ []) after_turns
+    after_workers : list_all p (Dossier ∷ Keep ∷ Number ∷ Ships ∷ Chambers ∷ From ∷ Now ∷ []) ≡ true
+    after_workers = tail_of p Workers (Dossier ∷ Keep ∷ Number ∷ Ships ∷ Chambers ∷ From ∷ Now ∷ []) after_turns
 
-    after_dossier : list_all p (Keep ∷ Number ∷ Ships ∷ Chambers ∷ From ∷ []) ≡ true
-    after_dossier = tail_of p Dossier (Keep ∷ Number ∷ Ships ∷ Chambers ∷ From ∷ []) after_workers
+    after_dossier : list_all p (Keep ∷ Number ∷ Ships ∷ Chambers ∷ From ∷ Now ∷ []) ≡ true
+    after_dossier = tail_of p Dossier (Keep ∷ Number ∷ Ships ∷ Chambers ∷ From ∷ Now ∷ []) after_workers
 
-    after_keep : list_all p (Number ∷ Ships ∷ Chambers ∷ From ∷ []) ≡ true
-    after_keep = tail_of p Keep (Number ∷ Ships ∷ Chambers ∷ From ∷ []) after_dossier
+    after_keep : list_all p (Number ∷ Ships ∷ Chambers ∷ From ∷ Now ∷ []) ≡ true
+    after_keep = tail_of p Keep (Number ∷ Ships ∷ Chambers ∷ From ∷ Now ∷ []) after_dossier
 
-    after_number : list_all p (Ships ∷ Chambers ∷ From ∷ []) ≡ true
-    after_number = tail_of p Number (Ships ∷ Chambers ∷ From ∷ []) after_keep
+    after_number : list_all p (Ships ∷ Chambers ∷ From ∷ Now ∷ []) ≡ true
+    after_number = tail_of p Number (Ships ∷ Chambers ∷ From ∷ Now ∷ []) after_keep
 
-    after_ships : list_all p (Chambers ∷ From ∷ []) ≡ true
-    after_ships = tail_of p Ships (Chambers ∷ From ∷ []) after_number
+    after_ships : list_all p (Chambers ∷ From ∷ Now ∷ []) ≡ true
+    after_ships = tail_of p Ships (Chambers ∷ From ∷ Now ∷ []) after_number
 
-    after_chambers : list_all p (From ∷ []) ≡ true
-    after_chambers = tail_of p Chambers (From ∷ []) after_ships
+    after_chambers : list_all p (From ∷ Now ∷ []) ≡ true
+    after_chambers = tail_of p Chambers (From ∷ Now ∷ []) after_ships
+
+    after_from : list_all p (Now ∷ []) ≡ true
+    after_from = tail_of p From (Now ∷ []) after_chambers
 
     go : (a : Argument) → is_given a given ≡ true → is_for c a ≡ true
     go Command = λ _. command_suits c
-    go Nodes = tested (is_given Nodes given) (is_for c Nodes) (head_of p Nodes (Turns ∷ Workers ∷ Dossier ∷ Keep ∷ Number ∷ Ships ∷ Chambers ∷ From ∷ []) e)
-    go Turns = tested (is_given Turns given) (is_for c Turns) (head_of p Turns (Workers ∷ Dossier ∷ Keep ∷ Number ∷ Ships ∷ Chambers ∷ From ∷ []) after_nodes)
-    go Workers = tested (is_given Workers given) (is_for c Workers) (head_of p Workers (Dossier ∷ Keep ∷ Number ∷ Ships ∷ Chambers ∷ From ∷ []) after_turns)
-    go Dossier = tested (is_given Dossier given) (is_for c Dossier) (head_of p Dossier (Keep ∷ Number ∷ Ships ∷ Chambers ∷ From ∷ []) after_workers)
-    go Keep = tested (is_given Keep given) (is_for c Keep) (head_of p Keep (Number ∷ Ships ∷ Chambers ∷ From ∷ []) after_dossier)
-    go Number = tested (is_given Number given) (is_for c Number) (head_of p Number (Ships ∷ Chambers ∷ From ∷ []) after_keep)
-    go Ships = tested (is_given Ships given) (is_for c Ships) (head_of p Ships (Chambers ∷ From ∷ []) after_number)
-    go Chambers = tested (is_given Chambers given) (is_for c Chambers) (head_of p Chambers (From ∷ []) after_ships)
-    go From = tested (is_given From given) (is_for c From) (head_of p From [] after_chambers)
+    go Nodes = tested (is_given Nodes given) (is_for c Nodes) (head_of p Nodes (Turns ∷ Workers ∷ Dossier ∷ Keep ∷ Number ∷ Ships ∷ Chambers ∷ From ∷ Now ∷ []) e)
+    go Turns = tested (is_given Turns given) (is_for c Turns) (head_of p Turns (Workers ∷ Dossier ∷ Keep ∷ Number ∷ Ships ∷ Chambers ∷ From ∷ Now ∷ []) after_nodes)
+    go Workers = tested (is_given Workers given) (is_for c Workers) (head_of p Workers (Dossier ∷ Keep ∷ Number ∷ Ships ∷ Chambers ∷ From ∷ Now ∷ []) after_turns)
+    go Dossier = tested (is_given Dossier given) (is_for c Dossier) (head_of p Dossier (Keep ∷ Number ∷ Ships ∷ Chambers ∷ From ∷ Now ∷ []) after_workers)
+    go Keep = tested (is_given Keep given) (is_for c Keep) (head_of p Keep (Number ∷ Ships ∷ Chambers ∷ From ∷ Now ∷ []) after_dossier)
+    go Number = tested (is_given Number given) (is_for c Number) (head_of p Number (Ships ∷ Chambers ∷ From ∷ Now ∷ []) after_keep)
+    go Ships = tested (is_given Ships given) (is_for c Ships) (head_of p Ships (Chambers ∷ From ∷ Now ∷ []) after_number)
+    go Chambers = tested (is_given Chambers given) (is_for c Chambers) (head_of p Chambers (From ∷ Now ∷ []) after_ships)
+    go From = tested (is_given From given) (is_for c From) (head_of p From (Now ∷ []) after_chambers)
+    go Now = tested (is_given Now given) (is_for c Now) (head_of p Now [] after_from)
+
+-- just one of two arguments is given
+one_is_there : (p q : Bool) → p ≡ not q → (if p then not q else q) ≡ true
+one_is_there true true e = cc
+one_is_there true false e = refl
+one_is_there false true e = refl
+one_is_there false false e = cc
+
+just_one : (p q : Bool) → (if p then not q else q) ≡ true → p ≡ not q
+just_one true true e = cc
+just_one true false e = refl
+just_one false true e = refl
+just_one false false e = cc
 
 -- ---- good words
 
@@ -120,7 +137,7 @@ good_is_accepted words good =
     let r = written_is_read words good.given good.written good.once in
     let command : command_given good.given ≡ Some good.command = ap (option_and_then command_named) good.word ∙ command_word good.command in
     let suits = all_suit good.command good.given options good.suits in
-    let needs = suits_test (needs_from good.command) (is_given From good.given) good.needs in
+    let needs = suits_test (needs_minute good.command) (has_minute good.given) (λ needed. one_is_there (is_given From good.given) (is_given Now good.given) (good.needs needed)) in
     (rw (r.read, command, suits, needs) refl, rw (r.read) refl)
 
 -- words that are read to their end are good
@@ -142,7 +159,7 @@ accepted_is_good words e =
           command = c;
           word = text ∙ ap Some (word_named t c name);
           suits = each_suits c given suits;
-          needs = tested (needs_from c) (is_given From given) (and_right (list_all (λ a. not (is_given a given) || is_for c a) options) _ e);
+          needs = λ needed. just_one (is_given From given) (is_given Now given) (tested (needs_minute c) (has_minute given) (and_right (list_all (λ a. not (is_given a given) || is_for c a) options) _ e) needed);
         }
 
     go : (given : Given) → IsWritten words given → Once given → (o : Option Text) → text_in Command given ≡ o → option_map_or (is_whole_for given) (option_and_then command_named o) false ≡ true → IsGood words

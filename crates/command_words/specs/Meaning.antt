@@ -1,6 +1,6 @@
 -- Which words are good, and which command they mean.
-use Rattle.std.specs.Prelude.{◌≡◌, ◌≤◌, true, List, Some, ⊤}
-use Rattle.command_words.specs.Names.{Text, word_of, is_for, needs_from}
+use Rattle.std.specs.Prelude.{◌≡◌, ◌≤◌, true, false, not, List, Some, ⊤}
+use Rattle.command_words.specs.Names.{Text, word_of, is_for, needs_minute}
 use Rattle.command_words.specs.Given.{Given, is_given, text_in, times}
 use Rattle.command_words.specs.Written.{IsWritten}
 use Rattle.command_words.specs.Numbers.{IsNumberOf}
@@ -14,6 +14,8 @@ use Rattle.command_words.specs.declared.commands.SolveOptions.{SolveOptions}
 use Rattle.command_words.specs.declared.commands.LotOptions.{LotOptions}
 use Rattle.command_words.specs.declared.commands.TrialOptions.{TrialOptions}
 use Rattle.command_words.specs.declared.commands.ReplanOptions.{ReplanOptions}
+use Rattle.command_words.specs.declared.commands.DayRest.{DayRest}
+use Rattle.command_words.specs.declared.commands.DayRest.TheVariants.{Known, Lived}
 
 -- the words are good, but for the ranges of their numbers
 pub record IsGood (words : List Text) : Type 0 where
@@ -24,7 +26,7 @@ pub record IsGood (words : List Text) : Type 0 where
   pub command : CommandName
   pub word : text_in argument.Command given ≡ Some (word_of command)
   pub suits : (a : Argument) → is_given a given ≡ true → is_for command a ≡ true
-  pub needs : needs_from command ≡ true → is_given argument.From given ≡ true
+  pub needs : needs_minute command ≡ true → is_given argument.From given ≡ not (is_given argument.Now given)
 
 -- ---- what each command's options are
 
@@ -45,12 +47,17 @@ pub record GivesTrial (options : TrialOptions) (given : Given) : Type 0 where
   pub nodes : IsNumberOf argument.Nodes given options.nodes
   pub turns : IsNumberOf argument.Turns given options.turns
 
+-- the rest whose minute is given
+abbrev pub GivesRest : DayRest → Given → Type 0
+GivesRest (Known minute) given = (is_given argument.Now given ≡ false) × IsNumberOf argument.From given minute
+GivesRest (Lived minute) given = (is_given argument.Now given ≡ true) × IsNumberOf argument.Now given minute
+
 pub record GivesReplan (options : ReplanOptions) (given : Given) : Type 0 where
   pub nodes : IsNumberOf argument.Nodes given options.nodes
   pub turns : IsNumberOf argument.Turns given options.turns
   pub workers : IsNumberOf argument.Workers given options.workers
   pub dossier : options.dossier ≡ is_given argument.Dossier given
-  pub from : IsNumberOf argument.From given options.from
+  pub rest : GivesRest options.rest given
 
 abbrev pub GivesOptions : Command → Given → Type 0
 GivesOptions (Solve options) given = GivesSolve options given

@@ -2,7 +2,7 @@
 use Rattle.std.specs.Prelude.{ℕ, Bool, true, false, List, [], ◌∷◌, Option, codes, find}
 use Rattle.std.specs.Str.{bytes_eq}
 use Rattle.command_words.specs.declared.arguments.Argument.{Argument}
-use Rattle.command_words.specs.declared.arguments.Argument.TheVariants.{Command, Nodes, Turns, Workers, Dossier, Keep, Number, Ships, Chambers, From}
+use Rattle.command_words.specs.declared.arguments.Argument.TheVariants.{Command, Nodes, Turns, Workers, Dossier, Keep, Number, Ships, Chambers, From, Now}
 use Rattle.command_words.specs.declared.command_names.CommandName.{CommandName}
 use Rattle.command_words.specs.declared.command_names.CommandName.TheVariants.{Solve, Check, Lot, Trial, Judge, Play, Replan, Lower, Resume}
 
@@ -33,12 +33,13 @@ name_of Number = codes "number"
 name_of Ships = codes "ships"
 name_of Chambers = codes "chambers"
 name_of From = codes "from"
+name_of Now = codes "now"
 
 abbrev pub command_names : List CommandName
 command_names = Solve ∷ Check ∷ Lot ∷ Trial ∷ Judge ∷ Play ∷ Replan ∷ Lower ∷ Resume ∷ []
 
 abbrev pub options : List Argument
-options = Nodes ∷ Turns ∷ Workers ∷ Dossier ∷ Keep ∷ Number ∷ Ships ∷ Chambers ∷ From ∷ []
+options = Nodes ∷ Turns ∷ Workers ∷ Dossier ∷ Keep ∷ Number ∷ Ships ∷ Chambers ∷ From ∷ Now ∷ []
 
 unfoldable pub command_named : Text → Option CommandName
 command_named text = find (λ c. bytes_eq (word_of c) text) command_names
@@ -76,6 +77,7 @@ is_for Replan Turns = true
 is_for Replan Workers = true
 is_for Replan Dossier = true
 is_for Replan From = true
+is_for Replan Now = true
 is_for Resume Nodes = true
 is_for Resume Turns = true
 is_for Resume Workers = true
@@ -86,6 +88,7 @@ is_for Lot Ships = true
 is_for Lot Chambers = true
 is_for _ _ = false
 
-abbrev pub needs_from : CommandName → Bool
-needs_from Replan = true
-needs_from _ = false
+-- the command needs a minute
+abbrev pub needs_minute : CommandName → Bool
+needs_minute Replan = true
+needs_minute _ = false

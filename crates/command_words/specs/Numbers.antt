@@ -6,7 +6,7 @@ use Rattle.lock_model.specs.declared.limits.TheConstants.{CHAMBERS, SHIPS, WORKE
 use Rattle.command_words.specs.Names.{Text}
 use Rattle.command_words.specs.Given.{Given, text_in}
 use Rattle.command_words.specs.declared.arguments.Argument.{Argument}
-use Rattle.command_words.specs.declared.arguments.Argument.TheVariants.{Nodes, Turns, Workers, Number, Ships, Chambers, From}
+use Rattle.command_words.specs.declared.arguments.Argument.TheVariants.{Nodes, Turns, Workers, Number, Ships, Chambers, From, Now}
 
 abbrev pub is_digit : ℕ → Bool
 is_digit c = nat_le 48 c && nat_le c 57
@@ -23,6 +23,7 @@ lowest Number = 0
 lowest Ships = 1
 lowest Chambers = 1
 lowest From = 0
+lowest Now = 0
 lowest _ = 0
 
 abbrev pub highest : Argument → ℕ
@@ -33,9 +34,10 @@ highest Number = 4294967295
 highest Ships = SHIPS
 highest Chambers = CHAMBERS
 highest From = 1000000
+highest Now = 1000000
 highest _ = 0
 
--- the number of an option that is not given; the command that `--from` is for always gives it
+-- the number of an option that is not given; the command that `--from` and `--now` are for always gives one of them
 abbrev pub default_of : Argument → ℕ
 default_of Nodes = 100000
 default_of Turns = 20000
@@ -44,6 +46,7 @@ default_of Number = 1
 default_of Ships = 12
 default_of Chambers = 2
 default_of From = 0
+default_of Now = 0
 default_of _ = 0
 
 -- the number that a text of digits writes, or the default where there is no text

@@ -10,7 +10,7 @@ use Rattle.clap.specs.Simple.{on_top}
 use Rattle.clap.specs.declared.builder.action.ArgAction.TheVariants.{SetTrue}
 use Rattle.command_words.specs.Names.{Text, name_of, is_flag}
 use Rattle.command_words.specs.declared.arguments.Argument.{Argument}
-use Rattle.command_words.specs.declared.arguments.Argument.TheVariants.{Command, Nodes, Turns, Workers, Dossier, Keep, Number, Ships, Chambers, From}
+use Rattle.command_words.specs.declared.arguments.Argument.TheVariants.{Command, Nodes, Turns, Workers, Dossier, Keep, Number, Ships, Chambers, From, Now}
 
 abbrev pub command_rule : Text → Rule
 command_rule name = record (new_rule name) { required = true }
@@ -28,7 +28,7 @@ rule_for Keep = flag_rule (name_of Keep)
 rule_for a = option_rule (name_of a)
 
 abbrev pub arguments : List Argument
-arguments = Command ∷ Nodes ∷ Turns ∷ Workers ∷ Dossier ∷ Keep ∷ Number ∷ Ships ∷ Chambers ∷ From ∷ []
+arguments = Command ∷ Nodes ∷ Turns ∷ Workers ∷ Dossier ∷ Keep ∷ Number ∷ Ships ∷ Chambers ∷ From ∷ Now ∷ []
 
 -- no argument yet, no program's name before the words, and no help
 abbrev pub bare_parser : App

@@ -5,7 +5,7 @@ use Rattle.command_words.specs.Names.{is_command}
 use Rattle.command_words.specs.Given.{is_given}
 use Rattle.command_words.specs.WordByWord.{PartialLine as AnyLine, command_given}
 use Rattle.command_words.specs.declared.arguments.Argument.{Argument}
-use Rattle.command_words.specs.declared.arguments.Argument.TheVariants.{Command, Nodes, Turns, Workers, Dossier, Keep, Number, Ships, Chambers, From}
+use Rattle.command_words.specs.declared.arguments.Argument.TheVariants.{Command, Nodes, Turns, Workers, Dossier, Keep, Number, Ships, Chambers, From, Now}
 use Rattle.command_words.specs.declared.partial_line.PartialLine.{PartialLine}
 
 -- where an argument stands in the list of those that were seen
@@ -20,9 +20,10 @@ place_of Number = 6
 place_of Ships = 7
 place_of Chambers = 8
 place_of From = 9
+place_of Now = 10
 
 pub record Stands (line : PartialLine) (l : AnyLine) : Type 0 where
-  pub size : length line.seen ≡ 10
+  pub size : length line.seen ≡ 11
   pub seen : (a : Argument) → slice_index_or line.seen (place_of a) false ≡ is_given a l.given
   pub command : line.command ≡ command_given l.given
   pub due : line.due ≡ l.due

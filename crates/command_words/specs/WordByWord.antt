@@ -2,11 +2,11 @@
 use Rattle.std.specs.Prelude.{ℕ, Bool, true, false, not, List, [], ◌∷◌, ◌++◌, ◌==◌, ◌&&◌, ◌||◌, Option, Some, None, codes, if◌then◌else◌, option_and_then, is_some}
 use Rattle.std.specs.List.{list_all, list_any, before_first, after_first}
 use Rattle.std.specs.Option.{option_map_or}
-use Rattle.command_words.specs.Names.{Text, options, option_named, command_named, is_flag, is_for, needs_from}
+use Rattle.command_words.specs.Names.{Text, options, option_named, command_named, is_flag, is_for, needs_minute}
 use Rattle.command_words.specs.Given.{Given, is_given, text_in}
 use Rattle.command_words.specs.Numbers.{is_number}
 use Rattle.command_words.specs.declared.arguments.Argument.{Argument}
-use Rattle.command_words.specs.declared.arguments.Argument.TheVariants.{Command, From}
+use Rattle.command_words.specs.declared.arguments.Argument.TheVariants.{Command, From, Now}
 use Rattle.command_words.specs.declared.command_names.CommandName.{CommandName}
 
 -- what the words so far gave, the option that waits for its text, and whether no `--` has come
@@ -77,9 +77,13 @@ read_words (w ∷ ws) line = option_and_then (read_words ws) (read_word w line)
 abbrev pub command_given : Given → Option CommandName
 command_given given = option_and_then command_named (text_in Command given)
 
+-- just one of the two options that give a minute is there
+abbrev pub has_minute : Given → Bool
+has_minute given = if is_given From given then not (is_given Now given) else is_given Now given
+
 -- each option that was given is for the command, which has what it needs
 abbrev pub is_whole_for : Given → CommandName → Bool
-is_whole_for given c = list_all (λ a. not (is_given a given) || is_for c a) options && (not (needs_from c) || is_given From given)
+is_whole_for given c = list_all (λ a. not (is_given a given) || is_for c a) options && (not (needs_minute c) || has_minute given)
 
 unfoldable pub is_whole : PartialLine → Bool
 is_whole line = not (is_some line.due) && option_map_or (is_whole_for line.given) (command_given line.given) false

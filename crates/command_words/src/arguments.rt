@@ -17,6 +17,7 @@ pub enum Argument {
     Ships,
     Chambers,
     From,
+    Now,
 }
 
 impl Argument {
@@ -36,13 +37,14 @@ impl Argument {
             Argument::Ships => "ships",
             Argument::Chambers => "chambers",
             Argument::From => "from",
+            Argument::Now => "now",
         }
     }
 
     /// The argument's place in the list of those that were seen.
     pub fn place(self) -> usize
         ensures place { result ≡ place_of self }
-        ensures within { result < 10 }
+        ensures within { result < 11 }
     {
         match self {
             Argument::Command => 0,
@@ -55,6 +57,7 @@ impl Argument {
             Argument::Ships => 7,
             Argument::Chambers => 8,
             Argument::From => 9,
+            Argument::Now => 10,
         }
     }
 
@@ -73,7 +76,7 @@ fn is_name(argument: Argument, text: &[u8]) -> bool
 }
 
 /// The options, the flags among them.
-pub const OPTIONS: [Argument; 9] = [
+pub const OPTIONS: [Argument; 10] = [
     Argument::Nodes,
     Argument::Turns,
     Argument::Workers,
@@ -83,6 +86,7 @@ pub const OPTIONS: [Argument; 9] = [
     Argument::Ships,
     Argument::Chambers,
     Argument::From,
+    Argument::Now,
 ];
 
 fn named_in(options: &[Argument], text: &[u8]) -> Option<Argument>

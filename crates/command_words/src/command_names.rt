@@ -1,7 +1,7 @@
 //! The words that name the commands, and which options are for which command.
 ghost use Rattle.std.specs.Prelude.{◌≡◌, find};
 ghost use Rattle.std.specs.Str.{bytes_eq};
-ghost use Rattle.command_words.specs.Names.{word_of, command_named, is_for, needs_from};
+ghost use Rattle.command_words.specs.Names.{word_of, command_named, is_for, needs_minute};
 
 use crate::arguments::Argument;
 
@@ -63,13 +63,13 @@ impl CommandName {
             Argument::Number | Argument::Ships | Argument::Chambers => {
                 matches!(self, CommandName::Lot | CommandName::Trial)
             }
-            Argument::From => matches!(self, CommandName::Replan),
+            Argument::From | Argument::Now => matches!(self, CommandName::Replan),
         }
     }
 
-    /// The command needs the minute that `--from` gives.
-    pub fn needs_from(self) -> bool
-        ensures { result ≡ needs_from self }
+    /// The command needs a minute, which `--from` gives or `--now`.
+    pub fn needs_minute(self) -> bool
+        ensures { result ≡ needs_minute self }
     {
         matches!(self, CommandName::Replan)
     }

@@ -37,11 +37,20 @@ pub struct TrialOptions {
     pub turns: u32,
 }
 
+/// The rest of a day that is planned anew, and the minute from which on: 0 to 1,000,000.
+#[derive(Clone, Copy)]
+pub enum DayRest {
+    /// The rest after the lockages that start before the minute, of a day that is known beforehand.
+    Known(u32),
+    /// The rest after all that has begun at the minute, of a day as it is lived.
+    Lived(u32),
+}
+
 /// Options of `replan`.
 #[derive(Clone, Copy)]
 pub struct ReplanOptions {
-    /// The minute from which lockages are planned anew, 0 to 1,000,000; it is always given.
-    pub from: u32,
+    /// The rest that is planned anew; its minute is always given.
+    pub rest: DayRest,
     /// How many nodes the search may use, 1 to 1,000,000; 100,000 where it isn't given.
     pub nodes: u32,
     /// How many cases of one deck a placer may try, 1 to 200,000; else 20,000.

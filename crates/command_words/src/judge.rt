@@ -2,13 +2,12 @@
 ghost use Rattle.std.specs.Prelude.{◌≡◌, ◌↔◌, IsTrue, true, map, string_bytes, not, ◌||◌};
 ghost use Rattle.std.specs.List.{list_all};
 ghost use Rattle.clap.specs.Words.{takes};
-ghost use Rattle.command_words.specs.Names.{is_for, needs_from, options};
+ghost use Rattle.command_words.specs.Names.{is_for, needs_minute, options};
 ghost use Rattle.command_words.specs.Given.{is_given};
 ghost use Rattle.command_words.specs.Meaning.{IsGood};
 ghost use Rattle.command_words.specs.Parser.{parser};
-ghost use Rattle.command_words.specs.WordByWord.{PartialLine as AnyLine, is_good, is_whole};
+ghost use Rattle.command_words.specs.WordByWord.{PartialLine as AnyLine, has_minute, is_good, is_whole};
 ghost use Rattle.command_words.specs.Stands.{Stands};
-ghost use Rattle.command_words.specs.declared.arguments.Argument.TheVariants.{From as From_argument};
 
 use crate::arguments::{Argument, OPTIONS};
 use crate::command_names::CommandName;
@@ -34,11 +33,21 @@ fn all_fit(line: &PartialLine, command: CommandName, options: &[Argument]) -> bo
     true
 }
 
+fn has_minute(line: &PartialLine) -> bool
+    ensures { (l : AnyLine) → Stands line.now l → result ≡ has_minute l.given }
+{
+    if line.seen[Argument::From.place()] {
+        !line.seen[Argument::Now.place()]
+    } else {
+        line.seen[Argument::Now.place()]
+    }
+}
+
 fn has_needed(line: &PartialLine, command: CommandName) -> bool
     ensures { (l : AnyLine) → Stands line.now l
-        → result ≡ (not (needs_from command) || is_given From_argument l.given) }
+        → result ≡ (not (needs_minute command) || has_minute l.given) }
 {
-    !command.needs_from() || line.seen[Argument::From.place()]
+    !command.needs_minute() || has_minute(line)
 }
 
 #[tactic(auto, unfolding(crate::specs::WordByWord::is_whole))]

@@ -21,7 +21,7 @@ mod reader;
 mod texts;
 mod word_by_word;
 
-pub use commands::{Command, LotOptions, ReplanOptions, SolveOptions, TrialOptions};
+pub use commands::{Command, DayRest, LotOptions, ReplanOptions, SolveOptions, TrialOptions};
 pub use errors::WordsError;
 pub use judge::good_words;
 pub use reader::read_words;

@@ -42,7 +42,7 @@ fn range_of(option: Argument) -> NumberRange
         Argument::Number => range(0, 4_294_967_295, 1),
         Argument::Ships => range(1, SHIPS as u32, 12),
         Argument::Chambers => range(1, CHAMBERS as u32, 2),
-        Argument::From => range(0, 1_000_000, 0),
+        Argument::From | Argument::Now => range(0, 1_000_000, 0),
         Argument::Command | Argument::Dossier | Argument::Keep => range(0, 0, 0),
     }
 }

@@ -1,17 +1,18 @@
 //! The options of each command.
 ghost use Rattle.std.specs.Prelude.{◌≡◌, IfSome};
 ghost use Rattle.command_words.specs.Given.{Given};
-ghost use Rattle.command_words.specs.Meaning.{GivesSolve, GivesLot, GivesTrial, GivesReplan};
+ghost use Rattle.command_words.specs.Meaning.{GivesSolve, GivesLot, GivesTrial, GivesRest, GivesReplan};
 ghost use Rattle.command_words.specs.Parser.{Finds};
 ghost use Rattle.command_words.specs.declared.commands.SolveOptions.{SolveOptions as AnySolve};
 ghost use Rattle.command_words.specs.declared.commands.LotOptions.{LotOptions as AnyLot};
 ghost use Rattle.command_words.specs.declared.commands.TrialOptions.{TrialOptions as AnyTrial};
+ghost use Rattle.command_words.specs.declared.commands.DayRest.{DayRest as AnyRest};
 ghost use Rattle.command_words.specs.declared.commands.ReplanOptions.{ReplanOptions as AnyReplan};
 
 use crate::arguments::Argument;
-use crate::commands::{LotOptions, ReplanOptions, SolveOptions, TrialOptions};
+use crate::commands::{DayRest, LotOptions, ReplanOptions, SolveOptions, TrialOptions};
 use crate::numbers::{number_of, small_number_of};
-use crate::parser::has_flag;
+use crate::parser::{has_flag, text_of};
 use clap::ArgMatches;
 
 /// The options of `solve` and `resume`, if their numbers are in their ranges.
@@ -59,18 +60,29 @@ pub fn trial_options(matches: &ArgMatches<'_>) -> Option<TrialOptions>
     Some(TrialOptions { lot, nodes, turns })
 }
 
+// The rest that is planned anew, if its minute is in its range.
+fn day_rest(matches: &ArgMatches<'_>) -> Option<DayRest>
+    ensures some { (given : Given) → Finds matches.now given → IfSome result (λ r. GivesRest r given) }
+    ensures each { (given : Given) (r : AnyRest) → Finds matches.now given → GivesRest r given → result ≡ Some r }
+{
+    match text_of(matches, Argument::Now) {
+        Some(_) => Some(DayRest::Lived(number_of(matches, Argument::Now)?)),
+        None => Some(DayRest::Known(number_of(matches, Argument::From)?)),
+    }
+}
+
 /// The options of `replan`, if their numbers are in their ranges.
 pub fn replan_options(matches: &ArgMatches<'_>) -> Option<ReplanOptions>
     ensures some { (given : Given) → Finds matches.now given → IfSome result (λ o. GivesReplan o given) }
     ensures each { (given : Given) (o : AnyReplan) → Finds matches.now given → GivesReplan o given
         → result ≡ Some o }
 {
-    let from = number_of(matches, Argument::From)?;
+    let rest = day_rest(matches)?;
     let nodes = number_of(matches, Argument::Nodes)?;
     let turns = number_of(matches, Argument::Turns)?;
     let workers = small_number_of(matches, Argument::Workers)?;
     Some(ReplanOptions {
-        from,
+        rest,
         nodes,
         turns,
         workers,

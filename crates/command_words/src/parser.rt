@@ -66,7 +66,8 @@ fn clap_command<'a>(alloc: Global) -> Result<Command<'a>, AllocError>
     let command = with_option(command, alloc, Argument::Number.name())?;
     let command = with_option(command, alloc, Argument::Ships.name())?;
     let command = with_option(command, alloc, Argument::Chambers.name())?;
-    with_option(command, alloc, Argument::From.name())
+    let command = with_option(command, alloc, Argument::From.name())?;
+    with_option(command, alloc, Argument::Now.name())
 }
 
 /// What `clap` finds in good words. An error is want of memory.

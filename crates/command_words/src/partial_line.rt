@@ -13,7 +13,7 @@ use crate::texts::is_number;
 /// text, and whether no `--` has come.
 #[derive(Clone, Copy)]
 pub struct PartialLine {
-    pub seen: [bool; 10],
+    pub seen: [bool; 11],
     pub command: Option<CommandName>,
     pub due: Option<Argument>,
     pub is_open: bool,
@@ -24,7 +24,7 @@ pub fn start() -> PartialLine
     ensures { Stands result start }
 {
     PartialLine {
-        seen: [false; 10],
+        seen: [false; 11],
         command: None,
         due: None,
         is_open: true,

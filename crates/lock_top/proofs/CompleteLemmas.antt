@@ -31,7 +31,6 @@ use Rattle.resume_command.proofs.CompleteLemmas.{resume_ends}
 use Rattle.plan_commands.specs.Judging.{AnswersJudge}
 use Rattle.plan_commands.specs.Playing.{AnswersPlay}
 use Rattle.plan_commands.proofs.CompleteLemmas.{judged_good, played_good}
-use Rattle.replan.specs.Kept.{kept_of}
 use Rattle.replan_command.specs.Ends.{MayEndReplan}
 use Rattle.replan_command.proofs.EndsLemmas.{replan_ends}
 use Rattle.lock_top.specs.Asked.{Asks}
@@ -135,7 +134,7 @@ complete words source sink status text answer = record {
       by_answer words source status text answer MayPrint tt Play ask
       (by_bytes words source status text answer MayPrint tt plan_limit AnswersPlay bytes served (λ s t says. may_print s (played_good bytes t I P planned s says)));
   replan = λ options I G ask served whole.
-      by_answer words source status text answer (MayEndReplan options I (kept_of G options.from)) tt (Replan options) ask (replan_ends options source I G served status text);
+      by_answer words source status text answer (MayEndReplan options I G) tt (Replan options) ask (replan_ends options source I G served status text);
   lower = λ bytes I C ask served reads fit.
       by_answer words source status text answer (MayLower I C) tt Lower ask
       (by_bytes words source status text answer (MayLower I C) tt dossier_limit AnswersLower bytes served (lower_ends bytes I C reads fit));

@@ -10,7 +10,6 @@ use Rattle.certificate_rules.specs.declared.certificate.Reason.{Reason}
 use Rattle.certificate_rules.specs.Certificates.{Certificate, Accepts}
 use Rattle.instance_text.specs.Reading.{Means}
 use Rattle.cert_text.specs.Dossier.{Reads}
-use Rattle.replan.specs.Kept.{kept_of}
 use Rattle.command_words.specs.declared.commands.SolveOptions.{SolveOptions}
 use Rattle.command_words.specs.declared.commands.LotOptions.{LotOptions}
 use Rattle.command_words.specs.declared.commands.TrialOptions.{TrialOptions}
@@ -77,6 +76,6 @@ pub record IsComplete (run : Run) : Type 0 where
   pub trial : (options : TrialOptions) (I : Instance) → Asks run.words (Trial options) → IsLot options.lot.number options.lot.ships options.lot.chambers I → MayEnd I options.nodes options.turns run.status
   pub judge : (bytes : List ℕ) (I : Instance) (P : Plan) → Asks run.words Judge → IsServed plan_limit run.source bytes → IsLegallyPlanned bytes I P → MayPrint run.status
   pub play : (bytes : List ℕ) (I : Instance) (P : Plan) → Asks run.words Play → IsServed plan_limit run.source bytes → IsLegallyPlanned bytes I P → MayPrint run.status
-  pub replan : (options : ReplanOptions) (I : Instance) (G : Plan) → Asks run.words (Replan options) → IsReplanServed run.source options.from I G → run.status ≢ WriteFault → MayEndReplan options I (kept_of G options.from) run.status
+  pub replan : (options : ReplanOptions) (I : Instance) (G : Plan) → Asks run.words (Replan options) → IsReplanServed run.source options.rest I G → run.status ≢ WriteFault → MayEndReplan options I G run.status
   pub lower : (bytes : List ℕ) (I : Instance) (C : Certificate) → Asks run.words Lower → IsServed dossier_limit run.source bytes → Reads form.Open bytes I C → HasNoUnfit I → MayLower I C run.status
   pub resume : (options : SolveOptions) (bytes : List ℕ) (I : Instance) (C : Certificate) → Asks run.words (Resume options) → IsServed dossier_limit run.source bytes → Reads form.Open bytes I C → HasNoUnfit I → MayResume options I C run.status

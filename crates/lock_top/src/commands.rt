@@ -52,6 +52,7 @@ fn refusal() -> Answer
 }
 
 /// Does what the words ask.
+#[tactic(auto, using(crate::proofs::AskedLemmas::has_numbers))]
 pub(crate) fn words_answer<R: Threads + Wait + Sync, S: Source, G: Gate + Sync>(
     rt: &R,
     alloc: Global,

@@ -22,7 +22,8 @@ use std::thread::Threads;
 /// and has the printed cost. `lot` prints the instance that a number makes, and `trial` the first line
 /// of its report; both read nothing. `judge` and `play` read an instance and a plan; with `Good` the
 /// plan is legal, and its cost and report, or its day, are printed. `replan` keeps what starts before a
-/// minute; with `Good` no legal plan that keeps it costs less. `lower` and `resume` read an open
+/// minute; with `Good` no legal plan that keeps it costs less, or with `--now` none that can still be
+/// carried out at the minute. `lower` and `resume` read an open
 /// dossier: no legal plan costs less than the printed low; `resume` goes on and prints as `solve`.
 ///
 /// `written_dossiers_are_accepted` says what `check` answers to what `solve --dossier` wrote.

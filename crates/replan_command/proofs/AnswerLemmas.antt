@@ -6,40 +6,42 @@ use Rattle.lock_rules.specs.Unfit.{HasNoUnfit}
 use Rattle.instance_text.specs.Reading.{Means, instance_part, after_instance}
 use Rattle.command_words.specs.declared.commands.ReplanOptions.{ReplanOptions}
 use Rattle.plan_text.specs.Reading.{IsPlanText}
-use Rattle.replan.specs.Kept.{kept_of, CanBeKept}
+use Rattle.replan.specs.declared.remainder.Residual.{Residual}
 use Rattle.replan.specs.Rest.{ships_left}
 use Rattle.run_answers.specs.Sources.{IsFair}
 use Rattle.run_answers.specs.declared.status.Status.{Status}
 use Rattle.run_answers.specs.declared.status.Status.TheVariants.{Good, Open, Words, Refused, ReadFault, WriteFault, NoMemory, BadDossier, Unfit, PlanRefused}
 use Rattle.replan_command.specs.Keeping.{PrintsKeeping, PrintsRestDossier, PrintsBestAs, PrintsBestKeeping, prints_dossier}
+use Rattle.replan_command.specs.Rests.{kept_for, CanKeep, IsLeftFor}
 use Rattle.replan_command.specs.Replanning.{AnswersKept, AnswersReplanPlan, AnswersBehind, AnswersReplanInstance, AnswersReplan}
+use Rattle.replan_command.proofs.RestLemmas.{left_can}
 
 -- ---- by what is printed where all is shown
 
 -- an answer that isn't good is answered whatever that is
-pub open_answers : (A B : List ℕ → Type 0) (options : ReplanOptions) (I : Instance) (K : Plan) (status : Status) (text : List ℕ) → status ≢ Good → AnswersKept A options I K status text → AnswersKept B options I K status text
-open_answers A B options I K Good text left answer = absurd (left refl)
-open_answers A B options I K Open text left answer = answer
-open_answers A B options I K Words text left answer = absurd answer
-open_answers A B options I K Refused text left answer = absurd answer
-open_answers A B options I K ReadFault text left answer = absurd answer
-open_answers A B options I K WriteFault text left answer = absurd answer
-open_answers A B options I K NoMemory text left answer = answer
-open_answers A B options I K BadDossier text left answer = absurd answer
-open_answers A B options I K Unfit text left answer = absurd answer
-open_answers A B options I K PlanRefused text left answer = absurd answer
+pub open_answers : (A B : List ℕ → Type 0) (options : ReplanOptions) (I : Instance) (G : Plan) (status : Status) (text : List ℕ) → status ≢ Good → AnswersKept A options I G status text → AnswersKept B options I G status text
+open_answers A B options I G Good text left answer = absurd (left refl)
+open_answers A B options I G Open text left answer = answer
+open_answers A B options I G Words text left answer = absurd answer
+open_answers A B options I G Refused text left answer = absurd answer
+open_answers A B options I G ReadFault text left answer = absurd answer
+open_answers A B options I G WriteFault text left answer = absurd answer
+open_answers A B options I G NoMemory text left answer = answer
+open_answers A B options I G BadDossier text left answer = absurd answer
+open_answers A B options I G Unfit text left answer = absurd answer
+open_answers A B options I G PlanRefused text left answer = absurd answer
 
-module _ (options : ReplanOptions) (I : Instance) (K : Plan) (status : Status) (text : List ℕ) (rest : prints_dossier options.dossier (ships_left I K) ≡ options.dossier) where
-  pub dossier_asked : true ≡ options.dossier → AnswersKept (PrintsRestDossier I K options.from) options I K status text → AnswersKept (PrintsBestKeeping options.dossier I K options.from) options I K status text
-  dossier_asked is answer = subst (λ b. AnswersKept (PrintsBestAs b I K options.from) options I K status text) (is ∙ sym rest) answer
+module _ (options : ReplanOptions) (I : Instance) (G : Plan) (status : Status) (text : List ℕ) (rest : prints_dossier options.dossier (ships_left I (kept_for G options.rest)) ≡ options.dossier) where
+  pub dossier_asked : true ≡ options.dossier → AnswersKept (PrintsRestDossier I G options.rest) options I G status text → AnswersKept (PrintsBestKeeping options.dossier I G options.rest) options I G status text
+  dossier_asked is answer = subst (λ b. AnswersKept (PrintsBestAs b I G options.rest) options I G status text) (is ∙ sym rest) answer
 
-  pub report_asked : false ≡ options.dossier → AnswersKept (PrintsKeeping I K options.from) options I K status text → AnswersKept (PrintsBestKeeping options.dossier I K options.from) options I K status text
-  report_asked is answer = subst (λ b. AnswersKept (PrintsBestAs b I K options.from) options I K status text) (is ∙ sym rest) answer
+  pub report_asked : false ≡ options.dossier → AnswersKept (PrintsKeeping I G options.rest) options I G status text → AnswersKept (PrintsBestKeeping options.dossier I G options.rest) options I G status text
+  report_asked is answer = subst (λ b. AnswersKept (PrintsBestAs b I G options.rest) options I G status text) (is ∙ sym rest) answer
 
 -- ---- from the kept part to the plan, the bytes behind the instance, the instance, and all bytes
 
-pub part_answers : (options : ReplanOptions) (I : Instance) (G : Plan) (status : Status) (text : List ℕ) → CanBeKept I (kept_of G options.from)
-    → AnswersKept (PrintsBestKeeping options.dossier I (kept_of G options.from) options.from) options I (kept_of G options.from) status text → AnswersReplanPlan options I G status text
+pub part_answers : (options : ReplanOptions) (I : Instance) (G : Plan) (status : Status) (text : List ℕ) → CanKeep I G options.rest
+    → AnswersKept (PrintsBestKeeping options.dossier I G options.rest) options I G status text → AnswersReplanPlan options I G status text
 part_answers options I G Good text can answer = record { can = can; answer = answer }
 part_answers options I G Open text can answer = record { can = can; answer = answer }
 part_answers options I G Words text can answer = absurd answer
@@ -51,10 +53,10 @@ part_answers options I G BadDossier text can answer = absurd answer
 part_answers options I G Unfit text can answer = absurd answer
 part_answers options I G PlanRefused text can answer = absurd answer
 
--- the same, where the residual has the kept plan
-pub kept_answers : (options : ReplanOptions) (I : Instance) (G K : Plan) (status : Status) (text : List ℕ) → K ≡ kept_of G options.from → CanBeKept I (kept_of G options.from)
-    → AnswersKept (PrintsBestKeeping options.dossier I K options.from) options I K status text → AnswersReplanPlan options I G status text
-kept_answers options I G K status text is can answer = part_answers options I G status text can (subst (λ K. AnswersKept (PrintsBestKeeping options.dossier I K options.from) options I K status text) is answer)
+-- the same, of what is left
+pub kept_answers : (options : ReplanOptions) (I : Instance) (G : Plan) (r : Residual) (status : Status) (text : List ℕ) → IsLeftFor I G options.rest r
+    → ((H : Plan) → IsLeftFor I H options.rest r → AnswersKept (PrintsBestKeeping options.dossier I H options.rest) options I H status text) → AnswersReplanPlan options I G status text
+kept_answers options I G r status text left answer = part_answers options I G status text (left_can I G r options.rest left) (answer G left)
 
 pub plan_answers : (options : ReplanOptions) (I : Instance) (bytes : List ℕ) (G : Plan) (status : Status) (text : List ℕ) → IsPlanText I bytes G → AnswersReplanPlan options I G status text → AnswersBehind options I bytes status text
 plan_answers options I bytes G Good text is answer = record { plan = G; is_text = is; answer = answer }

@@ -10,6 +10,8 @@ use Rattle.lock_rules.specs.Unfit.{IsFirstUnfit}
 use Rattle.book_rules.proofs.CompleteLemmas.{enough-optimal}
 use Rattle.instance_text.specs.Reading.{Means, Defect, instance_part, after_instance}
 use Rattle.instance_text.proofs.ReadingLemmas.{Means-one, Means-no_defect}
+use Rattle.command_words.specs.declared.commands.DayRest.{DayRest}
+use Rattle.command_words.specs.declared.commands.DayRest.TheVariants.{Known, Lived}
 use Rattle.command_words.specs.declared.commands.ReplanOptions.{ReplanOptions}
 use Rattle.plan_text.specs.Reading.{IsPlanText, IsPlanFault}
 use Rattle.plan_text.proofs.ReadingLemmas.{IsPlanText-one, IsPlanText-no_fault}
@@ -23,6 +25,7 @@ use Rattle.run_answers.specs.declared.status.Status.{Status}
 use Rattle.run_answers.specs.declared.status.Status.TheVariants.{Good, Open, Words, Refused, ReadFault, WriteFault, NoMemory, BadDossier, Unfit, PlanRefused}
 use Rattle.replan_command.specs.Keeping.{PrintsOpenKeeping}
 use Rattle.replan_command.specs.Replanning.{AnswersPlanText, IsPartRefused, IsPlanTextFault, AnswersReplan}
+use Rattle.replan_command.specs.Rests.{CanKeep, IsRefusalFor}
 use Rattle.replan_command.specs.Ends.{IsReplanServed, IsRestUnsure, MayEndReplan}
 
 -- ---- a search ends open only where its nodes or turns aren't surely enough
@@ -33,13 +36,13 @@ nodes_open used low e = cc
 turns_open : (chamber : ℕ) (ships : List ℕ) (turns low : ℕ) → OpenTurns chamber ships turns low ≡ Optimal → ⊥
 turns_open chamber ships turns low e = cc
 
-open_unsure : (options : ReplanOptions) (I : Instance) (K : Plan) (text : List ℕ) → PrintsOpenKeeping options.nodes options.turns I K options.from text → IsRestUnsure options I K
-open_unsure options I K text (inl n) = record {
+open_unsure : (options : ReplanOptions) (I : Instance) (G : Plan) (text : List ℕ) → PrintsOpenKeeping options.nodes options.turns I G options.rest text → IsRestUnsure options I G
+open_unsure options I G text (inl n) = record {
   rest = n.rest;
   is_rest = n.together.is_rest;
   unsure = λ enough. nodes_open n.used n.low (enough-optimal n.rest options.nodes options.turns (singles_of n.rest) n.found (OpenNodes n.used n.low) enough n.left);
 }
-open_unsure options I K text (inr t) = record {
+open_unsure options I G text (inr t) = record {
   rest = t.rest;
   is_rest = t.together.is_rest;
   unsure = λ enough. turns_open t.chamber t.ships t.spent t.low (enough-optimal t.rest options.nodes options.turns (singles_of t.rest) t.found (OpenTurns t.chamber t.ships t.spent t.low) enough t.left);
@@ -56,9 +59,17 @@ not_part_refused : (I : Instance) (K : Plan) (places : List ℕ) (error : Replan
 not_part_refused I K places (Kept broken) refusal can = IsFirstBrokenPart-illegal I K refusal.0 refusal.1 can.legal
 not_part_refused I K places (Late p) refusal can = late-unkept I K refusal.0 refusal.2 can
 
+not_refusal : (I : Instance) (G : Plan) (D : DayRest) (error : ReplanError) → IsRefusalFor I G D error → CanKeep I G D → ⊥
+not_refusal I G (Known M) error refusal can = not_part_refused I (kept_of G M) (kept_places G M) error refusal can
+not_refusal I G (Lived M) (Kept broken) refusal can = not_part_refused I (kept_of G M) (kept_places G M) (Kept broken) refusal can.kept
+not_refusal I G (Lived M) (Late p) (inl late) can = not_part_refused I (kept_of G M) (kept_places G M) (Late p) late can.kept
+not_refusal I G (Lived M) (Late p) (inr turn) can =
+    let in_time = can.turns turn.chamber turn.first.chamber in
+    absurd (omega (arith, turn.first.late, in_time.opens))
+
 -- ---- `replan` over a source that is served
 
-module _ (options : ReplanOptions) (source : Drained) (I : Instance) (G : Plan) (served : IsReplanServed source options.from I G) where
+module _ (options : ReplanOptions) (source : Drained) (I : Instance) (G : Plan) (served : IsReplanServed source options.rest I G) where
   read_is : (status : Status) (text : List ℕ) (read : AnswersBytes plan_limit (AnswersReplan options) source status text) → read.bytes ≡ served.bytes
   read_is status text read = subst (λ left. IfSome left (λ bytes. read.bytes ≡ bytes)) served.told read.read.all
 
@@ -71,15 +82,14 @@ module _ (options : ReplanOptions) (source : Drained) (I : Instance) (G : Plan) 
   same_planned J bytes P is same text =
       IsPlanText-one I (after_instance served.bytes) P G (subst (λ J. IsPlanText J (after_instance served.bytes) P) same (subst (λ bytes. IsPlanText J (after_instance bytes) P) is text)) served.planned
 
-  left_ends : (text : List ℕ) → AnswersBytes plan_limit (AnswersReplan options) source Open text → IsRestUnsure options I (kept_of G options.from)
+  left_ends : (text : List ℕ) → AnswersBytes plan_limit (AnswersReplan options) source Open text → IsRestUnsure options I G
   left_ends text read =
       let told = read.answer in
       let is = read_is Open text read in
       let same = same_read told.instance read.bytes is told.means in
       let planned = told.answer.answer in
       let plan = same_planned told.instance read.bytes planned.plan is same planned.is_text in
-      subst (λ P. IsRestUnsure options I (kept_of P options.from)) plan
-      (subst (λ J. IsRestUnsure options J (kept_of planned.plan options.from)) same (open_unsure options told.instance (kept_of planned.plan options.from) text planned.answer.answer))
+      subst (IsRestUnsure options I) plan (subst (λ J. IsRestUnsure options J planned.plan) same (open_unsure options told.instance planned.plan text planned.answer.answer))
 
   -- the named ship fits some chamber
   not_unfit : (text : List ℕ) → AnswersBytes plan_limit (AnswersReplan options) source Unfit text → ⊥
@@ -108,8 +118,8 @@ module _ (options : ReplanOptions) (source : Drained) (I : Instance) (G : Plan) 
       IsPlanText-no_fault I (after_instance served.bytes) G bad.line bad.kind served.planned fault
   no_fault text J bytes is same (inr planned) =
       let plan = same_planned J bytes planned.plan is same planned.is_text in
-      let refused : IsPartRefused I G options.from text = subst (λ P. IsPartRefused I P options.from text) plan (subst (λ J. IsPartRefused J planned.plan options.from text) same planned.answer) in
-      not_part_refused I (kept_of G options.from) (kept_places G options.from) refused.error refused.refusal served.can
+      let refused : IsPartRefused I G options.rest text = subst (λ P. IsPartRefused I P options.rest text) plan (subst (λ J. IsPartRefused J planned.plan options.rest text) same planned.answer) in
+      not_refusal I G options.rest refused.error refused.refusal served.can
 
   not_plan_refused : (text : List ℕ) → AnswersBytes plan_limit (AnswersReplan options) source PlanRefused text → ⊥
   not_plan_refused text read =
@@ -118,7 +128,7 @@ module _ (options : ReplanOptions) (source : Drained) (I : Instance) (G : Plan) 
       no_fault text told.instance read.bytes is (same_read told.instance read.bytes is told.means) told.answer.answer
 
   -- WHERE NOTHING IS REFUSED, `replan` ENDS WITH A CHEAPEST PLAN, OPEN, OR WANT OF MEMORY.
-  pub replan_ends : (status : Status) (text : List ℕ) → AnswersSource plan_limit (AnswersReplan options) source status text → MayEndReplan options I (kept_of G options.from) status
+  pub replan_ends : (status : Status) (text : List ℕ) → AnswersSource plan_limit (AnswersReplan options) source status text → MayEndReplan options I G status
   replan_ends Good text answer = tt
   replan_ends Open text answer = left_ends text answer
   replan_ends Words text answer = answer

@@ -1,4 +1,5 @@
 pub mod Options
+pub mod Rests
 pub mod Keeping
 pub mod Searches
 pub mod Replanning

@@ -4,6 +4,7 @@ use Rattle.lock_model.specs.declared.instance.Instance.{Instance}
 use Rattle.lock_model.specs.declared.plan.Plan.{Plan}
 use Rattle.lock_rules.specs.Unfit.{HasNoUnfit}
 use Rattle.instance_text.specs.Reading.{Means, instance_part, after_instance}
+use Rattle.command_words.specs.declared.commands.DayRest.{DayRest}
 use Rattle.command_words.specs.declared.commands.ReplanOptions.{ReplanOptions}
 use Rattle.plan_text.specs.declared.kinds.PlanKind.{PlanKind}
 use Rattle.plan_text.specs.Reading.{IsPlanText, IsPlanFault}
@@ -11,41 +12,40 @@ use Rattle.plan_text.specs.FaultTexts.{fault_text}
 use Rattle.plan_text.specs.BreakTexts.{break_text, late_text}
 use Rattle.replan.specs.declared.refusal.ReplanError.{ReplanError}
 use Rattle.replan.specs.declared.refusal.ReplanError.TheVariants.{Kept, Late}
-use Rattle.replan.specs.Kept.{kept_of, kept_places, CanBeKept}
-use Rattle.replan.specs.PartBreaks.{IsPartRefusal}
 use Rattle.run_answers.specs.Refusals.{IsDefect, IsUnfitShip}
 use Rattle.run_answers.specs.Texts.{no_memory_text}
 use Rattle.run_answers.specs.declared.status.Status.{Status}
 use Rattle.run_answers.specs.declared.status.Status.TheVariants.{Good, Open, Words, Refused, ReadFault, WriteFault, NoMemory, BadDossier, Unfit, PlanRefused}
+use Rattle.replan_command.specs.Rests.{CanKeep, IsRefusalFor}
 use Rattle.replan_command.specs.Keeping.{PrintsBestKeeping, PrintsOpenKeeping}
 
--- What is answered where the plan K can be kept, and `Best` is what is printed where all is shown.
+-- What is answered where a part of the plan G can be kept, and `Best` is what is printed where all is shown.
 abbrev pub AnswersKept : (List ℕ → Type 0) → ReplanOptions → Instance → Plan → Status → List ℕ → Type 0
-AnswersKept Best options I K Good text = Best text
-AnswersKept Best options I K Open text = PrintsOpenKeeping options.nodes options.turns I K options.from text
-AnswersKept Best options I K Words text = ⊥
-AnswersKept Best options I K Refused text = ⊥
-AnswersKept Best options I K ReadFault text = ⊥
-AnswersKept Best options I K WriteFault text = ⊥
-AnswersKept Best options I K NoMemory text = text ≡ no_memory_text
-AnswersKept Best options I K BadDossier text = ⊥
-AnswersKept Best options I K Unfit text = ⊥
-AnswersKept Best options I K PlanRefused text = ⊥
+AnswersKept Best options I G Good text = Best text
+AnswersKept Best options I G Open text = PrintsOpenKeeping options.nodes options.turns I G options.rest text
+AnswersKept Best options I G Words text = ⊥
+AnswersKept Best options I G Refused text = ⊥
+AnswersKept Best options I G ReadFault text = ⊥
+AnswersKept Best options I G WriteFault text = ⊥
+AnswersKept Best options I G NoMemory text = text ≡ no_memory_text
+AnswersKept Best options I G BadDossier text = ⊥
+AnswersKept Best options I G Unfit text = ⊥
+AnswersKept Best options I G PlanRefused text = ⊥
 
 -- the kept part of the plan G can be kept, and this is answered
 pub record AnswersPart (options : ReplanOptions) (I : Instance) (G : Plan) (status : Status) (text : List ℕ) : Type 0 where
-  pub can : CanBeKept I (kept_of G options.from)
-  pub answer : AnswersKept (PrintsBestKeeping options.dossier I (kept_of G options.from) options.from) options I (kept_of G options.from) status text
+  pub can : CanKeep I G options.rest
+  pub answer : AnswersKept (PrintsBestKeeping options.dossier I G options.rest) options I G status text
 
--- why the kept part can't be kept: its first break, or its first lockage that ends too late
+-- why there is no way on: the first break of the kept part, its first lockage that ends too late, or the one for which the first late turn has begun
 abbrev pub refusal_text : Instance → Plan → ReplanError → List ℕ
 refusal_text I G (Kept broken) = break_text I G broken
 refusal_text I G (Late p) = late_text p
 
--- what starts before minute M in the plan G can't be kept
-pub record IsPartRefused (I : Instance) (G : Plan) (M : ℕ) (text : List ℕ) : Type 0 where
+-- what has begun in the plan G can't be kept
+pub record IsPartRefused (I : Instance) (G : Plan) (D : DayRest) (text : List ℕ) : Type 0 where
   pub error : ReplanError
-  pub refusal : IsPartRefusal I (kept_of G M) (kept_places G M) error
+  pub refusal : IsRefusalFor I G D error
   pub shown : text ≡ refusal_text I G error
 
 -- what is answered to a plan of the instance
@@ -59,7 +59,7 @@ AnswersReplanPlan options I G WriteFault text = ⊥
 AnswersReplanPlan options I G NoMemory text = text ≡ no_memory_text
 AnswersReplanPlan options I G BadDossier text = ⊥
 AnswersReplanPlan options I G Unfit text = ⊥
-AnswersReplanPlan options I G PlanRefused text = IsPartRefused I G options.from text
+AnswersReplanPlan options I G PlanRefused text = IsPartRefused I G options.rest text
 
 -- the bytes are a plan text of a plan, and this is answered to it
 pub record AnswersPlanText (options : ReplanOptions) (I : Instance) (bytes : List ℕ) (status : Status) (text : List ℕ) : Type 0 where

@@ -5,17 +5,17 @@ use Rattle.lock_model.specs.declared.plan.Plan.{Plan}
 use Rattle.lock_model.specs.declared.verdict.Verdict.{Verdict}
 use Rattle.lock_model.specs.declared.verdict.Verdict.TheVariants.{Optimal, OpenNodes, OpenTurns}
 use Rattle.lock_rules.specs.Singles.{singles_of}
+use Rattle.command_words.specs.declared.commands.DayRest.{DayRest}
 use Rattle.command_words.specs.declared.commands.ReplanOptions.{ReplanOptions}
 use Rattle.book_rules.specs.Book.{Book}
 use Rattle.book_rules.specs.Ends.{EndsWell}
 use Rattle.replan.specs.declared.remainder.Residual.{Residual}
-use Rattle.replan.specs.Kept.{kept_of}
-use Rattle.replan.specs.Rest.{IsLeft}
+use Rattle.replan_command.specs.Rests.{IsLeftFor}
 
--- what is left of the instance once a plan's lockages before minute M are kept
-pub record IsLeftOf (I : Instance) (M : ℕ) (r : Residual) : Type 0 where
+-- what is left of the instance once a part of some plan is kept
+pub record IsLeftOf (I : Instance) (D : DayRest) (r : Residual) : Type 0 where
   pub given : Plan
-  pub left : IsLeft I (kept_of given M) M r
+  pub left : IsLeftFor I given D r
 
 -- a search with the nodes and turns that are asked for ended well
 pub record HasSearched (options : ReplanOptions) (b : Book) : Type 0 where

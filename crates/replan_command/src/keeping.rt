@@ -4,11 +4,14 @@ ghost use Rattle.lock_model.specs.declared.verdict.Verdict.TheVariants.{Optimal}
 ghost use Rattle.lock_rules.specs.Unfit.{HasNoUnfit};
 ghost use Rattle.book_rules.specs.Verdict.{verdict_of};
 ghost use Rattle.run_answers.specs.Written.{bytes_in};
+ghost use Rattle.lock_model.specs.declared.plan.Plan.{Plan as AnyPlan};
 ghost use Rattle.replan_command.specs.Options.{AreReplanNumbers};
+ghost use Rattle.replan_command.specs.Rests.{IsLeftFor};
 ghost use Rattle.replan_command.specs.Keeping.{PrintsKeeping, PrintsRestDossier, PrintsBestKeeping};
 ghost use Rattle.replan_command.specs.Searches.{IsLeftOf, HasSearched};
 ghost use Rattle.replan_command.specs.Replanning.{AnswersKept};
 
+use crate::rests::put_together;
 use crate::whole::in_whole;
 use book_certificate::CertError;
 use book_core::{Book, Case};
@@ -17,7 +20,7 @@ use gates::Gate;
 use lock_model::{Instance, Verdict};
 use no_memory::NoMemory;
 use plan_print::print_report;
-use replan::{Residual, cheapest_that_keeps, put_together};
+use replan::{Residual, cheapest_that_can_go_on, cheapest_that_keeps};
 use run_answers::{Answer, Status, Text, no_memory};
 use solve_commands::{dossier_text, shown, status_of};
 use solve_workers::{Solved, solve};
@@ -33,9 +36,10 @@ fn all_kept_answer(
     left: &Residual,
     options: &ReplanOptions,
 ) -> Answer
-    requires left { IsLeftOf instance.now options.now.from left.now }
+    requires left { IsLeftOf instance.now options.now.rest left.now }
     requires done { left.now.rest ≡ None }
-    ensures { AnswersKept (PrintsBestKeeping options.now.dossier instance.now left.now.kept options.now.from) options.now instance.now left.now.kept result.status (bytes_in result.text) }
+    ensures { (given : AnyPlan) → IsLeftFor instance.now given options.now.rest left.now
+        → AnswersKept (PrintsBestKeeping options.now.dossier instance.now given options.now.rest) options.now instance.now given result.status (bytes_in result.text) }
 {
     match print_report(alloc, instance, &left.kept, &Verdict::Optimal) {
         Ok(text) => Answer {
@@ -54,15 +58,17 @@ fn together_answer(
     book: &Book,
     options: &ReplanOptions,
 ) -> Answer
-    requires left { IsLeftOf instance.now options.now.from left.now }
+    requires left { IsLeftOf instance.now options.now.rest left.now }
     requires rest { left.now.rest ≡ Some book.now.case.instance }
     requires searched { HasSearched options.now book.now }
     ensures left { verdict_of book.now ≢ Optimal → result.status ≢ Status.Good }
-    ensures answer { AnswersKept (PrintsKeeping instance.now left.now.kept options.now.from) options.now instance.now left.now.kept result.status (bytes_in result.text) }
+    ensures answer { (given : AnyPlan) → IsLeftFor instance.now given options.now.rest left.now
+        → AnswersKept (PrintsKeeping instance.now given options.now.rest) options.now instance.now given result.status (bytes_in result.text) }
 {
     cheapest_that_keeps();
+    cheapest_that_can_go_on();
     let verdict = shown(book);
-    let plan = put_together(instance, left, book.best());
+    let plan = put_together(instance, left, book.best(), options.rest);
     let told = in_whole(instance, left, &plan, &verdict);
     match print_report(alloc, instance, &plan, &told) {
         Ok(text) => Answer {
@@ -82,12 +88,14 @@ fn certified_answer(
     book: &Book,
     options: &ReplanOptions,
 ) -> Answer
-    requires left { IsLeftOf instance.now options.now.from left.now }
+    requires left { IsLeftOf instance.now options.now.rest left.now }
     requires rest { left.now.rest ≡ Some book.now.case.instance }
     requires searched { HasSearched options.now book.now }
-    ensures { AnswersKept (PrintsRestDossier instance.now left.now.kept options.now.from) options.now instance.now left.now.kept result.status (bytes_in result.text) }
+    ensures { (given : AnyPlan) → IsLeftFor instance.now given options.now.rest left.now
+        → AnswersKept (PrintsRestDossier instance.now given options.now.rest) options.now instance.now given result.status (bytes_in result.text) }
 {
     cheapest_that_keeps();
+    cheapest_that_can_go_on();
     match dossier_text(alloc, book) {
         Ok(text) => Answer {
             status: Status::Good,
@@ -107,10 +115,11 @@ fn found_answer(
     book: &Book,
     options: &ReplanOptions,
 ) -> Answer
-    requires left { IsLeftOf instance.now options.now.from left.now }
+    requires left { IsLeftOf instance.now options.now.rest left.now }
     requires rest { left.now.rest ≡ Some book.now.case.instance }
     requires searched { HasSearched options.now book.now }
-    ensures { AnswersKept (PrintsBestKeeping options.now.dossier instance.now left.now.kept options.now.from) options.now instance.now left.now.kept result.status (bytes_in result.text) }
+    ensures { (given : AnyPlan) → IsLeftFor instance.now given options.now.rest left.now
+        → AnswersKept (PrintsBestKeeping options.now.dossier instance.now given options.now.rest) options.now instance.now given result.status (bytes_in result.text) }
 {
     if options.dossier {
         certified_answer(alloc, instance, left, book, options)
@@ -149,8 +158,9 @@ pub(crate) fn kept_answer<R: Threads + Wait + Sync, G: Gate + Sync>(
 ) -> Answer
     requires fit { HasNoUnfit instance.now }
     requires numbers { AreReplanNumbers options.now }
-    requires left { IsLeftOf instance.now options.now.from left.now }
-    ensures { AnswersKept (PrintsBestKeeping options.now.dossier instance.now left.now.kept options.now.from) options.now instance.now left.now.kept result.status (bytes_in result.text) }
+    requires left { IsLeftOf instance.now options.now.rest left.now }
+    ensures { (given : AnyPlan) → IsLeftFor instance.now given options.now.rest left.now
+        → AnswersKept (PrintsBestKeeping options.now.dossier instance.now given options.now.rest) options.now instance.now given result.status (bytes_in result.text) }
 {
     let Some(rest) = left.rest.as_ref() else {
         return all_kept_answer(alloc, instance, left, options);

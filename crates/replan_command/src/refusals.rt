@@ -3,9 +3,8 @@ ghost use Rattle.std.specs.Prelude.{◌≡◌, IfOk};
 ghost use Rattle.instance_text.specs.Reading.{Defect, instance_part};
 ghost use Rattle.lock_rules.specs.Unfit.{IsFirstUnfit};
 ghost use Rattle.plan_text.specs.Reading.{IsPlanFault};
-ghost use Rattle.replan.specs.Kept.{kept_of, kept_places};
-ghost use Rattle.replan.specs.PartBreaks.{IsPartRefusal};
 ghost use Rattle.run_answers.specs.Written.{bytes_in};
+ghost use Rattle.replan_command.specs.Rests.{IsRefusalFor};
 ghost use Rattle.replan_command.specs.Replanning.{refusal_text, AnswersReplanPlan, AnswersBehind, AnswersReplanInstance, AnswersReplan};
 
 use command_words::ReplanOptions;
@@ -91,7 +90,7 @@ fn refusal_text(
     }
 }
 
-/// The first break of the kept lockages, or the first that ends too late.
+/// The first break of the kept lockages, the first that ends too late, or the first late turn.
 pub(crate) fn refusal_answer(
     alloc: Global,
     instance: &Instance,
@@ -99,7 +98,7 @@ pub(crate) fn refusal_answer(
     error: ReplanError,
     options: &ReplanOptions,
 ) -> Answer
-    requires { IsPartRefusal instance.now (kept_of plan.now options.now.from) (kept_places plan.now options.now.from) error }
+    requires { IsRefusalFor instance.now plan.now options.now.rest error }
     ensures { AnswersReplanPlan options.now instance.now plan.now result.status (bytes_in result.text) }
 {
     match refusal_text(alloc, instance, plan, error) {

@@ -7,6 +7,7 @@ ghost use Rattle.replan_command.specs.Replanning.{AnswersReplanPlan, AnswersBehi
 
 use crate::keeping::kept_answer;
 use crate::refusals::{defect_answer, fault_answer, refusal_answer, unfit_answer};
+use crate::rests::left_of;
 use command_words::ReplanOptions;
 use gates::Gate;
 use instance_text::split_instance;
@@ -14,14 +15,13 @@ use lock_io::Source;
 use lock_model::{Instance, Plan};
 use mooring_rules::first_unfit;
 use plan_text::read_plan;
-use replan::residual;
 use run_answers::{Answer, PLAN_LIMIT, read_source};
 use std::alloc::Global;
 use std::sync::Wait;
 use std::thread::Threads;
 
 // What is answered to a plan of the instance.
-#[tactic(auto, using(crate::proofs::AnswerLemmas::kept_answers))]
+#[tactic(auto, using(crate::proofs::AnswerLemmas::kept_answers, crate::proofs::KeepingLemmas::left_is))]
 fn plan_answer<R: Threads + Wait + Sync, G: Gate + Sync>(
     rt: &R,
     alloc: Global,
@@ -34,7 +34,7 @@ fn plan_answer<R: Threads + Wait + Sync, G: Gate + Sync>(
     requires numbers { AreReplanNumbers options.now }
     ensures { AnswersReplanPlan options.now instance.now plan.now result.status (bytes_in result.text) }
 {
-    match residual(instance, plan, options.from) {
+    match left_of(instance, plan, options.rest) {
         Ok(left) => kept_answer(rt, alloc, instance, &left, options, gate),
         Err(error) => refusal_answer(alloc, instance, plan, error, options),
     }
@@ -98,15 +98,15 @@ fn text_answer<R: Threads + Wait + Sync, G: Gate + Sync>(
 }
 
 /// Reads an instance text and a plan text behind it, of at most 131,072 bytes together, to their end.
-/// Keeps the lockages of the plan that start before the minute that is asked for, searches all plans
-/// of the rest, and answers with the report of a plan that is cheapest of those that keep the kept
-/// part, or with the dossier of the rest where one is asked for; where the search ends open, with the
+/// Keeps the lockages of the plan that start before the minute that is asked for, of a day as it is
+/// lived also the empty turns that have begun; searches all plans of the rest, and answers with the
+/// report of a plan that is cheapest of those that go on from what is kept, or with the dossier of the rest where one is asked for; where the search ends open, with the
 /// report of the whole plan and its cause. Where no ship is left it answers with the report of the
 /// kept plan.
 ///
 /// Or says what is refused, the earlier cause first: too many bytes, a defect of the instance, a ship
 /// that fits no chamber, a fault of the plan text, a break of the kept lockages, or a kept lockage
-/// that ends after minute 1,000,000. The numbers of the options are in their ranges.
+/// or a begun turn that ends after minute 1,000,000. The numbers of the options are in their ranges.
 #[tactic(auto, using(crate::proofs::AnswerLemmas::replan_fair, run_answers::proofs::SourceLemmas::bytes_answer, run_answers::proofs::SourceLemmas::unreadable_answers))]
 pub fn replan_answer<R: Threads + Wait + Sync, S: Source, G: Gate + Sync>(
     rt: &R,

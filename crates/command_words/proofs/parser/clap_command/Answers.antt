@@ -3,7 +3,7 @@ use Rattle.std.proofs.lemmas.Result.{IfOk-weaker}
 use Rattle.clap.specs.Words.{app_of}
 use Rattle.clap.specs.Simple.{with_rule}
 use Rattle.command_words.specs.Parser.{parser, bare_parser, command_rule, option_rule, flag_rule, rule_for}
-use Rattle.command_words.specs.declared.arguments.Argument.TheVariants.{Command, Nodes, Turns, Workers, Dossier, Keep, Number, Ships, Chambers}
+use Rattle.command_words.specs.declared.arguments.Argument.TheVariants.{Command, Nodes, Turns, Workers, Dossier, Keep, Number, Ships, Chambers, From}
 use Rattle.command_words.proofs.parser.clap_command.Goals as goal
 
 pub returns : goal.returns
@@ -27,4 +27,6 @@ returns c =
     c.in_ok-command-8.ensures ∙ ap₂ with_rule e6 (ap option_rule c.name-8.ensures) in
     let e8 : app_of c.in_ok-command-9.command ≡ with_rule (with_rule (with_rule (with_rule (with_rule (with_rule (with_rule (with_rule (with_rule (bare_parser) (rule_for Command)) (rule_for Nodes)) (rule_for Turns)) (rule_for Workers)) (rule_for Dossier)) (rule_for Keep)) (rule_for Number)) (rule_for Ships)) (rule_for Chambers) =
     c.in_ok-command-9.ensures ∙ ap₂ with_rule e7 (ap option_rule c.name-9.ensures) in
-    IfOk-weaker c.with_option-7.result _ _ (λ r h. h ∙ ap₂ with_rule e8 (ap option_rule c.name-10.ensures)) c.with_option-7.ensures
+    let e9 : app_of c.in_ok-command-10.command ≡ with_rule (with_rule (with_rule (with_rule (with_rule (with_rule (with_rule (with_rule (with_rule (with_rule (bare_parser) (rule_for Command)) (rule_for Nodes)) (rule_for Turns)) (rule_for Workers)) (rule_for Dossier)) (rule_for Keep)) (rule_for Number)) (rule_for Ships)) (rule_for Chambers)) (rule_for From) =
+    c.in_ok-command-10.ensures ∙ ap₂ with_rule e8 (ap option_rule c.name-10.ensures) in
+    IfOk-weaker c.with_option-8.result _ _ (λ r h. h ∙ ap₂ with_rule e9 (ap option_rule c.name-11.ensures)) c.with_option-8.ensures

@@ -15,18 +15,18 @@ in_whole-told-requires-clause-told c =
     let b = c.args.book.now in
     let R = b.case.instance in
     let cost = c.put_together-plan.ensures.cost R c.requires.rest ∙ ap (λ Q. cost_of R Q + c.args.left.now.added) c.best.ensures.value in
-    told_below c.args.instance.now c.args.options.now.from c.args.left.now c.requires.left R c.requires.rest b.case.nodes b.case.turns (singles_of R) b.best c.put_together-plan.result c.shown-verdict.result cost c.shown-verdict.ensures.end c.shown-verdict.ensures.known
+    told_below c.args.instance.now c.args.options.now.rest c.args.left.now c.requires.left R c.requires.rest b.case.nodes b.case.turns (singles_of R) b.best c.put_together-plan.result c.shown-verdict.result cost c.shown-verdict.ensures.end c.shown-verdict.ensures.known
 
 pub in_whole-told-requires-clause-rising : goal.in_whole-told-requires-clause-rising
-in_whole-told-requires-clause-rising c = left_rising c.args.instance.now c.args.options.now.from c.args.left.now c.requires.left c.args.book.now.case.instance c.requires.rest
+in_whole-told-requires-clause-rising c = left_rising c.args.instance.now c.args.options.now.rest c.args.left.now c.requires.left c.args.book.now.case.instance c.requires.rest
 
 pub print_report-requires-clause-known : goal.print_report-requires-clause-known
 print_report-requires-clause-known c =
     subst (IsOfInstance c.args.instance.now) (sym c.in_whole-told.ensures)
-    (whole_known c.args.instance.now c.args.options.now.from c.args.left.now c.requires.left c.args.book.now.case.instance c.requires.rest c.shown-verdict.result c.shown-verdict.ensures.known)
+    (whole_known c.args.instance.now c.args.options.now.rest c.args.left.now c.requires.left c.args.book.now.case.instance c.requires.rest c.shown-verdict.result c.shown-verdict.ensures.known)
 
 pub returns-in-Ok-clause-answer : goal.returns-in-Ok-clause-answer
-returns-in-Ok-clause-answer c =
+returns-in-Ok-clause-answer c given left =
     let I = c.args.instance.now in
     let r = c.args.left.now in
     let options = c.args.options.now in
@@ -39,4 +39,5 @@ returns-in-Ok-clause-answer c =
     let cost = c.put_together-plan.ensures.cost R c.requires.rest ∙ ap (λ Q. cost_of R Q + r.added) c.best.ensures.value in
     let same = c.put_together-plan.ensures.value ∙ ap (joined r.kept r.numbers) c.best.ensures.value in
     let shown = c.in-Ok.ensures.text ∙ ap (report I P) c.in_whole-told.ensures in
-    whole_answers I options r c.requires.left R c.requires.rest c.cheapest_that_keeps.ensures b.best P V c.status_of.result c.in-Ok.text.items end c.put_together-plan.ensures.legal (c.put_together-plan.ensures.keeps c.requires.left.given options.from c.requires.left.left) cost same c.status_of.ensures shown
+    whole_answers I options r given left R c.requires.rest c.cheapest_that_keeps.ensures c.cheapest_that_can_go_on.ensures b.best P V c.status_of.result c.in-Ok.text.items end
+    c.put_together-plan.ensures.legal (c.put_together-plan.ensures.goes_on given left) cost same c.status_of.ensures shown
