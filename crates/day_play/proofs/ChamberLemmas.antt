@@ -211,7 +211,7 @@ module _ (I : Instance) (P : Plan) (p : ℕ) (known : p < length P.lockages) (le
     turn-run High from Down rest turned later next = next (record { side = High; free = from; moored = []; going = Idle }) refl refl refl later
 
     -- all beats of the lockage
-    lockage-run : (stand : Stand) (from : ℕ) (rest : List Beat) → IsLawfulStart I l.chamber stand from (group_of l) l.start
+    pub lockage-run : (stand : Stand) (from : ℕ) (rest : List Beat) → IsLawfulStart I l.chamber stand from (group_of l) l.start
         → RunsHere I P (record { side = stand_after l.way; free = l.start + duration_of I l.chamber l.ships; moored = []; going = Idle }) rest
         → RunsHere I P (record { side = stand; free = from; moored = []; going = Idle }) (lockage_beats I p l stand from ++ rest)
     lockage-run stand from rest lawful next =

@@ -26,7 +26,7 @@ use Rattle.day_play.specs.Order.{minute_of, IsOrdered}
 use Rattle.list_laws.specs.Among.{IsAmong}
 use Rattle.day_play.specs.State.{opening, opening_chamber}
 use Rattle.day_play.specs.Lawful.{IsLawfulDay}
-use Rattle.day_play.specs.Playing.{moor_beats, moor_order, turn_beats, go_beat, done_beat, lockage_beats, line_beats, chamber_beats, beats_of, day_of}
+use Rattle.day_play.specs.Playing.{moor_beats, moor_order, turn_beats, go_beat, done_beat, lockage_beats, line_beats, chamber_beats, beats_by, beats_of, day_of}
 use Rattle.day_play.specs.declared.beat.Beat.{Beat}
 use Rattle.day_play.proofs.OrderLemmas.{ordered-lower, put_each-ordered, put_each-among, length-put_each}
 use Rattle.day_play.proofs.RunLemmas.{beats_at, moors_in, RunsHere, IsFresh, idle_not_under, runs-lawful, runs-still, done-gone, done-served}
@@ -80,11 +80,11 @@ module _ (I : Instance) (p : ℕ) (l : Lockage) where
   )
   turns-ordered from High Down rest turned later order = ordered-lower minute_of l.start from rest later order
 
-  moors-ordered : (ks : List ℕ) (rest : List Beat) → IsOrdered minute_of l.start rest → IsOrdered minute_of l.start (moor_beats p l ks ++ rest)
+  pub moors-ordered : (ks : List ℕ) (rest : List Beat) → IsOrdered minute_of l.start rest → IsOrdered minute_of l.start (moor_beats p l ks ++ rest)
   moors-ordered [] rest order = order
   moors-ordered (k ∷ ks) rest order = (omega arith, moors-ordered ks rest order)
 
-  lockage-ordered : (stand : Stand) (from : ℕ) (rest : List Beat) → IsLawfulStart I l.chamber stand from (group_of l) l.start
+  pub lockage-ordered : (stand : Stand) (from : ℕ) (rest : List Beat) → IsLawfulStart I l.chamber stand from (group_of l) l.start
       → IsOrdered minute_of (l.start + duration_of I l.chamber l.ships) rest → IsOrdered minute_of from (lockage_beats I p l stand from ++ rest)
   lockage-ordered stand from rest lawful order =
       let ts = turn_beats I p l from stand l.way in
@@ -95,7 +95,7 @@ module _ (I : Instance) (p : ℕ) (l : Lockage) where
       (turns-ordered from stand l.way (ms ++ (ends ++ rest)) lawful.turned lawful.later (moors-ordered (moor_order I l) (ends ++ rest) (omega arith, (omega arith, order))))
 
 module _ (I : Instance) (P : Plan) where
-  line-own : (c : ℕ) (stand : Stand) (from : ℕ) (ps : List ℕ) → ((q : ℕ) → IsAmong ps q → (lockage_at P q).chamber ≡ c) → (x : Beat) → IsAmong (line_beats I P stand from ps) x → x.chamber ≡ c
+  pub line-own : (c : ℕ) (stand : Stand) (from : ℕ) (ps : List ℕ) → ((q : ℕ) → IsAmong ps q → (lockage_at P q).chamber ≡ c) → (x : Beat) → IsAmong (line_beats I P stand from ps) x → x.chamber ≡ c
   line-own c stand from [] own x h = absurd h
   line-own c stand from (q ∷ ps) own x h =
       let l = lockage_at P q in
@@ -104,7 +104,7 @@ module _ (I : Instance) (P : Plan) where
         | inr rest ↦ line-own c (stand_after l.way) (l.start + duration_of I l.chamber l.ships) ps (λ r among. own r (inr among)) x rest
       ]
 
-  chamber-own : (c : ℕ) (x : Beat) → IsAmong (chamber_beats I P c) x → x.chamber ≡ c
+  pub chamber-own : (c : ℕ) (x : Beat) → IsAmong (chamber_beats I P c) x → x.chamber ≡ c
   chamber-own c x h = line-own c (chamber_at I c).stands (chamber_at I c).opens (line_places P c) (λ q among. (line_places-from P c q among).1) x h
 
   line-ordered : (c : ℕ) (stand : Stand) (from : ℕ) (ps : List ℕ) → ((q : ℕ) → IsAmong ps q → (lockage_at P q).chamber ≡ c)
@@ -117,7 +117,7 @@ module _ (I : Instance) (P : Plan) where
       (line-ordered c (stand_after l.way) (l.start + duration_of I l.chamber l.ships) ps (λ r among. own r (inr among))
       (subst (λ d. AreLawfulFrom I c (stand_after l.way) (l.start + duration_of I d l.ships) (map group_of (lockages_at P ps)) (map (λ l. l.start) (lockages_at P ps))) (sym (own q (inl refl))) lawful.1))
 
-  line-done : (stand : Stand) (from : ℕ) (ps : List ℕ) (q : ℕ) → IsAmong ps q → IsAmong (line_beats I P stand from ps) (done_beat I q (lockage_at P q))
+  pub line-done : (stand : Stand) (from : ℕ) (ps : List ℕ) (q : ℕ) → IsAmong ps q → IsAmong (line_beats I P stand from ps) (done_beat I q (lockage_at P q))
   line-done stand from [] q h = absurd h
   line-done stand from (p ∷ ps) q (inl e) =
       let l = lockage_at P p in
@@ -130,13 +130,14 @@ module _ (I : Instance) (P : Plan) where
       IsAmong-right (lockage_beats I p l stand from) (line_beats I P (stand_after l.way) (l.start + duration_of I l.chamber l.ships) ps) (done_beat I q (lockage_at P q))
       (line-done (stand_after l.way) (l.start + duration_of I l.chamber l.ships) ps q h)
 
-  beats-among : (cs : List ℕ) (c : ℕ) (x : Beat) → IsAmong cs c → IsAmong (chamber_beats I P c) x → IsAmong (beats_of I P cs) x
-  beats-among [] c x h own = absurd h
-  beats-among (d ∷ cs) c x (inl e) own = IsAmong-left (chamber_beats I P d) (beats_of I P cs) x (subst (λ c. IsAmong (chamber_beats I P c) x) (sym e) own)
-  beats-among (d ∷ cs) c x (inr h) own = IsAmong-right (chamber_beats I P d) (beats_of I P cs) x (beats-among cs c x h own)
+-- the beats of a chamber are among those of all
+pub beats-among : (own : ℕ → List Beat) (cs : List ℕ) (c : ℕ) (x : Beat) → IsAmong cs c → IsAmong (own c) x → IsAmong (beats_by own cs) x
+beats-among own [] c x h here = absurd h
+beats-among own (d ∷ cs) c x (inl e) here = IsAmong-left (own d) (beats_by own cs) x (subst (λ c. IsAmong (own c) x) (sym e) here)
+beats-among own (d ∷ cs) c x (inr h) here = IsAmong-right (own d) (beats_by own cs) x (beats-among own cs c x h here)
 
 -- a ship that is served lies in some lockage
-served_in-some : (ls : List Lockage) (i : ℕ) → 1 ≤ served_in ls i → (q : ℕ) × (q < length ls) × IsAmong (get_or ls q no_lockage).ships i
+pub served_in-some : (ls : List Lockage) (i : ℕ) → 1 ≤ served_in ls i → (q : ℕ) × (q < length ls) × IsAmong (get_or ls q no_lockage).ships i
 served_in-some [] i some = absurd (omega arith)
 served_in-some (l ∷ ls) i some =
     elim (leb_tells 1 (times_in l.ships i)) [
@@ -154,7 +155,7 @@ module _ (I : Instance) (P : Plan) (legal : IsLegal I P) where
       let at = line_places-from P c q among in
       record { known = at.0; legal = legal.lockage q no_lockage at.0; own = at.1 }
 
-  rises : (c : ℕ) → c < length I.chambers → IsOrdered minute_of 0 (chamber_beats I P c)
+  pub rises : (c : ℕ) → c < length I.chambers → IsOrdered minute_of 0 (chamber_beats I P c)
   rises c known =
       ordered-lower minute_of (chamber_at I c).opens 0 (chamber_beats I P c) (omega arith)
       (line-ordered I P c (chamber_at I c).stands (chamber_at I c).opens (line_places P c) (λ q among. (line_places-from P c q among).1) (lawful-line c known))
@@ -163,10 +164,10 @@ module _ (I : Instance) (P : Plan) (legal : IsLegal I P) where
   each c =
       elim (leb_tells (length I.chambers) c) [
         | inl past ↦
-            let nothing = others-after c I P (chamber-own I P) (rises c) 0 (length I.chambers) [] (inr (omega (arith, past.1))) in
+            let nothing = others-after c (chamber_beats I P) (length I.chambers) (chamber-own I P) (rises c) 0 (length I.chambers) [] (inr (omega (arith, past.1))) in
             subst (RunsHere I P (opening_chamber I c)) (sym nothing) (record { empty = refl; idle = refl })
         | inr known ↦
-            let all = own-once c I P (chamber-own I P) (rises c) 0 (length I.chambers) [] tt refl (omega arith) (omega (arith, known.1)) known.1 in
+            let all = own-once c (chamber_beats I P) (length I.chambers) (chamber-own I P) (rises c) 0 (length I.chambers) [] tt refl (omega arith) (omega (arith, known.1)) known.1 in
             subst (RunsHere I P (opening_chamber I c)) (sym all) (line-run I P c (chamber_at I c).stands (chamber_at I c).opens (line_places P c) (good c) (lawful-line c known.1))
       ]
 
@@ -184,7 +185,7 @@ module _ (I : Instance) (P : Plan) (legal : IsLegal I P) where
       let c = (lockage_at P q).chamber in
       let lockage = legal.lockage q no_lockage known in
       put_each-among minute_of [] (beats_of I P (numbers_from 0 (length I.chambers))) (done_beat I q (lockage_at P q))
-      (beats-among I P (numbers_from 0 (length I.chambers)) c (done_beat I q (lockage_at P q)) (IsAmong-numbers 0 (length I.chambers) c (omega arith) (omega (arith, lockage.chamber)))
+      (beats-among (chamber_beats I P) (numbers_from 0 (length I.chambers)) c (done_beat I q (lockage_at P q)) (IsAmong-numbers 0 (length I.chambers) c (omega arith) (omega (arith, lockage.chamber)))
       (line-done I P (chamber_at I c).stands (chamber_at I c).opens (line_places P c) q (line_places-among P q known)))
 
   -- THE DAY OF A LEGAL PLAN IS LAWFUL.

@@ -15,7 +15,7 @@ use Rattle.chamber_times.proofs.WalkLemmas.{lockages_at-line}
 use Rattle.day_play.specs.Rising.{AreRising}
 use Rattle.list_laws.specs.Among.{IsAmong}
 use Rattle.day_play.specs.State.{opening, after_all}
-use Rattle.day_play.specs.Lawful.{IsLawfulDay, HasLawfulDay}
+use Rattle.day_play.specs.Lawful.{IsLawfulCourse, HasLawfulDay}
 use Rattle.day_play.specs.Playing.{day_of}
 use Rattle.day_play.specs.declared.beat.Beat.{Beat}
 use Rattle.day_play.proofs.DayLemmas.{played_lawful}
@@ -27,7 +27,7 @@ use Rattle.day_play.proofs.TimesLemmas.{times_in-among, times_in-absent, increas
 use Rattle.day_play.proofs.WentLemmas.{went, went-lawful, went-from, starts-rise}
 use Rattle.day_play.proofs.OnceLemmas.{HasGone, went-once}
 
-module _ (I : Instance) (P : Plan) (rising : AreRising P) (bs : List Beat) (day : IsLawfulDay I P bs) where
+module _ (I : Instance) (P : Plan) (rising : AreRising P) (bs : List Beat) (day : IsLawfulCourse I P bs) where
   sound : IsSoundState I P (after_all I P bs (opening I))
   sound = sound-after_all I P rising bs (opening I) (sound-opening I P) day.lawful
 
@@ -68,7 +68,7 @@ module _ (I : Instance) (P : Plan) (rising : AreRising P) (bs : List Beat) (day 
       (λ p within held. sound.only p by.by s (day.over.gone p within) by.over (among-times_in (lockage_at P p).ships s held) by.own)
 
   -- THE LOCKAGES OF A CHAMBER go in the order of its line, each once.
-  went-line : (c : ℕ) → c < length I.chambers → line_places P c ≡ went c bs
+  pub went-line : (c : ℕ) → c < length I.chambers → line_places P c ≡ went c bs
   went-line c known =
       ordered-same (start_at P) 0 (line_places P c) (went c bs)
       (line_places-ordered P c)
@@ -116,4 +116,4 @@ module _ (I : Instance) (P : Plan) (rising : AreRising P) (bs : List Beat) (day 
 
 -- EXACTLY THE LEGAL PLANS have lawful days.
 pub has-day-legal : (I : Instance) (P : Plan) → AreRising P → HasLawfulDay I P ↔ IsLegal I P
-has-day-legal I P rising = (λ day. day-legal I P rising day.0 day.1, λ legal. (day_of I P, played_lawful I P (day_of I P) legal refl))
+has-day-legal I P rising = (λ day. day-legal I P rising day.0 (record { rising = day.1.rising; lawful = day.1.lawful; over = day.1.over }), λ legal. (day_of I P, played_lawful I P (day_of I P) legal refl))

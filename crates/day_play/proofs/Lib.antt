@@ -1,13 +1,15 @@
-mod OrderLemmas
-mod RunLemmas
-mod BeatLemmas
-mod ChamberLemmas
-mod MixLemmas
-mod PlaceLemmas
-mod DayLemmas
-mod TimesLemmas
-mod SoundLemmas
-mod StateLemmas
-mod WentLemmas
-mod OnceLemmas
-mod LegalDayLemmas
+pub mod OrderLemmas
+pub mod RunLemmas
+pub mod BeatLemmas
+pub mod ChamberLemmas
+pub mod MixLemmas
+pub mod PlaceLemmas
+pub mod DayLemmas
+pub mod TimesLemmas
+pub mod SoundLemmas
+pub mod StateLemmas
+pub mod WentLemmas
+pub mod OnceLemmas
+pub mod LegalDayLemmas
+pub mod CourseLemmas
+pub mod TrackLemmas

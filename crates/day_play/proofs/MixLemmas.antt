@@ -1,26 +1,24 @@
 -- The beats of each chamber stand in the day as they do in the chamber.
-use Rattle.std.proofs.Common.{◌≡◌, ◌≢◌, ℕ, zero, suc, ◌+◌, ◌<◌, ◌≤◌, List, [], ◌∷◌, ◌++◌, length, cond, true, false, nat_eq, nat_le, Bool, ◌⊎◌, inl, inr, refl, ap, sym, subst, ◌∙◌, arith}
+use Rattle.std.proofs.Common.{◌≡◌, ◌≢◌, ℕ, zero, suc, ◌+◌, ◌<◌, ◌≤◌, List, [], ◌∷◌, ◌++◌, cond, true, false, nat_eq, nat_le, Bool, ◌⊎◌, inl, inr, refl, ap, sym, subst, ◌∙◌, arith}
 use Rattle.std.proofs.lemmas.Bool.Decides.{eqb_tells, leb_tells}
 use Rattle.std.proofs.lemmas.List.{append_assoc, append-nil}
-use Rattle.lock_model.specs.declared.instance.Instance.{Instance}
-use Rattle.lock_model.specs.declared.plan.Plan.{Plan}
 use Rattle.lock_rules.specs.Arrival.{numbers_from}
 use Rattle.day_play.specs.Order.{put_by, put_each, minute_of, IsOrdered}
 use Rattle.list_laws.specs.Among.{IsAmong}
-use Rattle.day_play.specs.Playing.{chamber_beats, beats_of}
+use Rattle.day_play.specs.Playing.{beats_by}
 use Rattle.day_play.specs.declared.beat.Beat.{Beat}
 use Rattle.day_play.proofs.OrderLemmas.{ordered-above, put_by-ordered, put_each-ordered, put_by-from, put_each-append}
 use Rattle.day_play.proofs.RunLemmas.{beats_at}
 
 module _ (c : ℕ) where
-  hit : (b : Beat) (bs : List Beat) → b.chamber ≡ c → beats_at c (b ∷ bs) ≡ b ∷ beats_at c bs
+  pub hit : (b : Beat) (bs : List Beat) → b.chamber ≡ c → beats_at c (b ∷ bs) ≡ b ∷ beats_at c bs
   hit b bs own =
       elim (eqb_tells b.chamber c) [
         | inl same ↦ ap (λ t. cond t (b ∷ beats_at c bs) (beats_at c bs)) same.0
         | inr other ↦ absurd (other.1 own)
       ]
 
-  skip : (b : Beat) (bs : List Beat) → b.chamber ≢ c → beats_at c (b ∷ bs) ≡ beats_at c bs
+  pub skip : (b : Beat) (bs : List Beat) → b.chamber ≢ c → beats_at c (b ∷ bs) ≡ beats_at c bs
   skip b bs other =
       elim (eqb_tells b.chamber c) [
         | inl same ↦ absurd (other same.1)
@@ -86,31 +84,31 @@ module _ (c : ℕ) where
       earlier y same (inl here) = omega (arith, ap (λ (b : Beat). b.minute) here)
       earlier y same (inr old) = omega (arith, before y old same, rising.0)
 
-  module _ (I : Instance) (P : Plan)
-      (owns : (d : ℕ) (x : Beat) → IsAmong (chamber_beats I P d) x → x.chamber ≡ d)
-      (rises : c < length I.chambers → IsOrdered minute_of 0 (chamber_beats I P c)) where
+  module _ (own : ℕ → List Beat) (m : ℕ)
+      (owns : (d : ℕ) (x : Beat) → IsAmong (own d) x → x.chamber ≡ d)
+      (rises : c < m → IsOrdered minute_of 0 (own c)) where
     -- chambers past c, or before it
-    pub others-after : (low n : ℕ) (bs : List Beat) → (c < low) ⊎ (low + n ≤ c) → beats_at c (put_each minute_of bs (beats_of I P (numbers_from low n))) ≡ beats_at c bs
+    pub others-after : (low n : ℕ) (bs : List Beat) → (c < low) ⊎ (low + n ≤ c) → beats_at c (put_each minute_of bs (beats_by own (numbers_from low n))) ≡ beats_at c bs
     others-after low zero bs apart = refl
     others-after low (suc n) bs apart =
-        ap (beats_at c) (put_each-append minute_of bs (chamber_beats I P low) (beats_of I P (numbers_from (suc low) n)))
-        ∙ others-after (suc low) n (put_each minute_of bs (chamber_beats I P low)) (elim apart [ inl before ↦ inl (omega (arith, before)) | inr after ↦ inr (omega (arith, after)) ])
-        ∙ put_each-other bs (chamber_beats I P low) (λ x among same. absurd (elim apart [ inl before ↦ omega (arith, before, owns low x among, same) | inr after ↦ omega (arith, after, owns low x among, same) ]))
+        ap (beats_at c) (put_each-append minute_of bs (own low) (beats_by own (numbers_from (suc low) n)))
+        ∙ others-after (suc low) n (put_each minute_of bs (own low)) (elim apart [ inl before ↦ inl (omega (arith, before)) | inr after ↦ inr (omega (arith, after)) ])
+        ∙ put_each-other bs (own low) (λ x among same. absurd (elim apart [ inl before ↦ omega (arith, before, owns low x among, same) | inr after ↦ omega (arith, after, owns low x among, same) ]))
 
-    pub own-once : (low n : ℕ) (bs : List Beat) → IsOrdered minute_of 0 bs → beats_at c bs ≡ [] → low ≤ c → c < low + n → c < length I.chambers
-        → beats_at c (put_each minute_of bs (beats_of I P (numbers_from low n))) ≡ chamber_beats I P c
+    pub own-once : (low n : ℕ) (bs : List Beat) → IsOrdered minute_of 0 bs → beats_at c bs ≡ [] → low ≤ c → c < low + n → c < m
+        → beats_at c (put_each minute_of bs (beats_by own (numbers_from low n))) ≡ own c
     own-once low zero bs order empty above below known = absurd (omega (arith, above, below))
     own-once low (suc n) bs order empty above below known =
-        ap (beats_at c) (put_each-append minute_of bs (chamber_beats I P low) (beats_of I P (numbers_from (suc low) n)))
+        ap (beats_at c) (put_each-append minute_of bs (own low) (beats_by own (numbers_from (suc low) n)))
         ∙ elim (eqb_tells low c) [
           | inl same ↦
-              others-after (suc low) n (put_each minute_of bs (chamber_beats I P low)) (inl (omega (arith, same.1)))
-              ∙ ap (λ d. beats_at c (put_each minute_of bs (chamber_beats I P d))) same.1
-              ∙ put_each-own 0 bs (chamber_beats I P c) order (owns c) (rises known) (λ x among same. absurd (subst (λ xs. IsAmong xs x) empty (own-among bs x same among)))
-              ∙ ap (λ rest. rest ++ chamber_beats I P c) empty
+              others-after (suc low) n (put_each minute_of bs (own low)) (inl (omega (arith, same.1)))
+              ∙ ap (λ d. beats_at c (put_each minute_of bs (own d))) same.1
+              ∙ put_each-own 0 bs (own c) order (owns c) (rises known) (λ x among same. absurd (subst (λ xs. IsAmong xs x) empty (own-among bs x same among)))
+              ∙ ap (λ rest. rest ++ own c) empty
           | inr other ↦
-              own-once (suc low) n (put_each minute_of bs (chamber_beats I P low)) (put_each-ordered minute_of bs (chamber_beats I P low) order)
-              (put_each-other bs (chamber_beats I P low) (λ x among same. other.1 (sym (owns low x among) ∙ same)) ∙ empty)
+              own-once (suc low) n (put_each minute_of bs (own low)) (put_each-ordered minute_of bs (own low) order)
+              (put_each-other bs (own low) (λ x among same. other.1 (sym (owns low x among) ∙ same)) ∙ empty)
               (past low c above other.1) (omega (arith, below)) known
         ]
       where

@@ -230,10 +230,10 @@ module _ (I : Instance) (i : ℕ) where
       let none : moors_in ends i ≡ 0 = refl in
       omega (arith, moors_in-append ts (ms ++ ends) i, moors_in-append ms ends i, turns-none p l from stand l.way, moors-order p l, none)
 
-  abbrev times : Lockage → ℕ
+  abbrev pub times : Lockage → ℕ
   times l = times_in l.ships i
 
-  line-moors : (P : Plan) (stand : Stand) (from : ℕ) (ps : List ℕ) → moors_in (line_beats I P stand from ps) i ≡ sum_by times (lockages_at P ps)
+  pub line-moors : (P : Plan) (stand : Stand) (from : ℕ) (ps : List ℕ) → moors_in (line_beats I P stand from ps) i ≡ sum_by times (lockages_at P ps)
   line-moors P stand from [] = refl
   line-moors P stand from (p ∷ ps) =
       let l = lockage_at P p in

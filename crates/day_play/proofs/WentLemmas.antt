@@ -43,7 +43,7 @@ IsLow Low = Unit {0}
 IsLow High = ⊥
 
 -- the chamber stands on the other side than before, and has had room for a turn, where the way needs one
-turned-by : (c : Chamber) (stand side : Stand) (way : Way) (from free start : ℕ) → side ≡ stand_before way → (side ≡ stand) ⊎ HasTurn c from free → free ≤ start → HasTurned c stand way from start
+pub turned-by : (c : Chamber) (stand side : Stand) (way : Way) (from free start : ℕ) → side ≡ stand_before way → (side ≡ stand) ⊎ HasTurn c from free → free ≤ start → HasTurned c stand way from start
 turned-by c Low side Up from free start needed stood later = tt
 turned-by c High side Down from free start needed stood later = tt
 turned-by c Low side Down from free start needed (inl e) later = absurd (subst IsLow (sym e ∙ needed) tt)

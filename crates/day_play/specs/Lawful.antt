@@ -127,6 +127,12 @@ pub record IsOver (I : Instance) (P : Plan) (s : State) : Type 0 where
   pub gone : (p : ℕ) → p < length P.lockages → IsAmong s.gone p
   pub still : (c : ℕ) → c < length I.chambers → IsStill (s.chamber c)
 
+-- A lawful course of a plan: a lawful day but for the number of its beats, which may be any.
+pub record IsLawfulCourse (I : Instance) (P : Plan) (bs : List Beat) : Type 0 where
+  pub rising : IsOrdered minute_of 0 bs
+  pub lawful : AreLawfulBeats I P bs (opening I)
+  pub over : IsOver I P (after_all I P bs (opening I))
+
 -- A LAWFUL DAY of a plan.
 pub record IsLawfulDay (I : Instance) (P : Plan) (bs : List Beat) : Type 0 where
   pub few : length bs ≤ BEATS

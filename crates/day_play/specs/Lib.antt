@@ -4,3 +4,4 @@ pub mod Lawful
 pub mod Playing
 pub mod Played
 pub mod Rising
+pub mod GoingOn

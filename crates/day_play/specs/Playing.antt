@@ -72,11 +72,18 @@ line_beats I P stand from (p ∷ ps) =
 abbrev pub chamber_beats : Instance → Plan → ℕ → List Beat
 chamber_beats I P c = line_beats I P (chamber_at I c).stands (chamber_at I c).opens (line_places P c)
 
--- the beats of these chambers
-abbrev pub beats_of : Instance → Plan → List ℕ → List Beat
-beats_of I P [] = []
-beats_of I P (c ∷ cs) = chamber_beats I P c ++ beats_of I P cs
+-- the beats of these chambers, where each has these
+abbrev pub beats_by : (ℕ → List Beat) → List ℕ → List Beat
+beats_by own [] = []
+beats_by own (c ∷ cs) = own c ++ beats_by own cs
 
--- The day: the beats of all chambers by minute, then by chamber, then by their order in the chamber.
+abbrev pub beats_of : Instance → Plan → List ℕ → List Beat
+beats_of I P cs = beats_by (chamber_beats I P) cs
+
+-- the beats of n chambers, where each has these, by minute, then by chamber, then by their order in the chamber
+abbrev pub mixed : (ℕ → List Beat) → ℕ → List Beat
+mixed own n = put_each minute_of [] (beats_by own (numbers_from 0 n))
+
+-- The day: the beats of all chambers.
 abbrev pub day_of : Instance → Plan → List Beat
-day_of I P = put_each minute_of [] (beats_of I P (numbers_from 0 (length I.chambers)))
+day_of I P = mixed (chamber_beats I P) (length I.chambers)
