@@ -1,5 +1,5 @@
 -- Every legal plan that keeps the kept plan comes from a legal plan of the rest.
-use Rattle.std.proofs.Common.{◌≡◌, ◌≢◌, ℕ, zero, suc, ◌+◌, ◌-◌, ◌<◌, ◌≤◌, List, [], ◌∷◌, ◌++◌, length, map, filter, get_or, All, Bool, not, cond, true, false, true≢false, nat_eq, inl, inr, refl, sym, ap, ◌∙◌, subst, arith, sum_by}
+use Rattle.std.proofs.Common.{◌≡◌, ℕ, suc, ◌+◌, ◌<◌, ◌≤◌, List, [], ◌∷◌, ◌++◌, length, map, filter, get_or, All, Bool, not, cond, true, false, true≢false, nat_eq, inl, inr, refl, sym, ap, ◌∙◌, subst, arith, sum_by}
 use Rattle.std.specs.List.Sorted.{IsStrictlyIncreasing}
 use Rattle.std.proofs.lemmas.Bool.{lt-leb, ltb-true, eqb-true}
 use Rattle.std.proofs.lemmas.Bool.Decides.{eqb_tells, leb_tells}
@@ -99,10 +99,10 @@ late-part : (M : ℕ) (ls : List Lockage) → All (λ l. M ≤ l.start) (filter 
 late-part M ls =
     All-weaker (λ (l : Lockage). not (starts_before M l) ≡ true) (λ l. M ≤ l.start) (λ l h. late-from M l h) (filter (λ l. not (starts_before M l)) ls) (filter_passes (λ l. not (starts_before M l)) ls)
 
-late-half : (M : ℕ) (ls : List Lockage) → All (λ l. M ≤ l.start) (sorted_by_start (filter (λ l. not (starts_before M l)) ls))
+pub late-half : (M : ℕ) (ls : List Lockage) → All (λ l. M ≤ l.start) (sorted_by_start (filter (λ l. not (starts_before M l)) ls))
 late-half M ls = All-sorted_by_start (λ l. M ≤ l.start) (filter (λ l. not (starts_before M l)) ls) (late-part M ls)
 
-split-sorted : (M : ℕ) (ls : List Lockage) → sorted_by_start ls ≡ sorted_by_start (filter (starts_before M) ls) ++ sorted_by_start (filter (λ l. not (starts_before M l)) ls)
+pub split-sorted : (M : ℕ) (ls : List Lockage) → sorted_by_start ls ≡ sorted_by_start (filter (starts_before M) ls) ++ sorted_by_start (filter (λ l. not (starts_before M l)) ls)
 split-sorted M [] = refl
 split-sorted M (l ∷ ls) =
     let A = filter (starts_before M) ls in
@@ -116,7 +116,7 @@ split-sorted M (l ∷ ls) =
           ∙ sym (ap (λ t. sorted_by_start (cond t (l ∷ A) A) ++ sorted_by_start (cond (not t) (l ∷ B) B)) late.0)
     ]
 
-split-before : (M : ℕ) (ls : List Lockage) → filter (starts_before M) (sorted_by_start ls) ≡ sorted_by_start (filter (starts_before M) ls)
+pub split-before : (M : ℕ) (ls : List Lockage) → filter (starts_before M) (sorted_by_start ls) ≡ sorted_by_start (filter (starts_before M) ls)
 split-before M ls =
     let A = sorted_by_start (filter (starts_before M) ls) in
     let B = sorted_by_start (filter (λ l. not (starts_before M l)) ls) in
@@ -126,7 +126,7 @@ split-before M ls =
     ∙ ap (λ xs. A ++ xs) (none-before M B (late-half M ls))
     ∙ append-nil A
 
-filter-swap : (p q : Lockage → Bool) (ls : List Lockage) → filter p (filter q ls) ≡ filter q (filter p ls)
+pub filter-swap : (p q : Lockage → Bool) (ls : List Lockage) → filter p (filter q ls) ≡ filter q (filter p ls)
 filter-swap p q [] = refl
 filter-swap p q (l ∷ ls) = step (p l) (q l) refl refl (filter-swap p q ls)
   where
@@ -137,7 +137,7 @@ filter-swap p q (l ∷ ls) = step (p l) (q l) refl refl (filter-swap p q ls)
     step false true e f rest = ap (λ t. cond t (l ∷ filter p (filter q ls)) (filter p (filter q ls))) e ∙ rest
     step false false e f rest = rest
 
-lawful-behind : (I : Instance) (c : ℕ) (stand : Stand) (from : ℕ) (ls ms : List Lockage)
+pub lawful-behind : (I : Instance) (c : ℕ) (stand : Stand) (from : ℕ) (ls ms : List Lockage)
     → AreLawfulFrom I c stand from (map group_of (ls ++ ms)) (map (λ l. l.start) (ls ++ ms))
     → AreLawfulFrom I c (stand_after_all stand ls) (done_after_all I c from ls) (map group_of ms) (map (λ l. l.start) ms)
 lawful-behind I c stand from [] ms lawful = lawful

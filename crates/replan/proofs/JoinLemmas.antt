@@ -1,5 +1,5 @@
 -- The lines of a plan that is put together: the kept lockages, and then those of the rest.
-use Rattle.std.proofs.Common.{◌≡◌, ℕ, zero, suc, ◌+◌, ◌-◌, ◌<◌, ◌≤◌, List, [], ◌∷◌, ◌++◌, length, map, filter, get_or, All, cond, true, false, nat_eq, nat_le, refl, sym, ap, ◌∙◌, subst, arith}
+use Rattle.std.proofs.Common.{◌≡◌, ℕ, ◌+◌, ◌<◌, ◌≤◌, List, [], ◌∷◌, ◌++◌, length, map, filter, get_or, All, cond, true, false, nat_eq, nat_le, refl, sym, ap, ◌∙◌, subst, arith}
 use Rattle.std.proofs.lemmas.Bool.{le-leb, lt-ltb, le-ltb, ltb-true}
 use Rattle.std.proofs.lemmas.List.{append-nil}
 use Rattle.std.proofs.lemmas.List.Elements.{All-head, All-tail, All-map, All-weaker, All-append, All-filter, filter_passes, filter-append}
@@ -119,7 +119,7 @@ module _ (I R : Instance) (K : Plan) (M : ℕ) (rest : IsRest I K M R) where
         (subst (λ (x : Chamber). IsFree x.closures l.start (l.start + duration_of R c l.ships)) (chamber-rest I R K M rest c known) lawful.free);
   }
 
-  lawful-rest : (c : ℕ) (stand : Stand) (from : ℕ) (ls : List Lockage) → c < length I.chambers → All (λ l. All (λ s. s < length (ships_left I K)) l.ships) ls
+  pub lawful-rest : (c : ℕ) (stand : Stand) (from : ℕ) (ls : List Lockage) → c < length I.chambers → All (λ l. All (λ s. s < length (ships_left I K)) l.ships) ls
       → AreLawfulFrom R c stand from (map group_of ls) (map (λ l. l.start) ls)
       → AreLawfulFrom I c stand from (map group_of (map (renumbered (ships_left I K)) ls)) (map (λ l. l.start) (map (renumbered (ships_left I K)) ls))
   lawful-rest c stand from [] known ships lawful = tt
@@ -131,23 +131,23 @@ module _ (I R : Instance) (K : Plan) (M : ℕ) (rest : IsRest I K M R) where
       )
 
   module _ (part : IsLegalPart I K) (early : All (λ l. l.start < M) K.lockages) (Q : Plan) (legal : IsLegal R Q) where
-    ships : All (λ l. All (λ s. s < length (ships_left I K)) l.ships) Q.lockages
-    ships = subst (λ n. All (λ l. All (λ s. s < n) l.ships) Q.lockages) (rest-ships I R K M rest) (legal-ships R Q legal)
+    pub joined-ships : All (λ l. All (λ s. s < length (ships_left I K)) l.ships) Q.lockages
+    joined-ships = subst (λ n. All (λ l. All (λ s. s < n) l.ships) Q.lockages) (rest-ships I R K M rest) (legal-ships R Q legal)
 
-    late : All (λ l. M ≤ l.start) Q.lockages
-    late = λ k d within.
+    pub joined-late : All (λ l. M ≤ l.start) Q.lockages
+    joined-late = λ k d within.
         let l : Lockage = get_or Q.lockages k d in
         let own : IsLegalLockage R l = legal.lockage k d within in
         let some : 0 < length l.ships = omega (arith, own.count.0) in
-        arrival-from (get_or l.ships 0 0) l.start (ships k d within 0 0 some) (legal-arrived R Q legal k d within 0 0 some)
+        arrival-from (get_or l.ships 0 0) l.start (joined-ships k d within 0 0 some) (legal-arrived R Q legal k d within 0 0 some)
 
     timely-joined : (c : ℕ) → c < length I.chambers → IsTimely I (joined K (ships_left I K) Q) c
     timely-joined c known =
-        let line = line-joined K Q M (ships_left I K) c early late in
+        let line = line-joined K Q M (ships_left I K) c early joined-late in
         let after : AreLawfulFrom R c (chamber_after I K c).stands (chamber_after I K c).opens (map group_of (line_of Q c)) (map (λ l. l.start) (line_of Q c)) =
         subst (λ (x : Chamber). AreLawfulFrom R c x.stands x.opens (map group_of (line_of Q c)) (map (λ l. l.start) (line_of Q c))) (chamber-rest I R K M rest c known)
         (legal.timely c (subst (λ n. c < n) (sym (rest-chambers I R K M rest)) known)).lawful in
-        let rests = lawful-rest c (chamber_after I K c).stands (chamber_after I K c).opens (line_of Q c) known (All-line (λ l. All (λ s. s < length (ships_left I K)) l.ships) Q c ships) after in
+        let rests = lawful-rest c (chamber_after I K c).stands (chamber_after I K c).opens (line_of Q c) known (All-line (λ l. All (λ s. s < length (ships_left I K)) l.ships) Q c joined-ships) after in
         let whole = lawful-append I c (chamber_at I c).stands (chamber_at I c).opens (line_of K c) (map (renumbered (ships_left I K)) (line_of Q c)) (part.timely c known).lawful rests in
         record {
           lawful = subst (λ ls. AreLawfulFrom I c (chamber_at I c).stands (chamber_at I c).opens (map group_of ls) (map (λ l. l.start) ls)) (sym line) whole;
@@ -167,10 +167,10 @@ module _ (I R : Instance) (K : Plan) (M : ℕ) (rest : IsRest I K M R) where
     pub keeps-joined : Keeps K M (joined K (ships_left I K) Q)
     keeps-joined = record {
       lines = λ c.
-          ap (filter (starts_before M)) (line-joined K Q M (ships_left I K) c early late)
+          ap (filter (starts_before M)) (line-joined K Q M (ships_left I K) c early joined-late)
           ∙ filter-append (starts_before M) (line_of K c) (map (renumbered (ships_left I K)) (line_of Q c))
           ∙ ap (λ ls. ls ++ filter (starts_before M) (map (renumbered (ships_left I K)) (line_of Q c))) (all-before M (line_of K c) (All-line (λ l. l.start < M) K c early))
-          ∙ ap (λ ms. line_of K c ++ ms) (none-before M (map (renumbered (ships_left I K)) (line_of Q c)) (All-map (λ (l : Lockage). M ≤ l.start) (renumbered (ships_left I K)) (line_of Q c) (All-line (λ l. M ≤ l.start) Q c late)))
+          ∙ ap (λ ms. line_of K c ++ ms) (none-before M (map (renumbered (ships_left I K)) (line_of Q c)) (All-map (λ (l : Lockage). M ≤ l.start) (renumbered (ships_left I K)) (line_of Q c) (All-line (λ l. M ≤ l.start) Q c joined-late)))
           ∙ append-nil (line_of K c);
     }
 

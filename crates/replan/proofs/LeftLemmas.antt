@@ -1,5 +1,5 @@
 -- The rest is within the limits.
-use Rattle.std.proofs.Common.{◌↔◌, Option, IsSome, IsNone, is_some, Bool, true≢false, ◌≡◌, ◌≢◌, ℕ, ◌+◌, ◌<◌, ◌≤◌, List, [], ◌∷◌, length, get_or, All, true, false, nat_eq, refl, sym, ap, ◌∙◌, subst, arith}
+use Rattle.std.proofs.Common.{◌↔◌, Option, IsSome, IsNone, is_some, Bool, true≢false, ◌≡◌, ℕ, ◌+◌, ◌<◌, ◌≤◌, List, [], ◌∷◌, length, get_or, All, true, false, nat_eq, refl, sym, ap, ◌∙◌, subst, arith}
 use Rattle.std.proofs.lemmas.List.{length-map, get_or-map}
 use Rattle.std.proofs.lemmas.List.Elements.{All-head, All-tail, All-weaker, All-filter}
 use Rattle.std.proofs.lemmas.List.Kept.{AllPairs-from_increasing}
@@ -53,8 +53,8 @@ opens-small I c from (l ∷ ls) small own in_time =
     opens-small I c (l.start + duration_of I c l.ships) ls (subst (λ c. l.start + duration_of I c l.ships ≤ 1000000) here ends.ends)
     (All-tail (λ (l : Lockage). l.chamber ≡ c) l ls own) (All-tail (EndsInTime I) l ls in_time)
 
-module _ (I : Instance) (K : Plan) (M : ℕ) (can : CanBeKept I K) (early : M ≤ 1000000) where
-  chamber-limits : (c : ℕ) → c < length I.chambers → IsChamber (chamber_after I K c)
+module _ (I : Instance) (K : Plan) (can : CanBeKept I K) where
+  pub chamber-limits : (c : ℕ) → c < length I.chambers → IsChamber (chamber_after I K c)
   chamber-limits c known =
       let h : IsChamber (chamber_at I c) = I.limits.chamber c no_chamber known in
       record {
@@ -71,6 +71,7 @@ module _ (I : Instance) (K : Plan) (M : ℕ) (can : CanBeKept I K) (early : M �
         closures = h.closures;
       }
 
+module _ (I : Instance) (K : Plan) (M : ℕ) (can : CanBeKept I K) (early : M ≤ 1000000) where
   ship-limits : (s : ℕ) → s < length I.ships → IsShip (from_minute M (ship_at I s))
   ship-limits s known =
       let h : IsShip (ship_at I s) = I.limits.ship s no_ship known in
@@ -91,7 +92,7 @@ module _ (I : Instance) (K : Plan) (M : ℕ) (can : CanBeKept I K) (early : M �
     ship_count = subst (λ n. (1 ≤ n) × (n ≤ SHIPS)) (sym (count-from I M (ships_left I K))) (some, left-count);
     chamber = λ c d within.
         let known : c < length I.chambers = subst (λ n. c < n) (count-after I K) within in
-        subst IsChamber (sym (after_at I K c d known)) (chamber-limits c known);
+        subst IsChamber (sym (after_at I K c d known)) (chamber-limits I K can c known);
     ship = λ k d within.
         let known : k < length (ships_left I K) = subst (λ n. k < n) (count-from I M (ships_left I K)) within in
         subst IsShip (sym (from_at I M (ships_left I K) k d known)) (ship-limits (get_or (ships_left I K) k 0) (left-known I K k 0 known));
@@ -107,19 +108,23 @@ module _ (I : Instance) (K : Plan) (M : ℕ) (can : CanBeKept I K) (early : M �
         (sym (ap (λ (s : Ship). s.name) (from_at I M (ships_left I K) i d (omega (arith, less, known)))) ∙ same ∙ ap (λ (s : Ship). s.name) (from_at I M (ships_left I K) j d known));
   }
 
-  -- there is no rest exactly where no ship is left
-  rest-empty : (o : Option Instance) (cs : List Chamber) (ships : List Ship) (ns : List ℕ) → (IsSome o ↔ IsInstance cs ships) → cs ≡ chambers_after I K → ns ≡ ships_left I K → ships ≡ ships_from I M ns → IsNone o → ns ≡ []
-  rest-empty o cs ships [] valid chambers left made none = refl
-  rest-empty o cs ships (n ∷ ns) valid chambers left made none =
+-- There is no rest exactly where no ship is left, if it is within the limits with these chambers where some are.
+module _ (I : Instance) (K : Plan) (M : ℕ) (chambers : List Chamber) (limits : 1 ≤ length (ships_left I K) → IsInstance chambers (ships_from I M (ships_left I K))) where
+  rest-empty : (o : Option Instance) (cs : List Chamber) (ships : List Ship) (ns : List ℕ) → (IsSome o ↔ IsInstance cs ships) → cs ≡ chambers → ns ≡ ships_left I K → ships ≡ ships_from I M ns → IsNone o → ns ≡ []
+  rest-empty o cs ships [] valid made left from none = refl
+  rest-empty o cs ships (n ∷ ns) valid made left from none =
       let some : 1 ≤ length (ships_left I K) = subst (λ xs. 1 ≤ length xs) left (omega arith) in
-      let limits : IsInstance cs ships = subst (λ cs. IsInstance cs ships) (sym chambers) (subst (IsInstance (chambers_after I K)) (sym (made ∙ ap (ships_from I M) left)) (rest-limits some)) in
-      absurd (true≢false (sym (valid.1 limits) ∙ none))
+      let whole : IsInstance cs ships = subst (λ cs. IsInstance cs ships) (sym made) (subst (IsInstance chambers) (sym (from ∙ ap (ships_from I M) left)) (limits some)) in
+      absurd (true≢false (sym (valid.1 whole) ∙ none))
 
-  pub rest_none : (o : Option Instance) (cs : List Chamber) (ships : List Ship) (ns : List ℕ) → (IsSome o ↔ IsInstance cs ships) → cs ≡ chambers_after I K → ns ≡ ships_left I K → ships ≡ ships_from I M ns → IsNone o ↔ (ns ≡ [])
-  rest_none o cs ships ns valid chambers left made = (rest-empty o cs ships ns valid chambers left made, λ empty. by (is_some o) refl empty)
+  pub none_left : (o : Option Instance) (cs : List Chamber) (ships : List Ship) (ns : List ℕ) → (IsSome o ↔ IsInstance cs ships) → cs ≡ chambers → ns ≡ ships_left I K → ships ≡ ships_from I M ns → IsNone o ↔ (ns ≡ [])
+  none_left o cs ships ns valid made left from = (rest-empty o cs ships ns valid made left from, λ empty. by (is_some o) refl empty)
     where
       by : (b : Bool) → is_some o ≡ b → ns ≡ [] → is_some o ≡ false
       by true e empty =
-          let limits : IsInstance cs ships = valid.0 e in
-          absurd (omega (arith, limits.ship_count.0, ap length made, count-from I M ns, ap length empty))
+          let whole : IsInstance cs ships = valid.0 e in
+          absurd (omega (arith, whole.ship_count.0, ap length from, count-from I M ns, ap length empty))
       by false e empty = e
+
+pub rest_none : (I : Instance) (K : Plan) (M : ℕ) → CanBeKept I K → M ≤ 1000000 → (o : Option Instance) (cs : List Chamber) (ships : List Ship) (ns : List ℕ) → (IsSome o ↔ IsInstance cs ships) → cs ≡ chambers_after I K → ns ≡ ships_left I K → ships ≡ ships_from I M ns → IsNone o ↔ (ns ≡ [])
+rest_none I K M can early = none_left I K M (chambers_after I K) (rest-limits I K M can early)

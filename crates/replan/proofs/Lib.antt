@@ -7,3 +7,11 @@ pub mod JoinLemmas
 pub mod CostLemmas
 pub mod PutLemmas
 pub mod BackLemmas
+pub mod AlikeLemmas
+pub mod LivedLemmas
+pub mod TurnLemmas
+pub mod PutLivedLemmas
+pub mod BegunLemmas
+pub mod GoneLemmas
+pub mod AheadLemmas
+pub mod PlayedLemmas

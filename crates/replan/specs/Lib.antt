@@ -3,3 +3,6 @@ pub mod PartBreaks
 pub mod Rest
 pub mod Together
 pub mod Last
+pub mod Begun
+pub mod Lived
+pub mod GoingOn

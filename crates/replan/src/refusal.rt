@@ -10,6 +10,7 @@ pub enum ReplanError {
     /// missing is no break of a part.
     Kept(BrokenPlan),
     /// The lockage is the first kept one that ends after minute 1,000,000, the last at which a
-    /// chamber may open.
+    /// chamber may open; or, of a rest as lived, the one for which the first begun turn that does has
+    /// begun.
     Late(u8),
 }

@@ -59,7 +59,7 @@ fn left_by(instance: &Instance, chamber: u8, lockage: &Lockage) -> Chamber
 }
 
 /// The chamber when its kept lockages are over.
-fn chamber_after(instance: &Instance, kept: &Plan, chamber: u8) -> Chamber
+pub(crate) fn chamber_after(instance: &Instance, kept: &Plan, chamber: u8) -> Chamber
     requires chamber_in { chamber < length instance.now.chambers }
     requires can { CanBeKept instance.now kept.now }
     ensures { result ≡ chamber_after instance.now kept.now chamber }

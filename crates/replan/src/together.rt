@@ -4,7 +4,9 @@ ghost use Rattle.std.specs.List.Sorted.{IsStrictlyIncreasing};
 ghost use Rattle.lock_model.specs.declared.instance.Instance.{Instance as AnyInstance};
 ghost use Rattle.lock_model.specs.declared.plan.Plan.{Plan as AnyPlan};
 ghost use Rattle.lock_rules.specs.Plan.{IsLegal, cost_of};
+ghost use Rattle.replan.specs.GoingOn.{IsGoneOn};
 ghost use Rattle.replan.specs.Kept.{kept_of};
+ghost use Rattle.replan.specs.Lived.{IsLivedLeft};
 ghost use Rattle.replan.specs.Rest.{IsLeft};
 ghost use Rattle.replan.specs.Together.{number_of, renumbered, joined, Keeps};
 
@@ -51,6 +53,20 @@ fn joined(kept: &Plan, numbers: &[u8], found: &Plan) -> Plan
         lockages.push(renumbered(numbers, lockage));
     }
     Plan { lockages }
+}
+
+/// Puts a legal plan of a rest as lived together with the begun lockages: the result is legal for the
+/// instance, can still be carried out at the minute, and costs what the found plan costs and `added`
+/// minutes more. The residual is one that `rest_as_lived` gives for this instance, and its rest is
+/// there. Takes no memory.
+pub fn put_together_as_lived(instance: &Instance, residual: &Residual, found: &Plan) -> Plan
+    requires left { (plan : AnyPlan) × ((minute : ℕ) × IsLivedLeft instance.now plan minute residual.now) }
+    requires legal { IsSomeAnd residual.now.rest (λ rest. IsLegal rest found.now) }
+    ensures gone_on { (rest : AnyInstance) (plan : AnyPlan) (minute : ℕ) → residual.now.rest ≡ Some rest → IsLivedLeft instance.now plan minute residual.now
+        → IsGoneOn instance.now rest plan minute found.now result }
+    ensures value { result ≡ joined residual.now.kept residual.now.numbers found.now }
+{
+    joined(&residual.kept, residual.numbers.as_slice(), found)
 }
 
 /// Puts a legal plan of the rest together with the kept plan: the result is legal for the

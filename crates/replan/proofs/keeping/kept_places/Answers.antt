@@ -1,4 +1,4 @@
-use Rattle.std.proofs.Common.{◌≡◌, ◌+◌, ◌++◌, [], ◌∷◌, length, ap, ◌∙◌, arith}
+use Rattle.std.proofs.Common.{◌≡◌, ◌++◌, [], ◌∷◌, length, ap, arith}
 use Rattle.lock_rules.specs.Lines.{lockage_at}
 use Rattle.replan.specs.Kept.{starts_before}
 use Rattle.replan.proofs.KeptLemmas.{starts_hit, starts_miss}

@@ -1,4 +1,4 @@
-use Rattle.std.proofs.Common.{◌≡◌, ◌≤◌, length}
+use Rattle.std.proofs.Common.{◌≤◌, length}
 use Rattle.replan.specs.Last.{IsLastFrom}
 use Rattle.replan.proofs.standing.last_on.Given as goal
 

@@ -1,4 +1,4 @@
-use Rattle.std.proofs.Common.{◌≡◌, ◌+◌, ◌<◌, ◌≤◌, length, sym, subst, ap, ◌∙◌, arith}
+use Rattle.std.proofs.Common.{◌≡◌, ◌+◌, ◌<◌, length, sym, subst, ap, ◌∙◌, arith}
 use Rattle.lock_model.specs.declared.plan.Lockage.{Lockage}
 use Rattle.replan.specs.Last.{EndsWith, IsLastFrom}
 use Rattle.replan.proofs.KeptLemmas.{read_at}

@@ -1,4 +1,4 @@
-use Rattle.std.proofs.Common.{◌≡◌, ◌+◌, ◌<◌, length, All, sym, subst, ap, ◌∙◌, List, ℕ}
+use Rattle.std.proofs.Common.{◌≡◌, ◌<◌, length, All, sym, subst, ap, ◌∙◌, List, ℕ}
 use Rattle.std.specs.List.Sorted.{IsStrictlyIncreasing}
 use Rattle.lock_model.specs.declared.plan.Lockage.{Lockage}
 use Rattle.lock_rules.specs.Plan.{IsLegal, cost_of}

@@ -1,0 +1,31 @@
+use Rattle.std.proofs.Common.{◌≡◌, ◌<◌, length, All, sym, subst, ap, ◌∙◌, List, ℕ}
+use Rattle.std.specs.List.Sorted.{IsStrictlyIncreasing}
+use Rattle.lock_model.specs.declared.plan.Lockage.{Lockage}
+use Rattle.replan.specs.GoingOn.{IsGoneOn}
+use Rattle.replan.specs.Together.{joined}
+use Rattle.replan.proofs.PutLivedLemmas.{lived-known, lived-rising, lived-few, lived-gone}
+use Rattle.replan.proofs.together.put_together_as_lived.Goals as goal
+
+pub joined-requires-clause-known : goal.joined-requires-clause-known
+joined-requires-clause-known c =
+    let left = c.requires.left in
+    subst (λ (ns : List ℕ). All (λ (l : Lockage). All (λ s. s < length ns) l.ships) c.args.found.now.lockages) (sym c.as_slice.ensures.value)
+    (lived-known c.args.instance.now c.args.residual.now c.args.found.now left.0 left.1.0 left.1.1 c.requires.legal)
+
+pub joined-requires-clause-rising : goal.joined-requires-clause-rising
+joined-requires-clause-rising c =
+    let left = c.requires.left in
+    subst IsStrictlyIncreasing (sym c.as_slice.ensures.value) (lived-rising c.args.instance.now c.args.residual.now c.args.found.now left.0 left.1.0 left.1.1 c.requires.legal)
+
+pub joined-requires-clause-few : goal.joined-requires-clause-few
+joined-requires-clause-few c =
+    let left = c.requires.left in
+    lived-few c.args.instance.now c.args.residual.now c.args.found.now left.0 left.1.0 left.1.1 c.requires.legal
+
+pub returns-clause-gone_on : goal.returns-clause-gone_on
+returns-clause-gone_on c =
+    let I = c.args.instance.now in
+    let r = c.args.residual.now in
+    let Q = c.args.found.now in
+    let value : c.joined.result ≡ joined r.kept r.numbers Q = c.joined.ensures ∙ ap (λ ns. joined r.kept ns Q) c.as_slice.ensures.value in
+    λ rest plan minute is left. subst (IsGoneOn I rest plan minute Q) (sym value) (lived-gone I r Q plan minute left c.requires.legal rest is)
