@@ -1,7 +1,8 @@
 //! Prices that are kept from node to node.
 ghost use Rattle.std.specs.Prelude.{◌≡◌, ◌↔◌, IsTrue, IfSome};
 ghost use Rattle.master_branch.specs.Node.{IsNodeOf};
-ghost use Rattle.price_search.specs.Serving.{IsClaimOf, MayServe};
+ghost use Rattle.price_search.specs.Serving.{MayServe};
+ghost use Rattle.price_search.specs.Showing.{IsShownOf};
 
 use crate::appending::append;
 use crate::offers::Offer;
@@ -16,8 +17,8 @@ use std::alloc::Global;
 
 // The most rounds in a search, and the most at the first node that prices can serve and at any other.
 const MOST_ROUNDS: u32 = 10_000;
-/// The most rounds that a search need try at a node; the pricing ends them before.
-pub const MOST_AT_A_NODE: u32 = 1_000;
+// The most rounds that are tried at a node; the pricing ends them before.
+pub(crate) const MOST_AT_A_NODE: u32 = 1_000;
 // With fewer missing ships a node is searched faster than prices are worked out.
 const FEWEST_MISSING: usize = 5;
 
@@ -206,7 +207,7 @@ impl Pricing {
     }
 
     /// The prices with which a node begins, once some node was split by prices: they close most nodes.
-    pub fn inherited(&self) -> Option<Prices> {
+    pub(crate) fn inherited(&self) -> Option<Prices> {
         match self.path.as_slice() {
             [.., last] if !self.is_first => Some(last.prices.copy()),
             _ => None,
@@ -228,7 +229,7 @@ impl Pricing {
         cost: u64,
     ) -> Option<Shown<'a>>
         requires { IsNodeOf instance.now node.now }
-        ensures { IfSome result (λ shown. IsClaimOf shown instance.now node.now prices.now self.old.cuts.items cost) }
+        ensures { IfSome result (IsShownOf instance.now node.now prices.now self.old.cuts.items cost) }
     {
         let asked = PricedNode {
             instance,
@@ -244,7 +245,7 @@ impl Pricing {
 
     /// The number under which the book keeps these prices, where they are those of the node above and
     /// were posted before.
-    pub fn number_of(&self, prices: &Prices) -> Option<u64> {
+    pub(crate) fn number_of(&self, prices: &Prices) -> Option<u64> {
         match self.path.as_slice() {
             [.., last] if last.prices == *prices => last.number,
             _ => None,
@@ -253,7 +254,7 @@ impl Pricing {
 
     /// Keeps that the book has these prices under this number, where they are those of the node above:
     /// whether they are.
-    pub fn posted(&mut self, prices: &Prices, number: u64) -> bool {
+    pub(crate) fn posted(&mut self, prices: &Prices, number: u64) -> bool {
         match self.path.as_mut_slice() {
             [.., last] if last.prices == *prices => {
                 last.number = Some(number);

@@ -16,8 +16,9 @@
 //! below it, depth first and in the book's order (`trail`), up to one for which the book needs more
 //! than bounds. Any other one ends as `ending` says. Where the workers have prices (`board`), a node
 //! that would be split is priced first (`pricing`): it begins with the prices that its parent left,
-//! whoever split that, and is closed where it reaches the best cost by them. `sharing` posts what the others are to see, and
-//! `knowing` is what a worker knows of cuts.
+//! whoever split that, and is closed where it reaches the best cost by them. That is `price` of
+//! `price_search`, at the desk that the post is. `sharing` posts what the others are to see, and `knowing`
+//! is what a worker knows of cuts.
 //!
 //! `asking` makes each event, and waits. `post` is what workers share, `hands` and `worker` what each
 //! has. Nothing is claimed of prices: the book takes a closing by them only for what was shown.

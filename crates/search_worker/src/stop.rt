@@ -6,7 +6,7 @@ use std::alloc::AllocFailed;
 /// The worker is to release and to end: it has worked on its quota of nodes, memory was refused, or
 /// the book answered what it doesn't answer a worker that keeps the rules.
 #[derive(Drop)]
-pub(crate) struct Stop;
+pub struct Stop;
 
 impl<T: Drop> From<AllocFailed<T>> for Stop {
     fn from(_want: AllocFailed<T>) -> Stop {

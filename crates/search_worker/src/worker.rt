@@ -28,7 +28,7 @@ pub(crate) const SHORT: u32 = 16;
 /// its way ahead of the book, how many nodes it goes ahead at the most, on how many it worked, and its
 /// prices, where it has any.
 #[derive(Drop)]
-pub(crate) struct Worker<L: Ledger> {
+pub struct Worker<L: Ledger> {
     pub(crate) number: u8,
     pub(crate) hands: Hands<L>,
     pub(crate) tokens: Tokens,

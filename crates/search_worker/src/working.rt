@@ -7,7 +7,7 @@ use crate::asking::{best_cost, go_ahead};
 use crate::ending::{close, end};
 use crate::knowing::posted_cuts;
 use crate::post::Post;
-use crate::pricing::{is_for_prices, price};
+use crate::pricing::{is_for_prices, price_held};
 use crate::stop::Stop;
 use crate::trusting::is_node_of;
 use crate::walking::{append, foreseen_fate, simple_ending, walk};
@@ -88,7 +88,7 @@ fn work_inner<'s, L: Ledger, W: Wait, G: Gate>(
         return end(post, worker, id, fate);
     }
     let priced = is_for_prices(post, worker, &fate, foreseen.node.depth());
-    if priced && price(post, worker, id, &foreseen.node)? {
+    if priced && price_held(post, worker, id, &foreseen.node)? {
         return Ok(());
     }
     let Some(ending) = simple_ending(post, worker, fate)? else {

@@ -107,12 +107,6 @@ pub of_false : {P : Type 0} (t : Bool) → OnFalse t P → t ≡ false → P
 of_false true h e = absurd (true≢false e)
 of_false false h e = h
 
-pub slot_still : (new : Book) (id k : ℕ) (n : Node) → k ≡ id → HoldsOnly new k n → HoldsSlot new id
-slot_still new id k n is holds = subst (HoldsSlot new) is (slot_holds new k n holds)
-
-pub node_still : (b new : Book) (id k : ℕ) (n : Node) → k ≡ id → HoldsOnly b k n → HoldsOnly new k n → (slot_at new id).node ≡ (slot_at b id).node
-node_still b new id k n is before after = subst (λ m. (slot_at new m).node ≡ (slot_at b m).node) is (after.node_is ∙ sym before.node_is)
-
 pub still_lacks : (b new : Book) (id : ℕ) → IsDriven b new → (slot_at new id).node ≡ (slot_at b id).node → (slot_at b id).node.depth < length b.case.instance.ships → (slot_at new id).node.depth < length new.case.instance.ships
 still_lacks b new id driven same lacks =
     subst (λ (k : Case). (slot_at new id).node.depth < length k.instance.ships) (sym driven.case)

@@ -12,3 +12,4 @@ pub mod HeldLemmas
 pub mod ReadyLemmas
 pub mod SettleLemmas
 pub mod PriceLemmas
+pub mod DeskLemmas

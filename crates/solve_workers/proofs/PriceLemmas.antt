@@ -1,18 +1,23 @@
 -- What prices find, carried out while a slot is held.
-use Rattle.std.proofs.Common.{◌≡◌, ℕ, ◌<◌, List, length, refl, sym, ap, ◌∙◌, subst, Bool, true, false, not, cond, nat_eq, slice_index_or}
+use Rattle.std.proofs.Common.{◌≡◌, ℕ, ◌<◌, List, length, refl, sym, ap, ◌∙◌, subst, Bool, true, false, not, cond, nat_eq, slice_get, slice_index_or}
 use Rattle.mooring_rules.specs.declared.breaks.BrokenPlan.{BrokenPlan}
 use Rattle.refute_rules.specs.Cuts.{Cut}
+use Rattle.closing_rules.specs.declared.grounds.Ground.TheVariants as by
 use Rattle.book_rules.specs.Book.{Book, no_slot, is_held}
 use Rattle.lock_rules.specs.Node.{Node}
 use Rattle.book_rules.specs.Ends.{HoldsNothing}
 use Rattle.book_rules.specs.Events as machine
-use Rattle.book_rules.specs.Events.{post, post_prices}
+use Rattle.book_rules.specs.Events.{post, post_prices, close_price}
+use Rattle.book_rules.specs.Shown.{Shown}
 use Rattle.book_rules.specs.Step
 use Rattle.book_rules.specs.Tests.{is_own_cut}
+use Rattle.book_rules.proofs.ClosingLemmas.{may-refuse_price}
 use Rattle.book_core.specs.declared.reply.Reply.{Reply}
-use Rattle.book_core.specs.Replies.{Does, Steps, Stays}
+use Rattle.book_core.specs.Replies.{Answers, Does, Steps, Stays}
 use Rattle.solve_workers.specs.Holding.{HoldsOnly}
-use Rattle.solve_workers.proofs.ToldLemmas.{Answer}
+use Rattle.solve_workers.specs.Told.{is_closed}
+use Rattle.solve_workers.proofs.ToldLemmas.{Answer, told-closed}
+use Rattle.solve_workers.proofs.CloseLemmas.{CloseOut, Kept, Leaves, leaves-answer, unless-out}
 
 abbrev Out : Type 0
 Out = Book × Answer
@@ -47,3 +52,22 @@ still_holds b new id node same holds = record {
 
 pub still_nothing : (b new : Book) → new.slots ≡ b.slots → HoldsNothing b → HoldsNothing new
 still_nothing b new same free = record { none = λ id known. ap (λ xs. is_held (slice_index_or xs id no_slot).state) same ∙ free.none id (subst (λ n. id < n) (ap length same) known) }
+
+-- ---- closing by what was shown
+
+module _ (b : Book) (id : ℕ) (node : Node) (number : ℕ) (shown : Shown) (r : Reply) (new : Book) where
+  price-out : CloseOut b id (Step.close_price_step b id number shown)
+  price-out = by_test (Step.may_close b id)
+    where
+      by_test : (t : Bool) → CloseOut b id (cond (not t) (b, machine.NotHeld id) (Step.close_unless b id (by.Price number) (Step.price_refusal b id number shown (slice_get b.prices number))))
+      by_test true = unless-out b id (by.Price number) (Step.price_refusal b id number shown (slice_get b.prices number)) (may-refuse_price b id BrokenPlan number shown (slice_get b.prices number))
+      by_test false = Kept refl refl
+
+  leaves : Answers b (close_price id number shown) r new → HoldsOnly b id node → Leaves b new (is_closed r)
+  leaves answers holds = leaves-answer b id node (Step.close_price_step b id number shown) r new answers.answer holds price-out answers.same (told-closed r answers.answer answers.said)
+
+  pub price_shut : Answers b (close_price id number shown) r new → is_closed r ≡ true → HoldsOnly b id node → HoldsNothing new
+  price_shut answers closed holds = (leaves answers holds).shut closed
+
+  pub price_kept : Answers b (close_price id number shown) r new → is_closed r ≡ false → HoldsOnly b id node → HoldsOnly new id node
+  price_kept answers off holds = subst (λ (x : Book). HoldsOnly x id node) (sym ((leaves answers holds).kept off)) holds

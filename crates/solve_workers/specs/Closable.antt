@@ -13,7 +13,9 @@ use Rattle.node_work.specs.Known.{HitsShips}
 
 -- the ground holds of the node, by the book's cuts and its best cost
 pub record IsClosable (b : Book) (node : Node) (why : Ground) : Type 0 where
-  pub closed : IsClosedBy b.case.instance (IsHitBy b.case.instance b.cuts) IsNeverPriced (best_cost b) (bound_of b.case.instance node.depth node.lines) node.depth node.lines why
+  pub closed :
+      IsClosedBy b.case.instance (IsHitBy b.case.instance b.cuts) IsNeverPriced (best_cost b)
+      (bound_of b.case.instance node.depth node.lines) node.depth node.lines why
 
 -- what becomes of the node, by the book's cuts and its best cost
 abbrev pub IsDriversFate : Book → Node → Fate → Type 0

@@ -3,7 +3,6 @@ use Rattle.std.specs.Prelude.{ℕ}
 use Rattle.book_rules.specs.Book.{Book, slot_at}
 use Rattle.lock_rules.specs.Node.{Node}
 use Rattle.solve_workers.specs.Holding.{HoldsOnly}
-use Rattle.solve_workers.specs.declared.held.Held.{Held}
 
 -- the node of slot id
 abbrev pub node_at : Book → ℕ → Node
@@ -12,7 +11,3 @@ node_at b id = (slot_at b id).node
 -- the driver holds this slot alone
 abbrev pub HoldsSlot : Book → ℕ → Type 0
 HoldsSlot b id = HoldsOnly b id (node_at b id)
-
--- the same with a copy of its node
-abbrev pub HoldsInHand : Book → Held → Type 0
-HoldsInHand b h = HoldsOnly b h.id h.node

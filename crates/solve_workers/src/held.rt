@@ -5,7 +5,7 @@ ghost use Rattle.book_rules.specs.Ends.{HoldsNothing};
 ghost use Rattle.book_rules.specs.Room.{room_of};
 ghost use Rattle.solve_workers.specs.Driving.{IsDriven};
 ghost use Rattle.solve_workers.specs.Holding.{IsRunning, IsDone};
-ghost use Rattle.solve_workers.specs.Holds.{HoldsInHand, HoldsSlot, node_at};
+ghost use Rattle.solve_workers.specs.Holds.{HoldsSlot, node_at};
 
 use crate::told::slot_in;
 use book_core::Book;
@@ -14,28 +14,6 @@ use master_branch::Node;
 
 /// The number of the driver, behind those of the workers.
 pub(crate) const DRIVER: u8 = WORKERS as u8;
-
-/// A slot that the driver holds, with a copy of its node: for prices, by which the book changes while
-/// the node is worked on. All else looks at the node in the book.
-#[derive(Drop)]
-pub(crate) struct Held {
-    pub(crate) id: u32,
-    pub(crate) node: Node,
-}
-
-impl Held {
-    /// The slot that the driver holds, with a copy of its node.
-    pub(crate) fn of(book: &Book, id: u32) -> Held
-        requires { HoldsSlot book.now id }
-        ensures id { result.id ≡ id }
-        ensures holds { HoldsInHand book.now result }
-    {
-        Held {
-            id,
-            node: held_node(book, id).copy(),
-        }
-    }
-}
 
 /// The node of the slot that the driver holds.
 pub(crate) fn held_node(book: &Book, id: u32) -> &Node

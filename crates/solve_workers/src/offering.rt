@@ -1,17 +1,22 @@
-//! The events of what prices find, while the driver holds a slot.
-ghost use Rattle.std.specs.Bool.{OnTrue, OnFalse};
+//! The driver's desk is the book in its hand.
 ghost use Rattle.book_rules.specs.Ends.{HoldsNothing};
 ghost use Rattle.refute_rules.specs.Cuts.{IsCut};
 ghost use Rattle.closing_rules.specs.ListedPrices.{ArePrices};
 ghost use Rattle.solve_workers.specs.Driving.{IsDriven};
-ghost use Rattle.solve_workers.specs.Holds.{HoldsInHand};
+ghost use Rattle.solve_workers.specs.Offering.{HasDriven, HasFreed};
+ghost use Rattle.std.specs.Prelude.{⊤};
 
-use crate::held::Held;
 use crate::told::is_closed;
 use book_core::{Book, Reply};
 use deck_cuts::Cut;
-use lock_model::Plan;
+use lock_model::{Instance, Plan};
+use no_memory::NoMemory;
+use node_work::Search;
+use placed_groups::Memory;
+use price_search::{Asked, Desk, InHand, Pricing, Round};
 use price_terms::{Prices, Shown};
+use search_book::learn_cuts;
+use std::alloc::Global;
 
 // That the refutation of a cut holds, as its type keeps.
 fn is_cut(cut: &Cut)
@@ -35,18 +40,6 @@ fn number_in(reply: &Reply) -> Option<u64> {
     }
 }
 
-/// Posts a cut, if the book takes it.
-pub(crate) fn post(book: &mut Book, held: &Held, cut: Cut)
-    requires holds { HoldsInHand book.old held.now }
-    ensures holds { HoldsInHand book.new held.now }
-    ensures driven { IsDriven book.old book.new }
-{
-    let _ = held;
-    book.keeps();
-    is_cut(&cut);
-    book.post(cut);
-}
-
 /// Posts a cut while nothing is held, if the book takes it.
 pub(crate) fn post_free(book: &mut Book, cut: Cut)
     requires free { HoldsNothing book.old }
@@ -58,40 +51,98 @@ pub(crate) fn post_free(book: &mut Book, cut: Cut)
     book.post(cut);
 }
 
-/// Gives a plan to the book, which takes it if it is legal and cheaper.
-pub(crate) fn give(book: &mut Book, held: &Held, plan: Plan)
-    requires holds { HoldsInHand book.old held.now }
-    ensures holds { HoldsInHand book.new held.now }
-    ensures driven { IsDriven book.old book.new }
-{
-    let _ = held;
-    book.keeps();
-    book.replace(plan);
+/// What the driver has beside the book in its hand.
+#[derive(Drop)]
+pub(crate) struct DriversDesk<'s> {
+    pub(crate) alloc: Global,
+    pub(crate) search: &'s Search<'s>,
 }
 
-/// Posts prices: the number under which the book keeps them, if it takes them.
-pub(crate) fn post_prices(book: &mut Book, held: &Held, prices: Prices) -> Option<u64>
-    requires holds { HoldsInHand book.old held.now }
-    ensures holds { HoldsInHand book.new held.now }
-    ensures driven { IsDriven book.old book.new }
-{
-    let _ = held;
-    book.keeps();
-    are_prices(&prices);
-    let reply = book.post_prices(prices);
-    number_in(&reply)
-}
+// It refuses want of memory alone. A cut, a plan or prices that the book doesn't take are let go.
+impl Desk for DriversDesk<'_> {
+    type Hand = Book;
 
-/// Closes the held node by what was shown of it and of the prices of this number; whether the book
-/// took that.
-pub(crate) fn close_shown(book: &mut Book, held: &Held, number: u64, shown: &Shown<'_>) -> bool
-    requires holds { HoldsInHand book.old held.now }
-    ensures closed { OnTrue result (HoldsNothing book.new) }
-    ensures held { OnFalse result (HoldsInHand book.new held.now) }
-    ensures driven { IsDriven book.old book.new }
-{
-    book.keeps();
-    // what was shown is reached
-    let _ = shown.cost();
-    is_closed(&book.close_price(held.id, number, shown))
+    type Stop = NoMemory;
+
+    ghost instance = { λ desk. desk.search.now.instance.now };
+
+    ghost serves = { λ _ _. ⊤ };
+
+    ghost holds = { λ _ held began book. HasDriven held began book };
+
+    ghost freed = { λ _ began book. HasFreed began book };
+
+    fn instance(&self) -> &Instance {
+        self.search.instance
+    }
+
+    fn best_cost(&self, book: &mut Book, _held: &InHand<'_>) -> u64 {
+        book.best_cost()
+    }
+
+    fn round(
+        &self,
+        book: &mut Book,
+        memory: &mut Memory,
+        pricing: &mut Pricing,
+        held: &InHand<'_>,
+    ) -> Result<Round, NoMemory> {
+        learn_cuts(book, pricing.cuts_mut())?;
+        let asked = Asked {
+            search: self.search,
+            node: held.node,
+            best: book.best_cost(),
+            known: &*book,
+        };
+        pricing.round(self.alloc, &asked, memory)
+    }
+
+    fn post(&self, book: &mut Book, _held: &InHand<'_>, cut: Cut) -> Result<(), NoMemory> {
+        book.keeps();
+        is_cut(&cut);
+        book.post(cut);
+        Ok(())
+    }
+
+    fn give(&self, book: &mut Book, _held: &InHand<'_>, plan: Plan) -> Result<(), NoMemory> {
+        book.keeps();
+        book.replace(plan);
+        Ok(())
+    }
+
+    fn post_prices(
+        &self,
+        book: &mut Book,
+        _held: &InHand<'_>,
+        prices: &Prices,
+    ) -> Result<Option<u64>, NoMemory> {
+        book.keeps();
+        are_prices(prices);
+        let reply = book.post_prices(prices.copy());
+        Ok(number_in(&reply))
+    }
+
+    fn close_shown(
+        &self,
+        book: &mut Book,
+        held: &InHand<'_>,
+        number: u64,
+        shown: &Shown<'_>,
+    ) -> bool {
+        book.keeps();
+        // what was shown is reached
+        let _ = shown.cost();
+        is_closed(&book.close_price(held.id, number, shown))
+    }
+
+    fn inherit(&self, pricing: &mut Pricing, held: &InHand<'_>) {
+        pricing.go_to(held.node.depth());
+    }
+
+    fn leave(&self, pricing: &mut Pricing, held: &InHand<'_>) -> Result<(), NoMemory> {
+        pricing.keep(held.node.depth())
+    }
+
+    // Nobody else has them.
+    fn tell_number(&self, _held: &InHand<'_>, _number: u64) {}
 }

@@ -11,11 +11,12 @@ ghost use Rattle.solve_workers.specs.Holds.{HoldsSlot, node_at};
 
 use crate::driver::Driver;
 use crate::ending::{close, end, split};
-use crate::held::{Held, held_bound, held_node};
-use crate::pricing::price;
+use crate::held::{held_bound, held_node};
+use crate::pricing::price_held;
 use book_core::{Book, Probed};
 use no_memory::NoMemory;
 use node_work::{Fate, closed_early, inner_fate, whole_fate};
+use price_search::InHand;
 
 // Works on the held node, which holds all ships.
 fn work_whole(driver: &mut Driver<'_>, book: &mut Book, id: u32) -> Result<(), NoMemory>
@@ -47,8 +48,9 @@ fn is_priced(driver: &mut Driver<'_>, book: &mut Book, id: u32) -> bool
     if driver.pricing.is_none() {
         return false;
     }
-    let held = Held::of(book, id);
-    price(driver, book, &held)
+    let node = held_node(book, id).copy();
+    let held = InHand { id, node: &node };
+    price_held(driver, book, &held)
 }
 
 // Splits the held node, which lacks a ship, unless prices close it.
