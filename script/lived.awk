@@ -1,6 +1,7 @@
-# The instance and the plan as `replan` is to read them: without the ships `dropped`, and, of a day as it is `lived`, with
-# what the notes of the plan say of times before `minute`. No line moves but by the closures that are added before the
-# instance's line end; the file `count` gets their number.
+# The instance and the plan as the program is to read them: without the ships `dropped`, and, of a day as it is lived, with
+# what the notes of the plan say of times before `minute`. `lived` is true or false for `replan`; for `play` it is `told`,
+# and only when chambers stood still plays a part. No line moves but by the closures that are added before the instance's
+# line end; the file `count` gets their number.
 # A note `still main 35 100` says that main stood still from 35 to 100: it is closed then. A note
 # `turned main up 115 35 130` says that main, free since 35, stands turned for ships going up until 115, and is turned
 # back until 130; with `-` for both minutes, that it stays turned.
@@ -18,11 +19,11 @@ $1 == "plan" { in_plan = 1 }
 $1 == "lockage" { lockage = NR }
 $1 == "berth" && $2 in is_dropped { text[NR] = ""; left_by[lockage] = 1; next }
 $1 == "berth" { holds[lockage]++; if ($6 in is_dropped) sub(/[^ \t]+[ \t]*$/, "*", text[NR]) }
-in_plan && lived == "true" { take_note(text[NR]) }
+in_plan && lived != "false" { take_note(text[NR]) }
 
 END {
   # The lockage of a ship that is withdrawn has perhaps turned its chamber, so an empty one stays where the day is lived.
-  for (l in left_by) if (!holds[l] && lived != "true") text[l] = ""
+  for (l in left_by) if (!holds[l] && lived == "false") text[l] = ""
   for (c in closures)
     for (i = 1; i <= closures[c]; i++) if (row[c, i] == -1) { closing = closing "close " c " " from[c, i] " " to[c, i] "\n"; added++ }
   for (i = 1; i <= NR; i++) {
@@ -35,8 +36,8 @@ END {
 
 function take_note(note,    w) {
   split(note, w, " ")
-  if (note ~ /^# still [^ ]+ [0-9]+ [0-9]+$/) close_span(w[3], w[4] + 0, w[5] < minute ? w[5] + 0 : minute)
-  if (note !~ /^# turned [^ ]+ (up|down) (-|[0-9]+) [0-9]+ (-|[0-9]+)$/) return
+  if (note ~ /^# still [^ ]+ [0-9]+ [0-9]+$/) close_span(w[3], w[4] + 0, lived == "told" || w[5] + 0 < minute ? w[5] + 0 : minute)
+  if (lived == "told" || note !~ /^# turned [^ ]+ (up|down) (-|[0-9]+) [0-9]+ (-|[0-9]+)$/) return
   if (w[5] == "-" || minute <= w[5] + 0) text[NR] = "lockage " w[3] " " w[4] " " minute
   else close_span(w[3], w[6] + 0, w[7] + 0)
 }

@@ -1,26 +1,33 @@
 # What `replan` has beside the program: ships that are withdrawn, what has stood still in a day as it is lived, and what
 # the new plan changes.
 
-# sets is_lived, rest_minute and given_plan; makes the input that of the program
+# For `replan` and `play`: makes the input that of the program. Sets given_plan for replan, with lived (true or false) and
+# rest_minute; for play, lived is `told`.
 take_rest() {
   local end
   given_plan=
-  [ "$command" = replan ] && [ -n "$input" ] && [ -z "$wrong" ] || return 0
+  [[ $command = replan || $command = play ]] && [ -n "$input" ] && [ -z "$wrong" ] || return 0
   end=$(end_of_instance)
   [ -n "$end" ] || return 0
-  take_rest_minute
-  given_plan=$room/given.plan
-  tail -n +$((end + 1)) "$input" >"$given_plan"
-  may_drop || return
-  if [ ${#drops[@]} -gt 0 ] || { $is_lived && grep -Eq '^# (still|turned) ' "$given_plan"; }; then change_input "$end"; fi
+  tail -n +$((end + 1)) "$input" >"$room/given.plan"
+  if [ "$command" = play ]; then
+    lived=told rest_minute=0
+  else
+    given_plan=$room/given.plan
+    take_rest_minute
+    may_drop || return
+  fi
+  if [ ${#drops[@]} -gt 0 ] || { [ $lived != false ] && has_notes; }; then change_input "$end"; fi
 }
+
+has_notes() { grep -Eq '^# (still|turned) ' "$room/given.plan"; }
 
 take_rest_minute() {
   local i
-  is_lived=false
+  lived=false
   for ((i = 0; i < ${#program_words[@]}; i++)); do
     case ${program_words[i]} in
-      --now*) is_lived=true ;;&
+      --now*) lived=true ;;&
       --now=* | --from=*) rest_minute=$((10#${program_words[i]#*=})) ;;
       --now | --from) rest_minute=$((10#${program_words[i + 1]})) ;;
     esac
@@ -83,13 +90,13 @@ line_number() { local place; place=$(place_of "$1"); echo "${place##*:}"; }
 
 # With --now the lockage of a ship that is withdrawn may have turned its chamber.
 keep_turn() {
-  if $is_lived && [ "$1" = 1 ]; then printf ' (the second alone, where the chamber was turned for this lockage)'; fi
+  if [ $lived = true ] && [ "$1" = 1 ]; then printf ' (the second alone, where the chamber was turned for this lockage)'; fi
 }
 
 # Takes ships out, and makes of the notes of a plan text what they mean; sets closures_at and closures_added.
 change_input() {
   closures_at=$1
-  awk -v minute="$rest_minute" -v lived=$is_lived -v dropped="${drops[*]}" -v count="$room/closures" -f "$script/lived.awk" "$input" >"$room/changed"
+  awk -v minute="$rest_minute" -v lived=$lived -v dropped="${drops[*]}" -v count="$room/closures" -f "$script/lived.awk" "$input" >"$room/changed"
   read -r closures_added <"$room/closures"
   input=$room/changed
 }
@@ -113,7 +120,7 @@ make_new_plan() {
   head -n "$(end_of_instance)" "$input" >"$room/lived.lock"
   tail -n +"$(($(end_of_instance) + 1))" "$input" >"$room/lived.plan"
   grep -E '^# (still|turned) ' "$given_plan" >"$room/notes"
-  awk -v minute="$rest_minute" -v lived=$is_lived -v begin="$clock" -v notes="$room/new.notes" -f "$script/time_of_day.awk" -f "$script/turns.awk" \
+  awk -v minute="$rest_minute" -v lived=$lived -v begin="$clock" -v notes="$room/new.notes" -f "$script/time_of_day.awk" -f "$script/turns.awk" \
     part=lock "$room/lived.lock" part=old "$room/lived.plan" part=new "$room/bare.plan" part=notes "$room/notes" >"$room/turns"
   {
     printf '# %s, replanned at minute %s\n' "$(head -n 1 "$answer")" "$rest_minute"
@@ -123,12 +130,23 @@ make_new_plan() {
   } >"$room/new.plan"
 }
 
-# what the new plan changes, ship by ship, and the empty turns that are to be made
+# what the new plan changes, ship by ship, and the empty turns that are to be made; of a day that is played, the turns that
+# it doesn't tell
 tell_rest() {
+  if [ "$command" = play ] && [ "$status" = 0 ]; then tell_turned; fi
   is_replanned || return 0
   awk -v first="$given_plan" -v second="$room/bare.plan" -v in_short=1 -v begin="$clock" -f "$script/time_of_day.awk" -f "$script/changes.awk" </dev/null >&2
   cat "$room/turns" >&2
   if ! $as_plan_text && [ -s "$room/new.notes" ]; then
     say "this report doesn't tell since when a chamber has stood still or turned; for a later --now keep the plan by --plan-text"
   fi
+}
+
+tell_turned() {
+  local chamber way back rest
+  [ -n "$input" ] && has_notes || return 0
+  while read -r _ _ chamber way back rest; do
+    if [ "$back" != - ]; then rest=", and is turned back at $(shown_time "$back")"; else rest=; fi
+    say "$chamber stands turned for ships going $way$rest; no lockage needs this, so the day doesn't tell it"
+  done < <(grep '^# turned ' "$room/given.plan")
 }
