@@ -39,7 +39,11 @@ give_answer() {
   is_written=false not_written=
   # The program wrote into the script's own folder.
   if [ "$status" = 5 ]; then not_written="$(temporary_folder); it may be full"; fi
-  [ -z "$clock" ] || show_times_of_day
+  if is_replanned && $as_plan_text; then
+    answer=$room/new.plan
+  elif [ -n "$clock" ]; then
+    show_times_of_day
+  fi
   if [ -n "$output" ] && is_what_was_asked; then
     write_output && is_written=true || fail_to_write "$output"
   else
@@ -90,4 +94,4 @@ show_times_of_day() {
   esac
 }
 
-times_of_day() { awk -v begin="$clock" -f "$script/clock.awk" "$answer" >"$room/clock" && answer=$room/clock; }
+times_of_day() { awk -v begin="$clock" -f "$script/time_of_day.awk" -f "$script/clock.awk" "$answer" >"$room/clock" && answer=$room/clock; }

@@ -26,6 +26,7 @@ check_option() {
   case $name in
     -o | --output) refuse "-o needs the name of a file after it, and may stand once"; return ;;
     --clock) check_clock "${1#--clock}" "${2-}"; return ;;
+    --drop | --plan-text) check_replan_word "$name"; return ;;
     --*) ;;
     *) refuse "\"$1\" is no option; options begin with two dashes, and $(what_it_takes)"; return ;;
   esac
@@ -52,7 +53,29 @@ check_text() {
   esac
   read -r least most <<<"$(range_of "$1")"
   in_range "$text" "$least" "$most" && return
-  refuse "$1 takes a whole number from $(with_commas "$least") to $(with_commas "$most")${text:+, and not \"$text\"}"
+  refuse "$1 takes a whole number from $(with_commas "$least") to $(with_commas "$most")${text:+, and not \"$text\"}$(about_time "$1" "$text")"
+}
+
+# of a time of day that gave no minute
+about_time() {
+  [[ $1 = --from || $1 = --now ]] && is_later_time "$2" || return 0
+  if [ -z "$clock" ]; then
+    echo "; a time of day needs --clock with the time of minute 0"
+  else
+    echo "; minute 0 is $clock, and a time of the next day is written +1 $2"
+  fi
+}
+
+check_replan_word() {
+  if [ "$command" != replan ]; then
+    refuse "$1 is for replan, and not for ${command:-this}"
+  elif [ "$1" = --drop ]; then
+    refuse "--drop needs the name of a ship after it; it may stand more than once"
+  elif has_word --dossier; then
+    refuse "--plan-text and --dossier can't stand together: a dossier of the rest isn't the whole plan"
+  else
+    refuse "--plan-text stands alone and once"
+  fi
 }
 
 # one to ten digits between two numbers
@@ -122,7 +145,11 @@ many_days() {
 missing_word() {
   if [ -z "$command" ]; then
     refuse "the command is missing; $(the_commands)"
-  elif [ "$command" = replan ] && [[ $seen != *" --from "* ]]; then
-    refuse "replan needs --from and the minute from which on it may plan anew"
+  elif [ "$command" = replan ]; then
+    case $seen in
+      *" --from "*"--now "* | *" --now "*"--from "*) refuse "--from and --now can't stand together; --now is for the day itself" ;;
+      *" --from "* | *" --now "*) ;;
+      *) refuse "replan needs --now and the minute that it is, or --from and a minute of a day that was known beforehand" ;;
+    esac
   fi
 }

@@ -1,10 +1,11 @@
-# What differs between two reports or plan texts, `first` and `second`, ship by ship.
+# What differs between two reports or plan texts, `first` and `second`, ship by ship (with time_of_day.awk). With
+# `in_short` a line for every ship tells chamber and start alone, by the clock where `begin` is given.
 
 BEGIN {
   read(first, 1)
   read(second, 2)
-  for (i = 1; i <= ships; i++) tell(order[i])
-  print same + 0 (same == 1 ? " ship" : " ships") " unchanged"
+  for (i = 1; i <= ships; i++) if (in_short) tell_in_short(order[i]); else tell(order[i])
+  if (!in_short) print same + 0 (same == 1 ? " ship" : " ships") " unchanged"
   exit
 }
 
@@ -40,6 +41,17 @@ function tell(ship,    i, text, old, new) {
   }
   if (text == "") same++
   else print ship ": " text
+}
+
+# where and when it goes, before and now
+function tell_in_short(ship,    old, new, i, is_other) {
+  old = value[1, ship, 1] " " time_of_day(value[1, ship, 3])
+  new = value[2, ship, 1] " " time_of_day(value[2, ship, 3])
+  for (i = 4; i <= 6; i++) if (value[1, ship, i] != value[2, ship, i]) is_other = 1
+  if (!has[1, ship]) print ship ": new, " new
+  else if (!has[2, ship]) print ship ": gone, was " old
+  else if (old != new) print ship ": " old " -> " new
+  else print ship ": as before" (is_other ? ", other berth" : "")
 }
 
 function passage(part, ship) { return value[part, ship, 1] " " value[part, ship, 2] " at " value[part, ship, 3] }

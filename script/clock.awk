@@ -1,16 +1,5 @@
-# Prints the minutes of a report or of a day as times of day; `begin` is the time of day of minute 0.
+# Prints the minutes of a report or of a day as times of day (with time_of_day.awk).
 # Costs, flow times and the lower bound are lengths of time, so they stay minutes.
-
-BEGIN {
-  split(begin, parts, ":")
-  first = parts[1] * 60 + parts[2]
-}
-
-function time_of_day(minute,    total, days) {
-  total = first + minute
-  days = int(total / 1440)
-  return (days > 0 ? "+" days " " : "") sprintf("%02d:%02d", int(total % 1440 / 60), total % 60)
-}
 
 # lockage <number> chamber <name> <way> start <minute> end <minute>
 $1 == "lockage" && NF == 9 {

@@ -24,7 +24,7 @@ reads_dossier() { [[ " check lower resume picture " == *" $1 "* ]]; }
 options_of() {
   case $1 in
     solve | resume) echo "--nodes --turns --workers --dossier --keep" ;;
-    replan) echo "--from --nodes --turns --workers --dossier" ;;
+    replan) echo "--from --now --nodes --turns --workers --dossier" ;;
     lot) echo "--number --ships --chambers" ;;
     trial) echo "--number --ships --chambers --nodes --turns" ;;
   esac
@@ -34,9 +34,10 @@ options_of() {
 own_options_of() {
   echo "-o"
   if reads_instance "$1"; then echo "--clock"; fi
+  if [ "$1" = replan ]; then echo "--drop --plan-text"; fi
 }
 
-is_option() { [[ " --nodes --turns --workers --from --number --ships --chambers " == *" $1 "* ]]; }
+is_option() { [[ " --nodes --turns --workers --from --now --number --ships --chambers " == *" $1 "* ]]; }
 is_flag() { [[ " --dossier --keep " == *" $1 "* ]]; }
 
 # the least and the greatest number of an option
@@ -45,7 +46,7 @@ range_of() {
     --nodes) echo "1 1000000" ;;
     --turns) echo "1 200000" ;;
     --workers) echo "1 8" ;;
-    --from) echo "0 1000000" ;;
+    --from | --now) echo "0 1000000" ;;
     --number) echo "0 4294967295" ;;
     --ships) echo "1 24" ;;
     --chambers) echo "1 4" ;;

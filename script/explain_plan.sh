@@ -7,6 +7,7 @@ explain_plan() {
       if [ "$command" = picture ] && [ "${parts[5]}" = NoMark ]; then
         say "a dossier has one of these lines there: certificate, certificate 2, certificate 3, certificate open, certificate open 3"
       fi
+      if [ "$command" = replan ] && [ "${parts[5]}" = Unknown ]; then tell_withdrawn; fi
       ;;
     "illegal ship "*) explain_ship "${parts[2]}" "${parts[3]}" ;;
     "illegal lockage "*) explain_lockage "${parts[2]}" "${parts[3]}" "${parts[@]:4}" ;;

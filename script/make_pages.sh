@@ -8,7 +8,7 @@ version=$(head -n 1 "$script/../VERSION")
 commands() { sed -n '/^Commands$/,/^$/s/^  \([a-z]*\)  *\(.*\)/\1\t\2/p' "$script/help/glock.txt"; }
 
 # each option of a command's page with the first line of what it does, as `option<tab>text`
-options() { sed -n '/^Options/,/^$/s/^  \(--\{0,1\}[a-z]*\)\( [A-Z][A-Z:]*\)\{0,1\}  *\(.*\)/\1\t\3/p' "$script/help/$1.txt"; }
+options() { sed -n '/^Options/,/^$/s/^  \(--\{0,1\}[a-z-]*\)\( [A-Z][A-Z:]*\)\{0,1\}  *\(.*\)/\1\t\3/p' "$script/help/$1.txt"; }
 
 # the text of help as it stands, for troff
 as_it_stands() { sed 's/\\/\\e/g; s/-/\\-/g; s/^\([.'\'']\)/\\\&\1/; s/\.\/glock/glock/g' "$1"; }

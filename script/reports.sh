@@ -4,7 +4,7 @@
 # after which that plan stands, and lines_of_plan the file that tells from which line of the report each of its lines came.
 take_report() {
   local end
-  plan_begin=
+  plan_begin= closures_at=0 closures_added=0
   reads_plan "$command" && [ -n "$input" ] && [ -z "$wrong" ] && ! $goes_on || return 0
   end=$(end_of_instance)
   [ -n "$end" ] && follows_report "$end" || return 0
@@ -27,9 +27,11 @@ follows_report() {
 
 # the line of the text as it was given, for a line of what the program reads
 given_line() {
-  if [ -n "$plan_begin" ] && [ "$1" -gt "$plan_begin" ]; then
-    echo $((plan_begin + $(sed -n "$(($1 - plan_begin))p" "$lines_of_plan")))
+  local line
+  line=$(line_before_closures "$1")
+  if [ -n "$plan_begin" ] && [ "$line" -gt "$plan_begin" ]; then
+    echo $((plan_begin + $(sed -n "$((line - plan_begin))p" "$lines_of_plan")))
   else
-    echo "$1"
+    echo "$line"
   fi
 }

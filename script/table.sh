@@ -46,5 +46,5 @@ changes() {
     [ -e "$file" ] || { say "there is no file \"$file\""; return 2; }
     [ ! -d "$file" ] && [ -r "$file" ] || { say "$file can't be read"; return 66; }
   done
-  awk -v first="$1" -v second="$2" -f "$script/changes.awk" </dev/null
+  awk -v first="$1" -v second="$2" -f "$script/time_of_day.awk" -f "$script/changes.awk" </dev/null
 }

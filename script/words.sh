@@ -1,10 +1,10 @@
 # The words of the command line: which are for the script, and which for the program.
 # A word that the script can't use goes to the program, which then answers that the words are bad.
 
-# sets command, program_words, files, output, clock, plan_clock and wants_help
+# sets command, program_words, files, output, clock, plan_clock, drops, as_plan_text and wants_help
 split_words() {
-  command= output= clock= wants_help=false ended=false
-  program_words=() files=()
+  command= output= clock= as_plan_text=false wants_help=false ended=false
+  program_words=() files=() drops=()
   while [ $# -gt 0 ]; do
     take_word "$@"
     shift "$taken"
@@ -16,6 +16,46 @@ split_words() {
     program_words+=(--clock "$clock")
     clock=
   fi
+  # What `replan` alone takes, and a dossier is no plan.
+  if [ "$command" != replan ]; then
+    if $as_plan_text; then program_words+=(--plan-text); fi
+    if [ ${#drops[@]} -gt 0 ]; then program_words+=(--drop); fi
+  elif $as_plan_text && has_word --dossier; then
+    program_words+=(--plan-text)
+  fi
+  take_minutes
+}
+
+# Where --clock is given, the minute of --from or --now may be a time of day; what is none stays as it stands.
+take_minutes() {
+  local i
+  [ -n "$clock" ] || return 0
+  for ((i = 0; i < ${#program_words[@]}; i++)); do
+    case ${program_words[i]} in
+      --) break ;;
+      --from=* | --now=*) program_words[i]=${program_words[i]%%=*}=$(minute_of "${program_words[i]#*=}") ;;
+      --from | --now) [ -z "${program_words[i + 1]-}" ] || program_words[i + 1]=$(minute_of "${program_words[i + 1]}") ;;
+    esac
+  done
+}
+
+# the minute of a time of day that isn't before minute 0
+minute_of() {
+  local minute
+  if is_later_time "$1"; then
+    minute=$(($(minutes_of_time "$1") - $(minutes_of_time "$clock")))
+    if [ $minute -ge 0 ]; then echo $minute; return; fi
+  fi
+  printf '%s\n' "$1"
+}
+
+# 08:00, or +1 08:00 of the next day
+is_later_time() { [[ $1 =~ ^(\+[1-9][0-9]{0,2}\ )?([01][0-9]|2[0-3]):[0-5][0-9]$ ]]; }
+
+minutes_of_time() {
+  local days=0 time=${1#* }
+  [[ $1 != +* ]] || days=${1%% *}
+  echo $((10#${days#+} * 1440 + 10#${time%:*} * 60 + 10#${time#*:}))
 }
 
 # takes one word, or an option and its text; sets taken
@@ -30,6 +70,17 @@ take_word() {
     -o?* | --output=?*) [ -z "$output" ] && output=$(text_of "$1") || program_words+=(-o) ;;
     --clock) [ -z "$clock" ] && take_text "$@" && clock=$2 || program_words+=(--clock) ;;
     --clock=?*) [ -z "$clock" ] && clock=${1#*=} || program_words+=("$1") ;;
+    --plan-text) if $as_plan_text; then program_words+=("$1"); fi; as_plan_text=true ;;
+    --drop) take_text "$@" && drops+=("$2") || program_words+=("$1") ;;
+    --drop=?*) drops+=("${1#*=}") ;;
+    --from | --now)
+      program_words+=("$1")
+      if [[ ${2-} =~ ^\+[0-9]+$ ]] && is_time_of_day "${3-}"; then
+        program_words+=("$2 $3") taken=3
+      elif take_text "$@"; then
+        program_words+=("$2")
+      fi
+      ;;
     -*)
       program_words+=("$1")
       if is_option "$1" && take_text "$@"; then program_words+=("$2"); fi

@@ -30,7 +30,19 @@ lot --chambers | from 1 to 4
 solve --nodes 5 --nodes 5 | --nodes stands twice
 solve --keep=1 | --keep stands alone
 check --keep | --keep isn't for check; check takes -o
-replan evening.lock evening.plan | replan needs --from
+replan evening.lock evening.plan | replan needs --now and the minute that it is, or --from
+replan evening.lock evening.plan --now 5 --from 5 | --from and --now can't stand together
+replan evening.lock evening.plan --from=5 --now=5 | --from and --now can't stand together
+replan evening.lock evening.plan --now 19:30 | --now takes a whole number from 0 to 1,000,000, and not "19:30"; a time of day needs --clock
+replan evening.lock evening.plan --clock 17:00 --now 08:00 | and not "08:00"; minute 0 is 17:00, and a time of the next day is written +1 08:00
+replan evening.lock evening.plan --now 24:00 --clock 17:00 | from 0 to 1,000,000, and not "24:00"
+replan evening.lock evening.plan --now 5 --drop | --drop needs the name of a ship
+replan evening.lock evening.plan --now 5 --plan-text --plan-text | --plan-text stands alone and once
+replan evening.lock evening.plan --now 5 --plan-text=1 | --plan-text stands alone and once
+replan evening.lock evening.plan --now 5 --plan-text --dossier | --plan-text and --dossier can't stand together
+solve evening.lock --now 5 | --now isn't for solve
+solve evening.lock --drop gull | --drop is for replan, and not for solve
+judge --plan-text | --plan-text is for replan, and not for judge
 lot -o | -o needs the name of a file
 lot --output | -o needs the name of a file
 lot -ox --output=y | -o needs the name of a file after it, and may stand once

@@ -40,7 +40,7 @@ judge cut.lock evening.plan | 0 | legal cost 270
 play evening.lock evening.plan | 0 | 10 side moor brio
 picture evening.lock evening.plan | 0 | <h1>legal, total flow time 270 minutes</h1>
 picture evening.lock evening-early.plan | 10 | illegal lockage 3 Early | evening-early.plan:7: lockage 3 Early
-replan evening.lock evening.plan --from 150 | 0 | optimal cost 270
+replan evening.lock evening.plan --from 150 | 0 | optimal cost 270 | alva: as before
 judge tail.lock late.plan | 10 | illegal lockage 3 Early | late.plan:10: lockage 3 Early
 judge evening.lock evening-early.plan | 10 | illegal lockage 3 Early | evening-early.plan:7: lockage 3 Early
 judge endless.lock evening.plan | 3 | line 14 fault 3 Word | evening.plan:2: fault 3 Word: endless.lock has no line end
@@ -196,7 +196,7 @@ judge evening.lock 2350.report --clock 17:00 | 0 | legal cost 270
 judge evening.lock crlf.report | 0 | legal cost 270
 judge both | 0 | legal cost 270
 play evening.lock 2350.report --clock 17:00 | 0 | 17:00 main moor alva
-replan now.lock 1700.report --from 150 | 0 | optimal cost
+replan now.lock 1700.report --from 150 | 0 | optimal cost | gull: side 240 -> side 262
 picture evening.lock 1700.report | 0 | <h1>legal, total flow time 270 minutes</h1>
 judge evening.lock cut.report | 10 | NoMark | cut.report: this report can't be read as a plan: this is no whole report: it has no line end
 judge evening.lock early.report | 10 | illegal lockage 4 Early | early.report:

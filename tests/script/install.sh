@@ -71,6 +71,9 @@ glock help repl | replan
 glock solve --no | --nodes
 glock lot --sh | --ships
 glock replan --fr | --from
+glock replan --no | --now --nodes
+glock replan --dr | --drop
+glock replan --pl | --plan-text
 ROWS
 check "a completion for zsh" grep -q "solve) options=('--nodes:" "$room/moved/share/zsh/site-functions/_glock"
 check "the version of CITATION.cff" grep -q "^version: $(head -n 1 "$top/VERSION")$" "$top/CITATION.cff"
