@@ -1,6 +1,7 @@
 # Makes a plan text of a report that `solve`, `judge`, `replan` or `resume` printed:
 #   awk -f examples/plan_of_report.awk evening.report > evening.plan
-# `play`, `picture`, `judge` and `replan` read such a text, and by ./glock the report itself too.
+# `play`, `picture`, `judge` and `replan` read such a text, and by ./glock the report itself too. `./glock replan --plan-text`
+# writes one at once, with what no report tells.
 # A report with times of day, made by --clock, wants the time of minute 0, or the lock's file, whose arrivals tell it:
 #   awk -v begin=17:00 -f examples/plan_of_report.awk evening.report
 #   awk -v lock=evening.lock -f examples/plan_of_report.awk evening.report

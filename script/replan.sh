@@ -82,7 +82,8 @@ tell_withdrawn() {
     if [ "$state" = begun ]; then say_begun "$ship" "$lockage" "$start" 0; continue; fi
     lines="line $(line_number "$berth")"
     if [ "$many" = 1 ]; then lines="lines $(line_number "$lockage") and $(line_number "$berth")"; fi
-    say "$ship is in the plan and not in $first_name. Where $ship is withdrawn say --drop $ship, or take $lines out of ${second_name:-$first_name}$(keep_turn "$many")"
+    say "$ship is in the plan and not in $first_name. Where $ship is withdrawn say --drop $ship, or take $lines out of" \
+      "${second_name:-$first_name}$(keep_turn "$many")"
   done < <(ships_of_plan)
 }
 

@@ -30,12 +30,14 @@ def one_afternoon(program, seed):
     lock = random_lock(random)
     done = subprocess.run([program, "solve", "--workers", "1"], input=lock.text().encode(), capture_output=True)
     _, lockages = read_report(done.stdout.decode())
-    state, minute, told = State(lock), 0, ""
+    state, minute, told = State(lock), random.choice(lockages).start, ""
+    carry_out(state, lock, lockages, 0, minute)
     with tempfile.TemporaryDirectory() as folder:
         room = pathlib.Path(folder)
         (room / "0.plan").write_text(plan_text(lockages))
         for number in range(1, REPLANS + 1):
-            before, minute = minute, minute + random.choice([0, random.randint(1, 12), random.randint(1, 60)])
+            # mostly a few minutes later, while what was planned anew is under way
+            before, minute = minute, minute + random.choice([0, random.randint(1, 15), random.randint(1, 15), random.randint(1, 60)])
             carry_out(state, lock, lockages, before, minute)
             withdrawn = change(random, lock, state, minute)
             (room / "now.lock").write_text(lock.text())
