@@ -2,8 +2,7 @@
 use Rattle.std.proofs.Common.{ℕ, ◌≡◌, ◌≤◌, ◌⊎◌, inl, inr, List, Ok, Err, Result}
 use Rattle.std.specs.Result.{IsErrOf}
 use Rattle.list_laws.proofs.Variants.{one-ok}
-use Rattle.command_words.specs.Given.{Given}
-use Rattle.command_words.specs.Meaning.{GivesRest, GivesOptions, MeanCommand}
+use Rattle.command_words.specs.Meaning.{IsGood, GivesRest, GivesOptions, MeanCommand}
 use Rattle.command_words.specs.declared.commands.Command.{Command}
 use Rattle.command_words.specs.declared.commands.Command.TheVariants.{Solve, Check, Lot, Trial, Judge, Play, Replan, Lower, Resume}
 use Rattle.command_words.specs.declared.commands.DayRest.{DayRest}
@@ -29,29 +28,29 @@ mean_only words command r is means each = record {
 
 -- ---- the numbers of what the words mean are in their ranges
 
-rest_early : (D : DayRest) (given : Given) → GivesRest D given → minute_of D ≤ 1000000
-rest_early (Known minute) given gives = gives.1.high
-rest_early (Lived minute) given gives = gives.1.high
+rest_early : (words : List (List ℕ)) (good : IsGood words) (D : DayRest) → GivesRest D good.given → minute_of D ≤ 1000000
+rest_early words good (Known minute) gives = gives.1.high
+rest_early words good (Lived minute) gives = gives.1.high
 
-given_numbers : (command : Command) (given : Given) → GivesOptions command given → HasNumbers command
-given_numbers (Solve options) given gives = record { nodes = (gives.nodes.low, gives.nodes.high); turns = (gives.turns.low, gives.turns.high); workers = (gives.workers.low, gives.workers.high) }
-given_numbers Check given gives = tt
-given_numbers (Lot options) given gives = record { ships = (gives.ships.low, gives.ships.high); chambers = (gives.chambers.low, gives.chambers.high) }
-given_numbers (Trial options) given gives = record {
+given_numbers : (words : List (List ℕ)) (good : IsGood words) (command : Command) → GivesOptions command good.given → HasNumbers command
+given_numbers words good (Solve options) gives = record { nodes = (gives.nodes.low, gives.nodes.high); turns = (gives.turns.low, gives.turns.high); workers = (gives.workers.low, gives.workers.high) }
+given_numbers words good Check gives = tt
+given_numbers words good (Lot options) gives = record { ships = (gives.ships.low, gives.ships.high); chambers = (gives.chambers.low, gives.chambers.high) }
+given_numbers words good (Trial options) gives = record {
   lot = record { ships = (gives.lot.ships.low, gives.lot.ships.high); chambers = (gives.lot.chambers.low, gives.lot.chambers.high) };
   nodes = (gives.nodes.low, gives.nodes.high);
   turns = (gives.turns.low, gives.turns.high);
 }
-given_numbers Judge given gives = tt
-given_numbers Play given gives = tt
-given_numbers (Replan options) given gives = record {
-  minute = rest_early options.rest given gives.rest;
+given_numbers words good Judge gives = tt
+given_numbers words good Play gives = tt
+given_numbers words good (Replan options) gives = record {
+  minute = rest_early words good options.rest gives.rest;
   nodes = (gives.nodes.low, gives.nodes.high);
   turns = (gives.turns.low, gives.turns.high);
   workers = (gives.workers.low, gives.workers.high);
 }
-given_numbers Lower given gives = tt
-given_numbers (Resume options) given gives = record { nodes = (gives.nodes.low, gives.nodes.high); turns = (gives.turns.low, gives.turns.high); workers = (gives.workers.low, gives.workers.high) }
+given_numbers words good Lower gives = tt
+given_numbers words good (Resume options) gives = record { nodes = (gives.nodes.low, gives.nodes.high); turns = (gives.turns.low, gives.turns.high); workers = (gives.workers.low, gives.workers.high) }
 
 pub has_numbers : (words : List (List ℕ)) (command : Command) → MeanCommand words command → HasNumbers command
-has_numbers words command means = given_numbers command means.good.given means.gives.options
+has_numbers words command means = given_numbers words means.good command means.gives.options

@@ -1,18 +1,18 @@
 -- What is known of a plan that is put together with the begun lockages of a residual as lived.
-use Rattle.std.proofs.Common.{◌≡◌, ℕ, ◌+◌, ◌<◌, ◌≤◌, length, map, nat_eq, All, Option, Some, None, IfSome, IsSomeAnd, refl, sym, subst, arith}
+use Rattle.std.proofs.Common.{◌≡◌, ℕ, ◌+◌, ◌<◌, ◌≤◌, length, map, nat_eq, All, Option, Some, None, IfSome, IsSomeAnd, refl, sym, ap, ◌∙◌, subst, arith}
 use Rattle.std.specs.List.Sorted.{IsStrictlyIncreasing}
 use Rattle.std.proofs.lemmas.List.{length-append, length-map}
 use Rattle.lock_model.specs.declared.limits.TheConstants.{SHIPS}
 use Rattle.lock_model.specs.declared.instance.Instance.{Instance}
 use Rattle.lock_model.specs.declared.plan.Lockage.{Lockage}
 use Rattle.lock_model.specs.declared.plan.Plan.{Plan}
-use Rattle.lock_rules.specs.Plan.{served_in, IsLegal}
+use Rattle.lock_rules.specs.Plan.{served_in, IsLegal, cost_of}
 use Rattle.lock_rules.proofs.LegalLemmas.{legal-ships}
 use Rattle.replan.specs.declared.remainder.Residual.{Residual}
-use Rattle.replan.specs.GoingOn.{IsGoneOn}
+use Rattle.replan.specs.GoingOn.{CanGoOn, IsGoneOn}
 use Rattle.replan.specs.Kept.{kept_of}
 use Rattle.replan.specs.Lived.{IsLivedRest, IsLivedLeft}
-use Rattle.replan.specs.Rest.{ships_left}
+use Rattle.replan.specs.Rest.{ships_left, added_of}
 use Rattle.replan.specs.Together.{renumbered, joined}
 use Rattle.replan.proofs.AheadLemmas.{gone-on}
 use Rattle.replan.proofs.CostLemmas.{few}
@@ -58,7 +58,13 @@ module _ (I : Instance) (r : Residual) (Q P : Plan) (M : ℕ) (left : IsLivedLef
         I.limits.ship_count.1,
       )
 
-  pub lived-gone : (R : Instance) → r.rest ≡ Some R → IsGoneOn I R P M Q (joined r.kept r.numbers Q)
-  lived-gone R is =
+  pub lived-legal : IsLegal I (joined r.kept r.numbers Q)
+  lived-legal = gone.legal
+
+  pub lived-can : CanGoOn I P M (joined r.kept r.numbers Q)
+  lived-can = gone.can
+
+  pub lived-cost : (R : Instance) → r.rest ≡ Some R → cost_of I (joined r.kept r.numbers Q) ≡ cost_of R Q + r.added
+  lived-cost R is =
       let one : here.whole ≡ R = cc (here.is, is) in
-      subst (λ R. IsGoneOn I R P M Q (joined r.kept r.numbers Q)) one gone
+      gone.cost ∙ ap (λ x. cost_of x Q + added_of I (kept_of P M) M) one ∙ ap (λ n. cost_of R Q + n) (sym left.added)

@@ -4,7 +4,7 @@ ghost use Rattle.std.specs.List.Sorted.{IsStrictlyIncreasing};
 ghost use Rattle.lock_model.specs.declared.instance.Instance.{Instance as AnyInstance};
 ghost use Rattle.lock_model.specs.declared.plan.Plan.{Plan as AnyPlan};
 ghost use Rattle.lock_rules.specs.Plan.{IsLegal, cost_of};
-ghost use Rattle.replan.specs.GoingOn.{IsGoneOn};
+ghost use Rattle.replan.specs.GoingOn.{CanGoOn};
 ghost use Rattle.replan.specs.Kept.{kept_of};
 ghost use Rattle.replan.specs.Lived.{IsLivedLeft};
 ghost use Rattle.replan.specs.Rest.{IsLeft};
@@ -62,8 +62,11 @@ fn joined(kept: &Plan, numbers: &[u8], found: &Plan) -> Plan
 pub fn put_together_as_lived(instance: &Instance, residual: &Residual, found: &Plan) -> Plan
     requires left { (plan : AnyPlan) × ((minute : ℕ) × IsLivedLeft instance.now plan minute residual.now) }
     requires legal { IsSomeAnd residual.now.rest (λ rest. IsLegal rest found.now) }
-    ensures gone_on { (rest : AnyInstance) (plan : AnyPlan) (minute : ℕ) → residual.now.rest ≡ Some rest → IsLivedLeft instance.now plan minute residual.now
-        → IsGoneOn instance.now rest plan minute found.now result }
+    ensures legal { IsLegal instance.now result }
+    ensures can { (plan : AnyPlan) (minute : ℕ) → IsLivedLeft instance.now plan minute residual.now
+        → CanGoOn instance.now plan minute result }
+    ensures cost { (rest : AnyInstance) → residual.now.rest ≡ Some rest
+        → cost_of instance.now result ≡ cost_of rest found.now + residual.now.added }
     ensures value { result ≡ joined residual.now.kept residual.now.numbers found.now }
 {
     joined(&residual.kept, residual.numbers.as_slice(), found)

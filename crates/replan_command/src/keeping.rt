@@ -29,7 +29,6 @@ use std::sync::Wait;
 use std::thread::Threads;
 
 // The report of the kept plan, which serves all ships.
-#[tactic(auto, using(crate::proofs::KeepingLemmas::done_prints))]
 fn all_kept_answer(
     alloc: Global,
     instance: &Instance,
