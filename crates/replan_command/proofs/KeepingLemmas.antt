@@ -9,7 +9,10 @@ use Rattle.lock_model.specs.declared.verdict.Verdict.TheVariants.{Optimal, OpenN
 use Rattle.lock_rules.specs.Plan.{served_in, IsLegal, IsCheapest, cost_of}
 use Rattle.lock_rules.specs.Singles.{singles_of}
 use Rattle.lock_rules.specs.Unfit.{HasNoUnfit}
+use Rattle.book_rules.specs.Book.{Book}
 use Rattle.book_rules.specs.Ends.{IsEnd}
+use Rattle.book_rules.specs.Verdict.{verdict_of}
+use Rattle.book_core.specs.Keeps.{IsSound}
 use Rattle.plan_print.specs.Report.{IsOfInstance, report}
 use Rattle.command_words.specs.declared.commands.DayRest.{DayRest}
 use Rattle.command_words.specs.declared.commands.ReplanOptions.{ReplanOptions}
@@ -20,9 +23,10 @@ use Rattle.replan.specs.Together.{number_of, joined, StayCheapest}
 use Rattle.replan.proofs.LeftLemmas.{left-known}
 use Rattle.replan.proofs.ListLemmas.{filtered-rise}
 use Rattle.run_answers.specs.declared.status.Status.{Status}
-use Rattle.solve_commands.specs.Searching.{PrintsDossier, status_of}
+use Rattle.solve_commands.specs.Searching.{PrintsDossier, Ended, status_of}
+use Rattle.solve_commands.specs.Solving.{search_of}
 use Rattle.replan_command.specs.Keeping.{IsCheapestKeeping, PrintsKeeping, PrintsRestDossier, PrintsBestAs, PrintsBestKeeping, prints_dossier, IsPutTogether, in_whole}
-use Rattle.replan_command.specs.Searches.{IsLeftOf, IsToldBelow}
+use Rattle.replan_command.specs.Searches.{IsLeftOf, HasSearched, IsToldBelow}
 use Rattle.replan_command.specs.Replanning.{AnswersKept}
 use Rattle.replan_command.specs.Rests.{minute_of, kept_for, CanKeep, IsRestFor, IsLeftFor, GoesOnFrom}
 use Rattle.replan_command.proofs.RestLemmas.{for_chambers, for_ships, for_fits, done_cheapest, joined_cheapest, left_can, left_kept, left_numbers, left_rest, left_done, left_added}
@@ -117,38 +121,49 @@ module _ (I : Instance) (D : DayRest) (r : Residual) (of : IsLeftOf I D r) (R : 
         (All-map (λ s. s < length I.ships) (number_of (ships_left I (kept_for of.given D))) ships (λ k d within. left-known I (kept_for of.given D) (get_or ships k d) 0 (subst (λ n. get_or ships k d < n) (for_ships I of.given D R can_left rest_left) (known.1 k d within)))),
   )
 
--- what is answered to the verdict on a plan of the rest
+-- the search of the rest that ended
+abbrev pub rest_ended : (options : ReplanOptions) (b : Book) → IsSound b → HasSearched options b → Ended (search_of options.nodes options.turns b.case.instance)
+rest_ended options b sound searched = record {
+  book = b;
+  sound = sound;
+  well = searched.well;
+  of = ap (λ nodes. search_of nodes b.case.turns b.case.instance) searched.nodes ∙ ap (λ turns. search_of options.nodes turns b.case.instance) searched.turns;
+}
+
+-- what is answered to its verdict on its best plan
 module _ (I : Instance) (options : ReplanOptions) (r : Residual) (G : Plan) (left : IsLeftFor I G options.rest r) (R : Instance) (is : r.rest ≡ Some R) (law : StayCheapest) (as_lived : StayCheapestAsLived) where
   abbrev K : Plan
   K = kept_for G options.rest
 
-  pub whole_answers : (Q P : Plan) (V : Verdict) (status : Status) (text : List ℕ) → IsEnd R options.nodes options.turns (singles_of R) Q V
-      → IsLegal I P → GoesOnFrom I G options.rest P → cost_of I P ≡ cost_of R Q + r.added → P ≡ joined r.kept r.numbers Q
+  pub whole_answers : (e : Ended (search_of options.nodes options.turns R)) (P : Plan) (V : Verdict) (status : Status) (text : List ℕ)
+      → verdict_of e.book ≡ V → IsEnd R options.nodes options.turns (singles_of R) e.book.best V
+      → IsLegal I P → GoesOnFrom I G options.rest P → cost_of I P ≡ cost_of R e.book.best + r.added → P ≡ joined r.kept r.numbers e.book.best
       → status ≡ status_of V → text ≡ report I P (in_whole r.numbers r.added V) → AnswersKept (PrintsKeeping I G options.rest) options I G status text
-  whole_answers Q P V status text end legal goes_on cost same shows shown =
+  whole_answers e P V status text is_verdict end legal goes_on cost same shows shown =
       let D = options.rest in
       subst (λ s. AnswersKept (PrintsKeeping I G D) options I G s text) (sym shows)
-      (by_verdict V end (shown ∙ (λ i. report I P (in_whole (left_numbers I G r D left i) (left_added I G r D left i) V))))
+      (by_verdict V is_verdict end (shown ∙ (λ i. report I P (in_whole (left_numbers I G r D left i) (left_added I G r D left i) V))))
     where
-      whole : P ≡ joined K (ships_left I K) Q
-      whole = same ∙ (λ i. joined (left_kept I G r options.rest left i) (left_numbers I G r options.rest left i) Q)
+      whole : P ≡ joined K (ships_left I K) e.book.best
+      whole = same ∙ (λ i. joined (left_kept I G r options.rest left i) (left_numbers I G r options.rest left i) e.book.best)
 
-      together : IsPutTogether I G options.rest R Q P
+      together : IsPutTogether I G options.rest R e.book.best P
       together = record {
         is_rest = the_rest I G options.rest r left R is;
         same = whole;
         legal = legal;
         goes_on = goes_on;
-        cost = cost ∙ ap (λ n. cost_of R Q + n) (left_added I G r options.rest left);
+        cost = cost ∙ ap (λ n. cost_of R e.book.best + n) (left_added I G r options.rest left);
       }
 
-      by_verdict : (V : Verdict) → IsEnd R options.nodes options.turns (singles_of R) Q V → text ≡ report I P (in_whole (ships_left I K) (added_of I K (minute_of options.rest)) V)
+      by_verdict : (V : Verdict) → verdict_of e.book ≡ V → IsEnd R options.nodes options.turns (singles_of R) e.book.best V
+          → text ≡ report I P (in_whole (ships_left I K) (added_of I K (minute_of options.rest)) V)
           → AnswersKept (PrintsKeeping I G options.rest) options I G (status_of V) text
-      by_verdict Optimal end shown =
-          record { plan = P; cheapest = subst (IsCheapestKeeping I G options.rest) (sym whole) (left_cheapest I G options.rest r left R is law as_lived Q end.cheapest); shown = shown }
-      by_verdict (OpenNodes used low) end shown = inl (record { rest = R; found = Q; plan = P; together = together; used = used; low = low; left = end; shown = shown })
-      by_verdict (OpenTurns chamber ships given low) end shown =
-          inr (record { rest = R; found = Q; plan = P; together = together; chamber = chamber; ships = ships; spent = given; low = low; left = end; shown = shown })
+      by_verdict Optimal told end shown =
+          record { plan = P; cheapest = subst (IsCheapestKeeping I G options.rest) (sym whole) (left_cheapest I G options.rest r left R is law as_lived e.book.best end.cheapest); shown = shown }
+      by_verdict (OpenNodes used low) told end shown = inl (record { rest = R; ended = e; plan = P; together = together; used = used; low = low; verdict = told; left = end; shown = shown })
+      by_verdict (OpenTurns chamber ships given low) told end shown =
+          inr (record { rest = R; ended = e; plan = P; together = together; chamber = chamber; ships = ships; spent = given; low = low; verdict = told; left = end; shown = shown })
 
 -- a number below a small bound can be raised
 pub told_more : (less more : ℕ) (ns : List ℕ) (added : ℕ) (V : Verdict) → less ≤ more → IsToldBelow less ns added V → IsToldBelow more ns added V

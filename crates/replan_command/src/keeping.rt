@@ -66,6 +66,7 @@ fn together_answer(
 {
     cheapest_that_keeps();
     cheapest_that_can_go_on();
+    book.keeps();
     let verdict = shown(book);
     let plan = put_together(instance, left, book.best(), options.rest);
     let told = in_whole(instance, left, &plan, &verdict);
