@@ -37,12 +37,12 @@ open_unsure : (options : ReplanOptions) (I : Instance) (K : Plan) (text : List �
 open_unsure options I K text (inl n) = record {
   rest = n.rest;
   is_rest = n.together.is_rest;
-  unsure = λ enough. nodes_open n.used n.low (enough-optimal n.rest options.nodes options.turns (singles_of n.rest) n.found (OpenNodes n.used n.low) enough n.left);
+  unsure = λ enough. nodes_open n.used n.low (enough-optimal n.rest options.nodes options.turns (singles_of n.rest) n.ended.book.best (OpenNodes n.used n.low) enough n.left);
 }
 open_unsure options I K text (inr t) = record {
   rest = t.rest;
   is_rest = t.together.is_rest;
-  unsure = λ enough. turns_open t.chamber t.ships t.spent t.low (enough-optimal t.rest options.nodes options.turns (singles_of t.rest) t.found (OpenTurns t.chamber t.ships t.spent t.low) enough t.left);
+  unsure = λ enough. turns_open t.chamber t.ships t.spent t.low (enough-optimal t.rest options.nodes options.turns (singles_of t.rest) t.ended.book.best (OpenTurns t.chamber t.ships t.spent t.low) enough t.left);
 }
 
 -- a part with a late lockage can't be kept

@@ -9,7 +9,10 @@ use Rattle.lock_model.specs.declared.verdict.Verdict.TheVariants.{Optimal, OpenN
 use Rattle.lock_rules.specs.Plan.{IsLegal, IsCheapest, cost_of}
 use Rattle.lock_rules.specs.Singles.{singles_of}
 use Rattle.lock_rules.specs.Unfit.{HasNoUnfit}
+use Rattle.book_rules.specs.Book.{Book}
 use Rattle.book_rules.specs.Ends.{IsEnd}
+use Rattle.book_rules.specs.Verdict.{verdict_of}
+use Rattle.book_core.specs.Keeps.{IsSound}
 use Rattle.plan_print.specs.Report.{IsOfInstance, report}
 use Rattle.command_words.specs.declared.commands.ReplanOptions.{ReplanOptions}
 use Rattle.replan.specs.declared.remainder.Residual.{Residual}
@@ -20,9 +23,10 @@ use Rattle.replan.proofs.JoinLemmas.{kept-early}
 use Rattle.replan.proofs.LeftLemmas.{left-known}
 use Rattle.replan.proofs.RenumberLemmas.{rest-chambers, rest-ships, left-rise}
 use Rattle.run_answers.specs.declared.status.Status.{Status}
-use Rattle.solve_commands.specs.Searching.{PrintsDossier, status_of}
+use Rattle.solve_commands.specs.Searching.{PrintsDossier, Ended, status_of}
+use Rattle.solve_commands.specs.Solving.{search_of}
 use Rattle.replan_command.specs.Keeping.{IsCheapestKeeping, PrintsKeeping, PrintsRestDossier, PrintsBestAs, PrintsBestKeeping, prints_dossier, IsPutTogether, in_whole}
-use Rattle.replan_command.specs.Searches.{IsLeftOf, IsToldBelow}
+use Rattle.replan_command.specs.Searches.{IsLeftOf, HasSearched, IsToldBelow}
 use Rattle.replan_command.specs.Replanning.{AnswersKept}
 use Rattle.replan_command.proofs.RestLemmas.{rest_fits, all_kept_legal, all_kept_cheapest, joined_cheapest}
 
@@ -106,34 +110,45 @@ module _ (I : Instance) (M : ℕ) (r : Residual) (of : IsLeftOf I M r) (R : Inst
         (All-map (λ s. s < length I.ships) (number_of (ships_left I r.kept)) ships (λ k d within. left-known I r.kept (get_or ships k d) 0 (subst (λ n. get_or ships k d < n) (rest-ships I R r.kept M left_rest) (known.1 k d within)))),
   )
 
--- what is answered to the verdict on a plan of the rest
-module _ (I : Instance) (options : ReplanOptions) (r : Residual) (of : IsLeftOf I options.from r) (R : Instance) (is : r.rest ≡ Some R) (law : StayCheapest) where
-  pub whole_answers : (Q P : Plan) (V : Verdict) (status : Status) (text : List ℕ) → IsEnd R options.nodes options.turns (singles_of R) Q V
-      → IsLegal I P → Keeps r.kept options.from P → cost_of I P ≡ cost_of R Q + r.added → P ≡ joined r.kept r.numbers Q
-      → status ≡ status_of V → text ≡ report I P (in_whole r.numbers r.added V) → AnswersKept (PrintsKeeping I r.kept options.from) options I r.kept status text
-  whole_answers Q P V status text end legal keeps cost same shows shown =
-      subst (λ s. AnswersKept (PrintsKeeping I r.kept options.from) options I r.kept s text) (sym shows)
-      (by_verdict V end (shown ∙ (λ i. report I P (in_whole (left_numbers I options.from r of R is i) (left_added I options.from r of R is i) V))))
-    where
-      whole : P ≡ joined r.kept (ships_left I r.kept) Q
-      whole = same ∙ ap (λ ns. joined r.kept ns Q) (left_numbers I options.from r of R is)
+-- the search of the rest that ended
+abbrev pub rest_ended : (options : ReplanOptions) (b : Book) → IsSound b → HasSearched options b → Ended (search_of options.nodes options.turns b.case.instance)
+rest_ended options b sound searched = record {
+  book = b;
+  sound = sound;
+  well = searched.well;
+  of = ap (λ nodes. search_of nodes b.case.turns b.case.instance) searched.nodes ∙ ap (λ turns. search_of options.nodes turns b.case.instance) searched.turns;
+}
 
-      together : IsPutTogether I r.kept options.from R Q P
+-- what is answered to its verdict on its best plan
+module _ (I : Instance) (options : ReplanOptions) (r : Residual) (of : IsLeftOf I options.from r) (R : Instance) (is : r.rest ≡ Some R) (law : StayCheapest) where
+  pub whole_answers : (e : Ended (search_of options.nodes options.turns R)) (P : Plan) (V : Verdict) (status : Status) (text : List ℕ)
+      → verdict_of e.book ≡ V → IsEnd R options.nodes options.turns (singles_of R) e.book.best V
+      → IsLegal I P → Keeps r.kept options.from P → cost_of I P ≡ cost_of R e.book.best + r.added → P ≡ joined r.kept r.numbers e.book.best
+      → status ≡ status_of V → text ≡ report I P (in_whole r.numbers r.added V) → AnswersKept (PrintsKeeping I r.kept options.from) options I r.kept status text
+  whole_answers e P V status text is_verdict end legal keeps cost same shows shown =
+      subst (λ s. AnswersKept (PrintsKeeping I r.kept options.from) options I r.kept s text) (sym shows)
+      (by_verdict V is_verdict end (shown ∙ (λ i. report I P (in_whole (left_numbers I options.from r of R is i) (left_added I options.from r of R is i) V))))
+    where
+      whole : P ≡ joined r.kept (ships_left I r.kept) e.book.best
+      whole = same ∙ ap (λ ns. joined r.kept ns e.book.best) (left_numbers I options.from r of R is)
+
+      together : IsPutTogether I r.kept options.from R e.book.best P
       together = record {
         is_rest = left_rest I options.from r of R is;
         same = whole;
         legal = legal;
         keeps = keeps;
-        cost = cost ∙ ap (λ n. cost_of R Q + n) (left_added I options.from r of R is);
+        cost = cost ∙ ap (λ n. cost_of R e.book.best + n) (left_added I options.from r of R is);
       }
 
-      by_verdict : (V : Verdict) → IsEnd R options.nodes options.turns (singles_of R) Q V → text ≡ report I P (in_whole (ships_left I r.kept) (added_of I r.kept options.from) V)
+      by_verdict : (V : Verdict) → verdict_of e.book ≡ V → IsEnd R options.nodes options.turns (singles_of R) e.book.best V
+          → text ≡ report I P (in_whole (ships_left I r.kept) (added_of I r.kept options.from) V)
           → AnswersKept (PrintsKeeping I r.kept options.from) options I r.kept (status_of V) text
-      by_verdict Optimal end shown =
-          record { plan = P; cheapest = subst (IsCheapestKeeping I r.kept options.from) (sym whole) (left_cheapest I options.from r of R is law Q end.cheapest); shown = shown }
-      by_verdict (OpenNodes used low) end shown = inl (record { rest = R; found = Q; plan = P; together = together; used = used; low = low; left = end; shown = shown })
-      by_verdict (OpenTurns chamber ships given low) end shown =
-          inr (record { rest = R; found = Q; plan = P; together = together; chamber = chamber; ships = ships; spent = given; low = low; left = end; shown = shown })
+      by_verdict Optimal told end shown =
+          record { plan = P; cheapest = subst (IsCheapestKeeping I r.kept options.from) (sym whole) (left_cheapest I options.from r of R is law e.book.best end.cheapest); shown = shown }
+      by_verdict (OpenNodes used low) told end shown = inl (record { rest = R; ended = e; plan = P; together = together; used = used; low = low; verdict = told; left = end; shown = shown })
+      by_verdict (OpenTurns chamber ships given low) told end shown =
+          inr (record { rest = R; ended = e; plan = P; together = together; chamber = chamber; ships = ships; spent = given; low = low; verdict = told; left = end; shown = shown })
 
 -- a number below a small bound can be raised
 pub told_more : (less more : ℕ) (ns : List ℕ) (added : ℕ) (V : Verdict) → less ≤ more → IsToldBelow less ns added V → IsToldBelow more ns added V

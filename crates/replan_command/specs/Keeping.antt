@@ -7,10 +7,12 @@ use Rattle.lock_model.specs.declared.verdict.Verdict.TheVariants.{Optimal, OpenN
 use Rattle.lock_rules.specs.Plan.{IsLegal, cost_of}
 use Rattle.lock_rules.specs.Singles.{singles_of}
 use Rattle.book_rules.specs.Ends.{IsOpenNodes, IsOpenTurns}
+use Rattle.book_rules.specs.Verdict.{verdict_of}
 use Rattle.plan_print.specs.Report.{report}
 use Rattle.replan.specs.Rest.{ships_left, added_of, IsRest}
 use Rattle.replan.specs.Together.{number_of, joined, Keeps}
-use Rattle.solve_commands.specs.Searching.{PrintsDossier}
+use Rattle.solve_commands.specs.Searching.{PrintsDossier, Ended}
+use Rattle.solve_commands.specs.Solving.{search_of}
 
 -- legal, keeps the kept plan, and no legal plan that keeps it costs less
 pub record IsCheapestKeeping (I : Instance) (K : Plan) (M : ℕ) (P : Plan) : Type 0 where
@@ -58,29 +60,31 @@ in_whole ns added Optimal = Optimal
 in_whole ns added (OpenNodes used low) = OpenNodes used (low + added)
 in_whole ns added (OpenTurns chamber ships turns low) = OpenTurns chamber (map (number_of ns) ships) turns (low + added)
 
--- a plan is printed as open, for all nodes of the search of the rest were used
-pub record PrintsNodesKeeping (nodes : ℕ) (I : Instance) (K : Plan) (M : ℕ) (text : List ℕ) : Type 0 where
+-- a search of the rest ended with this verdict, and its best plan put together with the kept plan is printed as open, for all its nodes were used
+pub record PrintsNodesKeeping (nodes turns : ℕ) (I : Instance) (K : Plan) (M : ℕ) (text : List ℕ) : Type 0 where
   pub rest : Instance
-  pub found : Plan
+  pub ended : Ended (search_of nodes turns rest)
   pub plan : Plan
-  pub together : IsPutTogether I K M rest found plan
+  pub together : IsPutTogether I K M rest ended.book.best plan
   pub used : ℕ
   pub low : ℕ
-  pub left : IsOpenNodes rest nodes (singles_of rest) found used low
+  pub verdict : verdict_of ended.book ≡ OpenNodes used low
+  pub left : IsOpenNodes rest nodes (singles_of rest) ended.book.best used low
   pub shown : text ≡ report I plan (in_whole (ships_left I K) (added_of I K M) (OpenNodes used low))
 
--- a plan is printed as open, for the turns of the search of the rest were spent on the named ships
-pub record PrintsTurnsKeeping (turns : ℕ) (I : Instance) (K : Plan) (M : ℕ) (text : List ℕ) : Type 0 where
+-- a search of the rest ended with this verdict, and its best plan put together with the kept plan is printed as open, for its turns were spent on the named ships
+pub record PrintsTurnsKeeping (nodes turns : ℕ) (I : Instance) (K : Plan) (M : ℕ) (text : List ℕ) : Type 0 where
   pub rest : Instance
-  pub found : Plan
+  pub ended : Ended (search_of nodes turns rest)
   pub plan : Plan
-  pub together : IsPutTogether I K M rest found plan
+  pub together : IsPutTogether I K M rest ended.book.best plan
   pub chamber : ℕ
   pub ships : List ℕ
   pub spent : ℕ
   pub low : ℕ
-  pub left : IsOpenTurns rest turns (singles_of rest) found chamber ships spent low
+  pub verdict : verdict_of ended.book ≡ OpenTurns chamber ships spent low
+  pub left : IsOpenTurns rest turns (singles_of rest) ended.book.best chamber ships spent low
   pub shown : text ≡ report I plan (in_whole (ships_left I K) (added_of I K M) (OpenTurns chamber ships spent low))
 
 abbrev pub PrintsOpenKeeping : ℕ → ℕ → Instance → Plan → ℕ → List ℕ → Type 0
-PrintsOpenKeeping nodes turns I K M text = PrintsNodesKeeping nodes I K M text ⊎ PrintsTurnsKeeping turns I K M text
+PrintsOpenKeeping nodes turns I K M text = PrintsNodesKeeping nodes turns I K M text ⊎ PrintsTurnsKeeping nodes turns I K M text

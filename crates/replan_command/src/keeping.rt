@@ -61,6 +61,7 @@ fn together_answer(
     ensures answer { AnswersKept (PrintsKeeping instance.now left.now.kept options.now.from) options.now instance.now left.now.kept result.status (bytes_in result.text) }
 {
     cheapest_that_keeps();
+    book.keeps();
     let verdict = shown(book);
     let plan = put_together(instance, left, book.best());
     let told = in_whole(instance, left, &plan, &verdict);

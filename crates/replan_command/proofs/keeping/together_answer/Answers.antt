@@ -4,7 +4,7 @@ use Rattle.lock_rules.specs.Singles.{singles_of}
 use Rattle.book_rules.specs.Ends.{IsEnd}
 use Rattle.plan_print.specs.Report.{IsOfInstance, report}
 use Rattle.replan.specs.Together.{joined}
-use Rattle.replan_command.proofs.KeepingLemmas.{left_rising, told_below, whole_known, whole_answers}
+use Rattle.replan_command.proofs.KeepingLemmas.{left_rising, told_below, whole_known, rest_ended, whole_answers}
 use Rattle.replan_command.proofs.keeping.together_answer.Goals as goal
 
 pub shown-verdict-requires : goal.shown-verdict-requires
@@ -39,4 +39,4 @@ returns-in-Ok-clause-answer c =
     let cost = c.put_together-plan.ensures.cost R c.requires.rest ∙ ap (λ Q. cost_of R Q + r.added) c.best.ensures.value in
     let same = c.put_together-plan.ensures.value ∙ ap (joined r.kept r.numbers) c.best.ensures.value in
     let shown = c.in-Ok.ensures.text ∙ ap (report I P) c.in_whole-told.ensures in
-    whole_answers I options r c.requires.left R c.requires.rest c.cheapest_that_keeps.ensures b.best P V c.status_of.result c.in-Ok.text.items end c.put_together-plan.ensures.legal (c.put_together-plan.ensures.keeps c.requires.left.given options.from c.requires.left.left) cost same c.status_of.ensures shown
+    whole_answers I options r c.requires.left R c.requires.rest c.cheapest_that_keeps.ensures (rest_ended options b c.keeps.ensures searched) P V c.status_of.result c.in-Ok.text.items (sym c.shown-verdict.ensures.verdict) end c.put_together-plan.ensures.legal (c.put_together-plan.ensures.keeps c.requires.left.given options.from c.requires.left.left) cost same c.status_of.ensures shown
