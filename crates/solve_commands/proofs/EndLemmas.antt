@@ -1,5 +1,5 @@
 -- What a search that ended well shows, and what is answered to it.
-use Rattle.std.proofs.Common.{ℕ, Bool, true, false, ◌≡◌, ◌≢◌, ◌<◌, refl, List, length, sym, subst, ◌∙◌, inl, inr, All}
+use Rattle.std.proofs.Common.{ℕ, Bool, true, false, ◌≡◌, ◌≢◌, ◌<◌, refl, List, length, sym, subst, inl, inr, All}
 use Rattle.std.proofs.lemmas.List.Elements.{All-contains}
 use Rattle.lock_model.specs.declared.instance.Instance.{Instance}
 use Rattle.lock_model.specs.declared.group.Group.{Group}
@@ -21,7 +21,7 @@ use Rattle.book_core.proofs.SoundLemmas.{laws}
 use Rattle.plan_print.specs.Report.{IsOfInstance, report}
 use Rattle.run_answers.specs.declared.status.Status.{Status}
 use Rattle.run_answers.specs.declared.status.Status.TheVariants.{Good, Open, Words, Refused, ReadFault, WriteFault, NoMemory, BadDossier, Unfit, PlanRefused}
-use Rattle.solve_commands.specs.Searching.{Search, Print, PrintsOptimal, PrintsDossier, PrintsBest, PrintsOpen, NoBest, NoLeft, AnswersSearch, status_of}
+use Rattle.solve_commands.specs.Searching.{Search, Print, PrintsOptimal, PrintsDossier, PrintsBest, PrintsOpen, NoBest, NoLeft, AnswersSearch, Ended, search_in, status_of}
 use Rattle.solve_commands.specs.Keeping.{PrintsKept, PrintsLeft}
 use Rattle.cert_text.specs.declared.heading.Form.TheVariants as form
 
@@ -39,15 +39,24 @@ end_known I nodes turns limit P (OpenTurns chamber ships given low) end =
     let known = All-contains (λ (g : Group). All (λ s. s < length I.ships) g.ships) (line_at named.lines chamber) named.group.group (line-known I named.depth named.lines named.node chamber) named.group.held in
     (named.group.known, subst (All (λ s. s < length I.ships)) named.group.same known)
 
--- the answer that prints it
-pub end_answers : (print : Print) (k : Search) (P : Plan) (V : Verdict) (status : Status) (text : List ℕ)
-    → IsEnd k.instance k.nodes k.turns k.limit P V → status ≡ status_of V → text ≡ print k.instance P V → AnswersSearch (PrintsOptimal print) (PrintsOpen print) k status text
-end_answers print k P Optimal status text end is shown =
-    subst (λ s. AnswersSearch (PrintsOptimal print) (PrintsOpen print) k s text) (sym is) (record { plan = P; cheapest = end.cheapest; shown = shown })
-end_answers print k P (OpenNodes used low) status text end is shown =
-    subst (λ s. AnswersSearch (PrintsOptimal print) (PrintsOpen print) k s text) (sym is) (inl (record { plan = P; used = used; low = low; left = end; shown = shown }))
-end_answers print k P (OpenTurns chamber ships given low) status text end is shown =
-    subst (λ s. AnswersSearch (PrintsOptimal print) (PrintsOpen print) k s text) (sym is) (inr (record { plan = P; chamber = chamber; ships = ships; spent = given; low = low; left = end; shown = shown }))
+-- the search of a book that ended well
+abbrev pub book_ended : (b : Book) (limit : ℕ) → IsSound b → EndsWell limit b → Ended (search_in b limit)
+book_ended b limit sound well = record { book = b; sound = sound; well = well; of = refl }
+
+-- the answer that prints its best plan and its verdict
+ended_answers : (print : Print) (k : Search) (e : Ended k) (V : Verdict) (status : Status) (text : List ℕ) → verdict_of e.book ≡ V
+    → IsEnd k.instance k.nodes k.turns k.limit e.book.best V → status ≡ status_of V → text ≡ print k.instance e.book.best V → AnswersSearch (PrintsOptimal print) (PrintsOpen print) k status text
+ended_answers print k e Optimal status text told end is shown =
+    subst (λ s. AnswersSearch (PrintsOptimal print) (PrintsOpen print) k s text) (sym is) (record { plan = e.book.best; cheapest = end.cheapest; shown = shown })
+ended_answers print k e (OpenNodes used low) status text told end is shown =
+    subst (λ s. AnswersSearch (PrintsOptimal print) (PrintsOpen print) k s text) (sym is) (inl (record { ended = e; used = used; low = low; verdict = told; left = end; shown = shown }))
+ended_answers print k e (OpenTurns chamber ships given low) status text told end is shown =
+    subst (λ s. AnswersSearch (PrintsOptimal print) (PrintsOpen print) k s text) (sym is) (inr (record { ended = e; chamber = chamber; ships = ships; spent = given; low = low; verdict = told; left = end; shown = shown }))
+
+pub book_answers : (print : Print) (b : Book) (limit : ℕ) (V : Verdict) (status : Status) (text : List ℕ)
+    → IsSound b → EndsWell limit b → V ≡ verdict_of b → status ≡ status_of V → text ≡ print b.case.instance b.best V → AnswersSearch (PrintsOptimal print) (PrintsOpen print) (search_in b limit) status text
+book_answers print b limit V status text sound well is shows shown =
+    ended_answers print (search_in b limit) (book_ended b limit sound well) V status text (sym is) (book_ends b limit V is sound well) shows shown
 
 -- the dossier of an accepted certificate
 pub dossier_printed : (I : Instance) (C : Certificate) (text : List ℕ) → Accepts I C → IsWellFormed C → text ≡ dossier form.Whole I C → Reads form.Whole text I C → PrintsDossier I text

@@ -18,8 +18,8 @@ turns_open chamber ships turns low e = cc
 
 -- where a report is printed
 pub open_ends : (print : Print) (k : Search) (text : List ℕ) → PrintsOpen print k text → ¬ AreEnough k.instance k.nodes k.turns
-open_ends print k text (inl n) = λ enough. nodes_open n.used n.low (enough-optimal k.instance k.nodes k.turns k.limit n.plan (OpenNodes n.used n.low) enough n.left)
-open_ends print k text (inr t) = λ enough. turns_open t.chamber t.ships t.spent t.low (enough-optimal k.instance k.nodes k.turns k.limit t.plan (OpenTurns t.chamber t.ships t.spent t.low) enough t.left)
+open_ends print k text (inl n) = λ enough. nodes_open n.used n.low (enough-optimal k.instance k.nodes k.turns k.limit n.ended.book.best (OpenNodes n.used n.low) enough n.left)
+open_ends print k text (inr t) = λ enough. turns_open t.chamber t.ships t.spent t.low (enough-optimal k.instance k.nodes k.turns k.limit t.ended.book.best (OpenTurns t.chamber t.ships t.spent t.low) enough t.left)
 
 -- the end of a search whose turns are spent, by its open certificate
 spent_turns : (k : Search) (C : Certificate) (kept : IsKeptCertificate k C) (spent : SpendsTurns k C) → IsOpenTurns k.instance k.turns k.limit C.plan spent.chamber spent.ships k.turns kept.low

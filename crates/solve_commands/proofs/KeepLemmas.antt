@@ -1,5 +1,5 @@
 -- What the open certificate of a search that ended well and open keeps.
-use Rattle.std.proofs.Common.{ℕ, Bool, true, false, ◌≡◌, ◌≢◌, ◌<◌, ◌≤◌, ◌⊎◌, refl, length, sym, subst, ◌∙◌, inl, inr, arith, Some, None, cond, ◌||◌, min, true≢false}
+use Rattle.std.proofs.Common.{ℕ, Bool, true, false, ◌≡◌, ◌≢◌, ◌<◌, ◌≤◌, ◌⊎◌, refl, List, length, sym, subst, ◌∙◌, inl, inr, arith, Some, None, cond, ◌||◌, min, true≢false}
 use Rattle.std.specs.declared.option.Option.{Option}
 use Rattle.std.proofs.lemmas.List.Folds.{Any-from_list_any}
 use Rattle.std.proofs.lemmas.List.{get_or_default}
@@ -17,9 +17,11 @@ use Rattle.certificate_rules.specs.Low.{IsLow}
 use Rattle.certificate_rules.specs.WellFormed.{IsWellFormed}
 use Rattle.book_core.specs.Keeps.{IsSound}
 use Rattle.book_certificate.specs.Certified.{IsCertificateOf, certified_low, HasMoreMarks}
+use Rattle.cert_text.specs.Dossier.{dossier, Reads}
+use Rattle.cert_text.specs.declared.heading.Form.TheVariants as form
 use Rattle.solve_commands.specs.Searching.{search_in}
-use Rattle.solve_commands.specs.Keeping.{SpendsNodes, SpendsTurns, IsKeptCertificate}
-use Rattle.solve_commands.proofs.EndLemmas.{book_ends}
+use Rattle.solve_commands.specs.Keeping.{SpendsNodes, SpendsTurns, IsKeptCertificate, PrintsKept}
+use Rattle.solve_commands.proofs.EndLemmas.{book_ends, book_ended}
 
 -- ---- a book with nothing open isn't left for want of nodes
 
@@ -94,3 +96,8 @@ module _ (b : Book) (limit : ℕ) (C : Certificate) (own : IsCertificateOf b C) 
         | inl shut ↦ absurd (shut_other b used low shut well.free is)
         | inr spent ↦ let some = more.more spent.id spent.known spent.fresh in let used_up = spent.used in omega (arith, some, used_up)
       ]
+
+-- the open dossier of that certificate
+pub kept_prints : (b : Book) (limit : ℕ) (C : Certificate) (text : List ℕ) → IsSound b → EndsWell limit b → IsCertificateOf b C → IsKeptCertificate (search_in b limit) C
+    → text ≡ dossier form.Open b.case.instance C → Reads form.Open text b.case.instance C → PrintsKept (search_in b limit) text
+kept_prints b limit C text sound well own kept shown reads = record { ended = book_ended b limit sound well; certificate = C; own = own; kept = kept; shown = shown; reads = reads }

@@ -1,5 +1,5 @@
 -- A search from a plan that costs at most so much, told of one that may cost more.
-use Rattle.std.proofs.Common.{ℕ, Bool, true, false, ◌≡◌, ◌≤◌, List, inl, inr, arith}
+use Rattle.std.proofs.Common.{ℕ, Bool, true, false, ◌≤◌, List, inl, inr, arith, ap}
 use Rattle.lock_rules.specs.Node.{root_lines}
 use Rattle.book_rules.specs.Book.{Book}
 use Rattle.book_rules.specs.Cheap.{opening_cost}
@@ -8,12 +8,24 @@ use Rattle.book_rules.proofs.GrowLemmas.{cheap-grows}
 use Rattle.plan_print.specs.Report.{report}
 use Rattle.run_answers.specs.declared.status.Status.{Status}
 use Rattle.run_answers.specs.declared.status.Status.TheVariants.{Good, Open, Words, Refused, ReadFault, WriteFault, NoMemory, BadDossier, Unfit, PlanRefused}
-use Rattle.solve_commands.specs.Searching.{Search, Print, PrintsOpen, PrintsBest, AnswersSearch, search_in}
+use Rattle.solve_commands.specs.Searching.{Search, Print, PrintsOpen, PrintsBest, AnswersSearch, Ended, search_in}
 use Rattle.solve_commands.specs.Keeping.{PrintsKept, PrintsLeft}
 
 -- the same search from a plan that costs at most `limit`
 abbrev pub widened : Search → ℕ → Search
 widened k limit = record { instance = k.instance; nodes = k.nodes; turns = k.turns; limit = limit }
+
+-- it ended as well
+abbrev ended_wider : (k : Search) (limit : ℕ) → k.limit ≤ limit → Ended k → Ended (widened k limit)
+ended_wider k limit less ended =
+    let well = ended.well in
+    let opening = well.opening in
+    record {
+      book = ended.book;
+      sound = ended.sound;
+      well = record { free = well.free; opening = omega (arith, opening, less); parked = well.parked; left = well.left };
+      of = ap (λ (j : Search). widened j limit) ended.of;
+    }
 
 open_wider : (print : Print) (k : Search) (limit : ℕ) (text : List ℕ) → k.limit ≤ limit → PrintsOpen print k text → PrintsOpen print (widened k limit) text
 open_wider print k limit text less (inl n) =
@@ -21,9 +33,10 @@ open_wider print k limit text less (inl n) =
     let cost = left.cost in
     let more = left.more in
     inl (record {
-      plan = n.plan;
+      ended = ended_wider k limit less n.ended;
       used = n.used;
       low = n.low;
+      verdict = n.verdict;
       left = record { legal = left.legal; cost = omega (arith, cost, less); spent = left.spent; more = omega (arith, more, cheap-grows k.instance k.limit limit less 0 root_lines); lower = left.lower };
       shown = n.shown;
     })
@@ -31,11 +44,12 @@ open_wider print k limit text less (inr t) =
     let left = t.left in
     let cost = left.cost in
     inr (record {
-      plan = t.plan;
+      ended = ended_wider k limit less t.ended;
       chamber = t.chamber;
       ships = t.ships;
       spent = t.spent;
       low = t.low;
+      verdict = t.verdict;
       left = record { legal = left.legal; cost = omega (arith, cost, less); same = left.same; named = left.named; cheaper = left.cheaper; lower = left.lower };
       shown = t.shown;
     })
@@ -45,7 +59,9 @@ kept_wider k limit text less printed =
     let kept = printed.kept in
     let cost = kept.cost in
     record {
+      ended = ended_wider k limit less printed.ended;
       certificate = printed.certificate;
+      own = printed.own;
       kept = record {
         formed = kept.formed;
         stands = kept.stands;

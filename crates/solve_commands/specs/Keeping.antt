@@ -5,12 +5,13 @@ use Rattle.lock_rules.specs.Plan.{IsLegal, cost_of}
 use Rattle.lock_rules.specs.Node.{root_lines}
 use Rattle.lock_rules.specs.Cheap.{cheap_nodes}
 use Rattle.book_rules.specs.Ends.{IsOpenLow, IsSpentBelow, IsUnderSpent}
+use Rattle.book_certificate.specs.Certified.{IsCertificateOf}
 use Rattle.certificate_rules.specs.Certificates.{Certificate, Stands}
 use Rattle.certificate_rules.specs.Low.{IsLow}
 use Rattle.certificate_rules.specs.WellFormed.{IsWellFormed}
 use Rattle.cert_text.specs.Dossier.{dossier, Reads}
 use Rattle.plan_print.specs.Report.{report}
-use Rattle.solve_commands.specs.Searching.{Search, PrintsOpen}
+use Rattle.solve_commands.specs.Searching.{Search, Ended, PrintsOpen}
 use Rattle.cert_text.specs.declared.heading.Form.TheVariants as form
 
 -- More nodes than the search may use have a bound below its limit, and the certificate has more marks than these.
@@ -35,9 +36,11 @@ pub record IsKeptCertificate (k : Search) (C : Certificate) : Type 0 where
   pub lower : IsOpenLow k.instance C.plan low
   pub cause : SpendsNodes k C ⊎ SpendsTurns k C
 
--- The open dossier of such a certificate is printed. It is read back as the same two.
+-- A search ended, and the open dossier of its own certificate is printed: its best plan, all its cuts and prices, and the marks of all slots. It is read back as the same two.
 pub record PrintsKept (k : Search) (text : List ℕ) : Type 0 where
+  pub ended : Ended k
   pub certificate : Certificate
+  pub own : IsCertificateOf ended.book certificate
   pub kept : IsKeptCertificate k certificate
   pub shown : text ≡ dossier form.Open k.instance certificate
   pub reads : Reads form.Open text k.instance certificate

@@ -6,7 +6,9 @@ use Rattle.lock_model.specs.declared.verdict.Verdict.{Verdict}
 use Rattle.lock_model.specs.declared.verdict.Verdict.TheVariants.{Optimal, OpenNodes, OpenTurns}
 use Rattle.lock_rules.specs.Plan.{IsCheapest}
 use Rattle.book_rules.specs.Book.{Book}
-use Rattle.book_rules.specs.Ends.{IsOpenNodes, IsOpenTurns}
+use Rattle.book_rules.specs.Ends.{IsOpenNodes, IsOpenTurns, EndsWell}
+use Rattle.book_rules.specs.Verdict.{verdict_of}
+use Rattle.book_core.specs.Keeps.{IsSound}
 use Rattle.certificate_rules.specs.Certificates.{Certificate, Accepts}
 use Rattle.certificate_rules.specs.WellFormed.{IsWellFormed}
 use Rattle.cert_text.specs.Dossier.{dossier, Reads}
@@ -26,6 +28,13 @@ pub record Search : Type 0 where
 -- the search of a book
 abbrev pub search_in : Book → ℕ → Search
 search_in b limit = record { instance = b.case.instance; nodes = b.case.nodes; turns = b.case.turns; limit = limit }
+
+-- A SEARCH THAT ENDED. Its book is the replay of the events that it accepted (`IsSound`), and it ended well from a plan that costs at most the limit.
+pub record Ended (k : Search) : Type 0 where
+  pub book : Book
+  pub sound : IsSound book
+  pub well : EndsWell k.limit book
+  pub of : search_in book k.limit ≡ k
 
 -- the status of a run that ends with this verdict
 abbrev pub status_of : Verdict → Status
@@ -57,23 +66,25 @@ abbrev pub PrintsBest : Bool → Instance → List ℕ → Type 0
 PrintsBest true I text = PrintsDossier I text
 PrintsBest false I text = PrintsOptimal report I text
 
--- a plan is printed as open, for all nodes of the search were used
+-- a search ended with this verdict, and its best plan is printed as open, for all its nodes were used
 pub record PrintsOpenNodes (print : Print) (k : Search) (text : List ℕ) : Type 0 where
-  pub plan : Plan
+  pub ended : Ended k
   pub used : ℕ
   pub low : ℕ
-  pub left : IsOpenNodes k.instance k.nodes k.limit plan used low
-  pub shown : text ≡ print k.instance plan (OpenNodes used low)
+  pub verdict : verdict_of ended.book ≡ OpenNodes used low
+  pub left : IsOpenNodes k.instance k.nodes k.limit ended.book.best used low
+  pub shown : text ≡ print k.instance ended.book.best (OpenNodes used low)
 
--- a plan is printed as open, for the turns of the search were spent on the named ships
+-- a search ended with this verdict, and its best plan is printed as open, for its turns were spent on the named ships
 pub record PrintsOpenTurns (print : Print) (k : Search) (text : List ℕ) : Type 0 where
-  pub plan : Plan
+  pub ended : Ended k
   pub chamber : ℕ
   pub ships : List ℕ
   pub spent : ℕ
   pub low : ℕ
-  pub left : IsOpenTurns k.instance k.turns k.limit plan chamber ships spent low
-  pub shown : text ≡ print k.instance plan (OpenTurns chamber ships spent low)
+  pub verdict : verdict_of ended.book ≡ OpenTurns chamber ships spent low
+  pub left : IsOpenTurns k.instance k.turns k.limit ended.book.best chamber ships spent low
+  pub shown : text ≡ print k.instance ended.book.best (OpenTurns chamber ships spent low)
 
 abbrev pub PrintsOpen : Print → Search → List ℕ → Type 0
 PrintsOpen print k text = PrintsOpenNodes print k text ⊎ PrintsOpenTurns print k text

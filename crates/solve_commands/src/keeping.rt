@@ -3,6 +3,8 @@ ghost use Rattle.std.specs.Prelude.{◌≡◌, ◌≢◌, ℕ};
 ghost use Rattle.lock_model.specs.declared.verdict.Verdict.TheVariants.{Optimal};
 ghost use Rattle.book_rules.specs.Ends.{EndsWell};
 ghost use Rattle.book_rules.specs.Verdict.{verdict_of};
+ghost use Rattle.book_core.specs.Keeps.{IsSound};
+ghost use Rattle.book_certificate.specs.Certified.{IsCertificateOf};
 ghost use Rattle.solve_commands.specs.Searching.{NoBest, AnswersSearch, search_in};
 ghost use Rattle.solve_commands.specs.Keeping.{IsKeptCertificate, PrintsKept};
 ghost use Rattle.run_answers.specs.Written.{bytes_in};
@@ -18,7 +20,10 @@ use std::alloc::Global;
 // The open dossier of the open certificate of a search.
 fn open_dossier_answer(alloc: Global, book: &Book, certificate: &Certificate) -> Answer
     ghost limit: { ℕ }
-    requires { IsKeptCertificate (search_in book.now limit) certificate.now }
+    requires sound { IsSound book.now }
+    requires well { EndsWell limit book.now }
+    requires own { IsCertificateOf book.now certificate.now }
+    requires kept { IsKeptCertificate (search_in book.now limit) certificate.now }
     ensures { AnswersSearch NoBest PrintsKept (search_in book.now limit) result.status (bytes_in result.text) }
 {
     match print_dossier(alloc, Form::Open, &book.case().instance, certificate) {

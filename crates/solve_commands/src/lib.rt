@@ -7,9 +7,10 @@
 //! the best plan of a search that ended well. A text goes with one status, and each other answer has
 //! its cause.
 //!
-//! Definitions: `specs/Options` (numbers in their ranges), `Searching` (what is answered at the end of
-//! a search), `Keeping` (what is printed of a search that is left open), `Solving` (what `solve`
-//! answers to bytes), `Lots` (what `lot` and `trial` answer).
+//! Definitions: `specs/Options` (numbers in their ranges), `Searching` (a search that ended, and what
+//! is answered then: of an open one its best plan and its verdict), `Keeping` (what is printed of a
+//! search that is left open), `Solving` (what `solve` answers to bytes), `Lots` (what `lot` and `trial`
+//! answer).
 #![tactic(auto)]
 
 mod keeping;

@@ -51,7 +51,7 @@ pub fn status_of(verdict: &Verdict) -> Status
 }
 
 /// The report of the best plan of a search that ended well.
-#[tactic(auto, using(crate::proofs::EndLemmas::end_answers))]
+#[tactic(auto, using(crate::proofs::EndLemmas::book_answers))]
 pub fn report_answer(alloc: Global, book: &Book) -> Answer
     ghost limit: { ℕ }
     requires { EndsWell limit book.now }
@@ -59,6 +59,7 @@ pub fn report_answer(alloc: Global, book: &Book) -> Answer
     ensures left { verdict_of book.now ≢ Optimal → result.status ≢ Status.Good }
     ensures answer { AnswersSearch (PrintsOptimal report) (PrintsOpen report) (search_in book.now limit) result.status (bytes_in result.text) }
 {
+    book.keeps();
     let verdict = shown(book);
     match print_report(alloc, &book.case().instance, book.best(), &verdict) {
         Ok(text) => Answer {
@@ -70,12 +71,13 @@ pub fn report_answer(alloc: Global, book: &Book) -> Answer
 }
 
 // The first line of that report.
-#[tactic(auto, using(crate::proofs::EndLemmas::end_answers))]
+#[tactic(auto, using(crate::proofs::EndLemmas::book_answers))]
 fn line_answer(alloc: Global, book: &Book) -> Answer
     ghost limit: { ℕ }
     requires { EndsWell limit book.now }
     ensures { AnswersSearch (PrintsOptimal verdict_line) (PrintsOpen verdict_line) (search_in book.now limit) result.status (bytes_in result.text) }
 {
+    book.keeps();
     let verdict = shown(book);
     match print_verdict_line(alloc, &book.case().instance, book.best(), &verdict) {
         Ok(text) => Answer {
