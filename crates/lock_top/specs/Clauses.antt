@@ -67,7 +67,7 @@ abbrev pub IsSolvedAs : Bool → List ℕ → List ℕ → Type 0
 IsSolvedAs true bytes text = IsCertified bytes text
 IsSolvedAs false bytes text = IsSolved bytes text
 
--- SOLVE, OPEN. The bytes mean an instance, and the text is the report of an open plan of it with its cause, or with `--keep` the open dossier.
+-- SOLVE, OPEN. The bytes mean an instance, a search of it ended open, and the text is the report of its best plan and its verdict, or with `--keep` the open dossier of its own certificate.
 pub record IsLeftOpen (options : SolveOptions) (bytes text : List ℕ) : Type 0 where
   pub instance : Instance
   pub means : Means bytes instance
@@ -89,7 +89,7 @@ pub record IsTried (options : TrialOptions) (run : Run) : Type 0 where
   pub cheapest : IsCheapest instance plan
   pub got : Got run (verdict_line instance plan Optimal)
 
--- TRIAL, OPEN. Nothing was read, and the sink got the first line of the report of an open plan of the generator's instance with its cause.
+-- TRIAL, OPEN. Nothing was read, a search of the generator's instance ended open, and the sink got the first line of the report of its best plan and its verdict.
 pub record IsTriedOpen (options : TrialOptions) (run : Run) : Type 0 where
   pub instance : Instance
   pub text : List ℕ

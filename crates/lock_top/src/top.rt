@@ -16,8 +16,9 @@ use std::thread::Threads;
 ///
 /// `solve` reads an instance text and searches all its plans. With `Good` the sink got the report of
 /// a plan that is cheapest over all legal plans, or with `--dossier` the dossier of such a plan and
-/// of an accepted certificate; with `Open` the report of a plan no dearer than serving each ship
-/// alone, or with `--keep` the open dossier, and the budget of nodes or the turns of the named ships
+/// of an accepted certificate; with `Open` a search ended open: the report of its best plan, which is
+/// no dearer than serving each ship alone, and of its verdict, or with `--keep` the open dossier of its
+/// own certificate; and the budget of nodes or the turns of the named ships
 /// were spent. `check` reads a dossier; with `Good` its certificate is accepted, so its plan is cheapest
 /// and has the printed cost. `lot` prints the instance that a number makes, and `trial` the first line
 /// of its report; both read nothing. `judge` and `play` read an instance and a plan; with `Good` the

@@ -3,13 +3,13 @@ use Rattle.std.specs.Prelude.{ℕ, ◌+◌, ◌≤◌, List, min}
 use Rattle.lock_model.specs.declared.instance.Instance.{Instance}
 use Rattle.lock_model.specs.declared.plan.Plan.{Plan}
 use Rattle.lock_rules.specs.Plan.{IsCheapest, cost_of}
-use Rattle.book_rules.specs.Book.{Case}
+use Rattle.book_rules.specs.Book.{Case, best_cost}
 use Rattle.certificate_rules.specs.Certificates.{Certificate}
 use Rattle.command_words.specs.declared.commands.SolveOptions.{SolveOptions}
 use Rattle.resume_command.specs.Prior.{prior_of}
 use Rattle.run_answers.specs.Ended.{IsEndedOr}
 use Rattle.run_answers.specs.declared.status.Status.{Status}
-use Rattle.solve_commands.specs.Searching.{Search, PrintsBest}
+use Rattle.solve_commands.specs.Searching.{Search, Ended, PrintsBest}
 use Rattle.solve_commands.specs.Keeping.{PrintsLeft}
 use Rattle.checked_dossiers.specs.Standing.{IsStanding, IsNoStanding}
 
@@ -33,11 +33,12 @@ pub record ResumesBest (options : SolveOptions) (bytes text : List ℕ) : Type 0
   pub within : (P : Plan) → IsCheapest instance P → cost_of instance P ≤ certificate.cost
   pub best : PrintsBest options.dossier instance text
 
--- The certificate stands, and what is printed of an open plan is printed, which costs at most the certificate's cost.
+-- The certificate stands, and what a search of it left open is printed. Its best plan costs at most the certificate's cost, as that of any search that ended so.
 pub record ResumesOpen (options : SolveOptions) (bytes text : List ℕ) : Type 0 where
   pub instance : Instance
   pub certificate : Certificate
   pub standing : IsStanding bytes instance certificate
+  pub within : (ended : Ended (search_on options instance certificate)) → best_cost ended.book ≤ certificate.cost
   pub left : PrintsLeft options.keep (search_on options instance certificate) text
 
 -- what is answered to the bytes of an open dossier
