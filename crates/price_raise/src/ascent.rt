@@ -7,12 +7,13 @@ use crate::stands::Stands;
 use lock_model::SHIPS;
 use price_terms::Prices;
 
-/// How an ascent goes on: so many steps at the most; after so many without gain it goes back to the
-/// best prices, with steps a third shorter; and after each span of so many steps it ends, unless so
-/// many spans that gain as much as this one would reach the goal.
+/// How an ascent goes on: so many steps at the most; of the last direction so many tenths are kept; after
+/// so many steps without gain it goes back to the best prices, with steps a third shorter; and after each
+/// span of so many steps it ends, unless so many spans that gain as much as this one would reach the goal.
 #[derive(Clone, Copy, PartialEq, Eq)]
 pub struct Pace {
     pub steps: u32,
+    pub kept: u32,
     pub patience: u32,
     pub span: u32,
     pub spans: u32,
@@ -84,12 +85,12 @@ fn gap_to(goal: u64, sum: i64) -> i64 {
     goal.saturating_sub(sum).clamp(LEAST_GAP, MOST_GAP)
 }
 
-// Turns the direction: what it was counts three tenths, and a missing ship pulls by how often it is
-// lacking.
-fn turn(direction: &mut [i64; SHIPS], missing: &[u8], stands: &Stands) {
+// Turns the direction: of what it was so many tenths are kept, and a missing ship pulls by how often it
+// is lacking.
+fn turn(direction: &mut [i64; SHIPS], missing: &[u8], stands: &Stands, kept: u32) {
     for &ship in missing {
         if (ship as usize) < SHIPS {
-            let before = direction[ship as usize].saturating_mul(3) / 10;
+            let before = direction[ship as usize].saturating_mul(kept as i64) / 10;
             let lacking = 1i64.saturating_sub(stands.of(ship)).saturating_mul(ONCE);
             direction[ship as usize] = before.saturating_add(lacking);
         }
@@ -203,7 +204,7 @@ impl Ascent {
         ensures same { OnFalse result (self.new.tried ≡ self.old.tried) }
     {
         self.weigh(sum);
-        turn(&mut self.direction, missing, stands);
+        turn(&mut self.direction, missing, stands, self.pace.kept);
         let norm = norm_of(&self.direction);
         let hopeless = self.is_hopeless(goal);
         if hopeless || self.pace.steps == 0 || norm <= 0 {

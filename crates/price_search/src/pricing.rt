@@ -24,23 +24,28 @@ const FEWEST_MISSING: usize = 5;
 
 // Most of what is gained comes in the first steps. Once the best cost is out of sight, the nodes below
 // are closed sooner than more steps bring it nearer. The first node is left later, since all others
-// begin with its prices; its span is longer than its patience, so that a going back counts in it.
+// begin with its prices; its span is longer than its patience, so that a going back counts in it. There
+// most of the last direction is kept: where a line serves the cheapest ship again and again, as before a
+// chamber that takes one ship at a time, prices come near the best ones only so.
 const FIRST_PACE: Pace = Pace {
-    steps: 200,
-    patience: 15,
-    span: 20,
+    steps: 400,
+    kept: 9,
+    patience: 30,
+    span: 40,
     spans: 10,
 };
 
 const BRIEF_PACE: Pace = Pace {
-    steps: 60,
-    patience: 8,
-    span: 10,
+    steps: 300,
+    kept: 9,
+    patience: 30,
+    span: 40,
     spans: 5,
 };
 
 const PACE: Pace = Pace {
     steps: 40,
+    kept: 3,
     patience: 5,
     span: 5,
     spans: 3,

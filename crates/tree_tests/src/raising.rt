@@ -21,6 +21,7 @@ fn ascent_from(start: [u32; 2]) -> Result<Ascent, Fail> {
     let prices = Prices::new(&start).ok_or("no prices")?;
     let pace = Pace {
         steps: 1,
+        kept: 3,
         patience: 15,
         span: 10,
         spans: 1,
@@ -63,6 +64,7 @@ fn it_goes_back_to_the_best_prices_and_ends_where_the_goal_is_out_of_sight(
     let prices = Prices::new(&[0, 0]).ok_or("no prices")?;
     let pace = Pace {
         steps: 9,
+        kept: 3,
         patience: 0,
         span: 2,
         spans: 3,
