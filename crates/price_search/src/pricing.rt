@@ -31,7 +31,7 @@ const FIRST_PACE: Pace = Pace {
     steps: 400,
     kept: 9,
     patience: 30,
-    span: 40,
+    span: 80,
     spans: 10,
 };
 
