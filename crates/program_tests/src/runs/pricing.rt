@@ -1,7 +1,7 @@
 //! Runs in which two workers work out prices.
 
 use super::fixture::{LARGE, run_over, run_past};
-use gates::{LastGate, MeetGate, Stage};
+use gates::{MeetGate, Stage};
 use std::alloc::Global;
 use std::sync::Wait;
 use std::test::Fail;
@@ -29,26 +29,11 @@ fn do_meet<R: Threads + Wait + Sync>(
     Ok(gate.met() && ran.text.as_slice().starts_with(FIRST_LINE))
 }
 
-// Whether the held worker, which prices its node once the other one is done with all others, knows the cut
-// that the other found by prices: it knows nine, and the other one began with eight.
-fn does_learn<R: Threads + Wait + Sync>(
-    rt: &R,
-    alloc: Global,
-    words: &[&str],
-    text: &[u8],
-) -> Result<bool, Fail> {
-    let gate = LastGate::new(Stage::Pricing, LOOKS);
-    let ran = run_past(rt, alloc, words, text, LARGE, &gate)?;
-    let solved = ran.text.as_slice().starts_with(FIRST_LINE);
-    Ok(solved && gate.began() == Some(8) && gate.learnt() == Some(9))
-}
-
 #[test]
 fn two_workers_price_in_a_run(rt: HostRuntime) -> Result<(), Fail> {
     let lot = run_over(&rt, rt.alloc(), &LOT, b"")?;
     let words = ["solve", "--workers", "2"];
     assert!(rt; do_meet(&rt, rt.alloc(), &words, lot.text.as_slice())?);
-    assert!(rt; does_learn(&rt, rt.alloc(), &words, lot.text.as_slice())?);
     Ok(())
 }
 
@@ -59,7 +44,6 @@ fn two_workers_price_when_the_rest_is_planned(rt: HostRuntime) -> Result<(), Fai
     text.extend_from_slice(b"plan\nend\n")?;
     let words = ["replan", "--from", "0", "--workers", "2"];
     assert!(rt; do_meet(&rt, rt.alloc(), &words, text.as_slice())?);
-    assert!(rt; does_learn(&rt, rt.alloc(), &words, text.as_slice())?);
     Ok(())
 }
 
@@ -70,6 +54,5 @@ fn two_workers_price_in_a_resumed_search(rt: HostRuntime) -> Result<(), Fail> {
     let kept = run_over(&rt, rt.alloc(), &begun, lot.text.as_slice())?;
     let words = ["resume", "--workers", "2"];
     assert!(rt; do_meet(&rt, rt.alloc(), &words, kept.text.as_slice())?);
-    assert!(rt; does_learn(&rt, rt.alloc(), &words, kept.text.as_slice())?);
     Ok(())
 }

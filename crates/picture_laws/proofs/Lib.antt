@@ -1,0 +1,5 @@
+pub mod DayLemmas
+pub mod DrawnLemmas
+pub mod ShownLemmas
+pub mod RowLemmas
+pub mod PageLemmas
