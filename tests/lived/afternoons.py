@@ -7,8 +7,6 @@ as it may from the minute at which it was planned. Each answer must cost the lea
 empty turns that are to be made. It ends with `N passed, M failed`; the status is 0 where none failed.
 """
 
-import argparse
-import concurrent.futures
 import os
 import pathlib
 import random as randoms
@@ -18,10 +16,10 @@ import tempfile
 
 sys.dont_write_bytecode = True
 from brute import state_of
-from days import State, carry_out, change, least_cost, plan_text, random_lock, read_plan, read_report
+from days import State, carry_out, change, least_cost, plan_text, random_lock, read_plan, read_report, try_all
 
 GLOCK = pathlib.Path(__file__).resolve().parents[2] / "glock"
-SHOWN, AT_ONCE, REPLANS = 5, 2, 3
+REPLANS = 3
 
 
 def one_afternoon(program, seed):
@@ -63,24 +61,5 @@ def one_afternoon(program, seed):
     return None
 
 
-def main():
-    words = argparse.ArgumentParser()
-    words.add_argument("program")
-    words.add_argument("--count", type=int, default=40)
-    words.add_argument("--seed", type=int, default=1)
-    given = words.parse_args()
-    program, passed, wrong = str(pathlib.Path(given.program).resolve()), 0, 0
-    with concurrent.futures.ThreadPoolExecutor(AT_ONCE) as pool:
-        for fault in pool.map(lambda number: one_afternoon(program, f"{given.seed} {number}"), range(given.count)):
-            if fault is None:
-                passed += 1
-            else:
-                wrong += 1
-                if wrong <= SHOWN:
-                    print(fault, flush=True)
-    print(f"{passed} passed, {wrong} failed")
-    return 1 if wrong or not passed else 0
-
-
 if __name__ == "__main__":
-    sys.exit(main())
+    sys.exit(try_all(40, one_afternoon))

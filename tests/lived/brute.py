@@ -7,16 +7,13 @@ go on: its cost is the least, the rest that its dossier tells has the chambers a
 out from there. The same days at each run with one seed. It ends with `N passed, M failed`; the status is 0 where none failed.
 """
 
-import argparse
-import concurrent.futures
 import random as randoms
 import subprocess
 import sys
 
 sys.dont_write_bytecode = True
-from days import Lockage, State, carry_out, change, least_cost, plan_text, random_lock, read_report
+from days import Lockage, State, carry_out, change, least_cost, plan_text, random_lock, read_report, try_all
 
-SHOWN, AT_ONCE = 5, 2
 
 
 def run(program, words, text):
@@ -98,24 +95,5 @@ def wrong_rest(program, lock, state, minute, text):
     return None if found == wanted else f"the rest is {found} and should be {wanted}: --now {minute}\n{text}"
 
 
-def main():
-    words = argparse.ArgumentParser()
-    words.add_argument("program")
-    words.add_argument("--count", type=int, default=300)
-    words.add_argument("--seed", type=int, default=1)
-    given = words.parse_args()
-    passed, wrong = 0, 0
-    with concurrent.futures.ThreadPoolExecutor(AT_ONCE) as pool:
-        for fault in pool.map(lambda number: one_day(given.program, f"{given.seed} {number}"), range(given.count)):
-            if fault is None:
-                passed += 1
-            else:
-                wrong += 1
-                if wrong <= SHOWN:
-                    print(fault, flush=True)
-    print(f"{passed} passed, {wrong} failed")
-    return 1 if wrong or not passed else 0
-
-
 if __name__ == "__main__":
-    sys.exit(main())
+    sys.exit(try_all(300, one_day))

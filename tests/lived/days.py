@@ -1,8 +1,14 @@
-"""Small random locks and days, written after live.md's definitions alone: what is carried out of a plan by a minute, and
+"""Small random locks and days, written after the definitions of docs/rules.md alone: what is carried out of a plan by a minute, and
 the least cost of all that can be done from there."""
 
+import argparse
+import concurrent.futures
 import functools
 import itertools
+import pathlib
+
+# How many faults are shown, and how many cases are tried at once.
+SHOWN, AT_ONCE = 5, 2
 
 SIDE_AFTER = {"up": "high", "down": "low"}
 SIDE_BEFORE = {"up": "low", "down": "high"}
@@ -216,3 +222,23 @@ def change(random, lock, state, minute):
         if chamber.is_free(low, high):
             chamber.closures.append((low, high))
     return None
+
+
+def try_all(count, one):
+    """Reads a program, a count and a seed from the words, and tries so many random cases, several at once; the status."""
+    words = argparse.ArgumentParser()
+    words.add_argument("program")
+    words.add_argument("--count", type=int, default=count)
+    words.add_argument("--seed", type=int, default=1)
+    given = words.parse_args()
+    program, passed, wrong = str(pathlib.Path(given.program).resolve()), 0, 0
+    with concurrent.futures.ThreadPoolExecutor(AT_ONCE) as pool:
+        for fault in pool.map(lambda number: one(program, f"{given.seed} {number}"), range(given.count)):
+            if fault is None:
+                passed += 1
+            else:
+                wrong += 1
+                if wrong <= SHOWN:
+                    print(fault, flush=True)
+    print(f"{passed} passed, {wrong} failed")
+    return 1 if wrong or not passed else 0
