@@ -5,7 +5,11 @@
 pub const CHAMBERS: usize = 4;
 
 /// The ships of an instance, at most; so also the groups of a line and the lockages of a plan.
-pub const SHIPS: usize = 24;
+pub const SHIPS: usize = 96;
+
+/// The ships of an instance that a text of the first two formats says, at most: of a larger one the
+/// texts, the plan texts and the dossiers are written by wider rules.
+pub const FEW_SHIPS: usize = 24;
 
 /// The nodes on the way from the root of the tree to a leaf, at most: one for each ship, and the root.
 pub const SHIPS_AND_ROOT: usize = SHIPS + 1;
