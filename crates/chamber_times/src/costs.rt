@@ -1,5 +1,6 @@
 //! What a plan costs.
 ghost use Rattle.std.specs.Prelude.{◌≡◌, ◌^◌, ◌*◌, ◌-◌, ◌<◌, ◌≤◌, length, sum_by, All};
+ghost use Rattle.lock_model.specs.declared.limits.TheConstants.{SHIPS};
 ghost use Rattle.lock_model.specs.Fleet.{ship_at};
 ghost use Rattle.lock_rules.specs.Lines.{end_of};
 ghost use Rattle.lock_rules.specs.Plan.{flow_in, cost_of};
@@ -54,7 +55,7 @@ pub fn cost(instance: &Instance, plan: &Plan) -> u64
     requires ships_in { All (λ l. All (λ s. s < length instance.now.ships) l.ships) plan.now.lockages }
     requires arrived { All (λ l. All (λ s. (ship_at instance.now s).arrival ≤ l.start) l.ships) plan.now.lockages }
     ensures value { result ≡ cost_of instance.now plan.now }
-    ensures small { result < 2 ^ 41 }
+    ensures small { result ≤ SHIPS * 2 ^ 36 }
 {
     let mut sum = 0;
     for lockage in plan.lockages.as_slice() {
