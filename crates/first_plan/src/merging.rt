@@ -213,7 +213,7 @@ pub(crate) fn merged(
     ensures { IfOk result (IsAtMost instance.now (cost_of instance.now plan)) }
 {
     let mut plan = plan;
-    for _ in 0..24 {
+    for _ in 0..SHIPS {
         match with_merge(alloc, instance, &plan, turns)? {
             Some(better) => plan = better,
             None => return Ok(plan),

@@ -12,8 +12,6 @@ pub struct LastGate {
     hold: Hold,
     followers: WorkerSet,
     heard: OnceLock<u64>,
-    began: OnceLock<u64>,
-    learnt: OnceLock<u64>,
 }
 
 impl LastGate {
@@ -24,8 +22,6 @@ impl LastGate {
             hold: Hold::new(limit),
             followers: WorkerSet::new(),
             heard: OnceLock::new(),
-            began: OnceLock::new(),
-            learnt: OnceLock::new(),
         }
     }
 
@@ -37,16 +33,6 @@ impl LastGate {
     /// The best cost that the held worker read first after it was let go so.
     pub fn heard(&self) -> Option<u64> {
         self.heard.get().copied()
-    }
-
-    /// How many cuts the first worker that came after the held one knew as it began its first round.
-    pub fn began(&self) -> Option<u64> {
-        self.began.get().copied()
-    }
-
-    /// How many cuts the held worker knew as it began its first round after it was let go so.
-    pub fn learnt(&self) -> Option<u64> {
-        self.learnt.get().copied()
     }
 
     // The first worker is held, and each other one that comes after it is remembered.
@@ -68,14 +54,6 @@ impl LastGate {
             let _ = self.heard.try_set(cost);
         }
     }
-
-    fn know(&self, worker: u8, cuts: u64) {
-        if self.followers.contains(worker) {
-            let _ = self.began.try_set(cuts);
-        } else if self.hold.has_released(worker) {
-            let _ = self.learnt.try_set(cuts);
-        }
-    }
 }
 
 impl Gate for LastGate {
@@ -85,9 +63,8 @@ impl Gate for LastGate {
         }
         match point {
             Point::Read(cost) => self.read(worker, cost),
-            Point::Knows(cuts) => self.know(worker, cuts),
             Point::Idle => self.idle(worker),
-            Point::Took(_) | Point::Prices(_) | Point::Closed => {}
+            Point::Took(_) | Point::Prices(_) | Point::Knows(_) | Point::Closed => {}
         }
     }
 }
