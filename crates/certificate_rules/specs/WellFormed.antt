@@ -1,7 +1,9 @@
 -- Certificates that can be written down.
-use Rattle.std.specs.Prelude.{ℕ, ◌≡◌, ◌≤◌, ◌<◌, ◌^◌, List, length, All, ⊤}
-use Rattle.lock_model.specs.declared.limits.TheConstants.{MOST, SHIPS}
+use Rattle.std.specs.Prelude.{ℕ, ◌≡◌, ◌≤◌, ◌<◌, ◌^◌, List, length, nat_lt, All, if◌then◌else◌, ⊤}
+use Rattle.lock_model.specs.declared.limits.TheConstants.{FEW_SHIPS, MOST, SHIPS}
 use Rattle.lock_model.specs.Limits.{Within}
+use Rattle.lock_model.specs.declared.ship.Ship.{Ship}
+use Rattle.lock_model.specs.declared.instance.Instance.{Instance}
 use Rattle.lock_model.specs.declared.plan.Lockage.{Lockage}
 use Rattle.refute_rules.specs.declared.refutation.Quick.{Quick}
 use Rattle.refute_rules.specs.declared.refutation.Quick.TheVariants.{Area, Row, Column}
@@ -9,11 +11,26 @@ use Rattle.refute_rules.specs.declared.refutation.Refutation.{Refutation}
 use Rattle.closing_rules.specs.declared.grounds.Ground.{Ground}
 use Rattle.closing_rules.specs.declared.grounds.Ground.TheVariants as by
 use Rattle.certificate_rules.specs.declared.certificate.Mark.{Mark}
+use Rattle.certificate_rules.specs.declared.numbering.Numbering.{Numbering}
+use Rattle.certificate_rules.specs.declared.numbering.Numbering.TheVariants.{Few, Many}
 use Rattle.closing_rules.specs.ProvedCuts.{CertCut}
 use Rattle.closing_rules.specs.ListedPrices.{ArePrices}
 use Rattle.certificate_rules.specs.Certificates.{Certificate}
 use Rattle.refute_rules.specs.declared.refutation.Refutation.TheVariants as refutation
 use Rattle.certificate_rules.specs.declared.certificate.Mark.TheVariants as mark
+
+-- how marks are numbered in a tree of an instance with these ships
+unfoldable pub numbering_of : List Ship → Numbering
+numbering_of ships = if nat_lt FEW_SHIPS (length ships) then Many else Few
+
+-- the ships that a mark may name, from the first on
+abbrev pub probed_ships : Numbering → ℕ
+probed_ships Few = FEW_SHIPS
+probed_ships Many = SHIPS
+
+-- the lockages of a plan, and the prices of a list, at most, where the instance has these ships
+unfoldable pub most_listed : List Ship → ℕ
+most_listed ships = if nat_lt FEW_SHIPS (length ships) then length ships else FEW_SHIPS
 
 abbrev pub IsFormedReason : Quick → Type 0
 IsFormedReason Area = ⊤
@@ -33,24 +50,25 @@ IsFormedCut c = Within 1 MOST (length c.ships) × IsFormedRefutation c.refutatio
 abbrev pub IsFormedLockage : Lockage → Type 0
 IsFormedLockage l = Within 1 MOST (length l.ships) × (length l.spots ≡ length l.ships)
 
--- 1 to SHIPS prices, none above 1,000,000
-abbrev pub AreFormedPrices : List ℕ → Type 0
-AreFormedPrices prices = (1 ≤ length prices) × ArePrices prices
+-- 1 to so many prices, none above 1,000,000
+abbrev pub AreFormedPrices : ℕ → List ℕ → Type 0
+AreFormedPrices most prices = Within 1 most (length prices) × ArePrices prices
 
-abbrev pub IsFormedGround : Ground → Type 0
-IsFormedGround (by.Probe s) = s < SHIPS
-IsFormedGround (by.Cut number) = number < 2 ^ 63
-IsFormedGround (by.Price number) = number < 2 ^ 63
-IsFormedGround _ = ⊤
+abbrev pub IsFormedGround : Numbering → Ground → Type 0
+IsFormedGround numbering (by.Probe s) = s < probed_ships numbering
+IsFormedGround numbering (by.Cut number) = number < 2 ^ 63
+IsFormedGround numbering (by.Price number) = number < 2 ^ 63
+IsFormedGround numbering _ = ⊤
 
-abbrev pub IsFormedMark : Mark → Type 0
-IsFormedMark mark.Split = ⊤
-IsFormedMark (mark.Leaf why) = IsFormedGround why
-IsFormedMark mark.Open = ⊤
+abbrev pub IsFormedMark : Numbering → Mark → Type 0
+IsFormedMark numbering mark.Split = ⊤
+IsFormedMark numbering (mark.Leaf why) = IsFormedGround numbering why
+IsFormedMark numbering mark.Open = ⊤
 
--- what a certificate keeps that may be written down
-pub record IsWellFormed (C : Certificate) : Type 0 where
+-- what a certificate of an instance keeps that may be written down
+pub record IsWellFormed (I : Instance) (C : Certificate) : Type 0 where
   pub cuts : All IsFormedCut C.cuts
+  pub few : length C.plan.lockages ≤ most_listed I.ships
   pub lockages : All IsFormedLockage C.plan.lockages
-  pub prices : All AreFormedPrices C.prices
-  pub marks : All IsFormedMark C.tree
+  pub prices : All (AreFormedPrices (most_listed I.ships)) C.prices
+  pub marks : All (IsFormedMark (numbering_of I.ships)) C.tree

@@ -3,7 +3,7 @@
 //! - `specs/Certificates`: which certificates stand, and which are accepted: those that stand and leave
 //!   no node open. `Failures`: the first place and reason at which one fails.
 //! - `specs/Low`: what a certificate proves that stands.
-//! - `specs/WellFormed`: those that can be written as a text.
+//! - `specs/WellFormed`: those that can be written as a text, and how their marks are numbered.
 //!
 //! A certificate may have prices, and marks that close a node by the prices of a number.
 //!
@@ -14,5 +14,7 @@
 #![tactic(auto)]
 
 mod certificate;
+mod numbering;
 
 pub use certificate::{FailurePlace, Mark, Reason};
+pub use numbering::Numbering;
