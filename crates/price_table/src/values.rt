@@ -8,8 +8,9 @@ use price_terms::PriceError;
 use std::alloc::Global;
 use std::collections::HashMap;
 
-// How many minutes have a place in the row; later ones are rare.
-const ROW_MINUTES: u64 = 600;
+// How many states have a place in the row, at most: a row that is filled anew for each table stays in the
+// near caches, and few states of a day are later.
+const ROW_STATES: u64 = 24_000;
 
 /// Values, in hundredths of a minute, by state, whose place is one of so many: those of the first
 /// minutes in a row, which is asked most, and the others in a map.
@@ -22,14 +23,15 @@ pub(crate) struct Values {
 }
 
 impl Values {
-    // None yet, with room for the states of so many places from one minute up to another. A short row
-    // stays in the nearest cache.
+    // None yet, with room for the states of so many places from one minute up to another.
     pub(crate) fn new(alloc: Global, places: u64, from: u64, to: u64) -> Result<Values, PriceError>
         requires few { places ≤ SHIPS_AND_ROOT }
         requires from { from ≤ 14000000 }
         ensures { IfOk result (AreEmpty places) }
     {
-        let minutes = to.saturating_sub(from).min(ROW_MINUTES);
+        let minutes = to
+            .saturating_sub(from)
+            .min(ROW_STATES / (2 * places.max(1)));
         match vec![in alloc; None; (minutes * places * 2) as usize] {
             Ok(row) => Ok(Values {
                 places,
