@@ -1,6 +1,5 @@
 //! What a plan costs.
 ghost use Rattle.std.specs.Prelude.{◌≡◌, ◌^◌, ◌*◌, ◌-◌, ◌<◌, ◌≤◌, length, sum_by, All};
-ghost use Rattle.lock_model.specs.declared.limits.TheConstants.{SHIPS};
 ghost use Rattle.lock_model.specs.Fleet.{ship_at};
 ghost use Rattle.lock_rules.specs.Lines.{end_of};
 ghost use Rattle.lock_rules.specs.Plan.{flow_in, cost_of};
