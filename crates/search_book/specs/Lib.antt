@@ -6,3 +6,4 @@ pub mod Following
 pub mod Shutting
 pub mod Granting
 pub mod Going
+pub mod Asked

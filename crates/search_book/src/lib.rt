@@ -20,8 +20,9 @@
 //!
 //! Definitions: `specs/Events` says which event of the machine an event is, and what its caller
 //! owes, `Applied` what an event does to a book, `Following` what a taking after it does,
-//! `Shutting` what closing by prices and a taking do, `Going` what nodes ahead do, `Replies` which
-//! replies are accepted, `Shares` what a list of shares is. A share and the total take no bytes, and
+//! `Shutting` what closing by prices and a taking do, `Going` what nodes ahead do, `Asked` what is
+//! known of the book under its lock, `Replies` which replies are accepted, `Shares` what a list of
+//! shares is. A share and the total take no bytes, and
 //! are there for the proof alone.
 #![tactic(auto)]
 

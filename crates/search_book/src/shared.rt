@@ -1,5 +1,6 @@
 //! The book that threads share, and who waits for it.
 ghost use Rattle.std.specs.Prelude.{◌≡◌, ◌+◌, ◌<◌, ◌≤◌, false, length};
+ghost use Rattle.search_book.specs.Asked.{WasMade, WasFollowed, WasShut, WentAhead};
 ghost use Rattle.search_book.specs.Events.{IsAllowed};
 ghost use Rattle.search_book.specs.Following.{counted};
 ghost use Rattle.search_book.specs.Going.{gone_count};
@@ -93,9 +94,12 @@ impl<L: Ledger> SharedBook<L> {
         requires allowed { IsAllowed event }
         ensures amount { share.new.amount ≡ share.old.amount + accepted result }
         ensures parts { share.new.parts ≡ share.old.parts }
+        ensures asked { WasMade event result }
     {
         let mut kept = self.lock_soon(rt);
-        let reply = apply(&mut *kept, share, event);
+        let inside = &mut *kept;
+        inside.book.keeps();
+        let reply = apply(inside, share, event);
         if is_accepting(&reply) {
             self.leave(kept);
         }
@@ -117,9 +121,12 @@ impl<L: Ledger> SharedBook<L> {
         requires allowed { IsAllowed ending }
         ensures amount { share.new.amount ≡ share.old.amount + counted result }
         ensures parts { share.new.parts ≡ share.old.parts }
+        ensures asked { WasFollowed ending worker result }
     {
         let mut kept = self.lock_soon(rt);
-        let next = apply_and_take(&mut *kept, share, worker, ending);
+        let inside = &mut *kept;
+        inside.book.keeps();
+        let next = apply_and_take(inside, share, worker, ending);
         if let Next::Taken(_) = next {
             self.leave(kept);
         }
@@ -141,9 +148,12 @@ impl<L: Ledger> SharedBook<L> {
         requires worker { worker ≤ WORKERS }
         ensures amount { share.new.amount ≡ share.old.amount + counted result }
         ensures parts { share.new.parts ≡ share.old.parts }
+        ensures asked { WasShut closing.now worker result }
     {
         let mut kept = self.lock_soon(rt);
-        let next = close_price_and_take(&mut *kept, share, worker, closing);
+        let inside = &mut *kept;
+        inside.book.keeps();
+        let next = close_price_and_take(inside, share, worker, closing);
         if let Next::Taken(_) = next {
             self.leave(kept);
         }
@@ -178,9 +188,12 @@ impl<L: Ledger> SharedBook<L> {
         requires some { 0 < length stretch.now.nodes.items }
         ensures amount { share.new.amount ≡ share.old.amount + gone_count result }
         ensures parts { share.new.parts ≡ share.old.parts }
+        ensures asked { WentAhead worker id stretch.now.nodes.items result }
     {
         let mut kept = self.lock_soon(rt);
-        let gone = go_ahead(&mut *kept, share, worker, id, stretch);
+        let inside = &mut *kept;
+        inside.book.keeps();
+        let gone = go_ahead(inside, share, worker, id, stretch);
         if has_accepted(&gone) {
             self.leave(kept);
         }
@@ -195,10 +208,13 @@ impl<L: Ledger> SharedBook<L> {
         ensures amount { share.new.amount ≡ share.old.amount + accepted result }
         ensures parts { share.new.parts ≡ share.old.parts }
         ensures waited { is_idle result ≡ false }
+        ensures asked { WasMade (Event.Take worker) result }
     {
         let mut kept = self.lock_soon(rt);
         for _ in rt.forever() {
-            let reply = apply(&mut *kept, share, Event::Take(worker));
+            let inside = &mut *kept;
+            inside.book.keeps();
+            let reply = apply(inside, share, Event::Take(worker));
             if !is_idle(&reply) {
                 if is_accepting(&reply) {
                     self.leave(kept);
