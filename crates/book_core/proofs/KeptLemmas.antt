@@ -1,8 +1,9 @@
 -- What the fields of a book keep.
-use Rattle.std.proofs.Common.{◌≡◌, ◌≢◌, ℕ, zero, suc, ◌<◌, ◌≤◌, List, [], ◌∷◌, length, refl, sym, ap, ◌∙◌, subst, arith, Bool, true, false, ◌||◌, slice_index_or, slice_set, nat_eq}
+use Rattle.std.proofs.Common.{◌≡◌, ◌≢◌, ℕ, zero, suc, ◌+◌, ◌*◌, ◌<◌, ◌≤◌, List, [], ◌∷◌, length, refl, sym, ap, ◌∙◌, subst, arith, Bool, true, false, ◌||◌, slice_index_or, slice_set, nat_eq}
 use Rattle.std.proofs.lemmas.Bool.{false≢true}
 use Rattle.std.specs.declared.option.Option.{Option}
 use Rattle.std.proofs.lemmas.Bool.Decides.{Decides-eqb}
+use Rattle.lock_model.specs.declared.limits.TheConstants.{CHILDREN}
 use Rattle.lock_model.specs.declared.instance.Instance.{Instance}
 use Rattle.book_rules.specs.declared.book.SlotState.{SlotState}
 use Rattle.book_rules.specs.declared.book.SlotState.TheVariants as slot
@@ -53,7 +54,7 @@ some-is (suc n) t is e = omega arith
 
 -- ---- how many slots there are
 
-pub few-slots : (b : Book) → IsSound b → length b.slots ≤ 50000001
+pub few-slots : (b : Book) → IsSound b → length b.slots ≤ 1 + CHILDREN * 1000000
 few-slots b sound =
     let few = slots-few b sound.parts.budget in
     let used = sound.parts.budget.used in

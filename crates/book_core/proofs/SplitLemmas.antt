@@ -1,7 +1,8 @@
 -- A held slot is split.
-use Rattle.std.proofs.Common.{◌≡◌, ℕ, suc, ◌+◌, ◌<◌, ◌≤◌, List, [], ◌∷◌, ◌++◌, length, map, refl, sym, ap, ◌∙◌, subst, arith, true, slice_index_or, slice_set, length-append}
+use Rattle.std.proofs.Common.{◌≡◌, ℕ, suc, ◌+◌, ◌*◌, ◌<◌, ◌≤◌, List, [], ◌∷◌, ◌++◌, length, map, refl, sym, ap, ◌∙◌, subst, arith, true, slice_index_or, slice_set, length-append}
 use Rattle.std.specs.declared.option.Option.{Option}
 use Rattle.std.proofs.lemmas.List.{length-map, length-set}
+use Rattle.lock_model.specs.declared.limits.TheConstants.{CHILDREN}
 use Rattle.lock_rules.specs.Bound.{bound_of}
 use Rattle.lock_rules.specs.Children.{children_of}
 use Rattle.book_rules.specs.declared.book.Entry.{Entry}
@@ -31,7 +32,7 @@ use Rattle.book_core.proofs.SettleLemmas.{restated}
 use Rattle.book_core.proofs.GrowLemmas.{grown-is, tables-grown, nodes-grown, length-kids}
 
 -- how many slots there are then
-pub kids-few : (b : Book) (id : ℕ) → IsSound (with_kids b id) → (bounds : List ℕ) → (n : ℕ) → bounds ≡ map (bound_of b.case.instance n) (children_of b.case.instance (slot_at b id).node.depth (slot_at b id).node.lines) → length b.slots + length bounds ≤ 50000001
+pub kids-few : (b : Book) (id : ℕ) → IsSound (with_kids b id) → (bounds : List ℕ) → (n : ℕ) → bounds ≡ map (bound_of b.case.instance n) (children_of b.case.instance (slot_at b id).node.depth (slot_at b id).node.lines) → length b.slots + length bounds ≤ 1 + CHILDREN * 1000000
 kids-few b id sound bounds n are =
     let node = (slot_at b id).node in
     let kids = children_of b.case.instance node.depth node.lines in

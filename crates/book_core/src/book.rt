@@ -1,5 +1,5 @@
 //! The book: its fields, its opening and its readers.
-ghost use Rattle.std.specs.Prelude.{◌≡◌, ◌<◌, ◌≤◌, false, length, slice_index_or, slice_get, IfSome, IfNone};
+ghost use Rattle.std.specs.Prelude.{◌≡◌, ◌+◌, ◌*◌, ◌<◌, ◌≤◌, false, length, slice_index_or, slice_get, IfSome, IfNone};
 ghost use Rattle.lock_rules.specs.Plan.{IsLegal};
 ghost use Rattle.flow_bounds.specs.Roster.{IsRosterOf};
 ghost use Rattle.book_rules.specs.Book.{best_cost, slot_at};
@@ -15,7 +15,7 @@ use crate::waiting::Waiting;
 use book_rules::{Entry, SlotState};
 use deck_cuts::Cut;
 use flow_bounds::Roster;
-use lock_model::{Plan, WORKERS, WORKERS_AND_DRIVER};
+use lock_model::{CHILDREN, Plan, WORKERS, WORKERS_AND_DRIVER};
 use price_terms::Prices;
 use std::marker::Model;
 
@@ -109,10 +109,10 @@ impl Book {
         self.history.len() as u64
     }
 
-    /// How many slots there are: at most 50,000,001.
+    /// How many slots there are: at most the root and `CHILDREN` for each node of the budget.
     pub fn slots(&self) -> u32
         ensures value { result ≡ length self.now.slots }
-        ensures small { result ≤ 50000001 }
+        ensures small { result ≤ 1 + CHILDREN * 1000000 }
     {
         self.slots.len() as u32
     }
