@@ -109,7 +109,7 @@ impl Book {
         self.history.len() as u64
     }
 
-    /// How many slots there are: at most the root, and the children of each node of the largest budget.
+    /// How many slots there are: at most the root and `CHILDREN` for each node of the budget.
     pub fn slots(&self) -> u32
         ensures value { result ≡ length self.now.slots }
         ensures small { result ≤ 1 + CHILDREN * 1000000 }
