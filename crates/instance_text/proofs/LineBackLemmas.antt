@@ -8,7 +8,7 @@ use Rattle.std.proofs.lemmas.List.Edits.{insert_end}
 use Rattle.std.proofs.lemmas.List.Folds.{list_any_none}
 use Rattle.std.proofs.lemmas.List.Sums.{position_or_len_is}
 use Rattle.std.proofs.lemmas.Slice.Eq.{bytes_eq-Decides}
-use Rattle.lock_model.specs.declared.limits.TheConstants.{CHAMBERS, CLOSURES, MOST, SHIPS}
+use Rattle.lock_model.specs.declared.limits.TheConstants.{CHAMBERS, CLOSURES, MOST}
 use Rattle.lock_model.specs.Limits.{IsName}
 use Rattle.lock_model.specs.Closures.{IsClosure, AreClosures}
 use Rattle.lock_model.specs.Fleet.{no_chamber}
@@ -19,14 +19,14 @@ use Rattle.lock_model.specs.declared.ship.Ship.{Ship}
 use Rattle.instance_text.specs.declared.bad.Kind.{Kind}
 use Rattle.instance_text.specs.declared.bad.Kind.TheVariants.{Range, Overlap}
 use Rattle.instance_text.specs.declared.format.Format.{Format}
-use Rattle.instance_text.specs.declared.format.Format.TheVariants.{First, Second}
+use Rattle.instance_text.specs.declared.format.Format.TheVariants.{First, Second, Third}
 use Rattle.line_text.specs.declared.progress.Progress.TheVariants.{More, Ended}
 use Rattle.line_text.specs.Steps.{◌>>=◌, ◌>>◌, check}
 use Rattle.instance_text.specs.Words.{number}
 use Rattle.instance_text.specs.Draft.{Draft}
 use Rattle.instance_text.specs.Chamber.{read_chamber}
-use Rattle.instance_text.specs.Ship.{read_ship, cargo, is_ship_count}
-use Rattle.instance_text.specs.Closing.{read_closing, chamber_named, with_closure, closures_of, put_closure, share_a_minute, is_free}
+use Rattle.instance_text.specs.Ship.{read_ship, cargo, is_ship_count, most_ships}
+use Rattle.instance_text.specs.Closing.{has_closures, read_closing, chamber_named, with_closure, closures_of, put_closure, share_a_minute, is_free}
 use Rattle.instance_text.specs.Reading.{read_line, read_end, add_chamber, add_ship, add_closure}
 use Rattle.instance_text.specs.Canonical.{chamber_words, closing_words, ship_words, way_word}
 use Rattle.instance_text.proofs.ClosingLemmas.{named_at}
@@ -74,11 +74,12 @@ seven s = codes "ship" ∷ s.name ∷ way_word s.way ∷ decimal s.length ∷ de
 counted : (format : Format) → is_ship_count format 7 ≡ true
 counted First = refl
 counted Second = refl
+counted Third = refl
 
-ship_back : (format : Format) (earlier : List Ship) (s : Ship) (harmless : Bool) → (s.cargo == 0) ≡ harmless → (harmless ≡ false → format ≡ Second) → length earlier < SHIPS → IsShip s → All (λ e. e ≢ s.name) (map (λ o. o.name) earlier) → read_ship format earlier (seven s ++ cond harmless [] (decimal s.cargo ∷ [])) ≡ Ok s
+ship_back : (format : Format) (earlier : List Ship) (s : Ship) (harmless : Bool) → (s.cargo == 0) ≡ harmless → (harmless ≡ false → is_ship_count format 8 ≡ true) → length earlier < most_ships format → IsShip s → All (λ e. e ≢ s.name) (map (λ o. o.name) earlier) → read_ship format earlier (seven s ++ cond harmless [] (decimal s.cargo ∷ [])) ≡ Ok s
 unfolding read_ship cargo seven
 ship_back format earlier s true is fits room good new =
-    let free : nat_lt (length earlier) SHIPS ≡ true = grind (arith, nat_tests) in
+    let free : nat_lt (length earlier) (most_ships format) ≡ true = grind (arith, nat_tests) in
     let none : s.cargo ≡ 0 = grind (arith, nat_tests) in
     let long = good.length in
     let wide = good.width in
@@ -94,25 +95,22 @@ ship_back format earlier s true is fits room good new =
     )
     (ap (λ n. Ok (record { name = s.name; way = s.way; length = s.length; width = s.width; arrival = s.arrival; handling = s.handling; cargo = n })) (sym none))
 ship_back format earlier s false is fits room good new =
-    subst (λ f. read_ship f earlier (seven s ++ decimal s.cargo ∷ []) ≡ Ok s) (sym (fits refl)) second
-  where
-    second : read_ship Second earlier (seven s ++ decimal s.cargo ∷ []) ≡ Ok s
-    second =
-        let free : nat_lt (length earlier) SHIPS ≡ true = grind (arith, nat_tests) in
-        let long = good.length in
-        let wide = good.width in
-        rw (
-          free,
-          new_name_back (map (λ o. o.name) earlier) s.name good.name new,
-          way_back s.way,
-          number_back 1 100000 s.length long.0 long.1 (omega arith),
-          number_back 1 100000 s.width wide.0 wide.1 (omega arith),
-          number_back 0 1000000 s.arrival (omega arith) good.arrival (let h = good.arrival in omega arith),
-          number_back 0 1000000 s.handling (omega arith) good.handling (let h = good.handling in omega arith),
-          number_back 0 9 s.cargo (omega arith) good.cargo (let h = good.cargo in omega arith),
-        ) refl
+    let free : nat_lt (length earlier) (most_ships format) ≡ true = grind (arith, nat_tests) in
+    let long = good.length in
+    let wide = good.width in
+    rw (
+      fits refl,
+      free,
+      new_name_back (map (λ o. o.name) earlier) s.name good.name new,
+      way_back s.way,
+      number_back 1 100000 s.length long.0 long.1 (omega arith),
+      number_back 1 100000 s.width wide.0 wide.1 (omega arith),
+      number_back 0 1000000 s.arrival (omega arith) good.arrival (let h = good.arrival in omega arith),
+      number_back 0 1000000 s.handling (omega arith) good.handling (let h = good.handling in omega arith),
+      number_back 0 9 s.cargo (omega arith) good.cargo (let h = good.cargo in omega arith),
+    ) refl
 
-pub ship_line_back : (format : Format) (d : Draft) (s : Ship) → ((s.cargo == 0) ≡ false → format ≡ Second) → length d.ships < SHIPS → IsShip s → All (λ e. e ≢ s.name) (map (λ o. o.name) d.ships) → read_line format d (ship_words s) ≡ Ok (More, record d { ships = d.ships ++ s ∷ [] })
+pub ship_line_back : (format : Format) (d : Draft) (s : Ship) → ((s.cargo == 0) ≡ false → is_ship_count format 8 ≡ true) → length d.ships < most_ships format → IsShip s → All (λ e. e ≢ s.name) (map (λ o. o.name) d.ships) → read_line format d (ship_words s) ≡ Ok (More, record d { ships = d.ships ++ s ∷ [] })
 unfolding read_line add_ship ship_words seven
 ship_line_back format d s fits room good new = by_class (s.cargo == 0) refl
   where
@@ -195,7 +193,7 @@ with_closure_back chambers front x back k is are =
     ∙ ap (λ cs. set cs (length front) (record x { closures = x.closures ++ k ∷ [] })) is
     ∙ set_at front x back (record x { closures = x.closures ++ k ∷ [] }) (length front) refl
 
-pub closing_line_back : (d : Draft) (front : List Chamber) (x : Chamber) (back : List Chamber) (k : Closure) → d.chambers ≡ front ++ x ∷ back → IsName x.name → All (λ c. c.name ≢ x.name) front → AreClosures (x.closures ++ k ∷ []) → read_line Second d (closing_words x.name k) ≡ Ok (More, record d { chambers = front ++ record x { closures = x.closures ++ k ∷ [] } ∷ back })
+pub closing_line_back : (format : Format) (d : Draft) (front : List Chamber) (x : Chamber) (back : List Chamber) (k : Closure) → d.chambers ≡ front ++ x ∷ back → IsName x.name → All (λ c. c.name ≢ x.name) front → AreClosures (x.closures ++ k ∷ []) → has_closures format ≡ true → read_line format d (closing_words x.name k) ≡ Ok (More, record d { chambers = front ++ record x { closures = x.closures ++ k ∷ [] } ∷ back })
 unfolding read_line add_closure closing_words
-closing_line_back d front x back k is good new are =
-    rw (read_closing_back d.chambers front x back k is good new are) (ap (λ cs. Ok (More, record d { chambers = cs })) (with_closure_back d.chambers front x back k is are))
+closing_line_back format d front x back k is good new are has =
+    rw (has, read_closing_back d.chambers front x back k is good new are) (ap (λ cs. Ok (More, record d { chambers = cs })) (with_closure_back d.chambers front x back k is are))

@@ -1,5 +1,5 @@
 -- The instance part of a canonical instance text that something follows.
-use Rattle.std.proofs.Common.{◌≡◌, ◌∙◌, ℕ, ◌+◌, Bool, true, false, cond, ◌&&◌, List, [], ◌∷◌, ◌++◌, length, map, take, drop, codes, refl, sym, ap, subst, arith, append_assoc}
+use Rattle.std.proofs.Common.{◌≡◌, ◌∙◌, ℕ, ◌+◌, true, false, cond, ◌&&◌, List, [], ◌∷◌, ◌++◌, length, map, take, drop, codes, refl, sym, ap, subst, arith, append_assoc}
 use Rattle.std.proofs.Math.Bool.{and-false}
 use Rattle.std.specs.Prelude.{◌==◌}
 use Rattle.std.specs.List.{join_with_byte, flat_map}
@@ -11,7 +11,9 @@ use Rattle.lock_model.specs.declared.instance.Instance.{Instance}
 use Rattle.line_text.specs.Lines.{lines, words, word_at, is_only}
 use Rattle.instance_text.specs.Reading.{is_end, length_of_part, instance_part, after_instance}
 use Rattle.line_text.specs.Printed.{line}
-use Rattle.instance_text.specs.Canonical.{chamber_words, closing_words, closings, ship_words, is_plain, header_words, canonical, canonical_words}
+use Rattle.instance_text.specs.declared.format.Format.{Format}
+use Rattle.instance_text.specs.declared.format.Format.TheVariants.{First, Second, Third}
+use Rattle.instance_text.specs.Canonical.{chamber_words, closing_words, closings, ship_words, canonical_format, header_words, canonical, canonical_words}
 use Rattle.line_text.proofs.AppendLemmas.{lines-append, join-lines}
 use Rattle.line_text.proofs.LayoutLemmas.{words_of_text}
 use Rattle.instance_text.proofs.PlainLemmas.{canonical_plain}
@@ -86,16 +88,17 @@ ends_after (ws ∷ vs ∷ more) else = (else.0, ends_after (vs ∷ more) else.1)
 
 -- the words of the lines before `end`
 abbrev front : Instance → List (List (List ℕ))
-front I = header_words (is_plain I) ∷ map chamber_words I.chambers ++ flat_map closings I.chambers ++ map ship_words I.ships
+front I = header_words (canonical_format I) ∷ map chamber_words I.chambers ++ flat_map closings I.chambers ++ map ship_words I.ships
 
-header_else : (plain : Bool) → is_end (header_words plain) ≡ false
-header_else true = another (header_words true) refl
-header_else false = another (header_words false) refl
+header_else : (format : Format) → is_end (header_words format) ≡ false
+header_else First = another (header_words First) refl
+header_else Second = another (header_words Second) refl
+header_else Third = another (header_words Third) refl
 
 front_else : (I : Instance) → BeginElse (front I)
 unfolding chamber_words ship_words
 front_else I = (
-  header_else (is_plain I),
+  header_else (canonical_format I),
   BeginElse-append (map chamber_words I.chambers ++ flat_map closings I.chambers) (map ship_words I.ships)
       (BeginElse-append (map chamber_words I.chambers) (flat_map closings I.chambers) (BeginElse-map chamber_words I.chambers (λ c. another (chamber_words c) refl)) (BeginElse-closings I.chambers))
       (BeginElse-map ship_words I.ships (λ s. another (ship_words s) refl)),
@@ -103,7 +106,7 @@ front_else I = (
 
 words_is : (I : Instance) → canonical_words I ≡ front I ++ (codes "end" ∷ []) ∷ []
 unfolding canonical_words
-words_is I = shape (header_words (is_plain I)) (map chamber_words I.chambers) (flat_map closings I.chambers) (map ship_words I.ships)
+words_is I = shape (header_words (canonical_format I)) (map chamber_words I.chambers) (flat_map closings I.chambers) (map ship_words I.ships)
   where
     shape : (header : List (List ℕ)) (a b c : List (List (List ℕ))) → header ∷ a ++ b ++ c ++ (codes "end" ∷ []) ∷ [] ≡ (header ∷ a ++ b ++ c) ++ (codes "end" ∷ []) ∷ []
     shape header a b c = simp append_assoc refl

@@ -13,7 +13,9 @@ use Rattle.lock_model.specs.declared.way.Way.{Way}
 use Rattle.lock_model.specs.declared.way.Way.TheVariants.{Up, Down}
 use Rattle.lock_model.specs.declared.way.Stand.{Stand}
 use Rattle.lock_model.specs.declared.way.Stand.TheVariants.{Low, High}
-use Rattle.instance_text.specs.Canonical.{chamber_words, closing_words, closings, ship_words, way_word, stand_word, is_plain, header_words, canonical_words}
+use Rattle.instance_text.specs.Canonical.{chamber_words, closing_words, closings, ship_words, way_word, stand_word, canonical_format, header_words, canonical_words}
+use Rattle.instance_text.specs.declared.format.Format.{Format}
+use Rattle.instance_text.specs.declared.format.Format.TheVariants.{First, Second, Third}
 use Rattle.line_text.proofs.LayoutLemmas.{IsPlain, ArePlain, AreLines, AreLines-append, AreLines-map}
 use Rattle.line_text.proofs.PlainLemmas.{name_plain, decimal_plain, literal_plain}
 
@@ -54,17 +56,18 @@ closings_plain (c ∷ cs) good =
     let first = All-head IsChamber c cs good in
     AreLines-append (closings c) (flat_map closings cs) (AreLines-map (closing_words c.name) IsClosure c.closures (λ k closure. closing_plain c.name k first.name closure) first.closures.each) (closings_plain cs (All-tail IsChamber c cs good))
 
-header_plain : (plain : Bool) → (0 < length (header_words plain)) × ArePlain (header_words plain)
-header_plain true = (omega arith, (literal_plain (codes "glock") (omega arith) refl, (literal_plain (codes "1") (omega arith) refl, tt)))
-header_plain false = (omega arith, (literal_plain (codes "glock") (omega arith) refl, (literal_plain (codes "2") (omega arith) refl, tt)))
+header_plain : (format : Format) → (0 < length (header_words format)) × ArePlain (header_words format)
+header_plain First = (omega arith, (literal_plain (codes "glock") (omega arith) refl, (literal_plain (codes "1") (omega arith) refl, tt)))
+header_plain Second = (omega arith, (literal_plain (codes "glock") (omega arith) refl, (literal_plain (codes "2") (omega arith) refl, tt)))
+header_plain Third = (omega arith, (literal_plain (codes "glock") (omega arith) refl, (literal_plain (codes "3") (omega arith) refl, tt)))
 
 pub canonical_plain : (I : Instance) → AreLines (canonical_words I)
 unfolding canonical_words
 canonical_plain I =
-    let header = header_plain (is_plain I) in
-    AreLines-append ((header_words (is_plain I) ∷ map chamber_words I.chambers) ++ flat_map closings I.chambers ++ map ship_words I.ships) ((codes "end" ∷ []) ∷ [])
-    (AreLines-append ((header_words (is_plain I) ∷ map chamber_words I.chambers) ++ flat_map closings I.chambers) (map ship_words I.ships)
-    (AreLines-append (header_words (is_plain I) ∷ map chamber_words I.chambers) (flat_map closings I.chambers)
+    let header = header_plain (canonical_format I) in
+    AreLines-append ((header_words (canonical_format I) ∷ map chamber_words I.chambers) ++ flat_map closings I.chambers ++ map ship_words I.ships) ((codes "end" ∷ []) ∷ [])
+    (AreLines-append ((header_words (canonical_format I) ∷ map chamber_words I.chambers) ++ flat_map closings I.chambers) (map ship_words I.ships)
+    (AreLines-append (header_words (canonical_format I) ∷ map chamber_words I.chambers) (flat_map closings I.chambers)
     (header.0, header.1, AreLines-map chamber_words IsChamber I.chambers chamber_plain I.limits.chamber)
     (closings_plain I.chambers I.limits.chamber))
     (AreLines-map ship_words IsShip I.ships ship_plain I.limits.ship))

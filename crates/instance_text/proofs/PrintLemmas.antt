@@ -7,7 +7,8 @@ use Rattle.lock_model.specs.declared.instance.Instance.{Instance}
 use Rattle.lock_model.specs.declared.chamber.Chamber.{Chamber}
 use Rattle.lock_model.specs.declared.ship.Ship.{Ship}
 use Rattle.line_text.specs.Printed.{line}
-use Rattle.instance_text.specs.Canonical.{field, chamber_words, closings, ship_words, header_words, is_plain, canonical, canonical_words}
+use Rattle.instance_text.specs.declared.format.Format.{Format}
+use Rattle.instance_text.specs.Canonical.{field, chamber_words, closings, ship_words, canonical_format, header_words, canonical, canonical_words}
 
 -- words with one space between before a rest
 abbrev pub line_before : List (List ℕ) → List ℕ → List ℕ
@@ -61,18 +62,18 @@ closing_line o n a b = five o (codes "close ") n (flat_map field (a ∷ b ∷ []
     ∙ ap (λ xs. o ++ xs) (sym (line_is (codes "close" ∷ n ∷ decimal a ∷ decimal b ∷ []) (10 ∷ [])))
 
 -- the canonical text part by part
-pub canonical_is : (I : Instance) → canonical I ≡ line (header_words (is_plain I)) ++ flat_map line (map chamber_words I.chambers) ++ flat_map line (flat_map closings I.chambers) ++ flat_map line (map ship_words I.ships) ++ codes "end\n"
+pub canonical_is : (I : Instance) → canonical I ≡ line (header_words (canonical_format I)) ++ flat_map line (map chamber_words I.chambers) ++ flat_map line (flat_map closings I.chambers) ++ flat_map line (map ship_words I.ships) ++ codes "end\n"
 unfolding canonical canonical_words
-canonical_is I = parts (header_words (is_plain I)) (map chamber_words I.chambers) (flat_map closings I.chambers) (map ship_words I.ships)
+canonical_is I = parts (header_words (canonical_format I)) (map chamber_words I.chambers) (flat_map closings I.chambers) (map ship_words I.ships)
   where
     parts : (header : List (List ℕ)) (a b c : List (List (List ℕ))) → flat_map line (header ∷ a ++ b ++ c ++ (codes "end" ∷ []) ∷ []) ≡ line header ++ flat_map line a ++ flat_map line b ++ flat_map line c ++ codes "end\n"
     parts header a b c = simp flat_map-append
 
 -- what is printed step by step
-pub printed : (I : Instance) (cs : List Chamber) (ss : List Ship) (plain : Bool) (a b c d e f : List ℕ) → cs ≡ I.chambers → ss ≡ I.ships → plain ≡ is_plain I → a ≡ [] → b ≡ a ++ line (header_words plain) → c ≡ b ++ flat_map line (map chamber_words cs) → d ≡ c ++ flat_map line (flat_map closings cs) → e ≡ d ++ flat_map line (map ship_words ss) → f ≡ e ++ codes "end\n" → f ≡ canonical I
-printed I cs ss plain a b c d e f cs_is ss_is plain_is a_is b_is c_is d_is e_is f_is =
-    let header : b ≡ line (header_words (is_plain I)) = b_is ∙ ap (λ xs. xs ++ line (header_words plain)) a_is ∙ ap (λ p. line (header_words p)) plain_is in
-    let chambers : c ≡ line (header_words (is_plain I)) ++ flat_map line (map chamber_words I.chambers) = c_is ∙ ap (λ xs. xs ++ flat_map line (map chamber_words cs)) header ∙ ap (λ xs. line (header_words (is_plain I)) ++ flat_map line (map chamber_words xs)) cs_is in
-    let closed = d_is ∙ ap (λ xs. xs ++ flat_map line (flat_map closings cs)) chambers ∙ ap (λ xs. line (header_words (is_plain I)) ++ flat_map line (map chamber_words I.chambers) ++ flat_map line (flat_map closings xs)) cs_is in
-    let shipped = e_is ∙ ap (λ xs. xs ++ flat_map line (map ship_words ss)) closed ∙ ap (λ xs. line (header_words (is_plain I)) ++ flat_map line (map chamber_words I.chambers) ++ flat_map line (flat_map closings I.chambers) ++ flat_map line (map ship_words xs)) ss_is in
+pub printed : (I : Instance) (cs : List Chamber) (ss : List Ship) (format : Format) (a b c d e f : List ℕ) → cs ≡ I.chambers → ss ≡ I.ships → format ≡ canonical_format I → a ≡ [] → b ≡ a ++ line (header_words format) → c ≡ b ++ flat_map line (map chamber_words cs) → d ≡ c ++ flat_map line (flat_map closings cs) → e ≡ d ++ flat_map line (map ship_words ss) → f ≡ e ++ codes "end\n" → f ≡ canonical I
+printed I cs ss format a b c d e f cs_is ss_is format_is a_is b_is c_is d_is e_is f_is =
+    let header : b ≡ line (header_words (canonical_format I)) = b_is ∙ ap (λ xs. xs ++ line (header_words format)) a_is ∙ ap (λ f. line (header_words f)) format_is in
+    let chambers : c ≡ line (header_words (canonical_format I)) ++ flat_map line (map chamber_words I.chambers) = c_is ∙ ap (λ xs. xs ++ flat_map line (map chamber_words cs)) header ∙ ap (λ xs. line (header_words (canonical_format I)) ++ flat_map line (map chamber_words xs)) cs_is in
+    let closed = d_is ∙ ap (λ xs. xs ++ flat_map line (flat_map closings cs)) chambers ∙ ap (λ xs. line (header_words (canonical_format I)) ++ flat_map line (map chamber_words I.chambers) ++ flat_map line (flat_map closings xs)) cs_is in
+    let shipped = e_is ∙ ap (λ xs. xs ++ flat_map line (map ship_words ss)) closed ∙ ap (λ xs. line (header_words (canonical_format I)) ++ flat_map line (map chamber_words I.chambers) ++ flat_map line (flat_map closings I.chambers) ++ flat_map line (map ship_words xs)) ss_is in
     f_is ∙ ap (λ xs. xs ++ codes "end\n") shipped ∙ sym (canonical_is I)

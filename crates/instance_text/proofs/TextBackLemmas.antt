@@ -1,5 +1,5 @@
 -- A canonical text means its instance.
-use Rattle.std.proofs.Common.{◌≡◌, ◌≢◌, ℕ, ◌+◌, ◌<◌, ◌≤◌, ◌==◌, Bool, true, false, List, [], ◌∷◌, ◌++◌, length, map, get_or, All, AllPairs, Result, Ok, codes, sym, ap, refl, subst, ◌∙◌, arith}
+use Rattle.std.proofs.Common.{◌≡◌, ◌≢◌, ℕ, ◌+◌, ◌<◌, ◌≤◌, ◌==◌, Bool, true, false, cond, List, [], ◌∷◌, ◌++◌, length, map, get_or, All, AllPairs, Result, Ok, codes, sym, ap, refl, subst, ◌∙◌, arith}
 use Rattle.std.proofs.lemmas.Bool.{and_parts}
 use Rattle.std.specs.List.{flat_map, list_all}
 use Rattle.std.proofs.lemmas.Bool.Decides.{nat_tests}
@@ -7,7 +7,7 @@ use Rattle.std.proofs.lemmas.List.{append_assoc, append-nil, length_push, map-ap
 use Rattle.std.proofs.lemmas.List.Elements.{All-nil, All-cons, All-head, All-tail, All-push}
 use Rattle.std.proofs.lemmas.List.Sums.{AllPass-from_list_all}
 use Rattle.list_laws.proofs.Lists.{AllPairs-tail, AllPairs-head}
-use Rattle.lock_model.specs.declared.limits.TheConstants.{CHAMBERS, SHIPS}
+use Rattle.lock_model.specs.declared.limits.TheConstants.{CHAMBERS, FEW_SHIPS}
 use Rattle.lock_model.specs.Limits.{IsName}
 use Rattle.lock_model.specs.Closures.{AreClosures}
 use Rattle.lock_model.specs.Instance.{IsChamber, IsShip}
@@ -17,8 +17,11 @@ use Rattle.lock_model.specs.declared.ship.Ship.{Ship}
 use Rattle.lock_model.specs.declared.instance.Instance.{Instance}
 use Rattle.instance_text.specs.declared.bad.Bad.{Bad}
 use Rattle.instance_text.specs.declared.format.Format.{Format}
-use Rattle.instance_text.specs.declared.format.Format.TheVariants.{First, Second}
+use Rattle.instance_text.specs.declared.format.Format.TheVariants.{First, Second, Third}
 use Rattle.line_text.specs.declared.progress.Progress.TheVariants.{More}
+use Rattle.lock_model.specs.Fleet.{is_large}
+use Rattle.instance_text.specs.Ship.{is_ship_count, most_ships}
+use Rattle.instance_text.specs.Closing.{has_closures}
 use Rattle.instance_text.specs.Draft.{Draft, no_draft, draft_of}
 use Rattle.instance_text.specs.Reading.{reading, Means, read_lines, read_body, read_line, format_of}
 use Rattle.instance_text.specs.Canonical.{chamber_words, closing_words, closings, ship_words, is_plain, header_words, canonical, canonical_words}
@@ -71,40 +74,40 @@ chambers_back format n d (c ∷ cs) more r few new rest =
     (λ m. subst (λ xs. read_body format m (record d { chambers = xs }) more ≡ r) (sym (append_assoc d.chambers (bare c ∷ []) (map bare cs))) (rest m)))
 
 -- ships in a format that has room for their cargo
-ships_back : (format : Format) (n : ℕ) (d : Draft) (ss : List Ship) (more : List (List (List ℕ))) (r : Result Draft Bad) → All (λ s. (s.cargo == 0) ≡ false → format ≡ Second) ss → length d.ships + length ss ≤ SHIPS → NewShips (map (λ s. s.name) d.ships) ss → ((m : ℕ) → read_body format m (record d { ships = d.ships ++ ss }) more ≡ r) → read_body format n d (map ship_words ss ++ more) ≡ r
+ships_back : (format : Format) (n : ℕ) (d : Draft) (ss : List Ship) (more : List (List (List ℕ))) (r : Result Draft Bad) → All (λ s. (s.cargo == 0) ≡ false → is_ship_count format 8 ≡ true) ss → length d.ships + length ss ≤ most_ships format → NewShips (map (λ s. s.name) d.ships) ss → ((m : ℕ) → read_body format m (record d { ships = d.ships ++ ss }) more ≡ r) → read_body format n d (map ship_words ss ++ more) ≡ r
 ships_back format n d [] more r fits few new rest = subst (λ xs. read_body format n (record d { ships = xs }) more ≡ r) (append-nil d.ships) (rest n)
 ships_back format n d (s ∷ ss) more r fits few new rest =
     let next : Draft = record d { ships = d.ships ++ s ∷ [] } in
     goes_on format n d next (ship_words s) (map ship_words ss ++ more) r
-    (ship_line_back format d s (All-head (λ x. (x.cargo == 0) ≡ false → format ≡ Second) s ss fits) (omega arith) new.0 new.1)
-    (ships_back format (n + 1) next ss more r (All-tail (λ x. (x.cargo == 0) ≡ false → format ≡ Second) s ss fits) (omega (arith, length_push d.ships s))
+    (ship_line_back format d s (All-head (λ x. (x.cargo == 0) ≡ false → is_ship_count format 8 ≡ true) s ss fits) (omega arith) new.0 new.1)
+    (ships_back format (n + 1) next ss more r (All-tail (λ x. (x.cargo == 0) ≡ false → is_ship_count format 8 ≡ true) s ss fits) (omega (arith, length_push d.ships s))
     (subst (λ names. NewShips names ss) (sym (map-append (λ (x : Ship). x.name) d.ships (s ∷ []))) new.2)
     (λ m. subst (λ xs. read_body format m (record d { ships = xs }) more ≡ r) (sym (append_assoc d.ships (s ∷ []) ss)) (rest m)))
 
 -- the closures of one chamber, behind others whose closures are read
-closures_back : (n : ℕ) (d : Draft) (front : List Chamber) (x : Chamber) (back : List Chamber) (ks : List Closure) (more : List (List (List ℕ))) (r : Result Draft Bad) → d.chambers ≡ front ++ x ∷ back → IsName x.name → All (λ c. c.name ≢ x.name) front → AreClosures (x.closures ++ ks) → ((m : ℕ) → read_body Second m (record d { chambers = front ++ record x { closures = x.closures ++ ks } ∷ back }) more ≡ r) → read_body Second n d (map (closing_words x.name) ks ++ more) ≡ r
-closures_back n d front x back [] more r is good new are rest =
-    subst (λ cs. read_body Second n (record d { chambers = cs }) more ≡ r) (ap (λ ks. front ++ record x { closures = ks } ∷ back) (append-nil x.closures) ∙ sym is) (rest n)
-closures_back n d front x back (k ∷ ks) more r is good new are rest =
+closures_back : (format : Format) → has_closures format ≡ true → (n : ℕ) (d : Draft) (front : List Chamber) (x : Chamber) (back : List Chamber) (ks : List Closure) (more : List (List (List ℕ))) (r : Result Draft Bad) → d.chambers ≡ front ++ x ∷ back → IsName x.name → All (λ c. c.name ≢ x.name) front → AreClosures (x.closures ++ ks) → ((m : ℕ) → read_body format m (record d { chambers = front ++ record x { closures = x.closures ++ ks } ∷ back }) more ≡ r) → read_body format n d (map (closing_words x.name) ks ++ more) ≡ r
+closures_back format has n d front x back [] more r is good new are rest =
+    subst (λ cs. read_body format n (record d { chambers = cs }) more ≡ r) (ap (λ ks. front ++ record x { closures = ks } ∷ back) (append-nil x.closures) ∙ sym is) (rest n)
+closures_back format has n d front x back (k ∷ ks) more r is good new are rest =
     let whole = append_assoc x.closures (k ∷ []) ks in
     let next : Chamber = record x { closures = x.closures ++ k ∷ [] } in
     let front_are : AreClosures (x.closures ++ k ∷ []) = closures_front (x.closures ++ k ∷ []) ks (subst AreClosures (sym whole) are) in
-    goes_on Second n d (record d { chambers = front ++ next ∷ back }) (closing_words x.name k) (map (closing_words x.name) ks ++ more) r
-    (closing_line_back d front x back k is good new front_are)
-    (closures_back (n + 1) (record d { chambers = front ++ next ∷ back }) front next back ks more r refl good new (subst AreClosures (sym whole) are)
-    (λ m. subst (λ xs. read_body Second m (record d { chambers = front ++ record x { closures = xs } ∷ back }) more ≡ r) (sym whole) (rest m)))
+    goes_on format n d (record d { chambers = front ++ next ∷ back }) (closing_words x.name k) (map (closing_words x.name) ks ++ more) r
+    (closing_line_back format d front x back k is good new front_are has)
+    (closures_back format has (n + 1) (record d { chambers = front ++ next ∷ back }) front next back ks more r refl good new (subst AreClosures (sym whole) are)
+    (λ m. subst (λ xs. read_body format m (record d { chambers = front ++ record x { closures = xs } ∷ back }) more ≡ r) (sym whole) (rest m)))
 
 -- the closures of all chambers
-closings_back : (n : ℕ) (d : Draft) (front cs : List Chamber) (more : List (List (List ℕ))) (r : Result Draft Bad) → d.chambers ≡ front ++ map bare cs → NewChambers (map (λ c. c.name) front) cs → ((m : ℕ) → read_body Second m (record d { chambers = front ++ cs }) more ≡ r) → read_body Second n d (flat_map closings cs ++ more) ≡ r
-closings_back n d front [] more r is new rest = subst (λ cs. read_body Second n (record d { chambers = cs }) more ≡ r) (sym is) (rest n)
-closings_back n d front (c ∷ cs) more r is new rest =
+closings_back : (format : Format) → has_closures format ≡ true → (n : ℕ) (d : Draft) (front cs : List Chamber) (more : List (List (List ℕ))) (r : Result Draft Bad) → d.chambers ≡ front ++ map bare cs → NewChambers (map (λ c. c.name) front) cs → ((m : ℕ) → read_body format m (record d { chambers = front ++ cs }) more ≡ r) → read_body format n d (flat_map closings cs ++ more) ≡ r
+closings_back format has n d front [] more r is new rest = subst (λ cs. read_body format n (record d { chambers = cs }) more ≡ r) (sym is) (rest n)
+closings_back format has n d front (c ∷ cs) more r is new rest =
     let own = new.0.closures in
     let next : Draft = record d { chambers = front ++ c ∷ map bare cs } in
-    subst (λ lines. read_body Second n d lines ≡ r) (sym (append_assoc (closings c) (flat_map closings cs) more))
-    (closures_back n d front (bare c) (map bare cs) c.closures (flat_map closings cs ++ more) r is new.0.name (names_differ front new.1) own
-    (λ m. closings_back m next (front ++ c ∷ []) cs more r (sym (append_assoc front (c ∷ []) (map bare cs)))
+    subst (λ lines. read_body format n d lines ≡ r) (sym (append_assoc (closings c) (flat_map closings cs) more))
+    (closures_back format has n d front (bare c) (map bare cs) c.closures (flat_map closings cs ++ more) r is new.0.name (names_differ front new.1) own
+    (λ m. closings_back format has m next (front ++ c ∷ []) cs more r (sym (append_assoc front (c ∷ []) (map bare cs)))
     (subst (λ names. NewChambers names cs) (sym (map-append (λ (x : Chamber). x.name) front (c ∷ []))) new.2)
-    (λ m'. subst (λ xs. read_body Second m' (record d { chambers = xs }) more ≡ r) (sym (append_assoc front (c ∷ []) cs)) (rest m'))))
+    (λ m'. subst (λ xs. read_body format m' (record d { chambers = xs }) more ≡ r) (sym (append_assoc front (c ∷ []) cs)) (rest m'))))
   where
     names_differ : (xs : List Chamber) → All (λ e. e ≢ c.name) (map (λ x. x.name) xs) → All (λ x. x.name ≢ c.name) xs
     names_differ [] all = All-nil (λ x. x.name ≢ c.name)
@@ -136,45 +139,57 @@ fresh_chambers I = new_chambers [] I.chambers I.limits.chamber (λ k d low. All-
 fresh_ships : (I : Instance) → NewShips [] I.ships
 fresh_ships I = new_ships [] I.ships I.limits.ship (λ k d low. All-nil (λ e. e ≢ (get_or I.ships k d).name)) I.limits.ship_names
 
-tail_back : (I : Instance) (format : Format) (m : ℕ) → All (λ s. (s.cargo == 0) ≡ false → format ≡ Second) I.ships → read_body format m (record { chambers = I.chambers; ships = [] }) (map ship_words I.ships ++ (codes "end" ∷ []) ∷ [] ∷ []) ≡ Ok (draft_of I)
-tail_back I format m fits =
+tail_back : (I : Instance) (format : Format) (m : ℕ) → length I.ships ≤ most_ships format → All (λ s. (s.cargo == 0) ≡ false → is_ship_count format 8 ≡ true) I.ships → read_body format m (record { chambers = I.chambers; ships = [] }) (map ship_words I.ships ++ (codes "end" ∷ []) ∷ [] ∷ []) ≡ Ok (draft_of I)
+tail_back I format m few fits =
     let chambers = I.limits.chamber_count.0 in
     let ships = I.limits.ship_count.0 in
-    let few = I.limits.ship_count.1 in
     ships_back format m (record { chambers = I.chambers; ships = [] }) I.ships ((codes "end" ∷ []) ∷ [] ∷ []) (Ok (draft_of I)) fits (omega arith) (fresh_ships I) (λ m'. end_back format m' (draft_of I) (omega arith) (omega arith))
 
-second_back : (I : Instance) → read_body Second 1 no_draft (body I) ≡ Ok (draft_of I)
-second_back I =
+-- in a format that takes closures and classes
+rich_back : (I : Instance) (format : Format) → has_closures format ≡ true → is_ship_count format 8 ≡ true → length I.ships ≤ most_ships format → read_body format 1 no_draft (body I) ≡ Ok (draft_of I)
+rich_back I format has counted few_ships =
     let few = I.limits.chamber_count.1 in
-    chambers_back Second 1 no_draft I.chambers (flat_map closings I.chambers ++ (map ship_words I.ships ++ (codes "end" ∷ []) ∷ [] ∷ [])) (Ok (draft_of I)) (omega arith) (fresh_chambers I)
-    (λ m. closings_back m (record { chambers = map bare I.chambers; ships = [] }) [] I.chambers (map ship_words I.ships ++ (codes "end" ∷ []) ∷ [] ∷ []) (Ok (draft_of I)) refl (fresh_chambers I)
-    (λ m'. tail_back I Second m' (λ k d low no_cargo. refl)))
+    chambers_back format 1 no_draft I.chambers (flat_map closings I.chambers ++ (map ship_words I.ships ++ (codes "end" ∷ []) ∷ [] ∷ [])) (Ok (draft_of I)) (omega arith) (fresh_chambers I)
+    (λ m. closings_back format has m (record { chambers = map bare I.chambers; ships = [] }) [] I.chambers (map ship_words I.ships ++ (codes "end" ∷ []) ∷ [] ∷ []) (Ok (draft_of I)) refl (fresh_chambers I)
+    (λ m'. tail_back I format m' few_ships (λ k d low no_cargo. counted)))
 
-first_back : (I : Instance) → list_all (λ (c : Chamber). length c.closures == 0) I.chambers ≡ true → list_all (λ (s : Ship). s.cargo == 0) I.ships ≡ true → read_body First 1 no_draft (body I) ≡ Ok (draft_of I)
-first_back I never_closed harmless =
+plain_back : (I : Instance) → length I.ships ≤ FEW_SHIPS → list_all (λ (c : Chamber). length c.closures == 0) I.chambers ≡ true → list_all (λ (s : Ship). s.cargo == 0) I.ships ≡ true → read_body First 1 no_draft (body I) ≡ Ok (draft_of I)
+plain_back I few_ships never_closed harmless =
     let few = I.limits.chamber_count.1 in
     let none = none_closed I.chambers (AllPass-from_list_all (λ (c : Chamber). length c.closures == 0) I.chambers never_closed) in
     let safe = AllPass-from_list_all (λ (s : Ship). s.cargo == 0) I.ships harmless in
     subst (λ ls. read_body First 1 no_draft (map chamber_words I.chambers ++ (ls ++ (map ship_words I.ships ++ (codes "end" ∷ []) ∷ [] ∷ []))) ≡ Ok (draft_of I)) (sym none.0)
     (chambers_back First 1 no_draft I.chambers (map ship_words I.ships ++ (codes "end" ∷ []) ∷ [] ∷ []) (Ok (draft_of I)) (omega arith) (fresh_chambers I)
     (λ m. subst (λ cs. read_body First m (record { chambers = cs; ships = [] }) (map ship_words I.ships ++ (codes "end" ∷ []) ∷ [] ∷ []) ≡ Ok (draft_of I)) (sym none.1)
-    (tail_back I First m (λ k d low no_cargo. let h = safe k d low in contradiction (get_or I.ships k d).cargo h no_cargo))))
+    (tail_back I First m few_ships (λ k d low no_cargo. let h = safe k d low in contradiction (get_or I.ships k d).cargo h no_cargo))))
   where
-    contradiction : (n : ℕ) → (n == 0) ≡ true → (n == 0) ≡ false → First ≡ Second
+    contradiction : (n : ℕ) → (n == 0) ≡ true → (n == 0) ≡ false → is_ship_count First 8 ≡ true
     contradiction n yes_it no_it = cc
+
+-- the lines of a canonical text under this header are read
+abbrev ReadsBack : Instance → Format → Type 0
+ReadsBack I format = read_lines 0 (((header_words format ∷ map chamber_words I.chambers) ++ flat_map closings I.chambers ++ map ship_words I.ships ++ (codes "end" ∷ []) ∷ []) ++ [] ∷ []) ≡ Ok (draft_of I)
+
+few_where_not_large : (I : Instance) → is_large I ≡ false → length I.ships ≤ FEW_SHIPS
+unfolding is_large
+few_where_not_large I is = grind (arith, nat_tests)
 
 lines_back : (I : Instance) → read_lines 0 (canonical_words I ++ [] ∷ []) ≡ Ok (draft_of I)
 unfolding canonical_words format_of
-lines_back I = by_plain (is_plain I) refl
+lines_back I = by_size (is_large I) refl
   where
     parts : (header : List (List ℕ)) → ((header ∷ map chamber_words I.chambers) ++ flat_map closings I.chambers ++ map ship_words I.ships ++ (codes "end" ∷ []) ∷ []) ++ [] ∷ [] ≡ header ∷ body I
     parts header = grouped (header ∷ map chamber_words I.chambers) (flat_map closings I.chambers) (map ship_words I.ships) ((codes "end" ∷ []) ∷ []) ([] ∷ [])
 
-    by_plain : (plain : Bool) → is_plain I ≡ plain → read_lines 0 (((header_words plain ∷ map chamber_words I.chambers) ++ flat_map closings I.chambers ++ map ship_words I.ships ++ (codes "end" ∷ []) ∷ []) ++ [] ∷ []) ≡ Ok (draft_of I)
-    by_plain true is =
+    by_plain : (plain : Bool) → is_plain I ≡ plain → length I.ships ≤ FEW_SHIPS → ReadsBack I (cond plain First Second)
+    by_plain true is few =
         let holds = and_parts (list_all (λ (c : Chamber). length c.closures == 0) I.chambers) (list_all (λ (s : Ship). s.cargo == 0) I.ships) is in
-        ap (read_lines 0) (parts (header_words true)) ∙ first_back I holds.0 holds.1
-    by_plain false is = ap (read_lines 0) (parts (header_words false)) ∙ second_back I
+        ap (read_lines 0) (parts (header_words First)) ∙ plain_back I few holds.0 holds.1
+    by_plain false is few = ap (read_lines 0) (parts (header_words Second)) ∙ rich_back I Second refl refl few
+
+    by_size : (large : Bool) → is_large I ≡ large → ReadsBack I (cond large Third (cond (is_plain I) First Second))
+    by_size true is = ap (read_lines 0) (parts (header_words Third)) ∙ rich_back I Third refl refl I.limits.ship_count.1
+    by_size false is = by_plain (is_plain I) refl (few_where_not_large I is)
 
 -- the canonical text of an instance means that instance
 pub canonical_means : (I : Instance) → Means (canonical I) I

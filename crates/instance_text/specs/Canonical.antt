@@ -5,11 +5,14 @@ use Rattle.lock_model.specs.declared.chamber.Chamber.{Chamber}
 use Rattle.lock_model.specs.declared.closure.Closure.{Closure}
 use Rattle.lock_model.specs.declared.ship.Ship.{Ship}
 use Rattle.lock_model.specs.declared.instance.Instance.{Instance}
+use Rattle.lock_model.specs.Fleet.{is_large}
 use Rattle.lock_model.specs.declared.way.Way.{Way}
 use Rattle.lock_model.specs.declared.way.Way.TheVariants.{Up, Down}
 use Rattle.lock_model.specs.declared.way.Stand.{Stand}
 use Rattle.lock_model.specs.declared.way.Stand.TheVariants.{Low, High}
 use Rattle.line_text.specs.Printed.{line}
+use Rattle.instance_text.specs.declared.format.Format.{Format}
+use Rattle.instance_text.specs.declared.format.Format.TheVariants.{First, Second, Third}
 
 abbrev pub way_word : Way → List ℕ
 way_word Up = codes "up"
@@ -45,16 +48,25 @@ cargo_field cargo = if cargo == 0 then [] else field cargo
 unfoldable pub ship_words : Ship → List (List ℕ)
 ship_words s = (codes "ship" ∷ s.name ∷ way_word s.way ∷ decimal s.length ∷ decimal s.width ∷ decimal s.arrival ∷ decimal s.handling ∷ []) ++ cargo_words s.cargo
 
--- whether the first format says it all: no closures, and all cargo is harmless
+-- whether it has no closures, and all its cargo is harmless
 abbrev pub is_plain : Instance → Bool
 is_plain I = list_all (λ c. length c.closures == 0) I.chambers && list_all (λ s. s.cargo == 0) I.ships
 
-abbrev pub header_words : Bool → List (List ℕ)
-header_words plain = codes "glock" ∷ (if plain then codes "1" else codes "2") ∷ []
+-- the first format that says all of it
+abbrev pub canonical_format : Instance → Format
+canonical_format I = if is_large I then Third else (if is_plain I then First else Second)
+
+abbrev pub format_word : Format → List ℕ
+format_word First = codes "1"
+format_word Second = codes "2"
+format_word Third = codes "3"
+
+abbrev pub header_words : Format → List (List ℕ)
+header_words format = codes "glock" ∷ format_word format ∷ []
 
 -- the words of each line
 unfoldable pub canonical_words : Instance → List (List (List ℕ))
-canonical_words I = header_words (is_plain I) ∷ map chamber_words I.chambers ++ flat_map closings I.chambers ++ map ship_words I.ships ++ (codes "end" ∷ []) ∷ []
+canonical_words I = header_words (canonical_format I) ∷ map chamber_words I.chambers ++ flat_map closings I.chambers ++ map ship_words I.ships ++ (codes "end" ∷ []) ∷ []
 
 unfoldable pub canonical : Instance → List ℕ
 canonical I = flat_map line (canonical_words I)

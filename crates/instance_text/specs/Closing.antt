@@ -1,5 +1,5 @@
 -- The words of a close line, and a closure put among the others of its chamber.
-use Rattle.std.specs.Prelude.{ℕ, ◌≡◌, ◌<◌, ◌==◌, ◌&&◌, not, Bool, false, List, length, nat_lt, position, insert, slice_index_or, slice_set, Result, Ok}
+use Rattle.std.specs.Prelude.{ℕ, ◌≡◌, ◌<◌, ◌==◌, ◌&&◌, not, Bool, true, false, List, length, nat_lt, position, insert, slice_index_or, slice_set, Result, Ok}
 use Rattle.std.specs.Option.{ok_or}
 use Rattle.std.specs.List.{list_any, position_or_len}
 use Rattle.std.specs.Str.{bytes_eq}
@@ -10,9 +10,17 @@ use Rattle.lock_model.specs.declared.chamber.Chamber.{Chamber}
 use Rattle.lock_model.specs.declared.closure.Closure.{Closure}
 use Rattle.instance_text.specs.declared.bad.Kind.{Kind}
 use Rattle.instance_text.specs.declared.bad.Kind.TheVariants.{Count, Range, Unknown, Overlap}
+use Rattle.instance_text.specs.declared.format.Format.{Format}
+use Rattle.instance_text.specs.declared.format.Format.TheVariants.{First, Second, Third}
 use Rattle.line_text.specs.Steps.{◌>>=◌, ◌>>◌, check}
 use Rattle.instance_text.specs.Words.{number, name}
 use Rattle.line_text.specs.Lines.{word_at}
+
+-- whether closures may stand in texts of this format
+abbrev pub has_closures : Format → Bool
+has_closures First = false
+has_closures Second = true
+has_closures Third = true
 
 -- the number of the chamber of a name
 unfoldable pub chamber_named : List Chamber → List ℕ → Result ℕ Kind

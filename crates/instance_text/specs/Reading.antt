@@ -6,7 +6,7 @@ use Rattle.instance_text.specs.declared.bad.Bad.{Bad}
 use Rattle.instance_text.specs.declared.bad.Kind.{Kind}
 use Rattle.instance_text.specs.declared.bad.Kind.TheVariants.{NotUtf8, NoHeader, Word, Count, NoChamber, NoShip, NoEnd}
 use Rattle.instance_text.specs.declared.format.Format.{Format}
-use Rattle.instance_text.specs.declared.format.Format.TheVariants.{First, Second}
+use Rattle.instance_text.specs.declared.format.Format.TheVariants.{First, Second, Third}
 use Rattle.line_text.specs.declared.progress.Progress.{Progress}
 use Rattle.line_text.specs.declared.progress.Progress.TheVariants.{More, Ended}
 use Rattle.line_text.specs.Filled.{Filled, first_words}
@@ -15,7 +15,7 @@ use Rattle.line_text.specs.Steps.{◌>>=◌, ◌>>◌, check, proceed}
 use Rattle.instance_text.specs.Draft.{Draft, no_draft, draft_of}
 use Rattle.instance_text.specs.Chamber.{read_chamber}
 use Rattle.instance_text.specs.Ship.{read_ship}
-use Rattle.instance_text.specs.Closing.{read_closing, with_closure}
+use Rattle.instance_text.specs.Closing.{has_closures, read_closing, with_closure}
 
 -- the line `end`, which needs a chamber and a ship before it
 unfoldable pub read_end : Draft → List (List ℕ) → Result (Progress × Draft) Kind
@@ -35,10 +35,10 @@ add_ship format draft words = do
   ship ← read_ship format draft.ships words
   Ok (More, record draft { ships = draft.ships ++ ship ∷ [] })
 
--- a closure, in the second format alone
+-- a closure, in the second and the third format
 unfoldable pub add_closure : Format → Draft → List (List ℕ) → Result (Progress × Draft) Kind
-add_closure First draft words = Err Word
-add_closure Second draft words = do
+add_closure format draft words = do
+  check (has_closures format) Word
   found ← read_closing draft.chambers words
   Ok (More, record draft { chambers = with_closure draft.chambers found.0 found.1 })
 
@@ -61,7 +61,9 @@ answered draft (Err kind) = Err kind
 unfoldable pub format_of : List (List ℕ) → Option Format
 format_of words =
     if length words == 2 && bytes_eq (word_at words 0) (codes "glock")
-    then (if bytes_eq (word_at words 1) (codes "1") then Some First else (if bytes_eq (word_at words 1) (codes "2") then Some Second else None))
+    then (if bytes_eq (word_at words 1) (codes "1") then Some First
+    else (if bytes_eq (word_at words 1) (codes "2") then Some Second
+    else (if bytes_eq (word_at words 1) (codes "3") then Some Third else None)))
     else None
 
 abbrev pub bad : ℕ → Kind → Bad

@@ -12,7 +12,7 @@ pub struct Bad {
 pub enum Kind {
     /// The bytes are not UTF-8.
     NotUtf8 = 1,
-    /// The first line with words is neither `glock 1` nor `glock 2`.
+    /// The first line with words is none of `glock 1`, `glock 2` and `glock 3`.
     NoHeader = 2,
     /// No line, way or stand begins with this word, or words stand after `end`.
     Word = 3,

@@ -1,4 +1,4 @@
-//! The two formats of instance texts.
+//! The three formats of instance texts.
 ghost use Rattle.std.specs.Prelude.{◌≡◌};
 ghost use Rattle.line_text.specs.Lines.{words};
 ghost use Rattle.instance_text.specs.Reading.{format_of};
@@ -6,13 +6,15 @@ ghost use Rattle.instance_text.specs.Reading.{format_of};
 use line_text::{word_at, words_of};
 
 /// The format that the first line with words names. Closures and cargo classes stand in texts of
-/// the second format alone.
+/// the second and the third format, and more than `FEW_SHIPS` ships in those of the third.
 #[derive(Clone, Copy)]
 pub enum Format {
     /// `glock 1`
     First,
     /// `glock 2`
     Second,
+    /// `glock 3`
+    Third,
 }
 
 /// The format that a line names as the header of a text.
@@ -28,6 +30,7 @@ pub fn format_of(line: &[u8]) -> Option<Format>
     match word_at(words, 1) {
         b"1" => Some(Format::First),
         b"2" => Some(Format::Second),
+        b"3" => Some(Format::Third),
         _ => None,
     }
 }

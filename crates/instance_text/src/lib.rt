@@ -1,5 +1,6 @@
-//! Instance texts: `read_instance` and `read_instance_part` read them in either format,
-//! `print_instance` prints the canonical one, and `make_lot` makes an instance from a number.
+//! Instance texts: `read_instance` and `read_instance_part` read them in each of the three formats,
+//! `print_instance` prints the canonical one, and `make_lot` makes an instance from a number. Up to
+//! `FEW_SHIPS` ships stand in texts of the first two formats, and up to `SHIPS` in those of the third.
 //!
 //! Reading takes no memory and answers for all bytes: the instance that they mean, or their first
 //! defect with its line and kind, exactly where they mean none.

@@ -3,6 +3,7 @@ ghost use Rattle.std.specs.Prelude.{◌≡◌, ◌<◌, length, IfOk};
 ghost use Rattle.std.specs.Str.{bytes_eq};
 ghost use Rattle.line_text.specs.Lines.{word_at};
 ghost use Rattle.line_text.specs.Texts.{texts};
+ghost use Rattle.instance_text.specs.Closing.{has_closures};
 ghost use Rattle.instance_text.specs.Draft.{IsWholeDraft};
 ghost use Rattle.instance_text.specs.Reading.{add_chamber, add_ship, add_closure, read_end, read_line, answered};
 
@@ -36,15 +37,23 @@ fn add_ship(format: Format, draft: &mut Draft, words: &[&[u8]]) -> Result<Progre
     Ok(Progress::More)
 }
 
-/// Adds the closure of a line, which stands in the second format alone.
+/// Whether closures may stand in texts of this format.
+fn has_closures(format: Format) -> bool
+    ensures { result ≡ has_closures format }
+{
+    match format {
+        Format::First => false,
+        Format::Second | Format::Third => true,
+    }
+}
+
+/// Adds the closure of a line, which stands in the second and the third format.
 #[tactic(auto, unfolding(crate::specs::Reading::add_closure))]
 fn add_closure(format: Format, draft: &mut Draft, words: &[&[u8]]) -> Result<Progress, Kind>
     ensures value { add_closure format draft.old (texts words.now) ≡ answered draft.new result }
     ensures more { IfOk result (λ p. p ≡ Progress.More) }
 {
-    if let Format::First = format {
-        return Err(Kind::Word);
-    }
+    check(has_closures(format), Kind::Word)?;
     let (place, closure) = read_closing(draft.chambers(), words)?;
     draft.add_closure(place, closure);
     Ok(Progress::More)

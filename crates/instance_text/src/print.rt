@@ -2,12 +2,13 @@
 ghost use Rattle.std.specs.Prelude.{◌≡◌, ◌==◌, ◌++◌, ◌∷◌, ◌&&◌, [], List, length, map, IfOk, OnOk};
 ghost use Rattle.std.specs.List.{flat_map, list_all};
 ghost use Rattle.line_text.specs.Printed.{line};
-ghost use Rattle.instance_text.specs.Canonical.{way_word, stand_word, chamber_words, closing_words, closings, ship_words, cargo_field, is_plain, header_words, canonical};
+ghost use Rattle.instance_text.specs.Canonical.{way_word, stand_word, chamber_words, closing_words, closings, ship_words, cargo_field, is_plain, canonical_format, header_words, canonical};
 ghost use Rattle.instance_text.specs.Reading.{Means};
 ghost use Rattle.lock_model.specs.declared.chamber.Chamber.{Chamber as AnyChamber};
 ghost use Rattle.lock_model.specs.declared.ship.Ship.{Ship as AnyShip};
 
 use crate::append::{put_field, put_fields};
+use crate::format::Format;
 use lock_model::{Chamber, Closure, Instance, Ship, Stand, Way};
 use no_memory::NoMemory;
 use plain_text::put;
@@ -146,21 +147,34 @@ fn is_harmless(ships: &[Ship]) -> bool
     ships.iter().all(|ship| ship.cargo == 0)
 }
 
-/// Whether the first format says all of an instance.
+/// Whether no chamber of an instance has a closure, and all its cargo is harmless.
 fn is_plain(instance: &Instance) -> bool
     ensures { result ≡ is_plain instance.now }
 {
     is_open(instance.chambers.as_slice()) && is_harmless(instance.ships.as_slice())
 }
 
-/// Appends the header.
-fn put_header(out: &mut Vec<u8>, plain: bool) -> Result<(), NoMemory>
-    ensures { OnOk result (out.new.items ≡ out.old.items ++ line (header_words plain)) }
+/// The format of the canonical text of an instance, which is the first that says all of it.
+fn canonical_format(instance: &Instance) -> Format
+    ensures { result ≡ canonical_format instance.now }
 {
-    if plain {
-        put(out, b"glock 1\n")
+    if instance.is_large() {
+        Format::Third
+    } else if is_plain(instance) {
+        Format::First
     } else {
-        put(out, b"glock 2\n")
+        Format::Second
+    }
+}
+
+/// Appends the header.
+fn put_header(out: &mut Vec<u8>, format: Format) -> Result<(), NoMemory>
+    ensures { OnOk result (out.new.items ≡ out.old.items ++ line (header_words format)) }
+{
+    match format {
+        Format::First => put(out, b"glock 1\n"),
+        Format::Second => put(out, b"glock 2\n"),
+        Format::Third => put(out, b"glock 3\n"),
     }
 }
 
@@ -172,7 +186,7 @@ pub fn print_instance(alloc: Global, instance: &Instance) -> Result<Vec<u8>, NoM
 {
     let chambers = instance.chambers.as_slice();
     let mut out = Vec::new(alloc);
-    put_header(&mut out, is_plain(instance))?;
+    put_header(&mut out, canonical_format(instance))?;
     put_chambers(&mut out, chambers)?;
     put_closings(&mut out, chambers)?;
     put_ships(&mut out, instance.ships.as_slice())?;

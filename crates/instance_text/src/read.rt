@@ -103,7 +103,7 @@ fn read_text(bytes: &[u8]) -> Result<Instance, Bad>
     Ok(draft.into_instance())
 }
 
-/// The instance of an instance text of either format. Answers the first defect exactly where the
+/// The instance of an instance text of any of the three formats. Answers the first defect exactly where the
 /// bytes mean no instance. Takes no memory.
 pub fn read_instance(bytes: &[u8]) -> Result<Instance, Bad>
     ensures read { IfOk result (Means bytes.now) }

@@ -2,7 +2,7 @@
 ghost use Rattle.std.specs.Prelude.{◌≡◌, ◌≢◌, ◌<◌, ◌≤◌, All, length, IfOk};
 ghost use Rattle.lock_model.specs.Instance.{IsShip};
 ghost use Rattle.line_text.specs.Texts.{texts};
-ghost use Rattle.instance_text.specs.Ship.{is_ship_count, cargo, read_figures, AreFigures, read_ship};
+ghost use Rattle.instance_text.specs.Ship.{is_ship_count, most_ships, cargo, read_figures, AreFigures, read_ship};
 
 use crate::bad::Kind;
 use crate::format::Format;
@@ -10,7 +10,7 @@ use crate::name::new_ship_name;
 use crate::numbers::number;
 use crate::side::way;
 use line_text::{check, word_at};
-use lock_model::{SHIPS, Ship};
+use lock_model::{FEW_SHIPS, SHIPS, Ship};
 
 /// Whether a ship line of this format may have `count` words.
 fn is_ship_count(format: Format, count: usize) -> bool
@@ -18,7 +18,18 @@ fn is_ship_count(format: Format, count: usize) -> bool
 {
     match format {
         Format::First => count == 7,
-        Format::Second => count == 7 || count == 8,
+        Format::Second | Format::Third => count == 7 || count == 8,
+    }
+}
+
+/// The ships of a text of this format, at most.
+fn most_ships(format: Format) -> usize
+    ensures value { result ≡ most_ships format }
+    ensures within { result ≤ SHIPS }
+{
+    match format {
+        Format::First | Format::Second => FEW_SHIPS,
+        Format::Third => SHIPS,
     }
 }
 
@@ -63,7 +74,7 @@ fn read_figures(words: &[&[u8]]) -> Result<Figures, Kind>
 }
 
 /// The ship of a line that comes after these ships. The first defect is, in this order: `Count`,
-/// `Range` for a 25th ship, that of a word from left to right.
+/// `Range` for more ships than the format takes, that of a word from left to right.
 pub fn read_ship(format: Format, earlier: &[Ship], words: &[&[u8]]) -> Result<Ship, Kind>
     ensures value { result ≡ read_ship format earlier.now (texts words.now) }
     ensures room { IfOk result (λ s. length earlier.now < SHIPS) }
@@ -71,7 +82,7 @@ pub fn read_ship(format: Format, earlier: &[Ship], words: &[&[u8]]) -> Result<Sh
     ensures new { IfOk result (λ n. All (λ s. s.name ≢ n.name) earlier.now) }
 {
     check(is_ship_count(format, words.len()), Kind::Count)?;
-    check(earlier.len() < SHIPS, Kind::Range)?;
+    check(earlier.len() < most_ships(format), Kind::Range)?;
     let name = new_ship_name(earlier, word_at(words, 1))?;
     let way = way(word_at(words, 2))?;
     let Figures {

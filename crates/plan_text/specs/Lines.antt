@@ -2,7 +2,8 @@
 use Rattle.std.specs.Prelude.{ℕ, ◌==◌, not, List, [], ◌∷◌, ◌++◌, length, nat_lt, Some, Result, Ok, Err, codes, if◌then◌else◌}
 use Rattle.std.specs.Option.{is_some}
 use Rattle.std.specs.Str.{bytes_eq}
-use Rattle.lock_model.specs.declared.limits.TheConstants.{MOST, SHIPS}
+use Rattle.lock_model.specs.declared.limits.TheConstants.{MOST}
+use Rattle.lock_model.specs.Fleet.{most_lockages}
 use Rattle.lock_model.specs.declared.instance.Instance.{Instance}
 use Rattle.line_text.specs.Steps.{◌>>=◌, ◌>>◌}
 use Rattle.line_text.specs.Lines.{word_at}
@@ -23,7 +24,7 @@ use Rattle.plan_text.specs.Draft.{Draft, close}
 unfoldable pub read_head : Instance → ℕ → List (List ℕ) → Result Head PlanKind
 read_head I count words = do
   check (length words == 4) Count
-  check (nat_lt count SHIPS) Range
+  check (nat_lt count (most_lockages I)) Range
   chamber ← chamber_named I.chambers (word_at words 1)
   way ← way (word_at words 2)
   start ← number 1000000000 (word_at words 3)

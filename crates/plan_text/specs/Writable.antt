@@ -1,7 +1,8 @@
 -- The plans that some plan text names.
 use Rattle.std.specs.Prelude.{ℕ, ◌≡◌, ◌≤◌, ◌<◌, ⊤, length, All}
 use Rattle.std.specs.List.Sorted.{IsStrictlyIncreasing}
-use Rattle.lock_model.specs.declared.limits.TheConstants.{MOST, SHIPS}
+use Rattle.lock_model.specs.declared.limits.TheConstants.{MOST}
+use Rattle.lock_model.specs.Fleet.{most_lockages}
 use Rattle.lock_model.specs.declared.instance.Instance.{Instance}
 use Rattle.lock_model.specs.declared.placement.Moor.{Moor}
 use Rattle.lock_model.specs.declared.placement.Moor.TheVariants.{Quay, Ship}
@@ -30,7 +31,7 @@ pub record IsWritable (I : Instance) (l : Lockage) : Type 0 where
   pub count : length l.spots ≡ length l.ships
   pub spots : All (IsWritableSpot (length l.ships)) l.spots
 
--- at most SHIPS of them
+-- at most as many as a plan text of the instance may have
 pub record AreWritable (I : Instance) (P : Plan) : Type 0 where
-  pub few : length P.lockages ≤ SHIPS
+  pub few : length P.lockages ≤ most_lockages I
   pub each : All (IsWritable I) P.lockages

@@ -13,14 +13,15 @@ use line_text::{Progress, check, word_at};
 use lock_model::{Instance, MOST, SHIPS};
 
 /// What the line of a lockage says that comes after so many. The first fault is, in this order:
-/// `Count`, `Range` for a 25th lockage, that of a word from left to right.
+/// `Count`, `Range` for more lockages than a plan text of the instance may have, that of a word from left
+/// to right.
 #[tactic(auto, unfolding(crate::specs::Lines::read_head))]
 fn read_head(instance: &Instance, count: usize, words: &[&[u8]]) -> Result<Head, PlanKind>
     ensures value { result ≡ read_head instance.now count (texts words.now) }
     ensures room { IfOk result (λ h. count < SHIPS) }
 {
     check(words.len() == 4, PlanKind::Count)?;
-    check(count < SHIPS, PlanKind::Range)?;
+    check(count < instance.most_lockages(), PlanKind::Range)?;
     let chamber = chamber_named(instance, word_at(words, 1))?;
     let way = way(word_at(words, 2))?;
     let start = number(word_at(words, 3), 1_000_000_000)?;
