@@ -27,8 +27,8 @@ import sys
 import time
 from collections import namedtuple
 
-from dossier_text import (BOUND, CLOSED_FORMS, FIRST_CUT, FIRST_PROBE, OPEN_FORMS, OPEN_LEAF, SPLIT, THROUGHPUT, Answer,
-                          Priced, read_dossier)
+from dossier_text import (BOUND, CLOSED_FORMS, FEW_SHIPS, FIRST_CUT, FIRST_PROBE, OPEN_FORMS, OPEN_LEAF, SPLIT, THROUGHPUT,
+                          Answer, Priced, read_dossier)
 from price_bound import PriceBound, hits_in
 from refutations import clash, deck_of, fits_alone, legal_placement, refutation_holds
 from times import first_free, ready
@@ -177,7 +177,7 @@ def cut_hits(instance, cut, node):
 def check_tree(instance, cost, cuts, prices, marks):
     """Walks the marks in preorder. It gives the least of the cost and the bounds of the open leaves."""
     bounds, low, priced = Bounds(instance), cost, PriceBound(instance, cuts, prices)
-    throughput = bounds.throughput()
+    throughput, first_cut = bounds.throughput(), FIRST_CUT[len(instance.ships) > FEW_SHIPS]
     due = [Node(0, ((),) * len(instance.chambers))]  # the nodes whose trees are still to come, the next one last
     for p, mark in enumerate(told(marks, "mark")):
         place = f"tree {p}"
@@ -194,11 +194,11 @@ def check_tree(instance, cost, cuts, prices, marks):
             demand(mark.number < len(prices) and priced.reaches(node, mark.number, cost), place, "PriceLow")
         elif mark == THROUGHPUT:
             demand(throughput >= cost, place, "ThroughputLow")
-        elif mark < FIRST_CUT:
+        elif mark < first_cut:
             ship = mark - FIRST_PROBE
             demand(ship in bounds.missing(node) and bounds.probe(node, ship) >= cost, place, "ProbeWrong")
         else:
-            number = mark - FIRST_CUT
+            number = mark - first_cut
             demand(number < len(cuts) and cut_hits(instance, cuts[number], node), place, "CutMisses")
     demand(not due, f"tree {len(marks)}", "TreeShort")
     return low

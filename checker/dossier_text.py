@@ -27,6 +27,7 @@ def require(holds, *kind):
 
 # The instance text (formats.md, Instance text) -----------------------------------------------------------------------
 
+FEW_SHIPS, SHIPS = 24, 96  # formats 1 and 2 have the few; an instance with more of them is a large one
 Chamber = namedtuple("Chamber", "name length width end gap side most passage turn stands opens closures")
 Ship = namedtuple("Ship", "name way length width arrival handling cargo")
 Instance = namedtuple("Instance", "chambers ships")
@@ -80,8 +81,8 @@ def read_chamber(words, chambers):
 
 
 def read_ship(words, ships, version):
-    require(len(words) == 7 or len(words) == 8 and version == 2, "Count")
-    require(len(ships) < 24, "Range")
+    require(len(words) == 7 or len(words) == 8 and version > 1, "Count")
+    require(len(ships) < (SHIPS if version == 3 else FEW_SHIPS), "Range")
     called = name_of(words[1], ships)
     ships.append(Ship(called, *(read(word) for read, word in zip(SHIP_WORDS, (words + [b"0"])[2:8]))))
 
@@ -109,13 +110,13 @@ def read_instance(text):
             if not words:
                 continue
             if version is None:
-                require(words in ([b"glock", b"1"], [b"glock", b"2"]), "NoHeader")
+                require(words in ([b"glock", b"1"], [b"glock", b"2"], [b"glock", b"3"]), "NoHeader")
                 version = int(words[1])
             elif words[0] == b"chamber":
                 read_chamber(words, chambers)
             elif words[0] == b"ship":
                 read_ship(words, ships, version)
-            elif words[0] == b"close" and version == 2:
+            elif words[0] == b"close" and version > 1:
                 read_closure(words, chambers)
             else:
                 require(words[0] == b"end", "Word")
@@ -158,8 +159,9 @@ def read_json(data):
 
 # The form of a dossier (dossier.md, The object; What has the form) ---------------------------------------------------
 
-# The line that begins a dossier's second part says what the object may hold.
-Form = namedtuple("Form", "keys reasons open_leaves has_prices")
+# The line that begins a dossier's second part says what the object may hold. Its plan has at most so many lockages, and
+# a list of prices so many numbers, as the greater of the few ships and those of the instance.
+Form = namedtuple("Form", "keys reasons open_leaves has_prices ships", defaults=[FEW_SHIPS])
 KEYS = ("cost", "cuts", "plan", "tree")
 PRICED_KEYS = KEYS + ("prices",)
 CLOSED_FORMS = {(b"certificate",): Form(KEYS, range(5), False, False),
@@ -176,7 +178,8 @@ Spot = namedtuple("Spot", "x y rank moor")
 BYTE, WORD, LONG = 2**8, 2**32, 2**64
 AREA, ROW, COLUMN, CASE_TREE, SPOT_TREE, CLASH, BERTH_TREE = range(7)
 NAMED_SHIPS = {AREA: (0, 0), ROW: (1, 8), COLUMN: (1, 8), CLASH: (2, 2)}
-SPLIT, BOUND, THROUGHPUT, OPEN_LEAF, PRICE, FIRST_PROBE, LAST_PROBE, FIRST_CUT = 0, 1, 2, 3, 4, 10, 33, 100
+SPLIT, BOUND, THROUGHPUT, OPEN_LEAF, PRICE, FIRST_PROBE = 0, 1, 2, 3, 4, 10
+LAST_PROBE, FIRST_CUT = (33, 105), (100, 1_000)  # of other instances, and of large ones
 GREATEST_PRICE = 1_000_000
 Priced = namedtuple("Priced", "number")  # the mark of two numbers: PRICE, and which prices
 
@@ -224,7 +227,7 @@ def read_spot(value):
 
 def read_plan(value, form):
     plan = []
-    for lockage in items(value, 0, 24):
+    for lockage in items(value, 0, form.ships):
         chamber, ships, spots, start, way = fields(lockage, Lockage._fields)
         ships = rising(ships)
         spots = [read_spot(spot) for spot in items(spots, len(ships), len(ships))]
@@ -233,20 +236,20 @@ def read_plan(value, form):
 
 
 def read_tree(value, form):
-    marks, numbers = [], iter(items(value))
+    marks, numbers, is_large = [], iter(items(value)), form.ships > FEW_SHIPS
     for mark in numbers:
         if form.has_prices and type(mark) is int and mark == PRICE:
             mark = Priced(whole(next(numbers, None), 2**63))
         else:
-            whole(mark, FIRST_CUT + 2**63)
+            whole(mark, FIRST_CUT[is_large] + 2**63)
             require(mark in (SPLIT, BOUND, THROUGHPUT) or mark == OPEN_LEAF and form.open_leaves
-                    or FIRST_PROBE <= mark <= LAST_PROBE or mark >= FIRST_CUT)
+                    or FIRST_PROBE <= mark <= LAST_PROBE[is_large] or mark >= FIRST_CUT[is_large])
         marks.append(mark)
     return marks
 
 
 def read_prices(value, form):
-    return [[whole(price, GREATEST_PRICE + 1) for price in items(prices, 1, 24)] for prices in items(value)]
+    return [[whole(price, GREATEST_PRICE + 1) for price in items(prices, 1, form.ships)] for prices in items(value)]
 
 
 READERS = {"cost": lambda value, form: whole(value, LONG), "cuts": read_cuts, "plan": read_plan, "tree": read_tree,
@@ -289,4 +292,4 @@ def read_dossier(data, forms):
         value = read_json(data[at:])
     except ValueError:
         raise Answer("dossier fault 3 Json", 7)
-    return instance, read_object(value, forms[words])
+    return instance, read_object(value, forms[words]._replace(ships=max(FEW_SHIPS, len(instance.ships))))

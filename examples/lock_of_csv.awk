@@ -38,7 +38,7 @@ END {
   if (failed) exit 1
   if (!ships) fail("there is no ship")
   read_chambers()
-  print "glock " (has_class || closures != "" ? 2 : 1)
+  print "glock " (ships > 24 ? 3 : has_class || closures != "" ? 2 : 1)
   printf "%s%s", chambers, closures
   for (i = 1; i <= ships; i++) print ship[i] (has_class ? " " class_of[i] : "")
   print "end"

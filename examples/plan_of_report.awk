@@ -75,7 +75,8 @@ function minute_of_begin(    vote, most, found) {
   found = begin == "" ? "" : minutes(begin)
   if (found != "" && found in votes) return found
   for (vote in votes)
-    if (vote >= 0 && vote < 1440 && votes[vote] > most) {
+    # subscripts are texts, which awk compares letter by letter
+    if (vote + 0 >= 0 && vote + 0 < 1440 && votes[vote] > most) {
       most = votes[vote]
       found = vote
     }

@@ -48,7 +48,7 @@ range_of() {
     --workers) echo "1 8" ;;
     --from | --now) echo "0 1000000" ;;
     --number) echo "0 4294967295" ;;
-    --ships) echo "1 24" ;;
+    --ships) echo "1 96" ;;
     --chambers) echo "1 4" ;;
   esac
 }

@@ -10,7 +10,7 @@ BEGIN {
   form["berth"] = "ship x y rank host"
 
   count["chamber"] = "a chamber line has 12 words: chamber, name, length, width, end, gap, side, most, pass, turn, low or high, opens"
-  count["ship"] = "a ship line has 7 words: ship, name, up or down, length, width, arrival, handling; with `glock 2` a cargo class may follow"
+  count["ship"] = "a ship line has 7 words: ship, name, up or down, length, width, arrival, handling; with `glock 2` or `glock 3` a cargo class may follow"
   count["close"] = "a close line has 4 words: close, chamber, from, to"
   count["end"] = "the line end holds nothing else"
   count["plan"] = "the line plan holds nothing else"
@@ -40,13 +40,14 @@ BEGIN {
   choice["stand"] = "low or high"
   choice["rank"] = "left or right"
 
-  beginnings["instance"] = "chamber, ship, close (with `glock 2`) or end"
+  beginnings["instance"] = "chamber, ship, close (with `glock 2` or `glock 3`) or end"
   beginnings["plan"] = "lockage, berth or end"
 
+  few = 24
   many["chamber"] = "4 chamber lines"
-  many["ship"] = "24 ship lines"
+  many["ship"] = few " ship lines under `glock 1` and `glock 2`; write `glock 3` in the first line for up to 96 ships"
   many["close"] = "8 close lines for a chamber"
-  many["lockage"] = "24 lockages"
+  many["lockage"] = few " lockages"
   many["berth"] = "8 berths in a lockage"
 }
 
@@ -58,6 +59,8 @@ function number_word(name, means, from, to) {
 
 { sub(/\r$/, ""); sub(/#.*/, "") }
 
+NR < number && $1 == "glock" && $2 == 3 { many["ship"] = "96 ship lines" }
+NR < number && $1 == "ship" && ++ships > few { many["lockage"] = ships " lockages, as many as there are ships" }
 NR < number && ($1 == "chamber" || $1 == "ship") {
   line_of[$1 " " $2] = NR
   names_of[$1] = names_of[$1] " " $2
@@ -128,7 +131,7 @@ function first_wrong_choice(    names, i, parts) {
       if ($(i + 1) != parts[1] && $(i + 1) != parts[2])
         return "\"" $(i + 1) "\" stands where " choice[names[i]] " must stand" perhaps($(i + 1), parts[1] " " parts[2]) "." name_of_two_words()
     }
-  return $1 == "close" ? "a line close needs `glock 2` as the first line, and may not follow the line end." : ""
+  return $1 == "close" ? "a line close needs `glock 2` or `glock 3` as the first line, and may not follow the line end." : ""
 }
 
 function first_no_number(    names, i) {

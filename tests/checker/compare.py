@@ -1,7 +1,7 @@
 """Compares `check` of a glock program with the second checker: compare.py GLOCK [DOSSIER ..]
 
 Without dossiers the program writes some: of lots of several sizes, as they are, with all ships in a queue, and with
-cargo classes and closures; open ones too where it knows `solve --keep`, which are compared with its `lower`. To them
+cargo classes and closures, and of lots of more than 24 ships; open ones too where it knows `solve --keep`, which are compared with its `lower`. To them
 come trees.dossier, whose cuts have a case tree and a spot tree, and prices.dossier, whose cut has a berth tree and whose
 root is closed by prices. Each is compared as it is and in damaged copies.
 Prints the first differences and `N equal, M different`; the status is 0 where something was compared and nothing
@@ -45,10 +45,12 @@ def written(glock):
     for name in ("trees.dossier", "prices.dossier"):
         yield name, pathlib.Path(__file__).with_name(name).read_bytes()
     count = 0
-    for ships in (2, 4, 6, 8, 10, 12):
+    for ships in (2, 4, 6, 8, 10, 12, 26, 32):
         lot, _ = run(glock, ["lot", "--number", ships, "--ships", ships, "--chambers", 1 + ships // 2 % 3])
-        for name, text in (("lot", lot), ("classes", edited(lot, with_classes)), ("queue", edited(lot, in_a_queue))):
-            nodes = [] if name == "queue" and ships > 8 else ["--nodes", NODES]  # a long queue takes a search by prices
+        kinds = (("lot", lot), ("classes", edited(lot, with_classes)), ("queue", edited(lot, in_a_queue)))
+        for name, text in kinds[:1] if ships > 24 else kinds:
+            by_prices = ships > 24 or name == "queue" and ships > 8  # these take a search by prices
+            nodes = [] if by_prices else ["--nodes", NODES]
             for words, status in ((["--dossier", *nodes], 0), (["--keep", "--nodes", 4], 1)):
                 dossier, ended = run(glock, ["solve", "--workers", 1, *words], text.encode())
                 if ended == status and "\ncertificate" in dossier:

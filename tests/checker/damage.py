@@ -3,8 +3,8 @@
 import json
 import re
 
-NUMBERS = [str(n) for n in (0, 1, 2, 3, 4, 5, 6, 7, 8, 9, 10, 11, 12, 23, 24, 25, 33, 34, 99, 100, 101, 110, 255, 256, 257,
-                            100_000, 100_001, 1_000_000, 1_000_001, 2**32 - 1, 2**32, 2**63 + 99, 2**63 + 100,
+NUMBERS = [str(n) for n in (0, 1, 2, 3, 4, 5, 6, 7, 8, 9, 10, 11, 12, 23, 24, 25, 33, 34, 95, 96, 97, 99, 100, 101, 105, 106, 110, 255, 256, 257,
+                            999, 1000, 1001, 100_000, 100_001, 1_000_000, 1_000_001, 2**32 - 1, 2**32, 2**63 + 99, 2**63 + 100,
                             2**64 - 1, 2**64, 10**30, -1)]
 NUMBERS += ["-0", "1.0", "1e2", "1E+2", "0e9", "1e400", "-1e400", "1e-400", "00", "01", "007", "+1", "1.", ".5", "1e", "NaN"]
 BYTES = [bytes([b]) for b in b"\0\t\n\r #\"\\/{}[],:-+.eEu0123456789adglnps\x7f\x80\xc3\xa9\xed\xff"]
@@ -15,7 +15,7 @@ STRINGS = [r'"cost"', r'"\u0063ost"', r'"\ud800"', r'"\udc00"', r'"\ud83d\ude00"
 LINES = [b"certificate", b"certificate 2", b"certificate open", b"certificate 3", b"certificate open 3", b"certificate 4",
          b"certificate open 2", b"certificate 02", b"Certificate",
          b" \tcertificate\t2 # words", b"# only a comment", b"", b"\r", b"certificate 2 3", b"\xff", b"# \xff", b"end",
-         b"end # here", b"end end", b"glock 1", b"glock 2", b"glock 3", b"close c1 0 20", b"close c1 10 30", b"close c9 0 1",
+         b"end # here", b"end end", b"glock 1", b"glock 2", b"glock 3", b"glock 4", b"close c1 0 20", b"close c1 10 30", b"close c9 0 1",
          b"close c1 5 5", b"close c1 900000 1000000", b"ship s99 up 100 20 0 5", b"ship s98 down 100 20 0 5 3", b"chamber c1",
          b"chamber z 2000 240 10 20 5 4 30 15 high 7", b"chamber z 2000 240 10 20 5 4 14 15 low 0"]
 
@@ -138,7 +138,8 @@ def a_value(data, dice):
 def a_mark(data, dice):
     head, value = parts(data)
     tree = value["tree"]
-    marks = [0, 1, 2, 3, 4, *range(10, 14), *range(100, 100 + len(value["cuts"]) + 1)]
+    first_cut = 1000 if head.count(b"\nship ") > 24 else 100
+    marks = [0, 1, 2, 3, 4, *range(10, 14), *range(first_cut, first_cut + len(value["cuts"]) + 1)]
     if not tree:
         return a_value(data, dice)
     at, kind = dice.below(len(tree)), dice.below(7)
@@ -216,7 +217,7 @@ def a_lockage(data, dice):
     elif kind == 1:
         lockage["chamber"] = dice.below(4)
     elif kind == 2:
-        lockage["ships"][-1] = dice.below(25)
+        lockage["ships"][-1] = dice.below(dice.pick([25, 97]))
     elif kind == 3:
         spot[0] = max(0, spot[0] + dice.pick([-1, 1, 5, 50]))
     else:

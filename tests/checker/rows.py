@@ -99,6 +99,20 @@ TREES = pathlib.Path(__file__).with_name("trees.dossier").read_text()
 # arrivals that are a million minutes apart, and a price mark at the root
 FAR_APART = pathlib.Path(__file__).with_name("far_apart.dossier").read_text()
 
+
+
+def one_by_one(ships):
+    """The dossier of a day on which a ship goes up each hour, in a lockage of its own: its root's bound is its cost. No two
+    of the ships fit together."""
+    lines = ["glock 3", "chamber c1 2000 232 10 20 5 4 30 15 low 0", *(f"ship s{s} up 1100 114 {60 * s} 5" for s in range(ships))]
+    plan = [f'{{"chamber":0,"ships":[{s}],"spots":[[10,0,0,0]],"start":{60 * s},"way":0}}' for s in range(ships)]
+    cuts = '[{"chamber":0,"ships":[0,1],"why":[1,0,1]}]'
+    object = f'{{"cost":{35 * ships},"cuts":{cuts},"plan":[{",".join(plan)}],"prices":[],"tree":[1]}}'
+    return "\n".join([*lines, "end", "certificate 3", object, ""])
+
+
+FEW, LARGE, LARGEST, ROOT = one_by_one(24), one_by_one(25), one_by_one(96), '"tree":[1]'
+
 WIDE = "s1 up 1100 114", "s1 up 1100 241"
 PART = "dossier fault 4 Shape part {}".format
 FIRST_TREE, SECOND_TREE = "[0,0,1,1,1]", "[0,0,100,1,1]"
@@ -246,6 +260,34 @@ CHECKED = [
     (SECOND, SECOND_TREE, "[0,0,11,1,1]", "rejected tree 2 reason 11 ProbeWrong"),
     (SECOND, SECOND_TREE, "[33,9223372036854775907]", "rejected tree 0 reason 11 ProbeWrong"),
     (FIRST, FIRST_TREE, "[0,12]", "rejected tree 1 reason 11 ProbeWrong"),
+    # format 3: ships, lockages, prices, and marks of larger instances
+    (FEW, "", "", "accepted cost 840"), (LARGE, "", "", "accepted cost 875"), (LARGEST, "", "", "accepted cost 3360"),
+    *((LARGE, "glock 3", f"glock {version}", "dossier fault 1 Instance line 27 fault 6 Range") for version in (1, 2)),
+    *((FEW, "glock 3", f"glock {version}", "accepted cost 840") for version in (1, 2)),
+    *((LARGE, "glock 3", first, "dossier fault 1 Instance line 1 fault 2 NoHeader") for first in ("glock 4", "glock 03", "glock 3 3")),
+    (LARGEST, "end\n", "ship more up 1100 114 0 5\nend\n", "dossier fault 1 Instance line 99 fault 6 Range"),
+    (LARGEST, "end\n", "close c1 9000 9001\nend\n", "accepted cost 3360"), (LARGE, "60 5\n", "60 5 1\n", "accepted cost 875"),
+    *((FEW, ROOT, f'"tree":[{mark}]', line) for mark, line in (
+        (33, "accepted cost 840"), (34, PART(5)), (99, PART(5)), (100, "rejected tree 0 reason 9 CutMisses"),
+        (1000, "rejected tree 0 reason 9 CutMisses"), (2**63 + 100, PART(5)))),
+    *((LARGE, ROOT, f'"tree":[{mark}]', line) for mark, line in (
+        (34, "accepted cost 875"), (35, "rejected tree 0 reason 11 ProbeWrong"), (100, "rejected tree 0 reason 11 ProbeWrong"),
+        (105, "rejected tree 0 reason 11 ProbeWrong"), (106, PART(5)), (999, PART(5)),
+        (1000, "rejected tree 0 reason 9 CutMisses"), (2**63 + 999, "rejected tree 0 reason 9 CutMisses"), (2**63 + 1000, PART(5)))),
+    (LARGEST, ROOT, '"tree":[105]', "accepted cost 3360"),
+    (FEW, ROOT, '"tree":[0,0,100,1,1]', "accepted cost 840"), (LARGE, ROOT, '"tree":[0,0,1000,1,1]', "accepted cost 875"),
+    (LARGE, ROOT, '"tree":[0,0,100,1,1]', "rejected tree 2 reason 11 ProbeWrong"),
+    (LARGE, ROOT, '"tree":[0,0,1001,1,1]', "rejected tree 2 reason 9 CutMisses"),
+    (LARGE, ROOT, '"tree":[0,0,1000,1,1,1]', "rejected tree 5 reason 6 TreeLong"),
+    *((day, '"plan":[', '"plan":[{"chamber":0,"ships":[0],"spots":[[10,0,0,0]],"start":0,"way":0},', PART(4))
+      for day in (FEW, LARGE, LARGEST)),
+    (LARGEST, ',"start":5700,"way":0}', ',"start":5699,"way":0}', ILLEGAL),
+    *((day, '"prices":[]', f'"prices":[{[3500] * many}]', line) for day, many, line in (
+        (FEW, 24, "accepted cost 840"), (FEW, 25, PART(6)), (LARGE, 25, "accepted cost 875"), (LARGE, 26, PART(6)),
+        (LARGE, 24, "rejected prices 0 reason 12 PricesShape"), (LARGEST, 96, "accepted cost 3360"), (LARGEST, 97, PART(6)))),
+    (LARGE.replace('"prices":[]', f'"prices":[{[3500] * 25}]'), ROOT, '"tree":[4,0]', "accepted cost 875"),
+    (LARGE.replace('"prices":[]', f'"prices":[{[3499] * 25}]'), ROOT, '"tree":[4,0]', "accepted cost 875"),
+    (LARGE.replace('"prices":[]', f'"prices":[{[3495] * 25}]'), ROOT, '"tree":[4,0]', "rejected tree 0 reason 13 PriceLow"),
     # worked refutations
     *((asking(deck, why), "", "", "rejected tree 0 reason 5 TreeShort" if holds else UNPROVED) for deck, why, holds in REFUTED),
     # an instance text of any length; a word after the line's words; a line of words that aren't UTF-8

@@ -7,7 +7,7 @@ import re
 from collections import namedtuple
 
 from check_dossier import end_of, plan_cost
-from dossier_text import KINDS, Lockage, Refused, Spot, choice_of, first_line, limits, read_instance, require, words_of
+from dossier_text import FEW_SHIPS, KINDS, Lockage, Refused, Spot, choice_of, first_line, limits, read_instance, require, words_of
 from refutations import apart, berthed, clash, deck_of, fits_alone, inside_across, inside_along
 from times import first_free, ready
 
@@ -33,7 +33,7 @@ def read_whole_instance(text):
 def canonical(instance):
     """The canonical text of an instance."""
     is_second = any(chamber.closures for chamber in instance.chambers) or any(ship.cargo for ship in instance.ships)
-    lines = [f"glock {2 if is_second else 1}"]
+    lines = [f"glock {3 if len(instance.ships) > FEW_SHIPS else 2 if is_second else 1}"]
     for c in instance.chambers:
         numbers = f"{c.length} {c.width} {c.end} {c.gap} {c.side} {c.most} {c.passage} {c.turn}"
         lines.append(f"chamber {c.name.decode()} {numbers} {SIDES[c.stands].decode()} {c.opens}")
@@ -90,7 +90,7 @@ class PlanText:
             raise Refused("Word")
         elif words[0] == b"lockage":
             require(len(words) == 4, "Count")
-            require(len(self.lockages) < 24, "Range")
+            require(len(self.lockages) < max(FEW_SHIPS, len(self.instance.ships)), "Range")
             self.head = named(words[1], self.instance.chambers), choice_of(WAYS, words[2]), START(words[3])
             self.berths = {}
         else:

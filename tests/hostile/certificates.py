@@ -4,7 +4,7 @@ import json
 
 import texts
 from check_dossier import Bounds, Node, end_of
-from dossier_text import BOUND, FIRST_CUT, FIRST_PROBE, OPEN_LEAF, PRICE, SPLIT, THROUGHPUT, Priced
+from dossier_text import BOUND, FEW_SHIPS, FIRST_CUT, FIRST_PROBE, OPEN_LEAF, PRICE, SPLIT, THROUGHPUT, Priced
 from price_bound import PriceBound
 
 
@@ -60,12 +60,13 @@ def priced(instance, certificate, is_open):
 def grafted(instance, certificate, is_open, line, dice):
     """The dossier with a leaf, or a split and its leaves, in the place of the tree of some node."""
     nodes, bounds = walked(instance, certificate.tree), Bounds(instance)
+    first_cut = FIRST_CUT[len(instance.ships) > FEW_SHIPS]
     place = dice.below(len(nodes))
     node, _, behind = nodes[place]
 
     def leaf(node):
         missing, marks = bounds.missing(node), [BOUND, BOUND, THROUGHPUT] + [OPEN_LEAF] * is_open
-        marks += [FIRST_PROBE + s for s in missing[:1]] + [FIRST_CUT + dice.below(len(certificate.cuts) + 1)]
+        marks += [FIRST_PROBE + s for s in missing[:1]] + [first_cut + dice.below(len(certificate.cuts) + 1)]
         marks += [Priced(dice.below(len(certificate.prices) + 1))] * 2 if line.endswith(b" 3") else []
         return dice.pick(marks)
 

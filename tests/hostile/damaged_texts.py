@@ -8,9 +8,9 @@ from runs import listed
 sys.path.append(str(pathlib.Path(__file__).resolve().parents[1] / "checker"))
 from damage import Dice, damaged
 
-NUMBERS = [b"0", b"1", b"9", b"24", b"25", b"255", b"256", b"99999", b"100000", b"100001", b"1000000", b"1000001",
+NUMBERS = [b"0", b"1", b"9", b"24", b"25", b"96", b"97", b"255", b"256", b"99999", b"100000", b"100001", b"1000000", b"1000001",
            b"4294967296", b"18446744073709551616", b"-1", b"+1", b"01", b"1.5", b""]
-PIECES = [b"ship", b"chamber", b"close", b"glock 2", b"end", b"plan", b"#", b"\r", b"\t", b"\0", b"\xff", b" ", b"up", b"down"]
+PIECES = [b"ship", b"chamber", b"close", b"glock 2", b"glock 3", b"end", b"plan", b"#", b"\r", b"\t", b"\0", b"\xff", b" ", b"up", b"down"]
 COPIES = 6
 SMALL = ["--nodes", "3000"]
 

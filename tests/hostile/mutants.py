@@ -113,8 +113,9 @@ def full_instances(program):
     lot, _ = program.run("lot --number 1 --ships 24 --chambers 4".split())
     closures = b"".join(b"close c2 %d %d\n" % (start, start + 9) for start in range(1000, 1080, 10))
     lot = lot.replace(b"glock 1", b"glock 2").replace(b"ship", closures + b"ship", 1)
-    yield lot
+    yield from (lot, lot.replace(b"glock 2", b"glock 3"))
     yield re.sub(rb"(?m)^(chamber(?: \S+){6}) \d", rb"\1 1", lot)
+    yield from (program.run(f"lot --number 1 --ships {ships} --chambers {chambers}".split())[0] for ships, chambers in ((25, 1), (96, 4)))
     ships = b"".join(b"ship s%d up 100 20 0 1\n" % number for number in range(9))
     yield b"glock 1\nchamber c1 4000 400 10 20 5 8 30 15 low 0\n" + ships + b"end\n"
 

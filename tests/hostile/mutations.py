@@ -7,14 +7,14 @@ from certificates import grafted
 from damage import damaged
 from dossier_text import CLOSED_FORMS, OPEN_FORMS, Answer, first_line, read_dossier
 
-NUMBERS = [b"0", b"1", b"2", b"7", b"8", b"9", b"10", b"24", b"25", b"255", b"256", b"9999", b"10000", b"10001", b"99999",
+NUMBERS = [b"0", b"1", b"2", b"7", b"8", b"9", b"10", b"24", b"25", b"96", b"97", b"255", b"256", b"9999", b"10000", b"10001", b"99999",
            b"100000", b"100001", b"999999", b"1000000", b"1000001", b"1000000000", b"1000000001", b"4294967296",
            b"18446744073709551616", b"-1", b"+1", b"01", b"007", b"00000000000000000001", b"1.5", b"1e3", b"", b"0x1"]
 WORDS = [b"up", b"down", b"low", b"high", b"left", b"right", b"*", b"end", b"plan", b"lockage", b"berth", b"ship", b"chamber",
          b"close", b"glock", b"Up", b"abcdefghijkl", b"abcdefghijklm", b"a.b", b"s1", b"s2", b"c1", b"c2", b"_-", b"\xc3\xa9"]
 PIECES = [b"#", b" # x", b"\r", b"\r\r", b"\t", b" ", b"\n", b"\0", b"\xff", b"\xc3", b"\xc3\xa9", b"\xef\xbb\xbf", b"\x0b",
           b"\xc2\xa0", b"\xed\xa0\x80"]
-LINES = [b"glock 1", b"glock 2", b"glock 01", b"end", b"end # x", b"end end", b"", b"# x", b"\xff", b"plan", b"plan x",
+LINES = [b"glock 1", b"glock 2", b"glock 3", b"glock 4", b"glock 01", b"end", b"end # x", b"end end", b"", b"# x", b"\xff", b"plan", b"plan x",
          b"berth s1 0 0 left *", b"lockage c1 up 0", b"lockage c1 down 1000000000", b"close c1 0 5", b"close c1 5 5",
          b"close c1 999999 1000000", b"ship s1 up 100 20 0 5", b"ship z up 100 20 0 5 9", b"ship y down 100000 1 1000000 0",
          b"chamber c1 2000 240 10 20 5 4 30 15 low 0", b"chamber z 2000 240 0 0 0 8 1000000 1000000 high 1000000"]

@@ -11,7 +11,7 @@ from damage import Dice
 COMMANDS = ["solve", "trial", "lot", "check", "judge", "play", "replan", "lower", "resume", "Solve", "help", "", "-", "--"]
 OPTIONS = ["--nodes", "--turns", "--workers", "--dossier", "--keep", "--from", "--now", "--number", "--ships", "--chambers",
            "--node", "-n", "--nodes=7", "--help", "--version", "--workers=2", "é", "\\xff", "--dossier=1", "@file", "*"]
-NUMBERS = ["0", "1", "2", "8", "9", "24", "25", "255", "256", "00", "+1", "-1", "1.0", "1e3", "0x10", " 1", "1 ", "",
+NUMBERS = ["0", "1", "2", "8", "9", "24", "25", "96", "97", "255", "256", "00", "+1", "-1", "1.0", "1e3", "0x10", " 1", "1 ", "",
            "1000000", "1000001", "4294967295", "4294967296", "18446744073709551615", "18446744073709551616", "9" * 400]
 COUNT = 60
 

@@ -123,7 +123,7 @@ def commands(runner):
         ("solve --workers 1", evening), ("solve --workers 2", evening), ("solve --workers 4", queue),
         ("solve --workers 1 --dossier", queue), ("solve --workers 1 --dossier", two_ships(232)),
         ("solve --workers 2 --turns 128", two_ships(240)), ("solve --workers 1 --keep --nodes 3", queue), ("solve", closures),
-        ("trial", b""), ("lot --number 1 --ships 24 --chambers 4", b""), ("judge", plans), ("play", plans),
+        ("trial", b""), ("lot --number 1 --ships 96 --chambers 4", b""), ("judge", plans), ("play", plans),
         ("replan --from 60", plans), ("replan --now 60", plans), ("check", dossier), ("lower", kept), ("resume", kept),
     ]
     found = []

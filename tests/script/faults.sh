@@ -25,8 +25,9 @@ solve --nodes 0 | from 1 to 1,000,000, and not "0"
 solve --turns=200001 | from 1 to 200,000, and not "200001"
 solve --workers 9 | from 1 to 8, and not "9"
 lot --number 4294967296 | from 0 to 4,294,967,295
-lot --ships x | from 1 to 24, and not "x"
+lot --ships x | from 1 to 96, and not "x"
 lot --chambers | from 1 to 4
+lot --ships 97 | from 1 to 96, and not "97"
 solve --nodes 5 --nodes 5 | --nodes stands twice
 solve --keep=1 | --keep stands alone
 check --keep | --keep isn't for check; check takes -o
@@ -60,7 +61,7 @@ faulty_instance() {
 }
 rows faulty_instance <<'ROWS'
 4s/alva/\xff/ | line 4 fault 1 NotUtf8 | this line holds a byte that is no text
-1s/1/3/ | line 1 fault 2 NoHeader | the first line must be
+1s/1/4/ | line 1 fault 2 NoHeader | the first line must be `glock 1`, `glock 2` where there are closures or cargo classes, or `glock 3` where there are more than 24 ships.
 1s/^/\xef\xbb\xbf/ | line 1 fault 2 NoHeader | the file begins with a hidden mark
 4s/ship/boat/ | line 4 fault 3 Word | no line may begin with "boat" here; lines begin with chamber, ship,
 4s/ship/Ship/ | line 4 fault 3 Word | "Ship" must be written in small letters: ship
@@ -68,9 +69,9 @@ rows faulty_instance <<'ROWS'
 1s/.*/optimal cost 270/ | line 1 fault 2 NoHeader | this is a report
 4s/up/north/ | line 4 fault 3 Word | "north" stands where up or down must stand.
 4s/up/Up/ | line 4 fault 3 Word | "Up" stands where up or down must stand; perhaps up is meant.
-4s/ship/shp/ | line 4 fault 3 Word | no line may begin with "shp" here; lines begin with chamber, ship, close (with `glock 2`) or end. Perhaps ship is meant.
+4s/ship/shp/ | line 4 fault 3 Word | no line may begin with "shp" here; lines begin with chamber, ship, close (with `glock 2` or `glock 3`) or end. Perhaps ship is meant.
 3s/high/top/ | line 3 fault 3 Word | "top" stands where low or high must stand
-4s/^/close main 1 2\n/ | line 4 fault 3 Word | a line close needs `glock 2`
+4s/^/close main 1 2\n/ | line 4 fault 3 Word | a line close needs `glock 2` or `glock 3` as the first line
 4s/ 5$// | line 4 fault 4 Count | this line has 6 words; a ship line has 7 words
 3s/$/ 5/ | line 3 fault 4 Count | this line has 13 words; a chamber line has 12 words
 4s/114/11.4/ | line 4 fault 5 Number | "11.4" stands for the width, which must be a whole number: digits alone, no sign, point or unit. Sizes are decimetres: 11.4 metres are 114.
@@ -80,7 +81,7 @@ s/$/\r/;9s/ 5\r/\r/ | line 9 fault 4 Count | this line has 6 words
 2s/ 6 / 9 / | line 2 fault 6 Range | 9 stands for the most ships of a lockage, which must be from 1 to 8
 4s/alva/a.lva/ | line 4 fault 7 Name | "a.lva" can't be a name: a name has 1 to 12 letters A to Z and a to z, digits, - or _.
 4s/alva/alva-and-brio/ | line 4 fault 7 Name | "alva-and-brio" can't be a name: a name has 1 to 12 letters A to Z and a to z, digits, - or _, and this one has 13.
-4s/alva/MS alva/ | line 4 fault 4 Count | this line has 8 words; a ship line has 7 words: ship, name, up or down, length, width, arrival, handling; with `glock 2` a cargo class may follow. A name is one word, such as MS_alva.
+4s/alva/MS alva/ | line 4 fault 4 Count | this line has 8 words; a ship line has 7 words: ship, name, up or down, length, width, arrival, handling; with `glock 2` or `glock 3` a cargo class may follow. A name is one word, such as MS_alva.
 5s/brio/alva/ | line 5 fault 8 Twice | the name alva is given in line 4 already
 2s/30 15/15 30/ | line 2 fault 9 TurnOverPass | the empty turn of 30 minutes is longer than the passage of 15
 2,3d | line 11 fault 10 NoChamber | the lock has no chamber
@@ -88,6 +89,20 @@ s/$/\r/;9s/ 5\r/\r/ | line 9 fault 4 Count | this line has 6 words
 13d | line 13 fault 12 NoEnd | the text stops without its last line
 1s/1/2/;4s/^/close mian 1 2\n/ | line 4 fault 13 Unknown | there is no chamber named mian above; perhaps main is meant.
 1s/1/2/;4s/^/close main 9 2\n/ | line 4 fault 14 Overlap | the closure begins at minute 9 and ends at minute 2
+ROWS
+
+# a format, a number of ships for the chambers of the evening, the program's words, and a part of the sentence
+many_ships() {
+  local words
+  { echo "glock $1"; sed -n 2,3p "$room/evening.lock"; seq -f 'ship s%g up 500 60 0 5' "$2"; echo end; } >"$room/x.lock"
+  read -r -a words <<<"$3"
+  call solve x.lock
+  check "ships under glock $1: $2" gives 3 "$3" "x.lock:${words[1]}: fault ${words[3]} ${words[4]}: $4"
+}
+rows many_ships <<'ROWS'
+1 | 25 | line 28 fault 6 Range | there may be at most 24 ship lines under `glock 1` and `glock 2`; write `glock 3` in the first line for up to 96 ships.
+2 | 96 | line 28 fault 6 Range | there may be at most 24 ship lines under `glock 1` and `glock 2`; write `glock 3` in the first line for up to 96 ships.
+3 | 97 | line 100 fault 6 Range | there may be at most 96 ship lines.
 ROWS
 
 # an edit of evening.plan, the program's words, and a part of the sentence
@@ -117,6 +132,21 @@ rows faulty_plan <<'ROWS'
 3d | plan line 3 fault 9 Loose | a berth comes before the first lockage
 9s/cora/brio/ | plan line 9 fault 10 Host | brio has no berth in this lockage, and eddy is to moor at it
 20d | plan line 20 fault 11 NoEnd | the plan stops without its last line
+ROWS
+
+# a format, a number of ships, and a part of the sentence on the first lockage too many
+many_lockages() {
+  local most=$(($2 > 24 ? $2 : 24))
+  { echo "glock $1"; sed -n 2,3p "$room/evening.lock"; seq -f 'ship s%g up 500 60 0 5' "$2"; echo end; } >"$room/x.lock"
+  { echo plan; seq -f 'lockage main up %g' 0 $most; echo end; } >"$room/x.plan"
+  call judge x.lock x.plan
+  check "lockages under glock $1: $2 ships" gives 10 "plan line $((most + 2)) fault 6 Range" "x.plan:$((most + 2)): fault 6 Range: $3"
+}
+rows many_lockages <<'ROWS'
+1 | 9 | there may be at most 24 lockages.
+3 | 24 | there may be at most 24 lockages.
+3 | 25 | there may be at most 25 lockages, as many as there are ships.
+3 | 96 | there may be at most 96 lockages, as many as there are ships.
 ROWS
 
 # an edit of the evening with its plan, which is then on standard input, the program's words, and a part of the message

@@ -176,7 +176,7 @@ solve evening.lock --clock 17:00 | begin=17:00 | 0 | legal cost 270
 solve evening.lock --clock 17:00 | | 10 | plan line 2 fault 11 NoEnd | x.plan:2: fault 11 NoEnd
 ROWS
 "$GLOCK_PROGRAM" solve --workers 1 <"$room/evening.lock" >"$room/plain.report"
-for clock in 17:00 23:50; do
+for clock in 06:00 17:00 23:50; do
   "$top/glock" solve --workers 1 --clock $clock "$room/evening.lock" >"$room/${clock/:/}.report"
 done
 sed 's/$/\r/' "$room/1700.report" >"$room/crlf.report"
@@ -191,6 +191,7 @@ as_plan() {
 rows as_plan <<'ROWS'
 judge evening.lock plain.report | 0 | legal cost 270
 judge evening.lock 1700.report | 0 | legal cost 270
+judge evening.lock 0600.report | 0 | legal cost 270
 judge evening.lock 2350.report | 0 | legal cost 270
 judge evening.lock 2350.report --clock 17:00 | 0 | legal cost 270
 judge evening.lock crlf.report | 0 | legal cost 270
@@ -203,6 +204,16 @@ judge evening.lock early.report | 10 | illegal lockage 4 Early | early.report:
 judge evening.lock | 10 | NoMark | nothing follows the chambers and the ships; a plan is wanted too
 judge evening.lock evening.lock | 10 | NoMark | here the chambers and the ships come a second time; the plan's file is wanted
 judge evening.plan evening.lock | 3 | NoHeader | a plan begins here; the file with the chambers and the ships comes first
+ROWS
+
+# A day of more than 24 ships.
+call solve day-40.lock --clock 06:00 -o day.report
+check "a day of 40 ships" gives 0 "" ""
+rows as_plan <<'ROWS'
+judge day-40.lock day.report | 0 | legal cost 1105
+play day-40.lock day.report --clock 06:00 | 0 | 06:13 middle moor adler
+replan day-40.lock day.report --now 12:00 --clock 06:00 | 0 | optimal cost 1105 | adler: as before
+picture day-40.lock day.report --clock 06:00 | 0 | <h1>legal, total flow time 1105 minutes</h1>
 ROWS
 
 # - is standard input.
