@@ -19,6 +19,7 @@ use Rattle.price_rules.specs.Prices.{PlainCut, IsLoose, Reaches, paid_in, missin
 use Rattle.price_groups.specs.Asks.{line_ask}
 use Rattle.price_groups.specs.Worth.{worth_from, IsKeptGroup}
 use Rattle.price_table.specs.Lines.{IsLeastOn, IsLeastLine}
+use Rattle.price_table.specs.Values.{most_worth}
 use Rattle.price_bound.specs.Asks.{node_ask}
 use Rattle.price_bound.specs.Total.{worths_of, IsLeastSum, AreLeastLines}
 use Rattle.std.proofs.Math.Seq.{get_or-append_seam}
@@ -94,21 +95,21 @@ module _ (I : Instance) (cuts : List PlainCut) (k : ℕ) (lines : List (List Gro
       down cost flow paid missing v h e = omega (arith, ints)
 
 -- sums are far from the ends of their type
-pub sum-rounded : (v : ℤ) → neg_ℤ (pos 4000000000000000) ≤ℤ v → v ≤ℤ pos 40000000000000 → to_z w64 (of_z w64 v) ≡ v
+pub sum-rounded : (v : ℤ) → neg_ℤ (pos 4000000000000000) ≤ℤ v → v ≤ℤ pos 400000000000000 → to_z w64 (of_z w64 v) ≡ v
 sum-rounded v low high = omega (arith, ints)
 
-module _ (n : ℕ) (v w : ℤ) (few : n < 4) (v-low : neg_ℤ (pos (816080000000000 * n)) ≤ℤ v) (v-high : v ≤ℤ pos (6000000000000 * n)) (w-low : neg_ℤ (pos 816080000000000) ≤ℤ w) (w-high : w ≤ℤ pos 6000000000000) where
+module _ (n : ℕ) (v w : ℤ) (few : n < 4) (v-low : neg_ℤ (pos (816080000000000 * n)) ≤ℤ v) (v-high : v ≤ℤ pos (most_worth * n)) (w-low : neg_ℤ (pos 816080000000000) ≤ℤ w) (w-high : w ≤ℤ pos most_worth) where
   more-rounded : (v +ℤ w) ≡ to_z w64 (of_z w64 (v +ℤ to_z w64 (of_z w64 w)))
   more-rounded = omega (arith, ints, few, v-low, v-high, w-low, w-high)
 
   pub more-low : neg_ℤ (pos (816080000000000 * (n + 1))) ≤ℤ to_z w64 (of_z w64 (v +ℤ to_z w64 (of_z w64 w)))
   more-low = subst (λ x. neg_ℤ (pos (816080000000000 * (n + 1))) ≤ℤ x) more-rounded (omega (arith, ints, v-low, w-low))
 
-  pub more-high : to_z w64 (of_z w64 (v +ℤ to_z w64 (of_z w64 w))) ≤ℤ pos (6000000000000 * (n + 1))
-  more-high = subst (λ x. x ≤ℤ pos (6000000000000 * (n + 1))) more-rounded (omega (arith, ints, v-high, w-high))
+  pub more-high : to_z w64 (of_z w64 (v +ℤ to_z w64 (of_z w64 w))) ≤ℤ pos (most_worth * (n + 1))
+  more-high = subst (λ x. x ≤ℤ pos (most_worth * (n + 1))) more-rounded (omega (arith, ints, v-high, w-high))
 
 -- one chamber more, in the type of sums
-pub sum-more : (I : Instance) (cuts : List PlainCut) (k : ℕ) (lines : List (List Group)) (prices : List ℕ) (n : ℕ) (v w : ℤ) → n < 4 → neg_ℤ (pos (816080000000000 * n)) ≤ℤ v → v ≤ℤ pos (6000000000000 * n) → neg_ℤ (pos 816080000000000) ≤ℤ w → w ≤ℤ pos 6000000000000
+pub sum-more : (I : Instance) (cuts : List PlainCut) (k : ℕ) (lines : List (List Group)) (prices : List ℕ) (n : ℕ) (v w : ℤ) → n < 4 → neg_ℤ (pos (816080000000000 * n)) ≤ℤ v → v ≤ℤ pos (most_worth * n) → neg_ℤ (pos 816080000000000) ≤ℤ w → w ≤ℤ pos most_worth
     → IsLeastSum (node_ask I cuts k lines prices) n v → IsLeastOn (line_ask I n cuts k prices (line_at lines n)) (Some w) → IsLeastSum (node_ask I cuts k lines prices) (n + 1) (to_z w64 (of_z w64 (v +ℤ to_z w64 (of_z w64 w))))
 sum-more I cuts k lines prices n v w few v-low v-high w-low w-high sum least =
     let up : suc n ≡ n + 1 = omega arith in

@@ -9,6 +9,7 @@ use Rattle.price_bound.specs.declared.terms.Terms.{Terms}
 use Rattle.price_bound.specs.declared.keeping.KeptLine.{KeptLine}
 use Rattle.price_groups.specs.Asks.{LineAsk}
 use Rattle.price_table.specs.Lines.{IsLineFound}
+use Rattle.price_table.specs.Values.{most_worth}
 use Rattle.price_bound.specs.Asks.{kept_ask}
 use Rattle.price_bound.specs.KeptGroups.{AreGroupsUnder}
 use Rattle.price_bound.specs.declared.kept_groups.KeptGroups.{KeptGroups}
@@ -41,7 +42,7 @@ pub record HaveGone (I : Instance) (k : ℕ) (prices : List ℕ) (cuts : List Ch
 pub record IsFound (L : LineAsk) (found : Option LooseLine) : Type 0 where
   pub least : IsLineFound L found
   pub low : IfSome found (λ line. neg_ℤ (pos 816080000000000) ≤ℤ line.worth)
-  pub high : IfSome found (λ line. line.worth ≤ℤ pos 6000000000000)
+  pub high : IfSome found (λ line. line.worth ≤ℤ pos most_worth)
 
 -- what is kept was found under the terms
 pub record IsKeptUnder (terms : Terms) (kept : KeptLine) : Type 0 where

@@ -3,6 +3,7 @@ ghost use Rattle.std.specs.Prelude.{◌≡◌, ◌+◌, ◌*◌, ◌<◌, ◌≤
 ghost use Rattle.lock_rules.specs.Arrival.{first_ships};
 ghost use Rattle.price_rules.specs.Prices.{price_at};
 ghost use Rattle.price_terms.specs.Claim.{IsReached};
+ghost use Rattle.price_table.specs.Values.{most_worth};
 ghost use Rattle.price_bound.specs.Asked.{node_asked, claimed};
 ghost use Rattle.price_bound.specs.Asks.{chamber_ask};
 ghost use Rattle.price_bound.specs.Keeping.{IsFound};
@@ -10,7 +11,7 @@ ghost use Rattle.price_bound.specs.Total.{HasNoLooseLine, IsAdded, IsNodeSum, Ar
 
 use crate::keeping::KeptLines;
 use crate::priced_node::PricedNode;
-use lock_model::SHIPS;
+use lock_model::{CHAMBERS, SHIPS};
 use master_branch::arrival_order;
 use price_groups::LineCase;
 use price_terms::{ChamberCut, Limits, LooseLine, LooseLines, PriceError, Prices, append};
@@ -50,7 +51,7 @@ fn added(
     requires { held.now ≡ first_ships asked.now.instance.now asked.now.node.now.depth }
     ensures value { IfOk result (IsAdded (node_asked asked.now)) }
     ensures low { IfOk result (λ sum. IfSome sum (λ v. neg_ℤ (pos 3264320000000000) ≤ℤ v)) }
-    ensures high { IfOk result (λ sum. IfSome sum (λ v. v ≤ℤ pos 24000000000000)) }
+    ensures high { IfOk result (λ sum. IfSome sum (λ v. v ≤ℤ pos (CHAMBERS * most_worth))) }
 {
     let mut sum = 0;
     for chamber in 0..asked.instance.chambers.as_slice().len() as u8 {
@@ -107,7 +108,7 @@ pub fn price_sum(
 ) -> Result<Option<i64>, PriceError>
     ensures value { IfOk result (IsNodeSum (node_asked asked.now)) }
     ensures low { IfOk result (λ sum. IfSome sum (λ v. neg_ℤ (pos 4000000000000000) ≤ℤ v)) }
-    ensures high { IfOk result (λ sum. IfSome sum (λ v. v ≤ℤ pos 40000000000000)) }
+    ensures high { IfOk result (λ sum. IfSome sum (λ v. v ≤ℤ pos 400000000000000)) }
 {
     let order = arrival_order(asked.instance);
     let (held, missing) = order.as_slice().split_at(asked.node.depth() as usize);
@@ -128,7 +129,7 @@ pub fn least_lines(
 ) -> Result<Option<LooseLines>, PriceError>
     ensures value { IfOk result (AreLinesFound (node_asked asked.now)) }
     ensures low { IfOk result (λ found. IfSome found (λ lines. neg_ℤ (pos 4000000000000000) ≤ℤ lines.sum)) }
-    ensures high { IfOk result (λ found. IfSome found (λ lines. lines.sum ≤ℤ pos 40000000000000)) }
+    ensures high { IfOk result (λ found. IfSome found (λ lines. lines.sum ≤ℤ pos 400000000000000)) }
 {
     let Some(sum) = price_sum(kept, asked, limits)? else {
         return Ok(None);
@@ -143,7 +144,7 @@ pub fn least_lines(
 
 // Whether 100 times the cost is less than the sum and 100.
 fn is_high(sum: i64, cost: u64) -> bool
-    requires { sum ≤ℤ pos 40000000000000 }
+    requires { sum ≤ℤ pos 400000000000000 }
     ensures { IsTrue result ↔ (pos (100 * cost) <ℤ (sum +ℤ pos 100)) }
 {
     let room = sum + 100;

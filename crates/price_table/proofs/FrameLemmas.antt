@@ -29,7 +29,7 @@ use Rattle.price_groups.specs.Worth.{end_after, worth_of, worth_from, IsWorth, I
 use Rattle.price_successors.specs.Successors.{Keeps, IsSuccessor, Leads}
 use Rattle.price_successors.specs.Counted.{IsCounted}
 use Rattle.price_successors.specs.SuccessorLists.{list_of, AreSuccessorLists}
-use Rattle.price_table.specs.Values.{IsValue, side_of, key_of, IsRemembered, AreEmpty, Remembers, AreValues, IsBest, IsFrame}
+use Rattle.price_table.specs.Values.{most_worth, IsValue, side_of, key_of, IsRemembered, AreEmpty, Remembers, AreValues, IsBest, IsFrame}
 use Rattle.price_table.proofs.LineLemmas.{worth-next, end-later, uncut-trace}
 use Rattle.price_successors.proofs.SuccessorListLemmas.{counted-successor_list}
 use Rattle.price_table.proofs.StepLemmas.{own-worth, alone-least, successors-least}
@@ -42,7 +42,7 @@ abbrev pub IsFar : ℤ → Type 0
 IsFar v = (neg_ℤ (pos 1000000000000000) ≤ℤ v) × (v ≤ℤ pos 1000000000000000)
 
 -- values are far from the ends of their type
-pub value-far : (v : ℤ) (h e : ℕ) → h ≤ 1010000 → pos 0 ≤ℤ (v +ℤ pos (808000000 * (h - e))) → v ≤ℤ pos 6000000000000 → IsFar v
+pub value-far : (v : ℤ) (h e : ℕ) → h ≤ 1010000 → pos 0 ≤ℤ (v +ℤ pos (808000000 * (h - e))) → v ≤ℤ pos most_worth → IsFar v
 value-far v h e small low high = (omega (arith, ints), omega (arith, ints))
 
 pub worth-far : (w : ℤ) → neg_ℤ (pos 808000000) ≤ℤ w → w ≤ℤ pos 30000000000 → IsFar w
@@ -95,7 +95,7 @@ module _ (L : LineAsk) (known : L.chamber < length L.instance.chambers) (horizon
 
   module _ (uncut : All (IsUncut I c cuts) line) (own : All (IsKeptGroup I k) line) where
     -- at first the line's own groups alone
-    pub best-alone : (p : ℕ) (stand : Stand) (from : ℕ) (v : ℤ) → v ≡ worth_from I c k prices stand from (drop p line) → pos 0 ≤ℤ v → v ≤ℤ pos 6000000000000 → IsBest L horizon p stand from v
+    pub best-alone : (p : ℕ) (stand : Stand) (from : ℕ) (v : ℤ) → v ≡ worth_from I c k prices stand from (drop p line) → pos 0 ≤ℤ v → v ≤ℤ pos most_worth → IsBest L horizon p stand from v
     best-alone p stand from v is low high = record {
       stop = reflexive v _ is;
       reached = subst (IsWorth I c cuts k prices stand from (drop p line)) (sym is) (own-worth L known stand from (drop p line) (All-drop (IsUncut I c cuts) p line uncut) (All-drop (IsKeptGroup I k) p line own));
@@ -110,7 +110,7 @@ module _ (L : LineAsk) (known : L.chamber < length L.instance.chambers) (horizon
         above v n h = omega (arith, ints)
 
     -- from the horizon on that is the value
-    pub value-alone : IsHorizon I k prices horizon → (p : ℕ) (stand : Stand) (from : ℕ) (v : ℤ) → horizon ≤ from → v ≡ worth_from I c k prices stand from (drop p line) → pos 0 ≤ℤ v → v ≤ℤ pos 6000000000000 → IsValue L horizon p stand from v
+    pub value-alone : IsHorizon I k prices horizon → (p : ℕ) (stand : Stand) (from : ℕ) (v : ℤ) → horizon ≤ from → v ≡ worth_from I c k prices stand from (drop p line) → pos 0 ≤ℤ v → v ≤ℤ pos most_worth → IsValue L horizon p stand from v
     value-alone late p stand from v past is low high = record {
       least = subst (λ v. IsLeastWorth I c cuts k prices stand from (drop p line) (Some v)) (sym is) (alone-least L known horizon late stand from (drop p line) past (All-drop (IsUncut I c cuts) p line uncut) (All-drop (IsKeptGroup I k) p line own));
       low = (best-alone p stand from v is low high).low;
@@ -152,7 +152,7 @@ module _ (L : LineAsk) (known : L.chamber < length L.instance.chambers) (horizon
         stop = under best (w +ℤ v) _ was.stop;
         reached = elim (int_lt (w +ℤ v) best) as (λ t. IsWorth I c cuts k prices stand from (drop p line) (cond t (w +ℤ v) best)) [ true ↦ sum-reached | false ↦ was.reached ];
         low = lowest best w v horizon from (end_after I c stand from h.group) early (end-later I c k prices known stand from h.group) low value.low was.low;
-        high = under best (w +ℤ v) (pos 6000000000000) was.high;
+        high = under best (w +ℤ v) (pos most_worth) was.high;
       }
         where
           under : (a b u : ℤ) → a ≤ℤ u → int_min a b ≤ℤ u
@@ -290,7 +290,7 @@ late-next I k prices i old new more here before s at missing = elim (eqb_tells s
 pub lesser-less : (b w v : ℤ) → int_min b (w +ℤ v) ≤ℤ b
 lesser-less b w v = omega (arith, ints, clamps)
 
-pub rounded : (v : ℤ) → pos 0 ≤ℤ v → v ≤ℤ pos 6000000000000 → to_z w64 (of_z w64 v) ≡ v
+pub rounded : (v : ℤ) → pos 0 ≤ℤ v → v ≤ℤ pos most_worth → to_z w64 (of_z w64 v) ≡ v
 rounded v low high = omega (arith, ints)
 
 module _ (I : Instance) (c : ℕ) (cuts : List PlainCut) (sets : List (List ℕ)) (are : AreForbidden I c cuts sets) where

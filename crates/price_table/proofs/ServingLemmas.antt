@@ -3,6 +3,7 @@ use Rattle.std.proofs.Common.{◌≡◌, ℕ, suc, ◌+◌, ◌-◌, ◌*◌, �
 use Rattle.std.proofs.Math.Seq.{drop-cons}
 use Rattle.std.proofs.lemmas.Int.{ints}
 use Rattle.std.proofs.lemmas.List.Elements.{All-head, All-tail, All-weaker}
+use Rattle.lock_model.specs.declared.limits.TheConstants.{SHIPS}
 use Rattle.lock_model.specs.Fleet.{ship_at, chamber_at}
 use Rattle.lock_model.specs.declared.chamber.Chamber.{Chamber}
 use Rattle.lock_model.specs.declared.instance.Instance.{Instance}
@@ -28,11 +29,11 @@ kept-free I k prices (g ∷ gs) own =
 
 module _ (I : Instance) (c k : ℕ) (prices : List ℕ) where
   -- so its worth is its flow time
-  pub own-flow : (stand : Stand) (from : ℕ) (line : List Group) (flow : ℕ) → All (IsKeptGroup I k) line → flow_of I line (timetable_from I c stand from line) ≡ flow → flow ≤ 60000000000
+  pub own-flow : (stand : Stand) (from : ℕ) (line : List Group) (flow : ℕ) → All (IsKeptGroup I k) line → flow_of I line (timetable_from I c stand from line) ≡ flow → flow ≤ SHIPS * 10000000000
       → to_z w64 (100 * flow) ≡ worth_from I c k prices stand from line
   own-flow stand from line flow own is small = step (flow_of I line (timetable_from I c stand from line)) flow (paid_in I k prices line) is (kept-free I k prices line own) small
     where
-      step : (x f p : ℕ) → x ≡ f → p ≡ 0 → f ≤ 60000000000 → to_z w64 (100 * f) ≡ (pos (100 * x) -ℤ pos p)
+      step : (x f p : ℕ) → x ≡ f → p ≡ 0 → f ≤ SHIPS * 10000000000 → to_z w64 (100 * f) ≡ (pos (100 * x) -ℤ pos p)
       step x f p e z small = omega (arith, ints)
 
   -- one group more of a line

@@ -1,6 +1,7 @@
 -- Values that are remembered for states.
 use Rattle.std.specs.Prelude.{ℕ, ◌≡◌, ◌+◌, ◌-◌, ◌*◌, ◌≤◌, ◌<◌, ◌⊎◌, max, nat_eq, ℤ, pos, neg_ℤ, ◌+ℤ◌, ◌≤ℤ◌, true, Some, None}
 use Rattle.std.specs.Prelude.{List, [], length, drop, slice_index_or}
+use Rattle.lock_model.specs.declared.limits.TheConstants.{SHIPS}
 use Rattle.lock_model.specs.declared.instance.Instance.{Instance}
 use Rattle.lock_model.specs.declared.group.Group.{Group}
 use Rattle.price_groups.specs.Asks.{LineAsk, group_end, group_worth, line_worth}
@@ -24,11 +25,16 @@ use Rattle.price_table.specs.declared.route.Threshold.{Threshold}
 use Rattle.price_table.specs.declared.frame.Frame.{Frame}
 use Rattle.price_table.specs.declared.values.Values.{Values}
 
+-- What a line's own groups are worth at most, in hundredths of a minute: those that are served alone take less than
+-- 10000000000 minutes each.
+abbrev pub most_worth : ℕ
+most_worth = SHIPS * 1000000000000
+
 -- The value of a state: the least worth of what is left of the line from place p on.
 pub record IsValue (L : LineAsk) (horizon : ℕ) (p : ℕ) (stand : Stand) (from : ℕ) (v : ℤ) : Type 0 where
   pub least : IsLeastWorth L.instance L.chamber L.cuts L.depth L.prices stand from (drop p L.line) (Some v)
   pub low : pos 0 ≤ℤ (v +ℤ pos (808000000 * (horizon - from)))
-  pub high : v ≤ℤ pos 6000000000000
+  pub high : v ≤ℤ pos most_worth
 
 abbrev pub side_of : Stand → ℕ
 side_of Low = 0
@@ -76,7 +82,7 @@ pub record IsBest (L : LineAsk) (horizon : ℕ) (p : ℕ) (stand : Stand) (minut
   pub stop : best ≤ℤ line_worth L stand minute (drop p L.line)
   pub reached : IsWorth L.instance L.chamber L.cuts L.depth L.prices stand minute (drop p L.line) best
   pub low : pos 0 ≤ℤ (best +ℤ pos (808000000 * (horizon - minute)))
-  pub high : best ≤ℤ pos 6000000000000
+  pub high : best ≤ℤ pos most_worth
 
 -- the same said of a state
 abbrev pub IsValueOf : LineAsk → ℕ → State → ℤ → Type 0

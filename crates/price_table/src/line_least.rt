@@ -5,6 +5,7 @@ ghost use Rattle.price_groups.specs.GrownLists.{IsGrownList};
 ghost use Rattle.price_groups.specs.Masks.{AreAllCompletableIn};
 ghost use Rattle.price_successors.specs.SuccessorLists.{AreSuccessorLists};
 ghost use Rattle.price_table.specs.Lines.{IsLeastLine, IsLineFound};
+ghost use Rattle.price_table.specs.Values.{most_worth};
 
 use crate::horizon::horizon;
 use crate::least::value_of;
@@ -25,7 +26,7 @@ fn line_by(alloc: Global, table: &Table) -> Result<LooseLine, PriceError>
     requires { AreSuccessorLists (line_asked table.now.case.now) table.now.successor_lists.now }
     ensures least { IfOk result (IsLeastLine (line_asked table.now.case.now)) }
     ensures low { IfOk result (λ line. neg_ℤ (pos 816080000000000) ≤ℤ line.worth) }
-    ensures high { IfOk result (λ line. line.worth ≤ℤ pos 6000000000000) }
+    ensures high { IfOk result (λ line. line.worth ≤ℤ pos most_worth) }
 {
     let chamber = table.case.chamber;
     let state = State {
@@ -74,7 +75,7 @@ pub fn least_line(
     ensures lists { All (IsGrownList (group_asked extension.now)) lists.new.items }
     ensures least { IfOk result (IsLineFound (line_asked extension.now.case.now)) }
     ensures low { IfOk result (λ found. IfSome found (λ line. neg_ℤ (pos 816080000000000) ≤ℤ line.worth)) }
-    ensures high { IfOk result (λ found. IfSome found (λ line. line.worth ≤ℤ pos 6000000000000)) }
+    ensures high { IfOk result (λ found. IfSome found (λ line. line.worth ≤ℤ pos most_worth)) }
 {
     let case = extension.case;
     if !are_spared(extension.sets, case.line) {

@@ -5,7 +5,7 @@ ghost use Rattle.price_groups.specs.Asked.{line_asked};
 ghost use Rattle.price_groups.specs.Asks.{line_worth};
 ghost use Rattle.price_groups.specs.Worth.{IsKeptGroup};
 ghost use Rattle.price_successors.specs.Successors.{IsSuccessor};
-ghost use Rattle.price_table.specs.Values.{minute_for, IsReady, end_next, worth_next, worth_alone};
+ghost use Rattle.price_table.specs.Values.{minute_for, most_worth, IsReady, end_next, worth_next, worth_alone};
 
 use crate::ready::Ready;
 use crate::state::State;
@@ -98,7 +98,7 @@ fn alone_on(case: &LineCase, state: &State, line: &[Group]) -> i64
     requires minute { state.now.minute ≤ 14000000 }
     ensures value { result ≡ line_worth (line_asked case.now) state.now.stand state.now.minute line.now }
     ensures low { pos 0 ≤ℤ result }
-    ensures high { result ≤ℤ pos 6000000000000 }
+    ensures high { result ≤ℤ pos most_worth }
 {
     let mut stand = state.stand;
     let mut minute = state.minute;
@@ -118,7 +118,7 @@ pub(crate) fn alone(case: &LineCase, state: State) -> i64
     requires minute { state.minute ≤ 14000000 }
     ensures value { result ≡ worth_alone (line_asked case.now) state }
     ensures low { pos 0 ≤ℤ result }
-    ensures high { result ≤ℤ pos 6000000000000 }
+    ensures high { result ≤ℤ pos most_worth }
 {
     alone_on(case, &state, &case.line[state.place as usize..])
 }

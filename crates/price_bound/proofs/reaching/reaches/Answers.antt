@@ -24,7 +24,7 @@ returns-in-Some c =
     let told = c.in_ok-price_sum.ensures in
     let sum = subst (IsNodeSum (node_asked asked)) c.in-Some.is told.value in
     let low = subst (λ o. IfSome o (λ v. neg_ℤ (pos 4000000000000000) ≤ℤ v)) c.in-Some.is told.low in
-    let high = subst (λ o. IfSome o (λ v. v ≤ℤ pos 40000000000000)) c.in-Some.is told.high in
+    let high = subst (λ o. IfSome o (λ v. v ≤ℤ pos 400000000000000)) c.in-Some.is told.high in
     let exact = reaches-exact I cuts node.depth node.lines asked.prices.now sum.least c.args.cost sum.is_least in
     let same = sum-rounded c.in-Some.sum low high ∙ sum.value in (
       λ h. exact.1 (subst (λ v. pos (100 * c.args.cost) <ℤ (v +ℤ pos 100)) same (c.is_high.ensures.0 h)),

@@ -1,5 +1,6 @@
-use Rattle.std.proofs.Common.{◌≡◌, ◌+◌, ◌-◌, ◌≤◌, [], length, drop, sum_by, sym, ap, ◌∙◌, arith}
+use Rattle.std.proofs.Common.{◌≡◌, ◌+◌, ◌-◌, ◌<◌, ◌≤◌, [], length, drop, sum_by, sym, ap, ◌∙◌, arith}
 use Rattle.std.proofs.Math.Seq.{drop-length}
+use Rattle.lock_model.specs.declared.limits.TheConstants.{SHIPS}
 use Rattle.lock_model.specs.Fleet.{ship_at}
 use Rattle.lock_rules.specs.Bound.{flow_of}
 use Rattle.lock_rules.specs.Timetable.{timetable_from}
@@ -18,7 +19,7 @@ loop-group-preserved c =
     let end : c.group_times-end.result.1 ≡ end_after I n c.loop-group.stand c.loop-group.minute g = omega (arith, c.group_times-end.ensures.start, c.group_times-end.ensures.end) in
     let flow : c.flow_until-flow.result ≡ sum_by (λ s. c.group_times-end.result.1 - (ship_at I s).arrival) g.ships = c.flow_until-flow.ensures.value in
     let next = flow-next I n c.args.case.now.depth c.args.case.now.prices.now c.loop-group.stand c.loop-group.minute line i g c.group_times-end.result.1 c.flow_until-flow.result _ c.loop-group.flow c.loop-group-test.true c.group-item.is end flow old.sum in
-    let few : i ≤ 23 = omega (arith, c.loop-group-test.true, c.requires.few) in
+    let few : i < SHIPS = omega (arith, c.loop-group-test.true, c.requires.few) in
     record {
       sum = next ∙ (λ j. (c.loop-group.flow + c.flow_until-flow.result) + flow_of I (drop (i + 1) line) (timetable_from I n (sym c.stand_after-stand.ensures j) c.group_times-end.result.1 (drop (i + 1) line)));
       minutes = omega (arith, old.minutes, c.group_times-end.ensures.small);

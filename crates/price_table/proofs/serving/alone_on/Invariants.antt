@@ -7,5 +7,5 @@ abbrev pub invariant-loop-group : goal.invariant-loop-group
 invariant-loop-group l = record {
   sum : flow_of l.case.instance.now l.line (timetable_from l.case.instance.now l.case.index l.state.stand l.state.minute l.line) ≡ l.flow + flow_of l.case.instance.now (drop l.group-index l.line) (timetable_from l.case.instance.now l.case.index l.stand l.minute (drop l.group-index l.line));
   minutes : l.minute ≤ 14000000 + l.group-index * 12000000;
-  small : l.flow ≤ l.group-index * 2500000000;
+  small : l.flow ≤ l.group-index * 10000000000;
 }
