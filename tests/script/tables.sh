@@ -76,7 +76,7 @@ name,way,length,width,arrival\nalva,north,110,11,0\n | 1 | | line 2: the way mus
 name,way,length,width,arrival\nalva,up,long,11,0\n | 1 | | line 2: the length must be metres, and not "long"
 name,way,length,width,arrival\nalva,up,110,11,noon\n | 1 | | line 2: the arrival must be HH:MM or a minute, and not "noon"
 ROWS
-{ echo name,way,length,width,arrival; seq -f 's%g,up,50,6,%g' 25; } >"$room/ships.csv"
+{ echo name,way,length,width,arrival; printf 's%s,up,50,6,0\n' {1..25}; } >"$room/ships.csv"
 awk -v lock="$room/evening.lock" -f "$top/examples/lock_of_csv.awk" "$room/ships.csv" >"$room/ships.lock"
 check "a table of 25 ships" [ "$(head -n 1 "$room/ships.lock")" = "glock 3" ]
 printf 'name;way;length;width;arrival\nalva;up;110,0;11,4;17:25\n' >"$room/ships.csv"
