@@ -1,11 +1,11 @@
 //! Lines of groups as they are made.
 ghost use Rattle.std.specs.Prelude.{◌≡◌, ◌<◌, length, IfSome};
-ghost use Rattle.near_plan.specs.Rows.{IsRow, IsDraft, row_at};
+ghost use Rattle.near_plan.specs.Rows.{IsDraft, row_at};
 
+use crate::known::are_all_known;
 use crate::lines::{group_of, line_without};
 use crate::row::Row;
-use lock_model::{CHAMBERS, Instance};
-use std::mem;
+use lock_model::{CHAMBERS, Instance, Line};
 
 /// A row of groups for each of four chambers, of which an instance may have fewer.
 #[derive(Drop)]
@@ -27,7 +27,7 @@ impl Draft {
     {
         let mut rows = [Row::new(), Row::new(), Row::new(), Row::new()];
         for chamber in 0..instance.chambers.as_slice().len() as u8 {
-            rows[chamber as usize] = Row::empty(instance, chamber);
+            rows[chamber as usize].walk(instance, chamber, Line::new());
         }
         Draft { rows }
     }
@@ -40,16 +40,17 @@ impl Draft {
         &self.rows[chamber as usize]
     }
 
-    /// Puts a row in the place of that of a chamber, which is given back.
-    pub(crate) fn set_row(&mut self, instance: &Instance, chamber: u8, row: Row) -> Row
+    /// Puts a line in the place of that of a chamber, which is given back. None, and nothing changed, where
+    /// it has a group of no ship, or of one that the instance lacks.
+    pub(crate) fn set_line(&mut self, instance: &Instance, chamber: u8, line: Line) -> Option<Line>
         requires chamber_in { chamber < length instance.now.chambers }
         requires draft { IsDraft instance.now self.old }
-        requires row { IsRow instance.now chamber row }
-        ensures draft { IsDraft instance.now self.new }
-        ensures given { IsRow instance.now chamber result }
+        ensures { IsDraft instance.now self.new }
     {
-        let _ = instance;
-        mem::replace(&mut self.rows[chamber as usize], row)
+        if !are_all_known(instance, chamber, line.as_slice()) {
+            return None;
+        }
+        Some(self.rows[chamber as usize].walk(instance, chamber, line))
     }
 
     /// Where a ship stands.
@@ -64,19 +65,15 @@ impl Draft {
         None
     }
 
-    /// Takes a ship out of where it stands; the row as it was is given back. None, and nothing changed,
+    /// Takes a ship out of where it stands; the line as it was is given back. None, and nothing changed,
     /// where the line has a ship that the instance lacks.
-    pub(crate) fn take_out(&mut self, instance: &Instance, ship: u8, at: Standing) -> Option<Row>
+    pub(crate) fn take_out(&mut self, instance: &Instance, ship: u8, at: Standing) -> Option<Line>
         requires chamber_in { at.chamber < length instance.now.chambers }
         requires draft { IsDraft instance.now self.old }
-        ensures draft { IsDraft instance.now self.new }
-        ensures given { IfSome result (IsRow instance.now at.chamber) }
+        ensures { IsDraft instance.now self.new }
     {
         let rest = line_without(self.row(at.chamber).line(), at.group, ship);
-        let Some(row) = Row::of(instance, at.chamber, rest) else {
-            return None;
-        };
-        Some(self.set_row(instance, at.chamber, row))
+        self.set_line(instance, at.chamber, rest)
     }
 
     /// The flow times of all ships at the earliest, added, in minutes.

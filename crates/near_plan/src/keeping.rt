@@ -4,7 +4,6 @@ ghost use Rattle.near_plan.specs.Rows.{IsDraft};
 
 use crate::draft::Draft;
 use crate::fitting::{Fitting, fits};
-use crate::row::Row;
 use crate::sets::without;
 use lock_model::{Group, Instance, MOST, SHIPS, Ships};
 use no_memory::NoMemory;
@@ -66,9 +65,7 @@ fn keep_group<F: Fitting>(
             way: group.way,
             ships,
         });
-        if let Some(row) = Row::of(instance, chamber, line) {
-            draft.set_row(instance, chamber, row);
-        }
+        draft.set_line(instance, chamber, line);
     }
     Ok(())
 }

@@ -1,8 +1,9 @@
 //! Lines with a ship more, or without it.
-ghost use Rattle.std.specs.Prelude.{◌<◌, length};
+ghost use Rattle.std.specs.Prelude.{◌<◌, ◌↔◌, length, Contains, IsTrue};
 
-use crate::sets::{with, without};
-use lock_model::{Group, Instance, Line, SHIPS, Ships};
+use crate::sets::without;
+use lock_model::{Group, Instance, Line, MOST, SHIPS, Ships};
+use master_branch::with_ship;
 
 /// Where a ship may be put into a line.
 #[derive(Clone, Copy)]
@@ -13,18 +14,32 @@ pub(crate) enum Place {
     Before(usize),
 }
 
+// Whether a ship is among these.
+fn is_among(ship: u8, ships: &[u8]) -> bool
+    ensures { IsTrue result ↔ Contains ships.now ship }
+{
+    ships.contains(&ship)
+}
+
+// A group that a ship has joined, where it has room and lacks the ship.
+fn joined(group: &Group, ship: u8) -> Option<Group> {
+    if group.ships.len() >= MOST || is_among(ship, group.ships.as_slice()) {
+        return None;
+    }
+    Some(with_ship(group, ship))
+}
+
 /// The group of a ship at a place of a line.
 pub(crate) fn group_with(instance: &Instance, line: &Line, ship: u8, place: Place) -> Option<Group>
     requires { ship < length instance.now.ships }
 {
-    let ships = match place {
-        Place::Into(i) => with(&line.as_slice().get(i)?.ships, ship),
-        Place::Before(_) => Ships::single(ship),
-    };
-    Some(Group {
-        way: instance.ships.as_slice()[ship as usize].way,
-        ships,
-    })
+    match place {
+        Place::Into(i) => joined(line.as_slice().get(i)?, ship),
+        Place::Before(_) => Some(Group {
+            way: instance.ships.as_slice()[ship as usize].way,
+            ships: Ships::single(ship),
+        }),
+    }
 }
 
 /// A line with the group of a ship at its place.

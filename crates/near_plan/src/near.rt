@@ -62,7 +62,7 @@ fn better_for<F: Fitting>(
     };
     let gained = put(instance, draft, ship, now, trials, fitting)?;
     if !gained {
-        draft.set_row(instance, at.chamber, before);
+        draft.set_line(instance, at.chamber, before);
     }
     Ok(gained)
 }

@@ -6,7 +6,6 @@ use crate::draft::Draft;
 use crate::entering::{flow_with, is_too_late};
 use crate::fitting::{Fitting, fits};
 use crate::lines::{Place, group_with, line_with};
-use crate::row::Row;
 use lock_model::Instance;
 use no_memory::NoMemory;
 
@@ -105,11 +104,7 @@ fn put_so<F: Fitting>(
     let Some(longer) = line_with(line, trial.place, group) else {
         return Ok(false);
     };
-    let Some(row) = Row::of(instance, trial.chamber, longer) else {
-        return Ok(false);
-    };
-    draft.set_row(instance, trial.chamber, row);
-    Ok(true)
+    Ok(draft.set_line(instance, trial.chamber, longer).is_some())
 }
 
 /// Puts a ship where it costs least and fits, if the flow times of the draft stay below so many

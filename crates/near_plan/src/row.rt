@@ -1,10 +1,10 @@
 //! A line of groups and the walk along it.
-ghost use Rattle.std.specs.Prelude.{◌≡◌, ◌<◌, ◌≤◌, length, All, IfSome};
+ghost use Rattle.std.specs.Prelude.{◌≡◌, ◌<◌, ◌≤◌, length, All};
 ghost use Rattle.near_plan.specs.Rows.{IsRow};
 
-use crate::known::are_all_known;
 use flow_bounds::{LineWalks, walk_along};
 use lock_model::{Instance, Line, SHIPS};
+use std::mem;
 
 /// A line of groups, and the walk along it, kept at each of its groups.
 #[derive(Drop)]
@@ -22,35 +22,15 @@ impl Row {
         }
     }
 
-    // A line of a chamber.
-    fn walked(instance: &Instance, chamber: u8, line: Line) -> Row
+    /// Walks along a line of a chamber, which takes the place of the row's own; that is given back. What
+    /// the walks take is large, so they are changed where they stand.
+    pub(crate) fn walk(&mut self, instance: &Instance, chamber: u8, line: Line) -> Line
         requires chamber_in { chamber < length instance.now.chambers }
         requires ships_in { All (λ g. All (λ s. s < length instance.now.ships) g.ships) line }
-        ensures { IsRow instance.now chamber result }
+        ensures { IsRow instance.now chamber self.new }
     {
-        let mut walks = LineWalks::new();
-        walk_along(instance, chamber, line.as_slice(), &mut walks);
-        Row { line, walks }
-    }
-
-    /// A chamber's line without groups.
-    pub(crate) fn empty(instance: &Instance, chamber: u8) -> Row
-        requires { chamber < length instance.now.chambers }
-        ensures { IsRow instance.now chamber result }
-    {
-        Row::walked(instance, chamber, Line::new())
-    }
-
-    /// A line of a chamber; None where it has a group of no ship, or of one that the instance lacks.
-    pub(crate) fn of(instance: &Instance, chamber: u8, line: Line) -> Option<Row>
-        requires { chamber < length instance.now.chambers }
-        ensures { IfSome result (IsRow instance.now chamber) }
-    {
-        if are_all_known(instance, chamber, line.as_slice()) {
-            Some(Row::walked(instance, chamber, line))
-        } else {
-            None
-        }
+        walk_along(instance, chamber, line.as_slice(), &mut self.walks);
+        mem::replace(&mut self.line, line)
     }
 
     /// The groups in order of service.
