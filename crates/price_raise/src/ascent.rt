@@ -64,7 +64,7 @@ fn prices_of(exact: &[i64; SHIPS], ships: usize) -> Prices
     ensures { length result ≡ ships }
 {
     let mut whole = [0; SHIPS];
-    for ship in 0..SHIPS {
+    for ship in 0..ships {
         whole[ship] = (exact[ship].clamp(0, MOST) / FINE) as u32;
     }
     Prices::capped(&whole[..ships])
