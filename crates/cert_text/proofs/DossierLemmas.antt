@@ -1,5 +1,6 @@
 -- The canonical dossier is read back, and a text has one meaning.
 use Rattle.std.proofs.Common.{◌≡◌, ◌∙◌, ◌++◌, ℕ, List, [], ◌∷◌, Some, Result, Ok, Err, IfOk, IfErr, refl, sym, ap, ap₂, append_assoc}
+use Rattle.lock_model.specs.declared.ship.Ship.{Ship}
 use Rattle.lock_model.specs.declared.instance.Instance.{Instance}
 use Rattle.certificate_rules.specs.Certificates.{Certificate}
 use Rattle.instance_text.specs.declared.bad.Bad.{Bad}
@@ -14,7 +15,7 @@ use Rattle.cert_text.specs.declared.heading.Version.{Version}
 use Rattle.cert_text.specs.declared.heading.Version.TheVariants.{First}
 use Rattle.cert_text.specs.Versions.{version_of}
 use Rattle.serde_json.specs.Data.{Data}
-use Rattle.cert_text.specs.Certificates.{certificate_data, certificate_in}
+use Rattle.cert_text.specs.Certificates.{certificate_data, IsReadBack}
 use Rattle.cert_text.specs.Dossier.{heading_line, json_line, framed, dossier, json_of, value_in, rest_in, dossier_in, Reads, DossierFault, IsFirstFault}
 use Rattle.cert_text.specs.declared.bad.BadDossier.{BadDossier}
 use Rattle.cert_text.specs.declared.bad.BadDossier.TheVariants as fault
@@ -28,7 +29,7 @@ printed I heading d a b c text first second third line =
     third ∙ append_assoc b text (10 ∷ []) ∙ ap (λ l. b ++ l) line ∙ ap (λ l. l ++ json_line d) (second ∙ ap (λ l. l ++ heading) first) ∙ append_assoc (canonical I) heading (json_line d)
 
 -- the frame with a certificate's value is its dossier
-pub printed_dossier : (own : Form) (I : Instance) (C : Certificate) (version : Version) (heading : List ℕ) (d : Data) → version ≡ version_of own C → heading ≡ heading_line own version → d ≡ certificate_data own C → framed I heading d ≡ dossier own I C
+pub printed_dossier : (own : Form) (I : Instance) (C : Certificate) (version : Version) (heading : List ℕ) (d : Data) → version ≡ version_of own C → heading ≡ heading_line own version → d ≡ certificate_data own I.ships C → framed I heading d ≡ dossier own I C
 unfolding dossier
 printed_dossier own I C version heading d is named same = ap₂ (framed I) (named ∙ ap (heading_line own) is) same
 
@@ -36,21 +37,22 @@ later : (own : Form) (C : Certificate) (version : Version) → version ≡ versi
 later form.Whole C version is kind first = cc
 later form.Open C version is kind first = open_later C (sym is ∙ first)
 
-rest_back : (own : Form) (C : Certificate) (version : Version) (json : List ℕ) → version ≡ version_of own C → json_of json ≡ Some (certificate_data own C) → certificate_in own version (certificate_data own C) ≡ Ok C → rest_in own (heading_line own version ++ json) ≡ Ok C
+rest_back : (own : Form) (ships : List Ship) (C : Certificate) (version : Version) (json : List ℕ) → version ≡ version_of own C → json_of json ≡ Some (certificate_data own ships C) → IsReadBack own ships version C → rest_in own ships (heading_line own version ++ json) ≡ Ok C
 unfolding rest_in value_in
-rest_back own C version json is value certificate =
+rest_back own ships C version json is value certificate =
     let line = heading_back own version json (later own C version is) in
     let found = line.found in
     let known = line.is in
     rw (found, known, value, certificate) refl
 
 -- what is printed of a certificate is read as the pair
-pub dossier_back : (own : Form) (I : Instance) (C : Certificate) (version : Version) (heading : List ℕ) (d : Data) (text : List ℕ) → version ≡ version_of own C → heading ≡ heading_line own version → d ≡ certificate_data own C → text ≡ framed I heading d
-    → json_of (json_line d) ≡ Some d → certificate_in own version (certificate_data own C) ≡ Ok C → Reads own text I C
+pub dossier_back : (own : Form) (I : Instance) (C : Certificate) (version : Version) (heading : List ℕ) (d : Data) (text : List ℕ) → version ≡ version_of own C → heading ≡ heading_line own version → d ≡ certificate_data own I.ships C → text ≡ framed I heading d
+    → json_of (json_line d) ≡ Some d → IsReadBack own I.ships version C → Reads own text I C
 unfolding Reads dossier_in
 dossier_back own I C version heading d text is named same printed back certificate =
-    let json = json_line (certificate_data own C) in
-    framed_back I heading d (certificate_data own C) C (rest_in own) text printed same back (λ value. ap (λ h. rest_in own (h ++ json)) named ∙ rest_back own C version json is value certificate)
+    let json = json_line (certificate_data own I.ships C) in
+    framed_back I heading d (certificate_data own I.ships C) C (rest_in own) text printed same back
+    (λ value. ap (λ h. rest_in own I.ships (h ++ json)) named ∙ rest_back own I.ships C version json is value certificate)
 
 -- ---- one meaning, or one first fault
 
@@ -69,19 +71,19 @@ faults_each own text (Err (Fault f)) ok err = each_fault_answer (dossier_in own 
 
 -- ---- reading part by part
 
-pub value_fault : (own : Form) (bytes : List ℕ) (e : DossierError) → IsFault (value_in own bytes) e → IsFault (rest_in own bytes) e
+pub value_fault : (own : Form) (ships : List Ship) (bytes : List ℕ) (e : DossierError) → IsFault (value_in own bytes) e → IsFault (rest_in own ships bytes) e
 unfolding rest_in
-value_fault own bytes e bad = fault_before (value_in own bytes) _ e bad
+value_fault own ships bytes e bad = fault_before (value_in own bytes) _ e bad
 
 pub instance_fault : (own : Form) (text : List ℕ) (b : Bad) → Defect (instance_part text) b.line b.kind → DossierFault own text (fault.Instance b)
 unfolding DossierFault dossier_in
 instance_fault own text b defect = pair_no_instance (rest_in own) text b defect
 
-pub rest_read : (own : Form) (text : List ℕ) (I : Instance) (rest : List ℕ) (C : Certificate) → Means (instance_part text) I → rest ≡ after_instance text → rest_in own rest ≡ Ok C → Reads own text I C
+pub rest_read : (own : Form) (text : List ℕ) (I : Instance) (rest : List ℕ) (C : Certificate) → Means (instance_part text) I → rest ≡ after_instance text → rest_in own I.ships rest ≡ Ok C → Reads own text I C
 unfolding Reads dossier_in
 rest_read own text I rest C means is reads = pair_read (rest_in own) text I rest C means is reads
 
-pub rest_fault : (own : Form) (text : List ℕ) (I : Instance) (rest : List ℕ) (e : DossierError) → Means (instance_part text) I → rest ≡ after_instance text → IsFault (rest_in own rest) e → IsFirstFault own text e
+pub rest_fault : (own : Form) (text : List ℕ) (I : Instance) (rest : List ℕ) (e : DossierError) → Means (instance_part text) I → rest ≡ after_instance text → IsFault (rest_in own I.ships rest) e → IsFirstFault own text e
 unfolding DossierFault dossier_in
 rest_fault own text I rest NoMemory means is bad = tt
 rest_fault own text I rest (Fault f) means is bad = pair_no_rest (rest_in own) text I rest f means is bad

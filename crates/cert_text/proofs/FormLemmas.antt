@@ -3,6 +3,7 @@ use Rattle.std.proofs.Common.{◌≡◌, ℕ, List, Option, Some, None, Result, 
 use Rattle.std.specs.Prelude.{codes}
 use Rattle.std.proofs.lemmas.Option.{none-some}
 use Rattle.list_laws.proofs.Variants.{one-ok}
+use Rattle.lock_model.specs.declared.ship.Ship.{Ship}
 use Rattle.lock_model.specs.declared.instance.Instance.{Instance}
 use Rattle.line_text.specs.Steps.{◌>>=◌}
 use Rattle.cert_text.specs.Steps.{or_fault, fault_under}
@@ -10,8 +11,8 @@ use Rattle.instance_text.specs.Draft.{draft_of}
 use Rattle.instance_text.specs.Reading.{reading, instance_part, after_instance}
 use Rattle.serde_json.specs.Data.{Data}
 use Rattle.serde_json.specs.Find.{get}
-use Rattle.certificate_rules.specs.declared.certificate.Mark.{Mark}
 use Rattle.certificate_rules.specs.Certificates.{Certificate, HasNoOpenLeaf}
+use Rattle.certificate_rules.specs.WellFormed.{numbering_of, most_listed}
 use Rattle.cert_text.specs.declared.heading.Form.TheVariants as form
 use Rattle.cert_text.specs.declared.heading.Version.{Version}
 use Rattle.cert_text.specs.declared.bad.BadDossier.TheVariants as fault
@@ -41,26 +42,27 @@ at_key : {A : Type 0} (f : Data → Option A) (o : Option Data) (x : A) → opti
 at_key f (Some v) x e = (v, e)
 at_key f None x e = absurd (none-some x e)
 
-certificate_whole : (version : Version) (d : Data) (C : Certificate) → certificate_in form.Whole version d ≡ Ok C → HasNoOpenLeaf C.tree
+certificate_whole : (ships : List Ship) (version : Version) (d : Data) (C : Certificate) → certificate_in form.Whole ships version d ≡ Ok C → HasNoOpenLeaf C.tree
 unfolding certificate_in
-certificate_whole version d C e =
-    let front = step (front_in version d) _ C e in
-    let tree = step (or_fault 5 (value_at (codes "tree") (tree_in (mark_in form.Whole) (is_third version)) d)) _ C front.2 in
-    let prices = step (or_fault 6 (prices_under version d)) _ C tree.2 in
-    let own = at_key (tree_in (mark_in form.Whole) (is_third version)) (get (codes "tree") d) tree.0 (found 5 (value_at (codes "tree") (tree_in (mark_in form.Whole) (is_third version)) d) tree.0 tree.1) in
+certificate_whole ships version d C e =
+    let read = tree_in (mark_in form.Whole (numbering_of ships)) (is_third version) in
+    let front = step (front_in ships version d) _ C e in
+    let tree = step (or_fault 5 (value_at (codes "tree") read d)) _ C front.2 in
+    let prices = step (or_fault 6 (prices_under (most_listed ships) version d)) _ C tree.2 in
+    let own = at_key read (get (codes "tree") d) tree.0 (found 5 (value_at (codes "tree") read d) tree.0 tree.1) in
     let same = ap (λ (c : Certificate). c.tree) (one-ok (Ok (record { cost = front.0.cost; cuts = front.0.cuts; plan = front.0.plan; prices = prices.0; tree = tree.0 })) _ C refl prices.2) in
-    subst HasNoOpenLeaf same (tree_whole (is_third version) own.0 tree.0 own.1)
+    subst HasNoOpenLeaf same (tree_whole (numbering_of ships) (is_third version) own.0 tree.0 own.1)
 
-rest_whole : (bytes : List ℕ) (C : Certificate) → rest_in form.Whole bytes ≡ Ok C → HasNoOpenLeaf C.tree
+rest_whole : (ships : List Ship) (bytes : List ℕ) (C : Certificate) → rest_in form.Whole ships bytes ≡ Ok C → HasNoOpenLeaf C.tree
 unfolding rest_in
-rest_whole bytes C e =
+rest_whole ships bytes C e =
     let value = step (value_in form.Whole bytes) _ C e in
-    certificate_whole value.0.0 value.0.1 C (sound fault.Shape (certificate_in form.Whole value.0.0 value.0.1) C value.2)
+    certificate_whole ships value.0.0 value.0.1 C (sound fault.Shape (certificate_in form.Whole ships value.0.0 value.0.1) C value.2)
 
 pub reads_whole : (text : List ℕ) (I : Instance) (C : Certificate) → Reads form.Whole text I C → HasNoOpenLeaf C.tree
 unfolding Reads dossier_in
 reads_whole text I C e =
     let draft = step (fault_under fault.Instance (reading (instance_part text))) _ (draft_of I, C) e in
-    let rest = step (rest_in form.Whole (after_instance text)) _ (draft_of I, C) draft.2 in
+    let rest = step (rest_in form.Whole draft.0.ships (after_instance text)) _ (draft_of I, C) draft.2 in
     let same = ap (λ p. p.1) (one-ok (Ok (draft.0, rest.0)) _ (draft_of I, C) refl rest.2) in
-    subst (λ (c : Certificate). HasNoOpenLeaf c.tree) same (rest_whole (after_instance text) rest.0 rest.1)
+    subst (λ (c : Certificate). HasNoOpenLeaf c.tree) same (rest_whole draft.0.ships (after_instance text) rest.0 rest.1)

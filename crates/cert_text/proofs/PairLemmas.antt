@@ -1,5 +1,6 @@
 -- An instance and what follows it: a text has one meaning, or one first fault.
 use Rattle.std.proofs.Common.{◌≡◌, ◌∙◌, ◌++◌, ℕ, List, Some, Result, Ok, Err, IfOk, IfErr, sym, ap, ap₂, subst}
+use Rattle.lock_model.specs.declared.ship.Ship.{Ship}
 use Rattle.lock_model.specs.declared.instance.Instance.{Instance}
 use Rattle.line_text.specs.Steps.{◌>>=◌}
 use Rattle.instance_text.specs.Draft.{Draft, draft_of}
@@ -31,34 +32,38 @@ shape_before (Err n) next (Fault f) bad = cc
 
 module _ {C : Type 0} where
   -- what is made of an instance and of what follows it
-  abbrev made : Result Draft Bad → Result C BadDossier → Result (Draft × C) BadDossier
-  made r s = fault_under fault.Instance r >>= λ d. s >>= λ c. Ok (d, c)
+  abbrev made : (List Ship → List ℕ → Result C BadDossier) → List ℕ → Result Draft Bad → Result (Draft × C) BadDossier
+  made rest bytes r = fault_under fault.Instance r >>= λ d. rest d.ships bytes >>= λ c. Ok (d, c)
+
+  -- the same where the instance is read
+  abbrev with_rest : Instance → Result C BadDossier → Result (Draft × C) BadDossier
+  with_rest I s = s >>= λ c. Ok (draft_of I, c)
 
   -- a frame is read as its instance and what its value means
-  frame_back : (I : Instance) (heading : List ℕ) (d : Data) (c : C) (rest : List ℕ → Result C BadDossier) → rest (heading ++ json_line d) ≡ Ok c → pair_in rest (framed I heading d) ≡ Ok (draft_of I, c)
+  frame_back : (I : Instance) (heading : List ℕ) (d : Data) (c : C) (rest : List Ship → List ℕ → Result C BadDossier) → rest I.ships (heading ++ json_line d) ≡ Ok c → pair_in rest (framed I heading d) ≡ Ok (draft_of I, c)
   unfolding Means
   frame_back I heading d c rest reads =
       let more = heading ++ json_line d in
-      ap₂ made (ap reading (canonical_part I more) ∙ canonical_means I) (ap rest (canonical_rest I more) ∙ reads)
+      ap (made rest (after_instance (framed I heading d))) (ap reading (canonical_part I more) ∙ canonical_means I) ∙ ap (with_rest I) (ap (rest I.ships) (canonical_rest I more) ∙ reads)
 
   -- a text that is the frame of a value, which is read back
-  pub framed_back : (I : Instance) (heading : List ℕ) (d value : Data) (c : C) (rest : List ℕ → Result C BadDossier) (text : List ℕ) → text ≡ framed I heading d → d ≡ value → json_of (json_line d) ≡ Some d
-      → (json_of (json_line value) ≡ Some value → rest (heading ++ json_line value) ≡ Ok c) → pair_in rest text ≡ Ok (draft_of I, c)
+  pub framed_back : (I : Instance) (heading : List ℕ) (d value : Data) (c : C) (rest : List Ship → List ℕ → Result C BadDossier) (text : List ℕ) → text ≡ framed I heading d → d ≡ value → json_of (json_line d) ≡ Some d
+      → (json_of (json_line value) ≡ Some value → rest I.ships (heading ++ json_line value) ≡ Ok c) → pair_in rest text ≡ Ok (draft_of I, c)
   framed_back I heading d value c rest text printed same back reads =
       ap (pair_in rest) (printed ∙ ap (framed I heading) same) ∙ frame_back I heading value c rest (reads (subst (λ v. json_of (json_line v) ≡ Some v) same back))
 
   -- a text is read part by part
-  pub pair_no_instance : (rest : List ℕ → Result C BadDossier) (text : List ℕ) (b : Bad) → Defect (instance_part text) b.line b.kind → pair_in rest text ≡ Err (fault.Instance b)
+  pub pair_no_instance : (rest : List Ship → List ℕ → Result C BadDossier) (text : List ℕ) (b : Bad) → Defect (instance_part text) b.line b.kind → pair_in rest text ≡ Err (fault.Instance b)
   unfolding Defect
-  pair_no_instance rest text b defect = ap (λ r. made r (rest (after_instance text))) defect
+  pair_no_instance rest text b defect = ap (made rest (after_instance text)) defect
 
-  pub pair_read : (rest : List ℕ → Result C BadDossier) (text : List ℕ) (I : Instance) (bytes : List ℕ) (c : C) → Means (instance_part text) I → bytes ≡ after_instance text → rest bytes ≡ Ok c → pair_in rest text ≡ Ok (draft_of I, c)
+  pub pair_read : (rest : List Ship → List ℕ → Result C BadDossier) (text : List ℕ) (I : Instance) (bytes : List ℕ) (c : C) → Means (instance_part text) I → bytes ≡ after_instance text → rest I.ships bytes ≡ Ok c → pair_in rest text ≡ Ok (draft_of I, c)
   unfolding Means
-  pair_read rest text I bytes c means is reads = ap₂ made means (ap rest (sym is) ∙ reads)
+  pair_read rest text I bytes c means is reads = ap (made rest (after_instance text)) means ∙ ap (with_rest I) (ap (rest I.ships) (sym is) ∙ reads)
 
-  pub pair_no_rest : (rest : List ℕ → Result C BadDossier) (text : List ℕ) (I : Instance) (bytes : List ℕ) (f : BadDossier) → Means (instance_part text) I → bytes ≡ after_instance text → rest bytes ≡ Err f → pair_in rest text ≡ Err f
+  pub pair_no_rest : (rest : List Ship → List ℕ → Result C BadDossier) (text : List ℕ) (I : Instance) (bytes : List ℕ) (f : BadDossier) → Means (instance_part text) I → bytes ≡ after_instance text → rest I.ships bytes ≡ Err f → pair_in rest text ≡ Err f
   unfolding Means
-  pair_no_rest rest text I bytes f means is bad = ap₂ made means (ap rest (sym is) ∙ bad)
+  pair_no_rest rest text I bytes f means is bad = ap (made rest (after_instance text)) means ∙ ap (with_rest I) (ap (rest I.ships) (sym is) ∙ bad)
 
   pub one-meaning : (told : Result (Draft × C) BadDossier) (I J : Instance) (c d : C) → told ≡ Ok (draft_of I, c) → told ≡ Ok (draft_of J, d) → (I ≡ J) × (c ≡ d)
   one-meaning told I J c d first second =

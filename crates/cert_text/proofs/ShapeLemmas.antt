@@ -1,12 +1,15 @@
 -- The value of a certificate has no floats and is shallow.
 use Rattle.std.proofs.Common.{◌≡◌, ◌≤◌, ℕ, suc, false, List, [], ◌∷◌, map, refl, arith}
 use Rattle.std.specs.List.{flat_map}
+use Rattle.lock_model.specs.declared.ship.Ship.{Ship}
 use Rattle.lock_model.specs.declared.plan.Lockage.{Lockage}
 use Rattle.lock_model.specs.declared.plan.Plan.{Plan}
 use Rattle.refute_rules.specs.Why.{why_of}
 use Rattle.closing_rules.specs.ProvedCuts.{CertCut}
 use Rattle.certificate_rules.specs.declared.certificate.Mark.{Mark}
+use Rattle.certificate_rules.specs.declared.numbering.Numbering.{Numbering}
 use Rattle.certificate_rules.specs.Certificates.{Certificate}
+use Rattle.certificate_rules.specs.WellFormed.{numbering_of}
 use Rattle.serde_json.specs.Data.{Data, depth}
 use Rattle.serde_json.specs.Read.{max_depth}
 use Rattle.serde_json.specs.View.{items_of}
@@ -58,19 +61,19 @@ lockage_depth l =
     omega arith
 
 -- the parts of a certificate
-parts_no_float : (version : Version) (cost : ℕ) (cuts : List CertCut) (plan : Plan) (prices : List (List ℕ)) (tree : List Mark) → has_float (parts_data version cost cuts plan prices (tree_data mark_numbers tree)) ≡ false
-parts_no_float First cost cuts plan prices tree = rw (list_no_float cut_data cut_no_float cuts, list_no_float lockage_data lockage_no_float plan.lockages, numbers_no_float (flat_map mark_numbers tree)) refl
-parts_no_float Second cost cuts plan prices tree = rw (list_no_float cut_data cut_no_float cuts, list_no_float lockage_data lockage_no_float plan.lockages, numbers_no_float (flat_map mark_numbers tree)) refl
-parts_no_float Third cost cuts plan prices tree =
-    rw (list_no_float cut_data cut_no_float cuts, list_no_float lockage_data lockage_no_float plan.lockages, list_no_float numbers_data numbers_no_float prices, numbers_no_float (flat_map mark_numbers tree)) refl
+parts_no_float : (numbering : Numbering) (version : Version) (cost : ℕ) (cuts : List CertCut) (plan : Plan) (prices : List (List ℕ)) (tree : List Mark) → has_float (parts_data version cost cuts plan prices (tree_data (mark_numbers numbering) tree)) ≡ false
+parts_no_float numbering First cost cuts plan prices tree = rw (list_no_float cut_data cut_no_float cuts, list_no_float lockage_data lockage_no_float plan.lockages, numbers_no_float (flat_map (mark_numbers numbering) tree)) refl
+parts_no_float numbering Second cost cuts plan prices tree = rw (list_no_float cut_data cut_no_float cuts, list_no_float lockage_data lockage_no_float plan.lockages, numbers_no_float (flat_map (mark_numbers numbering) tree)) refl
+parts_no_float numbering Third cost cuts plan prices tree =
+    rw (list_no_float cut_data cut_no_float cuts, list_no_float lockage_data lockage_no_float plan.lockages, list_no_float numbers_data numbers_no_float prices, numbers_no_float (flat_map (mark_numbers numbering) tree)) refl
 
-parts_shallow : (version : Version) (cost : ℕ) (cuts : List CertCut) (plan : Plan) (prices : List (List ℕ)) (tree : List Mark) → depth (parts_data version cost cuts plan prices (tree_data mark_numbers tree)) ≤ max_depth
-parts_shallow version cost cuts plan prices tree = go version
+parts_shallow : (numbering : Numbering) (version : Version) (cost : ℕ) (cuts : List CertCut) (plan : Plan) (prices : List (List ℕ)) (tree : List Mark) → depth (parts_data version cost cuts plan prices (tree_data (mark_numbers numbering) tree)) ≤ max_depth
+parts_shallow numbering version cost cuts plan prices tree = go version
   where
-    flat : depth (tree_data mark_numbers tree) ≤ 1
-    flat = numbers_depth (flat_map mark_numbers tree)
+    flat : depth (tree_data (mark_numbers numbering) tree) ≤ 1
+    flat = numbers_depth (flat_map (mark_numbers numbering) tree)
 
-    go : (v : Version) → depth (parts_data v cost cuts plan prices (tree_data mark_numbers tree)) ≤ max_depth
+    go : (v : Version) → depth (parts_data v cost cuts plan prices (tree_data (mark_numbers numbering) tree)) ≤ max_depth
     go First =
         let cuts_depth = list_depth cut_data 2 cut_depth cuts in
         let plan_depth = list_depth lockage_data 3 lockage_depth plan.lockages in
@@ -85,8 +88,8 @@ parts_shallow version cost cuts plan prices tree = go version
         let prices_depth = list_depth numbers_data 1 numbers_depth prices in
         omega (arith, cuts_depth, plan_depth, prices_depth, flat)
 
-pub no_float : (form : Form) (C : Certificate) → has_float (certificate_data form C) ≡ false
-no_float form C = parts_no_float (version_of form C) C.cost C.cuts C.plan C.prices C.tree
+pub no_float : (form : Form) (ships : List Ship) (C : Certificate) → has_float (certificate_data form ships C) ≡ false
+no_float form ships C = parts_no_float (numbering_of ships) (version_of form C) C.cost C.cuts C.plan C.prices C.tree
 
-pub shallow : (form : Form) (C : Certificate) → depth (certificate_data form C) ≤ max_depth
-shallow form C = parts_shallow (version_of form C) C.cost C.cuts C.plan C.prices C.tree
+pub shallow : (form : Form) (ships : List Ship) (C : Certificate) → depth (certificate_data form ships C) ≤ max_depth
+shallow form ships C = parts_shallow (numbering_of ships) (version_of form C) C.cost C.cuts C.plan C.prices C.tree

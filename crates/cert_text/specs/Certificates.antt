@@ -1,9 +1,11 @@
 -- A certificate as a JSON value, and the certificate that a value is, or the first part at fault.
-use Rattle.std.specs.Prelude.{ℕ, ◌&&◌, Bool, List, [], ◌∷◌, Result, Ok, codes}
+use Rattle.std.specs.Prelude.{ℕ, ◌≡◌, ◌&&◌, Bool, List, [], ◌∷◌, Result, Ok, codes}
 use Rattle.serde_json.specs.Data.{Data}
+use Rattle.lock_model.specs.declared.ship.Ship.{Ship}
 use Rattle.lock_model.specs.declared.plan.Plan.{Plan}
 use Rattle.closing_rules.specs.ProvedCuts.{CertCut}
 use Rattle.certificate_rules.specs.Certificates.{Certificate}
+use Rattle.certificate_rules.specs.WellFormed.{numbering_of, most_listed}
 use Rattle.line_text.specs.Steps.{◌>>=◌, ◌>>◌}
 use Rattle.cert_text.specs.declared.certificate.Front.{Front}
 use Rattle.cert_text.specs.declared.heading.Form.{Form}
@@ -38,9 +40,9 @@ abbrev pub parts_data : Version → ℕ → List CertCut → Plan → List (List
 parts_data version cost cuts plan prices tree =
     object_data (claim_members cost cuts ((codes "plan", plan_data plan) ∷ end_members version prices tree))
 
--- a certificate, written in the first version of its form that has all its parts
-abbrev pub certificate_data : Form → Certificate → Data
-certificate_data form C = parts_data (version_of form C) C.cost C.cuts C.plan C.prices (tree_data mark_numbers C.tree)
+-- a certificate of an instance with these ships, written in the first version of its form that has all its parts
+abbrev pub certificate_data : Form → List Ship → Certificate → Data
+certificate_data form ships C = parts_data (version_of form C) C.cost C.cuts C.plan C.prices (tree_data (mark_numbers (numbering_of ships)) C.tree)
 
 -- an object of the four keys, or of the five of the third version
 abbrev pub has_keys : Data → Bool
@@ -51,19 +53,25 @@ is_frame First d = has_members 4 d && has_keys d
 is_frame Second d = has_members 4 d && has_keys d
 is_frame Third d = has_members 5 d && (has_keys d && has_key d (codes "prices"))
 
--- The parts before the tree, or the number of the first one at fault: 1 the keys, 2 the cost, 3 the cuts, 4 the plan.
-unfoldable pub front_in : Version → Data → Result Front ℕ
-front_in version d = do
+-- The parts before the tree, where the instance has these ships, or the number of the first one at fault: 1 the keys, 2 the cost, 3 the
+-- cuts, 4 the plan.
+unfoldable pub front_in : List Ship → Version → Data → Result Front ℕ
+front_in ships version d = do
   or_fault 1 (when (is_frame version d))
   cost ← or_fault 2 (value_at (codes "cost") cost_in d)
   cuts ← or_fault 3 (value_at (codes "cuts") (cuts_under version) d)
-  plan ← or_fault 4 (value_at (codes "plan") plan_in d)
+  plan ← or_fault 4 (value_at (codes "plan") (plan_in (most_listed ships)) d)
   Ok (record { cost = cost; cuts = cuts; plan = plan })
 
--- The certificate of this form and version that a value is, or the number of the first part at fault, which is 5 for the tree and 6 for the prices.
-unfoldable pub certificate_in : Form → Version → Data → Result Certificate ℕ
-certificate_in form version d = do
-  front ← front_in version d
-  tree ← or_fault 5 (value_at (codes "tree") (tree_in (mark_in form) (is_third version)) d)
-  prices ← or_fault 6 (prices_under version d)
+-- The certificate of this form and version that a value is, where the instance has these ships, or the number of the first part at
+-- fault, which is 5 for the tree and 6 for the prices.
+unfoldable pub certificate_in : Form → List Ship → Version → Data → Result Certificate ℕ
+certificate_in form ships version d = do
+  front ← front_in ships version d
+  tree ← or_fault 5 (value_at (codes "tree") (tree_in (mark_in form (numbering_of ships)) (is_third version)) d)
+  prices ← or_fault 6 (prices_under (most_listed ships) version d)
   Ok (record { cost = front.cost; cuts = front.cuts; plan = front.plan; prices = prices; tree = tree })
+
+-- what is written of the certificate is read as it in this version
+abbrev pub IsReadBack : Form → List Ship → Version → Certificate → Type 0
+IsReadBack form ships version C = certificate_in form ships version (certificate_data form ships C) ≡ Ok C

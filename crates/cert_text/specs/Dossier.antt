@@ -1,6 +1,7 @@
 -- Dossiers: the canonical one, what one means, and its first fault.
 use Rattle.std.specs.Prelude.{ℕ, ◌≡◌, ◌++◌, List, [], ◌∷◌, Option, None, Some, Result, Ok, Err, codes, if◌then◌else◌, ⊤}
 use Rattle.std.specs.Str.{is_utf8}
+use Rattle.lock_model.specs.declared.ship.Ship.{Ship}
 use Rattle.lock_model.specs.declared.instance.Instance.{Instance}
 use Rattle.certificate_rules.specs.Certificates.{Certificate}
 use Rattle.line_text.specs.Steps.{◌>>=◌}
@@ -44,7 +45,7 @@ framed I heading d = canonical I ++ (heading ++ json_line d)
 
 -- the canonical dossier of an instance and a certificate, whole or open
 unfoldable pub dossier : Form → Instance → Certificate → List ℕ
-dossier own I C = framed I (heading_line own (version_of own C)) (certificate_data own C)
+dossier own I C = framed I (heading_line own (version_of own C)) (certificate_data own I.ships C)
 
 -- the version of a heading of this form
 abbrev pub version_under : Form → Heading → Option Version
@@ -64,17 +65,17 @@ value_in asked bytes = do
   value ← or_fault fault.Json (json_of found.1)
   Ok (version, value)
 
--- what the bytes after the instance part mean, or their first fault
-unfoldable pub rest_in : Form → List ℕ → Result Certificate BadDossier
-rest_in own bytes = do
+-- what the bytes after the part of an instance with these ships mean, or their first fault
+unfoldable pub rest_in : Form → List Ship → List ℕ → Result Certificate BadDossier
+rest_in own ships bytes = do
   found ← value_in own bytes
-  fault_under fault.Shape (certificate_in own found.0 found.1)
+  fault_under fault.Shape (certificate_in own ships found.0 found.1)
 
--- an instance and what the bytes after its part mean, or the first fault
-abbrev pub pair_in : {C : Type 0} → (List ℕ → Result C BadDossier) → List ℕ → Result (Draft × C) BadDossier
+-- an instance and what the bytes after its part mean by its ships, or the first fault
+abbrev pub pair_in : {C : Type 0} → (List Ship → List ℕ → Result C BadDossier) → List ℕ → Result (Draft × C) BadDossier
 pair_in rest text = do
   instance ← fault_under fault.Instance (reading (instance_part text))
-  certificate ← rest (after_instance text)
+  certificate ← rest instance.ships (after_instance text)
   Ok (instance, certificate)
 
 -- the instance and the certificate of a dossier of this form, or its first fault

@@ -1,6 +1,5 @@
 -- Plans as JSON values.
-use Rattle.std.specs.Prelude.{ℕ, zero, suc, ◌==◌, List, [], ◌∷◌, length, nat_le, nat_lt, Option, None, Some, codes}
-use Rattle.lock_model.specs.declared.limits.TheConstants.{SHIPS}
+use Rattle.std.specs.Prelude.{ℕ, zero, suc, ◌≡◌, ◌≤◌, ◌==◌, List, [], ◌∷◌, length, nat_le, nat_lt, Option, None, Some, codes}
 use Rattle.lock_model.specs.declared.way.Way.{Way}
 use Rattle.lock_model.specs.declared.way.Way.TheVariants.{Up, Down}
 use Rattle.lock_model.specs.declared.placement.Rank.{Rank}
@@ -114,14 +113,18 @@ lockage_in d = do
   way ← value_at (codes "way") way_in d
   Some (record { chamber = chamber; way = way; ships = ships; start = start; spots = spots })
 
--- at most SHIPS lockages
-abbrev pub plan_items : Items → Option Plan
-plan_items items = do
+-- at most so many lockages
+abbrev pub plan_items : ℕ → Items → Option Plan
+plan_items most items = do
   lockages ← all_in lockage_in items
-  when (nat_le (length lockages) SHIPS)
+  when (nat_le (length lockages) most)
   Some (record { lockages = lockages })
 
-abbrev pub plan_in : Data → Option Plan
-plan_in d = do
+abbrev pub plan_in : ℕ → Data → Option Plan
+plan_in most d = do
   items ← as_array d
-  plan_items items
+  plan_items most items
+
+-- where so many lockages may be listed, what is written of the plan is read as it
+abbrev pub IsPlanBack : Plan → Type 0
+IsPlanBack p = (most : ℕ) → length p.lockages ≤ most → plan_in most (plan_data p) ≡ Some p

@@ -1,9 +1,9 @@
 -- Lists of prices as JSON values.
-use Rattle.std.specs.Prelude.{ℕ, List, [], length, Option, Some, codes}
-use Rattle.lock_model.specs.declared.limits.TheConstants.{SHIPS}
+use Rattle.std.specs.Prelude.{ℕ, ◌≡◌, List, [], length, All, Option, Some, codes}
 use Rattle.lock_model.specs.Limits.{is_between}
 use Rattle.serde_json.specs.Data.{Data, Items}
 use Rattle.serde_json.specs.Find.{as_array}
+use Rattle.certificate_rules.specs.WellFormed.{AreFormedPrices}
 use Rattle.cert_text.specs.declared.heading.Version.{Version}
 use Rattle.cert_text.specs.declared.heading.Version.TheVariants.{First, Second, Third}
 use Rattle.cert_text.specs.Steps.{◌>>=◌, ◌>>◌, when}
@@ -16,23 +16,27 @@ price_lists_data = list_data numbers_data
 abbrev pub price_in : Data → Option ℕ
 price_in = number_below 1000001
 
--- 1 to SHIPS prices
-abbrev pub items_prices : Items → Option (List ℕ)
-items_prices items = do
+-- 1 to so many prices
+abbrev pub items_prices : ℕ → Items → Option (List ℕ)
+items_prices most items = do
   prices ← all_in price_in items
-  when (is_between 1 SHIPS (length prices))
+  when (is_between 1 most (length prices))
   Some prices
 
-abbrev pub prices_in : Data → Option (List ℕ)
-prices_in d = do
+abbrev pub prices_in : ℕ → Data → Option (List ℕ)
+prices_in most d = do
   items ← as_array d
-  items_prices items
+  items_prices most items
 
-abbrev pub price_lists_in : Data → Option (List (List ℕ))
-price_lists_in = list_in prices_in
+abbrev pub price_lists_in : ℕ → Data → Option (List (List ℕ))
+price_lists_in most = list_in (prices_in most)
 
 -- the prices at their key, which only the third version has
-abbrev pub prices_under : Version → Data → Option (List (List ℕ))
-prices_under First d = Some []
-prices_under Second d = Some []
-prices_under Third d = value_at (codes "prices") price_lists_in d
+abbrev pub prices_under : ℕ → Version → Data → Option (List (List ℕ))
+prices_under most First d = Some []
+prices_under most Second d = Some []
+prices_under most Third d = value_at (codes "prices") (price_lists_in most) d
+
+-- where lists may be so long, what is written of these is read as them
+abbrev pub AreListsBack : List (List ℕ) → Type 0
+AreListsBack prices = (most : ℕ) → All (AreFormedPrices most) prices → price_lists_in most (price_lists_data prices) ≡ Some prices

@@ -1,6 +1,6 @@
 //! Certificates as JSON values.
-ghost use Rattle.std.specs.Prelude.{◌≡◌, IfOk, IfErr, Some, None, Ok, codes};
-ghost use Rattle.certificate_rules.specs.WellFormed.{IsWellFormed};
+ghost use Rattle.std.specs.Prelude.{◌≡◌, ◌≤◌, IfOk, IfErr, Some, None, Ok, codes};
+ghost use Rattle.certificate_rules.specs.WellFormed.{IsWellFormed, most_listed};
 ghost use Rattle.serde_json.specs.View.{view};
 ghost use Rattle.cert_text.specs.Answers.{IsCausedFault, IsFault};
 ghost use Rattle.cert_text.specs.Steps.{fault_under};
@@ -10,13 +10,14 @@ ghost use Rattle.cert_text.specs.Cuts.{cuts_under};
 ghost use Rattle.cert_text.specs.Plans.{plan_in};
 ghost use Rattle.cert_text.specs.Marks.{AreOf};
 ghost use Rattle.cert_text.specs.Versions.{version_of};
-ghost use Rattle.cert_text.specs.Certificates.{certificate_data, has_keys, is_frame, front_in, certificate_in};
+ghost use Rattle.cert_text.specs.Certificates.{certificate_data, has_keys, is_frame, front_in, certificate_in, IsReadBack};
 ghost use Rattle.cert_text.specs.declared.bad.BadDossier.TheVariants.{Shape};
 
 use crate::bad::{BadDossier, DossierError};
 use crate::cost::cost_of;
 use crate::cuts::cuts_of;
 use crate::heading::{Form, Version};
+use crate::marks::numbering_of;
 use crate::parts::{Parts, put_parts};
 use crate::plan::plan_of;
 use crate::prices::prices_at;
@@ -24,25 +25,26 @@ use crate::tree::{put_tree, tree_at};
 use crate::value::has_members;
 use crate::version::{has_outside, is_third};
 use certificate_parts::{CertCuts, Certificate};
-use lock_model::Plan;
+use lock_model::{Instance, Plan, SHIPS};
 use no_memory::NoMemory;
 use serde_json::Value;
 use std::alloc::Global;
 
-/// A certificate as a value, in its version.
+/// A certificate of an instance as a value, in its version.
 pub fn put_certificate(
     alloc: Global,
     form: Form,
+    instance: &Instance,
     version: Version,
     certificate: &Certificate,
 ) -> Result<Value, NoMemory>
-    requires formed { IsWellFormed certificate.now }
+    requires formed { IsWellFormed instance.now certificate.now }
     requires own { AreOf form certificate.now.tree }
     requires version { version ≡ version_of form certificate.now }
-    ensures value { IfOk result (λ v. view v ≡ certificate_data form certificate.now) }
-    ensures reads_back { IfOk result (λ _. certificate_in form version (certificate_data form certificate.now) ≡ Ok certificate.now) }
+    ensures value { IfOk result (λ v. view v ≡ certificate_data form instance.now.ships certificate.now) }
+    ensures reads_back { IfOk result (λ _. IsReadBack form instance.now.ships version certificate.now) }
 {
-    let tree = put_tree(alloc, &certificate.tree)?;
+    let tree = put_tree(alloc, numbering_of(instance), &certificate.tree)?;
     let parts = Parts {
         cost: certificate.cost,
         cuts: &certificate.cuts,
@@ -113,13 +115,15 @@ fn cuts_at(alloc: Global, version: Version, value: &Value) -> Result<CertCuts, D
     }
 }
 
-/// The plan at the key `plan`. Answers `Shape(4)` exactly where there is none. Takes no memory.
-fn plan_at(value: &Value) -> Result<Plan, BadDossier>
-    ensures read { IfOk result (λ plan. value_at (codes "plan") plan_in (view value.now) ≡ Some plan) }
-    ensures shape { IfErr result (λ f. (f ≡ Shape 4) × (value_at (codes "plan") plan_in (view value.now) ≡ None)) }
+/// The plan of up to `most` lockages at the key `plan`. Answers `Shape(4)` exactly where there is none.
+/// Takes no memory.
+fn plan_at(most: usize, value: &Value) -> Result<Plan, BadDossier>
+    requires { most ≤ SHIPS }
+    ensures read { IfOk result (λ plan. value_at (codes "plan") (plan_in most) (view value.now) ≡ Some plan) }
+    ensures shape { IfErr result (λ f. (f ≡ Shape 4) × (value_at (codes "plan") (plan_in most) (view value.now) ≡ None)) }
 {
     match value.get("plan") {
-        Some(plan) => plan_of(plan),
+        Some(plan) => plan_of(most, plan),
         None => Err(BadDossier::Shape(4)),
     }
 }
@@ -132,35 +136,56 @@ pub struct Front {
     pub plan: Plan,
 }
 
+/// The lockages of the plan of a certificate, and the prices of a list, at most.
+#[tactic(auto, unfolding(certificate_rules::specs::WellFormed::most_listed, lock_model::specs::Fleet::most_lockages, lock_model::specs::Fleet::is_large))]
+fn most_listed(instance: &Instance) -> usize
+    ensures value { result ≡ most_listed instance.now.ships }
+    ensures fits { result ≤ SHIPS }
+{
+    instance.most_lockages()
+}
+
 /// The parts that come before the tree in a value of a version, or the first one at fault.
 #[tactic(auto, unfolding(crate::specs::Certificates::front_in))]
-fn front_in(alloc: Global, version: Version, value: &Value) -> Result<Front, DossierError>
-    ensures read { IfOk result (λ f. front_in version (view value.now) ≡ Ok f) }
-    ensures shape { IfErr result (IsFault (fault_under Shape (front_in version (view value.now)))) }
+fn front_in(
+    alloc: Global,
+    instance: &Instance,
+    version: Version,
+    value: &Value,
+) -> Result<Front, DossierError>
+    ensures read { IfOk result (λ f. front_in instance.now.ships version (view value.now) ≡ Ok f) }
+    ensures shape { IfErr result (IsFault (fault_under Shape (front_in instance.now.ships version (view value.now)))) }
 {
     if !is_frame(version, value) {
         return Err(DossierError::Fault(BadDossier::Shape(1)));
     }
     let cost = cost_at(value)?;
     let cuts = cuts_at(alloc, version, value)?;
-    let plan = plan_at(value)?;
+    let plan = plan_at(most_listed(instance), value)?;
     Ok(Front { cost, cuts, plan })
 }
 
-/// The certificate of this form that a value writes, or the first part at fault.
+/// The certificate of this form, of the instance, that a value writes, or the first part at fault.
 #[tactic(auto, unfolding(crate::specs::Certificates::certificate_in), using(crate::proofs::CertificateLemmas::front_fault))]
 pub fn certificate_in(
     alloc: Global,
     form: Form,
+    instance: &Instance,
     version: Version,
     value: &Value,
 ) -> Result<Certificate, DossierError>
-    ensures read { IfOk result (λ c. certificate_in form version (view value.now) ≡ Ok c) }
-    ensures shape { IfErr result (IsFault (fault_under Shape (certificate_in form version (view value.now)))) }
+    ensures read { IfOk result (λ c. certificate_in form instance.now.ships version (view value.now) ≡ Ok c) }
+    ensures shape { IfErr result (IsFault (fault_under Shape (certificate_in form instance.now.ships version (view value.now)))) }
 {
-    let Front { cost, cuts, plan } = front_in(alloc, version, value)?;
-    let tree = tree_at(alloc, form, is_third(version), value)?;
-    let prices = prices_at(alloc, version, value)?;
+    let Front { cost, cuts, plan } = front_in(alloc, instance, version, value)?;
+    let tree = tree_at(
+        alloc,
+        form,
+        numbering_of(instance),
+        is_third(version),
+        value,
+    )?;
+    let prices = prices_at(alloc, most_listed(instance), version, value)?;
     Ok(Certificate {
         cost,
         cuts,

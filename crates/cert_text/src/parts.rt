@@ -1,10 +1,10 @@
 //! The object of a certificate from its parts.
 ghost use Rattle.std.specs.Prelude.{◌≡◌, [], ◌∷◌, All, IfOk, Some, codes};
-ghost use Rattle.certificate_rules.specs.WellFormed.{IsFormedCut, IsFormedLockage, AreFormedPrices};
+ghost use Rattle.certificate_rules.specs.WellFormed.{IsFormedCut, IsFormedLockage};
 ghost use Rattle.serde_json.specs.View.{view, members_view};
 ghost use Rattle.cert_text.specs.Fields.{members};
 ghost use Rattle.cert_text.specs.Cuts.{cuts_data, cuts_in};
-ghost use Rattle.cert_text.specs.Plans.{plan_data, plan_in};
+ghost use Rattle.cert_text.specs.Plans.{IsPlanBack};
 ghost use Rattle.cert_text.specs.Certificates.{claim_members, plain_members, parts_data};
 
 use crate::cost::put_cost;
@@ -50,7 +50,7 @@ fn put_members(alloc: Global, parts: &Parts, tree: Value) -> Result<Map<String, 
     requires lockages { All IsFormedLockage parts.now.plan.now.lockages }
     ensures members { IfOk result (λ map. members_view map.entries ≡ members (plain_members parts.now.cost parts.now.cuts.now parts.now.plan.now (view tree))) }
     ensures cuts_back { IfOk result (λ _. cuts_in (cuts_data parts.now.cuts.now) ≡ Some parts.now.cuts.now) }
-    ensures plan_back { IfOk result (λ _. plan_in (plan_data parts.now.plan.now) ≡ Some parts.now.plan.now) }
+    ensures plan_back { IfOk result (λ _. IsPlanBack parts.now.plan.now) }
 {
     let mut map = put_claims(alloc, parts)?;
     let plan = put_plan(alloc, parts.plan)?;
@@ -69,10 +69,9 @@ pub fn put_parts(
 ) -> Result<Value, NoMemory>
     requires cuts { All IsFormedCut parts.now.cuts.now }
     requires lockages { All IsFormedLockage parts.now.plan.now.lockages }
-    requires prices { All AreFormedPrices parts.now.prices.now }
     ensures value { IfOk result (λ v. view v ≡ parts_data version parts.now.cost parts.now.cuts.now parts.now.plan.now parts.now.prices.now (view tree)) }
     ensures cuts_back { IfOk result (λ _. cuts_in (cuts_data parts.now.cuts.now) ≡ Some parts.now.cuts.now) }
-    ensures plan_back { IfOk result (λ _. plan_in (plan_data parts.now.plan.now) ≡ Some parts.now.plan.now) }
+    ensures plan_back { IfOk result (λ _. IsPlanBack parts.now.plan.now) }
 {
     let mut map = put_members(alloc, parts, tree)?;
     match version {

@@ -4,7 +4,7 @@ ghost use Rattle.certificate_rules.specs.WellFormed.{IsFormedLockage};
 ghost use Rattle.serde_json.specs.View.{view, items_of, items_view, members_view};
 ghost use Rattle.cert_text.specs.Fields.{number_data, numbers_data, members, byte_in, word_in, all_in, value_at};
 ghost use Rattle.cert_text.specs.Ships.{ships_in};
-ghost use Rattle.cert_text.specs.Plans.{way_number, way_of, way_in, spots_in, group_members, lockage_data, plan_data, lockage_in, plan_items, plan_in};
+ghost use Rattle.cert_text.specs.Plans.{way_number, way_of, way_in, spots_in, group_members, lockage_data, plan_data, lockage_in, plan_items, plan_in, IsPlanBack};
 ghost use Rattle.cert_text.specs.declared.bad.BadDossier.TheVariants.{Shape};
 
 use crate::bad::BadDossier;
@@ -73,12 +73,13 @@ fn put_all(alloc: Global, lockages: &[Lockage]) -> Result<Vec<Value>, AllocError
     Ok(list)
 }
 
-/// The plan as a value that `plan_of` reads back. `specs/Plans` says which value it is. Its only
-/// refusal is want of memory.
+/// The plan as a value that `plan_of` reads back where it may have so many lockages. `specs/Plans` says
+/// which value it is. Its only refusal is want of memory.
+#[tactic(auto, using(crate::proofs::PlanLemmas::plan_back))]
 pub fn put_plan(alloc: Global, plan: &Plan) -> Result<Value, NoMemory>
     requires { All IsFormedLockage plan.now.lockages }
     ensures value { IfOk result (λ v. view v ≡ plan_data plan.now) }
-    ensures reads_back { IfOk result (λ v. plan_in (view v) ≡ Some plan.now) }
+    ensures reads_back { IfOk result (λ _. IsPlanBack plan.now) }
 {
     let list = put_all(alloc, plan.lockages.as_slice())?;
     Ok(Value::Array(list))
@@ -151,29 +152,33 @@ fn all_in(list: &[Value]) -> Option<Lockages>
     Some(lockages)
 }
 
-/// The plan of up to `SHIPS` lockages that values write.
-fn plan_items(list: &[Value]) -> Option<Plan>
-    ensures { result ≡ plan_items (items_view list.now) }
+/// The plan of up to `most` lockages that values write.
+fn plan_items(most: usize, list: &[Value]) -> Option<Plan>
+    requires { most ≤ SHIPS }
+    ensures { result ≡ plan_items most (items_view list.now) }
 {
-    if list.len() > SHIPS {
+    if list.len() > most {
         return None;
     }
     let lockages = all_in(list)?;
     Some(Plan { lockages })
 }
 
-/// The plan that a value lists.
-fn plan_in(value: &Value) -> Option<Plan>
-    ensures { result ≡ plan_in (view value.now) }
+/// The plan of up to `most` lockages that a value lists.
+fn plan_in(most: usize, value: &Value) -> Option<Plan>
+    requires { most ≤ SHIPS }
+    ensures { result ≡ plan_in most (view value.now) }
 {
-    plan_items(value.as_array()?.as_slice())
+    plan_items(most, value.as_array()?.as_slice())
 }
 
-/// The plan that a value lists, each lockage with its chamber, its ships, as many spots, its start
-/// and its way. Answers `Shape(4)` exactly where the value is no plan. Takes no memory.
-pub fn plan_of(value: &Value) -> Result<Plan, BadDossier>
-    ensures read { IfOk result (λ plan. plan_in (view value.now) ≡ Some plan) }
-    ensures shape { IfErr result (λ f. (f ≡ Shape 4) × (plan_in (view value.now) ≡ None)) }
+/// The plan of up to `most` lockages that a value lists, each lockage with its chamber, its ships, as
+/// many spots, its start and its way. Answers `Shape(4)` exactly where the value is no such plan. Takes
+/// no memory.
+pub fn plan_of(most: usize, value: &Value) -> Result<Plan, BadDossier>
+    requires { most ≤ SHIPS }
+    ensures read { IfOk result (λ plan. plan_in most (view value.now) ≡ Some plan) }
+    ensures shape { IfErr result (λ f. (f ≡ Shape 4) × (plan_in most (view value.now) ≡ None)) }
 {
-    plan_in(value).ok_or(BadDossier::Shape(4))
+    plan_in(most, value).ok_or(BadDossier::Shape(4))
 }

@@ -1,10 +1,9 @@
 //! Lists of prices as JSON values.
 ghost use Rattle.std.specs.Prelude.{◌≡◌, ◌≤◌, length, All, IfOk, IfErr, Some, None, map, codes};
-ghost use Rattle.certificate_rules.specs.WellFormed.{AreFormedPrices};
 ghost use Rattle.serde_json.specs.View.{view, items_of, items_view};
 ghost use Rattle.cert_text.specs.Answers.{IsCausedFault};
 ghost use Rattle.cert_text.specs.Fields.{numbers_data, all_in, value_at};
-ghost use Rattle.cert_text.specs.Prices.{price_lists_data, items_prices, prices_in, price_lists_in, prices_under};
+ghost use Rattle.cert_text.specs.Prices.{price_lists_data, items_prices, prices_in, price_lists_in, prices_under, AreListsBack};
 ghost use Rattle.cert_text.specs.declared.bad.BadDossier.TheVariants.{Shape};
 
 use crate::bad::{BadDossier, DossierError};
@@ -29,9 +28,7 @@ fn put_one(alloc: Global, prices: &Prices) -> Result<Value, AllocError>
 
 /// The values of prices in order.
 fn put_all(alloc: Global, prices: &[Prices]) -> Result<Vec<Value>, AllocError>
-    requires { All AreFormedPrices prices.now }
-    ensures values { IfOk result (λ list. map view list.items ≡ map numbers_data prices.now) }
-    ensures reads_back { IfOk result (λ _. all_in prices_in (items_of (map numbers_data prices.now)) ≡ Some prices.now) }
+    ensures { IfOk result (λ list. map view list.items ≡ map numbers_data prices.now) }
 {
     let mut list = Vec::with_capacity(alloc, prices.len())?;
     for own in prices {
@@ -40,21 +37,22 @@ fn put_all(alloc: Global, prices: &[Prices]) -> Result<Vec<Value>, AllocError>
     Ok(list)
 }
 
-/// Prices, each with its 1 to `SHIPS` numbers, as a value that `prices_at` reads back.
+/// Prices as a value that `prices_at` reads back where each list may be so long.
+#[tactic(auto, using(crate::proofs::PriceLemmas::lists_back))]
 pub(crate) fn put_prices(alloc: Global, prices: &[Prices]) -> Result<Value, AllocError>
-    requires { All AreFormedPrices prices.now }
     ensures value { IfOk result (λ v. view v ≡ price_lists_data prices.now) }
-    ensures reads_back { IfOk result (λ v. price_lists_in (view v) ≡ Some prices.now) }
+    ensures reads_back { IfOk result (λ _. AreListsBack prices.now) }
 {
     let list = put_all(alloc, prices)?;
     Ok(Value::Array(list))
 }
 
-/// The prices that 1 to `SHIPS` values write.
-fn read_prices(list: &[Value]) -> Option<Prices>
+/// The prices that 1 to `most` values write.
+fn read_prices(most: usize, list: &[Value]) -> Option<Prices>
+    requires fits { most ≤ SHIPS }
     requires some { 1 ≤ length list.now }
-    requires few { length list.now ≤ SHIPS }
-    ensures { result ≡ items_prices (items_view list.now) }
+    requires few { length list.now ≤ most }
+    ensures { result ≡ items_prices most (items_view list.now) }
 {
     let mut prices: ArrayVec<u32, SHIPS> = ArrayVec::new();
     for value in list {
@@ -64,33 +62,36 @@ fn read_prices(list: &[Value]) -> Option<Prices>
     Prices::new(prices.as_slice())
 }
 
-/// The prices that values write, if they are 1 to `SHIPS`.
-fn items_prices(list: &[Value]) -> Option<Prices>
-    ensures { result ≡ items_prices (items_view list.now) }
+/// The prices that values write, if they are 1 to `most`.
+fn items_prices(most: usize, list: &[Value]) -> Option<Prices>
+    requires { most ≤ SHIPS }
+    ensures { result ≡ items_prices most (items_view list.now) }
 {
     if list.is_empty() {
         return None;
     }
-    if list.len() > SHIPS {
+    if list.len() > most {
         return None;
     }
-    read_prices(list)
+    read_prices(most, list)
 }
 
 /// The prices that a value lists.
-fn prices_in(value: &Value) -> Option<Prices>
-    ensures { result ≡ prices_in (view value.now) }
+fn prices_in(most: usize, value: &Value) -> Option<Prices>
+    requires { most ≤ SHIPS }
+    ensures { result ≡ prices_in most (view value.now) }
 {
-    items_prices(value.as_array()?.as_slice())
+    items_prices(most, value.as_array()?.as_slice())
 }
 
 /// The lists of prices that values write.
-fn all_in(alloc: Global, list: &[Value]) -> Result<Option<PriceLists>, AllocError>
-    ensures { IfOk result (λ o. o ≡ all_in prices_in (items_view list.now)) }
+fn all_in(alloc: Global, most: usize, list: &[Value]) -> Result<Option<PriceLists>, AllocError>
+    requires { most ≤ SHIPS }
+    ensures { IfOk result (λ o. o ≡ all_in (prices_in most) (items_view list.now)) }
 {
     let mut found = PriceLists::new(alloc);
     for value in list {
-        match prices_in(value) {
+        match prices_in(most, value) {
             Some(prices) => found.push(prices)?,
             None => return Ok(None),
         }
@@ -99,21 +100,27 @@ fn all_in(alloc: Global, list: &[Value]) -> Result<Option<PriceLists>, AllocErro
 }
 
 /// The lists of prices that a value lists.
-fn price_lists_in(alloc: Global, value: &Value) -> Result<Option<PriceLists>, AllocError>
-    ensures { IfOk result (λ o. o ≡ price_lists_in (view value.now)) }
+fn price_lists_in(
+    alloc: Global,
+    most: usize,
+    value: &Value,
+) -> Result<Option<PriceLists>, AllocError>
+    requires { most ≤ SHIPS }
+    ensures { IfOk result (λ o. o ≡ price_lists_in most (view value.now)) }
 {
     match value.as_array() {
-        Some(list) => all_in(alloc, list.as_slice()),
+        Some(list) => all_in(alloc, most, list.as_slice()),
         None => Ok(None),
     }
 }
 
 /// The lists of prices at the key `prices`.
-fn third_prices(alloc: Global, value: &Value) -> Result<Option<PriceLists>, AllocError>
-    ensures { IfOk result (λ o. o ≡ value_at (codes "prices") price_lists_in (view value.now)) }
+fn third_prices(alloc: Global, most: usize, value: &Value) -> Result<Option<PriceLists>, AllocError>
+    requires { most ≤ SHIPS }
+    ensures { IfOk result (λ o. o ≡ value_at (codes "prices") (price_lists_in most) (view value.now)) }
 {
     match value.get("prices") {
-        Some(prices) => price_lists_in(alloc, prices),
+        Some(prices) => price_lists_in(alloc, most, prices),
         None => Ok(None),
     }
 }
@@ -121,24 +128,32 @@ fn third_prices(alloc: Global, value: &Value) -> Result<Option<PriceLists>, Allo
 /// The lists of prices of a version, which no version before the third has.
 fn prices_under(
     alloc: Global,
+    most: usize,
     version: Version,
     value: &Value,
 ) -> Result<Option<PriceLists>, AllocError>
-    ensures { IfOk result (λ o. o ≡ prices_under version (view value.now)) }
+    requires { most ≤ SHIPS }
+    ensures { IfOk result (λ o. o ≡ prices_under most version (view value.now)) }
 {
     match version {
         Version::First | Version::Second => Ok(Some(PriceLists::new(alloc))),
-        Version::Third => third_prices(alloc, value),
+        Version::Third => third_prices(alloc, most, value),
     }
 }
 
-/// The lists of prices at the key `prices`, each of 1 to `SHIPS` numbers up to 1,000,000; before the third
+/// The lists of prices at the key `prices`, each of 1 to `most` numbers up to 1,000,000; before the third
 /// version none. Answers `Shape(6)` exactly where there are no such lists, or else want of memory.
-pub fn prices_at(alloc: Global, version: Version, value: &Value) -> Result<PriceLists, DossierError>
-    ensures read { IfOk result (λ prices. prices_under version (view value.now) ≡ Some prices) }
-    ensures shape { IfErr result (IsCausedFault (Shape 6) (prices_under version (view value.now) ≡ None)) }
+pub fn prices_at(
+    alloc: Global,
+    most: usize,
+    version: Version,
+    value: &Value,
+) -> Result<PriceLists, DossierError>
+    requires { most ≤ SHIPS }
+    ensures read { IfOk result (λ prices. prices_under most version (view value.now) ≡ Some prices) }
+    ensures shape { IfErr result (IsCausedFault (Shape 6) (prices_under most version (view value.now) ≡ None)) }
 {
-    match prices_under(alloc, version, value)? {
+    match prices_under(alloc, most, version, value)? {
         Some(prices) => Ok(prices),
         None => Err(DossierError::Fault(BadDossier::Shape(6))),
     }

@@ -82,13 +82,13 @@ pub fn print_dossier(
     instance: &Instance,
     certificate: &Certificate,
 ) -> Result<Vec<u8>, NoMemory>
-    requires formed { IsWellFormed certificate.now }
+    requires formed { IsWellFormed instance.now certificate.now }
     requires own { AreOf form certificate.now.tree }
     ensures text { IfOk result (λ text. text.items ≡ dossier form instance.now certificate.now) }
     ensures reads_back { IfOk result (λ text. Reads form text.items instance.now certificate.now) }
 {
     let version = version_of(form, certificate);
-    let value = put_certificate(alloc, form, version, certificate)?;
+    let value = put_certificate(alloc, form, instance, version, certificate)?;
     let text = print_framed(alloc, instance, heading_line(form, version), value)?;
     Ok(text)
 }

@@ -64,14 +64,19 @@ fn value_in(alloc: Global, form: Form, bytes: &[u8]) -> Result<(Version, Value),
     Ok((version, value))
 }
 
-/// The certificate of the bytes after the instance part.
+/// The certificate of the bytes after the part of an instance.
 #[tactic(auto, unfolding(crate::specs::Dossier::rest_in), using(crate::proofs::DossierLemmas::value_fault))]
-fn rest_in(alloc: Global, form: Form, bytes: &[u8]) -> Result<Certificate, DossierError>
-    ensures read { IfOk result (λ c. rest_in form bytes.now ≡ Ok c) }
-    ensures fault { IfErr result (IsFault (rest_in form bytes.now)) }
+fn rest_in(
+    alloc: Global,
+    form: Form,
+    instance: &Instance,
+    bytes: &[u8],
+) -> Result<Certificate, DossierError>
+    ensures read { IfOk result (λ c. rest_in form instance.now.ships bytes.now ≡ Ok c) }
+    ensures fault { IfErr result (IsFault (rest_in form instance.now.ships bytes.now)) }
 {
     let (version, value) = value_in(alloc, form, bytes)?;
-    certificate_in(alloc, form, version, &value)
+    certificate_in(alloc, form, instance, version, &value)
 }
 
 /// The instance and the certificate of a text.
@@ -88,7 +93,7 @@ fn read_text(
         Ok(parts) => parts,
         Err(bad) => return Err(DossierError::Fault(BadDossier::Instance(bad))),
     };
-    let certificate = rest_in(alloc, form, rest)?;
+    let certificate = rest_in(alloc, form, &instance, rest)?;
     Ok((instance, certificate))
 }
 

@@ -13,27 +13,28 @@ use crate::bad::{BadDossier, DossierError};
 use crate::heading::Form;
 use crate::marks::{mark_in, push_mark};
 use certificate_parts::{Mark, MarkList};
+use certificate_rules::Numbering;
 use serde_json::Value;
 use std::alloc::{AllocError, Global};
 
 /// The numbers of marks in order.
-fn put_all(alloc: Global, marks: &[Mark]) -> Result<Vec<Value>, AllocError>
-    requires { All IsFormedMark marks.now }
-    ensures { IfOk result (λ list. map view list.items ≡ map number_data (flat_map mark_numbers marks.now)) }
+fn put_all(alloc: Global, numbering: Numbering, marks: &[Mark]) -> Result<Vec<Value>, AllocError>
+    requires { All (IsFormedMark numbering) marks.now }
+    ensures { IfOk result (λ list. map view list.items ≡ map number_data (flat_map (mark_numbers numbering) marks.now)) }
 {
     let mut list = Vec::with_capacity(alloc, marks.len())?;
     for mark in marks {
-        push_mark(&mut list, *mark)?;
+        push_mark(&mut list, numbering, *mark)?;
     }
     Ok(list)
 }
 
 /// The marks of a tree as a value.
-pub fn put_tree(alloc: Global, tree: &MarkList) -> Result<Value, AllocError>
-    requires { All IsFormedMark tree.now }
-    ensures { IfOk result (λ v. view v ≡ tree_data mark_numbers tree.now) }
+pub fn put_tree(alloc: Global, numbering: Numbering, tree: &MarkList) -> Result<Value, AllocError>
+    requires { All (IsFormedMark numbering) tree.now }
+    ensures { IfOk result (λ v. view v ≡ tree_data (mark_numbers numbering) tree.now) }
 {
-    let list = put_all(alloc, tree.as_slice())?;
+    let list = put_all(alloc, numbering, tree.as_slice())?;
     Ok(Value::Array(list))
 }
 
@@ -51,15 +52,16 @@ fn push_told(tree: &mut MarkList, told: Option<Mark>) -> Result<(), AllocError>
 fn marks_in(
     alloc: Global,
     form: Form,
+    numbering: Numbering,
     third: bool,
     list: &[Value],
 ) -> Result<Option<MarkList>, AllocError>
-    ensures { IfOk result (λ o. o ≡ marks_in (mark_in form third) false (items_view list.now)) }
+    ensures { IfOk result (λ o. o ≡ marks_in (mark_in form numbering third) false (items_view list.now)) }
 {
     let mut tree = MarkList::with_capacity(alloc, list.len())?;
     let mut begun = false;
     for value in list {
-        let Some(told) = mark_in(form, third, begun, value) else {
+        let Some(told) = mark_in(form, numbering, third, begun, value) else {
             return Ok(None);
         };
         begun = told.is_none();
@@ -75,23 +77,30 @@ fn marks_in(
 fn tree_in(
     alloc: Global,
     form: Form,
+    numbering: Numbering,
     third: bool,
     value: &Value,
 ) -> Result<Option<MarkList>, AllocError>
-    ensures { IfOk result (λ o. o ≡ tree_in (mark_in form) third (view value.now)) }
+    ensures { IfOk result (λ o. o ≡ tree_in (mark_in form numbering) third (view value.now)) }
 {
     match value.as_array() {
-        Some(list) => marks_in(alloc, form, third, list.as_slice()),
+        Some(list) => marks_in(alloc, form, numbering, third, list.as_slice()),
         None => Ok(None),
     }
 }
 
 /// The marks that a value lists, or the fault of the fifth part.
-fn tree_of(alloc: Global, form: Form, third: bool, value: &Value) -> Result<MarkList, DossierError>
-    ensures read { IfOk result (λ tree. tree_in (mark_in form) third (view value.now) ≡ Some tree) }
-    ensures shape { IfErr result (IsCausedFault (Shape 5) (tree_in (mark_in form) third (view value.now) ≡ None)) }
+fn tree_of(
+    alloc: Global,
+    form: Form,
+    numbering: Numbering,
+    third: bool,
+    value: &Value,
+) -> Result<MarkList, DossierError>
+    ensures read { IfOk result (λ tree. tree_in (mark_in form numbering) third (view value.now) ≡ Some tree) }
+    ensures shape { IfErr result (IsCausedFault (Shape 5) (tree_in (mark_in form numbering) third (view value.now) ≡ None)) }
 {
-    match tree_in(alloc, form, third, value)? {
+    match tree_in(alloc, form, numbering, third, value)? {
         Some(tree) => Ok(tree),
         None => Err(DossierError::Fault(BadDossier::Shape(5))),
     }
@@ -102,14 +111,15 @@ fn tree_of(alloc: Global, form: Form, third: bool, value: &Value) -> Result<Mark
 pub fn tree_at(
     alloc: Global,
     form: Form,
+    numbering: Numbering,
     third: bool,
     value: &Value,
 ) -> Result<MarkList, DossierError>
-    ensures read { IfOk result (λ tree. value_at (codes "tree") (tree_in (mark_in form) third) (view value.now) ≡ Some tree) }
-    ensures shape { IfErr result (IsCausedFault (Shape 5) (value_at (codes "tree") (tree_in (mark_in form) third) (view value.now) ≡ None)) }
+    ensures read { IfOk result (λ tree. value_at (codes "tree") (tree_in (mark_in form numbering) third) (view value.now) ≡ Some tree) }
+    ensures shape { IfErr result (IsCausedFault (Shape 5) (value_at (codes "tree") (tree_in (mark_in form numbering) third) (view value.now) ≡ None)) }
 {
     match value.get("tree") {
-        Some(tree) => tree_of(alloc, form, third, tree),
+        Some(tree) => tree_of(alloc, form, numbering, third, tree),
         None => Err(DossierError::Fault(BadDossier::Shape(5))),
     }
 }
