@@ -1,4 +1,4 @@
-# The commands and options of the program, as docs/using.md gives them.
+# The commands and options of the program, as its help gives them.
 
 commands="solve check lot trial judge play replan lower resume picture"
 
