@@ -1,16 +1,21 @@
 -- The parts of the certificate of a book are well formed.
-use Rattle.std.proofs.Common.{◌≡◌, ℕ, ◌^◌, ◌<◌, length, ◌∙◌, subst, arith}
+use Rattle.std.proofs.Common.{◌≡◌, ℕ, suc, ◌^◌, ◌<◌, ◌≤◌, cond, List, length, ◌∙◌, sym, subst, arith, inl, inr}
+use Rattle.std.proofs.lemmas.Bool.Decides.{leb_tells}
 use Rattle.std.proofs.lemmas.List.{length-map}
 use Rattle.std.proofs.lemmas.Option.{slice_get_within}
 use Rattle.lock_model.specs.Fitting.{size_of}
 use Rattle.lock_model.specs.Fleet.{ship_at}
 use Rattle.lock_model.specs.Deck.{Deck}
+use Rattle.lock_model.specs.declared.limits.TheConstants.{FEW_SHIPS, SHIPS}
+use Rattle.lock_model.specs.declared.ship.Ship.{Ship}
 use Rattle.lock_model.specs.declared.instance.Instance.{Instance}
 use Rattle.lock_model.specs.declared.plan.Lockage.{Lockage}
+use Rattle.lock_model.specs.declared.plan.Plan.{Plan}
 use Rattle.lock_model.specs.Fleet.{no_chamber}
-use Rattle.lock_rules.specs.Plan.{IsLegalLockage}
+use Rattle.lock_rules.specs.Plan.{IsLegalLockage, IsLegal}
 use Rattle.lock_rules.specs.Arrival.{missing_ships}
 use Rattle.lock_rules.proofs.SplitLemmas.{missing-known}
+use Rattle.lock_rules.proofs.ThroughputLemmas.{few_lockages, count-plan}
 use Rattle.refute_rules.specs.declared.refutation.Quick.{Quick}
 use Rattle.refute_rules.specs.declared.refutation.Quick.TheVariants.{Area, Row, Column}
 use Rattle.refute_rules.specs.declared.refutation.Refutation.{Refutation}
@@ -26,7 +31,9 @@ use Rattle.book_rules.specs.Book.{Book, slot_at}
 use Rattle.book_rules.specs.Cover.{IsOwnCut}
 use Rattle.book_rules.specs.States.{KeepsStates}
 use Rattle.closing_rules.specs.ProvedCuts.{IsProved}
-use Rattle.certificate_rules.specs.WellFormed.{IsFormedReason, IsFormedRefutation, IsFormedCut, IsFormedLockage, IsFormedGround}
+use Rattle.closing_rules.specs.ListedPrices.{ArePrices, AreShapedPrices}
+use Rattle.certificate_rules.specs.declared.numbering.Numbering.TheVariants.{Few, Many}
+use Rattle.certificate_rules.specs.WellFormed.{numbering_of, probed_ships, most_listed, IsFormedReason, IsFormedRefutation, IsFormedCut, IsFormedLockage, AreFormedPrices, IsFormedGround}
 use Rattle.lock_rules.proofs.AmongLemmas.{contains-times}
 use Rattle.book_rules.proofs.MoveLemmas.{TellsAt}
 use Rattle.book_rules.proofs.StateLemmas.{state-tells}
@@ -75,23 +82,52 @@ legal-formed I l legal =
       legal.placed.count ∙ length-map l.ships (λ s. size_of (ship_at I s)),
     )
 
+-- a legal plan has no more lockages than ships
+few-lockages : (I : Instance) (P : Plan) → IsLegal I P → length P.lockages ≤ length I.ships
+few-lockages I P legal = omega (arith, few_lockages I P.lockages legal.lockage, count-plan I P legal)
+
+-- ---- what the ships of an instance set
+
+-- no more than there are ships are few enough to be listed
+listed : (ships : List Ship) (n : ℕ) → n ≤ length ships → n ≤ most_listed ships
+unfolding most_listed
+listed ships n low = elim (leb_tells (suc FEW_SHIPS) (length ships)) [
+  | inl large ↦ subst (λ t. n ≤ cond t (length ships) FEW_SHIPS) (sym large.0) low
+  | inr small ↦ subst (λ t. n ≤ cond t (length ships) FEW_SHIPS) (sym small.0) (omega (arith, low, small.1))
+]
+
+pub plan-listed : (I : Instance) (P : Plan) → IsLegal I P → length P.lockages ≤ most_listed I.ships
+plan-listed I P legal = listed I.ships (length P.lockages) (few-lockages I P legal)
+
+pub prices-formed : (I : Instance) (prices : List ℕ) → ArePrices prices → AreShapedPrices I prices → AreFormedPrices (most_listed I.ships) prices
+prices-formed I prices are shaped =
+    let count = shaped.count in
+    let some = I.limits.ship_count.0 in
+    ((omega (arith, count, some), listed I.ships (length prices) (omega (arith, count))), are)
+
+-- a mark may name each ship
+probed : (ships : List Ship) (s : ℕ) → length ships ≤ SHIPS → s < length ships → s < probed_ships (numbering_of ships)
+unfolding numbering_of
+probed ships s few known = elim (leb_tells (suc FEW_SHIPS) (length ships)) [
+  | inl large ↦ subst (λ t. s < probed_ships (cond t Many Few)) (sym large.0) (omega (arith, few, known))
+  | inr small ↦ subst (λ t. s < probed_ships (cond t Many Few)) (sym small.0) (omega (arith, small.1, known))
+]
+
 -- ---- marks
 
 less-trans : (k m n : ℕ) → k < m → m < n → k < n
 less-trans k m n low high = omega (arith, low, high)
 
 module _ (b : Book) (states : KeepsStates b) (few_prices : length b.prices < 2 ^ 63) (few : length b.cuts < 2 ^ 63) where
-  pub ground-formed : (id : ℕ) → id < length b.slots → (why : Ground) → (slot_at b id).state ≡ slot.Closed why → IsFormedGround why
+  pub ground-formed : (id : ℕ) → id < length b.slots → (why : Ground) → (slot_at b id).state ≡ slot.Closed why → IsFormedGround (numbering_of b.case.instance.ships) why
   ground-formed id known why is = by_ground why (state-tells b id (slot.Closed why) states (record { known = known; is = is }))
     where
-      by_ground : (why : Ground) → TellsAt b id (slot.Closed why) → IsFormedGround why
+      by_ground : (why : Ground) → TellsAt b id (slot.Closed why) → IsFormedGround (numbering_of b.case.instance.ships) why
       by_ground by.Bound h = tt
       by_ground by.Throughput h = tt
       by_ground (by.Probe s) h =
           let I = b.case.instance in
           let k = (slot_at b id).node.depth in
-          let ship = missing-known I k s (contains-times (missing_ships I k) s h.0) in
-          let ships = I.limits.ship_count.1 in
-          omega (arith, ship, ships)
+          probed I.ships s I.limits.ship_count.1 (missing-known I k s (contains-times (missing_ships I k) s h.0))
       by_ground (by.Cut number) h = less-trans number (length b.cuts) (2 ^ 63) (slice_get_within b.cuts number h.cut h.there) few
       by_ground (by.Price number) h = less-trans number (length b.prices) (2 ^ 63) (slice_get_within b.prices number h.own h.there) few_prices

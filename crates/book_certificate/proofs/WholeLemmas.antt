@@ -22,10 +22,10 @@ use Rattle.closing_rules.specs.ProvedCuts.{IsProved}
 use Rattle.closing_rules.specs.ListedPrices.{ArePrices, AreShapedPrices}
 use Rattle.certificate_rules.specs.Certificates.{Certificate, EndsNode, IsMarkTree, Stands, IsNoOpenLeaf, HasNoOpenLeaf, Accepts}
 use Rattle.certificate_rules.specs.Low.{HasOpen, IsLow}
-use Rattle.certificate_rules.specs.WellFormed.{IsFormedCut, AreFormedPrices, IsFormedMark, IsWellFormed}
+use Rattle.certificate_rules.specs.WellFormed.{numbering_of, most_listed, IsFormedCut, AreFormedPrices, IsFormedMark, IsWellFormed}
 use Rattle.book_rules.proofs.CheapLemmas.{count-some}
 use Rattle.book_certificate.specs.Certified.{cert_cut}
-use Rattle.book_certificate.proofs.FormedLemmas.{own-formed, own-proved, legal-formed, ground-formed}
+use Rattle.book_certificate.proofs.FormedLemmas.{own-formed, own-proved, legal-formed, plan-listed, prices-formed, ground-formed}
 use Rattle.book_certificate.specs.Preorder.{mark_of, mark_at, slots_in_order}
 use Rattle.book_certificate.specs.Certified.{IsCertificateOf, certified_low, HasMoreMarks, HasNoLive}
 use Rattle.book_certificate.proofs.ListLemmas.{all-among}
@@ -126,20 +126,24 @@ module _ (b : Book) (keeps : KeepsBook b) (parts : KeepsParts b) (C : Certificat
   -- ---- its form
 
   module _ (few_prices : length b.prices < 2 ^ 63) (few : length b.cuts < 2 ^ 63) where
-    mark-formed : (id : ℕ) → id < length b.slots → IsFormedMark (mark_at b id)
+    abbrev IsFormed : Mark → Type 0
+    IsFormed m = IsFormedMark (numbering_of I.ships) m
+
+    mark-formed : (id : ℕ) → id < length b.slots → IsFormed (mark_at b id)
     mark-formed id known = go (slot_at b id).state refl
       where
-        go : (s : SlotState) → (slot_at b id).state ≡ s → IsFormedMark (mark_at b id)
-        go (slot.Split first) is = subst IsFormedMark (sym (ap mark_of is)) tt
-        go (slot.Closed why) is = subst IsFormedMark (sym (ap mark_of is)) (ground-formed b parts.states few_prices few id known why is)
-        go _ is = subst IsFormedMark (sym (ap mark_of is)) tt
+        go : (s : SlotState) → (slot_at b id).state ≡ s → IsFormed (mark_at b id)
+        go (slot.Split first) is = subst IsFormed (sym (ap mark_of is)) tt
+        go (slot.Closed why) is = subst IsFormed (sym (ap mark_of is)) (ground-formed b parts.states few_prices few id known why is)
+        go _ is = subst IsFormed (sym (ap mark_of is)) tt
 
-    pub is-formed : IsWellFormed C
+    pub is-formed : IsWellFormed I C
     is-formed = record {
+      few = plan-listed I C.plan is-standing.legal;
       cuts = subst (All IsFormedCut) (sym is.cuts) (All-map IsFormedCut cert_cut b.cuts (λ k d known. own-formed (slice_index_or b.cuts k d) (keeps.cuts k d known).0));
       prices =
-          subst (All AreFormedPrices) (sym is.prices)
-          (All-weaker (λ u. ArePrices u × AreShapedPrices I u) AreFormedPrices (λ u own. (omega (arith, own.1.count, I.limits.ship_count.0), own.0)) b.prices keeps.prices);
+          subst (All (AreFormedPrices (most_listed I.ships))) (sym is.prices)
+          (All-weaker (λ u. ArePrices u × AreShapedPrices I u) (AreFormedPrices (most_listed I.ships)) (λ u own. prices-formed I u own.0 own.1) b.prices keeps.prices);
       lockages = λ k d known. legal-formed I (slice_index_or C.plan.lockages k d) (is-standing.legal.lockage k d known);
-      marks = subst (All IsFormedMark) (sym is.marks) (All-map IsFormedMark (mark_at b) slots (all-among (λ id. IsFormedMark (mark_at b id)) slots (λ id h. mark-formed id (visited-known b parts.family (length I.ships) 0 parts.family.some id h))));
+      marks = subst (All IsFormed) (sym is.marks) (All-map IsFormed (mark_at b) slots (all-among (λ id. IsFormed (mark_at b id)) slots (λ id h. mark-formed id (visited-known b parts.family (length I.ships) 0 parts.family.some id h))));
     }

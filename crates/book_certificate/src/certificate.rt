@@ -24,7 +24,7 @@ use std::alloc::Global;
 pub fn certificate_of(alloc: Global, book: &Book) -> Result<Certificate, CertError>
     ensures certified { IfOk result (IsCertificateOf book.now) }
     ensures accepted { IfOk result (Accepts book.now.case.instance) }
-    ensures formed { IfOk result IsWellFormed }
+    ensures formed { IfOk result (IsWellFormed book.now.case.instance) }
     ensures open { (result ≡ Err CertError.StillOpen) ↔ HasLive book.now }
     ensures finished { verdict_of book.now ≡ Optimal → IfErr result (λ error. error ≡ CertError.NoMemory) }
 {

@@ -26,7 +26,7 @@ use std::alloc::Global;
 pub fn open_certificate_of(alloc: Global, book: &Book) -> Result<Certificate, NoMemory>
     ensures certified { IfOk result (IsCertificateOf book.now) }
     ensures stands { IfOk result (Stands book.now.case.instance) }
-    ensures formed { IfOk result IsWellFormed }
+    ensures formed { IfOk result (IsWellFormed book.now.case.instance) }
     ensures low { IfOk result (λ certificate. IsLow book.now.case.instance certificate (certified_low (best_cost book.now) (verdict_of book.now))) }
     ensures marks { IfOk result (λ certificate. length book.now.slots ≤ length certificate.tree) }
     ensures more { IfOk result (HasMoreMarks book.now) }

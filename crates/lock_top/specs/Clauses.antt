@@ -56,7 +56,7 @@ pub record IsCertified (bytes text : List ℕ) : Type 0 where
   pub instance : Instance
   pub certificate : Certificate
   pub means : Means bytes instance
-  pub formed : IsWellFormed certificate
+  pub formed : IsWellFormed instance certificate
   pub accepts : Accepts instance certificate
   pub cheapest : IsCheapest instance certificate.plan
   pub cost : cost_of instance certificate.plan ≡ certificate.cost

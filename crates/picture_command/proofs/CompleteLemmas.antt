@@ -2,10 +2,11 @@
 use Rattle.std.proofs.Common.{ℕ, ◌≡◌, ◌⊎◌, List, Option, None, Some, Result, Ok, Err, refl, subst, ap}
 use Rattle.std.specs.Prelude.{option_map}
 use Rattle.list_laws.proofs.Variants.{one-ok}
+use Rattle.lock_model.specs.declared.ship.Ship.{Ship}
 use Rattle.lock_model.specs.declared.instance.Instance.{Instance}
 use Rattle.certificate_rules.specs.Certificates.{Certificate}
 use Rattle.line_text.specs.Steps.{◌>>=◌}
-use Rattle.instance_text.specs.Draft.{draft_of}
+use Rattle.instance_text.specs.Draft.{Draft, draft_of}
 use Rattle.instance_text.specs.Reading.{reading, instance_part, after_instance}
 use Rattle.cert_text.specs.Steps.{or_fault, fault_under}
 use Rattle.cert_text.specs.Certificates.{certificate_in}
@@ -32,9 +33,12 @@ use Rattle.picture_command.specs.Pictures.{PrintsCheapest, PrintsBounded, Answer
 -- ---- the heading of what is read as a dossier
 
 -- the second of two steps that both went well
-second : {A B : Type 0} (r : Result A AnyFault) (s : Result B AnyFault) (p : A × B) → (r >>= λ a. s >>= λ b. Ok (a, b)) ≡ Ok p → s ≡ Ok p.1
-second (Ok a) (Ok b) p e = ap (λ q. Ok q.1) (one-ok (Ok (a, b)) (a, b) p refl e)
-second (Ok a) (Err f) p e = absurd cc
+second : {A B : Type 0} (r : Result A AnyFault) (s : A → Result B AnyFault) (p : A × B) → (r >>= λ a. s a >>= λ b. Ok (a, b)) ≡ Ok p → s p.0 ≡ Ok p.1
+second {A = A} {B = B} (Ok a) s p e = by_rest (s a) refl e
+  where
+    by_rest : (t : Result B AnyFault) → s a ≡ t → (t >>= λ b. Ok (a, b)) ≡ Ok p → s p.0 ≡ Ok p.1
+    by_rest (Ok b) is f = subst (λ (q : A × B). s q.0 ≡ Ok q.1) (one-ok (Ok (a, b)) (a, b) p refl f) is
+    by_rest (Err g) is f = absurd cc
 second (Err f) s p e = absurd cc
 
 -- a heading was found, and it gives a version
@@ -62,14 +66,15 @@ valued_version : {C : Type 0} (asked : Form) (bytes : List ℕ) (told : Result (
 valued_version asked bytes (Ok told) next certificate is e = value_version asked bytes told is
 valued_version asked bytes (Err f) next certificate is e = absurd cc
 
-rest_version : (own : Form) (bytes : List ℕ) (C : Certificate) → rest_in own bytes ≡ Ok C → HasVersion (version_under own) (option_map (λ f. f.0) (headed bytes))
+rest_version : (own : Form) (ships : List Ship) (bytes : List ℕ) (C : Certificate) → rest_in own ships bytes ≡ Ok C → HasVersion (version_under own) (option_map (λ f. f.0) (headed bytes))
 unfolding rest_in
-rest_version own bytes C e = valued_version own bytes (value_in own bytes) (λ found. fault_under fault.Shape (certificate_in own found.0 found.1)) C refl e
+rest_version own ships bytes C e = valued_version own bytes (value_in own bytes) (λ found. fault_under fault.Shape (certificate_in own ships found.0 found.1)) C refl e
 
 reads_version : (own : Form) (bytes : List ℕ) (I : Instance) (C : Certificate) → Reads own bytes I C → HasVersion (version_under own) (heading_in bytes)
 unfolding Reads dossier_in
 reads_version own bytes I C reads =
-    rest_version own (after_instance bytes) C (second (fault_under fault.Instance (reading (instance_part bytes))) (rest_in own (after_instance bytes)) (draft_of I, C) reads)
+    rest_version own I.ships (after_instance bytes) C
+    (second (fault_under fault.Instance (reading (instance_part bytes))) (λ (d : Draft). rest_in own d.ships (after_instance bytes)) (draft_of I, C) reads)
 
 -- ---- how a picture may end
 

@@ -59,7 +59,7 @@ book_answers print b limit V status text sound well is shows shown =
     ended_answers print (search_in b limit) (book_ended b limit sound well) V status text (sym is) (book_ends b limit V is sound well) shows shown
 
 -- the dossier of an accepted certificate
-pub dossier_printed : (I : Instance) (C : Certificate) (text : List ℕ) → Accepts I C → IsWellFormed C → text ≡ dossier form.Whole I C → Reads form.Whole text I C → PrintsDossier I text
+pub dossier_printed : (I : Instance) (C : Certificate) (text : List ℕ) → Accepts I C → IsWellFormed I C → text ≡ dossier form.Whole I C → Reads form.Whole text I C → PrintsDossier I text
 dossier_printed I C text accepts formed shown reads =
     record { certificate = C; formed = formed; accepts = accepts; cheapest = accepted-cheapest I C (laws I) accepts; shown = shown; reads = reads }
 

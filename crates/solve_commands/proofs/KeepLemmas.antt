@@ -56,7 +56,7 @@ shut_other b used low shut free is = by_test (has_slot b (λ state. is_fresh sta
 
 -- ---- the certificate of a book
 
-module _ (b : Book) (limit : ℕ) (C : Certificate) (own : IsCertificateOf b C) (stands : Stands b.case.instance C) (formed : IsWellFormed C) where
+module _ (b : Book) (limit : ℕ) (C : Certificate) (own : IsCertificateOf b C) (stands : Stands b.case.instance C) (formed : IsWellFormed b.case.instance C) where
   abbrev I : Instance
   I = b.case.instance
 

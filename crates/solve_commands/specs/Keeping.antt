@@ -28,7 +28,7 @@ pub record SpendsTurns (k : Search) (C : Certificate) : Type 0 where
 
 -- The certificate stands and costs at most the search's limit, its low is below its cost and no legal plan costs less than the low, and the nodes or the turns of the search were spent.
 pub record IsKeptCertificate (k : Search) (C : Certificate) : Type 0 where
-  pub formed : IsWellFormed C
+  pub formed : IsWellFormed k.instance C
   pub stands : Stands k.instance C
   pub cost : C.cost ≤ k.limit
   pub low : ℕ

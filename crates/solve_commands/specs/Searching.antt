@@ -55,7 +55,7 @@ pub record PrintsOptimal (print : Print) (I : Instance) (text : List ℕ) : Type
 -- The dossier of an accepted certificate is printed, so its plan is cheapest and has its cost. It is read back as the same two.
 pub record PrintsDossier (I : Instance) (text : List ℕ) : Type 0 where
   pub certificate : Certificate
-  pub formed : IsWellFormed certificate
+  pub formed : IsWellFormed I certificate
   pub accepts : Accepts I certificate
   pub cheapest : IsCheapest I certificate.plan
   pub shown : text ≡ dossier form.Whole I certificate

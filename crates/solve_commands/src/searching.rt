@@ -92,7 +92,7 @@ fn line_answer(alloc: Global, book: &Book) -> Answer
 #[tactic(auto, using(crate::proofs::EndLemmas::dossier_printed))]
 fn printed(alloc: Global, book: &Book, certificate: &Certificate) -> Result<Vec<u8>, NoMemory>
     requires accepts { Accepts book.now.case.instance certificate.now }
-    requires formed { IsWellFormed certificate.now }
+    requires formed { IsWellFormed book.now.case.instance certificate.now }
     ensures { IfOk result (λ text. PrintsDossier book.now.case.instance text.items) }
 {
     print_dossier(alloc, Form::Whole, &book.case().instance, certificate)
