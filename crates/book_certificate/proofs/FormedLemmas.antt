@@ -26,7 +26,6 @@ use Rattle.refute_rules.specs.Cuts.{Cut, IsCut}
 use Rattle.closing_rules.specs.declared.grounds.Ground.{Ground}
 use Rattle.closing_rules.specs.declared.grounds.Ground.TheVariants as by
 use Rattle.book_rules.specs.declared.book.SlotState.TheVariants as slot
-use Rattle.certificate_rules.specs.declared.certificate.Mark.TheVariants as mark
 use Rattle.book_rules.specs.Book.{Book, slot_at}
 use Rattle.book_rules.specs.Cover.{IsOwnCut}
 use Rattle.book_rules.specs.States.{KeepsStates}

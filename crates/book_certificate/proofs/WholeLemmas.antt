@@ -11,7 +11,6 @@ use Rattle.lock_rules.specs.Bound.{least_number}
 use Rattle.book_rules.specs.declared.book.SlotState.{SlotState}
 use Rattle.book_rules.specs.declared.book.SlotState.TheVariants as slot
 use Rattle.certificate_rules.specs.declared.certificate.Mark.{Mark}
-use Rattle.certificate_rules.specs.declared.certificate.Mark.TheVariants as mark
 use Rattle.book_rules.specs.Book.{Slot, Book, slot_at, best_cost, is_fresh, is_live}
 use Rattle.lock_rules.specs.Node.{Node, root}
 use Rattle.book_rules.specs.Verdict.{verdict_of}
