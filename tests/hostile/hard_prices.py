@@ -24,7 +24,7 @@ ROOT_FAILS = (7, b"rejected tree 0 reason 13 PriceLow\n")
 
 def far_apart(ships):
     """One chamber, and ships of both ways that arrive up to the last minute of all, as far apart as can be."""
-    lines = ["glock 1", "chamber c1 2000 240 10 20 5 4 30 15 low 0"]
+    lines = ["glock 3", "chamber c1 2000 240 10 20 5 4 30 15 low 0"]
     lines += [f"ship s{s} {'up' if s % 2 else 'down'} 1100 114 {s * MOST // ships} 5" for s in range(ships)]
     return ("\n".join([*lines, "end"]) + "\n").encode()
 
@@ -73,10 +73,12 @@ def all_leaves(dossier):
 def dossiers(runner, ships=7):
     """What each is, its bytes, and its answer; `ships` are those whose whole tree is marked."""
     solved = lambda text: runner.run(["solve", "--dossier", "--workers", "1"], text).text
-    lots = [runner.run(f"lot --number 3 --ships 24 --chambers {chambers}".split()).text for chambers in (1, 4)]
+    lot = lambda ships, chambers: runner.run(f"lot --number 3 --ships {ships} --chambers {chambers}".split()).text
+    lots = [lot(24, 1), lot(24, 4)]
     closed = lots[0].replace(b"glock 1", b"glock 2", 1).replace(b"\nship", b"\nclose c1 100 400\nclose c1 2000 90000\nclose c1 100000 900000\nship", 1)
     for what, text in (("lot of 24 ships on 1 chamber", lots[0]), ("lot of 24 ships on 4 chambers", lots[1]),
-                       ("lot of 24 ships with closures", closed), ("24 ships far apart", far_apart(24))):
+                       ("lot of 24 ships with closures", closed), ("24 ships far apart", far_apart(24)),
+                       ("lot of 32 ships on 1 chamber", lot(32, 1)), ("96 ships far apart", far_apart(96))):
         yield f"prices at their limit, {what}", at_limit(solved(text)), ROOT_FAILS
     leaves = solved(narrow(ships))
     cost = parts(leaves)[1]["cost"]
