@@ -24,23 +24,31 @@ const FEWEST_MISSING: usize = 5;
 
 // Most of what is gained comes in the first steps. Once the best cost is out of sight, the nodes below
 // are closed sooner than more steps bring it nearer. The first node is left later, since all others
-// begin with its prices; its span is longer than its patience, so that a going back counts in it. There
-// most of the last direction is kept: where a line serves the cheapest ship again and again, as before a
-// chamber that takes one ship at a time, prices come near the best ones only so.
+// begin with its prices.
 const FIRST_PACE: Pace = Pace {
+    steps: 200,
+    kept: 3,
+    patience: 15,
+    span: 20,
+    spans: 10,
+};
+
+const BRIEF_PACE: Pace = Pace {
+    steps: 60,
+    kept: 3,
+    patience: 8,
+    span: 10,
+    spans: 5,
+};
+
+// Most of the last direction is kept: where a line serves the cheapest ship again and again, prices come
+// near the best ones only so. The span is longer than the patience, so that a going back counts in it.
+const STEADY_PACE: Pace = Pace {
     steps: 400,
     kept: 9,
     patience: 30,
     span: 80,
     spans: 10,
-};
-
-const BRIEF_PACE: Pace = Pace {
-    steps: 300,
-    kept: 9,
-    patience: 30,
-    span: 40,
-    spans: 5,
 };
 
 const PACE: Pace = Pace {
@@ -58,6 +66,8 @@ pub enum FirstNode {
     Long,
     /// Sooner: others wait for it.
     Brief,
+    /// Last, and by prices that turn slowly: chambers take few ships at a time.
+    Steady,
 }
 
 impl FirstNode {
@@ -66,6 +76,7 @@ impl FirstNode {
         match self {
             FirstNode::Long => FIRST_PACE,
             FirstNode::Brief => BRIEF_PACE,
+            FirstNode::Steady => STEADY_PACE,
         }
     }
 }

@@ -17,6 +17,7 @@ use crate::settling::settled;
 use book_core::{Book, Case};
 use deck_cuts::copy_cut;
 use gates::Gate;
+use lock_model::Instance;
 use no_memory::NoMemory;
 use node_work::Search;
 use price_raise::first_prices;
@@ -32,6 +33,10 @@ const FIRST_NODES: u32 = 1_000;
 
 // A budget of no more nodes than this is searched without prices to its end.
 const SMALL_BUDGET: u32 = 25_000;
+
+// Where chambers take no more ships at a time, lines serve the cheapest ones again and again, and
+// rounds cost little.
+const FEW_AT_A_TIME: u8 = 2;
 
 /// How many nodes of a case are searched before it is told whether it is hard: all of a small budget.
 pub(crate) fn first_nodes(case: &Case) -> u32 {
@@ -80,10 +85,22 @@ fn begun_again(alloc: Global, book: Book) -> Book
     fresh
 }
 
-// How soon so many workers leave the first node. Two, or those of several chambers, are slower where it
-// has worse prices, since more nodes are below it.
+// Whether no chamber takes more than a few ships at a time.
+fn takes_few(instance: &Instance) -> bool {
+    for chamber in instance.chambers.as_slice() {
+        if chamber.most > FEW_AT_A_TIME {
+            return false;
+        }
+    }
+    true
+}
+
+// How the first node is priced for so many workers. Two, or those of several chambers, are slower where
+// it has worse prices, since more nodes are below it.
 fn first_node(case: &Case, workers: u8) -> FirstNode {
-    if workers > 2 && case.instance.chambers.as_slice().len() == 1 {
+    if takes_few(&case.instance) {
+        FirstNode::Steady
+    } else if workers > 2 && case.instance.chambers.as_slice().len() == 1 {
         FirstNode::Brief
     } else {
         FirstNode::Long
