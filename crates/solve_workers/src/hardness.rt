@@ -96,9 +96,9 @@ fn takes_few(instance: &Instance) -> bool {
 }
 
 // How the first node is priced for so many workers. Two, or those of several chambers, are slower where
-// it has worse prices, since more nodes are below it.
+// it has worse prices, since more nodes are below it. So is a large instance with any number.
 fn first_node(case: &Case, workers: u8) -> FirstNode {
-    if takes_few(&case.instance) {
+    if case.instance.is_large() || takes_few(&case.instance) {
         FirstNode::Steady
     } else if workers > 2 && case.instance.chambers.as_slice().len() == 1 {
         FirstNode::Brief
