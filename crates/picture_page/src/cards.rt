@@ -114,7 +114,7 @@ fn put_title(
     out: &mut Vec<u8>,
     instance: &Instance,
     lockage: &Lockage,
-    number: u8,
+    number: u16,
     width: u32,
     name: &[u8],
 ) -> Result<(), NoMemory>

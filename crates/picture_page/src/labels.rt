@@ -55,7 +55,7 @@ fn stance_of(wide: bool, stretch: &Stretch) -> Stance
 
 /// Appends a number and its arrow side by side, from a pixel on.
 #[tactic(auto, unfolding(crate::specs::Labels::side_by_side))]
-fn put_beside(out: &mut Vec<u8>, x: u64, digits: u64, way: Way, number: u8) -> Result<(), NoMemory>
+fn put_beside(out: &mut Vec<u8>, x: u64, digits: u64, way: Way, number: u16) -> Result<(), NoMemory>
     requires x_small { x < 2 ^ 40 }
     requires few { digits ≤ 2 }
     ensures { OnOk result (out.new.items ≡ out.old.items ++ side_by_side x digits way number) }
@@ -70,7 +70,7 @@ fn put_beside(out: &mut Vec<u8>, x: u64, digits: u64, way: Way, number: u8) -> R
 
 /// Appends a number above its arrow.
 #[tactic(auto, unfolding(crate::specs::Labels::stacked))]
-fn put_stacked(out: &mut Vec<u8>, middle: u64, way: Way, number: u8) -> Result<(), NoMemory>
+fn put_stacked(out: &mut Vec<u8>, middle: u64, way: Way, number: u16) -> Result<(), NoMemory>
     ensures { OnOk result (out.new.items ≡ out.old.items ++ stacked middle way number) }
 {
     put_form(

@@ -8,7 +8,7 @@ use lock_model::{Ships, Way};
 /// the minute of the empty turn before it where it has one, its start, and how many minutes it takes.
 #[derive(Drop)]
 pub(crate) struct Passage {
-    pub(crate) number: u8,
+    pub(crate) number: u16,
     pub(crate) place: u8,
     pub(crate) chamber: u8,
     pub(crate) way: Way,

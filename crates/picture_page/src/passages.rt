@@ -52,7 +52,7 @@ fn turn_before(place: u8, start: u32, beats: &[Beat]) -> Option<u32>
 fn passage_in(
     instance: &Instance,
     day: &[Beat],
-    number: u8,
+    number: u16,
     place: u8,
     lockage: &Lockage,
 ) -> Passage
@@ -72,7 +72,7 @@ fn passage_in(
 }
 
 /// The lockage at a place of a legal plan with its number, and what the day says of it.
-fn passage_at(instance: &Instance, plan: &Plan, day: &[Beat], number: u8, place: u8) -> Passage
+fn passage_at(instance: &Instance, plan: &Plan, day: &[Beat], number: u16, place: u8) -> Passage
     requires legal { IsLegal instance.now plan.now }
     requires within { place < length plan.now.lockages }
     ensures { result ≡ passage_in instance.now day.now number place (lockage_at plan.now place) }
@@ -87,12 +87,12 @@ fn put_passages(
     instance: &Instance,
     plan: &Plan,
     day: &[Beat],
-    number: u8,
+    number: u16,
     beats: &[Beat],
 ) -> Result<(), AllocError>
     requires legal { IsLegal instance.now plan.now }
     requires known { All (IsKnownGo plan.now) beats.now }
-    requires few { number + length beats.now ≤ 200 }
+    requires few { number + length beats.now ≤ BEATS + 1 }
     ensures { OnOk result (passages.new.items ≡ passages.old.items ++ passages_from instance.now plan.now day.now number beats.now) }
 {
     match beats {
