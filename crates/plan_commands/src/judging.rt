@@ -80,7 +80,6 @@ fn text_answer(alloc: Global, bytes: &[u8]) -> Answer
 /// line on. Else it says what is refused: too many bytes, the first defect of the instance part, the
 /// first fault of the plan text, or the first break of the plan.
 #[tactic(auto, using(crate::proofs::AnswerLemmas::judge_fair, run_answers::proofs::SourceLemmas::bytes_answer, run_answers::proofs::SourceLemmas::unreadable_answers))]
-#[inline(never)]
 pub fn judge_answer<S: Source>(alloc: Global, src: &mut S) -> Answer
     ensures answer { AnswersSource plan_limit AnswersJudge (drained (S.left src.old) (S.left src.new) (S.faults src.old) (S.faults src.new)) result.status (bytes_in result.text) }
 {

@@ -108,7 +108,6 @@ fn text_answer<R: Threads + Wait + Sync, G: Gate + Sync>(
 /// that fits no chamber, a fault of the plan text, a break of the kept lockages, or a kept lockage
 /// or a begun turn that ends after minute 1,000,000. The numbers of the options are in their ranges.
 #[tactic(auto, using(crate::proofs::AnswerLemmas::replan_fair, run_answers::proofs::SourceLemmas::bytes_answer, run_answers::proofs::SourceLemmas::unreadable_answers))]
-#[inline(never)]
 pub fn replan_answer<R: Threads + Wait + Sync, S: Source, G: Gate + Sync>(
     rt: &R,
     alloc: Global,

@@ -150,7 +150,6 @@ fn dossier_answer<R: Threads + Wait + Sync, G: Gate + Sync>(
 /// what is refused: too many bytes, a fault of the dossier, a ship that fits no chamber, or the first
 /// failure of the certificate. The numbers of the options are in their ranges.
 #[tactic(auto, using(crate::proofs::ResumeLemmas::resume_fair, run_answers::proofs::SourceLemmas::bytes_answer, run_answers::proofs::SourceLemmas::unreadable_answers))]
-#[inline(never)]
 pub fn resume_answer<R: Threads + Wait + Sync, S: Source, G: Gate + Sync>(
     rt: &R,
     alloc: Global,
