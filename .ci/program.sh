@@ -39,12 +39,15 @@ examples_are_solved() {
   done
 }
 
-# the stack that README names is enough
+# the stack that README names is enough, also for as many ships as there may be and all workers
 stack_is_enough() {
-  local program=crates/lock_main/out/lock_main dossier=out/queue-24.dossier answer
-  mkdir -p out && (ulimit -s 512 && "$program" solve --dossier <examples/queue-24.lock >"$dossier") || return 1
-  answer=$(ulimit -s 256 && "$program" check <"$dossier") && rm "$dossier" || return 1
+  local program=crates/lock_main/out/lock_main dossier=out/queue-24.dossier lot answer status
+  mkdir -p out && (ulimit -s 2048 && "$program" solve --dossier <examples/queue-24.lock >"$dossier") || return 1
+  answer=$(ulimit -s 512 && "$program" check <"$dossier") && rm "$dossier" || return 1
   [[ $answer = "accepted cost "* ]] || return 1
-  (ulimit -s 128 && cat examples/evening.lock examples/evening.plan | "$program" judge >/dev/null) &&
-    (ulimit -s 128 && cat examples/evening.lock examples/evening.plan | "$program" play >/dev/null)
+  lot=$("$program" lot --number 1 --ships 96 --chambers 2) || return 1
+  answer=$(ulimit -s 2048 && "$program" solve --nodes 2000 --workers 8 <<<"$lot") && status=0 || status=$?
+  [ $status = 5 ] && [[ $answer = "open nodes "* ]] || return 1
+  (ulimit -s 384 && cat examples/evening.lock examples/evening.plan | "$program" judge >/dev/null) &&
+    (ulimit -s 384 && cat examples/evening.lock examples/evening.plan | "$program" play >/dev/null)
 }

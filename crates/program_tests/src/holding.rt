@@ -1,7 +1,7 @@
 //! Gates with one worker, and with a third. That two meet, and what the held one hears, stands in
 //! `runs`.
 
-use gates::{Gate, LastGate, MeetGate, OpenGate, Point, Stage};
+use gates::{CutGate, Gate, LastGate, MeetGate, OpenGate, Point, Stage};
 use std::thread::join;
 
 #[test]
@@ -49,4 +49,33 @@ fn any_worker_that_followed_frees_the_held_one(rt: HostRuntime) {
     };
     join(&rt, || works(&last, 0), two);
     assert!(rt; last.freed());
+}
+
+// What a worker does that prices a node below the root, and knows so many cuts in each round.
+fn prices<G: Gate>(gate: &G, worker: u8, known: &[u64]) {
+    gate.at(worker, Point::Prices(1));
+    for &cuts in known {
+        gate.at(worker, Point::Knows(cuts));
+    }
+}
+
+#[test]
+fn a_worker_is_held_until_another_finds_cuts(rt: HostRuntime) {
+    let gate = CutGate::new(10_000_000);
+    let other = || {
+        prices(&gate, 1, &[3, 3]);
+        prices(&gate, 1, &[4, 6, 7]);
+    };
+    join(&rt, || prices(&gate, 0, &[8, 9]), other);
+    // Either one may come first.
+    let seen = (gate.found(), gate.learnt());
+    assert!(rt; seen == (Some(6), Some(8)) || seen == (Some(9), Some(3)));
+}
+
+#[test]
+fn one_worker_finds_and_learns_nothing(rt: HostRuntime) {
+    let gate = CutGate::new(3);
+    prices(&gate, 0, &[3, 5]);
+    gate.at(0, Point::Prices(0));
+    assert!(rt; gate.found() == None && gate.learnt() == None);
 }
